@@ -16,6 +16,6 @@ pub use limits::{MAX_BUFFERS, MAX_FRAME, MAX_PAYLOAD};
 pub use names::Name;
 pub use ports::Port;
 pub use priority::Prio;
-pub use sequence::Seq;
+pub use sequence::{Seq, ahead, between};
 pub use traces::{Origin, Tag, Trace};
 pub use turns::Turn;
