@@ -1,1 +1,3 @@
 pub mod SequenceLaws
+pub mod MemoryLemmas
+pub mod TransferLemmas
