@@ -1,3 +1,4 @@
+pub mod PriorityLaws
 pub mod SequenceLaws
 pub mod MemoryLemmas
 pub mod TransferLemmas
