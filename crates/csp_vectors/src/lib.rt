@@ -1,0 +1,5 @@
+//! Outside vectors and worked examples of the formats, as tables, and the tests that go through them.
+#![tactic(auto)]
+
+#[cfg(test)]
+mod crc;
