@@ -1,2 +1,14 @@
 //! Text as every reader of this project cuts it: lines, words, decimal numbers and names.
+//!
+//! All of it works on bytes, since what comes in need not be text. The definitions that the
+//! clauses cite stand in `specs/`, one file for each module.
 #![tactic(auto)]
+
+mod ascii;
+mod cut;
+mod naming;
+mod numeral;
+
+pub use cut::{lines, words};
+pub use naming::{MAX_NAME, is_name, name};
+pub use numeral::{is_decimal, number, push_number};
