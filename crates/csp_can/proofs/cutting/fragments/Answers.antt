@@ -1,0 +1,10 @@
+use Rattle.std.proofs.Common.{length, ap, ◌∙◌, arith}
+use Rattle.std.proofs.lemmas.Grind.{common_steps}
+use Rattle.csp_can.proofs.CutLemmas.{fragments_length}
+use Rattle.csp_can.proofs.cutting.fragments.Goals as goal
+
+pub returns-clause-frames : goal.returns-clause-frames
+returns-clause-frames c = grind (arith, common_steps)
+
+pub returns-clause-count : goal.returns-clause-count
+returns-clause-count c = ap length (returns-clause-frames c) ∙ fragments_length c.args.header c.args.payload.now c.args.dest c.args.id

@@ -1,0 +1,4 @@
+pub mod Identifiers
+pub mod Frames
+pub mod Fragments
+pub mod ToCome

@@ -1,0 +1,59 @@
+//! A packet cut into frames.
+
+ghost use Rattle.std.specs.Prelude.{◌≡◌, ℕ, ◌/◌, ◌%◌, ◌^◌, ◌+◌, ◌<◌, ◌≤◌, length, map};
+ghost use Rattle.csp_can.specs.Fragments.{begin_bytes, fragments_of, frames_after};
+ghost use Rattle.csp_can.specs.Frames.{written};
+
+use crate::cutter::Fragments;
+use crate::frames::{CanFrame, MAX_DATA, copied};
+use crate::identifiers::{Identifier, Kind};
+use arrayvec::ArrayVec;
+use csp_base::{Addr, MAX_PAYLOAD};
+
+/// How many payload bytes a BEGIN frame carries, beside 4 of the header and 2 of the length.
+const FIRST_DATA: usize = 2;
+
+/// The frames of a packet with this header and payload, each filled before the next. `dest` is the
+/// node that is to have them next, and `id`, of 10 bits, tells this packet from its neighbours.
+pub fn fragments(header: u32, payload: &[u8], dest: Addr, id: u16) -> Fragments
+    requires payload { length payload.now ≤ MAX_PAYLOAD }
+    requires id { id < 1024 }
+    ensures frames { result ≡ map written (fragments_of header payload.now dest id) }
+    ensures count { length result ≡ frames_after (length payload.now) + 1 }
+{
+    let first = payload.len().min(FIRST_DATA);
+    let left = ((payload.len() - first + (MAX_DATA - 1)) / MAX_DATA) as u8;
+    let head = Identifier {
+        source: source_of(header),
+        dest,
+        kind: Kind::Begin,
+        remain: left,
+        id,
+    };
+    let begin = CanFrame {
+        id: head.encode(),
+        bytes: begin_data(header, payload),
+    };
+    Fragments::new(begin, head, payload, first)
+}
+
+/// The source address in a header word: 5 bits from bit 25 up.
+fn source_of(header: u32) -> Addr
+    ensures { result ≡ header / 2 ^ 25 % 32 }
+{
+    Addr::new(((header >> 25) & 31) as u8).unwrap()
+}
+
+/// The data of a BEGIN frame: the header, the payload's length, and the first payload bytes.
+fn begin_data(header: u32, payload: &[u8]) -> ArrayVec<u8, MAX_DATA>
+    requires { length payload.now ≤ MAX_PAYLOAD }
+    ensures { result.items ≡ begin_bytes header payload.now }
+{
+    let first = payload.len().min(FIRST_DATA);
+    let mut bytes = copied(&header.to_be_bytes());
+    bytes
+        .try_extend_from_slice(&(payload.len() as u16).to_be_bytes())
+        .unwrap();
+    bytes.try_extend_from_slice(&payload[..first]).unwrap();
+    bytes
+}
