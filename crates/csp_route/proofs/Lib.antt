@@ -1,0 +1,4 @@
+pub mod PrefixOrder
+pub mod Places
+pub mod Views
+pub mod Matches

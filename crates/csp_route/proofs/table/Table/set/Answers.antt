@@ -1,0 +1,26 @@
+use Rattle.std.proofs.Common.{arith, ap, ◌∙◌, refl}
+use Rattle.csp_route.specs.Routes.{with_row, key_of}
+use Rattle.csp_route.specs.Routes.{with_row, key_of}
+use Rattle.csp_route.proofs.Views.{set_found, set_absent, written_whole, no_room, room_at, room_beyond}
+use Rattle.csp_route.proofs.table.Table.set.Goals as goal
+
+pub invariant_of-self : goal.invariant_of-self
+invariant_of-self c = (set_found c.self.inside.rows.items _ c.args.row (record { addr = c.prefix-prefix.result.addr; mask = c.args.row.mask; iface = c.args.row.iface; via = c.args.row.via }) c.in-Ok.place c.self.invariant c.requires (ap (λ k. record { addr = k.addr; mask = c.args.row.mask }) c.prefix-prefix.ensures) refl (cc (c.place_of.ensures.value, c.deref.ensures.0, c.in-Ok.is, c.prefix-prefix.ensures)) (written_whole _ _ _ _ c.deref_mut.ensures.value)).stays
+
+pub returns-in-Ok-clause-ok : goal.returns-in-Ok-clause-ok
+returns-in-Ok-clause-ok c = (set_found c.self.inside.rows.items _ c.args.row (record { addr = c.prefix-prefix.result.addr; mask = c.args.row.mask; iface = c.args.row.iface; via = c.args.row.via }) c.in-Ok.place c.self.invariant c.requires (ap (λ k. record { addr = k.addr; mask = c.args.row.mask }) c.prefix-prefix.ensures) refl (cc (c.place_of.ensures.value, c.deref.ensures.0, c.in-Ok.is, c.prefix-prefix.ensures)) (written_whole _ _ _ _ c.deref_mut.ensures.value)).shows ∙ ap (λ m. with_row m c.args.row) c.self.view_is
+
+pub returns-in-Ok-clause-full : goal.returns-in-Ok-clause-full
+returns-in-Ok-clause-full c = (λ e. absurd (cc), λ none. absurd (room_at c.self.inside.rows.items c.args.self.now (key_of c.args.row) c.in-Ok.place c.self.invariant c.self.view_is (cc) none))
+
+pub returns-then-len-eq-MAX_ROWS-clause-full : goal.returns-then-len-eq-MAX_ROWS-clause-full
+returns-then-len-eq-MAX_ROWS-clause-full c = (λ _. no_room c.self.inside.rows.items c.args.self.now (key_of c.args.row) c.in-Err.place c.self.invariant c.self.view_is (cc) (cc), λ _. refl)
+
+pub invariant_of-self-in-Err : goal.invariant_of-self-in-Err
+invariant_of-self-in-Err c = (set_absent c.self.inside.rows.items _ c.args.row (record { addr = c.prefix-prefix.result.addr; mask = c.args.row.mask; iface = c.args.row.iface; via = c.args.row.via }) c.in-Err.place c.self.invariant c.requires (ap (λ k. record { addr = k.addr; mask = c.args.row.mask }) c.prefix-prefix.ensures) refl (cc (c.place_of.ensures.value, c.deref.ensures.0, c.in-Err.is, c.prefix-prefix.ensures)) c.insert.ensures.items).stays
+
+pub returns-else-len-eq-MAX_ROWS-clause-ok : goal.returns-else-len-eq-MAX_ROWS-clause-ok
+returns-else-len-eq-MAX_ROWS-clause-ok c = (set_absent c.self.inside.rows.items _ c.args.row (record { addr = c.prefix-prefix.result.addr; mask = c.args.row.mask; iface = c.args.row.iface; via = c.args.row.via }) c.in-Err.place c.self.invariant c.requires (ap (λ k. record { addr = k.addr; mask = c.args.row.mask }) c.prefix-prefix.ensures) refl (cc (c.place_of.ensures.value, c.deref.ensures.0, c.in-Err.is, c.prefix-prefix.ensures)) c.insert.ensures.items).shows ∙ ap (λ m. with_row m c.args.row) c.self.view_is
+
+pub returns-else-len-eq-MAX_ROWS-clause-full : goal.returns-else-len-eq-MAX_ROWS-clause-full
+returns-else-len-eq-MAX_ROWS-clause-full c = (λ e. absurd (cc), λ none. absurd (room_beyond c.self.inside.rows.items c.args.self.now (key_of c.args.row) c.self.invariant c.self.view_is (λ full. absurd (omega arith)) none))
