@@ -1,6 +1,6 @@
 -- How a register of 32 bits that is still to be added to the front of a dividend goes through the division.
 use Rattle.std.proofs.Common.{◌≡◌, ℕ, zero, suc, ◌+◌, ◌-◌, ◌*◌, ◌/◌, ◌%◌, ◌^◌, ◌<◌, ◌≤◌, Bool, true, false, not, nat_eq, eqb, if◌then◌else◌, cond, List, [], ◌∷◌, ◌++◌, length, map, take, drop, replicate, append_assoc, append-nil, get_or, drop-cons, add-one, refl, sym, ap, ◌∙◌, arith, bit_xor, ◌⊎◌, inl, inr}
-use Rattle.std.proofs.lemmas.List.{length-append, length-replicate}
+use Rattle.std.proofs.lemmas.List.{length-append, length-drop, length-map, length-replicate}
 use Rattle.std.proofs.lemmas.Nat.{xor_shr, xor_mod, xor_comm}
 use mathlib.Core.Bool.{xor}
 use Rattle.csp_crc.specs.Bits.{bits_of, number_of, message_bits, plus}
@@ -223,3 +223,37 @@ divided-byte message i register next h taken =
     let step : divided (8 + 8 * length rest) (plus (bits_of 32 register) (bits_of 8 byte ++ (message_bits rest ++ replicate 32 false)))
     ≡ divided (8 * length rest) (plus (bits_of 32 next) (message_bits rest ++ replicate 32 false)) = taken (8 * length rest) (message_bits rest ++ replicate 32 false) in
     rw (front, bits, places) step
+
+-- ---- a CRC has 32 bits
+
+length-divided : (places : ℕ) (bits : List Bool) → places ≤ length bits → length (divided places bits) + places ≡ length bits
+unfolding divided
+length-divided zero bits h = omega arith
+length-divided (suc places) [] h = absurd (omega arith)
+length-divided (suc places) (bit ∷ bits) h =
+    let taken : List Bool = if bit then plus divisor (bit ∷ bits) else bit ∷ bits in
+    let same : length taken ≡ length (bit ∷ bits) =
+    elim bit as (λ b. length (if b then plus divisor (bit ∷ bits) else bit ∷ bits) ≡ length (bit ∷ bits)) [ true ↦ length-plus divisor (bit ∷ bits) | false ↦ refl ] in
+    let less : length (drop 1 taken) ≡ length taken - 1 = length-drop 1 taken in
+    let rest : length (divided places (drop 1 taken)) + places ≡ length (drop 1 taken) = length-divided places (drop 1 taken) (omega arith) in
+    omega arith
+
+number_of-lt : (k : ℕ) (bits : List Bool) → length bits ≡ k → number_of bits < 2 ^ k
+unfolding number_of
+number_of-lt zero [] h = omega arith
+number_of-lt zero (bit ∷ bits) h = absurd (omega arith)
+number_of-lt (suc k) [] h = absurd (omega arith)
+number_of-lt (suc k) (false ∷ bits) h =
+    let rest : number_of bits < 2 ^ k = number_of-lt k bits (omega arith) in
+    omega arith
+number_of-lt (suc k) (true ∷ bits) h =
+    let rest : number_of bits < 2 ^ k = number_of-lt k bits (omega arith) in
+    omega arith
+
+pub crc_of-lt : (message : List ℕ) → crc_of message < 2 ^ 32
+unfolding crc_of remainder
+crc_of-lt message =
+    let places : length (dividend_of message) - 32 ≤ length (dividend_of message) = omega arith in
+    let whole : length (dividend_of message) ≡ 8 * length message + 32 = length-dividend_of message in
+    let left : length (divided (length (dividend_of message) - 32) (dividend_of message)) ≡ 32 = omega (arith, length-divided (length (dividend_of message) - 32) (dividend_of message) places) in
+    number_of-lt 32 (map not (divided (length (dividend_of message) - 32) (dividend_of message))) (rw length-map left)

@@ -1,0 +1,5 @@
+pub mod Cutting
+pub mod Escapes
+pub mod Judging
+pub mod Steps
+pub mod RoundTrip

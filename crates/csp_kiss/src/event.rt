@@ -1,0 +1,27 @@
+//! What the pieces of a stream are found to be.
+
+use arrayvec::ArrayVec;
+use csp_base::MAX_PAYLOAD;
+
+/// What a reader answers at the end of a piece.
+#[derive(Drop)]
+pub enum KissEvent {
+    /// A packet, whose CRC stands.
+    Packet {
+        /// The header word.
+        header: u32,
+        /// The payload without the CRC of the frame.
+        payload: ArrayVec<u8, MAX_PAYLOAD>,
+    },
+    /// More bytes than a header, the greatest payload and a CRC.
+    TooLong,
+    /// Fewer bytes than a header and a CRC.
+    Short,
+    /// The last four bytes are not the CRC-32C of the payload.
+    BadCrc {
+        /// What the last four bytes say.
+        found: u32,
+        /// The CRC of the payload.
+        wanted: u32,
+    },
+}

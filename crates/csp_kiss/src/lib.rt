@@ -1,0 +1,25 @@
+//! KISS frames: packets on a serial line, as this project's profile has them.
+//!
+//! A frame is FEND, a zero byte, the escaped header, payload and CRC-32C of the payload, and FEND.
+#![tactic(auto)]
+
+mod encoder;
+mod event;
+mod reader;
+mod stage;
+
+pub use encoder::encode;
+pub use event::KissEvent;
+pub use reader::KissReader;
+
+/// Ends a frame and starts the next.
+pub const FEND: u8 = 0xC0;
+
+/// Begins the two bytes that stand for a FEND or a FESC of the packet.
+pub const FESC: u8 = 0xDB;
+
+/// After FESC: a FEND of the packet.
+pub const TFEND: u8 = 0xDC;
+
+/// After FESC: a FESC of the packet.
+pub const TFESC: u8 = 0xDD;
