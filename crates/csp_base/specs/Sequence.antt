@@ -14,6 +14,13 @@ number_of s t = wrapped (pos s +ℤ t)
 abbrev pub ahead_of : ℕ → ℕ → ℕ
 ahead_of a b = wrapped (pos b -ℤ pos a)
 
+-- the numbers `a` and `b` show two true indices of one flow, the second of them `d` after the first
+pub record IsApart (a b d : ℕ) : Type 0 where
+  pub start : ℕ
+  pub index : ℤ
+  pub first : a ≡ number_of start index
+  pub second : b ≡ number_of start (index +ℤ pos d)
+
 -- `t` is a true index that the number `n` shows in a flow that starts at `s`, and one of the 65,536 round `r`
 pub record IsNear (n s : ℕ) (r t : ℤ) : Type 0 where
   pub shown : number_of s t ≡ n

@@ -1,7 +1,8 @@
 //! Sequence numbers of the reliable transport: 16 bits, which wrap, of indices that do not.
 
-ghost use Rattle.std.specs.Prelude.{◌≡◌, ℕ, ◌+◌, ◌%◌, ◌^◌, ◌<◌, ◌≤◌, ◌↔◌, ℤ, pos, ◌+ℤ◌, ◌<ℤ◌, IsTrue, IfSome, IfNone};
-ghost use Rattle.csp_base.specs.Sequence.{number_of, ahead_of, IsNear, near};
+ghost use Rattle.std.specs.Prelude.{◌≡◌, ℕ, ◌^◌, ◌<◌, ◌≤◌, ◌↔◌, ℤ, pos, ◌<ℤ◌};
+ghost use Rattle.std.specs.Prelude.{IsTrue, IfSome, IfNone};
+ghost use Rattle.csp_base.specs.Sequence.{number_of, ahead_of, IsApart, IsNear, near};
 
 /// A sequence number: an index of a flow, modulo 65,536.
 #[derive(Clone, Copy, PartialEq, Eq, Debug)]
@@ -24,7 +25,9 @@ impl Seq {
 
         // There is just one such index.
         ensures exists { IsNear self.0 start.0 (pos around) (near self.0 start.0 (pos around)) }
-        ensures one { (t : ℤ) → IsNear self.0 start.0 (pos around) t → near self.0 start.0 (pos around) ≡ t }
+        ensures one { (t : ℤ)
+            → IsNear self.0 start.0 (pos around) t
+            → near self.0 start.0 (pos around) ≡ t }
     {
         let distance = u64::from(ahead(start.add(around), self));
         if distance < 32_768 {
@@ -39,8 +42,8 @@ impl Seq {
 pub fn ahead(a: Seq, b: Seq) -> u16
     ensures value { result ≡ ahead_of a.0 b.0 }
 
-    // On true indices of one flow: the distance from `a`'s to `b`'s, where that is below 65,536.
-    ensures indices { (s : ℕ) (t : ℤ) (d : ℕ) → d < 65536 → a.0 ≡ number_of s t → b.0 ≡ number_of s (t +ℤ pos d) → result ≡ d }
+    // On true indices of one flow: by how much `b`'s is the greater, where that is below 65,536.
+    ensures indices { (d : ℕ) → d < 65536 → IsApart a.0 b.0 d → result ≡ d }
 {
     b.0.wrapping_sub(a.0)
 }
@@ -49,8 +52,11 @@ pub fn ahead(a: Seq, b: Seq) -> u16
 pub fn between(s: Seq, lo: Seq, hi: Seq) -> bool
     ensures value { IsTrue result ↔ (ahead_of lo.0 s.0 ≤ ahead_of lo.0 hi.0) }
 
-    // On true indices of one flow, where both lie less than 65,536 after that of `lo`: not after `hi`'s.
-    ensures indices { (f : ℕ) (t : ℤ) (d e : ℕ) → d < 65536 → e < 65536 → lo.0 ≡ number_of f t → s.0 ≡ number_of f (t +ℤ pos d) → hi.0 ≡ number_of f (t +ℤ pos e) → IsTrue result ↔ (d ≤ e) }
+    // On true indices of one flow less than 65,536 after that of `lo`: whether it is at most `hi`'s.
+    ensures indices { (d e : ℕ)
+        → d < 65536 → e < 65536
+        → IsApart lo.0 s.0 d → IsApart lo.0 hi.0 e
+        → IsTrue result ↔ (d ≤ e) }
 {
     ahead(lo, s) <= ahead(lo, hi)
 }
