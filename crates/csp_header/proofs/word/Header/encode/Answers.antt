@@ -1,6 +1,6 @@
-use Rattle.std.proofs.Common.{◌≡◌, ap, ◌∙◌, arith, rules}
+use Rattle.std.proofs.Common.{ap, ◌∙◌, arith, rules}
 use Rattle.std.proofs.lemmas.Grind.{common_steps}
-use Rattle.csp_header.specs.Word.{word_of, header_at, IsInRange}
+use Rattle.csp_header.specs.Word.{header_at, IsInRange}
 use Rattle.csp_header.proofs.WordLaws.{header_at-word_of}
 use Rattle.csp_header.proofs.word.Header.encode.Goals as goal
 
