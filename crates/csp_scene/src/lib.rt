@@ -4,10 +4,17 @@
 //! `specs/Scene.antt`, and which ranges its numbers have in `specs/Ranges.antt`.
 #![tactic(auto)]
 
+mod checks;
+mod draft;
+mod judge;
 mod limits;
+mod reading;
 mod refusal;
+mod rows;
 mod scenario;
+mod table;
 
-pub use limits::{MAX_APPS, MAX_LINE, MAX_NODES, MAX_STEPS, MAX_UNTIL, MIN_BUFFERS};
+pub use limits::{MAX_ADDR, MAX_APPS, MAX_LINE, MAX_NODES, MAX_STEPS, MAX_UNTIL, MIN_BUFFERS};
+pub use reading::parse;
 pub use refusal::{SceneError, SceneKind};
 pub use scenario::{Scene, SceneApp, SceneNode, Step};

@@ -6,6 +6,9 @@ pub const MAX_LINE: usize = 8192;
 /// The most rounds that `until` may name.
 pub const MAX_UNTIL: u32 = 100_000;
 
+/// The greatest address of a node; the one above it is broadcast.
+pub const MAX_ADDR: u32 = 30;
+
 /// The most nodes of a scene.
 pub const MAX_NODES: usize = 1;
 

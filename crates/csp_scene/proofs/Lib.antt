@@ -1,0 +1,4 @@
+pub mod Fitting
+pub mod Shapes
+pub mod Lists
+pub mod Texts

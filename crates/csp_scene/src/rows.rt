@@ -1,0 +1,116 @@
+//! All shapes that a line may have.
+
+ghost use Rattle.std.specs.Prelude.{◌≡◌, ◌++◌, ◌==◌, ◌&&◌, List, IfOk, OnOk, length, map};
+ghost use Rattle.std.specs.Str.{bytes_eq};
+ghost use Rattle.csp_scene.specs.Table.{first_word, is_step, fixed_of, optional_of, with_options};
+ghost use Rattle.csp_scene.specs.Rows.{PlainRow, row_of, rows_of, all_rows, begins, begins_step, begins_count, has_choice};
+ghost use Rattle.csp_scene.specs.Judge.{fit};
+ghost use Rattle.csp_scene.specs.Kept.{Fits};
+
+use crate::checks::{Check, all_pass};
+use crate::refusal::SceneKind;
+use crate::table::{FORMS, Form, Group, Part};
+use std::alloc::{AllocError, Global};
+use std::marker::Model;
+
+/// A line form with one choice of its optional words.
+#[derive(Drop)]
+pub(crate) struct Row {
+    form: Form,
+    shape: Vec<Part>,
+}
+
+impl Model for Row {
+    ghost use Rattle.std.specs.Prelude.{◌≡◌, ◌++◌, List};
+    ghost use Rattle.csp_scene.specs.declared.table.Part.{Part};
+    ghost use Rattle.csp_scene.specs.Table.{fixed_of};
+    ghost use Rattle.csp_scene.specs.Rows.{PlainRow};
+
+    ghost Value = { PlainRow };
+
+    ghost view = { λ row. record { form = row.form; shape = row.shape.items } };
+
+    ghost invariant = { λ row. (more : List Part) × (row.shape.items ≡ fixed_of row.form ++ more) };
+}
+
+impl Row {
+    /// Whether a line with this first word may be of this row.
+    pub(crate) fn begins(&self, first: &[u8]) -> bool
+        ensures { result ≡ begins first.now self.now }
+    {
+        first == self.form.word()
+    }
+
+    /// The same, where the row is that of a step.
+    pub(crate) fn begins_step(&self, first: &[u8]) -> bool
+        ensures { result ≡ begins_step first.now self.now }
+    {
+        self.begins(first) && self.form.is_step()
+    }
+
+    /// Whether a line with this first word and so many further ones may be of this row.
+    pub(crate) fn begins_count(&self, first: &[u8], count: usize) -> bool
+        ensures { result ≡ begins_count first.now count self.now }
+    {
+        self.begins(first) && self.shape.len() == count
+    }
+
+    /// Whether the line has besides the row's fixed words in their places.
+    pub(crate) fn has_choice(&self, first: &[u8], args: &[&[u8]]) -> bool
+        ensures { result ≡ has_choice first.now (map (λ word. word.now) args.now) self.now }
+    {
+        self.begins_count(first, args.len()) && all_pass(Check::Fixed, &self.shape, args)
+    }
+
+    /// The form, where the names and then the numbers of a line fit: one whose number of words
+    /// and fixed words do.
+    pub(crate) fn fit(&self, args: &[&[u8]]) -> Result<Form, SceneKind>
+        requires { length self.now.shape ≡ length args.now }
+        ensures value { result ≡ fit (map (λ word. word.now) args.now) (Some self.now) }
+        ensures fits { IfOk result (λ form. Fits form (map (λ word. word.now) args.now)) }
+    {
+        if !all_pass(Check::Name, &self.shape, args) {
+            return Err(SceneKind::Name);
+        }
+        if !all_pass(Check::Number, &self.shape, args) {
+            return Err(SceneKind::Number);
+        }
+        Ok(self.form)
+    }
+}
+
+/// Appends a row for each choice of the optional words.
+fn push_choices(
+    alloc: Global,
+    rows: &mut Vec<Row>,
+    form: Form,
+    shape: &[Part],
+    optional: &[Group],
+) -> Result<(), AllocError>
+    requires { (more : List Part) × (shape.now ≡ fixed_of form ++ more) }
+    ensures { OnOk result (rows.new.items ≡ rows.old.items ++ map (row_of form) (with_options shape.now optional.now)) }
+{
+    match optional {
+        [] => {
+            let shape = Vec::from_slice(alloc, shape)?;
+            rows.push(Row { form, shape })?;
+        }
+        [group, more @ ..] => {
+            push_choices(alloc, rows, form, shape, more)?;
+            let longer = group.after(alloc, shape)?;
+            push_choices(alloc, rows, form, &longer, more)?;
+        }
+    }
+    Ok(())
+}
+
+/// The whole table.
+pub(crate) fn all_rows(alloc: Global) -> Result<Vec<Row>, AllocError>
+    ensures { IfOk result (λ rows. rows.items ≡ all_rows) }
+{
+    let mut rows = Vec::new(alloc);
+    for form in FORMS.iter() {
+        push_choices(alloc, &mut rows, *form, form.fixed(), form.optional())?;
+    }
+    Ok(rows)
+}

@@ -1,0 +1,151 @@
+//! The line forms of the scenario language, a row each.
+
+ghost use Rattle.std.specs.Prelude.{◌≡◌, ◌++◌, List, IfOk, OnOk, map};
+ghost use Rattle.csp_scene.specs.Table.{first_word, keyword_text, is_step, fixed_of, optional_of, group_of, with_options};
+
+use crate::limits::{MAX_ADDR, MAX_UNTIL, MIN_BUFFERS};
+use csp_base::MAX_BUFFERS;
+use std::alloc::{AllocError, Global};
+
+/// A line form.
+#[derive(Clone, Copy, PartialEq, Eq, Debug)]
+pub(crate) enum Form {
+    /// `until N`
+    Until,
+    /// `node NAME ADDR buffers N`
+    Node,
+    /// `app NODE NAME`
+    App,
+    /// `take`
+    Take,
+    /// `give`
+    Give,
+}
+
+/// A fixed word that stands after the first.
+#[derive(Clone, Copy, PartialEq, Eq, Debug)]
+pub(crate) enum Keyword {
+    /// `buffers`
+    Buffers,
+}
+
+/// What stands in one place of a line.
+#[derive(Clone, Copy, PartialEq, Eq, Debug)]
+pub(crate) enum Part {
+    /// This word itself.
+    Fixed(Keyword),
+    /// A name.
+    Name,
+    /// A decimal number, `low` to `high`.
+    Number { low: u32, high: u32 },
+}
+
+/// Words at a line's end that may be left out together.
+#[derive(Clone, Copy, PartialEq, Eq, Debug)]
+pub(crate) enum Group {
+    /// This word.
+    Flag(Keyword),
+    /// This word, and then a number from `low` to `high`.
+    Setting {
+        keyword: Keyword,
+        low: u32,
+        high: u32,
+    },
+}
+
+/// The line forms, in the order of the table.
+pub(crate) static FORMS: [Form; 5] = [Form::Until, Form::Node, Form::App, Form::Take, Form::Give];
+
+static UNTIL: [Part; 1] = [Part::Number {
+    low: 1,
+    high: MAX_UNTIL,
+}];
+
+static NODE: [Part; 4] = [
+    Part::Name,
+    Part::Number {
+        low: 0,
+        high: MAX_ADDR,
+    },
+    Part::Fixed(Keyword::Buffers),
+    Part::Number {
+        low: MIN_BUFFERS as u32,
+        high: MAX_BUFFERS as u32,
+    },
+];
+
+static APP: [Part; 2] = [Part::Name, Part::Name];
+
+impl Keyword {
+    /// The word itself.
+    pub(crate) fn text(self) -> &'static [u8]
+        ensures { result.now ≡ keyword_text self }
+    {
+        match self {
+            Keyword::Buffers => b"buffers",
+        }
+    }
+}
+
+impl Form {
+    /// The first word of its lines.
+    pub(crate) fn word(self) -> &'static [u8]
+        ensures { result.now ≡ first_word self }
+    {
+        match self {
+            Form::Until => b"until",
+            Form::Node => b"node",
+            Form::App => b"app",
+            Form::Take => b"take",
+            Form::Give => b"give",
+        }
+    }
+
+    /// Whether its lines are steps of the application that stands before them.
+    pub(crate) fn is_step(self) -> bool
+        ensures { result ≡ is_step self }
+    {
+        match self {
+            Form::Take | Form::Give => true,
+            Form::Until | Form::Node | Form::App => false,
+        }
+    }
+
+    /// What stands after the first word in each of its lines.
+    pub(crate) fn fixed(self) -> &'static [Part]
+        ensures { result.now ≡ fixed_of self }
+    {
+        match self {
+            Form::Until => &UNTIL,
+            Form::Node => &NODE,
+            Form::App => &APP,
+            Form::Take | Form::Give => &[],
+        }
+    }
+
+    /// What may follow, in this order, each there or not.
+    pub(crate) fn optional(self) -> &'static [Group]
+        ensures { result.now ≡ optional_of self }
+    {
+        match self {
+            Form::Until | Form::Node | Form::App | Form::Take | Form::Give => &[],
+        }
+    }
+}
+
+impl Group {
+    /// A shape with these words after it.
+    pub(crate) fn after(self, alloc: Global, shape: &[Part]) -> Result<Vec<Part>, AllocError>
+        ensures { IfOk result (λ longer. longer.items ≡ shape.now ++ group_of self) }
+    {
+        let mut longer = Vec::from_slice(alloc, shape)?;
+        match self {
+            Group::Flag(keyword) => longer.push(Part::Fixed(keyword))?,
+            Group::Setting { keyword, low, high } => {
+                longer.push(Part::Fixed(keyword))?;
+                longer.push(Part::Number { low, high })?;
+            }
+        }
+        Ok(longer)
+    }
+}
