@@ -3,3 +3,5 @@
 
 #[cfg(test)]
 mod crc;
+#[cfg(test)]
+mod kiss;

@@ -1,6 +1,7 @@
-use Rattle.std.proofs.Common.{sym, ap, ◌∙◌, arith}
+use Rattle.std.proofs.Common.{◌≡◌, sym, ap, ◌∙◌, arith}
 use Rattle.std.specs.Int.{w32, from_be_bytes}
 use Rattle.csp_kiss.specs.declared.event.KissEvent.TheVariants.{Packet}
+use Rattle.csp_kiss.specs.Stream.{judged, refusal}
 use Rattle.csp_kiss.proofs.Judging.{judged-long, judged-short, judged-packet, judged-refused, length-payload}
 use Rattle.csp_kiss.proofs.reader.judge.Goals as goal
 
@@ -21,5 +22,7 @@ returns-in-Ok c =
 
 pub returns-in-Err : goal.returns-in-Err
 returns-in-Err c =
-    let refused = rw c.in-Some.ensures.cases.1 at c.in-Err.ensures.err in
-    c.refused.ensures ∙ sym (judged-refused c.args.plain.now c.in-Err.error (omega (arith, c.in-Some.ensures.cases.2)) c.if-plain.false refused)
+    let cause = rw c.in-Some.ensures.cases.1 at c.in-Err.ensures.err in
+    let is : judged c.args.plain.now ≡ refusal c.in-Err.error =
+        judged-refused c.args.plain.now c.in-Err.error (omega (arith, c.in-Some.ensures.cases.2)) c.if-plain.false cause in
+    cc
