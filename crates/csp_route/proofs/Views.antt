@@ -150,3 +150,7 @@ room_at rows table prefix p kept shows e none =
 
 pub room_beyond : (rows : List Row) (table : Routes) (prefix : Prefix) → AreKept rows → view rows ≡ table → ¬ (length rows ≡ MAX_ROWS) → HasNoRoom table prefix → ⊥
 room_beyond rows table prefix kept shows not_full none = not_full (sym (len-view rows kept) ∙ ap finite.len shows ∙ none.0)
+
+-- how many rows the map has
+pub most_view : (rows : List Row) (table : Routes) → AreKept rows → view rows ≡ table → length rows ≤ MAX_ROWS → finite.len table ≤ MAX_ROWS
+most_view rows table kept shows most = subst (λ (t : Routes). finite.len t ≤ MAX_ROWS) shows (omega (arith, len-view rows kept, most))

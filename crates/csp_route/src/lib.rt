@@ -2,10 +2,14 @@
 //! the text in which rows are written.
 #![tactic(auto)]
 
+mod error;
+mod parts;
 mod prefix;
 mod row;
 mod table;
+mod text;
 
+pub use error::{RouteError, RouteKind};
 pub use prefix::{MAX_MASK, Prefix};
 pub use row::Row;
 pub use table::{Full, MAX_ROWS, Table};

@@ -75,6 +75,7 @@ impl Table {
         ensures ok { OnOk result (self.new ≡ with_row self.old row) }
         ensures full { IsErr result ↔ HasNoRoom self.old (key_of row) }
         ensures err { OnErr result (self.new ≡ self.old) }
+        ensures most { finite.len self.new ≤ MAX_ROWS }
     {
         let prefix = row.prefix();
         let kept = Row {
