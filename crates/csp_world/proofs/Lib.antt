@@ -1,0 +1,6 @@
+pub mod OpeningLemmas
+pub mod Range
+pub mod RecordLemmas
+pub mod RunLemmas
+pub mod ScheduleLemmas
+pub mod WorldLemmas

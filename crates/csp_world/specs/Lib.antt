@@ -1,0 +1,14 @@
+pub mod App
+pub mod Log
+pub mod Party
+pub mod Plain
+pub mod Pool
+pub mod Record
+pub mod Scenes
+pub mod Schedule
+pub mod Seen
+pub mod SeenWorld
+pub mod Who
+pub mod Whole
+pub mod World
+pub mod WorldInside

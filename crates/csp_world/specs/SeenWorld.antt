@@ -1,0 +1,8 @@
+-- What a world is seen as.
+use Rattle.std.specs.Prelude.{ℕ, List}
+use Rattle.csp_world.specs.World.{PlainWorld}
+
+-- a world, and the room of each party's log
+pub record SeenWorld : Type 0 where
+  pub plain : PlainWorld
+  pub spares : List ℕ
