@@ -1,5 +1,5 @@
 -- Lemmas on turns that follow each other.
-use Rattle.std.proofs.Common.{◌≡◌, ℕ, zero, suc, ◌+◌, ◌-◌, ◌<◌, ◌≤◌, Bool, true, false, Option, None, Some, List, [], ◌∷◌, ◌++◌, length, map, refl, sym, ◌∙◌, ap, subst, arith, sum_by}
+use Rattle.std.proofs.Common.{◌≡◌, ℕ, suc, ◌+◌, ◌-◌, ◌<◌, ◌≤◌, Bool, true, false, Option, None, Some, List, [], ◌∷◌, ◌++◌, length, refl, sym, ◌∙◌, ap, arith, sum_by}
 use Rattle.std.specs.Prelude.{slice_get, replicate, if◌then◌else◌}
 use Rattle.std.specs.List.{range_with_len, flat_map}
 use Rattle.std.proofs.lemmas.List.{length-set}
@@ -10,7 +10,7 @@ use Rattle.csp_scene.specs.Scene.{PlainScene, PlainNode, PlainApp}
 use Rattle.csp_world.specs.Party.{has_ended}
 use Rattle.csp_world.specs.Pool.{PlainPool}
 use Rattle.csp_world.specs.Seen.{log_len}
-use Rattle.csp_world.specs.World.{PlainParty, PlainWorld, turned, turn_at, pool_of, turn, tick, entries, finished, opening, apps_from, parties_from, parties_of_apps}
+use Rattle.csp_world.specs.World.{PlainParty, PlainWorld, turned, turn_at, pool_of, turn, tick, entries, opening, apps_from, parties_from, parties_of_apps}
 use Rattle.csp_world.specs.Schedule.{turns, round, round_places}
 
 -- a turn keeps the time and the number of parties

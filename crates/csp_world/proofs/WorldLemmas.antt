@@ -1,7 +1,7 @@
 -- Lemmas on a world whose one party is changed.
-use Rattle.std.proofs.Common.{◌≡◌, ◌≢◌, ℕ, ◌+◌, ◌-◌, ◌<◌, ◌≤◌, Bool, true, false, Option, None, Some, Result, Ok, Err, OnOk, max, List, length, map, get_or, set, refl, sym, ◌∙◌, ap, subst, arith, vec_len}
-use Rattle.std.specs.Prelude.{slice_get, slice_set, slice_index, if◌then◌else◌}
-use Rattle.std.proofs.lemmas.List.{map-set, set-get_or, get_or-map, get_or-set_same, get_or-set_other, get_or_read, length-map}
+use Rattle.std.proofs.Common.{◌≡◌, ◌≢◌, ℕ, ◌+◌, ◌-◌, ◌<◌, ◌≤◌, Bool, true, false, Some, Result, Ok, Err, OnOk, max, List, length, map, get_or, set, refl, sym, ◌∙◌, ap, arith}
+use Rattle.std.specs.Prelude.{slice_get, slice_index, if◌then◌else◌}
+use Rattle.std.proofs.lemmas.List.{map-set, set-get_or, get_or-map, get_or-set_same, get_or-set_other, length-map}
 use Rattle.std.proofs.lemmas.Option.{slice_get-map, slice_get_read}
 use Rattle.std.proofs.Math.Seq.{map-set_same}
 use Rattle.csp_base.specs.declared.turns.Turn.{Turn}
@@ -11,7 +11,7 @@ use Rattle.csp_world.specs.Party.{asks, has_ended}
 use Rattle.csp_world.specs.Pool.{PlainPool, answer_of, pool_after}
 use Rattle.csp_world.specs.Seen.{plain_party, turn_of, turn_of_party, turn_at_place}
 use Rattle.csp_world.specs.Who.{node_of}
-use Rattle.csp_world.specs.World.{PlainParty, PlainWorld, told, turned, turn_at, pool_of, turn}
+use Rattle.csp_world.specs.World.{PlainParty, PlainWorld, told, turned, turn_at, turn}
 
 abbrev pub spare_of : Party → ℕ
 spare_of party = party.log.spare

@@ -1,5 +1,5 @@
 -- What opening a world needs of a scene's nodes, which every scene has.
-use Rattle.std.specs.Prelude.{ℕ, ◌≤◌, ◌<◌, ◌^◌, length, All}
+use Rattle.std.specs.Prelude.{◌≤◌, ◌<◌, ◌^◌, length, All}
 use Rattle.csp_scene.specs.Scene.{PlainNode}
 
 -- a node's applications can be numbered in a byte, and their steps in 32 bits

@@ -1,5 +1,5 @@
 -- The schedule `rounds`, and the checks after each round.
-use Rattle.std.specs.Prelude.{ℕ, zero, suc, Bool, true, false, Option, None, Some, List, [], ◌∷◌, length, replicate, nat_le, if◌then◌else◌}
+use Rattle.std.specs.Prelude.{ℕ, zero, suc, Option, None, Some, List, [], ◌∷◌, length, replicate, nat_le, if◌then◌else◌}
 use Rattle.std.specs.List.{range_with_len, flat_map}
 use Rattle.csp_scene.specs.Scene.{PlainScene}
 use Rattle.csp_world.specs.World.{PlainWorld, turn, tick, finished, entries, opening}

@@ -1,5 +1,5 @@
 -- What the program's parties and worlds are seen as.
-use Rattle.std.specs.Prelude.{ℕ, Option, None, Some, List, map, length, slice_get, if◌then◌else◌}
+use Rattle.std.specs.Prelude.{ℕ, Option, None, Some, length, slice_get, if◌then◌else◌}
 use Rattle.csp_base.specs.declared.turns.Turn.{Turn}
 use Rattle.csp_base.specs.declared.turns.Turn.TheVariants as turn
 use Rattle.csp_world.specs.declared.operation.Answer.{Answer}
@@ -7,7 +7,6 @@ use Rattle.csp_world.specs.declared.operation.Answer.TheVariants as answer
 use Rattle.csp_world.specs.declared.world.Party.{Party}
 use Rattle.csp_world.specs.Party.{asks, has_ended}
 use Rattle.csp_world.specs.Pool.{PlainPool, answer_of}
-use Rattle.csp_world.specs.Who.{node_of}
 use Rattle.csp_world.specs.World.{PlainParty, PlainWorld, pool_of}
 
 -- a party without the room of its log

@@ -1,5 +1,5 @@
 -- Each buffer number of each node is in exactly one place at the end of a run.
-use Rattle.std.specs.Prelude.{ℕ, ◌≡◌, ◌==◌, ◌+◌, ◌<◌, List, length, sum_by, if◌then◌else◌, slice_get, Option, None, Some}
+use Rattle.std.specs.Prelude.{ℕ, ◌≡◌, ◌==◌, sum_by, if◌then◌else◌, slice_get, Some}
 use Rattle.std.specs.List.{range_with_len}
 use Rattle.csp_scene.specs.Scene.{PlainScene, PlainNode}
 use Rattle.csp_world.specs.Plain.{PlainHeld, PlainRecord}

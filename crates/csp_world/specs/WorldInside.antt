@@ -1,5 +1,5 @@
 -- The world that the fields of the program's world are, and what is true of them.
-use Rattle.std.specs.Prelude.{ℕ, ◌≡◌, ◌+◌, ◌<◌, ◌≤◌, ◌^◌, List, map, All, vec_len, vec_capacity}
+use Rattle.std.specs.Prelude.{◌≡◌, ◌+◌, ◌<◌, ◌≤◌, ◌^◌, map, All, vec_len, vec_capacity}
 use Rattle.csp_world.specs.declared.world.World.TheInside.{Inside}
 use Rattle.csp_world.specs.Seen.{plain_party}
 use Rattle.csp_world.specs.SeenWorld.{SeenWorld}

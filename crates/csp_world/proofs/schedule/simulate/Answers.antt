@@ -1,6 +1,6 @@
 use Rattle.std.proofs.Common.{◌≡◌, ◌<◌, ◌≤◌, ◌-◌, ◌+◌, ap, sym, ◌∙◌, arith}
 use Rattle.csp_world.specs.declared.limits.TheConstants.{MAX_ENTRIES}
-use Rattle.csp_world.specs.World.{opening, entries, finished}
+use Rattle.csp_world.specs.World.{entries}
 use Rattle.csp_world.specs.Schedule.{rounds}
 use Rattle.csp_world.proofs.RunLemmas.{run_at_once, run_later, rounds_over, round_finished, round_limit, round_on, recorded, not_recorded}
 use Rattle.csp_world.proofs.ScheduleLemmas.{opening_empty, opening_time, round_time}
@@ -49,4 +49,4 @@ loop-preserved c =
 pub returns-clause-record : goal.returns-clause-record
 returns-clause-record c =
     let until_is = ap (λ s. s.until) c.scene.view_is in
-    recorded c.args.scene.now c.loop.world.plain _ (sym c.loop.invariant.left ∙ rounds_over _ c.loop.world.plain (omega (arith, until_is, c.loop-test.false))) c.close.ensures
+    recorded c.args.scene.now c.loop.world.plain _ (sym c.loop.invariant.left ∙ rounds_over _ c.loop.world.plain (omega (arith, until_is, c.loop-test.false))) c.close-2.ensures
