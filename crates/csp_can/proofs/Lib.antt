@@ -1,1 +1,6 @@
 pub mod CutLemmas
+pub mod Places
+pub mod Counted
+pub mod Sound
+pub mod Feeding
+pub mod Whole

@@ -1,7 +1,8 @@
-use Rattle.std.specs.Prelude.{◌≡◌, ℕ, ◌+◌, ◌*◌, ◌/◌, ◌%◌, ◌^◌, ◌==◌, if◌then◌else◌}
+use Rattle.std.specs.Prelude.{◌≡◌, ℕ, ◌+◌, ◌*◌, ◌/◌, ◌%◌, ◌^◌, ◌==◌, ◌&&◌, Bool, if◌then◌else◌}
 use Rattle.csp_can.specs.declared.identifiers.Kind.{Kind}
 use Rattle.csp_can.specs.declared.identifiers.Kind.TheVariants.{Begin, More}
 use Rattle.csp_can.specs.declared.identifiers.Identifier.{Identifier}
+use Rattle.csp_can.specs.declared.identifiers.Key.{Key}
 
 -- the bit of a kind: 0 opens a packet, 1 goes on with it
 abbrev pub kind_bit : Kind → ℕ
@@ -27,3 +28,11 @@ identifier_of n =
       remain = n / 2 ^ 10 % 256;
       id = n % 1024;
     }
+
+-- the key of a packet: who sent it, to whom, and its number
+abbrev pub key_of : Identifier → Key
+key_of i = record { source = i.source; dest = i.dest; id = i.id }
+
+-- two keys are one
+abbrev pub same_key : Key → Key → Bool
+same_key a b = a.source == b.source && a.dest == b.dest && a.id == b.id

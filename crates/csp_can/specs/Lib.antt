@@ -2,3 +2,9 @@ pub mod Identifiers
 pub mod Frames
 pub mod Fragments
 pub mod ToCome
+pub mod Begins
+pub mod Rules
+pub mod Open
+pub mod Steps
+pub mod Chains
+pub mod Alone

@@ -2,7 +2,9 @@
 
 ghost use Rattle.std.specs.Prelude.{◌≡◌, ℕ, ◌/◌, ◌%◌, ◌^◌, ◌+◌, ◌<◌, ◌≤◌, length, map};
 ghost use Rattle.csp_can.specs.Fragments.{begin_bytes, fragments_of, frames_after};
-ghost use Rattle.csp_can.specs.Frames.{written};
+ghost use Rattle.csp_can.specs.Frames.{written, read_frame};
+ghost use Rattle.csp_can.specs.Chains.{Chain};
+ghost use Rattle.csp_can.specs.Alone.{ReadsAs};
 
 use crate::cutter::Fragments;
 use crate::frames::{CanFrame, MAX_DATA, copied};
@@ -19,6 +21,11 @@ pub fn fragments(header: u32, payload: &[u8], dest: Addr, id: u16) -> Fragments
     requires payload { length payload.now ≤ MAX_PAYLOAD }
     requires id { id < 1024 }
     ensures frames { result ≡ map written (fragments_of header payload.now dest id) }
+
+    // They are a chain, and read alone they are this packet again.
+    ensures chain { Chain (map read_frame result) header payload.now }
+    ensures alone { ReadsAs (map read_frame result) header payload.now }
+
     ensures count { length result ≡ frames_after (length payload.now) + 1 }
 {
     let first = payload.len().min(FIRST_DATA);

@@ -25,7 +25,28 @@ pub struct Identifier {
     pub id: u16,
 }
 
+/// What tells a packet on the bus from all others: who sent it, to whom, and its number.
+#[derive(Clone, Copy, PartialEq, Eq, Debug)]
+pub struct Key {
+    pub source: Addr,
+    pub dest: Addr,
+    pub id: u16,
+}
+
 impl Identifier {
+    ghost use Rattle.csp_can.specs.Identifiers.{key_of};
+
+    /// The key of the packet that the frame belongs to.
+    pub fn key(&self) -> Key
+        ensures { result ≡ key_of self.now }
+    {
+        Key {
+            source: self.source,
+            dest: self.dest,
+            id: self.id,
+        }
+    }
+
     /// The parts of an identifier of 29 bits.
     pub fn decode(number: u32) -> Identifier
         requires { number < 2 ^ 29 }
@@ -50,6 +71,7 @@ impl Identifier {
         requires { self.now.id < 1024 }
         ensures number { result ≡ identifier_number self.now }
         ensures bits { result < 2 ^ 29 }
+        ensures dest { self.now.dest < 32 }
     {
         let kind = match self.kind {
             Kind::Begin => 0,

@@ -2,15 +2,20 @@
 //! The layout of identifiers and frames is this project's profile.
 #![tactic(auto)]
 
+mod answers;
+mod assembly;
 mod cutter;
 mod cutting;
 mod frames;
 mod identifiers;
+mod partials;
 
+pub use answers::{CanAnswer, CanEvent};
+pub use assembly::Reassembly;
 pub use cutter::Fragments;
 pub use cutting::fragments;
 pub use frames::CanFrame;
-pub use identifiers::{Identifier, Kind};
+pub use identifiers::{Identifier, Key, Kind};
 
 #[cfg(test)]
 mod tests;

@@ -1,5 +1,6 @@
 use Rattle.std.proofs.Common.{length, ap, ◌∙◌, arith}
 use Rattle.std.proofs.lemmas.Grind.{common_steps}
+use Rattle.csp_can.proofs.Whole.{fragments_whole}
 use Rattle.csp_can.proofs.CutLemmas.{fragments_length}
 use Rattle.csp_can.proofs.cutting.fragments.Goals as goal
 
@@ -8,3 +9,11 @@ returns-clause-frames c = grind (arith, common_steps)
 
 pub returns-clause-count : goal.returns-clause-count
 returns-clause-count c = ap length (returns-clause-frames c) ∙ fragments_length c.args.header c.args.payload.now c.args.dest c.args.id
+
+pub returns-clause-chain : goal.returns-clause-chain
+returns-clause-chain c =
+    (fragments_whole c.args.header c.args.payload.now c.args.dest c.args.id _ c.ranges.header.fits c.encode.ensures.dest c.requires.id c.requires.payload (returns-clause-frames c)).0
+
+pub returns-clause-alone : goal.returns-clause-alone
+returns-clause-alone c =
+    (fragments_whole c.args.header c.args.payload.now c.args.dest c.args.id _ c.ranges.header.fits c.encode.ensures.dest c.requires.id c.requires.payload (returns-clause-frames c)).1

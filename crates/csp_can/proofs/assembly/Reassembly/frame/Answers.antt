@@ -1,0 +1,17 @@
+use Rattle.std.proofs.Common.{arith, rules}
+use Rattle.std.proofs.lemmas.Grind.{common_steps}
+use Rattle.csp_can.proofs.Sound.{counters_exactly}
+use Rattle.csp_can.proofs.Counted.{by_whole_frames}
+use Rattle.csp_can.proofs.assembly.Reassembly.frame.Goals as goal
+
+pub returns-in-Begin-clause-whole : goal.returns-in-Begin-clause-whole
+returns-in-Begin-clause-whole c = by_whole_frames _ _ _ _ (search rules) (search rules)
+
+pub returns-in-More-clause-whole : goal.returns-in-More-clause-whole
+returns-in-More-clause-whole c = by_whole_frames _ _ _ _ (search rules) (search rules)
+
+pub returns-in-Begin-clause-chain : goal.returns-in-Begin-clause-chain
+returns-in-Begin-clause-chain c = counters_exactly _ _ c.begin.result (search rules) c.requires.bytes
+
+pub returns-in-More-clause-chain : goal.returns-in-More-clause-chain
+returns-in-More-clause-chain c = counters_exactly _ _ c.plain.result (search rules) c.requires.bytes

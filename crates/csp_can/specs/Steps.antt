@@ -1,0 +1,28 @@
+use Rattle.std.specs.Prelude.{ℕ, ◌≤◌, nat_le, is_some, List, length, All}
+use Rattle.csp_base.specs.declared.limits.TheConstants.{MAX_PAYLOAD}
+use Rattle.csp_can.specs.declared.partials.Partial.{Partial}
+use Rattle.csp_can.specs.declared.partials.TheConstants.{MAX_PARTIALS}
+use Rattle.csp_can.specs.Identifiers.{key_of}
+use Rattle.csp_can.specs.Rules.{Arrival, Ruling, opening_ruling, begin_ruling, more_ruling}
+use Rattle.csp_can.specs.Open.{counters, standing, done, gone_on}
+
+-- no partial packet is longer than a packet may be
+abbrev pub AllFit : List Partial → Type 0
+AllFit ps = All (λ p. p.length ≤ MAX_PAYLOAD) ps
+
+-- the ruling on a packet that opens where these partial packets stand
+abbrev pub opened : List Partial → Partial → Ruling
+opened ps p =
+    opening_ruling (is_some (standing counters p.key ps)) (nat_le MAX_PARTIALS (length ps)) p.header p.length p.payload.items p.trace
+
+-- the ruling on a BEGIN frame there
+abbrev pub begin_said : List Partial → Arrival → Ruling
+begin_said ps a = begin_ruling (is_some (standing counters (key_of a.frame.head) ps)) (nat_le MAX_PARTIALS (length ps)) a
+
+-- the ruling on a MORE frame there
+abbrev pub more_said : List Partial → Arrival → Ruling
+more_said ps a = more_ruling (standing counters (key_of a.frame.head) ps) a.frame
+
+-- the partial packets after a ruling on a frame
+abbrev pub after : Ruling → List Partial → Arrival → List Partial
+after said ps a = done counters said.deed (key_of a.frame.head) (counters.opened a) (gone_on counters ps a) ps

@@ -1,0 +1,196 @@
+//! Packets put together from their frames.
+
+ghost use Rattle.std.specs.Prelude.{◌≡◌, ◌↔◌, ℕ, ◌<◌, ◌≤◌, ◌^◌, ◌∷◌, [], ◌++◌, length, nat_lt, nat_le, if◌then◌else◌, OnSome, IfSome, IfNone, true, false, position, List};
+ghost use Rattle.csp_can.specs.Identifiers.{identifier_of, same_key};
+ghost use Rattle.csp_can.specs.Rules.{Arrival, arrival, measured, leaves};
+ghost use Rattle.csp_can.specs.Chains.{Completes};
+ghost use Rattle.csp_base.specs.declared.traces.Trace.{Trace};
+ghost use Rattle.csp_can.specs.Steps.{opened, begin_said, more_said, after};
+ghost use Rattle.csp_can.specs.declared.partials.Partial.{Partial};
+ghost use Rattle.csp_can.specs.Open.{counters, fresh, standing, without, done, answer_of, answer, next, whole_frames, open_after, counted};
+
+use crate::answers::{CanAnswer, CanEvent};
+use crate::frames::{MAX_DATA, copied};
+use crate::identifiers::{Identifier, Key, Kind};
+use crate::partials::{Begin, GIVE_UP, MAX_PARTIALS, Partial};
+use arrayvec::ArrayVec;
+use csp_base::{MAX_PAYLOAD, Trace};
+use std::cmp::Ordering;
+use std::marker::Model;
+
+/// Packets of which some frames came: at most `MAX_PARTIALS`, each of another key.
+#[derive(Drop)]
+pub struct Reassembly {
+    partials: ArrayVec<Partial, MAX_PARTIALS>,
+}
+
+impl Model for Reassembly {
+    ghost use Rattle.std.specs.Prelude.{List};
+    ghost use Rattle.csp_can.specs.declared.partials.Partial.{Partial};
+
+    ghost Value = { List Partial };
+
+    ghost use Rattle.csp_can.specs.Steps.{AllFit};
+
+    ghost view = { λ r. r.partials.items };
+
+    ghost invariant = { λ r. AllFit r.partials.items };
+}
+
+impl Reassembly {
+    /// No partial packet stands.
+    pub fn new() -> Reassembly
+        ensures empty { result ≡ [] }
+        ensures whole { result ≡ counted (open_after []) }
+    {
+        Reassembly {
+            partials: ArrayVec::new(),
+        }
+    }
+
+    /// A frame that came at `now`: its identifier, its data bytes and its trace. First each partial packet
+    /// whose last frame came `GIVE_UP` or more before `now` is given up.
+    pub fn frame(&mut self, id: u32, bytes: &[u8], trace: Trace, now: u64) -> CanAnswer
+        requires id { id < 2 ^ 29 }
+        requires bytes { length bytes.now ≤ MAX_DATA }
+
+        ensures answer { let a = arrival (identifier_of id) bytes.now trace now in
+            result ≡ answer counters self.old a }
+        ensures state { let a = arrival (identifier_of id) bytes.now trace now in
+            self.new ≡ next counters self.old a }
+
+        // The same by whole frames, over every history of frames and times.
+        ensures whole { let a = arrival (identifier_of id) bytes.now trace now in
+            (history : List Arrival) → self.old ≡ counted (open_after history)
+            → (self.new ≡ counted (open_after (history ++ a ∷ [])))
+            × (result ≡ answer whole_frames (open_after history) a) }
+
+        // Whole comes exactly where the frame makes its key's list of frames a chain.
+        ensures chain { let a = arrival (identifier_of id) bytes.now trace now in
+            (history : List Arrival) → self.old ≡ counted (open_after history)
+            → (header : ℕ) (payload : List ℕ) (begun : Trace)
+            → (result.event ≡ CanEvent.Whole header (record { items = payload }) begun)
+            ↔ Completes (open_after history) a header payload begun }
+    {
+        self.give_up(now);
+        let head = Identifier::decode(id);
+        match head.kind {
+            Kind::Begin => self.begin(&head, bytes, trace, now),
+            Kind::More => CanAnswer::plain(self.more(&head, bytes, trace, now)),
+        }
+    }
+
+    /// Gives up each partial packet whose last frame came `GIVE_UP` or more before `now`.
+    fn give_up(&mut self, now: u64)
+        ensures { self.new ≡ fresh counters now self.old }
+    {
+        self.partials
+            .retain(|p| now.saturating_sub(p.time) < GIVE_UP);
+    }
+
+    /// Where the partial packet of a key stands.
+    fn place(&self, key: &Key) -> Option<usize>
+        ensures first { result ≡ position (λ p. same_key p.key key.now) self.now }
+        ensures room { length self.now ≤ MAX_PARTIALS }
+    {
+        self.partials.iter().position(|p| p.key == *key)
+    }
+
+    /// Takes out the partial packet of a key.
+    fn take(&mut self, key: &Key) -> Option<Partial>
+        ensures found { result ≡ standing counters key.now self.old }
+        ensures rest { self.new ≡ without counters key.now self.old }
+        ensures none { IfNone result (self.new ≡ self.old) }
+        ensures room { OnSome result (length self.new < MAX_PARTIALS) }
+        ensures fits { IfSome result (λ p. p.length ≤ MAX_PAYLOAD) }
+    {
+        let index = self.place(key)?;
+        Some(self.partials.remove(index))
+    }
+
+    /// What the payload so far makes of a packet: too much, whole, or one more partial packet.
+    fn settle(&mut self, partial: Partial) -> CanEvent
+        requires room { length self.old < MAX_PARTIALS }
+        requires fits { partial.length ≤ MAX_PAYLOAD }
+        ensures event { result
+            ≡ (measured false partial.header partial.length partial.payload.items partial.trace leaves).event }
+        ensures state { self.new
+            ≡ (if nat_lt (length partial.payload.items) partial.length then self.old ++ partial ∷ [] else self.old) }
+    {
+        match partial.payload.len().cmp(&(partial.length as usize)) {
+            Ordering::Greater => CanEvent::TooMuch,
+            Ordering::Equal => CanEvent::Whole {
+                header: partial.header,
+                payload: partial.payload,
+                trace: partial.trace,
+            },
+            Ordering::Less => {
+                self.partials.push(partial);
+                CanEvent::Part
+            }
+        }
+    }
+
+    /// A packet opens: a partial packet of its key ends, and a new key needs room.
+    fn open(&mut self, partial: Partial) -> CanAnswer
+        requires { partial.length ≤ MAX_PAYLOAD }
+        ensures answer { result ≡ answer_of (opened self.old partial) }
+        ensures state { (grown : List Partial) → self.new
+            ≡ done counters (opened self.old partial).deed partial.key partial grown self.old }
+    {
+        match self.take(&partial.key) {
+            Some(_) => CanAnswer {
+                restarted: true,
+                event: self.settle(partial),
+            },
+            None if self.partials.is_full() => CanAnswer::plain(CanEvent::NoRoom),
+            None => CanAnswer::plain(self.settle(partial)),
+        }
+    }
+
+    /// A BEGIN frame, after what is too old was given up.
+    fn begin(&mut self, head: &Identifier, bytes: &[u8], trace: Trace, now: u64) -> CanAnswer
+        requires { length bytes.now ≤ MAX_DATA }
+        ensures answer { let a = arrival head.now bytes.now trace now in
+            result ≡ answer_of (begin_said self.old a) }
+        ensures state { let a = arrival head.now bytes.now trace now in
+            self.new ≡ after (begin_said self.old a) self.old a }
+    {
+        let Some(begin) = Begin::read(bytes) else {
+            return CanAnswer::plain(CanEvent::ShortBegin);
+        };
+        if begin.length as usize > MAX_PAYLOAD {
+            return CanAnswer::plain(CanEvent::TooLong);
+        }
+        self.open(Partial {
+            key: head.key(),
+            header: begin.header,
+            length: begin.length,
+            payload: copied(begin.payload),
+            remain: head.remain,
+            time: now,
+            trace,
+        })
+    }
+
+    /// A MORE frame, after what is too old was given up.
+    fn more(&mut self, head: &Identifier, bytes: &[u8], trace: Trace, now: u64) -> CanEvent
+        ensures event { let a = arrival head.now bytes.now trace now in
+            result ≡ (more_said self.old a).event }
+        ensures state { let a = arrival head.now bytes.now trace now in
+            self.new ≡ after (more_said self.old a) self.old a }
+    {
+        let Some(mut partial) = self.take(&head.key()) else {
+            return CanEvent::NoBegin;
+        };
+        if head.remain as u16 + 1 != partial.remain as u16 {
+            return CanEvent::BadRemain;
+        }
+        if partial.payload.try_extend_from_slice(bytes).is_err() {
+            return CanEvent::TooMuch;
+        }
+        partial.remain = head.remain;
+        partial.time = now;
+        self.settle(partial)
+    }
+}
