@@ -1,5 +1,5 @@
 -- How a register of 32 bits that is still to be added to the front of a dividend goes through the division.
-use Rattle.std.proofs.Common.{◌≡◌, ℕ, zero, suc, ◌+◌, ◌-◌, ◌*◌, ◌/◌, ◌%◌, ◌^◌, ◌<◌, ◌≤◌, Bool, true, false, not, nat_eq, eqb, if◌then◌else◌, cond, List, [], ◌∷◌, ◌++◌, length, map, take, drop, replicate, append_assoc, append-nil, get_or, drop-cons, add-one, refl, sym, ap, ◌∙◌, arith, bit_xor, ◌⊎◌, inl, inr}
+use Rattle.std.proofs.Common.{◌≡◌, ℕ, zero, suc, ◌+◌, ◌-◌, ◌*◌, ◌/◌, ◌%◌, ◌^◌, ◌<◌, ◌≤◌, Bool, true, false, not, nat_eq, if◌then◌else◌, List, [], ◌∷◌, ◌++◌, length, map, take, drop, replicate, append_assoc, append-nil, get_or, drop-cons, add-one, refl, sym, ap, ◌∙◌, arith, bit_xor, ◌⊎◌, inl, inr}
 use Rattle.std.proofs.lemmas.List.{length-append, length-drop, length-map, length-replicate}
 use Rattle.std.proofs.lemmas.Nat.{xor_shr, xor_mod, xor_comm}
 use mathlib.Core.Bool.{xor}

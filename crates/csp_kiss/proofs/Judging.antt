@@ -10,26 +10,27 @@ use Rattle.csp_crc.specs.Check.{IsCause}
 use Rattle.csp_crc.specs.declared.CrcError.{CrcError}
 use Rattle.csp_crc.specs.declared.CrcError.TheVariants.{Short as CrcShort, Wrong}
 use Rattle.csp_crc.proofs.Division.{crc_of-lt}
+use Rattle.csp_base.specs.declared.limits.TheConstants.{MAX_PAYLOAD}
 use Rattle.csp_kiss.specs.declared.stage.TheConstants.{ROOM}
 use Rattle.csp_kiss.specs.declared.event.KissEvent.TheVariants.{Packet, TooLong, Short, BadCrc}
 use Rattle.csp_kiss.specs.Stream.{judged, compared, refusal}
 use Rattle.csp_kiss.specs.Reading.{kept}
 
-pub judged-long : (bytes : List ℕ) → 264 < length bytes → judged bytes ≡ TooLong
+pub judged-long : (bytes : List ℕ) → MAX_PAYLOAD + 8 < length bytes → judged bytes ≡ TooLong
 unfolding judged
-judged-long bytes h = rw (lt-ltb 264 (length bytes) h) refl
+judged-long bytes h = rw (lt-ltb (MAX_PAYLOAD + 8) (length bytes) h) refl
 
 pub judged-short : (bytes : List ℕ) → length bytes < 8 → judged bytes ≡ Short
 unfolding judged
-judged-short bytes h = rw (le-ltb 264 (length bytes) (omega arith), lt-ltb (length bytes) 8 h) refl
+judged-short bytes h = rw (le-ltb (MAX_PAYLOAD + 8) (length bytes) (omega arith), lt-ltb (length bytes) 8 h) refl
 
-judged-compared : (bytes : List ℕ) → 8 ≤ length bytes → length bytes ≤ 264 →
+judged-compared : (bytes : List ℕ) → 8 ≤ length bytes → length bytes ≤ MAX_PAYLOAD + 8 →
     judged bytes ≡ compared (from_be_bytes w32 (take 4 bytes)) (from_be_bytes w32 (drop (length (drop 4 bytes) - 4) (drop 4 bytes))) (take (length (drop 4 bytes) - 4) (drop 4 bytes))
 unfolding judged
-judged-compared bytes low high = rw (le-ltb 264 (length bytes) high, le-ltb (length bytes) 8 low) refl
+judged-compared bytes low high = rw (le-ltb (MAX_PAYLOAD + 8) (length bytes) high, le-ltb (length bytes) 8 low) refl
 
 -- where a checked payload follows the four bytes of a header
-pub judged-packet : (bytes payload : List ℕ) → length bytes ≤ 264 → drop 4 bytes ≡ checked payload →
+pub judged-packet : (bytes payload : List ℕ) → length bytes ≤ MAX_PAYLOAD + 8 → drop 4 bytes ≡ checked payload →
     judged bytes ≡ Packet (from_be_bytes w32 (take 4 bytes)) (record { items = payload })
 unfolding checked compared
 judged-packet bytes payload high e =
@@ -42,7 +43,7 @@ judged-packet bytes payload high e =
     let found : from_be_bytes w32 crc ≡ crc_of payload = from_be_bytes-to_be_bytes_4 (crc_of payload) (crc_of-lt payload) in
     judged-compared bytes (omega arith) high ∙ rw (before, e, front, back, found, eq-eqb (crc_of payload) (crc_of payload) refl) refl
 
-pub judged-bad : (bytes : List ℕ) (found wanted : ℕ) → length bytes ≤ 264 → IsCause (drop 4 bytes) (Wrong found wanted) →
+pub judged-bad : (bytes : List ℕ) (found wanted : ℕ) → length bytes ≤ MAX_PAYLOAD + 8 → IsCause (drop 4 bytes) (Wrong found wanted) →
     judged bytes ≡ BadCrc found wanted
 unfolding compared
 judged-bad bytes found wanted high cause =
@@ -51,7 +52,7 @@ judged-bad bytes found wanted high cause =
     judged-compared bytes (omega arith) high
     ∙ rw (← cause.1, ← cause.2, ne_eqb found wanted cause.3) refl
 
-pub judged-refused : (bytes : List ℕ) (error : CrcError) → 4 ≤ length bytes → length bytes ≤ 264 → IsCause (drop 4 bytes) error → judged bytes ≡ refusal error
+pub judged-refused : (bytes : List ℕ) (error : CrcError) → 4 ≤ length bytes → length bytes ≤ MAX_PAYLOAD + 8 → IsCause (drop 4 bytes) error → judged bytes ≡ refusal error
 judged-refused bytes CrcShort low high cause =
     let sum : length (drop 4 bytes) ≡ length bytes - 4 = length-drop 4 bytes in
     judged-short bytes (omega arith)
@@ -62,7 +63,7 @@ unfolding checked
 length-checked payload = length-append payload (to_be_bytes w32 (crc_of payload))
 
 -- what is left for the payload
-pub length-payload : (bytes payload : List ℕ) → length bytes ≤ 264 → drop 4 bytes ≡ checked payload → length payload ≤ 256
+pub length-payload : (bytes payload : List ℕ) → length bytes ≤ MAX_PAYLOAD + 8 → drop 4 bytes ≡ checked payload → length payload ≤ MAX_PAYLOAD
 length-payload bytes payload high e =
     omega (arith, ap length e, length-checked payload, length-drop 4 bytes)
 
@@ -74,7 +75,7 @@ take_all (suc room) (byte ∷ bytes) h = ap (λ rest. byte ∷ rest) (take_all r
 
 pub judged-take : (bytes : List ℕ) → judged (take ROOM bytes) ≡ judged bytes
 judged-take bytes =
-    elim (cases_lt 264 (length bytes)) [
+    elim (cases_lt (MAX_PAYLOAD + 8) (length bytes)) [
       | inl long ↦ judged-long (take ROOM bytes) (omega (arith, length-take ROOM bytes)) ∙ sym (judged-long bytes long)
       | inr short ↦ ap judged (take_all ROOM bytes (omega arith))
     ]

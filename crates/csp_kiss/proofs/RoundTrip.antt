@@ -8,6 +8,7 @@ use Rattle.std.proofs.lemmas.Bool.{eqb-true}
 use Rattle.std.proofs.lemmas.List.Elements.{All-append}
 use Rattle.std.proofs.lemmas.List.Splits.{slice_split_at}
 use Rattle.csp_crc.specs.Crc.{checked}
+use Rattle.csp_base.specs.declared.limits.TheConstants.{MAX_PAYLOAD}
 use Rattle.csp_kiss.specs.declared.TheConstants.{FEND, FESC, TFEND, TFESC}
 use Rattle.csp_kiss.specs.declared.event.KissEvent.TheVariants.{Packet}
 use Rattle.csp_kiss.specs.Frame.{escape_of, escaped}
@@ -61,7 +62,7 @@ unfolding events pieces but_last event_of
 events-piece bytes none =
     ap (λ parts. flat_map event_of (drop 1 (but_last ([] ∷ onto_first 0 parts)))) (slice_split_at is_end bytes FEND [] none refl)
 
-pub events-packet : (header : ℕ) (head payload : List ℕ) → length head ≡ 4 → from_be_bytes w32 head ≡ header → length payload ≤ 256 →
+pub events-packet : (header : ℕ) (head payload : List ℕ) → length head ≡ 4 → from_be_bytes w32 head ≡ header → length payload ≤ MAX_PAYLOAD →
     events (FEND ∷ 0 ∷ (escaped (head ++ checked payload) ++ FEND ∷ [])) ≡ Packet header (record { items = payload }) ∷ []
 events-packet header head payload four word short =
     let all : List ℕ = head ++ checked payload in

@@ -4,9 +4,10 @@ use Rattle.std.specs.Option.{option_to_list}
 use Rattle.std.specs.List.{flat_map, slice_split}
 use Rattle.csp_kiss.specs.declared.TheConstants.{FEND, FESC, TFEND, TFESC}
 use Rattle.csp_kiss.specs.declared.stage.TheConstants.{ROOM}
+use Rattle.csp_kiss.specs.declared.event.KissEvent.{KissEvent}
 use Rattle.csp_kiss.specs.declared.stage.Stage.TheVariants.{Start, Plain, Escape}
 use Rattle.csp_kiss.specs.Stream.{is_end, but_last, pieces, meaning, undone, judged, event_of, events}
-use Rattle.csp_kiss.specs.Reading.{Reading, is_escaping, reading_in, reading_at, reading_of, kept, resolved, continued, after, told, answer}
+use Rattle.csp_kiss.specs.Reading.{Reading, unread, is_escaping, reading_in, reading_at, reading_of, kept, resolved, continued, after, told, answer, answers}
 use Rattle.csp_kiss.proofs.Cutting.{onto_last, slice_split_some, slice_split-push_yes, slice_split-push_no, but_last-append, but_last-onto_last}
 use Rattle.csp_kiss.proofs.Escapes.{adds, escapes, is_escaping-push, undone-push}
 use Rattle.csp_kiss.proofs.Judging.{judged-take, take-take-append}
@@ -106,3 +107,22 @@ reading_of-cut stream byte false e =
 
 pub reading_of-push : (stream : List ℕ) (byte : ℕ) → reading_of (stream ++ byte ∷ []) ≡ after (reading_of stream) byte
 reading_of-push stream byte = reading_of-cut stream byte (eqb byte FEND) refl
+
+-- ---- a whole stream
+
+events-append : (stream bytes : List ℕ) → events (stream ++ bytes) ≡ events stream ++ answers (reading_of stream) bytes
+unfolding answers
+events-append stream [] = ap events (append-nil stream) ∙ sym (append-nil (events stream))
+events-append stream (byte ∷ bytes) =
+    let more : List ℕ = stream ++ byte ∷ [] in
+    let first : List KissEvent = option_to_list (answer (reading_of stream) byte) in
+    ap events (sym (append_assoc stream (byte ∷ []) bytes))
+    ∙ events-append more bytes
+    ∙ ap (λ reading. events more ++ answers reading bytes) (reading_of-push stream byte)
+    ∙ ap (λ all. all ++ answers (after (reading_of stream) byte) bytes) (events-push stream byte)
+    ∙ append_assoc (events stream) first (answers (after (reading_of stream) byte) bytes)
+
+-- from a new reader on, whatever the bytes are
+pub answers-unread : (bytes : List ℕ) → answers unread bytes ≡ events bytes
+unfolding events pieces but_last reading_of reading_at
+answers-unread bytes = sym (events-append [] bytes)

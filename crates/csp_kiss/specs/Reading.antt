@@ -1,5 +1,5 @@
 -- What a reader keeps of a stream that it was fed byte by byte, and its answers.
-use Rattle.std.specs.Prelude.{◌≡◌, ℕ, ◌==◌, Bool, true, false, if◌then◌else◌, List, [], ◌∷◌, ◌++◌, take, Option, Some, None}
+use Rattle.std.specs.Prelude.{◌≡◌, ℕ, ◌==◌, Bool, true, false, if◌then◌else◌, List, [], ◌∷◌, ◌++◌, take, Option, Some, None, option_to_list}
 use Rattle.std.specs.List.{slice_split}
 use Rattle.csp_kiss.specs.declared.TheConstants.{FEND, FESC, TFEND, TFESC}
 use Rattle.csp_kiss.specs.declared.stage.TheConstants.{ROOM}
@@ -72,3 +72,8 @@ told Escape plain = Some (judged plain)
 -- what a reader answers to a byte
 abbrev pub answer : Reading → ℕ → Option KissEvent
 answer reading byte = if byte == FEND then told reading.stage reading.plain else None
+
+-- all that a reader answers to some bytes, one after the other
+unfoldable pub answers : Reading → List ℕ → List KissEvent
+answers reading [] = []
+answers reading (byte ∷ bytes) = option_to_list (answer reading byte) ++ answers (after reading byte) bytes

@@ -1,7 +1,7 @@
 //! Reads a stream byte by byte, in fixed room.
 
 ghost use Rattle.std.specs.Prelude.{◌≡◌, ℕ, List, [], ◌∷◌, ◌++◌, option_to_list, ◌≤◌, length};
-ghost use Rattle.csp_kiss.specs.Reading.{Reading, HasRead, after, answer, told, kept, unread};
+ghost use Rattle.csp_kiss.specs.Reading.{Reading, HasRead, after, answer, answers, told, kept, unread};
 ghost use Rattle.csp_kiss.specs.Stream.{events, judged, refusal};
 
 use crate::stage::{ROOM, Stage};
@@ -31,6 +31,8 @@ impl KissReader {
     pub fn new() -> Self
         ensures state { result ≡ unread }
         ensures nothing { HasRead [] result }
+        // Fed any stream byte by byte, it answers the events of that stream.
+        ensures whole { (stream : List ℕ) → answers result stream ≡ events stream }
     {
         KissReader {
             stage: Stage::Outside,

@@ -1,4 +1,4 @@
-use Rattle.std.proofs.Common.{◌≡◌, ◌+◌, ◌≤◌, suc, Bool, false, List, ◌++◌, replicate, arith, subst, sym, ◌∙◌, ap, zero-add}
+use Rattle.std.proofs.Common.{◌≡◌, ◌+◌, suc, false, ◌++◌, replicate, arith, sym, ◌∙◌, ap, zero-add}
 use Rattle.csp_crc.specs.Bits.{bits_of, plus}
 use Rattle.csp_crc.specs.Crc.{divided}
 use Rattle.csp_crc.proofs.Division.{plus-byte}

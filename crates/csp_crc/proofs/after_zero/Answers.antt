@@ -1,4 +1,4 @@
-use Rattle.std.proofs.Common.{◌≡◌, ◌%◌, bit_and, arith, rules}
+use Rattle.std.proofs.Common.{arith, rules}
 use Rattle.std.proofs.lemmas.Grind.{common_steps}
 use Rattle.csp_crc.proofs.Division.{one_place-odd, one_place-even}
 use Rattle.csp_crc.proofs.after_zero.Goals as goal

@@ -24,5 +24,5 @@ pub returns-in-Err : goal.returns-in-Err
 returns-in-Err c =
     let cause = rw c.in-Some.ensures.cases.1 at c.in-Err.ensures.err in
     let is : judged c.args.plain.now ≡ refusal c.in-Err.error =
-        judged-refused c.args.plain.now c.in-Err.error (omega (arith, c.in-Some.ensures.cases.2)) c.if-plain.false cause in
+    judged-refused c.args.plain.now c.in-Err.error (omega (arith, c.in-Some.ensures.cases.2)) c.if-plain.false cause in
     cc
