@@ -18,3 +18,6 @@ pub use limits::{MAX_ADDR, MAX_APPS, MAX_LINE, MAX_NODES, MAX_STEPS, MAX_UNTIL, 
 pub use reading::parse;
 pub use refusal::{SceneError, SceneKind};
 pub use scenario::{Scene, SceneApp, SceneNode, Step};
+
+#[cfg(test)]
+mod tests;
