@@ -4,3 +4,4 @@ pub mod RecordLemmas
 pub mod RunLemmas
 pub mod ScheduleLemmas
 pub mod WorldLemmas
+pub mod WholeLemmas

@@ -5,6 +5,7 @@ ghost use Rattle.csp_scene.specs.Ranges.{IsScene};
 ghost use Rattle.csp_world.specs.World.{PlainWorld, turn, tick, finished, entries};
 ghost use Rattle.csp_world.specs.Schedule.{turns, round, round_places, rounds, run};
 ghost use Rattle.csp_world.specs.Record.{sim_record};
+ghost use Rattle.csp_world.specs.Whole.{IsWhole};
 
 use crate::limits::{MAX_ENTRIES, TURNS_PER_ROUND};
 use crate::record::Record;
@@ -65,6 +66,7 @@ pub fn simulate(alloc: Global, scene: &Scene) -> Result<Record, SimError>
     requires { IsScene scene.now }
     ensures record { IfOk result (λ r. sim_record scene.now ≡ Some r) }
     ensures entries { IsErrOf result SimError.Entries → sim_record scene.now ≡ None }
+    ensures conserved { IfOk result (IsWhole scene.now) }
 {
     let Ok(mut world) = World::open(alloc, scene) else {
         return Err(SimError::NoMemory);

@@ -4,6 +4,7 @@ use Rattle.csp_world.specs.World.{entries}
 use Rattle.csp_world.specs.Schedule.{rounds}
 use Rattle.csp_world.proofs.RunLemmas.{run_at_once, run_later, rounds_over, round_finished, round_limit, round_on, recorded, not_recorded}
 use Rattle.csp_world.proofs.ScheduleLemmas.{opening_empty, opening_time, round_time}
+use Rattle.csp_world.proofs.WholeLemmas.{whole}
 use Rattle.csp_world.proofs.schedule.simulate.Goals as goal
 
 pub returns-then-finished-clause-record : goal.returns-then-finished-clause-record
@@ -50,3 +51,12 @@ pub returns-clause-record : goal.returns-clause-record
 returns-clause-record c =
     let until_is = ap (λ s. s.until) c.scene.view_is in
     recorded c.args.scene.now c.loop.world.plain _ (sym c.loop.invariant.left ∙ rounds_over _ c.loop.world.plain (omega (arith, until_is, c.loop-test.false))) c.close-2.ensures
+
+pub returns-then-finished-clause-conserved : goal.returns-then-finished-clause-conserved
+returns-then-finished-clause-conserved c = whole c.args.scene.now _ (returns-then-finished-clause-record c)
+
+pub returns-then-finished-2-clause-conserved : goal.returns-then-finished-2-clause-conserved
+returns-then-finished-2-clause-conserved c = whole c.args.scene.now _ (returns-then-finished-2-clause-record c)
+
+pub returns-clause-conserved : goal.returns-clause-conserved
+returns-clause-conserved c = whole c.args.scene.now _ (returns-clause-record c)
