@@ -5,3 +5,5 @@ pub mod Matches
 pub mod Cuts
 pub mod Rows
 pub mod Puts
+pub mod Texts
+pub mod Merges

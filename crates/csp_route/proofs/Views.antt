@@ -154,3 +154,7 @@ room_beyond rows table prefix kept shows not_full none = not_full (sym (len-view
 -- how many rows the map has
 pub most_view : (rows : List Row) (table : Routes) → AreKept rows → view rows ≡ table → length rows ≤ MAX_ROWS → finite.len table ≤ MAX_ROWS
 most_view rows table kept shows most = subst (λ (t : Routes). finite.len t ≤ MAX_ROWS) shows (omega (arith, len-view rows kept, most))
+
+-- the entries of the map are those of the rows
+pub entries-view : (rows : List Row) → AreKept rows → finite.entries (view rows) ≡ map entry_of rows
+entries-view rows kept = finite.entries-from_sorted prefix_cmp (map entry_of rows) (passes _ kept.in_order)

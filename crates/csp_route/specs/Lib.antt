@@ -4,3 +4,4 @@ pub mod Kept
 pub mod Parts
 pub mod Text
 pub mod Reader
+pub mod Written

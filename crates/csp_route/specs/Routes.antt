@@ -1,5 +1,6 @@
 -- The routing table as a finite map.
-use Rattle.std.specs.Prelude.{◌≡◌, ℕ, zero, suc, ◌+◌, ◌≤◌, ◌<◌, Option, None, Some, IfSome, refl}
+use Rattle.std.specs.Prelude.{List, [], ◌∷◌, ◌≡◌, ℕ, zero, suc, ◌+◌, ◌≤◌, ◌<◌, Option, None, Some, refl}
+use Rattle.std.specs.List.{All}
 use Rattle.std.specs.FinMap as finite
 use Rattle.std.specs.Coded.{Coded, code_by, coded×, coded_ℕ, coded_option}
 use Rattle.csp_route.specs.declared.prefix.Prefix.{Prefix}
@@ -66,7 +67,7 @@ route_of table addr = longest_below (MAX_MASK + 1) table addr
 
 -- every row of the table leads to one of so many interfaces
 abbrev pub IsWithin : ℕ → Routes → Type 0
-IsWithin count table = (prefix : Prefix) → IfSome (finite.get table prefix) (λ hop. hop.iface < count)
+IsWithin count table = All (λ hop. hop.iface < count) (finite.values table)
 
 -- a row as it is kept, its address already masked: an entry of the map
 abbrev pub kept_key : Row → Prefix
@@ -78,3 +79,12 @@ entry_of row = (kept_key row, hop_of row)
 -- the table has all the rows that it can have, and none of this prefix
 abbrev pub HasNoRoom : Routes → Prefix → Type 0
 HasNoRoom table prefix = (finite.len table ≡ MAX_ROWS) × (finite.get table prefix ≡ None)
+
+-- the table with these entries put into it, one after the other
+abbrev pub with_entries : Routes → List (Prefix × Hop) → Routes
+with_entries table [] = table
+with_entries table (entry ∷ entries) = with_entries (finite.insert table entry.0 entry.1) entries
+
+-- the table with every row of another; where both have a row of one prefix, the other's stands
+abbrev pub merged : Routes → Routes → Routes
+merged table more = with_entries table (finite.entries more)

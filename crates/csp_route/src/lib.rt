@@ -7,7 +7,10 @@ mod parts;
 mod prefix;
 mod row;
 mod table;
+#[cfg(test)]
+mod tests;
 mod text;
+mod writing;
 
 pub use error::{RouteError, RouteKind};
 pub use prefix::{MAX_MASK, Prefix};

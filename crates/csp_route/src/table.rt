@@ -1,15 +1,16 @@
 //! The routing table.
 
-ghost use Rattle.std.specs.Prelude.{◌≡◌, ◌≤◌, ◌↔◌, IsErr, OnErr, OnOk, IfSome, IsNone, length};
+ghost use Rattle.std.specs.Prelude.{⊤, map, ◌≡◌, ◌<◌, ◌≤◌, ◌↔◌, IsErr, OnErr, OnOk, IfSome, IsNone, length};
 ghost use Rattle.std.specs.List.Sorted.{IsSearchInRange};
 ghost use Rattle.std.specs.Option.{option_map};
 ghost use Rattle.std.specs.FinMap as finite;
-ghost use Rattle.csp_route.specs.Routes.{with_row, row_from, key_of, HasNoRoom, IsBest, NoneCovers, route_of};
-ghost use Rattle.csp_route.specs.Kept.{place_from};
+ghost use Rattle.csp_route.specs.Routes.{with_row, merged, entry_of, key_of, HasNoRoom, IsBest, NoneCovers, route_of};
+ghost use Rattle.csp_route.specs.Kept.{AreKept, place_from};
 
 use crate::{MAX_MASK, Prefix, Row};
 use arrayvec::ArrayVec;
 use csp_base::Addr;
+use std::alloc::AllocError;
 use std::cmp::Ordering;
 use std::marker::Model;
 use thiserror::Error;
@@ -107,5 +108,51 @@ impl Table {
             }
         }
         None
+    }
+
+    /// The rows, in the order of their masked addresses, then of their masks. Each row's address
+    /// is masked.
+    pub fn rows(&self) -> &[Row]
+        ensures entries { map entry_of result.now ≡ finite.entries self.now }
+        ensures kept { AreKept result.now }
+        ensures most { length result.now ≤ MAX_ROWS }
+    {
+        self.rows.as_slice()
+    }
+
+    /// A copy, which takes no memory.
+    pub fn copy(&self) -> Table
+        ensures value { result ≡ self.now }
+        ensures most { finite.len result ≤ MAX_ROWS }
+    {
+        let mut rows = ArrayVec::new();
+        let _ = rows.try_extend_from_slice(&self.rows);
+        Table { rows }
+    }
+
+    /// Puts every row of another table into this one, each in place of the row of the same prefix
+    /// where one stands. It is refused, and the table stays, where that would make more than 32
+    /// rows.
+    pub fn extend(&mut self, more: &Table) -> Result<(), Full>
+        ensures ok { OnOk result (self.new ≡ merged self.old more.now) }
+        ensures full { IsErr result ↔ (MAX_ROWS < finite.len (merged self.old more.now)) }
+        ensures err { OnErr result (self.new ≡ self.old) }
+    {
+        let mut both = self.copy();
+        for row in more.rows() {
+            both.set(*row)?;
+        }
+        *self = both;
+        Ok(())
+    }
+}
+
+impl Clone for Table {
+    ghost is_clone = { λ t copy. copy ≡ t };
+
+    ghost is_infallible = { λ _. ⊤ };
+
+    fn clone(&self) -> Result<Table, AllocError> {
+        Ok(self.copy())
     }
 }
