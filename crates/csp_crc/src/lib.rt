@@ -2,9 +2,9 @@
 //! register all ones at the start, and inverted at the end.
 #![tactic(auto)]
 
-ghost use Rattle.std.specs.Prelude.{◌≡◌, ◌+◌, ℕ, Bool, false, List, ◌∷◌, ◌++◌, suc, IfOk, IfErr};
+ghost use Rattle.std.specs.Prelude.{◌≡◌, ◌+◌, ℕ, Bool, false, List, ◌∷◌, ◌++◌, suc, IfOk, IfErr, MatchResult};
 ghost use Rattle.csp_crc.specs.Bits.{bits_of, plus};
-ghost use Rattle.csp_crc.specs.Check.{IsCause};
+ghost use Rattle.csp_crc.specs.Check.{IsCause, payload_of};
 ghost use Rattle.csp_crc.specs.Crc.{checked, crc_of, divided};
 
 use thiserror::Error;
@@ -43,6 +43,8 @@ pub enum CrcError {
 pub fn check(bytes: &[u8]) -> Result<&[u8], CrcError>
     ensures ok { IfOk result (λ payload. bytes.now ≡ checked payload.now) }
     ensures err { IfErr result (λ error. IsCause bytes.now error) }
+    // The same as one test of the bytes: there is such a payload or there is none.
+    ensures test { MatchResult result (λ payload. payload_of bytes.now ≡ Some payload.now) (λ _. payload_of bytes.now ≡ None) }
 {
     let Some((payload, last)) = bytes.split_last_chunk::<4>() else {
         return Err(CrcError::Short);
