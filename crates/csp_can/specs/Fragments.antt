@@ -1,12 +1,9 @@
-use Rattle.std.specs.Prelude.{ℕ, zero, suc, ◌+◌, ◌-◌, ◌/◌, ◌%◌, ◌^◌, List, [], ◌∷◌, ◌++◌, length, take, drop}
+use Rattle.std.specs.Prelude.{ℕ, zero, suc, ◌+◌, ◌-◌, ◌/◌, List, [], ◌∷◌, ◌++◌, length, take, drop}
 use Rattle.std.specs.Int.{to_be_bytes, w16, w32}
 use Rattle.csp_can.specs.declared.identifiers.Kind.TheVariants.{Begin, More}
 use Rattle.csp_can.specs.declared.identifiers.Identifier.{Identifier}
+use Rattle.csp_header.specs.Word.{header_at}
 use Rattle.csp_can.specs.Frames.{Frame}
-
--- the source address in a header word
-abbrev pub header_source : ℕ → ℕ
-header_source header = header / 2 ^ 25 % 32
 
 -- the data of a BEGIN frame: 4 header bytes, 2 length bytes, up to 2 payload bytes
 abbrev pub begin_bytes : ℕ → List ℕ → List ℕ
@@ -30,7 +27,7 @@ frames_after len = (len - 2 + 7) / 8
 abbrev pub first_head : ℕ → List ℕ → ℕ → ℕ → Identifier
 first_head header payload dest id =
     record {
-      source = header_source header;
+      source = (header_at header).src;
       dest = dest;
       kind = Begin;
       remain = frames_after (length payload);

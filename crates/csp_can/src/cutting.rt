@@ -11,6 +11,7 @@ use crate::frames::{CanFrame, MAX_DATA, copied};
 use crate::identifiers::{Identifier, Kind};
 use arrayvec::ArrayVec;
 use csp_base::{Addr, MAX_PAYLOAD};
+use csp_header::Header;
 
 /// How many payload bytes a BEGIN frame carries, beside 4 of the header and 2 of the length.
 const FIRST_DATA: usize = 2;
@@ -31,7 +32,7 @@ pub fn fragments(header: u32, payload: &[u8], dest: Addr, id: u16) -> Fragments
     let first = payload.len().min(FIRST_DATA);
     let left = ((payload.len() - first + (MAX_DATA - 1)) / MAX_DATA) as u8;
     let head = Identifier {
-        source: source_of(header),
+        source: Header::decode(header).src,
         dest,
         kind: Kind::Begin,
         remain: left,
@@ -42,13 +43,6 @@ pub fn fragments(header: u32, payload: &[u8], dest: Addr, id: u16) -> Fragments
         bytes: begin_data(header, payload),
     };
     Fragments::new(begin, head, payload, first)
-}
-
-/// The source address in a header word: 5 bits from bit 25 up.
-fn source_of(header: u32) -> Addr
-    ensures { result ≡ header / 2 ^ 25 % 32 }
-{
-    Addr::new(((header >> 25) & 31) as u8).unwrap()
 }
 
 /// The data of a BEGIN frame: the header, the payload's length, and the first payload bytes.

@@ -14,8 +14,9 @@ pub use answers::{CanAnswer, CanEvent};
 pub use assembly::Reassembly;
 pub use cutter::Fragments;
 pub use cutting::fragments;
-pub use frames::CanFrame;
+pub use frames::{CanFrame, MAX_DATA};
 pub use identifiers::{Identifier, Key, Kind};
+pub use partials::{GIVE_UP, MAX_PARTIALS};
 
 #[cfg(test)]
 mod tests;
