@@ -4,3 +4,4 @@ pub mod Counted
 pub mod Sound
 pub mod Feeding
 pub mod Whole
+pub mod Mapping

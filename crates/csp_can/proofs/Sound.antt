@@ -26,7 +26,7 @@ use Rattle.csp_can.specs.Chains.{CountsDown, IsChain, Chain, frames_of, list_by,
 use Rattle.csp_can.proofs.Counted.{last_of-push, joined-push, answer_counted}
 
 -- a fact of what a payload is measured as, by three cases
-measured_by : (stood : Bool) (header len : ℕ) (payload : List ℕ) (trace : Trace) (part : Deed) (P : Ruling → Type 0)
+pub measured_by : (stood : Bool) (header len : ℕ) (payload : List ℕ) (trace : Trace) (part : Deed) (P : Ruling → Type 0)
     → (len < length payload → P (record { restarted = stood; event = TooMuch; deed = ends }))
     → (len ≡ length payload → P (record { restarted = stood; event = Whole header (record { items = payload }) trace; deed = ends }))
     → (length payload < len → P (record { restarted = stood; event = Part; deed = part }))
@@ -72,7 +72,7 @@ measured_part stood header len payload trace part apart =
     (λ _ e. absurd (apart (sym e))) (λ _ e. absurd (apart (sym e))) (λ less _. less)
 
 -- a fact of the ruling on a BEGIN frame, by four cases
-begin_by : (stood full : Bool) (a : Arrival) (P : Ruling → Type 0)
+pub begin_by : (stood full : Bool) (a : Arrival) (P : Ruling → Type 0)
     → P (refused ShortBegin leaves) → P (refused TooLong leaves) → P (refused NoRoom leaves)
     → (6 ≤ length a.frame.bytes → begin_length a.frame.bytes ≤ MAX_PAYLOAD → (not stood && full) ≡ false
     → P (measured stood (begin_header a.frame.bytes) (begin_length a.frame.bytes) (begin_payload a.frame.bytes) a.trace opens))
@@ -86,7 +86,7 @@ begin_by stood full a P short long room opened =
     (λ g. opened (ltb-false (length a.frame.bytes) 6 e) (ltb-false MAX_PAYLOAD (begin_length a.frame.bytes) f) g)))
 
 -- a fact of the ruling on a MORE frame where a partial packet stands, by two cases
-more_by : (q : Partial) (f : Frame) (P : Ruling → Type 0)
+pub more_by : (q : Partial) (f : Frame) (P : Ruling → Type 0)
     → P (refused BadRemain ends)
     → (f.head.remain + 1 ≡ q.remain → P (measured false q.header q.length (q.payload.items ++ f.bytes) q.trace goes_on))
     → P (more_ruling (Some q) f)
@@ -255,21 +255,21 @@ completed More (Some k) n a h p t is few w = more_completed k a.frame h p t w.1 
 
 -- ---- every partial packet that stands is sound
 
-abbrev Each : {K : Type 0} → (K → Type 0) → List K → Type 0
+abbrev pub Each : {K : Type 0} → (K → Type 0) → List K → Type 0
 Each P [] = Unit {0}
 Each P (k ∷ ks) = P k × Each P ks
 
-Each-filter : {K : Type 0} (P : K → Type 0) (test : K → Bool) (ks : List K) → Each P ks → Each P (filter test ks)
+pub Each-filter : {K : Type 0} (P : K → Type 0) (test : K → Bool) (ks : List K) → Each P ks → Each P (filter test ks)
 Each-filter P test [] e = tt
 Each-filter {K} P test (k ∷ ks) e =
     cond_both (test k) _ _ (λ (xs : List K). Each P xs) (λ _. (e.0, Each-filter P test ks e.1)) (λ _. Each-filter P test ks e.1)
 
-Each-remove_first : {K : Type 0} (P : K → Type 0) (test : K → Bool) (ks : List K) → Each P ks → Each P (remove_first test ks)
+pub Each-remove_first : {K : Type 0} (P : K → Type 0) (test : K → Bool) (ks : List K) → Each P ks → Each P (remove_first test ks)
 Each-remove_first P test [] e = tt
 Each-remove_first {K} P test (k ∷ ks) e =
     cond_both (test k) _ _ (λ (xs : List K). Each P xs) (λ _. e.1) (λ _. (e.0, Each-remove_first P test ks e.1))
 
-Each-append : {K : Type 0} (P : K → Type 0) (xs ys : List K) → Each P xs → Each P ys → Each P (xs ++ ys)
+pub Each-append : {K : Type 0} (P : K → Type 0) (xs ys : List K) → Each P xs → Each P ys → Each P (xs ++ ys)
 Each-append P [] ys e f = f
 Each-append P (x ∷ xs) ys e f = (e.0, Each-append P xs ys e.1 f)
 

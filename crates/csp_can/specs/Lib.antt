@@ -8,3 +8,4 @@ pub mod Open
 pub mod Steps
 pub mod Chains
 pub mod Alone
+pub mod Maps

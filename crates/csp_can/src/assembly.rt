@@ -4,6 +4,7 @@ ghost use Rattle.std.specs.Prelude.{◌≡◌, ◌↔◌, ℕ, ◌<◌, ◌≤�
 ghost use Rattle.csp_can.specs.Identifiers.{identifier_of, same_key};
 ghost use Rattle.csp_can.specs.Rules.{Arrival, arrival, measured, leaves};
 ghost use Rattle.csp_can.specs.Chains.{Completes};
+ghost use Rattle.csp_can.specs.Maps.{IsMap};
 ghost use Rattle.csp_base.specs.declared.traces.Trace.{Trace};
 ghost use Rattle.csp_can.specs.Steps.{opened, begin_said, more_said, after};
 ghost use Rattle.csp_can.specs.declared.partials.Partial.{Partial};
@@ -42,6 +43,9 @@ impl Reassembly {
     pub fn new() -> Reassembly
         ensures empty { result ≡ [] }
         ensures whole { result ≡ counted (open_after []) }
+
+        // Whatever comes, the partial packets are a map from keys to frames.
+        ensures map { (history : List Arrival) → IsMap (open_after history) }
     {
         Reassembly {
             partials: ArrayVec::new(),

@@ -2,6 +2,8 @@
 #![tactic(auto)]
 
 #[cfg(test)]
+mod can;
+#[cfg(test)]
 mod crc;
 #[cfg(test)]
 mod kiss;
