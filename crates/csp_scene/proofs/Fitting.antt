@@ -1,5 +1,5 @@
 -- What words that fit a form are.
-use Rattle.std.proofs.Common.{◌≡◌, ℕ, ◌<◌, ◌≤◌, Bool, true, ◌&&◌, leb, List, [], ◌∷◌, length, get_or, IsTrue, zero, suc, arith}
+use Rattle.std.proofs.Common.{◌≡◌, ℕ, ◌<◌, ◌≤◌, true, ◌&&◌, leb, List, [], ◌∷◌, length, get_or, IsTrue, zero, suc, arith}
 use Rattle.std.proofs.lemmas.Bool.{and_parts, leb-true}
 use Rattle.csp_text.specs.Names.{is_name}
 use Rattle.csp_text.specs.Numbers.{is_decimal, number_of}
@@ -10,7 +10,7 @@ use Rattle.csp_scene.specs.declared.checks.Check.{Check}
 use Rattle.csp_scene.specs.declared.checks.Check.TheVariants as check
 use Rattle.csp_scene.specs.Table.{fixed_of}
 use Rattle.csp_scene.specs.Checks.{passes, all_pass, is_in_range}
-use Rattle.csp_scene.specs.Draft.{word_at, number_at}
+use Rattle.csp_scene.specs.Draft.{word_at}
 use Rattle.csp_scene.specs.Kept.{Fits}
 
 -- one place of words that all pass

@@ -1,5 +1,5 @@
 -- Words against a shape, place by place.
-use Rattle.std.proofs.Common.{◌≡◌, ℕ, Bool, ◌&&◌, List, [], ◌∷◌, map, refl, ap, Bor}
+use Rattle.std.proofs.Common.{◌≡◌, ℕ, ◌&&◌, List, [], ◌∷◌, map, refl, ap, Bor}
 use Rattle.std.specs.List.{list_all, zip}
 use Rattle.csp_scene.specs.declared.table.Part.{Part}
 use Rattle.csp_scene.specs.declared.checks.Check.{Check}

@@ -5,11 +5,10 @@ use Rattle.csp_scene.specs.Scene.{PlainScene}
 use Rattle.csp_scene.specs.Rows.{PlainRow}
 use Rattle.csp_scene.specs.Draft.{PlainDraft, finish}
 use Rattle.csp_scene.specs.Judge.{Refusal, judge, in_line, scene_from}
-use Rattle.csp_scene.specs.Kept.{Judged, error_at}
+use Rattle.csp_scene.specs.Kept.{error_at}
 use Rattle.csp_scene.specs.declared.draft.LineError.{LineError}
 use Rattle.csp_scene.specs.declared.draft.LineError.TheVariants.{Kind, NoMemory}
 use Rattle.csp_scene.specs.declared.refusal.SceneKind.{SceneKind}
-use Rattle.csp_scene.specs.declared.refusal.SceneError.{SceneError}
 use Rattle.csp_scene.specs.declared.refusal.SceneError.TheVariants as error
 
 pub scene_from-more : (rows : List PlainRow) (number : ℕ) (d next : PlainDraft) (line : List ℕ) (lines : List (List ℕ)) → judge rows d line ≡ Ok next → scene_from rows number d (line ∷ lines) ≡ scene_from rows (number + 1) next lines

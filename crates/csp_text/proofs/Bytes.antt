@@ -1,5 +1,5 @@
 -- Words whose bytes pass a test of ASCII bytes are ASCII, and what `parse` reads in digits.
-use Rattle.std.proofs.Common.{◌≡◌, ℕ, ◌<◌, ◌≤◌, ◌^◌, Bool, true, false, not, ◌&&◌, eqb, leb, List, [], ◌∷◌, ◌||◌, length, arith, inl, inr, ◌⊎◌, ⊎_elim, refl, ap, Option, Some, None, Result, Ok, Err, IsTrue, rules}
+use Rattle.std.proofs.Common.{◌≡◌, ℕ, ◌<◌, ◌^◌, Bool, true, ◌&&◌, eqb, leb, List, [], ◌∷◌, ◌||◌, length, arith, inl, inr, refl, ap, Result, Ok, Err, IsTrue}
 use Rattle.std.specs.List.{list_all}
 use Rattle.std.specs.Option.{SomeIff}
 use Rattle.std.specs.Result.{result_ok, OkIff}

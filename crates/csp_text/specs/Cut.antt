@@ -1,5 +1,5 @@
 -- Lines of a text and words of a line.
-use Rattle.std.specs.Prelude.{ℕ, ◌-◌, Bool, not, ◌==◌, List, [], length, take, slice_index, filter, if◌then◌else◌}
+use Rattle.std.specs.Prelude.{ℕ, ◌-◌, not, ◌==◌, List, [], length, take, slice_index, filter, if◌then◌else◌}
 use Rattle.std.specs.List.{slice_split}
 
 -- a text without the line feed that it may end with
