@@ -7,3 +7,7 @@ pub mod Rows
 pub mod Puts
 pub mod Texts
 pub mod Merges
+pub mod Numerals
+pub mod Splits
+pub mod Reading
+pub mod RoundTrip

@@ -1,5 +1,7 @@
 -- The text that a table is written as.
-use Rattle.std.specs.Prelude.{ℕ, ◌<◌, List, [], ◌∷◌, ◌++◌, map, Option, None, Some, slice_get, unwrap_or, IfSome}
+use Rattle.std.specs.Prelude.{ℕ, ◌<◌, List, [], ◌∷◌, ◌++◌, map, Option, None, Some, slice_get, unwrap_or, IfSome, Bool, not, ◌&&◌, ◌==◌, length, IsTrue}
+use Rattle.std.specs.List.{list_all, IsDistinct}
+use Rattle.std.specs.Str.{bytes_eq}
 use Rattle.std.specs.Fmt.{decimal}
 use Rattle.std.specs.FinMap as finite
 use Rattle.csp_route.specs.declared.prefix.Prefix.{Prefix}
@@ -31,6 +33,19 @@ joined gap (text ∷ texts) = gap ++ (text ++ joined (44 ∷ 32 ∷ []) texts)
 -- the rows of a table in the order of their prefixes, joined by `, `
 abbrev pub written : List (List ℕ) → Routes → List ℕ
 written names table = joined [] (map (row_text names) (finite.entries table))
+
+-- a byte stands nowhere in a text
+abbrev pub lacks : ℕ → List ℕ → Bool
+lacks byte text = list_all (λ b. not (b == byte)) text
+
+-- a name that can stand in a row: it has a byte, but no space and no comma
+abbrev pub is_word : List ℕ → Bool
+is_word name = not (length name == 0) && lacks 32 name && lacks 44 name
+
+-- names that can stand in a text and tell interfaces apart
+pub record TellApart (names : List (List ℕ)) : Type 0 where
+  pub words : IsTrue (list_all is_word names)
+  pub distinct : IsDistinct bytes_eq names
 
 -- the numbers of a row are in the ranges of their types
 pub record IsWritable (row : Row) : Type 0 where

@@ -4,8 +4,8 @@ ghost use Rattle.std.specs.Prelude.{◌≡◌, ◌<◌, [], ◌++◌, map, lengt
 ghost use Rattle.std.specs.List.{All};
 ghost use Rattle.std.specs.String.{string_bytes};
 ghost use Rattle.csp_route.specs.Routes.{kept_key, entry_of, IsWithin};
-ghost use Rattle.csp_route.specs.Text.{names_of};
-ghost use Rattle.csp_route.specs.Written.{target_text, via_text, row_text, joined, written, IsWritable};
+ghost use Rattle.csp_route.specs.Text.{names_of, parsed};
+ghost use Rattle.csp_route.specs.Written.{target_text, via_text, row_text, joined, written, IsWritable, TellApart};
 
 use crate::{Row, Table};
 use csp_base::{Addr, Name};
@@ -71,6 +71,7 @@ impl Table {
     pub fn write(&self, alloc: Global, ifaces: &[Name]) -> Result<String, AllocError>
         requires { IsWithin (length ifaces.now) self.now }
         ensures text { IfOk result (λ text. string_bytes text ≡ written (names_of ifaces.now) self.now) }
+        ensures parses { TellApart (names_of ifaces.now) → IfOk result (λ text. parsed (names_of ifaces.now) (string_bytes text) ≡ Ok self.now) }
     {
         let mut out = String::new(alloc);
         push_rows(&mut out, self.rows(), ifaces)?;
