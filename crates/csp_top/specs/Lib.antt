@@ -1,0 +1,5 @@
+pub mod Lines
+pub mod ReportEvents
+pub mod ReportPlaces
+pub mod Report
+pub mod PlacesAddUp
