@@ -1,19 +1,18 @@
 -- What the counters show of the frames kept goes the same way as the frames.
-use Rattle.std.proofs.Common.{◌≡◌, ℕ, ◌-◌, Bool, true, false, cond, nat_lt, Option, Some, None, List, [], ◌∷◌, ◌++◌, length, map, refl, sym, ap, ◌∙◌, append-nil, append_assoc}
+use Rattle.std.proofs.Common.{◌≡◌, ℕ, ◌-◌, true, false, cond, nat_lt, Option, Some, None, List, [], ◌∷◌, ◌++◌, length, map, refl, sym, ap, ◌∙◌, append-nil, append_assoc}
 use Rattle.std.specs.Prelude.{nat_le, fold}
 use Rattle.std.specs.Option.{option_map, option_to_list}
-use Rattle.std.specs.List.{flat_map}
 use Rattle.std.proofs.lemmas.List.{length-map, map-append}
 use Rattle.std.proofs.lemmas.List.Concat.{flat_map-append}
 use Rattle.csp_can.specs.declared.answers.CanAnswer.{CanAnswer}
 use Rattle.csp_can.specs.declared.identifiers.Key.{Key}
 use Rattle.csp_can.specs.declared.partials.Partial.{Partial}
 use Rattle.csp_can.specs.declared.partials.TheConstants.{MAX_PARTIALS, GIVE_UP}
-use Rattle.csp_can.specs.Begins.{begin_header, begin_length, begin_payload}
+use Rattle.csp_can.specs.Begins.{begin_payload}
 use Rattle.csp_can.specs.Identifiers.{key_of, same_key}
 use Rattle.csp_can.specs.Frames.{Frame}
-use Rattle.csp_can.specs.Rules.{Arrival, Deed, leaves, ends, opens, goes_on, Ruling, ruling_of}
-use Rattle.csp_can.specs.Open.{Keeping, fresh, standing, without, ruling, done, gone_on, answer, answer_of, next, opened_partial, grown_partial, counters, Kept, last_of, joined, shown_frames, whole_frames, open_after, counted}
+use Rattle.csp_can.specs.Rules.{Arrival, Deed, leaves, ends, opens, goes_on, ruling_of}
+use Rattle.csp_can.specs.Open.{fresh, standing, without, ruling, done, gone_on, answer, answer_of, next, opened_partial, grown_partial, counters, Kept, last_of, joined, shown_frames, whole_frames, open_after, counted}
 
 -- the last after one more
 pub last_of-push : (b : Arrival) (bs : List Arrival) (a : Arrival) → last_of b (bs ++ a ∷ []) ≡ a

@@ -1,23 +1,21 @@
 -- The frames of a chain, fed alone, give Part until the last, and there Whole.
-use Rattle.std.proofs.Common.{◌≡◌, ℕ, zero, suc, ◌+◌, ◌-◌, ◌<◌, ◌≤◌, ◌&&◌, Bool, true, false, cond, nat_lt, nat_eq, Option, Some, None, List, [], ◌∷◌, ◌++◌, length, map, take, drop, refl, sym, subst, ap, ◌∙◌, append-nil, append_assoc, replicate, arith}
+use Rattle.std.proofs.Common.{◌≡◌, ℕ, ◌+◌, ◌-◌, ◌<◌, ◌≤◌, Bool, true, false, cond, nat_lt, Option, Some, None, List, [], ◌∷◌, ◌++◌, length, map, take, refl, sym, subst, ap, ◌∙◌, append-nil, append_assoc, replicate, arith}
 use Rattle.std.specs.Prelude.{nat_le}
 use Rattle.std.specs.Option.{option_map, option_to_list}
 use Rattle.std.proofs.Math.Seq.{take-append_seam}
 use Rattle.std.proofs.lemmas.List.{length-append, map-append}
-use Rattle.std.proofs.lemmas.Bool.{lt-ltb, le-ltb, eq-eqb, ne_eqb, and_from}
+use Rattle.std.proofs.lemmas.Bool.{lt-ltb, le-ltb, eq-eqb, and_from}
 use Rattle.csp_base.specs.declared.limits.TheConstants.{MAX_PAYLOAD}
-use Rattle.csp_base.specs.declared.traces.Trace.{Trace}
 use Rattle.csp_can.specs.declared.answers.CanAnswer.{CanAnswer}
 use Rattle.csp_can.specs.declared.answers.CanEvent.TheVariants.{ShortBegin, TooLong, BadRemain}
 use Rattle.csp_can.specs.declared.identifiers.Key.{Key}
-use Rattle.csp_can.specs.declared.identifiers.Kind.{Kind}
 use Rattle.csp_can.specs.declared.identifiers.Kind.TheVariants.{Begin, More}
 use Rattle.csp_can.specs.declared.partials.TheConstants.{MAX_PARTIALS, GIVE_UP}
 use Rattle.csp_can.specs.Begins.{begin_header, begin_length, begin_payload}
 use Rattle.csp_can.specs.Identifiers.{key_of, same_key}
 use Rattle.csp_can.specs.Frames.{Frame}
-use Rattle.csp_can.specs.Rules.{Arrival, Deed, refused, leaves, ends, opens, goes_on, Ruling, measured, begin_ruling, more_ruling, ruling_of}
-use Rattle.csp_can.specs.Open.{fresh, standing, without, ruling, done, gone_on, answer, answer_of, next, Kept, last_of, joined, shown_frames, whole_frames}
+use Rattle.csp_can.specs.Rules.{Arrival, refused, leaves, ends, opens, goes_on, Ruling, measured, ruling_of}
+use Rattle.csp_can.specs.Open.{fresh, standing, without, ruling, done, gone_on, answer, answer_of, next, Kept, joined, shown_frames, whole_frames}
 use Rattle.csp_can.specs.Chains.{CountsDown, IsChain, Chain}
 use Rattle.csp_can.specs.Alone.{answers, Prompt, part, whole, ReadsAs}
 use Rattle.csp_can.proofs.Counted.{last_of-push, joined-push}

@@ -1,6 +1,6 @@
 -- After any history the partial packets are a map from keys, of at most four.
-use Rattle.std.proofs.Common.{◌≡◌, ℕ, suc, ◌+◌, ◌-◌, ◌<◌, ◌≤◌, ◌&&◌, Bool, true, false, not, cond, nat_lt, Option, Some, None, List, [], ◌∷◌, ◌++◌, length, map, refl, sym, subst, ap, ◌∙◌, append-nil, arith}
-use Rattle.std.specs.Prelude.{nat_le, fold, find, filter, is_some}
+use Rattle.std.proofs.Common.{◌≡◌, ℕ, suc, ◌+◌, ◌-◌, ◌≤◌, ◌&&◌, Bool, true, false, not, cond, nat_lt, Option, Some, None, List, [], ◌∷◌, ◌++◌, length, map, refl, sym, subst, ap, ◌∙◌, append-nil, arith}
+use Rattle.std.specs.Prelude.{nat_le, fold, filter, is_some}
 use Rattle.std.specs.Option.{option_map, option_to_list}
 use Rattle.std.specs.List.{IsDistinct, AllByRecursion}
 use Rattle.std.proofs.lemmas.List.{length-append}
@@ -9,12 +9,11 @@ use Rattle.csp_can.specs.declared.identifiers.Key.{Key}
 use Rattle.csp_can.specs.declared.identifiers.Kind.{Kind}
 use Rattle.csp_can.specs.declared.identifiers.Kind.TheVariants.{Begin, More}
 use Rattle.csp_can.specs.declared.partials.TheConstants.{MAX_PARTIALS, GIVE_UP}
-use Rattle.csp_can.specs.Begins.{begin_header, begin_length, begin_payload}
 use Rattle.csp_can.specs.Identifiers.{key_of, same_key}
-use Rattle.csp_can.specs.Rules.{Arrival, Deed, leaves, ends, opens, goes_on, Ruling, ruling_of}
-use Rattle.csp_can.specs.Open.{remove_first, fresh, standing, without, ruling, done, gone_on, next, Kept, shown_frames, whole_frames, open_after}
+use Rattle.csp_can.specs.Rules.{Arrival, Deed, leaves, ends, opens, goes_on, ruling_of}
+use Rattle.csp_can.specs.Open.{fresh, standing, without, ruling, done, gone_on, next, Kept, shown_frames, whole_frames, open_after}
 use Rattle.csp_can.specs.Maps.{kept_key, IsMap}
-use Rattle.csp_can.proofs.Sound.{Each, Each-filter, Each-remove_first, Each-append, begin_by, more_by, measured_by}
+use Rattle.csp_can.proofs.Sound.{Each, Each-filter, Each-remove_first, Each-append, begin_by}
 
 -- ---- keys
 

@@ -1,17 +1,15 @@
 -- A frame's answer is Whole exactly where it makes its key's list a chain.
-use Rattle.std.proofs.Common.{◌≡◌, ℕ, zero, suc, ◌+◌, ◌-◌, ◌<◌, ◌≤◌, ◌&&◌, ◌||◌, Bool, true, false, not, cond, nat_lt, nat_eq, Option, Some, None, List, [], ◌∷◌, ◌++◌, length, map, take, drop, refl, sym, subst, ap, ◌∙◌, append-nil, arith, ◌↔◌}
+use Rattle.std.proofs.Common.{◌≡◌, ℕ, zero, suc, ◌+◌, ◌-◌, ◌<◌, ◌≤◌, ◌&&◌, ◌||◌, Bool, true, false, not, nat_lt, nat_eq, Option, Some, None, List, [], ◌∷◌, ◌++◌, length, map, take, drop, refl, sym, subst, ap, ◌∙◌, append-nil, arith, ◌↔◌}
 use Rattle.std.specs.Prelude.{nat_le, fold, find, filter, is_some}
 use Rattle.std.specs.Option.{option_map, option_to_list}
 use Rattle.std.specs.List.{flat_map}
-use Rattle.std.proofs.lemmas.List.{length-append, length-drop, take-append-le, length-map, map-append}
+use Rattle.std.proofs.lemmas.List.{length-append, length-drop, take-append-le, map-append}
 use Rattle.std.proofs.lemmas.Bool.{cond_both, false≢true, ltb-true, ltb-false, lt-ltb, leb-true, leb-false, eqb-true, eqb-false}
-use Rattle.std.proofs.lemmas.Bool.Decides.{nat_tests}
 use Rattle.arrayvec.specs.ArrayVec.{ArrayVec}
 use Rattle.csp_base.specs.declared.limits.TheConstants.{MAX_PAYLOAD}
 use Rattle.csp_base.specs.declared.traces.Trace.{Trace}
 use Rattle.csp_can.specs.declared.answers.CanAnswer.{CanAnswer}
-use Rattle.csp_can.specs.declared.answers.CanEvent.{CanEvent}
-use Rattle.csp_can.specs.declared.answers.CanEvent.TheVariants.{Part, Whole, NoBegin, ShortBegin, BadRemain, TooMuch, TooLong, NoRoom}
+use Rattle.csp_can.specs.declared.answers.CanEvent.TheVariants.{Part, Whole, ShortBegin, BadRemain, TooMuch, TooLong, NoRoom}
 use Rattle.csp_can.specs.declared.identifiers.Kind.{Kind}
 use Rattle.csp_can.specs.declared.identifiers.Kind.TheVariants.{Begin, More}
 use Rattle.csp_can.specs.declared.identifiers.Key.{Key}
@@ -20,10 +18,10 @@ use Rattle.csp_can.specs.declared.partials.TheConstants.{MAX_PARTIALS, GIVE_UP}
 use Rattle.csp_can.specs.Begins.{begin_header, begin_length, begin_payload}
 use Rattle.csp_can.specs.Identifiers.{key_of, same_key}
 use Rattle.csp_can.specs.Frames.{Frame}
-use Rattle.csp_can.specs.Rules.{Arrival, Deed, leaves, ends, opens, goes_on, Ruling, refused, measured, opening_ruling, begin_ruling, more_ruling, ruling_of}
+use Rattle.csp_can.specs.Rules.{Arrival, Deed, leaves, ends, opens, goes_on, Ruling, refused, measured, begin_ruling, more_ruling, ruling_of}
 use Rattle.csp_can.specs.Open.{remove_first, fresh, standing, without, ruling, done, gone_on, answer, next, Kept, last_of, joined, shown_frames, whole_frames, open_after, counters, counted}
-use Rattle.csp_can.specs.Chains.{CountsDown, IsChain, Chain, frames_of, list_by, trace_by, has_room, Completes}
-use Rattle.csp_can.proofs.Counted.{last_of-push, joined-push, answer_counted}
+use Rattle.csp_can.specs.Chains.{CountsDown, IsChain, Chain, list_by, trace_by, Completes}
+use Rattle.csp_can.proofs.Counted.{joined-push, answer_counted}
 
 -- a fact of what a payload is measured as, by three cases
 pub measured_by : (stood : Bool) (header len : ℕ) (payload : List ℕ) (trace : Trace) (part : Deed) (P : Ruling → Type 0)

@@ -1,7 +1,6 @@
 -- The frames of a packet are a chain.
-use Rattle.std.proofs.Common.{◌≡◌, ℕ, zero, suc, ◌+◌, ◌-◌, ◌*◌, ◌/◌, ◌%◌, ◌^◌, ◌<◌, ◌≤◌, List, [], ◌∷◌, ◌++◌, length, map, take, drop, refl, sym, subst, ap, ◌∙◌, arith}
+use Rattle.std.proofs.Common.{◌≡◌, ℕ, zero, suc, ◌+◌, ◌*◌, ◌/◌, ◌%◌, ◌^◌, ◌<◌, ◌≤◌, List, [], ◌∷◌, ◌++◌, length, map, take, drop, refl, sym, subst, ap, ◌∙◌, arith}
 use Rattle.std.specs.List.{flat_map}
-use Rattle.std.specs.Int.{w16, w32}
 use Rattle.std.proofs.lemmas.List.{length-append, length-take, length-drop, take-append-drop}
 use Rattle.std.proofs.lemmas.Nat.{from_be_bytes-to_be_bytes_2, from_be_bytes-to_be_bytes_4}
 use Rattle.csp_base.specs.declared.limits.TheConstants.{MAX_PAYLOAD}
@@ -11,11 +10,10 @@ use Rattle.csp_can.specs.declared.identifiers.Kind.{Kind}
 use Rattle.csp_can.specs.declared.identifiers.Kind.TheVariants.{Begin, More}
 use Rattle.csp_can.specs.Identifiers.{identifier_number, identifier_of, kind_bit, kind_of, key_of}
 use Rattle.csp_can.specs.Frames.{Frame, read_frame, written}
-use Rattle.csp_can.specs.Fragments.{begin_bytes, more_frame, more_frames, frames_after, first_head, fragments_of}
-use Rattle.csp_can.specs.Open.{joined}
-use Rattle.csp_can.specs.Chains.{CountsDown, IsChain, Chain}
+use Rattle.csp_can.specs.Fragments.{more_frames, frames_after, first_head, fragments_of}
+use Rattle.csp_can.specs.Chains.{CountsDown, Chain}
 use Rattle.csp_can.specs.Alone.{ReadsAs}
-use Rattle.csp_can.proofs.Feeding.{OfKey, OneKey, reads_as}
+use Rattle.csp_can.proofs.Feeding.{OfKey, reads_as}
 
 -- each part has its bits
 abbrev pub InBits : Identifier → Type 0

@@ -1,4 +1,4 @@
-use Rattle.std.specs.Prelude.{ℕ, ◌≤◌, List, length, map}
+use Rattle.std.specs.Prelude.{◌≤◌, List, length, map}
 use Rattle.std.specs.List.{IsDistinct}
 use Rattle.csp_can.specs.declared.identifiers.Key.{Key}
 use Rattle.csp_can.specs.declared.partials.TheConstants.{MAX_PARTIALS}

@@ -1,4 +1,4 @@
-use Rattle.std.specs.Prelude.{ℕ, List, ◌++◌, ◌<◌, ◌≤◌, length, drop, map}
+use Rattle.std.specs.Prelude.{List, ◌++◌, ◌<◌, ◌≤◌, length, drop, map}
 use Rattle.std.specs.Option.{option_to_list}
 use Rattle.csp_can.specs.declared.frames.CanFrame.{CanFrame}
 use Rattle.csp_can.specs.declared.cutter.Fragments.TheInside.{Inside}

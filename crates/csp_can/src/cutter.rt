@@ -39,7 +39,7 @@ impl Model for Fragments {
 }
 
 impl Fragments {
-    ghost use Rattle.std.specs.Prelude.{◌∷◌, ◌<◌, ◌≤◌, ◌≡◌, length, drop, map};
+    ghost use Rattle.std.specs.Prelude.{[], ◌∷◌, ◌<◌, ◌≤◌, ◌≡◌, ◌↔◌, IsTrue, length, drop, map};
     ghost use Rattle.csp_can.specs.Frames.{written};
     ghost use Rattle.csp_can.specs.Fragments.{more_frames};
 
@@ -60,6 +60,13 @@ impl Fragments {
             payload: copied(payload),
             given,
         }
+    }
+
+    /// No frame is still to come.
+    pub fn is_empty(&self) -> bool
+        ensures { IsTrue result ↔ (self.now ≡ []) }
+    {
+        self.first.is_none() && self.left == 0
     }
 }
 

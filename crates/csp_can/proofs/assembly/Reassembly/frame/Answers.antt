@@ -1,5 +1,4 @@
-use Rattle.std.proofs.Common.{arith, rules}
-use Rattle.std.proofs.lemmas.Grind.{common_steps}
+use Rattle.std.proofs.Common.{rules}
 use Rattle.csp_can.proofs.Sound.{counters_exactly}
 use Rattle.csp_can.proofs.Counted.{by_whole_frames}
 use Rattle.csp_can.proofs.assembly.Reassembly.frame.Goals as goal

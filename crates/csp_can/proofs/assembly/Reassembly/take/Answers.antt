@@ -1,10 +1,9 @@
-use Rattle.std.proofs.Common.{◌≡◌, ◌≤◌, suc, take, drop, Some, get_or, sym, ap, ◌∙◌}
+use Rattle.std.proofs.Common.{◌≤◌, suc, take, drop, Some, get_or, sym, ap, ◌∙◌}
 use Rattle.std.specs.Prelude.{List, remove}
 use Rattle.std.proofs.lemmas.List.Elements.{All-same, All-append, All-take, All-drop}
 use Rattle.csp_base.specs.declared.limits.TheConstants.{MAX_PAYLOAD}
 use Rattle.csp_can.specs.declared.partials.Partial.{Partial}
 use Rattle.csp_can.specs.Identifiers.{same_key}
-use Rattle.csp_can.specs.Open.{counters, standing, without}
 use Rattle.csp_can.proofs.Places.{absent, present}
 use Rattle.csp_can.proofs.assembly.Reassembly.take.Goals as goal
 

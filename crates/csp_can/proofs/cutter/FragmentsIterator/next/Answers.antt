@@ -1,4 +1,4 @@
-use Rattle.std.proofs.Common.{◌≡◌, ◌<◌, ℕ, ◌+◌, ◌-◌, ◌≤◌, length, List, [], ◌∷◌, ◌++◌, take, drop, map, ap, sym, ◌∙◌, arith}
+use Rattle.std.proofs.Common.{◌≡◌, ℕ, ◌-◌, List, drop, ap, sym, ◌∙◌, arith}
 use Rattle.csp_can.specs.Frames.{written}
 use Rattle.csp_can.specs.Fragments.{more_frame}
 use Rattle.csp_can.specs.declared.frames.CanFrame.{CanFrame}
