@@ -14,3 +14,6 @@ pub use cut::{lines, words};
 pub use hexadecimal::{hex_bytes, is_hex, push_hex};
 pub use naming::{MAX_NAME, is_name, name};
 pub use numeral::{is_decimal, number, push_number};
+
+#[cfg(test)]
+mod tests;
