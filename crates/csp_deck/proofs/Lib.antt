@@ -1,0 +1,5 @@
+pub mod Answering
+pub mod Holding
+pub mod Keeping
+pub mod LaneLists
+pub mod Serving

@@ -1,0 +1,6 @@
+pub mod Carried
+pub mod DeckParts
+pub mod PlainDeck
+pub mod PlainFifo
+pub mod Runs
+pub mod Step

@@ -1,0 +1,70 @@
+//! What serves a party.
+
+ghost use Rattle.std.specs.Prelude.{◌≡◌, ℕ, ⊤, Option, IsSome, IfSome, IfErr, MatchOption, MatchResult};
+ghost use Rattle.std.specs.List.{AllByRecursion};
+ghost use Rattle.csp_deck.specs.Carried.{IsCarriedIn, place_for, places_of, passed_over};
+
+use crate::{Item, QueueId};
+use csp_buffer::Buffer;
+
+/// The pool and the queues that a party's operations go to: those of plain lists, or queues that
+/// other parties use at the same time.
+///
+/// An operation that finds nothing, or no room, says which place was empty or full at a moment of
+/// this call. What comes back is what was handed in.
+pub trait Deck {
+    ghost use Rattle.csp_log.specs.declared.operation.Op.{Op};
+    ghost use Rattle.csp_log.specs.declared.operation.Answer.{Answer};
+    ghost use Rattle.csp_log.specs.declared.places.Place.{Place};
+    ghost use Rattle.csp_log.specs.declared.places.Place.TheVariants as place;
+    ghost use Rattle.csp_log.specs.declared.places.QueueId.{QueueId};
+    ghost use Rattle.csp_log.specs.declared.places.Rule.{Rule};
+
+    /// What each queue carries. `None` where this deck has no such queue.
+    ghost rule: { Self → QueueId → Option Rule };
+
+    /// This operation can be answered so, and leaves the deck so.
+    ghost answers: { Self → Op → Answer → Self → Type 0 };
+
+    /// At a moment of the operation that led from the first deck to the second, this place was empty.
+    ghost was_empty: { Self → Self → Place → Type 0 };
+
+    /// At such a moment this place was full.
+    ghost was_full: { Self → Self → Place → Type 0 };
+
+    /// No operation leaves the deck as it is.
+    fn rest(&mut self)
+        ensures answer { answers self.old Op.Nothing Answer.Nothing self.new }
+        ensures rules { (q : QueueId) → rule self.new q ≡ rule self.old q };
+
+    /// Takes a buffer from the pool. `None` only where the pool was empty.
+    fn take(&mut self) -> Option<Buffer>
+        ensures answer { MatchOption result (answers self.old Op.Take Answer.NoBuffer self.new) (λ b. answers self.old Op.Take (Answer.Taken b) self.new) }
+        ensures empty { MatchOption result (was_empty self.old self.new place.Pool) (λ _. ⊤) }
+        ensures rules { (q : QueueId) → rule self.new q ≡ rule self.old q };
+
+    /// Puts a buffer into the pool. `Err`, with the buffer, only where the pool was full.
+    fn give(&mut self, buffer: Buffer) -> Result<(), Buffer>
+        ensures answer { MatchResult result (λ _. answers self.old (Op.Give buffer) Answer.Given self.new) (λ b. answers self.old (Op.Give buffer) (Answer.PoolFull b) self.new) }
+        ensures full { IfErr result (λ _. was_full self.old self.new place.Pool) }
+        ensures back { IfErr result (λ b. b ≡ buffer) }
+        ensures rules { (q : QueueId) → rule self.new q ≡ rule self.old q };
+
+    /// Appends an item to a queue that carries it, in the inbox to that of its header's priority.
+    /// `Err`, with the item, only where that queue was full.
+    fn push(&mut self, queue: QueueId, item: Item) -> Result<(), Item>
+        requires { IsCarriedIn (rule self.old queue) item }
+        ensures answer { MatchResult result (λ _. answers self.old (Op.Push queue item) Answer.Pushed self.new) (λ i. answers self.old (Op.Push queue item) (Answer.Full i) self.new) }
+        ensures full { IfErr result (λ _. was_full self.old self.new (place_for queue item)) }
+        ensures back { IfErr result (λ i. i ≡ item) }
+        ensures rules { (q : QueueId) → rule self.new q ≡ rule self.old q };
+
+    /// Takes the first item of a queue, of the inbox that of the most urgent priority which has one.
+    /// `None` only where that queue, in the inbox each of the four, was empty.
+    fn pop(&mut self, queue: QueueId) -> Option<Item>
+        requires { IsSome (rule self.old queue) }
+        ensures answer { MatchOption result (answers self.old (Op.Pop queue) Answer.Empty self.new) (λ i. answers self.old (Op.Pop queue) (Answer.Popped i) self.new) }
+        ensures empty { MatchOption result (AllByRecursion (was_empty self.old self.new) (places_of queue)) (λ i. AllByRecursion (was_empty self.old self.new) (passed_over queue i)) }
+        ensures carried { IfSome result (λ i. IsCarriedIn (rule self.old queue) i) }
+        ensures rules { (q : QueueId) → rule self.new q ≡ rule self.old q };
+}

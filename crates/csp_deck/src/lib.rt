@@ -1,0 +1,22 @@
+//! The deck that serves a party, one operation a turn, over plain lists or over queues that others
+//! use at the same time; what a party is; and one turn of it.
+#![tactic(auto)]
+
+mod deck;
+mod fifo;
+mod lanes;
+mod list_deck;
+mod numbers;
+mod party;
+mod queue;
+mod turns;
+
+pub use csp_log::{
+    Answer, AnswerShown, Carries, DOWN_ROOM, Discard, Entry, Event, Events, Frame, IFACES, Item,
+    ItemShown, LINK_ROOM, LinkKind, Log, MAX_DATA, MAX_EVENTS, Note, OUT_ROOM, Op, OpShown, Place,
+    QueueId, Rule, SLOTS, UNMARKED, UP_ROOM, Why,
+};
+pub use deck::Deck;
+pub use list_deck::ListDeck;
+pub use party::Party;
+pub use turns::turn;

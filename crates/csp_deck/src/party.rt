@@ -1,0 +1,90 @@
+//! What takes turns.
+
+ghost use Rattle.std.specs.Prelude.{◌≡◌, ℕ, ◌+◌, ◌-◌, ◌^◌, ◌<◌, ◌≤◌, Bool, false, List, Option};
+ghost use Rattle.csp_deck.specs.Step.{Kind, kind_of, CanServe, IsAnswerOf, op_numbers, answer_numbers, times};
+
+use crate::{Answer, Events, Op};
+
+/// A router, a bridge, an interface, an application or a link: it asks for one operation a turn, and
+/// is told its answer.
+///
+/// Its state is what contracts see of it. What it asks, what it becomes and what it reports are
+/// functions of that state, so a party has just one behaviour.
+pub trait Party {
+    ghost use Rattle.csp_log.specs.declared.event.Event.{Event};
+    ghost use Rattle.csp_log.specs.declared.operation.Op.{Op};
+    ghost use Rattle.csp_log.specs.declared.operation.Answer.{Answer};
+    ghost use Rattle.csp_log.specs.declared.places.QueueId.{QueueId};
+    ghost use Rattle.csp_log.specs.declared.places.Rule.{Rule};
+
+    /// It can be asked at this time.
+    ghost is_ready: { Self → ℕ → Type 0 };
+
+    /// It was asked at this time, and can be told.
+    ghost is_waiting: { Self → ℕ → Type 0 };
+
+    /// What kind of operation it waits to be answered.
+    ghost awaits: { Self → Kind };
+
+    /// It is done, and takes no turn any more.
+    ghost has_ended: { Self → Bool };
+
+    /// The queues that it uses, and what they carry.
+    ghost uses: { Self → QueueId → Option Rule };
+
+    /// The greatest of the numbers that its turns raise, each turn by at most one.
+    ghost count: { Self → ℕ } = { λ _. 0 };
+
+    /// What it asks at this time.
+    ghost asks: { Self → ℕ → Op };
+
+    /// What it is once it has asked.
+    ghost asked: { Self → ℕ → Self };
+
+    /// What it is once it was told this answer.
+    ghost tells: { Self → ℕ → Answer → Self };
+
+    /// What it reports when it is told this answer.
+    ghost events: { Self → ℕ → Answer → List Event };
+
+    /// The numbers of the buffers that it holds.
+    ghost holds: { Self → List ℕ };
+
+    /// The operation of this turn.
+    fn ask(&mut self, now: u64) -> Op
+        requires ready { is_ready self.old now }
+        requires early { now < 2 ^ 62 }
+        requires countable { count self.old < 2 ^ 32 - 1 }
+        requires goes_on { has_ended self.old ≡ false }
+        ensures op { result ≡ asks self.old now }
+        ensures state { self.new ≡ asked self.old now }
+        ensures waiting { is_waiting self.new now }
+        ensures awaits { awaits self.new ≡ kind_of result }
+        ensures uses { (q : QueueId) → uses self.new q ≡ uses self.old q }
+        ensures count { count self.new ≤ count self.old }
+
+        // It asks what the queues that it uses can serve: what it pushes, they carry.
+        ensures served { CanServe (uses self.old) result }
+
+        // It holds no more what it hands over.
+        ensures holds { (k : ℕ) → times k (holds self.new) + times k (op_numbers result) ≡ times k (holds self.old) };
+
+    /// Ends the turn with the operation's answer.
+    fn told(&mut self, answer: Answer, now: u64) -> Events
+        requires waiting { is_waiting self.old now }
+        requires fits { IsAnswerOf (uses self.old) (awaits self.old) answer }
+        requires early { now < 2 ^ 62 }
+        requires countable { count self.old < 2 ^ 32 - 1 }
+        ensures events { result.items ≡ events self.old now answer }
+        ensures state { self.new ≡ tells self.old now answer }
+        ensures ready { (later : ℕ) → now ≤ later → later < 2 ^ 62 → has_ended self.new ≡ false → is_ready self.new later }
+        ensures uses { (q : QueueId) → uses self.new q ≡ uses self.old q }
+        ensures count { count self.new ≤ count self.old + 1 }
+
+        // It holds besides what it was given.
+        ensures holds { (k : ℕ) → times k (holds self.new) ≡ times k (holds self.old) + times k (answer_numbers answer) };
+
+    /// Whether it is done.
+    fn ended(&self) -> bool
+        ensures { result ≡ has_ended self.now };
+}

@@ -1,0 +1,103 @@
+//! One turn of a party.
+
+ghost use Rattle.std.specs.Prelude.{◌≡◌, ℕ, ◌+◌, ◌^◌, ◌<◌, ◌≤◌, true, false, Some, length};
+ghost use Rattle.csp_base.specs.declared.turns.Turn.{Turn};
+ghost use Rattle.csp_deck.specs.Carried.{IsCarriedIn};
+ghost use Rattle.csp_log.specs.PlainLog.{with_entry};
+ghost use Rattle.csp_log.specs.Pictures.{turn_of};
+ghost use Rattle.csp_deck.specs.Runs.{IsKept, last_time};
+ghost use Rattle.csp_log.specs.Pictures.{Fits};
+ghost use Rattle.csp_deck.specs.Step.{HasCause, CanServe, IsAnswerOf, kind_of, entry_of, op_numbers, answer_numbers, times};
+ghost use Rattle.csp_log.specs.declared.operation.Answer.{Answer};
+ghost use Rattle.csp_log.specs.declared.places.QueueId.{QueueId};
+ghost use Rattle.csp_log.specs.declared.places.Rule.{Rule};
+
+use crate::{Answer, Deck, Entry, Log, Op, Party};
+use csp_base::Turn;
+
+/// One turn of a party: it asks, the deck serves that one operation, it is told the answer, and the
+/// log has one entry more.
+///
+/// `Turn::Ended` where the party had ended before: then nothing is done or logged. `Turn::Idle` where
+/// nothing was asked, or the pool or queue was empty or full.
+pub fn turn<P: Party, D: Deck>(party: &mut P, deck: &mut D, log: &mut Log, now: u64) -> Turn
+    requires ready { P.has_ended party.old ≡ false → P.is_ready party.old now }
+    requires early { now < 2 ^ 62 }
+    requires room { 0 < log.old.spare }
+    requires counted { P.count party.old ≤ length log.old.entries }
+    requires served { (q : QueueId) (r : Rule) → P.uses party.old q ≡ Some r → D.rule deck.old q ≡ Some r }
+
+    ensures ended { P.has_ended party.old ≡ true → (result ≡ Turn.Ended) × (party.new ≡ party.old) × (deck.new ≡ deck.old) × (log.new ≡ log.old) }
+
+    // One operation was answered, for its cause, and the party made its step.
+    ensures went { P.has_ended party.old ≡ false → (answer : Answer)
+        × D.answers deck.old (P.asks party.old now) answer deck.new
+        × Fits (P.asks party.old now) answer
+        × HasCause (D.was_empty deck.old deck.new) (D.was_full deck.old deck.new) (P.asks party.old now) answer
+        × (party.new ≡ P.tells (P.asked party.old now) now answer)
+        × (log.new ≡ with_entry log.old (entry_of now (P.asks party.old now) answer (P.events (P.asked party.old now) now answer)))
+        × (result ≡ turn_of answer)
+        × ((k : ℕ) → times k (P.holds party.new) + times k (op_numbers (P.asks party.old now)) ≡ times k (P.holds party.old) + times k (answer_numbers answer)) }
+
+    // Where the log was a run of this party's steps from an opening, it is one with this turn.
+    ensures kept { (opening : P) → last_time 0 log.old.entries ≤ now
+        → IsKept (record { has_ended = P.has_ended; asks = P.asks; asked = P.asked; tells = P.tells; events = P.events }) P.holds opening log.old.entries party.old
+        → IsKept (record { has_ended = P.has_ended; asks = P.asks; asked = P.asked; tells = P.tells; events = P.events }) P.holds opening log.new.entries party.new }
+
+    // What the next turn needs.
+    ensures ready { (later : ℕ) → now ≤ later → later < 2 ^ 62 → P.has_ended party.new ≡ false → P.is_ready party.new later }
+    ensures counted { P.count party.new ≤ length log.new.entries }
+    ensures uses { (q : QueueId) → P.uses party.new q ≡ P.uses party.old q }
+    ensures rules { (q : QueueId) → D.rule deck.new q ≡ D.rule deck.old q }
+{
+    if party.ended() {
+        return Turn::Ended;
+    }
+    let _room = log.len();
+    let op = party.ask(now);
+    let asked = op.show();
+    let answer = serve(deck, op);
+    let turn = answer.turn();
+    let answered = answer.show();
+    let events = party.told(answer, now);
+    log.append(&Entry {
+        time: now,
+        op: asked,
+        answer: answered,
+        events,
+    });
+    turn
+}
+
+/// Has the deck serve one operation.
+fn serve<D: Deck>(deck: &mut D, op: Op) -> Answer
+    requires { CanServe (D.rule deck.old) op }
+    ensures answers { D.answers deck.old op result deck.new }
+    ensures fits { Fits op result }
+    ensures cause { HasCause (D.was_empty deck.old deck.new) (D.was_full deck.old deck.new) op result }
+    ensures carried { IsAnswerOf (D.rule deck.old) (kind_of op) result }
+    ensures rules { (q : QueueId) → D.rule deck.new q ≡ D.rule deck.old q }
+{
+    match op {
+        Op::Nothing => {
+            deck.rest();
+            Answer::Nothing
+        }
+        Op::Take => match deck.take() {
+            Some(buffer) => Answer::Taken(buffer),
+            None => Answer::NoBuffer,
+        },
+        Op::Give(buffer) => match deck.give(buffer) {
+            Ok(()) => Answer::Given,
+            Err(buffer) => Answer::PoolFull(buffer),
+        },
+        Op::Push(queue, item) => match deck.push(queue, item) {
+            Ok(()) => Answer::Pushed,
+            Err(item) => Answer::Full(item),
+        },
+        Op::Pop(queue) => match deck.pop(queue) {
+            Some(item) => Answer::Popped(item),
+            None => Answer::Empty,
+        },
+    }
+}

@@ -1,0 +1,4 @@
+pub mod Layout
+pub mod Pictures
+pub mod PlainLog
+pub mod Rows

@@ -1,0 +1,11 @@
+use Rattle.std.specs.Prelude.{ℕ, ◌-◌, List, [], ◌∷◌, ◌++◌}
+use Rattle.csp_log.specs.declared.entry.Entry.{Entry}
+
+-- what a log is: its entries, the oldest first, and for how many more it has room
+pub record PlainLog : Type 0 where
+  pub entries : List Entry
+  pub spare : ℕ
+
+-- the log with one entry more
+abbrev pub with_entry : PlainLog → Entry → PlainLog
+with_entry l e = record { entries = l.entries ++ e ∷ []; spare = l.spare - 1 }

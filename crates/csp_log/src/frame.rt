@@ -1,0 +1,40 @@
+//! What a link carries.
+
+ghost use Rattle.std.specs.Prelude.{◌≡◌, ◌≤◌, length};
+
+use arrayvec::ArrayVec;
+use csp_base::{MAX_FRAME, Trace};
+
+/// A frame on a link.
+#[derive(Drop, PartialEq, Eq, Debug)]
+pub struct Frame {
+    /// The identifier on a CAN link, of 29 bits. `None` on a KISS link.
+    pub can: Option<u32>,
+    /// The bytes that the link carries: at most 8 on a CAN link.
+    pub bytes: ArrayVec<u8, MAX_FRAME>,
+    /// The trace of the packet that it carries, or carries a part of.
+    pub trace: Trace,
+}
+
+impl Frame {
+    /// The frame with these parts.
+    pub fn of(can: Option<u32>, bytes: &[u8], trace: Trace) -> Frame
+        requires { length bytes.now ≤ MAX_FRAME }
+        ensures { result ≡ record { can = can; bytes = record { items = bytes.now }; trace = trace } }
+    {
+        let mut copy = ArrayVec::new();
+        copy.try_extend_from_slice(bytes).unwrap();
+        Frame {
+            can,
+            bytes: copy,
+            trace,
+        }
+    }
+
+    /// A copy of it. It takes no memory.
+    pub fn copy(&self) -> Frame
+        ensures { result ≡ self.now }
+    {
+        Frame::of(self.can, self.bytes.as_slice(), self.trace)
+    }
+}

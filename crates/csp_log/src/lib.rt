@@ -1,0 +1,28 @@
+//! What a party asks in one turn, what it is answered and what it reports; the items and the queues
+//! that this is about; and the log of its turns.
+#![tactic(auto)]
+
+mod deeds;
+mod entry;
+mod event;
+mod frame;
+mod item;
+mod log;
+mod note;
+mod operation;
+mod places;
+mod row;
+mod shown;
+
+pub use entry::Entry;
+pub use event::{Discard, Event, Events, MAX_EVENTS};
+pub use frame::Frame;
+pub use item::Item;
+pub use log::Log;
+pub use note::{Note, Why};
+pub use operation::{Answer, Op};
+pub use places::{
+    Carries, DOWN_ROOM, IFACES, LINK_ROOM, LinkKind, MAX_DATA, OUT_ROOM, Place, QueueId, Rule,
+    SLOTS, UNMARKED, UP_ROOM,
+};
+pub use shown::{AnswerShown, ItemShown, OpShown};
