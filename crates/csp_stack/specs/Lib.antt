@@ -1,0 +1,12 @@
+pub mod Router
+pub mod Readings
+pub mod Routing
+pub mod Security
+pub mod Checksum
+pub mod Ports
+pub mod Inbox
+pub mod Applications
+pub mod Sources
+pub mod Turn
+pub mod Answers
+pub mod Party
