@@ -4,11 +4,11 @@ use Rattle.std.proofs.lemmas.List.{map-append}
 use Rattle.csp_buffer.specs.Content.{Content}
 use Rattle.csp_crc.specs.Check.{payload_of}
 use Rattle.csp_deck.specs.Step.{times, item_numbers, answer_numbers}
-use Rattle.csp_deck.specs.declared.item.Item.{Item}
-use Rattle.csp_deck.specs.declared.item.Item.TheVariants as item
-use Rattle.csp_deck.specs.declared.operation.Answer.{Answer}
-use Rattle.csp_deck.specs.declared.operation.Answer.TheVariants as answer
-use Rattle.csp_deck.specs.declared.places.TheConstants.{UNMARKED}
+use Rattle.csp_log.specs.declared.item.Item.{Item}
+use Rattle.csp_log.specs.declared.item.Item.TheVariants as item
+use Rattle.csp_log.specs.declared.operation.Answer.{Answer}
+use Rattle.csp_log.specs.declared.operation.Answer.TheVariants as answer
+use Rattle.csp_log.specs.declared.places.TheConstants.{UNMARKED}
 use Rattle.csp_stack.proofs.Counting.{times_append}
 use Rattle.csp_stack.specs.Answers.{outcome_of, popped, arrived, refused, settled, HasRoomFor}
 use Rattle.csp_stack.specs.Applications.{served, packet_if}

@@ -1,12 +1,12 @@
 -- what an answer comes to
 use Rattle.std.specs.Prelude.{◌≡◌, ◌<◌, List, [], ◌∷◌, ◌++◌, length, None, Some, ⊤}
-use Rattle.csp_deck.specs.declared.event.Discard.TheVariants as why
-use Rattle.csp_deck.specs.declared.event.Event.{Event}
-use Rattle.csp_deck.specs.declared.event.Event.TheVariants as event
-use Rattle.csp_deck.specs.declared.item.Item.{Item}
-use Rattle.csp_deck.specs.declared.item.Item.TheVariants as item
-use Rattle.csp_deck.specs.declared.operation.Answer.{Answer}
-use Rattle.csp_deck.specs.declared.operation.Answer.TheVariants as answer
+use Rattle.csp_log.specs.declared.event.Discard.TheVariants as why
+use Rattle.csp_log.specs.declared.event.Event.{Event}
+use Rattle.csp_log.specs.declared.event.Event.TheVariants as event
+use Rattle.csp_log.specs.declared.item.Item.{Item}
+use Rattle.csp_log.specs.declared.item.Item.TheVariants as item
+use Rattle.csp_log.specs.declared.operation.Answer.{Answer}
+use Rattle.csp_log.specs.declared.operation.Answer.TheVariants as answer
 use Rattle.csp_stack.specs.Applications.{served}
 use Rattle.csp_stack.specs.Inbox.{heard}
 use Rattle.csp_stack.specs.Router.{State}

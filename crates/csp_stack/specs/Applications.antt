@@ -1,10 +1,10 @@
 -- what becomes of what an application pushed
 use Rattle.std.specs.Prelude.{ℕ, ◌==◌, Bool, true, false}
 use Rattle.csp_buffer.specs.Content.{Content}
-use Rattle.csp_deck.specs.declared.event.Discard.TheVariants as why
-use Rattle.csp_deck.specs.declared.item.Item.{Item}
-use Rattle.csp_deck.specs.declared.item.Item.TheVariants as item
-use Rattle.csp_deck.specs.declared.places.TheConstants.{UNMARKED}
+use Rattle.csp_log.specs.declared.event.Discard.TheVariants as why
+use Rattle.csp_log.specs.declared.item.Item.{Item}
+use Rattle.csp_log.specs.declared.item.Item.TheVariants as item
+use Rattle.csp_log.specs.declared.places.TheConstants.{UNMARKED}
 use Rattle.csp_stack.specs.Routing.{sent}
 use Rattle.csp_stack.specs.declared.config.StackConfig.{StackConfig}
 use Rattle.csp_stack.specs.declared.outcome.Outcome.{Outcome}

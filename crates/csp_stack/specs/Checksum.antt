@@ -2,7 +2,7 @@
 use Rattle.std.specs.Prelude.{ℕ, Bool, true, false, List, Option, Some, None, Result, Ok, Err}
 use Rattle.csp_buffer.specs.Content.{Content}
 use Rattle.csp_crc.specs.Check.{payload_of}
-use Rattle.csp_deck.specs.declared.event.Discard.TheVariants as why
+use Rattle.csp_log.specs.declared.event.Discard.TheVariants as why
 use Rattle.csp_stack.specs.Readings.{is_checked}
 use Rattle.csp_stack.specs.declared.outcome.Outcome.{Outcome}
 use Rattle.csp_stack.specs.declared.outcome.Outcome.TheVariants as outcome

@@ -2,15 +2,15 @@
 use Rattle.std.specs.Prelude.{◌≡◌, ℕ, ◌<◌, ◌≤◌, cond, nat_lt, List, [], length, Option, None, Some, IfSome}
 use Rattle.csp_deck.specs.Carried.{IsCarriedIn}
 use Rattle.csp_deck.specs.Step.{Kind, nothing, giving, pushing, popping}
-use Rattle.csp_deck.specs.declared.event.Event.{Event}
-use Rattle.csp_deck.specs.declared.item.Item.TheVariants as item
-use Rattle.csp_deck.specs.declared.operation.Answer.{Answer}
-use Rattle.csp_deck.specs.declared.operation.Op.{Op}
-use Rattle.csp_deck.specs.declared.places.Carries.TheVariants as lane
-use Rattle.csp_deck.specs.declared.places.QueueId.{QueueId}
-use Rattle.csp_deck.specs.declared.places.QueueId.TheVariants as queue
-use Rattle.csp_deck.specs.declared.places.Rule.{Rule}
-use Rattle.csp_deck.specs.declared.places.Rule.TheVariants as rule
+use Rattle.csp_log.specs.declared.event.Event.{Event}
+use Rattle.csp_log.specs.declared.item.Item.TheVariants as item
+use Rattle.csp_log.specs.declared.operation.Answer.{Answer}
+use Rattle.csp_log.specs.declared.operation.Op.{Op}
+use Rattle.csp_log.specs.declared.places.Carries.TheVariants as lane
+use Rattle.csp_log.specs.declared.places.QueueId.{QueueId}
+use Rattle.csp_log.specs.declared.places.QueueId.TheVariants as queue
+use Rattle.csp_log.specs.declared.places.Rule.{Rule}
+use Rattle.csp_log.specs.declared.places.Rule.TheVariants as rule
 use Rattle.csp_stack.specs.Answers.{outcome_of, settled, reported}
 use Rattle.csp_stack.specs.Router.{State, Router}
 use Rattle.csp_stack.specs.Turn.{plan_of, op_of, asked_by}

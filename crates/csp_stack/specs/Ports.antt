@@ -1,6 +1,6 @@
 -- packets for a port of this node
 use Rattle.csp_buffer.specs.Content.{Content}
-use Rattle.csp_deck.specs.declared.event.Discard.TheVariants as why
+use Rattle.csp_log.specs.declared.event.Discard.TheVariants as why
 use Rattle.csp_stack.specs.declared.outcome.Outcome.{Outcome}
 use Rattle.csp_stack.specs.declared.outcome.Outcome.TheVariants as outcome
 

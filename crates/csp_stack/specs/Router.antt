@@ -26,11 +26,19 @@ opening_state = record { trash = []; out = None; cursor = 0; doing = Resting }
 abbrev pub opening : StackConfig → Router
 opening c = record { config = c; state = opening_state }
 
--- the number of the buffer in a packet that is to go out
+-- the buffer of a packet that is to go out, and its number
+abbrev pub out_buffers : Option Outgoing → List Content
+out_buffers None = []
+out_buffers (Some o) = o.buffer ∷ []
+
 abbrev pub out_numbers : Option Outgoing → List ℕ
 out_numbers None = []
 out_numbers (Some o) = o.buffer.number ∷ []
 
--- the numbers of the buffers that a router holds: those in its trash, and that of the packet to go out
+-- the buffers that a router holds: those in its trash, and that of the packet to go out
+abbrev pub buffers_of : Router → List Content
+buffers_of r = r.state.trash ++ out_buffers r.state.out
+
+-- and their numbers
 abbrev pub held : Router → List ℕ
 held r = map (λ b. b.number) r.state.trash ++ out_numbers r.state.out

@@ -1,9 +1,9 @@
 -- the ways to other nodes, and the sending of the node's own packets
 use Rattle.std.specs.Prelude.{ℕ, ◌==◌, Bool, true, false}
 use Rattle.csp_buffer.specs.Content.{Content}
-use Rattle.csp_deck.specs.declared.event.Discard.TheVariants as why
-use Rattle.csp_deck.specs.declared.places.QueueId.TheVariants as queue
-use Rattle.csp_deck.specs.declared.places.TheConstants.{UNMARKED}
+use Rattle.csp_log.specs.declared.event.Discard.TheVariants as why
+use Rattle.csp_log.specs.declared.places.QueueId.TheVariants as queue
+use Rattle.csp_log.specs.declared.places.TheConstants.{UNMARKED}
 use Rattle.csp_stack.specs.Readings.{destination}
 use Rattle.csp_stack.specs.declared.config.StackConfig.{StackConfig}
 use Rattle.csp_stack.specs.declared.outcome.Outcome.{Outcome}

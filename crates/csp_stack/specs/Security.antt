@@ -1,7 +1,7 @@
 -- authenticated and encrypted packets
 use Rattle.std.specs.Prelude.{Bool, true, false, Result, Ok, Err}
 use Rattle.csp_buffer.specs.Content.{Content}
-use Rattle.csp_deck.specs.declared.event.Discard.TheVariants as why
+use Rattle.csp_log.specs.declared.event.Discard.TheVariants as why
 use Rattle.csp_stack.specs.Readings.{is_secured}
 use Rattle.csp_stack.specs.declared.outcome.Outcome.{Outcome}
 use Rattle.csp_stack.specs.declared.outcome.Outcome.TheVariants as outcome

@@ -1,10 +1,10 @@
 -- what a turn is, and what is asked in it
 use Rattle.std.specs.Prelude.{ℕ, ◌+◌, List, [], ◌∷◌, drop, Option, None, Some}
 use Rattle.csp_buffer.specs.Content.{Content}
-use Rattle.csp_deck.specs.declared.item.Item.TheVariants as item
-use Rattle.csp_deck.specs.declared.operation.Op.{Op}
-use Rattle.csp_deck.specs.declared.operation.Op.TheVariants as op
-use Rattle.csp_deck.specs.declared.places.QueueId.TheVariants as queue
+use Rattle.csp_log.specs.declared.item.Item.TheVariants as item
+use Rattle.csp_log.specs.declared.operation.Op.{Op}
+use Rattle.csp_log.specs.declared.operation.Op.TheVariants as op
+use Rattle.csp_log.specs.declared.places.QueueId.TheVariants as queue
 use Rattle.csp_stack.specs.Router.{State}
 use Rattle.csp_stack.specs.Sources.{source_at, place_with_work, place_past}
 use Rattle.csp_stack.specs.declared.config.StackConfig.{StackConfig}

@@ -26,9 +26,6 @@ fn send_packet(config: &StackConfig, mark: u8, buffer: Buffer) -> Outcome
     if mark == UNMARKED {
         send(config, buffer)
     } else {
-        Outcome::Discarded {
-            why: Discard::NoConn,
-            buffer,
-        }
+        Outcome::Discarded(Discard::NoConn, buffer)
     }
 }

@@ -24,10 +24,7 @@ pub fn cut_checksum(mut buffer: Buffer) -> Result<Buffer, Outcome>
     if has_checksum(buffer.payload()) && buffer.cut_tail(CHECKSUM).is_ok() {
         return Ok(buffer);
     }
-    Err(Outcome::Discarded {
-        why: Discard::CrcWrong,
-        buffer,
-    })
+    Err(Outcome::Discarded(Discard::CrcWrong, buffer))
 }
 
 /// Whether a payload ends with the checksum of what stands before it.

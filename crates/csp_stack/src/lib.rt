@@ -16,6 +16,8 @@ mod routing;
 mod security;
 mod sources;
 mod stack;
+#[cfg(test)]
+mod tests;
 mod trash;
 
 pub use config::StackConfig;

@@ -11,7 +11,7 @@ pub enum Outcome {
     /// The pool had no room: the buffer is the first of the trash again.
     Kept(Buffer),
     /// It is discarded for this reason, and its buffer joins the trash.
-    Discarded { why: Discard, buffer: Buffer },
+    Discarded(Discard, Buffer),
     /// It is to go out.
     Leaves(Outgoing),
 }

@@ -11,8 +11,5 @@ use csp_deck::Discard;
 pub fn hand_to_port(buffer: Buffer) -> Outcome
     ensures { result ≡ at_port buffer }
 {
-    Outcome::Discarded {
-        why: Discard::NoSocket,
-        buffer,
-    }
+    Outcome::Discarded(Discard::NoSocket, buffer)
 }

@@ -12,10 +12,7 @@ use csp_deck::{Discard, QueueId, UNMARKED};
 fn route(_config: &StackConfig, buffer: Buffer) -> Outcome
     ensures { result ≡ routed _config.now buffer }
 {
-    Outcome::Discarded {
-        why: Discard::NoRoute,
-        buffer,
-    }
+    Outcome::Discarded(Discard::NoRoute, buffer)
 }
 
 /// A packet that came in with this mark and is for another node.

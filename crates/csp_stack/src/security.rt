@@ -13,10 +13,7 @@ pub fn refuse_secured(buffer: Buffer) -> Result<Buffer, Outcome>
     ensures { result ≡ unless_secured buffer }
 {
     if is_packet_secured(&buffer) {
-        return Err(Outcome::Discarded {
-            why: Discard::Refused,
-            buffer,
-        });
+        return Err(Outcome::Discarded(Discard::Refused, buffer));
     }
     Ok(buffer)
 }

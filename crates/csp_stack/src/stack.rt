@@ -3,7 +3,7 @@
 ghost use Rattle.std.specs.Prelude.{◌≡◌, ◌==◌, ◌+◌, ◌<◌, [], ◌∷◌, length, None, Some, nat_lt, IfOk, MatchOption, IsTrue, ◌↔◌};
 ghost use Rattle.csp_deck.specs.Step.{times};
 ghost use Rattle.csp_stack.specs.Answers.{outcome_of, popped, arrived, refused, settled, reported, HasRoomFor};
-ghost use Rattle.csp_stack.specs.Router.{opening, held, out_numbers};
+ghost use Rattle.csp_stack.specs.Router.{opening, buffers_of, held, out_numbers};
 ghost use Rattle.csp_stack.specs.Sources.{has_work, source_at, place_with_work};
 ghost use Rattle.csp_stack.specs.Turn.{plan_of, work_found, asked_by};
 ghost use Rattle.std.specs.Option.{option_map};
@@ -66,8 +66,10 @@ impl Stack {
     /// Hands out a buffer that it holds, the trash before the packet that is to go out. `None` where
     /// it holds none.
     pub fn drain(&mut self) -> Option<Buffer>
-        ensures none { MatchOption result ((held self.old ≡ []) × (self.new ≡ self.old)) (λ b. held self.old ≡ b.number ∷ held self.new) }
+        ensures buffers { MatchOption result ((buffers_of self.old ≡ []) × (self.new ≡ self.old)) (λ b. buffers_of self.old ≡ b ∷ buffers_of self.new) }
+        ensures held { MatchOption result ((held self.old ≡ []) × (self.new ≡ self.old)) (λ b. held self.old ≡ b.number ∷ held self.new) }
         ensures config { self.new.config ≡ self.old.config }
+        ensures turn { (self.new.state.cursor ≡ self.old.state.cursor) × (self.new.state.doing ≡ self.old.state.doing) }
     {
         match self.trash.pop() {
             Some(buffer) => Some(buffer),
@@ -204,7 +206,7 @@ impl Stack {
         match outcome {
             Outcome::Nothing => {}
             Outcome::Kept(buffer) => self.trash.put_back(buffer),
-            Outcome::Discarded { why, buffer } => {
+            Outcome::Discarded(why, buffer) => {
                 self.trash.add(buffer);
                 events.push(Event::Discarded(why));
             }
@@ -240,10 +242,7 @@ fn refuse(item: Item) -> Outcome
     ensures { result ≡ refused item }
 {
     match item {
-        Item::Packet { mark: _, buffer } => Outcome::Discarded {
-            why: Discard::Full,
-            buffer,
-        },
+        Item::Packet { mark: _, buffer } => Outcome::Discarded(Discard::Full, buffer),
         Item::Note(_) => Outcome::Nothing,
         Item::Frame(_) => Outcome::Nothing,
     }
