@@ -4,7 +4,7 @@ use Rattle.std.proofs.lemmas.Bool.{eqb-true}
 use Rattle.std.proofs.lemmas.List.Splits.{slice_split-cons_no}
 use Rattle.std.specs.List.{AllByRecursion, list_all, slice_split, onto_first, join_with_byte}
 use Rattle.std.specs.Fmt.{digits, decimal, digits_onto, digit_glyph}
-use Rattle.csp_text.specs.Names.{is_name_byte, is_name, begins_as_name}
+use Rattle.csp_text.specs.Names.{is_name_byte, is_name}
 use Rattle.csp_top.specs.Lines.{Line, text_of}
 
 -- no byte is c

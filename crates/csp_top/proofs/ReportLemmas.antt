@@ -1,5 +1,5 @@
 -- The report's lines, joined; and the lines that its line feeds determine.
-use Rattle.std.proofs.Common.{◌≡◌, ℕ, zero, suc, ◌+◌, Bool, true, false, cond, eqb, Option, None, Some, List, [], ◌∷◌, ◌++◌, map, refl, sym, ap, subst, ◌∙◌, append_assoc, append-nil, add-zero, arith}
+use Rattle.std.proofs.Common.{◌≡◌, ℕ, suc, ◌+◌, Bool, true, false, cond, eqb, Option, None, Some, List, [], ◌∷◌, ◌++◌, map, refl, sym, ap, subst, ◌∙◌, append_assoc, append-nil, add-zero, arith}
 use Rattle.std.specs.Prelude.{codes, slice_get, find, IsTrue, nat_eq}
 use Rattle.std.specs.List.{AllByRecursion, flat_map, enumerate_from, join_with_byte, starts_with}
 use Rattle.std.specs.Fmt.{decimal}

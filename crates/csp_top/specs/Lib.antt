@@ -3,3 +3,5 @@ pub mod ReportEvents
 pub mod ReportPlaces
 pub mod Report
 pub mod PlacesAddUp
+pub mod Main
+pub mod Statuses

@@ -1,5 +1,5 @@
 -- The report of a run: its lines in order.
-use Rattle.std.specs.Prelude.{ℕ, ◌==◌, Bool, Option, None, Some, List, [], ◌∷◌, ◌++◌, map, find, codes, if◌then◌else◌}
+use Rattle.std.specs.Prelude.{ℕ, ◌==◌, Option, None, Some, List, [], ◌∷◌, ◌++◌, map, find, codes, if◌then◌else◌}
 use Rattle.std.specs.List.{flat_map, enumerate_from}
 use Rattle.std.specs.Fmt.{decimal}
 use Rattle.csp_scene.specs.Scene.{PlainScene, PlainNode, PlainApp}

@@ -1,5 +1,5 @@
 -- What the report tells of the logs: the discards of a router, and what is noted of an application.
-use Rattle.std.specs.Prelude.{ℕ, ◌==◌, ◌&&◌, Bool, true, false, Option, None, Some, List, [], ◌∷◌, count_by, find, codes}
+use Rattle.std.specs.Prelude.{ℕ, ◌==◌, ◌&&◌, Bool, false, Option, None, Some, List, [], ◌∷◌, count_by, find, codes}
 use Rattle.std.specs.Fmt.{decimal}
 use Rattle.csp_world.specs.declared.operation.Who.{Who}
 use Rattle.csp_world.specs.declared.operation.Who.TheVariants as who

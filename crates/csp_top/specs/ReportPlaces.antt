@@ -1,5 +1,5 @@
 -- How many buffers the places of a node held when the run ended.
-use Rattle.std.specs.Prelude.{ℕ, ◌==◌, ◌&&◌, Bool, true, false, List, length, sum_by, if◌then◌else◌}
+use Rattle.std.specs.Prelude.{ℕ, ◌==◌, ◌&&◌, Bool, true, false, length, sum_by, if◌then◌else◌}
 use Rattle.csp_world.specs.declared.operation.Place.{Place}
 use Rattle.csp_world.specs.declared.operation.Place.TheVariants as place
 use Rattle.csp_world.specs.Plain.{PlainHeld, PlainRecord}

@@ -1,6 +1,4 @@
-use Rattle.std.proofs.Common.{◌≡◌, subst, sym, arith}
-use Rattle.std.specs.String.{string_bytes}
-use Rattle.csp_top.specs.Report.{report}
+use Rattle.std.proofs.Common.{subst, sym, arith}
 use Rattle.csp_top.specs.PlacesAddUp.{PlacesAddUp}
 use Rattle.csp_top.proofs.ReportLemmas.{report_is, report_adds_up}
 use Rattle.csp_top.proofs.report_text.report.Goals as goal

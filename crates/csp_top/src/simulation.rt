@@ -1,0 +1,114 @@
+//! The command `sim`: the source read to its end, the scenario judged, the run, the report built whole, the
+//! report written. The first refusal in this order is the answer.
+
+ghost use Rattle.std.specs.Prelude.{◌≡◌, ◌≢◌, ◌+◌, ℕ, Err, IfSome, IfOk};
+ghost use Rattle.std.specs.String.{string_bytes};
+ghost use Rattle.csp_base.specs.Faults.{Rose};
+ghost use Rattle.csp_base.specs.Transfer.{TookExactly};
+ghost use Rattle.csp_scene.specs.Judge.{scene_of};
+ghost use Rattle.csp_scene.specs.declared.refusal.SceneKind.{SceneKind};
+ghost use Rattle.csp_top.specs.Main.{WroteReport, WrotePart, WasRead, WroteWhole, IsReportOf, IsPastEntries};
+ghost use Rattle.csp_top.specs.Statuses.{status_of_read, status_of};
+ghost use Rattle.csp_top.specs.PlacesAddUp.{PlacesAddUp};
+
+use crate::report_text::report;
+use crate::status::{LimitKind, MAX_SCENARIO, Status};
+use csp_base::{ReadError, Sink, Source, read_up_to, write_whole};
+use csp_scene::{SceneError, SceneKind, parse};
+use csp_world::{MAX_ENTRIES, SimError, simulate};
+use std::alloc::Global;
+
+/// Runs the scenario that the source gives, and writes the report of its run.
+pub fn sim_main<S: Source, K: Sink>(alloc: Global, source: &mut S, sink: &mut K) -> Status
+    ensures done { result ≡ Status.Done → IfSome (S.left source.old) (λ text. WroteReport text (K.written sink.old) (K.written sink.new)) }
+    ensures places { result ≡ Status.Done → WroteWhole (K.written sink.old) (K.written sink.new) }
+    ensures read { result ≡ Status.Done → WasRead (S.left source.old) (S.left source.new) }
+    ensures read_fault { result ≡ Status.ReadFault → Rose (S.faults source.old) (S.faults source.new) }
+    ensures write_fault { result ≡ Status.WriteFault → Rose (K.faults sink.old) (K.faults sink.new) }
+    ensures part { result ≡ Status.WriteFault → IfSome (S.left source.old) (λ text. WrotePart text (K.written sink.old) (K.written sink.new)) }
+    ensures part_read { result ≡ Status.WriteFault → WasRead (S.left source.old) (S.left source.new) }
+    ensures scene { (line : ℕ) (kind : SceneKind) → result ≡ Status.Scene line kind → IfSome (S.left source.old) (λ text. scene_of text ≡ Err (record { line = line; kind = kind })) }
+    ensures scene_read { (line : ℕ) (kind : SceneKind) → result ≡ Status.Scene line kind → WasRead (S.left source.old) (S.left source.new) }
+    ensures bytes { (number : ℕ) → result ≡ Status.Limit LimitKind.Bytes number → (number ≡ MAX_SCENARIO) × TookExactly (S.left source.old) (S.left source.new) (MAX_SCENARIO + 1) }
+    ensures entries { (number : ℕ) → result ≡ Status.Limit LimitKind.Entries number → (number ≡ MAX_ENTRIES) × IfSome (S.left source.old) IsPastEntries }
+    ensures entries_read { (number : ℕ) → result ≡ Status.Limit LimitKind.Entries number → WasRead (S.left source.old) (S.left source.new) }
+    ensures no_words { result ≢ Status.Words }
+    ensures unwritten { result ≢ Status.Done → result ≢ Status.WriteFault → sink.new ≡ sink.old }
+{
+    let text = match read_up_to(alloc, source, MAX_SCENARIO) {
+        Ok(text) => text,
+        Err(error) => return read_status(error),
+    };
+    let report = match report_of(alloc, text.as_slice()) {
+        Ok(report) => report,
+        Err(refusal) => return refusal.status(),
+    };
+    match write_whole(sink, report.as_bytes()) {
+        Ok(()) => Status::Done,
+        Err(_) => Status::WriteFault,
+    }
+}
+
+/// What the program answers where the source was not read to its end.
+fn read_status(error: ReadError) -> Status
+    ensures { result ≡ status_of_read error }
+{
+    match error {
+        ReadError::NoMemory => Status::NoMemory,
+        ReadError::Fault => Status::ReadFault,
+        ReadError::TooLong => Status::Limit {
+            kind: LimitKind::Bytes,
+            number: MAX_SCENARIO as u64,
+        },
+    }
+}
+
+/// Why a text has no report.
+#[derive(Clone, Copy, PartialEq, Eq, Debug)]
+enum Refusal {
+    /// Memory was wanting.
+    NoMemory,
+    /// The text is refused at this line.
+    Scene { line: u32, kind: SceneKind },
+    /// The logs reached the entry limit.
+    Entries,
+}
+
+impl Refusal {
+    /// What the program answers then.
+    fn status(self) -> Status
+        ensures { result ≡ status_of self }
+    {
+        match self {
+            Refusal::NoMemory => Status::NoMemory,
+            Refusal::Scene { line, kind } => Status::Scene { line, kind },
+            Refusal::Entries => Status::Limit {
+                kind: LimitKind::Entries,
+                number: MAX_ENTRIES,
+            },
+        }
+    }
+}
+
+/// The report of a text: of the run of the scene that it states.
+fn report_of(alloc: Global, text: &[u8]) -> Result<String, Refusal>
+    ensures report { IfOk result (λ bytes. IsReportOf text.now (string_bytes bytes)) }
+    ensures places { IfOk result (λ bytes. PlacesAddUp (string_bytes bytes)) }
+    ensures scene { (line : ℕ) (kind : SceneKind) → result ≡ Err (Refusal.Scene line kind) → scene_of text.now ≡ Err (record { line = line; kind = kind }) }
+    ensures entries { result ≡ Err Refusal.Entries → IsPastEntries text.now }
+{
+    let scene = match parse(alloc, text) {
+        Ok(scene) => scene,
+        Err(SceneError::Refused { line, kind }) => return Err(Refusal::Scene { line, kind }),
+        Err(SceneError::NoMemory) => return Err(Refusal::NoMemory),
+    };
+    let record = match simulate(alloc, &scene) {
+        Ok(record) => record,
+        Err(SimError::Entries) => return Err(Refusal::Entries),
+        Err(SimError::NoMemory) => return Err(Refusal::NoMemory),
+    };
+    match report(alloc, &scene, &record) {
+        Ok(bytes) => Ok(bytes),
+        Err(_) => Err(Refusal::NoMemory),
+    }
+}

@@ -1,0 +1,44 @@
+//! What the program answers.
+
+use csp_scene::SceneKind;
+
+/// The most bytes of a scenario.
+pub const MAX_SCENARIO: usize = 1_048_576;
+
+/// Which limit was reached.
+#[derive(Clone, Copy, PartialEq, Eq, Debug)]
+pub enum LimitKind {
+    /// The bytes of a scenario, `MAX_SCENARIO`.
+    Bytes,
+    /// The entries of all logs together, `MAX_ENTRIES` of csp_world.
+    Entries,
+}
+
+/// How a call of the program ends. The exit statuses are 0 to 6 in the order of the variants.
+#[derive(Clone, Copy, PartialEq, Eq, Debug)]
+pub enum Status {
+    /// The source was read to its end and the whole report was written.
+    Done,
+    /// Memory was wanting. Nothing was written.
+    NoMemory,
+    /// The words are not a command. Nothing was read.
+    Words,
+    /// The source counted a fault. Nothing was written.
+    ReadFault,
+    /// The sink counted a fault. A prefix of the report was written.
+    WriteFault,
+    /// The scenario is refused: its first refused line, from 1, and what is wrong with it.
+    Scene {
+        /// The number of the line.
+        line: u32,
+        /// What is wrong with it.
+        kind: SceneKind,
+    },
+    /// A limit was reached. Nothing was written.
+    Limit {
+        /// Which.
+        kind: LimitKind,
+        /// The limit.
+        number: u64,
+    },
+}
