@@ -148,7 +148,7 @@ good_node run place node is whole = (Lacks-join 10 refl (node_line run place nod
     adds : AddsUp (join_with_byte 32 (node_line run place node))
     adds = record {
       name = node.name;
-      addr = decimal node.addr;
+      addr = node.addr;
       buffers = node.buffers;
       free = held_in run place kind.Pool;
       inbox = held_in run place kind.Inbox;
@@ -156,8 +156,7 @@ good_node run place node is whole = (Lacks-join 10 refl (node_line run place nod
       router = held_in run place kind.Router;
       iface = held_in run place kind.Iface;
       app = held_in run place kind.App;
-      name_word = Lacks-name 32 refl node.name is.name;
-      addr_word = Lacks-decimal 32 (omega arith) node.addr;
+      is_named = is.name;
       form = refl;
       sum = adding run place node whole;
     }

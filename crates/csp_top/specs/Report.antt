@@ -18,9 +18,9 @@ abbrev pub end_line : PlainRecord → Line
 end_line record' = codes "end" ∷ (if record'.finished then codes "finished" else codes "unfinished") ∷ decimal record'.rounds ∷ []
 
 -- a node's line with these numbers: `node NAME ADDR buffers N free F inbox I lane L router R iface X app A`
-abbrev pub node_words : List ℕ → List ℕ → ℕ → ℕ → ℕ → ℕ → ℕ → ℕ → ℕ → Line
+abbrev pub node_words : List ℕ → ℕ → ℕ → ℕ → ℕ → ℕ → ℕ → ℕ → ℕ → Line
 node_words name addr buffers free inbox lane router iface app =
-    codes "node" ∷ name ∷ addr ∷ codes "buffers" ∷ decimal buffers
+    codes "node" ∷ name ∷ decimal addr ∷ codes "buffers" ∷ decimal buffers
     ∷ codes "free" ∷ decimal free ∷ codes "inbox" ∷ decimal inbox ∷ codes "lane" ∷ decimal lane
     ∷ codes "router" ∷ decimal router ∷ codes "iface" ∷ decimal iface ∷ codes "app" ∷ decimal app ∷ []
 
@@ -28,7 +28,7 @@ node_words name addr buffers free inbox lane router iface app =
 abbrev pub node_line : PlainRecord → ℕ → PlainNode → Line
 node_line record' place node =
     let held = held_in record' place in
-    node_words node.name (decimal node.addr) node.buffers
+    node_words node.name node.addr node.buffers
     (held kind.Pool) (held kind.Inbox) (held kind.Lane) (held kind.Router) (held kind.Iface) (held kind.App)
 
 -- `router NAME`, and each reason's word with the number of the router's discards for it
