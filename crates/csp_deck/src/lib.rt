@@ -5,6 +5,7 @@
 mod deck;
 mod fifo;
 mod lanes;
+mod laws;
 mod list_deck;
 mod numbers;
 mod party;
@@ -17,6 +18,7 @@ pub use csp_log::{
     QueueId, Rule, SLOTS, UNMARKED, UP_ROOM, Why,
 };
 pub use deck::Deck;
+pub use laws::conserves;
 pub use list_deck::ListDeck;
 pub use party::Party;
 pub use turns::turn;
