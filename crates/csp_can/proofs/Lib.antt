@@ -5,3 +5,4 @@ pub mod Sound
 pub mod Feeding
 pub mod Whole
 pub mod Mapping
+pub mod Own

@@ -85,7 +85,7 @@ more_count head zero rest = refl
 more_count head (suc n) rest = ap suc (more_count head n (drop 8 rest))
 
 -- the frames of a packet are a chain
-fragments_chain : (header : ℕ) (payload : List ℕ) (dest id : ℕ) → header < 2 ^ 32 → length payload ≤ MAX_PAYLOAD → Chain (fragments_of header payload dest id) header payload
+pub fragments_chain : (header : ℕ) (payload : List ℕ) (dest id : ℕ) → header < 2 ^ 32 → length payload ≤ MAX_PAYLOAD → Chain (fragments_of header payload dest id) header payload
 fragments_chain header payload dest id word fits =
     let head = first_head header payload dest id in
     let n = frames_after (length payload) in
@@ -105,7 +105,7 @@ fragments_chain header payload dest id word fits =
 first_in_bits : (header : ℕ) (payload : List ℕ) (dest id : ℕ) → dest < 32 → id < 1024 → length payload ≤ MAX_PAYLOAD → InBits (first_head header payload dest id)
 first_in_bits header payload dest id d i fits = (omega arith, d, omega arith, i)
 
-fragments_read : (header : ℕ) (payload : List ℕ) (dest id : ℕ) → dest < 32 → id < 1024 → length payload ≤ MAX_PAYLOAD → map read_frame (map written (fragments_of header payload dest id)) ≡ fragments_of header payload dest id
+pub fragments_read : (header : ℕ) (payload : List ℕ) (dest id : ℕ) → dest < 32 → id < 1024 → length payload ≤ MAX_PAYLOAD → map read_frame (map written (fragments_of header payload dest id)) ≡ fragments_of header payload dest id
 fragments_read header payload dest id d i fits =
     let first = first_in_bits header payload dest id d i fits in
     frames_round (fragments_of header payload dest id)

@@ -1,4 +1,4 @@
-use Rattle.std.specs.Prelude.{◌≡◌, ℕ, ◌+◌, ◌<◌, ◌≤◌, ◌||◌, Bool, nat_lt, is_some, unwrap_or, Option, Some, None, List, [], ◌∷◌, ◌++◌, length, map, take, IsTrue}
+use Rattle.std.specs.Prelude.{◌≡◌, ℕ, ◌+◌, ◌<◌, ◌≤◌, ◌||◌, Bool, nat_lt, is_some, unwrap_or, Option, Some, None, List, [], ◌∷◌, ◌++◌, length, map, take, IsTrue, All, Contains}
 use Rattle.std.specs.Option.{option_map}
 use Rattle.csp_base.specs.declared.traces.Trace.{Trace}
 use Rattle.csp_can.specs.declared.identifiers.Kind.{Kind}
@@ -29,6 +29,11 @@ pub record IsChain (begin : Frame) (more : List Frame) (header : ℕ) (payload :
 abbrev pub Chain : List Frame → ℕ → List ℕ → Type 0
 Chain [] header payload = ⊥
 Chain (begin ∷ more) header payload = IsChain begin more header payload
+
+-- whichever of these frames come, and however often and in whatever order, no packet but this one can be made of them
+abbrev pub MakesOnly : List Frame → ℕ → List ℕ → Type 0
+MakesOnly frames header payload =
+    (fs : List Frame) (h : ℕ) (p : List ℕ) → All (Contains frames) fs → Chain fs h p → (h ≡ header) × (p ≡ payload)
 
 -- the frames kept of a partial packet, and none where there is no such packet
 abbrev pub frames_of : Option Kept → List Frame

@@ -3,7 +3,7 @@
 ghost use Rattle.std.specs.Prelude.{◌≡◌, ℕ, ◌/◌, ◌%◌, ◌^◌, ◌+◌, ◌<◌, ◌≤◌, length, map};
 ghost use Rattle.csp_can.specs.Fragments.{begin_bytes, fragments_of, frames_after};
 ghost use Rattle.csp_can.specs.Frames.{written, read_frame};
-ghost use Rattle.csp_can.specs.Chains.{Chain};
+ghost use Rattle.csp_can.specs.Chains.{Chain, MakesOnly};
 ghost use Rattle.csp_can.specs.Alone.{ReadsAs};
 
 use crate::cutter::Fragments;
@@ -26,6 +26,9 @@ pub fn fragments(header: u32, payload: &[u8], dest: Addr, id: u16) -> Fragments
     // They are a chain, and read alone they are this packet again.
     ensures chain { Chain (map read_frame result) header payload.now }
     ensures alone { ReadsAs (map read_frame result) header payload.now }
+
+    // No other packet can be made of them, whichever come, how often and in what order.
+    ensures own { MakesOnly (map read_frame result) header payload.now }
 
     ensures count { length result ≡ frames_after (length payload.now) + 1 }
 {

@@ -1,5 +1,6 @@
 use Rattle.std.proofs.Common.{length, ap, ◌∙◌, arith}
 use Rattle.std.proofs.lemmas.Grind.{common_steps}
+use Rattle.csp_can.proofs.Own.{makes_only_read}
 use Rattle.csp_can.proofs.Whole.{fragments_whole}
 use Rattle.csp_can.proofs.CutLemmas.{fragments_length}
 use Rattle.csp_can.proofs.cutting.fragments.Goals as goal
@@ -17,3 +18,7 @@ returns-clause-chain c =
 pub returns-clause-alone : goal.returns-clause-alone
 returns-clause-alone c =
     (fragments_whole c.args.header c.args.payload.now c.args.dest c.args.id _ c.ranges.header.fits c.encode.ensures.dest c.requires.id c.requires.payload (returns-clause-frames c)).1
+
+pub returns-clause-own : goal.returns-clause-own
+returns-clause-own c =
+    makes_only_read c.args.header c.args.payload.now c.args.dest c.args.id _ c.ranges.header.fits c.encode.ensures.dest c.requires.id c.requires.payload (returns-clause-frames c)
