@@ -1,0 +1,5 @@
+pub mod Counting
+pub mod Hearing
+pub mod Laws
+pub mod Popping
+pub mod Takes

@@ -1,0 +1,24 @@
+use Rattle.std.proofs.Common.{ℕ, sym, subst}
+use Rattle.csp_app.specs.PlainApp.{PlainApp, uses}
+use Rattle.csp_app.specs.Asking.{awaits}
+use Rattle.csp_app.specs.Room.{plain_app, CanHear}
+use Rattle.csp_app.specs.Telling.{told_by}
+use Rattle.csp_deck.specs.Step.{IsAnswerOf}
+use Rattle.csp_app.proofs.Laws.{told_law, told_count, told_number, same_uses}
+use Rattle.csp_app.proofs.app.AppParty.told.Goals as goal
+
+pub returns-clause-holds : goal.returns-clause-holds
+returns-clause-holds c =
+    let s : PlainApp = c.args.self.now in
+    let hears : CanHear s s.doing = subst (λ (x : PlainApp). CanHear x x.doing) c.self.view_is c.self.invariant.hears in
+    λ k. rw c.told_now.ensures.state (told_law s c.args.now s.doing c.args.answer c.requires.fits hears k)
+
+pub returns-clause-count : goal.returns-clause-count
+returns-clause-count c =
+    let s : PlainApp = c.args.self.now in
+    rw c.told_now.ensures.state (told_count s c.args.now s.doing c.args.answer)
+
+pub returns-clause-uses : goal.returns-clause-uses
+returns-clause-uses c =
+    let s : PlainApp = c.args.self.now in
+    rw c.told_now.ensures.state (same_uses s (told_by s c.args.now s.doing c.args.answer) (told_number s c.args.now s.doing c.args.answer))

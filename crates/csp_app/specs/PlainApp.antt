@@ -1,0 +1,84 @@
+-- what an application is: its script, how far it has come, and the buffers that it has
+use Rattle.std.specs.Prelude.{ℕ, ◌+◌, ◌==◌, ◌&&◌, Bool, true, false, Option, Some, None, is_none, List, [], ◌∷◌, ◌++◌, length, map, replicate, nat_le, if◌then◌else◌}
+use Rattle.std.specs.Option.{option_to_list}
+use Rattle.csp_app.specs.Slots.{fresh, counted}
+use Rattle.csp_app.specs.declared.plan.Plan.{Plan}
+use Rattle.csp_app.specs.declared.plan.Plan.TheVariants as plan
+use Rattle.csp_app.specs.declared.slot.Slot.{Slot}
+use Rattle.csp_app.specs.declared.step.Step.{Step}
+use Rattle.csp_buffer.specs.Content.{Content}
+use Rattle.csp_log.specs.declared.places.Carries.TheVariants as lane
+use Rattle.csp_log.specs.declared.places.QueueId.{QueueId}
+use Rattle.csp_log.specs.declared.places.QueueId.TheVariants as queue
+use Rattle.csp_log.specs.declared.places.Rule.{Rule}
+use Rattle.csp_log.specs.declared.places.Rule.TheVariants as rule
+use Rattle.csp_log.specs.declared.places.TheConstants.{SLOTS}
+
+pub record PlainApp : Type 0 where
+  -- its number in its node
+  pub number : ℕ
+  -- its script, and how many of its steps are done
+  pub steps : List Step
+  pub done : ℕ
+  -- when the present step had the first turn of its own
+  pub since : Option ℕ
+  -- an operation was refused, and `Down` was not popped since
+  pub refused : Bool
+  -- a packet that was popped, to be given back
+  pub taken : Option Content
+  -- a packet that the present step has made, to be pushed
+  pub made : Option Content
+  -- the buffers got by `take`, the oldest first
+  pub held : List Content
+  -- what it knows of its slots
+  pub slots : List Slot
+  -- what this turn is, from the operation to its answer
+  pub doing : Plan
+
+-- an application of this number at the start of this script
+abbrev pub opening : ℕ → List Step → PlainApp
+opening number steps = record {
+  number = number;
+  steps = steps;
+  done = 0;
+  since = None;
+  refused = false;
+  taken = None;
+  made = None;
+  held = [];
+  slots = replicate SLOTS fresh;
+  doing = plan.Rest;
+}
+
+-- a script that is done, with no packet to give back, has ended
+abbrev pub has_ended : PlainApp → Bool
+has_ended s = nat_le (length s.steps) s.done && is_none s.taken
+
+-- the number of the present step, from 1: one past the last where only a packet is still to be given back, 0 at the end
+abbrev pub present_step : PlainApp → ℕ
+present_step s = (if has_ended s then 0 else s.done + 1)
+
+-- the buffers that it holds: one popped, one made, those got by `take`
+abbrev pub buffers : PlainApp → List Content
+buffers s = option_to_list s.taken ++ (option_to_list s.made ++ s.held)
+
+-- the numbers of buffers
+abbrev pub numbers_of : List Content → List ℕ
+numbers_of bs = map (λ b. b.number) bs
+
+-- and of those that it holds
+abbrev pub holds : PlainApp → List ℕ
+holds s = numbers_of (buffers s)
+
+-- it pushes to the `Up` of its number, and pops the `Down`
+abbrev pub uses : PlainApp → QueueId → Option Rule
+uses s (queue.Up k) = (if k == s.number then Some (rule.Lane lane.Up) else None)
+uses s (queue.Down k) = (if k == s.number then Some (rule.Lane lane.Down) else None)
+uses s queue.Inbox = None
+uses s (queue.Out _) = None
+uses s (queue.Tx _) = None
+uses s (queue.Rx _) = None
+
+-- the numbers that its turns raise, added up
+abbrev pub count : PlainApp → ℕ
+count s = counted s.slots

@@ -1,0 +1,60 @@
+-- what an application knows of its slots
+use Rattle.std.specs.Prelude.{ℕ, ◌+◌, ◌-◌, ◌∷◌, [], Bool, true, false, List, slice_index_or, slice_set, sum_by}
+use Rattle.csp_app.specs.declared.slot.Slot.{Slot}
+use Rattle.csp_log.specs.declared.event.Event.{Event}
+use Rattle.csp_log.specs.declared.event.Event.TheVariants as event
+use Rattle.csp_log.specs.declared.item.Item.{Item}
+use Rattle.csp_log.specs.declared.item.Item.TheVariants as item
+use Rattle.csp_log.specs.declared.note.Note.{Note}
+use Rattle.csp_log.specs.declared.note.Note.TheVariants as note
+
+-- a slot before anything came for it
+abbrev pub fresh : Slot
+fresh = record { ordinal = 0; unused = 0; down = false }
+
+-- the slot of this number
+abbrev pub slot_at : List Slot → ℕ → Slot
+slot_at slots k = slice_index_or slots k fresh
+
+-- a packet was taken on this slot
+abbrev pub taken_on : ℕ → List Slot → List Slot
+taken_on k slots = slice_set slots k (record (slot_at slots k) { unused = (slot_at slots k).unused + 1 })
+
+-- so many of the packets taken on this slot were used
+abbrev pub used_on : ℕ → ℕ → List Slot → List Slot
+used_on k count slots = slice_set slots k (record (slot_at slots k) { unused = (slot_at slots k).unused - count })
+
+-- this slot is free again: its next connection is the next in order, and is not down
+abbrev pub closed_on : ℕ → List Slot → List Slot
+closed_on k slots = slice_set slots k (record (slot_at slots k) { ordinal = (slot_at slots k).ordinal + 1; down = false })
+
+-- this slot's connection is down
+abbrev pub down_on : ℕ → List Slot → List Slot
+down_on k slots = slice_set slots k (record (slot_at slots k) { down = true })
+
+-- what a note that was popped says of its slot; one of another kind, which no step waits for, says nothing
+abbrev pub noted : Note → List Slot → List Slot
+noted (note.Closed k) slots = closed_on k slots
+noted (note.Down k) slots = down_on k slots
+noted (note.Bind _ _) slots = slots
+noted (note.Connect _ _ _ _ _ _) slots = slots
+noted (note.Close _) slots = slots
+noted note.Bound slots = slots
+noted (note.Connected _) slots = slots
+noted (note.Refused _) slots = slots
+
+-- the slots after an item was popped
+abbrev pub slots_after : Item → List Slot → List Slot
+slots_after (item.Packet k _) slots = taken_on k slots
+slots_after (item.Note n) slots = noted n slots
+slots_after (item.Frame _) slots = slots
+
+-- what is reported of an item that was popped: a packet is taken on its slot's present connection
+abbrev pub took : Item → List Slot → List Event
+took (item.Packet k _) slots = event.Took k (slot_at slots k).ordinal ∷ []
+took (item.Note _) slots = []
+took (item.Frame _) slots = []
+
+-- the numbers that turns raise, added up
+abbrev pub counted : List Slot → ℕ
+counted slots = sum_by (λ s. s.ordinal + s.unused) slots
