@@ -11,3 +11,4 @@ pub mod Numerals
 pub mod Splits
 pub mod Reading
 pub mod RoundTrip
+pub mod Withins

@@ -135,15 +135,14 @@ target_free : (c : ℕ) (prefix : Prefix) → Free c (decimal prefix.addr) → F
 target_free c prefix addr mask slash = All-append (λ b. (b == c) ≡ false) (decimal prefix.addr) (47 ∷ decimal prefix.mask) addr (All-cons (λ b. (b == c) ≡ false) 47 (decimal prefix.mask) slash mask)
 
 -- a row's judgement, from its words
-pub judged_words : List (List ℕ) → ℕ → List Part → Result Row RouteError
+abbrev pub judged_words : List (List ℕ) → ℕ → List Part → Result Row RouteError
 judged_words names missing words = judged (target_of missing (slice_get words 0)) (iface_of names missing (slice_get words 1)) (via_of (slice_get words 2)) (nothing_of (slice_get words 3))
 
 pub row_judged : (names : List (List ℕ)) (part : Part) → row_of names part ≡ judged_words names (end_of part) (words_of part)
-unfolding row_of judged_words
+unfolding row_of
 row_judged names part = refl
 
 via_judged : (names : List (List ℕ)) (missing at : ℕ) (target name : List ℕ) (via : Option ℕ) (t : ℕ × ℕ) (i : ℕ) → IfSome via (λ v. v < 32) → target_of missing (Some (record { at = at; bytes = target })) ≡ Ok t → iface_of names missing (Some (record { at = at + length target + 1; bytes = name })) ≡ Ok i → judged_words names missing (row_words at target name via) ≡ Ok (record { addr = t.0; mask = t.1; iface = i; via = via })
-unfolding judged_words
 via_judged names missing at target name None t i fits first second = whole _ _ _ _ t i None tt first second refl refl
 via_judged names missing at target name (Some via) t i fits first second = whole _ _ _ _ t i (Some via) tt first second (via_read via _ fits) refl
 

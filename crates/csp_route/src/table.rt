@@ -1,10 +1,10 @@
 //! The routing table.
 
-ghost use Rattle.std.specs.Prelude.{⊤, map, ◌≡◌, ◌<◌, ◌≤◌, ◌↔◌, IsErr, OnErr, OnOk, IfSome, IsNone, length};
+ghost use Rattle.std.specs.Prelude.{⊤, ℕ, map, ◌≡◌, ◌<◌, ◌≤◌, ◌↔◌, IsErr, OnErr, OnOk, IfSome, IsNone, length};
 ghost use Rattle.std.specs.List.Sorted.{IsSearchInRange};
 ghost use Rattle.std.specs.Option.{option_map};
 ghost use Rattle.std.specs.FinMap as finite;
-ghost use Rattle.csp_route.specs.Routes.{with_row, merged, entry_of, key_of, HasNoRoom, IsBest, NoneCovers, route_of};
+ghost use Rattle.csp_route.specs.Routes.{with_row, merged, entry_of, key_of, HasNoRoom, IsBest, NoneCovers, route_of, IsWithin};
 ghost use Rattle.csp_route.specs.Kept.{AreKept, place_from};
 
 use crate::{MAX_MASK, Prefix, Row};
@@ -77,6 +77,7 @@ impl Table {
         ensures full { IsErr result ↔ HasNoRoom self.old (key_of row) }
         ensures err { OnErr result (self.new ≡ self.old) }
         ensures most { finite.len self.new ≤ MAX_ROWS }
+        ensures known { (count : ℕ) → IsWithin count self.old → row.iface < count → OnOk result (IsWithin count self.new) }
     {
         let prefix = row.prefix();
         let kept = Row {
@@ -101,6 +102,7 @@ impl Table {
         ensures value { result ≡ route_of self.now addr }
         ensures best { IfSome result (λ row. IsBest self.now addr row) }
         ensures none { IsNone result ↔ NoneCovers self.now addr }
+        ensures known { (count : ℕ) → IsWithin count self.now → IfSome result (λ row. row.iface < count) }
     {
         for mask in (0..=MAX_MASK).rev() {
             if let Ok(place) = place_of(&self.rows, Prefix::of(addr, mask)) {
@@ -137,6 +139,7 @@ impl Table {
         ensures ok { OnOk result (self.new ≡ merged self.old more.now) }
         ensures full { IsErr result ↔ (MAX_ROWS < finite.len (merged self.old more.now)) }
         ensures err { OnErr result (self.new ≡ self.old) }
+        ensures known { (count : ℕ) → IsWithin count self.old → IsWithin count more.now → OnOk result (IsWithin count self.new) }
     {
         let mut both = self.copy();
         for row in more.rows() {

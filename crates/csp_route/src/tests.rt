@@ -1,7 +1,9 @@
 //! What no clause says: the places and kinds of errors in a table of texts, and printed tables.
 
-use crate::{RouteError, RouteKind, Row, Table};
+use crate::{Full, RouteError, RouteKind, Row, Table};
 use csp_base::{Addr, Name};
+use std::alloc::{AllocError, Global};
+use std::fmt::Write;
 use std::process::Abort;
 use std::test::Fail;
 
@@ -103,4 +105,47 @@ fn errors_and_their_places(rt: HostRuntime) {
         let error = Table::parse(text, &names(&rt)).err();
         assert_eq!(rt; error, Some(RouteError { at, kind }), "{text}");
     }
+}
+
+/// 32 rows, of the masks 5 and 4, and the rows of a second text.
+fn full_text(alloc: Global, more: &str) -> Result<String, AllocError> {
+    let mut text = String::new(alloc);
+    for number in 0..16 {
+        write!(text, "{number} a,{number} b, {}/4 c, ", 2 * number)?;
+    }
+    text.push_str(more)?;
+    Ok(text)
+}
+
+#[test]
+fn the_33rd_prefix_is_too_many(rt: HostRuntime) -> Result<(), Fail> {
+    let full = full_text(rt.alloc(), "31/4 a 0")?;
+    let mut table = Table::parse(full.as_str(), &names(&rt))?;
+    assert_eq!(rt; table.rows().len(), 32);
+
+    // A row of a prefix that is there still finds its place.
+    let again = Table::parse("15 c 3, 30/4 b", &names(&rt))?;
+    assert_eq!(rt; table.extend(&again), Ok(()));
+    assert_eq!(rt; leaves_by(&rt, &table, 15), Some(2));
+    assert_eq!(rt; leaves_by(&rt, &table, 31), Some(1));
+
+    // Another is refused, and so is a table with one such row; the table stays.
+    let row = Row {
+        addr: addr(&rt, 31),
+        mask: 5,
+        iface: 0,
+        via: None,
+    };
+    let before = table.copy();
+    assert_eq!(rt; table.set(row), Err(Full));
+    assert_eq!(rt; table.extend(&Table::parse("14 c, 31 a", &names(&rt))?), Err(Full));
+    assert_eq!(rt; table.rows(), before.rows());
+
+    // In a text the place is that of the row's address.
+    let over = full_text(rt.alloc(), "31/4 a,  31 a")?;
+    let error = Table::parse(over.as_str(), &names(&rt)).err();
+    let at = over.len() - 4;
+    let kind = RouteKind::Full;
+    assert_eq!(rt; error, Some(RouteError { at, kind }));
+    Ok(())
 }

@@ -5,6 +5,7 @@ ghost use Rattle.std.specs.List.{list_all, position};
 ghost use Rattle.std.specs.Str.{bytes_eq};
 ghost use Rattle.std.specs.FinMap as finite;
 ghost use Rattle.csp_text.specs.Numbers.{is_decimal, number_of};
+ghost use Rattle.csp_route.specs.Routes.{IsWithin};
 ghost use Rattle.csp_route.specs.Parts.{start_of};
 ghost use Rattle.csp_route.specs.Text.{demand, target_of, target_from, iface_of, iface_named, via_of, nothing_of, row_of, put_at, parsed, names_of, ReadsRow};
 
@@ -221,6 +222,7 @@ impl Table {
     /// before that of MASK.
     pub fn parse(text: &str, ifaces: &[Name]) -> Result<Table, RouteError>
         ensures value { result ≡ parsed (names_of ifaces.now) text.now }
+        ensures known { IfOk result (λ table. IsWithin (length ifaces.now) table) }
     {
         Table::parse_bytes(text.as_bytes(), ifaces)
     }
@@ -228,6 +230,7 @@ impl Table {
     /// The same, of bytes that need not be text.
     pub fn parse_bytes(text: &[u8], ifaces: &[Name]) -> Result<Table, RouteError>
         ensures value { result ≡ parsed (names_of ifaces.now) text.now }
+        ensures known { IfOk result (λ table. IsWithin (length ifaces.now) table) }
     {
         let mut table = Table::new();
         if is_blank(text) {

@@ -1,7 +1,8 @@
-use Rattle.std.proofs.Common.{arith, ap, refl}
+use Rattle.std.proofs.Common.{subst, sym, arith, ap, refl}
 use Rattle.std.specs.FinMap as finite
-use Rattle.csp_route.specs.Routes.{with_entries, merged}
+use Rattle.csp_route.specs.Routes.{with_entries, merged, IsWithin}
 use Rattle.csp_route.proofs.Merges.{merge_step, merge_over, merge_end}
+use Rattle.csp_route.proofs.Withins.{merged_within}
 use Rattle.csp_route.proofs.table.Table.extend.Goals as goal
 
 pub loop-row-init : goal.loop-row-init
@@ -24,3 +25,8 @@ pub returns-clause-full : goal.returns-clause-full
 returns-clause-full c =
     let same = merge_end c.rows-row-items.result.now c.loop-row.row-index c.loop-row.both (merged c.args.self.now c.args.more.now) (omega arith) c.loop-row.invariant.left in
     (λ e. absurd (cc), λ over. absurd (omega (arith, over, ap finite.len same, c.loop-row.invariant.most)))
+
+pub returns-clause-known : goal.returns-clause-known
+returns-clause-known c =
+    let same = merge_end c.rows-row-items.result.now c.loop-row.row-index c.loop-row.both (merged c.args.self.now c.args.more.now) (omega arith) c.loop-row.invariant.left in
+    λ count all more. subst (IsWithin count) (sym same) (merged_within count c.args.self.now c.args.more.now all more)

@@ -1,6 +1,7 @@
 use Rattle.std.proofs.Common.{Some, None, ◌≡◌, ◌-◌, ◌+◌, sym, ap, ◌∙◌, arith}
 use Rattle.csp_route.specs.Routes.{longest_below, route_of}
 use Rattle.csp_route.proofs.Matches.{found_step, absent_step, last_step, answer_best, answer_none}
+use Rattle.csp_route.proofs.Withins.{best_leads}
 use Rattle.csp_route.proofs.table.Table.find.Goals as goal
 use Rattle.csp_route.proofs.table.Table.find.Goals.{else-loop-mask-test, then-loop-mask-test+in_default+else-mask-gt0}
 
@@ -34,3 +35,6 @@ returns-clause-value c = sym (none c)
 
 pub returns-clause-none : goal.returns-clause-none
 returns-clause-none c = answer_none c.self.inside.rows.items c.args.self.now c.args.addr _ c.self.invariant c.self.view_is (none c)
+
+pub returns-in-Ok-clause-known : goal.returns-in-Ok-clause-known
+returns-in-Ok-clause-known c = λ count all. best_leads count c.args.self.now c.args.addr c.index-deref-place.result all (answer_best c.self.inside.rows.items c.args.self.now c.args.addr _ c.self.invariant c.self.view_is (value c))

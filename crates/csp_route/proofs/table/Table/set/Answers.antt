@@ -1,7 +1,8 @@
-use Rattle.std.proofs.Common.{length, arith, ap, ◌∙◌, refl}
+use Rattle.std.proofs.Common.{subst, sym, length, arith, ap, ◌∙◌, refl}
 use Rattle.std.proofs.lemmas.List.{length-set}
-use Rattle.csp_route.specs.Routes.{with_row, key_of}
+use Rattle.csp_route.specs.Routes.{with_row, key_of, IsWithin}
 use Rattle.csp_route.proofs.Views.{set_found, set_absent, written_whole, no_room, room_at, room_beyond, most_view}
+use Rattle.csp_route.proofs.Withins.{row_within}
 use Rattle.csp_route.proofs.table.Table.set.Goals as goal
 
 pub invariant_of-self : goal.invariant_of-self
@@ -33,3 +34,13 @@ returns-in-Ok-clause-most c = most_view _ _ (set_found c.self.inside.rows.items 
 
 pub returns-else-len-eq-MAX_ROWS-clause-most : goal.returns-else-len-eq-MAX_ROWS-clause-most
 returns-else-len-eq-MAX_ROWS-clause-most c = most_view c.insert.new.self.items _ (set_absent c.self.inside.rows.items _ c.args.row (record { addr = c.prefix-prefix.result.addr; mask = c.args.row.mask; iface = c.args.row.iface; via = c.args.row.via }) c.in-Err.place c.self.invariant c.requires (ap (λ k. record { addr = k.addr; mask = c.args.row.mask }) c.prefix-prefix.ensures) refl (cc (c.place_of.ensures.value, c.deref.ensures.0, c.in-Err.is, c.prefix-prefix.ensures)) c.insert.ensures.items).stays refl (omega arith)
+
+pub returns-in-Ok-clause-known : goal.returns-in-Ok-clause-known
+returns-in-Ok-clause-known c =
+    let shows = (set_found c.self.inside.rows.items _ c.args.row (record { addr = c.prefix-prefix.result.addr; mask = c.args.row.mask; iface = c.args.row.iface; via = c.args.row.via }) c.in-Ok.place c.self.invariant c.requires (ap (λ k. record { addr = k.addr; mask = c.args.row.mask }) c.prefix-prefix.ensures) refl (cc (c.place_of.ensures.value, c.deref.ensures.0, c.in-Ok.is, c.prefix-prefix.ensures)) (written_whole _ _ _ _ c.deref_mut.ensures.value)).shows ∙ ap (λ m. with_row m c.args.row) c.self.view_is in
+    λ count all leads. subst (IsWithin count) (sym shows) (row_within count c.args.self.now c.args.row all leads)
+
+pub returns-else-len-eq-MAX_ROWS-clause-known : goal.returns-else-len-eq-MAX_ROWS-clause-known
+returns-else-len-eq-MAX_ROWS-clause-known c =
+    let shows = (set_absent c.self.inside.rows.items _ c.args.row (record { addr = c.prefix-prefix.result.addr; mask = c.args.row.mask; iface = c.args.row.iface; via = c.args.row.via }) c.in-Err.place c.self.invariant c.requires (ap (λ k. record { addr = k.addr; mask = c.args.row.mask }) c.prefix-prefix.ensures) refl (cc (c.place_of.ensures.value, c.deref.ensures.0, c.in-Err.is, c.prefix-prefix.ensures)) c.insert.ensures.items).shows ∙ ap (λ m. with_row m c.args.row) c.self.view_is in
+    λ count all leads. subst (IsWithin count) (sym shows) (row_within count c.args.self.now c.args.row all leads)
