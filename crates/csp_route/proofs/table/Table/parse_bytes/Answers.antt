@@ -15,13 +15,13 @@ pub returns-in_err-read_row-clause-value : goal.returns-in_err-read_row-clause-v
 returns-in_err-read_row-clause-value c =
     let p = err_from_is_err_and c.from_residual.result c.from_residual.ensures.1 in
     p.1 ∙ ap Err p.2 ∙ sym (parsed_rows (names_of c.args.ifaces.now) c.args.text.now (sym c.is_blank.ensures ∙ c.if-is_blank.false)
-      ∙ sym c.loop-part.invariant
-      ∙ added_stop (names_of c.args.ifaces.now) c.loop-part.table c.in-Some.part c.next.new.self c.loop-part.rows c.in_err-read_row.field-0.0 c.in-Some.ensures c.in_err-read_row.ensures.err)
+    ∙ sym c.loop-part.invariant
+    ∙ added_stop (names_of c.args.ifaces.now) c.loop-part.table c.in-Some.part c.next.new.self c.loop-part.rows c.in_err-read_row.field-0.0 c.in-Some.ensures c.in_err-read_row.ensures.err)
 
 value : (c : goal.In_default) → Ok c.loop-part.table ≡ parsed (names_of c.args.ifaces.now) c.args.text.now
 value c = sym (parsed_rows (names_of c.args.ifaces.now) c.args.text.now (sym c.is_blank.ensures ∙ c.if-is_blank.false)
-      ∙ sym c.loop-part.invariant
-      ∙ added_end (names_of c.args.ifaces.now) c.loop-part.table c.loop-part.rows c.in_default.ensures.0)
+    ∙ sym c.loop-part.invariant
+    ∙ added_end (names_of c.args.ifaces.now) c.loop-part.table c.loop-part.rows c.in_default.ensures.0)
 
 pub returns-clause-value : goal.returns-clause-value
 returns-clause-value c = value c
