@@ -1,6 +1,6 @@
 -- the laws of a step: no buffer is lost or made, and the numbers that turns raise are raised by one at most
-use Rattle.std.proofs.Common.{◌≡◌, ◌≢◌, ℕ, zero, suc, ◌+◌, ◌-◌, ◌≤◌, Bool, true, false, cond, Option, Some, None, List, [], ◌∷◌, ◌++◌, drop, map, refl, sym, ap, ◌∙◌, arith}
-use Rattle.std.specs.List.{slice_get, slice_set, sum_by}
+use Rattle.std.proofs.Common.{◌≡◌, ℕ, zero, suc, ◌+◌, ◌-◌, ◌≤◌, Bool, true, false, Option, Some, None, List, [], ◌∷◌, ◌++◌, drop, refl, sym, ap, ◌∙◌, arith}
+use Rattle.std.specs.List.{slice_get, slice_set}
 use Rattle.std.specs.Option.{option_to_list}
 use Rattle.std.specs.Prelude.{◌==◌, if◌then◌else◌, IsSomeAnd, IsSome}
 use Rattle.std.proofs.lemmas.Bool.{eq-eqb}
@@ -10,7 +10,7 @@ use Rattle.csp_app.specs.PlainApp.{PlainApp, uses, holds, buffers}
 use Rattle.csp_app.specs.Asking.{handed, kind_of_plan, op_of}
 use Rattle.csp_app.specs.Making.{packet_in, filled, given, sent}
 use Rattle.csp_app.specs.Room.{CanHear}
-use Rattle.csp_app.specs.Slots.{slot_at, slots_after, taken_on, used_on, closed_on, down_on, noted, counted}
+use Rattle.csp_app.specs.Slots.{slot_at, slots_after, used_on, noted, counted}
 use Rattle.csp_app.specs.Telling.{told_by, recv_end, wait_end, received, waited, popped, is_enough, gives_up, has_passed}
 use Rattle.csp_app.specs.declared.plan.Plan.{Plan}
 use Rattle.csp_app.specs.declared.plan.Plan.TheVariants as plan

@@ -1,6 +1,6 @@
 -- what an application makes of an item that it popped
-use Rattle.std.proofs.Common.{◌≡◌, ℕ, Bool, true, false, Option, Some, None, refl, subst, ap, sym, nat_eq}
-use Rattle.std.specs.Prelude.{IsSomeAnd, if◌then◌else◌, ◌==◌}
+use Rattle.std.proofs.Common.{◌≡◌, ℕ, Bool, true, false, Option, Some, None, refl}
+use Rattle.std.specs.Prelude.{if◌then◌else◌, ◌==◌}
 use Rattle.std.proofs.lemmas.Bool.{eq-eqb}
 use Rattle.csp_app.specs.PlainApp.{PlainApp, uses}
 use Rattle.csp_app.specs.Asking.{kind_of_plan}
@@ -17,7 +17,6 @@ use Rattle.csp_log.specs.declared.item.Item.{Item}
 use Rattle.csp_log.specs.declared.operation.Answer.TheVariants as answer
 use Rattle.csp_log.specs.declared.places.Carries.TheVariants as lane
 use Rattle.csp_log.specs.declared.places.QueueId.TheVariants as queue
-use Rattle.csp_log.specs.declared.places.Rule.{Rule}
 use Rattle.csp_log.specs.declared.places.Rule.TheVariants as rule
 
 -- its own `Down` carries what a `Down` carries

@@ -1,5 +1,5 @@
 -- how many buffers the rest of a script takes
-use Rattle.std.proofs.Common.{◌≡◌, ℕ, zero, suc, ◌+◌, ◌≤◌, ◌<◌, List, [], ◌∷◌, Some, length, drop, refl, cond, add-one, arith, sym, subst}
+use Rattle.std.proofs.Common.{◌≡◌, ℕ, zero, suc, ◌+◌, ◌≤◌, ◌<◌, List, [], ◌∷◌, Some, length, drop, cond, add-one, arith, sym, subst}
 use Rattle.std.specs.List.{slice_get}
 use Rattle.std.proofs.Math.Nat.{le_refl}
 use Rattle.std.proofs.lemmas.List.Sums.{sum_by-cons}

@@ -1,5 +1,5 @@
 -- what an application asks, and what it is until the answer
-use Rattle.std.specs.Prelude.{ℕ, Bool, true, false, Option, Some, None, List, drop, unwrap_or, slice_get}
+use Rattle.std.specs.Prelude.{ℕ, false, Some, None, drop, unwrap_or, slice_get}
 use Rattle.csp_app.specs.Making.{given, sent}
 use Rattle.csp_app.specs.PlainApp.{PlainApp}
 use Rattle.csp_app.specs.Planning.{plan_of}

@@ -1,5 +1,5 @@
 -- what holds of an application's fields at every time
-use Rattle.std.specs.Prelude.{◌≡◌, ℕ, ◌+◌, ◌^◌, ◌<◌, ◌≤◌, Bool, true, false, Option, Some, None, List, length, drop, count_by, All, ⊤, slice_get}
+use Rattle.std.specs.Prelude.{◌≡◌, ℕ, ◌+◌, ◌^◌, ◌<◌, ◌≤◌, Bool, true, false, Some, None, List, length, drop, count_by, All, ⊤, slice_get}
 use Rattle.std.specs.VecDeque.{deque_capacity}
 use Rattle.csp_app.specs.PlainApp.{PlainApp}
 use Rattle.csp_app.specs.Slots.{slot_at}

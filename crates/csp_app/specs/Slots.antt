@@ -1,5 +1,5 @@
 -- what an application knows of its slots
-use Rattle.std.specs.Prelude.{ℕ, ◌+◌, ◌-◌, ◌∷◌, [], Bool, true, false, List, slice_index_or, slice_set, sum_by}
+use Rattle.std.specs.Prelude.{ℕ, ◌+◌, ◌-◌, ◌∷◌, [], true, false, List, slice_index_or, slice_set, sum_by}
 use Rattle.csp_app.specs.declared.slot.Slot.{Slot}
 use Rattle.csp_log.specs.declared.event.Event.{Event}
 use Rattle.csp_log.specs.declared.event.Event.TheVariants as event

@@ -9,7 +9,6 @@ use Rattle.csp_app.specs.declared.slot.Slot.{Slot}
 use Rattle.csp_log.specs.declared.event.Event.{Event}
 use Rattle.csp_log.specs.declared.event.Event.TheVariants as event
 use Rattle.csp_log.specs.declared.item.Item.{Item}
-use Rattle.csp_log.specs.declared.item.Item.TheVariants as item
 use Rattle.csp_log.specs.declared.operation.Answer.{Answer}
 use Rattle.csp_log.specs.declared.operation.Answer.TheVariants as answer
 

@@ -6,6 +6,8 @@ mod plan;
 mod progress;
 mod slot;
 mod step;
+#[cfg(test)]
+mod tests;
 
 pub use app::App;
 pub use step::Step;

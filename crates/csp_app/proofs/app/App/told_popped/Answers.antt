@@ -1,4 +1,4 @@
-use Rattle.std.proofs.Common.{◌≡◌, Option, List, sym, ◌∙◌, ap, subst}
+use Rattle.std.proofs.Common.{Option, List, sym, ◌∙◌, ap, subst}
 use Rattle.csp_app.specs.PlainApp.{PlainApp, uses}
 use Rattle.csp_app.specs.Asking.{awaits}
 use Rattle.csp_app.specs.Making.{packet_in}

@@ -1,4 +1,3 @@
-use Rattle.std.proofs.Common.{ℕ}
 use Rattle.csp_app.specs.Planning.{plan_of}
 use Rattle.csp_app.proofs.Laws.{handed_law}
 use Rattle.csp_app.proofs.app.AppParty.ask.Goals as goal

@@ -1,9 +1,7 @@
-use Rattle.std.proofs.Common.{ℕ, sym, subst}
-use Rattle.csp_app.specs.PlainApp.{PlainApp, uses}
-use Rattle.csp_app.specs.Asking.{awaits}
-use Rattle.csp_app.specs.Room.{plain_app, CanHear}
+use Rattle.std.proofs.Common.{subst}
+use Rattle.csp_app.specs.PlainApp.{PlainApp}
+use Rattle.csp_app.specs.Room.{CanHear}
 use Rattle.csp_app.specs.Telling.{told_by}
-use Rattle.csp_deck.specs.Step.{IsAnswerOf}
 use Rattle.csp_app.proofs.Laws.{told_law, told_count, told_number, same_uses}
 use Rattle.csp_app.proofs.app.AppParty.told.Goals as goal
 
