@@ -1,0 +1,6 @@
+//! The parties of a node as one type, for the worlds and networks above.
+#![tactic(auto)]
+
+mod any;
+
+pub use any::AnyParty;
