@@ -3,7 +3,7 @@ use Rattle.std.specs.Prelude.{◌≡◌, ℕ, Bool, ◌+◌, ◌≤◌, List, []
 use Rattle.std.specs.List.{flat_map, AllByRecursion}
 use Rattle.std.specs.Option.{option_map}
 use Rattle.csp_base.specs.declared.priority.Prio.TheVariants.{Critical, High, Normal, Low}
-use Rattle.csp_buffer.specs.Content.{Content}
+use Rattle.csp_buffer.specs.Content.{Content, cleared}
 use Rattle.csp_deck.specs.Carried.{IsCarriedIn, place_for, places_of, passed_over}
 use Rattle.csp_deck.specs.PlainFifo.{PlainFifo, with_items}
 use Rattle.csp_deck.specs.Step.{item_numbers, times}
@@ -92,10 +92,10 @@ rule_of d (queue.Out k) = option_map (λ q. q.rule) (slice_get d.outs k)
 rule_of d (queue.Tx k) = option_map (λ q. q.rule) (slice_get d.txs k)
 rule_of d (queue.Rx k) = option_map (λ q. q.rule) (slice_get d.rxs k)
 
--- a take gives the pool's first buffer
+-- a take gives the pool's first buffer, cleared
 abbrev pub taken : PlainDeck → List Content → Answer × PlainDeck
 taken d [] = (answer.NoBuffer, d)
-taken d (b ∷ buffers) = (answer.Taken b, with_pool d buffers)
+taken d (b ∷ buffers) = (answer.Taken (cleared b.number), with_pool d buffers)
 
 -- a give appends the buffer where the pool has room
 abbrev pub given : PlainDeck → Content → Answer × PlainDeck

@@ -287,7 +287,13 @@ impl Deck for ListDeck {
     fn rest(&mut self) {}
 
     fn take(&mut self) -> Option<Buffer> {
-        self.pool.pop()
+        match self.pool.pop() {
+            Some(mut buffer) => {
+                buffer.clear();
+                Some(buffer)
+            }
+            None => None,
+        }
     }
 
     fn give(&mut self, buffer: Buffer) -> Result<(), Buffer> {

@@ -4,7 +4,7 @@ ghost use Rattle.std.specs.Prelude.{◌≡◌, ℕ, ◌+◌, ◌^◌, ◌<◌, �
 ghost use Rattle.csp_base.specs.declared.turns.Turn.{Turn};
 ghost use Rattle.csp_deck.specs.Carried.{IsCarriedIn};
 ghost use Rattle.csp_log.specs.PlainLog.{with_entry};
-ghost use Rattle.csp_log.specs.Pictures.{turn_of};
+ghost use Rattle.csp_log.specs.Pictures.{turn_of, op_in, answer_in};
 ghost use Rattle.csp_deck.specs.Runs.{IsKept, last_time};
 ghost use Rattle.csp_log.specs.Pictures.{Fits};
 ghost use Rattle.csp_deck.specs.Step.{HasCause, CanServe, IsAnswerOf, kind_of, entry_of, op_numbers, answer_numbers, times};
@@ -60,13 +60,25 @@ pub fn turn<P: Party, D: Deck>(party: &mut P, deck: &mut D, log: &mut Log, now: 
     let turn = answer.turn();
     let answered = answer.show();
     let events = party.told(answer, now);
-    log.append(&Entry {
-        time: now,
-        op: asked,
-        answer: answered,
-        events,
-    });
+    log_turn(
+        log,
+        &Entry {
+            time: now,
+            op: asked,
+            answer: answered,
+            events,
+        },
+    );
     turn
+}
+
+/// Logs a turn, whether it did something or was idle.
+fn log_turn(log: &mut Log, entry: &Entry)
+    requires room { 0 < log.old.spare }
+    requires fits { Fits (op_in entry.now.op) (answer_in entry.now.answer) }
+    ensures { log.new ≡ with_entry log.old entry.now }
+{
+    log.append(entry);
 }
 
 /// Has the deck serve one operation.

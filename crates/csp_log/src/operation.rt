@@ -21,7 +21,7 @@ pub enum Op {
 pub enum Answer {
     /// No operation was asked.
     Nothing,
-    /// A buffer of the pool, cleared by who takes it.
+    /// A buffer of the pool, cleared.
     Taken(Buffer),
     /// The pool was empty.
     NoBuffer,

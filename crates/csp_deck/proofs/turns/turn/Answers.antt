@@ -16,22 +16,22 @@ told-events-requires-clause-fits g c =
     (IsAnswerOf-same uses (g.P.Party.uses c.ask-op.new.self) c.ask-op.result c.serve-answer.result c.ask-op.ensures.uses
     (IsAnswerOf-back uses (g.D.Deck.rule c.args.deck.now) c.ask-op.result c.serve-answer.result c.requires.served c.ask-op.ensures.served c.serve-answer.ensures.carried))
 
-pub append-requires-clause-fits : goal.append-requires-clause-fits
-append-requires-clause-fits g c =
+pub log_turn-requires-clause-fits : goal.log_turn-requires-clause-fits
+log_turn-requires-clause-fits g c =
     rw (c.show-asked.ensures, c.show-answered.ensures, op_in-shown_op, answer_in-shown_answer) c.serve-answer.ensures.fits
 
 -- the log with the entry of this turn
-logged : (g : _) (c : goal.After-append g) → c.append.new.self ≡ with_entry c.args.log.now (entry_of c.args.now (g.P.Party.asks c.args.party.now c.args.now) c.serve-answer.result (g.P.Party.events (g.P.Party.asked c.args.party.now c.args.now) c.args.now c.serve-answer.result))
+logged : (g : _) (c : goal.After-log_turn g) → c.log_turn.new.log ≡ with_entry c.args.log.now (entry_of c.args.now (g.P.Party.asks c.args.party.now c.args.now) c.serve-answer.result (g.P.Party.events (g.P.Party.asked c.args.party.now c.args.now) c.args.now c.serve-answer.result))
 logged g c =
-    c.append.ensures ∙ ap (λ x. with_entry c.args.log.now x)
+    c.log_turn.ensures ∙ ap (λ x. with_entry c.args.log.now x)
     (entry_of-made c.args.now _ c.serve-answer.result _ _ refl (rw c.ask-op.ensures.op at c.show-asked.ensures) c.show-answered.ensures (rw c.ask-op.ensures.state at c.told-events.ensures.events))
 
 -- what the party is after it
-stepped : (g : _) (c : goal.After-append g) → c.told-events.new.self ≡ g.P.Party.tells (g.P.Party.asked c.args.party.now c.args.now) c.args.now c.serve-answer.result
+stepped : (g : _) (c : goal.After-log_turn g) → c.told-events.new.self ≡ g.P.Party.tells (g.P.Party.asked c.args.party.now c.args.now) c.args.now c.serve-answer.result
 stepped g c = rw c.ask-op.ensures.state at c.told-events.ensures.state
 
 -- what the party holds after it
-held : (g : _) (c : goal.After-append g) (k : ℕ) → times k (g.P.Party.holds c.told-events.new.self) + times k (op_numbers (g.P.Party.asks c.args.party.now c.args.now)) ≡ times k (g.P.Party.holds c.args.party.now) + times k (answer_numbers c.serve-answer.result)
+held : (g : _) (c : goal.After-log_turn g) (k : ℕ) → times k (g.P.Party.holds c.told-events.new.self) + times k (op_numbers (g.P.Party.asks c.args.party.now c.args.now)) ≡ times k (g.P.Party.holds c.args.party.now) + times k (answer_numbers c.serve-answer.result)
 held g c k =
     let before = rw c.ask-op.ensures.op at (c.ask-op.ensures.holds k) in
     let after = c.told-events.ensures.holds k in
