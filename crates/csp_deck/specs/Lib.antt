@@ -1,4 +1,5 @@
 pub mod Carried
+pub mod Carrier
 pub mod DeckParts
 pub mod PlainDeck
 pub mod PlainFifo

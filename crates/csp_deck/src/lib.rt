@@ -10,6 +10,8 @@ mod list_deck;
 mod numbers;
 mod party;
 mod queue;
+#[cfg(test)]
+mod tests;
 mod turns;
 
 pub use csp_log::{
