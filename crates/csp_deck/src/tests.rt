@@ -60,9 +60,12 @@ fn a_deck_closes_with_the_buffers_it_opened_with_in_order(rt: HostRuntime) {
     let mut back = roomy(&rt, alloc, 3);
     deck.close(&mut back);
     for number in [2, 1, 0] {
-        if let Some(buffer) = back.pop() {
-            let found = buffer.end();
-            assert_eq!(rt; found, number);
+        match back.pop() {
+            Some(buffer) => {
+                let found = buffer.end();
+                assert_eq!(rt; found, number);
+            }
+            None => panic!(rt; "no buffer {number}"),
         }
     }
     assert_eq!(rt; back.len(), 0);
