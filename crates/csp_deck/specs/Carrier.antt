@@ -1,5 +1,5 @@
 -- a small party, for the tests: it carries packets from the inbox to the first `Out`, one after another, so many in all
-use Rattle.std.specs.Prelude.{ℕ, zero, suc, ◌+◌, ◌-◌, ◌==◌, Bool, List, [], ◌∷◌, Option, Some, None}
+use Rattle.std.specs.Prelude.{ℕ, zero, suc, ◌+◌, ◌-◌, List, [], ◌∷◌, Option, Some, None}
 use Rattle.csp_buffer.specs.Content.{Content}
 use Rattle.csp_deck.specs.Step.{Kind, nothing, pushing, popping}
 use Rattle.csp_log.specs.declared.event.Event.{Event}
