@@ -1,4 +1,5 @@
 pub mod Layout
 pub mod Pictures
 pub mod PlainLog
+pub mod Remains
 pub mod Rows

@@ -11,6 +11,7 @@ mod log;
 mod note;
 mod operation;
 mod places;
+mod remains;
 mod row;
 mod shown;
 
@@ -25,4 +26,5 @@ pub use places::{
     Carries, DOWN_ROOM, IFACES, LINK_ROOM, LinkKind, MAX_DATA, OUT_ROOM, Place, QueueId, Rule,
     SLOTS, UNMARKED, UP_ROOM,
 };
+pub use remains::{HeldBy, Left};
 pub use shown::{AnswerShown, ItemShown, OpShown};

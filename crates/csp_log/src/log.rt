@@ -1,6 +1,7 @@
 //! The log of a party's turns.
 
 ghost use Rattle.std.specs.Prelude.{◌≡◌, ◌+◌, ◌-◌, ◌^◌, ◌<◌, ◌≤◌, [], length, max, slice_get, Some, OnOk, OnErr};
+ghost use Rattle.std.specs.Option.{option_map};
 ghost use Rattle.csp_log.specs.PlainLog.{with_entry};
 ghost use Rattle.csp_log.specs.Pictures.{op_in, answer_in};
 ghost use Rattle.csp_log.specs.Pictures.{Fits};
@@ -98,6 +99,15 @@ impl Log {
             answer: answer_of(bytes, &row.deed),
             events: events_of(&self.events[row.first_event..end]),
         }
+    }
+
+    /// What was reported in the entry of this index, counted from 0.
+    pub fn events(&self, index: u64) -> &[Event]
+        requires { index < length self.now.entries }
+        ensures { option_map (λ e. e.events.items) (slice_get self.now.entries index) ≡ Some result.now }
+    {
+        let found = &self.rows[index as usize];
+        &self.events[found.first_event..found.first_event + found.events as usize]
     }
 
     /// Appends an entry. It takes no memory.
