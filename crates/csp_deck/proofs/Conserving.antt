@@ -26,17 +26,17 @@ use Rattle.csp_deck.proofs.Keeping.{times-append}
 abbrev in_items : ℕ → List Item → ℕ
 in_items k items = times k (numbers_of items)
 
-abbrev in_queue : ℕ → PlainQueue → ℕ
+abbrev pub in_queue : ℕ → PlainQueue → ℕ
 in_queue k q = in_items k q.items
 
-abbrev in_lanes : ℕ → List PlainQueue → ℕ
+abbrev pub in_lanes : ℕ → List PlainQueue → ℕ
 in_lanes k qs = sum_by (in_queue k) qs
 
-abbrev in_pool : ℕ → List Content → ℕ
+abbrev pub in_pool : ℕ → List Content → ℕ
 in_pool k buffers = times k (buffer_numbers buffers)
 
 -- and in the whole deck
-pub total : ℕ → PlainDeck → ℕ
+unfoldable pub total : ℕ → PlainDeck → ℕ
 total k d =
     in_pool k d.pool.items + (in_queue k d.critical + in_queue k d.high + in_queue k d.normal + in_queue k d.low)
     + (in_lanes k d.ups + in_lanes k d.downs + in_lanes k d.outs + in_lanes k d.txs + in_lanes k d.rxs)

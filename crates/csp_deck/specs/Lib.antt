@@ -1,7 +1,9 @@
 pub mod Carried
 pub mod Carrier
 pub mod DeckParts
+pub mod Gathered
 pub mod PlainDeck
 pub mod PlainFifo
+pub mod QueueParts
 pub mod Runs
 pub mod Step

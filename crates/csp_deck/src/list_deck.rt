@@ -1,14 +1,17 @@
 //! A node's pool and queues as plain lists.
 
-ghost use Rattle.std.specs.Prelude.{◌≡◌, ◌+◌, ◌<◌, ◌≤◌, [], ◌++◌, length, slice_get, All, vec_len, vec_capacity, OnOk, OnErr, IfOk, IfErr, IsSome};
+ghost use Rattle.std.specs.Prelude.{◌≡◌, ◌+◌, ◌<◌, ◌≤◌, [], ◌++◌, length, map, slice_get, All, vec_len, vec_capacity, OnOk, OnErr, IfOk, IfErr, IsSome};
 ghost use Rattle.csp_deck.specs.Carried.{place_for, IsInboxItem, IsOfPriority};
 ghost use Rattle.csp_deck.specs.PlainDeck.{opening_deck, IsIdle, IsLinkRule, lane_or};
 
 use crate::fifo::Fifo;
+use crate::gathering::{LaneKind, gather_lanes, gather_queue};
 use crate::lanes::{add_links, add_queues, end_all, holder_among, pop_at, push_at};
-use crate::numbers::holds;
+use crate::pool::Pool;
 use crate::queue::Queue;
-use crate::{Carries, DOWN_ROOM, Deck, Item, OUT_ROOM, Place, QueueId, Rule, UP_ROOM};
+use crate::{
+    Carries, DOWN_ROOM, Deck, HeldBy, Item, Left, OUT_ROOM, Place, QueueId, Rule, UP_ROOM,
+};
 use csp_base::Prio;
 use csp_buffer::Buffer;
 use csp_header::Header;
@@ -18,9 +21,9 @@ use std::marker::Model;
 /// The pool and the queues of a node, as plain bounded lists with exact answers. Contracts see it as
 /// those lists.
 ///
-/// It took all its room when it was opened, and must be spent by `close`.
+/// It took all its room when it was opened, and must be spent by `close` or `gather`.
 pub struct ListDeck {
-    pool: Fifo<Buffer>,
+    pool: Pool,
     critical: Queue,
     high: Queue,
     normal: Queue,
@@ -60,19 +63,24 @@ impl ListDeck {
         ensures ok { IfOk result (λ d. d ≡ opening_deck buffers.items inbox apps ifaces.now) }
         ensures err { IfErr result (λ e. e.1.items ≡ buffers.items) }
     {
-        let mut deck = ListDeck::bare(alloc, buffers);
+        let numbers = match Vec::with_capacity(alloc, buffers.len()) {
+            Ok(numbers) => numbers,
+            Err(error) => return Err((error, buffers)),
+        };
+        let mut deck = ListDeck::bare(alloc, Pool::full_of(buffers, numbers));
         match deck.fill(alloc, inbox, apps, ifaces) {
             Ok(()) => Ok(deck),
             Err(error) => Err((error, deck.end())),
         }
     }
 
-    /// A full pool of these buffers, and no queue with room.
-    fn bare(alloc: Global, buffers: Vec<Buffer>) -> ListDeck
-        ensures { result ≡ opening_deck buffers.items 0 0 [] }
+    /// This full pool, and no queue with room.
+    fn bare(alloc: Global, pool: Pool) -> ListDeck
+        requires { pool.room ≡ length pool.items }
+        ensures { result ≡ opening_deck pool.items 0 0 [] }
     {
         ListDeck {
-            pool: Fifo::full_of(buffers),
+            pool,
             critical: Queue::new(alloc, Rule::Priority(Prio::Critical)),
             high: Queue::new(alloc, Rule::Priority(Prio::High)),
             normal: Queue::new(alloc, Rule::Priority(Prio::Normal)),
@@ -166,6 +174,64 @@ impl ListDeck {
 }
 
 impl ListDeck {
+    ghost use Rattle.csp_deck.specs.Gathered.{queues_of, queued_numbers, left_at, held_at};
+    ghost use Rattle.csp_deck.specs.PlainDeck.{buffer_numbers};
+
+    /// Takes back what is in the queues and ends them: for each queue, in the order `Rx`, `Tx`, `Out`,
+    /// `Down`, `Up` and inbox, notes for `node` what was left in it and which buffers it held, and
+    /// appends its buffers. It takes no memory.
+    #[tactic(auto, using(crate::proofs::Counting::queues_counted, crate::proofs::InOrder::queued_counted))]
+    pub fn gather(
+        self,
+        node: u8,
+        left: &mut Vec<Left>,
+        held: &mut Vec<HeldBy>,
+        into: &mut Vec<Buffer>,
+    ) -> Pool
+        requires left_room { vec_len left.old + length (queues_of self) ≤ vec_capacity left.old }
+        requires held_room { vec_len held.old + length (queues_of self) ≤ vec_capacity held.old }
+        requires room { vec_len into.old + length (queued_numbers self) ≤ vec_capacity into.old }
+        ensures left { left.new.items ≡ left.old.items ++ map (left_at node) (queues_of self) }
+        ensures held { held.new.items ≡ held.old.items ++ map (held_at node) (queues_of self) }
+        ensures buffers { buffer_numbers into.new.items ≡ buffer_numbers into.old.items ++ queued_numbers self }
+        ensures left_capacity { vec_capacity left.new ≡ vec_capacity left.old }
+        ensures held_capacity { vec_capacity held.new ≡ vec_capacity held.old }
+        ensures into_capacity { vec_capacity into.new ≡ vec_capacity into.old }
+        ensures pool { result ≡ self.pool }
+    {
+        let ListDeck {
+            pool,
+            critical,
+            high,
+            normal,
+            low,
+            ups,
+            downs,
+            outs,
+            txs,
+            rxs,
+        } = self;
+        gather_lanes(rxs, LaneKind::Rx, node, left, held, into);
+        gather_lanes(txs, LaneKind::Tx, node, left, held, into);
+        gather_lanes(outs, LaneKind::Out, node, left, held, into);
+        gather_lanes(downs, LaneKind::Down, node, left, held, into);
+        gather_lanes(ups, LaneKind::Up, node, left, held, into);
+        gather_queue(
+            critical,
+            Place::Inbox(Prio::Critical),
+            node,
+            left,
+            held,
+            into,
+        );
+        gather_queue(high, Place::Inbox(Prio::High), node, left, held, into);
+        gather_queue(normal, Place::Inbox(Prio::Normal), node, left, held, into);
+        gather_queue(low, Place::Inbox(Prio::Low), node, left, held, into);
+        pool
+    }
+}
+
+impl ListDeck {
     ghost use Rattle.csp_deck.specs.PlainDeck.{near_stores, far_stores, first_holder, holders_of};
 
     /// The pool or the queue that holds the buffer of this number: the first of the places that do.
@@ -183,7 +249,7 @@ impl ListDeck {
     fn near_place(&self, number: u16) -> Option<Place>
         ensures { result ≡ first_holder (near_stores self.now) number }
     {
-        if holds(&self.pool, number) {
+        if self.pool.holds(number) {
             Some(Place::Pool)
         } else if self.critical.holds(number) {
             Some(Place::Inbox(Prio::Critical))

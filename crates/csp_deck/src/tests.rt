@@ -1,10 +1,13 @@
 //! That calls succeed with ample memory, and the worked examples of queues, against values from outside.
 
-ghost use Rattle.std.specs.Prelude.{◌≡◌, ◌+◌, ◌^◌, ◌<◌, ◌≤◌, ◌==◌, [], length, false, vec_capacity, Some, None};
-ghost use Rattle.csp_deck.specs.PlainDeck.{rule_of, IsIdle};
+ghost use Rattle.std.specs.Prelude.{◌≡◌, ℕ, ◌+◌, ◌^◌, ◌<◌, ◌≤◌, ◌==◌, [], length, false, vec_capacity, Some, None};
+ghost use Rattle.csp_deck.specs.Gathered.{queues_of};
+ghost use Rattle.csp_deck.specs.PlainDeck.{rule_of, IsIdle, buffer_numbers, numbers_in};
+ghost use Rattle.csp_deck.specs.Step.{times};
 ghost use Rattle.csp_log.specs.declared.places.QueueId.{QueueId};
 
 mod carrier;
+mod ending;
 
 use super::*;
 use carrier::Carrier;
@@ -22,13 +25,13 @@ fn made<R: Abort>(rt: &R, alloc: Global, number: u16) -> Buffer {
     }
 }
 
-/// Room for so many buffers. Memory is ample.
-fn roomy<R: Abort>(rt: &R, alloc: Global, room: usize) -> Vec<Buffer>
+/// Room for so many. Memory is ample.
+fn roomy<T, R: Abort>(rt: &R, alloc: Global, room: usize) -> Vec<T>
     ensures items { result.items ≡ [] }
     ensures capacity { room ≤ vec_capacity result }
 {
     match Vec::with_capacity(alloc, room) {
-        Ok(buffers) => buffers,
+        Ok(list) => list,
         Err(_) => panic!(rt; "no memory"),
     }
 }
@@ -39,6 +42,8 @@ fn opened<R: Abort>(rt: &R, alloc: Global, count: u16) -> ListDeck
     ensures out { rule_of result (QueueId.Out 0) ≡ Some (Rule.Lane Carries.Out) }
     ensures idle { IsIdle result }
     ensures count { length result.pool.items ≡ count }
+    ensures numbers { (k : ℕ) → times k (numbers_in result) ≡ times k (buffer_numbers result.pool.items) }
+    ensures queues { length (queues_of result) ≡ 9 }
 {
     let mut buffers = roomy(rt, alloc, count as usize);
     for number in 0..count {

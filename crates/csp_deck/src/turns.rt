@@ -39,6 +39,9 @@ pub fn turn<P: Party, D: Deck>(party: &mut P, deck: &mut D, log: &mut Log, now: 
         × (result ≡ turn_of answer)
         × ((k : ℕ) → times k (P.holds party.new) + times k (op_numbers (P.asks party.old now)) ≡ times k (P.holds party.old) + times k (answer_numbers answer)) }
 
+    // It had what it handed over.
+    ensures had { P.has_ended party.old ≡ false → (k : ℕ) → times k (op_numbers (P.asks party.old now)) ≤ times k (P.holds party.old) }
+
     // Where the log was a run of this party's steps from an opening, it is one with this turn.
     ensures kept { (opening : P) → last_time 0 log.old.entries ≤ now
         → IsKept (record { has_ended = P.has_ended; asks = P.asks; asked = P.asked; tells = P.tells; events = P.events }) P.holds opening log.old.entries party.old

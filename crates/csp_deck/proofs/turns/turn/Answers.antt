@@ -56,3 +56,8 @@ returns-clause-kept g c = λ opening late kept.
     rw (logged g c, stepped g c)
     (IsKept-push (record { has_ended = p.has_ended; asks = p.asks; asked = p.asked; tells = p.tells; events = p.events }) p.holds opening c.args.party.now c.args.log.now.entries c.args.now c.serve-answer.result
     late (sym c.ended.ensures ∙ c.if-ended.false) (rw c.ask-op.ensures.op at c.serve-answer.ensures.fits) (λ k. rw (stepped g c) at (held g c k)) kept)
+
+pub returns-clause-had : goal.returns-clause-had
+returns-clause-had g c = λ _ k.
+    let before = rw c.ask-op.ensures.op at (c.ask-op.ensures.holds k) in
+    omega (arith, before)

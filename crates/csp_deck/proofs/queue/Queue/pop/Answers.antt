@@ -1,4 +1,4 @@
-use Rattle.std.proofs.Common.{◌≡◌, [], ◌∷◌, Option, Some, None, MatchOption, refl, ap}
+use Rattle.std.proofs.Common.{◌≡◌, ℕ, suc, ◌≤◌, [], ◌∷◌, length, Option, Some, None, MatchOption, refl, ap, arith}
 use Rattle.std.specs.Prelude.{All}
 use Rattle.std.proofs.lemmas.List.Elements.{All-rest, All-head}
 use Rattle.csp_deck.specs.Carried.{IsCarried}
@@ -25,8 +25,26 @@ popped_so : (r : Rule) (old new : PlainFifo Item) (o : Option Item) → Pops old
 popped_so r old new None pops all = (pops.0, ap (queue_of r) pops.1)
 popped_so r old new (Some i) pops all = (pops.0, rw pops.1 refl, All-head (IsCarried r) i new.items (rw pops.0 at all))
 
+-- it has the room that it had, and no more items
+same_room : (old new : PlainFifo Item) (o : Option Item) → Pops old new o → new.room ≡ old.room
+same_room old new None pops = ap (λ f. f.room) pops.1
+same_room old new (Some i) pops = pops.1
+
+still_fits : (old new : PlainFifo Item) (o : Option Item) → Pops old new o → length old.items ≤ old.room → length new.items ≤ new.room
+still_fits old new None pops fits = rw pops.1 fits
+still_fits old new (Some i) pops fits = let a = ap length pops.0 in less _ _ _ _ a pops.1 fits where
+  less : (m n r s : ℕ) → m ≡ suc n → s ≡ r → m ≤ r → n ≤ s
+  less m n r s a b c = omega arith
+
 pub invariant_of-self : goal.invariant_of-self
-invariant_of-self c = still_carried c.self.inside.rule c.self.inside.fifo c.pop.new.self c.pop.result c.pop.ensures.answer c.self.invariant
+invariant_of-self c = record {
+  carried = still_carried c.self.inside.rule c.self.inside.fifo c.pop.new.self c.pop.result c.pop.ensures.answer c.self.invariant.carried;
+  fits = still_fits c.self.inside.fifo c.pop.new.self c.pop.result c.pop.ensures.answer c.self.invariant.fits;
+  shown = c.self.invariant.shown;
+  shown_room = rw (same_room c.self.inside.fifo c.pop.new.self c.pop.result c.pop.ensures.answer) c.self.invariant.shown_room;
+  numbers = c.self.invariant.numbers;
+  numbers_room = rw (same_room c.self.inside.fifo c.pop.new.self c.pop.result c.pop.ensures.answer) c.self.invariant.numbers_room;
+}
 
 pub returns : goal.returns
-returns c = rw (← c.self.view_is) (record { answer = popped_so c.self.inside.rule c.self.inside.fifo c.pop.new.self c.pop.result c.pop.ensures.answer c.self.invariant })
+returns c = rw (← c.self.view_is) (record { answer = popped_so c.self.inside.rule c.self.inside.fifo c.pop.new.self c.pop.result c.pop.ensures.answer c.self.invariant.carried })
