@@ -1,5 +1,7 @@
 //! The steps of a script.
 
+ghost use Rattle.std.specs.Prelude.{◌≡◌, ◌≤◌, length};
+
 use arrayvec::ArrayVec;
 use csp_base::MAX_PAYLOAD;
 
@@ -25,4 +27,40 @@ pub enum Step {
     Wait {
         rounds: u32,
     },
+}
+
+impl Step {
+    /// A copy of it. It takes no memory.
+    pub fn copy(&self) -> Step
+        ensures { result ≡ self.now }
+    {
+        match self {
+            Step::Take => Step::Take,
+            Step::Give => Step::Give,
+            Step::Raw { header, bytes } => Step::Raw {
+                header: *header,
+                bytes: copied(bytes.as_slice()),
+            },
+            Step::Recv {
+                slot,
+                count,
+                rounds,
+            } => Step::Recv {
+                slot: *slot,
+                count: *count,
+                rounds: *rounds,
+            },
+            Step::Wait { rounds } => Step::Wait { rounds: *rounds },
+        }
+    }
+}
+
+/// These bytes as those of a packet.
+fn copied(bytes: &[u8]) -> ArrayVec<u8, MAX_PAYLOAD>
+    requires { length bytes.now ≤ MAX_PAYLOAD }
+    ensures { result.items ≡ bytes.now }
+{
+    let mut copy = ArrayVec::new();
+    copy.try_extend_from_slice(bytes).unwrap();
+    copy
 }

@@ -19,7 +19,7 @@ use Rattle.csp_stack.specs.Readings.{destination, is_for, is_secured, is_checked
 use Rattle.csp_stack.specs.Router.{State, out_numbers}
 use Rattle.csp_stack.specs.Routing.{sent_to}
 use Rattle.csp_stack.specs.Security.{refused_if}
-use Rattle.csp_stack.specs.declared.config.StackConfig.{StackConfig}
+use Rattle.csp_stack.specs.Config.{PlainConfig}
 use Rattle.csp_stack.specs.declared.outgoing.Outgoing.{Outgoing}
 use Rattle.csp_stack.specs.declared.outcome.Outcome.{Outcome}
 use Rattle.csp_stack.specs.declared.outcome.Outcome.TheVariants as outcome
@@ -42,24 +42,24 @@ secured_keeps : (secured : Bool) (b : Content) → outcome_numbers (onward (λ d
 secured_keeps true b = refl
 secured_keeps false b = cut_keeps (is_checked b) (payload_of b.payload) b
 
-heard_keeps : (here : Bool) (c : StackConfig) (mark : ℕ) (b : Content) → outcome_numbers (heard_if here c mark b) ≡ b.number ∷ []
+heard_keeps : (here : Bool) (c : PlainConfig) (mark : ℕ) (b : Content) → outcome_numbers (heard_if here c mark b) ≡ b.number ∷ []
 heard_keeps false c mark b = refl
 heard_keeps true c mark b = secured_keeps (is_secured b) b
 
-sent_keeps : (own : Bool) (c : StackConfig) (b : Content) → outcome_numbers (sent_to own c b) ≡ b.number ∷ []
+sent_keeps : (own : Bool) (c : PlainConfig) (b : Content) → outcome_numbers (sent_to own c b) ≡ b.number ∷ []
 sent_keeps true c b = refl
 sent_keeps false c b = refl
 
-packet_keeps : (unmarked : Bool) (c : StackConfig) (b : Content) → outcome_numbers (packet_if unmarked c b) ≡ b.number ∷ []
+packet_keeps : (unmarked : Bool) (c : PlainConfig) (b : Content) → outcome_numbers (packet_if unmarked c b) ≡ b.number ∷ []
 packet_keeps true c b = sent_keeps (destination b == c.addr) c b
 packet_keeps false c b = refl
 
-served_keeps : (c : StackConfig) (app : ℕ) (i : Item) → outcome_numbers (served c app i) ≡ item_numbers i
+served_keeps : (c : PlainConfig) (app : ℕ) (i : Item) → outcome_numbers (served c app i) ≡ item_numbers i
 served_keeps c app (item.Packet mark b) = packet_keeps (mark == UNMARKED) c b
 served_keeps c app (item.Note n) = refl
 served_keeps c app (item.Frame f) = refl
 
-arrived_keeps : (c : StackConfig) (i : Item) → outcome_numbers (arrived c i) ≡ item_numbers i
+arrived_keeps : (c : PlainConfig) (i : Item) → outcome_numbers (arrived c i) ≡ item_numbers i
 arrived_keeps c (item.Packet mark b) = heard_keeps (is_for c.addr b) c mark b
 arrived_keeps c (item.Note n) = refl
 arrived_keeps c (item.Frame f) = refl
@@ -69,7 +69,7 @@ refused_keeps (item.Packet mark b) = refl
 refused_keeps (item.Note n) = refl
 refused_keeps (item.Frame f) = refl
 
-popped_keeps : (c : StackConfig) (d : Doing) (i : Item) → outcome_numbers (popped c d i) ≡ item_numbers i
+popped_keeps : (c : PlainConfig) (d : Doing) (i : Item) → outcome_numbers (popped c d i) ≡ item_numbers i
 popped_keeps c (doing.Serving k) i = served_keeps c k i
 popped_keeps c doing.Hearing i = arrived_keeps c i
 popped_keeps c doing.Resting i = arrived_keeps c i
@@ -77,7 +77,7 @@ popped_keeps c doing.Giving i = arrived_keeps c i
 popped_keeps c (doing.Sending queue) i = arrived_keeps c i
 
 -- an answer's buffer is in what it comes to
-pub outcome_keeps : (c : StackConfig) (d : Doing) (a : Answer) → outcome_numbers (outcome_of c d a) ≡ answer_numbers a
+pub outcome_keeps : (c : PlainConfig) (d : Doing) (a : Answer) → outcome_numbers (outcome_of c d a) ≡ answer_numbers a
 outcome_keeps c d answer.Nothing = refl
 outcome_keeps c d (answer.Taken b) = refl
 outcome_keeps c d answer.NoBuffer = refl

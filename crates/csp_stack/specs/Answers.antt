@@ -10,7 +10,7 @@ use Rattle.csp_log.specs.declared.operation.Answer.TheVariants as answer
 use Rattle.csp_stack.specs.Applications.{served}
 use Rattle.csp_stack.specs.Inbox.{heard}
 use Rattle.csp_stack.specs.Router.{State}
-use Rattle.csp_stack.specs.declared.config.StackConfig.{StackConfig}
+use Rattle.csp_stack.specs.Config.{PlainConfig}
 use Rattle.csp_stack.specs.declared.outcome.Outcome.{Outcome}
 use Rattle.csp_stack.specs.declared.outcome.Outcome.TheVariants as outcome
 use Rattle.csp_stack.specs.declared.plan.Doing.{Doing}
@@ -24,13 +24,13 @@ refused (item.Note n) = outcome.Nothing
 refused (item.Frame f) = outcome.Nothing
 
 -- what becomes of an item of the inbox: it is a packet
-abbrev pub arrived : StackConfig → Item → Outcome
+abbrev pub arrived : PlainConfig → Item → Outcome
 arrived c (item.Packet mark b) = heard c mark b
 arrived c (item.Note n) = outcome.Nothing
 arrived c (item.Frame f) = outcome.Nothing
 
 -- what becomes of an item that was popped: from an application where that was awaited, else from the inbox
-abbrev pub popped : StackConfig → Doing → Item → Outcome
+abbrev pub popped : PlainConfig → Doing → Item → Outcome
 popped c (doing.Serving k) i = served c k i
 popped c doing.Hearing i = arrived c i
 popped c doing.Resting i = arrived c i
@@ -39,7 +39,7 @@ popped c (doing.Sending _) i = arrived c i
 
 -- what an answer comes to, by what was awaited: no turn asks for a buffer, and one that came would be
 -- given back
-abbrev pub outcome_of : StackConfig → Doing → Answer → Outcome
+abbrev pub outcome_of : PlainConfig → Doing → Answer → Outcome
 outcome_of c d answer.Nothing = outcome.Nothing
 outcome_of c d (answer.Taken b) = outcome.Kept b
 outcome_of c d answer.NoBuffer = outcome.Nothing

@@ -14,14 +14,14 @@ use Rattle.csp_log.specs.declared.places.Rule.TheVariants as rule
 use Rattle.csp_stack.specs.Answers.{outcome_of, settled, reported}
 use Rattle.csp_stack.specs.Router.{State, Router}
 use Rattle.csp_stack.specs.Turn.{plan_of, op_of, asked_by}
-use Rattle.csp_stack.specs.declared.config.StackConfig.{StackConfig}
+use Rattle.csp_stack.specs.Config.{PlainConfig}
 use Rattle.csp_stack.specs.declared.outgoing.Outgoing.{Outgoing}
 use Rattle.csp_stack.specs.declared.plan.Doing.{Doing}
 use Rattle.csp_stack.specs.declared.plan.Doing.TheVariants as doing
 use Rattle.csp_stack.specs.declared.trash.TheConstants.{TRASH_ROOM}
 
 -- the queues that it uses: the inbox, and those from and to its applications
-abbrev pub rules_of : StackConfig → QueueId → Option Rule
+abbrev pub rules_of : PlainConfig → QueueId → Option Rule
 rules_of c queue.Inbox = Some rule.Inbox
 rules_of c (queue.Up k) = cond (nat_lt k c.apps) (Some (rule.Lane lane.Up)) None
 rules_of c (queue.Down k) = cond (nat_lt k c.apps) (Some (rule.Lane lane.Down)) None
@@ -58,7 +58,7 @@ abbrev pub events_of : Router → ℕ → Answer → List Event
 events_of r time a = reported (outcome_of r.config r.state.doing a)
 
 -- a packet that is to go out is one that its queue carries
-abbrev pub IsSendable : StackConfig → Option Outgoing → Type 0
+abbrev pub IsSendable : PlainConfig → Option Outgoing → Type 0
 IsSendable c out = IfSome out (λ o. IsCarriedIn (rules_of c o.queue) (item.Packet o.mark o.buffer))
 
 -- between its turns: it waits for nothing, its trash has room, and what is to go out can go

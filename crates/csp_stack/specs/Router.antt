@@ -1,7 +1,7 @@
 -- the router of a node as plain data: what it was given at its opening, and what its turns change
 use Rattle.std.specs.Prelude.{ℕ, List, [], ◌∷◌, ◌++◌, map, Option, None, Some}
 use Rattle.csp_buffer.specs.Content.{Content}
-use Rattle.csp_stack.specs.declared.config.StackConfig.{StackConfig}
+use Rattle.csp_stack.specs.Config.{PlainConfig}
 use Rattle.csp_stack.specs.declared.outgoing.Outgoing.{Outgoing}
 use Rattle.csp_stack.specs.declared.plan.Doing.{Doing}
 use Rattle.csp_stack.specs.declared.plan.Doing.TheVariants.{Resting}
@@ -16,14 +16,14 @@ pub record State : Type 0 where
 
 -- a router: its configuration, which no turn changes, and its state
 pub record Router : Type 0 where
-  pub config : StackConfig
+  pub config : PlainConfig
   pub state : State
 
 -- at the opening there is no trash and no packet, and the look for work begins at the inbox
 abbrev pub opening_state : State
 opening_state = record { trash = []; out = None; cursor = 0; doing = Resting }
 
-abbrev pub opening : StackConfig → Router
+abbrev pub opening : PlainConfig → Router
 opening c = record { config = c; state = opening_state }
 
 -- the buffer of a packet that is to go out, and its number

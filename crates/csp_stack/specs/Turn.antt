@@ -7,7 +7,7 @@ use Rattle.csp_log.specs.declared.operation.Op.TheVariants as op
 use Rattle.csp_log.specs.declared.places.QueueId.TheVariants as queue
 use Rattle.csp_stack.specs.Router.{State}
 use Rattle.csp_stack.specs.Sources.{source_at, place_with_work, place_past}
-use Rattle.csp_stack.specs.declared.config.StackConfig.{StackConfig}
+use Rattle.csp_stack.specs.Config.{PlainConfig}
 use Rattle.csp_stack.specs.declared.outgoing.Outgoing.{Outgoing}
 use Rattle.csp_stack.specs.declared.plan.Doing.TheVariants as doing
 use Rattle.csp_stack.specs.declared.plan.Plan.{Plan}
@@ -22,7 +22,7 @@ work_at (source.App k) = plan.Serve k
 work_at source.Jobs = plan.Rest
 
 -- the work at the place that was found, if one was
-abbrev pub work_found : StackConfig → Option ℕ → Plan
+abbrev pub work_found : PlainConfig → Option ℕ → Plan
 work_found c None = plan.Rest
 work_found c (Some k) = work_at (source_at c k)
 
@@ -33,7 +33,7 @@ plan_by (b ∷ bs) out work = plan.Give b
 plan_by [] (Some o) work = plan.Send o
 plan_by [] None work = work
 
-abbrev pub plan_of : StackConfig → State → Plan
+abbrev pub plan_of : PlainConfig → State → Plan
 plan_of c s = plan_by s.trash s.out (work_found c (place_with_work c s))
 
 -- the operation of a plan
@@ -45,7 +45,7 @@ op_of (plan.Serve k) = op.Pop (queue.Up k)
 op_of plan.Rest = op.Nothing
 
 -- the state once that was asked: what is handed over is gone, and the cursor is past the source
-abbrev pub asked_by : StackConfig → State → Plan → State
+abbrev pub asked_by : PlainConfig → State → Plan → State
 asked_by c s (plan.Give b) = record s { trash = drop 1 s.trash; doing = doing.Giving }
 asked_by c s (plan.Send o) = record s { out = None; doing = doing.Sending o.queue }
 asked_by c s plan.Hear = record s { cursor = place_past c 0; doing = doing.Hearing }

@@ -1,4 +1,4 @@
-use Rattle.std.proofs.Common.{◌≡◌, ap, ◌∙◌, sym}
+use Rattle.std.proofs.Common.{ap, ◌∙◌, sym}
 use Rattle.csp_deck.specs.Step.{times}
 use Rattle.csp_party.specs.Any.{holds}
 use Rattle.csp_party.proofs.any.AnyPartyParty.ask.Goals as goal

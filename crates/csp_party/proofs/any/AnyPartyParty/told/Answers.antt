@@ -1,4 +1,4 @@
-use Rattle.std.proofs.Common.{◌≡◌, ◌+◌, ap, ◌∙◌, sym}
+use Rattle.std.proofs.Common.{◌+◌, ap, ◌∙◌, sym}
 use Rattle.csp_deck.specs.Step.{times, answer_numbers}
 use Rattle.csp_party.specs.Any.{holds}
 use Rattle.csp_party.proofs.any.AnyPartyParty.told.Goals as goal
