@@ -1,12 +1,16 @@
 -- What the lines read so far state, and what one more line adds to it.
 use Rattle.std.specs.Prelude.{ℕ, Bool, not, ◌||◌, ◌==◌, nat_lt, true, false, List, [], ◌∷◌, ◌++◌, length, slice_index_or, slice_set, Option, Some, None, is_none, Result, Ok, Err}
 use Rattle.std.specs.List.{list_any, position_or_len}
+use Rattle.std.specs.Option.{unwrap_or}
 use Rattle.std.specs.Str.{bytes_eq}
-use Rattle.csp_text.specs.Numbers.{number_of}
+use Rattle.csp_app.specs.declared.step.Step.{Step}
+use Rattle.csp_app.specs.declared.step.Step.TheVariants as step
 use Rattle.csp_scene.specs.Scene.{PlainApp, PlainNode, PlainScene}
-use Rattle.csp_scene.specs.declared.limits.TheConstants.{MAX_NODES, MAX_APPS, MAX_STEPS}
-use Rattle.csp_scene.specs.declared.scenario.Step.{Step}
-use Rattle.csp_scene.specs.declared.scenario.Step.TheVariants as step
+use Rattle.csp_scene.specs.Arguments.{word_at, number_at, setting}
+use Rattle.csp_scene.specs.Steps.{raw_step, recv_step, wait_step}
+use Rattle.csp_scene.specs.declared.limits.TheConstants.{MAX_NODES, MAX_APPS, MAX_STEPS, DEFAULT_SEED, DEFAULT_INBOX}
+use Rattle.csp_scene.specs.declared.table.Keyword.TheVariants as keyword
+use Rattle.csp_scene.specs.declared.table.Part.{Part}
 use Rattle.csp_scene.specs.declared.table.Form.{Form}
 use Rattle.csp_scene.specs.declared.table.Form.TheVariants as form
 use Rattle.csp_scene.specs.declared.refusal.SceneKind.{SceneKind}
@@ -27,16 +31,9 @@ abbrev pub demand : {A : Type 0} → Bool → SceneKind → Result A SceneKind �
 demand true kind next = next
 demand false kind next = Err kind
 
--- the word in a place, and the number that it writes
-abbrev pub word_at : List (List ℕ) → ℕ → List ℕ
-word_at args place = slice_index_or args place []
-
-abbrev pub number_at : List (List ℕ) → ℕ → ℕ
-number_at args place = number_of (word_at args place)
-
 -- the node in a place
 abbrev pub no_node : PlainNode
-no_node = record { name = []; addr = 0; buffers = 0; apps = [] }
+no_node = record { name = []; addr = 0; buffers = 0; seed = 0; inbox = 0; apps = [] }
 
 abbrev pub node_at : List PlainNode → ℕ → PlainNode
 node_at nodes place = slice_index_or nodes place no_node
@@ -74,8 +71,15 @@ abbrev pub is_taken_by : List ℕ → ℕ → PlainNode → Bool
 is_taken_by word addr node = has_name word node || node.addr == addr
 
 -- the node that a line states
-abbrev pub new_node : List (List ℕ) → PlainNode
-new_node args = record { name = word_at args 0; addr = number_at args 1; buffers = number_at args 3; apps = [] }
+abbrev pub new_node : List Part → List (List ℕ) → PlainNode
+new_node shape args = record {
+  name = word_at args 0;
+  addr = number_at args 1;
+  buffers = number_at args 3;
+  seed = unwrap_or (setting keyword.Seed shape args) DEFAULT_SEED;
+  inbox = unwrap_or (setting keyword.Inbox shape args) DEFAULT_INBOX;
+  apps = [];
+}
 
 -- a node's name and address are those of no other node, and there is room for it
 abbrev pub may_add_node : List PlainNode → List ℕ → ℕ → Result (Unit {0}) SceneKind
@@ -88,10 +92,10 @@ may_add_node nodes word addr =
 abbrev pub with_node : PlainNode → PlainDraft → PlainDraft
 with_node node d = record d { nodes = d.nodes ++ node ∷ [] }
 
--- `node NAME ADDR buffers N`
-abbrev pub state_node : PlainDraft → List (List ℕ) → Result PlainDraft SceneKind
-state_node d args =
-    and_then (may_add_node d.nodes (word_at args 0) (number_at args 1)) (λ _. Ok (with_node (new_node args) d))
+-- `node NAME ADDR buffers N [seed S] [inbox C]`
+abbrev pub state_node : PlainDraft → List Part → List (List ℕ) → Result PlainDraft SceneKind
+state_node d shape args =
+    and_then (may_add_node d.nodes (word_at args 0) (number_at args 1)) (λ _. Ok (with_node (new_node shape args) d))
 
 -- the place of the node of this name, or the number of nodes where there is none
 abbrev pub place_of : List ℕ → List PlainNode → ℕ
@@ -129,13 +133,16 @@ state_step_of d step (Some current) =
 abbrev pub state_step : PlainDraft → Step → Result PlainDraft SceneKind
 state_step d step = state_step_of d step d.current
 
--- what a line of a form adds, judged against the lines before it: Unknown, then Twice, then Full
-abbrev pub state : Form → PlainDraft → List (List ℕ) → Result PlainDraft SceneKind
-state form.Until d args = state_until (closed d) args
-state form.Node d args = state_node (closed d) args
-state form.App d args = state_app (closed d) args
-state form.Take d args = state_step d step.Take
-state form.Give d args = state_step d step.Give
+-- what a line of a form and of one of its shapes adds, judged against the lines before it: Unknown, then Twice, then Full
+abbrev pub state : Form → List Part → PlainDraft → List (List ℕ) → Result PlainDraft SceneKind
+state form.Until shape d args = state_until (closed d) args
+state form.Node shape d args = state_node (closed d) shape args
+state form.App shape d args = state_app (closed d) args
+state form.Take shape d args = state_step d step.Take
+state form.Give shape d args = state_step d step.Give
+state form.Raw shape d args = state_step d (raw_step args)
+state form.Recv shape d args = state_step d (recv_step shape args)
+state form.Wait shape d args = state_step d (wait_step args)
 
 -- after the last line: `until` must have been given
 abbrev pub finish_with : PlainDraft → Option ℕ → Result PlainScene SceneKind

@@ -1,5 +1,5 @@
 -- A line judged as a whole against the lines before it, and a text line by line.
-use Rattle.std.specs.Prelude.{ℕ, ◌+◌, Bool, not, ◌&&◌, ◌||◌, nat_le, List, [], ◌∷◌, length, Option, Some, None, is_some, find, Result, Ok, Err}
+use Rattle.std.specs.Prelude.{ℕ, ◌+◌, Bool, not, ◌&&◌, ◌||◌, ◌==◌, nat_le, false, List, [], ◌∷◌, length, Option, Some, None, is_some, find, Result, Ok, Err, if◌then◌else◌}
 use Rattle.std.specs.List.{list_any, list_all}
 use Rattle.csp_text.specs.Cut.{lines_of, words_of}
 use Rattle.csp_scene.specs.Scene.{PlainScene}
@@ -8,7 +8,6 @@ use Rattle.csp_scene.specs.Rows.{PlainRow, all_rows, begins, begins_step, begins
 use Rattle.csp_scene.specs.Draft.{PlainDraft, no_draft, demand, and_then, state, finish}
 use Rattle.csp_scene.specs.declared.limits.TheConstants.{MAX_LINE}
 use Rattle.csp_scene.specs.declared.checks.Check.TheVariants as check
-use Rattle.csp_scene.specs.declared.table.Form.{Form}
 use Rattle.csp_scene.specs.declared.refusal.SceneKind.{SceneKind}
 use Rattle.csp_scene.specs.declared.refusal.SceneKind.TheVariants as kind
 
@@ -16,26 +15,33 @@ use Rattle.csp_scene.specs.declared.refusal.SceneKind.TheVariants as kind
 abbrev pub is_printable : ℕ → Bool
 is_printable byte = nat_le 32 byte && nat_le byte 126
 
--- of a row whose number of words and fixed words fit: its names, then its numbers
-abbrev pub fit : List (List ℕ) → Option PlainRow → Result Form SceneKind
+-- a row whose number of words and fixed words fit, where its names and then its numbers do
+abbrev pub fit : List (List ℕ) → Option PlainRow → Result PlainRow SceneKind
 fit args None = Err kind.Choice
 fit args (Some row) =
     demand (all_pass check.Name row.shape args) kind.Name
     (demand (all_pass check.Number row.shape args) kind.Number
-    (Ok row.form))
+    (Ok row))
 
--- which form a line has, by its first word and the others, where `in_app` says that a step may stand here
-abbrev pub form_of : List PlainRow → Bool → List ℕ → List (List ℕ) → Result Form SceneKind
-form_of rows in_app first args =
+-- which row a line is of, by its first word and the others, where `in_app` says that a step may stand here
+abbrev pub row_for : List PlainRow → Bool → List ℕ → List (List ℕ) → Result PlainRow SceneKind
+row_for rows in_app first args =
     demand (list_any (begins first) rows) kind.Word
     (demand (in_app || not (list_any (begins_step first) rows)) kind.Place
     (demand (list_any (begins_count first (length args)) rows) kind.Count
     (fit args (find (has_choice first args) rows))))
 
--- a line by its words; a line without words has no first word
+-- the first word of a comment: it begins with `#`
+abbrev pub is_comment : List ℕ → Bool
+is_comment [] = false
+is_comment (byte ∷ bytes) = byte == 35
+
+-- a line by its words: one without words, or a comment, is ignored
 abbrev pub judge_words : List PlainRow → PlainDraft → List (List ℕ) → Result PlainDraft SceneKind
-judge_words rows d [] = Err kind.Word
-judge_words rows d (first ∷ args) = and_then (form_of rows (is_some d.current) first args) (λ form. state form d args)
+judge_words rows d [] = Ok d
+judge_words rows d (first ∷ args) =
+    if is_comment first then Ok d
+    else and_then (row_for rows (is_some d.current) first args) (λ row. state row.form row.shape d args)
 
 -- the draft after a line, or the first kind that fits the line
 abbrev pub judge : List PlainRow → PlainDraft → List ℕ → Result PlainDraft SceneKind

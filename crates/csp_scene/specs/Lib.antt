@@ -3,6 +3,8 @@ pub mod Ranges
 pub mod Table
 pub mod Checks
 pub mod Rows
+pub mod Arguments
+pub mod Steps
 pub mod Draft
 pub mod Judge
 pub mod Kept

@@ -2,7 +2,7 @@
 use Rattle.std.specs.Prelude.{ℕ, Bool, ◌&&◌, ◌==◌, List, length, map}
 use Rattle.std.specs.List.{flat_map}
 use Rattle.std.specs.Str.{bytes_eq}
-use Rattle.csp_scene.specs.Table.{first_word, fixed_of, optional_of, is_step, all_forms, with_options}
+use Rattle.csp_scene.specs.Table.{first_word, is_step, all_forms, shapes_of}
 use Rattle.csp_scene.specs.Checks.{all_pass}
 use Rattle.csp_scene.specs.declared.table.Form.{Form}
 use Rattle.csp_scene.specs.declared.table.Part.{Part}
@@ -18,7 +18,7 @@ row_of form shape = record { form = form; shape = shape }
 
 -- a form's rows: each optional group is there or not
 abbrev pub rows_of : Form → List PlainRow
-rows_of form = map (row_of form) (with_options (fixed_of form) (optional_of form))
+rows_of form = map (row_of form) (shapes_of form)
 
 -- the whole table
 abbrev pub all_rows : List PlainRow

@@ -2,12 +2,12 @@
 
 ghost use Rattle.std.specs.Prelude.{◌≡◌, ◌&&◌, ◌<◌, IsTrue, length, map};
 ghost use Rattle.csp_scene.specs.Table.{keyword_text};
-ghost use Rattle.csp_scene.specs.Checks.{is_in_range, passes, all_pass};
+ghost use Rattle.csp_scene.specs.Checks.{is_in_range, has_bytes, passes, all_pass};
 
 use crate::table::Part;
-use csp_text::{is_name, number};
+use csp_text::{byte_digits, is_bytes, is_hex_word, is_name, number};
 
-/// What is looked at: the fixed words, the names, or the numbers.
+/// What is looked at: the fixed words, the names, or the numbers and hexadecimal texts.
 #[derive(Clone, Copy, PartialEq, Eq, Debug)]
 pub(crate) enum Check {
     Fixed,
@@ -25,6 +25,17 @@ fn is_in_range(word: &[u8], low: u32, high: u32) -> bool
     }
 }
 
+/// Whether a word is hexadecimal text of `least` to `most` bytes.
+fn has_bytes(word: &[u8], least: u32, most: u32) -> bool
+    ensures { result ≡ has_bytes least most word.now }
+{
+    if !is_bytes(word) {
+        return false;
+    }
+    let count = byte_digits(word).len() / 2;
+    least as usize <= count && count <= most as usize
+}
+
 /// Whether a word passes a check against what stands in its place.
 fn passes(check: Check, part: Part, word: &[u8]) -> bool
     ensures { result ≡ passes check part word.now }
@@ -33,6 +44,8 @@ fn passes(check: Check, part: Part, word: &[u8]) -> bool
         (Check::Fixed, Part::Fixed(keyword)) => word == keyword.text(),
         (Check::Name, Part::Name) => is_name(word),
         (Check::Number, Part::Number { low, high }) => is_in_range(word, low, high),
+        (Check::Number, Part::Word) => is_hex_word(word),
+        (Check::Number, Part::Bytes { least, most }) => has_bytes(word, least, most),
         _ => true,
     }
 }

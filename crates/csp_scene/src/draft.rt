@@ -1,19 +1,19 @@
 //! What the lines read so far state, and what one more line adds to it.
 
-ghost use Rattle.std.specs.Prelude.{◌≡◌, ◌<◌, ◌≤◌, ◌^◌, List, map, is_some, IsTrue, OnOk, IfOk, length, nat_lt};
+ghost use Rattle.std.specs.Prelude.{◌≡◌, ◌<◌, ◌≤◌, ◌^◌, ◌+◌, List, map, is_some, IsTrue, OnOk, IfOk, IfSome, length, nat_lt};
 ghost use Rattle.std.specs.List.{list_any};
-ghost use Rattle.csp_text.specs.Names.{is_name};
-ghost use Rattle.csp_text.specs.Numbers.{is_decimal};
-ghost use Rattle.csp_scene.specs.Ranges.{IsNode, IsScene};
-ghost use Rattle.csp_scene.specs.Draft.{no_draft, word_at, number_at, node_at, closed, place_of, is_taken_by, may_add_node, may_add_app, new_node, with_node, is_called, state_until, state_node, state_app, state_step, state, finish};
-ghost use Rattle.csp_scene.specs.Kept.{IsDraft, Fits, Judged};
+ghost use Rattle.csp_scene.specs.Ranges.{IsStep, IsNode, IsScene};
+ghost use Rattle.csp_scene.specs.Draft.{no_draft, node_at, closed, place_of, is_taken_by, may_add_node, may_add_app, new_node, with_node, is_called, state_until, state_node, state_app, state_step, state, finish};
+ghost use Rattle.csp_scene.specs.Kept.{IsDraft, Fits, FitsShape, Judged};
 
-use crate::limits::{MAX_APPS, MAX_NODES, MAX_STEPS};
+use crate::arguments::{name_at, number_at, setting};
+use crate::limits::{DEFAULT_INBOX, DEFAULT_SEED, MAX_APPS, MAX_NODES, MAX_STEPS};
 use crate::refusal::SceneKind;
-use crate::scenario::{Scene, SceneApp, SceneNode, Step};
-use crate::table::Form;
+use crate::scenario::{Scene, SceneApp, SceneNode};
+use crate::steps::{raw_step, recv_step, wait_step};
+use crate::table::{Form, Keyword, Part};
+use csp_app::Step;
 use csp_base::{Addr, Name};
-use csp_text::{name, number};
 use std::alloc::{AllocError, Global};
 use std::marker::Model;
 
@@ -40,35 +40,6 @@ impl Model for Draft {
     ghost Value = { PlainDraft };
 
     ghost view = { λ draft. record { until = draft.until; nodes = draft.nodes.items; current = draft.current } };
-}
-
-/// The name in a place.
-fn name_at(args: &[&[u8]], place: usize) -> Name
-    requires { IsTrue (is_name (word_at (map (λ word. word.now) args.now) place)) }
-    ensures { result.bytes ≡ word_at (map (λ word. word.now) args.now) place }
-{
-    match args.get(place) {
-        Some(word) => match name(word) {
-            Some(name) => name,
-            None => unreachable!(),
-        },
-        None => unreachable!(),
-    }
-}
-
-/// The number in a place.
-fn number_at(args: &[&[u8]], place: usize) -> u32
-    requires decimal { IsTrue (is_decimal (word_at (map (λ word. word.now) args.now) place)) }
-    requires small { number_at (map (λ word. word.now) args.now) place < 2 ^ 32 }
-    ensures { result ≡ number_at (map (λ word. word.now) args.now) place }
-{
-    match args.get(place) {
-        Some(word) => match number(word) {
-            Some(number) => number as u32,
-            None => unreachable!(),
-        },
-        None => unreachable!(),
-    }
 }
 
 /// Whether some node has this name or this address.
@@ -132,9 +103,10 @@ fn is_called(apps: &[SceneApp], name: &Name) -> bool
 }
 
 /// A new node by the words of its line.
-fn new_node(alloc: Global, args: &[&[u8]]) -> SceneNode
-    requires { Fits Form.Node (map (λ word. word.now) args.now) }
-    ensures value { result ≡ new_node (map (λ word. word.now) args.now) }
+fn new_node(alloc: Global, shape: &[Part], args: &[&[u8]]) -> SceneNode
+    requires fits { Fits Form.Node (map (λ word. word.now) args.now) }
+    requires shape { FitsShape Form.Node shape.now (map (λ word. word.now) args.now) }
+    ensures value { result ≡ new_node shape.now (map (λ word. word.now) args.now) }
     ensures kept { IsNode result }
 {
     let Some(addr) = Addr::new(number_at(args, 1) as u8) else {
@@ -144,6 +116,8 @@ fn new_node(alloc: Global, args: &[&[u8]]) -> SceneNode
         name: name_at(args, 0),
         addr,
         buffers: number_at(args, 3) as u16,
+        seed: setting(Keyword::Seed, shape, args).unwrap_or(DEFAULT_SEED) as u16,
+        inbox: setting(Keyword::Inbox, shape, args).unwrap_or(DEFAULT_INBOX) as u16,
         apps: Vec::new(alloc),
     }
 }
@@ -206,13 +180,14 @@ impl Draft {
         }
     }
 
-    fn state_node(&mut self, alloc: Global, args: &[&[u8]]) -> Result<(), LineError>
+    fn state_node(&mut self, alloc: Global, shape: &[Part], args: &[&[u8]]) -> Result<(), LineError>
         requires kept { IsDraft self.old }
         requires fits { Fits Form.Node (map (λ word. word.now) args.now) }
-        ensures answer { Judged result self.new (state_node self.old (map (λ word. word.now) args.now)) }
+        requires shape { FitsShape Form.Node shape.now (map (λ word. word.now) args.now) }
+        ensures answer { Judged result self.new (state_node self.old shape.now (map (λ word. word.now) args.now)) }
         ensures kept { OnOk result (IsDraft self.new) }
     {
-        let node = new_node(alloc, args);
+        let node = new_node(alloc, shape, args);
         match may_add_node(&self.nodes, &node.name, node.addr.get()) {
             Ok(()) => self.push_node(node),
             Err(kind) => Err(LineError::Kind(kind)),
@@ -239,6 +214,7 @@ impl Draft {
 
     fn state_step(&mut self, step: Step) -> Result<(), LineError>
         requires kept { IsDraft self.old }
+        requires step { IsStep step }
         ensures answer { Judged result self.new (state_step self.old step) }
         ensures kept { OnOk result (IsDraft self.new) }
     {
@@ -254,16 +230,18 @@ impl Draft {
         }
     }
 
-    /// What a line of a form adds.
+    /// What a line of a form and of one of its shapes adds.
     pub(crate) fn state(
         &mut self,
         alloc: Global,
         form: Form,
+        shape: &[Part],
         args: &[&[u8]],
     ) -> Result<(), LineError>
         requires kept { IsDraft self.old }
         requires fits { Fits form (map (λ word. word.now) args.now) }
-        ensures answer { Judged result self.new (state form self.old (map (λ word. word.now) args.now)) }
+        requires shape { FitsShape form shape.now (map (λ word. word.now) args.now) }
+        ensures answer { Judged result self.new (state form shape.now self.old (map (λ word. word.now) args.now)) }
         ensures kept { OnOk result (IsDraft self.new) }
     {
         if !form.is_step() {
@@ -274,10 +252,13 @@ impl Draft {
         }
         match form {
             Form::Until => self.state_until(args),
-            Form::Node => self.state_node(alloc, args),
+            Form::Node => self.state_node(alloc, shape, args),
             Form::App => self.state_app(alloc, args),
             Form::Take => self.state_step(Step::Take),
             Form::Give => self.state_step(Step::Give),
+            Form::Raw => self.state_step(raw_step(args)),
+            Form::Recv => self.state_step(recv_step(shape, args)),
+            Form::Wait => self.state_step(wait_step(args)),
         }
     }
 

@@ -1,17 +1,16 @@
 //! A line judged as a whole against the lines before it.
 
-ghost use Rattle.std.specs.Prelude.{◌≡◌, ◌||◌, not, List, map, IsTrue, IfOk, IfSome, OnOk, find, length};
+ghost use Rattle.std.specs.Prelude.{◌≡◌, ◌||◌, not, List, map, Ok, Err, IsTrue, IfOk, IfSome, OnOk, MatchResult, find, length};
 ghost use Rattle.std.specs.List.{list_any, list_all};
 ghost use Rattle.std.specs.Option.{option_copied};
 ghost use Rattle.csp_scene.specs.Rows.{begins, begins_step, begins_count, has_choice};
-ghost use Rattle.csp_scene.specs.Judge.{is_printable, fit, form_of, judge_words, judge};
-ghost use Rattle.csp_scene.specs.Kept.{IsDraft, Fits, Judged};
+ghost use Rattle.csp_scene.specs.Judge.{is_printable, fit, row_for, is_comment, judge_words, judge};
+ghost use Rattle.csp_scene.specs.Kept.{IsDraft, Fits, FitsShape, Judged};
 
 use crate::draft::{Draft, LineError};
 use crate::limits::MAX_LINE;
 use crate::refusal::SceneKind;
 use crate::rows::Row;
-use crate::table::Form;
 use csp_text::words;
 use std::alloc::Global;
 
@@ -50,11 +49,17 @@ fn choice<'a>(table: &'a [Row], first: &[u8], args: &[&[u8]]) -> Option<&'a Row>
     table.iter().find(|row| row.has_choice(first, args))
 }
 
-/// Which form a line has, by its first word and the others; `in_app` says that a step may stand
+/// Which row a line is of, by its first word and the others; `in_app` says that a step may stand
 /// here.
-fn form_of(table: &[Row], in_app: bool, first: &[u8], args: &[&[u8]]) -> Result<Form, SceneKind>
-    ensures value { result ≡ form_of table.now in_app first.now (map (λ word. word.now) args.now) }
-    ensures fits { IfOk result (λ form. Fits form (map (λ word. word.now) args.now)) }
+fn row_for<'a>(
+    table: &'a [Row],
+    in_app: bool,
+    first: &[u8],
+    args: &[&[u8]],
+) -> Result<&'a Row, SceneKind>
+    ensures value { MatchResult result (λ row. row_for table.now in_app first.now (map (λ word. word.now) args.now) ≡ Ok row.now) (λ kind. row_for table.now in_app first.now (map (λ word. word.now) args.now) ≡ Err kind) }
+    ensures fits { IfOk result (λ row. Fits row.now.form (map (λ word. word.now) args.now)) }
+    ensures shape { IfOk result (λ row. FitsShape row.now.form row.now.shape (map (λ word. word.now) args.now)) }
 {
     if !is_known(table, first) {
         return Err(SceneKind::Word);
@@ -65,14 +70,27 @@ fn form_of(table: &[Row], in_app: bool, first: &[u8], args: &[&[u8]]) -> Result<
     if !is_count(table, first, args.len()) {
         return Err(SceneKind::Count);
     }
-    match choice(table, first, args) {
-        Some(row) => row.fit(args),
-        None => Err(SceneKind::Choice),
+    let Some(row) = choice(table, first, args) else {
+        return Err(SceneKind::Choice);
+    };
+    match row.fit(args) {
+        Ok(()) => Ok(row),
+        Err(kind) => Err(kind),
+    }
+}
+
+/// Whether a line with this first word is a comment.
+fn is_comment(first: &[u8]) -> bool
+    ensures { result ≡ is_comment first.now }
+{
+    match first {
+        [b'#', ..] => true,
+        _ => false,
     }
 }
 
 impl Draft {
-    /// Takes a line in, by its words.
+    /// Takes a line in, by its words. A line without words and a comment state nothing.
     fn judge_words(
         &mut self,
         alloc: Global,
@@ -84,10 +102,13 @@ impl Draft {
         ensures kept { OnOk result (IsDraft self.new) }
     {
         let Some((first, args)) = words.split_first() else {
-            return Err(LineError::Kind(SceneKind::Word));
+            return Ok(());
         };
-        match form_of(table, self.is_open(), first, args) {
-            Ok(form) => self.state(alloc, form, args),
+        if is_comment(first) {
+            return Ok(());
+        }
+        match row_for(table, self.is_open(), first, args) {
+            Ok(row) => self.state(alloc, row.form(), row.shape(), args),
             Err(kind) => Err(LineError::Kind(kind)),
         }
     }

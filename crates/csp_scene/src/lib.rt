@@ -4,6 +4,7 @@
 //! `specs/Scene.antt`, and which ranges its numbers have in `specs/Ranges.antt`.
 #![tactic(auto)]
 
+mod arguments;
 mod checks;
 mod draft;
 mod judge;
@@ -12,12 +13,17 @@ mod reading;
 mod refusal;
 mod rows;
 mod scenario;
+mod steps;
 mod table;
 
-pub use limits::{MAX_ADDR, MAX_APPS, MAX_LINE, MAX_NODES, MAX_STEPS, MAX_UNTIL, MIN_BUFFERS};
+pub use csp_app::Step;
+pub use limits::{
+    DEFAULT_INBOX, DEFAULT_SEED, MAX_ADDR, MAX_APPS, MAX_COUNT, MAX_INBOX, MAX_LINE, MAX_NODES,
+    MAX_RAW, MAX_ROUNDS, MAX_SEED, MAX_SLOT, MAX_STEPS, MAX_UNTIL, MIN_BUFFERS, MIN_INBOX,
+};
 pub use reading::parse;
 pub use refusal::{SceneError, SceneKind};
-pub use scenario::{Scene, SceneApp, SceneNode, Step};
+pub use scenario::{Scene, SceneApp, SceneNode};
 
 #[cfg(test)]
 mod tests;

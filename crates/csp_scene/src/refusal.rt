@@ -12,7 +12,7 @@ pub enum SceneKind {
     Long,
     /// A first word that begins no line form.
     Word,
-    /// A step line that belongs to no application.
+    /// A step line that belongs to no application. Lines that are ignored don't part it from one.
     Place,
     /// A number of words that no choice of the line's fixed and optional words gives.
     Count,
@@ -20,7 +20,7 @@ pub enum SceneKind {
     Choice,
     /// A name out of its form.
     Name,
-    /// A number out of its form or range.
+    /// A number or a hexadecimal text out of its form or range.
     Number,
     /// A name that no earlier line declares.
     Unknown,

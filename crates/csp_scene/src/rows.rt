@@ -1,11 +1,11 @@
 //! All shapes that a line may have.
 
-ghost use Rattle.std.specs.Prelude.{◌≡◌, ◌++◌, ◌==◌, ◌&&◌, List, IfOk, OnOk, length, map};
+ghost use Rattle.std.specs.Prelude.{◌≡◌, ◌++◌, ◌==◌, ◌&&◌, List, Some, Ok, Err, IfOk, OnOk, MatchResult, length, map};
 ghost use Rattle.std.specs.Str.{bytes_eq};
-ghost use Rattle.csp_scene.specs.Table.{first_word, is_step, fixed_of, optional_of, with_options};
+ghost use Rattle.csp_scene.specs.Table.{first_word, is_step, fixed_of, optional_of, with_options, shapes_of};
 ghost use Rattle.csp_scene.specs.Rows.{PlainRow, row_of, rows_of, all_rows, begins, begins_step, begins_count, has_choice};
 ghost use Rattle.csp_scene.specs.Judge.{fit};
-ghost use Rattle.csp_scene.specs.Kept.{Fits};
+ghost use Rattle.csp_scene.specs.Kept.{IsOneOf, IsShapeOf, Fits, FitsShape};
 
 use crate::checks::{Check, all_pass};
 use crate::refusal::SceneKind;
@@ -21,19 +21,31 @@ pub(crate) struct Row {
 }
 
 impl Model for Row {
-    ghost use Rattle.std.specs.Prelude.{◌≡◌, ◌++◌, List};
-    ghost use Rattle.csp_scene.specs.declared.table.Part.{Part};
-    ghost use Rattle.csp_scene.specs.Table.{fixed_of};
     ghost use Rattle.csp_scene.specs.Rows.{PlainRow};
+    ghost use Rattle.csp_scene.specs.Kept.{IsShapeOf};
 
     ghost Value = { PlainRow };
 
     ghost view = { λ row. record { form = row.form; shape = row.shape.items } };
 
-    ghost invariant = { λ row. (more : List Part) × (row.shape.items ≡ fixed_of row.form ++ more) };
+    ghost invariant = { λ row. IsShapeOf row.form row.shape.items };
 }
 
 impl Row {
+    /// The form of its lines.
+    pub(crate) fn form(&self) -> Form
+        ensures { result ≡ self.now.form }
+    {
+        self.form
+    }
+
+    /// What stands after the first word in its lines.
+    pub(crate) fn shape(&self) -> &[Part]
+        ensures { result.now ≡ self.now.shape }
+    {
+        &self.shape
+    }
+
     /// Whether a line with this first word may be of this row.
     pub(crate) fn begins(&self, first: &[u8]) -> bool
         ensures { result ≡ begins first.now self.now }
@@ -62,12 +74,13 @@ impl Row {
         self.begins_count(first, args.len()) && all_pass(Check::Fixed, &self.shape, args)
     }
 
-    /// The form, where the names and then the numbers of a line fit: one whose number of words
-    /// and fixed words do.
-    pub(crate) fn fit(&self, args: &[&[u8]]) -> Result<Form, SceneKind>
+    /// Whether the names and then the numbers of a line fit: one whose number of words and fixed
+    /// words do.
+    pub(crate) fn fit(&self, args: &[&[u8]]) -> Result<(), SceneKind>
         requires { length self.now.shape ≡ length args.now }
-        ensures value { result ≡ fit (map (λ word. word.now) args.now) (Some self.now) }
-        ensures fits { IfOk result (λ form. Fits form (map (λ word. word.now) args.now)) }
+        ensures value { MatchResult result (λ _. fit (map (λ word. word.now) args.now) (Some self.now) ≡ Ok self.now) (λ kind. fit (map (λ word. word.now) args.now) (Some self.now) ≡ Err kind) }
+        ensures fits { OnOk result (Fits self.now.form (map (λ word. word.now) args.now)) }
+        ensures shape { OnOk result (FitsShape self.now.form self.now.shape (map (λ word. word.now) args.now)) }
     {
         if !all_pass(Check::Name, &self.shape, args) {
             return Err(SceneKind::Name);
@@ -75,7 +88,7 @@ impl Row {
         if !all_pass(Check::Number, &self.shape, args) {
             return Err(SceneKind::Number);
         }
-        Ok(self.form)
+        Ok(())
     }
 }
 
@@ -87,7 +100,8 @@ fn push_choices(
     shape: &[Part],
     optional: &[Group],
 ) -> Result<(), AllocError>
-    requires { (more : List Part) × (shape.now ≡ fixed_of form ++ more) }
+    requires fixed { (more : List Part) × (shape.now ≡ fixed_of form ++ more) }
+    requires among { (one : List Part) → IsOneOf (with_options shape.now optional.now) one → IsOneOf (shapes_of form) one }
     ensures { OnOk result (rows.new.items ≡ rows.old.items ++ map (row_of form) (with_options shape.now optional.now)) }
 {
     match optional {
@@ -104,13 +118,20 @@ fn push_choices(
     Ok(())
 }
 
+/// Appends all rows of a form.
+fn push_rows(alloc: Global, rows: &mut Vec<Row>, form: Form) -> Result<(), AllocError>
+    ensures { OnOk result (rows.new.items ≡ rows.old.items ++ rows_of form) }
+{
+    push_choices(alloc, rows, form, form.fixed(), form.optional())
+}
+
 /// The whole table.
 pub(crate) fn all_rows(alloc: Global) -> Result<Vec<Row>, AllocError>
     ensures { IfOk result (λ rows. rows.items ≡ all_rows) }
 {
     let mut rows = Vec::new(alloc);
     for form in FORMS.iter() {
-        push_choices(alloc, &mut rows, *form, form.fixed(), form.optional())?;
+        push_rows(alloc, &mut rows, *form)?;
     }
     Ok(rows)
 }

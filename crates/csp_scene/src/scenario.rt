@@ -1,16 +1,8 @@
 //! A scene: what the lines of a scenario state.
 
+use csp_app::Step;
 use csp_base::{Addr, Name};
 use std::marker::Model;
-
-/// One thing that an application does.
-#[derive(Clone, Copy, PartialEq, Eq, Debug)]
-pub enum Step {
-    /// Takes a buffer from its node's pool.
-    Take,
-    /// Gives the buffer that it has held longest back to the pool.
-    Give,
-}
 
 /// An application of a node, with its steps in order.
 #[derive(Debug, Drop)]
@@ -38,6 +30,10 @@ pub struct SceneNode {
     pub addr: Addr,
     /// How many buffers its pool has, `MIN_BUFFERS` to `MAX_BUFFERS`.
     pub buffers: u16,
+    /// From where its connections' sequence numbers start, up to `MAX_SEED`.
+    pub seed: u16,
+    /// The room of its inbox for each priority, `MIN_INBOX` to `MAX_INBOX`.
+    pub inbox: u16,
     /// Its applications, in the order of their lines.
     pub apps: Vec<SceneApp>,
 }
@@ -51,6 +47,8 @@ impl Model for SceneNode {
       name = node.name.bytes;
       addr = node.addr;
       buffers = node.buffers;
+      seed = node.seed;
+      inbox = node.inbox;
       apps = node.apps.items;
     } };
 }

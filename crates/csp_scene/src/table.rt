@@ -3,7 +3,10 @@
 ghost use Rattle.std.specs.Prelude.{◌≡◌, ◌++◌, List, IfOk, OnOk, map};
 ghost use Rattle.csp_scene.specs.Table.{first_word, keyword_text, is_step, fixed_of, optional_of, group_of, with_options};
 
-use crate::limits::{MAX_ADDR, MAX_UNTIL, MIN_BUFFERS};
+use crate::limits::{
+    MAX_ADDR, MAX_COUNT, MAX_INBOX, MAX_RAW, MAX_ROUNDS, MAX_SEED, MAX_SLOT, MAX_UNTIL,
+    MIN_BUFFERS, MIN_INBOX,
+};
 use csp_base::MAX_BUFFERS;
 use std::alloc::{AllocError, Global};
 
@@ -12,7 +15,7 @@ use std::alloc::{AllocError, Global};
 pub(crate) enum Form {
     /// `until N`
     Until,
-    /// `node NAME ADDR buffers N`
+    /// `node NAME ADDR buffers N [seed S] [inbox C]`
     Node,
     /// `app NODE NAME`
     App,
@@ -20,6 +23,12 @@ pub(crate) enum Form {
     Take,
     /// `give`
     Give,
+    /// `raw HEADER HEX`
+    Raw,
+    /// `recv SLOT COUNT [for R]`
+    Recv,
+    /// `wait R`
+    Wait,
 }
 
 /// A fixed word that stands after the first.
@@ -27,6 +36,12 @@ pub(crate) enum Form {
 pub(crate) enum Keyword {
     /// `buffers`
     Buffers,
+    /// `seed`
+    Seed,
+    /// `inbox`
+    Inbox,
+    /// `for`
+    For,
 }
 
 /// What stands in one place of a line.
@@ -38,6 +53,10 @@ pub(crate) enum Part {
     Name,
     /// A decimal number, `low` to `high`.
     Number { low: u32, high: u32 },
+    /// A 32-bit word of eight hexadecimal digits.
+    Word,
+    /// Bytes as hexadecimal digits, `least` to `most` of them; no bytes are written `-`.
+    Bytes { least: u32, most: u32 },
 }
 
 /// Words at a line's end that may be left out together.
@@ -54,7 +73,16 @@ pub(crate) enum Group {
 }
 
 /// The line forms, in the order of the table.
-pub(crate) static FORMS: [Form; 5] = [Form::Until, Form::Node, Form::App, Form::Take, Form::Give];
+pub(crate) static FORMS: [Form; 8] = [
+    Form::Until,
+    Form::Node,
+    Form::App,
+    Form::Take,
+    Form::Give,
+    Form::Raw,
+    Form::Recv,
+    Form::Wait,
+];
 
 static UNTIL: [Part; 1] = [Part::Number {
     low: 1,
@@ -74,7 +102,50 @@ static NODE: [Part; 4] = [
     },
 ];
 
+static NODE_OPTIONS: [Group; 2] = [
+    Group::Setting {
+        keyword: Keyword::Seed,
+        low: 0,
+        high: MAX_SEED,
+    },
+    Group::Setting {
+        keyword: Keyword::Inbox,
+        low: MIN_INBOX,
+        high: MAX_INBOX,
+    },
+];
+
 static APP: [Part; 2] = [Part::Name, Part::Name];
+
+static RAW: [Part; 2] = [
+    Part::Word,
+    Part::Bytes {
+        least: 0,
+        most: MAX_RAW,
+    },
+];
+
+static RECV: [Part; 2] = [
+    Part::Number {
+        low: 0,
+        high: MAX_SLOT,
+    },
+    Part::Number {
+        low: 1,
+        high: MAX_COUNT,
+    },
+];
+
+static RECV_OPTIONS: [Group; 1] = [Group::Setting {
+    keyword: Keyword::For,
+    low: 1,
+    high: MAX_ROUNDS,
+}];
+
+static WAIT: [Part; 1] = [Part::Number {
+    low: 1,
+    high: MAX_ROUNDS,
+}];
 
 impl Keyword {
     /// The word itself.
@@ -83,6 +154,9 @@ impl Keyword {
     {
         match self {
             Keyword::Buffers => b"buffers",
+            Keyword::Seed => b"seed",
+            Keyword::Inbox => b"inbox",
+            Keyword::For => b"for",
         }
     }
 }
@@ -98,6 +172,9 @@ impl Form {
             Form::App => b"app",
             Form::Take => b"take",
             Form::Give => b"give",
+            Form::Raw => b"raw",
+            Form::Recv => b"recv",
+            Form::Wait => b"wait",
         }
     }
 
@@ -106,7 +183,7 @@ impl Form {
         ensures { result ≡ is_step self }
     {
         match self {
-            Form::Take | Form::Give => true,
+            Form::Take | Form::Give | Form::Raw | Form::Recv | Form::Wait => true,
             Form::Until | Form::Node | Form::App => false,
         }
     }
@@ -120,6 +197,9 @@ impl Form {
             Form::Node => &NODE,
             Form::App => &APP,
             Form::Take | Form::Give => &[],
+            Form::Raw => &RAW,
+            Form::Recv => &RECV,
+            Form::Wait => &WAIT,
         }
     }
 
@@ -128,7 +208,9 @@ impl Form {
         ensures { result.now ≡ optional_of self }
     {
         match self {
-            Form::Until | Form::Node | Form::App | Form::Take | Form::Give => &[],
+            Form::Node => &NODE_OPTIONS,
+            Form::Recv => &RECV_OPTIONS,
+            Form::Until | Form::App | Form::Take | Form::Give | Form::Raw | Form::Wait => &[],
         }
     }
 }

@@ -1,13 +1,18 @@
-//! Bytes as hexadecimal digits, read in either case and written in lower case.
+//! Bytes and 32-bit words as hexadecimal digits, read in either case and written in lower case.
 
 ghost use Rattle.std.specs.Prelude.{◌≡◌, ◌≤◌, ◌*◌, ◌++◌, length, IsTrue, OnOk};
 ghost use Rattle.std.specs.List.{list_all};
+ghost use Rattle.std.specs.Str.{bytes_eq};
 ghost use Rattle.std.specs.String.{string_bytes};
 ghost use Rattle.hex.specs.Hex.{is_hex_digit, encode_lower};
-ghost use Rattle.csp_text.specs.Hexadecimal.{is_hex, hex_bytes};
+ghost use Rattle.csp_text.specs.Hexadecimal.{is_hex, hex_bytes, no_bytes, is_bytes, byte_digits, bytes_of, is_hex_word, hex_number};
 
+use crate::ascii::text;
 use arrayvec::ArrayVec;
 use std::alloc::{AllocError, Global};
+
+/// How many hexadecimal digits a 32-bit word has.
+pub const WORD_DIGITS: usize = 8;
 
 fn is_digit(byte: u8) -> bool
     ensures { result ≡ is_hex_digit byte }
@@ -42,6 +47,51 @@ pub fn hex_bytes<const N: usize>(word: &[u8]) -> ArrayVec<u8, N>
     }
     match ArrayVec::try_from(&room[..count]) {
         Ok(bytes) => bytes,
+        Err(_) => unreachable!(),
+    }
+}
+
+/// Whether a word says that there are no bytes.
+fn has_no_bytes(word: &[u8]) -> bool
+    ensures { result ≡ bytes_eq word.now no_bytes }
+{
+    word == b"-".as_slice()
+}
+
+/// Whether a word writes bytes: `-` for none, or pairs of hexadecimal digits, in either case.
+pub fn is_bytes(word: &[u8]) -> bool
+    ensures { result ≡ is_bytes word.now }
+{
+    has_no_bytes(word) || !word.is_empty() && is_hex(word)
+}
+
+/// The digits of a word that writes bytes: none where it is `-`.
+pub fn byte_digits(word: &[u8]) -> &[u8]
+    requires { IsTrue (is_bytes word.now) }
+    ensures value { result.now ≡ byte_digits word.now }
+    ensures hex { IsTrue (is_hex result.now) }
+    ensures pairs { length result.now ≡ 2 * length (bytes_of word.now) }
+{
+    if has_no_bytes(word) {
+        return b"";
+    }
+    word
+}
+
+/// Whether a word is the eight hexadecimal digits of a 32-bit word, in either case.
+pub fn is_hex_word(word: &[u8]) -> bool
+    ensures { result ≡ is_hex_word word.now }
+{
+    word.len() == WORD_DIGITS && are_digits(word)
+}
+
+/// The 32-bit word that eight hexadecimal digits write, the highest digit first.
+pub fn hex_word(word: &[u8]) -> u32
+    requires { IsTrue (is_hex_word word.now) }
+    ensures { result ≡ hex_number word.now }
+{
+    match u32::from_str_radix(text(word), 16) {
+        Ok(number) => number,
         Err(_) => unreachable!(),
     }
 }

@@ -1,4 +1,7 @@
-use crate::{hex_bytes, is_decimal, is_hex, lines, name, number, push_hex, push_number, words};
+use crate::{
+    byte_digits, hex_bytes, hex_word, is_bytes, is_decimal, is_hex, is_hex_word, lines, name,
+    number, push_hex, push_number, words,
+};
 use std::test::Fail;
 
 #[test]
@@ -51,4 +54,46 @@ fn numbers_are_read_and_written(rt: HostRuntime) -> Result<(), Fail> {
         );
     }
     Ok(())
+}
+
+#[test]
+fn bytes_and_words_are_read_in_hexadecimal(rt: HostRuntime) {
+    let cases: [(&[u8], Option<&[u8]>); 8] = [
+        (b"-", Some(b"")),
+        (b"00C0dB", Some(b"\x00\xC0\xdb")),
+        (b"", None),
+        (b"--", None),
+        (b"0", None),
+        (b"000", None),
+        (b"0g", None),
+        (b"-00", None),
+    ];
+    for (word, wanted) in cases.iter() {
+        match wanted {
+            None => assert!(rt; !is_bytes(word)),
+            Some(bytes) => {
+                assert!(rt; is_bytes(word));
+                if is_bytes(word) && byte_digits(word).len() <= 8 {
+                    assert_eq!(rt; hex_bytes::<4>(byte_digits(word)).as_slice(), *bytes);
+                }
+            }
+        }
+    }
+    let words: [(&[u8], Option<u32>); 7] = [
+        (b"8612B0fe", Some(2249371902)),
+        (b"ffffffff", Some(4294967295)),
+        (b"00000000", Some(0)),
+        (b"8612b00", None),
+        (b"8612b0088", None),
+        (b"+612b008", None),
+        (b"0x12b008", None),
+    ];
+    for (word, wanted) in words.iter() {
+        let read = if is_hex_word(word) {
+            Some(hex_word(word))
+        } else {
+            None
+        };
+        assert_eq!(rt; read, *wanted);
+    }
 }

@@ -3,11 +3,11 @@ use Rattle.std.proofs.Common.{◌≡◌, ℕ, ◌+◌, Bool, true, false, cond, 
 use Rattle.std.proofs.lemmas.List.Sums.{sum_by-cons}
 use Rattle.std.proofs.lemmas.List.FromFn.{length-range_with_len}
 use Rattle.std.specs.List.{range_with_len}
-use Rattle.csp_scene.specs.Scene.{PlainNode}
-use Rattle.csp_world.specs.declared.operation.Place.{Place}
-use Rattle.csp_world.specs.declared.operation.Place.TheVariants as place
-use Rattle.csp_world.specs.Plain.{PlainHeld, PlainRecord}
-use Rattle.csp_world.specs.Whole.{weight_at, IsWholeNode}
+use Rattle.csp_log.specs.declared.places.Place.{Place}
+use Rattle.csp_log.specs.declared.places.Place.TheVariants as place
+use Rattle.csp_log.specs.Remains.{PlainHeld}
+use Rattle.csp_record.specs.Record.{PlainRecord}
+use Rattle.csp_record.specs.Whole.{weight_at, IsWholeNode}
 use Rattle.csp_top.specs.declared.report_places.PlaceKind.TheVariants as kind
 use Rattle.csp_top.specs.ReportPlaces.{is_of_kind, count_at, held_in}
 
@@ -31,7 +31,7 @@ six_sums : {X : Type 0} (a b c d e f g : X → ℕ) → ((x : X) → a x + b x +
 six_sums a b c d e f g each [] = refl
 six_sums a b c d e f g each (x ∷ xs) = omega (arith, each x, six_sums a b c d e f g each xs, sum_by-cons a x xs, sum_by-cons b x xs, sum_by-cons c x xs, sum_by-cons d x xs, sum_by-cons e x xs, sum_by-cons f x xs, sum_by-cons g x xs)
 
-pub adding : (record' : PlainRecord) (place : ℕ) (node : PlainNode) → IsWholeNode record' place node → held_in record' place kind.Pool + held_in record' place kind.Inbox + held_in record' place kind.Lane + held_in record' place kind.Router + held_in record' place kind.Iface + held_in record' place kind.App ≡ node.buffers
-adding record' place node whole =
+pub adding : (record' : PlainRecord) (place : ℕ) (buffers : ℕ) → IsWholeNode record' place buffers → held_in record' place kind.Pool + held_in record' place kind.Inbox + held_in record' place kind.Lane + held_in record' place kind.Router + held_in record' place kind.Iface + held_in record' place kind.App ≡ buffers
+adding record' place buffers whole =
     six_sums (count_at place kind.Pool) (count_at place kind.Inbox) (count_at place kind.Lane) (count_at place kind.Router) (count_at place kind.Iface) (count_at place kind.App) (weight_at place (λ _. 1)) (six_each place) record'.held
-    ∙ whole (λ _. 1) ∙ ones (range_with_len 0 node.buffers) ∙ length-range_with_len 0 node.buffers
+    ∙ whole (λ _. 1) ∙ ones (range_with_len 0 buffers) ∙ length-range_with_len 0 buffers

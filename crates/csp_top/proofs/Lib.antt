@@ -1,3 +1,4 @@
 mod Adding
+mod Events
 mod Feeds
 mod ReportLemmas

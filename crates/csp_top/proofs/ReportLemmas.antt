@@ -3,21 +3,25 @@ use Rattle.std.proofs.Common.{◌≡◌, ℕ, suc, ◌+◌, Bool, true, false, c
 use Rattle.std.specs.Prelude.{codes, slice_get, find, IsTrue, nat_eq}
 use Rattle.std.specs.List.{AllByRecursion, flat_map, enumerate_from, join_with_byte, starts_with}
 use Rattle.std.specs.Fmt.{decimal}
+use Rattle.std.specs.Option.{option_map}
 use Rattle.std.proofs.lemmas.List.Concat.{flat_map-append}
+use Rattle.std.proofs.lemmas.Option.{slice_get-map}
 use Rattle.csp_text.specs.Names.{is_name}
 use Rattle.csp_scene.specs.Scene.{PlainScene, PlainNode, PlainApp}
 use Rattle.csp_scene.specs.Ranges.{IsScene, IsNode, IsApp}
-use Rattle.csp_world.specs.declared.operation.Entry.{Entry}
-use Rattle.csp_world.specs.declared.operation.Event.{Event}
-use Rattle.csp_world.specs.declared.operation.Event.TheVariants as event
-use Rattle.csp_world.specs.Plain.{PlainLog, PlainRecord}
-use Rattle.csp_world.specs.Whole.{IsWhole, IsWholeNode}
+use Rattle.csp_log.specs.declared.entry.Entry.{Entry}
+use Rattle.csp_log.specs.declared.event.Discard.{Discard}
+use Rattle.csp_log.specs.declared.event.Discard.TheVariants as discard
+use Rattle.csp_log.specs.declared.event.Event.{Event}
+use Rattle.csp_log.specs.declared.event.Event.TheVariants as event
+use Rattle.csp_log.specs.declared.note.Why.{Why}
+use Rattle.csp_log.specs.declared.note.Why.TheVariants as why
+use Rattle.csp_record.specs.Record.{PlainPartyLog, PlainRecord}
+use Rattle.csp_record.specs.Whole.{IsWhole, IsWholeNode}
 use Rattle.csp_top.specs.declared.report_places.PlaceKind.TheVariants as kind
-use Rattle.csp_top.specs.declared.report_routers.Discard.{Discard}
-use Rattle.csp_top.specs.declared.report_routers.Discard.TheVariants as discard
 use Rattle.csp_top.specs.Lines.{Line, ended_line, text_of}
 use Rattle.csp_top.specs.ReportPlaces.{held_in}
-use Rattle.csp_top.specs.ReportEvents.{is_app, router_log, discards_in, all_discards, word_of, event_lines}
+use Rattle.csp_top.specs.ReportEvents.{is_app, router_entries, events_in, discards_in, all_discards, word_of, word_of_refusal, step_line, refused_line, event_lines}
 use Rattle.csp_top.specs.Report.{title_line, end_line, node_line, router_line, state_line, app_lines, node_app_lines, report_lines, report}
 use Rattle.csp_top.specs.PlacesAddUp.{AddsUp, PlacesAddUp}
 use Rattle.csp_top.proofs.Adding.{adding}
@@ -72,6 +76,26 @@ line_joined s a b c d w ws v vs u us e1 e2 e3 e4 =
     let appended : d ≡ (((s ++ first) ++ second) ++ third) ++ 10 ∷ [] = rw (e4, e3, e2, e1) refl in
     appended ∙ four s first second third (10 ∷ []) ∙ ap (λ t. s ++ (t ++ 10 ∷ [])) (ap (λ t. t ++ third) (join_more w ws v vs) ∙ join_more w (ws ++ v ∷ vs) u us)
 
+-- words with numbers, appended to the words of a line
+counted_join : (numbers : Discard → ℕ) (w : List ℕ) (ws : Line) (reasons : List Discard) → join_with_byte 32 (w ∷ ws) ++ flat_map (λ why. 32 ∷ (word_of why ++ 32 ∷ decimal (numbers why))) reasons ≡ join_with_byte 32 (w ∷ (ws ++ flat_map (λ why. word_of why ∷ decimal (numbers why) ∷ []) reasons))
+counted_join numbers w ws [] = simp append-nil
+counted_join numbers w ws (why ∷ reasons) =
+    let two : Line = word_of why ∷ decimal (numbers why) ∷ [] in
+    let later : List ℕ = flat_map (λ why. 32 ∷ (word_of why ++ 32 ∷ decimal (numbers why))) reasons in
+    sym (append_assoc (join_with_byte 32 (w ∷ ws)) (32 ∷ join_with_byte 32 two) later)
+    ∙ ap (λ (t : List ℕ). t ++ later) (join_more w ws (word_of why) (decimal (numbers why) ∷ []))
+    ∙ counted_join numbers w (ws ++ two) reasons
+    ∙ ap (λ (t : Line). join_with_byte 32 (w ∷ t)) (append_assoc ws two (flat_map (λ why. word_of why ∷ decimal (numbers why) ∷ []) reasons))
+
+-- a word, a name and words with numbers, appended with a space before each but the first, and the line feed: a line
+pub counted_joined : (s a b c d w name : List ℕ) (numbers : Discard → ℕ) (reasons : List Discard)
+    → a ≡ s ++ w → b ≡ a ++ 32 ∷ name → c ≡ b ++ flat_map (λ why. 32 ∷ (word_of why ++ 32 ∷ decimal (numbers why))) reasons → d ≡ c ++ 10 ∷ []
+    → d ≡ s ++ ended_line (w ∷ name ∷ flat_map (λ why. word_of why ∷ decimal (numbers why) ∷ []) reasons)
+counted_joined s a b c d w name numbers reasons e1 e2 e3 e4 =
+    let tail : List ℕ = flat_map (λ why. 32 ∷ (word_of why ++ 32 ∷ decimal (numbers why))) reasons in
+    let appended : d ≡ (((s ++ w) ++ 32 ∷ name) ++ tail) ++ 10 ∷ [] = rw (e4, e3, e2, e1) refl in
+    appended ∙ four s w (32 ∷ name) tail (10 ∷ []) ∙ ap (λ t. s ++ (t ++ 10 ∷ [])) (counted_join numbers w (name ∷ []) reasons)
+
 -- what each line has to be: without a line feed, and adding up where it is a node's
 abbrev MayStand : List ℕ → Type 0
 MayStand line = IsTrue (starts_with nat_eq line (codes "node ")) → AddsUp line
@@ -94,7 +118,7 @@ number n = Lacks-decimal 10 (omega arith) n
 named : (name : List ℕ) → IsTrue (is_name name) → Lacks 10 name
 named name is = Lacks-name 10 refl name is
 
-good_node : (run : PlainRecord) (place : ℕ) (node : PlainNode) → IsNode node → IsWholeNode run place node → IsGood (node_line run place node)
+good_node : (run : PlainRecord) (place : ℕ) (node : PlainNode) → IsNode node → IsWholeNode run place node.buffers → IsGood (node_line run place node)
 good_node run place node is whole = (Lacks-join 10 refl (node_line run place node) lacks, λ _. adds)
   where
     lacks : AllByRecursion (Lacks 10) (node_line run place node)
@@ -158,14 +182,14 @@ good_node run place node is whole = (Lacks-join 10 refl (node_line run place nod
       app = held_in run place kind.App;
       is_named = is.name;
       form = refl;
-      sum = adding run place node whole;
+      sum = adding run place node.buffers whole;
     }
 
-good_nodes : (run : PlainRecord) (k : ℕ) (nodes : List PlainNode) → AllByRecursion IsNode nodes → ((i : ℕ) (n : PlainNode) → slice_get nodes i ≡ Some n → IsWholeNode run (k + i) n) → AllByRecursion IsGood (map (λ node. node_line run node.0 node.1) (enumerate_from k nodes))
+good_nodes : (run : PlainRecord) (k : ℕ) (nodes : List PlainNode) → AllByRecursion IsNode nodes → ((i : ℕ) (n : PlainNode) → slice_get nodes i ≡ Some n → IsWholeNode run (k + i) n.buffers) → AllByRecursion IsGood (map (λ node. node_line run node.0 node.1) (enumerate_from k nodes))
 good_nodes run k [] all whole = tt
 good_nodes run k (n ∷ nodes) all whole = (
-  good_node run k n all.0 (subst (λ (p : ℕ). IsWholeNode run p n) (add-zero k) (whole 0 n refl)),
-  good_nodes run (k + 1) nodes all.1 (λ i m e. let at : k + suc i ≡ k + 1 + i = omega arith in subst (λ (p : ℕ). IsWholeNode run p m) at (whole (suc i) m e)),
+  good_node run k n all.0 (subst (λ (p : ℕ). IsWholeNode run p n.buffers) (add-zero k) (whole 0 n refl)),
+  good_nodes run (k + 1) nodes all.1 (λ i m e. let at : k + suc i ≡ k + 1 + i = omega arith in subst (λ (p : ℕ). IsWholeNode run p m.buffers) at (whole (suc i) m e)),
 )
 
 word_lacks : (why : Discard) → Lacks 10 (word_of why)
@@ -182,14 +206,22 @@ word_lacks discard.NoConn = plain (codes "noconn") refl
 word_lacks discard.Stray = plain (codes "stray") refl
 word_lacks discard.Full = plain (codes "full") refl
 
-discards_lack : (log : List Entry) (reasons : List Discard) → AllByRecursion (Lacks 10) (flat_map (λ why. word_of why ∷ decimal (discards_in log why) ∷ []) reasons)
-discards_lack log [] = tt
-discards_lack log (why ∷ reasons) = (word_lacks why, (number (discards_in log why), discards_lack log reasons))
+refusal_lacks : (reason : Why) → Lacks 10 (word_of_refusal reason)
+refusal_lacks why.InUse = plain (codes "inuse") refl
+refusal_lacks why.NotBindable = plain (codes "notbindable") refl
+refusal_lacks why.Busy = plain (codes "busy") refl
+refusal_lacks why.PortBusy = plain (codes "portbusy") refl
+refusal_lacks why.Timeout = plain (codes "timeout") refl
+refusal_lacks why.Reset = plain (codes "reset") refl
+
+discards_lack : (entries : List Entry) (reasons : List Discard) → AllByRecursion (Lacks 10) (flat_map (λ why. word_of why ∷ decimal (discards_in entries why) ∷ []) reasons)
+discards_lack entries [] = tt
+discards_lack entries (why ∷ reasons) = (word_lacks why, (number (discards_in entries why), discards_lack entries reasons))
 
 good_routers : (run : PlainRecord) (k : ℕ) (nodes : List PlainNode) → AllByRecursion IsNode nodes → AllByRecursion IsGood (map (λ node. router_line run node.0 node.1) (enumerate_from k nodes))
 good_routers run k [] all = tt
 good_routers run k (n ∷ nodes) all =
-    (other (router_line run k n) (plain (codes "router") refl, (named n.name all.0.name, discards_lack (router_log run k) all_discards)) refl, good_routers run (k + 1) nodes all.1)
+    (other (router_line run k n) (plain (codes "router") refl, (named n.name all.0.name, discards_lack (router_entries run k) all_discards)) refl, good_routers run (k + 1) nodes all.1)
 
 module _ (node app : List ℕ) (node_is : IsTrue (is_name node)) (app_is : IsTrue (is_name app)) where
   good_state : (step : ℕ) → IsGood (state_line node app step)
@@ -199,24 +231,40 @@ module _ (node app : List ℕ) (node_is : IsTrue (is_name node)) (app_is : IsTru
       progress true = (plain (codes "ended") refl, tt)
       progress false = (plain (codes "step") refl, (number step, tt))
 
-  good_event : (noted : Option Event) → AllByRecursion IsGood (event_lines node app noted)
-  good_event None = tt
-  good_event (Some (event.TookEmpty step)) = (other (codes "empty" ∷ node ∷ app ∷ decimal step ∷ []) (plain (codes "empty") refl, (named node node_is, (named app app_is, (number step, tt)))) refl, tt)
+  step_good : (word : List ℕ) (step : ℕ) → Lacks 10 word → starts_with nat_eq (join_with_byte 32 (step_line word node app step)) (codes "node ") ≡ false → IsGood (step_line word node app step)
+  step_good word step lacks starts = other (step_line word node app step) (lacks, (named node node_is, (named app app_is, (number step, tt)))) starts
 
-  good_events : (log : List Entry) → AllByRecursion IsGood (flat_map (λ entry. event_lines node app entry.event) log)
+  good_event : (event' : Event) → AllByRecursion IsGood (event_lines node app event')
+  good_event (event.TookEmpty step) = (step_good (codes "empty") step (plain (codes "empty") refl) refl, tt)
+  good_event (event.Refused step reason) = (other (refused_line node app step reason) (plain (codes "refused") refl, (named node node_is, (named app app_is, (number step, (refusal_lacks reason, tt))))) refl, tt)
+  good_event (event.GaveUp step) = (step_good (codes "gaveup") step (plain (codes "gaveup") refl) refl, tt)
+  good_event (event.SlotDown step) = (step_good (codes "down") step (plain (codes "down") refl) refl, tt)
+  good_event (event.Sent slot ordinal) = tt
+  good_event (event.Took slot ordinal) = tt
+  good_event (event.Discarded reason) = tt
+  good_event (event.Handed nth peer tag cur una) = tt
+  good_event (event.Opened number slot nth peer) = tt
+  good_event (event.Transmitted serial) = tt
+  good_event (event.Bad count) = tt
+  good_event event.Starved = tt
+  good_event event.InboxFull = tt
+  good_event event.Reboot = tt
+  good_event event.Shutdown = tt
+
+  good_events : (events : List Event) → AllByRecursion IsGood (flat_map (event_lines node app) events)
   good_events [] = tt
-  good_events (entry ∷ log) = all_joined IsGood (event_lines node app entry.event) (flat_map (λ entry. event_lines node app entry.event) log) (good_event entry.event) (good_events log)
+  good_events (e ∷ events) = all_joined IsGood (event_lines node app e) (flat_map (event_lines node app) events) (good_event e) (good_events events)
 
-  good_app : (party : Option PlainLog) → AllByRecursion IsGood (app_lines node app party)
+  good_app : (party : Option PlainPartyLog) → AllByRecursion IsGood (app_lines node app party)
   good_app None = tt
-  good_app (Some party) = (good_state party.step, good_events party.log)
+  good_app (Some party) = (good_state party.step, good_events (events_in party.entries))
 
-good_apps : (parties : List PlainLog) (place k : ℕ) (node : List ℕ) → IsTrue (is_name node) → (apps : List PlainApp) → AllByRecursion IsApp apps → AllByRecursion IsGood (flat_map (λ app. app_lines node app.1.name (find (λ party. is_app place app.0 party.who) parties)) (enumerate_from k apps))
+good_apps : (parties : List PlainPartyLog) (place k : ℕ) (node : List ℕ) → IsTrue (is_name node) → (apps : List PlainApp) → AllByRecursion IsApp apps → AllByRecursion IsGood (flat_map (λ app. app_lines node app.1.name (find (λ party. is_app place app.0 party.who) parties)) (enumerate_from k apps))
 good_apps parties place k node is [] all = tt
 good_apps parties place k node is (app ∷ apps) all =
     all_joined IsGood (app_lines node app.name (find (λ party. is_app place k party.who) parties)) _ (good_app node app.name is all.0.name (find (λ party. is_app place k party.who) parties)) (good_apps parties place (k + 1) node is apps all.1)
 
-good_node_apps : (parties : List PlainLog) (k : ℕ) (nodes : List PlainNode) → AllByRecursion IsNode nodes → AllByRecursion IsGood (flat_map (λ node. node_app_lines parties node.0 node.1.name node.1.apps) (enumerate_from k nodes))
+good_node_apps : (parties : List PlainPartyLog) (k : ℕ) (nodes : List PlainNode) → AllByRecursion IsNode nodes → AllByRecursion IsGood (flat_map (λ node. node_app_lines parties node.0 node.1.name node.1.apps) (enumerate_from k nodes))
 good_node_apps parties k [] all = tt
 good_node_apps parties k (n ∷ nodes) all =
     all_joined IsGood (node_app_lines parties k n.name n.apps) _ (good_apps parties k 0 n.name all.0.name n.apps all.0.apps) (good_node_apps parties (k + 1) nodes all.1)
@@ -228,7 +276,10 @@ good_end run = other (end_line run) (plain (codes "end") refl, (flag run.finishe
     flag true = plain (codes "finished") refl
     flag false = plain (codes "unfinished") refl
 
-good_lines : (scene : PlainScene) (run : PlainRecord) → IsScene scene → IsWhole scene run → AllByRecursion IsGood (report_lines scene.nodes run)
+counted : (nodes : List PlainNode) (i : ℕ) (n : PlainNode) → slice_get nodes i ≡ Some n → slice_get (map (λ (n : PlainNode). n.buffers) nodes) i ≡ Some n.buffers
+counted nodes i n e = slice_get-map (λ (n : PlainNode). n.buffers) nodes i ∙ ap (option_map (λ (n : PlainNode). n.buffers)) e
+
+good_lines : (scene : PlainScene) (run : PlainRecord) → IsScene scene → IsWhole (map (λ n. n.buffers) scene.nodes) run → AllByRecursion IsGood (report_lines scene.nodes run)
 unfolding report_lines
 good_lines scene run is whole =
     let two : List Line = title_line ∷ end_line run ∷ [] in
@@ -237,7 +288,7 @@ good_lines scene run is whole =
     let ps : List Line = flat_map (λ node. node_app_lines run.parties node.0 node.1.name node.1.apps) (enumerate_from 0 scene.nodes) in
     let last : List Line = (codes "stale" ∷ decimal 0 ∷ []) ∷ (codes "passed" ∷ decimal 0 ∷ []) ∷ [] in
     let head : AllByRecursion IsGood two = (other title_line (plain (codes "csp-report") refl, (number 1, tt)) refl, (good_end run, tt)) in
-    let nodes : AllByRecursion IsGood ns = good_nodes run 0 scene.nodes is.nodes (λ i n e. let at : i ≡ 0 + i = omega arith in subst (λ (p : ℕ). IsWholeNode run p n) at (whole i n e)) in
+    let nodes : AllByRecursion IsGood ns = good_nodes run 0 scene.nodes is.nodes (λ i n e. let at : i ≡ 0 + i = omega arith in subst (λ (p : ℕ). IsWholeNode run p n.buffers) at (whole i n.buffers (counted scene.nodes i n e))) in
     let tail : AllByRecursion IsGood last = (other (codes "stale" ∷ decimal 0 ∷ []) (plain (codes "stale") refl, (number 0, tt)) refl, (other (codes "passed" ∷ decimal 0 ∷ []) (plain (codes "passed") refl, (number 0, tt)) refl, tt)) in
     all_joined IsGood (two ++ ns ++ rs ++ ps) last
     (all_joined IsGood (two ++ ns ++ rs) ps
@@ -246,6 +297,6 @@ good_lines scene run is whole =
     tail
 
 -- each line of the report that is a node's adds up, where the record is whole
-pub report_adds_up : (scene : PlainScene) (run : PlainRecord) → IsScene scene → IsWhole scene run → PlacesAddUp (report scene run)
+pub report_adds_up : (scene : PlainScene) (run : PlainRecord) → IsScene scene → IsWhole (map (λ n. n.buffers) scene.nodes) run → PlacesAddUp (report scene run)
 unfolding report
 report_adds_up scene run is whole = split_lines MayStand (λ h. never h) (report_lines scene.nodes run) (good_lines scene run is whole)

@@ -5,7 +5,7 @@ use Rattle.csp_base.specs.Transfer.{WrotePrefix}
 use Rattle.std.specs.Io.KnownBytes.{Appends}
 use Rattle.csp_scene.specs.Scene.{PlainScene}
 use Rattle.csp_scene.specs.Judge.{scene_of}
-use Rattle.csp_world.specs.Plain.{PlainRecord}
+use Rattle.csp_record.specs.Record.{PlainRecord}
 use Rattle.csp_world.specs.Record.{sim_record}
 use Rattle.csp_top.specs.Report.{report}
 use Rattle.csp_top.specs.PlacesAddUp.{PlacesAddUp}

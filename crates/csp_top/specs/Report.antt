@@ -3,11 +3,11 @@ use Rattle.std.specs.Prelude.{ℕ, ◌==◌, Option, None, Some, List, [], ◌�
 use Rattle.std.specs.List.{flat_map, enumerate_from}
 use Rattle.std.specs.Fmt.{decimal}
 use Rattle.csp_scene.specs.Scene.{PlainScene, PlainNode, PlainApp}
-use Rattle.csp_world.specs.Plain.{PlainLog, PlainRecord}
+use Rattle.csp_record.specs.Record.{PlainPartyLog, PlainRecord}
 use Rattle.csp_top.specs.Lines.{Line, text_of}
 use Rattle.csp_top.specs.declared.report_places.PlaceKind.TheVariants as kind
 use Rattle.csp_top.specs.ReportPlaces.{held_in}
-use Rattle.csp_top.specs.ReportEvents.{is_app, router_log, discards_in, all_discards, word_of, event_lines}
+use Rattle.csp_top.specs.ReportEvents.{is_app, router_entries, events_in, discards_in, all_discards, word_of, event_lines}
 
 -- `csp-report 1`
 abbrev pub title_line : Line
@@ -34,19 +34,19 @@ node_line record' place node =
 -- `router NAME`, and each reason's word with the number of the router's discards for it
 abbrev pub router_line : PlainRecord → ℕ → PlainNode → Line
 router_line record' place node =
-    codes "router" ∷ node.name ∷ flat_map (λ why. word_of why ∷ decimal (discards_in (router_log record' place) why) ∷ []) all_discards
+    codes "router" ∷ node.name ∷ flat_map (λ why. word_of why ∷ decimal (discards_in (router_entries record' place) why) ∷ []) all_discards
 
 -- `app NODE NAME ended`, or `app NODE NAME step K` with its present step, from 1
 abbrev pub state_line : List ℕ → List ℕ → ℕ → Line
 state_line node app step = codes "app" ∷ node ∷ app ∷ (if step == 0 then codes "ended" ∷ [] else codes "step" ∷ decimal step ∷ [])
 
--- the lines of an application: its state, then what is noted of it in order of time
-abbrev pub app_lines : List ℕ → List ℕ → Option PlainLog → List Line
+-- the lines of an application: its state, then what it reported in order of time
+abbrev pub app_lines : List ℕ → List ℕ → Option PlainPartyLog → List Line
 app_lines node app None = []
-app_lines node app (Some party) = state_line node app party.step ∷ flat_map (λ entry. event_lines node app entry.event) party.log
+app_lines node app (Some party) = state_line node app party.step ∷ flat_map (event_lines node app) (events_in party.entries)
 
 -- the lines of these applications of the node at this place, each found among the parties of the record
-abbrev pub node_app_lines : List PlainLog → ℕ → List ℕ → List PlainApp → List Line
+abbrev pub node_app_lines : List PlainPartyLog → ℕ → List ℕ → List PlainApp → List Line
 node_app_lines parties place node apps =
     flat_map (λ app. app_lines node app.1.name (find (λ party. is_app place app.0 party.who) parties)) (enumerate_from 0 apps)
 

@@ -1,8 +1,9 @@
 -- How many buffers the places of a node held when the run ended.
 use Rattle.std.specs.Prelude.{ℕ, ◌==◌, ◌&&◌, Bool, true, false, length, sum_by, if◌then◌else◌}
-use Rattle.csp_world.specs.declared.operation.Place.{Place}
-use Rattle.csp_world.specs.declared.operation.Place.TheVariants as place
-use Rattle.csp_world.specs.Plain.{PlainHeld, PlainRecord}
+use Rattle.csp_log.specs.declared.places.Place.{Place}
+use Rattle.csp_log.specs.declared.places.Place.TheVariants as place
+use Rattle.csp_log.specs.Remains.{PlainHeld}
+use Rattle.csp_record.specs.Record.{PlainRecord}
 use Rattle.csp_top.specs.declared.report_places.PlaceKind.{PlaceKind}
 use Rattle.csp_top.specs.declared.report_places.PlaceKind.TheVariants as kind
 

@@ -16,4 +16,6 @@ pub use simulation::sim_main;
 pub use status::{LimitKind, MAX_SCENARIO, Status};
 
 #[cfg(test)]
+mod record_tests;
+#[cfg(test)]
 mod report_tests;

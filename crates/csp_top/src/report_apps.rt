@@ -1,4 +1,4 @@
-//! The lines of an application: whether it ended, and what is noted of it.
+//! The lines of an application: whether it ended, and what it reported.
 
 ghost use Rattle.std.specs.Prelude.{◌≡◌, ◌++◌, ◌∷◌, [], ◌==◌, if◌then◌else◌, map, OnOk, find, codes, Some};
 ghost use Rattle.std.specs.Option.{option_map};
@@ -6,12 +6,13 @@ ghost use Rattle.std.specs.String.{string_bytes};
 ghost use Rattle.std.specs.Fmt.{decimal};
 ghost use Rattle.std.specs.List.{flat_map, enumerate_from};
 ghost use Rattle.csp_top.specs.Lines.{ended_line, text_of};
-ghost use Rattle.csp_top.specs.ReportEvents.{is_app, event_lines};
+ghost use Rattle.csp_top.specs.ReportEvents.{is_app, events_in, word_of_refusal, step_line, refused_line, event_lines};
 ghost use Rattle.csp_top.specs.Report.{state_line, app_lines, node_app_lines};
 
 use crate::report_lines::{begin_line, end_line, push_count, push_counted, push_word};
+use csp_log::{Event, Log, Why};
+use csp_record::{PartyLog, Record, Who};
 use csp_scene::{SceneApp, SceneNode};
-use csp_world::{Entry, Event, PartyLog, Record, Who};
 use std::alloc::AllocError;
 
 /// Whether a party is the application with this number of the node at this place.
@@ -46,38 +47,94 @@ fn push_state(out: &mut String, node: &str, app: &str, step: u32) -> Result<(), 
     end_line(out)
 }
 
-/// Appends `empty NODE APP K`.
-fn push_empty(out: &mut String, node: &str, app: &str, step: u32) -> Result<(), AllocError>
-    ensures { OnOk result (string_bytes out.new ≡ string_bytes out.old ++ ended_line (codes "empty" ∷ node.now ∷ app.now ∷ decimal step ∷ [])) }
+/// Appends `WORD NODE APP K`.
+fn push_step(
+    out: &mut String,
+    word: &str,
+    node: &str,
+    app: &str,
+    step: u32,
+) -> Result<(), AllocError>
+    ensures { OnOk result (string_bytes out.new ≡ string_bytes out.old ++ ended_line (step_line word.now node.now app.now step)) }
 {
-    begin_line(out, "empty")?;
+    begin_line(out, word)?;
     push_word(out, node)?;
     push_word(out, app)?;
     push_count(out, u64::from(step))?;
     end_line(out)
 }
 
-/// Appends the line of what is noted, if anything is.
-fn push_event(
-    out: &mut String,
-    node: &str,
-    app: &str,
-    event: Option<Event>,
-) -> Result<(), AllocError>
-    ensures { OnOk result (string_bytes out.new ≡ string_bytes out.old ++ text_of (event_lines node.now app.now event)) }
+/// The word of why a request was refused.
+fn word_of_refusal(why: Why) -> &'static str
+    ensures { result.now ≡ word_of_refusal why }
 {
-    match event {
-        Some(Event::TookEmpty { step }) => push_empty(out, node, app, step),
-        None => Ok(()),
+    match why {
+        Why::InUse => "inuse",
+        Why::NotBindable => "notbindable",
+        Why::Busy => "busy",
+        Why::PortBusy => "portbusy",
+        Why::Timeout => "timeout",
+        Why::Reset => "reset",
     }
 }
 
-/// Appends the lines of what a log notes, in order of time.
-fn push_events(out: &mut String, node: &str, app: &str, log: &[Entry]) -> Result<(), AllocError>
-    ensures { OnOk result (string_bytes out.new ≡ string_bytes out.old ++ text_of (flat_map (λ entry. event_lines node.now app.now entry.event) log.now)) }
+/// Appends `refused NODE APP K WHY`.
+fn push_refused(
+    out: &mut String,
+    node: &str,
+    app: &str,
+    step: u32,
+    why: Why,
+) -> Result<(), AllocError>
+    ensures { OnOk result (string_bytes out.new ≡ string_bytes out.old ++ ended_line (refused_line node.now app.now step why)) }
 {
-    for entry in log {
-        push_event(out, node, app, entry.event)?;
+    begin_line(out, "refused")?;
+    push_word(out, node)?;
+    push_word(out, app)?;
+    push_count(out, u64::from(step))?;
+    push_word(out, word_of_refusal(why))?;
+    end_line(out)
+}
+
+/// Appends the line of what an application reports, if this event has one.
+fn push_event(out: &mut String, node: &str, app: &str, event: Event) -> Result<(), AllocError>
+    ensures { OnOk result (string_bytes out.new ≡ string_bytes out.old ++ text_of (event_lines node.now app.now event)) }
+{
+    match event {
+        Event::TookEmpty { step } => push_step(out, "empty", node, app, step),
+        Event::Refused { step, why } => push_refused(out, node, app, step, why),
+        Event::GaveUp { step } => push_step(out, "gaveup", node, app, step),
+        Event::SlotDown { step } => push_step(out, "down", node, app, step),
+        Event::Sent { .. }
+        | Event::Took { .. }
+        | Event::Discarded(_)
+        | Event::Handed { .. }
+        | Event::Opened { .. }
+        | Event::Transmitted { .. }
+        | Event::Bad { .. }
+        | Event::Starved
+        | Event::InboxFull
+        | Event::Reboot
+        | Event::Shutdown => Ok(()),
+    }
+}
+
+/// Appends the lines of these events, in order.
+fn push_events(out: &mut String, node: &str, app: &str, events: &[Event]) -> Result<(), AllocError>
+    ensures { OnOk result (string_bytes out.new ≡ string_bytes out.old ++ text_of (flat_map (event_lines node.now app.now) events.now)) }
+{
+    for event in events {
+        push_event(out, node, app, *event)?;
+    }
+    Ok(())
+}
+
+/// Appends the lines of what a log tells, in order of time.
+fn push_log(out: &mut String, node: &str, app: &str, log: &Log) -> Result<(), AllocError>
+    ensures { OnOk result (string_bytes out.new ≡ string_bytes out.old ++ text_of (flat_map (event_lines node.now app.now) (events_in log.now.entries))) }
+{
+    for index in 0..log.len() {
+        push_events(out, node, app, log.events(index))?;
     }
     Ok(())
 }
@@ -87,7 +144,7 @@ fn push_app(out: &mut String, node: &str, app: &str, party: &PartyLog) -> Result
     ensures { OnOk result (string_bytes out.new ≡ string_bytes out.old ++ text_of (app_lines node.now app.now (Some party.now))) }
 {
     push_state(out, node, app, party.step)?;
-    push_events(out, node, app, party.log.entries())
+    push_log(out, node, app, &party.log)
 }
 
 /// The application with this number of the node at this place, among these parties.

@@ -9,8 +9,9 @@ ghost use Rattle.csp_top.specs.ReportPlaces.{is_of_kind, held_in};
 ghost use Rattle.csp_top.specs.Report.{node_line};
 
 use crate::report_lines::{begin_line, end_line, push_count, push_counted, push_word};
+use csp_log::Place;
+use csp_record::Record;
 use csp_scene::SceneNode;
-use csp_world::{Place, Record};
 use std::alloc::AllocError;
 
 /// A kind of place of a node, by what stands before its count in the node's line.

@@ -1,10 +1,10 @@
 //! The report of a run.
 
-ghost use Rattle.std.specs.Prelude.{◌≡◌, ◌++◌, ◌∷◌, [], OnOk, IfOk, codes};
+ghost use Rattle.std.specs.Prelude.{◌≡◌, ◌++◌, ◌∷◌, [], map, OnOk, IfOk, codes};
 ghost use Rattle.std.specs.String.{string_bytes};
 ghost use Rattle.std.specs.Fmt.{decimal};
 ghost use Rattle.csp_scene.specs.Ranges.{IsScene};
-ghost use Rattle.csp_world.specs.Whole.{IsWhole};
+ghost use Rattle.csp_record.specs.Whole.{IsWhole};
 ghost use Rattle.csp_top.specs.Lines.{ended_line, text_of};
 ghost use Rattle.csp_top.specs.Report.{end_line, report_lines, report};
 ghost use Rattle.csp_top.specs.PlacesAddUp.{PlacesAddUp};
@@ -13,8 +13,8 @@ use crate::report_apps::push_apps;
 use crate::report_lines::{begin_line, end_line, push_count, push_counted};
 use crate::report_places::push_nodes;
 use crate::report_routers::push_routers;
+use csp_record::Record;
 use csp_scene::{Scene, SceneNode};
-use csp_world::Record;
 use std::alloc::{AllocError, Global};
 
 /// The number of the report's form.
@@ -62,7 +62,7 @@ fn push_lines(out: &mut String, nodes: &[SceneNode], run: &Record) -> Result<(),
 pub fn report(alloc: Global, scene: &Scene, run: &Record) -> Result<String, AllocError>
     requires { IsScene scene.now }
     ensures bytes { IfOk result (λ text. string_bytes text ≡ report scene.now run.now) }
-    ensures places { IfOk result (λ text. IsWhole scene.now run.now → PlacesAddUp (string_bytes text)) }
+    ensures places { IfOk result (λ text. IsWhole (map (λ n. n.buffers) scene.now.nodes) run.now → PlacesAddUp (string_bytes text)) }
 {
     let mut out = String::new(alloc);
     push_lines(&mut out, scene.nodes.as_slice(), run)?;

@@ -4,10 +4,11 @@ use Rattle.std.specs.Prelude.{nat_le}
 use Rattle.std.proofs.lemmas.Grind.{common_steps}
 use Rattle.csp_scene.specs.Scene.{PlainScene}
 use Rattle.csp_world.specs.declared.limits.TheConstants.{MAX_ENTRIES}
-use Rattle.csp_world.specs.Plain.{PlainRecord}
+use Rattle.csp_record.specs.Record.{PlainRecord}
 use Rattle.csp_world.specs.Record.{record_of, sim_record}
 use Rattle.csp_world.specs.Schedule.{round, rounds, run}
-use Rattle.csp_world.specs.World.{PlainWorld, finished, entries, opening}
+use Rattle.csp_world.specs.World.{PlainWorld, finished, entries}
+use Rattle.csp_world.specs.Opening.{opening}
 
 -- a scene whose applications have all ended before the first round
 pub run_at_once : (scene : PlainScene) (w : PlainWorld) → w ≡ opening scene → finished w ≡ true → run scene ≡ Some w

@@ -2,7 +2,8 @@
 use Rattle.std.specs.Prelude.{ℕ, zero, suc, Option, None, Some, List, [], ◌∷◌, length, replicate, nat_le, if◌then◌else◌}
 use Rattle.std.specs.List.{range_with_len, flat_map}
 use Rattle.csp_scene.specs.Scene.{PlainScene}
-use Rattle.csp_world.specs.World.{PlainWorld, turn, tick, finished, entries, opening}
+use Rattle.csp_world.specs.Opening.{opening}
+use Rattle.csp_world.specs.World.{PlainWorld, turn, tick, finished, entries}
 use Rattle.csp_world.specs.declared.limits.TheConstants.{TURNS_PER_ROUND, MAX_ENTRIES}
 
 -- the turns of the parties at these places, one after the other
@@ -16,7 +17,7 @@ round_places parties = flat_map (λ place. replicate TURNS_PER_ROUND place) (ran
 
 -- one round: the turns, then a tick
 unfoldable pub round : PlainWorld → PlainWorld
-round w = tick (turns w (round_places (length w.parties)))
+round w = tick (turns w (round_places (length w.members)))
 
 -- at most so many rounds, with the checks after each in this order: every application has ended, the entry limit,
 -- the number of rounds; none where the logs reach the limit

@@ -1,38 +1,40 @@
--- What the program's parties and worlds are seen as.
-use Rattle.std.specs.Prelude.{ℕ, Option, None, Some, length, slice_get, if◌then◌else◌}
+-- What the program's parties are seen as, and what a turn comes to.
+use Rattle.std.specs.Prelude.{ℕ, Bool, Option, None, Some, length, nat_lt, slice_get, if◌then◌else◌}
 use Rattle.csp_base.specs.declared.turns.Turn.{Turn}
 use Rattle.csp_base.specs.declared.turns.Turn.TheVariants as turn
-use Rattle.csp_world.specs.declared.operation.Answer.{Answer}
-use Rattle.csp_world.specs.declared.operation.Answer.TheVariants as answer
-use Rattle.csp_world.specs.declared.world.Party.{Party}
-use Rattle.csp_world.specs.Party.{asks, has_ended}
-use Rattle.csp_world.specs.Pool.{PlainPool, answer_of}
-use Rattle.csp_world.specs.World.{PlainParty, PlainWorld, pool_of}
+use Rattle.csp_deck.specs.PlainDeck.{PlainDeck, answer_of}
+use Rattle.csp_deck.specs.Step.{times}
+use Rattle.csp_log.specs.Pictures.{turn_of}
+use Rattle.csp_log.specs.declared.operation.Answer.{Answer}
+use Rattle.csp_party.specs.Any.{asks, has_ended}
+use Rattle.csp_world.specs.Holders.{holds_at}
+use Rattle.csp_world.specs.World.{PlainMember, PlainWorld, deck_of}
+use Rattle.csp_world.specs.declared.member.Member.{Member}
 
--- a party without the room of its log
-abbrev pub plain_party : Party → PlainParty
-plain_party party = record { who = party.who; actor = party.actor; log = party.log.entries }
+-- a party without the room of its lists
+abbrev pub plain_member : Member → PlainMember
+plain_member m = record { who = m.who; party = m.party; entries = m.log.entries }
 
--- a turn was idle exactly where its answer was an empty or a full place, or nothing
-abbrev pub turn_of : Answer → Turn
-turn_of answer.Nothing = turn.Idle
-turn_of (answer.Taken n) = turn.Did
-turn_of answer.NoBuffer = turn.Idle
-turn_of answer.Given = turn.Did
-turn_of (answer.PoolFull n) = turn.Idle
-turn_of answer.Empty = turn.Idle
+-- whether a party is one of this node and holds the number
+abbrev pub has_number : ℕ → ℕ → Member → Bool
+has_number node k m = nat_lt 0 (times k (holds_at node (plain_member m)))
 
--- what a turn of this party comes to: it had ended, or the answer to what it asked says so
-abbrev pub turn_of_party : Option PlainParty → Option PlainPool → Turn
-turn_of_party None pool = turn.Ended
-turn_of_party (Some party) None = turn.Ended
-turn_of_party (Some party) (Some pool) = (if has_ended party.actor then turn.Ended else turn_of (answer_of pool (asks party.actor)))
+-- what the turn of a party is answered at this time: none where it has ended
+abbrev pub answer_for : ℕ → Option PlainMember → Option PlainDeck → Option Answer
+answer_for time None d = None
+answer_for time (Some m) None = None
+answer_for time (Some m) (Some d) = (if has_ended m.party then None else Some (answer_of d (asks m.party time)).0)
 
--- what a turn of the party at this place comes to
-unfoldable pub turn_at_place : PlainWorld → ℕ → Turn
-turn_at_place w place = turn_of_party (slice_get w.parties place) (pool_of w (slice_get w.parties place))
+-- what a turn of the party at this place is answered
+unfoldable pub answer_at_place : PlainWorld → ℕ → Option Answer
+answer_at_place w place = answer_for w.time (slice_get w.members place) (deck_of w (slice_get w.members place))
+
+-- what a turn comes to, by its answer
+abbrev pub turn_by : Option Answer → Turn
+turn_by None = turn.Ended
+turn_by (Some a) = turn_of a
 
 -- how many entries the party's log has
-abbrev pub log_len : Option PlainParty → ℕ
+abbrev pub log_len : Option PlainMember → ℕ
 log_len None = 0
-log_len (Some party) = length party.log
+log_len (Some m) = length m.entries

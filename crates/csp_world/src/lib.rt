@@ -1,20 +1,17 @@
-//! The world of a simulation.
+//! The world of a simulation: the lists of its nodes and their parties, step by step, and its record.
 #![tactic(auto)]
 
+mod closing;
+mod emptied;
 mod limits;
-mod log;
-mod operation;
-mod party;
-mod pool;
-mod record;
+mod member;
+mod node_deck;
+mod opening;
+mod room;
 mod schedule;
 mod world;
 
+pub use csp_record::{HeldBy, Left, PartyLog, Record, Who};
 pub use limits::{MAX_ENTRIES, TURNS_PER_ROUND};
-pub use log::Log;
-pub use operation::{Answer, Entry, Event, Op, Place, QueueId, Who};
-pub use party::{Actor, App};
-pub use pool::Pool;
-pub use record::{HeldBy, PartyLog, Record};
 pub use schedule::{SimError, simulate};
-pub use world::{Party, World};
+pub use world::World;

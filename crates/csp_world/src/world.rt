@@ -1,76 +1,32 @@
-//! The world of a simulation: every party with its log, a pool for each node, and the time.
+//! The world: the lists of each node, every party with its log, and the time.
 
-ghost use Rattle.std.specs.Prelude.{◌≡◌, ◌≢◌, ◌+◌, ◌*◌, ◌-◌, ◌<◌, ◌≤◌, ◌^◌, ℕ, true, false, max, map, List, [], ◌++◌, length, vec_len, OnOk, OnErr, IfOk, slice_index, slice_get, sum_by, All};
+ghost use Rattle.std.specs.Prelude.{◌≡◌, ◌≢◌, ◌+◌, ◌-◌, ◌<◌, ◌≤◌, ◌^◌, ℕ, Some, max, List, [], ◌∷◌, length, OnOk, OnErr, slice_index, slice_get, sum_by, find};
 ghost use Rattle.std.specs.List.{list_all};
-ghost use Rattle.csp_scene.specs.Ranges.{IsScene};
-ghost use Rattle.csp_world.specs.Scenes.{HasFewSteps};
-ghost use Rattle.csp_world.specs.Pool.{opened, answer_of, pool_after};
-ghost use Rattle.csp_world.specs.Party.{asks, has_ended};
-ghost use Rattle.csp_world.specs.World.{PlainWorld, told, turn, tick, finished, entries, opening, parties_from, parties_of_apps, new_app, is_done};
-ghost use Rattle.csp_world.specs.Seen.{plain_party, turn_of, turn_at_place, log_len};
-ghost use Rattle.csp_world.specs.Record.{record_of};
+ghost use Rattle.std.specs.Option.{option_map};
+ghost use Rattle.csp_buffer.specs.Content.{Content};
+ghost use Rattle.csp_log.specs.declared.operation.Answer.TheVariants as answer;
+ghost use Rattle.csp_world.specs.Holders.{holders, deck_holders, counts, HasOneHolder};
+ghost use Rattle.csp_world.specs.Seen.{has_number, answer_at_place, turn_by, log_len};
+ghost use Rattle.csp_world.specs.World.{turn, tick, finished, entries, is_done};
 
-use crate::log::Log;
-use crate::operation::{Answer, Entry, Who};
-use crate::party::{Actor, App};
-use crate::pool::Pool;
-use crate::record::{HeldBy, PartyLog, Record, gather_parties, gather_pools};
+use crate::member::{Member, take_turn};
+use crate::node_deck::NodeDeck;
+use crate::room::Room;
 use csp_base::Turn;
-use csp_scene::{Scene, SceneApp, SceneNode};
-use std::alloc::{AllocError, Global};
+use csp_deck::{Party, Place, counts_holders, gathers, weighs};
+use csp_party::AnyParty;
+use std::alloc::AllocError;
 use std::marker::Model;
 
-/// A party with its log.
-#[derive(Debug, Drop)]
-pub struct Party {
-    pub(crate) who: Who,
-    pub(crate) actor: Actor,
-    pub(crate) log: Log,
-}
-
-/// Takes one turn of a party over its node's pool, and notes it in the party's log.
-fn take_turn(party: &mut Party, pool: &mut Pool, time: u64) -> Turn
-    requires { 0 < party.old.log.spare }
-    ensures ended { has_ended party.old.actor ≡ true → (result ≡ Turn.Ended) × (party.new ≡ party.old) × (pool.new ≡ pool.old) }
-    ensures party { has_ended party.old.actor ≡ false → plain_party party.new ≡ told (plain_party party.old) pool.old time }
-    ensures pool { has_ended party.old.actor ≡ false → pool.new ≡ pool_after pool.old (asks party.old.actor) }
-    ensures spare { has_ended party.old.actor ≡ false → party.new.log.spare ≡ party.old.log.spare - 1 }
-    ensures turn { has_ended party.old.actor ≡ false → result ≡ turn_of (answer_of pool.old (asks party.old.actor)) }
-{
-    if party.actor.ended() {
-        return Turn::Ended;
-    }
-    let op = party.actor.ask();
-    let answer = pool.serve(op);
-    let event = party.actor.told(answer);
-    party.log.push(Entry {
-        time,
-        op,
-        answer,
-        event,
-    });
-    turn_after(answer)
-}
-
-/// What a turn came to, by its answer: it was idle where the answer was an empty or full place, or nothing.
-fn turn_after(answer: Answer) -> Turn
-    ensures { result ≡ turn_of answer }
-{
-    match answer {
-        Answer::Nothing | Answer::NoBuffer | Answer::PoolFull(_) | Answer::Empty => Turn::Idle,
-        Answer::Taken(_) | Answer::Given => Turn::Did,
-    }
-}
-
-/// All parties with their logs, the pools of the nodes, and the number of complete rounds.
-#[derive(Debug, Drop)]
+/// The lists of all nodes, all parties with their logs, and the number of complete rounds. Contracts
+/// see it as plain lists, and for how many turns each log has room.
+///
+/// Only `open` and `reserve` take memory. It must be spent by `close`.
 pub struct World {
-    pub(crate) pools: Vec<Pool>,
-    pub(crate) parties: Vec<Party>,
+    pub(crate) decks: Vec<NodeDeck>,
+    pub(crate) members: Vec<Member>,
     pub(crate) time: u64,
-    pub(crate) logs: Vec<PartyLog>,
-    pub(crate) held: Vec<HeldBy>,
-    pub(crate) alloc: Global,
+    pub(crate) room: Room,
 }
 
 impl Model for World {
@@ -78,201 +34,144 @@ impl Model for World {
 
     ghost Value = { SeenWorld };
 
-    ghost use Rattle.csp_world.specs.WorldInside.{seen_world, HasHomes};
+    ghost use Rattle.csp_world.specs.Inside.{seen_world, IsWorld};
 
     ghost view = { seen_world };
 
-    ghost invariant = { HasHomes };
+    ghost invariant = { IsWorld };
 }
 
 impl World {
-    /// The world of a scene in which nothing has happened: each pool is full, and no log has room.
-    pub fn open(alloc: Global, scene: &Scene) -> Result<World, AllocError>
-        requires { IsScene scene.now }
-        ensures { IfOk result (λ world. world.plain ≡ opening scene.now) }
-    {
-        let nodes = scene.nodes.as_slice();
-        let pools = open_pools(alloc, nodes)?;
-        let parties = open_parties(alloc, nodes)?;
-        let logs = Vec::with_capacity(alloc, parties.len())?;
-        let held = Vec::with_capacity(alloc, parties.len() + pools.len())?;
-        Ok(World {
-            pools,
-            parties,
-            time: 0,
-            logs,
-            held,
-            alloc,
-        })
-    }
-
     /// How many parties there are.
     pub fn parties(&self) -> usize
-        ensures { result ≡ length self.now.plain.parties }
+        ensures { result ≡ length self.now.plain.members }
     {
-        self.parties.len()
+        self.members.len()
     }
 
     /// How many entries all logs have together.
     pub fn entries(&self) -> u64
         ensures { result ≡ entries self.now.plain }
     {
-        count_entries(self.parties.as_slice())
+        count_entries(&self.members)
     }
 
     /// Whether each application has ended.
     pub fn finished(&self) -> bool
         ensures { result ≡ finished self.now.plain }
     {
-        all_done(self.parties.as_slice())
+        all_done(self.members.as_slice())
     }
 
     /// Makes room in the log of the party at this place for this many turns. A refusal changes nothing.
-    pub fn reserve(&mut self, place: usize, turns: u32) -> Result<(), AllocError>
-        requires place { place < length self.old.plain.parties }
-        requires fits { log_len (slice_get self.old.plain.parties place) + turns < 2 ^ 32 - 1 }
+    pub fn reserve(&mut self, party: usize, turns: u32) -> Result<(), AllocError>
+        requires party { party < length self.old.plain.members }
+        requires fits { log_len (slice_get self.old.plain.members party) + turns ≤ 2 ^ 32 - 2 }
         ensures plain { self.new.plain ≡ self.old.plain }
-        ensures room { OnOk result (slice_index self.new.spares place ≡ max (slice_index self.old.spares place) turns) }
-        ensures others { (k : ℕ) → k ≢ place → slice_index self.new.spares k ≡ slice_index self.old.spares k }
+        ensures room { OnOk result (slice_index self.new.spares party ≡ max (slice_index self.old.spares party) turns) }
+        ensures others { (k : ℕ) → k ≢ party → slice_index self.new.spares k ≡ slice_index self.old.spares k }
         ensures refused { OnErr result (self.new ≡ self.old) }
     {
-        self.parties[place].log.reserve(turns)
+        self.members[party].log.reserve(turns)
     }
 
-    /// Takes one turn of the party at this place, whose log has room for it.
-    pub fn step(&mut self, place: usize) -> Turn
-        requires place { place < length self.old.plain.parties }
-        requires room { 0 < slice_index self.old.spares place }
-        ensures plain { self.new.plain ≡ turn self.old.plain place }
-        ensures spares { (slice_index self.old.spares place) ≤ slice_index self.new.spares place + 1 }
-        ensures others { (k : ℕ) → k ≢ place → slice_index self.new.spares k ≡ slice_index self.old.spares k }
-        ensures turn { result ≡ turn_at_place self.old.plain place }
-    {
-        let party = &mut self.parties[place];
-        let pool = &mut self.pools[usize::from(party.who.node())];
-        take_turn(party, pool, self.time)
-    }
+    /// Takes one turn of the party at this place, whose log has room for it: it asks one operation, which
+    /// the lists of its node answer.
+    ///
+    /// `Turn::Ended` where it had ended before: then nothing is done or logged. `Turn::Idle` where
+    /// nothing was asked, or the pool or queue was empty or full.
+    pub fn step(&mut self, party: usize) -> Turn
+        requires party { party < length self.old.plain.members }
+        requires room { 0 < slice_index self.old.spares party }
+        ensures plain { self.new.plain ≡ turn self.old.plain party }
+        ensures turn { result ≡ turn_by (answer_at_place self.old.plain party) }
+        ensures spares { slice_index self.old.spares party ≤ slice_index self.new.spares party + 1 }
+        ensures others { (k : ℕ) → k ≢ party → slice_index self.new.spares k ≡ slice_index self.old.spares k }
+        ensures counts { counts self.new.plain ≡ counts self.old.plain }
 
-    /// Ends the run: what each place holds is noted, and every number is gathered. Takes no memory.
-    pub fn close(self) -> Record
-        ensures { result ≡ record_of self.plain }
+        // Each number of each node has exactly one holder, and no party is answered that the pool is full.
+        ensures one_holder { HasOneHolder self.new.plain }
+        ensures never_full { (buffer : Content) → answer_at_place self.old.plain party ≢ Some (answer.PoolFull buffer) }
     {
-        let World {
-            pools,
-            parties,
-            time,
-            mut logs,
-            mut held,
-            alloc,
-        } = self;
-        let finished = all_done(parties.as_slice());
-        gather_parties(alloc, parties, &mut logs, &mut held);
-        gather_pools(pools, &mut held);
-        Record {
-            parties: logs,
-            held,
-            rounds: time,
-            finished,
-        }
+        counts_holders();
+        gathers();
+        weighs();
+        let member = &mut self.members[party];
+        let node = &mut self.decks[usize::from(member.who.node())];
+        take_turn(member, node, self.time)
     }
 
     /// One more round is complete.
     pub fn tick(&mut self)
-        requires { self.old.plain.time < 2 ^ 62 }
+        requires { self.old.plain.time + 1 < 2 ^ 62 }
         ensures plain { self.new.plain ≡ tick self.old.plain }
         ensures spares { self.new.spares ≡ self.old.spares }
+        ensures one_holder { HasOneHolder self.new.plain }
     {
+        counts_holders();
         self.time += 1;
+    }
+
+    /// Who holds the buffer of this number of the node at this place: no other place does.
+    pub fn holder(&self, node: u8, number: u16) -> Place
+        requires node { node < length (counts self.now.plain) }
+        requires number { number < slice_index (counts self.now.plain) node }
+        ensures { holders self.now.plain node number ≡ result ∷ [] }
+    {
+        counts_holders();
+        match self.decks[usize::from(node)].deck.place(number) {
+            Some(place) => place,
+            None => self.party_with(node, number),
+        }
+    }
+
+    /// The party of a node that holds the buffer of this number, where no list of the node does.
+    fn party_with(&self, node: u8, number: u16) -> Place
+        requires one { length (holders self.now.plain node number) ≡ 1 }
+        requires unlisted { deck_holders (slice_get self.now.plain.decks node) number ≡ [] }
+        ensures { holders self.now.plain node number ≡ result ∷ [] }
+    {
+        match member_with(self.members.as_slice(), node, number) {
+            Some(member) => member.who.place(),
+            None => unreachable!(),
+        }
     }
 }
 
-impl Party {
+/// The first of these parties that is one of this node and holds the buffer of this number.
+fn member_with(members: &[Member], node: u8, number: u16) -> Option<&Member>
+    ensures { option_map (λ m. m.now) result ≡ find (has_number node number) members.now }
+{
+    members.iter().find(|member| member.has(node, number))
+}
+
+impl Member {
     /// Whether it is no application, or one that has ended.
     fn is_done(&self) -> bool
-        ensures { result ≡ is_done self.now.actor }
+        ensures { result ≡ is_done self.now.party }
     {
-        match self.actor {
-            Actor::Router => true,
-            Actor::App(_) => self.actor.ended(),
+        match &self.party {
+            AnyParty::Router(_) => true,
+            AnyParty::App(_) => self.party.ended(),
         }
     }
 }
 
 /// Whether each of these parties is no application, or one that has ended.
-fn all_done(parties: &[Party]) -> bool
-    ensures { result ≡ list_all (λ party. is_done party.actor) parties.now }
+pub(crate) fn all_done(members: &[Member]) -> bool
+    ensures { result ≡ list_all (λ m. is_done m.party) members.now }
 {
-    parties.iter().all(|party| party.is_done())
-}
-
-/// The full pools of these nodes.
-fn open_pools(alloc: Global, nodes: &[SceneNode]) -> Result<Vec<Pool>, AllocError>
-    ensures { IfOk result (λ pools. pools.items ≡ map (λ node. opened node.buffers) nodes.now) }
-{
-    let mut pools = Vec::new(alloc);
-    for node in nodes {
-        pools.push(Pool::open(alloc, node.buffers)?)?;
-    }
-    Ok(pools)
-}
-
-/// The parties of these nodes before their first turns.
-fn open_parties(alloc: Global, nodes: &[SceneNode]) -> Result<Vec<Party>, AllocError>
-    requires few { length nodes.now ≤ 255 }
-    requires nodes { All HasFewSteps nodes.now }
-    ensures parties { IfOk result (λ parties. map plain_party parties.items ≡ parties_from 0 nodes.now) }
-    ensures few { IfOk result (λ parties. vec_len parties ≤ length nodes.now * 256) }
-{
-    let mut parties = Vec::new(alloc);
-    for (place, node) in nodes.iter().enumerate() {
-        push_parties(alloc, &mut parties, place as u8, node.apps.as_slice())?;
-    }
-    Ok(parties)
-}
-
-/// Adds the parties of one node: its router, then its applications.
-fn push_parties(
-    alloc: Global,
-    parties: &mut Vec<Party>,
-    node: u8,
-    apps: &[SceneApp],
-) -> Result<(), AllocError>
-    requires few { length apps.now ≤ 255 }
-    requires steps { All (λ app. length app.steps < 2 ^ 32) apps.now }
-    ensures parties { OnOk result (map plain_party parties.new.items ≡ map plain_party parties.old.items ++ parties_of_apps node apps.now) }
-    ensures len { OnOk result (vec_len parties.new ≡ vec_len parties.old + 1 + length apps.now) }
-{
-    parties.push(Party {
-        who: Who::Router(node),
-        actor: Actor::Router,
-        log: Log::new(alloc),
-    })?;
-    for (number, app) in apps.iter().enumerate() {
-        parties.push(new_app(alloc, node, number as u8, app)?)?;
-    }
-    Ok(())
-}
-
-/// An application before its first turn.
-fn new_app(alloc: Global, node: u8, number: u8, app: &SceneApp) -> Result<Party, AllocError>
-    requires { length app.now.steps < 2 ^ 32 }
-    ensures { IfOk result (λ party. plain_party party ≡ new_app node number app.now) }
-{
-    Ok(Party {
-        who: Who::App(node, number),
-        actor: Actor::App(App::open(alloc, app.steps.as_slice())?),
-        log: Log::new(alloc),
-    })
+    members.iter().all(|member| member.is_done())
 }
 
 /// How many entries the logs of these parties have together.
-fn count_entries(parties: &[Party]) -> u64
-    requires { length parties.now < 2 ^ 31 }
-    ensures { result ≡ sum_by (λ party. length party.log.entries) parties.now }
+fn count_entries(members: &[Member]) -> u64
+    requires { length members.now < 2 ^ 31 }
+    ensures { result ≡ sum_by (λ m. length m.log.entries) members.now }
 {
     let mut total = 0;
-    for party in parties {
-        total += party.log.len();
+    for member in members {
+        total += member.log.len();
     }
     total
 }

@@ -5,6 +5,6 @@ use Rattle.csp_top.specs.Lines.{text_of}
 use Rattle.csp_top.specs.ReportEvents.{event_lines}
 use Rattle.csp_top.proofs.report_apps.push_events.Given as goal
 
--- the text so far, then the lines that are still to come, are those of the whole log
-abbrev pub invariant-loop-entry : goal.invariant-loop-entry
-invariant-loop-entry l = string_bytes l.out ++ text_of (flat_map (λ entry. event_lines l.node l.app entry.event) (drop l.entry-index l.log)) ≡ string_bytes l.initial.out ++ text_of (flat_map (λ entry. event_lines l.node l.app entry.event) l.log)
+-- the text so far, then the lines that are still to come, are those of all these events
+abbrev pub invariant-loop-event : goal.invariant-loop-event
+invariant-loop-event l = string_bytes l.out ++ text_of (flat_map (event_lines l.node l.app) (drop l.event-index l.events)) ≡ string_bytes l.initial.out ++ text_of (flat_map (event_lines l.node l.app) l.events)

@@ -1,4 +1,5 @@
 use Rattle.std.proofs.Common.{◌≢◌, ◌-◌, length, ap, sym, ◌∙◌, arith}
+use Rattle.csp_world.specs.Holders.{counts}
 use Rattle.csp_world.specs.Schedule.{turns, round}
 use Rattle.csp_world.proofs.ScheduleLemmas.{steady_turns, party_made, parties_done, round_made, places_from}
 use Rattle.csp_world.proofs.schedule.make_round.Goals as goal
@@ -10,19 +11,23 @@ loop-place-preserved c =
     let went = c.party_turns.ensures in
     record {
       left = party_made w c.party_turns.new.world.plain place c.parties-place-end.result c.loop-place-test.true went.plain ∙ c.loop-place.invariant.left;
-      parties = ap (λ v. length v.parties) went.plain ∙ (steady_turns w _).parties ∙ c.loop-place.invariant.parties;
+      parties = ap (λ v. length v.members) went.plain ∙ (steady_turns w _).members ∙ c.loop-place.invariant.parties;
       time = ap (λ v. v.time) went.plain ∙ (steady_turns w _).time ∙ c.loop-place.invariant.time;
+      counts = went.counts ∙ c.loop-place.invariant.counts;
       room = λ k above below.
           let ne : k ≢ place = omega arith in
           let before = c.loop-place.invariant.room k (omega arith) below in
           omega (arith, went.others k ne, before);
     }
 
-pub returns : goal.returns
-returns c =
+pub returns-clause-round : goal.returns-clause-round
+returns-clause-round c =
     let done = parties_done c.loop-place.world.plain c.loop-place.place (c.parties-place-end.result - c.loop-place.place) (omega arith) in
     let made = sym done ∙ c.loop-place.invariant.left in
     let start = c.in_ok-make_room.ensures.plain in
     c.tick.ensures.plain
     ∙ round_made c.make_room.new.world.plain c.loop-place.world.plain (made ∙ ap (λ n. turns c.make_room.new.world.plain (places_from 0 n)) c.parties-place-end.ensures)
     ∙ ap round start
+
+pub returns-clause-counts : goal.returns-clause-counts
+returns-clause-counts c = ap counts c.tick.ensures.plain ∙ c.loop-place.invariant.counts ∙ ap counts c.in_ok-make_room.ensures.plain

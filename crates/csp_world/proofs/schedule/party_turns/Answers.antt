@@ -13,8 +13,9 @@ loop-preserved c =
     let went = c.step.ensures in
     record {
       left = ap (λ v. turns v (replicate (TURNS_PER_ROUND - (i + 1)) place)) went.plain ∙ turn_made w place i c.loop-test.true ∙ c.loop.invariant.left;
-      parties = ap (λ v. length v.parties) went.plain ∙ (steady_turn w place).parties ∙ c.loop.invariant.parties;
+      parties = ap (λ v. length v.members) went.plain ∙ (steady_turn w place).members ∙ c.loop.invariant.parties;
       room = omega (arith, went.spares);
+      counts = went.counts ∙ c.loop.invariant.counts;
       others = λ k ne. went.others k ne ∙ c.loop.invariant.others k ne;
     }
 

@@ -12,7 +12,7 @@ returns-in-Ok-clause-kept c =
       nodes = kept.nodes;
       few = kept.few;
       current = record {
-        app = record { name = rw c.name_at-name.ensures fits.name; steps = rw c.new-steps.ensures.items (lit≤ tt) };
+        app = record { name = rw c.name_at-name.ensures fits.name; steps = rw c.new-steps.ensures.items (lit≤ tt); ranges = rw c.new-steps.ensures.items tt };
         node = rw c.deref-2.ensures.value at c.in-Ok.ensures.node;
         room = rw c.deref-2.ensures.value at c.in-Ok.ensures.room;
       };

@@ -1,0 +1,32 @@
+-- The words of a line after the first, each by its place.
+use Rattle.std.specs.Prelude.{ℕ, ◌+◌, Bool, nat_lt, false, List, [], length, slice_index_or, Option, Some, None, if◌then◌else◌}
+use Rattle.std.specs.List.{position_or_len}
+use Rattle.std.specs.Str.{bytes_eq}
+use Rattle.csp_text.specs.Numbers.{number_of}
+use Rattle.csp_scene.specs.Table.{keyword_text}
+use Rattle.csp_scene.specs.declared.table.Keyword.{Keyword}
+use Rattle.csp_scene.specs.declared.table.Part.{Part}
+use Rattle.csp_scene.specs.declared.table.Part.TheVariants as part
+
+-- the word in a place, and the number that it writes
+abbrev pub word_at : List (List ℕ) → ℕ → List ℕ
+word_at args place = slice_index_or args place []
+
+abbrev pub number_at : List (List ℕ) → ℕ → ℕ
+number_at args place = number_of (word_at args place)
+
+-- the place of a fixed word among what stands in a line, or the number of places where the line doesn't have the word
+abbrev pub is_keyword : Keyword → Part → Bool
+is_keyword keyword (part.Fixed other) = bytes_eq (keyword_text other) (keyword_text keyword)
+is_keyword keyword part.Name = false
+is_keyword keyword (part.Number low high) = false
+is_keyword keyword part.Word = false
+is_keyword keyword (part.Bytes least most) = false
+
+abbrev pub keyword_place : Keyword → List Part → ℕ
+keyword_place keyword shape = position_or_len (is_keyword keyword) shape
+
+-- the number that follows a fixed word, where the line has that word
+abbrev pub setting : Keyword → List Part → List (List ℕ) → Option ℕ
+setting keyword shape args =
+    if nat_lt (keyword_place keyword shape) (length shape) then Some (number_at args (keyword_place keyword shape + 1)) else None

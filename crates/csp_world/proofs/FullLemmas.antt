@@ -1,0 +1,83 @@
+-- No pool is full while a party of its node has a buffer.
+use Rattle.std.proofs.Common.{◌≡◌, ◌≢◌, ℕ, zero, suc, ◌+◌, ◌<◌, ◌≤◌, ◌==◌, Bool, true, false, None, Some, List, [], ◌∷◌, ◌++◌, length, refl, sym, ◌∙◌, ap, subst, arith}
+use Rattle.std.specs.Prelude.{slice_get, if◌then◌else◌}
+use Rattle.std.specs.List.{range_with_len, flat_map}
+use Rattle.std.proofs.lemmas.Bool.Decides.{nat_tests}
+use Rattle.std.proofs.lemmas.List.{length-append, length-map}
+use Rattle.std.proofs.lemmas.List.Concat.{flat_map_single}
+use Rattle.std.proofs.lemmas.List.FromFn.{length-range_with_len}
+use Rattle.std.proofs.lemmas.List.Sums.{count_by-le-length}
+use Rattle.csp_buffer.specs.Content.{Content}
+use Rattle.csp_deck.specs.Gathered.{queued_numbers}
+use Rattle.csp_deck.specs.PlainDeck.{PlainDeck, answer_of, numbers_in, buffer_numbers}
+use Rattle.csp_deck.specs.Step.{times}
+use Rattle.csp_log.specs.declared.operation.Answer.TheVariants as answer
+use Rattle.csp_party.specs.Any.{holds, asks, has_ended}
+use Rattle.csp_record.specs.Who.{node_of}
+use Rattle.csp_world.specs.Holders.{holds_at, numbers_at, IsConserved}
+use Rattle.csp_world.specs.Seen.{answer_at_place}
+use Rattle.csp_world.specs.World.{PlainMember, PlainWorld}
+use Rattle.csp_world.proofs.HolderLemmas.{times-append}
+use Rattle.csp_world.proofs.StepLemmas.{result_known}
+
+-- two laws of lists and decks
+abbrev pub SameLength : Type 0
+SameLength = (xs ys : List ℕ) → ((k : ℕ) → times k xs ≡ times k ys) → length xs ≡ length ys
+
+abbrev pub Gathers : Type 0
+Gathers = (d : PlainDeck) (k : ℕ) → times k (buffer_numbers d.pool.items) + times k (queued_numbers d) ≡ times k (numbers_in d)
+
+-- a node has as many numbers as buffers
+pub node_length : SameLength → (w : PlainWorld) (node : ℕ) (d : PlainDeck) → slice_get w.decks node ≡ Some d → IsConserved w → length (numbers_in d) + length (flat_map (holds_at node) w.members) ≡ d.pool.room
+node_length same w node d s kept =
+    sym (length-append (numbers_in d) (flat_map (holds_at node) w.members))
+    ∙ same (numbers_at w node d) (range_with_len 0 d.pool.room) (kept node d s)
+    ∙ length-range_with_len 0 d.pool.room
+
+-- those of its pool and those of its queues are those of its lists
+pub deck_length : SameLength → Gathers → (d : PlainDeck) → length d.pool.items + length (queued_numbers d) ≡ length (numbers_in d)
+deck_length same gathers d =
+    ap (λ n. n + length (queued_numbers d)) (sym (length-map d.pool.items (λ (b : Content). b.number)) ∙ ap (λ (ns : List ℕ). length ns) (sym (flat_map_single (λ (b : Content). b.number) d.pool.items)))
+    ∙ sym (length-append (buffer_numbers d.pool.items) (queued_numbers d))
+    ∙ same (buffer_numbers d.pool.items ++ queued_numbers d) (numbers_in d) (λ k. times-append k (buffer_numbers d.pool.items) (queued_numbers d) ∙ gathers d k)
+
+-- what a party holds is among what its node's parties hold
+pub among : (node k : ℕ) (ms : List PlainMember) (place : ℕ) (m : PlainMember) → slice_get ms place ≡ Some m → times k (holds_at node m) ≤ times k (flat_map (holds_at node) ms)
+among node k [] zero m e = cc
+among node k [] (suc place) m e = cc
+among node k (x ∷ ms) zero m e =
+    let same : x ≡ m = cc in
+    let parts = times-append k (holds_at node x) (flat_map (holds_at node) ms) in
+    let is = ap (λ (y : PlainMember). times k (holds_at node y)) same in
+    omega (arith, parts, is)
+among node k (x ∷ ms) (suc place) m e =
+    let parts = times-append k (holds_at node x) (flat_map (holds_at node) ms) in
+    let rest = among node k ms place m e in
+    omega (arith, parts, rest)
+
+-- so a pool is not full while a party of its node holds a number
+not_full : SameLength → Gathers → (w : PlainWorld) (place n : ℕ) (m : PlainMember) (d : PlainDeck) → slice_get w.members place ≡ Some m → slice_get w.decks (node_of m.who) ≡ Some d → IsConserved w
+    → 1 ≤ times n (holds m.party) → length d.pool.items < d.pool.room
+not_full same gathers w place n m d e s kept has =
+    let node = node_of m.who in
+    let whole = node_length same w node d s kept in
+    let lists = deck_length same gathers d in
+    let own : (node == node) ≡ true = grind (arith, nat_tests) in
+    let its : holds_at node m ≡ holds m.party = rw own refl in
+    let part = among node n w.members place m e in
+    let part' : times n (holds m.party) ≤ times n (flat_map (holds_at node) w.members) = subst (λ (ns : List ℕ). times n ns ≤ times n (flat_map (holds_at node) w.members)) its part in
+    let some = count_by-le-length (λ x. x == n) (flat_map (holds_at node) w.members) in
+    omega (arith, whole, lists, part', some, has)
+
+-- no turn is answered that the pool is full
+pub never_full : SameLength → Gathers → (w : PlainWorld) (place : ℕ) (m : PlainMember) (d : PlainDeck) → slice_get w.members place ≡ Some m → slice_get w.decks (node_of m.who) ≡ Some d → IsConserved w
+    → (has_ended m.party ≡ false → (b : Content) → (answer_of d (asks m.party w.time)).0 ≡ answer.PoolFull b → (d.pool.room ≤ length d.pool.items) × (1 ≤ times b.number (holds m.party)))
+    → (b : Content) → answer_at_place w place ≢ Some (answer.PoolFull b)
+never_full same gathers w place m d e s kept full b a =
+    by (has_ended m.party) refl (sym (result_known w place m d e s) ∙ a) where
+      by : (t : Bool) → has_ended m.party ≡ t → (if t then None else Some (answer_of d (asks m.party w.time)).0) ≡ Some (answer.PoolFull b) → ⊥
+      by true h f = cc
+      by false h f =
+          let (is_full, has) = full h b cc in
+          let room = not_full same gathers w place b.number m d e s kept has in
+          absurd (omega (arith, is_full, room))
