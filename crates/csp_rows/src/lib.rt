@@ -2,8 +2,22 @@
 #![tactic(auto)]
 
 #[cfg(test)]
+mod faults;
+#[cfg(test)]
+mod longest;
+#[cfg(test)]
+mod packets;
+#[cfg(test)]
+mod places;
+#[cfg(test)]
+mod pools;
+#[cfg(test)]
 mod refused;
 #[cfg(test)]
-mod reports;
-#[cfg(test)]
 mod runs;
+#[cfg(test)]
+mod sizes;
+#[cfg(test)]
+mod texts;
+#[cfg(test)]
+mod waits;

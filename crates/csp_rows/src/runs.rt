@@ -6,6 +6,12 @@ use csp_base::{MemSink, MemSource};
 use csp_top::{Status, csp_main};
 use std::alloc::{AllocError, Global};
 
+/// A scenario that runs, and the report of its run.
+pub(crate) struct Row {
+    pub(crate) text: &'static [u8],
+    pub(crate) report: &'static [u8],
+}
+
 /// What a run came to: its answer, and the bytes that it wrote.
 #[derive(Drop)]
 pub(crate) struct Outcome {
@@ -32,19 +38,16 @@ pub(crate) const NO_FAULTS: Faults = Faults {
 /// The room of the sink.
 pub(crate) const ROOM: usize = 4096;
 
-/// Runs the program on one word, or on none where it is empty.
+/// Runs the program on these words and this text.
 pub(crate) fn run(
     alloc: Global,
-    word: &str,
+    words: &[&str],
     text: &[u8],
     faults: Faults,
 ) -> Result<Outcome, AllocError>
     requires { 0 < faults.piece }
 {
-    let mut words = Vec::new(alloc);
-    if !word.is_empty() {
-        words.push(String::from_str(alloc, word)?)?;
-    }
+    let words = owned(alloc, words)?;
     let reads = Vec::from_slice(alloc, faults.reads)?;
     let writes = Vec::from_slice(alloc, faults.writes)?;
     let mut source = MemSource::new(Vec::from_slice(alloc, text)?, reads);
@@ -52,4 +55,29 @@ pub(crate) fn run(
     let status = csp_main(alloc, words.as_slice(), &mut source, &mut sink);
     let written = Vec::from_slice(alloc, sink.written())?;
     Ok(Outcome { status, written })
+}
+
+/// These words as strings of their own.
+fn owned(alloc: Global, words: &[&str]) -> Result<Vec<String>, AllocError> {
+    let mut strings = Vec::new(alloc);
+    for word in words {
+        strings.push(String::from_str(alloc, word)?)?;
+    }
+    Ok(strings)
+}
+
+/// A text, so many copies of a piece, and an end.
+pub(crate) fn repeated(
+    alloc: Global,
+    text: &[u8],
+    piece: &[u8],
+    count: usize,
+    end: &[u8],
+) -> Result<Vec<u8>, AllocError> {
+    let mut whole = Vec::from_slice(alloc, text)?;
+    for _ in 0..count {
+        whole.extend_from_slice(piece)?;
+    }
+    whole.extend_from_slice(end)?;
+    Ok(whole)
 }
