@@ -11,7 +11,6 @@ use Rattle.std.proofs.lemmas.Option.{slice_get-map, slice_get-get_or, slice_get_
 use Rattle.std.proofs.lemmas.Simd.{map-map}
 use Rattle.csp_deck.specs.Gathered.{queued_numbers}
 use Rattle.csp_deck.specs.PlainDeck.{PlainDeck, buffer_numbers}
-use Rattle.csp_deck.specs.Step.{times}
 use Rattle.csp_log.specs.Remains.{PlainLeft, PlainHeld}
 use Rattle.csp_party.specs.Any.{holds}
 use Rattle.csp_record.specs.Record.{PlainPartyLog, PlainRecord}
@@ -24,12 +23,9 @@ use Rattle.csp_world.specs.Seen.{plain_member}
 use Rattle.csp_world.specs.World.{PlainMember, PlainWorld, is_done}
 use Rattle.csp_world.specs.declared.member.Member.{Member}
 use Rattle.csp_world.proofs.ClosingMembers.{with_members}
-use Rattle.csp_world.proofs.ClosingParts.{emptied_of, numbers_len, times_joined}
-use Rattle.csp_world.proofs.ClosingSums.{Gathers, once_each}
-
--- lists that have each number as often are as long
-abbrev pub Long : Type 0
-Long = (xs ys : List ℕ) → ((k : ℕ) → times k xs ≡ times k ys) → length xs ≡ length ys
+use Rattle.csp_world.proofs.ClosingParts.{emptied_of, numbers_len}
+use Rattle.csp_world.proofs.ClosingSums.{once_each}
+use Rattle.csp_world.proofs.CountLaws.{Gathers, Long, times_joined}
 
 -- once its queues and parties are emptied, a node is complete
 complete_at : (w : PlainWorld) → Gathers → Long → IsConserved w → (node : ℕ) (d : PlainDeck) → slice_get w.decks node ≡ Some d

@@ -1,5 +1,5 @@
 -- What is taken back from the parties of each node.
-use Rattle.std.proofs.Common.{◌≡◌, ◌≢◌, ℕ, zero, suc, ◌+◌, ◌≤◌, Bool, true, false, Option, None, Some, List, [], ◌∷◌, ◌++◌, length, refl, ap, subst, arith}
+use Rattle.std.proofs.Common.{◌≡◌, ℕ, ◌+◌, ◌≤◌, Bool, true, false, Option, None, Some, List, [], ◌∷◌, ◌++◌, length, refl, ap, subst, arith}
 use Rattle.std.specs.Prelude.{slice_get, slice_set, if◌then◌else◌, ◌==◌}
 use Rattle.std.specs.List.{flat_map}
 use Rattle.std.specs.Option.{option_map}
@@ -10,6 +10,7 @@ use Rattle.csp_record.specs.Who.{node_of}
 use Rattle.csp_world.specs.Emptied.{PlainEmptied, with_gathered}
 use Rattle.csp_world.specs.Holders.{holds_at}
 use Rattle.csp_world.specs.World.{PlainMember}
+use Rattle.csp_world.proofs.SetLemmas.{set_here, set_there}
 
 -- what is left of a node, with all that these parties of it hold
 abbrev pub with_members : List PlainMember → ℕ → Option PlainEmptied → Option PlainEmptied
@@ -20,28 +21,8 @@ pub with_none : (node : ℕ) (o : Option PlainEmptied) → with_members [] node 
 with_none node None = refl
 with_none node (Some e) = ap (λ (ns : List ℕ). Some (record e { gathered = ns })) (append-nil e.gathered)
 
--- one element of a list is changed
-set_same : {A : Type 0} (xs : List A) (k : ℕ) (x y : A) → slice_get xs k ≡ Some x → slice_get (slice_set xs k y) k ≡ Some y
-set_same [] zero x y e = cc
-set_same [] (suc k) x y e = cc
-set_same (z ∷ xs) zero x y e = refl
-set_same (z ∷ xs) (suc k) x y e = set_same xs k x y e
-
-set_other : {A : Type 0} (xs : List A) (k j : ℕ) (y : A) → k ≢ j → slice_get (slice_set xs k y) j ≡ slice_get xs j
-set_other [] zero zero y h = refl
-set_other [] zero (suc j) y h = refl
-set_other [] (suc k) zero y h = refl
-set_other [] (suc k) (suc j) y h = refl
-set_other (z ∷ xs) zero zero y h = absurd (h refl)
-set_other (z ∷ xs) zero (suc j) y h = refl
-set_other (z ∷ xs) (suc k) zero y h = refl
-set_other (z ∷ xs) (suc k) (suc j) y h = set_other xs k j y (λ e. h (ap suc e))
-
 equal : (a b : ℕ) → (a == b) ≡ true → a ≡ b
 equal a b h = grind (arith, nat_tests)
-
-unequal : (a b : ℕ) → (a == b) ≡ false → a ≢ b
-unequal a b h = grind (arith, nat_tests)
 
 -- a party's numbers are taken back at its node, and at no other
 pub member_back : (m : PlainMember) (ms : List PlainMember) (olds : List PlainEmptied) (e : PlainEmptied) → slice_get olds (node_of m.who) ≡ Some e
@@ -57,9 +38,9 @@ member_back m ms olds e g node = by (node_of m.who == node) refl where
   by true h =
       let here : node_of m.who ≡ node = equal _ _ h in
       let old : slice_get olds node ≡ Some e = rw (← here) g in
-      let new : after ≡ Some (with_gathered (holds m.party) e) = subst (λ (k : ℕ). slice_get (slice_set olds (node_of m.who) (with_gathered (holds m.party) e)) k ≡ Some (with_gathered (holds m.party) e)) here (set_same olds (node_of m.who) e (with_gathered (holds m.party) e) g) in
+      let new : after ≡ Some (with_gathered (holds m.party) e) = subst (λ (k : ℕ). slice_get (slice_set olds (node_of m.who) (with_gathered (holds m.party) e)) k ≡ Some (with_gathered (holds m.party) e)) here (set_here olds (node_of m.who) e (with_gathered (holds m.party) e) g) in
       rw (old, new) (ap (λ (ns : List ℕ). Some (record e { gathered = ns })) (append_assoc e.gathered (holds m.party) rest))
-  by false h = ap (option_map (with_gathered rest)) (set_other olds (node_of m.who) node (with_gathered (holds m.party) e) (unequal _ _ h))
+  by false h = ap (option_map (with_gathered rest)) (set_there olds (node_of m.who) node (with_gathered (holds m.party) e) h)
 
 -- what is taken back already leaves room for what is still to come
 pub still_fits : (ms : List PlainMember) (node : ℕ) (now : PlainEmptied) (ns : List ℕ) (start : Option PlainEmptied) → with_members ms node (Some now) ≡ option_map (with_gathered ns) start

@@ -1,9 +1,9 @@
 -- What is taken back of a node, and the buffers that are ended.
-use Rattle.std.proofs.Common.{◌≡◌, ℕ, suc, ◌+◌, cond, eqb, List, [], ◌∷◌, ◌++◌, length, refl, sym, ◌∙◌, ap}
+use Rattle.std.proofs.Common.{◌≡◌, suc, ◌+◌, List, [], ◌∷◌, ◌++◌, length, refl, sym, ◌∙◌, ap}
 use Rattle.std.specs.List.{range_with_len}
 use Rattle.std.proofs.lemmas.Grind.{flat_map-append}
 use Rattle.std.proofs.lemmas.List.{append_assoc, length-append}
-use Rattle.std.proofs.lemmas.List.Sums.{sum_by-append, sum_by-cons}
+use Rattle.std.proofs.lemmas.List.Sums.{sum_by-cons}
 use Rattle.csp_buffer.specs.Content.{Content}
 use Rattle.csp_deck.specs.Gathered.{queues_of, queued_numbers}
 use Rattle.csp_deck.specs.PlainDeck.{PlainDeck, buffer_numbers}
@@ -11,6 +11,7 @@ use Rattle.csp_deck.specs.PlainFifo.{PlainFifo}
 use Rattle.csp_deck.specs.Step.{times}
 use Rattle.csp_world.specs.Emptied.{PlainEmptied, IsComplete, IsEachOnce}
 use Rattle.csp_world.specs.Inside.{queue_count}
+use Rattle.csp_world.proofs.CountLaws.{times_joined}
 
 -- a node once its queues are emptied
 abbrev pub emptied_of : PlainDeck → PlainEmptied
@@ -23,9 +24,6 @@ numbers_len (b ∷ bs) = ap suc (numbers_len bs)
 
 pub numbers_joined : (bs cs : List Content) → buffer_numbers (bs ++ cs) ≡ buffer_numbers bs ++ buffer_numbers cs
 numbers_joined bs cs = flat_map-append (λ (b : Content). b.number ∷ []) bs cs
-
-pub times_joined : (k : ℕ) (xs ys : List ℕ) → times k (xs ++ ys) ≡ times k xs + times k ys
-times_joined k xs ys = sum_by-append (λ n. cond (eqb n k) 1 0) xs ys
 
 -- a node that is complete has each number once, what is in the pool after what is taken back
 pub each_once : (pool : PlainFifo Content) (bs : List Content) → IsComplete (record { pool = pool; gathered = buffer_numbers bs }) → IsEachOnce (buffer_numbers (bs ++ pool.items))

@@ -20,15 +20,7 @@ use Rattle.csp_record.specs.Whole.{weight_at, IsWhole}
 use Rattle.csp_world.specs.Holders.{holds_at, counts, IsConserved}
 use Rattle.csp_world.specs.Record.{queues_held, pools_held, member_held, record_of}
 use Rattle.csp_world.specs.World.{PlainMember, PlainWorld}
-use Rattle.csp_world.proofs.ClosingParts.{times_joined}
-
--- what is in a deck's pool and in its queues is what is in the deck
-abbrev pub Gathers : Type 0
-Gathers = (d : PlainDeck) (k : ℕ) → times k (buffer_numbers d.pool.items) + times k (queued_numbers d) ≡ times k (numbers_in d)
-
--- lists that have each number as often weigh the same
-abbrev pub Weighs : Type 0
-Weighs = (xs ys : List ℕ) → ((k : ℕ) → times k xs ≡ times k ys) → (weight : ℕ → ℕ) → sum_by weight xs ≡ sum_by weight ys
+use Rattle.csp_world.proofs.CountLaws.{Gathers, Weighs, times_joined}
 
 -- all numbers of a node: those in its queues, those of its parties and those in its pool
 abbrev pub all_numbers : List PlainMember → ℕ → PlainDeck → List ℕ

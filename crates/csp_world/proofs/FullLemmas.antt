@@ -17,29 +17,22 @@ use Rattle.csp_record.specs.Who.{node_of}
 use Rattle.csp_world.specs.Holders.{holds_at, numbers_at, IsConserved}
 use Rattle.csp_world.specs.Seen.{answer_at_place}
 use Rattle.csp_world.specs.World.{PlainMember, PlainWorld}
-use Rattle.csp_world.proofs.HolderLemmas.{times-append}
+use Rattle.csp_world.proofs.CountLaws.{Gathers, Long, times_joined}
 use Rattle.csp_world.proofs.StepLemmas.{result_known}
 
--- two laws of lists and decks
-abbrev pub SameLength : Type 0
-SameLength = (xs ys : List ℕ) → ((k : ℕ) → times k xs ≡ times k ys) → length xs ≡ length ys
-
-abbrev pub Gathers : Type 0
-Gathers = (d : PlainDeck) (k : ℕ) → times k (buffer_numbers d.pool.items) + times k (queued_numbers d) ≡ times k (numbers_in d)
-
 -- a node has as many numbers as buffers
-pub node_length : SameLength → (w : PlainWorld) (node : ℕ) (d : PlainDeck) → slice_get w.decks node ≡ Some d → IsConserved w → length (numbers_in d) + length (flat_map (holds_at node) w.members) ≡ d.pool.room
+pub node_length : Long → (w : PlainWorld) (node : ℕ) (d : PlainDeck) → slice_get w.decks node ≡ Some d → IsConserved w → length (numbers_in d) + length (flat_map (holds_at node) w.members) ≡ d.pool.room
 node_length same w node d s kept =
     sym (length-append (numbers_in d) (flat_map (holds_at node) w.members))
     ∙ same (numbers_at w node d) (range_with_len 0 d.pool.room) (kept node d s)
     ∙ length-range_with_len 0 d.pool.room
 
 -- those of its pool and those of its queues are those of its lists
-pub deck_length : SameLength → Gathers → (d : PlainDeck) → length d.pool.items + length (queued_numbers d) ≡ length (numbers_in d)
+pub deck_length : Long → Gathers → (d : PlainDeck) → length d.pool.items + length (queued_numbers d) ≡ length (numbers_in d)
 deck_length same gathers d =
     ap (λ n. n + length (queued_numbers d)) (sym (length-map d.pool.items (λ (b : Content). b.number)) ∙ ap (λ (ns : List ℕ). length ns) (sym (flat_map_single (λ (b : Content). b.number) d.pool.items)))
     ∙ sym (length-append (buffer_numbers d.pool.items) (queued_numbers d))
-    ∙ same (buffer_numbers d.pool.items ++ queued_numbers d) (numbers_in d) (λ k. times-append k (buffer_numbers d.pool.items) (queued_numbers d) ∙ gathers d k)
+    ∙ same (buffer_numbers d.pool.items ++ queued_numbers d) (numbers_in d) (λ k. times_joined k (buffer_numbers d.pool.items) (queued_numbers d) ∙ gathers d k)
 
 -- what a party holds is among what its node's parties hold
 pub among : (node k : ℕ) (ms : List PlainMember) (place : ℕ) (m : PlainMember) → slice_get ms place ≡ Some m → times k (holds_at node m) ≤ times k (flat_map (holds_at node) ms)
@@ -47,16 +40,16 @@ among node k [] zero m e = cc
 among node k [] (suc place) m e = cc
 among node k (x ∷ ms) zero m e =
     let same : x ≡ m = cc in
-    let parts = times-append k (holds_at node x) (flat_map (holds_at node) ms) in
+    let parts = times_joined k (holds_at node x) (flat_map (holds_at node) ms) in
     let is = ap (λ (y : PlainMember). times k (holds_at node y)) same in
     omega (arith, parts, is)
 among node k (x ∷ ms) (suc place) m e =
-    let parts = times-append k (holds_at node x) (flat_map (holds_at node) ms) in
+    let parts = times_joined k (holds_at node x) (flat_map (holds_at node) ms) in
     let rest = among node k ms place m e in
     omega (arith, parts, rest)
 
 -- so a pool is not full while a party of its node holds a number
-not_full : SameLength → Gathers → (w : PlainWorld) (place n : ℕ) (m : PlainMember) (d : PlainDeck) → slice_get w.members place ≡ Some m → slice_get w.decks (node_of m.who) ≡ Some d → IsConserved w
+not_full : Long → Gathers → (w : PlainWorld) (place n : ℕ) (m : PlainMember) (d : PlainDeck) → slice_get w.members place ≡ Some m → slice_get w.decks (node_of m.who) ≡ Some d → IsConserved w
     → 1 ≤ times n (holds m.party) → length d.pool.items < d.pool.room
 not_full same gathers w place n m d e s kept has =
     let node = node_of m.who in
@@ -70,7 +63,7 @@ not_full same gathers w place n m d e s kept has =
     omega (arith, whole, lists, part', some, has)
 
 -- no turn is answered that the pool is full
-pub never_full : SameLength → Gathers → (w : PlainWorld) (place : ℕ) (m : PlainMember) (d : PlainDeck) → slice_get w.members place ≡ Some m → slice_get w.decks (node_of m.who) ≡ Some d → IsConserved w
+pub never_full : Long → Gathers → (w : PlainWorld) (place : ℕ) (m : PlainMember) (d : PlainDeck) → slice_get w.members place ≡ Some m → slice_get w.decks (node_of m.who) ≡ Some d → IsConserved w
     → (has_ended m.party ≡ false → (b : Content) → (answer_of d (asks m.party w.time)).0 ≡ answer.PoolFull b → (d.pool.room ≤ length d.pool.items) × (1 ≤ times b.number (holds m.party)))
     → (b : Content) → answer_at_place w place ≢ Some (answer.PoolFull b)
 never_full same gathers w place m d e s kept full b a =

@@ -4,7 +4,7 @@ use Rattle.std.specs.Prelude.{slice_get}
 use Rattle.std.specs.List.{range_with_len, flat_map}
 use Rattle.std.specs.Option.{option_map}
 use Rattle.std.proofs.lemmas.List.{length-append, length-replicate}
-use Rattle.std.proofs.lemmas.List.Sums.{sum_by-append, sum_by-cons}
+use Rattle.std.proofs.lemmas.List.Sums.{sum_by-cons}
 use Rattle.std.proofs.lemmas.Option.{slice_get-map}
 use Rattle.std.proofs.lemmas.Bool.Decides.{nat_tests}
 use Rattle.csp_deck.specs.PlainDeck.{PlainDeck, holders_of, numbers_in}
@@ -13,10 +13,8 @@ use Rattle.csp_party.specs.Any.{holds}
 use Rattle.csp_record.specs.Who.{node_of, place_of}
 use Rattle.csp_world.specs.Holders.{holds_at, holder_at, deck_holders, holders, counts, HasOneHolder, numbers_at, IsConserved}
 use Rattle.csp_world.specs.World.{PlainMember, PlainWorld}
+use Rattle.csp_world.proofs.CountLaws.{times_joined}
 use Rattle.csp_world.proofs.SetLemmas.{set_here, set_there, sum_set}
-
-pub times-append : (k : ℕ) (xs ys : List ℕ) → times k (xs ++ ys) ≡ times k xs + times k ys
-times-append k xs ys = sum_by-append (λ n. cond (n == k) 1 0) xs ys
 
 times-cons : (k x : ℕ) (xs : List ℕ) → times k (x ∷ xs) ≡ cond (x == k) 1 0 + times k xs
 times-cons k x xs = sum_by-cons (λ n. cond (n == k) 1 0) x xs
@@ -51,7 +49,7 @@ count_holders node k (m ∷ ms) =
     length-append (holder_at node k m) (flat_map (holder_at node k) ms)
     ∙ ap (λ n. n + length (flat_map (holder_at node k) ms)) (length-replicate (times k (holds_at node m)) (place_of m.who))
     ∙ ap (λ n. times k (holds_at node m) + n) (count_holders node k ms)
-    ∙ sym (times-append k (holds_at node m) (flat_map (holds_at node) ms))
+    ∙ sym (times_joined k (holds_at node m) (flat_map (holds_at node) ms))
 
 -- and in the whole node as often as it is there
 pub holders_counted : ((d : PlainDeck) (k : ℕ) → length (holders_of d k) ≡ times k (numbers_in d)) → (w : PlainWorld) (node k : ℕ) (d : PlainDeck) → slice_get w.decks node ≡ Some d → length (holders w node k) ≡ times k (numbers_at w node d)
@@ -60,7 +58,7 @@ holders_counted law w node k d e =
     ∙ length-append (holders_of d k) (flat_map (holder_at node k) w.members)
     ∙ ap (λ n. n + length (flat_map (holder_at node k) w.members)) (law d k)
     ∙ ap (λ n. times k (numbers_in d) + n) (count_holders node k w.members)
-    ∙ sym (times-append k (numbers_in d) (flat_map (holds_at node) w.members))
+    ∙ sym (times_joined k (numbers_in d) (flat_map (holds_at node) w.members))
 
 -- the lists of a node that has a count of buffers
 pub deck_counted : (w : PlainWorld) (node count : ℕ) → slice_get (counts w) node ≡ Some count → (d : PlainDeck) × (slice_get w.decks node ≡ Some d) × (d.pool.room ≡ count)
@@ -79,7 +77,7 @@ one_holder law w kept node count e k h =
 as_sum : (node k : ℕ) (ms : List PlainMember) → times k (flat_map (holds_at node) ms) ≡ sum_by (λ m. times k (holds_at node m)) ms
 as_sum node k [] = refl
 as_sum node k (m ∷ ms) =
-    times-append k (holds_at node m) (flat_map (holds_at node) ms)
+    times_joined k (holds_at node m) (flat_map (holds_at node) ms)
     ∙ ap (λ n. times k (holds_at node m) + n) (as_sum node k ms)
     ∙ sym (sum_by-cons (λ (m : PlainMember). times k (holds_at node m)) m ms)
 
@@ -113,8 +111,8 @@ moved_here w place old new d e v kept k =
     let held_new : holds_at node new ≡ holds new.party = rw same' refl in
     let changed = members_set node k w.members place old new v.old_is in
     add _ _ _ _ _ _ _ _ _ _
-    (times-append k (numbers_in e) (flat_map (holds_at node) (set w.members place new)))
-    (times-append k (numbers_in d) (flat_map (holds_at node) w.members))
+    (times_joined k (numbers_in e) (flat_map (holds_at node) (set w.members place new)))
+    (times_joined k (numbers_in d) (flat_map (holds_at node) w.members))
     changed (ap (times k) held_old) (ap (times k) held_new) (v.held k)
     ∙ kept node d v.deck_is k ∙ ap (λ n. times k (range_with_len 0 n)) (sym v.room) where
       add : (all all' e f d g ho hn po pn : ℕ) → all ≡ e + f → all' ≡ d + g → f + ho ≡ g + hn → ho ≡ po → hn ≡ pn → pn + e ≡ po + d → all ≡ all'
@@ -129,8 +127,8 @@ moved_there w place node old new d e x v apart s kept k =
     let held_new : holds_at node new ≡ [] = rw apart' refl in
     let changed = members_set node k w.members place old new v.old_is in
     add _ _ _ _ _ _ _
-    (times-append k (numbers_in x) (flat_map (holds_at node) (set w.members place new)))
-    (times-append k (numbers_in x) (flat_map (holds_at node) w.members))
+    (times_joined k (numbers_in x) (flat_map (holds_at node) (set w.members place new)))
+    (times_joined k (numbers_in x) (flat_map (holds_at node) w.members))
     changed (ap (times k) held_old) (ap (times k) held_new)
     ∙ kept node x s k where
       add : (all all' e f g ho hn : ℕ) → all ≡ e + f → all' ≡ e + g → f + ho ≡ g + hn → ho ≡ 0 → hn ≡ 0 → all ≡ all'

@@ -3,6 +3,7 @@ pub mod ClosingEnds
 pub mod ClosingMembers
 pub mod ClosingParts
 pub mod ClosingSums
+pub mod CountLaws
 pub mod FitLemmas
 pub mod FullLemmas
 pub mod HolderLemmas
