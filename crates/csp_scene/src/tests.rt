@@ -1,5 +1,6 @@
 use crate::{MAX_LINE, MAX_STEPS, SceneError, SceneKind, parse};
 use std::alloc::{AllocError, Global};
+use std::process::Abort;
 use std::test::Fail;
 
 const NODE: &[u8] = b"until 10\nnode n1 1 buffers 4\n";
@@ -33,8 +34,8 @@ fn repeated(
     Ok(whole)
 }
 
-#[test]
-fn each_kind_by_a_single_line(rt: HostRuntime) {
+/// Single lines.
+fn single_lines_are_refused<R: Abort>(rt: &R, alloc: Global) {
     let cases: [(&[u8], SceneKind); 57] = [
         (b"until\t10", SceneKind::Byte),
         (b"# a comment\t", SceneKind::Byte),
@@ -104,12 +105,12 @@ fn each_kind_by_a_single_line(rt: HostRuntime) {
         (b"app a a", SceneKind::Unknown),
     ];
     for (text, kind) in cases.iter() {
-        assert_eq!(rt; refusal(rt.alloc(), text), Some((1, *kind)));
+        assert_eq!(rt; refusal(alloc, text), Some((1, *kind)));
     }
 }
 
-#[test]
-fn each_kind_of_a_step(rt: HostRuntime) -> Result<(), Fail> {
+/// Steps of an application.
+fn steps_are_refused<R: Abort>(rt: &R, alloc: Global) -> Result<(), Fail> {
     let cases: [(&[u8], SceneKind); 38] = [
         (b"tale", SceneKind::Word),
         (b"send 0 00", SceneKind::Word),
@@ -154,16 +155,16 @@ fn each_kind_of_a_step(rt: HostRuntime) -> Result<(), Fail> {
         (b"node n2 2 buffers 4", SceneKind::Full),
     ];
     for (line, kind) in cases.iter() {
-        let whole = repeated(rt.alloc(), APP, b"", 0, line)?;
-        assert_eq!(rt; refusal(rt.alloc(), &whole), Some((4, *kind)));
-        let ignored = repeated(rt.alloc(), APP, b"\n  # b\n   \n", 1, line)?;
-        assert_eq!(rt; refusal(rt.alloc(), &ignored), Some((7, *kind)));
+        let whole = repeated(alloc, APP, b"", 0, line)?;
+        assert_eq!(rt; refusal(alloc, &whole), Some((4, *kind)));
+        let ignored = repeated(alloc, APP, b"\n  # b\n   \n", 1, line)?;
+        assert_eq!(rt; refusal(alloc, &ignored), Some((7, *kind)));
     }
     Ok(())
 }
 
-#[test]
-fn each_kind_after_other_lines(rt: HostRuntime) -> Result<(), Fail> {
+/// Lines that the lines before them make wrong.
+fn later_lines_are_refused<R: Abort>(rt: &R, alloc: Global) -> Result<(), Fail> {
     let cases: [(&[u8], &[u8], u32, SceneKind); 25] = [
         (NODE, b"take", 3, SceneKind::Place),
         (NODE, b"#\nwait 5", 4, SceneKind::Place),
@@ -212,10 +213,30 @@ fn each_kind_after_other_lines(rt: HostRuntime) -> Result<(), Fail> {
         ),
     ];
     for (text, end, line, kind) in cases.iter() {
-        let whole = repeated(rt.alloc(), text, b"", 0, end)?;
-        assert_eq!(rt; refusal(rt.alloc(), &whole), Some((*line, *kind)));
+        let whole = repeated(alloc, text, b"", 0, end)?;
+        assert_eq!(rt; refusal(alloc, &whole), Some((*line, *kind)));
     }
     Ok(())
+}
+
+/// Lines of one byte too many.
+fn long_lines_are_refused<R: Abort>(rt: &R, alloc: Global) -> Result<(), Fail> {
+    let fronts: [&[u8]; 4] = [b"until 5", b"# 34567", b"       ", b"take567"];
+    for front in fronts.iter() {
+        let longer = repeated(alloc, front, b" ", MAX_LINE - 6, b"")?;
+        assert_eq!(rt; refusal(alloc, &longer), Some((1, SceneKind::Long)));
+        let tabbed = repeated(alloc, front, b" ", MAX_LINE - 6, b"\t")?;
+        assert_eq!(rt; refusal(alloc, &tabbed), Some((1, SceneKind::Byte)));
+    }
+    Ok(())
+}
+
+#[test]
+fn each_kind_is_named_at_the_first_refused_line(rt: HostRuntime) -> Result<(), Fail> {
+    single_lines_are_refused(&rt, rt.alloc());
+    steps_are_refused(&rt, rt.alloc())?;
+    later_lines_are_refused(&rt, rt.alloc())?;
+    long_lines_are_refused(&rt, rt.alloc())
 }
 
 #[test]
@@ -224,13 +245,6 @@ fn limits_are_met_exactly(rt: HostRuntime) -> Result<(), Fail> {
     assert_eq!(rt; parse(rt.alloc(), &long).is_ok(), true);
     let comment = repeated(rt.alloc(), b"until 5\n", b"#", MAX_LINE, b"\n")?;
     assert_eq!(rt; parse(rt.alloc(), &comment).is_ok(), true);
-    let fronts: [&[u8]; 4] = [b"until 5", b"# 34567", b"       ", b"take567"];
-    for front in fronts.iter() {
-        let longer = repeated(rt.alloc(), front, b" ", MAX_LINE - 6, b"")?;
-        assert_eq!(rt; refusal(rt.alloc(), &longer), Some((1, SceneKind::Long)));
-        let tabbed = repeated(rt.alloc(), front, b" ", MAX_LINE - 6, b"\t")?;
-        assert_eq!(rt; refusal(rt.alloc(), &tabbed), Some((1, SceneKind::Byte)));
-    }
     let full = repeated(rt.alloc(), APP, b"take\n", MAX_STEPS, b"")?;
     assert_eq!(rt; parse(rt.alloc(), &full).is_ok(), true);
     let fuller = repeated(rt.alloc(), APP, b"take\n", MAX_STEPS, b"#\nwait 5\n")?;
