@@ -3,14 +3,13 @@ use Rattle.std.proofs.Common.{◌≡◌, ℕ, ◌+◌, ◌^◌, ◌<◌, ◌≤�
 use Rattle.std.specs.List.{slice_get, All}
 use Rattle.std.specs.Option.{is_none}
 use Rattle.std.specs.Prelude.{IfSome}
-use Rattle.std.specs.VecDeque.{deque_capacity}
 use Rattle.std.proofs.lemmas.Bool.{leb-true, leb-false}
 use Rattle.std.proofs.Math.Bool.{and-true}
 use Rattle.std.proofs.lemmas.Option.{slice_get_within, get_or_from_slice_get}
-use Rattle.csp_app.specs.PlainApp.{PlainApp, has_ended}
+use Rattle.csp_app.specs.PlainApp.{PlainApp, AppAt, has_ended}
 use Rattle.csp_app.specs.Planning.{first_rule, recv_plan, step_plan, plan_of}
 use Rattle.csp_app.specs.Asking.{handed, asked, kind_of_plan, op_of}
-use Rattle.csp_app.specs.Room.{IsStep, CanHear, IsReady, lent, plain_app, takes}
+use Rattle.csp_app.specs.Room.{IsStep, CanHear, IsReady, lent, plain_app, app_at, takes}
 use Rattle.csp_app.specs.Slots.{slot_at}
 use Rattle.csp_app.specs.declared.app.App.TheInside.{Inside}
 use Rattle.csp_app.specs.declared.plan.Plan.{Plan}
@@ -76,9 +75,17 @@ pub handed_stays : (s : PlainApp) (now : ℕ) (p : Plan) → Stays s (handed s n
 handed_stays s now plan.Rest = record { number = refl; steps = refl; done = refl; slots = refl }
 handed_stays s now _ = record { number = refl; steps = refl; done = refl; slots = refl }
 
+-- its places keep their regions
+pub record OneRegion (a b : Inside) : Type 0 where
+  pub taken : b.taken.region ≡ a.taken.region
+  pub made : b.made.region ≡ a.made.region
+  pub held : b.held.region ≡ a.held.region
+
 -- an application that has asked is whole again
-pub asked_ready : (a b : Inside) (v : PlainApp) (now : ℕ) → IsReady a → plain_app a ≡ v → has_ended v ≡ false → plain_app b ≡ asked v now → deque_capacity b.held ≡ deque_capacity a.held → IsReady b
-asked_ready a b v now r view ends after kept =
+pub asked_ready : (a b : Inside) (w : AppAt) (now : ℕ) → IsReady a → app_at a ≡ w → has_ended w.app ≡ false → plain_app b ≡ asked w.app now → b.held.room ≡ a.held.room → OneRegion a b → IsReady b
+asked_ready a b w now r view_at ends after kept regions =
+    let v : PlainApp = w.app in
+    let view : plain_app a ≡ v = ap (λ (x : AppAt). x.app) view_at in
     let goes : has_ended (plain_app a) ≡ false = ap has_ended view ∙ ends in
     let e : plain_app b ≡ asked (plain_app a) now = after ∙ sym (ap (λ (x : PlainApp). asked x now) view) in
     let s : PlainApp = plain_app a in
@@ -87,7 +94,7 @@ asked_ready a b v now r view ends after kept =
     let h : Heard s now p = asked_hears s now r.steps goes in
     let steps : b.steps.items ≡ a.steps.items = ap (λ (x : PlainApp). x.steps) e ∙ st.steps in
     let done : b.progress.done ≡ a.progress.done = ap (λ (x : PlainApp). x.done) e ∙ st.done in
-    let held : b.held.items ≡ (handed s now p).held = ap (λ (x : PlainApp). x.held) e in
+    let held : b.held.contents ≡ (handed s now p).held = ap (λ (x : PlainApp). x.held) e in
     let doing : b.doing ≡ p = ap (λ (x : PlainApp). x.doing) e in
     record {
       few = subst (λ (xs : List Step). length xs + 1 < 2 ^ 32) (sym steps) r.few;
@@ -95,12 +102,14 @@ asked_ready a b v now r view ends after kept =
       done = rw (steps, done) r.done;
       room = omega (arith, h.room, r.room, kept, ap (λ (xs : List Content). length xs) held, ap lent doing, ap (λ (xs : List Step). takes (drop b.progress.done xs)) steps, ap (λ (n : ℕ). takes (drop n a.steps.items)) done);
       hears = rw (e, doing) h.hears;
+      made_of_it = rw (regions.made, regions.taken) r.made_of_it;
+      held_of_it = rw (regions.held, regions.taken) r.held_of_it;
     }
 
 -- an application whose `take` step is done is whole again
 pub take_ready : (a b : Inside) → IsReady a → slice_get a.steps.items a.progress.done ≡ Some step.Take → b.steps ≡ a.steps → b.progress.done ≡ a.progress.done + 1
-    → b.doing ≡ plan.Rest → length b.held.items ≤ length a.held.items + 1 → deque_capacity b.held ≡ deque_capacity a.held → IsReady b
-take_ready a b r e steps done doing held kept =
+    → b.doing ≡ plan.Rest → length b.held.contents ≤ length a.held.contents + 1 → b.held.room ≡ a.held.room → OneRegion a b → IsReady b
+take_ready a b r e steps done doing held kept regions =
     let t = takes_take a.steps.items a.progress.done e in
     let left : takes (drop (a.progress.done + 1) b.steps.items) ≡ takes (drop (a.progress.done + 1) a.steps.items) = rw steps in
     record {
@@ -109,4 +118,6 @@ take_ready a b r e steps done doing held kept =
       done = rw (steps, done) (omega (arith, t.1));
       room = omega (arith, r.room, t.0, held, kept, ap lent doing, ap (λ (n : ℕ). takes (drop n b.steps.items)) done, left);
       hears = rw doing tt;
+      made_of_it = rw (regions.made, regions.taken) r.made_of_it;
+      held_of_it = rw (regions.held, regions.taken) r.held_of_it;
     }

@@ -20,12 +20,12 @@ use Rattle.csp_app.specs.declared.step.Step.TheVariants as step
 use Rattle.csp_buffer.specs.Content.{Content}
 use Rattle.csp_deck.specs.Carried.{IsCarried}
 use Rattle.csp_deck.specs.Step.{IsAnswerOf, CanServe, times, op_numbers, item_numbers, answer_numbers}
-use Rattle.csp_log.specs.declared.item.Item.{Item}
-use Rattle.csp_log.specs.declared.item.Item.TheVariants as item
+use Rattle.csp_log.specs.declared.shown.ItemShown.{ItemShown}
+use Rattle.csp_log.specs.declared.shown.ItemShown.TheVariants as item
 use Rattle.csp_log.specs.declared.note.Note.{Note}
 use Rattle.csp_log.specs.declared.note.Note.TheVariants as note
-use Rattle.csp_log.specs.declared.operation.Answer.{Answer}
-use Rattle.csp_log.specs.declared.operation.Answer.TheVariants as answer
+use Rattle.csp_log.specs.declared.shown.AnswerShown.{AnswerShown}
+use Rattle.csp_log.specs.declared.shown.AnswerShown.TheVariants as answer
 use Rattle.csp_log.specs.declared.places.Carries.TheVariants as lane
 use Rattle.csp_log.specs.declared.places.QueueId.{QueueId}
 use Rattle.csp_log.specs.declared.places.QueueId.TheVariants as queue
@@ -51,7 +51,7 @@ handed_law s now plan.Give k = omega (arith, holds_times k s, holds_times k (rec
 handed_law s now plan.Push k = omega (arith, holds_times k s, holds_times k (record s { made = None }), sent_numbers k s.number s.made)
 handed_law s now _ k = omega arith
 
-item_law : (k : ℕ) (i : Item) → times k (item_numbers i) ≡ among k (option_to_list (packet_in i))
+item_law : (k : ℕ) (i : ItemShown) → times k (item_numbers i) ≡ among k (option_to_list (packet_in i))
 item_law k (item.Packet _ _) = refl
 item_law k (item.Frame _) = refl
 item_law k (item.Note _) = refl
@@ -90,7 +90,7 @@ made_law : (k : ℕ) (s : PlainApp) (t : Option Content) → s.made ≡ None →
 made_law k s t e = omega (arith, holds_times k s, holds_times k (record s { made = t }), ap (λ (o : Option Content). among k (option_to_list o)) e)
 
 -- it holds besides what it was given
-pub told_law : (s : PlainApp) (now : ℕ) (p : Plan) (a : Answer) → IsAnswerOf (uses s) (kind_of_plan s.number p) a → CanHear s p
+pub told_law : (s : PlainApp) (now : ℕ) (p : Plan) (a : AnswerShown) → IsAnswerOf (uses s) (kind_of_plan s.number p) a → CanHear s p
     → (k : ℕ) → times k (holds (told_by s now p a)) ≡ times k (holds s) + times k (answer_numbers a)
 told_law s now plan.Return answer.Given h c k = omega arith
 told_law s now plan.Return (answer.PoolFull b) h c k = taken_law k s (Some b) s.slots c
@@ -127,7 +127,7 @@ noted_counted (note.Closed k) slots = set_counted (λ s. record s { ordinal = s.
 noted_counted (note.Down k) slots = omega (arith, set_counted (λ s. record s { down = true }) 0 (λ s. omega arith) slots k)
 noted_counted _ slots = omega arith
 
-after_counted : (i : Item) (slots : List Slot) → counted (slots_after i slots) ≤ counted slots + 1
+after_counted : (i : ItemShown) (slots : List Slot) → counted (slots_after i slots) ≤ counted slots + 1
 after_counted (item.Packet k _) slots = set_counted (λ s. record s { unused = s.unused + 1 }) 1 (λ s. omega arith) slots k
 after_counted (item.Note n) slots = noted_counted n slots
 after_counted (item.Frame _) slots = omega arith
@@ -149,7 +149,7 @@ waited_counted : (rounds now : ℕ) (s : PlainApp) → counted (waited rounds no
 waited_counted rounds now s = wait_end_counted (has_passed rounds now s.since) s
 
 -- a turn raises the numbers that turns raise by one at most
-pub told_count : (s : PlainApp) (now : ℕ) (p : Plan) (a : Answer) → counted (told_by s now p a).slots ≤ counted s.slots + 1
+pub told_count : (s : PlainApp) (now : ℕ) (p : Plan) (a : AnswerShown) → counted (told_by s now p a).slots ≤ counted s.slots + 1
 told_count s now plan.Look (answer.Popped i) = after_counted i s.slots
 told_count s now (plan.Use slot packets) answer.Nothing = omega (arith, used_counted slot packets s.slots)
 told_count s now (plan.Receive slot packets rounds) (answer.Popped i) = omega (arith, after_counted i s.slots, received_counted slot packets rounds now (popped i s))
@@ -180,7 +180,7 @@ received_number slot packets rounds now s = recv_end_number slot packets (is_eno
 waited_number : (rounds now : ℕ) (s : PlainApp) → (waited rounds now s).number ≡ s.number
 waited_number rounds now s = wait_end_number (has_passed rounds now s.since) s
 
-pub told_number : (s : PlainApp) (now : ℕ) (p : Plan) (a : Answer) → (told_by s now p a).number ≡ s.number
+pub told_number : (s : PlainApp) (now : ℕ) (p : Plan) (a : AnswerShown) → (told_by s now p a).number ≡ s.number
 told_number s now (plan.Receive slot packets rounds) (answer.Popped i) = received_number slot packets rounds now (popped i s)
 told_number s now (plan.Receive slot packets rounds) answer.Empty = received_number slot packets rounds now s
 told_number s now (plan.Wait rounds) (answer.Popped i) = waited_number rounds now (popped i s)

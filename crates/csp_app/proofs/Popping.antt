@@ -13,22 +13,22 @@ use Rattle.csp_app.specs.declared.plan.Plan.TheVariants as plan
 use Rattle.csp_buffer.specs.Content.{Content}
 use Rattle.csp_deck.specs.Carried.{IsDownItem, IsCarriedIn}
 use Rattle.csp_deck.specs.Step.{IsAnswerOf}
-use Rattle.csp_log.specs.declared.item.Item.{Item}
-use Rattle.csp_log.specs.declared.operation.Answer.TheVariants as answer
+use Rattle.csp_log.specs.declared.shown.ItemShown.{ItemShown}
+use Rattle.csp_log.specs.declared.shown.AnswerShown.TheVariants as answer
 use Rattle.csp_log.specs.declared.places.Carries.TheVariants as lane
 use Rattle.csp_log.specs.declared.places.QueueId.TheVariants as queue
 use Rattle.csp_log.specs.declared.places.Rule.TheVariants as rule
 
 -- its own `Down` carries what a `Down` carries
-carried_down : (n : ℕ) (b : Bool) (i : Item) → b ≡ true → IsCarriedIn (if b then Some (rule.Lane lane.Down) else None) i → IsDownItem i
+carried_down : (n : ℕ) (b : Bool) (i : ItemShown) → b ≡ true → IsCarriedIn (if b then Some (rule.Lane lane.Down) else None) i → IsDownItem i
 carried_down n true i e h = h
 carried_down n false i e h = absurd cc
 
-down_item : (s : PlainApp) (i : Item) → IsCarriedIn (uses s (queue.Down s.number)) i → IsDownItem i
+down_item : (s : PlainApp) (i : ItemShown) → IsCarriedIn (uses s (queue.Down s.number)) i → IsDownItem i
 down_item s i h = carried_down s.number (s.number == s.number) i (eq-eqb s.number s.number refl) h
 
 -- an item comes from `Down`, where no other packet is to be given back
-pub popped_hears : (s : PlainApp) (p : Plan) (i : Item) → IsAnswerOf (uses s) (kind_of_plan s.number p) (answer.Popped i) → CanHear s p → IsDownItem i × (s.taken ≡ None)
+pub popped_hears : (s : PlainApp) (p : Plan) (i : ItemShown) → IsAnswerOf (uses s) (kind_of_plan s.number p) (answer.Popped i) → CanHear s p → IsDownItem i × (s.taken ≡ None)
 popped_hears s plan.Look i h c = (down_item s i h, c)
 popped_hears s (plan.Receive _ _ _) i h c = (down_item s i h, c.1)
 popped_hears s (plan.Wait _) i h c = (down_item s i h, c.1)
@@ -45,7 +45,7 @@ wait_end_taken true t s = refl
 wait_end_taken false t s = refl
 
 -- it may look first whether its step is done, and then keep the packet to give it back
-pub popped_state : (s : PlainApp) (now : ℕ) (p : Plan) (i : Item) → IsAnswerOf (uses s) (kind_of_plan s.number p) (answer.Popped i)
+pub popped_state : (s : PlainApp) (now : ℕ) (p : Plan) (i : ItemShown) → IsAnswerOf (uses s) (kind_of_plan s.number p) (answer.Popped i)
     → record (record (looked (record s { slots = slots_after i s.slots }) now p) { doing = plan.Rest }) { taken = packet_in i } ≡ record (told_by s now p (answer.Popped i)) { doing = plan.Rest }
 popped_state s now plan.Look i h = refl
 popped_state s now (plan.Receive slot packets rounds) i h = recv_end_taken slot packets _ _ _ (packet_in i) (record s { slots = slots_after i s.slots })

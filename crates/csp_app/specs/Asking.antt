@@ -6,12 +6,12 @@ use Rattle.csp_app.specs.Planning.{plan_of}
 use Rattle.csp_app.specs.declared.plan.Plan.{Plan}
 use Rattle.csp_app.specs.declared.plan.Plan.TheVariants as plan
 use Rattle.csp_deck.specs.Step.{Kind, nothing, taking, giving, pushing, popping}
-use Rattle.csp_log.specs.declared.operation.Op.{Op}
-use Rattle.csp_log.specs.declared.operation.Op.TheVariants as op
+use Rattle.csp_log.specs.declared.shown.OpShown.{OpShown}
+use Rattle.csp_log.specs.declared.shown.OpShown.TheVariants as op
 use Rattle.csp_log.specs.declared.places.QueueId.TheVariants as queue
 
 -- the operation of each turn
-abbrev pub op_of : PlainApp → Plan → Op
+abbrev pub op_of : PlainApp → Plan → OpShown
 op_of s plan.Rest = op.Nothing
 op_of s plan.Return = given s.taken
 op_of s plan.Look = op.Pop (queue.Down s.number)
@@ -24,7 +24,7 @@ op_of s (plan.Use _ _) = op.Nothing
 op_of s (plan.Receive _ _ _) = op.Pop (queue.Down s.number)
 op_of s (plan.Wait _) = op.Pop (queue.Down s.number)
 
-abbrev pub asks : PlainApp → ℕ → Op
+abbrev pub asks : PlainApp → ℕ → OpShown
 asks s now = op_of s (plan_of s)
 
 -- this is a turn of the step's own: the first is noted

@@ -4,15 +4,15 @@ use Rattle.csp_app.specs.declared.step.Step.{Step}
 use Rattle.csp_app.specs.declared.step.Step.TheVariants as step
 use Rattle.csp_base.specs.Trace.{no_trace}
 use Rattle.csp_buffer.specs.Content.{Content}
-use Rattle.csp_log.specs.declared.item.Item.{Item}
-use Rattle.csp_log.specs.declared.item.Item.TheVariants as item
-use Rattle.csp_log.specs.declared.operation.Op.{Op}
-use Rattle.csp_log.specs.declared.operation.Op.TheVariants as op
+use Rattle.csp_log.specs.declared.shown.ItemShown.{ItemShown}
+use Rattle.csp_log.specs.declared.shown.ItemShown.TheVariants as item
+use Rattle.csp_log.specs.declared.shown.OpShown.{OpShown}
+use Rattle.csp_log.specs.declared.shown.OpShown.TheVariants as op
 use Rattle.csp_log.specs.declared.places.QueueId.TheVariants as queue
 use Rattle.csp_log.specs.declared.places.TheConstants.{UNMARKED}
 
 -- the buffer in an item
-abbrev pub packet_in : Item → Option Content
+abbrev pub packet_in : ItemShown → Option Content
 packet_in (item.Packet _ b) = Some b
 packet_in (item.Frame _) = None
 packet_in (item.Note _) = None
@@ -27,11 +27,11 @@ filled (Some (step.Wait _)) b = b
 filled None b = b
 
 -- a buffer goes back to the pool
-abbrev pub given : Option Content → Op
+abbrev pub given : Option Content → OpShown
 given (Some b) = op.Give b
 given None = op.Nothing
 
 -- a packet goes to `Up` as it is
-abbrev pub sent : ℕ → Option Content → Op
+abbrev pub sent : ℕ → Option Content → OpShown
 sent number (Some b) = op.Push (queue.Up number) (item.Packet UNMARKED b)
 sent number None = op.Nothing

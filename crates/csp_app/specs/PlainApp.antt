@@ -1,12 +1,14 @@
 -- what an application is: its script, how far it has come, and the buffers that it has
-use Rattle.std.specs.Prelude.{ℕ, ◌+◌, ◌==◌, ◌&&◌, Bool, false, Option, Some, None, is_none, List, [], ◌++◌, length, map, replicate, nat_le, if◌then◌else◌}
+use Rattle.std.specs.Prelude.{ℕ, ◌+◌, ◌==◌, ◌&&◌, Bool, false, Option, Some, None, is_none, List, [], ◌++◌, length, replicate, nat_le, if◌then◌else◌}
 use Rattle.std.specs.Option.{option_to_list}
 use Rattle.csp_app.specs.Slots.{fresh, counted}
 use Rattle.csp_app.specs.declared.plan.Plan.{Plan}
 use Rattle.csp_app.specs.declared.plan.Plan.TheVariants as plan
 use Rattle.csp_app.specs.declared.slot.Slot.{Slot}
 use Rattle.csp_app.specs.declared.step.Step.{Step}
+use Rattle.csp_arena.specs.Cells.{RegionName}
 use Rattle.csp_buffer.specs.Content.{Content}
+use Rattle.csp_deck.specs.Keeping.{numbers_of}
 use Rattle.csp_log.specs.declared.places.Carries.TheVariants as lane
 use Rattle.csp_log.specs.declared.places.QueueId.{QueueId}
 use Rattle.csp_log.specs.declared.places.QueueId.TheVariants as queue
@@ -35,6 +37,15 @@ pub record PlainApp : Type 0 where
   -- what this turn is, from the operation to its answer
   pub doing : Plan
 
+-- an application whose buffers are of this region
+pub record AppAt : Type 0 where
+  pub region : RegionName
+  pub app : PlainApp
+
+-- the application with this state
+abbrev pub with_app : AppAt → PlainApp → AppAt
+with_app a s = record { region = a.region; app = s }
+
 -- an application of this number at the start of this script
 abbrev pub opening : ℕ → List Step → PlainApp
 opening number steps = record {
@@ -62,11 +73,7 @@ present_step s = (if has_ended s then 0 else s.done + 1)
 abbrev pub buffers : PlainApp → List Content
 buffers s = option_to_list s.taken ++ (option_to_list s.made ++ s.held)
 
--- the numbers of buffers
-abbrev pub numbers_of : List Content → List ℕ
-numbers_of bs = map (λ b. b.number) bs
-
--- and of those that it holds
+-- and their numbers
 abbrev pub holds : PlainApp → List ℕ
 holds s = numbers_of (buffers s)
 

@@ -1,7 +1,6 @@
 -- what holds of an application's fields at every time
 use Rattle.std.specs.Prelude.{◌≡◌, ℕ, ◌+◌, ◌^◌, ◌<◌, ◌≤◌, Bool, true, false, Some, None, List, length, drop, count_by, All, ⊤, slice_get}
-use Rattle.std.specs.VecDeque.{deque_capacity}
-use Rattle.csp_app.specs.PlainApp.{PlainApp}
+use Rattle.csp_app.specs.PlainApp.{PlainApp, AppAt}
 use Rattle.csp_app.specs.Slots.{slot_at}
 use Rattle.csp_app.specs.declared.app.App.TheInside.{Inside}
 use Rattle.csp_app.specs.declared.plan.Plan.{Plan}
@@ -18,12 +17,16 @@ plain_app a = record {
   done = a.progress.done;
   since = a.progress.since;
   refused = a.refused;
-  taken = a.taken;
-  made = a.made;
-  held = a.held.items;
+  taken = a.taken.content;
+  made = a.made.content;
+  held = a.held.contents;
   slots = a.slots;
   doing = a.doing;
 }
+
+-- with the region of its buffers
+abbrev pub app_at : Inside → AppAt
+app_at a = record { region = a.taken.region; app = plain_app a }
 
 -- a step on slots that there are
 abbrev pub IsStep : Step → Type 0
@@ -79,5 +82,8 @@ pub record IsReady (a : Inside) : Type 0 where
   pub steps : All IsStep a.steps.items
   pub done : a.progress.done ≤ length a.steps.items
   -- there is room for each buffer that comes back or that a `take` to come brings
-  pub room : length a.held.items + lent a.doing + takes (drop a.progress.done a.steps.items) ≤ deque_capacity a.held
+  pub room : length a.held.contents + lent a.doing + takes (drop a.progress.done a.steps.items) ≤ a.held.room
   pub hears : CanHear (plain_app a) a.doing
+  -- all its buffers are of one region
+  pub made_of_it : a.made.region ≡ a.taken.region
+  pub held_of_it : a.held.region ≡ a.taken.region

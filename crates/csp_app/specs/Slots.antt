@@ -3,8 +3,8 @@ use Rattle.std.specs.Prelude.{ℕ, ◌+◌, ◌-◌, ◌∷◌, [], true, false,
 use Rattle.csp_app.specs.declared.slot.Slot.{Slot}
 use Rattle.csp_log.specs.declared.event.Event.{Event}
 use Rattle.csp_log.specs.declared.event.Event.TheVariants as event
-use Rattle.csp_log.specs.declared.item.Item.{Item}
-use Rattle.csp_log.specs.declared.item.Item.TheVariants as item
+use Rattle.csp_log.specs.declared.shown.ItemShown.{ItemShown}
+use Rattle.csp_log.specs.declared.shown.ItemShown.TheVariants as item
 use Rattle.csp_log.specs.declared.note.Note.{Note}
 use Rattle.csp_log.specs.declared.note.Note.TheVariants as note
 
@@ -44,13 +44,13 @@ noted (note.Connected _) slots = slots
 noted (note.Refused _) slots = slots
 
 -- the slots after an item was popped
-abbrev pub slots_after : Item → List Slot → List Slot
+abbrev pub slots_after : ItemShown → List Slot → List Slot
 slots_after (item.Packet k _) slots = taken_on k slots
 slots_after (item.Note n) slots = noted n slots
 slots_after (item.Frame _) slots = slots
 
 -- what is reported of an item that was popped: a packet is taken on its slot's present connection
-abbrev pub took : Item → List Slot → List Event
+abbrev pub took : ItemShown → List Slot → List Event
 took (item.Packet k _) slots = event.Took k (slot_at slots k).ordinal ∷ []
 took (item.Note _) slots = []
 took (item.Frame _) slots = []

@@ -8,9 +8,9 @@ use Rattle.csp_app.specs.declared.plan.Plan.TheVariants as plan
 use Rattle.csp_app.specs.declared.slot.Slot.{Slot}
 use Rattle.csp_log.specs.declared.event.Event.{Event}
 use Rattle.csp_log.specs.declared.event.Event.TheVariants as event
-use Rattle.csp_log.specs.declared.item.Item.{Item}
-use Rattle.csp_log.specs.declared.operation.Answer.{Answer}
-use Rattle.csp_log.specs.declared.operation.Answer.TheVariants as answer
+use Rattle.csp_log.specs.declared.shown.ItemShown.{ItemShown}
+use Rattle.csp_log.specs.declared.shown.AnswerShown.{AnswerShown}
+use Rattle.csp_log.specs.declared.shown.AnswerShown.TheVariants as answer
 
 -- the present step is done
 abbrev pub next : PlainApp → PlainApp
@@ -21,7 +21,7 @@ abbrev pub put_off : PlainApp → PlainApp
 put_off s = record s { refused = true }
 
 -- an item was popped: a packet is taken on its slot, and is to be given back
-abbrev pub popped : Item → PlainApp → PlainApp
+abbrev pub popped : ItemShown → PlainApp → PlainApp
 popped i s = record s { taken = packet_in i; slots = slots_after i s.slots }
 
 -- so many packets of a slot are there that no `recv` has used
@@ -79,7 +79,7 @@ looks s now (plan.Receive slot packets rounds) = receives slot packets rounds no
 looks s now _ = []
 
 -- what each answer makes of it
-abbrev pub told_by : PlainApp → ℕ → Plan → Answer → PlainApp
+abbrev pub told_by : PlainApp → ℕ → Plan → AnswerShown → PlainApp
 -- a packet is given back; from a full pool it comes back, and is still to be given
 told_by s now plan.Return answer.Given = s
 told_by s now plan.Return (answer.PoolFull b) = record s { taken = Some b }
@@ -108,11 +108,11 @@ told_by s now (plan.Wait rounds) answer.Empty = waited rounds now s
 -- no other answer comes
 told_by s now _ _ = s
 
-abbrev pub tells : PlainApp → ℕ → Answer → PlainApp
+abbrev pub tells : PlainApp → ℕ → AnswerShown → PlainApp
 tells s now a = record (told_by s now s.doing a) { doing = plan.Rest }
 
 -- what it reports with each answer
-abbrev pub reports : PlainApp → ℕ → Plan → Answer → List Event
+abbrev pub reports : PlainApp → ℕ → Plan → AnswerShown → List Event
 reports s now plan.Look (answer.Popped i) = took i s.slots
 reports s now plan.Take answer.NoBuffer = event.TookEmpty (s.done + 1) ∷ []
 reports s now (plan.Receive slot packets rounds) (answer.Popped i) = took i s.slots ++ receives slot packets rounds now (popped i s)
@@ -120,5 +120,5 @@ reports s now (plan.Receive slot packets rounds) answer.Empty = receives slot pa
 reports s now (plan.Wait _) (answer.Popped i) = took i s.slots
 reports s now _ _ = []
 
-abbrev pub events : PlainApp → ℕ → Answer → List Event
+abbrev pub events : PlainApp → ℕ → AnswerShown → List Event
 events s now a = reports s now s.doing a

@@ -2,10 +2,13 @@
 #![tactic(auto)]
 
 mod app;
+mod asking;
+mod party;
 mod plan;
 mod progress;
 mod slot;
 mod step;
+mod telling;
 #[cfg(test)]
 mod tests;
 

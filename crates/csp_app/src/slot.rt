@@ -4,8 +4,9 @@ ghost use Rattle.std.specs.Prelude.{◌≡◌, ◌+◌, ◌-◌, ◌^◌, ◌<�
 ghost use Rattle.csp_app.specs.Slots.{fresh, slot_at, slots_after, took, used_on, counted};
 ghost use Rattle.csp_deck.specs.Carried.{IsDownItem};
 ghost use Rattle.std.specs.Option.{option_to_list};
+ghost use Rattle.csp_log.specs.Pictures.{shown_item};
 
-use csp_log::{Event, Item, Note, SLOTS};
+use csp_log::{Event, Item, ItemShown, Note, SLOTS};
 
 /// One slot for a connection.
 #[derive(Clone, Copy, PartialEq, Eq, Debug)]
@@ -32,10 +33,10 @@ pub fn fresh_slot() -> Slot
 /// An item was popped. Gives what is to be reported of it.
 pub fn note_item(slots: &mut [Slot], item: &Item) -> Option<Event>
     requires slots { length slots.old ≡ SLOTS }
-    requires item { IsDownItem item.now }
+    requires item { IsDownItem (shown_item item.now) }
     requires room { counted slots.old < 2 ^ 32 - 1 }
-    ensures slots { slots.new ≡ slots_after item.now slots.old }
-    ensures event { option_to_list result ≡ took item.now slots.old }
+    ensures slots { slots.new ≡ slots_after (shown_item item.now) slots.old }
+    ensures event { option_to_list result ≡ took (shown_item item.now) slots.old }
 {
     match item {
         Item::Packet { mark, .. } => {
@@ -57,9 +58,9 @@ pub fn note_item(slots: &mut [Slot], item: &Item) -> Option<Event>
 /// A note was popped.
 fn note_note(slots: &mut [Slot], note: &Note)
     requires slots { length slots.old ≡ SLOTS }
-    requires item { IsDownItem (Item.Note note.now) }
+    requires item { IsDownItem (ItemShown.Note note.now) }
     requires room { counted slots.old < 2 ^ 32 - 1 }
-    ensures { slots.new ≡ slots_after (Item.Note note.now) slots.old }
+    ensures { slots.new ≡ slots_after (ItemShown.Note note.now) slots.old }
 {
     match note {
         Note::Closed { slot } => {

@@ -46,6 +46,13 @@ impl MemSource {
             faults: 0,
         }
     }
+
+    /// How often it was read, up to 2^64 - 1.
+    pub fn calls(&self) -> u64
+        ensures { result ≡ self.now.calls }
+    {
+        self.calls
+    }
 }
 
 impl Source for MemSource {
@@ -140,6 +147,13 @@ impl MemSink {
         ensures { result.now ≡ self.now.written }
     {
         &self.room[..self.filled]
+    }
+
+    /// How often it was written to, up to 2^64 - 1.
+    pub fn calls(&self) -> u64
+        ensures { result ≡ self.now.calls }
+    {
+        self.calls
     }
 }
 

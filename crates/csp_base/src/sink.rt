@@ -28,6 +28,7 @@ pub fn write_whole<K: Sink>(sink: &mut K, bytes: &[u8]) -> Result<(), Failed>
     ensures whole { OnOk result (Appends (K.written sink.old) (K.written sink.new) bytes.now) }
     ensures part { OnErr result (WrotePrefix (K.written sink.old) (K.written sink.new) bytes.now) }
     ensures fault { IsErr result → Rose (K.faults sink.old) (K.faults sink.new) }
+    ensures steady { OnOk result (K.faults sink.new ≡ K.faults sink.old) }
 {
     let mut rest = bytes;
     while !rest.is_empty() {

@@ -40,8 +40,8 @@ pub enum ReadError {
 /// How many bytes one read asks for at most.
 const CHUNK: usize = 4096;
 
-/// Reads a source to its end, which is to come within `limit` bytes: the reading stops at a fault, at
-/// the end of input, or at byte `limit + 1`.
+/// Reads a source to its end, which is to come within `limit` bytes: the reading stops at the first fault, at
+/// the end of input, or at byte `limit + 1`. Fault is answered exactly where the last read met one.
 pub fn read_up_to<S: Source>(
     alloc: Global,
     source: &mut S,
@@ -52,6 +52,7 @@ pub fn read_up_to<S: Source>(
     ensures short { IfOk result (λ bytes. vec_len bytes ≤ limit) }
     ensures stops { TookAtMost (S.left source.old) (S.left source.new) (limit + 1) }
     ensures fault { IsErrOf result ReadError.Fault → Rose (S.faults source.old) (S.faults source.new) }
+    ensures steady { result ≢ Err ReadError.Fault → S.faults source.new ≡ S.faults source.old }
     ensures long { IsErrOf result ReadError.TooLong → TookExactly (S.left source.old) (S.left source.new) (limit + 1) }
 {
     let mut taken = Vec::new(alloc);
@@ -78,8 +79,8 @@ fn read_some<S: Source>(
     ensures bound { IfOk result (λ n. vec_len taken.new ≤ most) }
     ensures refused { OnErr result (TookAtMost (S.left source.old) (S.left source.new) (most - vec_len taken.old)) }
     ensures not_long { result ≢ Err ReadError.TooLong }
-    ensures steady { S.faults source.old ≤ S.faults source.new }
     ensures fault { IsErrOf result ReadError.Fault → Rose (S.faults source.old) (S.faults source.new) }
+    ensures steady { result ≢ Err ReadError.Fault → S.faults source.new ≡ S.faults source.old }
 {
     let wanted = chunk.len().min(most - taken.len());
     let Ok(count) = source.read(&mut chunk[..wanted]) else {

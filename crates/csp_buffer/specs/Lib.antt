@@ -1,1 +1,5 @@
 pub mod Content
+pub mod Memory
+pub mod PlainBuffer
+pub mod Trails
+pub mod Words

@@ -1,12 +1,15 @@
-//! Packet buffers: each has a number for life, is neither copied nor dropped, and is spent once.
+//! Packet buffers: each is a cell of its node's memory, has a number for life, is neither copied nor dropped, and is spent once.
 #![tactic(auto)]
 
 mod buffer;
 mod errors;
+mod memory;
 mod shown;
 #[cfg(test)]
 mod tests;
+mod trail;
 
-pub use buffer::Buffer;
+pub use buffer::{Buffer, CELL_SIZE};
 pub use errors::{Full, Short};
+pub use memory::Memory;
 pub use shown::Shown;

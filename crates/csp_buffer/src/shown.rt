@@ -6,7 +6,7 @@ use arrayvec::ArrayVec;
 use csp_base::{MAX_PAYLOAD, Trace};
 use std::marker::Model;
 
-/// What a buffer held at one moment, for a log. Contracts see it as the buffer: as a `Content`.
+/// What a buffer held at one moment, for a log. Contracts see it as a `Content`, and a buffer as its picture and its region.
 #[derive(Drop, Clone, PartialEq, Eq, Debug)]
 pub struct Shown {
     pub number: u16,

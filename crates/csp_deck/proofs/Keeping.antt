@@ -4,16 +4,13 @@ use Rattle.std.specs.List.{flat_map}
 use Rattle.std.proofs.lemmas.Grind.{flat_map-append}
 use Rattle.std.proofs.lemmas.List.{append-nil}
 use Rattle.std.proofs.lemmas.List.Sums.{sum_by-append}
-use Rattle.csp_log.specs.Pictures.{shown_op, shown_answer}
-use Rattle.csp_log.specs.Pictures.{op_in, answer_in}
 use Rattle.csp_deck.specs.Runs.{Steps, IsStep, IsRun, IsKept, step_after, state_after, last_time, handed_over, received}
 use Rattle.csp_log.specs.Pictures.{Fits}
 use Rattle.csp_deck.specs.Step.{entry_of, times, op_numbers, answer_numbers}
 use Rattle.csp_log.specs.declared.entry.Entry.{Entry}
 use Rattle.csp_log.specs.declared.event.Event.{Event}
-use Rattle.csp_log.specs.declared.operation.Op.{Op}
-use Rattle.csp_log.specs.declared.operation.Answer.{Answer}
-use Rattle.csp_deck.proofs.Serving.{op_in-shown_op, answer_in-shown_answer}
+use Rattle.csp_log.specs.declared.shown.OpShown.{OpShown}
+use Rattle.csp_log.specs.declared.shown.AnswerShown.{AnswerShown}
 
 -- how often a number is in two lists, one after the other
 pub times-append : (k : ℕ) (xs ys : List ℕ) → times k (xs ++ ys) ≡ times k xs + times k ys
@@ -34,20 +31,20 @@ module _ {S : Type 0} (p : Steps S) where
   IsRun-push time s (x ∷ es) e run late step = (run.0, run.1, IsRun-push x.time (step_after p s x) es e run.2 late step)
 
   -- the state after the turn of an entry
-  step_after-entry_of : (s : S) (time : ℕ) (o : Op) (a : Answer) (events : List Event) → step_after p s (entry_of time o a events) ≡ p.tells (p.asked s time) time a
-  step_after-entry_of s time o a events = ap (λ x. p.tells (p.asked s time) time x) (answer_in-shown_answer a)
+  step_after-entry_of : (s : S) (time : ℕ) (o : OpShown) (a : AnswerShown) (events : List Event) → step_after p s (entry_of time o a events) ≡ p.tells (p.asked s time) time a
+  step_after-entry_of s time o a events = refl
 
   -- the entry of a turn is that of a step
-  IsStep-entry_of : (s : S) (time : ℕ) (a : Answer) → p.has_ended s ≡ false → Fits (p.asks s time) a → IsStep p s (entry_of time (p.asks s time) a (p.events (p.asked s time) time a))
+  IsStep-entry_of : (s : S) (time : ℕ) (a : AnswerShown) → p.has_ended s ≡ false → Fits (p.asks s time) a → IsStep p s (entry_of time (p.asks s time) a (p.events (p.asked s time) time a))
   IsStep-entry_of s time a goes_on fits = record {
     goes_on = goes_on;
     op = refl;
-    fits = rw (answer_in-shown_answer a) fits;
-    events = rw (answer_in-shown_answer a) refl;
+    fits = fits;
+    events = refl;
   }
 
   -- what is kept with one turn more
-  pub IsKept-push : (holds : S → List ℕ) (opening s : S) (es : List Entry) (time : ℕ) (a : Answer)
+  pub IsKept-push : (holds : S → List ℕ) (opening s : S) (es : List Entry) (time : ℕ) (a : AnswerShown)
       → last_time 0 es ≤ time → p.has_ended s ≡ false → Fits (p.asks s time) a
       → ((k : ℕ) → times k (holds (p.tells (p.asked s time) time a)) + times k (op_numbers (p.asks s time)) ≡ times k (holds s) + times k (answer_numbers a))
       → IsKept p holds opening es s
@@ -62,12 +59,12 @@ module _ {S : Type 0} (p : Steps S) where
     held = λ k.
         let e = entry_of time (p.asks s time) a (p.events (p.asked s time) time a) in
         let over : times k (handed_over (es ++ e ∷ [])) ≡ times k (handed_over es) + times k (op_numbers (p.asks s time)) =
-        ap (times k) (flat_map-push (λ x. op_numbers (op_in x.op)) es e) ∙ times-append k (handed_over es) _ ∙ rw (op_in-shown_op (p.asks s time)) refl in
+        ap (times k) (flat_map-push (λ x. op_numbers x.op) es e) ∙ times-append k (handed_over es) _ in
         let came : times k (received (es ++ e ∷ [])) ≡ times k (received es) + times k (answer_numbers a) =
-        ap (times k) (flat_map-push (λ x. answer_numbers (answer_in x.answer)) es e) ∙ times-append k (received es) _ ∙ rw (answer_in-shown_answer a) refl in
+        ap (times k) (flat_map-push (λ x. answer_numbers x.answer) es e) ∙ times-append k (received es) _ in
         omega (arith, law k, kept.held k);
   }
 
 -- the entry of a turn, of what it is made of
-pub entry_of-made : (time : ℕ) (o : Op) (a : Answer) (events : List Event) (e : Entry) → e.time ≡ time → e.op ≡ shown_op o → e.answer ≡ shown_answer a → e.events.items ≡ events → e ≡ entry_of time o a events
+pub entry_of-made : (time : ℕ) (o : OpShown) (a : AnswerShown) (events : List Event) (e : Entry) → e.time ≡ time → e.op ≡ o → e.answer ≡ a → e.events.items ≡ events → e ≡ entry_of time o a events
 entry_of-made time o a events e t u v w = rw (← t, ← u, ← v, ← w) refl

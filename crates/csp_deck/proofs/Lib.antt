@@ -1,10 +1,3 @@
-pub mod Answering
-pub mod Conserving
 pub mod Counting
-pub mod Holding
-pub mod InOrder
 pub mod Keeping
-pub mod LaneLists
 pub mod Serving
-pub mod Shape
-pub mod Weighing

@@ -4,8 +4,6 @@ use Rattle.csp_base.specs.Priority.{prio_of}
 use Rattle.csp_base.specs.declared.priority.Prio.{Prio}
 use Rattle.csp_base.specs.declared.priority.Prio.TheVariants.{Critical, High, Normal, Low}
 use Rattle.csp_buffer.specs.Content.{Content}
-use Rattle.csp_log.specs.declared.item.Item.{Item}
-use Rattle.csp_log.specs.declared.item.Item.TheVariants as item
 use Rattle.csp_log.specs.declared.note.Note.{Note}
 use Rattle.csp_log.specs.declared.note.Note.TheVariants as note
 use Rattle.csp_log.specs.declared.places.Carries.TheVariants as lane
@@ -16,6 +14,8 @@ use Rattle.csp_log.specs.declared.places.QueueId.TheVariants as queue
 use Rattle.csp_log.specs.declared.places.Rule.{Rule}
 use Rattle.csp_log.specs.declared.places.Rule.TheVariants as rule
 use Rattle.csp_log.specs.declared.places.TheConstants.{UNMARKED, IFACES, SLOTS, MAX_DATA}
+use Rattle.csp_log.specs.declared.shown.ItemShown.{ItemShown}
+use Rattle.csp_log.specs.declared.shown.ItemShown.TheVariants as item
 
 -- the priority in a packet's header: its top two bits
 abbrev pub priority_of : Content → Prio
@@ -44,49 +44,49 @@ IsReply (note.Closed slot) = slot < SLOTS
 IsReply (note.Down slot) = slot < SLOTS
 
 -- the inbox: packets marked with the number of an interface, or with none
-abbrev pub IsInboxItem : Item → Type 0
+abbrev pub IsInboxItem : ItemShown → Type 0
 IsInboxItem (item.Packet mark _) = mark ≢ UNMARKED → mark < IFACES
 IsInboxItem (item.Frame _) = ⊥
 IsInboxItem (item.Note _) = ⊥
 
 -- one of its four queues: such packets of this priority
-abbrev pub IsOfPriority : Prio → Item → Type 0
+abbrev pub IsOfPriority : Prio → ItemShown → Type 0
 IsOfPriority p (item.Packet mark b) = (mark ≢ UNMARKED → mark < IFACES) × (priority_of b ≡ p)
 IsOfPriority p (item.Frame _) = ⊥
 IsOfPriority p (item.Note _) = ⊥
 
 -- from an application: packets without a mark, packets for a slot with 1 to MAX_DATA bytes, and requests
-abbrev pub IsUpItem : Item → Type 0
+abbrev pub IsUpItem : ItemShown → Type 0
 IsUpItem (item.Packet mark b) = mark ≢ UNMARKED → (mark < SLOTS) × (1 ≤ length b.payload) × (length b.payload ≤ MAX_DATA)
 IsUpItem (item.Frame _) = ⊥
 IsUpItem (item.Note n) = IsRequest n
 
 -- to an application: packets of a slot, and replies
-abbrev pub IsDownItem : Item → Type 0
+abbrev pub IsDownItem : ItemShown → Type 0
 IsDownItem (item.Packet mark _) = mark < SLOTS
 IsDownItem (item.Frame _) = ⊥
 IsDownItem (item.Note n) = IsReply n
 
 -- to an interface: packets marked with the address of the next hop, or with none
-abbrev pub IsOutItem : Item → Type 0
+abbrev pub IsOutItem : ItemShown → Type 0
 IsOutItem (item.Packet mark _) = mark ≢ UNMARKED → mark < 32
 IsOutItem (item.Frame _) = ⊥
 IsOutItem (item.Note _) = ⊥
 
 -- a KISS link: frames without an identifier
-abbrev pub IsKissItem : Item → Type 0
+abbrev pub IsKissItem : ItemShown → Type 0
 IsKissItem (item.Packet _ _) = ⊥
 IsKissItem (item.Frame f) = f.can ≡ None
 IsKissItem (item.Note _) = ⊥
 
 -- a CAN link: frames of at most 8 bytes with an identifier of 29 bits
-abbrev pub IsCanItem : Item → Type 0
+abbrev pub IsCanItem : ItemShown → Type 0
 IsCanItem (item.Packet _ _) = ⊥
 IsCanItem (item.Frame f) = IsSomeAnd f.can (λ id. id < 2 ^ 29) × (length f.bytes.items ≤ 8)
 IsCanItem (item.Note _) = ⊥
 
 -- a queue under this rule carries this item
-abbrev pub IsCarried : Rule → Item → Type 0
+abbrev pub IsCarried : Rule → ItemShown → Type 0
 IsCarried rule.Inbox i = IsInboxItem i
 IsCarried (rule.Priority p) i = IsOfPriority p i
 IsCarried (rule.Lane lane.Up) i = IsUpItem i
@@ -96,28 +96,18 @@ IsCarried (rule.Lane lane.Kiss) i = IsKissItem i
 IsCarried (rule.Lane lane.Can) i = IsCanItem i
 
 -- there is a queue, and it carries this item
-abbrev pub IsCarriedIn : Option Rule → Item → Type 0
+abbrev pub IsCarriedIn : Option Rule → ItemShown → Type 0
 IsCarriedIn r i = IsSomeAnd r (λ rule. IsCarried rule i)
 
 -- where a push of this item goes: in the inbox, to the queue of its header's priority
-abbrev pub place_for : QueueId → Item → Place
+abbrev pub place_for : QueueId → ItemShown → Place
 place_for queue.Inbox (item.Packet _ b) = place.Inbox (priority_of b)
-place_for queue.Inbox (item.Frame _) = place.Lane queue.Inbox
-place_for queue.Inbox (item.Note _) = place.Lane queue.Inbox
-place_for (queue.Up k) _ = place.Lane (queue.Up k)
-place_for (queue.Down k) _ = place.Lane (queue.Down k)
-place_for (queue.Out k) _ = place.Lane (queue.Out k)
-place_for (queue.Tx k) _ = place.Lane (queue.Tx k)
-place_for (queue.Rx k) _ = place.Lane (queue.Rx k)
+place_for l _ = place.Lane l
 
 -- where a pop looks, in order: in the inbox, at the queues of all priorities, the most urgent first
 abbrev pub places_of : QueueId → List Place
 places_of queue.Inbox = place.Inbox Critical ∷ place.Inbox High ∷ place.Inbox Normal ∷ place.Inbox Low ∷ []
-places_of (queue.Up k) = place.Lane (queue.Up k) ∷ []
-places_of (queue.Down k) = place.Lane (queue.Down k) ∷ []
-places_of (queue.Out k) = place.Lane (queue.Out k) ∷ []
-places_of (queue.Tx k) = place.Lane (queue.Tx k) ∷ []
-places_of (queue.Rx k) = place.Lane (queue.Rx k) ∷ []
+places_of l = place.Lane l ∷ []
 
 -- the queues of the inbox that come before that of this priority
 abbrev pub places_before : Prio → List Place
@@ -127,12 +117,6 @@ places_before Normal = place.Inbox Critical ∷ place.Inbox High ∷ []
 places_before Low = place.Inbox Critical ∷ place.Inbox High ∷ place.Inbox Normal ∷ []
 
 -- the places that a pop which gave this item passed over: in the inbox, the queues of more urgent priorities
-abbrev pub passed_over : QueueId → Item → List Place
+abbrev pub passed_over : QueueId → ItemShown → List Place
 passed_over queue.Inbox (item.Packet _ b) = places_before (priority_of b)
-passed_over queue.Inbox (item.Frame _) = []
-passed_over queue.Inbox (item.Note _) = []
-passed_over (queue.Up _) _ = []
-passed_over (queue.Down _) _ = []
-passed_over (queue.Out _) _ = []
-passed_over (queue.Tx _) _ = []
-passed_over (queue.Rx _) _ = []
+passed_over _ _ = []

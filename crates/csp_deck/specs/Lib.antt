@@ -1,9 +1,6 @@
 pub mod Carried
-pub mod Carrier
-pub mod DeckParts
-pub mod Gathered
-pub mod PlainDeck
-pub mod PlainFifo
-pub mod QueueParts
+pub mod Keeping
+pub mod Kept
+pub mod Regions
 pub mod Runs
 pub mod Step

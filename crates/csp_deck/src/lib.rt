@@ -3,27 +3,20 @@
 #![tactic(auto)]
 
 mod deck;
-mod fifo;
-mod gathering;
-mod lanes;
-mod laws;
-mod list_deck;
-mod numbers;
+mod desk;
+mod hand;
 mod party;
-mod pool;
-mod queue;
-#[cfg(test)]
-mod tests;
+mod pile;
 mod turns;
 
 pub use csp_log::{
-    Answer, AnswerShown, Carries, DOWN_ROOM, Discard, Entry, Event, Events, Frame, HeldBy, IFACES,
-    Item, ItemShown, LINK_ROOM, Left, LinkKind, Log, MAX_DATA, MAX_EVENTS, Note, OUT_ROOM, Op,
-    OpShown, Place, QueueId, Rule, SLOTS, UNMARKED, UP_ROOM, Why,
+    Answer, AnswerShown, BoxedFrame, Carries, DOWN_ROOM, Discard, Draft, Entry, Event, Events,
+    Frame, HeldBy, IFACES, Item, ItemShown, LINK_ROOM, Left, LinkKind, Log, MAX_DATA, MAX_EVENTS,
+    Note, OUT_ROOM, Op, OpShown, Place, QueueId, Rule, SLOTS, Spares, UNMARKED, UP_ROOM, Why,
 };
 pub use deck::Deck;
-pub use laws::{conserves, counts_holders, gathers, keeps_shape, opens, weighs};
-pub use list_deck::ListDeck;
+pub use desk::Desk;
+pub use hand::Hand;
 pub use party::Party;
-pub use pool::Pool;
+pub use pile::Pile;
 pub use turns::turn;

@@ -1,21 +1,24 @@
 //! What takes turns.
 
-ghost use Rattle.std.specs.Prelude.{◌≡◌, ℕ, ◌+◌, ◌-◌, ◌^◌, ◌<◌, ◌≤◌, Bool, false, List, Option};
+ghost use Rattle.std.specs.Prelude.{◌≡◌, ℕ, ◌+◌, ◌-◌, ◌^◌, ◌<◌, ◌≤◌, Bool, false, List, [], Option};
+ghost use Rattle.csp_deck.specs.Regions.{IsOpOf, IsAnswerFrom};
 ghost use Rattle.csp_deck.specs.Step.{Kind, kind_of, CanServe, IsAnswerOf, op_numbers, answer_numbers, times};
+ghost use Rattle.csp_log.specs.Pictures.{shown_op, shown_answer};
 
-use crate::{Answer, Events, Op};
+use crate::{Answer, Events, Op, Spares};
 
 /// A router, a bridge, an interface, an application or a link: it asks for one operation a turn, and
 /// is told its answer.
 ///
 /// Its state is what contracts see of it. What it asks, what it becomes and what it reports are
-/// functions of that state, so a party has just one behaviour.
+/// functions of that state and of pictures, so a party has just one behaviour.
 pub trait Party {
+    ghost use Rattle.csp_arena.specs.Cells.{RegionName};
     ghost use Rattle.csp_log.specs.declared.event.Event.{Event};
-    ghost use Rattle.csp_log.specs.declared.operation.Op.{Op};
-    ghost use Rattle.csp_log.specs.declared.operation.Answer.{Answer};
     ghost use Rattle.csp_log.specs.declared.places.QueueId.{QueueId};
     ghost use Rattle.csp_log.specs.declared.places.Rule.{Rule};
+    ghost use Rattle.csp_log.specs.declared.shown.OpShown.{OpShown};
+    ghost use Rattle.csp_log.specs.declared.shown.AnswerShown.{AnswerShown};
 
     /// It can be asked at this time.
     ghost is_ready: { Self → ℕ → Type 0 };
@@ -32,20 +35,26 @@ pub trait Party {
     /// The queues that it uses, and what they carry.
     ghost uses: { Self → QueueId → Option Rule };
 
+    /// The region of all buffers that it holds.
+    ghost region: { Self → RegionName };
+
     /// The greatest of the numbers that its turns raise, each turn by at most one.
     ghost count: { Self → ℕ } = { λ _. 0 };
 
+    /// How many frames a turn of it makes at most, each in a box of the stock that it is handed.
+    ghost needs: { Self → ℕ } = { λ _. 0 };
+
     /// What it asks at this time.
-    ghost asks: { Self → ℕ → Op };
+    ghost asks: { Self → ℕ → OpShown };
 
     /// What it is once it has asked.
     ghost asked: { Self → ℕ → Self };
 
     /// What it is once it was told this answer.
-    ghost tells: { Self → ℕ → Answer → Self };
+    ghost tells: { Self → ℕ → AnswerShown → Self };
 
     /// What it reports when it is told this answer.
-    ghost events: { Self → ℕ → Answer → List Event };
+    ghost events: { Self → ℕ → AnswerShown → List Event };
 
     /// The numbers of the buffers that it holds.
     ghost holds: { Self → List ℕ };
@@ -56,35 +65,51 @@ pub trait Party {
         requires early { now < 2 ^ 62 }
         requires countable { count self.old < 2 ^ 32 - 1 }
         requires goes_on { has_ended self.old ≡ false }
-        ensures op { result ≡ asks self.old now }
+        ensures op { shown_op result ≡ asks self.old now }
         ensures state { self.new ≡ asked self.old now }
         ensures waiting { is_waiting self.new now }
-        ensures awaits { awaits self.new ≡ kind_of result }
+        ensures awaits { awaits self.new ≡ kind_of (shown_op result) }
         ensures uses { (q : QueueId) → uses self.new q ≡ uses self.old q }
+        ensures region { region self.new ≡ region self.old }
         ensures count { count self.new ≤ count self.old }
+        ensures needs { needs self.new ≡ needs self.old }
 
         // It asks what the queues that it uses can serve: what it pushes, they carry.
-        ensures served { CanServe (uses self.old) result }
+        ensures served { CanServe (uses self.old) (shown_op result) }
+
+        // What it hands over is of its region.
+        ensures of_it { IsOpOf (region self.old) result }
 
         // It holds no more what it hands over.
-        ensures holds { (k : ℕ) → times k (holds self.new) + times k (op_numbers result) ≡ times k (holds self.old) };
+        ensures holds { (k : ℕ) → times k (holds self.new) + times k (op_numbers (shown_op result)) ≡ times k (holds self.old) };
 
-    /// Ends the turn with the operation's answer.
-    fn told(&mut self, answer: Answer, now: u64) -> Events
+    /// Ends the turn with the operation's answer. What it reports goes into `report`, which is empty;
+    /// the frames that it makes are in boxes of `spares`.
+    fn told(&mut self, answer: Answer, now: u64, report: &mut Events, spares: &mut Spares)
         requires waiting { is_waiting self.old now }
-        requires fits { IsAnswerOf (uses self.old) (awaits self.old) answer }
+        requires fits { IsAnswerOf (uses self.old) (awaits self.old) (shown_answer answer) }
+        requires of_it { IsAnswerFrom (region self.old) answer }
         requires early { now < 2 ^ 62 }
         requires countable { count self.old < 2 ^ 32 - 1 }
-        ensures events { result.items ≡ events self.old now answer }
-        ensures state { self.new ≡ tells self.old now answer }
+        requires unwritten { report.old.items ≡ [] }
+        requires stock { needs self.old ≤ spares.old }
+        ensures events { report.new.items ≡ events self.old now (shown_answer answer) }
+        ensures state { self.new ≡ tells self.old now (shown_answer answer) }
         ensures ready { (later : ℕ) → now ≤ later → later < 2 ^ 62 → has_ended self.new ≡ false → is_ready self.new later }
         ensures uses { (q : QueueId) → uses self.new q ≡ uses self.old q }
+        ensures region { region self.new ≡ region self.old }
         ensures count { count self.new ≤ count self.old + 1 }
+        ensures needs { needs self.new ≡ needs self.old }
+        ensures stock { spares.old ≤ spares.new + needs self.old }
 
         // It holds besides what it was given.
-        ensures holds { (k : ℕ) → times k (holds self.new) ≡ times k (holds self.old) + times k (answer_numbers answer) };
+        ensures holds { (k : ℕ) → times k (holds self.new) ≡ times k (holds self.old) + times k (answer_numbers (shown_answer answer)) };
 
     /// Whether it is done.
     fn ended(&self) -> bool
         ensures { result ≡ has_ended self.now };
+
+    /// How many boxes a turn of it takes at most.
+    fn boxes(&self) -> u8
+        ensures { result ≡ needs self.now };
 }

@@ -1,18 +1,18 @@
 //! One turn of a party.
 
-ghost use Rattle.std.specs.Prelude.{◌≡◌, ℕ, ◌+◌, ◌^◌, ◌<◌, ◌≤◌, true, false, Some, length};
+ghost use Rattle.std.specs.Prelude.{◌≡◌, ℕ, suc, ◌+◌, ◌*◌, ◌^◌, ◌<◌, ◌≤◌, true, false, Some, length};
 ghost use Rattle.csp_base.specs.declared.turns.Turn.{Turn};
 ghost use Rattle.csp_deck.specs.Carried.{IsCarriedIn};
-ghost use Rattle.csp_log.specs.PlainLog.{with_entry};
-ghost use Rattle.csp_log.specs.Pictures.{turn_of, op_in, answer_in};
+ghost use Rattle.csp_deck.specs.Regions.{IsOpOf, IsAnswerFrom};
 ghost use Rattle.csp_deck.specs.Runs.{IsKept, last_time};
-ghost use Rattle.csp_log.specs.Pictures.{Fits};
 ghost use Rattle.csp_deck.specs.Step.{HasCause, CanServe, IsAnswerOf, kind_of, entry_of, op_numbers, answer_numbers, times};
-ghost use Rattle.csp_log.specs.declared.operation.Answer.{Answer};
+ghost use Rattle.csp_log.specs.Pictures.{Fits, shown_op, shown_answer, turn_of};
+ghost use Rattle.csp_log.specs.PlainLog.{with_entry};
 ghost use Rattle.csp_log.specs.declared.places.QueueId.{QueueId};
 ghost use Rattle.csp_log.specs.declared.places.Rule.{Rule};
+ghost use Rattle.csp_log.specs.declared.shown.AnswerShown.{AnswerShown};
 
-use crate::{Answer, Deck, Entry, Log, Op, Party};
+use crate::{Answer, Deck, Desk, Log, Op, Party, Spares};
 use csp_base::Turn;
 
 /// One turn of a party: it asks, the deck serves that one operation, it is told the answer, and the
@@ -20,17 +20,26 @@ use csp_base::Turn;
 ///
 /// `Turn::Ended` where the party had ended before: then nothing is done or logged. `Turn::Idle` where
 /// nothing was asked, or the pool or queue was empty or full.
-pub fn turn<P: Party, D: Deck>(party: &mut P, deck: &mut D, log: &mut Log, now: u64) -> Turn
+pub fn turn<P: Party, D: Deck>(
+    party: &mut P,
+    deck: &mut D,
+    log: &mut Log,
+    spares: &mut Spares,
+    desk: &mut Desk,
+    now: u64,
+) -> Turn
     requires ready { P.has_ended party.old ≡ false → P.is_ready party.old now }
     requires early { now < 2 ^ 62 }
     requires room { 0 < log.old.spare }
     requires counted { P.count party.old ≤ length log.old.entries }
     requires served { (q : QueueId) (r : Rule) → P.uses party.old q ≡ Some r → D.rule deck.old q ≡ Some r }
+    requires region { P.region party.old ≡ D.region deck.old }
+    requires stock { P.has_ended party.old ≡ false → P.needs party.old ≤ spares.old }
 
-    ensures ended { P.has_ended party.old ≡ true → (result ≡ Turn.Ended) × (party.new ≡ party.old) × (deck.new ≡ deck.old) × (log.new ≡ log.old) }
+    ensures ended { P.has_ended party.old ≡ true → (result ≡ Turn.Ended) × (party.new ≡ party.old) × (deck.new ≡ deck.old) × (log.new ≡ log.old) × (spares.new ≡ spares.old) }
 
     // One operation was answered, for its cause, and the party made its step.
-    ensures went { P.has_ended party.old ≡ false → (answer : Answer)
+    ensures went { P.has_ended party.old ≡ false → (answer : AnswerShown)
         × D.answers deck.old (P.asks party.old now) answer deck.new
         × Fits (P.asks party.old now) answer
         × HasCause (D.was_empty deck.old deck.new) (D.was_full deck.old deck.new) (P.asks party.old now) answer
@@ -52,46 +61,38 @@ pub fn turn<P: Party, D: Deck>(party: &mut P, deck: &mut D, log: &mut Log, now: 
     ensures counted { P.count party.new ≤ length log.new.entries }
     ensures uses { (q : QueueId) → P.uses party.new q ≡ P.uses party.old q }
     ensures rules { (q : QueueId) → D.rule deck.new q ≡ D.rule deck.old q }
+    ensures region { (P.region party.new ≡ P.region party.old) × (D.region deck.new ≡ D.region deck.old) }
+    ensures needs { P.needs party.new ≡ P.needs party.old }
+    ensures stock { spares.old ≤ spares.new + P.needs party.old }
 {
     if party.ended() {
         return Turn::Ended;
     }
+    // Read for the checker alone, which then knows that the log has fewer entries than its count can tell.
     let _room = log.len();
     let op = party.ask(now);
-    let asked = op.show();
+    let Desk { draft, report } = desk;
+    draft.ask(&op);
     let answer = serve(deck, op);
+    draft.answer(&answer);
     let turn = answer.turn();
-    let answered = answer.show();
-    let events = party.told(answer, now);
-    log_turn(
-        log,
-        &Entry {
-            time: now,
-            op: asked,
-            answer: answered,
-            events,
-        },
-    );
+    report.clear();
+    party.told(answer, now, report, spares);
+    log.append(now, draft, report);
     turn
-}
-
-/// Logs a turn, whether it did something or was idle.
-fn log_turn(log: &mut Log, entry: &Entry)
-    requires room { 0 < log.old.spare }
-    requires fits { Fits (op_in entry.now.op) (answer_in entry.now.answer) }
-    ensures { log.new ≡ with_entry log.old entry.now }
-{
-    log.append(entry);
 }
 
 /// Has the deck serve one operation.
 fn serve<D: Deck>(deck: &mut D, op: Op) -> Answer
-    requires { CanServe (D.rule deck.old) op }
-    ensures answers { D.answers deck.old op result deck.new }
-    ensures fits { Fits op result }
-    ensures cause { HasCause (D.was_empty deck.old deck.new) (D.was_full deck.old deck.new) op result }
-    ensures carried { IsAnswerOf (D.rule deck.old) (kind_of op) result }
+    requires served { CanServe (D.rule deck.old) (shown_op op) }
+    requires of_it { IsOpOf (D.region deck.old) op }
+    ensures answers { D.answers deck.old (shown_op op) (shown_answer result) deck.new }
+    ensures fits { Fits (shown_op op) (shown_answer result) }
+    ensures cause { HasCause (D.was_empty deck.old deck.new) (D.was_full deck.old deck.new) (shown_op op) (shown_answer result) }
+    ensures carried { IsAnswerOf (D.rule deck.old) (kind_of (shown_op op)) (shown_answer result) }
+    ensures of_it { IsAnswerFrom (D.region deck.old) result }
     ensures rules { (q : QueueId) → D.rule deck.new q ≡ D.rule deck.old q }
+    ensures region { D.region deck.new ≡ D.region deck.old }
 {
     match op {
         Op::Nothing => {

@@ -1,21 +1,24 @@
--- the entries of a log stay what they are while its bytes and events grow
-use Rattle.std.proofs.Common.{◌≡◌, ℕ, zero, suc, ◌+◌, ◌-◌, ◌*◌, ◌<◌, ◌≤◌, List, [], ◌∷◌, ◌++◌, length, map, refl, ap, ◌∙◌, arith}
-use Rattle.std.specs.Prelude.{slice_range, All}
+-- what is said of a turn shows it, and the entries of a log stay what they are while its lists grow
+use Rattle.std.proofs.Common.{◌≡◌, ℕ, zero, suc, ◌+◌, ◌-◌, ◌*◌, ◌<◌, ◌≤◌, Bool, true, false, List, [], ◌∷◌, ◌++◌, length, map, refl, ap, ◌∙◌, arith, rules, ◌==◌, Some}
 use Rattle.std.proofs.Math.Nat.{suc-mul}
 use Rattle.std.proofs.Math.Numerals.{sub-one}
+use Rattle.std.specs.Prelude.{slice_range, slice_get, All}
+use Rattle.std.proofs.lemmas.Bool.Decides.{nat_tests}
 use Rattle.std.proofs.lemmas.Grind.{common_steps}
 use Rattle.std.proofs.lemmas.List.{map-append}
-use Rattle.std.proofs.lemmas.List.Elements.{All-head, All-tail, All-weaker, All-push}
-use Rattle.csp_log.specs.Rows.{packet_at, frame_at, item_at, op_at, answer_at, entry_at, IsPacketIn, IsFrameIn, IsItemIn, IsDeedIn, IsRowIn}
-use Rattle.csp_log.specs.declared.entry.Entry.{Entry}
+use Rattle.std.proofs.lemmas.List.Elements.{All-head, All-tail, All-weaker, All-push, All-append}
+use Rattle.csp_base.specs.declared.limits.TheConstants.{MAX_FRAME}
+use Rattle.csp_log.specs.PlainDraft.{PlainDraft}
+use Rattle.csp_log.specs.PlainLog.{entry_with}
+use Rattle.csp_log.specs.Rows.{draft_of, spoken_of, row_entry, kept_entry, entry_by, entry_at, IsDeedLong, IsRowIn, IsWhatIn, IsLineIn, Says}
 use Rattle.csp_log.specs.declared.event.Event.{Event}
-use Rattle.csp_log.specs.declared.row.PacketRow.{PacketRow}
-use Rattle.csp_log.specs.declared.row.FrameRow.{FrameRow}
-use Rattle.csp_log.specs.declared.row.ItemRow.{ItemRow}
-use Rattle.csp_log.specs.declared.row.ItemRow.TheVariants as item_row
+use Rattle.csp_log.specs.declared.event.TheConstants.{MAX_EVENTS}
 use Rattle.csp_log.specs.declared.row.Deed.{Deed}
 use Rattle.csp_log.specs.declared.row.Deed.TheVariants as deed
+use Rattle.csp_log.specs.declared.row.Line.{Line}
 use Rattle.csp_log.specs.declared.row.Row.{Row}
+use Rattle.csp_log.specs.declared.row.What.{What}
+use Rattle.csp_log.specs.declared.row.What.TheVariants as what
 
 -- a part of a list is one of any list that goes on from it
 slice_range-more : {X : Type 0} (xs more : List X) (i j : ℕ) → j ≤ length xs → slice_range (xs ++ more) i j ≡ slice_range xs i j
@@ -25,102 +28,150 @@ slice_range-more xs more i j h = grind (arith, common_steps)
 slice_range-appended : {X : Type 0} (xs more : List X) → slice_range (xs ++ more) (length xs) (length xs + length more) ≡ more
 slice_range-appended xs more = grind (arith, common_steps)
 
-packet_at-more : (bytes more : List ℕ) (p : PacketRow) → IsPacketIn (length bytes) p → packet_at (bytes ++ more) p ≡ packet_at bytes p
-packet_at-more bytes more p h = rw (slice_range-more bytes more p.start (p.start + p.len) h.0) refl
+-- an element of a list is one of any list that goes on from it
+slice_get-more : {X : Type 0} (xs more : List X) (i : ℕ) → i < length xs → slice_get (xs ++ more) i ≡ slice_get xs i
+slice_get-more [] more i h = absurd (omega arith)
+slice_get-more (x ∷ xs) more zero h = refl
+slice_get-more (x ∷ xs) more (suc i) h = slice_get-more xs more i (omega arith)
 
-frame_at-more : (bytes more : List ℕ) (f : FrameRow) → IsFrameIn (length bytes) f → frame_at (bytes ++ more) f ≡ frame_at bytes f
-frame_at-more bytes more f h = rw (slice_range-more bytes more f.start (f.start + f.len) h.0) refl
+slice_get-pushed : {X : Type 0} (xs : List X) (x : X) → slice_get (xs ++ x ∷ []) (length xs) ≡ Some x
+slice_get-pushed [] x = refl
+slice_get-pushed (y ∷ xs) x = slice_get-pushed xs x
 
-item_at-more : (bytes more : List ℕ) (i : ItemRow) → IsItemIn (length bytes) i → item_at (bytes ++ more) i ≡ item_at bytes i
-item_at-more bytes more (item_row.Packet mark p) h = rw (packet_at-more bytes more p h) refl
-item_at-more bytes more (item_row.Frame f) h = rw (frame_at-more bytes more f h) refl
-item_at-more bytes more (item_row.Note n) h = refl
+-- what a line says by itself, it says only where nothing was told
+pub says-alone : (rows : List Row) (bytes : List ℕ) (events : List Event) (bs : List ℕ) (quiet : Bool) (d : Deed) (w : What) (told : List Event) → spoken_of quiet d ≡ Some w → (quiet ≡ true → told ≡ [])
+    → Says rows bytes events (draft_of bs d) told w rows bytes events
+says-alone rows bytes events bs quiet d w told e none =
+    let shown = spoken-shows quiet d w e in
+    record {
+      rows_more = [];
+      bytes_more = [];
+      events_more = [];
+      rows_are = search rules;
+      bytes_are = search rules;
+      events_are = search rules;
+      few = omega arith;
+      inside = search rules;
+      said_in = shown.1;
+      shows = λ t. rw (none shown.0) (shown.2 t);
+    } where
+      spoken-shows : (quiet : Bool) (d : Deed) (w : What) → spoken_of quiet d ≡ Some w
+          → (quiet ≡ true) × (IsWhatIn (length rows) w) × ((time : ℕ) → entry_by rows bytes events time w ≡ entry_with time (draft_of bs d) [])
+      spoken-shows false d w e = cc
+      spoken-shows true deed.Rested what.Rested e = (refl, tt, λ t. refl)
+      spoken-shows true deed.Rested what.FoundNoBuffer e = cc
+      spoken-shows true deed.Rested (what.FoundEmpty q) e = cc
+      spoken-shows true deed.Rested (what.Kept k) e = cc
+      spoken-shows true deed.FoundNoBuffer what.Rested e = cc
+      spoken-shows true deed.FoundNoBuffer what.FoundNoBuffer e = (refl, tt, λ t. refl)
+      spoken-shows true deed.FoundNoBuffer (what.FoundEmpty q) e = cc
+      spoken-shows true deed.FoundNoBuffer (what.Kept k) e = cc
+      spoken-shows true (deed.FoundEmpty p) what.Rested e = cc
+      spoken-shows true (deed.FoundEmpty p) what.FoundNoBuffer e = cc
+      spoken-shows true (deed.FoundEmpty p) (what.FoundEmpty q) e = let same : p ≡ q = cc in (refl, tt, λ t. rw same refl)
+      spoken-shows true (deed.FoundEmpty p) (what.Kept k) e = cc
+      spoken-shows true (deed.Took p) w e = cc
+      spoken-shows true (deed.Gave p) w e = cc
+      spoken-shows true (deed.FoundPoolFull p) w e = cc
+      spoken-shows true (deed.Pushed q i) w e = cc
+      spoken-shows true (deed.FoundFull q i) w e = cc
+      spoken-shows true (deed.Popped q i) w e = cc
 
-op_at-more : (bytes more : List ℕ) (d : Deed) → IsDeedIn (length bytes) d → op_at (bytes ++ more) d ≡ op_at bytes d
-op_at-more bytes more deed.Rested h = refl
-op_at-more bytes more (deed.Took p) h = refl
-op_at-more bytes more deed.FoundNoBuffer h = refl
-op_at-more bytes more (deed.Gave p) h = rw (packet_at-more bytes more p h) refl
-op_at-more bytes more (deed.FoundPoolFull p) h = rw (packet_at-more bytes more p h) refl
-op_at-more bytes more (deed.Pushed q i) h = rw (item_at-more bytes more i h) refl
-op_at-more bytes more (deed.FoundFull q i) h = rw (item_at-more bytes more i h) refl
-op_at-more bytes more (deed.Popped q i) h = refl
-op_at-more bytes more (deed.FoundEmpty q) h = refl
+-- and of what it can't say there is a row
+pub says-kept : (rows : List Row) (bytes : List ℕ) (events : List Event) (draft : PlainDraft) (bs : List ℕ) (d : Deed) (told : List Event) (first_byte first_event place : ℕ) (rows_after : List Row) (bytes_after : List ℕ) (events_after : List Event)
+    → place ≡ length rows → draft_of bs d ≡ draft → first_byte ≡ length bytes → first_event ≡ length events
+    → rows_after ≡ rows ++ record { first_byte = first_byte; first_event = first_event; bytes = length bs; events = length told; deed = d } ∷ [] → bytes_after ≡ bytes ++ bs → events_after ≡ events ++ told
+    → IsDeedLong (length bs) d → length bs ≤ MAX_FRAME → length told ≤ MAX_EVENTS
+    → Says rows bytes events draft told (what.Kept place) rows_after bytes_after events_after
+says-kept rows bytes events draft bs d told first_byte first_event place rows_after bytes_after events_after at same byte event rows_are bytes_are events_are fits short few =
+    let r : Row = record { first_byte = first_byte; first_event = first_event; bytes = length bs; events = length told; deed = d } in
+    record {
+      rows_more = r ∷ [];
+      bytes_more = bs;
+      events_more = told;
+      rows_are = rows_are;
+      bytes_are = bytes_are;
+      events_are = events_are;
+      few = omega arith;
+      inside = All-push (IsRowIn (length bytes_after) (length events_after)) [] r (search rules) (record {
+        bytes_in = rw (byte, bytes_are) (grind (arith, common_steps));
+        fits = fits;
+        short = short;
+        events_in = rw (event, events_are) (grind (arith, common_steps));
+        few = few;
+      });
+      said_in = rw (at, rows_are) (grind (arith, common_steps));
+      shows = λ t. rw (at, rows_are, bytes_are, events_are, slice_get-pushed rows r, byte, event, slice_range-appended bytes bs, slice_range-appended events told, ← same) refl;
+    }
 
-answer_at-more : (bytes more : List ℕ) (d : Deed) → IsDeedIn (length bytes) d → answer_at (bytes ++ more) d ≡ answer_at bytes d
-answer_at-more bytes more deed.Rested h = refl
-answer_at-more bytes more (deed.Took p) h = rw (packet_at-more bytes more p h) refl
-answer_at-more bytes more deed.FoundNoBuffer h = refl
-answer_at-more bytes more (deed.Gave p) h = refl
-answer_at-more bytes more (deed.FoundPoolFull p) h = rw (packet_at-more bytes more p h) refl
-answer_at-more bytes more (deed.Pushed q i) h = refl
-answer_at-more bytes more (deed.FoundFull q i) h = rw (item_at-more bytes more i h) refl
-answer_at-more bytes more (deed.Popped q i) h = rw (item_at-more bytes more i h) refl
-answer_at-more bytes more (deed.FoundEmpty q) h = refl
+-- the entries of these lines, whatever follows the lists
+row_entry-more : (bytes more : List ℕ) (events told : List Event) (time : ℕ) (r : Row) → IsRowIn (length bytes) (length events) r → row_entry (bytes ++ more) (events ++ told) time r ≡ row_entry bytes events time r
+row_entry-more bytes more events told time r h =
+    rw (slice_range-more bytes more r.first_byte (r.first_byte + r.bytes) h.bytes_in, slice_range-more events told r.first_event (r.first_event + r.events) h.events_in) refl
 
-entry_at-more : (bytes more : List ℕ) (events told : List Event) (r : Row) → IsRowIn (length bytes) (length events) r → entry_at (bytes ++ more) (events ++ told) r ≡ entry_at bytes events r
-entry_at-more bytes more events told r h =
-    rw (op_at-more bytes more r.deed h.deed, answer_at-more bytes more r.deed h.deed, slice_range-more events told r.first_event (r.first_event + r.events) h.told) refl
+kept_entry-more : (bytes more : List ℕ) (events told : List Event) (time : ℕ) (rows : List Row) (k : ℕ) → All (IsRowIn (length bytes) (length events)) rows
+    → kept_entry (bytes ++ more) (events ++ told) time (slice_get rows k) ≡ kept_entry bytes events time (slice_get rows k)
+kept_entry-more bytes more events told time [] k all = refl
+kept_entry-more bytes more events told time (r ∷ rows) zero all = row_entry-more bytes more events told time r (All-head (IsRowIn (length bytes) (length events)) r rows all)
+kept_entry-more bytes more events told time (r ∷ rows) (suc k) all = kept_entry-more bytes more events told time rows k (All-tail (IsRowIn (length bytes) (length events)) r rows all)
 
--- the entries of these rows, whatever follows their bytes and events
-entries-more : (bytes more : List ℕ) (events told : List Event) (rows : List Row) → All (IsRowIn (length bytes) (length events)) rows
-    → map (entry_at (bytes ++ more) (events ++ told)) rows ≡ map (entry_at bytes events) rows
-entries-more bytes more events told [] all = refl
-entries-more bytes more events told (r ∷ rows) all =
-    let P = IsRowIn (length bytes) (length events) in
-    rw (entry_at-more bytes more events told r (All-head P r rows all), entries-more bytes more events told rows (All-tail P r rows all)) refl
+entry_by-more : (rows others : List Row) (bytes more : List ℕ) (events told : List Event) (time : ℕ) (w : What) → All (IsRowIn (length bytes) (length events)) rows → IsWhatIn (length rows) w
+    → entry_by (rows ++ others) (bytes ++ more) (events ++ told) time w ≡ entry_by rows bytes events time w
+entry_by-more rows others bytes more events told time what.Rested all h = refl
+entry_by-more rows others bytes more events told time what.FoundNoBuffer all h = refl
+entry_by-more rows others bytes more events told time (what.FoundEmpty q) all h = refl
+entry_by-more rows others bytes more events told time (what.Kept k) all h = rw (slice_get-more rows others k h) (kept_entry-more bytes more events told time rows k all)
 
--- rows stay inside longer lists
-IsPacketIn-more : (n m : ℕ) (p : PacketRow) → n ≤ m → IsPacketIn n p → IsPacketIn m p
-IsPacketIn-more n m p le h = (omega arith, h.1)
-
-IsFrameIn-more : (n m : ℕ) (f : FrameRow) → n ≤ m → IsFrameIn n f → IsFrameIn m f
-IsFrameIn-more n m f le h = (omega arith, h.1)
-
-IsItemIn-more : (n m : ℕ) (i : ItemRow) → n ≤ m → IsItemIn n i → IsItemIn m i
-IsItemIn-more n m (item_row.Packet mark p) le h = IsPacketIn-more n m p le h
-IsItemIn-more n m (item_row.Frame f) le h = IsFrameIn-more n m f le h
-IsItemIn-more n m (item_row.Note k) le h = h
-
-IsDeedIn-more : (n m : ℕ) (d : Deed) → n ≤ m → IsDeedIn n d → IsDeedIn m d
-IsDeedIn-more n m deed.Rested le h = h
-IsDeedIn-more n m (deed.Took p) le h = IsPacketIn-more n m p le h
-IsDeedIn-more n m deed.FoundNoBuffer le h = h
-IsDeedIn-more n m (deed.Gave p) le h = IsPacketIn-more n m p le h
-IsDeedIn-more n m (deed.FoundPoolFull p) le h = IsPacketIn-more n m p le h
-IsDeedIn-more n m (deed.Pushed q i) le h = IsItemIn-more n m i le h
-IsDeedIn-more n m (deed.FoundFull q i) le h = IsItemIn-more n m i le h
-IsDeedIn-more n m (deed.Popped q i) le h = IsItemIn-more n m i le h
-IsDeedIn-more n m (deed.FoundEmpty q) le h = h
-
-IsRowIn-more : (n m k l : ℕ) (r : Row) → n ≤ m → k ≤ l → IsRowIn n k r → IsRowIn m l r
-IsRowIn-more n m k l r le more h = record { deed = IsDeedIn-more n m r.deed le h.deed; told = let t = h.told in omega arith; few = h.few }
-
--- the rows with one more, that points into the new bytes and events
-pub rows-push : (bytes more : List ℕ) (events told : List Event) (rows : List Row) (r : Row) → All (IsRowIn (length bytes) (length events)) rows
-    → IsRowIn (length (bytes ++ more)) (length (events ++ told)) r → All (IsRowIn (length (bytes ++ more)) (length (events ++ told))) (rows ++ r ∷ [])
-rows-push bytes more events told rows r all here =
-    let n = length bytes in
-    let k = length events in
-    let P = IsRowIn (length (bytes ++ more)) (length (events ++ told)) in
-    All-push P rows r
-    (All-weaker (IsRowIn n k) P (λ x h. IsRowIn-more n (length (bytes ++ more)) k (length (events ++ told)) x (grind (arith, common_steps)) (grind (arith, common_steps)) h) rows all)
-    here
+entries-more : (rows others : List Row) (bytes more : List ℕ) (events told : List Event) (lines : List Line) → All (IsRowIn (length bytes) (length events)) rows → All (IsLineIn (length rows)) lines
+    → map (entry_at (rows ++ others) (bytes ++ more) (events ++ told)) lines ≡ map (entry_at rows bytes events) lines
+entries-more rows others bytes more events told [] all within = refl
+entries-more rows others bytes more events told (l ∷ lines) all within =
+    let P = IsLineIn (length rows) in
+    rw (entry_by-more rows others bytes more events told l.time l.what all (All-head P l lines within), entries-more rows others bytes more events told lines all (All-tail P l lines within)) refl
 
 -- the entries with one more
-pub entries-push : (bytes more : List ℕ) (events told : List Event) (rows : List Row) (r : Row) (e : Entry) → All (IsRowIn (length bytes) (length events)) rows
-    → r.time ≡ e.time → op_at (bytes ++ more) r.deed ≡ e.op → answer_at (bytes ++ more) r.deed ≡ e.answer → told ≡ e.events.items
-    → r.first_event ≡ length events → r.events ≡ length told
-    → map (entry_at (bytes ++ more) (events ++ told)) (rows ++ r ∷ []) ≡ map (entry_at bytes events) rows ++ e ∷ []
-entries-push bytes more events told rows r e all time op answer items first count =
-    map-append (entry_at (bytes ++ more) (events ++ told)) rows (r ∷ [])
-    ∙ ap (λ es. es ++ entry_at (bytes ++ more) (events ++ told) r ∷ []) (entries-more bytes more events told rows all)
-    ∙ ap (λ x. map (entry_at bytes events) rows ++ x ∷ []) same
-  where
-    same : entry_at (bytes ++ more) (events ++ told) r ≡ e
-    same = rw (time, op, answer, first, count, slice_range-appended events told, items) refl
+pub entries-push : (rows : List Row) (bytes : List ℕ) (events : List Event) (draft : PlainDraft) (told : List Event) (said : What) (rows_after : List Row) (bytes_after : List ℕ) (events_after : List Event) (lines : List Line) (time : ℕ)
+    → Says rows bytes events draft told said rows_after bytes_after events_after → All (IsRowIn (length bytes) (length events)) rows → All (IsLineIn (length rows)) lines
+    → map (entry_at rows_after bytes_after events_after) (lines ++ record { time = time; what = said } ∷ []) ≡ map (entry_at rows bytes events) lines ++ entry_with time draft told ∷ []
+entries-push rows bytes events draft told said rows_after bytes_after events_after lines time s all within =
+    let l : Line = record { time = time; what = said } in
+    let more = entries-more rows s.rows_more bytes s.bytes_more events s.events_more lines all within in
+    map-append (entry_at rows_after bytes_after events_after) lines (l ∷ [])
+    ∙ rw (s.rows_are, s.bytes_are, s.events_are) (ap (λ es. es ++ entry_at (rows ++ s.rows_more) (bytes ++ s.bytes_more) (events ++ s.events_more) l ∷ []) more)
+    ∙ ap (λ e. map (entry_at rows bytes events) lines ++ e ∷ []) (rw (s.rows_are, s.bytes_are, s.events_are) at (s.shows time))
+
+-- rows and lines stay inside longer lists
+IsRowIn-more : (n m k l : ℕ) (r : Row) → n ≤ m → k ≤ l → IsRowIn n k r → IsRowIn m l r
+IsRowIn-more n m k l r a b h = record { bytes_in = let w = h.bytes_in in omega arith; fits = h.fits; short = h.short; events_in = let w = h.events_in in omega arith; few = h.few }
+
+IsWhatIn-more : (n m : ℕ) (w : What) → n ≤ m → IsWhatIn n w → IsWhatIn m w
+IsWhatIn-more n m what.Rested le h = tt
+IsWhatIn-more n m what.FoundNoBuffer le h = tt
+IsWhatIn-more n m (what.FoundEmpty q) le h = tt
+IsWhatIn-more n m (what.Kept k) le h = omega arith
+
+pub rows-push : (rows : List Row) (bytes : List ℕ) (events : List Event) (draft : PlainDraft) (told : List Event) (said : What) (rows_after : List Row) (bytes_after : List ℕ) (events_after : List Event)
+    → Says rows bytes events draft told said rows_after bytes_after events_after → All (IsRowIn (length bytes) (length events)) rows → All (IsRowIn (length bytes_after) (length events_after)) rows_after
+rows-push rows bytes events draft told said rows_after bytes_after events_after s all =
+    let P = IsRowIn (length bytes_after) (length events_after) in
+    let longer : length bytes ≤ length bytes_after = rw s.bytes_are (grind (arith, common_steps)) in
+    let later : length events ≤ length events_after = rw s.events_are (grind (arith, common_steps)) in
+    let old : All P rows = All-weaker (IsRowIn (length bytes) (length events)) P (λ r h. IsRowIn-more (length bytes) (length bytes_after) (length events) (length events_after) r longer later h) rows all in
+    rw (← s.rows_are) at (All-append P rows s.rows_more old s.inside)
+
+pub lines-push : (rows : List Row) (bytes : List ℕ) (events : List Event) (draft : PlainDraft) (told : List Event) (said : What) (rows_after : List Row) (bytes_after : List ℕ) (events_after : List Event) (lines : List Line) (time : ℕ)
+    → Says rows bytes events draft told said rows_after bytes_after events_after → All (IsLineIn (length rows)) lines → All (IsLineIn (length rows_after)) (lines ++ record { time = time; what = said } ∷ [])
+lines-push rows bytes events draft told said rows_after bytes_after events_after lines time s within =
+    let P = IsLineIn (length rows_after) in
+    let more : length rows ≤ length rows_after = rw s.rows_are (grind (arith, common_steps)) in
+    All-push P lines (record { time = time; what = said }) (All-weaker (IsLineIn (length rows)) P (λ l h. IsWhatIn-more (length rows) (length rows_after) l.what more h) lines within) s.said_in
 
 -- what one of `spare` parts may take, the others still have their room
 pub room_left : (len more spare each cap : ℕ) → 0 < spare → more ≤ each → len + spare * each ≤ cap → len + more + (spare - 1) * each ≤ cap
 room_left len more zero each cap some fits room = absurd (omega arith)
 room_left len more (suc n) each cap some fits room = rw (sub-one (suc n)) (let split : suc n * each ≡ n * each + each = suc-mul n each in omega arith)
+
+-- a list of no elements
+pub no-items : {X : Type 0} (xs : List X) → true ≡ (length xs == 0) → xs ≡ []
+no-items [] e = refl
+no-items (x ∷ xs) e = absurd (grind (arith, common_steps, nat_tests))

@@ -1,17 +1,22 @@
--- how a log keeps its entries: rows of fixed size, which point into one list of bytes and one of events
-use Rattle.std.specs.Prelude.{◌≡◌, ℕ, ◌+◌, ◌≤◌, List, ◌++◌, ⊤, length, slice_range}
+-- how a log keeps its entries: a line each, and where there is more to it a row, which points into one list of bytes and one of events
+use Rattle.std.specs.Prelude.{◌≡◌, ℕ, Bool, true, false, ◌+◌, ◌<◌, ◌≤◌, List, [], ◌++◌, Option, Some, None, ⊤, All, length, slice_get, slice_range}
 use Rattle.csp_base.specs.declared.limits.TheConstants.{MAX_PAYLOAD, MAX_FRAME}
 use Rattle.csp_buffer.specs.Content.{Content}
+use Rattle.csp_log.specs.PlainDraft.{PlainDraft}
+use Rattle.csp_log.specs.PlainLog.{entry_with}
 use Rattle.csp_log.specs.declared.entry.Entry.{Entry}
 use Rattle.csp_log.specs.declared.event.Event.{Event}
 use Rattle.csp_log.specs.declared.event.TheConstants.{MAX_EVENTS}
 use Rattle.csp_log.specs.declared.frame.Frame.{Frame}
-use Rattle.csp_log.specs.declared.row.PacketRow.{PacketRow}
-use Rattle.csp_log.specs.declared.row.FrameRow.{FrameRow}
-use Rattle.csp_log.specs.declared.row.ItemRow.{ItemRow}
-use Rattle.csp_log.specs.declared.row.ItemRow.TheVariants as item_row
+use Rattle.csp_log.specs.declared.row.PacketHead.{PacketHead}
+use Rattle.csp_log.specs.declared.row.FrameHead.{FrameHead}
+use Rattle.csp_log.specs.declared.row.ItemHead.{ItemHead}
+use Rattle.csp_log.specs.declared.row.ItemHead.TheVariants as head
 use Rattle.csp_log.specs.declared.row.Deed.{Deed}
 use Rattle.csp_log.specs.declared.row.Deed.TheVariants as deed
+use Rattle.csp_log.specs.declared.row.What.{What}
+use Rattle.csp_log.specs.declared.row.What.TheVariants as what
+use Rattle.csp_log.specs.declared.row.Line.{Line}
 use Rattle.csp_log.specs.declared.row.Row.{Row}
 use Rattle.csp_log.specs.declared.shown.ItemShown.{ItemShown}
 use Rattle.csp_log.specs.declared.shown.ItemShown.TheVariants as item_shown
@@ -20,80 +25,135 @@ use Rattle.csp_log.specs.declared.shown.OpShown.TheVariants as op_shown
 use Rattle.csp_log.specs.declared.shown.AnswerShown.{AnswerShown}
 use Rattle.csp_log.specs.declared.shown.AnswerShown.TheVariants as answer_shown
 
--- the packet and the frame of a row, with these bytes
-abbrev pub packet_at : List ℕ → PacketRow → Content
-packet_at bytes p = record { number = p.number; header = p.header; payload = slice_range bytes p.start (p.start + p.len); trace = p.trace }
+-- the packet and the frame with these bytes
+abbrev pub packet_of : List ℕ → PacketHead → Content
+packet_of bytes p = record { number = p.number; header = p.header; payload = bytes; trace = p.trace }
 
-abbrev pub frame_at : List ℕ → FrameRow → Frame
-frame_at bytes f = record { can = f.can; bytes = record { items = slice_range bytes f.start (f.start + f.len) }; trace = f.trace }
+abbrev pub frame_of : List ℕ → FrameHead → Frame
+frame_of bytes f = record { can = f.can; bytes = record { items = bytes }; trace = f.trace }
 
--- the item of a row
-abbrev pub item_at : List ℕ → ItemRow → ItemShown
-item_at bytes (item_row.Packet mark p) = item_shown.Packet mark (packet_at bytes p)
-item_at bytes (item_row.Frame f) = item_shown.Frame (frame_at bytes f)
-item_at bytes (item_row.Note n) = item_shown.Note n
+-- the item with these bytes
+abbrev pub item_of : List ℕ → ItemHead → ItemShown
+item_of bytes (head.Packet mark p) = item_shown.Packet mark (packet_of bytes p)
+item_of bytes (head.Frame f) = item_shown.Frame (frame_of bytes f)
+item_of bytes (head.Note n) = item_shown.Note n
 
--- the operation and the answer of a row
-abbrev pub op_at : List ℕ → Deed → OpShown
-op_at bytes deed.Rested = op_shown.Nothing
-op_at bytes (deed.Took p) = op_shown.Take
-op_at bytes deed.FoundNoBuffer = op_shown.Take
-op_at bytes (deed.Gave p) = op_shown.Give (packet_at bytes p)
-op_at bytes (deed.FoundPoolFull p) = op_shown.Give (packet_at bytes p)
-op_at bytes (deed.Pushed q i) = op_shown.Push q (item_at bytes i)
-op_at bytes (deed.FoundFull q i) = op_shown.Push q (item_at bytes i)
-op_at bytes (deed.Popped q i) = op_shown.Pop q
-op_at bytes (deed.FoundEmpty q) = op_shown.Pop q
+-- the operation of a deed, with these bytes
+abbrev pub op_of : List ℕ → Deed → OpShown
+op_of bytes deed.Rested = op_shown.Nothing
+op_of bytes (deed.Took p) = op_shown.Take
+op_of bytes deed.FoundNoBuffer = op_shown.Take
+op_of bytes (deed.Gave p) = op_shown.Give (packet_of bytes p)
+op_of bytes (deed.FoundPoolFull p) = op_shown.Give (packet_of bytes p)
+op_of bytes (deed.Pushed q i) = op_shown.Push q (item_of bytes i)
+op_of bytes (deed.FoundFull q i) = op_shown.Push q (item_of bytes i)
+op_of bytes (deed.Popped q i) = op_shown.Pop q
+op_of bytes (deed.FoundEmpty q) = op_shown.Pop q
 
-abbrev pub answer_at : List ℕ → Deed → AnswerShown
-answer_at bytes deed.Rested = answer_shown.Nothing
-answer_at bytes (deed.Took p) = answer_shown.Taken (packet_at bytes p)
-answer_at bytes deed.FoundNoBuffer = answer_shown.NoBuffer
-answer_at bytes (deed.Gave p) = answer_shown.Given
-answer_at bytes (deed.FoundPoolFull p) = answer_shown.PoolFull (packet_at bytes p)
-answer_at bytes (deed.Pushed q i) = answer_shown.Pushed
-answer_at bytes (deed.FoundFull q i) = answer_shown.Full (item_at bytes i)
-answer_at bytes (deed.Popped q i) = answer_shown.Popped (item_at bytes i)
-answer_at bytes (deed.FoundEmpty q) = answer_shown.Empty
+-- and its answer
+abbrev pub answer_of : List ℕ → Deed → AnswerShown
+answer_of bytes deed.Rested = answer_shown.Nothing
+answer_of bytes (deed.Took p) = answer_shown.Taken (packet_of bytes p)
+answer_of bytes deed.FoundNoBuffer = answer_shown.NoBuffer
+answer_of bytes (deed.Gave p) = answer_shown.Given
+answer_of bytes (deed.FoundPoolFull p) = answer_shown.PoolFull (packet_of bytes p)
+answer_of bytes (deed.Pushed q i) = answer_shown.Pushed
+answer_of bytes (deed.FoundFull q i) = answer_shown.Full (item_of bytes i)
+answer_of bytes (deed.Popped q i) = answer_shown.Popped (item_of bytes i)
+answer_of bytes (deed.FoundEmpty q) = answer_shown.Empty
 
--- the entry of a row, with these bytes and events
-abbrev pub entry_at : List ℕ → List Event → Row → Entry
-entry_at bytes events r = record {
-  time = r.time;
-  op = op_at bytes r.deed;
-  answer = answer_at bytes r.deed;
-  events = record { items = slice_range events r.first_event (r.first_event + r.events) };
-}
+-- both
+abbrev pub draft_of : List ℕ → Deed → PlainDraft
+draft_of bytes d = record { op = op_of bytes d; answer = answer_of bytes d }
 
--- a packet's, a frame's, an item's bytes stand among the first so many
-abbrev pub IsPacketIn : ℕ → PacketRow → Type 0
-IsPacketIn n p = (p.start + p.len ≤ n) × (p.len ≤ MAX_PAYLOAD)
+-- the deed of which what was handed in comes back
+abbrev pub turned_back : Deed → Deed
+turned_back (deed.Gave p) = deed.FoundPoolFull p
+turned_back (deed.Pushed q i) = deed.FoundFull q i
+turned_back d = d
 
-abbrev pub IsFrameIn : ℕ → FrameRow → Type 0
-IsFrameIn n f = (f.start + f.len ≤ n) × (f.len ≤ MAX_FRAME)
+-- so many bytes are no more than a payload has, or a frame, where the item is one
+abbrev pub IsItemLong : ℕ → ItemHead → Type 0
+IsItemLong n (head.Packet mark p) = n ≤ MAX_PAYLOAD
+IsItemLong n (head.Frame f) = n ≤ MAX_FRAME
+IsItemLong n (head.Note _) = ⊤
 
-abbrev pub IsItemIn : ℕ → ItemRow → Type 0
-IsItemIn n (item_row.Packet mark p) = IsPacketIn n p
-IsItemIn n (item_row.Frame f) = IsFrameIn n f
-IsItemIn n (item_row.Note _) = ⊤
+-- where the deed carries one
+abbrev pub IsDeedLong : ℕ → Deed → Type 0
+IsDeedLong n deed.Rested = ⊤
+IsDeedLong n (deed.Took p) = n ≤ MAX_PAYLOAD
+IsDeedLong n deed.FoundNoBuffer = ⊤
+IsDeedLong n (deed.Gave p) = n ≤ MAX_PAYLOAD
+IsDeedLong n (deed.FoundPoolFull p) = n ≤ MAX_PAYLOAD
+IsDeedLong n (deed.Pushed q i) = IsItemLong n i
+IsDeedLong n (deed.FoundFull q i) = IsItemLong n i
+IsDeedLong n (deed.Popped q i) = IsItemLong n i
+IsDeedLong n (deed.FoundEmpty q) = ⊤
 
-abbrev pub IsDeedIn : ℕ → Deed → Type 0
-IsDeedIn n deed.Rested = ⊤
-IsDeedIn n (deed.Took p) = IsPacketIn n p
-IsDeedIn n deed.FoundNoBuffer = ⊤
-IsDeedIn n (deed.Gave p) = IsPacketIn n p
-IsDeedIn n (deed.FoundPoolFull p) = IsPacketIn n p
-IsDeedIn n (deed.Pushed q i) = IsItemIn n i
-IsDeedIn n (deed.FoundFull q i) = IsItemIn n i
-IsDeedIn n (deed.Popped q i) = IsItemIn n i
-IsDeedIn n (deed.FoundEmpty q) = ⊤
+-- the bytes and the events of a row
+abbrev pub bytes_in : List ℕ → Row → List ℕ
+bytes_in bytes r = slice_range bytes r.first_byte (r.first_byte + r.bytes)
 
--- a row's bytes are among the first so many, and its events among the first so many
+abbrev pub events_in : List Event → Row → List Event
+events_in events r = slice_range events r.first_event (r.first_event + r.events)
+
+-- the entry of a row at this time
+abbrev pub row_entry : List ℕ → List Event → ℕ → Row → Entry
+row_entry bytes events time r = entry_with time (draft_of (bytes_in bytes r) r.deed) (events_in events r)
+
+-- the entry of a turn that carried and reported nothing
+abbrev pub idle_entry : ℕ → Deed → Entry
+idle_entry time d = entry_with time (draft_of [] d) []
+
+abbrev pub kept_entry : List ℕ → List Event → ℕ → Option Row → Entry
+kept_entry bytes events time None = idle_entry time deed.Rested
+kept_entry bytes events time (Some r) = row_entry bytes events time r
+
+-- the entry of a line: of what it says, or of its row
+abbrev pub entry_by : List Row → List ℕ → List Event → ℕ → What → Entry
+entry_by rows bytes events time what.Rested = idle_entry time deed.Rested
+entry_by rows bytes events time what.FoundNoBuffer = idle_entry time deed.FoundNoBuffer
+entry_by rows bytes events time (what.FoundEmpty q) = idle_entry time (deed.FoundEmpty q)
+entry_by rows bytes events time (what.Kept k) = kept_entry bytes events time (slice_get rows k)
+
+abbrev pub entry_at : List Row → List ℕ → List Event → Line → Entry
+entry_at rows bytes events l = entry_by rows bytes events l.time l.what
+
+-- what a line says of a deed by itself: where nothing was told besides, that nothing was done or found
+abbrev pub spoken_of : (quiet : Bool) → Deed → Option What
+spoken_of false d = None
+spoken_of true deed.Rested = Some what.Rested
+spoken_of true deed.FoundNoBuffer = Some what.FoundNoBuffer
+spoken_of true (deed.FoundEmpty q) = Some (what.FoundEmpty q)
+spoken_of true _ = None
+
+-- a row's bytes and events stand in the lists
 pub record IsRowIn (bytes events : ℕ) (r : Row) : Type 0 where
-  pub deed : IsDeedIn bytes r.deed
-  pub told : r.first_event + r.events ≤ events
+  pub bytes_in : r.first_byte + r.bytes ≤ bytes
+  pub fits : IsDeedLong r.bytes r.deed
+  pub short : r.bytes ≤ MAX_FRAME
+  pub events_in : r.first_event + r.events ≤ events
   pub few : r.events ≤ MAX_EVENTS
 
--- the bytes before, and at most those of a frame more
-abbrev pub Grows : List ℕ → List ℕ → Type 0
-Grows old new = (more : List ℕ) × (new ≡ old ++ more) × (length more ≤ MAX_FRAME)
+-- a line's row stands in the list
+abbrev pub IsWhatIn : ℕ → What → Type 0
+IsWhatIn rows what.Rested = ⊤
+IsWhatIn rows what.FoundNoBuffer = ⊤
+IsWhatIn rows (what.FoundEmpty _) = ⊤
+IsWhatIn rows (what.Kept k) = k < rows
+
+abbrev pub IsLineIn : ℕ → Line → Type 0
+IsLineIn rows l = IsWhatIn rows l.what
+
+-- what was said of a turn shows it, with the rows, bytes and events that were kept for it at the ends of the lists
+pub record Says (rows : List Row) (bytes : List ℕ) (events : List Event) (draft : PlainDraft) (told : List Event) (said : What) (rows_after : List Row) (bytes_after : List ℕ) (events_after : List Event) : Type 0 where
+  pub rows_more : List Row
+  pub bytes_more : List ℕ
+  pub events_more : List Event
+  pub rows_are : rows_after ≡ rows ++ rows_more
+  pub bytes_are : bytes_after ≡ bytes ++ bytes_more
+  pub events_are : events_after ≡ events ++ events_more
+  pub few : length rows_more ≤ 1
+  pub inside : All (IsRowIn (length bytes_after) (length events_after)) rows_more
+  pub said_in : IsWhatIn (length rows_after) said
+  pub shows : (time : ℕ) → entry_by rows_after bytes_after events_after time said ≡ entry_with time draft told

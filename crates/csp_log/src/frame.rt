@@ -1,6 +1,7 @@
 //! What a link carries.
 
-ghost use Rattle.std.specs.Prelude.{◌≡◌, ◌≤◌, length};
+ghost use Rattle.std.specs.Prelude.{◌≡◌, ◌<◌, ◌≤◌, length};
+ghost use Rattle.csp_log.specs.Bytes.{with_byte};
 
 use arrayvec::ArrayVec;
 use csp_base::{MAX_FRAME, Trace};
@@ -36,5 +37,24 @@ impl Frame {
         ensures { result ≡ self.now }
     {
         Frame::of(self.can, self.bytes.as_slice(), self.trace)
+    }
+
+    /// Makes it the frame with these parts.
+    pub fn set(&mut self, can: Option<u32>, bytes: &[u8], trace: Trace)
+        requires { length bytes.now ≤ MAX_FRAME }
+        ensures { self.new ≡ record { can = can; bytes = record { items = bytes.now }; trace = trace } }
+    {
+        self.can = can;
+        self.bytes.clear();
+        self.bytes.try_extend_from_slice(bytes).unwrap();
+        self.trace = trace;
+    }
+
+    /// Changes one byte of it.
+    pub fn set_byte(&mut self, index: usize, byte: u8)
+        requires { index < length self.old.bytes.items }
+        ensures { self.new ≡ with_byte self.old index byte }
+    {
+        self.bytes[index] = byte;
     }
 }

@@ -1,6 +1,6 @@
 //! What goes through a queue.
 
-use crate::{Frame, Note};
+use crate::{BoxedFrame, Note};
 use csp_buffer::Buffer;
 
 /// An item of a queue.
@@ -9,7 +9,7 @@ pub enum Item {
     /// is its next hop, by the queue.
     Packet { mark: u8, buffer: Buffer },
     /// A frame of a link.
-    Frame(Frame),
+    Frame(BoxedFrame),
     /// A request or an answer between an application and its router.
     Note(Note),
 }

@@ -3,6 +3,7 @@
 #![tactic(auto)]
 
 mod deeds;
+mod draft;
 mod entry;
 mod event;
 mod frame;
@@ -14,7 +15,9 @@ mod places;
 mod remains;
 mod row;
 mod shown;
+mod spares;
 
+pub use draft::Draft;
 pub use entry::Entry;
 pub use event::{Discard, Event, Events, MAX_EVENTS};
 pub use frame::Frame;
@@ -28,3 +31,4 @@ pub use places::{
 };
 pub use remains::{HeldBy, Left};
 pub use shown::{AnswerShown, ItemShown, OpShown};
+pub use spares::{BoxedFrame, Spares};

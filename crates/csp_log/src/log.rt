@@ -1,14 +1,14 @@
 //! The log of a party's turns.
 
-ghost use Rattle.std.specs.Prelude.{◌≡◌, ◌+◌, ◌-◌, ◌^◌, ◌<◌, ◌≤◌, [], length, max, slice_get, Some, OnOk, OnErr};
+ghost use Rattle.std.specs.Prelude.{◌≡◌, ℕ, ◌+◌, ◌-◌, ◌*◌, ◌^◌, ◌<◌, ◌≤◌, [], ◌++◌, ◌∷◌, length, max, slice_get, Some, OnOk, OnErr, vec_len, vec_capacity};
 ghost use Rattle.std.specs.Option.{option_map};
-ghost use Rattle.csp_log.specs.PlainLog.{with_entry};
-ghost use Rattle.csp_log.specs.Pictures.{op_in, answer_in};
-ghost use Rattle.csp_log.specs.Pictures.{Fits};
+ghost use Rattle.csp_log.specs.PlainLog.{with_entry, entry_with};
+ghost use Rattle.csp_log.specs.Rows.{spoken_of, row_entry, events_in, IsRowIn, Says};
 
-use crate::deeds::{answer_of, keep, keep_deed, op_of};
-use crate::row::Row;
-use crate::{Entry, Event, Events, MAX_EVENTS};
+use crate::deeds::{keep, read_answer, read_op};
+use crate::draft::Draft;
+use crate::row::{Deed, Line, Row, What};
+use crate::{AnswerShown, Entry, Event, Events, MAX_EVENTS, OpShown};
 use csp_base::MAX_FRAME;
 use std::alloc::{AllocError, Global};
 use std::marker::Model;
@@ -16,10 +16,12 @@ use std::marker::Model;
 /// The turns of a party, the oldest first. Contracts see it as a list of entries and a number, for
 /// how many more there is room.
 ///
-/// Only `reserve` takes memory. Inside, an entry is a row of at most 128 bytes, which points into one
-/// list of bytes, for payloads and frames, and one list of events.
+/// Only `reserve` takes memory. Inside, an entry is a line of 16 bytes; one that carried or reported
+/// something has besides a row of at most 128 bytes, which points into one list of bytes, for payloads
+/// and frames, and one list of events.
 #[derive(Drop)]
 pub struct Log {
+    lines: Vec<Line>,
     rows: Vec<Row>,
     bytes: Vec<u8>,
     events: Vec<Event>,
@@ -35,9 +37,9 @@ impl Model for Log {
     ghost use Rattle.csp_log.specs.Rows.{entry_at};
     ghost use Rattle.csp_log.specs.Layout.{IsLaidOut};
 
-    ghost view = { λ l. record { entries = map (entry_at l.bytes.items l.events.items) l.rows.items; spare = l.spare } };
+    ghost view = { λ l. record { entries = map (entry_at l.rows.items l.bytes.items l.events.items) l.lines.items; spare = l.spare } };
 
-    ghost invariant = { λ l. IsLaidOut l };
+    ghost invariant = { IsLaidOut };
 }
 
 impl Log {
@@ -46,6 +48,7 @@ impl Log {
         ensures { result ≡ record { entries = []; spare = 0 } }
     {
         Log {
+            lines: Vec::new(alloc),
             rows: Vec::new(alloc),
             bytes: Vec::new(alloc),
             events: Vec::new(alloc),
@@ -58,7 +61,7 @@ impl Log {
         ensures value { result ≡ length self.now.entries }
         ensures few { length self.now.entries + self.now.spare ≤ 2 ^ 32 - 2 }
     {
-        self.rows.len() as u64
+        self.lines.len() as u64
     }
 
     /// For how many more entries there is room.
@@ -78,6 +81,7 @@ impl Log {
             return Ok(());
         }
         let room = entries as usize;
+        self.lines.reserve(room)?;
         self.rows.reserve(room)?;
         self.bytes.reserve(room * MAX_FRAME)?;
         self.events.reserve(room * MAX_EVENTS)?;
@@ -90,14 +94,16 @@ impl Log {
         requires { index < length self.now.entries }
         ensures { slice_get self.now.entries index ≡ Some result }
     {
-        let row = &self.rows[index as usize];
-        let bytes = self.bytes.as_slice();
-        let end = row.first_event + row.events as usize;
-        Entry {
-            time: row.time,
-            op: op_of(bytes, &row.deed),
-            answer: answer_of(bytes, &row.deed),
-            events: events_of(&self.events[row.first_event..end]),
+        let line = &self.lines[index as usize];
+        let time = line.time;
+        match line.what {
+            What::Rested => idle(time, OpShown::Nothing, AnswerShown::Nothing),
+            What::FoundNoBuffer => idle(time, OpShown::Take, AnswerShown::NoBuffer),
+            What::FoundEmpty(queue) => idle(time, OpShown::Pop(queue), AnswerShown::Empty),
+            What::Kept(place) => {
+                let row = &self.rows[place as usize];
+                entry_of(self.bytes.as_slice(), self.events.as_slice(), time, row)
+            }
         }
     }
 
@@ -106,26 +112,137 @@ impl Log {
         requires { index < length self.now.entries }
         ensures { option_map (λ e. e.events.items) (slice_get self.now.entries index) ≡ Some result.now }
     {
-        let found = &self.rows[index as usize];
-        &self.events[found.first_event..found.first_event + found.events as usize]
+        match self.lines[index as usize].what {
+            What::Kept(place) => events_at(&self.events, &self.rows[place as usize]),
+            What::Rested | What::FoundNoBuffer | What::FoundEmpty(_) => &[],
+        }
     }
 
-    /// Appends an entry. It takes no memory.
-    pub fn append(&mut self, entry: &Entry)
+    /// Appends the entry of a turn at this time: what was asked and answered, and what was told. It
+    /// takes no memory.
+    pub fn append(&mut self, time: u64, draft: &Draft, told: &Events)
         requires room { 0 < self.old.spare }
-        requires fits { Fits (op_in entry.now.op) (answer_in entry.now.answer) }
-        ensures { self.new ≡ with_entry self.old entry.now }
+        ensures { self.new ≡ with_entry self.old (entry_with time draft.now told.now.items) }
     {
-        let deed = keep_deed(&mut self.bytes, &entry.op, &entry.answer);
-        let told = entry.events.as_slice();
-        let first_event = keep(&mut self.events, told);
-        self.rows.push_reserved(Row {
-            time: entry.time,
-            first_event,
-            events: told.len() as u8,
-            deed,
-        });
+        let what = say(
+            &mut self.rows,
+            &mut self.bytes,
+            &mut self.events,
+            draft,
+            told.as_slice(),
+        );
+        self.lines.push_reserved(Line { time, what });
         self.spare -= 1;
+    }
+}
+
+/// What the line of a turn says. It keeps a row of what the line can't say by itself.
+fn say(
+    rows: &mut Vec<Row>,
+    bytes: &mut Vec<u8>,
+    events: &mut Vec<Event>,
+    draft: &Draft,
+    told: &[Event],
+) -> What
+    requires few { length rows.old.items < 2 ^ 32 }
+    requires row_room { vec_len rows.old < vec_capacity rows.old }
+    requires byte_room { vec_len bytes.old + MAX_FRAME ≤ vec_capacity bytes.old }
+    requires event_room { vec_len events.old + MAX_EVENTS ≤ vec_capacity events.old }
+    requires told { length told.now ≤ MAX_EVENTS }
+    ensures says { Says rows.old.items bytes.old.items events.old.items draft.now told.now result rows.new.items bytes.new.items events.new.items }
+    ensures rows_capacity { (vec_capacity rows.old ≤ vec_capacity rows.new) × (vec_len rows.new ≤ vec_len rows.old + 1) }
+    ensures bytes_capacity { (vec_capacity bytes.old ≤ vec_capacity bytes.new) × (vec_len bytes.new ≤ vec_len bytes.old + MAX_FRAME) }
+    ensures events_capacity { (vec_capacity events.old ≤ vec_capacity events.new) × (vec_len events.new ≤ vec_len events.old + MAX_EVENTS) }
+{
+    match spoken(&draft.deed, told.is_empty()) {
+        Some(what) => what,
+        None => keep_row(rows, bytes, events, draft, told),
+    }
+}
+
+/// What a line says of a deed by itself, where nothing was told besides.
+fn spoken(deed: &Deed, quiet: bool) -> Option<What>
+    ensures { result ≡ spoken_of quiet deed.now }
+{
+    if !quiet {
+        return None;
+    }
+    match deed {
+        Deed::Rested => Some(What::Rested),
+        Deed::FoundNoBuffer => Some(What::FoundNoBuffer),
+        Deed::FoundEmpty(queue) => Some(What::FoundEmpty(*queue)),
+        Deed::Took(_)
+        | Deed::Gave(_)
+        | Deed::FoundPoolFull(_)
+        | Deed::Pushed(_, _)
+        | Deed::FoundFull(_, _)
+        | Deed::Popped(_, _) => None,
+    }
+}
+
+/// Keeps what a turn carried and what it told, and gives the place of its row.
+fn keep_row(
+    rows: &mut Vec<Row>,
+    bytes: &mut Vec<u8>,
+    events: &mut Vec<Event>,
+    draft: &Draft,
+    told: &[Event],
+) -> What
+    requires few { length rows.old.items < 2 ^ 32 }
+    requires row_room { vec_len rows.old < vec_capacity rows.old }
+    requires byte_room { vec_len bytes.old + MAX_FRAME ≤ vec_capacity bytes.old }
+    requires event_room { vec_len events.old + MAX_EVENTS ≤ vec_capacity events.old }
+    requires told { length told.now ≤ MAX_EVENTS }
+    ensures says { Says rows.old.items bytes.old.items events.old.items draft.now told.now result rows.new.items bytes.new.items events.new.items }
+    ensures rows_capacity { (vec_capacity rows.old ≤ vec_capacity rows.new) × (vec_len rows.new ≤ vec_len rows.old + 1) }
+    ensures bytes_capacity { (vec_capacity bytes.old ≤ vec_capacity bytes.new) × (vec_len bytes.new ≤ vec_len bytes.old + MAX_FRAME) }
+    ensures events_capacity { (vec_capacity events.old ≤ vec_capacity events.new) × (vec_len events.new ≤ vec_len events.old + MAX_EVENTS) }
+{
+    let place = rows.len() as u32;
+    let carried = draft.bytes.as_slice();
+    let first_byte = keep(bytes, carried);
+    let first_event = keep(events, told);
+    rows.push_reserved(Row {
+        first_byte,
+        first_event,
+        bytes: carried.len() as u16,
+        events: told.len() as u8,
+        deed: draft.deed,
+    });
+    What::Kept(place)
+}
+
+/// The entry of a row at this time, with these bytes and events.
+fn entry_of(bytes: &[u8], events: &[Event], time: u64, row: &Row) -> Entry
+    requires { IsRowIn (length bytes.now) (length events.now) row.now }
+    ensures { result ≡ row_entry bytes.now events.now time row.now }
+{
+    let carried = &bytes[row.first_byte..row.first_byte + row.bytes as usize];
+    Entry {
+        time,
+        op: read_op(carried, &row.deed),
+        answer: read_answer(carried, &row.deed),
+        events: events_of(events_at(events, row)),
+    }
+}
+
+/// The events of a row.
+fn events_at<'a>(events: &'a [Event], row: &Row) -> &'a [Event]
+    requires { row.now.first_event + row.now.events ≤ length events.now }
+    ensures { result.now ≡ events_in events.now row.now }
+{
+    &events[row.first_event..row.first_event + row.events as usize]
+}
+
+/// The entry of a turn that carried and told nothing.
+fn idle(time: u64, op: OpShown, answer: AnswerShown) -> Entry
+    ensures { result ≡ entry_with time (record { op = op; answer = answer }) [] }
+{
+    Entry {
+        time,
+        op,
+        answer,
+        events: Events::new(),
     }
 }
 

@@ -1,59 +1,78 @@
-//! What a log keeps of an entry: a row of fixed size that points into the log's bytes and events.
+//! What a log keeps of an entry: a line, and a row where there is more to it than the line says.
 
 use crate::{Note, QueueId};
 use csp_base::Trace;
 
+/// The most bytes of a line.
+const MAX_LINE: usize = 16;
+
 /// The most bytes of a row.
 const MAX_ROW: usize = 128;
 
+const _: () = prove!(size_of::<Line>() <= MAX_LINE);
+
 const _: () = prove!(size_of::<Row>() <= MAX_ROW);
 
-/// A packet, whose payload stands among the bytes.
+/// What a packet is besides its payload.
 #[derive(Clone, Copy)]
-pub struct PacketRow {
-    pub start: usize,
+pub struct PacketHead {
     pub header: u32,
     pub number: u16,
-    pub len: u16,
     pub trace: Trace,
 }
 
-/// A frame, whose bytes stand there.
+/// What a frame is besides its bytes.
 #[derive(Clone, Copy)]
-pub struct FrameRow {
-    pub start: usize,
+pub struct FrameHead {
     pub can: Option<u32>,
-    pub len: u16,
     pub trace: Trace,
 }
 
-/// An item.
+/// What an item is besides its bytes.
 #[derive(Clone, Copy)]
-pub enum ItemRow {
-    Packet { mark: u8, packet: PacketRow },
-    Frame(FrameRow),
+pub enum ItemHead {
+    Packet { mark: u8, packet: PacketHead },
+    Frame(FrameHead),
     Note(Note),
 }
 
-/// An operation with its answer. What comes back is what was handed in, so it is kept once.
+/// An operation with its answer, but for the bytes of the one packet or frame in them. What comes back
+/// is what was handed in, so it is kept once.
 #[derive(Clone, Copy)]
 pub enum Deed {
     Rested,
-    Took(PacketRow),
+    Took(PacketHead),
     FoundNoBuffer,
-    Gave(PacketRow),
-    FoundPoolFull(PacketRow),
-    Pushed(QueueId, ItemRow),
-    FoundFull(QueueId, ItemRow),
-    Popped(QueueId, ItemRow),
+    Gave(PacketHead),
+    FoundPoolFull(PacketHead),
+    Pushed(QueueId, ItemHead),
+    FoundFull(QueueId, ItemHead),
+    Popped(QueueId, ItemHead),
     FoundEmpty(QueueId),
+}
+
+/// What a line says of its turn: all, where nothing was carried or reported, or the place of its row.
+#[derive(Clone, Copy)]
+pub enum What {
+    Rested,
+    FoundNoBuffer,
+    FoundEmpty(QueueId),
+    Kept(u32),
 }
 
 /// One entry of a log.
 #[derive(Clone, Copy)]
-pub struct Row {
+pub struct Line {
     pub time: u64,
+    pub what: What,
+}
+
+/// What an entry has besides its time: its bytes and events stand in the log's lists.
+#[derive(Clone, Copy)]
+pub struct Row {
+    pub first_byte: usize,
     pub first_event: usize,
+    pub bytes: u16,
     pub events: u8,
     pub deed: Deed,
 }

@@ -49,7 +49,7 @@ impl Item {
                 mark: *mark,
                 buffer: buffer.show(),
             },
-            Item::Frame(frame) => ItemShown::Frame(frame.copy()),
+            Item::Frame(frame) => ItemShown::Frame(frame.frame().copy()),
             Item::Note(note) => ItemShown::Note(*note),
         }
     }
@@ -90,7 +90,7 @@ impl Answer {
 
     /// Whether a turn with this answer did something, or was idle.
     pub fn turn(&self) -> Turn
-        ensures { result ≡ turn_of self.now }
+        ensures { result ≡ turn_of (shown_answer self.now) }
     {
         match self {
             Answer::Nothing

@@ -1,12 +1,12 @@
 //! A router or an application.
 
-ghost use Rattle.std.specs.Prelude.{◌≡◌, ◌<◌, ◌↔◌, [], ◌∷◌, ◌-◌, MatchOption, IsTrue};
+ghost use Rattle.std.specs.Prelude.{◌≡◌, ◌<◌, ◌↔◌, [], ◌∷◌, ◌-◌, IfSome, MatchOption, IsTrue};
 ghost use Rattle.csp_deck.specs.Step.{times};
-ghost use Rattle.csp_party.specs.Any.{is_ready, is_waiting, awaits, has_ended, uses, count, asks, asked, tells, events, holds, present_step};
+ghost use Rattle.csp_party.specs.Any.{plain, region_of, holds, present_step};
 
 use csp_app::App;
 use csp_buffer::Buffer;
-use csp_deck::{Answer, Events, Op, Party};
+use csp_deck::{Answer, Events, Op, Party, Spares};
 use csp_stack::Stack;
 
 /// A party of a node: its router, or one of its applications. A turn is the turn of that party.
@@ -18,29 +18,34 @@ pub enum AnyParty {
 }
 
 impl Party for AnyParty {
-    ghost use Rattle.csp_party.specs.Any.{is_ready, is_waiting, awaits, has_ended, uses, count, asks, asked, tells, events, holds};
+    ghost use Rattle.std.specs.Prelude.{⊤};
+    ghost use Rattle.csp_party.specs.Any.{plain, region_of, is_ready, awaits, has_ended, uses, count, needs, asks, asked, tells, events, holds, with_plain};
 
-    ghost is_ready = { is_ready };
+    ghost is_ready = { λ p now. is_ready (plain p) now };
 
-    ghost is_waiting = { is_waiting };
+    ghost is_waiting = { λ _ _. ⊤ };
 
-    ghost awaits = { awaits };
+    ghost awaits = { λ p. awaits (plain p) };
 
-    ghost has_ended = { has_ended };
+    ghost has_ended = { λ p. has_ended (plain p) };
 
-    ghost uses = { uses };
+    ghost uses = { λ p. uses (plain p) };
 
-    ghost count = { count };
+    ghost region = { region_of };
 
-    ghost asks = { asks };
+    ghost count = { λ p. count (plain p) };
 
-    ghost asked = { asked };
+    ghost needs = { λ p. needs (plain p) };
 
-    ghost tells = { tells };
+    ghost asks = { λ p now. asks (plain p) now };
 
-    ghost events = { events };
+    ghost asked = { λ p now. with_plain p (asked (plain p) now) };
 
-    ghost holds = { holds };
+    ghost tells = { λ p now a. with_plain p (tells (plain p) now a) };
+
+    ghost events = { λ p now a. events (plain p) now a };
+
+    ghost holds = { λ p. holds (plain p) };
 
     fn ask(&mut self, now: u64) -> Op {
         match self {
@@ -49,10 +54,10 @@ impl Party for AnyParty {
         }
     }
 
-    fn told(&mut self, answer: Answer, now: u64) -> Events {
+    fn told(&mut self, answer: Answer, now: u64, report: &mut Events, spares: &mut Spares) {
         match self {
-            AnyParty::Router(router) => router.told(answer, now),
-            AnyParty::App(app) => app.told(answer, now),
+            AnyParty::Router(router) => router.told(answer, now, report, spares),
+            AnyParty::App(app) => app.told(answer, now, report, spares),
         }
     }
 
@@ -62,12 +67,19 @@ impl Party for AnyParty {
             AnyParty::App(app) => app.ended(),
         }
     }
+
+    fn boxes(&self) -> u8 {
+        match self {
+            AnyParty::Router(router) => router.boxes(),
+            AnyParty::App(app) => app.boxes(),
+        }
+    }
 }
 
 impl AnyParty {
     /// Whether it holds the buffer of this number.
     pub fn holds(&self, number: u16) -> bool
-        ensures { IsTrue result ↔ (0 < times number (holds self.now)) }
+        ensures { IsTrue result ↔ (0 < times number (holds (plain self.now))) }
     {
         match self {
             AnyParty::Router(router) => router.holds(number),
@@ -77,7 +89,9 @@ impl AnyParty {
 
     /// Hands out a buffer that it holds. `None` exactly where it holds none.
     pub fn drain(&mut self) -> Option<Buffer>
-        ensures holds { MatchOption result ((holds self.old ≡ []) × (self.new ≡ self.old)) (λ b. holds self.old ≡ b.number ∷ holds self.new) }
+        ensures holds { MatchOption result ((holds (plain self.old) ≡ []) × (self.new ≡ self.old)) (λ b. holds (plain self.old) ≡ b.picture.number ∷ holds (plain self.new)) }
+        ensures of_it { IfSome result (λ b. b.region ≡ region_of self.old) }
+        ensures region { region_of self.new ≡ region_of self.old }
     {
         match self {
             AnyParty::Router(router) => router.drain(),
@@ -87,7 +101,7 @@ impl AnyParty {
 
     /// Ends a party that holds no buffer.
     pub fn end(self)
-        requires { holds self ≡ [] }
+        requires { holds (plain self) ≡ [] }
     {
         match self {
             AnyParty::Router(router) => router.end(),
@@ -97,7 +111,7 @@ impl AnyParty {
 
     /// The number of an application's present step, from 1; 0 where it has ended, and for a router.
     pub fn step(&self) -> u32
-        ensures { result ≡ present_step self.now }
+        ensures { result ≡ present_step (plain self.now) }
     {
         match self {
             AnyParty::Router(_) => 0,

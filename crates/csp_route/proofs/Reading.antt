@@ -28,7 +28,7 @@ use Rattle.csp_route.proofs.Rows.{judged, whole}
 -- the judgement of its two numbers
 abbrev judged_target : ℕ → ℕ → (digits more : Bool) → ℕ → ℕ → Result (ℕ × ℕ) RouteError
 judged_target at mask_at digits more addr mask =
-    demand (digits && more) at Syntax >>= λ _. demand (nat_lt addr 32) at Range >>= λ _. demand (nat_le mask MAX_MASK) mask_at Range >>= λ _. Ok (addr, mask)
+    demand digits at Syntax >>= λ _. demand more mask_at Syntax >>= λ _. demand (nat_lt addr 32) at Range >>= λ _. demand (nat_le mask MAX_MASK) mask_at Range >>= λ _. Ok (addr, mask)
 
 judged_fits : (at mask_at addr mask : ℕ) → addr < 32 → mask ≤ MAX_MASK → judged_target at mask_at true true addr mask ≡ Ok (addr, mask)
 judged_fits at mask_at addr mask low short =

@@ -30,18 +30,23 @@ abbrev pub demand : Bool → ℕ → RouteKind → Result (Unit {0}) RouteError
 demand true at kind = Ok tt
 demand false at kind = refused at kind
 
--- the numbers of `ADDR` or `ADDR/MASK`, an address and at most so many bits; a mask that is not written is 5
+-- the numbers of `ADDR` or `ADDR/MASK`, an address and at most so many bits; a mask that is not written is 5.
+-- All after the first slash is the mask, and an error of the mask stands at its first byte
 abbrev pub target_from : ℕ → List Part → Result (ℕ × ℕ) RouteError
 target_from at (addr ∷ []) = do
   _ ← demand (is_decimal addr.bytes) at Syntax
   _ ← demand (nat_lt (number_of addr.bytes) 32) at Range
   Ok (number_of addr.bytes, MAX_MASK)
 target_from at (addr ∷ mask ∷ []) = do
-  _ ← demand (is_decimal addr.bytes && is_decimal mask.bytes) at Syntax
+  _ ← demand (is_decimal addr.bytes) at Syntax
+  _ ← demand (is_decimal mask.bytes) mask.at Syntax
   _ ← demand (nat_lt (number_of addr.bytes) 32) at Range
   _ ← demand (nat_le (number_of mask.bytes) MAX_MASK) mask.at Range
   Ok (number_of addr.bytes, number_of mask.bytes)
-target_from at fields = refused at Syntax
+target_from at (addr ∷ mask ∷ more ∷ fields) = do
+  _ ← demand (is_decimal addr.bytes) at Syntax
+  refused mask.at Syntax
+target_from at [] = refused at Syntax
 
 -- the first word, `ADDR[/MASK]`
 abbrev pub target_of : ℕ → Option Part → Result (ℕ × ℕ) RouteError

@@ -15,8 +15,8 @@ pub enum RouteKind {
     Full,
 }
 
-/// The first error of a text, and its place: the first byte of the word, or the first digit of a
-/// mask; where a word is missing, the next comma or the text's end; for Full the row's address.
+/// The first error of a text, and its place: the first byte of the word, or of the mask, which is all
+/// after the word's first `/`; where a word is missing, the next comma or the text's end; for Full the row's address.
 #[derive(Clone, Copy, PartialEq, Eq, Debug, Error)]
 #[error("{kind:?} at byte {at}")]
 pub struct RouteError {

@@ -69,10 +69,12 @@ fn errors_and_their_places(rt: HostRuntime) {
         // Words out of their form.
         ("x a", 0, RouteKind::Syntax),
         (" 08 a", 1, RouteKind::Syntax),
-        ("8/ a", 0, RouteKind::Syntax),
         ("/5 a", 0, RouteKind::Syntax),
-        ("8/2/1 a", 0, RouteKind::Syntax),
-        ("8/02 a", 0, RouteKind::Syntax),
+        // An error of the mask stands at its first byte, also where it has none.
+        ("8/ a", 2, RouteKind::Syntax),
+        ("8/02 a", 2, RouteKind::Syntax),
+        ("8/2/1 a", 2, RouteKind::Syntax),
+        ("8 a, 31//5 a", 8, RouteKind::Syntax),
         ("8 a x", 4, RouteKind::Syntax),
         ("8 a -1", 4, RouteKind::Syntax),
         ("8 a 1 2", 6, RouteKind::Syntax),
@@ -86,8 +88,11 @@ fn errors_and_their_places(rt: HostRuntime) {
         ("8 a 32", 4, RouteKind::Range),
         ("8 a, 8/7 a", 7, RouteKind::Range),
         // In one word Syntax comes before Range, and the address before the mask.
-        ("99/x a", 0, RouteKind::Syntax),
+        ("99/x a", 3, RouteKind::Syntax),
+        ("99/5/x a", 3, RouteKind::Syntax),
         ("x/9 a", 0, RouteKind::Syntax),
+        ("x/x a", 0, RouteKind::Syntax),
+        ("x/5/5 a", 0, RouteKind::Syntax),
         ("40/9 a", 0, RouteKind::Range),
         // A name that no interface has.
         ("8 d", 2, RouteKind::NoInterface),

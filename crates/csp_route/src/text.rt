@@ -65,8 +65,8 @@ fn plain_target(addr: &Part<'_>, at: usize) -> Result<(Addr, u8), RouteError>
 fn masked_target(addr: &Part<'_>, mask: &Part<'_>, at: usize) -> Result<(Addr, u8), RouteError>
     ensures value { result ≡ target_from at (addr.now ∷ mask.now ∷ []) }
 {
-    let both = is_decimal(addr.bytes()) && is_decimal(mask.bytes());
-    demand(both, at, RouteKind::Syntax)?;
+    demand(is_decimal(addr.bytes()), at, RouteKind::Syntax)?;
+    demand(is_decimal(mask.bytes()), mask.at(), RouteKind::Syntax)?;
     let Some(addr) = address(addr.bytes()) else {
         return refused(at, RouteKind::Range);
     };
@@ -90,7 +90,8 @@ fn target(word: Option<Part<'_>>, missing: usize) -> Result<(Addr, u8), RouteErr
         return plain_target(&addr, word.at());
     };
     if fields.next().is_some() {
-        return refused(word.at(), RouteKind::Syntax);
+        demand(is_decimal(addr.bytes()), word.at(), RouteKind::Syntax)?;
+        return refused(mask.at(), RouteKind::Syntax);
     }
     masked_target(&addr, &mask, word.at())
 }
@@ -218,8 +219,9 @@ impl Table {
     /// rows.
     ///
     /// The first row with an error gives the answer, by its first word that is in error or
-    /// missing, and with Full last. In one word Syntax comes before Range, and the Range of ADDR
-    /// before that of MASK.
+    /// missing, and with Full last. In one word Syntax comes before Range, and an error of ADDR,
+    /// which stands at the word's first byte, before one of MASK, which stands at the byte after
+    /// the first `/`.
     pub fn parse(text: &str, ifaces: &[Name]) -> Result<Table, RouteError>
         ensures value { result ≡ parsed (names_of ifaces.now) text.now }
         ensures known { IfOk result (λ table. IsWithin (length ifaces.now) table) }

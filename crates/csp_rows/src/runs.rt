@@ -6,17 +6,13 @@ use csp_base::{MemSink, MemSource};
 use csp_top::{Status, csp_main};
 use std::alloc::{AllocError, Global};
 
-/// A scenario that runs, and the report of its run.
-pub(crate) struct Row {
-    pub(crate) text: &'static [u8],
-    pub(crate) report: &'static [u8],
-}
-
-/// What a run came to: its answer, and the bytes that it wrote.
+/// What a run came to: its answer, the bytes that it wrote, and how often it read and wrote.
 #[derive(Drop)]
 pub(crate) struct Outcome {
     pub(crate) status: Status,
     pub(crate) written: Vec<u8>,
+    pub(crate) reads: u64,
+    pub(crate) writes: u64,
 }
 
 /// Which calls of the source and of the sink fail, by their numbers from 0, and how many bytes the sink takes
@@ -54,30 +50,19 @@ pub(crate) fn run(
     let mut sink = MemSink::open(alloc, ROOM, faults.piece, writes)?;
     let status = csp_main(alloc, words.as_slice(), &mut source, &mut sink);
     let written = Vec::from_slice(alloc, sink.written())?;
-    Ok(Outcome { status, written })
+    Ok(Outcome {
+        status,
+        written,
+        reads: source.calls(),
+        writes: sink.calls(),
+    })
 }
 
 /// These words as strings of their own.
-fn owned(alloc: Global, words: &[&str]) -> Result<Vec<String>, AllocError> {
+pub(crate) fn owned(alloc: Global, words: &[&str]) -> Result<Vec<String>, AllocError> {
     let mut strings = Vec::new(alloc);
     for word in words {
         strings.push(String::from_str(alloc, word)?)?;
     }
     Ok(strings)
-}
-
-/// A text, so many copies of a piece, and an end.
-pub(crate) fn repeated(
-    alloc: Global,
-    text: &[u8],
-    piece: &[u8],
-    count: usize,
-    end: &[u8],
-) -> Result<Vec<u8>, AllocError> {
-    let mut whole = Vec::from_slice(alloc, text)?;
-    for _ in 0..count {
-        whole.extend_from_slice(piece)?;
-    }
-    whole.extend_from_slice(end)?;
-    Ok(whole)
 }

@@ -4,6 +4,8 @@ use Rattle.std.specs.Option.{unwrap_or}
 use Rattle.std.proofs.lemmas.Bool.{and_parts, leb-true, ltb-true}
 use Rattle.csp_text.specs.Names.{is_name}
 use Rattle.csp_text.specs.Numbers.{is_decimal, number_of}
+use Rattle.csp_scene.specs.declared.limits.TheConstants.{MAX_UNTIL, MAX_ADDR, MAX_SLOT, MIN_BUFFERS, MAX_SEED, MIN_INBOX, MAX_INBOX, DEFAULT_INBOX, MAX_ROUNDS, MAX_COUNT}
+use Rattle.csp_base.specs.declared.limits.TheConstants.{MAX_BUFFERS}
 use Rattle.csp_scene.specs.declared.table.Keyword.{Keyword}
 use Rattle.csp_scene.specs.declared.table.Keyword.TheVariants as keyword
 use Rattle.csp_scene.specs.declared.table.Part.{Part}
@@ -37,20 +39,20 @@ InRange-from_test low high word h =
     record { decimal = inner.0; least = leb-true low (number_of word) inner.1; most = leb-true (number_of word) high outer.1 }
 
 -- the words of an `until` line
-pub until_fits : (args : List (List ℕ)) → Fits form.Until args → InRange 1 100000 (word_at args 0)
-until_fits args fits = InRange-from_test 1 100000 (word_at args 0) (passes_at check.Number (fixed_of form.Until) args 0 part.Name fits.numbers (omega arith) (omega (arith, fits.count)))
+pub until_fits : (args : List (List ℕ)) → Fits form.Until args → InRange 1 MAX_UNTIL (word_at args 0)
+until_fits args fits = InRange-from_test 1 MAX_UNTIL (word_at args 0) (passes_at check.Number (fixed_of form.Until) args 0 part.Name fits.numbers (omega arith) (omega (arith, fits.count)))
 
 -- the words of a `node` line
 pub record NodeFits (args : List (List ℕ)) : Type 0 where
   pub name : IsTrue (is_name (word_at args 0))
-  pub addr : InRange 0 30 (word_at args 1)
-  pub buffers : InRange 4 64 (word_at args 3)
+  pub addr : InRange 0 MAX_ADDR (word_at args 1)
+  pub buffers : InRange MIN_BUFFERS MAX_BUFFERS (word_at args 3)
 
 pub node_fits : (args : List (List ℕ)) → Fits form.Node args → NodeFits args
 node_fits args fits = record {
   name = passes_at check.Name (fixed_of form.Node) args 0 part.Name fits.names (omega arith) (omega (arith, fits.count));
-  addr = InRange-from_test 0 30 (word_at args 1) (passes_at check.Number (fixed_of form.Node) args 1 part.Name fits.numbers (omega arith) (omega (arith, fits.count)));
-  buffers = InRange-from_test 4 64 (word_at args 3) (passes_at check.Number (fixed_of form.Node) args 3 part.Name fits.numbers (omega arith) (omega (arith, fits.count)));
+  addr = InRange-from_test 0 MAX_ADDR (word_at args 1) (passes_at check.Number (fixed_of form.Node) args 1 part.Name fits.numbers (omega arith) (omega (arith, fits.count)));
+  buffers = InRange-from_test MIN_BUFFERS MAX_BUFFERS (word_at args 3) (passes_at check.Number (fixed_of form.Node) args 3 part.Name fits.numbers (omega arith) (omega (arith, fits.count)));
 }
 
 -- the words of an `app` line
@@ -66,13 +68,13 @@ app_fits args fits = record {
 
 -- the words of a `recv` line
 pub record RecvFits (args : List (List ℕ)) : Type 0 where
-  pub slot : InRange 0 3 (word_at args 0)
-  pub count : InRange 1 32767 (word_at args 1)
+  pub slot : InRange 0 MAX_SLOT (word_at args 0)
+  pub count : InRange 1 MAX_COUNT (word_at args 1)
 
 pub recv_fits : (args : List (List ℕ)) → Fits form.Recv args → RecvFits args
 recv_fits args fits = record {
-  slot = InRange-from_test 0 3 (word_at args 0) (passes_at check.Number (fixed_of form.Recv) args 0 part.Name fits.numbers (omega arith) (omega (arith, fits.count)));
-  count = InRange-from_test 1 32767 (word_at args 1) (passes_at check.Number (fixed_of form.Recv) args 1 part.Name fits.numbers (omega arith) (omega (arith, fits.count)));
+  slot = InRange-from_test 0 MAX_SLOT (word_at args 0) (passes_at check.Number (fixed_of form.Recv) args 0 part.Name fits.numbers (omega arith) (omega (arith, fits.count)));
+  count = InRange-from_test 1 MAX_COUNT (word_at args 1) (passes_at check.Number (fixed_of form.Recv) args 1 part.Name fits.numbers (omega arith) (omega (arith, fits.count)));
 }
 
 -- where a shape has a fixed word, a number in this range stands after it
@@ -103,41 +105,41 @@ IsSetting-from_shape keyword low high shape args bound follows count numbers =
       range = setting_by_test (λ number. (low ≤ number) × (number ≤ high)) place (length shape) (number_at args (place + 1)) (ltb place (length shape)) refl (λ h. ((in_range h).least, (in_range h).most));
     }
 
-seed_followed : (shape : List Part) → IsOneOf (shapes_of form.Node) shape → IsFollowed keyword.Seed 0 65535 shape
-seed_followed shape (inl e) = subst (λ s. IsFollowed keyword.Seed 0 65535 s) (sym e) (λ h. absurd (omega arith))
-seed_followed shape (inr (inl e)) = subst (λ s. IsFollowed keyword.Seed 0 65535 s) (sym e) (λ h. absurd (omega arith))
-seed_followed shape (inr (inr (inl e))) = subst (λ s. IsFollowed keyword.Seed 0 65535 s) (sym e) (λ h. (omega arith, refl))
-seed_followed shape (inr (inr (inr (inl e)))) = subst (λ s. IsFollowed keyword.Seed 0 65535 s) (sym e) (λ h. (omega arith, refl))
+seed_followed : (shape : List Part) → IsOneOf (shapes_of form.Node) shape → IsFollowed keyword.Seed 0 MAX_SEED shape
+seed_followed shape (inl e) = subst (λ s. IsFollowed keyword.Seed 0 MAX_SEED s) (sym e) (λ h. absurd (omega arith))
+seed_followed shape (inr (inl e)) = subst (λ s. IsFollowed keyword.Seed 0 MAX_SEED s) (sym e) (λ h. absurd (omega arith))
+seed_followed shape (inr (inr (inl e))) = subst (λ s. IsFollowed keyword.Seed 0 MAX_SEED s) (sym e) (λ h. (omega arith, refl))
+seed_followed shape (inr (inr (inr (inl e)))) = subst (λ s. IsFollowed keyword.Seed 0 MAX_SEED s) (sym e) (λ h. (omega arith, refl))
 seed_followed shape (inr (inr (inr (inr none)))) = absurd none
 
-inbox_followed : (shape : List Part) → IsOneOf (shapes_of form.Node) shape → IsFollowed keyword.Inbox 1 64 shape
-inbox_followed shape (inl e) = subst (λ s. IsFollowed keyword.Inbox 1 64 s) (sym e) (λ h. absurd (omega arith))
-inbox_followed shape (inr (inl e)) = subst (λ s. IsFollowed keyword.Inbox 1 64 s) (sym e) (λ h. (omega arith, refl))
-inbox_followed shape (inr (inr (inl e))) = subst (λ s. IsFollowed keyword.Inbox 1 64 s) (sym e) (λ h. absurd (omega arith))
-inbox_followed shape (inr (inr (inr (inl e)))) = subst (λ s. IsFollowed keyword.Inbox 1 64 s) (sym e) (λ h. (omega arith, refl))
+inbox_followed : (shape : List Part) → IsOneOf (shapes_of form.Node) shape → IsFollowed keyword.Inbox MIN_INBOX MAX_INBOX shape
+inbox_followed shape (inl e) = subst (λ s. IsFollowed keyword.Inbox MIN_INBOX MAX_INBOX s) (sym e) (λ h. absurd (omega arith))
+inbox_followed shape (inr (inl e)) = subst (λ s. IsFollowed keyword.Inbox MIN_INBOX MAX_INBOX s) (sym e) (λ h. (omega arith, refl))
+inbox_followed shape (inr (inr (inl e))) = subst (λ s. IsFollowed keyword.Inbox MIN_INBOX MAX_INBOX s) (sym e) (λ h. absurd (omega arith))
+inbox_followed shape (inr (inr (inr (inl e)))) = subst (λ s. IsFollowed keyword.Inbox MIN_INBOX MAX_INBOX s) (sym e) (λ h. (omega arith, refl))
 inbox_followed shape (inr (inr (inr (inr none)))) = absurd none
 
-for_followed : (shape : List Part) → IsOneOf (shapes_of form.Recv) shape → IsFollowed keyword.For 1 100000 shape
-for_followed shape (inl e) = subst (λ s. IsFollowed keyword.For 1 100000 s) (sym e) (λ h. absurd (omega arith))
-for_followed shape (inr (inl e)) = subst (λ s. IsFollowed keyword.For 1 100000 s) (sym e) (λ h. (omega arith, refl))
+for_followed : (shape : List Part) → IsOneOf (shapes_of form.Recv) shape → IsFollowed keyword.For 1 MAX_ROUNDS shape
+for_followed shape (inl e) = subst (λ s. IsFollowed keyword.For 1 MAX_ROUNDS s) (sym e) (λ h. absurd (omega arith))
+for_followed shape (inr (inl e)) = subst (λ s. IsFollowed keyword.For 1 MAX_ROUNDS s) (sym e) (λ h. (omega arith, refl))
 for_followed shape (inr (inr none)) = absurd none
 
-pub seed_fits : (shape : List Part) (args : List (List ℕ)) → FitsShape form.Node shape args → IsSetting keyword.Seed 0 65535 shape args
-seed_fits shape args fits = IsSetting-from_shape keyword.Seed 0 65535 shape args (omega arith) (seed_followed shape fits.among) fits.count fits.numbers
+pub seed_fits : (shape : List Part) (args : List (List ℕ)) → FitsShape form.Node shape args → IsSetting keyword.Seed 0 MAX_SEED shape args
+seed_fits shape args fits = IsSetting-from_shape keyword.Seed 0 MAX_SEED shape args (omega arith) (seed_followed shape fits.among) fits.count fits.numbers
 
-pub inbox_fits : (shape : List Part) (args : List (List ℕ)) → FitsShape form.Node shape args → IsSetting keyword.Inbox 1 64 shape args
-inbox_fits shape args fits = IsSetting-from_shape keyword.Inbox 1 64 shape args (omega arith) (inbox_followed shape fits.among) fits.count fits.numbers
+pub inbox_fits : (shape : List Part) (args : List (List ℕ)) → FitsShape form.Node shape args → IsSetting keyword.Inbox MIN_INBOX MAX_INBOX shape args
+inbox_fits shape args fits = IsSetting-from_shape keyword.Inbox MIN_INBOX MAX_INBOX shape args (omega arith) (inbox_followed shape fits.among) fits.count fits.numbers
 
-pub for_fits : (shape : List Part) (args : List (List ℕ)) → FitsShape form.Recv shape args → IsSetting keyword.For 1 100000 shape args
-for_fits shape args fits = IsSetting-from_shape keyword.For 1 100000 shape args (omega arith) (for_followed shape fits.among) fits.count fits.numbers
+pub for_fits : (shape : List Part) (args : List (List ℕ)) → FitsShape form.Recv shape args → IsSetting keyword.For 1 MAX_ROUNDS shape args
+for_fits shape args fits = IsSetting-from_shape keyword.For 1 MAX_ROUNDS shape args (omega arith) (for_followed shape fits.among) fits.count fits.numbers
 
 unwrap_or-within : (number : Option ℕ) (other low high : ℕ) → IfSome number (λ n. (low ≤ n) × (n ≤ high)) → low ≤ other → other ≤ high → (low ≤ unwrap_or number other) × (unwrap_or number other ≤ high)
 unwrap_or-within (Some n) other low high h least most = h
 unwrap_or-within None other low high h least most = (least, most)
 
 -- the seed and the room of a node's inbox, given or not
-pub seed_within : (shape : List Part) (args : List (List ℕ)) → FitsShape form.Node shape args → unwrap_or (setting keyword.Seed shape args) 0 ≤ 65535
-seed_within shape args fits = (unwrap_or-within (setting keyword.Seed shape args) 0 0 65535 (seed_fits shape args fits).range (omega arith) (omega arith)).1
+pub seed_within : (shape : List Part) (args : List (List ℕ)) → FitsShape form.Node shape args → unwrap_or (setting keyword.Seed shape args) 0 ≤ MAX_SEED
+seed_within shape args fits = (unwrap_or-within (setting keyword.Seed shape args) 0 0 MAX_SEED (seed_fits shape args fits).range (omega arith) (omega arith)).1
 
-pub inbox_within : (shape : List Part) (args : List (List ℕ)) → FitsShape form.Node shape args → (1 ≤ unwrap_or (setting keyword.Inbox shape args) 16) × (unwrap_or (setting keyword.Inbox shape args) 16 ≤ 64)
-inbox_within shape args fits = unwrap_or-within (setting keyword.Inbox shape args) 16 1 64 (inbox_fits shape args fits).range (omega arith) (omega arith)
+pub inbox_within : (shape : List Part) (args : List (List ℕ)) → FitsShape form.Node shape args → (MIN_INBOX ≤ unwrap_or (setting keyword.Inbox shape args) DEFAULT_INBOX) × (unwrap_or (setting keyword.Inbox shape args) DEFAULT_INBOX ≤ MAX_INBOX)
+inbox_within shape args fits = unwrap_or-within (setting keyword.Inbox shape args) DEFAULT_INBOX MIN_INBOX MAX_INBOX (inbox_fits shape args fits).range (omega arith) (omega arith)

@@ -1,115 +1,113 @@
--- no buffer is lost: a rule's outcome has the buffer that the answer brought, and the state after it has it
-use Rattle.std.proofs.Common.{◌≡◌, ℕ, ◌+◌, ◌==◌, Bool, true, false, List, [], ◌∷◌, ◌++◌, map, Option, Some, None, refl, arith}
+-- no buffer is lost, the trash has one more at most, and the table stays: for each thing that may become of an answer
+use Rattle.std.proofs.Common.{◌≡◌, ℕ, ◌+◌, ◌≤◌, ◌==◌, Bool, true, false, List, [], ◌∷◌, ◌++◌, length, Option, Some, None, refl, ap, ◌∙◌, arith, length-append}
 use Rattle.std.proofs.lemmas.List.{map-append}
 use Rattle.csp_buffer.specs.Content.{Content}
 use Rattle.csp_crc.specs.Check.{payload_of}
-use Rattle.csp_deck.specs.Step.{times, item_numbers, answer_numbers}
-use Rattle.csp_log.specs.declared.item.Item.{Item}
-use Rattle.csp_log.specs.declared.item.Item.TheVariants as item
-use Rattle.csp_log.specs.declared.operation.Answer.{Answer}
-use Rattle.csp_log.specs.declared.operation.Answer.TheVariants as answer
+use Rattle.csp_deck.proofs.Keeping.{times-append}
+use Rattle.csp_deck.specs.Keeping.{numbers_of}
+use Rattle.csp_deck.specs.Step.{times, item_numbers}
+use Rattle.csp_header.specs.Word.{header_at}
+use Rattle.csp_log.specs.declared.event.Discard.{Discard}
 use Rattle.csp_log.specs.declared.places.TheConstants.{UNMARKED}
-use Rattle.csp_stack.proofs.Counting.{times_append}
-use Rattle.csp_stack.specs.Answers.{outcome_of, popped, arrived, refused, settled, HasRoomFor}
-use Rattle.csp_stack.specs.Applications.{served, packet_if}
-use Rattle.csp_stack.specs.Checksum.{cut_if, without_checksum}
-use Rattle.csp_stack.specs.Inbox.{heard_if, onward}
-use Rattle.csp_stack.specs.Ports.{at_port}
-use Rattle.csp_stack.specs.Readings.{destination, is_for, is_secured, is_checked}
-use Rattle.csp_stack.specs.Router.{State, out_numbers}
-use Rattle.csp_stack.specs.Routing.{sent_to}
-use Rattle.csp_stack.specs.Security.{refused_if}
-use Rattle.csp_stack.specs.Config.{PlainConfig}
-use Rattle.csp_stack.specs.declared.outgoing.Outgoing.{Outgoing}
-use Rattle.csp_stack.specs.declared.outcome.Outcome.{Outcome}
-use Rattle.csp_stack.specs.declared.outcome.Outcome.TheVariants as outcome
-use Rattle.csp_stack.specs.declared.plan.Doing.{Doing}
-use Rattle.csp_stack.specs.declared.plan.Doing.TheVariants as doing
+use Rattle.csp_log.specs.declared.shown.ItemShown.{ItemShown}
+use Rattle.csp_log.specs.declared.shown.ItemShown.TheVariants as item
+use Rattle.csp_route.specs.Routes.{route_of}
+use Rattle.csp_route.specs.declared.row.Row.{Row}
+use Rattle.csp_stack.specs.Readings.{is_here, is_secured, is_checked}
+use Rattle.csp_stack.specs.Router.{Facts, Leaving, State, out_buffers, holds}
+use Rattle.csp_stack.specs.Rules.{Arrival, by_way, by_destination, by_security, by_checksum, by_service, by_mark, onward, heard, sent_by, served}
+use Rattle.csp_stack.specs.Told.{Told, unchanged, discarded, leaving, kept}
 
--- the number of the buffer in an outcome
-abbrev pub outcome_numbers : Outcome → List ℕ
-outcome_numbers outcome.Nothing = []
-outcome_numbers (outcome.Kept b) = b.number ∷ []
-outcome_numbers (outcome.Discarded why b) = b.number ∷ []
-outcome_numbers (outcome.Leaves o) = o.buffer.number ∷ []
+-- a number is in two lists together as often as in each
+pub times_append : (k : ℕ) (ns ms : List ℕ) → times k (ns ++ ms) ≡ times k ns + times k ms
+times_append k ns ms = times-append k ns ms
 
-cut_keeps : (flagged : Bool) (payload : Option (List ℕ)) (b : Content) → outcome_numbers (onward at_port (cut_if flagged payload b)) ≡ b.number ∷ []
-cut_keeps false payload b = refl
-cut_keeps true None b = refl
-cut_keeps true (Some payload) b = refl
+-- the buffers of a trash and of a packet that is to go out, counted
+abbrev pub counted : ℕ → List Content → Option Leaving → ℕ
+counted k trash out = times k (numbers_of (trash ++ out_buffers out))
 
-secured_keeps : (secured : Bool) (b : Content) → outcome_numbers (onward (λ d. onward at_port (without_checksum d)) (refused_if secured b)) ≡ b.number ∷ []
-secured_keeps true b = refl
-secured_keeps false b = cut_keeps (is_checked b) (payload_of b.payload) b
+pub counted_apart : (k : ℕ) (trash : List Content) (out : Option Leaving) → counted k trash out ≡ times k (numbers_of trash) + times k (numbers_of (out_buffers out))
+counted_apart k trash out = ap (times k) (map-append (λ (b : Content). b.number) trash (out_buffers out)) ∙ times-append k (numbers_of trash) (numbers_of (out_buffers out))
 
-heard_keeps : (here : Bool) (c : PlainConfig) (mark : ℕ) (b : Content) → outcome_numbers (heard_if here c mark b) ≡ b.number ∷ []
-heard_keeps false c mark b = refl
-heard_keeps true c mark b = secured_keeps (is_secured b) b
+pub counted_more : (k : ℕ) (trash : List Content) (b : Content) → times k (numbers_of (trash ++ b ∷ [])) ≡ times k (numbers_of trash) + times k (b.number ∷ [])
+counted_more k trash b = ap (times k) (map-append (λ (b : Content). b.number) trash (b ∷ [])) ∙ times-append k (numbers_of trash) (b.number ∷ [])
 
-sent_keeps : (own : Bool) (c : PlainConfig) (b : Content) → outcome_numbers (sent_to own c b) ≡ b.number ∷ []
-sent_keeps true c b = refl
-sent_keeps false c b = refl
+pub counted_first : (k : ℕ) (trash : List Content) (b : Content) → times k (b.number ∷ numbers_of trash) ≡ times k (b.number ∷ []) + times k (numbers_of trash)
+counted_first k trash b = times-append k (b.number ∷ []) (numbers_of trash)
 
-packet_keeps : (unmarked : Bool) (c : PlainConfig) (b : Content) → outcome_numbers (packet_if unmarked c b) ≡ b.number ∷ []
-packet_keeps true c b = sent_keeps (destination b == c.addr) c b
-packet_keeps false c b = refl
+-- what is told has the buffers of the state and these, and leaves all else
+pub record Keeps (s : State) (ns : List ℕ) (t : Told) : Type 0 where
+  pub numbers : (k : ℕ) → times k (holds t.state) ≡ times k (holds s) + times k ns
+  pub room : length t.state.trash ≤ length s.trash + 1
+  pub routes : t.state.routes ≡ s.routes
+  pub doing : t.state.doing ≡ s.doing
 
-served_keeps : (c : PlainConfig) (app : ℕ) (i : Item) → outcome_numbers (served c app i) ≡ item_numbers i
-served_keeps c app (item.Packet mark b) = packet_keeps (mark == UNMARKED) c b
-served_keeps c app (item.Note n) = refl
-served_keeps c app (item.Frame f) = refl
+pub unchanged_keeps : (s : State) → Keeps s [] (unchanged s)
+unchanged_keeps s = record { numbers = λ k. omega arith; room = omega arith; routes = refl; doing = refl }
 
-arrived_keeps : (c : PlainConfig) (i : Item) → outcome_numbers (arrived c i) ≡ item_numbers i
-arrived_keeps c (item.Packet mark b) = heard_keeps (is_for c.addr b) c mark b
-arrived_keeps c (item.Note n) = refl
-arrived_keeps c (item.Frame f) = refl
+pub discarded_keeps : (s : State) (why : Discard) (b : Content) → Keeps s (b.number ∷ []) (discarded s why b)
+discarded_keeps s why b = record {
+  numbers = λ k. omega (arith, counted_apart k (s.trash ++ b ∷ []) s.out, counted_apart k s.trash s.out, counted_more k s.trash b);
+  room = omega (arith, length-append s.trash (b ∷ []));
+  routes = refl;
+  doing = refl;
+}
 
-refused_keeps : (i : Item) → outcome_numbers (refused i) ≡ item_numbers i
-refused_keeps (item.Packet mark b) = refl
-refused_keeps (item.Note n) = refl
-refused_keeps (item.Frame f) = refl
+pub leaving_keeps : (s : State) (o : Leaving) → s.out ≡ None → Keeps s (o.buffer.number ∷ []) (leaving s o)
+leaving_keeps s o none = record {
+  numbers = λ k. omega (arith, counted_apart k s.trash (Some o), counted_apart k s.trash s.out, ap (λ (out : Option Leaving). times k (numbers_of (out_buffers out))) none);
+  room = omega arith;
+  routes = refl;
+  doing = refl;
+}
 
-popped_keeps : (c : PlainConfig) (d : Doing) (i : Item) → outcome_numbers (popped c d i) ≡ item_numbers i
-popped_keeps c (doing.Serving k) i = served_keeps c k i
-popped_keeps c doing.Hearing i = arrived_keeps c i
-popped_keeps c doing.Resting i = arrived_keeps c i
-popped_keeps c doing.Giving i = arrived_keeps c i
-popped_keeps c (doing.Sending queue) i = arrived_keeps c i
+pub kept_keeps : (s : State) (b : Content) → Keeps s (b.number ∷ []) (kept s b)
+kept_keeps s b = record {
+  numbers = λ k. omega (arith, counted_apart k (b ∷ s.trash) s.out, counted_apart k s.trash s.out, counted_first k s.trash b);
+  room = omega arith;
+  routes = refl;
+  doing = refl;
+}
 
--- an answer's buffer is in what it comes to
-pub outcome_keeps : (c : PlainConfig) (d : Doing) (a : Answer) → outcome_numbers (outcome_of c d a) ≡ answer_numbers a
-outcome_keeps c d answer.Nothing = refl
-outcome_keeps c d (answer.Taken b) = refl
-outcome_keeps c d answer.NoBuffer = refl
-outcome_keeps c d answer.Given = refl
-outcome_keeps c d (answer.PoolFull b) = refl
-outcome_keeps c d answer.Pushed = refl
-outcome_keeps c d (answer.Full i) = refused_keeps i
-outcome_keeps c d (answer.Popped i) = popped_keeps c d i
-outcome_keeps c d answer.Empty = refl
+-- each rule
+sent_by_keeps : (own : Bool) (row : Option Row) (s : State) (b : Content) → s.out ≡ None → Keeps s (b.number ∷ []) (sent_by own row s b)
+sent_by_keeps true row s b none = leaving_keeps s _ none
+sent_by_keeps false None s b none = discarded_keeps s _ b
+sent_by_keeps false (Some row) s b none = leaving_keeps s _ none
 
--- the buffers of a trash and of a packet that is to go out
-abbrev held_in : List Content → Option Outgoing → List ℕ
-held_in trash out = map (λ b. b.number) trash ++ out_numbers out
+by_way_keeps : (back : Bool) (row : Row) (s : State) (p : Arrival) → s.out ≡ None → Keeps s (p.buffer.number ∷ []) (by_way back row s p)
+by_way_keeps true row s p none = discarded_keeps s _ p.buffer
+by_way_keeps false row s p none = leaving_keeps s _ none
 
-kept_added : (k : ℕ) (trash : List Content) (b : Content) (out : Option Outgoing) → times k (held_in (b ∷ trash) out) ≡ times k (held_in trash out) + times k (b.number ∷ [])
-kept_added k trash b out = grind (arith, times_append k (b.number ∷ []) (held_in trash out))
+-- the rules from the third on, and from the second on
+abbrev pub by_rest : State → Arrival → Told
+by_rest s p = onward (by_checksum (is_checked p.head) (payload_of p.buffer.payload) s p) (λ q. by_service s q)
 
-discarded_added : (k : ℕ) (trash : List Content) (b : Content) (out : Option Outgoing) → times k (held_in (trash ++ b ∷ []) out) ≡ times k (held_in trash out) + times k (b.number ∷ [])
-discarded_added k trash b out =
-    rw map-append (grind (
-      arith,
-      times_append k (map (λ b. b.number) trash ++ b.number ∷ []) (out_numbers out),
-      times_append k (map (λ b. b.number) trash) (b.number ∷ []),
-      times_append k (map (λ b. b.number) trash) (out_numbers out),
-    ))
+abbrev pub by_more : State → Arrival → Told
+by_more s p = onward (by_security (is_secured p.head) s p) (λ q. by_rest s q)
 
-leaves_added : (k : ℕ) (trash : List Content) (o : Outgoing) → times k (held_in trash (Some o)) ≡ times k (held_in trash None) + times k (o.buffer.number ∷ [])
-leaves_added k trash o = grind (arith, times_append k (map (λ b. b.number) trash) (o.buffer.number ∷ []), times_append k (map (λ b. b.number) trash) [])
+checksum_keeps : (checked : Bool) (payload : Option (List ℕ)) (s : State) (p : Arrival) → Keeps s (p.buffer.number ∷ []) (onward (by_checksum checked payload s p) (λ q. by_service s q))
+checksum_keeps false payload s p = discarded_keeps s _ p.buffer
+checksum_keeps true None s p = discarded_keeps s _ p.buffer
+checksum_keeps true (Some payload) s p = discarded_keeps s _ (record p.buffer { payload = payload })
 
--- and the state after it holds that buffer besides what it held
-pub settled_keeps : (k : ℕ) (s : State) (o : Outcome) → HasRoomFor s o → times k (held_in (settled s o).trash (settled s o).out) ≡ times k (held_in s.trash s.out) + times k (outcome_numbers o)
-settled_keeps k s outcome.Nothing h = omega arith
-settled_keeps k s (outcome.Kept b) h = kept_added k s.trash b s.out
-settled_keeps k s (outcome.Discarded why b) h = discarded_added k s.trash b s.out
-settled_keeps k s (outcome.Leaves o) h = rw h (leaves_added k s.trash o)
+security_keeps : (secured : Bool) (s : State) (p : Arrival) → Keeps s (p.buffer.number ∷ []) (onward (by_security secured s p) (λ q. by_rest s q))
+security_keeps true s p = discarded_keeps s _ p.buffer
+security_keeps false s p = checksum_keeps (is_checked p.head) (payload_of p.buffer.payload) s p
+
+destination_keeps : (here : Bool) (row : Option Row) (s : State) (p : Arrival) → s.out ≡ None → Keeps s (p.buffer.number ∷ []) (onward (by_destination here row s p) (λ q. by_more s q))
+destination_keeps true row s p none = security_keeps (is_secured p.head) s p
+destination_keeps false None s p none = discarded_keeps s _ p.buffer
+destination_keeps false (Some row) s p none = by_way_keeps (row.iface == p.mark) row s p none
+
+pub heard_keeps : (f : Facts) (s : State) (time : ℕ) (p : Arrival) → s.out ≡ None → Keeps s (p.buffer.number ∷ []) (heard f s time p)
+heard_keeps f s time p none = destination_keeps (is_here f.addr p.head) (route_of s.routes p.head.dst) s p none
+
+mark_keeps : (unmarked : Bool) (f : Facts) (s : State) (b : Content) → s.out ≡ None → Keeps s (b.number ∷ []) (by_mark unmarked f s b)
+mark_keeps true f s b none = sent_by_keeps ((header_at b.header).dst == f.addr) (route_of s.routes (header_at b.header).dst) s b none
+mark_keeps false f s b none = discarded_keeps s _ b
+
+pub served_keeps : (f : Facts) (s : State) (time app : ℕ) (i : ItemShown) → s.out ≡ None → Keeps s (item_numbers i) (served f s time app i)
+served_keeps f s time app (item.Packet mark b) none = mark_keeps (mark == UNMARKED) f s b none
+served_keeps f s time app (item.Note n) none = unchanged_keeps s
+served_keeps f s time app (item.Frame _) none = unchanged_keeps s

@@ -1,2 +1,4 @@
-pub mod Counting
+pub mod Asking
 pub mod Keeping
+pub mod Sendable
+pub mod Telling

@@ -1,29 +1,58 @@
--- what the rules read off a packet's header
-use Rattle.std.specs.Prelude.{ℕ, ◌==◌, Bool, ◌||◌}
+-- what the rules read off a packet's header, an item, and an answer
+use Rattle.std.specs.Prelude.{ℕ, ◌==◌, Bool, ◌||◌, Option, None, Some}
 use Rattle.std.specs.Int.RustNames.{bit_and}
 use Rattle.csp_buffer.specs.Content.{Content}
-use Rattle.csp_header.specs.Word.{header_at}
+use Rattle.csp_header.specs.declared.word.Header.{Header}
+use Rattle.csp_log.specs.declared.places.TheConstants.{UNMARKED}
+use Rattle.csp_log.specs.declared.shown.AnswerShown.{AnswerShown}
+use Rattle.csp_log.specs.declared.shown.AnswerShown.TheVariants as answer
+use Rattle.csp_log.specs.declared.shown.ItemShown.{ItemShown}
 
 -- the address of broadcast, which is every node's
 abbrev pub broadcast : ℕ
 broadcast = 31
 
--- the node that a packet is for
-abbrev pub destination : Content → ℕ
-destination b = (header_at b.header).dst
+-- a packet with this header is for the node of this address: by its own address, or by broadcast
+abbrev pub is_here : ℕ → Header → Bool
+is_here addr h = (h.dst == addr) || (h.dst == broadcast)
 
--- a packet is for the node of this address: by its own address, or by broadcast
-abbrev pub is_for : ℕ → Content → Bool
-is_for addr b = (destination b == addr) || (destination b == broadcast)
+-- it has this flag, a number with one bit
+abbrev pub has_flag : ℕ → Header → Bool
+has_flag flag h = bit_and h.flags.0 flag == flag
 
--- a packet has this flag, a number with one bit
-abbrev pub has_flag : ℕ → Content → Bool
-has_flag flag b = bit_and (header_at b.header).flags.0 flag == flag
+-- it is authenticated (HMAC) or encrypted (XTEA)
+abbrev pub is_secured : Header → Bool
+is_secured h = has_flag 0x08 h || has_flag 0x04 h
 
--- a packet is authenticated (HMAC) or encrypted (XTEA)
-abbrev pub is_secured : Content → Bool
-is_secured b = has_flag 0x08 b || has_flag 0x04 b
+-- it has a checksum (CRC32)
+abbrev pub is_checked : Header → Bool
+is_checked h = has_flag 0x01 h
 
--- a packet has a checksum (CRC32)
-abbrev pub is_checked : Content → Bool
-is_checked b = has_flag 0x01 b
+-- the mark for a next hop: its address, or none
+abbrev pub mark_of : Option ℕ → ℕ
+mark_of None = UNMARKED
+mark_of (Some via) = via
+
+-- the buffer that an answer brings from the pool, or back from it
+abbrev pub buffer_in : AnswerShown → Option Content
+buffer_in answer.Nothing = None
+buffer_in (answer.Taken b) = Some b
+buffer_in answer.NoBuffer = None
+buffer_in answer.Given = None
+buffer_in (answer.PoolFull b) = Some b
+buffer_in answer.Pushed = None
+buffer_in (answer.Full _) = None
+buffer_in (answer.Popped _) = None
+buffer_in answer.Empty = None
+
+-- the item that an answer brings from a queue, or back from it
+abbrev pub item_in : AnswerShown → Option ItemShown
+item_in answer.Nothing = None
+item_in (answer.Taken _) = None
+item_in answer.NoBuffer = None
+item_in answer.Given = None
+item_in (answer.PoolFull _) = None
+item_in answer.Pushed = None
+item_in (answer.Full i) = Some i
+item_in (answer.Popped i) = Some i
+item_in answer.Empty = None

@@ -1,37 +1,119 @@
-//! What becomes of a packet from the inbox.
+//! What becomes of a packet from the inbox: the rules, in their order.
 
-ghost use Rattle.std.specs.Prelude.{◌≡◌};
-ghost use Rattle.csp_stack.specs.Checksum.{without_checksum};
-ghost use Rattle.csp_stack.specs.Inbox.{heard, onward};
-ghost use Rattle.csp_stack.specs.Ports.{at_port};
+ghost use Rattle.std.specs.Prelude.{◌≡◌, ◌==◌, ◌<◌, None, length};
+ghost use Rattle.csp_crc.specs.Check.{payload_of};
+ghost use Rattle.csp_route.specs.Routes.{IsWithin, route_of};
+ghost use Rattle.csp_stack.specs.Comes.{ComesTo, IsFree, Rules, arrival_of};
+ghost use Rattle.csp_stack.specs.Party.{IsSendable};
+ghost use Rattle.csp_stack.specs.Readings.{is_checked, is_here, is_secured};
+ghost use Rattle.csp_stack.specs.Rules.{by_checksum, by_destination, by_security, by_service, by_way, heard};
 
-use crate::checksum::cut_checksum;
-use crate::ports::hand_to_port;
-use crate::readings::is_packet_for;
-use crate::routing::forward;
-use crate::security::refuse_secured;
-use crate::{Outcome, StackConfig};
-use csp_buffer::Buffer;
+use crate::Outgoing;
+use crate::facts::Facts;
+use crate::packet::Packet;
+use crate::readings::{is_packet_checked, is_packet_here, is_packet_secured};
+use crate::state::State;
+use csp_deck::{Discard, Events};
+use csp_route::Row;
 
-/// The first rule that fits a packet from the inbox, with the mark with which it came.
-pub fn hear(config: &StackConfig, mark: u8, buffer: Buffer) -> Outcome
-    ensures { result ≡ heard config.now mark buffer }
+/// The first rule that decides.
+pub fn hear(facts: &Facts, state: &mut State, _now: u64, packet: Packet, report: &mut Events)
+    requires free { IsFree state.old.state report.old.items }
+    requires of_it { packet.buffer.region ≡ state.old.region }
+    requires within { IsWithin (length facts.now.ifaces) state.old.state.routes }
+    ensures told { ComesTo state.old state.new report.old.items report.new.items (heard facts.now state.old.state _now (arrival_of packet)) }
+    ensures sendable { IsSendable facts.now state.new.state.out }
 {
-    if !is_packet_for(config.addr, &buffer) {
-        return forward(config, mark, buffer);
+    let Some(packet) = judge_destination(facts, state, packet, report) else {
+        return;
+    };
+    let Some(packet) = judge_security(state, packet, report) else {
+        return;
+    };
+    let Some(packet) = judge_checksum(state, packet, report) else {
+        return;
+    };
+    judge_service(state, packet, report);
+}
+
+/// 1. A packet for another node goes on as it is by the row of its route.
+fn judge_destination(
+    facts: &Facts,
+    state: &mut State,
+    packet: Packet,
+    report: &mut Events,
+) -> Option<Packet>
+    requires free { IsFree state.old.state report.old.items }
+    requires of_it { packet.buffer.region ≡ state.old.region }
+    requires within { IsWithin (length facts.now.ifaces) state.old.state.routes }
+    ensures told { Rules result state.old state.new report.old.items report.new.items (by_destination (is_here facts.now.addr packet.header) (route_of state.old.state.routes packet.header.dst) state.old.state (arrival_of packet)) }
+    ensures sendable { IsSendable facts.now state.new.state.out }
+{
+    if is_packet_here(facts.addr, &packet.header) {
+        return Some(packet);
     }
-    match refuse_secured(buffer) {
-        Ok(buffer) => hear_plain(buffer),
-        Err(decided) => decided,
+    match state.route(packet.destination()) {
+        Some(row) => forward(facts, state, row, packet, report),
+        None => state.discard(Discard::NoRoute, packet.into_buffer(), report),
+    }
+    None
+}
+
+/// Forwards a packet by a row, but not back to where it came in.
+#[tactic(auto, using(crate::proofs::Sendable::by_row_sendable))]
+fn forward(facts: &Facts, state: &mut State, row: Row, packet: Packet, report: &mut Events)
+    requires free { IsFree state.old.state report.old.items }
+    requires of_it { packet.buffer.region ≡ state.old.region }
+    requires way { row.iface < length facts.now.ifaces }
+    ensures told { ComesTo state.old state.new report.old.items report.new.items (by_way (row.iface == packet.mark) row state.old.state (arrival_of packet)) }
+    ensures sendable { IsSendable facts.now state.new.state.out }
+{
+    if row.iface == packet.mark {
+        state.discard(Discard::BackOut, packet.into_buffer(), report);
+    } else {
+        state.leave(Outgoing::by_row(row, packet.into_buffer()));
     }
 }
 
-/// A packet for this node that is not secured.
-fn hear_plain(buffer: Buffer) -> Outcome
-    ensures { result ≡ onward at_port (without_checksum buffer) }
+/// 2. A packet that is authenticated or encrypted is refused.
+fn judge_security(state: &mut State, packet: Packet, report: &mut Events) -> Option<Packet>
+    requires free { IsFree state.old.state report.old.items }
+    requires of_it { packet.buffer.region ≡ state.old.region }
+    ensures told { Rules result state.old state.new report.old.items report.new.items (by_security (is_secured packet.header) state.old.state (arrival_of packet)) }
+    ensures none { state.new.state.out ≡ None }
 {
-    match cut_checksum(buffer) {
-        Ok(buffer) => hand_to_port(buffer),
-        Err(decided) => decided,
+    if !is_packet_secured(&packet.header) {
+        return Some(packet);
     }
+    state.discard(Discard::Refused, packet.into_buffer(), report);
+    None
+}
+
+/// 3. Of a packet with a checksum the checksum is cut off.
+fn judge_checksum(state: &mut State, packet: Packet, report: &mut Events) -> Option<Packet>
+    requires free { IsFree state.old.state report.old.items }
+    requires of_it { packet.buffer.region ≡ state.old.region }
+    ensures told { Rules result state.old state.new report.old.items report.new.items (by_checksum (is_checked packet.header) (payload_of packet.buffer.picture.payload) state.old.state (arrival_of packet)) }
+    ensures none { state.new.state.out ≡ None }
+{
+    if !is_packet_checked(&packet.header) {
+        return Some(packet);
+    }
+    match packet.without_checksum() {
+        Ok(packet) => Some(packet),
+        Err(packet) => {
+            state.discard(Discard::CrcWrong, packet.into_buffer(), report);
+            None
+        }
+    }
+}
+
+/// 6. No service has the packet's port.
+fn judge_service(state: &mut State, packet: Packet, report: &mut Events)
+    requires free { IsFree state.old.state report.old.items }
+    requires of_it { packet.buffer.region ≡ state.old.region }
+    ensures told { ComesTo state.old state.new report.old.items report.new.items (by_service state.old.state (arrival_of packet)) }
+    ensures none { state.new.state.out ≡ None }
+{
+    state.discard(Discard::NoSocket, packet.into_buffer(), report);
 }

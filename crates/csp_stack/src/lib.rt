@@ -2,28 +2,24 @@
 //! applications, and decides by the rules of the CubeSat Space Protocol what becomes of each.
 #![tactic(auto)]
 
-mod applications;
-mod checksum;
 mod config;
+mod facts;
 mod inbox;
-mod outcome;
 mod outgoing;
+mod packet;
 mod party;
 mod plan;
-mod ports;
 mod readings;
-mod routing;
-mod security;
+mod sending;
+mod serving;
 mod sources;
 mod stack;
-#[cfg(test)]
-mod tests;
-mod trash;
+mod state;
+mod turn;
 
-pub use config::StackConfig;
-pub use outcome::Outcome;
+pub use config::{IFACE_ROOM, StackConfig};
 pub use outgoing::Outgoing;
-pub use plan::{Doing, Plan};
+pub use plan::Plan;
 pub use sources::Source;
 pub use stack::Stack;
-pub use trash::TRASH_ROOM;
+pub use state::TRASH_ROOM;

@@ -1,9 +1,13 @@
 //! A packet that is to go out.
 
 ghost use Rattle.std.specs.Prelude.{◌≡◌};
+ghost use Rattle.csp_stack.specs.Comes.{IsHop, leaving_of};
+ghost use Rattle.csp_stack.specs.Readings.{mark_of};
+ghost use Rattle.csp_stack.specs.Rules.{by_row, to_itself};
 
 use csp_buffer::Buffer;
-use csp_deck::{Item, Op, QueueId};
+use csp_deck::{Item, Op, QueueId, UNMARKED};
+use csp_route::Row;
 
 /// A packet that the router's next push is of, and the queue and the mark that it goes with.
 pub struct Outgoing {
@@ -13,8 +17,38 @@ pub struct Outgoing {
 }
 
 impl Outgoing {
+    /// A packet that goes out by a row of the routing table: to that interface, marked with the next
+    /// hop if the row names one.
+    pub(crate) fn by_row(row: Row, buffer: Buffer) -> Outgoing
+        ensures packet { leaving_of result ≡ by_row row buffer.picture }
+        ensures mark { IsHop (mark_of row.via) }
+        ensures region { result.buffer.region ≡ buffer.region }
+    {
+        let mark = match row.via {
+            Some(via) => via.get(),
+            None => UNMARKED,
+        };
+        Outgoing {
+            queue: QueueId::Out(row.iface),
+            mark,
+            buffer,
+        }
+    }
+
+    /// A packet to the node itself: it goes to the inbox, unmarked.
+    pub(crate) fn to_itself(buffer: Buffer) -> Outgoing
+        ensures packet { leaving_of result ≡ to_itself buffer.picture }
+        ensures region { result.buffer.region ≡ buffer.region }
+    {
+        Outgoing {
+            queue: QueueId::Inbox,
+            mark: UNMARKED,
+            buffer,
+        }
+    }
+
     /// Its push.
-    pub fn into_push(self) -> Op
+    pub(crate) fn into_push(self) -> Op
         ensures { result ≡ Op.Push self.queue (Item.Packet self.mark self.buffer) }
     {
         let Outgoing {
@@ -26,7 +60,7 @@ impl Outgoing {
     }
 
     /// Its buffer.
-    pub fn into_buffer(self) -> Buffer
+    pub(crate) fn into_buffer(self) -> Buffer
         ensures { result ≡ self.buffer }
     {
         let Outgoing {

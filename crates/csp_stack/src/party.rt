@@ -1,43 +1,49 @@
 //! The router takes turns.
 
-ghost use Rattle.std.specs.Prelude.{false};
-ghost use Rattle.csp_stack.specs.Party.{IsReady, IsWaiting, awaits_of, queues_of, asks_of, asked_of, told_of, events_of};
-ghost use Rattle.csp_stack.specs.Router.{held};
-
 use crate::Stack;
-use csp_deck::{Answer, Events, Op, Party};
+use crate::turn::{begin, finish};
+use csp_deck::{Answer, Events, Op, Party, Spares};
 
 impl Party for Stack {
-    ghost is_ready = { λ r _. IsReady r };
+    ghost use Rattle.std.specs.Prelude.{⊤, false};
+    ghost use Rattle.csp_stack.specs.Party.{asks_of, asked_of, awaits_of, events_of, rules_of, told_of};
+    ghost use Rattle.csp_stack.specs.Router.{holds, with_router};
 
-    ghost is_waiting = { λ r _. IsWaiting r };
+    ghost is_ready = { λ _ _. ⊤ };
 
-    ghost awaits = { awaits_of };
+    ghost is_waiting = { λ _ _. ⊤ };
+
+    ghost awaits = { λ r. awaits_of r.router };
 
     ghost has_ended = { λ _. false };
 
-    ghost uses = { queues_of };
+    ghost uses = { λ r. rules_of r.router.facts };
 
-    ghost asks = { asks_of };
+    ghost region = { λ r. r.region };
 
-    ghost asked = { asked_of };
+    ghost asks = { λ r now. asks_of r.router now };
 
-    ghost tells = { told_of };
+    ghost asked = { λ r now. with_router r (asked_of r.router now) };
 
-    ghost events = { events_of };
+    ghost tells = { λ r now answer. with_router r (told_of r.router now answer) };
 
-    ghost holds = { held };
+    ghost events = { λ r now answer. events_of r.router now answer };
 
-    fn ask(&mut self, _now: u64) -> Op {
-        self.begin().into_op()
+    ghost holds = { λ r. holds r.router.state };
+
+    fn ask(&mut self, now: u64) -> Op {
+        begin(&self.facts, &mut self.state, now)
     }
 
-    fn told(&mut self, answer: Answer, _now: u64) -> Events {
-        let outcome = self.judge(answer);
-        self.settle(outcome)
+    fn told(&mut self, answer: Answer, now: u64, report: &mut Events, _spares: &mut Spares) {
+        finish(&self.facts, &mut self.state, now, answer, report);
     }
 
     fn ended(&self) -> bool {
         false
+    }
+
+    fn boxes(&self) -> u8 {
+        0
     }
 }

@@ -3,7 +3,7 @@
 ghost use Rattle.std.specs.Prelude.{◌≡◌, ◌+◌, ◌≤◌};
 ghost use Rattle.csp_stack.specs.Sources.{source_count, source_at, place_past};
 
-use crate::StackConfig;
+use crate::facts::Facts;
 
 /// A source of work.
 #[derive(Clone, Copy, PartialEq, Eq, Debug)]
@@ -17,19 +17,19 @@ pub enum Source {
 }
 
 /// How many sources there are.
-pub fn count_sources(config: &StackConfig) -> usize
-    ensures { result ≡ source_count config.now }
+pub fn count_sources(facts: &Facts) -> usize
+    ensures { result ≡ source_count facts.now }
 {
-    usize::from(config.apps) + 2
+    usize::from(facts.apps) + 2
 }
 
 /// The source at a place of their order.
-pub fn source_in(config: &StackConfig, place: usize) -> Source
-    ensures { result ≡ source_at config.now place }
+pub fn source_in(facts: &Facts, place: usize) -> Source
+    ensures { result ≡ source_at facts.now place }
 {
     if place == 0 {
         Source::Inbox
-    } else if place <= usize::from(config.apps) {
+    } else if place <= usize::from(facts.apps) {
         Source::App((place - 1) as u8)
     } else {
         Source::Jobs
@@ -37,25 +37,25 @@ pub fn source_in(config: &StackConfig, place: usize) -> Source
 }
 
 /// The place past that of the inbox.
-pub fn past_inbox(config: &StackConfig) -> usize
-    ensures { result ≡ place_past config.now 0 }
+pub fn past_inbox(facts: &Facts) -> usize
+    ensures { result ≡ place_past facts.now 0 }
 {
-    past(config, 0)
+    past(facts, 0)
 }
 
 /// The place past that of an application.
-pub fn past_app(config: &StackConfig, app: u8) -> usize
-    ensures { result ≡ place_past config.now (app + 1) }
+pub fn past_app(facts: &Facts, app: u8) -> usize
+    ensures { result ≡ place_past facts.now (app + 1) }
 {
-    past(config, usize::from(app) + 1)
+    past(facts, usize::from(app) + 1)
 }
 
 /// The place past this one, in a circle.
-fn past(config: &StackConfig, place: usize) -> usize
+fn past(facts: &Facts, place: usize) -> usize
     requires { place ≤ 256 }
-    ensures { result ≡ place_past config.now place }
+    ensures { result ≡ place_past facts.now place }
 {
-    if place + 1 == count_sources(config) {
+    if place + 1 == count_sources(facts) {
         0
     } else {
         place + 1

@@ -8,7 +8,7 @@ use Rattle.csp_log.specs.declared.places.Place.TheVariants as place
 use Rattle.csp_log.specs.Remains.{PlainHeld}
 use Rattle.csp_record.specs.Record.{PlainRecord}
 use Rattle.csp_record.specs.Whole.{weight_at, IsWholeNode}
-use Rattle.csp_top.specs.declared.report_places.PlaceKind.TheVariants as kind
+use Rattle.csp_top.specs.declared.reporting.places.PlaceKind.TheVariants as kind
 use Rattle.csp_top.specs.ReportPlaces.{is_of_kind, count_at, held_in}
 
 ones : (numbers : List ℕ) → sum_by (λ _. 1) numbers ≡ length numbers

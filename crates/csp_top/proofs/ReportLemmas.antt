@@ -18,7 +18,7 @@ use Rattle.csp_log.specs.declared.note.Why.{Why}
 use Rattle.csp_log.specs.declared.note.Why.TheVariants as why
 use Rattle.csp_record.specs.Record.{PlainPartyLog, PlainRecord}
 use Rattle.csp_record.specs.Whole.{IsWhole, IsWholeNode}
-use Rattle.csp_top.specs.declared.report_places.PlaceKind.TheVariants as kind
+use Rattle.csp_top.specs.declared.reporting.places.PlaceKind.TheVariants as kind
 use Rattle.csp_top.specs.Lines.{Line, ended_line, text_of}
 use Rattle.csp_top.specs.ReportPlaces.{held_in}
 use Rattle.csp_top.specs.ReportEvents.{is_app, router_entries, events_in, discards_in, all_discards, word_of, word_of_refusal, step_line, refused_line, event_lines}

@@ -5,3 +5,5 @@ pub mod Report
 pub mod PlacesAddUp
 pub mod Main
 pub mod Statuses
+pub mod Said
+pub mod Words

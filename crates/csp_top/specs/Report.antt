@@ -5,7 +5,7 @@ use Rattle.std.specs.Fmt.{decimal}
 use Rattle.csp_scene.specs.Scene.{PlainScene, PlainNode, PlainApp}
 use Rattle.csp_record.specs.Record.{PlainPartyLog, PlainRecord}
 use Rattle.csp_top.specs.Lines.{Line, text_of}
-use Rattle.csp_top.specs.declared.report_places.PlaceKind.TheVariants as kind
+use Rattle.csp_top.specs.declared.reporting.places.PlaceKind.TheVariants as kind
 use Rattle.csp_top.specs.ReportPlaces.{held_in}
 use Rattle.csp_top.specs.ReportEvents.{is_app, router_entries, events_in, discards_in, all_discards, word_of, event_lines}
 

@@ -4,8 +4,8 @@ use Rattle.csp_log.specs.declared.places.Place.{Place}
 use Rattle.csp_log.specs.declared.places.Place.TheVariants as place
 use Rattle.csp_log.specs.Remains.{PlainHeld}
 use Rattle.csp_record.specs.Record.{PlainRecord}
-use Rattle.csp_top.specs.declared.report_places.PlaceKind.{PlaceKind}
-use Rattle.csp_top.specs.declared.report_places.PlaceKind.TheVariants as kind
+use Rattle.csp_top.specs.declared.reporting.places.PlaceKind.{PlaceKind}
+use Rattle.csp_top.specs.declared.reporting.places.PlaceKind.TheVariants as kind
 
 -- which places are of a kind: an inbox of any priority, any lane, any interface, any application
 abbrev pub is_of_kind : PlaceKind → Place → Bool

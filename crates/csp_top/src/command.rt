@@ -28,7 +28,9 @@ pub fn csp_main<S: Source, K: Sink>(
     ensures places { result ≡ Status.Done → WroteWhole (K.written sink.old) (K.written sink.new) }
     ensures read { result ≡ Status.Done → WasRead (S.left source.old) (S.left source.new) }
     ensures read_fault { result ≡ Status.ReadFault → Rose (S.faults source.old) (S.faults source.new) }
+    ensures no_read_fault { result ≢ Status.ReadFault → S.faults source.new ≡ S.faults source.old }
     ensures write_fault { result ≡ Status.WriteFault → Rose (K.faults sink.old) (K.faults sink.new) }
+    ensures no_write_fault { result ≢ Status.WriteFault → K.faults sink.new ≡ K.faults sink.old }
     ensures part { result ≡ Status.WriteFault → IfSome (S.left source.old) (λ text. WrotePart text (K.written sink.old) (K.written sink.new)) }
     ensures part_read { result ≡ Status.WriteFault → WasRead (S.left source.old) (S.left source.new) }
     ensures scene { (line : ℕ) (kind : SceneKind) → result ≡ Status.Scene line kind → IfSome (S.left source.old) (λ text. scene_of text ≡ Err (record { line = line; kind = kind })) }

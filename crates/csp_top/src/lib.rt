@@ -1,21 +1,17 @@
-//! The run of a scenario, from its bytes to the bytes of its report.
+//! The run of a scenario, from the program's words and the scenario's bytes to the bytes of its report, the line
+//! on standard error and the exit status.
 #![tactic(auto)]
 
 mod command;
-mod report_apps;
-mod report_lines;
-mod report_places;
-mod report_routers;
-mod report_text;
+mod reporting;
+mod saying;
 mod simulation;
 mod status;
+mod words;
 
 pub use command::csp_main;
-pub use report_text::report;
+pub use reporting::report;
+pub use saying::say;
 pub use simulation::sim_main;
 pub use status::{LimitKind, MAX_SCENARIO, Status};
-
-#[cfg(test)]
-mod record_tests;
-#[cfg(test)]
-mod report_tests;
+pub use words::own_words;

@@ -42,3 +42,23 @@ pub enum Status {
         number: u64,
     },
 }
+
+impl Status {
+    ghost use Rattle.std.specs.Prelude.{◌≡◌};
+    ghost use Rattle.csp_top.specs.Said.{code_of};
+
+    /// The exit status: 0 to 6, in the order of the variants.
+    pub fn code(self) -> u8
+        ensures { result ≡ code_of self }
+    {
+        match self {
+            Status::Done => 0,
+            Status::NoMemory => 1,
+            Status::Words => 2,
+            Status::ReadFault => 3,
+            Status::WriteFault => 4,
+            Status::Scene { .. } => 5,
+            Status::Limit { .. } => 6,
+        }
+    }
+}

@@ -9,10 +9,10 @@ use Rattle.std.proofs.lemmas.List.Folds.{list_all-map}
 use Rattle.std.proofs.lemmas.List.FromFn.{length-range_with_len}
 use Rattle.std.proofs.lemmas.Option.{slice_get-map, slice_get-get_or, slice_get_within}
 use Rattle.std.proofs.lemmas.Simd.{map-map}
-use Rattle.csp_deck.specs.Gathered.{queued_numbers}
-use Rattle.csp_deck.specs.PlainDeck.{PlainDeck, buffer_numbers}
+use Rattle.csp_lists.specs.Gathered.{queued_numbers}
+use Rattle.csp_lists.specs.PlainDeck.{PlainDeck, buffer_numbers}
 use Rattle.csp_log.specs.Remains.{PlainLeft, PlainHeld}
-use Rattle.csp_party.specs.Any.{holds}
+use Rattle.csp_party.specs.Any.{holds, plain}
 use Rattle.csp_record.specs.Record.{PlainPartyLog, PlainRecord}
 use Rattle.csp_record.specs.Who.{node_of}
 use Rattle.csp_world.specs.Emptied.{PlainEmptied, IsComplete, with_gathered}
@@ -90,7 +90,7 @@ home_of (Some d) p = (d, refl, p)
 
 -- each party has room for the numbers that it holds
 pub numbers_fit : (decks : List PlainDeck) (members : List Member) (time : ℕ) → Gathers → Long → IsConserved (world_of decks members time) → AllFit decks time members
-    → All (λ m. (m.numbers.items ≡ []) × (length (holds m.party) ≤ vec_capacity m.numbers)) members
+    → All (λ m. (m.numbers.items ≡ []) × (length (holds (plain m.party)) ≤ vec_capacity m.numbers)) members
 numbers_fit decks members time gathers long conserved fit k x h =
     let m = get_or members k x in
     let found = slice_get-get_or members k x h in
@@ -99,13 +99,6 @@ numbers_fit decks members time gathers long conserved fit k x h =
     let whole = complete_at (world_of decks members time) gathers long conserved (node_of m.who) d home.1 in
     let within = member_within (map plain_member members) k (plain_member m) (slice_get-map plain_member members k ∙ ap (option_map plain_member) found) in
     (home.2.unnoted, omega (arith, within, whole.fits, home.2.room, length-append (queued_numbers d) (flat_map (holds_at (node_of m.who)) (map plain_member members))))
-
--- each party's node is there
-pub homes_are : (decks : List PlainDeck) (members : List Member) (time : ℕ) → AllFit decks time members → All (λ m. node_of m.who < length (map emptied_of decks)) members
-homes_are decks members time fit k x h =
-    let m = get_or members k x in
-    let home = home_of (slice_get decks (node_of m.who)) (fit k m (slice_get-get_or members k x h)) in
-    rw (length-map decks emptied_of) (slice_get_within decks (node_of m.who) home.0 home.1)
 
 -- the nodes, once their queues and parties are emptied
 abbrev pub AllTaken : PlainWorld → List PlainEmptied → Type 0
@@ -147,7 +140,7 @@ pub noted : (decks : List PlainDeck) (members : List Member) (time : ℕ) (es : 
     → first ≡ queues_held 0 decks
     → second ≡ first ++ map (λ m. member_held (plain_member m)) members
     → third ≡ second ++ pools_held 0 (map (λ e. e.pool) es)
-    → done ≡ list_all (λ m. is_done m.party) members
+    → done ≡ list_all (λ m. is_done (plain m.party)) members
     → let r : PlainRecord = record { parties = logs; left = left; held = third; rounds = time; finished = done } in r ≡ record_of (world_of decks members time)
 noted decks members time es logs left first second third done taken a b c d e f =
     let logs_are : logs ≡ map member_log (map plain_member members) = a ∙ sym (map-map member_log plain_member members) in

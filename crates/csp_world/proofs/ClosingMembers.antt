@@ -1,20 +1,37 @@
 -- What is taken back from the parties of each node.
-use Rattle.std.proofs.Common.{◌≡◌, ℕ, ◌+◌, ◌≤◌, Bool, true, false, Option, None, Some, List, [], ◌∷◌, ◌++◌, length, refl, ap, subst, arith}
+use Rattle.std.proofs.Common.{◌≡◌, ℕ, ◌+◌, ◌<◌, ◌≤◌, get_or, map, sym, ◌∙◌, Bool, true, false, Option, None, Some, List, [], ◌∷◌, ◌++◌, length, refl, ap, subst, arith}
 use Rattle.std.specs.Prelude.{slice_get, slice_set, if◌then◌else◌, ◌==◌}
 use Rattle.std.specs.List.{flat_map}
 use Rattle.std.specs.Option.{option_map}
 use Rattle.std.proofs.lemmas.Bool.Decides.{nat_tests}
-use Rattle.std.proofs.lemmas.List.{append_assoc, append-nil, length-append}
-use Rattle.csp_party.specs.Any.{holds}
+use Rattle.std.proofs.lemmas.List.{append_assoc, append-nil, length-append, length-map}
+use Rattle.std.proofs.lemmas.Option.{slice_get-map, slice_get_read, slice_get_within}
+use Rattle.csp_arena.specs.Cells.{RegionName}
+use Rattle.csp_party.specs.Any.{holds, region_of}
 use Rattle.csp_record.specs.Who.{node_of}
-use Rattle.csp_world.specs.Emptied.{PlainEmptied, with_gathered}
+use Rattle.csp_world.specs.Emptied.{EmptiedAt, PlainEmptied, emptied_in, with_gathered}
 use Rattle.csp_world.specs.Holders.{holds_at}
 use Rattle.csp_world.specs.World.{PlainMember}
+use Rattle.csp_world.specs.declared.member.Member.{Member}
 use Rattle.csp_world.proofs.SetLemmas.{set_here, set_there}
 
 -- what is left of a node, with all that these parties of it hold
 abbrev pub with_members : List PlainMember → ℕ → Option PlainEmptied → Option PlainEmptied
 with_members ms node o = option_map (with_gathered (flat_map (holds_at node) ms)) o
+
+-- the node of a party that is at home there
+pub home_within : (es : List EmptiedAt) (m : Member) → slice_get (map (λ (e : EmptiedAt). e.region) es) (node_of m.who) ≡ Some (region_of m.party) → node_of m.who < length es
+home_within es m home = rw (← length-map es (λ (e : EmptiedAt). e.region)) (slice_get_within (map (λ (e : EmptiedAt). e.region) es) (node_of m.who) (region_of m.party) home)
+
+-- what is read of the node of a party that is at home there
+pub home_read : (es : List EmptiedAt) (m : Member) (now : EmptiedAt) → slice_get (map (λ (e : EmptiedAt). e.region) es) (node_of m.who) ≡ Some (region_of m.party) → now ≡ get_or es (node_of m.who) now
+    → (slice_get (emptied_in es) (node_of m.who) ≡ Some now.emptied) × (region_of m.party ≡ now.region)
+home_read es m now home read =
+    let found = slice_get_read es _ (node_of m.who) now refl (home_within es m home) read in
+    (slice_get-map (λ (e : EmptiedAt). e.emptied) es (node_of m.who) ∙ ap (option_map (λ (e : EmptiedAt). e.emptied)) found, same home (slice_get-map (λ (e : EmptiedAt). e.region) es (node_of m.who) ∙ ap (option_map (λ (e : EmptiedAt). e.region)) found))
+  where
+    same : {o : Option RegionName} {x y : RegionName} → o ≡ Some x → o ≡ Some y → x ≡ y
+    same e f = cc
 
 -- no parties hold nothing
 pub with_none : (node : ℕ) (o : Option PlainEmptied) → with_members [] node o ≡ o

@@ -7,9 +7,9 @@ use Rattle.std.proofs.lemmas.Bool.Decides.{nat_tests}
 use Rattle.std.proofs.lemmas.List.Sums.{sum_by-append, sum_by-cons}
 use Rattle.std.proofs.lemmas.Option.{slice_get-map}
 use Rattle.csp_buffer.specs.Content.{Content}
-use Rattle.csp_deck.specs.Gathered.{queues_of, queued_numbers, held_at}
-use Rattle.csp_deck.specs.PlainDeck.{PlainDeck, PlainQueue, buffer_numbers, numbers_of, numbers_in}
-use Rattle.csp_deck.specs.PlainFifo.{PlainFifo}
+use Rattle.csp_lists.specs.Gathered.{queued_numbers, held_at}
+use Rattle.csp_lists.specs.PlainDeck.{PlainDeck, PlainQueue, buffer_numbers, numbers_of, numbers_among, numbers_in}
+use Rattle.csp_lists.specs.PlainFifo.{PlainFifo}
 use Rattle.csp_deck.specs.Step.{times}
 use Rattle.csp_log.specs.declared.places.Place.{Place}
 use Rattle.csp_log.specs.declared.places.Place.TheVariants as place
@@ -55,14 +55,14 @@ more_sum true x y m n a e f g = omega arith
 more_sum false x y m n a e f g = omega arith
 
 -- the queues of a node count for it, and for no other
-queues_weigh : (node : ℕ) (weight : ℕ → ℕ) (first : ℕ) (qs : List (Place × PlainQueue))
-    → sum_by (weight_at node weight) (map (held_at first) qs) ≡ (if first == node then sum_by weight (flat_map (λ q. numbers_of q.1.items) qs) else 0)
+queues_weigh : (node : ℕ) (weight : ℕ → ℕ) (first : ℕ) (qs : List PlainQueue)
+    → sum_by (weight_at node weight) (map (held_at first) qs) ≡ (if first == node then sum_by weight (numbers_among qs) else 0)
 queues_weigh node weight first [] = no_sum (first == node)
 queues_weigh node weight first (q ∷ qs) =
-    more_sum (first == node) (sum_by weight (numbers_of q.1.items)) (sum_by weight (flat_map (λ (q : Place × PlainQueue). numbers_of q.1.items) qs)) _ _ _
+    more_sum (first == node) (sum_by weight (numbers_of q.items)) (sum_by weight (numbers_among qs)) _ _ _
     (sum_by-cons (weight_at node weight) (held_at first q) (map (held_at first) qs))
     (queues_weigh node weight first qs)
-    (sum_by-append weight (numbers_of q.1.items) (flat_map (λ (q : Place × PlainQueue). numbers_of q.1.items) qs))
+    (sum_by-append weight (numbers_of q.items) (numbers_among qs))
 
 other_if : (b : Bool) (a x s n : ℕ) → a ≡ x + s → x ≡ (if b then n else 0) → b ≡ false → s ≡ 0 → a ≡ 0
 other_if true a x s n e f g h = cc
@@ -79,8 +79,8 @@ own_if false a x s n e f g h = cc
 queues_after : (node : ℕ) (weight : ℕ → ℕ) (first : ℕ) (ds : List PlainDeck) → node < first → sum_by (weight_at node weight) (queues_held first ds) ≡ 0
 queues_after node weight first [] h = refl
 queues_after node weight first (d ∷ ds) h =
-    other_if (first == node) _ _ _ _ (sum_by-append (weight_at node weight) (map (held_at first) (queues_of d)) (queues_held (first + 1) ds))
-    (queues_weigh node weight first (queues_of d)) (unequal first node (omega arith)) (queues_after node weight (first + 1) ds (omega arith))
+    other_if (first == node) _ _ _ _ (sum_by-append (weight_at node weight) (map (held_at first) d.queues) (queues_held (first + 1) ds))
+    (queues_weigh node weight first d.queues) (unequal first node (omega arith)) (queues_after node weight (first + 1) ds (omega arith))
 
 queues_here : (node : ℕ) (weight : ℕ → ℕ) (first k : ℕ) (ds : List PlainDeck) (d : PlainDeck) → slice_get ds k ≡ Some d → first + k ≡ node
     → sum_by (weight_at node weight) (queues_held first ds) ≡ sum_by weight (queued_numbers d)
@@ -88,12 +88,12 @@ queues_here node weight first zero [] d e f = cc
 queues_here node weight first (suc k) [] d e f = cc
 queues_here node weight first zero (x ∷ ds) d e f =
     let same : x ≡ d = cc in
-    own_if (first == node) _ _ _ _ (sum_by-append (weight_at node weight) (map (held_at first) (queues_of x)) (queues_held (first + 1) ds))
-    (queues_weigh node weight first (queues_of x)) (equal first node (omega arith)) (queues_after node weight (first + 1) ds (omega arith))
+    own_if (first == node) _ _ _ _ (sum_by-append (weight_at node weight) (map (held_at first) x.queues) (queues_held (first + 1) ds))
+    (queues_weigh node weight first x.queues) (equal first node (omega arith)) (queues_after node weight (first + 1) ds (omega arith))
     ∙ ap (λ y. sum_by weight (queued_numbers y)) same
 queues_here node weight first (suc k) (x ∷ ds) d e f =
-    rest_if (first == node) _ _ _ _ _ (sum_by-append (weight_at node weight) (map (held_at first) (queues_of x)) (queues_held (first + 1) ds))
-    (queues_weigh node weight first (queues_of x)) (unequal first node (omega arith)) (queues_here node weight (first + 1) k ds d e (omega arith))
+    rest_if (first == node) _ _ _ _ _ (sum_by-append (weight_at node weight) (map (held_at first) x.queues) (queues_held (first + 1) ds))
+    (queues_weigh node weight first x.queues) (unequal first node (omega arith)) (queues_here node weight (first + 1) k ds d e (omega arith))
 
 -- and so does its pool
 abbrev in_pool : ℕ → PlainFifo Content → PlainHeld

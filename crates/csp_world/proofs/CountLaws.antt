@@ -1,8 +1,8 @@
 -- How often a number is in a list, and what the laws of lists and decks say of it.
 use Rattle.std.proofs.Common.{◌≡◌, ℕ, ◌+◌, ◌==◌, cond, List, ◌++◌, length, sum_by}
 use Rattle.std.proofs.lemmas.List.Sums.{sum_by-append}
-use Rattle.csp_deck.specs.Gathered.{queued_numbers}
-use Rattle.csp_deck.specs.PlainDeck.{PlainDeck, buffer_numbers, numbers_in}
+use Rattle.csp_lists.specs.Gathered.{queued_numbers}
+use Rattle.csp_lists.specs.PlainDeck.{PlainDeck, buffer_numbers, numbers_in}
 use Rattle.csp_deck.specs.Step.{times}
 
 -- what is in a deck's pool and in its queues is what is in the deck

@@ -1,12 +1,15 @@
 -- Parties stay fit for their turns.
-use Rattle.std.proofs.Common.{◌≡◌, ℕ, ◌+◌, ◌==◌, Bool, true, false, Option, None, Some, List, length, set, sym, ◌∙◌, subst, refl, arith}
+use Rattle.std.proofs.Common.{◌≡◌, ℕ, ◌+◌, ◌==◌, Bool, true, false, Option, None, Some, List, length, map, get_or, ◌<◌, set, sym, ◌∙◌, ap, subst, refl, arith}
+use Rattle.std.specs.Option.{option_map}
 use Rattle.std.specs.Prelude.{slice_get, IsSomeAnd}
 use Rattle.std.proofs.lemmas.Bool.Decides.{nat_tests}
 use Rattle.std.proofs.lemmas.List.{length-set}
-use Rattle.csp_deck.specs.Gathered.{queues_of}
-use Rattle.csp_deck.specs.PlainDeck.{PlainDeck}
+use Rattle.std.proofs.lemmas.Option.{slice_get-map, slice_get_read, slice_get-get_or, slice_get_within, get_or_from_slice_get}
+use Rattle.csp_arena.specs.Cells.{RegionName}
+use Rattle.csp_lists.specs.PlainDeck.{DeckAt, PlainDeck}
+use Rattle.csp_party.specs.Any.{region_of}
 use Rattle.csp_record.specs.Who.{node_of}
-use Rattle.csp_world.specs.Inside.{IsFit, AllFit, queue_count, HasRoom}
+use Rattle.csp_world.specs.Inside.{IsFit, AllFit, AllHome, queue_count, HasRoom}
 use Rattle.csp_world.specs.declared.member.Member.{Member}
 use Rattle.csp_world.specs.declared.room.Room.{Room}
 use Rattle.csp_world.proofs.SetLemmas.{set_here, set_there, sum_set}
@@ -67,14 +70,47 @@ fit_turned decks members time place old new d e t all k m s = by (place == k) re
       (subst (λ o. IsSomeAnd o (λ d. IsFit d time new)) (sym at) t.fit)
   by false h = by_place decks members time place old new d e t all k m (sym (set_there members place k new h) ∙ s)
 
+-- the region of the node that is read there
+pub slice_get_map_read : (decks : List DeckAt) (node : ℕ) (d : DeckAt) → node < length decks → d ≡ get_or decks node d → slice_get (map (λ (d : DeckAt). d.region) decks) node ≡ Some d.region
+slice_get_map_read decks node d h e = slice_get-map (λ (d : DeckAt). d.region) decks node ∙ ap (option_map (λ (d : DeckAt). d.region)) (slice_get_read decks (length decks) node d refl h e)
+
+-- the party that is read at a place is at home
+pub home_at : (regions : List RegionName) (items : List Member) (place : ℕ) (old : Member) {region : RegionName} → place < length items → old ≡ get_or items place old → AllHome regions items
+    → slice_get regions (node_of old.who) ≡ Some region → region_of old.party ≡ region
+home_at regions items place old h e home there =
+    let its : slice_get regions (node_of old.who) ≡ Some (region_of old.party) = subst (λ (m : Member). slice_get regions (node_of m.who) ≡ Some (region_of m.party)) (sym e) (home place old h) in
+    same its there
+  where
+    same : {o : Option RegionName} {x y : RegionName} → o ≡ Some x → o ≡ Some y → x ≡ y
+    same e f = cc
+
+-- each party stays at home where one of them changes but not its node and its region
+pub home_logged : (regions : List RegionName) (items : List Member) (place : ℕ) (old new : Member) → slice_get items place ≡ Some old → new.who ≡ old.who → region_of new.party ≡ region_of old.party
+    → AllHome regions items → AllHome regions (set items place new)
+home_logged regions items place old new got who region home j x h = by (place == j) refl where
+  here : slice_get (set items place new) j ≡ Some (get_or (set items place new) j x)
+  here = slice_get-get_or (set items place new) j x h
+
+  its_home : (k : ℕ) (m : Member) → slice_get items k ≡ Some m → slice_get regions (node_of m.who) ≡ Some (region_of m.party)
+  its_home k m e = subst (λ (y : Member). slice_get regions (node_of y.who) ≡ Some (region_of y.party)) (get_or_from_slice_get items k m m e) (home k m (slice_get_within items k m e))
+
+  by : (b : Bool) → (place == j) ≡ b → slice_get regions (node_of (get_or (set items place new) j x).who) ≡ Some (region_of (get_or (set items place new) j x).party)
+  by true t =
+      let same : place ≡ j = grind (arith, nat_tests, t) in
+      let there : slice_get (set items place new) place ≡ Some (get_or (set items place new) j x) = subst (λ n. slice_get (set items place new) n ≡ Some (get_or (set items place new) j x)) (sym same) here in
+      let set_at = set_here items place old new got in
+      let is : new ≡ get_or (set items place new) j x = cc in
+      subst (λ (y : Member). slice_get regions (node_of y.who) ≡ Some (region_of y.party)) is (rw (who, region) (its_home place old got))
+  by false t = its_home j (get_or (set items place new) j x) (sym (set_there items place j new t) ∙ here)
+
 -- as many queues as before
-pub queues_kept : (decks : List PlainDeck) (node : ℕ) (d e : PlainDeck) → slice_get decks node ≡ Some d → length (queues_of e) ≡ length (queues_of d) → queue_count (set decks node e) ≡ queue_count decks
+pub queues_kept : (decks : List PlainDeck) (node : ℕ) (d e : PlainDeck) → slice_get decks node ≡ Some d → length e.queues ≡ length d.queues → queue_count (set decks node e) ≡ queue_count decks
 queues_kept decks node d e s q =
-    let changed = sum_set (λ (d : PlainDeck). length (queues_of d)) decks node d e s in
+    let changed = sum_set (λ (d : PlainDeck). length d.queues) decks node d e s in
     omega (arith, changed, q)
 
 -- and as much room
-pub room_kept : (decks : List PlainDeck) (members members' node : ℕ) (d e : PlainDeck) (r : Room) → slice_get decks node ≡ Some d → length (queues_of e) ≡ length (queues_of d) → members' ≡ members → HasRoom decks members r → HasRoom (set decks node e) members' r
+pub room_kept : (decks : List PlainDeck) (members members' node : ℕ) (d e : PlainDeck) (r : Room) → slice_get decks node ≡ Some d → length e.queues ≡ length d.queues → members' ≡ members → HasRoom decks members r → HasRoom (set decks node e) members' r
 room_kept decks members members' node d e r s q same h =
     let queues = queues_kept decks node d e s q in
     let nodes = length-set decks node e in

@@ -8,10 +8,10 @@ use Rattle.std.proofs.lemmas.List.Concat.{flat_map_single}
 use Rattle.std.proofs.lemmas.List.FromFn.{length-range_with_len}
 use Rattle.std.proofs.lemmas.List.Sums.{count_by-le-length}
 use Rattle.csp_buffer.specs.Content.{Content}
-use Rattle.csp_deck.specs.Gathered.{queued_numbers}
-use Rattle.csp_deck.specs.PlainDeck.{PlainDeck, answer_of, numbers_in, buffer_numbers}
+use Rattle.csp_lists.specs.Gathered.{queued_numbers}
+use Rattle.csp_lists.specs.PlainDeck.{PlainDeck, answer_of, numbers_in, buffer_numbers}
 use Rattle.csp_deck.specs.Step.{times}
-use Rattle.csp_log.specs.declared.operation.Answer.TheVariants as answer
+use Rattle.csp_log.specs.declared.shown.AnswerShown.TheVariants as answer
 use Rattle.csp_party.specs.Any.{holds, asks, has_ended}
 use Rattle.csp_record.specs.Who.{node_of}
 use Rattle.csp_world.specs.Holders.{holds_at, numbers_at, IsConserved}

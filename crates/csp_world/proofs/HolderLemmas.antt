@@ -7,7 +7,7 @@ use Rattle.std.proofs.lemmas.List.{length-append, length-replicate}
 use Rattle.std.proofs.lemmas.List.Sums.{sum_by-cons}
 use Rattle.std.proofs.lemmas.Option.{slice_get-map}
 use Rattle.std.proofs.lemmas.Bool.Decides.{nat_tests}
-use Rattle.csp_deck.specs.PlainDeck.{PlainDeck, holders_of, numbers_in}
+use Rattle.csp_lists.specs.PlainDeck.{PlainDeck, holders_of, numbers_in}
 use Rattle.csp_deck.specs.Step.{times}
 use Rattle.csp_party.specs.Any.{holds}
 use Rattle.csp_record.specs.Who.{node_of, place_of}

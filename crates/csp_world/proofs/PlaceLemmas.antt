@@ -3,9 +3,9 @@ use Rattle.std.proofs.Common.{◌≡◌, ℕ, zero, suc, ◌<◌, Bool, true, fa
 use Rattle.std.specs.Prelude.{slice_get, slice_index}
 use Rattle.std.specs.List.{flat_map}
 use Rattle.std.proofs.lemmas.Bool.{lt-ltb}
-use Rattle.std.proofs.lemmas.List.{length-append, length-map}
+use Rattle.std.proofs.lemmas.List.{get_or-map, length-append, length-map}
 use Rattle.std.proofs.lemmas.Option.{slice_get-get_or, slice_get_read}
-use Rattle.csp_deck.specs.PlainDeck.{PlainDeck, holders_of, numbers_in}
+use Rattle.csp_lists.specs.PlainDeck.{DeckAt, PlainDeck, holders_of, numbers_in}
 use Rattle.csp_deck.specs.Step.{times}
 use Rattle.csp_log.specs.declared.places.Place.{Place}
 use Rattle.csp_record.specs.Who.{place_of}
@@ -76,6 +76,14 @@ held_once law w kept node k h l = one_holder law w kept node (slice_index (count
 -- the lists of a node
 pub deck_here : (decks : List PlainDeck) (node : ℕ) (d : PlainDeck) → node < length (map (λ (d : PlainDeck). d.pool.room) decks) → d ≡ get_or decks node d → slice_get decks node ≡ Some d
 deck_here decks node d h e = slice_get_read decks (length decks) node d refl (rw (← length-map decks (λ (d : PlainDeck). d.pool.room)) h) e
+
+-- a node that has a count of buffers has lists
+pub counted_within : (decks : List DeckAt) (node : ℕ) → node < length (map (λ (d : PlainDeck). d.pool.room) (map (λ (d : DeckAt). d.deck) decks)) → node < length decks
+counted_within decks node h = omega (arith, h, length-map (map (λ (d : DeckAt). d.deck) decks) (λ (d : PlainDeck). d.pool.room), length-map decks (λ (d : DeckAt). d.deck))
+
+-- the lists that are read there
+pub deck_read : (decks : List DeckAt) (node : ℕ) (d : DeckAt) → d ≡ get_or decks node d → node < length decks → d.deck ≡ get_or (map (λ (d : DeckAt). d.deck) decks) node d.deck
+deck_read decks node d e h = ap (λ (d : DeckAt). d.deck) e ∙ sym (get_or-map (λ (d : DeckAt). d.deck) decks node d d.deck h)
 
 -- a list that holds the number is its one place, and where none does the parties are left
 pub listed : (w : PlainWorld) (node k : ℕ) (d : PlainDeck) (p : Place) → slice_get w.decks node ≡ Some d → slice_get (holders_of d k) 0 ≡ Some p → length (holders w node k) ≡ 1 → holders w node k ≡ p ∷ []

@@ -8,7 +8,7 @@ use Rattle.std.proofs.lemmas.Option.{slice_get_within, get_or_from_slice_get}
 use Rattle.csp_world.specs.declared.limits.TheConstants.{TURNS_PER_ROUND}
 use Rattle.csp_scene.specs.Scene.{PlainScene, PlainNode, PlainApp}
 use Rattle.csp_party.specs.Any.{has_ended}
-use Rattle.csp_deck.specs.PlainDeck.{PlainDeck}
+use Rattle.csp_lists.specs.PlainDeck.{PlainDeck}
 use Rattle.csp_buffer.specs.Content.{cleared}
 use Rattle.std.proofs.lemmas.List.FromFn.{length-map-range_with_len}
 use Rattle.csp_world.specs.Holders.{counts}

@@ -7,11 +7,11 @@ use Rattle.std.proofs.Math.Seq.{map-set_same}
 use Rattle.csp_base.specs.declared.turns.Turn.{Turn}
 use Rattle.csp_base.specs.declared.turns.Turn.TheVariants as turn_is
 use Rattle.csp_world.specs.declared.member.Member.{Member}
-use Rattle.csp_party.specs.Any.{asks, has_ended}
-use Rattle.csp_deck.specs.PlainDeck.{PlainDeck, answer_of}
+use Rattle.csp_party.specs.Any.{asks, has_ended, plain}
+use Rattle.csp_lists.specs.PlainDeck.{DeckAt, PlainDeck, answer_of}
 use Rattle.csp_log.specs.Pictures.{turn_of}
 use Rattle.csp_log.specs.PlainLog.{PlainLog}
-use Rattle.csp_world.specs.Inside.{world_of, IsFit, AllFit}
+use Rattle.csp_world.specs.Inside.{decks_of, world_of, IsFit, AllFit}
 use Rattle.csp_world.specs.Seen.{plain_member, answer_for, answer_at_place, turn_by}
 use Rattle.csp_record.specs.Who.{node_of}
 use Rattle.csp_world.proofs.FitLemmas.{deck_found}
@@ -60,10 +60,10 @@ pub record Went (pools : List PlainDeck) (items : List Member) (time place : ℕ
   pub old_is : old ≡ get_or items place old
   pub home : node_of old.who < length pools
   pub pool_is : pool ≡ get_or pools (node_of old.who) pool
-  pub ended : has_ended old.party ≡ true → (result ≡ turn_is.Ended) × (new ≡ old) × (after ≡ pool)
-  pub party : has_ended old.party ≡ false → plain_member new ≡ told (plain_member old) pool time
-  pub left : has_ended old.party ≡ false → after ≡ (answer_of pool (asks old.party time)).1
-  pub turned : has_ended old.party ≡ false → result ≡ turn_of (answer_of pool (asks old.party time)).0
+  pub ended : has_ended (plain old.party) ≡ true → (result ≡ turn_is.Ended) × (new ≡ old) × (after ≡ pool)
+  pub party : has_ended (plain old.party) ≡ false → plain_member new ≡ told (plain_member old) pool time
+  pub left : has_ended (plain old.party) ≡ false → after ≡ (answer_of pool (asks (plain old.party) time)).1
+  pub turned : has_ended (plain old.party) ≡ false → result ≡ turn_of (answer_of pool (asks (plain old.party) time)).0
 
 pub party_got : (pools : List PlainDeck) (items : List Member) (time place : ℕ) (old new : Member) (pool after : PlainDeck) (result : Turn) → Went pools items time place old new pool after result → slice_get (map plain_member items) place ≡ Some (plain_member old)
 party_got pools items time place old new pool after result w =
@@ -73,7 +73,7 @@ pub pool_got : (pools : List PlainDeck) (items : List Member) (time place : ℕ)
 pool_got pools items time place old new pool after result w =
     slice_get_read pools (length pools) (node_of old.who) pool refl w.home w.pool_is
 
-went_by : (pools : List PlainDeck) (items : List Member) (time place : ℕ) (old new : Member) (pool after : PlainDeck) (result : Turn) (b : Bool) → has_ended old.party ≡ b → Went pools items time place old new pool after result
+went_by : (pools : List PlainDeck) (items : List Member) (time place : ℕ) (old new : Member) (pool after : PlainDeck) (result : Turn) (b : Bool) → has_ended (plain old.party) ≡ b → Went pools items time place old new pool after result
     → world_of (set pools (node_of old.who) after) (set items place new) time ≡ (if b then world_of pools items time else turned (world_of pools items time) place (plain_member old) pool)
 went_by pools items time place old new pool after result true e w =
     let (_, same, kept) = w.ended e in
@@ -81,19 +81,19 @@ went_by pools items time place old new pool after result true e w =
     ∙ ap (λ is. world_of pools is time) (same_set items place old new w.old_is same)
 went_by pools items time place old new pool after result false e w =
     ap (λ a. world_of (set pools (node_of old.who) a) (set items place new) time) (w.left e)
-    ∙ ap (λ ps. record { decks = set pools (node_of old.who) (answer_of pool (asks old.party time)).1; members = ps; time = time })
+    ∙ ap (λ ps. record { decks = set pools (node_of old.who) (answer_of pool (asks (plain old.party) time)).1; members = ps; time = time })
     (map-set plain_member items place new ∙ ap (λ p. set (map plain_member items) place p) (w.party e))
 
 -- the world after the turn is the definition's
 pub went : (pools : List PlainDeck) (items : List Member) (time place : ℕ) (old new : Member) (pool after : PlainDeck) (result : Turn) → Went pools items time place old new pool after result
     → world_of (set pools (node_of old.who) after) (set items place new) time ≡ turn (world_of pools items time) place
 went pools items time place old new pool after result w =
-    went_by pools items time place old new pool after result (has_ended old.party) refl w
+    went_by pools items time place old new pool after result (has_ended (plain old.party)) refl w
     ∙ sym (turn_known (world_of pools items time) place (plain_member old) pool
     (party_got pools items time place old new pool after result w) (pool_got pools items time place old new pool after result w))
 
-result_by : (pools : List PlainDeck) (items : List Member) (time place : ℕ) (old new : Member) (pool after : PlainDeck) (result : Turn) (b : Bool) → has_ended old.party ≡ b → Went pools items time place old new pool after result
-    → result ≡ turn_by (if b then None else Some (answer_of pool (asks old.party time)).0)
+result_by : (pools : List PlainDeck) (items : List Member) (time place : ℕ) (old new : Member) (pool after : PlainDeck) (result : Turn) (b : Bool) → has_ended (plain old.party) ≡ b → Went pools items time place old new pool after result
+    → result ≡ turn_by (if b then None else Some (answer_of pool (asks (plain old.party) time)).0)
 result_by pools items time place old new pool after result true e w = (w.ended e).0
 result_by pools items time place old new pool after result false e w = w.turned e
 
@@ -101,7 +101,7 @@ result_by pools items time place old new pool after result false e w = w.turned 
 pub came_to : (pools : List PlainDeck) (items : List Member) (time place : ℕ) (old new : Member) (pool after : PlainDeck) (result : Turn) → Went pools items time place old new pool after result
     → result ≡ turn_by (answer_at_place (world_of pools items time) place)
 came_to pools items time place old new pool after result w =
-    result_by pools items time place old new pool after result (has_ended old.party) refl w
+    result_by pools items time place old new pool after result (has_ended (plain old.party)) refl w
     ∙ ap turn_by (sym (result_known (world_of pools items time) place (plain_member old) pool
     (party_got pools items time place old new pool after result w) (pool_got pools items time place old new pool after result w)))
 
@@ -114,7 +114,7 @@ room_made (Ok v) items spares place turns old new h s e' p =
     ∙ p ∙ ap (λ k. max k turns) (sym (spare_at items place old h e') ∙ ap (λ l. slice_index l place) s)
 
 -- a turn spends at most one entry's room
-pub spare_spent : (b : Bool) (old new : Member) → has_ended old.party ≡ b → (has_ended old.party ≡ true → new ≡ old) → (has_ended old.party ≡ false → new.log.spare ≡ old.log.spare - 1) → old.log.spare ≤ new.log.spare + 1
+pub spare_spent : (b : Bool) (old new : Member) → has_ended (plain old.party) ≡ b → (has_ended (plain old.party) ≡ true → new ≡ old) → (has_ended (plain old.party) ≡ false → new.log.spare ≡ old.log.spare - 1) → old.log.spare ≤ new.log.spare + 1
 spare_spent true old new e p q = let h : new.log.spare ≡ old.log.spare = ap spare_of (p e) in omega arith
 spare_spent false old new e p q = let h : new.log.spare ≡ old.log.spare - 1 = q e in omega arith
 
@@ -157,3 +157,13 @@ entries_kept (Err e) old new room p q = ap (λ (l : PlainLog). l.entries) q
 pub room_taken : {E : Type 0} (r : Result (Unit {0}) E) (old new : PlainLog) (room : ℕ) → OnOk r (new ≡ record old { spare = room }) → OnOk r (new.spare ≡ room)
 room_taken (Ok v) old new room p = ap (λ (l : PlainLog). l.spare) p
 room_taken (Err e) old new room p = tt
+
+-- a party that is read at its place: its node is there
+pub node_there : (decks : List DeckAt) (items : List Member) (time place : ℕ) (old : Member) → AllFit (decks_of decks) time items → place < length items → old ≡ get_or items place old → node_of old.who < length decks
+node_there decks items time place old fit h e =
+    let (_, home) = home_of (decks_of decks) items time place old fit h e in
+    rw (← length-map decks (λ (d : DeckAt). d.deck)) home
+
+-- and the lists that are read there
+pub deck_at_node : (decks : List DeckAt) (node : ℕ) (d : DeckAt) → node < length decks → d ≡ get_or decks node d → d.deck ≡ get_or (decks_of decks) node d.deck
+deck_at_node decks node d h e = ap (λ (d : DeckAt). d.deck) e ∙ sym (get_or-map (λ (d : DeckAt). d.deck) decks node d d.deck h)

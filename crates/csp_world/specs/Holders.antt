@@ -1,7 +1,7 @@
 -- Who holds a buffer: each number of each node has exactly one holder.
 use Rattle.std.specs.Prelude.{ℕ, ◌≡◌, ◌==◌, ◌<◌, Option, None, Some, List, [], ◌++◌, length, map, replicate, slice_get, if◌then◌else◌}
 use Rattle.std.specs.List.{range_with_len, flat_map}
-use Rattle.csp_deck.specs.PlainDeck.{PlainDeck, holders_of, numbers_in}
+use Rattle.csp_lists.specs.PlainDeck.{PlainDeck, holders_of, numbers_in}
 use Rattle.csp_deck.specs.Step.{times}
 use Rattle.csp_log.specs.declared.places.Place.{Place}
 use Rattle.csp_party.specs.Any.{holds}

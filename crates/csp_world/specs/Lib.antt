@@ -1,4 +1,5 @@
 pub mod Emptied
+pub mod EmptiedParts
 pub mod Holders
 pub mod Inside
 pub mod Opening

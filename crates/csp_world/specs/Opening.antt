@@ -3,12 +3,12 @@ use Rattle.std.specs.Prelude.{ℕ, ◌+◌, List, [], ◌∷◌, ◌++◌, lengt
 use Rattle.std.specs.List.{range_with_len}
 use Rattle.csp_app.specs.PlainApp as app
 use Rattle.csp_buffer.specs.Content.{Content, cleared}
-use Rattle.csp_deck.specs.PlainDeck.{PlainDeck, opening_deck}
-use Rattle.csp_party.specs.declared.any.AnyParty.TheVariants as party
+use Rattle.csp_lists.specs.PlainDeck.{PlainDeck, opening_deck}
+use Rattle.csp_party.specs.Any.{a_router, an_app}
+use Rattle.std.specs.FinMap as finite
 use Rattle.csp_record.specs.declared.who.Who.TheVariants as who
 use Rattle.csp_scene.specs.Scene.{PlainScene, PlainNode, PlainApp}
-use Rattle.csp_stack.specs.Router as router
-use Rattle.csp_stack.specs.Config.{PlainConfig}
+use Rattle.csp_stack.specs.Config.{PlainConfig, opening_state}
 use Rattle.csp_world.specs.World.{PlainMember, PlainWorld}
 
 -- so many buffers, numbered from 0, with nothing in them
@@ -19,16 +19,19 @@ fresh_buffers count = map cleared (range_with_len 0 count)
 abbrev pub opened_deck : PlainNode → PlainDeck
 opened_deck n = opening_deck (fresh_buffers n.buffers) n.inbox (length n.apps) []
 
--- what the router of the node at this place is given
+-- what the router of the node at this place is given: no interface, and so no route
 abbrev pub config_of : ℕ → PlainNode → PlainConfig
-config_of node n = record { node = node; addr = n.addr; name = n.name; seed = n.seed; apps = length n.apps }
+config_of node n = record {
+  facts = record { node = node; addr = n.addr; name = n.name; seed = n.seed; apps = length n.apps; ifaces = [] };
+  routes = finite.empty;
+}
 
 -- the router of a node, and one of its applications, before their first turns
 abbrev pub new_router : ℕ → PlainNode → PlainMember
-new_router node n = record { who = who.Router node; party = party.Router (router.opening (config_of node n)); entries = [] }
+new_router node n = record { who = who.Router node; party = a_router (record { facts = (config_of node n).facts; state = opening_state (config_of node n).routes }); entries = [] }
 
 abbrev pub new_app : ℕ → ℕ → PlainApp → PlainMember
-new_app node number a = record { who = who.App node number; party = party.App (app.opening number a.steps); entries = [] }
+new_app node number a = record { who = who.App node number; party = an_app (app.opening number a.steps); entries = [] }
 
 -- the applications of a node, in order, from this number on
 abbrev pub apps_from : ℕ → ℕ → List PlainApp → List PlainMember

@@ -1,10 +1,10 @@
 -- The record of a run: what each party did, what was left where, and how the run ended.
 use Rattle.std.specs.Prelude.{ℕ, ◌+◌, Option, List, [], ◌∷◌, ◌++◌, map}
 use Rattle.std.specs.Option.{option_map}
-use Rattle.csp_deck.specs.Gathered.{queues_of, left_at, held_at}
+use Rattle.csp_lists.specs.Gathered.{left_at, held_at}
 use Rattle.csp_buffer.specs.Content.{Content}
-use Rattle.csp_deck.specs.PlainDeck.{PlainDeck, buffer_numbers}
-use Rattle.csp_deck.specs.PlainFifo.{PlainFifo}
+use Rattle.csp_lists.specs.PlainDeck.{PlainDeck, buffer_numbers}
+use Rattle.csp_lists.specs.PlainFifo.{PlainFifo}
 use Rattle.csp_log.specs.Remains.{PlainLeft, PlainHeld}
 use Rattle.csp_log.specs.declared.places.Place.TheVariants as place
 use Rattle.csp_party.specs.Any.{holds, present_step}
@@ -17,11 +17,11 @@ use Rattle.csp_world.specs.World.{PlainMember, PlainWorld, finished}
 -- what was left in the queues of each node, and which buffers they held, from this place on
 abbrev pub all_left : ℕ → List PlainDeck → List PlainLeft
 all_left node [] = []
-all_left node (d ∷ decks) = map (left_at node) (queues_of d) ++ all_left (node + 1) decks
+all_left node (d ∷ decks) = map (left_at node) d.queues ++ all_left (node + 1) decks
 
 abbrev pub queues_held : ℕ → List PlainDeck → List PlainHeld
 queues_held node [] = []
-queues_held node (d ∷ decks) = map (held_at node) (queues_of d) ++ queues_held (node + 1) decks
+queues_held node (d ∷ decks) = map (held_at node) d.queues ++ queues_held (node + 1) decks
 
 -- which buffers the pools held
 abbrev pub pools_held : ℕ → List (PlainFifo Content) → List PlainHeld

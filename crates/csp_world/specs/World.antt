@@ -1,20 +1,18 @@
 -- The world: the lists of each node, every party with its entries, and the time. A step takes one party.
 use Rattle.std.specs.Prelude.{ℕ, ◌+◌, Bool, true, Option, None, Some, List, [], ◌∷◌, ◌++◌, length, sum_by, slice_get, slice_set, if◌then◌else◌}
 use Rattle.std.specs.List.{list_all}
-use Rattle.csp_deck.specs.PlainDeck.{PlainDeck, answer_of}
+use Rattle.csp_lists.specs.PlainDeck.{PlainDeck, answer_of}
 use Rattle.csp_deck.specs.Step.{entry_of}
 use Rattle.csp_log.specs.declared.entry.Entry.{Entry}
-use Rattle.csp_log.specs.declared.operation.Op.{Op}
-use Rattle.csp_party.specs.Any.{asks, asked, tells, events, has_ended}
-use Rattle.csp_party.specs.declared.any.AnyParty.{AnyParty}
-use Rattle.csp_party.specs.declared.any.AnyParty.TheVariants as party
+use Rattle.csp_log.specs.declared.shown.OpShown.{OpShown}
+use Rattle.csp_party.specs.Any.{PlainParty, a_router, an_app, asks, asked, tells, events, has_ended}
 use Rattle.csp_record.specs.Who.{node_of}
 use Rattle.csp_record.specs.declared.who.Who.{Who}
 
 -- a party of a world: which it is, its state, and its turns so far, the oldest first
 pub record PlainMember : Type 0 where
   pub who : Who
-  pub party : AnyParty
+  pub party : PlainParty
   pub entries : List Entry
 
 -- the pool and the queues of each node, the parties in their order, and how many rounds are complete
@@ -24,7 +22,7 @@ pub record PlainWorld : Type 0 where
   pub time : ℕ
 
 -- the party after the turn in which it asked this: it is told what the lists answer, and the turn is its last entry
-abbrev pub told_for : PlainMember → PlainDeck → ℕ → Op → PlainMember
+abbrev pub told_for : PlainMember → PlainDeck → ℕ → OpShown → PlainMember
 told_for m d time o = record m {
   party = tells (asked m.party time) time (answer_of d o).0;
   entries = m.entries ++ entry_of time o (answer_of d o).0 (events (asked m.party time) time (answer_of d o).0) ∷ [];
@@ -59,9 +57,9 @@ abbrev pub tick : PlainWorld → PlainWorld
 tick w = record w { time = w.time + 1 }
 
 -- an application that has ended, or a party that is no application
-abbrev pub is_done : AnyParty → Bool
-is_done (party.Router _) = true
-is_done (party.App a) = has_ended (party.App a)
+abbrev pub is_done : PlainParty → Bool
+is_done (a_router _) = true
+is_done (an_app a) = has_ended (an_app a)
 
 -- every application has ended
 abbrev pub finished : PlainWorld → Bool

@@ -1,12 +1,10 @@
 //! The world of a simulation: the lists of its nodes and their parties, step by step, and its record.
 #![tactic(auto)]
 
-mod closing;
 mod emptied;
 mod limits;
 mod member;
 mod node_deck;
-mod opening;
 mod room;
 mod schedule;
 mod world;

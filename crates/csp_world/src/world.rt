@@ -4,22 +4,26 @@ ghost use Rattle.std.specs.Prelude.{◌≡◌, ◌≢◌, ◌+◌, ◌-◌, ◌<
 ghost use Rattle.std.specs.List.{list_all};
 ghost use Rattle.std.specs.Option.{option_map};
 ghost use Rattle.csp_buffer.specs.Content.{Content};
-ghost use Rattle.csp_log.specs.declared.operation.Answer.TheVariants as answer;
+ghost use Rattle.csp_log.specs.declared.shown.AnswerShown.TheVariants as answer;
+ghost use Rattle.csp_party.specs.Any.{plain};
 ghost use Rattle.csp_world.specs.Holders.{holders, deck_holders, counts, HasOneHolder};
 ghost use Rattle.csp_world.specs.Seen.{has_number, answer_at_place, turn_by, log_len};
 ghost use Rattle.csp_world.specs.World.{turn, tick, finished, entries, is_done};
 
-use crate::member::{Member, take_turn};
+mod closing;
+mod opening;
+
+use crate::member::{Member, Workplace, take_turn};
 use crate::node_deck::NodeDeck;
 use crate::room::Room;
 use csp_base::Turn;
-use csp_deck::{Party, Place, counts_holders, gathers, weighs};
-use csp_party::AnyParty;
+use csp_deck::Place;
+use csp_lists::{counts_holders, gathers, weighs};
 use std::alloc::AllocError;
 use std::marker::Model;
 
 /// The lists of all nodes, all parties with their logs, and the number of complete rounds. Contracts
-/// see it as plain lists, and for how many turns each log has room.
+/// see it as plain lists, for how many turns each log has room, and the region of each node's buffers.
 ///
 /// Only `open` and `reserve` take memory. It must be spent by `close`.
 pub struct World {
@@ -27,12 +31,17 @@ pub struct World {
     pub(crate) members: Vec<Member>,
     pub(crate) time: u64,
     pub(crate) room: Room,
+    pub(crate) workplace: Workplace,
 }
 
 impl Model for World {
+    ghost use Rattle.std.specs.Coded.{codes};
+    ghost use Rattle.csp_stack.specs.Codes.{routes_code};
     ghost use Rattle.csp_world.specs.SeenWorld.{SeenWorld};
 
     ghost Value = { SeenWorld };
+
+    ghost coded = { Prim.hlevel (codes, routes_code) };
 
     ghost use Rattle.csp_world.specs.Inside.{seen_world, IsWorld};
 
@@ -98,7 +107,7 @@ impl World {
         weighs();
         let member = &mut self.members[party];
         let node = &mut self.decks[usize::from(member.who.node())];
-        take_turn(member, node, self.time)
+        take_turn(member, node, &mut self.workplace, self.time)
     }
 
     /// One more round is complete.
@@ -110,6 +119,15 @@ impl World {
     {
         counts_holders();
         self.time += 1;
+    }
+
+    /// Each number of each node has exactly one holder.
+    pub(crate) fn one_holder(&self)
+        ensures { HasOneHolder self.now.plain }
+    {
+        // Read for the checker alone, which then knows what is true of every world.
+        let _time = self.time;
+        counts_holders();
     }
 
     /// Who holds the buffer of this number of the node at this place: no other place does.
@@ -145,21 +163,9 @@ fn member_with(members: &[Member], node: u8, number: u16) -> Option<&Member>
     members.iter().find(|member| member.has(node, number))
 }
 
-impl Member {
-    /// Whether it is no application, or one that has ended.
-    fn is_done(&self) -> bool
-        ensures { result ≡ is_done self.now.party }
-    {
-        match &self.party {
-            AnyParty::Router(_) => true,
-            AnyParty::App(_) => self.party.ended(),
-        }
-    }
-}
-
 /// Whether each of these parties is no application, or one that has ended.
 pub(crate) fn all_done(members: &[Member]) -> bool
-    ensures { result ≡ list_all (λ m. is_done m.party) members.now }
+    ensures { result ≡ list_all (λ m. is_done (plain m.party)) members.now }
 {
     members.iter().all(|member| member.is_done())
 }

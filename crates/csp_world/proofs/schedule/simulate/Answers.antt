@@ -10,16 +10,16 @@ use Rattle.csp_world.proofs.schedule.simulate.Goals as goal
 
 pub returns-then-finished-clause-record : goal.returns-then-finished-clause-record
 returns-then-finished-clause-record c =
-    recorded c.args.scene.now c.in-Ok.world.plain _ (run_at_once c.args.scene.now c.in-Ok.world.plain c.in-Ok.ensures (sym c.finished.ensures ∙ c.if-finished.true)) c.close.ensures.record
+    recorded c.args.scene.now c.in-Ok.world.plain _ (run_at_once c.args.scene.now c.in-Ok.world.plain c.in-Ok.ensures.plain (sym c.finished.ensures ∙ c.if-finished.true)) c.close.ensures.record
 
 pub loop-init : goal.loop-init
 loop-init c =
     let all : c.args.scene.now.until - 0 ≡ c.args.scene.now.until = omega arith in
-    let empty = ap entries c.in-Ok.ensures ∙ opening_empty c.args.scene.now in
+    let empty = ap entries c.in-Ok.ensures.plain ∙ opening_empty c.args.scene.now in
     record {
-      left = ap (λ n. rounds n c.in-Ok.world.plain) all ∙ run_later c.args.scene.now c.in-Ok.world.plain c.in-Ok.ensures (sym c.finished.ensures ∙ c.if-finished.false);
-      counts = ap counts c.in-Ok.ensures ∙ opening_counts c.args.scene.now;
-      time = ap (λ w. w.time) c.in-Ok.ensures ∙ opening_time c.args.scene.now;
+      left = ap (λ n. rounds n c.in-Ok.world.plain) all ∙ run_later c.args.scene.now c.in-Ok.world.plain c.in-Ok.ensures.plain (sym c.finished.ensures ∙ c.if-finished.false);
+      counts = ap counts c.in-Ok.ensures.plain ∙ opening_counts c.args.scene.now;
+      time = ap (λ w. w.time) c.in-Ok.ensures.plain ∙ opening_time c.args.scene.now;
       few = omega (arith, empty);
     }
 
@@ -57,7 +57,7 @@ returns-clause-record c =
 
 pub returns-then-finished-clause-conserved : goal.returns-then-finished-clause-conserved
 returns-then-finished-clause-conserved c =
-    subst (λ (ns : List ℕ). IsWhole ns c.close.result) (ap counts c.in-Ok.ensures ∙ opening_counts c.args.scene.now) c.close.ensures.whole
+    subst (λ (ns : List ℕ). IsWhole ns c.close.result) (ap counts c.in-Ok.ensures.plain ∙ opening_counts c.args.scene.now) c.close.ensures.whole
 
 pub returns-then-finished-2-clause-conserved : goal.returns-then-finished-2-clause-conserved
 returns-then-finished-2-clause-conserved c =

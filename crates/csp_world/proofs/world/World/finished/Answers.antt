@@ -1,6 +1,7 @@
 use Rattle.std.proofs.Common.{ap, ◌∙◌, sym}
 use Rattle.std.specs.List.{list_all}
 use Rattle.std.proofs.lemmas.List.Folds.{list_all-map}
+use Rattle.csp_party.specs.Any.{plain}
 use Rattle.csp_world.specs.Seen.{plain_member}
 use Rattle.csp_world.specs.World.{PlainMember, is_done, finished}
 use Rattle.csp_world.proofs.world.World.finished.Goals as goal
@@ -8,6 +9,6 @@ use Rattle.csp_world.proofs.world.World.finished.Goals as goal
 pub returns : goal.returns
 returns c =
     c.all_done.ensures
-    ∙ ap (λ items. list_all (λ m. is_done m.party) items) c.as_slice.ensures.value
+    ∙ ap (λ items. list_all (λ m. is_done (plain m.party)) items) c.as_slice.ensures.value
     ∙ sym (list_all-map (λ (m : PlainMember). is_done m.party) plain_member c.self.inside.members.items)
     ∙ ap (λ w. finished w.plain) c.self.view_is

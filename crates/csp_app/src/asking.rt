@@ -1,0 +1,139 @@
+//! What an application asks in a turn.
+
+ghost use Rattle.std.specs.Prelude.{◌≡◌, ◌<◌, false, IfSome};
+ghost use Rattle.std.specs.Option.{option_map};
+ghost use Rattle.csp_app.specs.Making.{given, sent};
+ghost use Rattle.csp_arena.specs.Cells.{RegionName};
+ghost use Rattle.csp_deck.specs.Regions.{IsOpOf};
+ghost use Rattle.csp_log.specs.Pictures.{shown_op};
+
+use crate::plan::Plan;
+use crate::{App, Step};
+use csp_buffer::Buffer;
+use csp_log::{Item, Op, QueueId, SLOTS, UNMARKED};
+
+impl App {
+    ghost use Rattle.csp_app.specs.PlainApp.{uses, has_ended, with_app};
+    ghost use Rattle.std.specs.Prelude.{nat_le};
+    ghost use Rattle.csp_app.specs.Slots.{slot_at};
+    ghost use Rattle.csp_app.specs.Planning.{plan_of, give_plan, packet_plan, recv_plan};
+    ghost use Rattle.csp_app.specs.Asking.{asks, asked, awaits};
+
+    /// What this turn is.
+    fn plan(&self) -> Plan
+        requires { has_ended self.now.app ≡ false }
+        ensures { result ≡ plan_of self.now.app }
+    {
+        if !self.taken.is_empty() {
+            return Plan::Return;
+        }
+        if self.refused {
+            return Plan::Look;
+        }
+        match &self.steps[self.progress.done] {
+            Step::Take => Plan::Take,
+            Step::Give => self.give_plan(),
+            Step::Raw { .. } => self.packet_plan(),
+            Step::Recv {
+                slot,
+                count,
+                rounds,
+            } => self.recv_plan(*slot, *count, *rounds),
+            Step::Wait { rounds } => Plan::Wait { rounds: *rounds },
+        }
+    }
+
+    /// A `give` step gives the buffer held longest, or does nothing.
+    fn give_plan(&self) -> Plan
+        ensures { result ≡ give_plan self.now.app.held }
+    {
+        if self.held.len() == 0 {
+            Plan::Skip
+        } else {
+            Plan::Give
+        }
+    }
+
+    /// A step that sends takes a buffer for its packet, and pushes the packet.
+    fn packet_plan(&self) -> Plan
+        ensures { result ≡ packet_plan self.now.app.made }
+    {
+        if self.made.is_empty() {
+            Plan::Fill
+        } else {
+            Plan::Push
+        }
+    }
+
+    /// A `recv` step does nothing where its packets are there at its start, and else looks for one.
+    fn recv_plan(&self, slot: u8, count: u32, rounds: Option<u32>) -> Plan
+        requires { slot < SLOTS }
+        ensures { result ≡ recv_plan slot count rounds self.now.app.since (nat_le count (slot_at self.now.app.slots slot).unused) }
+    {
+        if self.progress.since.is_none() && count <= self.slots[slot as usize].unused {
+            Plan::Use { slot, count }
+        } else {
+            Plan::Receive {
+                slot,
+                count,
+                rounds,
+            }
+        }
+    }
+
+    /// The operation of this turn, whose buffer leaves the application.
+    #[tactic(auto, using(crate::proofs::Hearing::asked_ready))]
+    pub(crate) fn ask_now(&mut self, now: u64) -> Op
+        requires goes_on { has_ended self.old.app ≡ false }
+        ensures op { shown_op result ≡ asks self.old.app now }
+        ensures of_it { IsOpOf self.old.region result }
+        ensures state { self.new ≡ with_app self.old (asked self.old.app now) }
+    {
+        let plan = self.plan();
+        let op = match plan {
+            Plan::Rest | Plan::Skip | Plan::Use { .. } => Op::Nothing,
+            Plan::Return => given(self.taken.take()),
+            Plan::Look => {
+                self.refused = false;
+                Op::Pop(QueueId::Down(self.number))
+            }
+            Plan::Take | Plan::Fill => Op::Take,
+            Plan::Give => given(self.held.pop()),
+            Plan::Push => sent(self.number, self.made.take()),
+            Plan::Receive { .. } | Plan::Wait { .. } => {
+                self.progress.note(now);
+                Op::Pop(QueueId::Down(self.number))
+            }
+        };
+        self.doing = plan;
+        op
+    }
+}
+
+/// A buffer goes back to the pool.
+fn given(buffer: Option<Buffer>) -> Op
+    ensures op { shown_op result ≡ given (option_map (λ b. b.picture) buffer) }
+    ensures of_it { (r : RegionName) → IfSome buffer (λ b. b.region ≡ r) → IsOpOf r result }
+{
+    match buffer {
+        Some(buffer) => Op::Give(buffer),
+        None => Op::Nothing,
+    }
+}
+
+/// A packet goes to the `Up` of this application, to be sent as it is.
+fn sent(number: u8, packet: Option<Buffer>) -> Op
+    ensures op { shown_op result ≡ sent number (option_map (λ b. b.picture) packet) }
+    ensures of_it { (r : RegionName) → IfSome packet (λ b. b.region ≡ r) → IsOpOf r result }
+{
+    match packet {
+        Some(buffer) => Op::Push(
+            QueueId::Up(number),
+            Item::Packet {
+                mark: UNMARKED,
+                buffer,
+            },
+        ),
+        None => Op::Nothing,
+    }
+}

@@ -1,0 +1,43 @@
+-- `lodge_strip` hands the bytes to `lodge`. Assumes `Logic`.
+use denote.Steps.{only}
+use Rattle.csp_arena.proofs.Steps.{◌≡◌, ℕ, ◌^◌, ◌<◌, List, [], ◌∷◌, ◌++◌, length, refl, sym, ap, ◌∙◌, subst, Vec, proved_at, Goes-blank, none, Good, tells, none_had, run_owns, WpFn, Val, vptr, vint, w64, fact, tables, Goal, ‵, raw, ◌⊛◌, some, later, given, prop, at_ret, ◌$◌, ◌∵◌, !, qed, done, move, let_go, use1, split, fsplit, fjoin, feq_l, flt_l, pick, learn, await, regoal, rewrite, suffices, enter, of_opd, and_then, no_more, first, blocks, exec, returns, alloc_all, pass_all, free_all, look_at, get, sets, lands_last, env, seq, assign, place, rv_opd, copy, return, never, id⊢, yes, owns, u8, usize, RawPtr, ptr_val, in_a_block, plain, types_at, nothing, heard, calls_at_last, framed, alive, says, Stays, stay_dropped, walk_of, ends_at}
+use Rattle.std_alloc.specs.declared.vec.lodged.Lodged.{Lodged}
+use Rattle.std_alloc.proofs.vec.lodge.Met as callee
+use Rattle.bytes.proofs.Lodging.{byte_laws, Housed, housed-laws, Lodges, at_lodge, IsLodged, lodge_goes, lodge_gives}
+use Rattle.csp_arena.specs.contracts.strip.Strip.{the_row as S}
+use Rattle.csp_arena.specs.contracts.strip.lodge_strip as f
+use Rattle.csp_arena.proofs.strip.lodge_strip.Statement.{statement}
+use Rattle.csp_arena.proofs.strip.lodge_strip.Code as code
+
+abbrev stayed : Stays f.ended.signature.params f.ended.kept
+stayed = (stay_dropped (plain (λ _. RawPtr)) yes, (stay_dropped (plain (λ _. usize)) yes, (stay_dropped (plain (λ _. S)) yes, tt)))
+
+pub lodge_strip_spec : {M : Type 1} → statement M
+lodge_strip_spec 𝓤 𝓛 𝓜 𝓡 wired =
+    let c = f.clauses 𝓛 𝓜.mem 𝓡.returns in let W = walk_of 𝓛 f.ended stayed c in let 𝓣 = tables 𝓤 𝓛.H 𝓜 𝓡 𝓡.env in
+    proved_at 𝓛 f.ended stayed c 𝓜 𝓡 (Goes-blank 𝓛 0 (plain (λ _. RawPtr)) yes (λ κs x f. tt), (Goes-blank 𝓛 0 (plain (λ _. usize)) yes (λ κs x f. tt), (Goes-blank 𝓛 0 (plain (λ _. S)) yes (λ κs x f. tt), tt)))
+    f.Key.name code.function (code.unfolded 𝓤 𝓛.H 𝓜 𝓡 wired) (λ z are.
+    let a = z.0.3 in let vss = z.0.4 in let p = a.0 in let n = a.1.0 in let xs = a.1.1.0.items in
+    let Asked = (a.1.1.0.ptr ≡ p) × (length xs ≡ n) × (0 < n) × (n < 2 ^ 63) in
+    let G = Lodges 𝓛 𝓜.mem 𝓡.returns in
+    let Runs : List Val → Goal 𝓤 𝓛.H = λ us. prop (WpFn 𝓤 𝓛.H 𝓣.C 𝓣.Λ code.function us (W.post z)) in
+    qed 𝓛 ((raw (alive 𝓛 f.signature z.0.0 z.0.1) ⊛ ‵ (owns (types_at f.signature.params z.0.0) a vss)) ∷ raw (fact 𝓤 Asked) ∷ []) ∵
+    move ! (1 ∷ []) $ heard ! Asked (λ asked. split ! $ move ! (1 ∷ []) $
+    fsplit ! $ feq_l ! (λ is₀. fsplit ! $ fsplit ! $ feq_l ! (λ is₁. flt_l ! (λ fits. fsplit ! $ fsplit ! $ none_had ! vss.1.1.0 (λ is₂. move ! (1 ∷ []) $ let_go ! $
+    rewrite ! 0 (λ r. ‵ (run_owns r xs)) asked.0 refl $ in_a_block ! p (λ r. run_owns r xs) (id⊢ 𝓤 (never 𝓤)) (λ b o at.
+    let y = at_lodge 𝓛 𝓜.mem 𝓡.returns b o n xs in
+    regoal ! (λ us. Runs (us ++ (vss.1.0 ++ (vss.1.1.0 ++ [])))) (is₀ ∙ ap (λ r. ptr_val r ∷ []) at) refl $
+    regoal ! (λ us. Runs ((vptr b o ∷ []) ++ (us ++ (vss.1.1.0 ++ [])))) is₁ refl $
+    regoal ! (λ us. Runs ((vptr b o ∷ []) ++ ((vint w64 n ∷ []) ++ (us ++ [])))) is₂ refl $
+    enter ! 𝓣.C 𝓣.Λ code.function (vptr b o ∷ vint w64 n ∷ none ∷ []) (W.post z) $ alloc_all ! (λ l. pass_all ! refl ((tt, tt), ((tt, record { fits = fits }), ((tt, tt), tt))) $
+    first ! $ blocks ! $ use1 𝓛 (raw (G.pre y)) (lodge_goes 𝓛 𝓜.mem 𝓡.returns b o n xs asked.1 asked.2 asked.3) $
+    calls_at_last ! (framed 𝓤 𝓛.H 𝓜 𝓣) G (callee.met 𝓤 𝓛 𝓜 𝓡 (code.calls-std_alloc::vec::lodge 𝓡.env wired) u8 byte_laws) y (and_then ! (get ! refl) (and_then ! (get ! refl) (and_then ! (get ! refl) (no_more !)))) (λ v.
+    use1 𝓛 (later (some (λ (r : Vec ℕ Lodged). given (IsLodged 𝓛 𝓜.mem 𝓡.returns b o n xs r) (‵ (Housed.own_val r (v ∷ [])))))) (lodge_gives 𝓛 𝓜.mem 𝓡.returns b o n xs v) $
+    await ! tt $ pick ! (λ r. learn ! (λ is. tells ! Housed housed-laws r (v ∷ []) (λ u same good.
+    let fine : Good Housed v = subst (Good Housed) (sym (ap only same)) good in
+    rewrite ! 0 (λ w. ‵ (Housed.own_val r (w ∷ []))) (sym (ap only same)) refl $ lands_last ! refl fine $
+    exec ! 𝓣.C 𝓣.Λ (env code.function.locals l) (seq (assign (place 0 []) (rv_opd (copy (place 4 [])))) return) (at_ret (env code.function.locals l) (W.post z)) $
+    sets ! (of_opd ! (get ! refl)) refl fine $
+    returns ! (look_at ! 0 refl) $ free_all ! refl $
+    suffices ! _ (ends_at 𝓛 f.ended stayed c z v r (tt, (tt, (tt, tt))) (tt, (tt, (tt, tt)))) $ says ! (is.0, is.1, is.3 ∙ sym at) $
+    nothing ! $ nothing ! $ fjoin ! $ nothing ! $ fjoin ! $ nothing ! $ fjoin ! $ move ! (2 ∷ 0 ∷ 1 ∷ []) $ done !))))))))))))

@@ -1,0 +1,113 @@
+//! A trace in few bytes, since a buffer is handed on by value.
+
+ghost use Rattle.std.specs.Prelude.{◌≡◌};
+ghost use Rattle.csp_buffer.specs.Trails.{parts_of};
+
+use csp_base::{Origin, Tag, Trace};
+use std::marker::Model;
+
+/// Which parts a trace has besides its hops.
+#[derive(Clone, Copy)]
+pub(crate) enum Parts {
+    Neither,
+    Origin,
+    Tag,
+    Both,
+}
+
+/// A trace whose parts lie side by side. Contracts see it as the `Trace`.
+#[derive(Drop)]
+pub(crate) struct Trail {
+    serial: u64,
+    hops: u64,
+    index: u64,
+    ack: u64,
+    nth: u32,
+    node: u8,
+    iface: u8,
+    owner: u8,
+    parts: Parts,
+}
+
+impl Model for Trail {
+    ghost use Rattle.csp_base.specs.declared.traces.Trace.{Trace};
+
+    ghost Value = { Trace };
+
+    ghost use Rattle.csp_buffer.specs.Trails.{with_parts};
+
+    ghost view = { λ t. with_parts t.parts
+        (record { node = t.node; iface = t.iface; serial = t.serial }) t.hops
+        (record { node = t.owner; nth = t.nth; index = t.index; ack = t.ack }) };
+}
+
+impl Trail {
+    pub(crate) fn of(trace: Trace) -> Trail
+        ensures { result ≡ trace }
+    {
+        let Trace { origin, hops, tag } = trace;
+        let parts = which(origin, tag);
+        let origin = origin.unwrap_or(Origin {
+            node: 0,
+            iface: 0,
+            serial: 0,
+        });
+        let tag = tag.unwrap_or(Tag {
+            node: 0,
+            nth: 0,
+            index: 0,
+            ack: 0,
+        });
+        Trail {
+            serial: origin.serial,
+            hops,
+            index: tag.index,
+            ack: tag.ack,
+            nth: tag.nth,
+            node: origin.node,
+            iface: origin.iface,
+            owner: tag.node,
+            parts,
+        }
+    }
+
+    pub(crate) fn trace(&self) -> Trace
+        ensures { result ≡ self.now }
+    {
+        let origin = Origin {
+            node: self.node,
+            iface: self.iface,
+            serial: self.serial,
+        };
+        let tag = Tag {
+            node: self.owner,
+            nth: self.nth,
+            index: self.index,
+            ack: self.ack,
+        };
+        let hops = self.hops;
+        match self.parts {
+            Parts::Neither => made(None, hops, None),
+            Parts::Origin => made(Some(origin), hops, None),
+            Parts::Tag => made(None, hops, Some(tag)),
+            Parts::Both => made(Some(origin), hops, Some(tag)),
+        }
+    }
+}
+
+fn made(origin: Option<Origin>, hops: u64, tag: Option<Tag>) -> Trace
+    ensures { result ≡ record { origin = origin; hops = hops; tag = tag } }
+{
+    Trace { origin, hops, tag }
+}
+
+fn which(origin: Option<Origin>, tag: Option<Tag>) -> Parts
+    ensures { result ≡ parts_of origin tag }
+{
+    match (origin, tag) {
+        (None, None) => Parts::Neither,
+        (Some(_), None) => Parts::Origin,
+        (None, Some(_)) => Parts::Tag,
+        (Some(_), Some(_)) => Parts::Both,
+    }
+}

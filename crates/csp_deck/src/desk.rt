@@ -1,0 +1,26 @@
+//! What a turn writes on.
+
+use crate::{Draft, Events};
+use std::alloc::{AllocError, Global};
+
+/// The draft of an entry and a list of events: one desk serves all turns of a world, or of a thread.
+#[derive(Drop)]
+pub struct Desk {
+    /// What the turn asks and is answered.
+    pub(crate) draft: Draft,
+    /// What its party reports.
+    pub(crate) report: Events,
+}
+
+impl Desk {
+    /// A desk with its room.
+    ///
+    /// # Errors
+    /// Want of memory.
+    pub fn open(alloc: Global) -> Result<Desk, AllocError> {
+        Ok(Desk {
+            draft: Draft::open(alloc)?,
+            report: Events::new(),
+        })
+    }
+}

@@ -1,0 +1,9 @@
+pub mod Answering
+pub mod Backs
+pub mod Conserving
+pub mod Counting
+pub mod Fifos
+pub mod Fresh
+pub mod Queued
+pub mod Standing
+pub mod Weighing

@@ -1,0 +1,10 @@
+pub mod Carrier
+pub mod DeckParts
+pub mod Gathered
+pub mod Order
+pub mod PlainDeck
+pub mod PlainFifo
+pub mod PoolParts
+pub mod QueueParts
+pub mod QueuesParts
+pub mod Regioned

@@ -1,0 +1,140 @@
+//! The draft of an entry: what a turn asked and was answered, before it is logged.
+
+ghost use Rattle.std.specs.Prelude.{◌≡◌, ◌≤◌, [], length, vec_capacity, IfOk};
+ghost use Rattle.csp_log.specs.Pictures.{Fits, shown_op, shown_answer};
+ghost use Rattle.csp_log.specs.PlainDraft.{drafted};
+ghost use Rattle.csp_log.specs.Rows.{item_of, packet_of, turned_back, IsItemLong};
+ghost use Rattle.csp_log.specs.Pictures.{shown_item};
+
+use crate::deeds::keep;
+use crate::row::{Deed, FrameHead, ItemHead, PacketHead};
+use crate::{Answer, Item, Op};
+use csp_base::{MAX_FRAME, MAX_PAYLOAD};
+use csp_buffer::Buffer;
+use std::alloc::{AllocError, Global};
+use std::marker::Model;
+
+/// What a turn asks and what it is answered, on the way into a log. Contracts see it as a pair of
+/// pictures.
+///
+/// It took its room when it was opened, and serves one turn after the other.
+#[derive(Drop)]
+pub struct Draft {
+    pub(crate) deed: Deed,
+    pub(crate) bytes: Vec<u8>,
+}
+
+impl Model for Draft {
+    ghost use Rattle.csp_log.specs.PlainDraft.{PlainDraft};
+
+    ghost Value = { PlainDraft };
+
+    ghost use Rattle.csp_log.specs.Rows.{draft_of};
+    ghost use Rattle.csp_log.specs.Drafting.{IsKept};
+
+    ghost view = { λ d. draft_of d.bytes.items d.deed };
+
+    ghost invariant = { IsKept };
+}
+
+impl Draft {
+    /// A draft of a turn that asks nothing.
+    pub fn open(alloc: Global) -> Result<Draft, AllocError> {
+        let bytes = Vec::with_capacity(alloc, MAX_FRAME)?;
+        Ok(Draft {
+            deed: Deed::Rested,
+            bytes,
+        })
+    }
+
+    /// Notes what is asked, with the answer that brings nothing.
+    pub fn ask(&mut self, op: &Op)
+        ensures { self.new ≡ drafted (shown_op op.now) }
+    {
+        self.deed = Deed::Rested;
+        self.bytes.clear();
+        self.deed = match op {
+            Op::Nothing => Deed::Rested,
+            Op::Take => Deed::FoundNoBuffer,
+            Op::Give(buffer) => Deed::Gave(keep_packet(&mut self.bytes, buffer)),
+            Op::Push(queue, item) => Deed::Pushed(*queue, keep_item(&mut self.bytes, item)),
+            Op::Pop(queue) => Deed::FoundEmpty(*queue),
+        };
+    }
+
+    /// Notes what that was answered. What comes back is what was handed in.
+    pub fn answer(&mut self, answer: &Answer)
+        requires asked { self.old ≡ drafted self.old.op }
+        requires fits { Fits self.old.op (shown_answer answer.now) }
+        ensures { self.new ≡ record { op = self.old.op; answer = shown_answer answer.now } }
+    {
+        match answer {
+            Answer::Taken(buffer) => {
+                self.bytes.clear();
+                self.deed = Deed::Took(keep_packet(&mut self.bytes, buffer));
+            }
+            Answer::Popped(item) => {
+                if let Deed::FoundEmpty(queue) = self.deed {
+                    self.bytes.clear();
+                    self.deed = Deed::Popped(queue, keep_item(&mut self.bytes, item));
+                }
+            }
+            Answer::PoolFull(_) | Answer::Full(_) => self.deed = refused(self.deed),
+            Answer::Nothing | Answer::NoBuffer | Answer::Given | Answer::Pushed | Answer::Empty =>
+                {}
+        }
+    }
+}
+
+/// The deed of which what was handed in comes back.
+fn refused(deed: Deed) -> Deed
+    ensures { result ≡ turned_back deed }
+{
+    match deed {
+        Deed::Gave(packet) => Deed::FoundPoolFull(packet),
+        Deed::Pushed(queue, item) => Deed::FoundFull(queue, item),
+        _ => deed,
+    }
+}
+
+/// Takes in the payload of a packet, and tells what else it is.
+fn keep_packet(bytes: &mut Vec<u8>, buffer: &Buffer) -> PacketHead
+    requires none { bytes.old.items ≡ [] }
+    requires room { MAX_FRAME ≤ vec_capacity bytes.old }
+    ensures packet { packet_of bytes.new.items result ≡ buffer.now.picture }
+    ensures fits { length bytes.new.items ≤ MAX_PAYLOAD }
+    ensures capacity { vec_capacity bytes.old ≤ vec_capacity bytes.new }
+{
+    keep(bytes, buffer.payload());
+    PacketHead {
+        header: buffer.header(),
+        number: buffer.number(),
+        trace: buffer.trace(),
+    }
+}
+
+/// Takes in the bytes of an item, and tells what else it is.
+fn keep_item(bytes: &mut Vec<u8>, item: &Item) -> ItemHead
+    requires none { bytes.old.items ≡ [] }
+    requires room { MAX_FRAME ≤ vec_capacity bytes.old }
+    ensures item { item_of bytes.new.items result ≡ shown_item item.now }
+    ensures long { IsItemLong (length bytes.new.items) result }
+    ensures short { length bytes.new.items ≤ MAX_FRAME }
+    ensures capacity { vec_capacity bytes.old ≤ vec_capacity bytes.new }
+{
+    match item {
+        Item::Packet { mark, buffer } => ItemHead::Packet {
+            mark: *mark,
+            packet: keep_packet(bytes, buffer),
+        },
+        Item::Frame(frame) => {
+            let frame = frame.frame();
+            keep(bytes, frame.bytes.as_slice());
+            ItemHead::Frame(FrameHead {
+                can: frame.can,
+                trace: frame.trace,
+            })
+        }
+        Item::Note(note) => ItemHead::Note(*note),
+    }
+}

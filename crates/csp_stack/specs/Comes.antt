@@ -1,0 +1,45 @@
+-- that the code comes to what is told, and what it needs for that
+use Rattle.std.specs.Prelude.{◌≡◌, ◌≢◌, ℕ, ◌<◌, List, [], ◌++◌, Option, None, Some, Result, Ok, Err, length}
+use Rattle.csp_log.specs.declared.event.Event.{Event}
+use Rattle.csp_log.specs.declared.event.TheConstants.{MAX_EVENTS}
+use Rattle.csp_log.specs.declared.places.TheConstants.{UNMARKED}
+use Rattle.csp_stack.specs.Router.{Leaving, State, StateAt}
+use Rattle.csp_stack.specs.Rules.{Arrival, Ruling, onward}
+use Rattle.csp_stack.specs.Told.{Told}
+use Rattle.csp_stack.specs.declared.outgoing.Outgoing.{Outgoing}
+use Rattle.csp_stack.specs.declared.packet.Packet.{Packet}
+
+-- the picture of a packet that is to go out
+abbrev pub leaving_of : Outgoing → Leaving
+leaving_of o = record { queue = o.queue; mark = o.mark; buffer = o.buffer.picture }
+
+-- the picture of a packet from the inbox
+abbrev pub arrival_of : Packet → Arrival
+arrival_of p = record { mark = p.mark; head = p.header; buffer = p.buffer.picture }
+
+-- the packet with this payload, or as it is where there is none
+abbrev pub cut_to : Option (List ℕ) → Packet → Result Packet Packet
+cut_to None p = Err p
+cut_to (Some payload) p = Ok (record p { buffer = record p.buffer { picture = record p.buffer.picture { payload = payload } } })
+
+-- the state is then the one that is told, of the same region, and the report has its events besides those before
+pub record ComesTo (old new : StateAt) (before after : List Event) (told : Told) : Type 0 where
+  pub state : new.state ≡ told.state
+  pub region : new.region ≡ old.region
+  pub events : after ≡ before ++ told.events
+
+-- what a ruling comes to: without a packet that is left it has decided, whatever the next rules say; else nothing changed, and they decide
+abbrev pub Rules : Option Packet → StateAt → StateAt → List Event → List Event → Ruling → Type 0
+Rules None old new before after ruling = (next : Arrival → Told) → ComesTo old new before after (onward ruling next)
+Rules (Some p) old new before after ruling =
+    ((next : Arrival → Told) → onward ruling next ≡ next (arrival_of p)) × (p.buffer.region ≡ old.region) × (new ≡ old) × (after ≡ before)
+
+-- nothing is to go out and there is no trash, so that a packet has its place, and the report has room
+pub record IsFree (s : State) (report : List Event) : Type 0 where
+  pub trash : s.trash ≡ []
+  pub out : s.out ≡ None
+  pub room : length report < MAX_EVENTS
+
+-- a mark that an interface can read: the address of a next hop, or none
+abbrev pub IsHop : ℕ → Type 0
+IsHop mark = mark ≢ UNMARKED → mark < 32

@@ -1,0 +1,9 @@
+-- how a router's state is kept
+use Rattle.std.specs.Prelude.{◌≡◌, IfSome}
+use Rattle.csp_stack.specs.declared.state.State.TheInside.{Inside}
+use Rattle.csp_stack.specs.declared.state.TheConstants.{TRASH_ROOM}
+
+-- its trash has its room, and the buffer that is to go out is of the same region
+pub record IsState (s : Inside) : Type 0 where
+  pub room : s.trash.room ≡ TRASH_ROOM
+  pub of_it : IfSome s.out (λ o. o.buffer.region ≡ s.trash.region)

@@ -1,0 +1,28 @@
+-- what a turn comes to, once its answer is known
+use Rattle.std.specs.Prelude.{List, [], ◌∷◌, ◌++◌, Some}
+use Rattle.csp_buffer.specs.Content.{Content}
+use Rattle.csp_log.specs.declared.event.Discard.{Discard}
+use Rattle.csp_log.specs.declared.event.Event.{Event}
+use Rattle.csp_log.specs.declared.event.Event.TheVariants as event
+use Rattle.csp_stack.specs.Router.{Leaving, State}
+
+-- the state after it, and what it reports
+pub record Told : Type 0 where
+  pub state : State
+  pub events : List Event
+
+-- nothing comes of it
+abbrev pub unchanged : State → Told
+unchanged s = record { state = s; events = [] }
+
+-- a packet is discarded for this reason: its buffer joins the trash
+abbrev pub discarded : State → Discard → Content → Told
+discarded s why b = record { state = record s { trash = s.trash ++ b ∷ [] }; events = event.Discarded why ∷ [] }
+
+-- a packet is to go out
+abbrev pub leaving : State → Leaving → Told
+leaving s o = record { state = record s { out = Some o }; events = [] }
+
+-- a buffer is the first of the trash again
+abbrev pub kept : State → Content → Told
+kept s b = record { state = record s { trash = b ∷ s.trash }; events = [] }

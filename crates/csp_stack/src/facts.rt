@@ -1,0 +1,26 @@
+//! What no turn of a router changes.
+
+use crate::config::IFACE_ROOM;
+use arrayvec::ArrayVec;
+use csp_base::{Addr, Name};
+use std::marker::Model;
+
+/// What a router knows of its node from its opening on.
+#[derive(Drop)]
+pub struct Facts {
+    pub node: u8,
+    pub addr: Addr,
+    pub name: Name,
+    pub seed: u16,
+    pub apps: u8,
+    pub ifaces: ArrayVec<Name, IFACE_ROOM>,
+}
+
+impl Model for Facts {
+    ghost use Rattle.std.specs.Prelude.{map};
+    ghost use Rattle.csp_stack.specs.Router.{Facts as Plain};
+
+    ghost Value = { Plain };
+
+    ghost view = { λ f. record { node = f.node; addr = f.addr; name = f.name.bytes; seed = f.seed; apps = f.apps; ifaces = map (λ n. n.bytes) f.ifaces.items } };
+}

@@ -1,0 +1,74 @@
+//! A packet from the inbox.
+
+ghost use Rattle.std.specs.Prelude.{◌≡◌, ◌-◌, ◌≤◌, ◌↔◌, IsTrue, IsSome, Some, length, take};
+ghost use Rattle.csp_crc.specs.Check.{payload_of};
+ghost use Rattle.csp_stack.specs.Comes.{arrival_of, cut_to};
+ghost use Rattle.csp_stack.specs.Rules.{arrival};
+
+use csp_base::Addr;
+use csp_buffer::Buffer;
+use csp_crc::check;
+use csp_header::Header;
+
+/// The bytes of a checksum, at the end of a payload.
+const CHECKSUM: usize = 4;
+
+/// A packet with the mark with which it came, and its header, which is read once.
+pub struct Packet {
+    pub mark: u8,
+    pub header: Header,
+    pub buffer: Buffer,
+}
+
+impl Packet {
+    /// A packet from the inbox, with its header read.
+    pub fn of(mark: u8, buffer: Buffer) -> Packet
+        ensures packet { arrival_of result ≡ arrival mark buffer.picture }
+        ensures region { result.buffer.region ≡ buffer.region }
+    {
+        let header = Header::decode(buffer.header());
+        Packet {
+            mark,
+            header,
+            buffer,
+        }
+    }
+
+    /// The node that it is for.
+    pub fn destination(&self) -> Addr
+        ensures { result ≡ self.now.header.dst }
+    {
+        self.header.dst
+    }
+
+    /// Its buffer.
+    pub fn into_buffer(self) -> Buffer
+        ensures { result ≡ self.buffer }
+    {
+        let Packet {
+            mark: _,
+            header: _,
+            buffer,
+        } = self;
+        buffer
+    }
+
+    /// Cuts the checksum off its payload, or gives it back as it is where that is missing or wrong.
+    pub fn without_checksum(mut self) -> Result<Packet, Packet>
+        ensures { result ≡ cut_to (payload_of self.buffer.picture.payload) self }
+    {
+        if has_checksum(self.buffer.payload()) && self.buffer.cut_tail(CHECKSUM).is_ok() {
+            return Ok(self);
+        }
+        Err(self)
+    }
+}
+
+/// Whether a payload ends with the checksum of what stands before it.
+#[tactic(auto, unfolding(csp_crc::specs::Check::payload_of))]
+fn has_checksum(payload: &[u8]) -> bool
+    ensures is { IsTrue result ↔ IsSome (payload_of payload.now) }
+    ensures cut { IsTrue result → (CHECKSUM ≤ length payload.now) × (payload_of payload.now ≡ Some (take (length payload.now - CHECKSUM) payload.now)) }
+{
+    check(payload).is_ok()
+}

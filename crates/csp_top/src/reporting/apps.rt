@@ -1,0 +1,218 @@
+//! The lines of an application: whether it ended, and what it reported.
+
+ghost use Rattle.std.specs.Prelude.{◌≡◌, ◌++◌, ◌∷◌, [], ◌==◌, if◌then◌else◌, map, OnOk, find, codes, Some};
+ghost use Rattle.std.specs.Option.{option_map};
+ghost use Rattle.std.specs.String.{string_bytes};
+ghost use Rattle.std.specs.Fmt.{decimal};
+ghost use Rattle.std.specs.List.{flat_map, enumerate_from};
+ghost use Rattle.csp_top.specs.Lines.{ended_line, text_of};
+ghost use Rattle.csp_top.specs.ReportEvents.{is_app, events_in, word_of_refusal, step_line, refused_line, event_lines};
+ghost use Rattle.csp_top.specs.Report.{state_line, app_lines, node_app_lines};
+
+use crate::reporting::lines::{begin_line, end_line, push_count, push_counted, push_word};
+use csp_log::{Event, Log, Why};
+use csp_record::{PartyLog, Record, Who};
+use csp_scene::{SceneApp, SceneNode};
+use std::alloc::AllocError;
+
+/// Whether a party is the application with this number of the node at this place.
+fn is_app(who: Who, node: usize, number: usize) -> bool
+    ensures { result ≡ is_app node number who }
+{
+    match who {
+        Who::Router(_) => false,
+        Who::App(place, app) => usize::from(place) == node && usize::from(app) == number,
+    }
+}
+
+/// Appends ` ended`, or ` step K` with the present step, from 1.
+fn push_progress(out: &mut String, step: u32) -> Result<(), AllocError>
+    ensures { OnOk result (string_bytes out.new ≡ string_bytes out.old ++ (if step == 0 then 32 ∷ codes "ended" else 32 ∷ (codes "step" ++ 32 ∷ decimal step))) }
+{
+    if step == 0 {
+        push_word(out, "ended")
+    } else {
+        push_counted(out, "step", u64::from(step))
+    }
+}
+
+/// Appends `app NODE NAME ended`, or `app NODE NAME step K` with the present step, from 1.
+fn push_state(out: &mut String, node: &str, app: &str, step: u32) -> Result<(), AllocError>
+    ensures { OnOk result (string_bytes out.new ≡ string_bytes out.old ++ ended_line (state_line node.now app.now step)) }
+{
+    begin_line(out, "app")?;
+    push_word(out, node)?;
+    push_word(out, app)?;
+    push_progress(out, step)?;
+    end_line(out)
+}
+
+/// Appends `WORD NODE APP K`.
+fn push_step(
+    out: &mut String,
+    word: &str,
+    node: &str,
+    app: &str,
+    step: u32,
+) -> Result<(), AllocError>
+    ensures { OnOk result (string_bytes out.new ≡ string_bytes out.old ++ ended_line (step_line word.now node.now app.now step)) }
+{
+    begin_line(out, word)?;
+    push_word(out, node)?;
+    push_word(out, app)?;
+    push_count(out, u64::from(step))?;
+    end_line(out)
+}
+
+/// The word of why a request was refused.
+fn word_of_refusal(why: Why) -> &'static str
+    ensures { result.now ≡ word_of_refusal why }
+{
+    match why {
+        Why::InUse => "inuse",
+        Why::NotBindable => "notbindable",
+        Why::Busy => "busy",
+        Why::PortBusy => "portbusy",
+        Why::Timeout => "timeout",
+        Why::Reset => "reset",
+    }
+}
+
+/// Appends `refused NODE APP K WHY`.
+fn push_refused(
+    out: &mut String,
+    node: &str,
+    app: &str,
+    step: u32,
+    why: Why,
+) -> Result<(), AllocError>
+    ensures { OnOk result (string_bytes out.new ≡ string_bytes out.old ++ ended_line (refused_line node.now app.now step why)) }
+{
+    begin_line(out, "refused")?;
+    push_word(out, node)?;
+    push_word(out, app)?;
+    push_count(out, u64::from(step))?;
+    push_word(out, word_of_refusal(why))?;
+    end_line(out)
+}
+
+/// Appends the line of what an application reports, if this event has one.
+fn push_event(out: &mut String, node: &str, app: &str, event: Event) -> Result<(), AllocError>
+    ensures { OnOk result (string_bytes out.new ≡ string_bytes out.old ++ text_of (event_lines node.now app.now event)) }
+{
+    match event {
+        Event::TookEmpty { step } => push_step(out, "empty", node, app, step),
+        Event::Refused { step, why } => push_refused(out, node, app, step, why),
+        Event::GaveUp { step } => push_step(out, "gaveup", node, app, step),
+        Event::SlotDown { step } => push_step(out, "down", node, app, step),
+        Event::Sent { .. }
+        | Event::Took { .. }
+        | Event::Discarded(_)
+        | Event::Handed { .. }
+        | Event::Opened { .. }
+        | Event::Transmitted { .. }
+        | Event::Bad { .. }
+        | Event::Starved
+        | Event::InboxFull
+        | Event::Reboot
+        | Event::Shutdown => Ok(()),
+    }
+}
+
+/// Appends the lines of these events, in order.
+fn push_events(out: &mut String, node: &str, app: &str, events: &[Event]) -> Result<(), AllocError>
+    ensures { OnOk result (string_bytes out.new ≡ string_bytes out.old ++ text_of (flat_map (event_lines node.now app.now) events.now)) }
+{
+    for event in events {
+        push_event(out, node, app, *event)?;
+    }
+    Ok(())
+}
+
+/// Appends the lines of what a log tells, in order of time.
+fn push_log(out: &mut String, node: &str, app: &str, log: &Log) -> Result<(), AllocError>
+    ensures { OnOk result (string_bytes out.new ≡ string_bytes out.old ++ text_of (flat_map (event_lines node.now app.now) (events_in log.now.entries))) }
+{
+    for index in 0..log.len() {
+        push_events(out, node, app, log.events(index))?;
+    }
+    Ok(())
+}
+
+/// Appends the lines of an application, where its party is given.
+fn push_app(out: &mut String, node: &str, app: &str, party: &PartyLog) -> Result<(), AllocError>
+    ensures { OnOk result (string_bytes out.new ≡ string_bytes out.old ++ text_of (app_lines node.now app.now (Some party.now))) }
+{
+    push_state(out, node, app, party.step)?;
+    push_log(out, node, app, &party.log)
+}
+
+/// The application with this number of the node at this place, among these parties.
+fn app_of(parties: &[PartyLog], node: usize, number: usize) -> Option<&PartyLog>
+    ensures { option_map (λ party. party.now) result ≡ find (λ party. is_app node number party.who) parties.now }
+{
+    parties.iter().find(|party| is_app(party.who, node, number))
+}
+
+/// Appends the lines of an application, where its party is found.
+fn push_found(
+    out: &mut String,
+    node: &str,
+    app: &str,
+    party: Option<&PartyLog>,
+) -> Result<(), AllocError>
+    ensures { OnOk result (string_bytes out.new ≡ string_bytes out.old ++ text_of (app_lines node.now app.now (option_map (λ party. party.now) party.entry))) }
+{
+    match party {
+        Some(party) => push_app(out, node, app, party),
+        None => Ok(()),
+    }
+}
+
+/// Appends the lines of all applications of the node at this place.
+fn push_node_apps(
+    out: &mut String,
+    run: &Record,
+    place: usize,
+    node: &SceneNode,
+) -> Result<(), AllocError>
+    ensures { OnOk result (string_bytes out.new ≡ string_bytes out.old ++ text_of (node_app_lines run.now.parties place node.now.name node.now.apps)) }
+{
+    push_app_list(
+        out,
+        run.parties.as_slice(),
+        place,
+        node.name.as_str(),
+        node.apps.as_slice(),
+    )
+}
+
+/// Appends the lines of these applications of the node at this place.
+fn push_app_list(
+    out: &mut String,
+    parties: &[PartyLog],
+    place: usize,
+    node: &str,
+    apps: &[SceneApp],
+) -> Result<(), AllocError>
+    ensures { OnOk result (string_bytes out.new ≡ string_bytes out.old ++ text_of (node_app_lines parties.now place node.now apps.now)) }
+{
+    for (number, app) in apps.iter().enumerate() {
+        push_found(out, node, app.name.as_str(), app_of(parties, place, number))?;
+    }
+    Ok(())
+}
+
+/// Appends the lines of the applications of all nodes.
+pub(crate) fn push_apps(
+    out: &mut String,
+    nodes: &[SceneNode],
+    run: &Record,
+) -> Result<(), AllocError>
+    ensures { OnOk result (string_bytes out.new ≡ string_bytes out.old ++ text_of (flat_map (λ node. node_app_lines run.now.parties node.0 node.1.name node.1.apps) (enumerate_from 0 nodes.now))) }
+{
+    for (place, node) in nodes.iter().enumerate() {
+        push_node_apps(out, run, place, node)?;
+    }
+    Ok(())
+}
