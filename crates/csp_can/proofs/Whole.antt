@@ -1,6 +1,6 @@
 -- The frames of a packet are a chain.
 use Rattle.std.proofs.Common.{◌≡◌, ℕ, zero, suc, ◌+◌, ◌*◌, ◌/◌, ◌%◌, ◌^◌, ◌<◌, ◌≤◌, List, [], ◌∷◌, ◌++◌, length, map, take, drop, refl, sym, subst, ap, ◌∙◌, arith}
-use Rattle.std.specs.List.{flat_map}
+use Rattle.std.specs.List.{flat_map, AllByRecursion}
 use Rattle.std.proofs.lemmas.List.{length-append, length-take, length-drop, take-append-drop}
 use Rattle.std.proofs.lemmas.Nat.{from_be_bytes-to_be_bytes_2, from_be_bytes-to_be_bytes_4}
 use Rattle.csp_base.specs.declared.limits.TheConstants.{MAX_PAYLOAD}
@@ -9,8 +9,8 @@ use Rattle.csp_can.specs.declared.identifiers.Identifier.{Identifier}
 use Rattle.csp_can.specs.declared.identifiers.Kind.{Kind}
 use Rattle.csp_can.specs.declared.identifiers.Kind.TheVariants.{Begin, More}
 use Rattle.csp_can.specs.Identifiers.{identifier_number, identifier_of, kind_bit, kind_of, key_of}
-use Rattle.csp_can.specs.Frames.{Frame, read_frame, written}
-use Rattle.csp_can.specs.Fragments.{more_frames, frames_after, first_head, fragments_of}
+use Rattle.csp_can.specs.Frames.{Frame, read_frame, written, IsOnBus}
+use Rattle.csp_can.specs.Fragments.{begin_bytes, more_frames, frames_after, first_head, fragments_of}
 use Rattle.csp_can.specs.Chains.{CountsDown, Chain}
 use Rattle.csp_can.specs.Alone.{ReadsAs}
 use Rattle.csp_can.proofs.Feeding.{OfKey, reads_as}
@@ -49,7 +49,7 @@ frames_round : (fs : List Frame) → AllInBits fs → map read_frame (map writte
 frames_round [] bits = refl
 frames_round (f ∷ fs) bits = λ i. record { head = identifier_round f.head bits.0 i; bytes = f.bytes } ∷ frames_round fs bits.1 i
 
-more_in_bits : (head : Identifier) (n : ℕ) (rest : List ℕ) → InBits head → n < 257 → AllInBits (more_frames head n rest)
+more_in_bits : (head : Identifier) (n : ℕ) (rest : List ℕ) → InBits head → n ≤ 2 ^ 8 → AllInBits (more_frames head n rest)
 more_in_bits head zero rest bits h = tt
 more_in_bits head (suc n) rest bits h = ((bits.0, bits.1, omega arith, bits.3), more_in_bits head n (drop 8 rest) bits (omega arith))
 
@@ -120,3 +120,20 @@ fragments_whole header payload dest id frames word d i fits are =
     let key = more_of_key (first_head header payload dest id) (frames_after (length payload)) (drop 2 payload) in
     subst (λ (fs : List Frame). Chain fs header payload × ReadsAs fs header payload) (sym read)
     (chain, reads_as (fragments_of header payload dest id) header payload chain key fits)
+
+-- each frame is one that a bus carries
+number_fits : (i : Identifier) → InBits i → identifier_number i < 2 ^ 29
+number_fits i bits = omega (arith, bit_small i.kind, bits.0, bits.1, bits.2, bits.3)
+
+more_on_bus : (head : Identifier) (n : ℕ) (rest : List ℕ) → InBits head → n < 257 → AllByRecursion IsOnBus (map written (more_frames head n rest))
+more_on_bus head zero rest bits h = tt
+more_on_bus head (suc n) rest bits h =
+    ((number_fits (record head { kind = More; remain = n }) (bits.0, bits.1, omega arith, bits.3), taken_few 8 rest), more_on_bus head n (drop 8 rest) bits (omega arith))
+
+begin_few : (header : ℕ) (payload : List ℕ) → length (begin_bytes header payload) ≤ 8
+begin_few header payload = omega (arith, taken_few 2 payload)
+
+pub fragments_on_bus : (header : ℕ) (payload : List ℕ) (dest id : ℕ) → dest < 32 → id < 1024 → length payload ≤ MAX_PAYLOAD → AllByRecursion IsOnBus (map written (fragments_of header payload dest id))
+fragments_on_bus header payload dest id d i fits =
+    let first = first_in_bits header payload dest id d i fits in
+    ((number_fits (first_head header payload dest id) first, begin_few header payload), more_on_bus (first_head header payload dest id) (frames_after (length payload)) (drop 2 payload) first (omega arith))

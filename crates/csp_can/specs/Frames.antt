@@ -1,6 +1,7 @@
-use Rattle.std.specs.Prelude.{ℕ, List}
+use Rattle.std.specs.Prelude.{ℕ, ◌^◌, ◌<◌, ◌≤◌, List, length}
 use Rattle.csp_can.specs.declared.identifiers.Identifier.{Identifier}
 use Rattle.csp_can.specs.declared.frames.CanFrame.{CanFrame}
+use Rattle.csp_can.specs.declared.frames.TheConstants.{MAX_DATA}
 use Rattle.csp_can.specs.Identifiers.{identifier_number, identifier_of}
 
 -- a frame as the rules read it: the parts of its identifier, and its data
@@ -19,3 +20,7 @@ read_frame f = frame_of f.id f.bytes.items
 -- a frame, as it stands on the bus
 abbrev pub written : Frame → CanFrame
 written f = record { id = identifier_number f.head; bytes = record { items = f.bytes } }
+
+-- a frame that a bus carries: an identifier of 29 bits and few data bytes
+abbrev pub IsOnBus : CanFrame → Type 0
+IsOnBus f = (f.id < 2 ^ 29) × (length f.bytes.items ≤ MAX_DATA)

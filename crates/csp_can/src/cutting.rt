@@ -2,7 +2,8 @@
 
 ghost use Rattle.std.specs.Prelude.{◌≡◌, ℕ, ◌/◌, ◌%◌, ◌^◌, ◌+◌, ◌<◌, ◌≤◌, length, map};
 ghost use Rattle.csp_can.specs.Fragments.{begin_bytes, fragments_of, frames_after};
-ghost use Rattle.csp_can.specs.Frames.{written, read_frame};
+ghost use Rattle.std.specs.List.{AllByRecursion};
+ghost use Rattle.csp_can.specs.Frames.{written, read_frame, IsOnBus};
 ghost use Rattle.csp_can.specs.Chains.{Chain, MakesOnly};
 ghost use Rattle.csp_can.specs.Alone.{ReadsAs};
 
@@ -22,6 +23,9 @@ pub fn fragments(header: u32, payload: &[u8], dest: Addr, id: u16) -> Fragments
     requires payload { length payload.now ≤ MAX_PAYLOAD }
     requires id { id < 1024 }
     ensures frames { result ≡ map written (fragments_of header payload.now dest id) }
+
+    // Each is one that a bus carries.
+    ensures carried { AllByRecursion IsOnBus result }
 
     // They are a chain, and read alone they are this packet again.
     ensures chain { Chain (map read_frame result) header payload.now }

@@ -110,7 +110,7 @@ reading_of-push stream byte = reading_of-cut stream byte (eqb byte FEND) refl
 
 -- ---- a whole stream
 
-events-append : (stream bytes : List ℕ) → events (stream ++ bytes) ≡ events stream ++ answers (reading_of stream) bytes
+pub events-append : (stream bytes : List ℕ) → events (stream ++ bytes) ≡ events stream ++ answers (reading_of stream) bytes
 unfolding answers
 events-append stream [] = ap events (append-nil stream) ∙ sym (append-nil (events stream))
 events-append stream (byte ∷ bytes) =

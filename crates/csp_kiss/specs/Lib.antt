@@ -1,3 +1,4 @@
 pub mod Frame
 pub mod Stream
 pub mod Reading
+pub mod GoingOn

@@ -1,5 +1,8 @@
 //! What the pieces of a stream are found to be.
 
+ghost use Rattle.std.specs.Prelude.{◌≡◌};
+
+use crate::progress::KissPacket;
 use arrayvec::ArrayVec;
 use csp_base::MAX_PAYLOAD;
 
@@ -24,4 +27,18 @@ pub enum KissEvent {
         /// The CRC of the payload.
         wanted: u32,
     },
+}
+
+impl KissEvent {
+    ghost use Rattle.csp_kiss.specs.GoingOn.{packet_of};
+
+    /// The packet that it brings. `None`: a piece is refused.
+    pub fn packet(self) -> Option<KissPacket>
+        ensures { result ≡ packet_of self }
+    {
+        match self {
+            KissEvent::Packet { header, payload } => Some(KissPacket { header, payload }),
+            KissEvent::TooLong | KissEvent::Short | KissEvent::BadCrc { .. } => None,
+        }
+    }
 }

@@ -5,11 +5,13 @@
 
 mod encoder;
 mod event;
+mod progress;
 mod reader;
 mod stage;
 
 pub use encoder::encode;
 pub use event::KissEvent;
+pub use progress::{KissPacket, KissProgress};
 pub use reader::KissReader;
 
 /// Ends a frame and starts the next.

@@ -1,7 +1,7 @@
 //! Reads a stream byte by byte, in fixed room.
 
-ghost use Rattle.std.specs.Prelude.{◌≡◌, ℕ, List, [], ◌∷◌, ◌++◌, option_to_list, ◌≤◌, length};
-ghost use Rattle.csp_kiss.specs.Reading.{Reading, HasRead, after, answer, answers, told, kept, unread};
+ghost use Rattle.std.specs.Prelude.{◌≡◌, ◌≢◌, ℕ, List, [], ◌∷◌, ◌++◌, option_to_list, ◌≤◌, length};
+ghost use Rattle.csp_kiss.specs.Reading.{Reading, HasRead, after, answer, answers, continued, told, kept, unread};
 ghost use Rattle.csp_kiss.specs.Stream.{events, judged, refusal};
 
 use crate::stage::{ROOM, Stage};
@@ -60,6 +60,15 @@ impl KissReader {
         if byte == FEND {
             return self.end_piece();
         }
+        self.go_on(byte);
+        None
+    }
+
+    /// Takes a byte that ends no piece.
+    pub(crate) fn go_on(&mut self, byte: u8)
+        requires { byte ≢ FEND }
+        ensures { self.new ≡ continued self.old.stage self.old.plain byte }
+    {
         match self.stage {
             Stage::Outside => {}
             Stage::Start => self.stage = Stage::Plain,
@@ -74,10 +83,10 @@ impl KissReader {
                 }
             }
         }
-        None
     }
 
-    fn end_piece(&mut self) -> Option<KissEvent>
+    /// Takes the FEND that ends a piece.
+    pub(crate) fn end_piece(&mut self) -> Option<KissEvent>
         ensures state { self.new ≡ record { stage = Stage.Start; plain = [] } }
         ensures told { result ≡ told self.old.stage self.old.plain }
     {

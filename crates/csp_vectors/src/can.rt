@@ -1,23 +1,21 @@
 //! CAN: frames as they stand on the bus, and what a listener makes of hostile ones.
 
-mod packets;
-mod partials;
+mod cases;
 
 use csp_base::{Addr, Trace};
 use csp_can::{CanEvent, MAX_DATA, Reassembly, fragments};
 use std::process::Abort;
 use std::test::Fail;
 
-// What a listener answers, without the type that holds the bytes. The trace of the frame that began the
-// packet has its place in the list as its hops.
-#[derive(Drop)]
+/// The header of every packet here.
+const HEADER: u32 = 0x8222_B000;
+
+/// What a listener answers, without the type that holds the bytes. A whole packet is told by its payload and by
+/// the place in the list of the frame that began it, which is that frame's number of hops.
+#[derive(Clone, Copy)]
 enum Seen {
     Part,
-    Whole {
-        header: u32,
-        payload: &'static [u8],
-        begun: u64,
-    },
+    Whole(&'static [u8], u64),
     NoBegin,
     ShortBegin,
     BadRemain,
@@ -26,20 +24,18 @@ enum Seen {
     NoRoom,
 }
 
-struct Step {
-    id: u32,
-    bytes: &'static [u8],
-    now: u64,
-    restarted: bool,
-    event: Seen,
-}
+/// Whether a frame dropped a partial packet of its key.
+const AGAIN: bool = true;
 
-struct Case {
-    name: &'static str,
-    steps: &'static [Step],
-}
+const NEW: bool = false;
 
-fn is_seen(event: &CanEvent, seen: &Seen) -> bool {
+/// A frame's identifier and data, the time, whether it dropped a partial packet, and what is answered.
+type Step = (u32, &'static [u8], u64, bool, Seen);
+
+/// What a case shows, and its frames.
+type Case = (&'static str, &'static [Step]);
+
+fn is_seen(event: &CanEvent, seen: Seen) -> bool {
     match (event, seen) {
         (
             CanEvent::Whole {
@@ -47,12 +43,8 @@ fn is_seen(event: &CanEvent, seen: &Seen) -> bool {
                 payload,
                 trace,
             },
-            Seen::Whole {
-                header: word,
-                payload: bytes,
-                begun,
-            },
-        ) => *header == *word && payload.as_slice() == *bytes && trace.hops == *begun,
+            Seen::Whole(bytes, begun),
+        ) => *header == HEADER && payload.as_slice() == bytes && trace.hops == begun,
         (CanEvent::Part, Seen::Part)
         | (CanEvent::NoBegin, Seen::NoBegin)
         | (CanEvent::ShortBegin, Seen::ShortBegin)
@@ -64,47 +56,36 @@ fn is_seen(event: &CanEvent, seen: &Seen) -> bool {
     }
 }
 
-fn expect_answers(rt: &impl Abort, case: &Case) {
+fn expect_answers(rt: &impl Abort, name: &str, steps: &[Step]) {
     let mut reassembly = Reassembly::new();
-    for (place, step) in case.steps.iter().enumerate() {
-        assert!(rt; step.id < 0x2000_0000 && step.bytes.len() <= MAX_DATA);
+    for (place, (id, bytes, now, restarted, event)) in steps.iter().enumerate() {
+        assert!(rt; *id < 0x2000_0000 && bytes.len() <= MAX_DATA);
         let trace = Trace {
             hops: place as u64,
             ..Trace::empty()
         };
-        let answer = reassembly.frame(step.id, step.bytes, trace, step.now);
-        assert_eq!(rt;
-            answer.restarted,
-            step.restarted,
-            "{} at {place}",
-            case.name
-        );
-        assert!(rt;
-            is_seen(&answer.event, &step.event),
-            "{} at {place}",
-            case.name
-        );
+        let answer = reassembly.frame(*id, bytes, trace, *now);
+        assert_eq!(rt; answer.restarted, *restarted, "{name} at {place}");
+        assert!(rt; is_seen(&answer.event, *event), "{name} at {place}");
     }
 }
 
 #[test]
 fn hostile_frames_as_heard(rt: HostRuntime) {
-    for case in &packets::CASES {
-        expect_answers(&rt, case);
-    }
-    for case in &partials::CASES {
-        expect_answers(&rt, case);
+    for (name, steps) in &cases::CASES {
+        expect_answers(&rt, name, steps);
     }
 }
 
 #[test]
 fn frames_as_written(rt: HostRuntime) -> Result<(), Fail> {
     let dest = Addr::new(2).ok_or("an address")?;
-    let mut frames = fragments(0x8222_B000, &[1, 2, 3], dest, 5);
-    for step in &packets::CASES[0].steps[1..3] {
+    let mut frames = fragments(HEADER, &[1, 2, 3], dest, 5);
+    let (_, steps) = cases::CASES[0];
+    for (id, bytes, ..) in &steps[1..3] {
         let frame = frames.next().ok_or("a frame")?;
-        assert_eq!(rt; frame.id, step.id);
-        assert_eq!(rt; frame.bytes.as_slice(), step.bytes);
+        assert_eq!(rt; frame.id, *id);
+        assert_eq!(rt; frame.bytes.as_slice(), *bytes);
     }
     assert!(rt; frames.next().is_none());
     Ok(())

@@ -6,4 +6,12 @@ mod can;
 #[cfg(test)]
 mod crc;
 #[cfg(test)]
+mod damage;
+#[cfg(test)]
+mod interfaces;
+#[cfg(test)]
 mod kiss;
+#[cfg(test)]
+mod links;
+#[cfg(test)]
+mod router;

@@ -1,7 +1,9 @@
-use Rattle.std.proofs.Common.{length, ap, ◌∙◌, arith}
+use Rattle.std.proofs.Common.{length, ap, sym, subst, ◌∙◌, arith}
+use Rattle.std.specs.List.{AllByRecursion}
 use Rattle.std.proofs.lemmas.Grind.{common_steps}
 use Rattle.csp_can.proofs.Own.{makes_only_read}
-use Rattle.csp_can.proofs.Whole.{fragments_whole}
+use Rattle.csp_can.specs.Frames.{IsOnBus}
+use Rattle.csp_can.proofs.Whole.{fragments_whole, fragments_on_bus}
 use Rattle.csp_can.proofs.CutLemmas.{fragments_length}
 use Rattle.csp_can.proofs.cutting.fragments.Goals as goal
 
@@ -22,3 +24,8 @@ returns-clause-alone c =
 pub returns-clause-own : goal.returns-clause-own
 returns-clause-own c =
     makes_only_read c.args.header c.args.payload.now c.args.dest c.args.id _ c.ranges.header.fits c.encode.ensures.dest c.requires.id c.requires.payload (returns-clause-frames c)
+
+pub returns-clause-carried : goal.returns-clause-carried
+returns-clause-carried c =
+    subst (AllByRecursion IsOnBus) (sym (returns-clause-frames c))
+    (fragments_on_bus c.args.header c.args.payload.now c.args.dest c.args.id c.encode.ensures.dest c.requires.id c.requires.payload)

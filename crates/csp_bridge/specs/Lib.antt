@@ -1,0 +1,5 @@
+pub mod Asking
+pub mod PlainBridge
+pub mod Planning
+pub mod Room
+pub mod Telling

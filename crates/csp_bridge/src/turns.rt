@@ -1,0 +1,103 @@
+//! What a bridge asks in a turn, and what it makes of the answer.
+
+ghost use Rattle.std.specs.Prelude.{◌≡◌, []};
+ghost use Rattle.csp_deck.specs.Regions.{IsAnswerFrom, IsItemOf, IsOpOf};
+ghost use Rattle.csp_deck.specs.Step.{CanServe, IsAnswerOf};
+ghost use Rattle.csp_log.specs.Pictures.{shown_answer, shown_item, shown_op};
+
+use crate::Bridge;
+use crate::doing::Doing;
+use csp_buffer::Buffer;
+use csp_log::{Answer, AnswerShown, Discard, Event, Events, Item, Op, QueueId, UNMARKED};
+
+impl Bridge {
+    ghost use Rattle.csp_bridge.specs.Asking.{asks, asked, awaits};
+    ghost use Rattle.csp_bridge.specs.PlainBridge.{uses, with_bridge};
+    ghost use Rattle.csp_bridge.specs.Telling.{tells, events};
+
+    /// The operation of this turn, whose buffer leaves the bridge.
+    #[tactic(auto, using(crate::proofs::Laws::out_carried))]
+    pub(crate) fn ask_now(&mut self) -> Op
+        ensures op { shown_op result ≡ asks self.old.bridge }
+        ensures of_it { IsOpOf self.old.region result }
+        ensures state { self.new ≡ with_bridge self.old (asked self.old.bridge) }
+        ensures served { CanServe (uses self.old.bridge) (shown_op result) }
+    {
+        if let Some(buffer) = self.trash.take() {
+            self.doing = Doing::Give;
+            return Op::Give(buffer);
+        }
+        if let Some(buffer) = self.out.take() {
+            self.doing = Doing::Send;
+            let packet = Item::Packet {
+                mark: UNMARKED,
+                buffer,
+            };
+            return Op::Push(QueueId::Out(self.to), packet);
+        }
+        self.doing = Doing::Hear;
+        Op::Pop(QueueId::Inbox)
+    }
+
+    /// Ends the turn with the operation's answer.
+    pub(crate) fn told_now(&mut self, answer: Answer, report: &mut Events)
+        requires fits { IsAnswerOf (uses self.old.bridge) (awaits self.old.bridge) (shown_answer answer) }
+        requires of_it { IsAnswerFrom self.old.region answer }
+        requires unwritten { report.old.items ≡ [] }
+        ensures events { report.new.items ≡ events self.old.bridge (shown_answer answer) }
+        ensures state { self.new ≡ with_bridge self.old (tells self.old.bridge (shown_answer answer)) }
+    {
+        match answer {
+            Answer::PoolFull(buffer) => self.told_pool_full(buffer),
+            Answer::Full(item) => {
+                self.told_full(item);
+                report.push(Event::Discarded(Discard::Full));
+            }
+            Answer::Popped(item) => self.told_popped(item),
+            Answer::Given | Answer::Pushed | Answer::Empty | Answer::Nothing => {
+                self.doing = Doing::Rest;
+            }
+            Answer::Taken(_buffer) => unreachable!(),
+            Answer::NoBuffer => unreachable!(),
+        }
+    }
+
+    /// The pool was full: the buffer is still to be given back.
+    fn told_pool_full(&mut self, buffer: Buffer)
+        requires fits { IsAnswerOf (uses self.old.bridge) (awaits self.old.bridge) (AnswerShown.PoolFull buffer.picture) }
+        requires of_it { buffer.region ≡ self.old.region }
+        ensures { self.new ≡ with_bridge self.old (tells self.old.bridge (AnswerShown.PoolFull buffer.picture)) }
+    {
+        self.trash.put(buffer);
+        self.doing = Doing::Rest;
+    }
+
+    /// The other interface had no room: the packet is discarded.
+    fn told_full(&mut self, item: Item)
+        requires fits { IsAnswerOf (uses self.old.bridge) (awaits self.old.bridge) (AnswerShown.Full (shown_item item)) }
+        requires of_it { IsItemOf self.old.region item }
+        ensures { self.new ≡ with_bridge self.old (tells self.old.bridge (AnswerShown.Full (shown_item item))) }
+    {
+        match item {
+            Item::Packet { mark: _, buffer } => self.trash.put(buffer),
+            Item::Frame(_) | Item::Note(_) => {}
+        }
+        self.doing = Doing::Rest;
+    }
+
+    /// A packet came in: it is to go out at the other side.
+    fn told_popped(&mut self, item: Item)
+        requires fits { IsAnswerOf (uses self.old.bridge) (awaits self.old.bridge) (AnswerShown.Popped (shown_item item)) }
+        requires of_it { IsItemOf self.old.region item }
+        ensures { self.new ≡ with_bridge self.old (tells self.old.bridge (AnswerShown.Popped (shown_item item))) }
+    {
+        match item {
+            Item::Packet { mark, buffer } => {
+                self.to = if mark == 0 { 1 } else { 0 };
+                self.out.put(buffer);
+            }
+            Item::Frame(_) | Item::Note(_) => {}
+        }
+        self.doing = Doing::Rest;
+    }
+}

@@ -1,0 +1,10 @@
+use Rattle.std.proofs.Common.{subst}
+use Rattle.std.specs.List.{AllByRecursion}
+use Rattle.csp_iface.specs.Links.{IsFrameOn}
+use Rattle.csp_log.specs.declared.places.LinkKind.TheVariants as link
+use Rattle.csp_iface.proofs.Frames.{on_bus}
+use Rattle.csp_iface.proofs.sender.Sender.cut.Goals as goal
+
+pub returns-in-Can-clause-carried : goal.returns-in-Can-clause-carried
+returns-in-Can-clause-carried c =
+    rw c.in-Can.is (subst (AllByRecursion (IsFrameOn link.Can)) c.can_frame.ensures.frame (on_bus c.args.trace _ c.fragments-rest.ensures.carried))

@@ -1,0 +1,10 @@
+pub mod Asking
+pub mod Keeping
+pub mod Kept
+pub mod Links
+pub mod PlainIface
+pub mod Planning
+pub mod Receiving
+pub mod Room
+pub mod Sending
+pub mod Telling

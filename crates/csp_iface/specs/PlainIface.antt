@@ -1,0 +1,87 @@
+-- what an interface is
+use Rattle.std.specs.Prelude.{ℕ, ◌==◌, Option, Some, None, List, [], ◌++◌, if◌then◌else◌}
+use Rattle.std.specs.Option.{option_to_list}
+use Rattle.csp_arena.specs.Cells.{RegionName}
+use Rattle.csp_buffer.specs.Content.{Content}
+use Rattle.csp_deck.specs.Keeping.{numbers_of}
+use Rattle.csp_iface.specs.Links.{carried_on, receiver_for}
+use Rattle.csp_iface.specs.declared.packet.Packet.{Packet}
+use Rattle.csp_iface.specs.declared.plan.Plan.{Plan}
+use Rattle.csp_iface.specs.declared.plan.Plan.TheVariants as plan
+use Rattle.csp_iface.specs.declared.plan.Side.{Side}
+use Rattle.csp_iface.specs.declared.plan.Side.TheVariants as side
+use Rattle.csp_iface.specs.declared.receiver.Receiver.{Receiver}
+use Rattle.csp_log.specs.declared.frame.Frame.{Frame}
+use Rattle.csp_log.specs.declared.places.Carries.TheVariants as lane
+use Rattle.csp_log.specs.declared.places.LinkKind.{LinkKind}
+use Rattle.csp_log.specs.declared.places.QueueId.{QueueId}
+use Rattle.csp_log.specs.declared.places.QueueId.TheVariants as queue
+use Rattle.csp_log.specs.declared.places.Rule.{Rule}
+use Rattle.csp_log.specs.declared.places.Rule.TheVariants as rule
+
+pub record PlainIface : Type 0 where
+  -- its node, and its number there
+  pub node : ℕ
+  pub number : ℕ
+  -- the kind of its link
+  pub kind : LinkKind
+  -- the side whose turn comes next
+  pub side : Side
+  -- a buffer that is to be given back
+  pub back : Option Content
+  -- the packet whose transmission has begun, and its frames that are left
+  pub sending : Option Content
+  pub frames : List Frame
+  -- how many transmissions have begun
+  pub serial : ℕ
+  -- what it keeps of what came
+  pub receiver : Receiver
+  -- a whole packet that has no buffer
+  pub whole : Option Packet
+  -- an accepted packet, in its buffer
+  pub accepted : Option Content
+  -- what this turn is, from the operation to its answer
+  pub doing : Plan
+
+-- an interface whose buffers are of this region
+pub record IfaceAt : Type 0 where
+  pub region : RegionName
+  pub iface : PlainIface
+
+-- the interface with this state
+abbrev pub with_iface : IfaceAt → PlainIface → IfaceAt
+with_iface a s = record { region = a.region; iface = s }
+
+-- an interface at its opening: sending comes first
+abbrev pub opening : (node number : ℕ) → LinkKind → PlainIface
+opening node number kind = record {
+  node = node;
+  number = number;
+  kind = kind;
+  side = side.Sending;
+  back = None;
+  sending = None;
+  frames = [];
+  serial = 0;
+  receiver = receiver_for kind;
+  whole = None;
+  accepted = None;
+  doing = plan.Rest;
+}
+
+-- the buffers that it holds: one to be given back, one that is sent, one accepted
+abbrev pub buffers : PlainIface → List Content
+buffers s = option_to_list s.back ++ (option_to_list s.sending ++ option_to_list s.accepted)
+
+-- and their numbers
+abbrev pub holds : PlainIface → List ℕ
+holds s = numbers_of (buffers s)
+
+-- it pushes to the inbox and the `Tx` of its number, and pops the `Out` and the `Rx`
+abbrev pub uses : PlainIface → QueueId → Option Rule
+uses s queue.Inbox = Some rule.Inbox
+uses s (queue.Out k) = (if k == s.number then Some (rule.Lane lane.Out) else None)
+uses s (queue.Tx k) = (if k == s.number then Some (rule.Lane (carried_on s.kind)) else None)
+uses s (queue.Rx k) = (if k == s.number then Some (rule.Lane (carried_on s.kind)) else None)
+uses s (queue.Up _) = None
+uses s (queue.Down _) = None

@@ -1,0 +1,136 @@
+-- what an interface becomes when it is told its answer, and what it reports
+use Rattle.std.specs.Prelude.{ℕ, ◌+◌, ◌==◌, ◌||◌, Bool, true, false, if◌then◌else◌, Option, Some, None, List, [], ◌∷◌, ◌++◌}
+use Rattle.std.specs.Option.{is_some}
+use Rattle.csp_buffer.specs.Content.{Content}
+use Rattle.csp_iface.specs.PlainIface.{PlainIface}
+use Rattle.csp_iface.specs.Receiving.{Heard, heard, read_further}
+use Rattle.csp_iface.specs.Sending.{sent_trace, next_node, frames_of}
+use Rattle.csp_iface.specs.declared.packet.Packet.{Packet}
+use Rattle.csp_iface.specs.declared.plan.Plan.{Plan}
+use Rattle.csp_iface.specs.declared.plan.Plan.TheVariants as plan
+use Rattle.csp_log.specs.declared.event.Event.{Event}
+use Rattle.csp_log.specs.declared.event.Event.TheVariants as event
+use Rattle.csp_log.specs.declared.frame.Frame.{Frame}
+use Rattle.csp_log.specs.declared.shown.ItemShown.{ItemShown}
+use Rattle.csp_log.specs.declared.shown.ItemShown.TheVariants as item
+use Rattle.csp_log.specs.declared.shown.AnswerShown.{AnswerShown}
+use Rattle.csp_log.specs.declared.shown.AnswerShown.TheVariants as answer
+
+-- what an answer makes of an interface, what it reports, and how many pieces or frames it refused
+pub record Outcome : Type 0 where
+  pub iface : PlainIface
+  pub events : List Event
+  pub refused : ℕ
+
+-- nothing is reported
+abbrev pub quiet : PlainIface → Outcome
+quiet s = record { iface = s; events = []; refused = 0 }
+
+-- this is reported
+abbrev pub reports : Event → PlainIface → Outcome
+reports e s = record { iface = s; events = e ∷ []; refused = 0 }
+
+-- the buffer in an item
+abbrev pub packet_in : ItemShown → Option Content
+packet_in (item.Packet _ b) = Some b
+packet_in (item.Frame _) = None
+packet_in (item.Note _) = None
+
+-- the whole packet in a cleared buffer
+abbrev pub filled : Option Packet → Content → Content
+filled (Some p) b = record { number = b.number; header = p.header; payload = p.payload.items; trace = p.trace }
+filled None b = b
+
+-- a frame was pushed: after the last, the buffer is to be given back
+abbrev pub pushed : List Frame → PlainIface → PlainIface
+pushed [] s = record s { back = s.sending; sending = None }
+pushed (_ ∷ _) s = s
+
+-- a frame comes back
+abbrev pub kept : ItemShown → PlainIface → PlainIface
+kept (item.Frame f) s = record s { frames = f ∷ s.frames }
+kept (item.Packet _ _) s = s
+kept (item.Note _) s = s
+
+-- the transmission of a packet begins: its frames are those of this link, and its number is the next
+abbrev pub begun : ℕ → Content → PlainIface → PlainIface
+begun mark b s = record s {
+  sending = Some b;
+  frames = frames_of s.kind s.serial (next_node mark b.header) b (sent_trace s.node s.number s.serial b.trace);
+  serial = s.serial + 1;
+}
+
+-- an item of `Out`
+abbrev pub fetched : ItemShown → PlainIface → Outcome
+fetched (item.Packet mark b) s = reports (event.Transmitted s.serial) (begun mark b s)
+fetched (item.Frame _) s = quiet s
+fetched (item.Note _) s = quiet s
+
+-- what was heard is kept
+abbrev pub hearing : Heard → PlainIface → Outcome
+hearing h s = record { iface = record s { receiver = h.receiver; whole = h.whole }; events = []; refused = h.refused }
+
+-- an item of `Rx`
+abbrev pub caught : ℕ → ItemShown → PlainIface → Outcome
+caught now (item.Frame f) s = hearing (heard now s.receiver f) s
+caught now (item.Packet _ _) s = quiet s
+caught now (item.Note _) s = quiet s
+
+-- what each answer makes of it
+abbrev pub told_by : PlainIface → ℕ → Plan → AnswerShown → Outcome
+-- 1. a buffer is given back; from a full pool it comes back, and is still to be given
+told_by s now plan.Return answer.Given = quiet s
+told_by s now plan.Return (answer.PoolFull b) = quiet (record s { back = Some b })
+-- 2. an accepted packet is pushed; at a full inbox its buffer is to be given back
+told_by s now plan.Deliver answer.Pushed = quiet s
+told_by s now plan.Deliver (answer.Full i) = reports event.InboxFull (record s { back = packet_in i })
+-- 3. a whole packet takes a buffer; without one it is dropped
+told_by s now plan.Take (answer.Taken b) = quiet (record s { accepted = Some (filled s.whole b); whole = None })
+told_by s now plan.Take answer.NoBuffer = reports event.Starved (record s { whole = None })
+-- 4. a frame is pushed, or kept
+told_by s now plan.Transmit answer.Pushed = quiet (pushed s.frames s)
+told_by s now plan.Transmit (answer.Full i) = quiet (kept i s)
+-- 4. the next packet is fetched
+told_by s now plan.Fetch (answer.Popped i) = fetched i s
+told_by s now plan.Fetch answer.Empty = quiet s
+-- 4. a frame is popped
+told_by s now plan.Receive (answer.Popped i) = caught now i s
+told_by s now plan.Receive answer.Empty = quiet s
+-- no other answer comes
+told_by s now _ _ = quiet s
+
+-- a packet is in hand, until its push, its Full or its NoBuffer
+abbrev pub has_packet : PlainIface → Bool
+has_packet s = is_some s.whole || is_some s.accepted
+
+-- after its operation an interface reads on in the frame in hand, but nothing while a packet is in hand
+abbrev pub going_on : Bool → PlainIface → Heard
+going_on true s = record { receiver = s.receiver; whole = s.whole; refused = 0 }
+going_on false s = read_further s.receiver
+
+abbrev pub read_after : PlainIface → Heard
+read_after s = going_on (has_packet s) s
+
+-- what was read on is kept, and adds to what was refused
+abbrev pub adding : Heard → Outcome → Outcome
+adding h o = record { iface = record o.iface { receiver = h.receiver; whole = h.whole }; events = o.events; refused = o.refused + h.refused }
+
+-- the turn's operation is over
+abbrev pub resting : PlainIface → PlainIface
+resting s = record s { doing = plan.Rest }
+
+abbrev pub answered : PlainIface → ℕ → AnswerShown → Outcome
+answered s now a = told_by (resting s) now s.doing a
+
+abbrev pub concluded : PlainIface → ℕ → AnswerShown → Outcome
+concluded s now a = adding (read_after (answered s now a).iface) (answered s now a)
+
+abbrev pub tells : PlainIface → ℕ → AnswerShown → PlainIface
+tells s now a = (concluded s now a).iface
+
+-- all that was refused in one turn is one event with its number
+abbrev pub bad : ℕ → List Event
+bad n = if n == 0 then [] else event.Bad n ∷ []
+
+abbrev pub events : PlainIface → ℕ → AnswerShown → List Event
+events s now a = (concluded s now a).events ++ bad (concluded s now a).refused

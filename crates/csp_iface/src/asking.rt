@@ -1,0 +1,119 @@
+//! What an interface asks in a turn.
+
+ghost use Rattle.std.specs.Prelude.{◌≡◌, IfSome, slice_get};
+ghost use Rattle.std.specs.Option.{option_map};
+ghost use Rattle.csp_arena.specs.Cells.{RegionName};
+ghost use Rattle.csp_deck.specs.Regions.{IsOpOf};
+ghost use Rattle.csp_deck.specs.Step.{CanServe};
+ghost use Rattle.csp_iface.specs.Asking.{given, delivered, transmitted};
+ghost use Rattle.csp_log.specs.Pictures.{shown_op};
+
+use crate::Iface;
+use crate::plan::{Plan, Side};
+use csp_buffer::Buffer;
+use csp_log::{BoxedFrame, Item, Op, QueueId};
+
+impl Iface {
+    ghost use Rattle.csp_iface.specs.PlainIface.{uses, with_iface};
+    ghost use Rattle.csp_iface.specs.Planning.{plan_of, side_plan};
+    ghost use Rattle.csp_iface.specs.Asking.{asks, asked};
+
+    /// What this turn is.
+    fn plan(&self) -> Plan
+        requires { self.now.iface.doing ≡ Plan.Rest }
+        ensures { result ≡ plan_of self.now.iface }
+    {
+        if !self.back.is_empty() {
+            return Plan::Return;
+        }
+        if !self.accepted.is_empty() {
+            return Plan::Deliver;
+        }
+        if self.whole.is_some() {
+            return Plan::Take;
+        }
+        self.side_plan()
+    }
+
+    /// The turn of the side that comes next.
+    fn side_plan(&self) -> Plan
+        requires { self.now.iface.doing ≡ Plan.Rest }
+        ensures { result ≡ side_plan self.now.iface.side self.now.iface.frames }
+    {
+        match self.side {
+            Side::Sending if self.sender.is_loaded() => Plan::Transmit,
+            Side::Sending => Plan::Fetch,
+            Side::Receiving => Plan::Receive,
+        }
+    }
+
+    /// The operation of this turn, whose buffer or frame leaves the interface.
+    pub(crate) fn ask_now(&mut self) -> Op
+        requires rests { self.old.iface.doing ≡ Plan.Rest }
+        ensures op { shown_op result ≡ asks self.old.iface 0 }
+        ensures of_it { IsOpOf self.old.region result }
+        ensures served { CanServe (uses self.old.iface) (shown_op result) }
+        ensures state { self.new ≡ with_iface self.old (asked self.old.iface 0) }
+    {
+        let plan = self.plan();
+        let op = match plan {
+            Plan::Rest => Op::Nothing,
+            Plan::Return => given(self.back.take()),
+            Plan::Deliver => delivered(self.number, self.accepted.take()),
+            Plan::Take => Op::Take,
+            Plan::Transmit => {
+                self.side = self.side.other();
+                transmitted(self.number, self.sender.next())
+            }
+            Plan::Fetch => {
+                self.side = self.side.other();
+                Op::Pop(QueueId::Out(self.number))
+            }
+            Plan::Receive => {
+                self.side = self.side.other();
+                Op::Pop(QueueId::Rx(self.number))
+            }
+        };
+        self.doing = plan;
+        op
+    }
+}
+
+/// A buffer goes back to the pool.
+fn given(buffer: Option<Buffer>) -> Op
+    ensures op { shown_op result ≡ given (option_map (λ b. b.picture) buffer) }
+    ensures of_it { (r : RegionName) → IfSome buffer (λ b. b.region ≡ r) → IsOpOf r result }
+{
+    match buffer {
+        Some(buffer) => Op::Give(buffer),
+        None => Op::Nothing,
+    }
+}
+
+/// An accepted packet goes to the inbox, marked with the interface.
+fn delivered(number: u8, packet: Option<Buffer>) -> Op
+    ensures op { shown_op result ≡ delivered number (option_map (λ b. b.picture) packet) }
+    ensures of_it { (r : RegionName) → IfSome packet (λ b. b.region ≡ r) → IsOpOf r result }
+{
+    match packet {
+        Some(buffer) => Op::Push(
+            QueueId::Inbox,
+            Item::Packet {
+                mark: number,
+                buffer,
+            },
+        ),
+        None => Op::Nothing,
+    }
+}
+
+/// A frame goes to the link.
+fn transmitted(number: u8, frame: Option<BoxedFrame>) -> Op
+    ensures op { shown_op result ≡ transmitted number frame }
+    ensures of_it { (r : RegionName) → IsOpOf r result }
+{
+    match frame {
+        Some(frame) => Op::Push(QueueId::Tx(number), Item::Frame(frame)),
+        None => Op::Nothing,
+    }
+}

@@ -1,0 +1,114 @@
+//! The interface itself.
+
+ghost use Rattle.std.specs.Prelude.{◌≡◌, ◌↔◌, ◌<◌, [], ◌∷◌, ◌++◌, IsTrue, IfSome, MatchOption};
+ghost use Rattle.csp_deck.specs.Step.{times};
+
+use crate::packet::Packet;
+use crate::plan::{Plan, Side};
+use crate::receiver::Receiver;
+use crate::sender::Sender;
+use csp_arena::RegionToken;
+use csp_buffer::Buffer;
+use csp_deck::Hand;
+use csp_log::{IFACES, LinkKind};
+use std::marker::Model;
+
+/// An interface: a party that sends packets as frames and receives frames as packets, the two sides in
+/// turn. Contracts see it as plain lists and numbers, and the region that its buffers are of.
+///
+/// It must be spent by `end`, when it holds no buffer.
+pub struct Iface {
+    pub(crate) node: u8,
+    pub(crate) number: u8,
+    pub(crate) kind: LinkKind,
+    pub(crate) side: Side,
+    pub(crate) back: Hand,
+    pub(crate) sender: Sender,
+    pub(crate) serial: u64,
+    pub(crate) receiver: Receiver,
+    pub(crate) whole: Option<Packet>,
+    pub(crate) accepted: Hand,
+    pub(crate) doing: Plan,
+}
+
+impl Model for Iface {
+    ghost use Rattle.csp_iface.specs.PlainIface.{IfaceAt};
+
+    ghost Value = { IfaceAt };
+
+    ghost use Rattle.csp_iface.specs.Room.{iface_at, IsIface};
+
+    ghost view = { iface_at };
+
+    ghost invariant = { IsIface };
+}
+
+impl Iface {
+    ghost use Rattle.csp_iface.specs.PlainIface.{opening, buffers, holds, with_iface};
+
+    /// The interface of this number of a node, on a link of this kind, at its opening. Its buffers are of
+    /// this region. It takes no memory.
+    pub fn new(node: u8, number: u8, kind: LinkKind, region: RegionToken) -> Iface
+        requires { number < IFACES }
+        ensures { result ≡ record { region = region.name; iface = opening node number kind } }
+    {
+        Iface {
+            node,
+            number,
+            kind,
+            side: Side::Sending,
+            back: Hand::empty(region.copy()),
+            sender: Sender::idle(region.copy()),
+            serial: 0,
+            receiver: Receiver::for_link(kind),
+            whole: None,
+            accepted: Hand::empty(region),
+            doing: Plan::Rest,
+        }
+    }
+
+    /// Whether it holds the buffer of this number.
+    pub fn holds(&self, number: u16) -> bool
+        ensures { IsTrue result ↔ (0 < times number (holds self.now.iface)) }
+    {
+        self.back.holds(number) || self.sender.holds(number) || self.accepted.holds(number)
+    }
+
+    /// Hands out a buffer that it holds. `None` exactly where it holds none.
+    pub fn drain(&mut self) -> Option<Buffer>
+        ensures buffers { MatchOption result ((buffers self.old.iface ≡ []) × (self.new ≡ self.old)) (λ b. buffers self.old.iface ≡ b.picture ∷ buffers self.new.iface) }
+        ensures holds { MatchOption result ((holds self.old.iface ≡ []) × (self.new ≡ self.old)) (λ b. holds self.old.iface ≡ b.picture.number ∷ holds self.new.iface) }
+        ensures of_it { IfSome result (λ b. b.region ≡ self.old.region) }
+        ensures rest { self.new ≡ with_iface self.old (record self.old.iface { back = self.new.iface.back; sending = self.new.iface.sending; accepted = self.new.iface.accepted }) }
+    {
+        if let Some(buffer) = self.back.take() {
+            return Some(buffer);
+        }
+        if let Some(buffer) = self.sender.release() {
+            return Some(buffer);
+        }
+        self.accepted.take()
+    }
+
+    /// Ends the interface, which holds no buffer.
+    pub fn end(self)
+        requires { holds self.iface ≡ [] }
+    {
+        let Iface {
+            node: _,
+            number: _,
+            kind: _,
+            side: _,
+            back,
+            sender,
+            serial: _,
+            receiver: _,
+            whole: _,
+            accepted,
+            doing: _,
+        } = self;
+        back.end();
+        sender.end();
+        accepted.end();
+    }
+}

@@ -1,0 +1,143 @@
+//! What an interface keeps of what came, by the kind of its link.
+
+ghost use Rattle.std.specs.Prelude.{◌≡◌, ◌-◌, ◌^◌, ◌<◌, ◌≤◌, None, unwrap_or};
+ghost use Rattle.csp_can.specs.Identifiers.{identifier_of};
+ghost use Rattle.csp_can.specs.Rules.{arrival};
+ghost use Rattle.csp_deck.specs.Carried.{IsCanItem};
+ghost use Rattle.csp_iface.specs.Receiving.{arrived, heard, read_further, reassembled};
+
+use crate::packet::Packet;
+use crate::stream::Stream;
+use csp_base::{MAX_FRAME, Trace};
+use csp_can::{CanEvent, Reassembly};
+use csp_deck::Spares;
+use csp_log::{BoxedFrame, Frame, ItemShown, LinkKind};
+
+/// The last number of hops. A frame that has it is used up as one that is refused.
+pub const MAX_HOPS: u64 = u64::MAX;
+
+/// What is kept of what came.
+#[derive(Drop)]
+pub enum Receiver {
+    /// Of a KISS link: its stream.
+    Kiss(Stream),
+    /// Of a CAN bus: the packets of which some frames came.
+    Can(Reassembly),
+}
+
+impl Receiver {
+    ghost use Rattle.csp_iface.specs.Links.{receiver_for, kind_of, IsFrameOn};
+
+    /// What is kept on a link of this kind before anything came.
+    pub fn for_link(kind: LinkKind) -> Receiver
+        ensures receiver { result ≡ receiver_for kind }
+        ensures kind { kind_of result ≡ kind }
+    {
+        match kind {
+            LinkKind::Kiss => Receiver::Kiss(Stream::new()),
+            LinkKind::Can => Receiver::Can(Reassembly::new()),
+        }
+    }
+
+    /// A frame was popped. A packet that it makes whole goes into `whole`. Gives 1 where it is refused.
+    pub fn hear(
+        &mut self,
+        frame: BoxedFrame,
+        now: u64,
+        whole: &mut Option<Packet>,
+        spares: &mut Spares,
+    ) -> u32
+        requires carried { IsFrameOn (kind_of self.old) frame }
+        requires free { whole.old ≡ None }
+        ensures receiver { self.new ≡ (heard now self.old frame).receiver }
+        ensures whole { whole.new ≡ (heard now self.old frame).whole }
+        ensures refused { result ≡ (heard now self.old frame).refused }
+        ensures few { result ≤ 1 }
+        ensures kind { kind_of self.new ≡ kind_of self.old }
+        ensures stock { spares.old ≤ spares.new }
+    {
+        if frame.frame().trace.hops == MAX_HOPS {
+            spares.keep(frame);
+            return 1;
+        }
+        match self {
+            Receiver::Kiss(stream) => {
+                let trace = arrived(&frame.frame().trace);
+                stream.take(frame, trace);
+                0
+            }
+            Receiver::Can(partials) => {
+                let refused = reassemble(partials, frame.frame(), now, whole);
+                spares.keep(frame);
+                refused
+            }
+        }
+    }
+
+    /// Reads on in the frame in hand until a packet is whole, which goes into `whole`, or the frame is
+    /// used up. Gives how many pieces were refused.
+    pub fn read_on(&mut self, whole: &mut Option<Packet>, spares: &mut Spares) -> u32
+        requires { whole.old ≡ None }
+        ensures receiver { self.new ≡ (read_further self.old).receiver }
+        ensures whole { whole.new ≡ (read_further self.old).whole }
+        ensures refused { result ≡ (read_further self.old).refused }
+        ensures few { result ≤ MAX_FRAME }
+        ensures kind { kind_of self.new ≡ kind_of self.old }
+        ensures stock { spares.old ≤ spares.new }
+    {
+        match self {
+            Receiver::Kiss(stream) => stream.read_on(whole, spares),
+            Receiver::Can(_) => 0,
+        }
+    }
+}
+
+/// A frame of a CAN bus comes to its partial packet. Gives 1 where it is refused.
+fn reassemble(partials: &mut Reassembly, frame: &Frame, now: u64, whole: &mut Option<Packet>) -> u32
+    requires carried { IsCanItem (ItemShown.Frame frame.now) }
+    requires early { frame.now.trace.hops < 2 ^ 64 - 1 }
+    requires free { whole.old ≡ None }
+    ensures partials { Receiver.Can partials.new ≡ (reassembled partials.old (arrival (identifier_of (unwrap_or frame.now.can 0)) frame.now.bytes.items (arrived frame.now.trace) now)).receiver }
+    ensures whole { whole.new ≡ (reassembled partials.old (arrival (identifier_of (unwrap_or frame.now.can 0)) frame.now.bytes.items (arrived frame.now.trace) now)).whole }
+    ensures refused { result ≡ (reassembled partials.old (arrival (identifier_of (unwrap_or frame.now.can 0)) frame.now.bytes.items (arrived frame.now.trace) now)).refused }
+    ensures few { result ≤ 1 }
+{
+    let answer = partials.frame(
+        frame.can.unwrap(),
+        frame.bytes.as_slice(),
+        arrived(&frame.trace),
+        now,
+    );
+    match answer.event {
+        CanEvent::Part => 0,
+        CanEvent::Whole {
+            header,
+            payload,
+            trace,
+        } => {
+            *whole = Some(Packet {
+                header,
+                payload,
+                trace,
+            });
+            0
+        }
+        CanEvent::NoBegin
+        | CanEvent::ShortBegin
+        | CanEvent::BadRemain
+        | CanEvent::TooMuch
+        | CanEvent::TooLong
+        | CanEvent::NoRoom => 1,
+    }
+}
+
+/// The trace of what came in a frame with this one: one hop more.
+fn arrived(trace: &Trace) -> Trace
+    requires { trace.now.hops < 2 ^ 64 - 1 }
+    ensures { result ≡ arrived trace.now }
+{
+    Trace {
+        hops: trace.hops + 1,
+        ..*trace
+    }
+}

@@ -1,0 +1,133 @@
+//! The stream of a KISS link.
+
+ghost use Rattle.std.specs.Prelude.{◌≡◌, ◌≤◌, None, [], length, drop};
+ghost use Rattle.std.specs.Option.{option_map};
+ghost use Rattle.csp_base.specs.Trace.{no_trace};
+ghost use Rattle.csp_iface.specs.Receiving.{traced};
+ghost use Rattle.csp_kiss.specs.GoingOn.{read_on};
+ghost use Rattle.csp_kiss.specs.Reading.{unread};
+
+use crate::packet::Packet;
+use csp_base::{MAX_FRAME, Trace};
+use csp_deck::Spares;
+use csp_kiss::{KissPacket, KissProgress, KissReader};
+use csp_log::BoxedFrame;
+use std::marker::Model;
+
+/// What is kept of the stream of a KISS link, and the frame in hand.
+#[derive(Drop)]
+pub struct Stream {
+    reader: KissReader,
+    frame: Option<BoxedFrame>,
+    /// How many bytes of the frame are read.
+    at: usize,
+    /// The trace of what is read in it.
+    trace: Trace,
+}
+
+impl Model for Stream {
+    ghost use Rattle.csp_iface.specs.Keeping.{PlainStream};
+
+    ghost Value = { PlainStream };
+
+    ghost use Rattle.csp_iface.specs.Kept.{plain_stream, IsStream};
+
+    ghost view = { plain_stream };
+
+    ghost invariant = { IsStream };
+}
+
+impl Stream {
+    /// A stream that is still to come.
+    pub fn new() -> Stream
+        ensures { result ≡ record { reading = unread; rest = []; trace = no_trace } }
+    {
+        Stream {
+            reader: KissReader::new(),
+            frame: None,
+            at: 0,
+            trace: Trace::empty(),
+        }
+    }
+
+    /// Takes a frame in hand, of which nothing is read yet. What is read in it has this trace.
+    pub fn take(&mut self, frame: BoxedFrame, trace: Trace)
+        ensures { self.new ≡ record { reading = self.old.reading; rest = frame.bytes.items; trace = trace } }
+    {
+        self.frame = Some(frame);
+        self.at = 0;
+        self.trace = trace;
+    }
+
+    /// Reads on in the frame in hand until a packet is whole, which goes into `whole`, or the frame is
+    /// used up. Gives how many pieces were refused.
+    #[tactic(auto, unfolding(csp_kiss::specs::GoingOn::read_on))]
+    pub fn read_on(&mut self, whole: &mut Option<Packet>, spares: &mut Spares) -> u32
+        requires { whole.old ≡ None }
+        ensures state { let p = read_on self.old.reading self.old.rest in
+            self.new ≡ record { reading = p.reading; rest = p.left; trace = self.old.trace } }
+        ensures whole { whole.new ≡ option_map (traced self.old.trace) (read_on self.old.reading self.old.rest).packet }
+        ensures refused { result ≡ (read_on self.old.reading self.old.rest).refused }
+        ensures few { result ≤ MAX_FRAME }
+        ensures stock { spares.old ≤ spares.new }
+    {
+        let at = self.at;
+        match self.frame.take() {
+            Some(frame) => self.read_in(frame, at, whole, spares),
+            None => 0,
+        }
+    }
+
+    /// Reads on in a frame from this place on.
+    fn read_in(
+        &mut self,
+        frame: BoxedFrame,
+        at: usize,
+        whole: &mut Option<Packet>,
+        spares: &mut Spares,
+    ) -> u32
+        requires { at ≤ length frame.bytes.items }
+        ensures state { let p = read_on self.old.reading (drop at frame.bytes.items) in
+            self.new ≡ record { reading = p.reading; rest = p.left; trace = self.old.trace } }
+        ensures whole { whole.new ≡ option_map (traced self.old.trace) (read_on self.old.reading (drop at frame.bytes.items)).packet }
+        ensures refused { result ≡ (read_on self.old.reading (drop at frame.bytes.items)).refused }
+        ensures few { result ≤ MAX_FRAME }
+        ensures stock { spares.old ≤ spares.new }
+    {
+        let bytes = frame.frame().bytes.as_slice();
+        let KissProgress {
+            used,
+            refused,
+            packet,
+        } = self.reader.read_on(&bytes[at..]);
+        *whole = traced(packet, self.trace);
+        self.keep(frame, at + used, spares);
+        refused as u32
+    }
+
+    /// Keeps a frame in hand whose bytes are read up to this place. Where all are read, its box goes back.
+    fn keep(&mut self, frame: BoxedFrame, at: usize, spares: &mut Spares)
+        requires { at ≤ length frame.bytes.items }
+        ensures state { self.new ≡ record { reading = self.old.reading; rest = drop at frame.bytes.items; trace = self.old.trace } }
+        ensures stock { spares.old ≤ spares.new }
+    {
+        if at < frame.frame().bytes.len() {
+            self.frame = Some(frame);
+            self.at = at;
+        } else {
+            self.frame = None;
+            spares.keep(frame);
+        }
+    }
+}
+
+/// A packet of a stream, with its trace.
+fn traced(packet: Option<KissPacket>, trace: Trace) -> Option<Packet>
+    ensures { result ≡ option_map (traced trace) packet }
+{
+    packet.map(|KissPacket { header, payload }| Packet {
+        header,
+        payload,
+        trace,
+    })
+}

@@ -1,0 +1,165 @@
+-- a turn of a link makes of what it pops what the plan says, and loses nothing of what it holds
+use Rattle.std.proofs.Common.{◌≡◌, ℕ, suc, ◌+◌, Bool, true, false, Option, Some, None, List, [], ◌∷◌, ◌++◌, map, take, drop, length, refl, sym, ap, ◌∙◌, subst, arith}
+use Rattle.std.specs.List.{remove}
+use Rattle.std.specs.List.Sorted.{IsPermutation}
+use Rattle.std.specs.Prelude.{nat_le}
+use Rattle.std.proofs.lemmas.List.{append_assoc, append-nil, length-append, map-append}
+use Rattle.std.proofs.lemmas.List.Sorted.{IsPermutation-refl, IsPermutation-trans, IsPermutation-append_left, IsPermutation-append_right, IsPermutation-middle}
+use Rattle.csp_deck.specs.Runs.{IsRun, IsStep, Runs, state_after, step_after}
+use Rattle.csp_link.specs.Applied.{AppliesPlan, link_steps, popped_by, pushed_by, frames_popped, frames_pushed, frames_in, made_from}
+use Rattle.csp_link.specs.Asking.{op_of, handed, doing_of}
+use Rattle.csp_link.specs.Copies.{copies_of, held_copies, held_until}
+use Rattle.csp_link.specs.Fates.{Fates, fate_at}
+use Rattle.csp_link.specs.Holding.{first_due}
+use Rattle.csp_link.specs.PlainLink.{PlainDirection, PlainLink, direction, opening}
+use Rattle.csp_link.specs.Planning.{Plan, push, pop, wait, first_rule, plan_in}
+use Rattle.csp_link.specs.Telling.{frame_in, kept, taken, told_by}
+use Rattle.csp_link.specs.Ways.{other}
+use Rattle.csp_link.specs.declared.doing.Doing.{Doing}
+use Rattle.csp_link.specs.declared.fates.Fate.{Fate}
+use Rattle.csp_link.specs.declared.fault.Fault.{Fault}
+use Rattle.csp_link.specs.declared.held.Held.{Held}
+use Rattle.csp_link.specs.declared.way.Way.{Way}
+use Rattle.csp_link.specs.declared.way.Way.TheVariants.{Forth, Back}
+use Rattle.csp_log.specs.Pictures.{Fits}
+use Rattle.csp_log.specs.declared.entry.Entry.{Entry}
+use Rattle.csp_log.specs.declared.frame.Frame.{Frame}
+use Rattle.csp_log.specs.declared.places.LinkKind.{LinkKind}
+use Rattle.csp_log.specs.declared.shown.ItemShown.{ItemShown}
+use Rattle.csp_log.specs.declared.shown.ItemShown.TheVariants as item
+use Rattle.csp_log.specs.declared.shown.AnswerShown.{AnswerShown}
+use Rattle.csp_log.specs.declared.shown.AnswerShown.TheVariants as answer
+use Rattle.csp_link.proofs.Kept.{Stands, stands}
+
+-- one direction led to the other: it popped the first frames, and pushed the others
+pub record Applied (a b : PlainDirection) (popped pushed : List Frame) : Type 0 where
+  pub fates : b.fates ≡ a.fates
+  pub count : b.popped ≡ a.popped + length popped
+  pub same : IsPermutation (frames_in a.held ++ made_from a.fates (a.popped + 1) popped) (pushed ++ frames_in b.held)
+
+pub applied_none : (d : PlainDirection) → Applied d d [] []
+applied_none d = record {
+  fates = refl;
+  count = omega arith;
+  same = subst (λ fs. IsPermutation fs (frames_in d.held)) (sym (append-nil (frames_in d.held))) (IsPermutation-refl (frames_in d.held));
+}
+
+made_append : (fates : Fates) (n m : ℕ) (xs ys : List Frame) → m ≡ n + length xs → made_from fates n (xs ++ ys) ≡ made_from fates n xs ++ made_from fates m ys
+made_append fates n m [] ys e = let same : n ≡ m = omega (arith, e) in ap (λ k. made_from fates k ys) same
+made_append fates n m (x ∷ xs) ys e =
+    ap (λ fs. copies_of (fate_at fates n) x ++ fs) (made_append fates (n + 1) m xs ys (omega (arith, e)))
+    ∙ sym (append_assoc (copies_of (fate_at fates n) x) (made_from fates (n + 1) xs) (made_from fates m ys))
+
+-- one after the other
+pub applied_both : (a b d : PlainDirection) (xs ys us vs : List Frame) → Applied a b xs us → Applied b d ys vs → Applied a d (xs ++ ys) (us ++ vs)
+applied_both a b d xs ys us vs f g =
+    let first : List Frame = made_from a.fates (a.popped + 1) xs in
+    let rest : List Frame = made_from b.fates (b.popped + 1) ys in
+    let cut : frames_in a.held ++ made_from a.fates (a.popped + 1) (xs ++ ys) ≡ (frames_in a.held ++ first) ++ rest =
+    ap (λ fs. frames_in a.held ++ fs) (made_append a.fates (a.popped + 1) (b.popped + 1) xs ys (omega (arith, f.count)) ∙ ap (λ t. first ++ made_from t (b.popped + 1) ys) (sym f.fates))
+    ∙ sym (append_assoc (frames_in a.held) first rest) in
+    record {
+      fates = g.fates ∙ f.fates;
+      count = omega (arith, f.count, g.count, length-append xs ys);
+      same = subst (λ fs. IsPermutation fs ((us ++ vs) ++ frames_in d.held)) (sym cut)
+          (IsPermutation-trans ((frames_in a.held ++ first) ++ rest) ((us ++ frames_in b.held) ++ rest) ((us ++ vs) ++ frames_in d.held)
+          (IsPermutation-append_left rest (frames_in a.held ++ first) (us ++ frames_in b.held) f.same)
+          (subst (λ fs. IsPermutation fs ((us ++ vs) ++ frames_in d.held)) (sym (append_assoc us (frames_in b.held) rest))
+          (subst (λ fs. IsPermutation (us ++ (frames_in b.held ++ rest)) fs) (sym (append_assoc us vs (frames_in d.held)))
+          (IsPermutation-append_right us (frames_in b.held ++ rest) (vs ++ frames_in d.held) g.same))));
+    }
+
+-- a held frame is pushed
+applied_pushed : (d : PlainDirection) (place : ℕ) (h : Held) → Stands d.held place h → Applied d (record d { held = remove d.held place }) [] (h.frame ∷ [])
+applied_pushed d place h stood =
+    let front : List Held = take place d.held in
+    let back : List Held = drop (suc place) d.held in
+    let cut : frames_in d.held ++ [] ≡ frames_in front ++ h.frame ∷ frames_in back =
+    append-nil (frames_in d.held) ∙ ap frames_in (sym stood.parts) ∙ map-append (λ (x : Held). x.frame) front (h ∷ back) in
+    record {
+      fates = refl;
+      count = omega arith;
+      same = subst (λ fs. IsPermutation fs (h.frame ∷ frames_in (remove d.held place))) (sym cut)
+          (subst (λ fs. IsPermutation (frames_in front ++ h.frame ∷ frames_in back) (h.frame ∷ fs)) (sym (map-append (λ (x : Held). x.frame) front back))
+          (IsPermutation-middle (frames_in front) h.frame (frames_in back)));
+    }
+
+frames_held : (due : ℕ) (frames : List Frame) → frames_in (map (held_until due) frames) ≡ frames
+frames_held due [] = refl
+frames_held due (f ∷ fs) = ap (λ gs. f ∷ gs) (frames_held due fs)
+
+-- a frame is popped
+applied_popped : (d : PlainDirection) (now : ℕ) (f : Frame) → Applied d (taken now (Some f) d) (f ∷ []) []
+applied_popped d now f =
+    let fate : Fate = fate_at d.fates (d.popped + 1) in
+    let all : frames_in d.held ++ (copies_of fate f ++ []) ≡ frames_in (d.held ++ held_copies fate now f) =
+    ap (λ fs. frames_in d.held ++ fs) (append-nil (copies_of fate f) ∙ sym (frames_held (now + fate.delay) (copies_of fate f)))
+    ∙ sym (map-append (λ (x : Held). x.frame) d.held (held_copies fate now f)) in
+    record {
+      fates = refl;
+      count = omega arith;
+      same = subst (λ fs. IsPermutation fs (frames_in (d.held ++ held_copies fate now f))) (sym all) (IsPermutation-refl (frames_in (d.held ++ held_copies fate now f)));
+    }
+
+-- a frame comes back into its place
+applied_kept : (d : PlainDirection) (place : ℕ) (h : Held) (i : ItemShown) → Stands d.held place h → i ≡ item.Frame h.frame → Applied d (kept place h.due (frame_in i) (record d { held = remove d.held place })) [] []
+applied_kept d place h i stood e =
+    subst (λ x. Applied d (kept place h.due (frame_in x) (record d { held = remove d.held place })) [] []) (sym e)
+    (subst (λ hs. Applied d (record d { held = hs }) [] []) (sym stood.back) (applied_none d))
+
+abbrev pushed_in : Plan → ℕ × Held → ℕ × Held
+pushed_in (push place h) p = (place, h)
+pushed_in pop p = p
+pushed_in wait p = p
+
+due_stands : (d : PlainDirection) (now place : ℕ) (h : Held) (found : Option (ℕ × Held)) (few : Bool) → first_due now d.held ≡ found → first_rule found few ≡ push place h → Stands d.held place h
+due_stands d now place h (Some p) few e is = stands (λ x. nat_le x.due now) d.held place h (e ∙ ap (λ x. Some (pushed_in x p)) is)
+due_stands d now place h None true e is = absurd cc
+due_stands d now place h None false e is = absurd cc
+
+-- the direction whose turn it is
+moved : (d : PlainDirection) (now : ℕ) (way : Way) (p : Plan) (a : AnswerShown) → plan_in d now ≡ p → Fits (op_of way p) a
+    → Applied d (told_by now (doing_of p) a (handed p d)) (popped_by way (op_of way p) a) (pushed_by way (op_of way p) a)
+moved d now Forth (push place h) answer.Pushed e f = applied_pushed d place h (due_stands d now place h (first_due now d.held) _ refl e)
+moved d now Back (push place h) answer.Pushed e f = applied_pushed d place h (due_stands d now place h (first_due now d.held) _ refl e)
+moved d now way (push place h) (answer.Full i) e f = applied_kept d place h i (due_stands d now place h (first_due now d.held) _ refl e) f
+moved d now Forth pop (answer.Popped (item.Frame g)) e f = applied_popped d now g
+moved d now Back pop (answer.Popped (item.Frame g)) e f = applied_popped d now g
+moved d now way pop (answer.Popped (item.Packet _ _)) e f = applied_none d
+moved d now way pop (answer.Popped (item.Note _)) e f = applied_none d
+moved d now way pop answer.Empty e f = applied_none d
+moved d now way wait answer.Nothing e f = applied_none d
+moved d now way _ _ e f = absurd f
+
+-- the other one
+idle : (d : PlainDirection) (way : Way) (p : Plan) (a : AnswerShown) → Applied d d (popped_by way (op_of (other way) p) a) (pushed_by way (op_of (other way) p) a)
+idle d Forth (push _ _) answer.Pushed = applied_none d
+idle d Back (push _ _) answer.Pushed = applied_none d
+idle d Forth pop (answer.Popped (item.Frame _)) = applied_none d
+idle d Back pop (answer.Popped (item.Frame _)) = applied_none d
+idle d _ _ _ = applied_none d
+
+turn_applied : (kind : LinkKind) (forth back : PlainDirection) (w : Way) (doing : Doing) (now : ℕ) (a : AnswerShown) (way : Way)
+    → let s : PlainLink = record { kind = kind; forth = forth; back = back; way = w; doing = doing } in
+    Fits (link_steps.asks s now) a → Applied (direction s way) (direction (link_steps.tells (link_steps.asked s now) now a) way) (popped_by way (link_steps.asks s now) a) (pushed_by way (link_steps.asks s now) a)
+turn_applied kind forth back Forth doing now a Forth f = moved forth now Forth (plan_in forth now) a refl f
+turn_applied kind forth back Forth doing now a Back f = idle back Back (plan_in forth now) a
+turn_applied kind forth back Back doing now a Forth f = idle forth Forth (plan_in back now) a
+turn_applied kind forth back Back doing now a Back f = moved back now Back (plan_in back now) a refl f
+
+step_applied : (s : PlainLink) (e : Entry) (way : Way) → IsStep link_steps s e → Applied (direction s way) (direction (step_after link_steps s e) way) (popped_by way e.op e.answer) (pushed_by way e.op e.answer)
+step_applied s e way step =
+    subst (λ o. Applied (direction s way) (direction (step_after link_steps s e) way) (popped_by way o e.answer) (pushed_by way o e.answer)) (sym step.op)
+    (turn_applied s.kind s.forth s.back s.way s.doing e.time e.answer way step.fits)
+
+run_applied : (es : List Entry) (time : ℕ) (s z : PlainLink) → IsRun link_steps time s es → state_after link_steps s es ≡ z → (way : Way) → Applied (direction s way) (direction z way) (frames_popped way es) (frames_pushed way es)
+run_applied [] time s z run e way = subst (λ x. Applied (direction s way) (direction x way) [] []) e (applied_none (direction s way))
+run_applied (x ∷ es) time s z run e way =
+    let next : PlainLink = step_after link_steps s x in
+    applied_both (direction s way) (direction next way) (direction z way) (popped_by way x.op x.answer) (frames_popped way es) (pushed_by way x.op x.answer) (frames_pushed way es)
+    (step_applied s x way run.1) (run_applied es x.time next z run.2 e way)
+
+-- from the opening on
+pub applies : (kind : LinkKind) (plan : List Fault) (es : List Entry) (s : PlainLink) → Runs link_steps (opening kind plan) es s → AppliesPlan plan es s
+applies kind plan es s runs Forth = (run_applied es 0 (opening kind plan) s runs.run runs.reached Forth).same
+applies kind plan es s runs Back = (run_applied es 0 (opening kind plan) s runs.run runs.reached Back).same

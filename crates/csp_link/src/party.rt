@@ -1,0 +1,56 @@
+//! A link takes turns.
+
+use crate::{Link, MAX_REPEATS};
+use csp_deck::{Party, Spares};
+use csp_log::{Answer, Events, Op};
+
+impl Party for Link {
+    ghost use Rattle.std.specs.Prelude.{⊤, false, []};
+    ghost use Rattle.csp_deck.specs.Regions.{nowhere};
+    ghost use Rattle.csp_link.specs.PlainLink.{uses, count};
+    ghost use Rattle.csp_link.specs.Asking.{asks, asked, awaits};
+    ghost use Rattle.csp_link.specs.Telling.{tells, events};
+    ghost use Rattle.csp_link.specs.declared.fault.TheConstants.{MAX_REPEATS};
+
+    ghost is_ready = { λ _ _. ⊤ };
+
+    ghost is_waiting = { λ _ _. ⊤ };
+
+    ghost awaits = { awaits };
+
+    ghost has_ended = { λ _. false };
+
+    ghost uses = { uses };
+
+    ghost count = { count };
+
+    ghost needs = { λ _. MAX_REPEATS };
+
+    ghost region = { λ _. nowhere };
+
+    ghost asks = { asks };
+
+    ghost asked = { asked };
+
+    ghost tells = { tells };
+
+    ghost events = { events };
+
+    ghost holds = { λ _. [] };
+
+    fn ask(&mut self, now: u64) -> Op {
+        self.ask_now(now)
+    }
+
+    fn told(&mut self, answer: Answer, now: u64, _report: &mut Events, spares: &mut Spares) {
+        self.told_now(answer, now, spares)
+    }
+
+    fn ended(&self) -> bool {
+        false
+    }
+
+    fn boxes(&self) -> u8 {
+        MAX_REPEATS
+    }
+}

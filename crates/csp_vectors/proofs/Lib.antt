@@ -1,0 +1,3 @@
+pub mod IfaceServing
+pub mod LinkServing
+pub mod Serving
