@@ -1,0 +1,4 @@
+pub mod CountLemmas
+pub mod RegionLemmas
+pub mod RowLemmas
+pub mod SoundLemmas

@@ -1,0 +1,7 @@
+pub mod Changes
+pub mod Holding
+pub mod Jobs
+pub mod Machine
+pub mod Regions
+pub mod Sound
+pub mod Table

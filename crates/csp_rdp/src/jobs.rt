@@ -1,0 +1,71 @@
+//! What a connection owes.
+
+ghost use Rattle.std.specs.Prelude.{◌≡◌, ◌^◌, ◌<◌};
+
+/// The packets that a connection may owe, in the order in which they are tried.
+#[derive(Clone, Copy, PartialEq, Eq, Debug)]
+pub enum Job {
+    /// A reset, which acknowledges.
+    Rst,
+    /// The packet that opens the connection, or its answer.
+    Syn,
+    /// A packet is to be delivered.
+    Deliver,
+    /// An extended acknowledgement.
+    Eak,
+    /// A packet of the send window.
+    Data,
+    /// An acknowledgement without data.
+    Ack,
+}
+
+/// What a connection owes, and since when.
+#[derive(Clone, Copy, PartialEq, Eq, Debug)]
+pub struct Owed {
+    /// A reset.
+    pub rst: bool,
+    /// The packet that opens the connection, or its answer.
+    pub syn: bool,
+    /// When such a packet was last sent, if ever.
+    pub syn_sent: Option<u64>,
+    /// An extended acknowledgement.
+    pub eak: bool,
+    /// An acknowledgement, at once.
+    pub ack: bool,
+    /// How many packets were delivered since the last packet that acknowledged.
+    pub delivered: u64,
+    /// When the first of them was delivered.
+    pub first: u64,
+}
+
+impl Owed {
+    ghost use Rattle.csp_rdp.specs.Jobs.{counted};
+    ghost use Rattle.csp_rdp.specs.Machine.{opening_owed};
+
+    /// What a new connection owes.
+    pub(crate) fn opening() -> Owed
+        ensures { result ≡ opening_owed }
+    {
+        Owed {
+            rst: false,
+            syn: true,
+            syn_sent: None,
+            eak: false,
+            ack: false,
+            delivered: 0,
+            first: 0,
+        }
+    }
+
+    /// The same, once one more packet is delivered.
+    pub(crate) fn counting(self, now: u64) -> Owed
+        requires { self.delivered < 2 ^ 32 }
+        ensures { result ≡ counted now self }
+    {
+        Owed {
+            delivered: self.delivered + 1,
+            first: if self.delivered == 0 { now } else { self.first },
+            ..self
+        }
+    }
+}

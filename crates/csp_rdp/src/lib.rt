@@ -1,0 +1,14 @@
+//! One connection of the reliable transport: a machine that is handed packets, times and requests, and
+//! says which packet it owes next. It knows neither links nor ports.
+#![tactic(auto)]
+
+mod answers;
+mod jobs;
+mod laws;
+mod rdp;
+mod rows;
+
+pub use answers::{Change, Result2, State, Why};
+pub use jobs::Job;
+pub use laws::keeps_region;
+pub use rdp::Rdp;
