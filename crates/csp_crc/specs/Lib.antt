@@ -1,3 +1,4 @@
 pub mod Bits
 pub mod Crc
 pub mod Check
+pub mod Register

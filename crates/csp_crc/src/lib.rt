@@ -2,25 +2,21 @@
 //! register all ones at the start, and inverted at the end.
 #![tactic(auto)]
 
-ghost use Rattle.std.specs.Prelude.{◌≡◌, ◌+◌, ℕ, Bool, false, List, ◌∷◌, ◌++◌, suc, IfOk, IfErr, MatchResult};
-ghost use Rattle.csp_crc.specs.Bits.{bits_of, plus};
+ghost use Rattle.std.specs.Prelude.{◌≡◌, IfOk, IfErr, MatchResult};
 ghost use Rattle.csp_crc.specs.Check.{IsCause, payload_of};
-ghost use Rattle.csp_crc.specs.Crc.{checked, crc_of, divided};
+ghost use Rattle.csp_crc.specs.Crc.{checked, crc_of};
 
+mod register;
+mod tables;
+
+use register::after_bytes;
 use thiserror::Error;
-
-/// The polynomial of CRC-32C without its leading term, the lowest bit for the highest power.
-const POLYNOMIAL: u32 = 0x82F6_3B78;
 
 /// The CRC-32C of a message.
 pub fn crc32c(bytes: &[u8]) -> u32
     ensures { result ≡ crc_of bytes.now }
 {
-    let mut register = u32::MAX;
-    for &byte in bytes {
-        register = after_byte(register, byte);
-    }
-    !register
+    !after_bytes(u32::MAX, bytes)
 }
 
 /// Why the CRC at the end of some bytes does not stand.
@@ -55,29 +51,5 @@ pub fn check(bytes: &[u8]) -> Result<&[u8], CrcError>
         Ok(payload)
     } else {
         Err(CrcError::Wrong { found, wanted })
-    }
-}
-
-// Eight places of the division: the register holds what is still to be added to the next 32 bits.
-fn after_byte(register: u32, byte: u8) -> u32
-    ensures { (places : ℕ) (rest : List Bool) →
-        divided (8 + places) (plus (bits_of 32 register) (bits_of 8 byte ++ rest)) ≡ divided places (plus (bits_of 32 result) rest) }
-{
-    let mut next = register ^ u32::from(byte);
-    for _ in 0..u8::BITS {
-        next = after_zero(next);
-    }
-    next
-}
-
-// One place of the division, where the message's next bit is 0 or was added to the register before.
-fn after_zero(register: u32) -> u32
-    ensures { (places : ℕ) (rest : List Bool) →
-        divided (suc places) (plus (bits_of 32 register) (false ∷ rest)) ≡ divided places (plus (bits_of 32 result) rest) }
-{
-    if register & 1 == 1 {
-        (register >> 1) ^ POLYNOMIAL
-    } else {
-        register >> 1
     }
 }
