@@ -1,0 +1,4 @@
+pub mod Slots
+pub mod Circle
+pub mod PlainConns
+pub mod Opening

@@ -1,0 +1,265 @@
+//! The slots of all applications of a node.
+
+ghost use Rattle.std.specs.Prelude.{◌≡◌, ◌≢◌, ◌↔◌, ◌≤◌, ◌<◌, false, true, Some, Ok, Err, IsErr, IfOk, IfSome, OnErr, length};
+ghost use Rattle.std.specs.List.{All, list_any, position};
+ghost use Rattle.csp_conn.specs.PlainConns.{IsConns, IsThere, conns_of, place_of, slot_at, slots_of, with_slot};
+ghost use Rattle.csp_conn.specs.Opening.{first_free, found, is_refused, is_taken, next_port, opened, own_port_of};
+ghost use Rattle.csp_conn.specs.Slots.{between, is_between, is_free};
+
+use crate::circle::{FIRST_OWN_PORT, OWN_PORTS, port_after};
+use crate::slot::{Connection, Slot};
+use arrayvec::ArrayVec;
+use csp_base::{Addr, Port};
+use std::marker::Model;
+use thiserror::Error;
+
+/// The most applications of a node.
+pub const MAX_APPS: usize = 4;
+
+/// How many slots an application has.
+pub const SLOTS: usize = 4;
+
+/// The slots of as many applications as there can be.
+const ALL_SLOTS: usize = 16;
+
+const _: () = prove!(ALL_SLOTS == MAX_APPS * SLOTS);
+
+const _: () = prove!(ALL_SLOTS == OWN_PORTS as usize);
+
+/// Why a connection was not opened.
+#[derive(Clone, Copy, PartialEq, Eq, Debug, Error)]
+pub enum OpenError {
+    /// The slot is in use.
+    #[error("the slot is in use")]
+    Busy,
+    /// A connection to the same node has the port that was asked for.
+    #[error("a connection to that node has the port")]
+    PortBusy,
+}
+
+/// An application all of whose slots are in use.
+#[derive(Clone, Copy, PartialEq, Eq, Debug, Error)]
+#[error("all slots are in use")]
+pub struct NoSlot;
+
+/// The slots of a node's applications.
+#[derive(Drop)]
+pub struct Conns {
+    apps: u8,
+    slots: ArrayVec<Slot, ALL_SLOTS>,
+    last: Port,
+}
+
+impl Model for Conns {
+    ghost use Rattle.csp_conn.specs.PlainConns.{IsConns, PlainConns};
+
+    ghost Value = { PlainConns };
+
+    ghost view = { λ c. record { apps = c.apps; slots = c.slots.items; last = c.last } };
+
+    ghost invariant = { λ c. IsConns (record { apps = c.apps; slots = c.slots.items; last = c.last }) };
+}
+
+// The place of an application's slot among all.
+fn place(app: u8, slot: u8) -> usize
+    requires app { app < MAX_APPS }
+    requires slot { slot < SLOTS }
+    ensures value { result ≡ place_of app slot }
+    ensures inside { result < ALL_SLOTS }
+{
+    app as usize * SLOTS + slot as usize
+}
+
+// The first of some slots that is free.
+fn place_free(slots: &[Slot]) -> Option<usize>
+    ensures value { result ≡ position is_free slots.now }
+    ensures inside { IfSome result (λ place. place < length slots.now) }
+{
+    slots.iter().position(|slot| slot.is_free())
+}
+
+// The first of some slots that has this connection.
+fn place_between(slots: &[Slot], connection: Connection) -> Option<usize>
+    ensures value { result ≡ position (is_between connection) slots.now }
+    ensures inside { IfSome result (λ place. place < length slots.now) }
+{
+    slots.iter().position(|slot| slot.is_between(connection))
+}
+
+impl Conns {
+    /// The slots of so many applications, all free.
+    pub fn new(apps: u8) -> Conns
+        requires { apps ≤ MAX_APPS }
+        ensures { result ≡ conns_of apps }
+    {
+        let mut slots = ArrayVec::from([Slot::Free; ALL_SLOTS]);
+        slots.truncate(apps as usize * SLOTS);
+        Conns {
+            apps,
+            slots,
+            last: Port::new(FIRST_OWN_PORT + (OWN_PORTS - 1)).unwrap(),
+        }
+    }
+
+    /// What a slot has.
+    pub fn slot(&self, app: u8, slot: u8) -> Slot
+        requires { IsThere self.now app slot }
+        ensures value { result ≡ slot_at self.now app slot }
+        ensures sound { IsConns self.now }
+    {
+        let slots = self.slots.as_slice();
+        slots[place(app, slot)]
+    }
+
+    /// Opens a connection in a slot, to a port of another node, from this port or from the next one that is not taken.
+    /// Answers the own port. What is refused changes nothing.
+    pub fn open(
+        &mut self,
+        app: u8,
+        slot: u8,
+        dest: Addr,
+        port: Port,
+        from: Option<Port>,
+    ) -> Result<Port, OpenError>
+        requires { IsThere self.old app slot }
+        ensures busy { (result ≡ Err OpenError.Busy) ↔ (slot_at self.old app slot ≢ Slot.Free) }
+        ensures port_busy { (result ≡ Err OpenError.PortBusy) ↔ ((slot_at self.old app slot ≡ Slot.Free) × (is_refused self.old dest from ≡ true)) }
+        ensures own_port { IfOk result (λ own. own_port_of self.old dest from ≡ Some own) }
+        ensures untaken { IfOk result (λ own. is_taken self.old dest own ≡ false) }
+        ensures ok { IfOk result (λ own. self.new ≡ opened self.old app slot (between dest port own) from) }
+        ensures err { OnErr result (self.new ≡ self.old) }
+        ensures apps { self.new.apps ≡ self.old.apps }
+    {
+        if !self.slot(app, slot).is_free() {
+            return Err(OpenError::Busy);
+        }
+        let own_port = match from {
+            Some(asked) => {
+                if self.is_taken(dest, asked) {
+                    return Err(OpenError::PortBusy);
+                }
+                asked
+            }
+            None => {
+                self.last = self.next_port(dest);
+                self.last
+            }
+        };
+        self.put(
+            app,
+            slot,
+            Slot::Open(Connection {
+                peer: dest,
+                peer_port: port,
+                own_port,
+            }),
+        );
+        Ok(own_port)
+    }
+
+    /// Takes the least free slot of an application for a connection that a packet opens.
+    pub fn incoming(
+        &mut self,
+        app: u8,
+        peer: Addr,
+        peer_port: Port,
+        own_port: Port,
+    ) -> Result<u8, NoSlot>
+        requires { app < self.old.apps }
+        ensures full { IsErr result ↔ All (λ slot. slot ≢ Slot.Free) (slots_of self.old app) }
+        ensures least { IfOk result (λ slot. first_free self.old app ≡ Some slot) }
+        ensures ok { IfOk result (λ slot. (slot < SLOTS) × (self.new ≡ with_slot self.old app slot (Slot.Open (between peer peer_port own_port)))) }
+        ensures err { OnErr result (self.new ≡ self.old) }
+        ensures apps { self.new.apps ≡ self.old.apps }
+    {
+        let slot = self.first_free(app).ok_or(NoSlot)?;
+        self.put(
+            app,
+            slot,
+            Slot::Open(Connection {
+                peer,
+                peer_port,
+                own_port,
+            }),
+        );
+        Ok(slot)
+    }
+
+    /// The application and the slot that have this connection: the least application, and of its slots the least.
+    pub fn find(&self, peer: Addr, peer_port: Port, own_port: Port) -> Option<(u8, u8)>
+        ensures value { result ≡ found self.now (between peer peer_port own_port) }
+        ensures there { IfSome result (λ at. IsThere self.now at.0 at.1) }
+        ensures connection { IfSome result (λ at. slot_at self.now at.0 at.1 ≡ Slot.Open (between peer peer_port own_port)) }
+        ensures sound { IsConns self.now }
+    {
+        let connection = Connection {
+            peer,
+            peer_port,
+            own_port,
+        };
+        match place_between(self.slots.as_slice(), connection) {
+            Some(place) => Some(((place / SLOTS) as u8, (place % SLOTS) as u8)),
+            None => None,
+        }
+    }
+
+    /// Frees a slot, whatever it has.
+    pub fn free(&mut self, app: u8, slot: u8)
+        requires { IsThere self.old app slot }
+        ensures { self.new ≡ with_slot self.old app slot Slot.Free }
+    {
+        self.put(app, slot, Slot::Free);
+    }
+
+    /// Puts a free slot in use without addresses and ports.
+    pub fn hold(&mut self, app: u8, slot: u8)
+        requires there { IsThere self.old app slot }
+        requires free { slot_at self.old app slot ≡ Slot.Free }
+        ensures { self.new ≡ with_slot self.old app slot Slot.Held }
+    {
+        self.put(app, slot, Slot::Held);
+    }
+
+    fn put(&mut self, app: u8, slot: u8, what: Slot)
+        requires { IsThere self.old app slot }
+        ensures { self.new ≡ with_slot self.old app slot what }
+    {
+        let slots = self.slots.as_mut_slice();
+        slots[place(app, slot)] = what;
+    }
+
+    // Whether a connection in use to this node has this own port.
+    fn is_taken(&self, dest: Addr, port: Port) -> bool
+        ensures { result ≡ is_taken self.now dest port }
+    {
+        self.slots.iter().any(|slot| slot.has_port(dest, port))
+    }
+
+    // The next own port that no connection in use to this node has. With a free slot at most 15 ports are taken.
+    fn next_port(&self, dest: Addr) -> Port
+        requires { list_any is_free self.now.slots ≡ true }
+        ensures value { next_port self.now dest ≡ Some result }
+        ensures untaken { is_taken self.now dest result ≡ false }
+        ensures own { FIRST_OWN_PORT ≤ result }
+    {
+        for steps in 1..OWN_PORTS + 1 {
+            let port = port_after(self.last, steps);
+            if !self.is_taken(dest, port) {
+                return port;
+            }
+        }
+        unreachable!()
+    }
+
+    fn first_free(&self, app: u8) -> Option<u8>
+        requires { app < self.now.apps }
+        ensures { result ≡ first_free self.now app }
+    {
+        let slots = self.slots.as_slice();
+        let first = place(app, 0);
+        match place_free(&slots[first..first + SLOTS]) {
+            Some(slot) => Some(slot as u8),
+            None => None,
+        }
+    }
+}
