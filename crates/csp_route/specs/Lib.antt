@@ -1,5 +1,6 @@
 pub mod Prefix
 pub mod Routes
+pub mod Codes
 pub mod Kept
 pub mod Parts
 pub mod Text

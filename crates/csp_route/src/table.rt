@@ -24,7 +24,7 @@ pub const MAX_ROWS: usize = 32;
 pub struct Full;
 
 /// A routing table: a finite map from prefixes to where their packets go, with at most 32 rows.
-#[derive(Drop)]
+#[derive(Debug, Drop)]
 pub struct Table {
     rows: ArrayVec<Row, MAX_ROWS>,
 }

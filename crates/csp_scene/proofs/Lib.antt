@@ -2,3 +2,10 @@ pub mod Fitting
 pub mod Shapes
 pub mod Lists
 pub mod Texts
+pub mod Tables
+pub mod Growing
+pub mod Drafts
+pub mod Stated
+pub mod Scenes
+pub mod MoveCounts
+pub mod Moving

@@ -1,5 +1,5 @@
 -- Words against a shape, place by place.
-use Rattle.std.proofs.Common.{◌≡◌, ℕ, ◌+◌, ◌-◌, ◌≤◌, ◌<◌, true, ◌&&◌, ◌++◌, List, [], ◌∷◌, length, get_or, take, drop, map, inl, inr, arith, refl, ap, sym, subst, ◌∙◌, Bor, append_assoc}
+use Rattle.std.proofs.Common.{◌≡◌, ℕ, ◌+◌, ◌-◌, ◌≤◌, ◌<◌, Bool, true, ◌&&◌, ◌++◌, List, [], ◌∷◌, length, get_or, take, drop, map, inl, inr, arith, refl, ap, sym, subst, ◌∙◌, Bor, append_assoc}
 use Rattle.std.specs.List.{list_all, zip, flat_map}
 use Rattle.std.proofs.lemmas.Bool.{and_parts}
 use Rattle.std.proofs.lemmas.List.{take_all, at_drop_more, length-append}
@@ -9,14 +9,18 @@ use Rattle.csp_scene.specs.declared.table.Group.{Group}
 use Rattle.csp_scene.specs.declared.checks.Check.{Check}
 use Rattle.csp_scene.specs.declared.checks.Check.TheVariants as check
 use Rattle.csp_scene.specs.Table.{group_of, with_options, fixed_of}
-use Rattle.csp_scene.specs.Checks.{passes, all_pass}
+use Rattle.csp_scene.specs.Checks.{passes, all_pass, last_part, whole_passes}
 use Rattle.csp_scene.specs.Rows.{PlainRow, rows_of}
-use Rattle.csp_scene.specs.Kept.{IsOneOf, IsShapeOf, Fits}
+use Rattle.csp_scene.specs.Kept.{IsOneOf, IsShapeOf, Fits, FitsShape}
 
 pub list_all-zip_passes : (check : Check) (shape : List Part) (args : List (Bor (List ℕ))) → list_all (λ pair. passes check pair.0 pair.1.now) (zip shape args) ≡ all_pass check shape (map (λ word. word.now) args)
 list_all-zip_passes check [] args = refl
 list_all-zip_passes check (part ∷ parts) [] = refl
 list_all-zip_passes check (part ∷ parts) (word ∷ words) = ap (λ rest. passes check part word.now && rest) (list_all-zip_passes check parts words)
+
+-- the words past a shape's end pass the check
+abbrev past : Check → List Part → List (List ℕ) → Bool
+past check shape args = list_all (passes check (last_part shape)) (drop (length shape) args)
 
 -- a shape among those before, or among those after
 pub IsOneOf-before : (before after : List (List Part)) (shape : List Part) → IsOneOf before shape → IsOneOf (before ++ after) shape
@@ -54,15 +58,24 @@ front_passes check (part ∷ parts) more (word ∷ words) h =
     rw each.0 (front_passes check parts more words each.1)
 
 -- words that fit a shape of a form fit what stands in each of its lines
-pub Fits-from_shape : (form : Form) (shape : List Part) (args : List (List ℕ)) → IsShapeOf form shape → length shape ≡ length args → all_pass check.Name shape args ≡ true → all_pass check.Number shape args ≡ true → Fits form args
+pub Fits-from_shape : (form : Form) (shape : List Part) (args : List (List ℕ)) → IsShapeOf form shape → length shape ≤ length args → whole_passes check.Name shape args ≡ true → whole_passes check.Number shape args ≡ true → Fits form args
 Fits-from_shape form shape args is count names numbers =
     let more = is.fixed.0 in
     let whole = is.fixed.1 in
+    let each_name = (and_parts (all_pass check.Name shape args) (past check.Name shape args) names).0 in
+    let each_number = (and_parts (all_pass check.Number shape args) (past check.Number shape args) numbers).0 in
     record {
       count = omega (arith, count, ap length whole, length-append (fixed_of form) more);
-      names = front_passes check.Name (fixed_of form) more args (subst (λ s. all_pass check.Name s args ≡ true) whole names);
-      numbers = front_passes check.Number (fixed_of form) more args (subst (λ s. all_pass check.Number s args ≡ true) whole numbers);
+      names = front_passes check.Name (fixed_of form) more args (subst (λ s. all_pass check.Name s args ≡ true) whole each_name);
+      numbers = front_passes check.Number (fixed_of form) more args (subst (λ s. all_pass check.Number s args ≡ true) whole each_number);
     }
+
+pub FitsShape-from_shape : (form : Form) (shape : List Part) (args : List (List ℕ)) → IsShapeOf form shape → length shape ≤ length args → whole_passes check.Number shape args ≡ true → FitsShape form shape args
+FitsShape-from_shape form shape args is count numbers = record {
+  among = is.among;
+  count = count;
+  numbers = (and_parts (all_pass check.Number shape args) (past check.Number shape args) numbers).0;
+}
 
 -- the rows of one form more
 pub rows_left : (rows new all : List PlainRow) (forms : List Form) (at : ℕ) (none : Form) → at < length forms → new ≡ rows ++ rows_of (get_or forms at none) → rows ++ flat_map rows_of (drop at forms) ≡ all → new ++ flat_map rows_of (drop (at + 1) forms) ≡ all

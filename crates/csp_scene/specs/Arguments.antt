@@ -1,6 +1,6 @@
 -- The words of a line after the first, each by its place.
-use Rattle.std.specs.Prelude.{ℕ, ◌+◌, Bool, nat_lt, false, List, [], length, slice_index_or, Option, Some, None, if◌then◌else◌}
-use Rattle.std.specs.List.{position_or_len}
+use Rattle.std.specs.Prelude.{ℕ, ◌+◌, Bool, nat_lt, false, List, [], ◌∷◌, length, drop, slice_index_or, Option, Some, None, if◌then◌else◌}
+use Rattle.std.specs.List.{position_or_len, flat_map}
 use Rattle.std.specs.Str.{bytes_eq}
 use Rattle.csp_text.specs.Numbers.{number_of}
 use Rattle.csp_scene.specs.Table.{keyword_text}
@@ -18,10 +18,13 @@ number_at args place = number_of (word_at args place)
 -- the place of a fixed word among what stands in a line, or the number of places where the line doesn't have the word
 abbrev pub is_keyword : Keyword → Part → Bool
 is_keyword keyword (part.Fixed other) = bytes_eq (keyword_text other) (keyword_text keyword)
+is_keyword keyword (part.Either one other) = false
 is_keyword keyword part.Name = false
 is_keyword keyword (part.Number low high) = false
 is_keyword keyword part.Word = false
 is_keyword keyword (part.Bytes least most) = false
+is_keyword keyword part.Moves = false
+is_keyword keyword part.Text = false
 
 abbrev pub keyword_place : Keyword → List Part → ℕ
 keyword_place keyword shape = position_or_len (is_keyword keyword) shape
@@ -30,3 +33,10 @@ keyword_place keyword shape = position_or_len (is_keyword keyword) shape
 abbrev pub setting : Keyword → List Part → List (List ℕ) → Option ℕ
 setting keyword shape args =
     if nat_lt (keyword_place keyword shape) (length shape) then Some (number_at args (keyword_place keyword shape + 1)) else None
+
+-- a word with a space before it, and the text of a line from a place on: its words there
+abbrev pub spaced : List ℕ → List ℕ
+spaced word = 32 ∷ word
+
+abbrev pub text_from : List (List ℕ) → ℕ → List ℕ
+text_from args place = flat_map spaced (drop place args)

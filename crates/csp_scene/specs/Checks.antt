@@ -1,9 +1,11 @@
 -- A line's words against what stands in their places.
-use Rattle.std.specs.Prelude.{ℕ, Bool, true, ◌&&◌, nat_le, List, [], ◌∷◌, length}
+use Rattle.std.specs.Prelude.{ℕ, ◌-◌, Bool, true, false, ◌&&◌, ◌||◌, ◌==◌, nat_le, List, [], ◌∷◌, length, drop, slice_index_or, if◌then◌else◌}
+use Rattle.std.specs.List.{list_all}
 use Rattle.std.specs.Str.{bytes_eq}
 use Rattle.csp_text.specs.Names.{is_name}
 use Rattle.csp_text.specs.Numbers.{is_decimal, number_of}
 use Rattle.csp_text.specs.Hexadecimal.{is_bytes, bytes_of, is_hex_word}
+use Rattle.csp_scene.specs.Moves.{is_move}
 use Rattle.csp_scene.specs.Table.{keyword_text}
 use Rattle.csp_scene.specs.declared.table.Part.{Part}
 use Rattle.csp_scene.specs.declared.table.Part.TheVariants as part
@@ -18,26 +20,68 @@ is_in_range low high word = is_decimal word && nat_le low (number_of word) && na
 abbrev pub has_bytes : ℕ → ℕ → List ℕ → Bool
 has_bytes least most word = is_bytes word && nat_le least (length (bytes_of word)) && nat_le (length (bytes_of word)) most
 
--- what a check asks of a word: the fixed word of its place, the form of a name, a number or hexadecimal text in its range
+-- what a check asks of a word: a fixed word of its place
+abbrev pub is_fixed : Part → List ℕ → Bool
+is_fixed (part.Fixed keyword) word = bytes_eq word (keyword_text keyword)
+is_fixed (part.Either one other) word = bytes_eq word (keyword_text one) || bytes_eq word (keyword_text other)
+is_fixed part.Name word = true
+is_fixed (part.Number low high) word = true
+is_fixed part.Word word = true
+is_fixed (part.Bytes least most) word = true
+is_fixed part.Moves word = true
+is_fixed part.Text word = true
+
+-- the form of a name, and in a step word of each part
+abbrev pub is_named : Part → List ℕ → Bool
+is_named (part.Fixed keyword) word = true
+is_named (part.Either one other) word = true
+is_named part.Name word = is_name word
+is_named (part.Number low high) word = true
+is_named part.Word word = true
+is_named (part.Bytes least most) word = true
+is_named part.Moves word = is_move word
+is_named part.Text word = true
+
+-- a number or hexadecimal text in its range
+abbrev pub is_numbered : Part → List ℕ → Bool
+is_numbered (part.Fixed keyword) word = true
+is_numbered (part.Either one other) word = true
+is_numbered part.Name word = true
+is_numbered (part.Number low high) word = is_in_range low high word
+is_numbered part.Word word = is_hex_word word
+is_numbered (part.Bytes least most) word = has_bytes least most word
+is_numbered part.Moves word = true
+is_numbered part.Text word = true
+
 abbrev pub passes : Check → Part → List ℕ → Bool
-passes check.Fixed (part.Fixed keyword) word = bytes_eq word (keyword_text keyword)
-passes check.Fixed part.Name word = true
-passes check.Fixed (part.Number low high) word = true
-passes check.Fixed part.Word word = true
-passes check.Fixed (part.Bytes least most) word = true
-passes check.Name (part.Fixed keyword) word = true
-passes check.Name part.Name word = is_name word
-passes check.Name (part.Number low high) word = true
-passes check.Name part.Word word = true
-passes check.Name (part.Bytes least most) word = true
-passes check.Number (part.Fixed keyword) word = true
-passes check.Number part.Name word = true
-passes check.Number (part.Number low high) word = is_in_range low high word
-passes check.Number part.Word word = is_hex_word word
-passes check.Number (part.Bytes least most) word = has_bytes least most word
+passes check.Fixed part word = is_fixed part word
+passes check.Name part word = is_named part word
+passes check.Number part word = is_numbered part word
 
 -- each word passes the check against what stands in its place
 abbrev pub all_pass : Check → List Part → List (List ℕ) → Bool
 all_pass check [] words = true
 all_pass check (part ∷ parts) [] = true
 all_pass check (part ∷ parts) (word ∷ words) = passes check part word && all_pass check parts words
+
+-- the last part of a shape, which takes all words to the line's end where it is step words or a text
+abbrev pub last_part : List Part → Part
+last_part shape = slice_index_or shape (length shape - 1) part.Name
+
+abbrev pub is_tail : Part → Bool
+is_tail (part.Fixed keyword) = false
+is_tail (part.Either one other) = false
+is_tail part.Name = false
+is_tail (part.Number low high) = false
+is_tail part.Word = false
+is_tail (part.Bytes least most) = false
+is_tail part.Moves = true
+is_tail part.Text = true
+
+-- a shape has so many words
+abbrev pub has_count : List Part → ℕ → Bool
+has_count shape count = if is_tail (last_part shape) then nat_le (length shape) count else length shape == count
+
+-- each word passes the check, the words past the shape's end against its last part
+abbrev pub whole_passes : Check → List Part → List (List ℕ) → Bool
+whole_passes check shape words = all_pass check shape words && list_all (passes check (last_part shape)) (drop (length shape) words)

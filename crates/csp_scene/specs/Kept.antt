@@ -1,14 +1,26 @@
 -- What holds of a scene in the making, and of words that fit a line form.
-use Rattle.std.specs.Prelude.{ℕ, ◌≡◌, ◌≤◌, ◌<◌, ◌⊎◌, List, [], ◌∷◌, ◌++◌, length, IsTrue, Result, Ok, Err, IfSome}
-use Rattle.std.specs.List.{AllByRecursion}
-use Rattle.csp_scene.specs.Scene.{PlainApp, PlainNode}
-use Rattle.csp_scene.specs.Ranges.{IsApp, IsNode}
-use Rattle.csp_scene.specs.Table.{fixed_of, shapes_of}
+use Rattle.std.specs.Prelude.{ℕ, ◌+◌, ◌≡◌, ◌≢◌, ◌≤◌, ◌<◌, ◌^◌, ◌⊎◌, ⊤, Bool, false, not, ◌&&◌, ◌||◌, ◌==◌, nat_lt, List, [], ◌∷◌, ◌++◌, length, slice_index_or, IsTrue, Result, Ok, Err, IfSome, if◌then◌else◌}
+use Rattle.std.specs.List.{All, AllByRecursion, list_all}
+use Rattle.std.specs.Str.{bytes_eq}
+use Rattle.csp_route.specs.Routes.{IsWithin}
+use Rattle.csp_text.specs.Names.{is_name}
+use Rattle.csp_scene.specs.Scene.{PlainNode, PlainLink, PlainScene}
+use Rattle.csp_scene.specs.Links.{links_at, node_at, fault_count}
+use Rattle.csp_scene.specs.Ranges.{IsNode, IsPlanned, IsSchedule}
+use Rattle.csp_scene.specs.Table.{keyword_text, fixed_of, optional_of, shapes_of}
 use Rattle.csp_scene.specs.Checks.{all_pass}
-use Rattle.csp_scene.specs.Draft.{PlainDraft, node_at}
-use Rattle.csp_scene.specs.declared.limits.TheConstants.{MAX_UNTIL, MAX_NODES, MAX_APPS}
+use Rattle.csp_scene.specs.Arguments.{keyword_place}
+use Rattle.csp_scene.specs.Rows.{PlainRow}
+use Rattle.csp_scene.specs.Judge.{Refusal, is_in_app, scene_from}
+use Rattle.csp_scene.specs.Draft.{PlainDraft}
+use Rattle.csp_scene.specs.declared.limits.TheConstants.{MAX_UNTIL, MAX_NODES, MAX_LINKS, MAX_FAULTS}
+use Rattle.csp_log.specs.declared.places.End.{End}
 use Rattle.csp_scene.specs.declared.table.Form.{Form}
+use Rattle.csp_scene.specs.declared.table.Keyword.{Keyword}
 use Rattle.csp_scene.specs.declared.table.Part.{Part}
+use Rattle.csp_scene.specs.declared.table.Part.TheVariants as part
+use Rattle.csp_scene.specs.declared.table.Group.{Group}
+use Rattle.csp_scene.specs.declared.table.Group.TheVariants as group
 use Rattle.csp_scene.specs.declared.checks.Check.TheVariants as check
 use Rattle.csp_scene.specs.declared.refusal.SceneKind.{SceneKind}
 use Rattle.csp_scene.specs.declared.refusal.SceneError.{SceneError}
@@ -16,18 +28,86 @@ use Rattle.csp_scene.specs.declared.refusal.SceneError.TheVariants as error
 use Rattle.csp_scene.specs.declared.draft.LineError.{LineError}
 use Rattle.csp_scene.specs.declared.draft.LineError.TheVariants.{Kind, NoMemory}
 
--- the current application is of a node that has room for it
-pub record IsOpen (nodes : List PlainNode) (current : ℕ × PlainApp) : Type 0 where
-  pub app : IsApp current.1
-  pub node : current.0 < length nodes
-  pub room : length (node_at nodes current.0).apps < MAX_APPS
+-- an end of a link stands at a node, on the interface after those of the earlier links
+pub record IsEndAfter (nodes : ℕ) (earlier : List PlainLink) (end : End) : Type 0 where
+  pub node : end.node < nodes
+  pub iface : end.iface ≡ length (links_at end.node earlier)
+
+-- a link has a name, two ends at two nodes, and faults in their ranges
+pub record IsLinkAfter (nodes : ℕ) (earlier : List PlainLink) (link : PlainLink) : Type 0 where
+  pub name : IsTrue (is_name link.name)
+  pub first : End
+  pub second : End
+  pub two : link.ends ≡ first ∷ second ∷ []
+  pub apart : first.node ≢ second.node
+  pub one_end : IsEndAfter nodes earlier first
+  pub other_end : IsEndAfter nodes earlier second
+  pub plan : All IsPlanned link.plan
+
+-- links that stand after earlier ones
+abbrev pub AreLinksAfter : ℕ → List PlainLink → List PlainLink → Type 0
+AreLinksAfter nodes earlier [] = ⊤
+AreLinksAfter nodes earlier (link ∷ links) = IsLinkAfter nodes earlier link × AreLinksAfter nodes (earlier ++ link ∷ []) links
+
+-- each row of each node leads to an interface that it has
+pub record AreRouted (nodes : List PlainNode) (links : List PlainLink) : Type 0 where
+  pub each : (place : ℕ) → IsWithin (length (links_at place links)) (node_at nodes place).routes
+
+-- the node of the last `app` line has the application
+pub record IsHost (nodes : List PlainNode) (place : ℕ) : Type 0 where
+  pub node : place < length nodes
+  pub app : 1 ≤ length (node_at nodes place).apps
 
 -- the numbers of a scene in the making are in their ranges
 pub record IsDraft (d : PlainDraft) : Type 0 where
   pub until : IfSome d.until (λ until. (1 ≤ until) × (until ≤ MAX_UNTIL))
+  pub schedule : IfSome d.schedule (IsSchedule d.nodes d.links)
   pub nodes : AllByRecursion IsNode d.nodes
   pub few : length d.nodes ≤ MAX_NODES
-  pub current : IfSome d.current (IsOpen d.nodes)
+  pub links : AreLinksAfter (length d.nodes) [] d.links
+  pub few_links : length d.links ≤ MAX_LINKS
+  pub faults : fault_count d.links ≤ MAX_FAULTS
+  pub routes : AreRouted d.nodes d.links
+  pub host : IfSome d.host (IsHost d.nodes)
+
+-- the part in a place of what stands in each line of a form
+abbrev pub part_at : Form → ℕ → Part
+part_at form place = slice_index_or (fixed_of form) place part.Text
+
+-- it is a name, or a number of 32 bits; a number in its range
+abbrev pub IsNamePart : Part → Type 0
+IsNamePart part.Name = ⊤
+IsNamePart _ = ⊥
+
+abbrev pub IsNumberPart : Part → Type 0
+IsNumberPart (part.Number low high) = high < 2 ^ 32
+IsNumberPart _ = ⊥
+
+abbrev pub IsInPart : Part → ℕ → Type 0
+IsInPart (part.Number low high) number = (low ≤ number) × (number ≤ high)
+IsInPart _ number = ⊤
+
+-- the range of the number that follows an optional word
+abbrev pub range_in : Keyword → List Group → ℕ × ℕ
+range_in keyword [] = (0, 0)
+range_in keyword (group.Flag other ∷ groups) = range_in keyword groups
+range_in keyword (group.Setting other low high ∷ groups) = if bytes_eq (keyword_text other) (keyword_text keyword) then (low, high) else range_in keyword groups
+
+abbrev pub range_of : Form → Keyword → ℕ × ℕ
+range_of form keyword = range_in keyword (optional_of form)
+
+-- a number of 32 bits in this range
+abbrev pub is_number_part : ℕ × ℕ → Part → Bool
+is_number_part range (part.Number low high) = low == range.0 && high == range.1 && nat_lt high (2 ^ 32)
+is_number_part range _ = false
+
+-- where a shape has the optional word, that number stands after it
+abbrev pub is_followed : Keyword → ℕ × ℕ → List Part → Bool
+is_followed keyword range shape =
+    not (nat_lt (keyword_place keyword shape) (length shape)) || (nat_lt (keyword_place keyword shape + 1) (length shape) && is_number_part range (slice_index_or shape (keyword_place keyword shape + 1) part.Text))
+
+abbrev pub has_setting : Form → Keyword → Bool
+has_setting form keyword = list_all (is_followed keyword (range_of form keyword)) (shapes_of form)
 
 -- the words after the first fit what a form has there in each of its lines
 pub record Fits (form : Form) (args : List (List ℕ)) : Type 0 where
@@ -45,17 +125,24 @@ pub record IsShapeOf (form : Form) (shape : List Part) : Type 0 where
   pub fixed : (more : List Part) × (shape ≡ fixed_of form ++ more)
   pub among : IsOneOf (shapes_of form) shape
 
--- the words after the first are as many as a shape of the form has places, and its numbers fit
+-- the words after the first are at least as many as a shape of the form has places, and its numbers fit
 pub record FitsShape (form : Form) (shape : List Part) (args : List (List ℕ)) : Type 0 where
   pub among : IsOneOf (shapes_of form) shape
-  pub count : length shape ≡ length args
+  pub count : length shape ≤ length args
   pub numbers : IsTrue (all_pass check.Number shape args)
 
 -- a call answered what a definition says: the draft that it left, or the kind; want of memory is free
-abbrev pub Judged : Result (Unit {0}) LineError → PlainDraft → Result PlainDraft SceneKind → Type 0
+abbrev pub Judged : {A : Type 0} → Result A LineError → PlainDraft → Result PlainDraft SceneKind → Type 0
 Judged (Ok done) d told = told ≡ Ok d
 Judged (Err (Kind kind)) d told = told ≡ Err kind
 Judged (Err NoMemory) d told = Unit {0}
+
+-- after some lines a draft stands, the next line has this number, a step may stand there or not, and with the lines left the text gives what it is told to
+pub record IsRead (rows : List PlainRow) (number : ℕ) (in_app : Bool) (d : PlainDraft) (left : List (List ℕ)) (told : Result PlainScene Refusal) : Type 0 where
+  pub earlier : List (List ℕ)
+  pub counted : number ≡ length earlier + 1
+  pub stands : in_app ≡ is_in_app rows earlier
+  pub gives : scene_from rows earlier d left ≡ told
 
 -- the error of a text whose line of this number has this one
 abbrev pub error_at : LineError → ℕ → SceneError

@@ -1,13 +1,24 @@
 -- The ranges of a scene's numbers.
-use Rattle.std.specs.Prelude.{ℕ, ◌≤◌, ◌<◌, ◌^◌, ⊤, length, IsTrue, IfSome}
-use Rattle.std.specs.List.{AllByRecursion}
+use Rattle.std.specs.Prelude.{ℕ, ◌≡◌, ◌≢◌, ◌≤◌, ◌<◌, ◌^◌, ⊤, List, [], ◌∷◌, length, Some, None, slice_get, IsTrue, IfSome}
+use Rattle.std.specs.List.{All, AllByRecursion}
+use Rattle.std.specs.FinMap as finite
 use Rattle.csp_app.specs.declared.step.Step.{Step}
 use Rattle.csp_app.specs.declared.step.Step.TheVariants as step
 use Rattle.csp_base.specs.declared.limits.TheConstants.{MAX_BUFFERS, MAX_PAYLOAD}
+use Rattle.csp_link.specs.Fates.{IsFault}
+use Rattle.csp_link.specs.declared.fault.Fault.{Fault}
+use Rattle.csp_link.specs.declared.fault.FaultKind.{FaultKind}
+use Rattle.csp_link.specs.declared.fault.FaultKind.TheVariants as fault
+use Rattle.csp_link.specs.declared.fault.TheConstants.{MAX_REPEATS}
 use Rattle.csp_log.specs.declared.places.TheConstants.{SLOTS}
+use Rattle.csp_route.specs.Routes.{IsWithin}
 use Rattle.csp_text.specs.Names.{is_name}
-use Rattle.csp_scene.specs.declared.limits.TheConstants.{MAX_UNTIL, MAX_NODES, MAX_APPS, MAX_STEPS, MIN_BUFFERS, MAX_SEED, MIN_INBOX, MAX_INBOX, MAX_COUNT, MAX_ROUNDS}
-use Rattle.csp_scene.specs.Scene.{PlainApp, PlainNode, PlainScene}
+use Rattle.csp_scene.specs.declared.limits.TheConstants.{MAX_UNTIL, MAX_ADDR, MAX_NODES, MAX_LINKS, BRIDGE_LINKS, MAX_APPS, MAX_STEPS, MIN_BUFFERS, MAX_SEED, MIN_INBOX, MAX_INBOX, MAX_COUNT, MAX_ROUNDS, MAX_FAULTS, LAST_FRAME, MAX_DELAY, MAX_FLIP, MAX_SHUFFLE}
+use Rattle.csp_log.specs.declared.places.End.{End}
+use Rattle.csp_scene.specs.declared.scenario.Move.{Move}
+use Rattle.csp_scene.specs.declared.scenario.Move.TheVariants as move
+use Rattle.csp_scene.specs.Scene.{PlainApp, PlainNode, PlainLink, PlainSchedule, PlainScene, in_rounds, shuffled, stepwise}
+use Rattle.csp_scene.specs.Links.{links_at, node_at, fault_count}
 
 -- so many rounds as a step may wait
 abbrev pub IsWait : ℕ → Type 0
@@ -27,10 +38,16 @@ pub record IsApp (app : PlainApp) : Type 0 where
   pub steps : length app.steps ≤ MAX_STEPS
   pub ranges : AllByRecursion IsStep app.steps
 
--- a node has a name, an address below the broadcast address, buffers, seed and inbox in their ranges, and applications
+-- a bridge has no application and no route
+pub record IsBridge (node : PlainNode) : Type 0 where
+  pub apps : node.apps ≡ []
+  pub routes : node.routes ≡ finite.empty
+
+-- a node has a name, an address below the broadcast address or else it is a bridge; buffers, seed and inbox in their ranges, and applications
 pub record IsNode (node : PlainNode) : Type 0 where
   pub name : IsTrue (is_name node.name)
-  pub addr : node.addr ≤ 30
+  pub addr : IfSome node.addr (λ addr. addr ≤ MAX_ADDR)
+  pub bridge : node.addr ≡ None → IsBridge node
   pub least : MIN_BUFFERS ≤ node.buffers
   pub most : node.buffers ≤ MAX_BUFFERS
   pub seed : node.seed ≤ MAX_SEED
@@ -39,9 +56,68 @@ pub record IsNode (node : PlainNode) : Type 0 where
   pub apps : AllByRecursion IsApp node.apps
   pub few : length node.apps ≤ MAX_APPS
 
--- a scene has at least one round and at most `MAX_UNTIL`, and nodes
+-- what a fault does to a frame: some copies, some rounds of delay, a bit that the longest frame has
+abbrev pub IsHarm : FaultKind → Type 0
+IsHarm fault.Lose = ⊤
+IsHarm (fault.Repeat copies) = (1 ≤ copies) × (copies ≤ MAX_REPEATS)
+IsHarm (fault.Delay rounds) = (1 ≤ rounds) × (rounds ≤ MAX_DELAY)
+IsHarm (fault.Flip bit) = bit ≤ MAX_FLIP
+
+-- a fault is of one of a link's two directions and of a frame, counted from 1
+pub record IsPlanned (planned : Fault) : Type 0 where
+  pub fault : IsFault planned
+  pub dir : planned.dir < 2
+  pub first : 1 ≤ planned.frame
+  pub last : planned.frame ≤ LAST_FRAME
+  pub harm : IsHarm planned.kind
+
+-- a link ends at an interface: the one of its node whose number is that of the link among the node's
+pub record IsEnd (nodes : List PlainNode) (links : List PlainLink) (link : PlainLink) (end : End) : Type 0 where
+  pub node : end.node < length nodes
+  pub iface : slice_get (links_at end.node links) end.iface ≡ Some link
+
+-- a link has two ends, at two nodes
+pub record AreEnds (nodes : List PlainNode) (links : List PlainLink) (link : PlainLink) : Type 0 where
+  pub first : End
+  pub second : End
+  pub two : link.ends ≡ first ∷ second ∷ []
+  pub apart : first.node ≢ second.node
+  pub one_end : IsEnd nodes links link first
+  pub other_end : IsEnd nodes links link second
+
+-- a link has a name, two ends, and faults in their ranges
+pub record IsLink (nodes : List PlainNode) (links : List PlainLink) (link : PlainLink) : Type 0 where
+  pub name : IsTrue (is_name link.name)
+  pub ends : AreEnds nodes links link
+  pub plan : All IsPlanned link.plan
+
+-- a move is that of a party that is there: a node's router or a bridge, an interface, an application, a link; or the end of a round
+abbrev pub IsMove : List PlainNode → List PlainLink → Move → Type 0
+IsMove nodes links (move.Router node) = node < length nodes
+IsMove nodes links (move.Iface node iface) = (node < length nodes) × (iface < length (links_at node links))
+IsMove nodes links (move.App node app) = (node < length nodes) × (app < length (node_at nodes node).apps)
+IsMove nodes links (move.Link link) = link < length links
+IsMove nodes links move.Tick = ⊤
+
+-- the numbers of a schedule: a seed of 32 bits, or moves of parties that are there
+abbrev pub IsSchedule : List PlainNode → List PlainLink → PlainSchedule → Type 0
+IsSchedule nodes links in_rounds = ⊤
+IsSchedule nodes links (shuffled seed) = seed ≤ MAX_SHUFFLE
+IsSchedule nodes links (stepwise moves) = AllByRecursion (IsMove nodes links) moves
+
+-- the rows of a node's table lead to its interfaces, and a bridge has two links
+pub record IsJoined (links : List PlainLink) (place : ℕ) (node : PlainNode) : Type 0 where
+  pub routes : IsWithin (length (links_at place links)) node.routes
+  pub bridge : node.addr ≡ None → length (links_at place links) ≡ BRIDGE_LINKS
+
+-- a scene has at least one round and at most `MAX_UNTIL`, and nodes, links and faults, no more of each than a scene may have
 pub record IsScene (scene : PlainScene) : Type 0 where
   pub least : 1 ≤ scene.until
   pub most : scene.until ≤ MAX_UNTIL
   pub nodes : AllByRecursion IsNode scene.nodes
   pub few : length scene.nodes ≤ MAX_NODES
+  pub links : AllByRecursion (IsLink scene.nodes scene.links) scene.links
+  pub few_links : length scene.links ≤ MAX_LINKS
+  pub faults : fault_count scene.links ≤ MAX_FAULTS
+  pub joined : (place : ℕ) (node : PlainNode) → slice_get scene.nodes place ≡ Some node → IsJoined scene.links place node
+  pub schedule : IsSchedule scene.nodes scene.links scene.schedule

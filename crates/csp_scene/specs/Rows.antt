@@ -1,9 +1,9 @@
 -- All shapes that a line may have, and which of them a line fits.
-use Rattle.std.specs.Prelude.{ℕ, Bool, ◌&&◌, ◌==◌, List, length, map}
+use Rattle.std.specs.Prelude.{ℕ, Bool, ◌&&◌, List, length, map}
 use Rattle.std.specs.List.{flat_map}
 use Rattle.std.specs.Str.{bytes_eq}
 use Rattle.csp_scene.specs.Table.{first_word, is_step, all_forms, shapes_of}
-use Rattle.csp_scene.specs.Checks.{all_pass}
+use Rattle.csp_scene.specs.Checks.{has_count, whole_passes}
 use Rattle.csp_scene.specs.declared.table.Form.{Form}
 use Rattle.csp_scene.specs.declared.table.Part.{Part}
 use Rattle.csp_scene.specs.declared.checks.Check.TheVariants as check
@@ -34,8 +34,8 @@ begins_step first row = begins first row && is_step row.form
 
 -- such a row, with so many further words
 abbrev pub begins_count : List ℕ → ℕ → PlainRow → Bool
-begins_count first count row = begins first row && length row.shape == count
+begins_count first count row = begins first row && has_count row.shape count
 
 -- such a row, with the line's fixed words in their places
 abbrev pub has_choice : List ℕ → List (List ℕ) → PlainRow → Bool
-has_choice first args row = begins_count first (length args) row && all_pass check.Fixed row.shape args
+has_choice first args row = begins_count first (length args) row && whole_passes check.Fixed row.shape args

@@ -1,70 +1,127 @@
 -- The line forms of the scenario language, a row each.
 use Rattle.std.specs.Prelude.{ℕ, Bool, true, false, List, [], ◌∷◌, ◌++◌, codes}
-use Rattle.csp_scene.specs.declared.limits.TheConstants.{MAX_UNTIL, MAX_ADDR, MIN_BUFFERS, MAX_SEED, MIN_INBOX, MAX_INBOX, MAX_SLOT, MAX_COUNT, MAX_ROUNDS, MAX_RAW}
+use Rattle.csp_scene.specs.declared.limits.TheConstants.{MAX_UNTIL, MAX_SHUFFLE, MAX_ADDR, MIN_BUFFERS, MAX_SEED, MIN_INBOX, MAX_INBOX, LAST_FRAME, MAX_COPIES, MAX_DELAY, MAX_FLIP, MAX_SLOT, MAX_COUNT, MAX_ROUNDS, MAX_RAW}
 use Rattle.csp_base.specs.declared.limits.TheConstants.{MAX_BUFFERS}
 use Rattle.csp_scene.specs.declared.table.Form.{Form}
-use Rattle.csp_scene.specs.declared.table.Form.TheVariants.{Until, Node, App, Take, Give, Raw, Recv, Wait}
+use Rattle.csp_scene.specs.declared.table.Form.TheVariants as form
 use Rattle.csp_scene.specs.declared.table.Keyword.{Keyword}
-use Rattle.csp_scene.specs.declared.table.Keyword.TheVariants.{Buffers, Seed, Inbox, For}
+use Rattle.csp_scene.specs.declared.table.Keyword.TheVariants as keyword
 use Rattle.csp_scene.specs.declared.table.Part.{Part}
-use Rattle.csp_scene.specs.declared.table.Part.TheVariants.{Fixed, Name, Number, Word, Bytes}
+use Rattle.csp_scene.specs.declared.table.Part.TheVariants.{Fixed, Either, Name, Number, Word, Bytes, Moves, Text}
 use Rattle.csp_scene.specs.declared.table.Group.{Group}
 use Rattle.csp_scene.specs.declared.table.Group.TheVariants.{Flag, Setting}
 
 -- the fixed words that stand after the first
 abbrev pub keyword_text : Keyword → List ℕ
-keyword_text Buffers = codes "buffers"
-keyword_text Seed = codes "seed"
-keyword_text Inbox = codes "inbox"
-keyword_text For = codes "for"
+keyword_text keyword.Buffers = codes "buffers"
+keyword_text keyword.Seed = codes "seed"
+keyword_text keyword.Inbox = codes "inbox"
+keyword_text keyword.For = codes "for"
+keyword_text keyword.Rounds = codes "rounds"
+keyword_text keyword.Shuffle = codes "shuffle"
+keyword_text keyword.Steps = codes "steps"
+keyword_text keyword.Kiss = codes "kiss"
+keyword_text keyword.Can = codes "can"
+keyword_text keyword.Ab = codes "ab"
+keyword_text keyword.Ba = codes "ba"
+keyword_text keyword.Lose = codes "lose"
+keyword_text keyword.Repeat = codes "repeat"
+keyword_text keyword.Delay = codes "delay"
+keyword_text keyword.Flip = codes "flip"
 
 -- the first word of a form's lines
 abbrev pub first_word : Form → List ℕ
-first_word Until = codes "until"
-first_word Node = codes "node"
-first_word App = codes "app"
-first_word Take = codes "take"
-first_word Give = codes "give"
-first_word Raw = codes "raw"
-first_word Recv = codes "recv"
-first_word Wait = codes "wait"
+first_word form.Until = codes "until"
+first_word form.Rounds = codes "schedule"
+first_word form.Shuffle = codes "schedule"
+first_word form.Moves = codes "schedule"
+first_word form.Node = codes "node"
+first_word form.Bridge = codes "bridge"
+first_word form.Link = codes "link"
+first_word form.Route = codes "route"
+first_word form.Lose = codes "fault"
+first_word form.Repeat = codes "fault"
+first_word form.Delay = codes "fault"
+first_word form.Flip = codes "fault"
+first_word form.App = codes "app"
+first_word form.Take = codes "take"
+first_word form.Give = codes "give"
+first_word form.Raw = codes "raw"
+first_word form.Recv = codes "recv"
+first_word form.Wait = codes "wait"
 
--- what stands after it in each of the form's lines
+-- a fault's line: a link, a direction, the number of a frame, and what happens to it
+abbrev pub fault_of : Keyword → List Part → List Part
+fault_of what more = Name ∷ Either keyword.Ab keyword.Ba ∷ Number 1 LAST_FRAME ∷ Fixed what ∷ more
+
+-- what stands after the first word in each of the form's lines
 abbrev pub fixed_of : Form → List Part
-fixed_of Until = Number 1 MAX_UNTIL ∷ []
-fixed_of Node = Name ∷ Number 0 MAX_ADDR ∷ Fixed Buffers ∷ Number MIN_BUFFERS MAX_BUFFERS ∷ []
-fixed_of App = Name ∷ Name ∷ []
-fixed_of Take = []
-fixed_of Give = []
-fixed_of Raw = Word ∷ Bytes 0 MAX_RAW ∷ []
-fixed_of Recv = Number 0 MAX_SLOT ∷ Number 1 MAX_COUNT ∷ []
-fixed_of Wait = Number 1 MAX_ROUNDS ∷ []
+fixed_of form.Until = Number 1 MAX_UNTIL ∷ []
+fixed_of form.Rounds = Fixed keyword.Rounds ∷ []
+fixed_of form.Shuffle = Fixed keyword.Shuffle ∷ Number 0 MAX_SHUFFLE ∷ []
+fixed_of form.Moves = Fixed keyword.Steps ∷ Moves ∷ []
+fixed_of form.Node = Name ∷ Number 0 MAX_ADDR ∷ Fixed keyword.Buffers ∷ Number MIN_BUFFERS MAX_BUFFERS ∷ []
+fixed_of form.Bridge = Name ∷ Fixed keyword.Buffers ∷ Number MIN_BUFFERS MAX_BUFFERS ∷ []
+fixed_of form.Link = Name ∷ Either keyword.Kiss keyword.Can ∷ Name ∷ Name ∷ []
+fixed_of form.Route = Name ∷ Text ∷ []
+fixed_of form.Lose = fault_of keyword.Lose []
+fixed_of form.Repeat = fault_of keyword.Repeat (Number 1 MAX_COPIES ∷ [])
+fixed_of form.Delay = fault_of keyword.Delay (Number 1 MAX_DELAY ∷ [])
+fixed_of form.Flip = fault_of keyword.Flip (Number 0 MAX_FLIP ∷ [])
+fixed_of form.App = Name ∷ Name ∷ []
+fixed_of form.Take = []
+fixed_of form.Give = []
+fixed_of form.Raw = Word ∷ Bytes 0 MAX_RAW ∷ []
+fixed_of form.Recv = Number 0 MAX_SLOT ∷ Number 1 MAX_COUNT ∷ []
+fixed_of form.Wait = Number 1 MAX_ROUNDS ∷ []
 
 -- what may follow, in this order, each there or not
 abbrev pub optional_of : Form → List Group
-optional_of Until = []
-optional_of Node = Setting Seed 0 MAX_SEED ∷ Setting Inbox MIN_INBOX MAX_INBOX ∷ []
-optional_of App = []
-optional_of Take = []
-optional_of Give = []
-optional_of Raw = []
-optional_of Recv = Setting For 1 MAX_ROUNDS ∷ []
-optional_of Wait = []
+optional_of form.Until = []
+optional_of form.Rounds = []
+optional_of form.Shuffle = []
+optional_of form.Moves = []
+optional_of form.Node = Setting keyword.Seed 0 MAX_SEED ∷ Setting keyword.Inbox MIN_INBOX MAX_INBOX ∷ []
+optional_of form.Bridge = Setting keyword.Inbox MIN_INBOX MAX_INBOX ∷ []
+optional_of form.Link = []
+optional_of form.Route = []
+optional_of form.Lose = []
+optional_of form.Repeat = []
+optional_of form.Delay = []
+optional_of form.Flip = []
+optional_of form.App = []
+optional_of form.Take = []
+optional_of form.Give = []
+optional_of form.Raw = []
+optional_of form.Recv = Setting keyword.For 1 MAX_ROUNDS ∷ []
+optional_of form.Wait = []
 
 -- whether the form's lines are steps of the application that stands before them
 abbrev pub is_step : Form → Bool
-is_step Until = false
-is_step Node = false
-is_step App = false
-is_step Take = true
-is_step Give = true
-is_step Raw = true
-is_step Recv = true
-is_step Wait = true
+is_step form.Until = false
+is_step form.Rounds = false
+is_step form.Shuffle = false
+is_step form.Moves = false
+is_step form.Node = false
+is_step form.Bridge = false
+is_step form.Link = false
+is_step form.Route = false
+is_step form.Lose = false
+is_step form.Repeat = false
+is_step form.Delay = false
+is_step form.Flip = false
+is_step form.App = false
+is_step form.Take = true
+is_step form.Give = true
+is_step form.Raw = true
+is_step form.Recv = true
+is_step form.Wait = true
 
 -- all forms
 abbrev pub all_forms : List Form
-all_forms = Until ∷ Node ∷ App ∷ Take ∷ Give ∷ Raw ∷ Recv ∷ Wait ∷ []
+all_forms =
+    form.Until ∷ form.Rounds ∷ form.Shuffle ∷ form.Moves ∷ form.Node ∷ form.Bridge ∷ form.Link ∷ form.Route
+    ∷ form.Lose ∷ form.Repeat ∷ form.Delay ∷ form.Flip ∷ form.App ∷ form.Take ∷ form.Give ∷ form.Raw ∷ form.Recv ∷ form.Wait ∷ []
 
 -- the words of an optional group
 abbrev pub group_of : Group → List Part

@@ -1,15 +1,18 @@
 //! The words of a line after the first, each by its place.
 
-ghost use Rattle.std.specs.Prelude.{◌≡◌, ◌<◌, ◌≤◌, ◌^◌, ◌+◌, map, IsTrue, IfSome, length, nat_lt};
+ghost use Rattle.std.specs.Prelude.{◌≡◌, ◌<◌, ◌≤◌, ◌^◌, ◌+◌, map, IsTrue, IfSome, IfOk, length, drop, nat_lt};
+ghost use Rattle.std.specs.List.{flat_map};
 ghost use Rattle.csp_text.specs.Names.{is_name};
 ghost use Rattle.csp_text.specs.Numbers.{is_decimal};
 ghost use Rattle.csp_text.specs.Hexadecimal.{is_bytes, bytes_of};
-ghost use Rattle.csp_scene.specs.Arguments.{word_at, number_at, is_keyword, keyword_place, setting};
+ghost use Rattle.csp_scene.specs.Arguments.{word_at, number_at, is_keyword, keyword_place, setting, spaced, text_from};
+ghost use Rattle.csp_scene.specs.Kept.{Fits, FitsShape, part_at, IsNamePart, IsNumberPart, IsInPart, has_setting, range_of};
 
-use crate::table::{Keyword, Part};
+use crate::table::{Form, Keyword, Part};
 use arrayvec::ArrayVec;
 use csp_base::{MAX_PAYLOAD, Name};
 use csp_text::{byte_digits, hex_bytes, name, number};
+use std::alloc::{AllocError, Global};
 
 /// The word in a place, or an empty one where there are fewer words.
 pub(crate) fn word_at<'a>(args: &[&'a [u8]], place: usize) -> &'a [u8]
@@ -21,10 +24,12 @@ pub(crate) fn word_at<'a>(args: &[&'a [u8]], place: usize) -> &'a [u8]
     }
 }
 
-/// The name in a place.
-pub(crate) fn name_at(args: &[&[u8]], place: usize) -> Name
-    requires { IsTrue (is_name (word_at (map (λ word. word.now) args.now) place)) }
-    ensures { result.bytes ≡ word_at (map (λ word. word.now) args.now) place }
+/// The name in a place of a form's lines.
+pub(crate) fn name_at(form: Form, args: &[&[u8]], place: usize) -> Name
+    requires fits { Fits form (map (λ word. word.now) args.now) }
+    requires name { IsNamePart (part_at form place) }
+    ensures value { result.bytes ≡ word_at (map (λ word. word.now) args.now) place }
+    ensures form { IsTrue (is_name result.bytes) }
 {
     match name(word_at(args, place)) {
         Some(name) => name,
@@ -32,11 +37,12 @@ pub(crate) fn name_at(args: &[&[u8]], place: usize) -> Name
     }
 }
 
-/// The number in a place.
-pub(crate) fn number_at(args: &[&[u8]], place: usize) -> u32
-    requires decimal { IsTrue (is_decimal (word_at (map (λ word. word.now) args.now) place)) }
-    requires small { number_at (map (λ word. word.now) args.now) place < 2 ^ 32 }
-    ensures { result ≡ number_at (map (λ word. word.now) args.now) place }
+/// The number in a place of a form's lines.
+pub(crate) fn number_at(form: Form, args: &[&[u8]], place: usize) -> u32
+    requires fits { Fits form (map (λ word. word.now) args.now) }
+    requires number { IsNumberPart (part_at form place) }
+    ensures value { result ≡ number_at (map (λ word. word.now) args.now) place }
+    ensures range { IsInPart (part_at form place) result }
 {
     match number(word_at(args, place)) {
         Some(number) => number as u32,
@@ -73,15 +79,32 @@ fn keyword_place(keyword: Keyword, shape: &[Part]) -> usize
         .unwrap_or(shape.len())
 }
 
-/// The number that follows a fixed word, where the line has that word.
-pub(crate) fn setting(keyword: Keyword, shape: &[Part], args: &[&[u8]]) -> Option<u32>
-    requires fits { IfSome (setting keyword shape.now (map (λ word. word.now) args.now)) (λ number. number < 2 ^ 32) }
-    requires decimal { keyword_place keyword shape.now < length shape.now → IsTrue (is_decimal (word_at (map (λ word. word.now) args.now) (keyword_place keyword shape.now + 1))) }
-    ensures { result ≡ setting keyword shape.now (map (λ word. word.now) args.now) }
+/// The number that follows an optional word of a form, where the line has that word.
+pub(crate) fn setting(form: Form, keyword: Keyword, shape: &[Part], args: &[&[u8]]) -> Option<u32>
+    requires fits { FitsShape form shape.now (map (λ word. word.now) args.now) }
+    requires setting { IsTrue (has_setting form keyword) }
+    ensures value { result ≡ setting keyword shape.now (map (λ word. word.now) args.now) }
+    ensures range { IfSome result (λ number. ((range_of form keyword).0 ≤ number) × (number ≤ (range_of form keyword).1)) }
 {
     let place = keyword_place(keyword, shape);
     if place >= shape.len() {
         return None;
     }
-    Some(number_at(args, place + 1))
+    match number(word_at(args, place + 1)) {
+        Some(number) => Some(number as u32),
+        None => unreachable!(),
+    }
+}
+
+/// The text of a line from a place on: its words there, a space before each.
+pub(crate) fn text_from(alloc: Global, args: &[&[u8]], place: usize) -> Result<Vec<u8>, AllocError>
+    requires { place ≤ length args.now }
+    ensures { IfOk result (λ text. text.items ≡ text_from (map (λ word. word.now) args.now) place) }
+{
+    let mut text = Vec::new(alloc);
+    for word in &args[place..] {
+        text.push(b' ')?;
+        text.extend_from_slice(word)?;
+    }
+    Ok(text)
 }

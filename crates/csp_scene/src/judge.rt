@@ -1,16 +1,18 @@
 //! A line judged as a whole against the lines before it.
 
-ghost use Rattle.std.specs.Prelude.{◌≡◌, ◌||◌, not, List, map, Ok, Err, IsTrue, IfOk, IfSome, OnOk, MatchResult, find, length};
+ghost use Rattle.std.specs.Prelude.{◌≡◌, ◌||◌, not, List, map, Ok, Err, IsTrue, IfOk, IfSome, OnOk, if◌then◌else◌, ◌≤◌, MatchResult, find, length};
 ghost use Rattle.std.specs.List.{list_any, list_all};
 ghost use Rattle.std.specs.Option.{option_copied};
 ghost use Rattle.csp_scene.specs.Rows.{begins, begins_step, begins_count, has_choice};
-ghost use Rattle.csp_scene.specs.Judge.{is_printable, fit, row_for, is_comment, judge_words, judge};
+ghost use Rattle.csp_scene.specs.Judge.{is_printable, fit, row_for, is_comment, judge_words, judge, is_passed_over, begins_app};
+ghost use Rattle.csp_text.specs.Cut.{words_of};
 ghost use Rattle.csp_scene.specs.Kept.{IsDraft, Fits, FitsShape, Judged};
 
 use crate::draft::{Draft, LineError};
 use crate::limits::MAX_LINE;
 use crate::refusal::SceneKind;
 use crate::rows::Row;
+use crate::table::Form;
 use csp_text::words;
 use std::alloc::Global;
 
@@ -44,7 +46,7 @@ fn is_count(table: &[Row], first: &[u8], count: usize) -> bool
 /// The first choice with this number of words that has its fixed words in their places.
 fn choice<'a>(table: &'a [Row], first: &[u8], args: &[&[u8]]) -> Option<&'a Row>
     ensures first { option_copied result ≡ find (has_choice first.now (map (λ word. word.now) args.now)) table.now }
-    ensures count { IfSome result (λ row. length row.now.shape ≡ length args.now) }
+    ensures count { IfSome result (λ row. length row.now.shape ≤ length args.now) }
 {
     table.iter().find(|row| row.has_choice(first, args))
 }
@@ -89,16 +91,31 @@ fn is_comment(first: &[u8]) -> bool
     }
 }
 
+/// Whether a step may stand after a line with these words, where `in_app` says that one may stand
+/// before it.
+fn stays_in_app(table: &[Row], in_app: bool, words: &[&[u8]]) -> bool
+    ensures { result ≡ (if is_passed_over table.now (map (λ word. word.now) words.now) then in_app else begins_app (map (λ word. word.now) words.now)) }
+{
+    let Some(first) = words.first() else {
+        return in_app;
+    };
+    if is_comment(first) || is_step(table, first) {
+        return in_app;
+    }
+    *first == Form::App.word()
+}
+
 impl Draft {
     /// Takes a line in, by its words. A line without words and a comment state nothing.
     fn judge_words(
         &mut self,
         alloc: Global,
         table: &[Row],
+        in_app: bool,
         words: &[&[u8]],
     ) -> Result<(), LineError>
         requires { IsDraft self.old }
-        ensures answer { Judged result self.new (judge_words table.now self.old (map (λ word. word.now) words.now)) }
+        ensures answer { Judged result self.new (judge_words table.now in_app self.old (map (λ word. word.now) words.now)) }
         ensures kept { OnOk result (IsDraft self.new) }
     {
         let Some((first, args)) = words.split_first() else {
@@ -107,21 +124,24 @@ impl Draft {
         if is_comment(first) {
             return Ok(());
         }
-        match row_for(table, self.is_open(), first, args) {
+        match row_for(table, in_app, first, args) {
             Ok(row) => self.state(alloc, row.form(), row.shape(), args),
             Err(kind) => Err(LineError::Kind(kind)),
         }
     }
 
-    /// Takes a line in, or says the first kind that fits it.
+    /// Takes a line in, or says the first kind that fits it. `in_app` says that a step may stand
+    /// here; the answer, that one may stand after the line.
     pub(crate) fn judge(
         &mut self,
         alloc: Global,
         table: &[Row],
+        in_app: bool,
         line: &[u8],
-    ) -> Result<(), LineError>
+    ) -> Result<bool, LineError>
         requires { IsDraft self.old }
-        ensures answer { Judged result self.new (judge table.now self.old line.now) }
+        ensures answer { Judged result self.new (judge table.now in_app self.old line.now) }
+        ensures stays { IfOk result (λ stays. stays ≡ (if is_passed_over table.now (words_of line.now) then in_app else begins_app (words_of line.now))) }
         ensures kept { OnOk result (IsDraft self.new) }
     {
         if !is_printable(line) {
@@ -131,7 +151,10 @@ impl Draft {
             return Err(LineError::Kind(SceneKind::Long));
         }
         match words(alloc, line) {
-            Ok(words) => self.judge_words(alloc, table, &words),
+            Ok(words) => {
+                self.judge_words(alloc, table, in_app, &words)?;
+                Ok(stays_in_app(table, in_app, &words))
+            }
             Err(_) => Err(LineError::NoMemory),
         }
     }

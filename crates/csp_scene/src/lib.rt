@@ -7,23 +7,33 @@
 mod arguments;
 mod checks;
 mod draft;
+mod faults;
+mod joining;
 mod judge;
 mod limits;
+mod links;
+mod naming;
+mod nodes;
 mod reading;
 mod refusal;
 mod rows;
 mod scenario;
+mod schedule;
+mod step_words;
 mod steps;
 mod table;
 
 pub use csp_app::Step;
+pub use csp_link::{Fault, FaultKind};
+pub use csp_log::{End, LinkKind};
 pub use limits::{
-    DEFAULT_INBOX, DEFAULT_SEED, MAX_ADDR, MAX_APPS, MAX_COUNT, MAX_INBOX, MAX_LINE, MAX_NODES,
-    MAX_RAW, MAX_ROUNDS, MAX_SEED, MAX_SLOT, MAX_STEPS, MAX_UNTIL, MIN_BUFFERS, MIN_INBOX,
+    BRIDGE_LINKS, DEFAULT_INBOX, DEFAULT_SEED, LAST_FRAME, MAX_ADDR, MAX_APPS, MAX_COPIES,
+    MAX_COUNT, MAX_DELAY, MAX_FAULTS, MAX_FLIP, MAX_INBOX, MAX_LINE, MAX_LINKS, MAX_NODES, MAX_RAW,
+    MAX_ROUNDS, MAX_SEED, MAX_SHUFFLE, MAX_SLOT, MAX_STEPS, MAX_UNTIL, MIN_BUFFERS, MIN_INBOX,
 };
 pub use reading::parse;
 pub use refusal::{SceneError, SceneKind};
-pub use scenario::{Scene, SceneApp, SceneNode};
+pub use scenario::{Move, Scene, SceneApp, SceneLink, SceneNode, Schedule};
 
 #[cfg(test)]
 mod tests;

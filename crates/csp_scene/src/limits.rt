@@ -1,6 +1,7 @@
 //! How many of each thing a scenario may have, and which numbers its lines may give.
 
-use csp_base::MAX_PAYLOAD;
+use csp_base::{MAX_FRAME, MAX_PAYLOAD};
+use csp_link::MAX_REPEATS;
 use csp_log::SLOTS;
 
 /// The most bytes that a line has.
@@ -12,8 +13,32 @@ pub const MAX_UNTIL: u32 = 100_000;
 /// The greatest address of a node; the one above it is broadcast.
 pub const MAX_ADDR: u32 = 30;
 
-/// The most nodes of a scene.
-pub const MAX_NODES: usize = 1;
+/// The most nodes of a scene, bridges among them.
+pub const MAX_NODES: usize = 8;
+
+/// The most links of a scene.
+pub const MAX_LINKS: usize = 12;
+
+/// How many links each bridge has.
+pub const BRIDGE_LINKS: usize = 2;
+
+/// The most faults that the plans of all links have together.
+pub const MAX_FAULTS: usize = 10_000;
+
+/// The greatest number of a frame that a fault may name; frames are counted from 1.
+pub const LAST_FRAME: u32 = 4_294_967_295;
+
+/// The most copies of a frame that a fault may add.
+pub const MAX_COPIES: u32 = MAX_REPEATS as u32;
+
+/// The most rounds by which a fault may delay a frame.
+pub const MAX_DELAY: u32 = 100_000;
+
+/// The greatest number of a bit that a fault may change: that of the last bit of the longest frame.
+pub const MAX_FLIP: u32 = MAX_FRAME as u32 * 8 - 1;
+
+/// The greatest seed of a schedule whose turns are drawn.
+pub const MAX_SHUFFLE: u32 = 4_294_967_295;
 
 /// The most applications of a node.
 pub const MAX_APPS: usize = 4;

@@ -1,6 +1,7 @@
 //! A text line by line.
 
-ghost use Rattle.std.specs.Prelude.{◌≡◌, ℕ, IfOk};
+ghost use Rattle.std.specs.Prelude.{◌≡◌, ℕ, ◌≤◌, IfOk, length};
+ghost use Rattle.csp_scene.specs.Scene.{moves_in};
 ghost use Rattle.csp_scene.specs.Ranges.{IsScene};
 ghost use Rattle.csp_scene.specs.Judge.{scene_of};
 ghost use Rattle.csp_scene.specs.Kept.{error_at};
@@ -32,6 +33,7 @@ pub fn parse(alloc: Global, bytes: &[u8]) -> Result<Scene, SceneError>
     ensures scene { IfOk result (λ scene. scene_of bytes.now ≡ Ok scene) }
     ensures refused { (line : ℕ) (kind : SceneKind) → result ≡ Err (SceneError.Refused line kind) → scene_of bytes.now ≡ Err (record { line = line; kind = kind }) }
     ensures ranges { IfOk result IsScene }
+    ensures moves { IfOk result (λ scene. length (moves_in scene.schedule) ≤ length bytes.now) }
 {
     let Ok(table) = all_rows(alloc) else {
         return Err(SceneError::NoMemory);
@@ -41,16 +43,18 @@ pub fn parse(alloc: Global, bytes: &[u8]) -> Result<Scene, SceneError>
     };
     let mut draft = Draft::new(alloc);
     let mut number: u32 = 1;
+    let mut in_app = false;
     for line in lines.iter() {
-        if let Err(error) = draft.judge(alloc, &table, line) {
-            return Err(error.at(number));
+        match draft.judge(alloc, &table, in_app, line) {
+            Ok(stays) => in_app = stays,
+            Err(error) => return Err(error.at(number)),
         }
         if number == u32::MAX {
             return Err(SceneError::NoMemory);
         }
         number += 1;
     }
-    match draft.finish() {
+    match draft.finish(alloc) {
         Ok(scene) => Ok(scene),
         Err(error) => Err(error.at(number)),
     }

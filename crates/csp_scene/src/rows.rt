@@ -1,13 +1,13 @@
 //! All shapes that a line may have.
 
-ghost use Rattle.std.specs.Prelude.{◌≡◌, ◌++◌, ◌==◌, ◌&&◌, List, Some, Ok, Err, IfOk, OnOk, MatchResult, length, map};
+ghost use Rattle.std.specs.Prelude.{◌≡◌, ◌++◌, ◌==◌, ◌&&◌, ◌≤◌, List, Some, Ok, Err, IfOk, OnOk, MatchResult, length, map};
 ghost use Rattle.std.specs.Str.{bytes_eq};
 ghost use Rattle.csp_scene.specs.Table.{first_word, is_step, fixed_of, optional_of, with_options, shapes_of};
 ghost use Rattle.csp_scene.specs.Rows.{PlainRow, row_of, rows_of, all_rows, begins, begins_step, begins_count, has_choice};
 ghost use Rattle.csp_scene.specs.Judge.{fit};
 ghost use Rattle.csp_scene.specs.Kept.{IsOneOf, IsShapeOf, Fits, FitsShape};
 
-use crate::checks::{Check, all_pass};
+use crate::checks::{Check, has_count, whole_passes};
 use crate::refusal::SceneKind;
 use crate::table::{FORMS, Form, Group, Part};
 use std::alloc::{AllocError, Global};
@@ -64,28 +64,28 @@ impl Row {
     pub(crate) fn begins_count(&self, first: &[u8], count: usize) -> bool
         ensures { result ≡ begins_count first.now count self.now }
     {
-        self.begins(first) && self.shape.len() == count
+        self.begins(first) && has_count(&self.shape, count)
     }
 
     /// Whether the line has besides the row's fixed words in their places.
     pub(crate) fn has_choice(&self, first: &[u8], args: &[&[u8]]) -> bool
         ensures { result ≡ has_choice first.now (map (λ word. word.now) args.now) self.now }
     {
-        self.begins_count(first, args.len()) && all_pass(Check::Fixed, &self.shape, args)
+        self.begins_count(first, args.len()) && whole_passes(Check::Fixed, &self.shape, args)
     }
 
     /// Whether the names and then the numbers of a line fit: one whose number of words and fixed
     /// words do.
     pub(crate) fn fit(&self, args: &[&[u8]]) -> Result<(), SceneKind>
-        requires { length self.now.shape ≡ length args.now }
+        requires { length self.now.shape ≤ length args.now }
         ensures value { MatchResult result (λ _. fit (map (λ word. word.now) args.now) (Some self.now) ≡ Ok self.now) (λ kind. fit (map (λ word. word.now) args.now) (Some self.now) ≡ Err kind) }
         ensures fits { OnOk result (Fits self.now.form (map (λ word. word.now) args.now)) }
         ensures shape { OnOk result (FitsShape self.now.form self.now.shape (map (λ word. word.now) args.now)) }
     {
-        if !all_pass(Check::Name, &self.shape, args) {
+        if !whole_passes(Check::Name, &self.shape, args) {
             return Err(SceneKind::Name);
         }
-        if !all_pass(Check::Number, &self.shape, args) {
+        if !whole_passes(Check::Number, &self.shape, args) {
             return Err(SceneKind::Number);
         }
         Ok(())

@@ -1,13 +1,17 @@
 //! A scene: what the lines of a scenario state.
 
+use arrayvec::ArrayVec;
 use csp_app::Step;
 use csp_base::{Addr, Name};
+use csp_link::Fault;
+use csp_log::{End, LINK_ENDS, LinkKind};
+use csp_route::Table;
 use std::marker::Model;
 
 /// An application of a node, with its steps in order.
 #[derive(Debug, Drop)]
 pub struct SceneApp {
-    /// Its name, which no other application of the node has.
+    /// Its name, which no other application of the node has, and no link of the node.
     pub name: Name,
     /// What it does.
     pub steps: Vec<Step>,
@@ -21,27 +25,33 @@ impl Model for SceneApp {
     ghost view = { λ app. record { name = app.name.bytes; steps = app.steps.items } };
 }
 
-/// A node of the network.
+/// A node of the network, or a bridge between two links.
 #[derive(Debug, Drop)]
 pub struct SceneNode {
-    /// Its name, which no other node has.
+    /// Its name, which no other node, bridge or link has.
     pub name: Name,
-    /// Its address, 0 to 30.
-    pub addr: Addr,
+    /// Its address, 0 to 30, which no other node has. A bridge has none.
+    pub addr: Option<Addr>,
     /// How many buffers its pool has, `MIN_BUFFERS` to `MAX_BUFFERS`.
     pub buffers: u16,
     /// From where its connections' sequence numbers start, up to `MAX_SEED`.
     pub seed: u16,
     /// The room of its inbox for each priority, `MIN_INBOX` to `MAX_INBOX`.
     pub inbox: u16,
-    /// Its applications, in the order of their lines.
+    /// Its routing table, whose rows lead to its interfaces. A bridge has no row.
+    pub routes: Table,
+    /// Its applications, in the order of their lines. A bridge has none.
     pub apps: Vec<SceneApp>,
 }
 
 impl Model for SceneNode {
+    ghost use Rattle.std.specs.Coded.{codes};
+    ghost use Rattle.csp_route.specs.Codes.{routes_code};
     ghost use Rattle.csp_scene.specs.Scene.{PlainNode};
 
     ghost Value = { PlainNode };
+
+    ghost coded = { Prim.hlevel (codes, routes_code) };
 
     ghost view = { λ node. record {
       name = node.name.bytes;
@@ -49,8 +59,56 @@ impl Model for SceneNode {
       buffers = node.buffers;
       seed = node.seed;
       inbox = node.inbox;
+      routes = node.routes;
       apps = node.apps.items;
     } };
+}
+
+/// A link between interfaces.
+#[derive(Debug, Drop)]
+pub struct SceneLink {
+    /// Its name, which no node, bridge or other link has.
+    pub name: Name,
+    /// What it carries.
+    pub kind: LinkKind,
+    /// Its two ends, in the order of its line.
+    pub ends: ArrayVec<End, LINK_ENDS>,
+    /// What goes wrong on it, in the order of the lines.
+    pub plan: Vec<Fault>,
+}
+
+impl Model for SceneLink {
+    ghost use Rattle.csp_scene.specs.Scene.{PlainLink};
+
+    ghost Value = { PlainLink };
+
+    ghost view = { λ link. record { name = link.name.bytes; kind = link.kind; ends = link.ends.items; plan = link.plan.items } };
+}
+
+/// One entry of a schedule that is stated step by step.
+#[derive(Clone, Copy, PartialEq, Eq, Debug)]
+pub enum Move {
+    /// A turn of the router of the node in this place, or of the bridge there.
+    Router(u8),
+    /// A turn of an interface: the place of its node, and its number there.
+    Iface(u8, u8),
+    /// A turn of an application: the place of its node, and its number there.
+    App(u8, u8),
+    /// A turn of the link in this place.
+    Link(u8),
+    /// The end of a round.
+    Tick,
+}
+
+/// In which order the parties take their turns.
+#[derive(Debug, Drop)]
+pub enum Schedule {
+    /// Round by round, each party in its place.
+    Rounds,
+    /// Round by round, each turn that of a party drawn from this seed.
+    Shuffle(u32),
+    /// These moves alone.
+    Steps(Vec<Move>),
 }
 
 /// What a scenario states.
@@ -58,14 +116,27 @@ impl Model for SceneNode {
 pub struct Scene {
     /// After how many rounds the run stops, 1 to `MAX_UNTIL`.
     pub until: u32,
-    /// The nodes, in the order of their lines.
+    /// In which order the parties take their turns.
+    pub schedule: Schedule,
+    /// The nodes and bridges, in the order of their lines.
     pub nodes: Vec<SceneNode>,
+    /// The links, in the order of their lines.
+    pub links: Vec<SceneLink>,
 }
 
 impl Model for Scene {
-    ghost use Rattle.csp_scene.specs.Scene.{PlainScene};
+    ghost use Rattle.std.specs.Coded.{codes};
+    ghost use Rattle.csp_route.specs.Codes.{routes_code};
+    ghost use Rattle.csp_scene.specs.Scene.{PlainScene, plain_schedule};
 
     ghost Value = { PlainScene };
 
-    ghost view = { λ scene. record { until = scene.until; nodes = scene.nodes.items } };
+    ghost coded = { Prim.hlevel (codes, routes_code) };
+
+    ghost view = { λ scene. record {
+      until = scene.until;
+      schedule = plain_schedule scene.schedule;
+      nodes = scene.nodes.items;
+      links = scene.links.items;
+    } };
 }

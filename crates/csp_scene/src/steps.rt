@@ -30,9 +30,9 @@ pub(crate) fn recv_step(shape: &[Part], args: &[&[u8]]) -> Step
     ensures kept { IsStep result }
 {
     Step::Recv {
-        slot: number_at(args, 0) as u8,
-        count: number_at(args, 1),
-        rounds: setting(Keyword::For, shape, args),
+        slot: number_at(Form::Recv, args, 0) as u8,
+        count: number_at(Form::Recv, args, 1),
+        rounds: setting(Form::Recv, Keyword::For, shape, args),
     }
 }
 
@@ -43,6 +43,6 @@ pub(crate) fn wait_step(args: &[&[u8]]) -> Step
     ensures kept { IsStep result }
 {
     Step::Wait {
-        rounds: number_at(args, 0),
+        rounds: number_at(Form::Wait, args, 0),
     }
 }

@@ -4,8 +4,8 @@ ghost use Rattle.std.specs.Prelude.{◌≡◌, ◌++◌, List, IfOk, OnOk, map};
 ghost use Rattle.csp_scene.specs.Table.{first_word, keyword_text, is_step, fixed_of, optional_of, group_of, with_options};
 
 use crate::limits::{
-    MAX_ADDR, MAX_COUNT, MAX_INBOX, MAX_RAW, MAX_ROUNDS, MAX_SEED, MAX_SLOT, MAX_UNTIL,
-    MIN_BUFFERS, MIN_INBOX,
+    LAST_FRAME, MAX_ADDR, MAX_COPIES, MAX_COUNT, MAX_DELAY, MAX_FLIP, MAX_INBOX, MAX_RAW,
+    MAX_ROUNDS, MAX_SEED, MAX_SHUFFLE, MAX_SLOT, MAX_UNTIL, MIN_BUFFERS, MIN_INBOX,
 };
 use csp_base::MAX_BUFFERS;
 use std::alloc::{AllocError, Global};
@@ -15,8 +15,28 @@ use std::alloc::{AllocError, Global};
 pub(crate) enum Form {
     /// `until N`
     Until,
+    /// `schedule rounds`
+    Rounds,
+    /// `schedule shuffle S`
+    Shuffle,
+    /// `schedule steps WORD..`
+    Moves,
     /// `node NAME ADDR buffers N [seed S] [inbox C]`
     Node,
+    /// `bridge NAME buffers N [inbox C]`
+    Bridge,
+    /// `link NAME kiss NODE NODE`, `link NAME can NODE NODE`
+    Link,
+    /// `route NODE TEXT`
+    Route,
+    /// `fault LINK ab FRAME lose`; here and in the next three `ba` may stand for `ab`
+    Lose,
+    /// `fault LINK ab FRAME repeat K`
+    Repeat,
+    /// `fault LINK ab FRAME delay R`
+    Delay,
+    /// `fault LINK ab FRAME flip B`
+    Flip,
     /// `app NODE NAME`
     App,
     /// `take`
@@ -42,6 +62,28 @@ pub(crate) enum Keyword {
     Inbox,
     /// `for`
     For,
+    /// `rounds`
+    Rounds,
+    /// `shuffle`
+    Shuffle,
+    /// `steps`
+    Steps,
+    /// `kiss`
+    Kiss,
+    /// `can`
+    Can,
+    /// `ab`
+    Ab,
+    /// `ba`
+    Ba,
+    /// `lose`
+    Lose,
+    /// `repeat`
+    Repeat,
+    /// `delay`
+    Delay,
+    /// `flip`
+    Flip,
 }
 
 /// What stands in one place of a line.
@@ -49,6 +91,8 @@ pub(crate) enum Keyword {
 pub(crate) enum Part {
     /// This word itself.
     Fixed(Keyword),
+    /// One of these two words.
+    Either(Keyword, Keyword),
     /// A name.
     Name,
     /// A decimal number, `low` to `high`.
@@ -57,6 +101,10 @@ pub(crate) enum Part {
     Word,
     /// Bytes as hexadecimal digits, `least` to `most` of them; no bytes are written `-`.
     Bytes { least: u32, most: u32 },
+    /// Step words of a schedule, one or more, to the line's end.
+    Moves,
+    /// The text of a routing table, one word or more, to the line's end.
+    Text,
 }
 
 /// Words at a line's end that may be left out together.
@@ -73,9 +121,19 @@ pub(crate) enum Group {
 }
 
 /// The line forms, in the order of the table.
-pub(crate) static FORMS: [Form; 8] = [
+pub(crate) static FORMS: [Form; 18] = [
     Form::Until,
+    Form::Rounds,
+    Form::Shuffle,
+    Form::Moves,
     Form::Node,
+    Form::Bridge,
+    Form::Link,
+    Form::Route,
+    Form::Lose,
+    Form::Repeat,
+    Form::Delay,
+    Form::Flip,
     Form::App,
     Form::Take,
     Form::Give,
@@ -88,6 +146,18 @@ static UNTIL: [Part; 1] = [Part::Number {
     low: 1,
     high: MAX_UNTIL,
 }];
+
+static ROUNDS: [Part; 1] = [Part::Fixed(Keyword::Rounds)];
+
+static SHUFFLE: [Part; 2] = [
+    Part::Fixed(Keyword::Shuffle),
+    Part::Number {
+        low: 0,
+        high: MAX_SHUFFLE,
+    },
+];
+
+static MOVES: [Part; 2] = [Part::Fixed(Keyword::Steps), Part::Moves];
 
 static NODE: [Part; 4] = [
     Part::Name,
@@ -112,6 +182,82 @@ static NODE_OPTIONS: [Group; 2] = [
         keyword: Keyword::Inbox,
         low: MIN_INBOX,
         high: MAX_INBOX,
+    },
+];
+
+static BRIDGE: [Part; 3] = [
+    Part::Name,
+    Part::Fixed(Keyword::Buffers),
+    Part::Number {
+        low: MIN_BUFFERS as u32,
+        high: MAX_BUFFERS as u32,
+    },
+];
+
+static BRIDGE_OPTIONS: [Group; 1] = [Group::Setting {
+    keyword: Keyword::Inbox,
+    low: MIN_INBOX,
+    high: MAX_INBOX,
+}];
+
+static LINK: [Part; 4] = [
+    Part::Name,
+    Part::Either(Keyword::Kiss, Keyword::Can),
+    Part::Name,
+    Part::Name,
+];
+
+static ROUTE: [Part; 2] = [Part::Name, Part::Text];
+
+static LOSE: [Part; 4] = [
+    Part::Name,
+    Part::Either(Keyword::Ab, Keyword::Ba),
+    Part::Number {
+        low: 1,
+        high: LAST_FRAME,
+    },
+    Part::Fixed(Keyword::Lose),
+];
+
+static REPEAT: [Part; 5] = [
+    Part::Name,
+    Part::Either(Keyword::Ab, Keyword::Ba),
+    Part::Number {
+        low: 1,
+        high: LAST_FRAME,
+    },
+    Part::Fixed(Keyword::Repeat),
+    Part::Number {
+        low: 1,
+        high: MAX_COPIES,
+    },
+];
+
+static DELAY: [Part; 5] = [
+    Part::Name,
+    Part::Either(Keyword::Ab, Keyword::Ba),
+    Part::Number {
+        low: 1,
+        high: LAST_FRAME,
+    },
+    Part::Fixed(Keyword::Delay),
+    Part::Number {
+        low: 1,
+        high: MAX_DELAY,
+    },
+];
+
+static FLIP: [Part; 5] = [
+    Part::Name,
+    Part::Either(Keyword::Ab, Keyword::Ba),
+    Part::Number {
+        low: 1,
+        high: LAST_FRAME,
+    },
+    Part::Fixed(Keyword::Flip),
+    Part::Number {
+        low: 0,
+        high: MAX_FLIP,
     },
 ];
 
@@ -157,6 +303,17 @@ impl Keyword {
             Keyword::Seed => b"seed",
             Keyword::Inbox => b"inbox",
             Keyword::For => b"for",
+            Keyword::Rounds => b"rounds",
+            Keyword::Shuffle => b"shuffle",
+            Keyword::Steps => b"steps",
+            Keyword::Kiss => b"kiss",
+            Keyword::Can => b"can",
+            Keyword::Ab => b"ab",
+            Keyword::Ba => b"ba",
+            Keyword::Lose => b"lose",
+            Keyword::Repeat => b"repeat",
+            Keyword::Delay => b"delay",
+            Keyword::Flip => b"flip",
         }
     }
 }
@@ -168,7 +325,12 @@ impl Form {
     {
         match self {
             Form::Until => b"until",
+            Form::Rounds | Form::Shuffle | Form::Moves => b"schedule",
             Form::Node => b"node",
+            Form::Bridge => b"bridge",
+            Form::Link => b"link",
+            Form::Route => b"route",
+            Form::Lose | Form::Repeat | Form::Delay | Form::Flip => b"fault",
             Form::App => b"app",
             Form::Take => b"take",
             Form::Give => b"give",
@@ -184,7 +346,7 @@ impl Form {
     {
         match self {
             Form::Take | Form::Give | Form::Raw | Form::Recv | Form::Wait => true,
-            Form::Until | Form::Node | Form::App => false,
+            _ => false,
         }
     }
 
@@ -194,7 +356,17 @@ impl Form {
     {
         match self {
             Form::Until => &UNTIL,
+            Form::Rounds => &ROUNDS,
+            Form::Shuffle => &SHUFFLE,
+            Form::Moves => &MOVES,
             Form::Node => &NODE,
+            Form::Bridge => &BRIDGE,
+            Form::Link => &LINK,
+            Form::Route => &ROUTE,
+            Form::Lose => &LOSE,
+            Form::Repeat => &REPEAT,
+            Form::Delay => &DELAY,
+            Form::Flip => &FLIP,
             Form::App => &APP,
             Form::Take | Form::Give => &[],
             Form::Raw => &RAW,
@@ -209,8 +381,9 @@ impl Form {
     {
         match self {
             Form::Node => &NODE_OPTIONS,
+            Form::Bridge => &BRIDGE_OPTIONS,
             Form::Recv => &RECV_OPTIONS,
-            Form::Until | Form::App | Form::Take | Form::Give | Form::Raw | Form::Wait => &[],
+            _ => &[],
         }
     }
 }

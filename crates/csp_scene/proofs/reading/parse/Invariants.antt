@@ -1,10 +1,10 @@
-use Rattle.std.proofs.Common.{◌≡◌, map, drop}
-use Rattle.csp_scene.specs.Judge.{scene_from, scene_of}
-use Rattle.csp_scene.specs.Kept.{IsDraft}
+use Rattle.std.proofs.Common.{map, drop}
+use Rattle.csp_scene.specs.Judge.{scene_of}
+use Rattle.csp_scene.specs.Kept.{IsDraft, IsRead}
 use Rattle.csp_scene.proofs.reading.parse.Given as goal
 
 abbrev pub invariant-loop-line : goal.invariant-loop-line
 invariant-loop-line l = record {
   kept : IsDraft l.draft;
-  left : scene_from l.table.items l.number l.draft (map (λ line. line.now) (drop l.line-index l.line-items)) ≡ scene_of l.fn.bytes;
+  read : IsRead l.table.items l.number l.in_app l.draft (map (λ line. line.now) (drop l.line-index l.line-items)) (scene_of l.fn.bytes);
 }

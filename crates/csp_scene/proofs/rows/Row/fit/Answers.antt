@@ -1,10 +1,17 @@
-use Rattle.std.proofs.Common.{sym, ◌∙◌, subst, map}
+use Rattle.std.proofs.Common.{◌≤◌, subst, map, length}
 use Rattle.std.proofs.lemmas.List.{length-map}
 use Rattle.csp_scene.specs.Kept.{IsShapeOf}
-use Rattle.csp_scene.proofs.Shapes.{Fits-from_shape}
+use Rattle.csp_scene.proofs.Shapes.{Fits-from_shape, FitsShape-from_shape}
 use Rattle.csp_scene.proofs.rows.Row.fit.Goals as goal
 
 pub returns-clause-fits : goal.returns-clause-fits
 returns-clause-fits c =
     let is = subst (λ row. IsShapeOf row.form row.shape) c.self.view_is c.self.invariant in
-    Fits-from_shape _ c.args.self.now.shape (map (λ word. word.now) c.args.args.now) is (c.requires ∙ sym (length-map c.args.args.now (λ word. word.now))) (cc) (cc)
+    let count : length c.args.self.now.shape ≤ length (map (λ word. word.now) c.args.args.now) = rw length-map c.requires in
+    Fits-from_shape _ c.args.self.now.shape (map (λ word. word.now) c.args.args.now) is count (cc) (cc)
+
+pub returns-clause-shape : goal.returns-clause-shape
+returns-clause-shape c =
+    let is = subst (λ row. IsShapeOf row.form row.shape) c.self.view_is c.self.invariant in
+    let count : length c.args.self.now.shape ≤ length (map (λ word. word.now) c.args.args.now) = rw length-map c.requires in
+    FitsShape-from_shape _ c.args.self.now.shape (map (λ word. word.now) c.args.args.now) is count (cc)

@@ -1,0 +1,274 @@
+-- The numbers of a scene in the making stay in their ranges as lines add to it.
+use Rattle.std.proofs.Common.{◌≡◌, ◌≢◌, ℕ, ◌+◌, ◌-◌, ◌≤◌, ◌<◌, List, [], ◌∷◌, ◌++◌, length, set, Option, Some, None, IsTrue, IfSome, zero, suc, arith, refl, ap, sym, subst, length-append}
+use Rattle.std.proofs.Math.ListN.{length-set}
+use Rattle.std.specs.FinMap as finite
+use Rattle.std.proofs.lemmas.List.{get_or-set_same}
+use Rattle.std.proofs.lemmas.List.Elements.{All-nil}
+use Rattle.std.proofs.lemmas.List.Sums.{sum_by_push, sum_by-set}
+use Rattle.csp_app.specs.declared.step.Step.{Step}
+use Rattle.csp_link.specs.declared.fault.Fault.{Fault}
+use Rattle.csp_log.specs.declared.places.LinkKind.{LinkKind}
+use Rattle.csp_route.specs.Routes.{Routes, IsWithin}
+use Rattle.csp_text.specs.Names.{is_name}
+use Rattle.csp_scene.specs.declared.limits.TheConstants.{MAX_UNTIL, MAX_NODES, MAX_LINKS, MAX_APPS, MAX_STEPS, MAX_FAULTS}
+use Rattle.csp_scene.specs.Scene.{PlainApp, PlainNode, PlainLink, PlainSchedule}
+use Rattle.csp_scene.specs.Links.{links_at, node_at, fault_count}
+use Rattle.csp_scene.specs.Ranges.{IsStep, IsApp, IsNode, IsPlanned, IsSchedule}
+use Rattle.csp_scene.specs.Draft.{PlainDraft, no_draft, with_node, with_link}
+use Rattle.csp_scene.specs.Nodes.{with_app, with_app_at, last_app, with_step, with_last_step, with_step_at}
+use Rattle.csp_scene.specs.Joining.{new_link, with_routes}
+use Rattle.csp_scene.specs.Faults.{with_fault, with_fault_at, link_at, no_link}
+use Rattle.csp_scene.specs.Kept.{IsDraft, IsHost, IsLinkAfter}
+use Rattle.csp_scene.proofs.Lists.{AllByRecursion-push, AllByRecursion-set, AllByRecursion-at}
+use Rattle.csp_scene.proofs.Tables.{empty_within, within_more}
+use Rattle.csp_scene.proofs.Growing.{Grows, links_at-push, schedule_grows, links_alike, links_push, links_fault, alike_set}
+
+-- what is the same as a scene in the making is one
+pub kept_of : (d e : PlainDraft) → IsDraft d → d ≡ e → IsDraft e
+kept_of d e is same = subst (λ (one : PlainDraft). IsDraft one) same is
+
+-- before the first line
+pub IsDraft-none : IsDraft no_draft
+IsDraft-none = record {
+  until = tt;
+  schedule = tt;
+  nodes = tt;
+  few = omega arith;
+  links = tt;
+  few_links = omega arith;
+  faults = omega arith;
+  routes = record { each = λ place. empty_within 0 };
+  host = tt;
+}
+
+-- nodes with one more at the end, or with one replaced
+apps_push : (nodes : List PlainNode) (node : PlainNode) (place : ℕ) → length (node_at nodes place).apps ≤ length (node_at (nodes ++ node ∷ []) place).apps
+apps_push [] node place = omega arith
+apps_push (first ∷ nodes) node zero = omega arith
+apps_push (first ∷ nodes) node (suc place) = apps_push nodes node place
+
+routes_push : (nodes : List PlainNode) (node : PlainNode) (place : ℕ) → node.routes ≡ finite.empty → (node_at (nodes ++ node ∷ []) place).routes ≡ (node_at nodes place).routes
+routes_push [] node zero e = e
+routes_push [] node (suc place) e = refl
+routes_push (first ∷ nodes) node zero e = refl
+routes_push (first ∷ nodes) node (suc place) e = routes_push nodes node place e
+
+apps_set : (nodes : List PlainNode) (at : ℕ) (node : PlainNode) (place : ℕ) → length (node_at nodes at).apps ≤ length node.apps → length (node_at nodes place).apps ≤ length (node_at (set nodes at node) place).apps
+apps_set [] at node place more = omega arith
+apps_set (first ∷ nodes) zero node zero more = more
+apps_set (first ∷ nodes) zero node (suc place) more = omega arith
+apps_set (first ∷ nodes) (suc at) node zero more = omega arith
+apps_set (first ∷ nodes) (suc at) node (suc place) more = apps_set nodes at node place more
+
+routed_set : (count : ℕ → ℕ) (nodes : List PlainNode) (at : ℕ) (node : PlainNode) → ((place : ℕ) → IsWithin (count place) (node_at nodes place).routes) → IsWithin (count at) node.routes → (place : ℕ) → IsWithin (count place) (node_at (set nodes at node) place).routes
+routed_set count [] at node each here place = each place
+routed_set count (first ∷ nodes) zero node each here zero = here
+routed_set count (first ∷ nodes) zero node each here (suc place) = each (suc place)
+routed_set count (first ∷ nodes) (suc at) node each here zero = each zero
+routed_set count (first ∷ nodes) (suc at) node each here (suc place) = routed_set (λ p. count (suc p)) nodes at node (λ p. each (suc p)) here place
+
+host_grows : (nodes : List PlainNode) (links : List PlainLink) (more_nodes : List PlainNode) (more_links : List PlainLink) (host : Option ℕ) → Grows nodes links more_nodes more_links → IfSome host (IsHost nodes) → IfSome host (IsHost more_nodes)
+host_grows nodes links more_nodes more_links None grows is = tt
+host_grows nodes links more_nodes more_links (Some place) grows is = record { node = omega (arith, is.node, grows.more_nodes); app = omega (arith, is.app, grows.more_apps place) }
+
+-- `until`, a schedule
+pub IsDraft-until : (d : PlainDraft) (until : ℕ) → IsDraft d → 1 ≤ until → until ≤ MAX_UNTIL → IsDraft (record d { until = Some until })
+IsDraft-until d until is least most = record {
+  until = (least, most);
+  schedule = is.schedule;
+  nodes = is.nodes;
+  few = is.few;
+  links = is.links;
+  few_links = is.few_links;
+  faults = is.faults;
+  routes = is.routes;
+  host = is.host;
+}
+
+pub IsDraft-schedule : (d : PlainDraft) (schedule : PlainSchedule) → IsDraft d → IsSchedule d.nodes d.links schedule → IsDraft (record d { schedule = Some schedule })
+IsDraft-schedule d schedule is here = record {
+  until = is.until;
+  schedule = here;
+  nodes = is.nodes;
+  few = is.few;
+  links = is.links;
+  few_links = is.few_links;
+  faults = is.faults;
+  routes = is.routes;
+  host = is.host;
+}
+
+-- a node
+grows_node : (d : PlainDraft) (node : PlainNode) → Grows d.nodes d.links (d.nodes ++ node ∷ []) d.links
+grows_node d node = record {
+  more_nodes = omega (arith, length-append d.nodes (node ∷ []));
+  more_apps = apps_push d.nodes node;
+  more_ifaces = λ place. omega arith;
+  more_links = omega arith;
+}
+
+pub IsDraft-node : (d : PlainDraft) (node : PlainNode) → IsDraft d → IsNode node → node.routes ≡ finite.empty → length d.nodes < MAX_NODES → IsDraft (with_node node d)
+IsDraft-node d node is here fresh room =
+    let grows = grows_node d node in
+    record {
+      until = is.until;
+      schedule = schedule_grows d.nodes d.links (d.nodes ++ node ∷ []) d.links d.schedule grows is.schedule;
+      nodes = AllByRecursion-push IsNode d.nodes node is.nodes here;
+      few = omega (arith, room, length-append d.nodes (node ∷ []));
+      links = links_alike (length d.nodes) (length (d.nodes ++ node ∷ [])) [] [] d.links grows.more_nodes (λ place. refl) is.links;
+      few_links = is.few_links;
+      faults = is.faults;
+      routes = record { each = λ place. subst (λ (routes : Routes). IsWithin (length (links_at place d.links)) routes) (sym (routes_push d.nodes node place fresh)) (is.routes.each place) };
+      host = host_grows d.nodes d.links (d.nodes ++ node ∷ []) d.links d.host grows is.host;
+    }
+
+-- a node in place of another with no more applications and the same name: the links stay
+grows_set : (d : PlainDraft) (at : ℕ) (node : PlainNode) → length (node_at d.nodes at).apps ≤ length node.apps → Grows d.nodes d.links (set d.nodes at node) d.links
+grows_set d at node more = record {
+  more_nodes = omega (arith, length-set d.nodes at node);
+  more_apps = λ place. apps_set d.nodes at node place more;
+  more_ifaces = λ place. omega arith;
+  more_links = omega arith;
+}
+
+replaced : (d : PlainDraft) (at : ℕ) (node : PlainNode) (host : Option ℕ) → IsDraft d → length (node_at d.nodes at).apps ≤ length node.apps → IsNode node → IsWithin (length (links_at at d.links)) node.routes → IfSome host (IsHost (set d.nodes at node)) → IsDraft (record d { nodes = set d.nodes at node; host = host })
+replaced d at node host is more here within held =
+    let grows = grows_set d at node more in
+    let many : length (set d.nodes at node) ≡ length d.nodes = length-set d.nodes at node in
+    record {
+      until = is.until;
+      schedule = schedule_grows d.nodes d.links (set d.nodes at node) d.links d.schedule grows is.schedule;
+      nodes = AllByRecursion-set IsNode d.nodes at node is.nodes here;
+      few = omega (arith, is.few, many);
+      links = links_alike (length d.nodes) (length (set d.nodes at node)) [] [] d.links grows.more_nodes (λ place. refl) is.links;
+      few_links = is.few_links;
+      faults = is.faults;
+      routes = record { each = routed_set (λ place. length (links_at place d.links)) d.nodes at node is.routes.each within };
+      host = held;
+    }
+
+-- an application
+IsNode-app : (node : PlainNode) (app : PlainApp) → IsNode node → node.addr ≢ None → IsApp app → length node.apps < MAX_APPS → IsNode (with_app app node)
+IsNode-app node app is router here room = record {
+  name = is.name;
+  addr = is.addr;
+  bridge = λ none. absurd (router none);
+  least = is.least;
+  most = is.most;
+  seed = is.seed;
+  some_inbox = is.some_inbox;
+  most_inbox = is.most_inbox;
+  apps = AllByRecursion-push IsApp node.apps app is.apps here;
+  few = omega (arith, room, length-append node.apps (app ∷ []));
+}
+
+pub IsDraft-app : (d : PlainDraft) (place : ℕ) (app : PlainApp) → IsDraft d → place < length d.nodes → (node_at d.nodes place).addr ≢ None → IsApp app → length (node_at d.nodes place).apps < MAX_APPS → IsDraft (with_app_at place app d)
+IsDraft-app d place app is within router here room =
+    let node = node_at d.nodes place in
+    let next = with_app app node in
+    let longer : length next.apps ≡ length node.apps + 1 = length-append node.apps (app ∷ []) in
+    let stands : node_at (set d.nodes place next) place ≡ next = get_or-set_same d.nodes place next _ within in
+    replaced d place next (Some place) is (omega (arith, longer)) (IsNode-app node app (AllByRecursion-at IsNode d.nodes place _ is.nodes within) router here room) (is.routes.each place)
+    (record {
+      node = omega (arith, within, length-set d.nodes place next);
+      app = subst (λ (one : PlainNode). 1 ≤ length one.apps) (sym stands) (omega (arith, longer));
+    })
+
+-- a step
+IsApp-step : (app : PlainApp) (step : Step) → IsApp app → IsStep step → length app.steps < MAX_STEPS → IsApp (with_step step app)
+IsApp-step app step is here room = record {
+  name = is.name;
+  steps = omega (arith, room, length-append app.steps (step ∷ []));
+  ranges = AllByRecursion-push IsStep app.steps step is.ranges here;
+}
+
+IsNode-step : (node : PlainNode) (step : Step) → IsNode node → 1 ≤ length node.apps → IsStep step → length (last_app node).steps < MAX_STEPS → IsNode (with_last_step step node)
+IsNode-step node step is some here room = record {
+  name = is.name;
+  addr = is.addr;
+  bridge = λ none. absurd (omega (arith, some, ap length (is.bridge none).apps));
+  least = is.least;
+  most = is.most;
+  seed = is.seed;
+  some_inbox = is.some_inbox;
+  most_inbox = is.most_inbox;
+  apps = AllByRecursion-set IsApp node.apps (length node.apps - 1) (with_step step (last_app node)) is.apps (IsApp-step (last_app node) step (AllByRecursion-at IsApp node.apps (length node.apps - 1) _ is.apps (omega arith)) here room);
+  few = omega (arith, is.few, length-set node.apps (length node.apps - 1) (with_step step (last_app node)));
+}
+
+pub IsDraft-step : (d : PlainDraft) (place : ℕ) (step : Step) → IsDraft d → place < length d.nodes → 1 ≤ length (node_at d.nodes place).apps → IsStep step → length (last_app (node_at d.nodes place)).steps < MAX_STEPS → IsDraft (with_step_at place step d)
+IsDraft-step d place step is within some here room =
+    let node = node_at d.nodes place in
+    let next = with_last_step step node in
+    let many : length next.apps ≡ length node.apps = length-set node.apps (length node.apps - 1) (with_step step (last_app node)) in
+    replaced d place next d.host is (omega (arith, many)) (IsNode-step node step (AllByRecursion-at IsNode d.nodes place _ is.nodes within) some here room) (is.routes.each place)
+    (host_grows d.nodes d.links (set d.nodes place next) d.links d.host (grows_set d place next (omega (arith, many))) is.host)
+
+-- routes
+IsNode-routes : (node : PlainNode) (routes : Routes) → IsNode node → node.addr ≢ None → IsNode (record node { routes = routes })
+IsNode-routes node routes is router = record {
+  name = is.name;
+  addr = is.addr;
+  bridge = λ none. absurd (router none);
+  least = is.least;
+  most = is.most;
+  seed = is.seed;
+  some_inbox = is.some_inbox;
+  most_inbox = is.most_inbox;
+  apps = is.apps;
+  few = is.few;
+}
+
+pub IsDraft-routes : (d : PlainDraft) (place : ℕ) (routes : Routes) → IsDraft d → place < length d.nodes → (node_at d.nodes place).addr ≢ None → IsWithin (length (links_at place d.links)) routes → IsDraft (with_routes place routes d)
+IsDraft-routes d place routes is within router leads =
+    let node = node_at d.nodes place in
+    let next : PlainNode = record node { routes = routes } in
+    replaced d place next d.host is (omega arith) (IsNode-routes node routes (AllByRecursion-at IsNode d.nodes place _ is.nodes within) router) leads
+    (host_grows d.nodes d.links (set d.nodes place next) d.links d.host (grows_set d place next (omega arith)) is.host)
+
+-- a link
+pub IsDraft-link : (d : PlainDraft) (word : List ℕ) (kind : LinkKind) (one other : ℕ) → IsDraft d → IsTrue (is_name word) → one < length d.nodes → other < length d.nodes → one ≢ other → length d.links < MAX_LINKS → IsDraft (with_link (new_link d.links word kind one other) d)
+IsDraft-link d word kind one other is named there here apart room =
+    let link = new_link d.links word kind one other in
+    let more : (place : ℕ) → length (links_at place d.links) ≤ length (links_at place (d.links ++ link ∷ [])) = λ (place : ℕ). omega (arith, links_at-push place d.links link) in
+    let grows : Grows d.nodes d.links d.nodes (d.links ++ link ∷ []) = record { more_nodes = omega arith; more_apps = λ place. omega arith; more_ifaces = more; more_links = omega (arith, length-append d.links (link ∷ [])) } in
+    let stands : IsLinkAfter (length d.nodes) d.links link = record {
+      name = named;
+      first = record { node = one; iface = length (links_at one d.links) };
+      second = record { node = other; iface = length (links_at other d.links) };
+      two = refl;
+      apart = apart;
+      one_end = record { node = there; iface = refl };
+      other_end = record { node = here; iface = refl };
+      plan = All-nil IsPlanned;
+    } in
+    record {
+      until = is.until;
+      schedule = schedule_grows d.nodes d.links d.nodes (d.links ++ link ∷ []) d.schedule grows is.schedule;
+      nodes = is.nodes;
+      few = is.few;
+      links = links_push (length d.nodes) [] d.links link is.links stands;
+      few_links = omega (arith, room, length-append d.links (link ∷ []));
+      faults = omega (arith, is.faults, sum_by_push (λ (l : PlainLink). length l.plan) d.links link);
+      routes = record { each = λ place. within_more (length (links_at place d.links)) (length (links_at place (d.links ++ link ∷ []))) (node_at d.nodes place).routes (more place) (is.routes.each place) };
+      host = is.host;
+    }
+
+-- a fault
+pub IsDraft-fault : (d : PlainDraft) (place : ℕ) (fault : Fault) → IsDraft d → place < length d.links → IsPlanned fault → fault_count d.links < MAX_FAULTS → IsDraft (with_fault_at place fault d)
+IsDraft-fault d place fault is within planned room =
+    let link = link_at d.links place in
+    let links = set d.links place (with_fault fault link) in
+    let alike : (at : ℕ) → length (links_at at d.links) ≡ length (links_at at links) = alike_set d.links place fault in
+    let grows : Grows d.nodes d.links d.nodes links = record { more_nodes = omega arith; more_apps = λ at. omega arith; more_ifaces = λ at. omega (arith, alike at); more_links = omega (arith, length-set d.links place (with_fault fault link)) } in
+    record {
+      until = is.until;
+      schedule = schedule_grows d.nodes d.links d.nodes links d.schedule grows is.schedule;
+      nodes = is.nodes;
+      few = is.few;
+      links = links_fault (length d.nodes) [] [] d.links place fault (λ at. refl) is.links within planned;
+      few_links = omega (arith, is.few_links, length-set d.links place (with_fault fault link));
+      faults = omega (arith, room, sum_by-set (λ (l : PlainLink). length l.plan) d.links place (with_fault fault link) no_link within, length-append link.plan (fault ∷ []));
+      routes = record { each = λ at. within_more (length (links_at at d.links)) (length (links_at at links)) (node_at d.nodes at).routes (omega (arith, alike at)) (is.routes.each at) };
+      host = is.host;
+    }

@@ -1,0 +1,70 @@
+-- What `fault` lines state.
+use Rattle.std.specs.Prelude.{ℕ, ◌==◌, Bool, not, ◌&&◌, nat_lt, List, [], ◌∷◌, ◌++◌, slice_index_or, slice_set, Option, Some, None, Result, Ok, Err, if◌then◌else◌}
+use Rattle.std.specs.List.{list_any}
+use Rattle.std.specs.Str.{bytes_eq}
+use Rattle.csp_link.specs.declared.fault.Fault.{Fault}
+use Rattle.csp_link.specs.declared.fault.FaultKind.{FaultKind}
+use Rattle.csp_link.specs.declared.fault.FaultKind.TheVariants.{Lose, Repeat, Delay, Flip}
+use Rattle.csp_log.specs.declared.places.LinkKind.TheVariants as carried
+use Rattle.csp_scene.specs.declared.limits.TheConstants.{MAX_FAULTS}
+use Rattle.csp_scene.specs.declared.refusal.SceneKind.{SceneKind}
+use Rattle.csp_scene.specs.declared.refusal.SceneKind.TheVariants as kind
+use Rattle.csp_scene.specs.declared.table.Keyword.TheVariants as keyword
+use Rattle.csp_scene.specs.Table.{keyword_text}
+use Rattle.csp_scene.specs.Scene.{PlainLink}
+use Rattle.csp_scene.specs.Links.{fault_count}
+use Rattle.csp_scene.specs.Naming.{link_named}
+use Rattle.csp_scene.specs.Arguments.{word_at, number_at}
+use Rattle.csp_scene.specs.Draft.{PlainDraft, demand, and_then}
+
+-- the direction by its word: 0 from the first end to the second, 1 back
+abbrev pub direction_of : List ℕ → ℕ
+direction_of word = if bytes_eq word (keyword_text keyword.Ba) then 1 else 0
+
+-- the fault that a line states, by what it does
+abbrev pub planned : List (List ℕ) → FaultKind → Fault
+planned args what = record { dir = direction_of (word_at args 1); frame = number_at args 2; kind = what }
+
+-- the number of the variant of what a fault does
+abbrev pub harm_number : FaultKind → ℕ
+harm_number Lose = 0
+harm_number (Repeat copies) = 1
+harm_number (Delay rounds) = 2
+harm_number (Flip bit) = 3
+
+-- two faults of one direction, one frame and one kind
+abbrev pub is_same_fault : Fault → Fault → Bool
+is_same_fault fault other = fault.frame == other.frame && fault.dir == other.dir && harm_number fault.kind == harm_number other.kind
+
+-- a plan has a fault of the same direction, frame and kind
+abbrev pub has_fault : Fault → List Fault → Bool
+has_fault fault plan = list_any (λ other. is_same_fault other fault) plan
+
+-- the link in a place
+abbrev pub no_link : PlainLink
+no_link = record { name = []; kind = carried.Kiss; ends = []; plan = [] }
+
+abbrev pub link_at : List PlainLink → ℕ → PlainLink
+link_at links place = slice_index_or links place no_link
+
+-- a link with one more fault, and a draft in which the link in a place has it
+abbrev pub with_fault : Fault → PlainLink → PlainLink
+with_fault fault link = record link { plan = link.plan ++ fault ∷ [] }
+
+abbrev pub with_fault_at : ℕ → Fault → PlainDraft → PlainDraft
+with_fault_at place fault d = record d { links = slice_set d.links place (with_fault fault (link_at d.links place)) }
+
+-- a kind of fault stands once for a frame of a direction of a link, and there is room for it
+abbrev pub may_add_fault : List PlainLink → ℕ → Fault → Result (Unit {0}) SceneKind
+may_add_fault links place fault =
+    demand (not (has_fault fault (link_at links place).plan)) kind.Twice
+    (demand (nat_lt (fault_count links) MAX_FAULTS) kind.Full
+    (Ok tt))
+
+-- `fault LINK ab FRAME lose`, `repeat K`, `delay R`, `flip B`
+abbrev pub state_fault_at : PlainDraft → Fault → Option ℕ → Result PlainDraft SceneKind
+state_fault_at d fault None = Err kind.Unknown
+state_fault_at d fault (Some place) = and_then (may_add_fault d.links place fault) (λ _. Ok (with_fault_at place fault d))
+
+abbrev pub state_fault : PlainDraft → List (List ℕ) → FaultKind → Result PlainDraft SceneKind
+state_fault d args what = state_fault_at d (planned args what) (link_named (word_at args 0) d.links)

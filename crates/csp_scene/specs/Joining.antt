@@ -1,0 +1,98 @@
+-- What `link` and `route` lines state.
+use Rattle.std.specs.Prelude.{ℕ, ◌==◌, Bool, not, ◌&&◌, ◌||◌, nat_lt, nat_le, List, [], ◌∷◌, length, slice_set, Option, Some, None, is_some, Result, Ok, Err, if◌then◌else◌}
+use Rattle.std.specs.List.{list_any}
+use Rattle.std.specs.Str.{bytes_eq}
+use Rattle.std.specs.FinMap as finite
+use Rattle.csp_log.specs.declared.places.LinkKind.{LinkKind}
+use Rattle.csp_log.specs.declared.places.LinkKind.TheVariants as carried
+use Rattle.csp_route.specs.Routes.{Routes, merged}
+use Rattle.csp_route.specs.Text.{parsed}
+use Rattle.csp_route.specs.declared.error.RouteError.{RouteError}
+use Rattle.csp_route.specs.declared.error.RouteKind.{RouteKind}
+use Rattle.csp_route.specs.declared.error.RouteKind.TheVariants as fault
+use Rattle.csp_route.specs.declared.table.TheConstants.{MAX_ROWS}
+use Rattle.csp_scene.specs.declared.limits.TheConstants.{MAX_LINKS, BRIDGE_LINKS}
+use Rattle.csp_scene.specs.declared.refusal.SceneKind.{SceneKind}
+use Rattle.csp_scene.specs.declared.refusal.SceneKind.TheVariants as kind
+use Rattle.csp_log.specs.declared.places.End.{End}
+use Rattle.csp_scene.specs.declared.table.Keyword.TheVariants as keyword
+use Rattle.csp_scene.specs.Table.{keyword_text}
+use Rattle.csp_scene.specs.Scene.{PlainNode, PlainLink}
+use Rattle.csp_scene.specs.Links.{links_at, node_at}
+use Rattle.csp_scene.specs.Naming.{is_called, node_named, router_named, iface_names, is_name_taken}
+use Rattle.csp_scene.specs.Arguments.{word_at, text_from}
+use Rattle.csp_scene.specs.Draft.{PlainDraft, demand, and_then, with_link}
+
+-- the kind of a link by its word
+abbrev pub link_kind : List ℕ → LinkKind
+link_kind word = if bytes_eq word (keyword_text keyword.Can) then carried.Can else carried.Kiss
+
+-- the end of a new link at a node: at the interface after those that the node has
+abbrev pub end_at : List PlainLink → ℕ → End
+end_at links place = record { node = place; iface = length (links_at place links) }
+
+-- the link of this name and kind between two nodes
+abbrev pub new_link : List PlainLink → List ℕ → LinkKind → ℕ → ℕ → PlainLink
+new_link links word kind one other = record { name = word; kind = kind; ends = end_at links one ∷ end_at links other ∷ []; plan = [] }
+
+-- a link's name is that of no node, bridge or other link, and of no application of the node
+abbrev pub has_app : List ℕ → PlainNode → Bool
+has_app word node = list_any (is_called word) node.apps
+
+-- a node takes any link, a bridge two
+abbrev pub takes_link : PlainDraft → ℕ → Bool
+takes_link d place = is_some (node_at d.nodes place).addr || nat_lt (length (links_at place d.links)) BRIDGE_LINKS
+
+-- a link joins two different nodes, has a name of its own, and there is room for it in the scene and at both nodes
+abbrev pub may_add_link : PlainDraft → List ℕ → ℕ → ℕ → Result (Unit {0}) SceneKind
+may_add_link d word one other =
+    demand (not (one == other || is_name_taken word d.nodes d.links || has_app word (node_at d.nodes one) || has_app word (node_at d.nodes other))) kind.Twice
+    (demand (nat_lt (length d.links) MAX_LINKS && takes_link d one && takes_link d other) kind.Full
+    (Ok tt))
+
+-- `link NAME kiss NODE NODE`, `link NAME can NODE NODE`: both nodes must be there
+abbrev pub state_link_between : PlainDraft → List ℕ → LinkKind → Option ℕ → Option ℕ → Result PlainDraft SceneKind
+state_link_between d word carries None other = Err kind.Unknown
+state_link_between d word carries (Some one) None = Err kind.Unknown
+state_link_between d word carries (Some one) (Some other) =
+    and_then (may_add_link d word one other) (λ _. Ok (with_link (new_link d.links word carries one other) d))
+
+abbrev pub state_link : PlainDraft → List (List ℕ) → Result PlainDraft SceneKind
+state_link d args =
+    state_link_between d (word_at args 0) (link_kind (word_at args 1)) (node_named (word_at args 2) d.nodes) (node_named (word_at args 3) d.nodes)
+
+-- the kind of a line whose text of routes has this error
+abbrev pub kind_of : RouteKind → SceneKind
+kind_of fault.Syntax = kind.Number
+kind_of fault.Range = kind.Number
+kind_of fault.NoInterface = kind.Unknown
+kind_of fault.Full = kind.Full
+
+-- the interfaces that a line may route to: those of its node by then, and none where no `node` line declares it
+abbrev pub known_ifaces : PlainDraft → Option ℕ → List (List ℕ)
+known_ifaces d None = []
+known_ifaces d (Some place) = iface_names place d.links
+
+-- a draft in which the node in a place has this table
+abbrev pub with_routes : ℕ → Routes → PlainDraft → PlainDraft
+with_routes place routes d = record d { nodes = slice_set d.nodes place (record (node_at d.nodes place) { routes = routes }) }
+
+-- the rows of a text join those of the node, which must be there
+abbrev pub add_routes : PlainDraft → Option ℕ → Routes → Result PlainDraft SceneKind
+add_routes d None more = Err kind.Unknown
+add_routes d (Some place) more =
+    let routes = merged (node_at d.nodes place).routes more in
+    demand (nat_le (finite.len routes) MAX_ROWS) kind.Full
+    (Ok (with_routes place routes d))
+
+-- what is done with the one answer that a text of routes has
+abbrev pub routed : PlainDraft → Option ℕ → Result Routes RouteError → Result PlainDraft SceneKind
+routed d place (Ok more) = add_routes d place more
+routed d place (Err error) = Err (kind_of error.kind)
+
+-- `route NODE TEXT`
+abbrev pub state_route_at : PlainDraft → List ℕ → Option ℕ → Result PlainDraft SceneKind
+state_route_at d text place = routed d place (parsed (known_ifaces d place) text)
+
+abbrev pub state_route : PlainDraft → List (List ℕ) → Result PlainDraft SceneKind
+state_route d args = state_route_at d (text_from args 1) (router_named (word_at args 0) d.nodes)

@@ -1,0 +1,59 @@
+-- What one more line adds to what earlier lines state.
+use Rattle.std.specs.Prelude.{ℕ, ◌+◌, ◌==◌, Bool, true, ◌&&◌, ◌||◌, List, [], ◌∷◌, length, drop, Option, Some, None, is_some, Result, Ok, Err}
+use Rattle.std.specs.Option.{unwrap_or}
+use Rattle.csp_app.specs.declared.step.Step.TheVariants as step
+use Rattle.csp_link.specs.declared.fault.FaultKind.TheVariants as fault
+use Rattle.csp_scene.specs.declared.limits.TheConstants.{BRIDGE_LINKS}
+use Rattle.csp_scene.specs.declared.table.Part.{Part}
+use Rattle.csp_scene.specs.declared.table.Form.{Form}
+use Rattle.csp_scene.specs.declared.table.Form.TheVariants as form
+use Rattle.csp_scene.specs.declared.refusal.SceneKind.{SceneKind}
+use Rattle.csp_scene.specs.declared.refusal.SceneKind.TheVariants as kind
+use Rattle.csp_scene.specs.Scene.{PlainNode, PlainLink, PlainScene, in_rounds, shuffled}
+use Rattle.csp_scene.specs.Links.{links_at}
+use Rattle.csp_scene.specs.Arguments.{number_at}
+use Rattle.csp_scene.specs.Steps.{raw_step, recv_step, wait_step}
+use Rattle.csp_scene.specs.Draft.{PlainDraft, demand}
+use Rattle.csp_scene.specs.Nodes.{state_until, new_node, new_bridge, state_node, state_app, state_step}
+use Rattle.csp_scene.specs.Joining.{state_link, state_route}
+use Rattle.csp_scene.specs.Faults.{state_fault}
+use Rattle.csp_scene.specs.Schedule.{state_schedule, state_moves}
+
+-- what a line of a form and of one of its shapes adds, judged against the lines before it: Unknown, then Twice, then Full
+abbrev pub state : Form → List Part → PlainDraft → List (List ℕ) → Result PlainDraft SceneKind
+state form.Until shape d args = state_until d args
+state form.Rounds shape d args = state_schedule d in_rounds
+state form.Shuffle shape d args = state_schedule d (shuffled (number_at args 1))
+state form.Moves shape d args = state_moves d (drop 1 args)
+state form.Node shape d args = state_node d (new_node shape args)
+state form.Bridge shape d args = state_node d (new_bridge shape args)
+state form.Link shape d args = state_link d args
+state form.Route shape d args = state_route d args
+state form.Lose shape d args = state_fault d args fault.Lose
+state form.Repeat shape d args = state_fault d args (fault.Repeat (number_at args 4))
+state form.Delay shape d args = state_fault d args (fault.Delay (number_at args 4))
+state form.Flip shape d args = state_fault d args (fault.Flip (number_at args 4))
+state form.App shape d args = state_app d args
+state form.Take shape d args = state_step d step.Take
+state form.Give shape d args = state_step d step.Give
+state form.Raw shape d args = state_step d (raw_step args)
+state form.Recv shape d args = state_step d (recv_step shape args)
+state form.Wait shape d args = state_step d (wait_step args)
+
+-- each bridge has its links, of nodes of which the first stands in this place
+abbrev pub is_joined : List PlainLink → ℕ → PlainNode → Bool
+is_joined links place node = is_some node.addr || length (links_at place links) == BRIDGE_LINKS
+
+abbrev pub are_joined : List PlainLink → ℕ → List PlainNode → Bool
+are_joined links place [] = true
+are_joined links place (node ∷ nodes) = is_joined links place node && are_joined links (place + 1) nodes
+
+-- after the last line: `until` must have been given, and each bridge its two links
+abbrev pub finish_with : PlainDraft → Option ℕ → Result PlainScene SceneKind
+finish_with d None = Err kind.Missing
+finish_with d (Some until) =
+    demand (are_joined d.links 0 d.nodes) kind.Missing
+    (Ok (record { until = until; schedule = unwrap_or d.schedule in_rounds; nodes = d.nodes; links = d.links }))
+
+abbrev pub finish : PlainDraft → Result PlainScene SceneKind
+finish d = finish_with d d.until

@@ -1,0 +1,127 @@
+//! Links in the making.
+
+ghost use Rattle.std.specs.Prelude.{◌≡◌, ◌≤◌, ◌+◌, ◌∷◌, [], List, OnOk, IfOk, length};
+ghost use Rattle.std.specs.List.{list_any};
+ghost use Rattle.csp_scene.specs.Links.{touches};
+ghost use Rattle.csp_scene.specs.Faults.{harm_number, has_fault, with_fault};
+ghost use Rattle.csp_scene.specs.Stated.{stated_of};
+
+use crate::scenario::SceneLink;
+use csp_base::Name;
+use csp_link::{Fault, FaultKind};
+use std::alloc::{AllocError, Global};
+use std::collections::BTreeSet;
+use std::marker::Model;
+
+/// The number of what a fault does, among all that faults do.
+fn harm_number(kind: FaultKind) -> u8
+    ensures { result ≡ harm_number kind }
+{
+    match kind {
+        FaultKind::Lose => 0,
+        FaultKind::Repeat(_) => 1,
+        FaultKind::Delay(_) => 2,
+        FaultKind::Flip(_) => 3,
+    }
+}
+
+/// What a fault is of: no two faults of a link are of the same.
+#[derive(Clone, Copy, PartialEq, Eq, PartialOrd, Ord, Debug)]
+pub(crate) struct Stated {
+    frame: u64,
+    dir: u8,
+    harm: u8,
+}
+
+impl Stated {
+    /// What this fault is of.
+    fn of(fault: &Fault) -> Stated
+        ensures { result ≡ stated_of fault.now }
+    {
+        Stated {
+            frame: fault.frame,
+            dir: fault.dir,
+            harm: harm_number(fault.kind),
+        }
+    }
+}
+
+/// A link in the making, and what its faults are of.
+#[derive(Drop)]
+pub(crate) struct LinkDraft {
+    link: SceneLink,
+    stated: BTreeSet<Stated>,
+}
+
+impl Model for LinkDraft {
+    ghost use Rattle.csp_scene.specs.Scene.{PlainLink};
+
+    ghost Value = { PlainLink };
+
+    ghost view = { λ draft. draft.link };
+
+    ghost use Rattle.csp_scene.specs.Stated.{AreStated};
+
+    ghost invariant = { λ draft. AreStated draft.stated draft.link.plan };
+}
+
+impl LinkDraft {
+    /// A link without faults.
+    pub(crate) fn new(alloc: Global, link: SceneLink) -> LinkDraft
+        requires { link.plan ≡ [] }
+        ensures { result ≡ link }
+    {
+        LinkDraft {
+            link,
+            stated: BTreeSet::new(alloc),
+        }
+    }
+
+    /// Its name.
+    pub(crate) fn name(&self) -> Name
+        ensures { result.bytes ≡ self.now.name }
+    {
+        self.link.name
+    }
+
+    /// Whether it touches the node in a place.
+    pub(crate) fn touches(&self, place: usize) -> bool
+        ensures { result ≡ touches place self.now }
+    {
+        self.link
+            .ends
+            .iter()
+            .any(|end| usize::from(end.node) == place)
+    }
+
+    /// How many faults it has.
+    pub(crate) fn faults(&self) -> usize
+        ensures { result ≡ length self.now.plan }
+    {
+        self.link.plan.len()
+    }
+
+    /// Whether it has a fault of the same direction, frame and kind.
+    pub(crate) fn has(&self, fault: &Fault) -> bool
+        ensures { result ≡ has_fault fault.now self.now.plan }
+    {
+        self.stated.contains(&Stated::of(fault))
+    }
+
+    /// Adds a fault.
+    pub(crate) fn add(&mut self, fault: Fault) -> Result<(), AllocError>
+        ensures { OnOk result (self.new ≡ with_fault fault self.old) }
+    {
+        self.link.plan.reserve(1)?;
+        self.stated.insert(Stated::of(&fault))?;
+        self.link.plan.push_reserved(fault);
+        Ok(())
+    }
+
+    /// The link itself.
+    pub(crate) fn into_link(self) -> SceneLink
+        ensures { result ≡ self }
+    {
+        self.link
+    }
+}

@@ -1,0 +1,208 @@
+//! What `until`, `node`, `bridge`, `app` and step lines state.
+
+ghost use Rattle.std.specs.Prelude.{◌≡◌, ◌<◌, ◌≤◌, ◌+◌, ◌||◌, ◌≢◌, [], Some, None, map, IsTrue, OnOk, Ok, length};
+ghost use Rattle.std.specs.List.{list_any};
+ghost use Rattle.std.specs.FinMap as finite;
+ghost use Rattle.csp_text.specs.Names.{is_name};
+ghost use Rattle.csp_scene.specs.Ranges.{IsStep, IsNode, IsApp};
+ghost use Rattle.csp_scene.specs.Links.{node_at};
+ghost use Rattle.csp_scene.specs.Draft.{with_node};
+ghost use Rattle.csp_scene.specs.Nodes.{state_until, new_node, new_bridge, may_add_node, state_node, new_app, may_add_app, with_app_at, state_app, last_app, with_step_at, state_step};
+ghost use Rattle.csp_scene.specs.Kept.{IsDraft, Fits, FitsShape, Judged};
+
+use crate::arguments::{name_at, number_at, setting};
+use crate::draft::{Draft, LineError};
+use crate::limits::{DEFAULT_INBOX, DEFAULT_SEED, MAX_APPS, MAX_NODES, MAX_STEPS};
+use crate::links::LinkDraft;
+use crate::naming::{is_addr_taken, is_called, is_link_name, is_name_taken, router_named};
+use crate::refusal::SceneKind;
+use crate::scenario::{SceneApp, SceneNode};
+use crate::table::{Form, Keyword, Part};
+use csp_app::Step;
+use csp_base::{Addr, Name};
+use csp_route::Table;
+use std::alloc::Global;
+
+/// The node that a `node` line states.
+pub(crate) fn new_node(alloc: Global, shape: &[Part], args: &[&[u8]]) -> SceneNode
+    requires fits { Fits Form.Node (map (λ word. word.now) args.now) }
+    requires shape { FitsShape Form.Node shape.now (map (λ word. word.now) args.now) }
+    ensures value { result ≡ new_node shape.now (map (λ word. word.now) args.now) }
+    ensures kept { IsNode result }
+{
+    let Some(addr) = Addr::new(number_at(Form::Node, args, 1) as u8) else {
+        unreachable!();
+    };
+    SceneNode {
+        name: name_at(Form::Node, args, 0),
+        addr: Some(addr),
+        buffers: number_at(Form::Node, args, 3) as u16,
+        seed: setting(Form::Node, Keyword::Seed, shape, args).unwrap_or(DEFAULT_SEED) as u16,
+        inbox: setting(Form::Node, Keyword::Inbox, shape, args).unwrap_or(DEFAULT_INBOX) as u16,
+        routes: Table::new(),
+        apps: Vec::new(alloc),
+    }
+}
+
+/// The bridge that a `bridge` line states.
+pub(crate) fn new_bridge(alloc: Global, shape: &[Part], args: &[&[u8]]) -> SceneNode
+    requires fits { Fits Form.Bridge (map (λ word. word.now) args.now) }
+    requires shape { FitsShape Form.Bridge shape.now (map (λ word. word.now) args.now) }
+    ensures value { result ≡ new_bridge shape.now (map (λ word. word.now) args.now) }
+    ensures kept { IsNode result }
+{
+    SceneNode {
+        name: name_at(Form::Bridge, args, 0),
+        addr: None,
+        buffers: number_at(Form::Bridge, args, 2) as u16,
+        seed: DEFAULT_SEED as u16,
+        inbox: setting(Form::Bridge, Keyword::Inbox, shape, args).unwrap_or(DEFAULT_INBOX) as u16,
+        routes: Table::new(),
+        apps: Vec::new(alloc),
+    }
+}
+
+/// Whether an application may join these: Twice where its name is that of one of them or of a
+/// link, then Full.
+fn may_add_app(apps: &[SceneApp], links: &[LinkDraft], name: &Name) -> Result<(), SceneKind>
+    ensures value { result ≡ may_add_app apps.now links.now name.now.bytes }
+    ensures room { OnOk result (length apps.now < MAX_APPS) }
+{
+    if is_called(apps, name.as_bytes()) || is_link_name(links, name.as_bytes()) {
+        return Err(SceneKind::Twice);
+    }
+    if apps.len() >= MAX_APPS {
+        return Err(SceneKind::Full);
+    }
+    Ok(())
+}
+
+impl Draft {
+    /// An `until` line.
+    pub(crate) fn state_until(&mut self, args: &[&[u8]]) -> Result<(), LineError>
+        requires kept { IsDraft self.old }
+        requires fits { Fits Form.Until (map (λ word. word.now) args.now) }
+        ensures answer { Judged result self.new (state_until self.old (map (λ word. word.now) args.now)) }
+        ensures kept { OnOk result (IsDraft self.new) }
+    {
+        if self.until.is_some() {
+            return Err(LineError::Kind(SceneKind::Twice));
+        }
+        self.until = Some(number_at(Form::Until, args, 0));
+        Ok(())
+    }
+
+    /// Whether a node may be added: Twice where its name or its address is that of another, then
+    /// Full.
+    fn may_add_node(&self, node: &SceneNode) -> Result<(), SceneKind>
+        ensures value { result ≡ may_add_node self.now node.now.name node.now.addr }
+        ensures room { OnOk result (length self.now.nodes < MAX_NODES) }
+    {
+        if is_name_taken(&self.nodes, &self.links, node.name.as_bytes())
+            || is_addr_taken(&self.nodes, node.addr)
+        {
+            return Err(SceneKind::Twice);
+        }
+        if self.nodes.len() >= MAX_NODES {
+            return Err(SceneKind::Full);
+        }
+        Ok(())
+    }
+
+    fn push_node(&mut self, node: SceneNode) -> Result<(), LineError>
+        requires kept { IsDraft self.old }
+        requires node { IsNode node }
+        requires fresh { node.routes ≡ finite.empty }
+        requires room { length self.old.nodes < MAX_NODES }
+        ensures answer { Judged result self.new (Ok (with_node node self.old)) }
+        ensures kept { OnOk result (IsDraft self.new) }
+    {
+        let Ok(()) = self.nodes.push(node) else {
+            return Err(LineError::NoMemory);
+        };
+        Ok(())
+    }
+
+    /// A `node` or `bridge` line.
+    pub(crate) fn state_node(&mut self, node: SceneNode) -> Result<(), LineError>
+        requires kept { IsDraft self.old }
+        requires node { IsNode node }
+        requires fresh { node.routes ≡ finite.empty }
+        ensures answer { Judged result self.new (state_node self.old node) }
+        ensures kept { OnOk result (IsDraft self.new) }
+    {
+        match self.may_add_node(&node) {
+            Ok(()) => self.push_node(node),
+            Err(kind) => Err(LineError::Kind(kind)),
+        }
+    }
+
+    fn push_app(&mut self, place: usize, app: SceneApp) -> Result<(), LineError>
+        requires kept { IsDraft self.old }
+        requires node { place < length self.old.nodes }
+        requires router { (node_at self.old.nodes place).addr ≢ None }
+        requires app { IsApp app }
+        requires room { length (node_at self.old.nodes place).apps < MAX_APPS }
+        ensures answer { Judged result self.new (Ok (with_app_at place app self.old)) }
+        ensures kept { OnOk result (IsDraft self.new) }
+    {
+        let Ok(()) = self.nodes[place].apps.push(app) else {
+            return Err(LineError::NoMemory);
+        };
+        self.host = Some(place);
+        Ok(())
+    }
+
+    /// An `app` line.
+    pub(crate) fn state_app(&mut self, alloc: Global, args: &[&[u8]]) -> Result<(), LineError>
+        requires kept { IsDraft self.old }
+        requires fits { Fits Form.App (map (λ word. word.now) args.now) }
+        ensures answer { Judged result self.new (state_app self.old (map (λ word. word.now) args.now)) }
+        ensures kept { OnOk result (IsDraft self.new) }
+    {
+        let name = name_at(Form::App, args, 1);
+        let Some(place) = router_named(&self.nodes, name_at(Form::App, args, 0).as_bytes()) else {
+            return Err(LineError::Kind(SceneKind::Unknown));
+        };
+        match may_add_app(&self.nodes[place].apps, &self.links, &name) {
+            Ok(()) => {
+                let steps = Vec::new(alloc);
+                self.push_app(place, SceneApp { name, steps })
+            }
+            Err(kind) => Err(LineError::Kind(kind)),
+        }
+    }
+
+    fn push_step(&mut self, place: usize, step: Step) -> Result<(), LineError>
+        requires kept { IsDraft self.old }
+        requires node { place < length self.old.nodes }
+        requires app { 1 ≤ length (node_at self.old.nodes place).apps }
+        requires step { IsStep step }
+        requires room { length (last_app (node_at self.old.nodes place)).steps < MAX_STEPS }
+        ensures answer { Judged result self.new (Ok (with_step_at place step self.old)) }
+        ensures kept { OnOk result (IsDraft self.new) }
+    {
+        let last = self.nodes[place].apps.len() - 1;
+        let Ok(()) = self.nodes[place].apps[last].steps.push(step) else {
+            return Err(LineError::NoMemory);
+        };
+        Ok(())
+    }
+
+    /// A step line.
+    pub(crate) fn state_step(&mut self, step: Step) -> Result<(), LineError>
+        requires kept { IsDraft self.old }
+        requires step { IsStep step }
+        ensures answer { Judged result self.new (state_step self.old step) }
+        ensures kept { OnOk result (IsDraft self.new) }
+    {
+        let Some(place) = self.host else {
+            return Err(LineError::Kind(SceneKind::Place));
+        };
+        let apps = &self.nodes[place].apps;
+        if apps[apps.len() - 1].steps.len() >= MAX_STEPS {
+            return Err(LineError::Kind(SceneKind::Full));
+        }
+        self.push_step(place, step)
+    }
+}
