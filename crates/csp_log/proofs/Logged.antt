@@ -1,16 +1,18 @@
 -- what is said of a turn shows it, and the entries of a log stay what they are while its lists grow
-use Rattle.std.proofs.Common.{◌≡◌, ℕ, zero, suc, ◌+◌, ◌-◌, ◌*◌, ◌<◌, ◌≤◌, Bool, true, false, List, [], ◌∷◌, ◌++◌, length, map, refl, ap, ◌∙◌, arith, rules, ◌==◌, Some}
+use Rattle.std.proofs.Common.{◌≡◌, ℕ, zero, suc, ◌+◌, ◌-◌, ◌*◌, ◌<◌, ◌≤◌, Bool, true, false, List, [], ◌∷◌, ◌++◌, length, map, refl, sym, ap, ◌∙◌, append-nil, arith, rules, ◌==◌, Some}
 use Rattle.std.proofs.Math.Nat.{suc-mul}
 use Rattle.std.proofs.Math.Numerals.{sub-one}
 use Rattle.std.specs.Prelude.{slice_range, slice_get, All}
 use Rattle.std.proofs.lemmas.Bool.Decides.{nat_tests}
 use Rattle.std.proofs.lemmas.Grind.{common_steps}
 use Rattle.std.proofs.lemmas.List.{map-append}
+use Rattle.std.proofs.lemmas.List.Concat.{flat_map-append}
 use Rattle.std.proofs.lemmas.List.Elements.{All-head, All-tail, All-weaker, All-push, All-append}
 use Rattle.csp_base.specs.declared.limits.TheConstants.{MAX_FRAME}
 use Rattle.csp_log.specs.PlainDraft.{PlainDraft}
-use Rattle.csp_log.specs.PlainLog.{entry_with}
+use Rattle.csp_log.specs.PlainLog.{entry_with, all_events}
 use Rattle.csp_log.specs.Rows.{draft_of, spoken_of, row_entry, kept_entry, entry_by, entry_at, IsDeedLong, IsRowIn, IsWhatIn, IsLineIn, Says}
+use Rattle.csp_log.specs.declared.entry.Entry.{Entry}
 use Rattle.csp_log.specs.declared.event.Event.{Event}
 use Rattle.csp_log.specs.declared.event.TheConstants.{MAX_EVENTS}
 use Rattle.csp_log.specs.declared.row.Deed.{Deed}
@@ -50,6 +52,7 @@ says-alone rows bytes events bs quiet d w told e none =
       rows_are = search rules;
       bytes_are = search rules;
       events_are = search rules;
+      told_are = sym (none shown.0);
       few = omega arith;
       inside = search rules;
       said_in = shown.1;
@@ -92,6 +95,7 @@ says-kept rows bytes events draft bs d told first_byte first_event place rows_af
       rows_are = rows_are;
       bytes_are = bytes_are;
       events_are = events_are;
+      told_are = refl;
       few = omega arith;
       inside = All-push (IsRowIn (length bytes_after) (length events_after)) [] r (search rules) (record {
         bytes_in = rw (byte, bytes_are) (grind (arith, common_steps));
@@ -139,6 +143,19 @@ entries-push rows bytes events draft told said rows_after bytes_after events_aft
     map-append (entry_at rows_after bytes_after events_after) lines (l ∷ [])
     ∙ rw (s.rows_are, s.bytes_are, s.events_are) (ap (λ es. es ++ entry_at (rows ++ s.rows_more) (bytes ++ s.bytes_more) (events ++ s.events_more) l ∷ []) more)
     ∙ ap (λ e. map (entry_at rows bytes events) lines ++ e ∷ []) (rw (s.rows_are, s.bytes_are, s.events_are) at (s.shows time))
+
+-- the events, where they were those of the entries, are those of the entries with one more
+pub told-push : (rows : List Row) (bytes : List ℕ) (events : List Event) (draft : PlainDraft) (told : List Event) (said : What) (rows_after : List Row) (bytes_after : List ℕ) (events_after : List Event) (lines : List Line) (time : ℕ)
+    → Says rows bytes events draft told said rows_after bytes_after events_after → All (IsRowIn (length bytes) (length events)) rows → All (IsLineIn (length rows)) lines
+    → all_events (map (entry_at rows bytes events) lines) ≡ events
+    → all_events (map (entry_at rows_after bytes_after events_after) (lines ++ record { time = time; what = said } ∷ [])) ≡ events_after
+told-push rows bytes events draft told said rows_after bytes_after events_after lines time s all within same =
+    let before : List Entry = map (entry_at rows bytes events) lines in
+    ap all_events (entries-push rows bytes events draft told said rows_after bytes_after events_after lines time s all within)
+    ∙ flat_map-append (λ (e : Entry). e.events.items) before (entry_with time draft told ∷ [])
+    ∙ ap (λ (es : List Event). es ++ (told ++ [])) same
+    ∙ ap (λ (es : List Event). events ++ es) (append-nil told ∙ sym s.told_are)
+    ∙ sym s.events_are
 
 -- rows and lines stay inside longer lists
 IsRowIn-more : (n m k l : ℕ) (r : Row) → n ≤ m → k ≤ l → IsRowIn n k r → IsRowIn m l r

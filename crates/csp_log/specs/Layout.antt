@@ -1,14 +1,16 @@
 -- that a log's lines and rows point into its lists, and that there is room for what it promises
-use Rattle.std.specs.Prelude.{◌+◌, ◌-◌, ◌*◌, ◌^◌, ◌≤◌, length, All, vec_len, vec_capacity}
+use Rattle.std.specs.Prelude.{◌≡◌, ◌+◌, ◌-◌, ◌*◌, ◌^◌, ◌≤◌, length, map, All, vec_len, vec_capacity}
 use Rattle.csp_base.specs.declared.limits.TheConstants.{MAX_FRAME}
-use Rattle.csp_log.specs.Rows.{IsRowIn, IsLineIn}
+use Rattle.csp_log.specs.PlainLog.{all_events}
+use Rattle.csp_log.specs.Rows.{entry_at, IsRowIn, IsLineIn}
 use Rattle.csp_log.specs.declared.event.TheConstants.{MAX_EVENTS}
 use Rattle.csp_log.specs.declared.log.Log.TheInside.{Inside}
 
--- each line and each row points into the lists, and each spare entry has its line, its row, MAX_FRAME bytes and MAX_EVENTS events
+-- each line and each row points into the lists, the events are those of the entries in their order, and each spare entry has its line, its row, MAX_FRAME bytes and MAX_EVENTS events
 pub record IsLaidOut (l : Inside) : Type 0 where
   pub lines : All (IsLineIn (length l.rows.items)) l.lines.items
   pub rows : All (IsRowIn (length l.bytes.items) (length l.events.items)) l.rows.items
+  pub told : all_events (map (entry_at l.rows.items l.bytes.items l.events.items) l.lines.items) ≡ l.events.items
   pub line_room : vec_len l.lines + l.spare ≤ vec_capacity l.lines
   pub row_room : vec_len l.rows + l.spare ≤ vec_capacity l.rows
   pub byte_room : vec_len l.bytes + l.spare * MAX_FRAME ≤ vec_capacity l.bytes

@@ -1,4 +1,5 @@
 use Rattle.std.specs.Prelude.{ℕ, ◌-◌, List, [], ◌∷◌, ◌++◌}
+use Rattle.std.specs.List.{flat_map}
 use Rattle.csp_log.specs.PlainDraft.{PlainDraft}
 use Rattle.csp_log.specs.declared.entry.Entry.{Entry}
 use Rattle.csp_log.specs.declared.event.Event.{Event}
@@ -15,3 +16,7 @@ with_entry l e = record { entries = l.entries ++ e ∷ []; spare = l.spare - 1 }
 -- the entry of a turn at this time, with this draft and these events
 abbrev pub entry_with : ℕ → PlainDraft → List Event → Entry
 entry_with time draft events = record { time = time; op = draft.op; answer = draft.answer; events = record { items = events } }
+
+-- the events of these entries, in order of time
+abbrev pub all_events : List Entry → List Event
+all_events entries = flat_map (λ entry. entry.events.items) entries

@@ -153,6 +153,7 @@ pub record Says (rows : List Row) (bytes : List ℕ) (events : List Event) (draf
   pub rows_are : rows_after ≡ rows ++ rows_more
   pub bytes_are : bytes_after ≡ bytes ++ bytes_more
   pub events_are : events_after ≡ events ++ events_more
+  pub told_are : events_more ≡ told
   pub few : length rows_more ≤ 1
   pub inside : All (IsRowIn (length bytes_after) (length events_after)) rows_more
   pub said_in : IsWhatIn (length rows_after) said

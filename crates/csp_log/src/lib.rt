@@ -9,6 +9,7 @@ mod event;
 mod frame;
 mod item;
 mod log;
+mod moved;
 mod note;
 mod operation;
 mod places;
@@ -23,11 +24,12 @@ pub use event::{Discard, Event, Events, MAX_EVENTS};
 pub use frame::Frame;
 pub use item::Item;
 pub use log::Log;
+pub use moved::{LoggedPacket, Moved};
 pub use note::{Note, Why};
 pub use operation::{Answer, Op};
 pub use places::{
-    Carries, DOWN_ROOM, IFACES, LINK_ROOM, LinkKind, MAX_DATA, OUT_ROOM, Place, QueueId, Rule,
-    SLOTS, UNMARKED, UP_ROOM,
+    Carries, DOWN_ROOM, End, IFACES, LINK_ENDS, LINK_ROOM, LinkKind, MAX_DATA, OUT_ROOM, Place,
+    QueueId, Rule, SLOTS, UNMARKED, UP_ROOM,
 };
 pub use remains::{HeldBy, Left};
 pub use shown::{AnswerShown, ItemShown, OpShown};

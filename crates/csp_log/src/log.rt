@@ -2,13 +2,15 @@
 
 ghost use Rattle.std.specs.Prelude.{◌≡◌, ℕ, ◌+◌, ◌-◌, ◌*◌, ◌^◌, ◌<◌, ◌≤◌, [], ◌++◌, ◌∷◌, length, max, slice_get, Some, OnOk, OnErr, vec_len, vec_capacity};
 ghost use Rattle.std.specs.Option.{option_map};
-ghost use Rattle.csp_log.specs.PlainLog.{with_entry, entry_with};
-ghost use Rattle.csp_log.specs.Rows.{spoken_of, row_entry, events_in, IsRowIn, Says};
+ghost use Rattle.csp_log.specs.Moving.{moved_in, moved_by};
+ghost use Rattle.csp_log.specs.PlainLog.{with_entry, entry_with, all_events};
+ghost use Rattle.csp_log.specs.Rows.{spoken_of, row_entry, op_of, answer_of, bytes_in, events_in, IsRowIn, Says};
 
 use crate::deeds::{keep, read_answer, read_op};
 use crate::draft::Draft;
+use crate::moved::read_moved;
 use crate::row::{Deed, Line, Row, What};
-use crate::{AnswerShown, Entry, Event, Events, MAX_EVENTS, OpShown};
+use crate::{AnswerShown, Entry, Event, Events, MAX_EVENTS, Moved, OpShown};
 use csp_base::MAX_FRAME;
 use std::alloc::{AllocError, Global};
 use std::marker::Model;
@@ -118,6 +120,24 @@ impl Log {
         }
     }
 
+    /// What was reported in all entries, in their order.
+    pub fn all_events(&self) -> &[Event]
+        ensures { result.now ≡ all_events self.now.entries }
+    {
+        self.events.as_slice()
+    }
+
+    /// The packet that the turn of this entry moved, counted from 0.
+    pub fn moved(&self, index: u64) -> Moved<'_>
+        requires { index < length self.now.entries }
+        ensures { option_map moved_in (slice_get self.now.entries index) ≡ Some result }
+    {
+        match self.lines[index as usize].what {
+            What::Kept(place) => moved_of(&self.bytes, &self.rows[place as usize]),
+            What::Rested | What::FoundNoBuffer | What::FoundEmpty(_) => Moved::NoPacket,
+        }
+    }
+
     /// Appends the entry of a turn at this time: what was asked and answered, and what was told. It
     /// takes no memory.
     pub fn append(&mut self, time: u64, draft: &Draft, told: &Events)
@@ -224,6 +244,15 @@ fn entry_of(bytes: &[u8], events: &[Event], time: u64, row: &Row) -> Entry
         answer: read_answer(carried, &row.deed),
         events: events_of(events_at(events, row)),
     }
+}
+
+/// What the turn of a row moved.
+fn moved_of<'a>(bytes: &'a [u8], row: &'a Row) -> Moved<'a>
+    requires { row.now.first_byte + row.now.bytes ≤ length bytes.now }
+    ensures { result ≡ moved_by (op_of (bytes_in bytes.now row.now) row.now.deed) (answer_of (bytes_in bytes.now row.now) row.now.deed) }
+{
+    let carried = &bytes[row.first_byte..row.first_byte + row.bytes as usize];
+    read_moved(carried, &row.deed)
 }
 
 /// The events of a row.

@@ -28,6 +28,19 @@ pub const OUT_ROOM: u16 = 16;
 /// The room of a `Tx`, and of an `Rx`.
 pub const LINK_ROOM: u16 = 64;
 
+/// The most ends of a link.
+pub const LINK_ENDS: usize = 8;
+
+/// Where a link ends: at an interface of a node, by the node's place among the nodes and the number of
+/// the interface there.
+#[derive(Clone, Copy, PartialEq, Eq, Debug, Default)]
+pub struct End {
+    /// The place of the node.
+    pub node: u8,
+    /// The number of the interface.
+    pub iface: u8,
+}
+
 /// Names a queue. The number is the application's, the interface's, or for a link that of its end.
 #[derive(Clone, Copy, PartialEq, Eq, Debug)]
 pub enum QueueId {

@@ -1,20 +1,30 @@
-//! A router or an application.
+//! A router, a bridge, an interface, an application or a link.
 
 ghost use Rattle.std.specs.Prelude.{◌≡◌, ◌<◌, ◌↔◌, [], ◌∷◌, ◌-◌, IfSome, MatchOption, IsTrue};
 ghost use Rattle.csp_deck.specs.Step.{times};
 ghost use Rattle.csp_party.specs.Any.{plain, region_of, holds, present_step};
 
 use csp_app::App;
+use csp_bridge::Bridge;
 use csp_buffer::Buffer;
 use csp_deck::{Answer, Events, Op, Party, Spares};
+use csp_iface::Iface;
+use csp_link::Link;
 use csp_stack::Stack;
 
-/// A party of a node: its router, or one of its applications. A turn is the turn of that party.
+/// A party of a node, its router or bridge, one of its interfaces or of its applications; or a link
+/// between two nodes. A turn is the turn of that party.
 pub enum AnyParty {
     /// The router.
     Router(Stack),
+    /// The bridge.
+    Bridge(Bridge),
+    /// An interface.
+    Iface(Iface),
     /// An application.
     App(App),
+    /// A link.
+    Link(Link),
 }
 
 impl Party for AnyParty {
@@ -50,28 +60,40 @@ impl Party for AnyParty {
     fn ask(&mut self, now: u64) -> Op {
         match self {
             AnyParty::Router(router) => router.ask(now),
+            AnyParty::Bridge(bridge) => bridge.ask(now),
+            AnyParty::Iface(iface) => iface.ask(now),
             AnyParty::App(app) => app.ask(now),
+            AnyParty::Link(link) => link.ask(now),
         }
     }
 
     fn told(&mut self, answer: Answer, now: u64, report: &mut Events, spares: &mut Spares) {
         match self {
             AnyParty::Router(router) => router.told(answer, now, report, spares),
+            AnyParty::Bridge(bridge) => bridge.told(answer, now, report, spares),
+            AnyParty::Iface(iface) => iface.told(answer, now, report, spares),
             AnyParty::App(app) => app.told(answer, now, report, spares),
+            AnyParty::Link(link) => link.told(answer, now, report, spares),
         }
     }
 
     fn ended(&self) -> bool {
         match self {
             AnyParty::Router(router) => router.ended(),
+            AnyParty::Bridge(bridge) => bridge.ended(),
+            AnyParty::Iface(iface) => iface.ended(),
             AnyParty::App(app) => app.ended(),
+            AnyParty::Link(link) => link.ended(),
         }
     }
 
     fn boxes(&self) -> u8 {
         match self {
             AnyParty::Router(router) => router.boxes(),
+            AnyParty::Bridge(bridge) => bridge.boxes(),
+            AnyParty::Iface(iface) => iface.boxes(),
             AnyParty::App(app) => app.boxes(),
+            AnyParty::Link(link) => link.boxes(),
         }
     }
 }
@@ -83,7 +105,10 @@ impl AnyParty {
     {
         match self {
             AnyParty::Router(router) => router.holds(number),
+            AnyParty::Bridge(bridge) => bridge.holds(number),
+            AnyParty::Iface(iface) => iface.holds(number),
             AnyParty::App(app) => app.holds(number),
+            AnyParty::Link(link) => link.holds(number),
         }
     }
 
@@ -95,7 +120,10 @@ impl AnyParty {
     {
         match self {
             AnyParty::Router(router) => router.drain(),
+            AnyParty::Bridge(bridge) => bridge.drain(),
+            AnyParty::Iface(iface) => iface.drain(),
             AnyParty::App(app) => app.drain(),
+            AnyParty::Link(link) => link.drain(),
         }
     }
 
@@ -105,17 +133,20 @@ impl AnyParty {
     {
         match self {
             AnyParty::Router(router) => router.end(),
+            AnyParty::Bridge(bridge) => bridge.end(),
+            AnyParty::Iface(iface) => iface.end(),
             AnyParty::App(app) => app.end(),
+            AnyParty::Link(link) => link.end(),
         }
     }
 
-    /// The number of an application's present step, from 1; 0 where it has ended, and for a router.
+    /// The number of an application's present step, from 1; 0 where it has ended, and for every other party.
     pub fn step(&self) -> u32
         ensures { result ≡ present_step (plain self.now) }
     {
         match self {
-            AnyParty::Router(_) => 0,
             AnyParty::App(app) => app.step(),
+            AnyParty::Router(_) | AnyParty::Bridge(_) | AnyParty::Iface(_) | AnyParty::Link(_) => 0,
         }
     }
 }

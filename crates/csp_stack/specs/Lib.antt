@@ -1,4 +1,3 @@
-pub mod Codes
 pub mod Comes
 pub mod Config
 pub mod Inside

@@ -31,7 +31,7 @@ pub struct StackConfig {
 
 impl Model for StackConfig {
     ghost use Rattle.std.specs.Coded.{codes};
-    ghost use Rattle.csp_stack.specs.Codes.{routes_code};
+    ghost use Rattle.csp_route.specs.Codes.{routes_code};
     ghost use Rattle.std.specs.Prelude.{map};
     ghost use Rattle.csp_stack.specs.Config.{PlainConfig};
 

@@ -24,7 +24,7 @@ pub struct Stack {
 
 impl Model for Stack {
     ghost use Rattle.std.specs.Coded.{codes};
-    ghost use Rattle.csp_stack.specs.Codes.{routes_code};
+    ghost use Rattle.csp_route.specs.Codes.{routes_code};
     ghost use Rattle.csp_stack.specs.Router.{RouterAt};
 
     ghost Value = { RouterAt };

@@ -37,7 +37,7 @@ pub struct State {
 
 impl Model for State {
     ghost use Rattle.std.specs.Coded.{codes};
-    ghost use Rattle.csp_stack.specs.Codes.{routes_code};
+    ghost use Rattle.csp_route.specs.Codes.{routes_code};
     ghost use Rattle.std.specs.Option.{option_map};
     ghost use Rattle.csp_stack.specs.Router.{StateAt};
 

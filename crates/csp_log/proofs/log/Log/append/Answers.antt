@@ -2,7 +2,7 @@ use Rattle.std.proofs.Common.{ℕ, ◌+◌, ◌-◌, ◌*◌, ◌<◌, ◌≤◌
 use Rattle.csp_base.specs.declared.limits.TheConstants.{MAX_FRAME}
 use Rattle.csp_log.specs.declared.event.TheConstants.{MAX_EVENTS}
 use Rattle.csp_log.specs.PlainLog.{PlainLog}
-use Rattle.csp_log.proofs.Logged.{rows-push, lines-push, entries-push, room_left}
+use Rattle.csp_log.proofs.Logged.{rows-push, lines-push, entries-push, told-push, room_left}
 use Rattle.csp_log.proofs.log.Log.append.Goals as goal
 
 -- a list with no more in it than one of its parts has its room for the others
@@ -19,6 +19,7 @@ invariant_of-self c =
     record {
       lines = rw c.push_reserved.ensures.items (lines-push old.rows.items old.bytes.items old.events.items _ _ _ _ _ _ old.lines.items _ says kept.lines);
       rows = rows-push old.rows.items old.bytes.items old.events.items _ _ _ _ _ _ says kept.rows;
+      told = rw c.push_reserved.ensures.items (told-push old.rows.items old.bytes.items old.events.items _ _ _ _ _ _ old.lines.items _ says kept.rows kept.lines kept.told);
       line_room = let len = c.push_reserved.ensures.len in let capacity = c.push_reserved.ensures.capacity in let room = kept.line_room in omega (arith, some);
       row_room = let grown = c.say-what.ensures.rows_capacity in let room = kept.row_room in omega (arith, some, grown.0, grown.1);
       byte_room = let grown = c.say-what.ensures.bytes_capacity in roomy _ _ old.spare _ _ MAX_FRAME some grown.1 kept.byte_room grown.0;
