@@ -1,3 +1,6 @@
+pub mod Passed
 pub mod Record
+pub mod Table
+pub mod Transmissions
 pub mod Who
 pub mod Whole

@@ -12,20 +12,26 @@ use Rattle.std.proofs.lemmas.Simd.{map-map}
 use Rattle.csp_lists.specs.Gathered.{queued_numbers}
 use Rattle.csp_lists.specs.PlainDeck.{PlainDeck, buffer_numbers}
 use Rattle.csp_log.specs.Remains.{PlainLeft, PlainHeld}
-use Rattle.csp_party.specs.Any.{holds, plain}
+use Rattle.csp_nodes.specs.DecksAt.{DecksAt}
+use Rattle.csp_nodes.specs.Emptied.{PlainEmptied, IsComplete, with_gathered}
+use Rattle.csp_nodes.specs.Gathering.{all_left, queues_held, pools_held}
+use Rattle.csp_party.specs.Any.{PlainParty, holds, plain}
 use Rattle.csp_record.specs.Record.{PlainPartyLog, PlainRecord}
 use Rattle.csp_record.specs.Who.{node_of}
-use Rattle.csp_world.specs.Emptied.{PlainEmptied, IsComplete, with_gathered}
+use Rattle.csp_record.specs.declared.who.Who.{Who}
+use Rattle.csp_record.specs.declared.who.Who.TheVariants as who
 use Rattle.csp_world.specs.Holders.{holds_at, IsConserved}
-use Rattle.csp_world.specs.Inside.{world_of, AllFit}
-use Rattle.csp_world.specs.Record.{all_left, queues_held, pools_held, member_held, member_log, record_of}
+use Rattle.csp_world.specs.Inside.{world_of, IsCalled, IsFit, AllFit}
+use Rattle.csp_world.specs.Record.{member_held, member_log, record_of}
 use Rattle.csp_world.specs.Seen.{plain_member}
+use Rattle.csp_world.specs.Taking.{IsTakeable}
 use Rattle.csp_world.specs.World.{PlainMember, PlainWorld, is_done}
 use Rattle.csp_world.specs.declared.member.Member.{Member}
-use Rattle.csp_world.proofs.ClosingMembers.{with_members}
+use Rattle.csp_world.proofs.ClosingMembers.{own_held, with_members}
 use Rattle.csp_world.proofs.ClosingParts.{emptied_of, numbers_len}
 use Rattle.csp_world.proofs.ClosingSums.{once_each}
 use Rattle.csp_world.proofs.CountLaws.{Gathers, Long, times_joined}
+use Rattle.csp_world.proofs.TurnLemmas.{link_holds}
 
 -- once its queues and parties are emptied, a node is complete
 complete_at : (w : PlainWorld) → Gathers → Long → IsConserved w → (node : ℕ) (d : PlainDeck) → slice_get w.decks node ≡ Some d
@@ -67,38 +73,51 @@ members_fit w gathers long conserved node e f = at (slice_get w.decks node) refl
       (omega (arith, whole.fits, length-append (queued_numbers d) (flat_map (holds_at node) w.members)))
 
 -- each party holds no more than all parties of its node
-member_within : (ms : List PlainMember) (k : ℕ) (m : PlainMember) → slice_get ms k ≡ Some m → length (holds m.party) ≤ length (flat_map (holds_at (node_of m.who)) ms)
-member_within [] zero m e = cc
-member_within [] (suc k) m e = cc
-member_within (x ∷ ms) zero m e =
+member_within : (ms : List PlainMember) (k home : ℕ) (m : PlainMember) → slice_get ms k ≡ Some m → node_of m.who ≡ Some home → length (holds m.party) ≤ length (flat_map (holds_at home) ms)
+member_within [] zero home m e f = cc
+member_within [] (suc k) home m e f = cc
+member_within (x ∷ ms) zero home m e f =
     let same : x ≡ m = cc in
-    rw same (by (node_of m.who == node_of m.who) (equal (node_of m.who)) _)
-  where
-    equal : (k : ℕ) → (k == k) ≡ true
-    equal k = grind (arith, nat_tests)
+    let own = ap (λ (ns : List ℕ). length ns) (own_held m home f) in
+    rw same (omega (arith, own, length-append (holds_at home m) (flat_map (holds_at home) ms)))
+member_within (x ∷ ms) (suc k) home m e f =
+    omega (arith, member_within ms k home m e f, length-append (holds_at home x) (flat_map (holds_at home) ms))
 
-    by : (b : Bool) → b ≡ true → (rest : List ℕ) → length (holds m.party) ≤ length ((if b then holds m.party else []) ++ rest)
-    by true f rest = omega (arith, length-append (holds m.party) rest)
-    by false f rest = cc
-member_within (x ∷ ms) (suc k) m e =
-    omega (arith, member_within ms k m e, length-append (holds_at (node_of m.who) x) (flat_map (holds_at (node_of m.who)) ms))
+-- a party of no node is a link, which holds nothing
+homeless : (w : Who) (p : PlainParty) → IsCalled w p → node_of w ≡ None → holds p ≡ []
+homeless (who.Router n) p c e = cc
+homeless (who.Bridge n) p c e = cc
+homeless (who.Iface n k) p c e = cc
+homeless (who.App n k) p c e = cc
+homeless (who.Link l) p c e = link_holds p c
 
--- the lists of a party's node
-home_of : {P : PlainDeck → Type 0} (o : Option PlainDeck) → IsSomeAnd o P → (d : PlainDeck) × (o ≡ Some d) × P d
-home_of None p = absurd p
-home_of (Some d) p = (d, refl, p)
+-- each party can be taken back
+pub all_takeable : (d : DecksAt) (members : List Member) (time : ℕ) → Gathers → Long → IsConserved (world_of d members time) → AllFit d time members → All (IsTakeable d.regions) members
+all_takeable d members time gathers long conserved fit k x h = record {
+  home = f.home;
+  none = λ e. homeless m.who (plain m.party) f.called e;
+  unnoted = f.unnoted;
+  room = by (node_of m.who) refl;
+} where
+  m : Member
+  m = get_or members k x
 
--- each party has room for the numbers that it holds
-pub numbers_fit : (decks : List PlainDeck) (members : List Member) (time : ℕ) → Gathers → Long → IsConserved (world_of decks members time) → AllFit decks time members
-    → All (λ m. (m.numbers.items ≡ []) × (length (holds (plain m.party)) ≤ vec_capacity m.numbers)) members
-numbers_fit decks members time gathers long conserved fit k x h =
-    let m = get_or members k x in
-    let found = slice_get-get_or members k x h in
-    let home = home_of (slice_get decks (node_of m.who)) (fit k m found) in
-    let d = home.0 in
-    let whole = complete_at (world_of decks members time) gathers long conserved (node_of m.who) d home.1 in
-    let within = member_within (map plain_member members) k (plain_member m) (slice_get-map plain_member members k ∙ ap (option_map plain_member) found) in
-    (home.2.unnoted, omega (arith, within, whole.fits, home.2.room, length-append (queued_numbers d) (flat_map (holds_at (node_of m.who)) (map plain_member members))))
+  found : slice_get members k ≡ Some m
+  found = slice_get-get_or members k x h
+
+  f : IsFit d time m
+  f = fit k m found
+
+  at_node : (node : ℕ) → node_of m.who ≡ Some node → (o : Option PlainDeck) → slice_get d.decks node ≡ o → IsSomeAnd (option_map (λ (x : PlainDeck). x.pool.room) o) (λ room. room ≤ vec_capacity m.numbers) → length (holds (plain m.party)) ≤ vec_capacity m.numbers
+  at_node node e None s r = absurd r
+  at_node node e (Some x) s r =
+      let whole = complete_at (world_of d members time) gathers long conserved node x s in
+      let within = member_within (map plain_member members) k node (plain_member m) (slice_get-map plain_member members k ∙ ap (option_map plain_member) found) e in
+      omega (arith, within, whole.fits, r, length-append (queued_numbers x) (flat_map (holds_at node) (map plain_member members)))
+
+  by : (o : Option ℕ) → node_of m.who ≡ o → length (holds (plain m.party)) ≤ vec_capacity m.numbers
+  by None e = let none = ap (λ (ns : List ℕ). length ns) (homeless m.who (plain m.party) f.called e) in omega (arith, none)
+  by (Some node) e = at_node node e (slice_get d.decks node) refl (subst (λ o. IsSomeAnd o (λ room. room ≤ vec_capacity m.numbers)) (slice_get-map (λ (x : PlainDeck). x.pool.room) d.decks node) (f.room node e))
 
 -- the nodes, once their queues and parties are emptied
 abbrev pub AllTaken : PlainWorld → List PlainEmptied → Type 0
@@ -132,24 +151,28 @@ pools_are w es taken = same_list _ _ (λ k. slice_get-map (λ (e : PlainEmptied)
   at k None = refl
   at k (Some d) = refl
 
+-- what is noted of each party, one after the other
+noted_members : (members : List Member) → flat_map (λ m. member_held (plain_member m)) members ≡ flat_map member_held (map plain_member members)
+noted_members [] = refl
+noted_members (m ∷ members) = ap (λ x. member_held (plain_member m) ++ x) (noted_members members)
+
 -- what is noted is the record of the world
-pub noted : (decks : List PlainDeck) (members : List Member) (time : ℕ) (es : List PlainEmptied) (logs : List PlainPartyLog) (left : List PlainLeft) (first second third : List PlainHeld) (done : Bool)
-    → AllTaken (world_of decks members time) es
+pub noted : (d : DecksAt) (members : List Member) (time : ℕ) (es : List PlainEmptied) (logs : List PlainPartyLog) (left : List PlainLeft) (first second third : List PlainHeld) (done : Bool)
+    → AllTaken (world_of d members time) es
     → logs ≡ map (λ m. member_log (plain_member m)) members
-    → left ≡ all_left 0 decks
-    → first ≡ queues_held 0 decks
-    → second ≡ first ++ map (λ m. member_held (plain_member m)) members
+    → left ≡ all_left 0 d.decks
+    → first ≡ queues_held 0 d.decks
+    → second ≡ first ++ flat_map (λ m. member_held (plain_member m)) members
     → third ≡ second ++ pools_held 0 (map (λ e. e.pool) es)
     → done ≡ list_all (λ m. is_done (plain m.party)) members
-    → let r : PlainRecord = record { parties = logs; left = left; held = third; rounds = time; finished = done } in r ≡ record_of (world_of decks members time)
-noted decks members time es logs left first second third done taken a b c d e f =
+    → let r : PlainRecord = record { parties = logs; left = left; held = third; rounds = time; finished = done } in r ≡ record_of (world_of d members time)
+noted d members time es logs left first second third done taken a b c e f g =
     let logs_are : logs ≡ map member_log (map plain_member members) = a ∙ sym (map-map member_log plain_member members) in
-    let members_are : map (λ m. member_held (plain_member m)) members ≡ map member_held (map plain_member members) = sym (map-map member_held plain_member members) in
-    let done_is : done ≡ list_all (λ (m : PlainMember). is_done m.party) (map plain_member members) = f ∙ sym (list_all-map (λ (m : PlainMember). is_done m.party) plain_member members) in
-    let pools = pools_are (world_of decks members time) es taken in
-    let held_is : third ≡ queues_held 0 decks ++ (map member_held (map plain_member members) ++ pools_held 0 (map (λ d. d.pool) decks)) =
-    e ∙ ap (λ x. x ++ pools_held 0 (map (λ e. e.pool) es)) (d ∙ ap (λ x. x ++ map (λ m. member_held (plain_member m)) members) c)
-    ∙ append_assoc (queues_held 0 decks) (map (λ m. member_held (plain_member m)) members) (pools_held 0 (map (λ e. e.pool) es))
-    ∙ ap (λ x. queues_held 0 decks ++ (x ++ pools_held 0 (map (λ e. e.pool) es))) members_are
-    ∙ ap (λ x. queues_held 0 decks ++ (map member_held (map plain_member members) ++ pools_held 0 x)) pools in
+    let done_is : done ≡ list_all (λ m. is_done m.party) (map plain_member members) = g ∙ sym (list_all-map (λ (m : PlainMember). is_done m.party) plain_member members) in
+    let pools = pools_are (world_of d members time) es taken in
+    let held_is : third ≡ queues_held 0 d.decks ++ (flat_map member_held (map plain_member members) ++ pools_held 0 (map (λ d. d.pool) d.decks)) =
+    f ∙ ap (λ x. x ++ pools_held 0 (map (λ e. e.pool) es)) (e ∙ ap (λ x. x ++ flat_map (λ m. member_held (plain_member m)) members) c)
+    ∙ append_assoc (queues_held 0 d.decks) (flat_map (λ m. member_held (plain_member m)) members) (pools_held 0 (map (λ e. e.pool) es))
+    ∙ ap (λ x. queues_held 0 d.decks ++ (x ++ pools_held 0 (map (λ e. e.pool) es))) (noted_members members)
+    ∙ ap (λ x. queues_held 0 d.decks ++ (flat_map member_held (map plain_member members) ++ pools_held 0 x)) pools in
     rw (logs_are, b, held_is, done_is) refl

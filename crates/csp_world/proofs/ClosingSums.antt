@@ -2,7 +2,7 @@
 use Rattle.std.proofs.Common.{◌≡◌, ◌≢◌, ℕ, zero, suc, ◌+◌, ◌<◌, Bool, true, false, Option, None, Some, List, [], ◌∷◌, ◌++◌, map, refl, sym, ◌∙◌, ap, arith, sum_by}
 use Rattle.std.specs.Prelude.{slice_get, if◌then◌else◌, ◌==◌}
 use Rattle.std.specs.List.{flat_map, range_with_len}
-use Rattle.std.specs.Option.{option_map}
+use Rattle.std.specs.Option.{option_map, option_to_list}
 use Rattle.std.proofs.lemmas.Bool.Decides.{nat_tests}
 use Rattle.std.proofs.lemmas.List.Sums.{sum_by-append, sum_by-cons}
 use Rattle.std.proofs.lemmas.Option.{slice_get-map}
@@ -15,10 +15,11 @@ use Rattle.csp_log.specs.declared.places.Place.{Place}
 use Rattle.csp_log.specs.declared.places.Place.TheVariants as place
 use Rattle.csp_log.specs.Remains.{PlainHeld}
 use Rattle.csp_party.specs.Any.{holds}
-use Rattle.csp_record.specs.Who.{node_of}
+use Rattle.csp_record.specs.Who.{home_of}
 use Rattle.csp_record.specs.Whole.{weight_at, IsWhole}
-use Rattle.csp_world.specs.Holders.{holds_at, counts, IsConserved}
-use Rattle.csp_world.specs.Record.{queues_held, pools_held, member_held, record_of}
+use Rattle.csp_nodes.specs.Gathering.{queues_held, pools_held}
+use Rattle.csp_world.specs.Holders.{is_home, holds_at, counts, IsConserved}
+use Rattle.csp_world.specs.Record.{held_by, member_held, record_of}
 use Rattle.csp_world.specs.World.{PlainMember, PlainWorld}
 use Rattle.csp_world.proofs.CountLaws.{Gathers, Weighs, times_joined}
 
@@ -119,15 +120,20 @@ pools_here node weight first (suc k) (x ∷ ds) d e f =
     refl (unequal first node (omega arith)) (pools_here node weight (first + 1) k ds d e (omega arith))
 
 -- and so do its parties
-sum_if : (b : Bool) (weight : ℕ → ℕ) (ns : List ℕ) → (if b then sum_by weight ns else 0) ≡ sum_by weight (if b then ns else [])
-sum_if true weight ns = refl
+sum_if : (b : Bool) (weight : ℕ → ℕ) (ns : List ℕ) → (if b then sum_by weight ns else 0) + 0 ≡ sum_by weight (if b then ns else [])
+sum_if true weight ns = omega arith
 sum_if false weight ns = refl
 
-members_weigh : (node : ℕ) (weight : ℕ → ℕ) (ms : List PlainMember) → sum_by (weight_at node weight) (map member_held ms) ≡ sum_by weight (flat_map (holds_at node) ms)
+placed_weighs : (node : ℕ) (weight : ℕ → ℕ) (ns : List ℕ) (home : Option (ℕ × Place))
+    → sum_by (weight_at node weight) (option_to_list (option_map (held_by ns) home)) ≡ sum_by weight (if is_home node (option_map (λ (h : ℕ × Place). h.0) home) then ns else [])
+placed_weighs node weight ns None = refl
+placed_weighs node weight ns (Some h) = sum_by-cons (weight_at node weight) (held_by ns h) [] ∙ sum_if (h.0 == node) weight ns
+
+members_weigh : (node : ℕ) (weight : ℕ → ℕ) (ms : List PlainMember) → sum_by (weight_at node weight) (flat_map member_held ms) ≡ sum_by weight (flat_map (holds_at node) ms)
 members_weigh node weight [] = refl
 members_weigh node weight (m ∷ ms) =
-    sum_by-cons (weight_at node weight) (member_held m) (map member_held ms)
-    ∙ ap (λ n. n + sum_by (weight_at node weight) (map member_held ms)) (sum_if (node_of m.who == node) weight (holds m.party))
+    sum_by-append (weight_at node weight) (member_held m) (flat_map member_held ms)
+    ∙ ap (λ n. n + sum_by (weight_at node weight) (flat_map member_held ms)) (placed_weighs node weight (holds m.party) (home_of m.who))
     ∙ ap (λ n. sum_by weight (holds_at node m) + n) (members_weigh node weight ms)
     ∙ sym (sum_by-append weight (holds_at node m) (flat_map (holds_at node) ms))
 
@@ -136,7 +142,7 @@ node_weighs : (w : PlainWorld) (node : ℕ) (weight : ℕ → ℕ) (d : PlainDec
     → sum_by (weight_at node weight) (record_of w).held ≡ sum_by weight (all_numbers w.members node d)
 node_weighs w node weight d e =
     let queues = queues_held 0 w.decks in
-    let members = map member_held w.members in
+    let members = flat_map member_held w.members in
     let pools = pools_held 0 (map (λ d. d.pool) w.decks) in
     let taken = flat_map (holds_at node) w.members in
     let pooled = buffer_numbers d.pool.items in

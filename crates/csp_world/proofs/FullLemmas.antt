@@ -9,14 +9,15 @@ use Rattle.std.proofs.lemmas.List.FromFn.{length-range_with_len}
 use Rattle.std.proofs.lemmas.List.Sums.{count_by-le-length}
 use Rattle.csp_buffer.specs.Content.{Content}
 use Rattle.csp_lists.specs.Gathered.{queued_numbers}
-use Rattle.csp_lists.specs.PlainDeck.{PlainDeck, answer_of, numbers_in, buffer_numbers}
+use Rattle.csp_lists.specs.PlainDeck.{PlainDeck, numbers_in, buffer_numbers}
 use Rattle.csp_deck.specs.Step.{times}
 use Rattle.csp_log.specs.declared.shown.AnswerShown.TheVariants as answer
-use Rattle.csp_party.specs.Any.{holds, asks, has_ended}
+use Rattle.csp_party.specs.Any.{holds, has_ended}
 use Rattle.csp_record.specs.Who.{node_of}
-use Rattle.csp_world.specs.Holders.{holds_at, numbers_at, IsConserved}
+use Rattle.csp_world.specs.Grown.{IsFullFor}
+use Rattle.csp_world.specs.Holders.{is_at, is_home, holds_at, numbers_at, IsConserved}
 use Rattle.csp_world.specs.Seen.{answer_at_place}
-use Rattle.csp_world.specs.World.{PlainMember, PlainWorld}
+use Rattle.csp_world.specs.World.{PlainMember, PlainWorld, answered}
 use Rattle.csp_world.proofs.CountLaws.{Gathers, Long, times_joined}
 use Rattle.csp_world.proofs.StepLemmas.{result_known}
 
@@ -49,28 +50,29 @@ among node k (x ∷ ms) (suc place) m e =
     omega (arith, parts, rest)
 
 -- so a pool is not full while a party of its node holds a number
-not_full : Long → Gathers → (w : PlainWorld) (place n : ℕ) (m : PlainMember) (d : PlainDeck) → slice_get w.members place ≡ Some m → slice_get w.decks (node_of m.who) ≡ Some d → IsConserved w
+not_full : Long → Gathers → (w : PlainWorld) (place node n : ℕ) (m : PlainMember) (d : PlainDeck) → slice_get w.members place ≡ Some m → node_of m.who ≡ Some node → slice_get w.decks node ≡ Some d → IsConserved w
     → 1 ≤ times n (holds m.party) → length d.pool.items < d.pool.room
-not_full same gathers w place n m d e s kept has =
-    let node = node_of m.who in
+not_full same gathers w place node n m d e home s kept has =
     let whole = node_length same w node d s kept in
     let lists = deck_length same gathers d in
     let own : (node == node) ≡ true = grind (arith, nat_tests) in
-    let its : holds_at node m ≡ holds m.party = rw own refl in
+    let here : is_at node m.who ≡ true = ap (is_home node) home ∙ own in
+    let its : holds_at node m ≡ holds m.party = rw here refl in
     let part = among node n w.members place m e in
     let part' : times n (holds m.party) ≤ times n (flat_map (holds_at node) w.members) = subst (λ (ns : List ℕ). times n ns ≤ times n (flat_map (holds_at node) w.members)) its part in
     let some = count_by-le-length (λ x. x == n) (flat_map (holds_at node) w.members) in
     omega (arith, whole, lists, part', some, has)
 
 -- no turn is answered that the pool is full
-pub never_full : Long → Gathers → (w : PlainWorld) (place : ℕ) (m : PlainMember) (d : PlainDeck) → slice_get w.members place ≡ Some m → slice_get w.decks (node_of m.who) ≡ Some d → IsConserved w
-    → (has_ended m.party ≡ false → (b : Content) → (answer_of d (asks m.party w.time)).0 ≡ answer.PoolFull b → (d.pool.room ≤ length d.pool.items) × (1 ≤ times b.number (holds m.party)))
+pub never_full : Long → Gathers → (w : PlainWorld) (place : ℕ) (m : PlainMember) → slice_get w.members place ≡ Some m → IsConserved w
+    → (has_ended m.party ≡ false → (b : Content) → (answered w.decks w.links w.time m).0 ≡ answer.PoolFull b → IsFullFor w.decks m b.number)
     → (b : Content) → answer_at_place w place ≢ Some (answer.PoolFull b)
-never_full same gathers w place m d e s kept full b a =
-    by (has_ended m.party) refl (sym (result_known w place m d e s) ∙ a) where
-      by : (t : Bool) → has_ended m.party ≡ t → (if t then None else Some (answer_of d (asks m.party w.time)).0) ≡ Some (answer.PoolFull b) → ⊥
+never_full same gathers w place m e kept full b a =
+    by (has_ended m.party) refl (sym (result_known w place m e) ∙ a) where
+      by : (t : Bool) → has_ended m.party ≡ t → (if t then None else Some (answered w.decks w.links w.time m).0) ≡ Some (answer.PoolFull b) → ⊥
       by true h f = cc
       by false h f =
-          let (is_full, has) = full h b cc in
-          let room = not_full same gathers w place b.number m d e s kept has in
+          let found = full h b cc in
+          let room = not_full same gathers w place found.node b.number m found.deck e found.home found.there kept found.has in
+          let is_full = found.full in
           absurd (omega (arith, is_full, room))

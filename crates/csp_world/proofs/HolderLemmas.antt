@@ -1,6 +1,6 @@
 -- Each number of a node is in one place of it: a turn moves it, and neither makes nor loses one.
 use Rattle.std.proofs.Common.{◌≡◌, ℕ, zero, suc, ◌+◌, ◌<◌, ◌≤◌, ◌==◌, Bool, true, false, cond, Option, None, Some, List, [], ◌∷◌, ◌++◌, length, set, refl, sym, ◌∙◌, ap, subst, arith, sum_by}
-use Rattle.std.specs.Prelude.{slice_get}
+use Rattle.std.specs.Prelude.{slice_get, if◌then◌else◌}
 use Rattle.std.specs.List.{range_with_len, flat_map}
 use Rattle.std.specs.Option.{option_map}
 use Rattle.std.proofs.lemmas.List.{length-append, length-replicate}
@@ -9,12 +9,13 @@ use Rattle.std.proofs.lemmas.Option.{slice_get-map}
 use Rattle.std.proofs.lemmas.Bool.Decides.{nat_tests}
 use Rattle.csp_lists.specs.PlainDeck.{PlainDeck, holders_of, numbers_in}
 use Rattle.csp_deck.specs.Step.{times}
-use Rattle.csp_party.specs.Any.{holds}
-use Rattle.csp_record.specs.Who.{node_of, place_of}
-use Rattle.csp_world.specs.Holders.{holds_at, holder_at, deck_holders, holders, counts, HasOneHolder, numbers_at, IsConserved}
+use Rattle.csp_log.specs.declared.places.Place.{Place}
+use Rattle.csp_record.specs.Who.{home_of}
+use Rattle.csp_world.specs.Inside.{rooms}
+use Rattle.csp_world.specs.Holders.{is_at, is_home, holds_at, holder_at, places_held, deck_holders, holders, counts, HasOneHolder, numbers_at, IsConserved}
 use Rattle.csp_world.specs.World.{PlainMember, PlainWorld}
 use Rattle.csp_world.proofs.CountLaws.{times_joined}
-use Rattle.csp_world.proofs.SetLemmas.{set_here, set_there, sum_set}
+use Rattle.csp_world.proofs.SetLemmas.{sum_set}
 
 times-cons : (k x : ℕ) (xs : List ℕ) → times k (x ∷ xs) ≡ cond (x == k) 1 0 + times k xs
 times-cons k x xs = sum_by-cons (λ n. cond (n == k) 1 0) x xs
@@ -42,12 +43,22 @@ once_from k a (suc n) h l = by (a == k) refl (λ up. once_from k (a + 1) n up (o
 pub once : (k n : ℕ) → k < n → times k (range_with_len 0 n) ≡ 1
 once k n h = once_from k 0 n (omega arith) (omega arith)
 
+-- a party is a holder as often as it holds the number
+one_count : (node k : ℕ) (m : PlainMember) → length (holder_at node k m) ≡ times k (holds_at node m)
+one_count node k m = by (home_of m.who) refl where
+  by : (home : Option (ℕ × Place)) → home_of m.who ≡ home → length (places_held (times k (holds_at node m)) home) ≡ times k (holds_at node m)
+  by (Some h) e = length-replicate (times k (holds_at node m)) h.1
+  by None e =
+      let away : is_at node m.who ≡ false = ap (λ (o : Option (ℕ × Place)). is_home node (option_map (λ (h : ℕ × Place). h.0) o)) e in
+      let none : holds_at node m ≡ [] = rw away refl in
+      sym (ap (times k) none)
+
 -- a number has as many holders among the parties of a node as it is often with them
 pub count_holders : (node k : ℕ) (ms : List PlainMember) → length (flat_map (holder_at node k) ms) ≡ times k (flat_map (holds_at node) ms)
 count_holders node k [] = refl
 count_holders node k (m ∷ ms) =
     length-append (holder_at node k m) (flat_map (holder_at node k) ms)
-    ∙ ap (λ n. n + length (flat_map (holder_at node k) ms)) (length-replicate (times k (holds_at node m)) (place_of m.who))
+    ∙ ap (λ n. n + length (flat_map (holder_at node k) ms)) (one_count node k m)
     ∙ ap (λ n. times k (holds_at node m) + n) (count_holders node k ms)
     ∙ sym (times_joined k (holds_at node m) (flat_map (holds_at node) ms))
 
@@ -89,60 +100,34 @@ members_set node k ms place old new e =
     ∙ sum_set (λ (m : PlainMember). times k (holds_at node m)) ms place old new e
     ∙ ap (λ n. n + times k (holds_at node new)) (sym (as_sum node k ms))
 
--- what a turn changes: a party, its node's lists, and what they hold together stays
-pub record Moves (w : PlainWorld) (place : ℕ) (old new : PlainMember) (d e : PlainDeck) : Type 0 where
+-- what a turn changes: a party and the lists, and what they hold together at each node stays
+pub record Moves (w : PlainWorld) (place : ℕ) (old new : PlainMember) (after : List PlainDeck) : Type 0 where
   pub old_is : slice_get w.members place ≡ Some old
-  pub deck_is : slice_get w.decks (node_of old.who) ≡ Some d
-  pub who : new.who ≡ old.who
-  pub room : e.pool.room ≡ d.pool.room
-  pub held : (k : ℕ) → times k (holds new.party) + times k (numbers_in e) ≡ times k (holds old.party) + times k (numbers_in d)
+  pub rooms : rooms after ≡ rooms w.decks
+  pub held : (node : ℕ) (d : PlainDeck) → slice_get w.decks node ≡ Some d → (e : PlainDeck) × (slice_get after node ≡ Some e)
+      × ((k : ℕ) → times k (holds_at node new) + times k (numbers_in e) ≡ times k (holds_at node old) + times k (numbers_in d))
 
-abbrev pub moved : PlainWorld → ℕ → PlainMember → PlainMember → PlainDeck → PlainWorld
-moved w place old new e = record w { decks = set w.decks (node_of old.who) e; members = set w.members place new }
+abbrev pub moved : PlainWorld → ℕ → PlainMember → List PlainDeck → PlainWorld
+moved w place new after = record w { decks = after; members = set w.members place new }
 
--- at the party's own node
-moved_here : (w : PlainWorld) (place : ℕ) (old new : PlainMember) (d e : PlainDeck) → Moves w place old new d e → IsConserved w → (k : ℕ)
-    → times k (numbers_at (moved w place old new e) (node_of old.who) e) ≡ times k (range_with_len 0 e.pool.room)
-moved_here w place old new d e v kept k =
-    let node = node_of old.who in
-    let same : (node == node) ≡ true = grind (arith, nat_tests) in
-    let same' : (node_of new.who == node) ≡ true = rw (v.who, same) refl in
-    let held_old : holds_at node old ≡ holds old.party = rw same refl in
-    let held_new : holds_at node new ≡ holds new.party = rw same' refl in
-    let changed = members_set node k w.members place old new v.old_is in
-    add _ _ _ _ _ _ _ _ _ _
-    (times_joined k (numbers_in e) (flat_map (holds_at node) (set w.members place new)))
-    (times_joined k (numbers_in d) (flat_map (holds_at node) w.members))
-    changed (ap (times k) held_old) (ap (times k) held_new) (v.held k)
-    ∙ kept node d v.deck_is k ∙ ap (λ n. times k (range_with_len 0 n)) (sym v.room) where
-      add : (all all' e f d g ho hn po pn : ℕ) → all ≡ e + f → all' ≡ d + g → f + ho ≡ g + hn → ho ≡ po → hn ≡ pn → pn + e ≡ po + d → all ≡ all'
-      add all all' e f d g ho hn po pn a b c h i j = omega arith
-
--- and at any other
-moved_there : (w : PlainWorld) (place node : ℕ) (old new : PlainMember) (d e x : PlainDeck) → Moves w place old new d e → (node_of old.who == node) ≡ false → slice_get w.decks node ≡ Some x → IsConserved w → (k : ℕ)
-    → times k (numbers_at (moved w place old new e) node x) ≡ times k (range_with_len 0 x.pool.room)
-moved_there w place node old new d e x v apart s kept k =
-    let apart' : (node_of new.who == node) ≡ false = rw (v.who, apart) refl in
-    let held_old : holds_at node old ≡ [] = rw apart refl in
-    let held_new : holds_at node new ≡ [] = rw apart' refl in
-    let changed = members_set node k w.members place old new v.old_is in
-    add _ _ _ _ _ _ _
-    (times_joined k (numbers_in x) (flat_map (holds_at node) (set w.members place new)))
-    (times_joined k (numbers_in x) (flat_map (holds_at node) w.members))
-    changed (ap (times k) held_old) (ap (times k) held_new)
-    ∙ kept node x s k where
-      add : (all all' e f g ho hn : ℕ) → all ≡ e + f → all' ≡ e + g → f + ho ≡ g + hn → ho ≡ 0 → hn ≡ 0 → all ≡ all'
-      add all all' e f g ho hn a b c h i = omega arith
+-- the lists that stood at a node, with as much room
+stood : (decks after : List PlainDeck) (node : ℕ) (x : PlainDeck) → rooms after ≡ rooms decks → slice_get after node ≡ Some x → (d : PlainDeck) × (slice_get decks node ≡ Some d) × (d.pool.room ≡ x.pool.room)
+stood decks after node x same s = by (slice_get decks node) refl (sym (slice_get-map (λ (d : PlainDeck). d.pool.room) decks node) ∙ ap (λ l. slice_get l node) (sym same) ∙ slice_get-map (λ (d : PlainDeck). d.pool.room) after node ∙ ap (option_map (λ (d : PlainDeck). d.pool.room)) s) where
+  by : (o : Option PlainDeck) → slice_get decks node ≡ o → option_map (λ (d : PlainDeck). d.pool.room) o ≡ Some x.pool.room → (d : PlainDeck) × (slice_get decks node ≡ Some d) × (d.pool.room ≡ x.pool.room)
+  by None e f = cc
+  by (Some d) e f = (d, e, cc)
 
 -- each node has what it had
-pub moves_conserve : (w : PlainWorld) (place : ℕ) (old new : PlainMember) (d e : PlainDeck) → Moves w place old new d e → IsConserved w → IsConserved (moved w place old new e)
-moves_conserve w place old new d e v kept node x s k = by (node_of old.who == node) refl where
-  by : (b : Bool) → (node_of old.who == node) ≡ b → times k (numbers_at (moved w place old new e) node x) ≡ times k (range_with_len 0 x.pool.room)
-  by true t =
-      let same : node_of old.who ≡ node = grind (arith, nat_tests, t) in
-      let there : slice_get (set w.decks (node_of old.who) e) (node_of old.who) ≡ Some x = subst (λ n. slice_get (set w.decks (node_of old.who) e) n ≡ Some x) (sym same) s in
-      let here = set_here w.decks (node_of old.who) d e v.deck_is in
-      let is : x ≡ e = cc in
-      subst (λ n. times k (numbers_at (moved w place old new e) n x) ≡ times k (range_with_len 0 x.pool.room)) same
-      (subst (λ (y : PlainDeck). times k (numbers_at (moved w place old new e) (node_of old.who) y) ≡ times k (range_with_len 0 y.pool.room)) (sym is) (moved_here w place old new d e v kept k))
-  by false t = moved_there w place node old new d e x v t (sym (set_there w.decks (node_of old.who) node e t) ∙ s) kept k
+pub moves_conserve : (w : PlainWorld) (place : ℕ) (old new : PlainMember) (after : List PlainDeck) → Moves w place old new after → IsConserved w → IsConserved (moved w place new after)
+moves_conserve w place old new after v kept node x s k =
+    let (d, at, room) = stood w.decks after node x v.rooms s in
+    let (e, there, held) = v.held node d at in
+    let is : e ≡ x = cc in
+    let held' : times k (holds_at node new) + times k (numbers_in x) ≡ times k (holds_at node old) + times k (numbers_in d) = subst (λ (y : PlainDeck). times k (holds_at node new) + times k (numbers_in y) ≡ times k (holds_at node old) + times k (numbers_in d)) is (held k) in
+    add _ _ _ _ _ _ _ _
+    (times_joined k (numbers_in x) (flat_map (holds_at node) (set w.members place new)))
+    (times_joined k (numbers_in d) (flat_map (holds_at node) w.members))
+    (members_set node k w.members place old new v.old_is) held'
+    ∙ kept node d at k ∙ ap (λ n. times k (range_with_len 0 n)) room where
+      add : (all all' e f d g ho hn : ℕ) → all ≡ e + f → all' ≡ d + g → f + ho ≡ g + hn → hn + e ≡ ho + d → all ≡ all'
+      add all all' e f d g ho hn a b c h = omega arith

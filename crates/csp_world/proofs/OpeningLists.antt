@@ -1,5 +1,7 @@
--- Lemmas on lists with one element more at the end.
-use Rattle.std.proofs.Common.{◌≡◌, ℕ, ◌<◌, zero, suc, List, [], ◌∷◌, ◌++◌, Some, length, ap, refl, subst, arith, flat_map, slice_get, IsSomeAnd}
+-- Lemmas on longer lists, and on what a filter keeps of a list.
+use Rattle.std.proofs.Common.{◌≡◌, ℕ, ◌<◌, ◌≤◌, Bool, true, false, not, cond, zero, suc, List, [], ◌∷◌, ◌++◌, Some, length, take, ap, refl, ◌∙◌, subst, arith, flat_map, slice_get, IsSomeAnd}
+use Rattle.std.specs.List.{filter}
+use Rattle.std.proofs.lemmas.List.Filters.{length-filter_both}
 use Rattle.std.proofs.lemmas.Option.{same_Some}
 
 -- what is so of each element of a list at its place, and of one more after them, is so of each of the longer list
@@ -11,10 +13,15 @@ each-push P (z ∷ xs) x h p zero y e = h zero y e
 each-push P (z ∷ xs) x h p (suc k) y e = each-push (λ j. P (suc j)) xs x (λ j. h (suc j)) p k y e
 
 -- the element at a place of a list is there in a longer one too
-pub some-longer : {A : Type 0} (Q : A → Type 0) (xs ys : List A) (k : ℕ) → IsSomeAnd (slice_get xs k) Q → IsSomeAnd (slice_get (xs ++ ys) k) Q
-some-longer Q [] ys k h = absurd h
-some-longer Q (x ∷ xs) ys zero h = h
-some-longer Q (x ∷ xs) ys (suc k) h = some-longer Q xs ys k h
+pub get-longer : {A : Type 0} (xs ys : List A) (k : ℕ) (x : A) → slice_get xs k ≡ Some x → slice_get (xs ++ ys) k ≡ Some x
+get-longer [] ys k x e = absurd cc
+get-longer (z ∷ xs) ys zero x e = e
+get-longer (z ∷ xs) ys (suc k) x e = get-longer xs ys k x e
+
+-- the element after a list
+pub get-push : {A : Type 0} (xs : List A) (x : A) → slice_get (xs ++ x ∷ []) (length xs) ≡ Some x
+get-push [] x = refl
+get-push (z ∷ xs) x = get-push xs x
 
 -- the place of an element is within the list
 pub some-within : {A : Type 0} (Q : A → Type 0) (xs : List A) (k : ℕ) → IsSomeAnd (slice_get xs k) Q → k < length xs
@@ -26,3 +33,19 @@ some-within Q (x ∷ xs) (suc k) h = omega (arith, some-within Q xs k h)
 pub flat_map-push_none : {A B : Type 0} (f : A → List B) (xs : List A) (x : A) → f x ≡ [] → flat_map f (xs ++ x ∷ []) ≡ flat_map f xs
 flat_map-push_none f [] x e = rw e refl
 flat_map-push_none f (y ∷ xs) x e = ap (λ l. f y ++ l) (flat_map-push_none f xs x e)
+
+-- a filter keeps no more than there was
+pub filter_long : {A : Type 0} (p : A → Bool) (xs : List A) → length (filter p xs) ≤ length xs
+filter_long p xs = omega (arith, length-filter_both p (λ x. not (p x)) (λ x. refl) xs)
+
+-- what it keeps stands after what it keeps of those before
+pub filter_place : {A : Type 0} (p : A → Bool) (xs : List A) (i : ℕ) (x : A) → slice_get xs i ≡ Some x → p x ≡ true → slice_get (filter p xs) (length (filter p (take i xs))) ≡ Some x
+filter_place p [] i x at passes = absurd cc
+filter_place p (y ∷ xs) zero x at passes = first (p y) (ap p (same_Some y x at) ∙ passes) where
+  first : (b : Bool) → b ≡ true → slice_get (cond b (y ∷ filter p xs) (filter p xs)) 0 ≡ Some x
+  first true e = at
+  first false e = absurd cc
+filter_place p (y ∷ xs) (suc i) x at passes = later (p y) (filter_place p xs i x at passes) where
+  later : (b : Bool) → slice_get (filter p xs) (length (filter p (take i xs))) ≡ Some x → slice_get (cond b (y ∷ filter p xs) (filter p xs)) (length (cond b (y ∷ filter p (take i xs)) (filter p (take i xs)))) ≡ Some x
+  later true rest = rest
+  later false rest = rest

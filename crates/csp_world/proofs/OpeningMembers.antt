@@ -1,62 +1,58 @@
 -- Lemmas on a world to which a party is added that is new.
-use Rattle.std.proofs.Common.{◌≡◌, ℕ, ◌+◌, ◌<◌, ◌≤◌, ◌^◌, Bool, true, false, ◌==◌, List, [], ◌∷◌, ◌++◌, Option, Some, None, length, map, ap, refl, sym, ◌∙◌, subst, arith, slice_get, IsSomeAnd, vec_capacity, Vec, Global, length-append, if◌then◌else◌}
+use Rattle.std.proofs.Common.{◌≡◌, ℕ, ◌+◌, ◌<◌, ◌≤◌, ◌^◌, Bool, true, false, List, [], ◌∷◌, ◌++◌, Option, Some, None, length, map, ap, refl, sym, ◌∙◌, subst, arith, slice_get, IsSomeAnd, vec_capacity, Vec, Global, length-append, if◌then◌else◌}
 use Rattle.std.specs.List.{flat_map}
 use Rattle.std.proofs.lemmas.List.{map-append}
-use Rattle.std.proofs.lemmas.List.Elements.{All-push}
-use Rattle.csp_lists.specs.PlainDeck.{PlainDeck, numbers_in}
 use Rattle.csp_deck.specs.Step.{times}
+use Rattle.csp_lists.specs.PlainDeck.{PlainDeck, numbers_in}
+use Rattle.csp_nodes.specs.DecksAt.{DecksAt}
 use Rattle.csp_party.specs.Any.{holds, plain, region_of}
 use Rattle.csp_record.specs.Who.{node_of}
 use Rattle.csp_world.proofs.OpeningLists.{each-push, flat_map-push_none}
-use Rattle.csp_world.specs.Holders.{holds_at, IsConserved}
-use Rattle.csp_world.specs.Inside.{decks_of, regions_of, world_of, IsFit, IsNew, AllFit, AllHome, HasRoom, IsWorld}
+use Rattle.csp_world.specs.Holders.{holds_at, is_home, IsConserved}
+use Rattle.csp_world.specs.Inside.{world_of, rooms, IsFit, IsNew, AllFit, HasRoom, IsWorld}
 use Rattle.csp_world.specs.Seen.{plain_member}
 use Rattle.csp_world.specs.declared.member.Member.{Member}
 use Rattle.csp_world.specs.declared.room.Room.{Room}
 use Rattle.csp_world.specs.declared.world.World.TheInside.{Inside}
 
+-- there is room for the numbers of a party's node
+abbrev pub HasNumbers : List PlainDeck → Option ℕ → ℕ → Type 0
+HasNumbers decks home count = (node : ℕ) → home ≡ Some node → IsSomeAnd (slice_get (rooms decks) node) (λ room. room ≤ count)
+
+enough : (count more : ℕ) (o : Option ℕ) → count ≤ more → IsSomeAnd o (λ room. room ≤ count) → IsSomeAnd o (λ room. room ≤ more)
+enough count more None le h = h
+enough count more (Some room) le h = omega (arith, le, h)
+
 -- a party that is new, with an empty log and room for the numbers of its node, is fit
-pub new_fit : (d : PlainDeck) (time buffers : ℕ) (m : Member) → IsNew d m.party × (d.pool.room ≤ buffers) → m.numbers.items ≡ [] → buffers ≤ vec_capacity m.numbers → IsFit d time m
-new_fit d time buffers m new none room = record {
-  ready = λ later from until goes. new.0.ready later until goes;
-  counted = omega (arith, new.0.counted);
-  served = new.0.served;
+pub new_fit : (d : DecksAt) (time buffers : ℕ) (ms : List Member) (m : Member) → IsNew (world_of d ms time) m.who m.party → HasNumbers d.decks (node_of m.who) buffers
+    → ((node : ℕ) → node_of m.who ≡ Some node → slice_get d.regions node ≡ Some (region_of m.party))
+    → m.numbers.items ≡ [] → buffers ≤ vec_capacity m.numbers → m.log.spare ≡ 0 → IsFit d time m
+new_fit d time buffers ms m new room home none fits spare = record {
+  ready = λ later from until goes. new.ready later until goes;
+  counted = omega (arith, new.counted);
+  served = new.served;
+  called = new.called;
+  home = home;
   unnoted = none;
-  room = omega (arith, new.1, room);
+  room = λ node at. enough buffers (vec_capacity m.numbers) (slice_get (rooms d.decks) node) fits (room node at);
+  stock = rw spare (omega arith);
 }
 
--- with it all are fit
-pub all_fit-push : (decks : List PlainDeck) (time buffers : ℕ) (ms : List Member) (m : Member)
-    → AllFit decks time ms → IsSomeAnd (slice_get decks (node_of m.who)) (λ d. IsNew d m.party × (d.pool.room ≤ buffers)) → m.numbers.items ≡ [] → buffers ≤ vec_capacity m.numbers
-    → AllFit decks time (ms ++ m ∷ [])
-all_fit-push decks time buffers ms m fit new none room =
-    each-push (λ _ (x : Member). IsSomeAnd (slice_get decks (node_of x.who)) (λ d. IsFit d time x)) ms m fit (found (slice_get decks (node_of m.who)) new) where
-      found : (o : Option PlainDeck) → IsSomeAnd o (λ d. IsNew d m.party × (d.pool.room ≤ buffers)) → IsSomeAnd o (λ d. IsFit d time m)
-      found None h = absurd h
-      found (Some d) h = new_fit d time buffers m h none room
-
--- it holds nothing
-pub new_holds : (decks : List PlainDeck) (buffers : ℕ) (m : Member) → IsSomeAnd (slice_get decks (node_of m.who)) (λ d. IsNew d m.party × (d.pool.room ≤ buffers)) → holds (plain m.party) ≡ []
-new_holds decks buffers m new = found (slice_get decks (node_of m.who)) new where
-  found : (o : Option PlainDeck) → IsSomeAnd o (λ d. IsNew d m.party × (d.pool.room ≤ buffers)) → holds (plain m.party) ≡ []
-  found None h = absurd h
-  found (Some d) h = h.0.holds
-
--- so it holds nothing of any node
-pub none_at : (node : ℕ) (m : Member) → holds (plain m.party) ≡ [] → holds_at node (plain_member m) ≡ []
-none_at node m e = by (node_of m.who == node) where
-  by : (here : Bool) → (if here then holds (plain m.party) else []) ≡ []
+-- a party that holds nothing holds nothing of any node
+none_home : (node : ℕ) (numbers : List ℕ) (home : Option ℕ) → numbers ≡ [] → (if is_home node home then numbers else []) ≡ []
+none_home node numbers home e = by (is_home node home) where
+  by : (here : Bool) → (if here then numbers else []) ≡ []
   by true = e
   by false = refl
 
 pub flat_map-members : (node : ℕ) (ms : List Member) (m : Member) → holds (plain m.party) ≡ [] → flat_map (holds_at node) (map plain_member (ms ++ m ∷ [])) ≡ flat_map (holds_at node) (map plain_member ms)
 flat_map-members node ms m e =
-    ap (flat_map (holds_at node)) (map-append plain_member ms (m ∷ [])) ∙ flat_map-push_none (holds_at node) (map plain_member ms) (plain_member m) (none_at node m e)
+    ap (flat_map (holds_at node)) (map-append plain_member ms (m ∷ []))
+    ∙ flat_map-push_none (holds_at node) (map plain_member ms) (plain_member m) (none_home node (holds (plain m.party)) (node_of m.who) e)
 
--- and the numbers stay where they are
-pub conserved-push : (decks : List PlainDeck) (time : ℕ) (ms : List Member) (m : Member) → IsConserved (world_of decks ms time) → holds (plain m.party) ≡ [] → IsConserved (world_of decks (ms ++ m ∷ []) time)
-conserved-push decks time ms m h e node d at k =
-    ap (λ (l : List ℕ). times k (numbers_in d ++ l)) (flat_map-members node ms m e) ∙ h node d at k
+-- and with it the numbers stay where they are
+pub conserved-push : (d : DecksAt) (time : ℕ) (ms : List Member) (m : Member) → IsConserved (world_of d ms time) → holds (plain m.party) ≡ [] → IsConserved (world_of d (ms ++ m ∷ []) time)
+conserved-push d time ms m h e node deck at k = ap (λ (l : List ℕ). times k (numbers_in deck ++ l)) (flat_map-members node ms m e) ∙ h node deck at k
 
 -- the room for a record with one party more
 pub has_room-push : (decks : List PlainDeck) (count : ℕ) (r s : Room) → HasRoom decks count r
@@ -92,28 +88,28 @@ has_room-kept decks count r s h no_logs logs no_held held left emptied queues = 
 
 -- a world with one party more
 pub world-push : (w : Inside) (members : Vec Member Global) (room : Room) (buffers : ℕ) (m : Member) → IsWorld w
-    → members.items ≡ w.members.items ++ m ∷ [] → IsSomeAnd (slice_get (decks_of w.decks.items) (node_of m.who)) (λ d. IsNew d m.party × (d.pool.room ≤ buffers)) → m.numbers.items ≡ [] → buffers ≤ vec_capacity m.numbers
-    → slice_get (regions_of w.decks.items) (node_of m.who) ≡ Some (region_of m.party)
-    → length w.members.items + 1 < 2 ^ 31 → HasRoom (decks_of w.decks.items) (length w.members.items + 1) room
-    → IsWorld (record { decks = w.decks; members = members; time = w.time; room = room; workplace = w.workplace })
-world-push w members room buffers m h e new none fits home few more =
+    → members.items ≡ w.members.items ++ m ∷ [] → IsNew (world_of w.decks w.members.items w.time) m.who m.party → HasNumbers w.decks.decks (node_of m.who) buffers
+    → ((node : ℕ) → node_of m.who ≡ Some node → slice_get w.decks.regions node ≡ Some (region_of m.party))
+    → m.numbers.items ≡ [] → buffers ≤ vec_capacity m.numbers → m.log.spare ≡ 0
+    → length w.members.items + 1 < 2 ^ 31 → HasRoom w.decks.decks (length w.members.items + 1) room
+    → IsWorld (record { decks = w.decks; members = members; time = w.time; room = room; desk = w.desk })
+world-push w members room buffers m h e new numbers home none fits spare few more =
     let l : length members.items ≡ length w.members.items + 1 = ap (λ (ms : List Member). length ms) e ∙ length-append w.members.items (m ∷ []) in
     record {
-      fit = subst (λ (ms : List Member). AllFit (decks_of w.decks.items) w.time ms) (sym e) (all_fit-push (decks_of w.decks.items) w.time buffers w.members.items m h.fit new none fits);
-      home = subst (λ (ms : List Member). AllHome (regions_of w.decks.items) ms) (sym e) (All-push (λ m. slice_get (regions_of w.decks.items) (node_of m.who) ≡ Some (region_of m.party)) w.members.items m h.home home);
-      conserved = subst (λ (ms : List Member). IsConserved (world_of (decks_of w.decks.items) ms w.time)) (sym e) (conserved-push (decks_of w.decks.items) w.time w.members.items m h.conserved (new_holds (decks_of w.decks.items) buffers m new));
-      room = subst (λ (n : ℕ). HasRoom (decks_of w.decks.items) n room) (sym l) more;
+      fit = subst (λ (ms : List Member). AllFit w.decks w.time ms) (sym e)
+          (each-push (λ _ (x : Member). IsFit w.decks w.time x) w.members.items m h.fit (new_fit w.decks w.time buffers w.members.items m new numbers home none fits spare));
+      conserved = subst (λ (ms : List Member). IsConserved (world_of w.decks ms w.time)) (sym e) (conserved-push w.decks w.time w.members.items m h.conserved new.holds);
+      room = subst (λ (n : ℕ). HasRoom w.decks.decks n room) (sym l) more;
       early = h.early;
       few_decks = h.few_decks;
       few_members = omega (arith, l, few);
     }
 
 -- a world with the same parties and room enough
-pub world-kept : (w : Inside) (members : Vec Member Global) (room : Room) → IsWorld w → members.items ≡ w.members.items → HasRoom (decks_of w.decks.items) (length w.members.items) room
-    → IsWorld (record { decks = w.decks; members = members; time = w.time; room = room; workplace = w.workplace })
+pub world-kept : (w : Inside) (members : Vec Member Global) (room : Room) → IsWorld w → members.items ≡ w.members.items → HasRoom w.decks.decks (length w.members.items) room
+    → IsWorld (record { decks = w.decks; members = members; time = w.time; room = room; desk = w.desk })
 world-kept w members room h e more = record {
   fit = rw e h.fit;
-  home = rw e h.home;
   conserved = rw e h.conserved;
   room = rw e more;
   early = h.early;

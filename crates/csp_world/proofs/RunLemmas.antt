@@ -1,64 +1,97 @@
 -- Lemmas on the rounds of a run.
-use Rattle.std.proofs.Common.{◌≡◌, ℕ, zero, suc, ◌+◌, ◌-◌, ◌<◌, ◌≤◌, true, false, None, Some, refl, sym, ◌∙◌, ap, arith}
+use Rattle.std.proofs.Common.{◌≡◌, ℕ, zero, suc, ◌+◌, ◌-◌, ◌<◌, ◌≤◌, true, false, None, Some, [], refl, sym, ◌∙◌, ap, arith, List, ◌∷◌, length}
 use Rattle.std.specs.Prelude.{nat_le}
+use Rattle.std.specs.List.{list_all}
+use Rattle.std.proofs.lemmas.Bool.{false≢true}
 use Rattle.std.proofs.lemmas.Grind.{common_steps}
 use Rattle.csp_scene.specs.Scene.{PlainScene}
 use Rattle.csp_world.specs.declared.limits.TheConstants.{MAX_ENTRIES}
+use Rattle.csp_world.specs.declared.rounds.Order.{Order}
 use Rattle.csp_record.specs.Record.{PlainRecord}
 use Rattle.csp_world.specs.Record.{record_of, sim_record}
-use Rattle.csp_world.specs.Schedule.{round, rounds, run}
-use Rattle.csp_world.specs.World.{PlainWorld, finished, entries}
+use Rattle.csp_world.specs.Schedule.{next_order, round, rounds, run, run_by, run_rounds, run_moves}
+use Rattle.csp_world.specs.World.{PlainMember, PlainWorld, is_done, finished, entries}
 use Rattle.csp_world.specs.Opening.{opening}
 
--- a scene whose applications have all ended before the first round
-pub run_at_once : (scene : PlainScene) (w : PlainWorld) → w ≡ opening scene → finished w ≡ true → run scene ≡ Some w
-unfolding run
-run_at_once scene w e f = let f' : finished (opening scene) ≡ true = ap finished (sym e) ∙ f in rw f' (ap Some (sym e))
+-- where every application has ended before the first round, none is made
+pub run_at_once : (most : ℕ) (o : Order) (w : PlainWorld) → finished w ≡ true → run_rounds most o w ≡ Some w
+unfolding run_rounds
+run_at_once most o w f = rw f refl
 
--- any other scene's run is its rounds
-pub run_later : (scene : PlainScene) (w : PlainWorld) → w ≡ opening scene → finished w ≡ false → rounds scene.until w ≡ run scene
-unfolding run
-run_later scene w e f = let f' : finished (opening scene) ≡ false = ap finished (sym e) ∙ f in rw f' (ap (rounds scene.until) e)
+-- any other run is its rounds
+pub run_later : (most : ℕ) (o : Order) (w : PlainWorld) → finished w ≡ false → rounds most o w ≡ run_rounds most o w
+unfolding run_rounds
+run_later most o w f = rw f refl
 
-rounds_zero : (w : PlainWorld) → rounds zero w ≡ Some w
+rounds_zero : (o : Order) (w : PlainWorld) → rounds zero o w ≡ Some w
 unfolding rounds
-rounds_zero w = refl
+rounds_zero o w = refl
 
-pub rounds_over : (n : ℕ) (w : PlainWorld) → n ≡ 0 → rounds n w ≡ Some w
-rounds_over n w e = ap (λ k. rounds k w) e ∙ rounds_zero w
+pub rounds_over : (n : ℕ) (o : Order) (w : PlainWorld) → n ≡ 0 → rounds n o w ≡ Some w
+rounds_over n o w e = ap (λ k. rounds k o w) e ∙ rounds_zero o w
 
-finished_suc : (n : ℕ) (w : PlainWorld) → finished (round w) ≡ true → rounds (suc n) w ≡ Some (round w)
+finished_suc : (n : ℕ) (o : Order) (w : PlainWorld) → finished (round o w) ≡ true → rounds (suc n) o w ≡ Some (round o w)
 unfolding rounds
-finished_suc n w f = rw f refl
+finished_suc n o w f = rw f refl
 
-limit_suc : (n : ℕ) (w : PlainWorld) → finished (round w) ≡ false → nat_le MAX_ENTRIES (entries (round w)) ≡ true → rounds (suc n) w ≡ None
+limit_suc : (n : ℕ) (o : Order) (w : PlainWorld) → finished (round o w) ≡ false → nat_le MAX_ENTRIES (entries (round o w)) ≡ true → rounds (suc n) o w ≡ None
 unfolding rounds
-limit_suc n w f h = rw (f, h) refl
+limit_suc n o w f h = rw (f, h) refl
 
-on_suc : (n : ℕ) (w : PlainWorld) → finished (round w) ≡ false → nat_le MAX_ENTRIES (entries (round w)) ≡ false → rounds (suc n) w ≡ rounds n (round w)
+on_suc : (n : ℕ) (o : Order) (w : PlainWorld) → finished (round o w) ≡ false → nat_le MAX_ENTRIES (entries (round o w)) ≡ false → rounds (suc n) o w ≡ rounds n (next_order (length w.members) o) (round o w)
 unfolding rounds
-on_suc n w f h = rw (f, h) refl
+on_suc n o w f h = rw (f, h) refl
 
 -- after a round every application has ended
-pub round_finished : (most i : ℕ) (w v : PlainWorld) → i < most → v ≡ round w → finished v ≡ true → rounds (most - i) w ≡ Some v
-round_finished most i w v h e f =
+pub round_finished : (most i : ℕ) (o : Order) (w v : PlainWorld) → i < most → v ≡ round o w → finished v ≡ true → rounds (most - i) o w ≡ Some v
+round_finished most i o w v h e f =
     let n : most - i ≡ suc (most - (i + 1)) = omega arith in
-    ap (λ k. rounds k w) n ∙ finished_suc (most - (i + 1)) w (ap finished (sym e) ∙ f) ∙ ap Some (sym e)
+    ap (λ k. rounds k o w) n ∙ finished_suc (most - (i + 1)) o w (ap finished (sym e) ∙ f) ∙ ap Some (sym e)
 
 -- after a round the logs have reached the limit
-pub round_limit : (most i : ℕ) (w v : PlainWorld) → i < most → v ≡ round w → finished v ≡ false → MAX_ENTRIES ≤ entries v → rounds (most - i) w ≡ None
-round_limit most i w v h e f full =
+pub round_limit : (most i : ℕ) (o : Order) (w v : PlainWorld) → i < most → v ≡ round o w → finished v ≡ false → MAX_ENTRIES ≤ entries v → rounds (most - i) o w ≡ None
+round_limit most i o w v h e f full =
     let n : most - i ≡ suc (most - (i + 1)) = omega arith in
     let at : nat_le MAX_ENTRIES (entries v) ≡ true = grind (arith, common_steps) in
-    ap (λ k. rounds k w) n ∙ limit_suc (most - (i + 1)) w (ap finished (sym e) ∙ f) (ap (λ u. nat_le MAX_ENTRIES (entries u)) (sym e) ∙ at)
+    ap (λ k. rounds k o w) n ∙ limit_suc (most - (i + 1)) o w (ap finished (sym e) ∙ f) (ap (λ u. nat_le MAX_ENTRIES (entries u)) (sym e) ∙ at)
 
 -- after a round neither is so: the rounds that are left go on from there
-pub round_on : (most i : ℕ) (w v : PlainWorld) → i < most → v ≡ round w → finished v ≡ false → entries v < MAX_ENTRIES → rounds (most - (i + 1)) v ≡ rounds (most - i) w
-round_on most i w v h e f few =
+pub round_on : (most i : ℕ) (o p : Order) (w v : PlainWorld) → i < most → v ≡ round o w → p ≡ next_order (length w.members) o → finished v ≡ false → entries v < MAX_ENTRIES → rounds (most - (i + 1)) p v ≡ rounds (most - i) o w
+round_on most i o p w v h e next f few =
     let n : most - i ≡ suc (most - (i + 1)) = omega arith in
     let at : nat_le MAX_ENTRIES (entries v) ≡ false = grind (arith, common_steps) in
-    ap (rounds (most - (i + 1))) e
-    ∙ sym (ap (λ k. rounds k w) n ∙ on_suc (most - (i + 1)) w (ap finished (sym e) ∙ f) (ap (λ u. nat_le MAX_ENTRIES (entries u)) (sym e) ∙ at))
+    ap (rounds (most - (i + 1)) p) e
+    ∙ ap (λ q. rounds (most - (i + 1)) q (round o w)) next
+    ∙ sym (ap (λ k. rounds k o w) n ∙ on_suc (most - (i + 1)) o w (ap finished (sym e) ∙ f) (ap (λ u. nat_le MAX_ENTRIES (entries u)) (sym e) ∙ at))
+
+-- some application has not ended, so there is a party
+pub some_parties : (w : PlainWorld) → finished w ≡ false → 0 < length w.members
+some_parties w f = by_case w.members f where
+  by_case : (ms : List PlainMember) → list_all (λ m. is_done m.party) ms ≡ false → 0 < length ms
+  by_case [] f = absurd (false≢true (sym f))
+  by_case (m ∷ ms) f = omega arith
+
+-- after the moves
+pub moves_finished : (w : PlainWorld) → finished w ≡ true → run_moves w ≡ Some w
+unfolding run_moves
+moves_finished w f = rw f refl
+
+pub moves_limit : (w : PlainWorld) → finished w ≡ false → MAX_ENTRIES ≤ entries w → run_moves w ≡ None
+unfolding run_moves
+moves_limit w f full =
+    let at : nat_le MAX_ENTRIES (entries w) ≡ true = grind (arith, common_steps) in
+    rw (f, at) refl
+
+pub moves_over : (w : PlainWorld) → finished w ≡ false → entries w < MAX_ENTRIES → run_moves w ≡ Some w
+unfolding run_moves
+moves_over w f few =
+    let at : nat_le MAX_ENTRIES (entries w) ≡ false = grind (arith, common_steps) in
+    rw (f, at) refl
+
+-- a scene's run is that of its schedule from its opening
+pub run_from : (scene : PlainScene) (w : PlainWorld) → w ≡ opening scene → run scene ≡ run_by scene.schedule scene.until w
+unfolding run
+run_from scene w e = ap (run_by scene.schedule scene.until) (sym e)
 
 -- the record of a run's last world
 pub recorded : (scene : PlainScene) (w : PlainWorld) (r : PlainRecord) → run scene ≡ Some w → r ≡ record_of w → sim_record scene ≡ Some r

@@ -1,68 +1,89 @@
 -- Lemmas on turns that follow each other.
-use Rattle.std.proofs.Common.{◌≡◌, ℕ, suc, ◌+◌, ◌-◌, ◌<◌, ◌≤◌, Bool, true, false, Option, None, Some, List, [], ◌∷◌, ◌++◌, length, map, refl, sym, ◌∙◌, ap, arith, sum_by}
+use Rattle.std.proofs.Common.{◌≡◌, ℕ, zero, suc, ◌+◌, ◌-◌, ◌<◌, ◌≤◌, Bool, true, false, Option, None, Some, List, [], ◌∷◌, ◌++◌, length, refl, sym, ◌∙◌, ap, arith}
 use Rattle.std.specs.Prelude.{slice_get, replicate, if◌then◌else◌}
 use Rattle.std.specs.List.{range_with_len, flat_map}
-use Rattle.std.proofs.lemmas.List.{length-set}
-use Rattle.std.proofs.lemmas.List.Sums.{sum_by-append, get_or-le-sum_by}
+use Rattle.std.proofs.Math.Seq.{map-set_same}
+use Rattle.std.proofs.lemmas.List.{length-set, length-append}
+use Rattle.std.proofs.lemmas.List.Sums.{sum_by-set, get_or-le-sum_by}
 use Rattle.std.proofs.lemmas.Option.{slice_get_within, get_or_from_slice_get}
-use Rattle.csp_world.specs.declared.limits.TheConstants.{TURNS_PER_ROUND}
-use Rattle.csp_scene.specs.Scene.{PlainScene, PlainNode, PlainApp}
-use Rattle.csp_party.specs.Any.{has_ended}
+use Rattle.csp_log.specs.declared.shown.AnswerShown.{AnswerShown}
 use Rattle.csp_lists.specs.PlainDeck.{PlainDeck}
-use Rattle.csp_buffer.specs.Content.{cleared}
-use Rattle.std.proofs.lemmas.List.FromFn.{length-map-range_with_len}
-use Rattle.csp_world.specs.Holders.{counts}
+use Rattle.csp_party.specs.Any.{has_ended}
+use Rattle.csp_world.specs.declared.limits.TheConstants.{TURNS_PER_ROUND}
+use Rattle.csp_world.specs.declared.rounds.Order.{Order}
 use Rattle.csp_world.specs.Seen.{log_len}
-use Rattle.csp_world.specs.World.{PlainMember, PlainWorld, turned, turn_at, deck_of, turn, tick, entries}
-use Rattle.csp_world.specs.Opening.{opening, opened_deck, apps_from, members_from, members_of}
-use Rattle.csp_world.specs.Schedule.{turns, round, round_places}
+use Rattle.csp_world.specs.World.{PlainMember, PlainWorld, answered, told, turned, turned_by, turn_at, turn, tick, entries}
+use Rattle.csp_world.specs.Schedule.{names, turns, round, next_draw, drawn, drawn_places, draws, places_in}
 
--- a turn keeps the time and the number of parties
+-- a turn keeps the parties' names and the time, and adds at most one entry
 pub record Steady (w v : PlainWorld) : Type 0 where
   pub members : length v.members ≡ length w.members
+  pub names : names v ≡ names w
   pub time : v.time ≡ w.time
+  pub entries : entries v ≤ entries w + 1
 
-steady_if : (b : Bool) (w : PlainWorld) (place : ℕ) (party : PlainMember) (pool : PlainDeck) → Steady w (if b then w else turned w place party pool)
-steady_if true w place party pool = record { members = refl; time = refl }
-steady_if false w place party pool = record { members = length-set w.members place _; time = refl }
+steady_same : (w : PlainWorld) → Steady w w
+steady_same w = record { members = refl; names = refl; time = refl; entries = omega arith }
 
-steady_at : (w : PlainWorld) (place : ℕ) (party : Option PlainMember) (pool : Option PlainDeck) → Steady w (turn_at w place party pool)
-steady_at w place None pool = record { members = refl; time = refl }
-steady_at w place (Some party) None = record { members = refl; time = refl }
-steady_at w place (Some party) (Some pool) = steady_if (has_ended party.party) w place party pool
+steady_by : (w : PlainWorld) (place : ℕ) (m : PlainMember) (a : AnswerShown × List PlainDeck) → slice_get w.members place ≡ Some m → Steady w (turned_by w place m a)
+steady_by w place m a e =
+    let within = slice_get_within w.members place m e in
+    let here = get_or_from_slice_get w.members place m m e in
+    let all = sum_by-set (λ (p : PlainMember). length p.entries) w.members place (told m w.time a.0) m within in
+    let had : length (told m w.time a.0).entries ≡ length m.entries + 1 = simp length-append in
+    let was = ap (λ (p : PlainMember). length p.entries) here in
+    record {
+      members = length-set w.members place _;
+      names = map-set_same (λ (p : PlainMember). p.who) w.members place (told m w.time a.0) m (sym (ap (λ (p : PlainMember). p.who) here));
+      time = refl;
+      entries = omega (arith, all, had, was);
+    }
+
+steady_if : (b : Bool) (w : PlainWorld) (place : ℕ) (m : PlainMember) → slice_get w.members place ≡ Some m → Steady w (if b then w else turned w place m)
+steady_if true w place m e = steady_same w
+steady_if false w place m e = steady_by w place m (answered w.decks w.links w.time m) e
+
+steady_at : (w : PlainWorld) (place : ℕ) (o : Option PlainMember) → slice_get w.members place ≡ o → Steady w (turn_at w place o)
+steady_at w place None e = steady_same w
+steady_at w place (Some m) e = steady_if (has_ended m.party) w place m e
 
 pub steady_turn : (w : PlainWorld) (place : ℕ) → Steady w (turn w place)
 unfolding turn
-steady_turn w place = steady_at w place (slice_get w.members place) (deck_of w (slice_get w.members place))
+steady_turn w place = steady_at w place (slice_get w.members place) refl
 
-pub steady_turns : (w : PlainWorld) (places : List ℕ) → Steady w (turns w places)
+-- several turns keep the number of parties and the time
+pub record Still (w v : PlainWorld) : Type 0 where
+  pub members : length v.members ≡ length w.members
+  pub time : v.time ≡ w.time
+
+pub still_turns : (w : PlainWorld) (places : List ℕ) → Still w (turns w places)
 unfolding turns
-steady_turns w [] = record { members = refl; time = refl }
-steady_turns w (place ∷ places) =
+still_turns w [] = record { members = refl; time = refl }
+still_turns w (place ∷ places) =
     let first = steady_turn w place in
-    let rest = steady_turns (turn w place) places in
+    let rest = still_turns (turn w place) places in
     record { members = rest.members ∙ first.members; time = rest.time ∙ first.time }
 
 -- turns one after the other
-pub turns_both : (w : PlainWorld) (xs ys : List ℕ) → turns w (xs ++ ys) ≡ turns (turns w xs) ys
+turns_both : (w : PlainWorld) (xs ys : List ℕ) → turns w (xs ++ ys) ≡ turns (turns w xs) ys
 unfolding turns
 turns_both w [] ys = refl
 turns_both w (x ∷ xs) ys = turns_both (turn w x) xs ys
 
-one_turn : (w : PlainWorld) (place n : ℕ) → turns w (replicate (suc n) place) ≡ turns (turn w place) (replicate n place)
+first_turn : (w : PlainWorld) (place : ℕ) (places : List ℕ) → turns w (place ∷ places) ≡ turns (turn w place) places
 unfolding turns
-one_turn w place n = refl
-
--- one more of a party's turns is made
-pub turn_made : (w : PlainWorld) (place i : ℕ) → i < TURNS_PER_ROUND → turns (turn w place) (replicate (TURNS_PER_ROUND - (i + 1)) place) ≡ turns w (replicate (TURNS_PER_ROUND - i) place)
-turn_made w place i h =
-    let e : TURNS_PER_ROUND - i ≡ suc (TURNS_PER_ROUND - (i + 1)) = omega arith in
-    sym (ap (λ n. turns w (replicate n place)) e ∙ one_turn w place (TURNS_PER_ROUND - (i + 1)))
+first_turn w place places = refl
 
 -- no more turns
 none_left : (w : PlainWorld) → turns w [] ≡ w
 unfolding turns
 none_left w = refl
+
+-- one more of a party's turns is made
+pub turn_made : (w : PlainWorld) (place i : ℕ) → i < TURNS_PER_ROUND → turns (turn w place) (replicate (TURNS_PER_ROUND - (i + 1)) place) ≡ turns w (replicate (TURNS_PER_ROUND - i) place)
+turn_made w place i h =
+    let e : TURNS_PER_ROUND - i ≡ suc (TURNS_PER_ROUND - (i + 1)) = omega arith in
+    sym (ap (λ n. turns w (replicate n place)) e ∙ first_turn w place (replicate (TURNS_PER_ROUND - (i + 1)) place))
 
 pub turns_done : (w : PlainWorld) (n place : ℕ) → n ≡ 0 → turns w (replicate n place) ≡ w
 turns_done w n place e = ap (λ k. turns w (replicate k place)) e ∙ none_left w
@@ -82,15 +103,55 @@ party_made w v place last h e =
 pub parties_done : (w : PlainWorld) (place n : ℕ) → n ≡ 0 → turns w (places_from place n) ≡ w
 parties_done w place n e = ap (λ k. turns w (places_from place k)) e ∙ none_left w
 
--- a round is the turns of all parties, then a tick
-pub round_made : (w v : PlainWorld) → v ≡ turns w (places_from 0 (length w.members)) → tick v ≡ round w
+-- one more turn is drawn
+next_drawn : (w : PlainWorld) (parties n x : ℕ) → turns w (drawn_places parties (suc n) x) ≡ turns (turn w (drawn parties (next_draw x))) (drawn_places parties n (next_draw x))
+unfolding drawn_places
+next_drawn w parties n x = first_turn w (drawn parties (next_draw x)) (drawn_places parties n (next_draw x))
+
+pub draw_made : (w v : PlainWorld) (parties last i x y : ℕ) → i < last → y ≡ next_draw x → v ≡ turn w (drawn parties y) → turns v (drawn_places parties (last - (i + 1)) y) ≡ turns w (drawn_places parties (last - i) x)
+draw_made w v parties last i x y h d e =
+    let n : last - i ≡ suc (last - (i + 1)) = omega arith in
+    ap (λ u. turns u (drawn_places parties (last - (i + 1)) y)) e
+    ∙ ap (λ z. turns (turn w (drawn parties z)) (drawn_places parties (last - (i + 1)) z)) d
+    ∙ sym (next_drawn w parties (last - (i + 1)) x)
+    ∙ sym (ap (λ k. turns w (drawn_places parties k x)) n)
+
+none_drawn : (w : PlainWorld) (parties x : ℕ) → turns w (drawn_places parties zero x) ≡ w
+unfolding drawn_places
+none_drawn w parties x = none_left w
+
+pub draws_done : (w : PlainWorld) (parties n x : ℕ) → n ≡ 0 → turns w (drawn_places parties n x) ≡ w
+draws_done w parties n x e = ap (λ k. turns w (drawn_places parties k x)) e ∙ none_drawn w parties x
+
+next_draws : (n x : ℕ) → draws (suc n) x ≡ draws n (next_draw x)
+unfolding draws
+next_draws n x = refl
+
+pub number_made : (last i x y : ℕ) → i < last → y ≡ next_draw x → draws (last - (i + 1)) y ≡ draws (last - i) x
+number_made last i x y h d =
+    let n : last - i ≡ suc (last - (i + 1)) = omega arith in
+    ap (draws (last - (i + 1))) d ∙ sym (next_draws (last - (i + 1)) x) ∙ sym (ap (λ k. draws k x) n)
+
+no_draws : (x : ℕ) → draws zero x ≡ x
+unfolding draws
+no_draws x = refl
+
+pub number_done : (n x : ℕ) → n ≡ 0 → draws n x ≡ x
+number_done n x e = ap (λ k. draws k x) e ∙ no_draws x
+
+-- a round is its turns, then a tick
+pub round_made : (w v : PlainWorld) (o : Order) → v ≡ turns w (places_in (length w.members) o) → tick v ≡ round o w
 unfolding round
-round_made w v e = ap tick e
+round_made w v o e = ap tick e
 
 -- a round keeps the number of parties, and the time is one more
-pub round_time : (w : PlainWorld) → (round w).time ≡ w.time + 1
+pub round_time : (w : PlainWorld) (o : Order) → (round o w).time ≡ w.time + 1
 unfolding round
-round_time w = ap (λ t. t + 1) (steady_turns w (round_places (length w.members))).time
+round_time w o = ap (λ t. t + 1) (still_turns w (places_in (length w.members) o)).time
+
+pub round_members : (w : PlainWorld) (o : Order) → length (round o w).members ≡ length w.members
+unfolding round
+round_members w o = (still_turns w (places_in (length w.members) o)).members
 
 -- no log is longer than all together
 pub log_within : (w : PlainWorld) (place : ℕ) → log_len (slice_get w.members place) ≤ entries w
@@ -100,35 +161,3 @@ log_within w place = by_case (slice_get w.members place) refl where
   by_case (Some party) e =
       let h = get_or-le-sum_by (λ (p : PlainMember). length p.entries) w.members place party (slice_get_within w.members place party e) in
       rw (get_or_from_slice_get w.members place party party e) at h
-
--- nothing is logged at opening
-apps_empty : (node number : ℕ) (apps : List PlainApp) → sum_by (λ (p : PlainMember). length p.entries) (apps_from node number apps) ≡ 0
-apps_empty node number [] = refl
-apps_empty node number (app ∷ apps) = let h = apps_empty node (number + 1) apps in omega (arith, h)
-
-parties_empty : (place : ℕ) (nodes : List PlainNode) → sum_by (λ (p : PlainMember). length p.entries) (members_from place nodes) ≡ 0
-parties_empty place [] = refl
-parties_empty place (node ∷ nodes) =
-    let a = sum_by-append (λ (p : PlainMember). length p.entries) (members_of place node) (members_from (place + 1) nodes) in
-    let b = apps_empty place 0 node.apps in
-    let d = parties_empty (place + 1) nodes in
-    omega (arith, a, b, d)
-
-pub opening_empty : (scene : PlainScene) → entries (opening scene) ≡ 0
-unfolding opening
-opening_empty scene = parties_empty 0 scene.nodes
-
-pub opening_time : (scene : PlainScene) → (opening scene).time ≡ 0
-unfolding opening
-opening_time scene = refl
-
--- a node has the buffers that its line states
-opened_count : (nodes : List PlainNode) → map (λ (d : PlainDeck). d.pool.room) (map opened_deck nodes) ≡ map (λ n. n.buffers) nodes
-opened_count [] = refl
-opened_count (n ∷ nodes) =
-    ap (λ k. k ∷ map (λ (d : PlainDeck). d.pool.room) (map opened_deck nodes)) (length-map-range_with_len cleared 0 n.buffers)
-    ∙ ap (λ ks. n.buffers ∷ ks) (opened_count nodes)
-
-pub opening_counts : (scene : PlainScene) → counts (opening scene) ≡ map (λ n. n.buffers) scene.nodes
-unfolding opening
-opening_counts scene = opened_count scene.nodes

@@ -1,20 +1,33 @@
 -- Who holds a buffer: each number of each node has exactly one holder.
-use Rattle.std.specs.Prelude.{ℕ, ◌≡◌, ◌==◌, ◌<◌, Option, None, Some, List, [], ◌++◌, length, map, replicate, slice_get, if◌then◌else◌}
+use Rattle.std.specs.Prelude.{ℕ, Bool, false, ◌≡◌, ◌==◌, ◌<◌, Option, None, Some, List, [], ◌++◌, length, map, replicate, slice_get, if◌then◌else◌}
 use Rattle.std.specs.List.{range_with_len, flat_map}
 use Rattle.csp_lists.specs.PlainDeck.{PlainDeck, holders_of, numbers_in}
 use Rattle.csp_deck.specs.Step.{times}
 use Rattle.csp_log.specs.declared.places.Place.{Place}
 use Rattle.csp_party.specs.Any.{holds}
-use Rattle.csp_record.specs.Who.{node_of, place_of}
+use Rattle.csp_record.specs.Who.{home_of, node_of}
+use Rattle.csp_record.specs.declared.who.Who.{Who}
 use Rattle.csp_world.specs.World.{PlainMember, PlainWorld}
+
+-- whether a party is one of this node: a link is of none
+abbrev pub is_home : ℕ → Option ℕ → Bool
+is_home node None = false
+is_home node (Some home) = home == node
+
+abbrev pub is_at : ℕ → Who → Bool
+is_at node w = is_home node (node_of w)
 
 -- the numbers that a party holds, where it is one of this node
 abbrev pub holds_at : ℕ → PlainMember → List ℕ
-holds_at node m = (if node_of m.who == node then holds m.party else [])
+holds_at node m = (if is_at node m.who then holds m.party else [])
 
 -- the place of a party of this node, as often as it holds the number
+abbrev pub places_held : ℕ → Option (ℕ × Place) → List Place
+places_held count None = []
+places_held count (Some home) = replicate count home.1
+
 abbrev pub holder_at : ℕ → ℕ → PlainMember → List Place
-holder_at node k m = replicate (times k (holds_at node m)) (place_of m.who)
+holder_at node k m = places_held (times k (holds_at node m)) (home_of m.who)
 
 -- the places of these lists that hold a number
 abbrev pub deck_holders : Option PlainDeck → ℕ → List Place

@@ -1,12 +1,16 @@
 -- The world that the fields of the program's world are, and what is true of them.
-use Rattle.std.specs.Prelude.{ℕ, ◌≡◌, ◌+◌, ◌<◌, ◌≤◌, ◌^◌, List, [], Some, false, All, length, map, sum_by, slice_get, IsSomeAnd, vec_capacity}
-use Rattle.csp_arena.specs.Cells.{RegionName}
-use Rattle.csp_lists.specs.PlainDeck.{DeckAt, PlainDeck, rule_of}
+use Rattle.std.specs.Prelude.{ℕ, ◌≡◌, ◌+◌, ◌*◌, ◌<◌, ◌≤◌, ◌^◌, ⊤, List, [], Some, false, length, map, slice_get, IsSomeAnd, vec_capacity}
+use Rattle.csp_lists.specs.PlainDeck.{PlainDeck}
 use Rattle.csp_log.specs.declared.places.QueueId.{QueueId}
 use Rattle.csp_log.specs.declared.places.Rule.{Rule}
-use Rattle.csp_party.specs.Any.{plain, region_of, is_ready, count, uses, has_ended, holds}
+use Rattle.csp_nodes.specs.DecksAt.{DecksAt}
+use Rattle.csp_nodes.specs.Gathering.{queue_count}
+use Rattle.csp_nodes.specs.Serving.{rule_in}
+use Rattle.csp_party.specs.Any.{PlainParty, a_router, a_bridge, an_iface, an_app, a_link, plain, region_of, is_ready, count, needs, uses, has_ended, holds}
 use Rattle.csp_party.specs.declared.any.AnyParty.{AnyParty}
 use Rattle.csp_record.specs.Who.{node_of}
+use Rattle.csp_record.specs.declared.who.Who.{Who}
+use Rattle.csp_record.specs.declared.who.Who.TheVariants as who
 use Rattle.csp_world.specs.Holders.{IsConserved}
 use Rattle.csp_world.specs.Seen.{plain_member}
 use Rattle.csp_world.specs.SeenWorld.{SeenWorld}
@@ -16,47 +20,56 @@ use Rattle.csp_world.specs.declared.room.Room.{Room}
 use Rattle.csp_world.specs.declared.world.World.TheInside.{Inside}
 
 -- the world of these lists and parties
-abbrev pub world_of : List PlainDeck → List Member → ℕ → PlainWorld
-world_of decks members time = record { decks = decks; members = map plain_member members; time = time }
-
--- the lists of each node, and the region of its buffers
-abbrev pub decks_of : List DeckAt → List PlainDeck
-decks_of decks = map (λ d. d.deck) decks
-
-abbrev pub regions_of : List DeckAt → List RegionName
-regions_of decks = map (λ d. d.region) decks
+abbrev pub world_of : DecksAt → List Member → ℕ → PlainWorld
+world_of d members time = record { decks = d.decks; links = d.links; members = map plain_member members; time = time }
 
 -- the world that the fields of the program's world are
 abbrev pub seen_world : Inside → SeenWorld
-seen_world w = record { plain = world_of (decks_of w.decks.items) w.members.items w.time; spares = map (λ m. m.log.spare) w.members.items; regions = regions_of w.decks.items }
+seen_world w = record { plain = world_of w.decks w.members.items w.time; spares = map (λ m. m.log.spare) w.members.items; regions = w.decks.regions }
+
+-- how many buffers each node has
+abbrev pub rooms : List PlainDeck → List ℕ
+rooms decks = map (λ d. d.pool.room) decks
+
+-- a party that is called a link is one
+abbrev pub IsLink : PlainParty → Type 0
+IsLink (a_router _) = ⊥
+IsLink (a_bridge _) = ⊥
+IsLink (an_iface _) = ⊥
+IsLink (an_app _) = ⊥
+IsLink (a_link _) = ⊤
+
+abbrev pub IsCalled : Who → PlainParty → Type 0
+IsCalled (who.Link _) p = IsLink p
+IsCalled (who.Router _) p = ⊤
+IsCalled (who.Bridge _) p = ⊤
+IsCalled (who.Iface _ _) p = ⊤
+IsCalled (who.App _ _) p = ⊤
 
 -- a party can take its turns over these lists from this time on: it is ready, its log counts what its turns raise, the
--- lists have the queues that it uses, and there is room for the numbers that it holds at the end
-pub record IsFit (d : PlainDeck) (time : ℕ) (m : Member) : Type 0 where
+-- lists have the queues that it uses, its buffers are to be of its node's region, there is room for the numbers that it
+-- holds at the end, and its stock has the boxes for as many turns as its log has room for
+pub record IsFit (d : DecksAt) (time : ℕ) (m : Member) : Type 0 where
   pub ready : (later : ℕ) → time ≤ later → later < 2 ^ 62 → has_ended (plain m.party) ≡ false → is_ready (plain m.party) later
   pub counted : count (plain m.party) ≤ length m.log.entries
-  pub served : (q : QueueId) (r : Rule) → uses (plain m.party) q ≡ Some r → rule_of d q ≡ Some r
+  pub served : (q : QueueId) (r : Rule) → uses (plain m.party) q ≡ Some r → rule_in d.decks d.links m.who q ≡ Some r
+  pub called : IsCalled m.who (plain m.party)
+  pub home : (node : ℕ) → node_of m.who ≡ Some node → slice_get d.regions node ≡ Some (region_of m.party)
   pub unnoted : m.numbers.items ≡ []
-  pub room : d.pool.room ≤ vec_capacity m.numbers
+  pub room : (node : ℕ) → node_of m.who ≡ Some node → IsSomeAnd (slice_get (rooms d.decks) node) (λ room. room ≤ vec_capacity m.numbers)
+  pub stock : needs (plain m.party) * m.log.spare ≤ m.spares
 
--- a party can take its first turn over these lists at any time, and holds nothing
-pub record IsNew (d : PlainDeck) (p : AnyParty) : Type 0 where
+-- a party of this name can take its first turn over these lists at any time, and holds nothing
+pub record IsNew (d : PlainWorld) (w : Who) (p : AnyParty) : Type 0 where
   pub ready : (later : ℕ) → later < 2 ^ 62 → has_ended (plain p) ≡ false → is_ready (plain p) later
   pub counted : count (plain p) ≡ 0
-  pub served : (q : QueueId) (r : Rule) → uses (plain p) q ≡ Some r → rule_of d q ≡ Some r
+  pub served : (q : QueueId) (r : Rule) → uses (plain p) q ≡ Some r → rule_in d.decks d.links w q ≡ Some r
+  pub called : IsCalled w (plain p)
   pub holds : holds (plain p) ≡ []
 
--- each party is fit for its turns over its node's lists
-abbrev pub AllFit : List PlainDeck → ℕ → List Member → Type 0
-AllFit decks time members = (place : ℕ) (m : Member) → slice_get members place ≡ Some m → IsSomeAnd (slice_get decks (node_of m.who)) (λ d. IsFit d time m)
-
--- the buffers of each party are to be of its node's region
-abbrev pub AllHome : List RegionName → List Member → Type 0
-AllHome regions members = All (λ m. slice_get regions (node_of m.who) ≡ Some (region_of m.party)) members
-
--- how many queues there are
-abbrev pub queue_count : List PlainDeck → ℕ
-queue_count decks = sum_by (λ d. length d.queues) decks
+-- each party is fit for its turns
+abbrev pub AllFit : DecksAt → ℕ → List Member → Type 0
+AllFit d time members = (place : ℕ) (m : Member) → slice_get members place ≡ Some m → IsFit d time m
 
 -- there is room for the record, and for what is left of the nodes once their queues are emptied
 pub record HasRoom (decks : List PlainDeck) (members : ℕ) (r : Room) : Type 0 where
@@ -72,10 +85,9 @@ pub record HasRoom (decks : List PlainDeck) (members : ℕ) (r : Room) : Type 0 
 
 -- what is true of a world at every time
 pub record IsWorld (w : Inside) : Type 0 where
-  pub fit : AllFit (decks_of w.decks.items) w.time w.members.items
-  pub home : AllHome (regions_of w.decks.items) w.members.items
-  pub conserved : IsConserved (world_of (decks_of w.decks.items) w.members.items w.time)
-  pub room : HasRoom (decks_of w.decks.items) (length w.members.items) w.room
+  pub fit : AllFit w.decks w.time w.members.items
+  pub conserved : IsConserved (world_of w.decks w.members.items w.time)
+  pub room : HasRoom w.decks.decks (length w.members.items) w.room
   pub early : w.time < 2 ^ 62
-  pub few_decks : length w.decks.items ≤ 255
+  pub few_decks : length w.decks.decks ≤ 255
   pub few_members : length w.members.items < 2 ^ 31

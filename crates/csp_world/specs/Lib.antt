@@ -1,5 +1,4 @@
-pub mod Emptied
-pub mod EmptiedParts
+pub mod Grown
 pub mod Holders
 pub mod Inside
 pub mod Opening
@@ -7,4 +6,5 @@ pub mod Record
 pub mod Schedule
 pub mod Seen
 pub mod SeenWorld
+pub mod Taking
 pub mod World

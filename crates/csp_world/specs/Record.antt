@@ -1,36 +1,23 @@
 -- The record of a run: what each party did, what was left where, and how the run ended.
-use Rattle.std.specs.Prelude.{ℕ, ◌+◌, Option, List, [], ◌∷◌, ◌++◌, map}
-use Rattle.std.specs.Option.{option_map}
-use Rattle.csp_lists.specs.Gathered.{left_at, held_at}
-use Rattle.csp_buffer.specs.Content.{Content}
-use Rattle.csp_lists.specs.PlainDeck.{PlainDeck, buffer_numbers}
-use Rattle.csp_lists.specs.PlainFifo.{PlainFifo}
-use Rattle.csp_log.specs.Remains.{PlainLeft, PlainHeld}
-use Rattle.csp_log.specs.declared.places.Place.TheVariants as place
+use Rattle.std.specs.Prelude.{ℕ, Option, List, ◌++◌, map}
+use Rattle.std.specs.List.{flat_map}
+use Rattle.std.specs.Option.{option_map, option_to_list}
+use Rattle.csp_log.specs.Remains.{PlainHeld}
+use Rattle.csp_log.specs.declared.places.Place.{Place}
+use Rattle.csp_nodes.specs.Gathering.{all_left, queues_held, pools_held}
 use Rattle.csp_party.specs.Any.{holds, present_step}
 use Rattle.csp_record.specs.Record.{PlainPartyLog, PlainRecord}
-use Rattle.csp_record.specs.Who.{node_of, place_of}
+use Rattle.csp_record.specs.Who.{home_of}
 use Rattle.csp_scene.specs.Scene.{PlainScene}
 use Rattle.csp_world.specs.Schedule.{run}
 use Rattle.csp_world.specs.World.{PlainMember, PlainWorld, finished}
 
--- what was left in the queues of each node, and which buffers they held, from this place on
-abbrev pub all_left : ℕ → List PlainDeck → List PlainLeft
-all_left node [] = []
-all_left node (d ∷ decks) = map (left_at node) d.queues ++ all_left (node + 1) decks
+-- which buffers a party held, where it has a place: a link has none, and holds none
+abbrev pub held_by : List ℕ → ℕ × Place → PlainHeld
+held_by numbers home = record { node = home.0; place = home.1; numbers = numbers }
 
-abbrev pub queues_held : ℕ → List PlainDeck → List PlainHeld
-queues_held node [] = []
-queues_held node (d ∷ decks) = map (held_at node) d.queues ++ queues_held (node + 1) decks
-
--- which buffers the pools held
-abbrev pub pools_held : ℕ → List (PlainFifo Content) → List PlainHeld
-pools_held node [] = []
-pools_held node (pool ∷ pools) = record { node = node; place = place.Pool; numbers = buffer_numbers pool.items } ∷ pools_held (node + 1) pools
-
--- and which a party held
-abbrev pub member_held : PlainMember → PlainHeld
-member_held m = record { node = node_of m.who; place = place_of m.who; numbers = holds m.party }
+abbrev pub member_held : PlainMember → List PlainHeld
+member_held m = option_to_list (option_map (held_by (holds m.party)) (home_of m.who))
 
 -- a party's log
 abbrev pub member_log : PlainMember → PlainPartyLog
@@ -41,7 +28,7 @@ abbrev pub record_of : PlainWorld → PlainRecord
 record_of w = record {
   parties = map member_log w.members;
   left = all_left 0 w.decks;
-  held = queues_held 0 w.decks ++ (map member_held w.members ++ pools_held 0 (map (λ d. d.pool) w.decks));
+  held = queues_held 0 w.decks ++ (flat_map member_held w.members ++ pools_held 0 (map (λ d. d.pool) w.decks));
   rounds = w.time;
   finished = finished w;
 }

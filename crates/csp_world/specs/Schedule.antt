@@ -1,32 +1,111 @@
--- The schedule `rounds`, and the checks after each round.
-use Rattle.std.specs.Prelude.{ℕ, zero, suc, Option, None, Some, List, [], ◌∷◌, length, replicate, nat_le, if◌then◌else◌}
-use Rattle.std.specs.List.{range_with_len, flat_map}
-use Rattle.csp_scene.specs.Scene.{PlainScene}
+-- The schedules, as lists of turns and ticks, and the checks after each round.
+use Rattle.std.specs.Prelude.{ℕ, zero, suc, ◌+◌, ◌*◌, ◌/◌, ◌%◌, ◌^◌, ◌==◌, ◌&&◌, ◌<◌, ⊤, Bool, false, Option, None, Some, List, [], ◌∷◌, length, map, replicate, nat_le, if◌then◌else◌}
+use Rattle.std.specs.List.{range_with_len, flat_map, position_or_len}
+use Rattle.csp_record.specs.declared.who.Who.TheVariants as who
+use Rattle.csp_record.specs.declared.who.Who.{Who}
+use Rattle.csp_scene.specs.Scene.{PlainScene, PlainSchedule, in_rounds, shuffled, stepwise}
+use Rattle.csp_scene.specs.declared.scenario.Move.{Move}
+use Rattle.csp_scene.specs.declared.scenario.Move.TheVariants as move
 use Rattle.csp_world.specs.Opening.{opening}
 use Rattle.csp_world.specs.World.{PlainWorld, turn, tick, finished, entries}
-use Rattle.csp_world.specs.declared.limits.TheConstants.{TURNS_PER_ROUND, MAX_ENTRIES}
+use Rattle.csp_world.specs.declared.limits.TheConstants.{TURNS_PER_ROUND, MAX_ENTRIES, DRAW_FACTOR, DRAW_STEP, DRAW_SHIFT}
+use Rattle.csp_world.specs.declared.rounds.Order.{Order}
+use Rattle.csp_world.specs.declared.rounds.Order.TheVariants as order
 
 -- the turns of the parties at these places, one after the other
 unfoldable pub turns : PlainWorld → List ℕ → PlainWorld
 turns w [] = w
 turns w (place ∷ places) = turns (turn w place) places
 
--- in each round each party has its turns, party by party
+-- `rounds`: in each round each party has its turns, party by party
 abbrev pub round_places : ℕ → List ℕ
 round_places parties = flat_map (λ place. replicate TURNS_PER_ROUND place) (range_with_len 0 parties)
 
+-- `shuffle`: what the draws go by, from turn to turn
+abbrev pub next_draw : ℕ → ℕ
+next_draw x = (x * DRAW_FACTOR + DRAW_STEP) % 2 ^ 64
+
+-- the party that a number draws: its low bits are left out
+abbrev pub drawn : ℕ → ℕ → ℕ
+drawn parties x = (x / 2 ^ DRAW_SHIFT) % parties
+
+-- the parties that so many turns draw, and the last turn's number, which the next draw goes on from
+unfoldable pub drawn_places : ℕ → ℕ → ℕ → List ℕ
+drawn_places parties zero x = []
+drawn_places parties (suc n) x = drawn parties (next_draw x) ∷ drawn_places parties n (next_draw x)
+
+unfoldable pub draws : ℕ → ℕ → ℕ
+draws zero x = x
+draws (suc n) x = draws n (next_draw x)
+
+-- the parties of a round's turns, and how the next round goes: the draws go on from round to round
+abbrev pub places_in : ℕ → Order → List ℕ
+places_in parties order.ByParty = round_places parties
+places_in parties (order.ByDraw x) = drawn_places parties (TURNS_PER_ROUND * parties) x
+
+abbrev pub next_order : ℕ → Order → Order
+next_order parties order.ByParty = order.ByParty
+next_order parties (order.ByDraw x) = order.ByDraw (draws (TURNS_PER_ROUND * parties) x)
+
 -- one round: the turns, then a tick
-unfoldable pub round : PlainWorld → PlainWorld
-round w = tick (turns w (round_places (length w.members)))
+unfoldable pub round : Order → PlainWorld → PlainWorld
+round o w = tick (turns w (places_in (length w.members) o))
 
--- at most so many rounds, with the checks after each in this order: every application has ended, the entry limit,
--- the number of rounds; none where the logs reach the limit
-unfoldable pub rounds : ℕ → PlainWorld → Option PlainWorld
-rounds zero w = Some w
-rounds (suc most) w = checked (round w) (rounds most (round w)) where
-  checked : PlainWorld → Option PlainWorld → Option PlainWorld
-  checked after later = (if finished after then Some after else if nat_le MAX_ENTRIES (entries after) then None else later)
+-- what is looked at in this order: every application has ended, the entry limit; none where the logs reach it
+abbrev pub checked : PlainWorld → Option PlainWorld → Option PlainWorld
+checked after later = (if finished after then Some after else if nat_le MAX_ENTRIES (entries after) then None else later)
 
--- the world at the end of a scene's run: whether every application has ended is looked at before the first round too
+-- at most so many rounds, with these checks after each
+unfoldable pub rounds : ℕ → Order → PlainWorld → Option PlainWorld
+rounds zero o w = Some w
+rounds (suc most) o w = checked (round o w) (rounds most (next_order (length w.members) o) (round o w))
+
+-- whether every application has ended is looked at before the first round too
+unfoldable pub run_rounds : ℕ → Order → PlainWorld → Option PlainWorld
+run_rounds most o w = (if finished w then Some w else rounds most o w)
+
+-- `steps`: whether a move names a party; a node's name stands for its router, or for the bridge in its place
+abbrev pub is_named : Move → Who → Bool
+is_named (move.Router node) (who.Router n) = n == node
+is_named (move.Router node) (who.Bridge n) = n == node
+is_named (move.Iface node number) (who.Iface n k) = n == node && k == number
+is_named (move.App node number) (who.App n k) = n == node && k == number
+is_named (move.Link number) (who.Link k) = k == number
+is_named m w = false
+
+-- who the parties are, in their order
+abbrev pub names : PlainWorld → List Who
+names w = map (λ m. m.who) w.members
+
+-- the place of the party that a move names
+abbrev pub place_named : List Who → Move → ℕ
+place_named parties m = position_or_len (is_named m) parties
+
+-- a move is a tick, or names a party that is there
+abbrev pub IsThere : List Who → Move → Type 0
+IsThere parties move.Tick = ⊤
+IsThere parties m = place_named parties m < length parties
+
+-- each move is a turn of the party that it names, or a tick
+abbrev pub moved : PlainWorld → Move → PlainWorld
+moved w move.Tick = tick w
+moved w m = turn w (place_named (names w) m)
+
+unfoldable pub moves : PlainWorld → List Move → PlainWorld
+moves w [] = w
+moves w (m ∷ ms) = moves (moved w m) ms
+
+-- no check is made before the end of the list
+unfoldable pub run_moves : PlainWorld → Option PlainWorld
+run_moves after = checked after (Some after)
+
+-- the world at the end of a schedule, and none where its logs reach the entry limit; `steps` does not look at the number
+-- of rounds
+abbrev pub run_by : PlainSchedule → ℕ → PlainWorld → Option PlainWorld
+run_by in_rounds most w = run_rounds most order.ByParty w
+run_by (shuffled seed) most w = run_rounds most (order.ByDraw seed) w
+run_by (stepwise ms) most w = run_moves (moves w ms)
+
+-- the world at the end of a scene's run
 unfoldable pub run : PlainScene → Option PlainWorld
-run scene = (if finished (opening scene) then Some (opening scene) else rounds scene.until (opening scene))
+run scene = run_by scene.schedule scene.until (opening scene)

@@ -1,12 +1,14 @@
--- The world: the lists of each node, every party with its entries, and the time. A step takes one party.
+-- The world: the lists of each node, the ends of each link, every party with its entries, and the time. A step takes one party.
 use Rattle.std.specs.Prelude.{ℕ, ◌+◌, Bool, true, Option, None, Some, List, [], ◌∷◌, ◌++◌, length, sum_by, slice_get, slice_set, if◌then◌else◌}
 use Rattle.std.specs.List.{list_all}
-use Rattle.csp_lists.specs.PlainDeck.{PlainDeck, answer_of}
 use Rattle.csp_deck.specs.Step.{entry_of}
+use Rattle.csp_lists.specs.PlainDeck.{PlainDeck}
 use Rattle.csp_log.specs.declared.entry.Entry.{Entry}
+use Rattle.csp_log.specs.declared.places.End.{End}
+use Rattle.csp_log.specs.declared.shown.AnswerShown.{AnswerShown}
 use Rattle.csp_log.specs.declared.shown.OpShown.{OpShown}
-use Rattle.csp_party.specs.Any.{PlainParty, a_router, an_app, asks, asked, tells, events, has_ended}
-use Rattle.csp_record.specs.Who.{node_of}
+use Rattle.csp_nodes.specs.Serving.{answer_in}
+use Rattle.csp_party.specs.Any.{PlainParty, a_router, a_bridge, an_iface, an_app, a_link, asks, asked, tells, events, has_ended}
 use Rattle.csp_record.specs.declared.who.Who.{Who}
 
 -- a party of a world: which it is, its state, and its turns so far, the oldest first
@@ -15,42 +17,43 @@ pub record PlainMember : Type 0 where
   pub party : PlainParty
   pub entries : List Entry
 
--- the pool and the queues of each node, the parties in their order, and how many rounds are complete
+-- the pool and the queues of each node, the ends of each link, the parties in their order, and how many rounds are
+-- complete
 pub record PlainWorld : Type 0 where
   pub decks : List PlainDeck
+  pub links : List (List End)
   pub members : List PlainMember
   pub time : ℕ
 
--- the party after the turn in which it asked this: it is told what the lists answer, and the turn is its last entry
-abbrev pub told_for : PlainMember → PlainDeck → ℕ → OpShown → PlainMember
-told_for m d time o = record m {
-  party = tells (asked m.party time) time (answer_of d o).0;
-  entries = m.entries ++ entry_of time o (answer_of d o).0 (events (asked m.party time) time (answer_of d o).0) ∷ [];
+-- what the lists answer the party's operation at this time, and the lists after it
+abbrev pub answered : List PlainDeck → List (List End) → ℕ → PlainMember → AnswerShown × List PlainDeck
+answered decks links time m = answer_in decks links m.who (asks m.party time)
+
+-- the party after the turn in which it asked this and was answered so: it is told the answer, and the turn is its
+-- last entry
+abbrev pub told_for : PlainMember → ℕ → OpShown → AnswerShown → PlainMember
+told_for m time o a = record m {
+  party = tells (asked m.party time) time a;
+  entries = m.entries ++ entry_of time o a (events (asked m.party time) time a) ∷ [];
 }
 
-abbrev pub told : PlainMember → PlainDeck → ℕ → PlainMember
-told m d time = told_for m d time (asks m.party time)
+abbrev pub told : PlainMember → ℕ → AnswerShown → PlainMember
+told m time a = told_for m time (asks m.party time) a
 
--- the turn of this party over its node's lists
-abbrev pub turned : PlainWorld → ℕ → PlainMember → PlainDeck → PlainWorld
-turned w place m d = record w {
-  decks = slice_set w.decks (node_of m.who) (answer_of d (asks m.party w.time)).1;
-  members = slice_set w.members place (told m d w.time);
-}
+-- the turn of this party
+abbrev pub turned_by : PlainWorld → ℕ → PlainMember → AnswerShown × List PlainDeck → PlainWorld
+turned_by w place m answer = record w { decks = answer.1; members = slice_set w.members place (told m w.time answer.0) }
 
-abbrev pub turn_at : PlainWorld → ℕ → Option PlainMember → Option PlainDeck → PlainWorld
-turn_at w place None d = w
-turn_at w place (Some m) None = w
-turn_at w place (Some m) (Some d) = (if has_ended m.party then w else turned w place m d)
+abbrev pub turned : PlainWorld → ℕ → PlainMember → PlainWorld
+turned w place m = turned_by w place m (answered w.decks w.links w.time m)
 
--- the lists of a party's node
-abbrev pub deck_of : PlainWorld → Option PlainMember → Option PlainDeck
-deck_of w None = None
-deck_of w (Some m) = slice_get w.decks (node_of m.who)
+abbrev pub turn_at : PlainWorld → ℕ → Option PlainMember → PlainWorld
+turn_at w place None = w
+turn_at w place (Some m) = (if has_ended m.party then w else turned w place m)
 
 -- the turn of the party at this place: nothing is done or logged where it has ended
 unfoldable pub turn : PlainWorld → ℕ → PlainWorld
-turn w place = turn_at w place (slice_get w.members place) (deck_of w (slice_get w.members place))
+turn w place = turn_at w place (slice_get w.members place)
 
 -- a round is complete
 abbrev pub tick : PlainWorld → PlainWorld
@@ -59,7 +62,10 @@ tick w = record w { time = w.time + 1 }
 -- an application that has ended, or a party that is no application
 abbrev pub is_done : PlainParty → Bool
 is_done (a_router _) = true
+is_done (a_bridge _) = true
+is_done (an_iface _) = true
 is_done (an_app a) = has_ended (an_app a)
+is_done (a_link _) = true
 
 -- every application has ended
 abbrev pub finished : PlainWorld → Bool

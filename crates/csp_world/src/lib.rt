@@ -1,11 +1,11 @@
 //! The world of a simulation: the lists of its nodes and their parties, step by step, and its record.
 #![tactic(auto)]
 
-mod emptied;
 mod limits;
 mod member;
-mod node_deck;
+mod moves;
 mod room;
+mod rounds;
 mod schedule;
 mod world;
 

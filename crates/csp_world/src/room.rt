@@ -1,6 +1,6 @@
 //! The room that the end of a run needs, taken before its first turn.
 
-use crate::emptied::Emptied;
+use csp_nodes::Emptied;
 use csp_record::{HeldBy, Left, PartyLog};
 
 /// Lists with room for a record, and for what is left of the nodes once their queues are emptied.

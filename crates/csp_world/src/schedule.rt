@@ -1,58 +1,22 @@
-//! The run of a scene by the schedule `rounds`.
+//! The run of a scene, by its schedule.
 
-ghost use Rattle.std.specs.Prelude.{◌≡◌, ◌≢◌, ◌+◌, ◌-◌, ◌*◌, ◌<◌, ◌≤◌, ◌^◌, ℕ, true, false, Some, None, List, length, map, replicate, slice_index, OnOk, IfOk, IsErrOf};
-ghost use Rattle.csp_scene.specs.Ranges.{IsScene};
-ghost use Rattle.csp_world.specs.Holders.{counts};
-ghost use Rattle.csp_world.specs.World.{PlainWorld, turn, tick, finished, entries};
-ghost use Rattle.csp_world.specs.Schedule.{turns, round, round_places, rounds, run};
-ghost use Rattle.csp_world.specs.Record.{sim_record};
+ghost use Rattle.std.specs.Prelude.{◌≡◌, ◌+◌, ◌-◌, ◌<◌, ◌≤◌, ◌^◌, Some, None, All, length, map, OnOk, IfOk, IsErrOf};
 ghost use Rattle.csp_record.specs.Whole.{IsWhole};
+ghost use Rattle.csp_scene.specs.Ranges.{IsScene};
+ghost use Rattle.csp_scene.specs.Scene.{moves_in};
+ghost use Rattle.csp_world.specs.Holders.{counts};
+ghost use Rattle.csp_world.specs.Record.{sim_record};
+ghost use Rattle.csp_world.specs.Schedule.{IsThere, names, run_by, run_moves, run_rounds};
+ghost use Rattle.csp_world.specs.Schedule as schedule;
+ghost use Rattle.csp_world.specs.World.{entries};
 
-use crate::limits::{MAX_ENTRIES, TURNS_PER_ROUND};
+use crate::limits::{MAX_ENTRIES, MAX_PARTIES};
+use crate::moves::make_moves;
+use crate::rounds::{Order, make_round};
 use crate::world::World;
 use csp_record::Record;
-use csp_scene::Scene;
+use csp_scene::{Move, Scene, Schedule};
 use std::alloc::{AllocError, Global};
-
-/// Takes the turns of one party in a round.
-fn party_turns(world: &mut World, place: usize)
-    requires place { place < length world.old.plain.members }
-    requires room { TURNS_PER_ROUND ≤ slice_index world.old.spares place }
-    ensures plain { world.new.plain ≡ turns world.old.plain (replicate TURNS_PER_ROUND place) }
-    ensures counts { counts world.new.plain ≡ counts world.old.plain }
-    ensures others { (k : ℕ) → k ≢ place → slice_index world.new.spares k ≡ slice_index world.old.spares k }
-{
-    for _ in 0..TURNS_PER_ROUND {
-        world.step(place);
-    }
-}
-
-/// Makes room in each log for the turns of a round. A refusal leaves the world as it was but for the room.
-fn make_room(world: &mut World) -> Result<(), AllocError>
-    requires { entries world.old.plain < MAX_ENTRIES }
-    ensures plain { world.new.plain ≡ world.old.plain }
-    ensures room { OnOk result ((k : ℕ) → k < length world.new.plain.members → TURNS_PER_ROUND ≤ slice_index world.new.spares k) }
-{
-    for place in 0..world.parties() {
-        world.reserve(place, TURNS_PER_ROUND as u32)?;
-    }
-    Ok(())
-}
-
-/// Makes one round: the turns of each party, party by party, then a tick.
-fn make_round(world: &mut World) -> Result<(), AllocError>
-    requires time { world.old.plain.time + 1 < 2 ^ 62 }
-    requires entries { entries world.old.plain < MAX_ENTRIES }
-    ensures round { OnOk result (world.new.plain ≡ round world.old.plain) }
-    ensures counts { OnOk result (counts world.new.plain ≡ counts world.old.plain) }
-{
-    make_room(world)?;
-    for place in 0..world.parties() {
-        party_turns(world, place);
-    }
-    world.tick();
-    Ok(())
-}
 
 /// Why a scene has no record.
 #[derive(Clone, Copy, PartialEq, Eq, Debug)]
@@ -63,35 +27,96 @@ pub enum SimError {
     Entries,
 }
 
+impl From<AllocError> for SimError {
+    ghost use Rattle.std.specs.Prelude.{◌≡◌};
+    ghost use Rattle.csp_world.specs.declared.schedule.SimError.TheVariants.{NoMemory};
+
+    ghost from_gives = { λ _ e. e ≡ NoMemory };
+
+    fn from(_error: AllocError) -> SimError {
+        SimError::NoMemory
+    }
+}
+
 /// Runs a scene to its end, and answers the record of its run. After each round these are looked at, in
-/// this order: every application has ended, the entry limit, the number of rounds.
+/// this order: every application has ended, the entry limit, the number of rounds. Where the schedule is
+/// stated step by step, the first two are looked at once, at its end.
 pub fn simulate(alloc: Global, scene: &Scene) -> Result<Record, SimError>
-    requires { IsScene scene.now }
+    requires scene { IsScene scene.now }
+    requires few { length (moves_in scene.now.schedule) < 2 ^ 32 - 2 }
     ensures record { IfOk result (λ r. sim_record scene.now ≡ Some r) }
     ensures entries { IsErrOf result SimError.Entries → sim_record scene.now ≡ None }
     ensures conserved { IfOk result (IsWhole (map (λ n. n.buffers) scene.now.nodes)) }
 {
-    let Ok(mut world) = World::open(alloc, scene) else {
-        return Err(SimError::NoMemory);
-    };
-    if world.finished() {
-        return Ok(world.close());
+    let mut world = World::open(alloc, scene)?;
+    let ran = run(&mut world, scene);
+    let record = world.close();
+    match ran {
+        Ok(()) => Ok(record),
+        Err(error) => Err(error),
     }
-    for _ in 0..scene.until {
-        match make_round(&mut world) {
-            Ok(()) => {}
-            Err(_) => {
-                let _unused = world.close();
-                return Err(SimError::NoMemory);
-            }
+}
+
+/// Runs a world in which nothing has happened to the end of a scene's schedule.
+fn run(world: &mut World, scene: &Scene) -> Result<(), SimError>
+    requires parties { length world.old.plain.members ≤ MAX_PARTIES }
+    requires there { All (IsThere (names world.old.plain)) (moves_in scene.now.schedule) }
+    requires few { length (moves_in scene.now.schedule) < 2 ^ 32 - 2 }
+    requires start { world.old.plain.time ≡ 0 }
+    requires empty { entries world.old.plain ≡ 0 }
+    ensures run { OnOk result (run_by scene.now.schedule scene.now.until world.old.plain ≡ Some world.new.plain) }
+    ensures entries { IsErrOf result SimError.Entries → run_by scene.now.schedule scene.now.until world.old.plain ≡ None }
+    ensures counts { OnOk result (counts world.new.plain ≡ counts world.old.plain) }
+{
+    match &scene.schedule {
+        Schedule::Rounds => run_rounds(world, scene.until, Order::ByParty),
+        Schedule::Shuffle(seed) => {
+            run_rounds(world, scene.until, Order::ByDraw(u64::from(*seed)))
         }
+        Schedule::Steps(moves) => run_moves(world, moves),
+    }
+}
+
+/// Makes rounds until every application has ended, the logs reach the entry limit, or so many are made.
+fn run_rounds(world: &mut World, most: u32, first: Order) -> Result<(), SimError>
+    requires few { length world.old.plain.members ≤ MAX_PARTIES }
+    requires time { world.old.plain.time + most < 2 ^ 62 }
+    requires entries { entries world.old.plain < MAX_ENTRIES }
+    ensures run { OnOk result (run_rounds most first world.old.plain ≡ Some world.new.plain) }
+    ensures entries { IsErrOf result SimError.Entries → run_rounds most first world.old.plain ≡ None }
+    ensures counts { OnOk result (counts world.new.plain ≡ counts world.old.plain) }
+{
+    if world.finished() {
+        return Ok(());
+    }
+    let mut order = first;
+    for _ in 0..most {
+        order = make_round(world, order)?;
         if world.finished() {
-            return Ok(world.close());
+            return Ok(());
         }
         if world.entries() >= MAX_ENTRIES {
-            let _unused = world.close();
             return Err(SimError::Entries);
         }
     }
-    Ok(world.close())
+    Ok(())
+}
+
+/// Makes all moves, and looks then whether the logs have reached the entry limit.
+fn run_moves(world: &mut World, moves: &[Move]) -> Result<(), SimError>
+    requires there { All (IsThere (names world.old.plain)) moves.now }
+    requires time { world.old.plain.time + length moves.now < 2 ^ 62 }
+    requires fits { entries world.old.plain + length moves.now ≤ 2 ^ 32 - 2 }
+    ensures run { OnOk result (run_moves (schedule.moves world.old.plain moves.now) ≡ Some world.new.plain) }
+    ensures entries { IsErrOf result SimError.Entries → run_moves (schedule.moves world.old.plain moves.now) ≡ None }
+    ensures counts { OnOk result (counts world.new.plain ≡ counts world.old.plain) }
+{
+    make_moves(world, moves)?;
+    if world.finished() {
+        return Ok(());
+    }
+    if world.entries() >= MAX_ENTRIES {
+        return Err(SimError::Entries);
+    }
+    Ok(())
 }

@@ -1,24 +1,29 @@
 //! The world: the lists of each node, every party with its log, and the time.
 
-ghost use Rattle.std.specs.Prelude.{◌≡◌, ◌≢◌, ◌+◌, ◌-◌, ◌<◌, ◌≤◌, ◌^◌, ℕ, Some, max, List, [], ◌∷◌, length, OnOk, OnErr, slice_index, slice_get, sum_by, find};
+ghost use Rattle.std.specs.Prelude.{◌≡◌, ◌≢◌, ◌+◌, ◌-◌, ◌<◌, ◌≤◌, ◌^◌, ℕ, None, Some, max, List, [], ◌∷◌, length, OnOk, OnErr, slice_index, slice_get, sum_by, find};
 ghost use Rattle.std.specs.List.{list_all};
 ghost use Rattle.std.specs.Option.{option_map};
 ghost use Rattle.csp_buffer.specs.Content.{Content};
 ghost use Rattle.csp_log.specs.declared.shown.AnswerShown.TheVariants as answer;
 ghost use Rattle.csp_party.specs.Any.{plain};
+ghost use Rattle.csp_record.specs.Who.{home_of, node_of};
 ghost use Rattle.csp_world.specs.Holders.{holders, deck_holders, counts, HasOneHolder};
+ghost use Rattle.csp_world.specs.Schedule.{names, place_named};
 ghost use Rattle.csp_world.specs.Seen.{has_number, answer_at_place, turn_by, log_len};
 ghost use Rattle.csp_world.specs.World.{turn, tick, finished, entries, is_done};
 
 mod closing;
 mod opening;
 
-use crate::member::{Member, Workplace, take_turn};
-use crate::node_deck::NodeDeck;
+use crate::member::{Member, take_turn};
+use crate::moves::place_among;
 use crate::room::Room;
 use csp_base::Turn;
-use csp_deck::Place;
+use csp_deck::{Desk, Place};
 use csp_lists::{counts_holders, gathers, weighs};
+use csp_nodes::Decks;
+use csp_record::Who;
+use csp_scene::Move;
 use std::alloc::AllocError;
 use std::marker::Model;
 
@@ -27,16 +32,16 @@ use std::marker::Model;
 ///
 /// Only `open` and `reserve` take memory. It must be spent by `close`.
 pub struct World {
-    pub(crate) decks: Vec<NodeDeck>,
+    pub(crate) decks: Decks,
     pub(crate) members: Vec<Member>,
     pub(crate) time: u64,
     pub(crate) room: Room,
-    pub(crate) workplace: Workplace,
+    pub(crate) desk: Desk,
 }
 
 impl Model for World {
     ghost use Rattle.std.specs.Coded.{codes};
-    ghost use Rattle.csp_stack.specs.Codes.{routes_code};
+    ghost use Rattle.csp_route.specs.Codes.{routes_code};
     ghost use Rattle.csp_world.specs.SeenWorld.{SeenWorld};
 
     ghost Value = { SeenWorld };
@@ -72,6 +77,13 @@ impl World {
         all_done(self.members.as_slice())
     }
 
+    /// The place of the first party that a move names, or how many parties there are where it names none.
+    pub(crate) fn place_named(&self, next: Move) -> usize
+        ensures { result ≡ place_named (names self.now.plain) next }
+    {
+        place_among(self.members.as_slice(), next)
+    }
+
     /// Makes room in the log of the party at this place for this many turns. A refusal changes nothing.
     pub fn reserve(&mut self, party: usize, turns: u32) -> Result<(), AllocError>
         requires party { party < length self.old.plain.members }
@@ -81,11 +93,11 @@ impl World {
         ensures others { (k : ℕ) → k ≢ party → slice_index self.new.spares k ≡ slice_index self.old.spares k }
         ensures refused { OnErr result (self.new ≡ self.old) }
     {
-        self.members[party].log.reserve(turns)
+        self.members[party].reserve(turns)
     }
 
     /// Takes one turn of the party at this place, whose log has room for it: it asks one operation, which
-    /// the lists of its node answer.
+    /// the lists of its node answer, or for a link those of the nodes at its ends.
     ///
     /// `Turn::Ended` where it had ended before: then nothing is done or logged. `Turn::Idle` where
     /// nothing was asked, or the pool or queue was empty or full.
@@ -105,9 +117,12 @@ impl World {
         counts_holders();
         gathers();
         weighs();
-        let member = &mut self.members[party];
-        let node = &mut self.decks[usize::from(member.who.node())];
-        take_turn(member, node, &mut self.workplace, self.time)
+        take_turn(
+            &mut self.members[party],
+            &mut self.decks,
+            &mut self.desk,
+            self.time,
+        )
     }
 
     /// One more round is complete.
@@ -137,7 +152,7 @@ impl World {
         ensures { holders self.now.plain node number ≡ result ∷ [] }
     {
         counts_holders();
-        match self.decks[usize::from(node)].deck.place(number) {
+        match self.decks.place(node, number) {
             Some(place) => place,
             None => self.party_with(node, number),
         }
@@ -150,9 +165,20 @@ impl World {
         ensures { holders self.now.plain node number ≡ result ∷ [] }
     {
         match member_with(self.members.as_slice(), node, number) {
-            Some(member) => member.who.place(),
+            Some(member) => place_of(member.who),
             None => unreachable!(),
         }
+    }
+}
+
+/// The place of a party that is one of a node.
+fn place_of(who: Who) -> Place
+    requires { node_of who ≢ None }
+    ensures { option_map (λ h. h.1) (home_of who) ≡ Some result }
+{
+    match who.home() {
+        Some((_, place)) => place,
+        None => unreachable!(),
     }
 }
 

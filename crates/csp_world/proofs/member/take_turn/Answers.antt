@@ -1,60 +1,87 @@
-use Rattle.std.proofs.Common.{◌≡◌, ◌+◌, ◌≤◌, length, sym, ◌∙◌, ap, subst, false}
-use Rattle.csp_lists.specs.PlainDeck.{DeckAt, PlainDeck, answer_of, rule_of, numbers_in}
+use Rattle.std.proofs.Common.{◌≡◌, ◌+◌, ◌*◌, ◌-◌, ◌≤◌, ℕ, List, Some, false, sym, ◌∙◌, ap, subst, refl, arith}
+use Rattle.std.specs.Prelude.{slice_get, IsSomeAnd, vec_capacity}
 use Rattle.csp_deck.specs.Step.{times}
+use Rattle.csp_lists.specs.PlainDeck.{PlainDeck, numbers_in}
+use Rattle.csp_log.specs.PlainLog.{PlainLog}
+use Rattle.csp_log.specs.declared.shown.AnswerShown.{AnswerShown}
 use Rattle.csp_log.specs.declared.shown.AnswerShown.TheVariants as answer
-use Rattle.csp_party.specs.Any.{plain, has_ended, asks, holds}
-use Rattle.csp_world.proofs.TurnLemmas.{as_many, fit_kept, left_is, answered_is, together, found_full}
+use Rattle.csp_log.specs.Pictures.{Fits}
+use Rattle.csp_deck.specs.Step.{HasCause}
+use Rattle.csp_nodes.specs.DecksAt.{DecksAt, IsEmpty, IsFull, rule_at}
+use Rattle.csp_nodes.specs.Serving.{answer_in, rule_in}
+use Rattle.csp_party.specs.Any.{plain, asks, needs, has_ended, region_of}
+use Rattle.csp_party.specs.declared.any.AnyParty.{AnyParty}
+use Rattle.csp_world.specs.Inside.{IsCalled, rooms}
+use Rattle.csp_world.specs.Seen.{plain_member}
+use Rattle.csp_world.proofs.TurnLemmas.{any_room, called_told, full_for, kept_at, plain_told, stock_left}
 use Rattle.csp_world.proofs.member.take_turn.Goals as goal
 
 pub turn-requires-clause-served : goal.turn-requires-clause-served
-turn-requires-clause-served c = λ q r u. ap (λ (d : DeckAt). rule_of d.deck q) c.node.view_is ∙ c.requires.fit.served q r u
-
--- the lists of the node
-deck_is : (c : goal.After-turn) → c.node.inside.deck.deck ≡ c.args.node.now.deck
-deck_is c = ap (λ (d : DeckAt). d.deck) c.node.view_is
+turn-requires-clause-served c = λ q r u. ap (λ (d : DecksAt). rule_at d q) c.serve.ensures ∙ c.requires.fit.served q r u
 
 goes_on : (c : goal.After-turn) → has_ended (plain c.args.member.now.party) ≡ false
 goes_on c = sym c.ended.ensures ∙ c.if-ended.false
 
-room_kept : (c : goal.After-turn) → c.turn.new.deck.deck.pool.room ≡ c.args.node.now.deck.pool.room
-room_kept c =
+-- it stays the party that its name says
+called : (c : goal.After-turn) → IsCalled c.args.member.now.who (plain c.turn.new.party)
+called c =
+    let (a, _, _, _, party, _, _, _) = c.turn.ensures.went (goes_on c) in
+    subst (λ (p : AnyParty). IsCalled c.args.member.now.who (plain p)) (sym party)
+    (rw (plain_told c.args.member.now.party c.args.time a) (called_told c.args.member.now.who c.args.member.now.party c.args.time a c.requires.fit.called))
+
+rooms_kept : (c : goal.After-turn) → rooms c.turn.new.deck.decks ≡ rooms c.args.decks.now.decks
+rooms_kept c =
     let (a, s, _, _, _, _, _, _) = c.turn.ensures.went (goes_on c) in
-    ap (λ (d : PlainDeck). d.pool.room) (left_is c.node.inside.deck.deck c.turn.new.deck.deck (asks (plain c.args.member.now.party) c.args.time) a s)
-    ∙ c.keeps_shape.ensures.pool c.node.inside.deck.deck (asks (plain c.args.member.now.party) c.args.time)
-    ∙ ap (λ (d : PlainDeck). d.pool.room) (deck_is c)
+    let o = asks (plain c.args.member.now.party) c.args.time in
+    ap (λ (r : AnswerShown × List PlainDeck). rooms r.1) (sym s.answer)
+    ∙ c.keeps_shape.ensures.rooms c.serve.new.self.decks c.serve.new.self.links c.serve.new.self.whose o
+    ∙ ap (λ (d : DecksAt). rooms d.decks) c.serve.ensures
 
 pub returns-clause-fit : goal.returns-clause-fit
-returns-clause-fit c = record {
-  ready = λ later h e. c.turn.ensures.ready later h e;
-  counted = c.turn.ensures.counted;
-  served = λ q r u. c.turn.ensures.rules q ∙ ap (λ d. rule_of d q) (deck_is c) ∙ c.requires.fit.served q r (sym (c.turn.ensures.uses q) ∙ u);
-  unnoted = c.requires.fit.unnoted;
-  room = rw (room_kept c) c.requires.fit.room;
-}
+returns-clause-fit c =
+    let (a, s, _, _, _, log, _, _) = c.turn.ensures.went (goes_on c) in
+    let whose = s.whose ∙ ap (λ (d : DecksAt). d.whose) c.serve.ensures in
+    let regions = s.regions ∙ ap (λ (d : DecksAt). d.regions) c.serve.ensures in
+    let spare : c.turn.new.log.spare ≡ c.args.member.now.log.spare - 1 = ap (λ (l : PlainLog). l.spare) log in
+    record {
+      ready = λ later h e. c.turn.ensures.ready later h e;
+      counted = c.turn.ensures.counted;
+      served = λ q r u.
+          ap (λ w. rule_in c.turn.new.deck.decks c.turn.new.deck.links w q) (sym whose)
+          ∙ c.turn.ensures.rules q ∙ ap (λ (d : DecksAt). rule_at d q) c.serve.ensures ∙ c.requires.fit.served q r (sym (c.turn.ensures.uses q) ∙ u);
+      called = called c;
+      home = λ node h. ap (λ l. slice_get l node) regions ∙ c.requires.fit.home node h ∙ ap Some (sym c.turn.ensures.region.0);
+      unnoted = c.requires.fit.unnoted;
+      room = λ node h. subst (λ l. IsSomeAnd (slice_get l node) (λ room. room ≤ vec_capacity c.args.member.now.numbers)) (sym (rooms_kept c)) (c.requires.fit.room node h);
+      stock = rw (spare, c.turn.ensures.needs) (stock_left (needs (plain c.args.member.now.party)) c.args.member.now.log.spare c.args.member.now.spares c.turn.new.spares c.requires.room c.requires.fit.stock c.turn.ensures.stock);
+    }
 
 pub returns-clause-conserved : goal.returns-clause-conserved
-returns-clause-conserved c = λ k.
+returns-clause-conserved c = λ node d at.
     let (a, s, _, _, _, _, _, held) = c.turn.ensures.went (goes_on c) in
     let o = asks (plain c.args.member.now.party) c.args.time in
-    subst (λ (d : PlainDeck). times k (holds (plain c.turn.new.party)) + times k (numbers_in c.turn.new.deck.deck) ≡ times k (holds (plain c.args.member.now.party)) + times k (numbers_in d)) (deck_is c)
-    (together k c.node.inside.deck.deck c.turn.new.deck.deck o a (holds (plain c.args.member.now.party)) (holds (plain c.turn.new.party)) s (c.conserves.ensures c.node.inside.deck.deck o k) (held k))
-
-pub returns-clause-others : goal.returns-clause-others
-returns-clause-others c = λ other fit.
-    fit_kept c.args.node.now.deck c.turn.new.deck.deck c.args.time other (λ q. c.turn.ensures.rules q ∙ ap (λ d. rule_of d q) (deck_is c)) (room_kept c) fit
-
-pub returns-clause-shape : goal.returns-clause-shape
-returns-clause-shape c =
-    let (a, s, _, _, _, _, _, _) = c.turn.ensures.went (goes_on c) in
-    let o = asks (plain c.args.member.now.party) c.args.time in
-    ap (λ (d : PlainDeck). length d.queues) (left_is c.node.inside.deck.deck c.turn.new.deck.deck o a s)
-    ∙ as_many c.node.inside.deck.deck (answer_of c.node.inside.deck.deck o).1 (c.keeps_shape.ensures.queues c.node.inside.deck.deck o)
-    ∙ ap (λ (d : PlainDeck). length d.queues) (deck_is c)
+    let w = c.args.member.now.who in
+    let decks = c.args.decks.now.decks in
+    let links = c.args.decks.now.links in
+    let answers : answer_in decks links w o ≡ (a, c.turn.new.deck.decks) = ap (λ (x : DecksAt). answer_in x.decks x.links x.whose o) (sym c.serve.ensures) ∙ s.answer in
+    let (e, there, law) = c.conserves.ensures decks links w o node d at in (
+      e,
+      ap (λ (r : AnswerShown × List PlainDeck). slice_get r.1 node) (sym answers) ∙ there,
+      λ k. kept_at links w o node k a (plain c.args.member.now.party) (plain c.turn.new.party) d e c.requires.fit.called (called c)
+          (rw (ap (λ (r : AnswerShown × List PlainDeck). r.0) answers) at law k) (held k),
+    )
 
 pub returns-clause-full : goal.returns-clause-full
 returns-clause-full c = λ goes b e.
     let (a, s, fits, cause, _, _, _, _) = c.turn.ensures.went (goes_on c) in
     let o = asks (plain c.args.member.now.party) c.args.time in
-    let is : a ≡ answer.PoolFull b = answered_is c.node.inside.deck.deck c.turn.new.deck.deck o a s ∙ ap (λ (d : PlainDeck). (answer_of d o).0) (deck_is c) ∙ e in
-    subst (λ (d : PlainDeck). (d.pool.room ≤ length d.pool.items) × (1 ≤ times b.number (holds (plain c.args.member.now.party)))) (deck_is c)
-    (found_full c.node.inside.deck.deck o a b (holds (plain c.args.member.now.party)) is fits cause (c.turn.ensures.had (goes_on c)))
+    let w = c.args.member.now.who in
+    let d = c.serve.new.self in
+    let answers : answer_in d.decks d.links d.whose o ≡ (a, c.turn.new.deck.decks) = s.answer in
+    let same : (answer_in d.decks d.links d.whose o).0 ≡ answer.PoolFull b = ap (λ (x : DecksAt). (answer_in x.decks x.links x.whose o).0) c.serve.ensures ∙ e in
+    let is : a ≡ answer.PoolFull b = sym (ap (λ (r : AnswerShown × List PlainDeck). r.0) answers) ∙ same in
+    let decks : d.decks ≡ c.args.decks.now.decks = ap (λ (x : DecksAt). x.decks) c.serve.ensures in
+    rw (← decks)
+    (full_for d o b (plain_member c.args.member.now) (ap (λ (x : DecksAt). x.whose) c.serve.ensures) c.requires.fit.called
+    (λ n h. any_room (slice_get (rooms d.decks) n) (λ room. room ≤ vec_capacity c.args.member.now.numbers) (subst (λ l. IsSomeAnd (slice_get (rooms l) n) (λ room. room ≤ vec_capacity c.args.member.now.numbers)) (sym decks) (c.requires.fit.room n h)))
+    (subst (λ x. Fits o x) is fits) (subst (λ x. HasCause (IsEmpty d) (IsFull d) o x) is cause) (c.turn.ensures.had (goes_on c)))

@@ -1,33 +1,33 @@
-use Rattle.std.proofs.Common.{◌≤◌, ◌<◌, ◌+◌, ◌^◌, ◌≡◌, Some, length, vec_capacity, arith, subst, sym, slice_get, IsSomeAnd}
+use Rattle.std.proofs.Common.{ℕ, ◌≡◌, ◌≤◌, ◌<◌, ◌+◌, ◌^◌, Some, length, vec_capacity, arith, refl, subst, sym, slice_get}
 use Rattle.std.proofs.lemmas.List.{length-map}
-use Rattle.csp_lists.specs.PlainDeck.{DeckAt}
 use Rattle.csp_party.specs.Any.{region_of}
 use Rattle.csp_record.specs.Who.{node_of}
-use Rattle.csp_world.proofs.OpeningMembers.{has_room-push, has_room-kept, world-push, world-kept}
-use Rattle.csp_world.specs.Inside.{decks_of, IsNew}
+use Rattle.csp_world.proofs.OpeningMembers.{HasNumbers, has_room-push, has_room-kept, world-push, world-kept}
+use Rattle.csp_world.specs.Inside.{IsNew}
 use Rattle.csp_world.specs.Seen.{plain_member}
 use Rattle.csp_world.specs.SeenWorld.{SeenWorld}
 use Rattle.csp_world.proofs.world.World.add_member.Goals as goal
 
 pub member_room-requires-clause-few : goal.member_room-requires-clause-few
-member_room-requires-clause-few c = omega (arith, c.self.inside.room.left.small, c.self.invariant.room.left, c.self.invariant.room.counted, c.self.invariant.few_members, c.self.invariant.few_decks, c.len-nodes.ensures, c.self.inside.decks.ok.0)
+member_room-requires-clause-few c = omega (arith, c.self.inside.room.left.small, c.self.invariant.room.left, c.self.invariant.room.counted, c.self.invariant.few_members, c.self.invariant.few_decks, c.len-nodes.ensures.count)
 
 pub invariant_of-self : goal.invariant_of-self
 invariant_of-self c =
     let w = c.self.inside in
     let e = c.in-Ok.ensures in
-    let new = subst (λ (v : SeenWorld). IsSomeAnd (slice_get v.plain.decks (node_of c.args.who)) (λ d. IsNew d c.args.party × (d.pool.room ≤ c.args.buffers))) (sym c.self.view_is) c.requires.new in
-    let home = subst (λ (v : SeenWorld). slice_get v.regions (node_of c.args.who) ≡ Some (region_of c.args.party)) (sym c.self.view_is) c.requires.home in
+    let new = subst (λ (v : SeenWorld). IsNew v.plain c.args.who c.args.party) (sym c.self.view_is) c.requires.new in
+    let numbers = subst (λ (v : SeenWorld). HasNumbers v.plain.decks (node_of c.args.who) c.args.buffers) (sym c.self.view_is) c.requires.room in
+    let home = subst (λ (v : SeenWorld). (node : ℕ) → node_of c.args.who ≡ Some node → slice_get v.regions node ≡ Some (region_of c.args.party)) (sym c.self.view_is) c.requires.home in
     let few : length w.members.items + 1 < 2 ^ 31 = omega (arith, subst (λ (v : SeenWorld). length v.plain.members + 1 < 2 ^ 31) (sym c.self.view_is) c.requires.few, length-map w.members.items plain_member) in
-    let held : w.room.queues + length w.members.items + 1 + length (decks_of w.decks.items) ≤ vec_capacity c.member_room.new.room.held = omega (arith, e.held_room, c.len-nodes.ensures, w.decks.ok.0, length-map w.decks.items (λ (d : DeckAt). d.deck)) in
+    let held : w.room.queues + length w.members.items + 1 + length w.decks.decks ≤ vec_capacity c.member_room.new.room.held = omega (arith, e.held_room, c.len-nodes.ensures.count) in
     world-push w c.push_reserved.new.self c.member_room.new.room c.args.buffers _ c.self.invariant
     (rw e.members at c.push_reserved.ensures.items)
-    new e.numbers.0 e.numbers.1 home few
-    (has_room-push (decks_of w.decks.items) _ w.room c.member_room.new.room c.self.invariant.room e.logs e.logs_room e.held held e.left e.emptied e.queues)
+    new numbers home e.numbers.0 e.numbers.1 (rw c.new.ensures refl) few
+    (has_room-push w.decks.decks _ w.room c.member_room.new.room c.self.invariant.room e.logs e.logs_room e.held held e.left e.emptied e.queues)
 
 pub invariant_of-self-in-Err : goal.invariant_of-self-in-Err
 invariant_of-self-in-Err c =
     let w = c.self.inside in
     let e = c.in-Err.ensures in
     world-kept w c.member_room.new.members c.member_room.new.room c.self.invariant e.members
-    (has_room-kept (decks_of w.decks.items) _ w.room c.member_room.new.room c.self.invariant.room e.logs e.logs_capacity e.held e.held_capacity e.left e.emptied e.queues)
+    (has_room-kept w.decks.decks _ w.room c.member_room.new.room c.self.invariant.room e.logs e.logs_capacity e.held e.held_capacity e.left e.emptied e.queues)

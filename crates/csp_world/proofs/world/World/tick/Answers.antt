@@ -1,13 +1,12 @@
 use Rattle.std.proofs.Common.{◌+◌, arith}
-use Rattle.csp_world.specs.Inside.{decks_of, world_of}
+use Rattle.csp_world.specs.Inside.{world_of}
 use Rattle.csp_world.proofs.FitLemmas.{fit_later}
 use Rattle.csp_world.proofs.HolderLemmas.{one_holder}
 use Rattle.csp_world.proofs.world.World.tick.Goals as goal
 
 pub invariant_of-self : goal.invariant_of-self
 invariant_of-self c = record {
-  fit = fit_later (decks_of c.self.inside.decks.items) c.self.inside.members.items c.self.inside.time c.self.invariant.fit;
-  home = c.self.invariant.home;
+  fit = fit_later c.self.inside.decks c.self.inside.members.items c.self.inside.time c.self.invariant.fit;
   conserved = c.self.invariant.conserved;
   room = c.self.invariant.room;
   early = grind (arith, c.requires, c.self.view_is);
@@ -17,4 +16,4 @@ invariant_of-self c = record {
 
 pub returns-clause-one_holder : goal.returns-clause-one_holder
 returns-clause-one_holder c =
-    one_holder c.counts_holders.ensures (world_of (decks_of c.self.inside.decks.items) c.self.inside.members.items (c.self.inside.time + 1)) c.self.invariant.conserved
+    one_holder c.counts_holders.ensures (world_of c.self.inside.decks c.self.inside.members.items (c.self.inside.time + 1)) c.self.invariant.conserved

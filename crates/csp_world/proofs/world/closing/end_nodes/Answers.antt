@@ -1,6 +1,6 @@
 use Rattle.std.proofs.Common.{arith, ap}
 use Rattle.std.proofs.lemmas.List.Elements.{All-head, All-rest}
-use Rattle.csp_world.specs.Emptied.{IsComplete, emptied_in}
+use Rattle.csp_nodes.specs.Emptied.{IsComplete, emptied_in}
 use Rattle.csp_world.proofs.ClosingParts.{moved}
 use Rattle.csp_world.proofs.world.closing.end_nodes.Goals as goal
 

@@ -1,6 +1,6 @@
 use Rattle.std.proofs.Common.{◌≡◌, ◌+◌, ◌≤◌, ◌++◌, All, length, map, vec_len, vec_capacity}
-use Rattle.csp_world.specs.Emptied.{IsComplete, emptied_in}
-use Rattle.csp_world.specs.Record.{pools_held}
+use Rattle.csp_nodes.specs.Emptied.{IsComplete, emptied_in}
+use Rattle.csp_nodes.specs.Gathering.{pools_held}
 use Rattle.csp_world.proofs.world.closing.end_nodes.Given as goal
 
 abbrev pub invariant-loop-rest : goal.invariant-loop-rest

@@ -1,0 +1,9 @@
+pub mod DecksAt
+pub mod Emptied
+pub mod EmptiedParts
+pub mod Fresh
+pub mod Gathering
+pub mod NodeAt
+pub mod Returned
+pub mod Seeing
+pub mod Serving
