@@ -1,4 +1,5 @@
 mod Adding
-mod Events
 mod Feeds
+mod Ifaces
+mod Joining
 mod ReportLemmas

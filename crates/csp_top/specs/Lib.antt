@@ -1,5 +1,7 @@
 pub mod Lines
+pub mod Parties
 pub mod ReportEvents
+pub mod ReportIfaces
 pub mod ReportPlaces
 pub mod Report
 pub mod PlacesAddUp

@@ -1,41 +1,14 @@
--- What the report tells of the logs: the discards of a router, and what an application reported.
-use Rattle.std.specs.Prelude.{ℕ, ◌==◌, ◌&&◌, Bool, true, false, Option, None, Some, List, [], ◌∷◌, count_by, find, codes}
+-- What the report tells of events: the discards of a router, and what an application reported.
+use Rattle.std.specs.Prelude.{ℕ, Bool, true, false, List, [], ◌∷◌, count_by, codes}
 use Rattle.std.specs.List.{flat_map}
 use Rattle.std.specs.Fmt.{decimal}
-use Rattle.csp_log.specs.declared.entry.Entry.{Entry}
 use Rattle.csp_log.specs.declared.event.Discard.{Discard}
 use Rattle.csp_log.specs.declared.event.Discard.TheVariants as discard
 use Rattle.csp_log.specs.declared.event.Event.{Event}
 use Rattle.csp_log.specs.declared.event.Event.TheVariants as event
 use Rattle.csp_log.specs.declared.note.Why.{Why}
 use Rattle.csp_log.specs.declared.note.Why.TheVariants as why
-use Rattle.csp_record.specs.declared.who.Who.{Who}
-use Rattle.csp_record.specs.declared.who.Who.TheVariants as who
-use Rattle.csp_record.specs.Record.{PlainPartyLog, PlainRecord}
 use Rattle.csp_top.specs.Lines.{Line}
-
--- whether a party is the router of the node at this place
-abbrev pub is_router : ℕ → Who → Bool
-is_router node (who.Router n) = n == node
-is_router node (who.App n number) = false
-
--- whether a party is the application with this number of the node at this place
-abbrev pub is_app : ℕ → ℕ → Who → Bool
-is_app node number (who.Router n) = false
-is_app node number (who.App n k) = n == node && k == number
-
--- the party's entries, where there is the party
-abbrev pub entries_of : Option PlainPartyLog → List Entry
-entries_of None = []
-entries_of (Some party) = party.entries
-
--- the entries of the router of the node at this place
-abbrev pub router_entries : PlainRecord → ℕ → List Entry
-router_entries record' node = entries_of (find (λ party. is_router node party.who) record'.parties)
-
--- the events of these entries, in order of time
-abbrev pub events_in : List Entry → List Event
-events_in entries = flat_map (λ entry. entry.events.items) entries
 
 -- whether two reasons are the same
 abbrev pub is_same : Discard → Discard → Bool
@@ -58,10 +31,6 @@ abbrev pub is_discard : Discard → Event → Bool
 is_discard reason (event.Discarded other) = is_same other reason
 is_discard reason _ = false
 
--- how many events of these entries are discards for this reason
-abbrev pub discards_in : List Entry → Discard → ℕ
-discards_in entries reason = count_by (is_discard reason) (events_in entries)
-
 -- the reasons, in the order in which a router's line has them
 abbrev pub all_discards : List Discard
 all_discards = discard.NoRoute ∷ discard.BackOut ∷ discard.Refused ∷ discard.CrcWrong ∷ discard.NoSocket ∷ discard.NoSlot ∷ discard.Required ∷ discard.Malformed ∷ discard.Mixed ∷ discard.NoConn ∷ discard.Stray ∷ discard.Full ∷ []
@@ -80,6 +49,10 @@ word_of discard.Mixed = codes "mixed"
 word_of discard.NoConn = codes "noconn"
 word_of discard.Stray = codes "stray"
 word_of discard.Full = codes "full"
+
+-- each of these reasons with the number of these events that are discards for it
+abbrev pub discard_words : List Event → List Discard → Line
+discard_words events reasons = flat_map (λ reason. word_of reason ∷ decimal (count_by (is_discard reason) events) ∷ []) reasons
 
 -- the word of why a request was refused
 abbrev pub word_of_refusal : Why → List ℕ

@@ -1,7 +1,9 @@
 //! The report of a run, line by line.
 
 mod apps;
+mod ifaces;
 mod lines;
+mod parties;
 mod places;
 mod routers;
 mod text;

@@ -1,7 +1,7 @@
 //! The command `sim`: the source read to its end, the scenario judged, the run, the report built whole, the
 //! report written. The first refusal in this order is the answer.
 
-ghost use Rattle.std.specs.Prelude.{◌≡◌, ◌≢◌, ◌+◌, ℕ, Err, IfSome, IfOk};
+ghost use Rattle.std.specs.Prelude.{◌≡◌, ◌≢◌, ◌≤◌, ◌+◌, ℕ, Err, IfSome, IfOk, length};
 ghost use Rattle.std.specs.String.{string_bytes};
 ghost use Rattle.csp_base.specs.Faults.{Rose};
 ghost use Rattle.csp_base.specs.Transfer.{TookExactly};
@@ -94,6 +94,7 @@ impl Refusal {
 
 /// The report of a text: of the run of the scene that it states.
 fn report_of(alloc: Global, text: &[u8]) -> Result<String, Refusal>
+    requires { length text.now ≤ MAX_SCENARIO }
     ensures report { IfOk result (λ bytes. IsReportOf text.now (string_bytes bytes)) }
     ensures places { IfOk result (λ bytes. PlacesAddUp (string_bytes bytes)) }
     ensures scene { (line : ℕ) (kind : SceneKind) → result ≡ Err (Refusal.Scene line kind) → scene_of text.now ≡ Err (record { line = line; kind = kind }) }

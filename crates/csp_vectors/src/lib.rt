@@ -4,6 +4,8 @@
 #[cfg(test)]
 mod can;
 #[cfg(test)]
+mod connections;
+#[cfg(test)]
 mod crc;
 #[cfg(test)]
 mod damage;
@@ -13,5 +15,7 @@ mod interfaces;
 mod kiss;
 #[cfg(test)]
 mod links;
+#[cfg(test)]
+mod passed;
 #[cfg(test)]
 mod router;

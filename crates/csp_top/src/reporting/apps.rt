@@ -1,29 +1,20 @@
 //! The lines of an application: whether it ended, and what it reported.
 
-ghost use Rattle.std.specs.Prelude.{◌≡◌, ◌++◌, ◌∷◌, [], ◌==◌, if◌then◌else◌, map, OnOk, find, codes, Some};
+ghost use Rattle.std.specs.Prelude.{◌≡◌, ◌++◌, ◌∷◌, ◌==◌, if◌then◌else◌, OnOk, codes, Some};
 ghost use Rattle.std.specs.Option.{option_map};
 ghost use Rattle.std.specs.String.{string_bytes};
 ghost use Rattle.std.specs.Fmt.{decimal};
 ghost use Rattle.std.specs.List.{flat_map, enumerate_from};
 ghost use Rattle.csp_top.specs.Lines.{ended_line, text_of};
-ghost use Rattle.csp_top.specs.ReportEvents.{is_app, events_in, word_of_refusal, step_line, refused_line, event_lines};
+ghost use Rattle.csp_top.specs.ReportEvents.{word_of_refusal, step_line, refused_line, event_lines};
 ghost use Rattle.csp_top.specs.Report.{state_line, app_lines, node_app_lines};
 
 use crate::reporting::lines::{begin_line, end_line, push_count, push_counted, push_word};
-use csp_log::{Event, Log, Why};
-use csp_record::{PartyLog, Record, Who};
+use crate::reporting::parties::{Seat, party_at};
+use csp_log::{Event, Why};
+use csp_record::{PartyLog, Record};
 use csp_scene::{SceneApp, SceneNode};
 use std::alloc::AllocError;
-
-/// Whether a party is the application with this number of the node at this place.
-fn is_app(who: Who, node: usize, number: usize) -> bool
-    ensures { result ≡ is_app node number who }
-{
-    match who {
-        Who::Router(_) => false,
-        Who::App(place, app) => usize::from(place) == node && usize::from(app) == number,
-    }
-}
 
 /// Appends ` ended`, or ` step K` with the present step, from 1.
 fn push_progress(out: &mut String, step: u32) -> Result<(), AllocError>
@@ -129,29 +120,12 @@ fn push_events(out: &mut String, node: &str, app: &str, events: &[Event]) -> Res
     Ok(())
 }
 
-/// Appends the lines of what a log tells, in order of time.
-fn push_log(out: &mut String, node: &str, app: &str, log: &Log) -> Result<(), AllocError>
-    ensures { OnOk result (string_bytes out.new ≡ string_bytes out.old ++ text_of (flat_map (event_lines node.now app.now) (events_in log.now.entries))) }
-{
-    for index in 0..log.len() {
-        push_events(out, node, app, log.events(index))?;
-    }
-    Ok(())
-}
-
 /// Appends the lines of an application, where its party is given.
 fn push_app(out: &mut String, node: &str, app: &str, party: &PartyLog) -> Result<(), AllocError>
     ensures { OnOk result (string_bytes out.new ≡ string_bytes out.old ++ text_of (app_lines node.now app.now (Some party.now))) }
 {
     push_state(out, node, app, party.step)?;
-    push_log(out, node, app, &party.log)
-}
-
-/// The application with this number of the node at this place, among these parties.
-fn app_of(parties: &[PartyLog], node: usize, number: usize) -> Option<&PartyLog>
-    ensures { option_map (λ party. party.now) result ≡ find (λ party. is_app node number party.who) parties.now }
-{
-    parties.iter().find(|party| is_app(party.who, node, number))
+    push_events(out, node, app, party.log.all_events())
 }
 
 /// Appends the lines of an application, where its party is found.
@@ -198,7 +172,8 @@ fn push_app_list(
     ensures { OnOk result (string_bytes out.new ≡ string_bytes out.old ++ text_of (node_app_lines parties.now place node.now apps.now)) }
 {
     for (number, app) in apps.iter().enumerate() {
-        push_found(out, node, app.name.as_str(), app_of(parties, place, number))?;
+        let party = party_at(parties, Seat::App(place, number));
+        push_found(out, node, app.name.as_str(), party)?;
     }
     Ok(())
 }

@@ -1,4 +1,4 @@
-//! The line of a node: where its buffers were when the run ended.
+//! The line of a node or a bridge: where its buffers were when the run ended.
 
 ghost use Rattle.std.specs.Prelude.{◌≡◌, ◌++◌, ◌∷◌, [], map, OnOk, IfOk, codes};
 ghost use Rattle.std.specs.String.{string_bytes};
@@ -6,9 +6,10 @@ ghost use Rattle.std.specs.Fmt.{decimal};
 ghost use Rattle.std.specs.List.{enumerate_from, join_with_byte};
 ghost use Rattle.csp_top.specs.Lines.{ended_line, text_of};
 ghost use Rattle.csp_top.specs.ReportPlaces.{is_of_kind, held_in};
-ghost use Rattle.csp_top.specs.Report.{node_line};
+ghost use Rattle.csp_top.specs.Report.{name_words, node_line};
 
 use crate::reporting::lines::{begin_line, end_line, push_count, push_counted, push_word};
+use csp_base::Addr;
 use csp_log::Place;
 use csp_record::Record;
 use csp_scene::SceneNode;
@@ -65,13 +66,28 @@ fn held_in(run: &Record, node: usize, kind: PlaceKind) -> Result<u64, AllocError
     Ok(count)
 }
 
-/// Appends the words of a node's line that state the node.
-fn push_name(out: &mut String, node: &SceneNode) -> Result<(), AllocError>
-    ensures { OnOk result (string_bytes out.new ≡ string_bytes out.old ++ join_with_byte 32 (codes "node" ∷ node.now.name ∷ decimal node.now.addr ∷ codes "buffers" ∷ decimal node.now.buffers ∷ [])) }
+/// Appends `node NAME ADDR`, or `bridge NAME` where there is no address.
+fn push_name(out: &mut String, name: &str, addr: Option<Addr>) -> Result<(), AllocError>
+    ensures { OnOk result (string_bytes out.new ≡ string_bytes out.old ++ join_with_byte 32 (name_words name.now addr)) }
 {
-    begin_line(out, "node")?;
-    push_word(out, node.name.as_str())?;
-    push_count(out, u64::from(node.addr.get()))?;
+    match addr {
+        Some(addr) => {
+            begin_line(out, "node")?;
+            push_word(out, name)?;
+            push_count(out, u64::from(addr.get()))
+        }
+        None => {
+            begin_line(out, "bridge")?;
+            push_word(out, name)
+        }
+    }
+}
+
+/// Appends the words of a node's line that state the node.
+fn push_stated(out: &mut String, node: &SceneNode) -> Result<(), AllocError>
+    ensures { OnOk result (string_bytes out.new ≡ string_bytes out.old ++ (join_with_byte 32 (name_words node.now.name node.now.addr) ++ 32 ∷ (codes "buffers" ++ 32 ∷ decimal node.now.buffers))) }
+{
+    push_name(out, node.name.as_str(), node.addr)?;
     push_counted(out, "buffers", u64::from(node.buffers))
 }
 
@@ -93,7 +109,7 @@ fn push_kept(out: &mut String, run: &Record, place: usize) -> Result<(), AllocEr
     push_counted(out, "app", held_in(run, place, PlaceKind::App)?)
 }
 
-/// Appends the line of the node at this place.
+/// Appends the line of the node or bridge at this place.
 fn push_node(
     out: &mut String,
     run: &Record,
@@ -102,14 +118,14 @@ fn push_node(
 ) -> Result<(), AllocError>
     ensures { OnOk result (string_bytes out.new ≡ string_bytes out.old ++ ended_line (node_line run.now place node.now)) }
 {
-    push_name(out, node)?;
+    push_stated(out, node)?;
     push_queued(out, run, place)?;
     push_kept(out, run, place)?;
     end_line(out)?;
     Ok(())
 }
 
-/// Appends the lines of all nodes.
+/// Appends the lines of all nodes and bridges.
 pub(crate) fn push_nodes(
     out: &mut String,
     nodes: &[SceneNode],

@@ -1,17 +1,18 @@
-//! The line of a router: how many packets it discarded, and why.
+//! The line of a router or bridge: how many packets it discarded, and why.
 
-ghost use Rattle.std.specs.Prelude.{◌≡◌, ◌++◌, ◌∷◌, [], map, find, count_by, OnOk, IfOk};
-ghost use Rattle.std.specs.Option.{option_map};
+ghost use Rattle.std.specs.Prelude.{◌≡◌, ◌++◌, ◌∷◌, map, count_by, OnOk};
 ghost use Rattle.std.specs.String.{string_bytes};
 ghost use Rattle.std.specs.Fmt.{decimal};
 ghost use Rattle.std.specs.List.{flat_map, enumerate_from};
 ghost use Rattle.csp_top.specs.Lines.{ended_line, text_of};
-ghost use Rattle.csp_top.specs.ReportEvents.{is_router, is_discard, router_entries, discards_in, word_of};
-ghost use Rattle.csp_top.specs.Report.{router_line};
+ghost use Rattle.csp_top.specs.ReportEvents.{is_discard, discard_words, word_of};
+ghost use Rattle.csp_top.specs.Report.{router_words, router_line};
 
 use crate::reporting::lines::{begin_line, end_line, push_counted, push_word};
-use csp_log::{Discard, Event, Log};
-use csp_record::{PartyLog, Record, Who};
+use crate::reporting::parties::{Seat, events_at};
+use csp_base::Addr;
+use csp_log::{Discard, Event};
+use csp_record::Record;
 use csp_scene::SceneNode;
 use std::alloc::AllocError;
 
@@ -30,6 +31,9 @@ const DISCARDS: [Discard; 12] = [
     Discard::Stray,
     Discard::Full,
 ];
+
+/// The reason of a bridge.
+const RELAY_DISCARDS: [Discard; 1] = [Discard::Full];
 
 /// The word of a reason in a router's line.
 fn word_of(why: Discard) -> &'static str
@@ -68,65 +72,57 @@ fn count_events(events: &[Event], why: Discard) -> usize
     events.iter().filter(|event| is_discard(event, why)).count()
 }
 
-/// How many discards for this reason a log tells. Memory is wanting where they are more than 64 bits
-/// count.
-fn count_discards(log: &Log, why: Discard) -> Result<u64, AllocError>
-    ensures { IfOk result (λ count. count ≡ discards_in log.now.entries why) }
-{
-    let mut count = 0u64;
-    for index in 0..log.len() {
-        let Some(more) = count.checked_add(count_events(log.events(index), why) as u64) else {
-            return Err(AllocError);
-        };
-        count = more;
-    }
-    Ok(count)
-}
-
-/// Whether a party is the router of the node at this place.
-fn is_router(who: Who, node: usize) -> bool
-    ensures { result ≡ is_router node who }
-{
-    match who {
-        Who::Router(place) => usize::from(place) == node,
-        Who::App(_, _) => false,
-    }
-}
-
-/// The router of the node at this place, among these parties.
-fn router_of(parties: &[PartyLog], node: usize) -> Option<&PartyLog>
-    ensures { option_map (λ party. party.now) result ≡ find (λ party. is_router node party.who) parties.now }
-{
-    parties.iter().find(|party| is_router(party.who, node))
-}
-
-/// How many packets the router of the node at this place discarded for this reason.
-fn count_of(run: &Record, node: usize, why: Discard) -> Result<u64, AllocError>
-    ensures { IfOk result (λ count. count ≡ discards_in (router_entries run.now node) why) }
-{
-    match router_of(run.parties.as_slice(), node) {
-        Some(router) => count_discards(&router.log, why),
-        None => Ok(0),
-    }
-}
-
-/// Appends the words of these reasons, each with the number of discards for it by the router of the node at
-/// this place.
-fn push_discards(
-    out: &mut String,
-    run: &Record,
-    node: usize,
-    reasons: &[Discard],
-) -> Result<(), AllocError>
-    ensures { OnOk result (string_bytes out.new ≡ string_bytes out.old ++ flat_map (λ why. 32 ∷ (word_of why ++ 32 ∷ decimal (discards_in (router_entries run.now node) why))) reasons.now) }
+/// Appends the words of these reasons, each with the number of these events that are discards for it.
+fn push_discards(out: &mut String, events: &[Event], reasons: &[Discard]) -> Result<(), AllocError>
+    ensures { OnOk result (string_bytes out.new ≡ string_bytes out.old ++ flat_map (λ why. 32 ∷ (word_of why ++ 32 ∷ decimal (count_by (is_discard why) events.now))) reasons.now) }
 {
     for why in reasons {
-        push_counted(out, word_of(*why), count_of(run, node, *why)?)?;
+        push_counted(out, word_of(*why), count_events(events, *why) as u64)?;
     }
     Ok(())
 }
 
-/// Appends the line of the router of the node at this place.
+/// Appends a line of this word, a name and the discards for these reasons among these events.
+fn push_discarding(
+    out: &mut String,
+    word: &str,
+    name: &str,
+    events: &[Event],
+    reasons: &[Discard],
+) -> Result<(), AllocError>
+    ensures { OnOk result (string_bytes out.new ≡ string_bytes out.old ++ ended_line (word.now ∷ name.now ∷ discard_words events.now reasons.now)) }
+{
+    begin_line(out, word)?;
+    push_word(out, name)?;
+    push_discards(out, events, reasons)?;
+    end_line(out)?;
+    Ok(())
+}
+
+/// Appends the line of the router at this place, or of the bridge there, which has no address.
+fn push_discarder(
+    out: &mut String,
+    run: &Record,
+    place: usize,
+    name: &str,
+    addr: Option<Addr>,
+) -> Result<(), AllocError>
+    ensures { OnOk result (string_bytes out.new ≡ string_bytes out.old ++ ended_line (router_words run.now place name.now addr)) }
+{
+    let parties = run.parties.as_slice();
+    match addr {
+        Some(_) => {
+            let events = events_at(parties, Seat::Router(place));
+            push_discarding(out, "router", name, events, &DISCARDS)
+        }
+        None => {
+            let events = events_at(parties, Seat::Bridge(place));
+            push_discarding(out, "relay", name, events, &RELAY_DISCARDS)
+        }
+    }
+}
+
+/// Appends the line of the router of this node, or of this bridge.
 fn push_router(
     out: &mut String,
     run: &Record,
@@ -135,14 +131,10 @@ fn push_router(
 ) -> Result<(), AllocError>
     ensures { OnOk result (string_bytes out.new ≡ string_bytes out.old ++ ended_line (router_line run.now place node.now)) }
 {
-    begin_line(out, "router")?;
-    push_word(out, node.name.as_str())?;
-    push_discards(out, run, place, &DISCARDS)?;
-    end_line(out)?;
-    Ok(())
+    push_discarder(out, run, place, node.name.as_str(), node.addr)
 }
 
-/// Appends the lines of the routers of all nodes.
+/// Appends the lines of the routers and bridges of all nodes.
 pub(crate) fn push_routers(
     out: &mut String,
     nodes: &[SceneNode],

@@ -1,20 +1,22 @@
 //! The report of a run.
 
-ghost use Rattle.std.specs.Prelude.{◌≡◌, ◌++◌, ◌∷◌, [], map, OnOk, IfOk, codes};
+ghost use Rattle.std.specs.Prelude.{◌≡◌, ◌++◌, ◌∷◌, [], map, OnOk, IfOk};
 ghost use Rattle.std.specs.String.{string_bytes};
 ghost use Rattle.std.specs.Fmt.{decimal};
 ghost use Rattle.csp_scene.specs.Ranges.{IsScene};
+ghost use Rattle.csp_record.specs.Passed.{passed};
 ghost use Rattle.csp_record.specs.Whole.{IsWhole};
 ghost use Rattle.csp_top.specs.Lines.{ended_line, text_of};
-ghost use Rattle.csp_top.specs.Report.{end_line, report_lines, report};
+ghost use Rattle.csp_top.specs.Report.{end_line, count_lines, report_lines, report};
 ghost use Rattle.csp_top.specs.PlacesAddUp.{PlacesAddUp};
 
 use crate::reporting::apps::push_apps;
+use crate::reporting::ifaces::push_ifaces;
 use crate::reporting::lines::{begin_line, end_line, push_count, push_counted};
 use crate::reporting::places::push_nodes;
 use crate::reporting::routers::push_routers;
-use csp_record::Record;
-use csp_scene::{Scene, SceneNode};
+use csp_record::{Record, passed};
+use csp_scene::{Scene, SceneLink, SceneNode};
 use std::alloc::{AllocError, Global};
 
 /// The number of the report's form.
@@ -42,29 +44,53 @@ fn push_end(out: &mut String, run: &Record) -> Result<(), AllocError>
     end_line(out)
 }
 
-/// Appends the lines of a report on these nodes.
-fn push_lines(out: &mut String, nodes: &[SceneNode], run: &Record) -> Result<(), AllocError>
-    ensures { OnOk result (string_bytes out.new ≡ string_bytes out.old ++ text_of (report_lines nodes.now run.now)) }
+/// Appends the last two lines, of which the second has this number.
+fn push_last(out: &mut String, run: &Record, count: u64) -> Result<(), AllocError>
+    requires { count ≡ passed run.now }
+    ensures { OnOk result (string_bytes out.new ≡ string_bytes out.old ++ text_of (count_lines run.now)) }
+{
+    push_total(out, "stale", 0)?;
+    push_total(out, "passed", count)
+}
+
+/// Appends the lines of a report on these nodes and links, of which the last has this number.
+fn push_lines(
+    out: &mut String,
+    nodes: &[SceneNode],
+    links: &[SceneLink],
+    run: &Record,
+    count: u64,
+) -> Result<(), AllocError>
+    requires { count ≡ passed run.now }
+    ensures { OnOk result (string_bytes out.new ≡ string_bytes out.old ++ text_of (report_lines nodes.now links.now run.now)) }
 {
     push_total(out, "csp-report", FORM)?;
     push_end(out, run)?;
     push_nodes(out, nodes, run)?;
     push_routers(out, nodes, run)?;
+    push_ifaces(out, nodes, links, run)?;
     push_apps(out, nodes, run)?;
-    push_total(out, "stale", 0)?;
-    push_total(out, "passed", 0)?;
+    push_last(out, run, count)?;
     Ok(())
 }
 
 #[tactic(auto, using(crate::proofs::ReportLemmas::report_is))]
-/// The report of a run of this scene: where each buffer was at the end, what the routers discarded, how far
-/// each application came. Each line ends with a line feed.
+/// The report of a run of this scene: where each buffer was at the end, what the routers discarded, what the
+/// interfaces sent and accepted, how far each application came, and how many packets passed a link changed. Each
+/// line ends with a line feed.
 pub fn report(alloc: Global, scene: &Scene, run: &Record) -> Result<String, AllocError>
     requires { IsScene scene.now }
     ensures bytes { IfOk result (λ text. string_bytes text ≡ report scene.now run.now) }
     ensures places { IfOk result (λ text. IsWhole (map (λ n. n.buffers) scene.now.nodes) run.now → PlacesAddUp (string_bytes text)) }
 {
+    let count = passed(alloc, run)?;
     let mut out = String::new(alloc);
-    push_lines(&mut out, scene.nodes.as_slice(), run)?;
+    push_lines(
+        &mut out,
+        scene.nodes.as_slice(),
+        scene.links.as_slice(),
+        run,
+        count,
+    )?;
     Ok(out)
 }
