@@ -1,6 +1,6 @@
 //! The slots of all applications of a node.
 
-ghost use Rattle.std.specs.Prelude.{◌≡◌, ◌≢◌, ◌↔◌, ◌≤◌, ◌<◌, false, true, Some, Ok, Err, IsErr, IfOk, IfSome, OnErr, length};
+ghost use Rattle.std.specs.Prelude.{◌≡◌, ◌≢◌, ◌↔◌, ◌≤◌, ◌<◌, false, true, None, Some, Ok, Err, IsErr, IfOk, IfSome, OnErr, length};
 ghost use Rattle.std.specs.List.{All, list_any, position};
 ghost use Rattle.csp_conn.specs.PlainConns.{IsConns, IsThere, conns_of, place_of, slot_at, slots_of, with_slot};
 ghost use Rattle.csp_conn.specs.Opening.{first_free, found, is_refused, is_taken, next_port, opened, own_port_of};
@@ -168,6 +168,7 @@ impl Conns {
         requires { app < self.old.apps }
         ensures full { IsErr result ↔ All (λ slot. slot ≢ Slot.Free) (slots_of self.old app) }
         ensures least { IfOk result (λ slot. first_free self.old app ≡ Some slot) }
+        ensures none { OnErr result (first_free self.old app ≡ None) }
         ensures ok { IfOk result (λ slot. (slot < SLOTS) × (self.new ≡ with_slot self.old app slot (Slot.Open (between peer peer_port own_port)))) }
         ensures err { OnErr result (self.new ≡ self.old) }
         ensures apps { self.new.apps ≡ self.old.apps }

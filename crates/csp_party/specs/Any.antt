@@ -90,7 +90,7 @@ uses (a_link l) queue = plain_link.uses l queue
 
 -- the greatest of the numbers that its turns raise
 abbrev pub count : PlainParty → ℕ
-count (a_router r) = 0
+count (a_router r) = router.count_of r
 count (a_bridge b) = 0
 count (an_iface i) = i.serial
 count (an_app a) = plain_app.count a

@@ -55,6 +55,7 @@ impl Sockets {
     /// Binds a port for an application, where a packet needs these flags. A port that is refused stays as it was.
     pub fn bind(&mut self, app: u8, port: Port, need: u8) -> Result<(), BindError>
         ensures ok { OnOk result (self.new ≡ with_owner self.old port app need) }
+        ensures free { OnOk result ((port < BINDABLE_PORTS) × (owner_of self.old port ≡ None)) }
         ensures not_bindable { (result ≡ Err BindError.NotBindable) ↔ (BINDABLE_PORTS ≤ port) }
         ensures in_use { (owner : ℕ) → (result ≡ Err (BindError.InUse owner)) ↔ ((flags : ℕ) × (owner_of self.old port ≡ Some (owner, flags))) }
         ensures err { OnErr result (self.new ≡ self.old) }

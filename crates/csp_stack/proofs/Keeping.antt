@@ -1,22 +1,33 @@
 -- no buffer is lost, the trash has one more at most, and the table stays: for each thing that may become of an answer
-use Rattle.std.proofs.Common.{◌≡◌, ℕ, ◌+◌, ◌≤◌, ◌==◌, Bool, true, false, List, [], ◌∷◌, ◌++◌, length, Option, Some, None, refl, ap, ◌∙◌, arith, length-append}
+use Rattle.std.proofs.Common.{◌≡◌, ℕ, ◌+◌, ◌≤◌, ◌==◌, Bool, true, false, List, [], ◌∷◌, ◌++◌, length, Option, Some, None, refl, ap, subst, ◌∙◌, arith, length-append}
 use Rattle.std.proofs.lemmas.List.{map-append}
 use Rattle.csp_buffer.specs.Content.{Content}
+use Rattle.csp_conn.specs.Opening.{found}
+use Rattle.csp_conn.specs.PlainConns.{slot_at}
+use Rattle.csp_conn.specs.declared.slot.Slot.{Slot}
+use Rattle.csp_conn.specs.declared.slot.Slot.TheVariants as slot
 use Rattle.csp_crc.specs.Check.{payload_of}
 use Rattle.csp_deck.proofs.Keeping.{times-append}
 use Rattle.csp_deck.specs.Keeping.{numbers_of}
 use Rattle.csp_deck.specs.Step.{times, item_numbers}
 use Rattle.csp_header.specs.Word.{header_at}
 use Rattle.csp_log.specs.declared.event.Discard.{Discard}
+use Rattle.csp_log.specs.declared.event.Event.{Event}
+use Rattle.csp_log.specs.declared.note.Note.{Note}
+use Rattle.csp_log.specs.declared.note.Note.TheVariants as note
 use Rattle.csp_log.specs.declared.places.TheConstants.{UNMARKED}
 use Rattle.csp_log.specs.declared.shown.ItemShown.{ItemShown}
 use Rattle.csp_log.specs.declared.shown.ItemShown.TheVariants as item
 use Rattle.csp_route.specs.Routes.{route_of}
 use Rattle.csp_route.specs.declared.row.Row.{Row}
-use Rattle.csp_stack.specs.Readings.{is_here, is_secured, is_checked}
+use Rattle.csp_stack.proofs.Ends.{accepted_ends, bind_ends, close_ends, connect_ends}
+use Rattle.csp_stack.specs.PlainPorts.{PlainPorts, accepted, bind, close, connect, connects, ends, terms_at}
+use Rattle.csp_stack.specs.declared.request.Request.{Request}
+use Rattle.csp_stack.specs.Readings.{is_here, is_secured, is_checked, is_reliable, lacks}
 use Rattle.csp_stack.specs.Router.{Facts, Leaving, State, out_buffers, holds}
-use Rattle.csp_stack.specs.Rules.{Arrival, by_way, by_destination, by_security, by_checksum, by_service, by_mark, onward, heard, sent_by, served}
-use Rattle.csp_stack.specs.Told.{Told, unchanged, discarded, leaving, kept}
+use Rattle.csp_stack.specs.Rules.{Arrival, accepting, addressed, answer_flags, by_way, by_connection, by_destination, by_security, by_checksum, by_service, by_mark, by_slot, by_socket, by_transport, connection_of, header_for, onward, heard, heard_at_port, heard_here, owner_for, protected, requested, sent, sent_by, served, slot_for, to_slot}
+use Rattle.csp_stack.specs.Told.{Told, unchanged, discarded, leaving, kept, reporting, with_ports}
+use Rattle.csp_stack.specs.declared.terms.Terms.{Terms}
 
 -- a number is in two lists together as often as in each
 pub times_append : (k : ℕ) (ns ms : List ℕ) → times k (ns ++ ms) ≡ times k ns + times k ms
@@ -41,9 +52,10 @@ pub record Keeps (s : State) (ns : List ℕ) (t : Told) : Type 0 where
   pub room : length t.state.trash ≤ length s.trash + 1
   pub routes : t.state.routes ≡ s.routes
   pub doing : t.state.doing ≡ s.doing
+  pub ends : ends t.state.ports ≤ ends s.ports + 1
 
 pub unchanged_keeps : (s : State) → Keeps s [] (unchanged s)
-unchanged_keeps s = record { numbers = λ k. omega arith; room = omega arith; routes = refl; doing = refl }
+unchanged_keeps s = record { numbers = λ k. omega arith; room = omega arith; routes = refl; doing = refl; ends = omega arith }
 
 pub discarded_keeps : (s : State) (why : Discard) (b : Content) → Keeps s (b.number ∷ []) (discarded s why b)
 discarded_keeps s why b = record {
@@ -51,6 +63,7 @@ discarded_keeps s why b = record {
   room = omega (arith, length-append s.trash (b ∷ []));
   routes = refl;
   doing = refl;
+  ends = omega arith;
 }
 
 pub leaving_keeps : (s : State) (o : Leaving) → s.out ≡ None → Keeps s (o.buffer.number ∷ []) (leaving s o)
@@ -59,6 +72,7 @@ leaving_keeps s o none = record {
   room = omega arith;
   routes = refl;
   doing = refl;
+  ends = omega arith;
 }
 
 pub kept_keeps : (s : State) (b : Content) → Keeps s (b.number ∷ []) (kept s b)
@@ -67,6 +81,7 @@ kept_keeps s b = record {
   room = omega arith;
   routes = refl;
   doing = refl;
+  ends = omega arith;
 }
 
 -- each rule
@@ -79,35 +94,97 @@ by_way_keeps : (back : Bool) (row : Row) (s : State) (p : Arrival) → s.out ≡
 by_way_keeps true row s p none = discarded_keeps s _ p.buffer
 by_way_keeps false row s p none = leaving_keeps s _ none
 
--- the rules from the third on, and from the second on
+-- the rules from the third on
 abbrev pub by_rest : State → Arrival → Told
-by_rest s p = onward (by_checksum (is_checked p.head) (payload_of p.buffer.payload) s p) (λ q. by_service s q)
+by_rest s p = onward (by_checksum (is_checked p.head) (payload_of p.buffer.payload) s p) (λ q. heard_at_port s q)
 
-abbrev pub by_more : State → Arrival → Told
-by_more s p = onward (by_security (is_secured p.head) s p) (λ q. by_rest s q)
+-- the ports change, and something may be reported
+pub ported_keeps : (s : State) (ports : PlainPorts) (es : List Event) → ends ports ≤ ends s.ports + 1 → Keeps s [] (record { state = with_ports s ports; events = es })
+ported_keeps s ports es h = record { numbers = λ k. omega arith; room = omega arith; routes = refl; doing = refl; ends = h }
 
-checksum_keeps : (checked : Bool) (payload : Option (List ℕ)) (s : State) (p : Arrival) → Keeps s (p.buffer.number ∷ []) (onward (by_checksum checked payload s p) (λ q. by_service s q))
-checksum_keeps false payload s p = discarded_keeps s _ p.buffer
-checksum_keeps true None s p = discarded_keeps s _ p.buffer
-checksum_keeps true (Some payload) s p = discarded_keeps s _ (record p.buffer { payload = payload })
+reporting_keeps : (s : State) (ns : List ℕ) (e : Event) (t : Told) → Keeps s ns t → Keeps s ns (reporting e t)
+reporting_keeps s ns e t h = record { numbers = h.numbers; room = h.room; routes = h.routes; doing = h.doing; ends = h.ends }
 
-security_keeps : (secured : Bool) (s : State) (p : Arrival) → Keeps s (p.buffer.number ∷ []) (onward (by_security secured s p) (λ q. by_rest s q))
-security_keeps true s p = discarded_keeps s _ p.buffer
-security_keeps false s p = checksum_keeps (is_checked p.head) (payload_of p.buffer.payload) s p
+accepting_keeps : (slot : Option ℕ) (s : State) (app : ℕ) (p : Arrival) → s.out ≡ None → Keeps s (p.buffer.number ∷ []) (accepting slot s app p)
+accepting_keeps None s app p none = discarded_keeps s _ p.buffer
+accepting_keeps (Some slot) s app p none =
+    let q : PlainPorts = accepted s.ports app slot (connection_of p.head) p.head.prio (answer_flags p.head) in
+    let h = leaving_keeps (with_ports s q) (to_slot app slot p.buffer) none in
+    record { numbers = h.numbers; room = h.room; routes = h.routes; doing = h.doing; ends = accepted_ends s.ports app slot (connection_of p.head) p.head.prio (answer_flags p.head) }
 
-destination_keeps : (here : Bool) (row : Option Row) (s : State) (p : Arrival) → s.out ≡ None → Keeps s (p.buffer.number ∷ []) (onward (by_destination here row s p) (λ q. by_more s q))
-destination_keeps true row s p none = security_keeps (is_secured p.head) s p
+socket_keeps : (owner : Option (ℕ × ℕ)) (lacking : Bool) (slot : Option ℕ) (s : State) (p : Arrival) → s.out ≡ None → Keeps s (p.buffer.number ∷ []) (onward (by_socket owner lacking slot s p) (λ q. by_service s q))
+socket_keeps None lacking slot s p none = discarded_keeps s _ p.buffer
+socket_keeps (Some owner) true slot s p none = discarded_keeps s _ p.buffer
+socket_keeps (Some owner) false slot s p none = accepting_keeps slot s owner.0 p none
+
+-- the rules from the fifth on, and from the fourth on
+abbrev pub by_port : State → Arrival → Told
+by_port s p = onward (by_socket (owner_for s p) (lacks (owner_for s p) p.head) (slot_for s.ports (owner_for s p)) s p) (λ q. by_service s q)
+
+abbrev pub by_link : State → Arrival → Told
+by_link s p = onward (by_connection (found s.ports.conns (connection_of p.head)) (lacks (owner_for s p) p.head) s p) (λ q. by_port s q)
+
+connection_keeps : (at : Option (ℕ × ℕ)) (lacking : Bool) (s : State) (p : Arrival) → s.out ≡ None → Keeps s (p.buffer.number ∷ []) (onward (by_connection at lacking s p) (λ q. by_port s q))
+connection_keeps None lacking s p none = socket_keeps (owner_for s p) (lacks (owner_for s p) p.head) (slot_for s.ports (owner_for s p)) s p none
+connection_keeps (Some at) true s p none = discarded_keeps s _ p.buffer
+connection_keeps (Some at) false s p none = leaving_keeps s _ none
+
+transport_keeps : (reliable : Bool) (s : State) (p : Arrival) → s.out ≡ None → Keeps s (p.buffer.number ∷ []) (onward (by_transport reliable s p) (λ q. by_link s q))
+transport_keeps true s p none = discarded_keeps s _ p.buffer
+transport_keeps false s p none = connection_keeps (found s.ports.conns (connection_of p.head)) (lacks (owner_for s p) p.head) s p none
+
+port_keeps : (s : State) (p : Arrival) → s.out ≡ None → Keeps s (p.buffer.number ∷ []) (heard_at_port s p)
+port_keeps s p none = transport_keeps (is_reliable p.head) s p none
+
+checksum_keeps : (checked : Bool) (payload : Option (List ℕ)) (s : State) (p : Arrival) → s.out ≡ None → Keeps s (p.buffer.number ∷ []) (onward (by_checksum checked payload s p) (λ q. heard_at_port s q))
+checksum_keeps false payload s p none = port_keeps s p none
+checksum_keeps true None s p none = discarded_keeps s _ p.buffer
+checksum_keeps true (Some payload) s p none = port_keeps s (record p { buffer = record p.buffer { payload = payload } }) none
+
+security_keeps : (secured : Bool) (s : State) (p : Arrival) → s.out ≡ None → Keeps s (p.buffer.number ∷ []) (onward (by_security secured s p) (λ q. by_rest s q))
+security_keeps true s p none = discarded_keeps s _ p.buffer
+security_keeps false s p none = checksum_keeps (is_checked p.head) (payload_of p.buffer.payload) s p none
+
+destination_keeps : (here : Bool) (row : Option Row) (s : State) (p : Arrival) → s.out ≡ None → Keeps s (p.buffer.number ∷ []) (onward (by_destination here row s p) (λ q. heard_here s q))
+destination_keeps true row s p none = security_keeps (is_secured p.head) s p none
 destination_keeps false None s p none = discarded_keeps s _ p.buffer
 destination_keeps false (Some row) s p none = by_way_keeps (row.iface == p.mark) row s p none
 
 pub heard_keeps : (f : Facts) (s : State) (time : ℕ) (p : Arrival) → s.out ≡ None → Keeps s (p.buffer.number ∷ []) (heard f s time p)
 heard_keeps f s time p none = destination_keeps (is_here f.addr p.head) (route_of s.routes p.head.dst) s p none
 
-mark_keeps : (unmarked : Bool) (f : Facts) (s : State) (b : Content) → s.out ≡ None → Keeps s (b.number ∷ []) (by_mark unmarked f s b)
-mark_keeps true f s b none = sent_by_keeps ((header_at b.header).dst == f.addr) (route_of s.routes (header_at b.header).dst) s b none
-mark_keeps false f s b none = discarded_keeps s _ b
+sent_keeps : (f : Facts) (s : State) (b : Content) → s.out ≡ None → Keeps s (b.number ∷ []) (sent f s b)
+sent_keeps f s b none = sent_by_keeps ((header_at b.header).dst == f.addr) (route_of s.routes (header_at b.header).dst) s b none
+
+protected_number : (checked : Bool) (b : Content) → (protected checked b).number ≡ b.number
+protected_number true b = refl
+protected_number false b = refl
+
+slot_keeps : (x : Slot) (f : Facts) (s : State) (app number : ℕ) (b : Content) → s.out ≡ None → Keeps s (b.number ∷ []) (by_slot x f s app number b)
+slot_keeps slot.Free f s app number b none = discarded_keeps s _ b
+slot_keeps slot.Held f s app number b none = discarded_keeps s _ b
+slot_keeps (slot.Open c) f s app number b none =
+    let t : Terms = terms_at s.ports app number in
+    subst (λ (n : ℕ). Keeps s (n ∷ []) (by_slot (slot.Open c) f s app number b)) (protected_number (is_checked (header_for f c t)) b)
+    (reporting_keeps s _ _ _ (sent_keeps f s (addressed f c t b) none))
+
+mark_keeps : (unmarked : Bool) (f : Facts) (s : State) (app mark : ℕ) (b : Content) → s.out ≡ None → Keeps s (b.number ∷ []) (by_mark unmarked f s app mark b)
+mark_keeps true f s app mark b none = sent_keeps f s b none
+mark_keeps false f s app mark b none = slot_keeps (slot_at s.ports.conns app mark) f s app mark b none
+
+requested_keeps : (s : State) (app : ℕ) (n : Note) → Keeps s [] (requested s app n)
+requested_keeps s app (note.Bind port need) = ported_keeps s (bind s.ports app port need) [] (bind_ends _ _ s.ports app port need)
+requested_keeps s app (note.Connect slot dest port prio flags from) =
+    let r : Request = record { slot = slot; dest = dest; port = port; prio = prio; flags = flags; from = from } in
+    ported_keeps s (connect s.ports app r) (connects s.ports app r) (connect_ends s.ports app r)
+requested_keeps s app (note.Close slot) = ported_keeps s (close s.ports app slot) [] (close_ends s.ports app slot)
+requested_keeps s app note.Bound = unchanged_keeps s
+requested_keeps s app (note.Connected slot) = unchanged_keeps s
+requested_keeps s app (note.Refused reason) = unchanged_keeps s
+requested_keeps s app (note.Closed slot) = unchanged_keeps s
+requested_keeps s app (note.Down slot) = unchanged_keeps s
 
 pub served_keeps : (f : Facts) (s : State) (time app : ℕ) (i : ItemShown) → s.out ≡ None → Keeps s (item_numbers i) (served f s time app i)
-served_keeps f s time app (item.Packet mark b) none = mark_keeps (mark == UNMARKED) f s b none
-served_keeps f s time app (item.Note n) none = unchanged_keeps s
+served_keeps f s time app (item.Packet mark b) none = mark_keeps (mark == UNMARKED) f s app mark b none
+served_keeps f s time app (item.Note n) none = requested_keeps s app n
 served_keeps f s time app (item.Frame _) none = unchanged_keeps s

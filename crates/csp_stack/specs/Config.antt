@@ -1,7 +1,9 @@
 -- the router of a node before its first turn
-use Rattle.std.specs.Prelude.{[], None, length}
+use Rattle.std.specs.Prelude.{ℕ, ◌≤◌, [], None, length}
 use Rattle.csp_arena.specs.Cells.{RegionName}
+use Rattle.csp_conn.specs.declared.conns.TheConstants.{MAX_APPS}
 use Rattle.csp_route.specs.Routes.{Routes, IsWithin}
+use Rattle.csp_stack.specs.PlainPorts.{ports_of}
 use Rattle.csp_stack.specs.Router.{Facts, State, RouterAt}
 use Rattle.csp_stack.specs.declared.plan.Plan.TheVariants.{Rest}
 
@@ -10,13 +12,14 @@ pub record PlainConfig : Type 0 where
   pub facts : Facts
   pub routes : Routes
 
--- each row of its table leads to an interface of the node
-abbrev pub IsConfig : PlainConfig → Type 0
-IsConfig c = IsWithin (length c.facts.ifaces) c.routes
+-- each row of its table leads to an interface of the node, which has no more applications than a node may have
+pub record IsConfig (c : PlainConfig) : Type 0 where
+  pub within : IsWithin (length c.facts.ifaces) c.routes
+  pub apps : c.facts.apps ≤ MAX_APPS
 
--- at the opening there is no trash and no packet, and the look for work begins at the inbox
-abbrev pub opening_state : Routes → State
-opening_state routes = record { routes = routes; trash = []; out = None; cursor = 0; doing = Rest }
+-- at the opening no slot and no port is in use, there is no trash and no packet, and the look for work begins at the inbox
+abbrev pub opening_state : ℕ → Routes → State
+opening_state apps routes = record { routes = routes; ports = ports_of apps; trash = []; out = None; cursor = 0; doing = Rest }
 
 abbrev pub opening : RegionName → PlainConfig → RouterAt
-opening region c = record { region = region; router = record { facts = c.facts; state = opening_state c.routes } }
+opening region c = record { region = region; router = record { facts = c.facts; state = opening_state c.facts.apps c.routes } }

@@ -1,5 +1,5 @@
 -- what the rules read off a packet's header, an item, and an answer
-use Rattle.std.specs.Prelude.{ℕ, ◌==◌, Bool, ◌||◌, Option, None, Some}
+use Rattle.std.specs.Prelude.{ℕ, ◌==◌, Bool, true, false, not, ◌||◌, Option, None, Some}
 use Rattle.std.specs.Int.RustNames.{bit_and}
 use Rattle.csp_buffer.specs.Content.{Content}
 use Rattle.csp_header.specs.declared.word.Header.{Header}
@@ -16,7 +16,7 @@ broadcast = 31
 abbrev pub is_here : ℕ → Header → Bool
 is_here addr h = (h.dst == addr) || (h.dst == broadcast)
 
--- it has this flag, a number with one bit
+-- it has this flag, or all these flags
 abbrev pub has_flag : ℕ → Header → Bool
 has_flag flag h = bit_and h.flags.0 flag == flag
 
@@ -27,6 +27,15 @@ is_secured h = has_flag 0x08 h || has_flag 0x04 h
 -- it has a checksum (CRC32)
 abbrev pub is_checked : Header → Bool
 is_checked h = has_flag 0x01 h
+
+-- it is of the reliable transport (RDP)
+abbrev pub is_reliable : Header → Bool
+is_reliable h = has_flag 0x02 h
+
+-- it lacks a flag of those that its port needs, where an application has bound the port
+abbrev pub lacks : Option (ℕ × ℕ) → Header → Bool
+lacks None h = false
+lacks (Some owner) h = not (has_flag owner.1 h)
 
 -- the mark for a next hop: its address, or none
 abbrev pub mark_of : Option ℕ → ℕ
@@ -44,6 +53,18 @@ buffer_in answer.Pushed = None
 buffer_in (answer.Full _) = None
 buffer_in (answer.Popped _) = None
 buffer_in answer.Empty = None
+
+-- whether an answer says that a push was done
+abbrev pub is_pushed : AnswerShown → Bool
+is_pushed answer.Nothing = false
+is_pushed (answer.Taken _) = false
+is_pushed answer.NoBuffer = false
+is_pushed answer.Given = false
+is_pushed (answer.PoolFull _) = false
+is_pushed answer.Pushed = true
+is_pushed (answer.Full _) = false
+is_pushed (answer.Popped _) = false
+is_pushed answer.Empty = false
 
 -- the item that an answer brings from a queue, or back from it
 abbrev pub item_in : AnswerShown → Option ItemShown

@@ -1,19 +1,34 @@
 -- what a node does with a packet; where a rule asks a question, the answer is its first argument
 use Rattle.std.specs.Prelude.{ℕ, ◌==◌, Bool, true, false, List, Option, None, Some, Result, Ok, Err}
+use Rattle.std.specs.Int.RustNames.{bit_and}
 use Rattle.csp_buffer.specs.Content.{Content}
+use Rattle.csp_conn.specs.Opening.{first_free, found}
+use Rattle.csp_conn.specs.PlainConns.{slot_at}
+use Rattle.csp_conn.specs.Slots.{between}
+use Rattle.csp_conn.specs.declared.slot.Connection.{Connection}
+use Rattle.csp_conn.specs.declared.slot.Slot.{Slot}
+use Rattle.csp_conn.specs.declared.slot.Slot.TheVariants as slot
 use Rattle.csp_crc.specs.Check.{payload_of}
-use Rattle.csp_header.specs.Word.{header_at}
+use Rattle.csp_crc.specs.Crc.{checked}
+use Rattle.csp_header.specs.Word.{header_at, word_of}
 use Rattle.csp_header.specs.declared.word.Header.{Header}
 use Rattle.csp_log.specs.declared.event.Discard.TheVariants as why
+use Rattle.csp_log.specs.declared.event.Event.TheVariants as event
+use Rattle.csp_log.specs.declared.note.Note.{Note}
+use Rattle.csp_log.specs.declared.note.Note.TheVariants as note
 use Rattle.csp_log.specs.declared.places.QueueId.TheVariants as queue
 use Rattle.csp_log.specs.declared.places.TheConstants.{UNMARKED}
 use Rattle.csp_log.specs.declared.shown.ItemShown.{ItemShown}
 use Rattle.csp_log.specs.declared.shown.ItemShown.TheVariants as item
 use Rattle.csp_route.specs.Routes.{route_of}
 use Rattle.csp_route.specs.declared.row.Row.{Row}
-use Rattle.csp_stack.specs.Readings.{is_here, is_secured, is_checked, mark_of}
+use Rattle.csp_socket.specs.Bound.{owner_of}
+use Rattle.csp_stack.specs.PlainPorts.{PlainPorts, accepted, bind, close, connect, connects, terms_at}
+use Rattle.csp_stack.specs.Readings.{is_checked, is_here, is_reliable, is_secured, lacks, mark_of}
 use Rattle.csp_stack.specs.Router.{Facts, Leaving, State}
-use Rattle.csp_stack.specs.Told.{Told, unchanged, discarded, leaving}
+use Rattle.csp_stack.specs.Told.{Told, unchanged, discarded, leaving, reporting, with_ports}
+use Rattle.csp_stack.specs.declared.request.Request.{Request}
+use Rattle.csp_stack.specs.declared.terms.Terms.{Terms}
 
 -- ---- sending
 
@@ -81,7 +96,51 @@ by_checksum true None s p = Err (discarded s why.CrcWrong p.buffer)
 by_checksum true (Some payload) s p = Ok (record p { buffer = record p.buffer { payload = payload } })
 by_checksum false payload s p = Ok p
 
--- 4. and 5. there are no connections, and no port is bound
+-- no router has the reliable transport yet: a packet of it is NoSocket
+abbrev pub by_transport : (is_reliable : Bool) → State → Arrival → Ruling
+by_transport true s p = Err (discarded s why.NoSocket p.buffer)
+by_transport false s p = Ok p
+
+-- a packet goes to the application that has its connection, marked with the slot
+abbrev pub to_slot : ℕ → ℕ → Content → Leaving
+to_slot app slot b = record { queue = queue.Down app; mark = slot; buffer = b }
+
+-- 4. a packet of a connection in use goes to its application; without a flag that its own port needs it is Required
+abbrev pub by_connection : (at : Option (ℕ × ℕ)) → (lacks : Bool) → State → Arrival → Ruling
+by_connection None lacks s p = Ok p
+by_connection (Some at) true s p = Err (discarded s why.Required p.buffer)
+by_connection (Some at) false s p = Err (leaving s (to_slot at.0 at.1 p.buffer))
+
+-- the connection of a packet that has come: with the node and the port that it came from, by the port that it came to
+abbrev pub connection_of : Header → Connection
+connection_of h = between h.src h.sport h.dport
+
+-- the flags of a packet that those are for which its connection sends: a checksum, the reliable transport
+abbrev pub answer_flags : Header → ℕ
+answer_flags h = bit_and h.flags.0 0x03
+
+-- a packet opens a connection on a slot, and goes to the slot's application
+abbrev pub opened_by : State → ℕ → ℕ → Arrival → Told
+opened_by s app slot p =
+    reporting (event.Opened app slot None None)
+    (leaving (with_ports s (accepted s.ports app slot (connection_of p.head) p.head.prio (answer_flags p.head))) (to_slot app slot p.buffer))
+
+-- a packet opens a connection in the least free slot of an application; where all are in use it is NoSlot
+abbrev pub accepting : (slot : Option ℕ) → State → ℕ → Arrival → Told
+accepting None s app p = discarded s why.NoSlot p.buffer
+accepting (Some slot) s app p = opened_by s app slot p
+
+-- the least free slot of the application that bound a port
+abbrev pub slot_for : PlainPorts → Option (ℕ × ℕ) → Option ℕ
+slot_for ports None = None
+slot_for ports (Some owner) = first_free ports.conns owner.0
+
+-- 5. a packet to a bound port opens a connection of the port's application; without a flag that the port needs it is Required
+abbrev pub by_socket : (owner : Option (ℕ × ℕ)) → (lacks : Bool) → (slot : Option ℕ) → State → Arrival → Ruling
+by_socket None lacks slot s p = Ok p
+by_socket (Some owner) true slot s p = Err (discarded s why.Required p.buffer)
+by_socket (Some owner) false slot s p = Err (accepting slot s owner.0 p)
+
 -- 6. no service has the packet's port: that is NoSocket
 abbrev pub by_service : State → Arrival → Told
 by_service s p = discarded s why.NoSocket p.buffer
@@ -91,23 +150,67 @@ abbrev pub onward : Ruling → (Arrival → Told) → Told
 onward (Ok p) next = next p
 onward (Err told) next = told
 
--- the first rule that decides
-abbrev pub heard : Facts → State → ℕ → Arrival → Told
-heard f s time p =
-    onward (by_destination (is_here f.addr p.head) (route_of s.routes p.head.dst) s p) (λ p.
+-- who bound the port that a packet has come to
+abbrev pub owner_for : State → Arrival → Option (ℕ × ℕ)
+owner_for s p = owner_of s.ports.bound p.head.dport
+
+-- the rules from the fourth on, from the third on, and all: the first rule that decides
+abbrev pub heard_at_port : State → Arrival → Told
+heard_at_port s p =
+    onward (by_transport (is_reliable p.head) s p) (λ p.
+    onward (by_connection (found s.ports.conns (connection_of p.head)) (lacks (owner_for s p) p.head) s p) (λ p.
+    onward (by_socket (owner_for s p) (lacks (owner_for s p) p.head) (slot_for s.ports (owner_for s p)) s p) (λ p.
+    by_service s p)))
+
+abbrev pub heard_here : State → Arrival → Told
+heard_here s p =
     onward (by_security (is_secured p.head) s p) (λ p.
     onward (by_checksum (is_checked p.head) (payload_of p.buffer.payload) s p) (λ p.
-    by_service s p)))
+    heard_at_port s p))
+
+abbrev pub heard : Facts → State → ℕ → Arrival → Told
+heard f s time p = onward (by_destination (is_here f.addr p.head) (route_of s.routes p.head.dst) s p) (λ p. heard_here s p)
 
 -- ---- from an application
 
--- an unmarked packet is sent as it is; one for a slot has no connection there, which is NoConn
-abbrev pub by_mark : (is_unmarked : Bool) → Facts → State → Content → Told
-by_mark true f s b = sent f s b
-by_mark false f s b = discarded s why.NoConn b
+-- a packet of a connection: with the connection's priority, flags, addresses and ports, and with a checksum where its flags say so
+abbrev pub header_for : Facts → Connection → Terms → Header
+header_for f c t = record { prio = t.prio; src = f.addr; dst = c.peer; dport = c.peer_port; sport = c.own_port; flags = record { 0 = t.flags } }
 
--- a request is taken, and not answered yet; a frame is none of what an application sends
+abbrev pub protected : (is_checked : Bool) → Content → Content
+protected true b = record b { payload = checked b.payload }
+protected false b = b
+
+abbrev pub addressed : Facts → Connection → Terms → Content → Content
+addressed f c t b = record (protected (is_checked (header_for f c t)) b) { header = word_of (header_for f c t) }
+
+-- a packet for a slot is sent on the slot's connection; without one it is NoConn
+abbrev pub by_slot : Slot → Facts → State → ℕ → ℕ → Content → Told
+by_slot slot.Free f s app number b = discarded s why.NoConn b
+by_slot slot.Held f s app number b = discarded s why.NoConn b
+by_slot (slot.Open c) f s app number b =
+    reporting (event.Sent number (terms_at s.ports app number).ordinal) (sent f s (addressed f c (terms_at s.ports app number) b))
+
+-- an unmarked packet is sent as it is, and one for a slot by its connection
+abbrev pub by_mark : (is_unmarked : Bool) → Facts → State → ℕ → ℕ → Content → Told
+by_mark true f s app mark b = sent f s b
+by_mark false f s app mark b = by_slot (slot_at s.ports.conns app mark) f s app mark b
+
+-- a request is answered; the router's own answers are no requests
+abbrev pub requested : State → ℕ → Note → Told
+requested s app (note.Bind port need) = unchanged (with_ports s (bind s.ports app port need))
+requested s app (note.Connect slot dest port prio flags from) =
+    let r : Request = record { slot = slot; dest = dest; port = port; prio = prio; flags = flags; from = from } in
+    record { state = with_ports s (connect s.ports app r); events = connects s.ports app r }
+requested s app (note.Close slot) = unchanged (with_ports s (close s.ports app slot))
+requested s app note.Bound = unchanged s
+requested s app (note.Connected slot) = unchanged s
+requested s app (note.Refused reason) = unchanged s
+requested s app (note.Closed slot) = unchanged s
+requested s app (note.Down slot) = unchanged s
+
+-- what becomes of an item of an application; a frame is none of what an application sends
 abbrev pub served : Facts → State → ℕ → (app : ℕ) → ItemShown → Told
-served f s time app (item.Packet mark b) = by_mark (mark == UNMARKED) f s b
-served f s time app (item.Note request) = unchanged s
+served f s time app (item.Packet mark b) = by_mark (mark == UNMARKED) f s app mark b
+served f s time app (item.Note request) = requested s app request
 served f s time app (item.Frame _) = unchanged s

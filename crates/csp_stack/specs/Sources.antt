@@ -1,7 +1,9 @@
 -- the sources of work, and the look for one that has some
-use Rattle.std.specs.Prelude.{ℕ, ◌+◌, ◌-◌, ◌==◌, Bool, true, false, cond, nat_le, List, ◌++◌, Option, find}
+use Rattle.std.specs.Prelude.{ℕ, ◌+◌, ◌-◌, ◌==◌, Bool, true, false, cond, nat_le, List, [], ◌∷◌, ◌++◌, Option, find}
 use Rattle.std.specs.List.{range_with_len}
+use Rattle.csp_stack.specs.PlainPorts.{waiting}
 use Rattle.csp_stack.specs.Router.{Facts, State}
+use Rattle.csp_stack.specs.declared.owed.Owed.{Owed}
 use Rattle.csp_stack.specs.declared.sources.Source.{Source}
 use Rattle.csp_stack.specs.declared.sources.Source.TheVariants as source
 
@@ -13,11 +15,16 @@ source_count f = f.apps + 2
 abbrev pub source_at : Facts → ℕ → Source
 source_at f k = cond (k == 0) source.Inbox (cond (nat_le k f.apps) (source.App (k - 1)) source.Jobs)
 
--- the inbox always has work, and so has an application; there are no jobs
+-- there are jobs where an answer is owed
+abbrev pub has_jobs : List Owed → Bool
+has_jobs [] = false
+has_jobs (_ ∷ _) = true
+
+-- the inbox always has work; an application has some unless an answer to it waits to be pushed
 abbrev pub has_work : State → ℕ → Source → Bool
 has_work s time source.Inbox = true
-has_work s time (source.App k) = true
-has_work s time source.Jobs = false
+has_work s time (source.App k) = waiting k s.ports.owed == 0
+has_work s time source.Jobs = has_jobs s.ports.owed
 
 -- the places once round in a circle, from the cursor on
 abbrev pub circle : Facts → ℕ → List ℕ

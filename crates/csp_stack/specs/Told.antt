@@ -4,6 +4,7 @@ use Rattle.csp_buffer.specs.Content.{Content}
 use Rattle.csp_log.specs.declared.event.Discard.{Discard}
 use Rattle.csp_log.specs.declared.event.Event.{Event}
 use Rattle.csp_log.specs.declared.event.Event.TheVariants as event
+use Rattle.csp_stack.specs.PlainPorts.{PlainPorts}
 use Rattle.csp_stack.specs.Router.{Leaving, State}
 
 -- the state after it, and what it reports
@@ -22,6 +23,14 @@ discarded s why b = record { state = record s { trash = s.trash ++ b ∷ [] }; e
 -- a packet is to go out
 abbrev pub leaving : State → Leaving → Told
 leaving s o = record { state = record s { out = Some o }; events = [] }
+
+-- the ports are changed so
+abbrev pub with_ports : State → PlainPorts → State
+with_ports s ports = record s { ports = ports }
+
+-- this is reported before the rest
+abbrev pub reporting : Event → Told → Told
+reporting e t = record t { events = e ∷ t.events }
 
 -- a buffer is the first of the trash again
 abbrev pub kept : State → Content → Told

@@ -1,5 +1,5 @@
 -- the turns of a router: what one is, what is asked in it, and what the answer comes to
-use Rattle.std.specs.Prelude.{ℕ, ◌+◌, List, [], ◌∷◌, drop, Option, None, Some}
+use Rattle.std.specs.Prelude.{ℕ, ◌+◌, Bool, true, false, List, [], ◌∷◌, drop, Option, None, Some}
 use Rattle.csp_buffer.specs.Content.{Content}
 use Rattle.csp_log.specs.declared.places.QueueId.TheVariants as queue
 use Rattle.csp_log.specs.declared.shown.AnswerShown.{AnswerShown}
@@ -7,26 +7,33 @@ use Rattle.csp_log.specs.declared.shown.ItemShown.{ItemShown}
 use Rattle.csp_log.specs.declared.shown.ItemShown.TheVariants as item
 use Rattle.csp_log.specs.declared.shown.OpShown.{OpShown}
 use Rattle.csp_log.specs.declared.shown.OpShown.TheVariants as op
-use Rattle.csp_stack.specs.Readings.{buffer_in, item_in}
+use Rattle.csp_stack.specs.PlainPorts.{answered}
+use Rattle.csp_stack.specs.Readings.{buffer_in, is_pushed, item_in}
 use Rattle.csp_stack.specs.Router.{Facts, Leaving, State}
 use Rattle.csp_stack.specs.Rules.{Arrival, packet_in, heard, served, unsent}
 use Rattle.csp_stack.specs.Sources.{source_at, place_with_work, place_past}
-use Rattle.csp_stack.specs.Told.{Told, unchanged, kept}
+use Rattle.csp_stack.specs.Told.{Told, unchanged, kept, with_ports}
+use Rattle.csp_stack.specs.declared.owed.Owed.{Owed}
 use Rattle.csp_stack.specs.declared.plan.Plan.{Plan}
 use Rattle.csp_stack.specs.declared.plan.Plan.TheVariants as plan
 use Rattle.csp_stack.specs.declared.sources.Source.{Source}
 use Rattle.csp_stack.specs.declared.sources.Source.TheVariants as source
 
+-- the jobs: the answer that came to be owed first is pushed
+abbrev pub job_of : List Owed → Plan
+job_of [] = plan.Rest
+job_of (o ∷ _) = plan.Reply o.app
+
 -- the work at a source
-abbrev pub work_at : Source → Plan
-work_at source.Inbox = plan.Hear
-work_at (source.App k) = plan.Serve k
-work_at source.Jobs = plan.Rest
+abbrev pub work_at : State → Source → Plan
+work_at s source.Inbox = plan.Hear
+work_at s (source.App k) = plan.Serve k
+work_at s source.Jobs = job_of s.ports.owed
 
 -- the work at the place that was found, if one was
-abbrev pub work_found : Facts → Option ℕ → Plan
-work_found f None = plan.Rest
-work_found f (Some k) = work_at (source_at f k)
+abbrev pub work_found : Facts → State → Option ℕ → Plan
+work_found f s None = plan.Rest
+work_found f s (Some k) = work_at s (source_at f k)
 
 -- the first of these that fits: there is trash; a packet is to go out; else the first source with work
 abbrev pub plan_by : List Content → Option Leaving → Plan → Plan
@@ -35,7 +42,7 @@ plan_by [] (Some o) work = plan.Push o.queue
 plan_by [] None work = work
 
 abbrev pub plan_of : Facts → State → ℕ → Plan
-plan_of f s time = plan_by s.trash s.out (work_found f (place_with_work f s time))
+plan_of f s time = plan_by s.trash s.out (work_found f s (place_with_work f s time))
 
 -- the timers, which are tried at the start of each turn, before its plan is made: there are none yet
 abbrev pub timed : Facts → State → ℕ → State
@@ -50,6 +57,11 @@ abbrev pub pushing : Option Leaving → OpShown
 pushing None = op.Nothing
 pushing (Some o) = op.Push o.queue (item.Packet o.mark o.buffer)
 
+-- the push of an answer
+abbrev pub replying : List Owed → OpShown
+replying [] = op.Nothing
+replying (o ∷ _) = op.Push (queue.Down o.app) (item.Note o.note)
+
 -- the operation of each plan
 abbrev pub op_of : State → Plan → OpShown
 op_of s plan.Rest = op.Nothing
@@ -57,6 +69,7 @@ op_of s plan.Give = giving s.trash
 op_of s (plan.Push _) = pushing s.out
 op_of s plan.Hear = op.Pop queue.Inbox
 op_of s (plan.Serve k) = op.Pop (queue.Up k)
+op_of s (plan.Reply _) = replying s.ports.owed
 
 -- what it hands over with the operation it has no more; the cursor is past the source that it looks at
 abbrev pub handed : Facts → State → Plan → State
@@ -65,6 +78,7 @@ handed f s plan.Give = record s { trash = drop 1 s.trash }
 handed f s (plan.Push _) = record s { out = None }
 handed f s plan.Hear = record s { cursor = place_past f 0 }
 handed f s (plan.Serve k) = record s { cursor = place_past f (k + 1) }
+handed f s (plan.Reply _) = record s { cursor = place_past f (f.apps + 1) }
 
 -- the state from the operation of a plan to its answer
 abbrev pub asked_by : Facts → State → Plan → State
@@ -97,6 +111,11 @@ abbrev pub told_serving : Facts → State → ℕ → ℕ → Option ItemShown �
 told_serving f s time k None = unchanged s
 told_serving f s time k (Some i) = served f s time k i
 
+-- an answer to an application was pushed; where its lane has no room it stays owed
+abbrev pub told_replying : (is_pushed : Bool) → State → Option Arrival → Told
+told_replying true s p = unchanged (with_ports s (answered s.ports))
+told_replying false s p = told_pushing s p
+
 -- what an answer comes to, by the turn's plan
 abbrev pub told_by : Plan → Facts → State → ℕ → AnswerShown → Told
 told_by plan.Rest f s time a = unchanged s
@@ -104,6 +123,7 @@ told_by plan.Give f s time a = told_giving s (buffer_in a)
 told_by (plan.Push _) f s time a = told_pushing s (packet_in (item_in a))
 told_by plan.Hear f s time a = told_hearing f s time (packet_in (item_in a))
 told_by (plan.Serve k) f s time a = told_serving f s time k (item_in a)
+told_by (plan.Reply _) f s time a = told_replying (is_pushed a) s (packet_in (item_in a))
 
 -- the packets that applications wait to send, which are tried at the end of each turn: there are none yet
 abbrev pub admitted : Facts → ℕ → Told → Told

@@ -6,9 +6,10 @@ ghost use Rattle.csp_route.specs.Routes.{IsWithin, route_of};
 ghost use Rattle.csp_stack.specs.Comes.{ComesTo, IsFree, Rules, arrival_of};
 ghost use Rattle.csp_stack.specs.Party.{IsSendable};
 ghost use Rattle.csp_stack.specs.Readings.{is_checked, is_here, is_secured};
-ghost use Rattle.csp_stack.specs.Rules.{by_checksum, by_destination, by_security, by_service, by_way, heard};
+ghost use Rattle.csp_stack.specs.Rules.{by_checksum, by_destination, by_security, by_way, heard};
 
 use crate::Outgoing;
+use crate::at_port::hear_at_port;
 use crate::facts::Facts;
 use crate::packet::Packet;
 use crate::readings::{is_packet_checked, is_packet_here, is_packet_secured};
@@ -21,8 +22,10 @@ pub fn hear(facts: &Facts, state: &mut State, _now: u64, packet: Packet, report:
     requires free { IsFree state.old.state report.old.items }
     requires of_it { packet.buffer.region ≡ state.old.region }
     requires within { IsWithin (length facts.now.ifaces) state.old.state.routes }
+    requires apps { state.old.state.ports.conns.apps ≡ facts.now.apps }
     ensures told { ComesTo state.old state.new report.old.items report.new.items (heard facts.now state.old.state _now (arrival_of packet)) }
     ensures sendable { IsSendable facts.now state.new.state.out }
+    ensures apps { state.new.state.ports.conns.apps ≡ facts.now.apps }
 {
     let Some(packet) = judge_destination(facts, state, packet, report) else {
         return;
@@ -33,7 +36,7 @@ pub fn hear(facts: &Facts, state: &mut State, _now: u64, packet: Packet, report:
     let Some(packet) = judge_checksum(state, packet, report) else {
         return;
     };
-    judge_service(state, packet, report);
+    hear_at_port(facts, state, packet, report);
 }
 
 /// 1. A packet for another node goes on as it is by the row of its route.
@@ -48,6 +51,7 @@ fn judge_destination(
     requires within { IsWithin (length facts.now.ifaces) state.old.state.routes }
     ensures told { Rules result state.old state.new report.old.items report.new.items (by_destination (is_here facts.now.addr packet.header) (route_of state.old.state.routes packet.header.dst) state.old.state (arrival_of packet)) }
     ensures sendable { IsSendable facts.now state.new.state.out }
+    ensures ports { state.new.state.ports ≡ state.old.state.ports }
 {
     if is_packet_here(facts.addr, &packet.header) {
         return Some(packet);
@@ -67,6 +71,7 @@ fn forward(facts: &Facts, state: &mut State, row: Row, packet: Packet, report: &
     requires way { row.iface < length facts.now.ifaces }
     ensures told { ComesTo state.old state.new report.old.items report.new.items (by_way (row.iface == packet.mark) row state.old.state (arrival_of packet)) }
     ensures sendable { IsSendable facts.now state.new.state.out }
+    ensures ports { state.new.state.ports ≡ state.old.state.ports }
 {
     if row.iface == packet.mark {
         state.discard(Discard::BackOut, packet.into_buffer(), report);
@@ -81,6 +86,7 @@ fn judge_security(state: &mut State, packet: Packet, report: &mut Events) -> Opt
     requires of_it { packet.buffer.region ≡ state.old.region }
     ensures told { Rules result state.old state.new report.old.items report.new.items (by_security (is_secured packet.header) state.old.state (arrival_of packet)) }
     ensures none { state.new.state.out ≡ None }
+    ensures ports { state.new.state.ports ≡ state.old.state.ports }
 {
     if !is_packet_secured(&packet.header) {
         return Some(packet);
@@ -95,6 +101,7 @@ fn judge_checksum(state: &mut State, packet: Packet, report: &mut Events) -> Opt
     requires of_it { packet.buffer.region ≡ state.old.region }
     ensures told { Rules result state.old state.new report.old.items report.new.items (by_checksum (is_checked packet.header) (payload_of packet.buffer.picture.payload) state.old.state (arrival_of packet)) }
     ensures none { state.new.state.out ≡ None }
+    ensures ports { state.new.state.ports ≡ state.old.state.ports }
 {
     if !is_packet_checked(&packet.header) {
         return Some(packet);
@@ -106,14 +113,4 @@ fn judge_checksum(state: &mut State, packet: Packet, report: &mut Events) -> Opt
             None
         }
     }
-}
-
-/// 6. No service has the packet's port.
-fn judge_service(state: &mut State, packet: Packet, report: &mut Events)
-    requires free { IsFree state.old.state report.old.items }
-    requires of_it { packet.buffer.region ≡ state.old.region }
-    ensures told { ComesTo state.old state.new report.old.items report.new.items (by_service state.old.state (arrival_of packet)) }
-    ensures none { state.new.state.out ≡ None }
-{
-    state.discard(Discard::NoSocket, packet.into_buffer(), report);
 }

@@ -2,24 +2,32 @@
 //! applications, and decides by the rules of the CubeSat Space Protocol what becomes of each.
 #![tactic(auto)]
 
+mod at_port;
 mod config;
 mod facts;
 mod inbox;
 mod outgoing;
+mod owed;
 mod packet;
 mod party;
 mod plan;
+mod ports;
 mod readings;
+mod request;
 mod sending;
 mod serving;
 mod sources;
 mod stack;
 mod state;
+mod terms;
 mod turn;
 
 pub use config::{IFACE_ROOM, StackConfig};
 pub use outgoing::Outgoing;
+pub use owed::Owed;
 pub use plan::Plan;
+pub use request::Request;
 pub use sources::Source;
 pub use stack::Stack;
 pub use state::TRASH_ROOM;
+pub use terms::Terms;

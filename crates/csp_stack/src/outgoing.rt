@@ -3,7 +3,7 @@
 ghost use Rattle.std.specs.Prelude.{◌≡◌};
 ghost use Rattle.csp_stack.specs.Comes.{IsHop, leaving_of};
 ghost use Rattle.csp_stack.specs.Readings.{mark_of};
-ghost use Rattle.csp_stack.specs.Rules.{by_row, to_itself};
+ghost use Rattle.csp_stack.specs.Rules.{by_row, to_itself, to_slot};
 
 use csp_buffer::Buffer;
 use csp_deck::{Item, Op, QueueId, UNMARKED};
@@ -43,6 +43,18 @@ impl Outgoing {
         Outgoing {
             queue: QueueId::Inbox,
             mark: UNMARKED,
+            buffer,
+        }
+    }
+
+    /// A packet to an application, marked with the slot that has its connection.
+    pub(crate) fn to_slot(app: u8, slot: u8, buffer: Buffer) -> Outgoing
+        ensures packet { leaving_of result ≡ to_slot app slot buffer.picture }
+        ensures region { result.buffer.region ≡ buffer.region }
+    {
+        Outgoing {
+            queue: QueueId::Down(app),
+            mark: slot,
             buffer,
         }
     }

@@ -3,15 +3,20 @@
 ghost use Rattle.std.specs.Prelude.{◌≡◌, ◌-◌, ◌≤◌, ◌↔◌, IsTrue, IsSome, Some, length, take};
 ghost use Rattle.csp_crc.specs.Check.{payload_of};
 ghost use Rattle.csp_stack.specs.Comes.{arrival_of, cut_to};
-ghost use Rattle.csp_stack.specs.Rules.{arrival};
+ghost use Rattle.csp_stack.specs.Rules.{answer_flags, arrival, connection_of};
 
+use bitflags::Flags;
 use csp_base::Addr;
 use csp_buffer::Buffer;
+use csp_conn::Connection;
 use csp_crc::check;
-use csp_header::Header;
+use csp_header::{FlagSet, Header};
 
 /// The bytes of a checksum, at the end of a payload.
 const CHECKSUM: usize = 4;
+
+/// The flags that a connection made by a packet takes over from it: a checksum, the reliable transport.
+const ANSWER_FLAGS: u8 = FlagSet::CRC32.0 | FlagSet::RDP.0;
 
 /// A packet with the mark with which it came, and its header, which is read once.
 pub struct Packet {
@@ -39,6 +44,24 @@ impl Packet {
         ensures { result ≡ self.now.header.dst }
     {
         self.header.dst
+    }
+
+    /// Its connection: with the node and the port that it came from, by the port that it came to.
+    pub fn connection(&self) -> Connection
+        ensures { result ≡ connection_of self.now.header }
+    {
+        Connection {
+            peer: self.header.src,
+            peer_port: self.header.sport,
+            own_port: self.header.dport,
+        }
+    }
+
+    /// Those of its flags with which the connection that it opens sends.
+    pub fn answer_flags(&self) -> u8
+        ensures { result ≡ answer_flags self.now.header }
+    {
+        self.header.flags.bits() & ANSWER_FLAGS
     }
 
     /// Its buffer.

@@ -6,7 +6,7 @@ use csp_deck::{Answer, Events, Op, Party, Spares};
 
 impl Party for Stack {
     ghost use Rattle.std.specs.Prelude.{⊤, false};
-    ghost use Rattle.csp_stack.specs.Party.{asks_of, asked_of, awaits_of, events_of, rules_of, told_of};
+    ghost use Rattle.csp_stack.specs.Party.{asks_of, asked_of, awaits_of, count_of, events_of, rules_of, told_of};
     ghost use Rattle.csp_stack.specs.Router.{holds, with_router};
 
     ghost is_ready = { λ _ _. ⊤ };
@@ -18,6 +18,8 @@ impl Party for Stack {
     ghost has_ended = { λ _. false };
 
     ghost uses = { λ r. rules_of r.router.facts };
+
+    ghost count = { λ r. count_of r.router };
 
     ghost region = { λ r. r.region };
 

@@ -15,4 +15,6 @@ pub enum Plan {
     Hear,
     /// An item is taken from the application of this number.
     Serve(u8),
+    /// The answer that came to be owed first is pushed to the application of this number.
+    Reply(u8),
 }

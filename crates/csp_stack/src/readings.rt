@@ -1,7 +1,7 @@
 //! What the rules read off a packet's header.
 
 ghost use Rattle.std.specs.Prelude.{◌≡◌};
-ghost use Rattle.csp_stack.specs.Readings.{is_checked, is_here, is_secured};
+ghost use Rattle.csp_stack.specs.Readings.{is_checked, is_here, is_reliable, is_secured, lacks};
 
 use bitflags::Flags;
 use csp_base::Addr;
@@ -30,4 +30,21 @@ pub fn is_packet_checked(header: &Header) -> bool
     ensures { result ≡ is_checked header.now }
 {
     header.flags.contains(FlagSet::CRC32)
+}
+
+/// Whether a packet is of the reliable transport (RDP).
+pub fn is_packet_reliable(header: &Header) -> bool
+    ensures { result ≡ is_reliable header.now }
+{
+    header.flags.contains(FlagSet::RDP)
+}
+
+/// Whether a packet lacks a flag that its port needs, where an application has bound the port.
+pub fn is_packet_lacking(owner: Option<(u8, u8)>, header: &Header) -> bool
+    ensures { result ≡ lacks owner header.now }
+{
+    match owner {
+        Some((_, need)) => !header.flags.contains(FlagSet(need)),
+        None => false,
+    }
 }

@@ -1,17 +1,21 @@
 //! The sending of a node's own packets.
 
-ghost use Rattle.std.specs.Prelude.{◌≡◌, length};
+ghost use Rattle.std.specs.Prelude.{◌≡◌, ◌≤◌, length};
+ghost use Rattle.csp_buffer.specs.PlainBuffer.{with_picture};
 ghost use Rattle.csp_route.specs.Routes.{IsWithin};
 ghost use Rattle.csp_stack.specs.Comes.{ComesTo, IsFree};
 ghost use Rattle.csp_stack.specs.Party.{IsSendable};
-ghost use Rattle.csp_stack.specs.Rules.{sent};
+ghost use Rattle.csp_stack.specs.Rules.{addressed, protected, sent};
 
-use crate::Outgoing;
 use crate::facts::Facts;
+use crate::readings::is_packet_checked;
 use crate::state::State;
+use crate::{Outgoing, Terms};
 use csp_buffer::Buffer;
-use csp_deck::{Discard, Events};
-use csp_header::Header;
+use csp_conn::Connection;
+use csp_crc::crc32c;
+use csp_deck::{Discard, Events, MAX_DATA};
+use csp_header::{FlagSet, Header};
 
 /// Sends a packet of the node as it is: to its own address through its inbox, else by the row of its
 /// route. Without one it is discarded.
@@ -32,4 +36,37 @@ pub fn send(facts: &Facts, state: &mut State, buffer: Buffer, report: &mut Event
         Some(row) => state.leave(Outgoing::by_row(row, buffer)),
         None => state.discard(Discard::NoRoute, buffer, report),
     }
+}
+
+/// A packet of a connection: with the connection's priority, flags, addresses and ports, and with a checksum
+/// where its flags say so.
+pub fn addressed(facts: &Facts, connection: Connection, terms: Terms, buffer: Buffer) -> Buffer
+    requires { length buffer.picture.payload ≤ MAX_DATA }
+    ensures { result ≡ with_picture buffer (addressed facts.now connection terms buffer.picture) }
+{
+    let header = Header {
+        prio: terms.prio,
+        src: facts.addr,
+        dst: connection.peer,
+        dport: connection.peer_port,
+        sport: connection.own_port,
+        flags: FlagSet(terms.flags),
+    };
+    let mut packet = protected(is_packet_checked(&header), buffer);
+    packet.set_header(header.encode());
+    packet
+}
+
+/// Appends the checksum of its payload to a packet that is to have one.
+#[tactic(auto, unfolding(csp_crc::specs::Crc::checked))]
+fn protected(is_checked: bool, buffer: Buffer) -> Buffer
+    requires { length buffer.picture.payload ≤ MAX_DATA }
+    ensures { result ≡ with_picture buffer (protected is_checked buffer.picture) }
+{
+    let mut packet = buffer;
+    if is_checked {
+        let checksum = crc32c(packet.payload()).to_be_bytes();
+        packet.push_tail(&checksum).unwrap();
+    }
+    packet
 }

@@ -1,6 +1,6 @@
 //! Where a router's work comes from.
 
-ghost use Rattle.std.specs.Prelude.{◌≡◌, ◌+◌, ◌≤◌};
+ghost use Rattle.std.specs.Prelude.{◌≡◌, ℕ, ◌+◌, ◌<◌, ◌≤◌};
 ghost use Rattle.csp_stack.specs.Sources.{source_count, source_at, place_past};
 
 use crate::facts::Facts;
@@ -25,7 +25,8 @@ pub fn count_sources(facts: &Facts) -> usize
 
 /// The source at a place of their order.
 pub fn source_in(facts: &Facts, place: usize) -> Source
-    ensures { result ≡ source_at facts.now place }
+    ensures value { result ≡ source_at facts.now place }
+    ensures there { (k : ℕ) → result ≡ Source.App k → k < facts.now.apps }
 {
     if place == 0 {
         Source::Inbox
@@ -48,6 +49,13 @@ pub fn past_app(facts: &Facts, app: u8) -> usize
     ensures { result ≡ place_past facts.now (app + 1) }
 {
     past(facts, usize::from(app) + 1)
+}
+
+/// The place past that of the jobs.
+pub fn past_jobs(facts: &Facts) -> usize
+    ensures { result ≡ place_past facts.now (facts.now.apps + 1) }
+{
+    past(facts, usize::from(facts.apps) + 1)
 }
 
 /// The place past this one, in a circle.

@@ -61,7 +61,7 @@ impl Stack {
             ifaces,
             apps,
         } = config;
-        let state = State::open(alloc, routes, region)?;
+        let state = State::open(alloc, apps, routes, region)?;
         Ok(Stack {
             facts: Facts {
                 node,

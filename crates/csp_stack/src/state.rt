@@ -1,6 +1,6 @@
 //! What the turns of a router change.
 
-ghost use Rattle.std.specs.Prelude.{◌≡◌, ℕ, ◌<◌, IfSome, [], ◌∷◌, ◌++◌, None, Some, length, map, nat_lt, IfOk, MatchOption, IsTrue, ◌↔◌};
+ghost use Rattle.std.specs.Prelude.{◌≡◌, ℕ, ◌<◌, ◌≤◌, IfSome, [], ◌∷◌, ◌++◌, None, Some, length, map, nat_lt, IfOk, MatchOption, IsTrue, ◌↔◌};
 ghost use Rattle.std.specs.Option.{option_map};
 ghost use Rattle.csp_deck.specs.Step.{times};
 ghost use Rattle.csp_deck.specs.Regions.{IsAnswerFrom, IsItemOf};
@@ -13,10 +13,12 @@ ghost use Rattle.csp_stack.specs.Readings.{buffer_in, item_in};
 ghost use Rattle.csp_stack.specs.Router.{drained, buffers, holds, out_buffers};
 ghost use Rattle.csp_stack.specs.Told.{discarded, leaving};
 
+use crate::ports::Ports;
 use crate::{Outgoing, Plan};
 use csp_arena::RegionToken;
 use csp_base::Addr;
 use csp_buffer::Buffer;
+use csp_conn::MAX_APPS;
 use csp_deck::{Answer, Discard, Event, Events, Item, Pile};
 use csp_route::{Row, Table};
 use std::alloc::{AllocError, Global};
@@ -29,6 +31,7 @@ pub const TRASH_ROOM: usize = 1_000;
 /// The part of a router that its turns change. Contracts see it as a `State` and its region.
 pub struct State {
     pub routes: Table,
+    pub ports: Ports,
     pub trash: Pile,
     pub out: Option<Outgoing>,
     pub cursor: usize,
@@ -48,19 +51,27 @@ impl Model for State {
     ghost use Rattle.csp_stack.specs.Comes.{leaving_of};
     ghost use Rattle.csp_stack.specs.Inside.{IsState};
 
-    ghost view = { λ s. record { region = s.trash.region; state = record { routes = s.routes; trash = s.trash.contents; out = option_map leaving_of s.out; cursor = s.cursor; doing = s.doing } } };
+    ghost view = { λ s. record { region = s.trash.region; state = record { routes = s.routes; ports = s.ports; trash = s.trash.contents; out = option_map leaving_of s.out; cursor = s.cursor; doing = s.doing } } };
 
     ghost invariant = { IsState };
 }
 
 impl State {
     /// The state before the first turn.
-    pub fn open(alloc: Global, routes: Table, region: RegionToken) -> Result<State, AllocError>
-        ensures { IfOk result (λ s. s ≡ record { region = region.name; state = opening_state routes }) }
+    pub fn open(
+        alloc: Global,
+        apps: u8,
+        routes: Table,
+        region: RegionToken,
+    ) -> Result<State, AllocError>
+        requires { apps ≤ MAX_APPS }
+        ensures { IfOk result (λ s. s ≡ record { region = region.name; state = opening_state apps routes }) }
     {
+        let ports = Ports::open(alloc, apps)?;
         let trash = Pile::open(alloc, region, TRASH_ROOM)?;
         Ok(State {
             routes,
+            ports,
             trash,
             out: None,
             cursor: 0,
@@ -171,6 +182,7 @@ impl State {
     {
         let State {
             routes: _,
+            ports: _,
             trash,
             out,
             cursor: _,

@@ -37,7 +37,7 @@ abbrev pub new_member : Who → PlainParty → PlainMember
 new_member w p = record { who = w; party = p; entries = [] }
 
 abbrev pub router_for : PlainConfig → PlainParty
-router_for c = a_router (record { facts = c.facts; state = opening_state c.routes })
+router_for c = a_router (record { facts = c.facts; state = opening_state c.facts.apps c.routes })
 
 abbrev pub new_router : ℕ → PlainConfig → PlainMember
 new_router place c = new_member (who.Router place) (router_for c)
