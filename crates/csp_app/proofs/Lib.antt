@@ -1,3 +1,4 @@
+pub mod Bursts
 pub mod Counting
 pub mod Hearing
 pub mod Laws

@@ -1,7 +1,9 @@
 pub mod Asking
 pub mod Making
 pub mod PlainApp
-pub mod Planning
 pub mod Room
 pub mod Slots
+pub mod Steps
 pub mod Telling
+pub mod Told
+pub mod Turn

@@ -1,37 +1,72 @@
--- the buffers that go out, the packets that steps make, and those that come back
-use Rattle.std.specs.Prelude.{ℕ, Option, Some, None}
+-- the packets that steps send, and what an item has in it
+use Rattle.std.specs.Prelude.{ℕ, ◌+◌, ◌%◌, List, [], map, Option, Some, None}
+use Rattle.std.specs.List.{range_with_len}
 use Rattle.csp_app.specs.declared.step.Step.{Step}
 use Rattle.csp_app.specs.declared.step.Step.TheVariants as step
 use Rattle.csp_base.specs.Trace.{no_trace}
 use Rattle.csp_buffer.specs.Content.{Content}
+use Rattle.csp_log.specs.declared.note.Note.{Note}
+use Rattle.csp_log.specs.declared.places.TheConstants.{UNMARKED}
 use Rattle.csp_log.specs.declared.shown.ItemShown.{ItemShown}
 use Rattle.csp_log.specs.declared.shown.ItemShown.TheVariants as item
-use Rattle.csp_log.specs.declared.shown.OpShown.{OpShown}
-use Rattle.csp_log.specs.declared.shown.OpShown.TheVariants as op
-use Rattle.csp_log.specs.declared.places.QueueId.TheVariants as queue
-use Rattle.csp_log.specs.declared.places.TheConstants.{UNMARKED}
 
--- the buffer in an item
+-- the packets of one step: their mark and header word, how many they are, and the bytes of each by its number from 0
+pub record Batch : Type 0 where
+  pub mark : ℕ
+  pub header : ℕ
+  pub count : ℕ
+  pub bytes : ℕ → List ℕ
+
+-- packets for a slot: the router writes their headers
+abbrev pub to_slot : ℕ → ℕ → (ℕ → List ℕ) → Batch
+to_slot slot count bytes = record { mark = slot; header = 0; count = count; bytes = bytes }
+
+-- one packet that is sent as it is
+abbrev pub as_it_is : ℕ → List ℕ → Batch
+as_it_is header bytes = record { mark = UNMARKED; header = header; count = 1; bytes = λ _. bytes }
+
+-- no packets
+abbrev pub no_packets : Batch
+no_packets = record { mark = UNMARKED; header = 0; count = 0; bytes = λ _. [] }
+
+-- packet j of a burst has as many bytes as the step says: j + i mod 256 for i from 0 up
+abbrev pub burst_bytes : ℕ → ℕ → List ℕ
+burst_bytes len j = map (λ i. (j + i) % 256) (range_with_len 0 len)
+
+-- what each step sends
+abbrev pub batch_of : Step → Batch
+batch_of step.Take = no_packets
+batch_of step.Give = no_packets
+batch_of (step.Bind _ _) = no_packets
+batch_of (step.Connect _ _ _ _ _ _) = no_packets
+batch_of (step.Send slot bytes) = to_slot slot 1 (λ _. bytes.items)
+batch_of (step.Burst slot count len) = to_slot slot count (burst_bytes len)
+batch_of (step.Raw header bytes) = as_it_is header bytes.items
+batch_of (step.Recv _ _ _) = no_packets
+batch_of (step.Close _) = no_packets
+batch_of (step.Wait _) = no_packets
+
+-- and the present one, where there is one
+abbrev pub batch_at : Option Step → Batch
+batch_at None = no_packets
+batch_at (Some step) = batch_of step
+
+-- packet j of these, in this buffer
+abbrev pub filled : Batch → ℕ → Content → Content
+filled p j b = record { number = b.number; header = p.header; payload = p.bytes j; trace = no_trace }
+
+-- the buffer, the mark and the note in an item
 abbrev pub packet_in : ItemShown → Option Content
 packet_in (item.Packet _ b) = Some b
 packet_in (item.Frame _) = None
 packet_in (item.Note _) = None
 
--- the packet that a step makes in a cleared buffer
-abbrev pub filled : Option Step → Content → Content
-filled (Some (step.Raw header bytes)) b = record { number = b.number; header = header; payload = bytes.items; trace = no_trace }
-filled (Some step.Take) b = b
-filled (Some step.Give) b = b
-filled (Some (step.Recv _ _ _)) b = b
-filled (Some (step.Wait _)) b = b
-filled None b = b
+abbrev pub mark_in : ItemShown → ℕ
+mark_in (item.Packet mark _) = mark
+mark_in (item.Frame _) = UNMARKED
+mark_in (item.Note _) = UNMARKED
 
--- a buffer goes back to the pool
-abbrev pub given : Option Content → OpShown
-given (Some b) = op.Give b
-given None = op.Nothing
-
--- a packet goes to `Up` as it is
-abbrev pub sent : ℕ → Option Content → OpShown
-sent number (Some b) = op.Push (queue.Up number) (item.Packet UNMARKED b)
-sent number None = op.Nothing
+abbrev pub note_in : ItemShown → Option Note
+note_in (item.Packet _ _) = None
+note_in (item.Frame _) = None
+note_in (item.Note n) = Some n

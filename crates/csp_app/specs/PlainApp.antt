@@ -14,7 +14,7 @@ use Rattle.csp_log.specs.declared.places.QueueId.{QueueId}
 use Rattle.csp_log.specs.declared.places.QueueId.TheVariants as queue
 use Rattle.csp_log.specs.declared.places.Rule.{Rule}
 use Rattle.csp_log.specs.declared.places.Rule.TheVariants as rule
-use Rattle.csp_log.specs.declared.places.TheConstants.{SLOTS}
+use Rattle.csp_log.specs.declared.places.TheConstants.{SLOTS, UNMARKED}
 
 pub record PlainApp : Type 0 where
   -- its number in its node
@@ -24,12 +24,17 @@ pub record PlainApp : Type 0 where
   pub done : ℕ
   -- when the present step had the first turn of its own
   pub since : Option ℕ
+  -- the present step's note was pushed, and its answer is awaited
+  pub asked : Bool
+  -- how many packets of the present step were pushed
+  pub sent : ℕ
   -- an operation was refused, and `Down` was not popped since
   pub refused : Bool
   -- a packet that was popped, to be given back
   pub taken : Option Content
-  -- a packet that the present step has made, to be pushed
+  -- a packet that the present step has made, to be pushed, and its mark
   pub made : Option Content
+  pub mark : ℕ
   -- the buffers got by `take`, the oldest first
   pub held : List Content
   -- what it knows of its slots
@@ -53,9 +58,12 @@ opening number steps = record {
   steps = steps;
   done = 0;
   since = None;
+  asked = false;
+  sent = 0;
   refused = false;
   taken = None;
   made = None;
+  mark = UNMARKED;
   held = [];
   slots = replicate SLOTS fresh;
   doing = plan.Rest;

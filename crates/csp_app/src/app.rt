@@ -11,7 +11,7 @@ use crate::slot::{Slot, fresh_slot};
 use csp_arena::RegionToken;
 use csp_buffer::Buffer;
 use csp_deck::{Hand, Pile};
-use csp_log::SLOTS;
+use csp_log::{SLOTS, UNMARKED};
 use std::alloc::{AllocError, Global};
 use std::marker::Model;
 
@@ -28,6 +28,7 @@ pub struct App {
     pub(crate) refused: bool,
     pub(crate) taken: Hand,
     pub(crate) made: Hand,
+    pub(crate) mark: u8,
     pub(crate) held: Pile,
     pub(crate) slots: [Slot; SLOT_COUNT],
     pub(crate) doing: Plan,
@@ -76,6 +77,7 @@ impl App {
             refused: false,
             taken: Hand::empty(region.copy()),
             made: Hand::empty(region),
+            mark: UNMARKED,
             held,
             slots: [fresh_slot(); SLOT_COUNT],
             doing: Plan::Rest,
@@ -146,6 +148,7 @@ impl App {
             refused: _,
             taken,
             made,
+            mark: _,
             held,
             slots: _,
             doing: _,

@@ -2,7 +2,7 @@
 
 ghost use Rattle.std.specs.Prelude.{◌≡◌, ◌<◌, false, IfSome};
 ghost use Rattle.std.specs.Option.{option_map};
-ghost use Rattle.csp_app.specs.Making.{given, sent};
+ghost use Rattle.csp_app.specs.Turn.{giving_op, pushing_op};
 ghost use Rattle.csp_arena.specs.Cells.{RegionName};
 ghost use Rattle.csp_deck.specs.Regions.{IsOpOf};
 ghost use Rattle.csp_log.specs.Pictures.{shown_op};
@@ -10,13 +10,13 @@ ghost use Rattle.csp_log.specs.Pictures.{shown_op};
 use crate::plan::Plan;
 use crate::{App, Step};
 use csp_buffer::Buffer;
-use csp_log::{Item, Op, QueueId, SLOTS, UNMARKED};
+use csp_log::{Item, ItemShown, Note, Op, QueueId, SLOTS};
 
 impl App {
     ghost use Rattle.csp_app.specs.PlainApp.{uses, has_ended, with_app};
     ghost use Rattle.std.specs.Prelude.{nat_le};
     ghost use Rattle.csp_app.specs.Slots.{slot_at};
-    ghost use Rattle.csp_app.specs.Planning.{plan_of, give_plan, packet_plan, recv_plan};
+    ghost use Rattle.csp_app.specs.Steps.{plan_of, give_plan, note_plan, packet_plan, recv_plan, is_enough};
     ghost use Rattle.csp_app.specs.Asking.{asks, asked, awaits};
 
     /// What this turn is.
@@ -33,12 +33,32 @@ impl App {
         match &self.steps[self.progress.done] {
             Step::Take => Plan::Take,
             Step::Give => self.give_plan(),
-            Step::Raw { .. } => self.packet_plan(),
+            Step::Bind { port, need } => self.note_plan(Note::Bind {
+                port: *port,
+                need: *need,
+            }),
+            Step::Connect {
+                slot,
+                dest,
+                port,
+                prio,
+                flags,
+                from,
+            } => self.note_plan(Note::Connect {
+                slot: *slot,
+                dest: *dest,
+                port: *port,
+                prio: *prio,
+                flags: *flags,
+                from: *from,
+            }),
+            Step::Send { .. } | Step::Burst { .. } | Step::Raw { .. } => self.packet_plan(),
             Step::Recv {
                 slot,
                 count,
                 rounds,
             } => self.recv_plan(*slot, *count, *rounds),
+            Step::Close { slot } => self.note_plan(Note::Close { slot: *slot }),
             Step::Wait { rounds } => Plan::Wait { rounds: *rounds },
         }
     }
@@ -51,6 +71,17 @@ impl App {
             Plan::Skip
         } else {
             Plan::Give
+        }
+    }
+
+    /// A step that asks pushes its note, and then looks for the answer.
+    fn note_plan(&self, note: Note) -> Plan
+        ensures { result ≡ note_plan self.now.app.asked note }
+    {
+        if self.progress.asked {
+            Plan::Await
+        } else {
+            Plan::Ask(note)
         }
     }
 
@@ -68,7 +99,7 @@ impl App {
     /// A `recv` step does nothing where its packets are there at its start, and else looks for one.
     fn recv_plan(&self, slot: u8, count: u32, rounds: Option<u32>) -> Plan
         requires { slot < SLOTS }
-        ensures { result ≡ recv_plan slot count rounds self.now.app.since (nat_le count (slot_at self.now.app.slots slot).unused) }
+        ensures { result ≡ recv_plan slot count rounds self.now.app.since (is_enough slot count self.now.app) }
     {
         if self.progress.since.is_none() && count <= self.slots[slot as usize].unused {
             Plan::Use { slot, count }
@@ -90,7 +121,7 @@ impl App {
         ensures state { self.new ≡ with_app self.old (asked self.old.app now) }
     {
         let plan = self.plan();
-        let op = match plan {
+        let op = match &plan {
             Plan::Rest | Plan::Skip | Plan::Use { .. } => Op::Nothing,
             Plan::Return => given(self.taken.take()),
             Plan::Look => {
@@ -99,7 +130,9 @@ impl App {
             }
             Plan::Take | Plan::Fill => Op::Take,
             Plan::Give => given(self.held.pop()),
-            Plan::Push => sent(self.number, self.made.take()),
+            Plan::Ask(note) => Op::Push(QueueId::Up(self.number), Item::Note(*note)),
+            Plan::Await => Op::Pop(QueueId::Down(self.number)),
+            Plan::Push => pushed(self.number, self.mark, self.made.take()),
             Plan::Receive { .. } | Plan::Wait { .. } => {
                 self.progress.note(now);
                 Op::Pop(QueueId::Down(self.number))
@@ -112,7 +145,7 @@ impl App {
 
 /// A buffer goes back to the pool.
 fn given(buffer: Option<Buffer>) -> Op
-    ensures op { shown_op result ≡ given (option_map (λ b. b.picture) buffer) }
+    ensures op { shown_op result ≡ giving_op (option_map (λ b. b.picture) buffer) }
     ensures of_it { (r : RegionName) → IfSome buffer (λ b. b.region ≡ r) → IsOpOf r result }
 {
     match buffer {
@@ -121,19 +154,13 @@ fn given(buffer: Option<Buffer>) -> Op
     }
 }
 
-/// A packet goes to the `Up` of this application, to be sent as it is.
-fn sent(number: u8, packet: Option<Buffer>) -> Op
-    ensures op { shown_op result ≡ sent number (option_map (λ b. b.picture) packet) }
+/// A packet with its mark goes to the `Up` of this application.
+fn pushed(number: u8, mark: u8, packet: Option<Buffer>) -> Op
+    ensures op { shown_op result ≡ pushing_op number (option_map (λ b. ItemShown.Packet mark b.picture) packet) }
     ensures of_it { (r : RegionName) → IfSome packet (λ b. b.region ≡ r) → IsOpOf r result }
 {
     match packet {
-        Some(buffer) => Op::Push(
-            QueueId::Up(number),
-            Item::Packet {
-                mark: UNMARKED,
-                buffer,
-            },
-        ),
+        Some(buffer) => Op::Push(QueueId::Up(number), Item::Packet { mark, buffer }),
         None => Op::Nothing,
     }
 }

@@ -3,6 +3,8 @@
 
 mod app;
 mod asking;
+mod items;
+mod packets;
 mod party;
 mod plan;
 mod progress;

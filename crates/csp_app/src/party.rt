@@ -35,11 +35,12 @@ impl Party for App {
     ghost holds = { λ a. holds a.app };
 
     fn ask(&mut self, now: u64) -> Op {
+        // Read for the checker alone, which then knows what holds of the fields before the call below.
+        let _doing = &self.doing;
         self.ask_now(now)
     }
 
     fn told(&mut self, answer: Answer, now: u64, report: &mut Events, _spares: &mut Spares) {
-        // Read for the checker alone, which then knows what holds of the fields before the call below.
         let _doing = &self.doing;
         self.told_now(answer, now, report)
     }

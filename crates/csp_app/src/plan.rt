@@ -1,5 +1,7 @@
 //! What a turn of an application is.
 
+use csp_log::Note;
+
 /// What a turn is, from its operation to the answer.
 #[derive(Clone, Copy, PartialEq, Eq, Debug)]
 pub enum Plan {
@@ -15,9 +17,13 @@ pub enum Plan {
     Give,
     /// A `give` step finds that no buffer is held.
     Skip,
+    /// A step pushes its note.
+    Ask(Note),
+    /// A step looks for the answer to its note.
+    Await,
     /// A step takes a buffer for its packet.
     Fill,
-    /// A step sends its packet.
+    /// A step pushes its packet.
     Push,
     /// A `recv` step finds its packets there at its start.
     Use {

@@ -1,26 +1,28 @@
 //! What an application makes of an answer.
 
-ghost use Rattle.std.specs.Prelude.{◌≡◌, ◌+◌, ◌-◌, ◌^◌, ◌<◌, Some, None, [], ◌∷◌, ◌++◌, slice_get};
+ghost use Rattle.std.specs.Prelude.{◌≡◌, ◌+◌, ◌-◌, ◌^◌, ◌<◌, Some, None, [], ◌∷◌, ◌++◌, slice_get, nat_lt};
 ghost use Rattle.std.specs.Option.{option_to_list};
-ghost use Rattle.csp_app.specs.Making.{packet_in, filled};
-ghost use Rattle.csp_buffer.specs.PlainBuffer.{with_picture};
-ghost use Rattle.csp_deck.specs.Keeping.{with_content};
 ghost use Rattle.csp_deck.specs.Regions.{IsAnswerFrom, IsItemOf};
 ghost use Rattle.csp_deck.specs.Step.{IsAnswerOf, IsCleared};
 ghost use Rattle.csp_log.specs.Pictures.{shown_answer, shown_item};
 
+use crate::App;
+use crate::items::{mark_in, note_in, put_packet};
+use crate::packets::{filled, mark_of, packets_of};
 use crate::plan::Plan;
 use crate::slot::{Slot, note_item, use_packets};
-use crate::{App, Step};
 use csp_buffer::Buffer;
-use csp_deck::Hand;
-use csp_log::{Answer, AnswerShown, Event, Events, Item};
+use csp_log::{Answer, AnswerShown, Event, Events, Item, Note, SLOTS};
 
 impl App {
     ghost use Rattle.csp_app.specs.PlainApp.{uses, count, with_app};
     ghost use Rattle.csp_app.specs.Asking.{awaits};
-    ghost use Rattle.csp_app.specs.Telling.{tells, events, looks, looked, receives, received, waited, next};
-    ghost use Rattle.std.specs.Prelude.{slice_get, ◌++◌};
+    ghost use Rattle.csp_app.specs.Room.{CanLook, GoesOn};
+    ghost use Rattle.csp_app.specs.Steps.{batch, making, pushed_one, answered_by, received, waited, turn_of};
+    ghost use Rattle.csp_app.specs.Telling.{tells, events, at_rest};
+    ghost use Rattle.csp_app.specs.Told.{next};
+    ghost use Rattle.csp_app.specs.Turn.{looked};
+    ghost use Rattle.std.specs.Prelude.{slice_get, nat_lt, ◌++◌};
 
     pub(crate) fn told_now(&mut self, answer: Answer, now: u64, report: &mut Events)
         requires fits { IsAnswerOf (uses self.old.app) (awaits self.old.app) (shown_answer answer) }
@@ -79,7 +81,7 @@ impl App {
     fn hold(&mut self, buffer: Buffer)
         requires doing { self.old.app.doing ≡ Plan.Take }
         requires of_it { buffer.region ≡ self.old.region }
-        ensures { self.new ≡ with_app self.old (record (next (record self.old.app { held = self.old.app.held ++ buffer.picture ∷ [] })) { doing = Plan.Rest }) }
+        ensures { self.new ≡ with_app self.old (next (record (at_rest self.old.app) { held = self.old.app.held ++ buffer.picture ∷ [] })) }
     {
         self.held.add(buffer);
         self.progress.advance();
@@ -89,11 +91,12 @@ impl App {
     /// A step has the buffer for its packet.
     fn make(&mut self, buffer: Buffer)
         requires doing { self.old.app.doing ≡ Plan.Fill }
-        requires cleared { IsCleared buffer.picture }
         requires of_it { buffer.region ≡ self.old.region }
-        ensures { self.new ≡ with_app self.old (record self.old.app { made = Some (filled (slice_get self.old.app.steps self.old.app.done) buffer.picture); doing = Plan.Rest }) }
+        ensures { self.new ≡ with_app self.old (making (batch self.old.app) buffer.picture (at_rest self.old.app)) }
     {
-        let packet = filled(&self.steps[self.progress.done], buffer);
+        let step = &self.steps[self.progress.done];
+        self.mark = mark_of(step);
+        let packet = filled(step, self.progress.sent, buffer);
         self.made.put(packet);
         self.doing = Plan::Rest;
     }
@@ -118,7 +121,7 @@ impl App {
     fn miss(&mut self) -> Event
         requires { self.old.app.doing ≡ Plan.Take }
         ensures event { result ≡ Event.TookEmpty (self.old.app.done + 1) }
-        ensures state { self.new ≡ with_app self.old (record (next self.old.app) { doing = Plan.Rest }) }
+        ensures state { self.new ≡ with_app self.old (next (at_rest self.old.app)) }
     {
         let step = self.progress.done as u32 + 1;
         self.progress.advance();
@@ -157,17 +160,35 @@ impl App {
         self.doing = Plan::Rest;
     }
 
-    #[tactic(auto, using(crate::proofs::Takes::takes_less, crate::proofs::Takes::takes_take))]
     fn told_pushed(&mut self, now: u64, report: &mut Events)
         requires fits { IsAnswerOf (uses self.old.app) (awaits self.old.app) AnswerShown.Pushed }
         requires unwritten { report.old.items ≡ [] }
         ensures events { report.new.items ≡ events self.old.app now AnswerShown.Pushed }
         ensures state { self.new ≡ with_app self.old (tells self.old.app now AnswerShown.Pushed) }
     {
-        if let Plan::Push = self.doing {
+        match self.doing {
+            Plan::Ask(_) => {
+                self.progress.asked = true;
+                self.doing = Plan::Rest;
+            }
+            Plan::Push => self.count_packet(),
+            _ => unreachable!(),
+        }
+    }
+
+    /// One more packet of a step was pushed: with the last of them it is done.
+    #[tactic(auto, using(crate::proofs::Takes::takes_less))]
+    fn count_packet(&mut self)
+        requires { self.old.app.doing ≡ Plan.Push }
+        ensures { self.new ≡ with_app self.old (pushed_one (nat_lt (self.old.app.sent + 1) (batch self.old.app).count) (at_rest self.old.app)).state }
+    {
+        self.doing = Plan::Rest;
+        let packets = packets_of(&self.steps[self.progress.done]);
+        if self.progress.has_more(packets) {
+            self.progress.sent += 1;
+        } else {
             self.progress.advance();
         }
-        self.doing = Plan::Rest;
     }
 
     fn told_full(&mut self, item: Item, now: u64, report: &mut Events)
@@ -178,14 +199,18 @@ impl App {
         ensures state { self.new ≡ with_app self.old (tells self.old.app now (AnswerShown.Full (shown_item item))) }
     {
         match self.doing {
-            Plan::Push => put_packet(&mut self.made, item),
+            Plan::Ask(_) => put_packet(&mut self.taken, item),
+            Plan::Push => {
+                self.mark = mark_in(&item);
+                put_packet(&mut self.made, item);
+            }
             _ => unreachable!(),
         }
         self.refused = true;
         self.doing = Plan::Rest;
     }
 
-    #[tactic(auto, using(crate::proofs::Popping::popped_hears, crate::proofs::Popping::popped_state, crate::proofs::Popping::looked_keeps))]
+    #[tactic(auto, using(crate::proofs::Popping::popped_hears, crate::proofs::Popping::popped_comes))]
     fn told_popped(&mut self, item: Item, now: u64, report: &mut Events)
         requires fits { IsAnswerOf (uses self.old.app) (awaits self.old.app) (AnswerShown.Popped (shown_item item)) }
         requires of_it { IsItemOf self.old.region item }
@@ -194,32 +219,45 @@ impl App {
         ensures events { report.new.items ≡ events self.old.app now (AnswerShown.Popped (shown_item item)) }
         ensures state { self.new ≡ with_app self.old (tells self.old.app now (AnswerShown.Popped (shown_item item))) }
     {
+        let plan = self.doing;
+        let note = note_in(&item);
+        self.doing = Plan::Rest;
         if let Some(event) = note_item(&mut self.slots, &item) {
             report.push(event);
         }
-        if let Some(event) = self.look_on(now) {
+        put_packet(&mut self.taken, item);
+        if let Some(event) = self.look_on(plan, note, now) {
             report.push(event);
         }
-        put_packet(&mut self.taken, item);
     }
 
+    #[tactic(auto, using(crate::proofs::Popping::empty_hears, crate::proofs::Popping::empty_comes))]
     fn told_empty(&mut self, now: u64, report: &mut Events)
         requires fits { IsAnswerOf (uses self.old.app) (awaits self.old.app) AnswerShown.Empty }
         requires unwritten { report.old.items ≡ [] }
         ensures events { report.new.items ≡ events self.old.app now AnswerShown.Empty }
         ensures state { self.new ≡ with_app self.old (tells self.old.app now AnswerShown.Empty) }
     {
-        if let Some(event) = self.look_on(now) {
+        let plan = self.doing;
+        self.doing = Plan::Rest;
+        if let Some(event) = self.look_on(plan, None, now) {
             report.push(event);
         }
     }
 
     /// `Down` was popped, and what came is noted: a step that waits looks whether it is done.
-    fn look_on(&mut self, now: u64) -> Option<Event>
-        ensures event { option_to_list result ≡ looks self.old.app now self.old.app.doing }
-        ensures state { self.new ≡ with_app self.old (record (looked self.old.app now self.old.app.doing) { doing = Plan.Rest }) }
+    fn look_on(&mut self, plan: Plan, note: Option<Note>, now: u64) -> Option<Event>
+        requires resting { self.old.app.doing ≡ Plan.Rest }
+        requires step { CanLook self.old.app plan }
+        ensures event { option_to_list result ≡ (looked (turn_of self.old.app now plan) note self.old.app).events }
+        ensures state { self.new ≡ with_app self.old (looked (turn_of self.old.app now plan) note self.old.app).state }
     {
-        match self.doing {
+        match plan {
+            Plan::Look => None,
+            Plan::Await => match &note {
+                Some(note) => self.look_at_note(note),
+                None => None,
+            },
             Plan::Receive {
                 slot,
                 count,
@@ -229,8 +267,29 @@ impl App {
                 self.look_at_time(rounds, now);
                 None
             }
-            _ => {
-                self.doing = Plan::Rest;
+            _ => unreachable!(),
+        }
+    }
+
+    /// A step that asked looks whether this note is its answer.
+    #[tactic(auto, using(crate::proofs::Takes::takes_less))]
+    fn look_at_note(&mut self, note: &Note) -> Option<Event>
+        requires resting { self.old.app.doing ≡ Plan.Rest }
+        requires step { GoesOn self.old.app }
+        ensures event { option_to_list result ≡ (answered_by self.old.app note.now).events }
+        ensures state { self.new ≡ with_app self.old (answered_by self.old.app note.now).state }
+    {
+        let step = self.progress.done as u32 + 1;
+        match note {
+            Note::Bound | Note::Connected { .. } | Note::Closed { .. } => {
+                self.progress.advance();
+                None
+            }
+            Note::Refused { why } => {
+                self.progress.advance();
+                Some(Event::Refused { step, why: *why })
+            }
+            Note::Down { .. } | Note::Bind { .. } | Note::Connect { .. } | Note::Close { .. } => {
                 None
             }
         }
@@ -239,10 +298,10 @@ impl App {
     /// A `wait` step looks whether its rounds have passed.
     #[tactic(auto, using(crate::proofs::Takes::takes_less))]
     fn look_at_time(&mut self, rounds: u32, now: u64)
-        requires { self.old.app.doing ≡ Plan.Wait rounds }
-        ensures { self.new ≡ with_app self.old (record (waited rounds now self.old.app) { doing = Plan.Rest }) }
+        requires resting { self.old.app.doing ≡ Plan.Rest }
+        requires step { GoesOn self.old.app }
+        ensures { self.new ≡ with_app self.old (waited rounds now self.old.app).state }
     {
-        self.doing = Plan::Rest;
         if self.progress.has_passed(rounds, now) {
             self.progress.advance();
         }
@@ -251,11 +310,12 @@ impl App {
     /// A `recv` step looks whether it is done: enough packets, the rounds passed, the slot down.
     #[tactic(auto, using(crate::proofs::Takes::takes_less))]
     fn look_for(&mut self, slot: u8, count: u32, rounds: Option<u32>, now: u64) -> Option<Event>
-        requires doing { self.old.app.doing ≡ Plan.Receive slot count rounds }
-        ensures event { option_to_list result ≡ receives slot count rounds now self.old.app }
-        ensures state { self.new ≡ with_app self.old (record (received slot count rounds now self.old.app) { doing = Plan.Rest }) }
+        requires resting { self.old.app.doing ≡ Plan.Rest }
+        requires step { GoesOn self.old.app }
+        requires slot { slot < SLOTS }
+        ensures event { option_to_list result ≡ (received slot count rounds now self.old.app).events }
+        ensures state { self.new ≡ with_app self.old (received slot count rounds now self.old.app).state }
     {
-        self.doing = Plan::Rest;
         let step = self.progress.done as u32 + 1;
         let Slot { unused, down, .. } = self.slots[slot as usize];
         if count <= unused {
@@ -273,29 +333,4 @@ impl App {
         }
         None
     }
-}
-
-/// Puts the buffer of an item, if it has one, into its empty place.
-fn put_packet(place: &mut Hand, item: Item)
-    requires empty { place.old.content ≡ None }
-    requires of_it { IsItemOf place.old.region item }
-    ensures { place.new ≡ with_content place.old (packet_in (shown_item item)) }
-{
-    match item {
-        Item::Packet { mark: _, buffer } => place.put(buffer),
-        Item::Frame(_) | Item::Note(_) => {}
-    }
-}
-
-/// The packet that a step makes in a buffer.
-fn filled(step: &Step, buffer: Buffer) -> Buffer
-    ensures { result ≡ with_picture buffer (filled (Some step.now) buffer.picture) }
-{
-    let mut buffer = buffer;
-    if let Step::Raw { header, bytes } = step {
-        buffer.clear();
-        buffer.set_header(*header);
-        buffer.push_tail(bytes.as_slice()).unwrap();
-    }
-    buffer
 }

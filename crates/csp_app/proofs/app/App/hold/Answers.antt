@@ -23,4 +23,4 @@ invariant_of-self c =
     let d : c.self.inside.doing ≡ plan.Take = ap (λ (a : AppAt). a.app.doing) c.self.view_is ∙ c.requires.doing in
     let h : slice_get c.self.inside.steps.items c.self.inside.progress.done ≡ Some step.Take = subst (CanHear (plain_app c.self.inside)) d c.self.invariant.hears in
     take_ready c.self.inside _ c.self.invariant h refl (ap (λ (p : Progress). p.done) c.advance.ensures) refl (rw c.add.ensures (grind (arith, common_steps)))
-    (ap (λ (p : PlainPile). p.room) c.add.ensures) (record { taken = refl; made = refl; held = ap (λ (p : PlainPile). p.region) c.add.ensures })
+    (ap (λ (p : PlainPile). p.room) c.add.ensures) refl refl (record { taken = refl; made = refl; held = ap (λ (p : PlainPile). p.region) c.add.ensures })

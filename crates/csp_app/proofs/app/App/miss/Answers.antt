@@ -12,4 +12,4 @@ pub invariant_of-self : goal.invariant_of-self
 invariant_of-self c =
     let d : c.self.inside.doing ≡ plan.Take = ap (λ (a : AppAt). a.app.doing) c.self.view_is ∙ c.requires in
     let h : slice_get c.self.inside.steps.items c.self.inside.progress.done ≡ Some step.Take = subst (CanHear (plain_app c.self.inside)) d c.self.invariant.hears in
-    take_ready c.self.inside _ c.self.invariant h refl (ap (λ (p : Progress). p.done) c.advance.ensures) refl (omega arith) refl (record { taken = refl; made = refl; held = refl })
+    take_ready c.self.inside _ c.self.invariant h refl (ap (λ (p : Progress). p.done) c.advance.ensures) refl (omega arith) refl refl refl (record { taken = refl; made = refl; held = refl })

@@ -1,9 +1,9 @@
 use Rattle.std.proofs.Common.{subst}
 use Rattle.csp_app.specs.PlainApp.{PlainApp, AppAt}
 use Rattle.csp_app.specs.Room.{CanHear}
-use Rattle.csp_app.specs.Telling.{told_by}
+use Rattle.csp_app.specs.Telling.{tells}
 use Rattle.csp_log.specs.Pictures.{shown_answer}
-use Rattle.csp_app.proofs.Laws.{told_law, told_count, told_number, same_uses}
+use Rattle.csp_app.proofs.Laws.{told_law, told_raises, same_uses}
 use Rattle.csp_app.proofs.party.AppParty.told.Goals as goal
 
 pub returns-clause-holds : goal.returns-clause-holds
@@ -15,9 +15,9 @@ returns-clause-holds c =
 pub returns-clause-count : goal.returns-clause-count
 returns-clause-count c =
     let s : PlainApp = c.args.self.now.app in
-    rw c.told_now.ensures.state (told_count s c.args.now s.doing (shown_answer c.args.answer))
+    rw c.told_now.ensures.state (told_raises s c.args.now s.doing (shown_answer c.args.answer)).count
 
 pub returns-clause-uses : goal.returns-clause-uses
 returns-clause-uses c =
     let s : PlainApp = c.args.self.now.app in
-    rw c.told_now.ensures.state (same_uses s (told_by s c.args.now s.doing (shown_answer c.args.answer)) (told_number s c.args.now s.doing (shown_answer c.args.answer)))
+    rw c.told_now.ensures.state (same_uses s (tells s c.args.now (shown_answer c.args.answer)) (told_raises s c.args.now s.doing (shown_answer c.args.answer)).number)
