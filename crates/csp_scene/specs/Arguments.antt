@@ -1,6 +1,6 @@
 -- The words of a line after the first, each by its place.
 use Rattle.std.specs.Prelude.{ℕ, ◌+◌, Bool, nat_lt, false, List, [], ◌∷◌, length, drop, slice_index_or, Option, Some, None, if◌then◌else◌}
-use Rattle.std.specs.List.{position_or_len, flat_map}
+use Rattle.std.specs.List.{position_or_len, list_any, flat_map}
 use Rattle.std.specs.Str.{bytes_eq}
 use Rattle.csp_text.specs.Numbers.{number_of}
 use Rattle.csp_scene.specs.Table.{keyword_text}
@@ -28,6 +28,10 @@ is_keyword keyword part.Text = false
 
 abbrev pub keyword_place : Keyword → List Part → ℕ
 keyword_place keyword shape = position_or_len (is_keyword keyword) shape
+
+-- a line has a fixed word
+abbrev pub has_keyword : Keyword → List Part → Bool
+has_keyword keyword shape = list_any (is_keyword keyword) shape
 
 -- the number that follows a fixed word, where the line has that word
 abbrev pub setting : Keyword → List Part → List (List ℕ) → Option ℕ

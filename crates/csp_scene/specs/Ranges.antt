@@ -1,5 +1,5 @@
 -- The ranges of a scene's numbers.
-use Rattle.std.specs.Prelude.{ℕ, ◌≡◌, ◌≢◌, ◌≤◌, ◌<◌, ◌^◌, ⊤, List, [], ◌∷◌, length, Some, None, slice_get, IsTrue, IfSome}
+use Rattle.std.specs.Prelude.{ℕ, ◌+◌, ◌≡◌, ◌≢◌, ◌≤◌, ◌<◌, ◌^◌, ⊤, List, [], ◌∷◌, length, Some, None, slice_get, IsTrue, IfSome}
 use Rattle.std.specs.List.{All, AllByRecursion}
 use Rattle.std.specs.FinMap as finite
 use Rattle.csp_app.specs.declared.step.Step.{Step}
@@ -10,10 +10,10 @@ use Rattle.csp_link.specs.declared.fault.Fault.{Fault}
 use Rattle.csp_link.specs.declared.fault.FaultKind.{FaultKind}
 use Rattle.csp_link.specs.declared.fault.FaultKind.TheVariants as fault
 use Rattle.csp_link.specs.declared.fault.TheConstants.{MAX_REPEATS}
-use Rattle.csp_log.specs.declared.places.TheConstants.{SLOTS}
+use Rattle.csp_log.specs.declared.places.TheConstants.{MAX_DATA, SLOTS}
 use Rattle.csp_route.specs.Routes.{IsWithin}
 use Rattle.csp_text.specs.Names.{is_name}
-use Rattle.csp_scene.specs.declared.limits.TheConstants.{MAX_UNTIL, MAX_ADDR, MAX_NODES, MAX_LINKS, BRIDGE_LINKS, MAX_APPS, MAX_STEPS, MIN_BUFFERS, MAX_SEED, MIN_INBOX, MAX_INBOX, MAX_COUNT, MAX_ROUNDS, MAX_FAULTS, LAST_FRAME, MAX_DELAY, MAX_FLIP, MAX_SHUFFLE}
+use Rattle.csp_scene.specs.declared.limits.TheConstants.{MAX_UNTIL, MAX_ADDR, MAX_NODES, MAX_LINKS, BRIDGE_LINKS, MAX_APPS, MAX_STEPS, MIN_BUFFERS, MAX_SEED, MIN_INBOX, MAX_INBOX, MAX_PORT, FIRST_OWN_PORT, MAX_DEST, CRC_FLAG, RDP_FLAG, MAX_COUNT, MAX_ROUNDS, MAX_FAULTS, LAST_FRAME, MAX_DELAY, MAX_FLIP, MAX_SHUFFLE}
 use Rattle.csp_log.specs.declared.places.End.{End}
 use Rattle.csp_scene.specs.declared.scenario.Move.{Move}
 use Rattle.csp_scene.specs.declared.scenario.Move.TheVariants as move
@@ -24,12 +24,25 @@ use Rattle.csp_scene.specs.Links.{links_at, node_at, fault_count}
 abbrev pub IsWait : ℕ → Type 0
 IsWait rounds = (1 ≤ rounds) × (rounds ≤ MAX_ROUNDS)
 
--- a step's numbers: a header word, as many bytes as a packet has; a slot that there is, a number of packets, of rounds
+-- flags of the header that a line may ask for, and the port that a connection may have as its own
+abbrev pub AreFlags : ℕ → Type 0
+AreFlags flags = flags ≤ CRC_FLAG + RDP_FLAG
+
+abbrev pub IsOwnPort : ℕ → Type 0
+IsOwnPort port = (FIRST_OWN_PORT ≤ port) × (port ≤ MAX_PORT)
+
+-- a step's numbers: ports, addresses and flags of the header, a header word, as many bytes as a packet has; a slot that there
+-- is, a number of packets, of rounds
 abbrev pub IsStep : Step → Type 0
 IsStep step.Take = ⊤
 IsStep step.Give = ⊤
+IsStep (step.Bind port need) = (port ≤ MAX_PORT) × AreFlags need
+IsStep (step.Connect slot dest port prio flags from) = (slot < SLOTS) × (dest ≤ MAX_DEST) × (port ≤ MAX_PORT) × AreFlags flags × IfSome from IsOwnPort
+IsStep (step.Send slot bytes) = (slot < SLOTS) × (1 ≤ length bytes.items) × (length bytes.items ≤ MAX_DATA)
+IsStep (step.Burst slot count len) = (slot < SLOTS) × (1 ≤ count) × (count ≤ MAX_COUNT) × (1 ≤ len) × (len ≤ MAX_DATA)
 IsStep (step.Raw header bytes) = (header < 2 ^ 32) × (length bytes.items ≤ MAX_PAYLOAD)
 IsStep (step.Recv slot count rounds) = (slot < SLOTS) × (1 ≤ count) × (count ≤ MAX_COUNT) × IfSome rounds IsWait
+IsStep (step.Close slot) = slot < SLOTS
 IsStep (step.Wait rounds) = IsWait rounds
 
 -- an application has a name, and no more steps than an application may have, each with its numbers in their ranges

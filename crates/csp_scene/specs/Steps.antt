@@ -1,11 +1,41 @@
 -- The steps that lines state.
-use Rattle.std.specs.Prelude.{ℕ, List}
+use Rattle.std.specs.Prelude.{ℕ, ◌+◌, List, if◌then◌else◌}
+use Rattle.std.specs.Option.{unwrap_or}
 use Rattle.csp_app.specs.declared.step.Step.{Step}
 use Rattle.csp_app.specs.declared.step.Step.TheVariants as step
+use Rattle.csp_base.specs.Priority.{prio_of}
 use Rattle.csp_text.specs.Hexadecimal.{bytes_of, hex_number}
-use Rattle.csp_scene.specs.Arguments.{word_at, number_at, setting}
+use Rattle.csp_scene.specs.Arguments.{word_at, number_at, has_keyword, setting}
+use Rattle.csp_scene.specs.declared.limits.TheConstants.{DEFAULT_PRIO, CRC_FLAG, RDP_FLAG}
+use Rattle.csp_scene.specs.declared.table.Keyword.{Keyword}
 use Rattle.csp_scene.specs.declared.table.Keyword.TheVariants as keyword
 use Rattle.csp_scene.specs.declared.table.Part.{Part}
+
+-- a flag of the header, where the line has the word for it
+abbrev pub flag_of : Keyword → ℕ → List Part → ℕ
+flag_of keyword flag shape = if has_keyword keyword shape then flag else 0
+
+-- the flags of the header for which a line has the words `crc` and `rdp`
+abbrev pub flags_of : List Part → ℕ
+flags_of shape = flag_of keyword.Crc CRC_FLAG shape + flag_of keyword.Rdp RDP_FLAG shape
+
+-- the steps that `bind PORT [crc] [rdp]` and `connect SLOT ADDR PORT [prio P] [crc] [rdp] [from Q]` state
+abbrev pub bind_step : List Part → List (List ℕ) → Step
+bind_step shape args = step.Bind (number_at args 0) (flags_of shape)
+
+abbrev pub connect_step : List Part → List (List ℕ) → Step
+connect_step shape args =
+    step.Connect (number_at args 0) (number_at args 1) (number_at args 2) (prio_of (unwrap_or (setting keyword.Prio shape args) DEFAULT_PRIO)) (flags_of shape) (setting keyword.From shape args)
+
+-- the steps that `send SLOT HEX`, `burst SLOT COUNT LEN` and `close SLOT` state
+abbrev pub send_step : List (List ℕ) → Step
+send_step args = step.Send (number_at args 0) (record { items = bytes_of (word_at args 1) })
+
+abbrev pub burst_step : List (List ℕ) → Step
+burst_step args = step.Burst (number_at args 0) (number_at args 1) (number_at args 2)
+
+abbrev pub close_step : List (List ℕ) → Step
+close_step args = step.Close (number_at args 0)
 
 -- the steps that `raw HEADER HEX`, `recv SLOT COUNT [for R]` and `wait R` state
 abbrev pub raw_step : List (List ℕ) → Step

@@ -1,6 +1,6 @@
 -- The line forms of the scenario language, a row each.
 use Rattle.std.specs.Prelude.{ℕ, Bool, true, false, List, [], ◌∷◌, ◌++◌, codes}
-use Rattle.csp_scene.specs.declared.limits.TheConstants.{MAX_UNTIL, MAX_SHUFFLE, MAX_ADDR, MIN_BUFFERS, MAX_SEED, MIN_INBOX, MAX_INBOX, LAST_FRAME, MAX_COPIES, MAX_DELAY, MAX_FLIP, MAX_SLOT, MAX_COUNT, MAX_ROUNDS, MAX_RAW}
+use Rattle.csp_scene.specs.declared.limits.TheConstants.{MAX_UNTIL, MAX_SHUFFLE, MAX_ADDR, MIN_BUFFERS, MAX_SEED, MIN_INBOX, MAX_INBOX, LAST_FRAME, MAX_COPIES, MAX_DELAY, MAX_FLIP, MAX_SLOT, MAX_PORT, FIRST_OWN_PORT, MAX_DEST, MAX_PRIO, MAX_COUNT, MAX_ROUNDS, MAX_SEND, MAX_RAW}
 use Rattle.csp_base.specs.declared.limits.TheConstants.{MAX_BUFFERS}
 use Rattle.csp_scene.specs.declared.table.Form.{Form}
 use Rattle.csp_scene.specs.declared.table.Form.TheVariants as form
@@ -28,6 +28,10 @@ keyword_text keyword.Lose = codes "lose"
 keyword_text keyword.Repeat = codes "repeat"
 keyword_text keyword.Delay = codes "delay"
 keyword_text keyword.Flip = codes "flip"
+keyword_text keyword.Prio = codes "prio"
+keyword_text keyword.Crc = codes "crc"
+keyword_text keyword.Rdp = codes "rdp"
+keyword_text keyword.From = codes "from"
 
 -- the first word of a form's lines
 abbrev pub first_word : Form → List ℕ
@@ -46,8 +50,13 @@ first_word form.Flip = codes "fault"
 first_word form.App = codes "app"
 first_word form.Take = codes "take"
 first_word form.Give = codes "give"
+first_word form.Bind = codes "bind"
+first_word form.Connect = codes "connect"
+first_word form.Send = codes "send"
+first_word form.Burst = codes "burst"
 first_word form.Raw = codes "raw"
 first_word form.Recv = codes "recv"
+first_word form.Close = codes "close"
 first_word form.Wait = codes "wait"
 
 -- a fault's line: a link, a direction, the number of a frame, and what happens to it
@@ -71,8 +80,13 @@ fixed_of form.Flip = fault_of keyword.Flip (Number 0 MAX_FLIP ∷ [])
 fixed_of form.App = Name ∷ Name ∷ []
 fixed_of form.Take = []
 fixed_of form.Give = []
+fixed_of form.Bind = Number 0 MAX_PORT ∷ []
+fixed_of form.Connect = Number 0 MAX_SLOT ∷ Number 0 MAX_DEST ∷ Number 0 MAX_PORT ∷ []
+fixed_of form.Send = Number 0 MAX_SLOT ∷ Bytes 1 MAX_SEND ∷ []
+fixed_of form.Burst = Number 0 MAX_SLOT ∷ Number 1 MAX_COUNT ∷ Number 1 MAX_SEND ∷ []
 fixed_of form.Raw = Word ∷ Bytes 0 MAX_RAW ∷ []
 fixed_of form.Recv = Number 0 MAX_SLOT ∷ Number 1 MAX_COUNT ∷ []
+fixed_of form.Close = Number 0 MAX_SLOT ∷ []
 fixed_of form.Wait = Number 1 MAX_ROUNDS ∷ []
 
 -- what may follow, in this order, each there or not
@@ -92,8 +106,13 @@ optional_of form.Flip = []
 optional_of form.App = []
 optional_of form.Take = []
 optional_of form.Give = []
+optional_of form.Bind = Flag keyword.Crc ∷ Flag keyword.Rdp ∷ []
+optional_of form.Connect = Setting keyword.Prio 0 MAX_PRIO ∷ Flag keyword.Crc ∷ Flag keyword.Rdp ∷ Setting keyword.From FIRST_OWN_PORT MAX_PORT ∷ []
+optional_of form.Send = []
+optional_of form.Burst = []
 optional_of form.Raw = []
 optional_of form.Recv = Setting keyword.For 1 MAX_ROUNDS ∷ []
+optional_of form.Close = []
 optional_of form.Wait = []
 
 -- whether the form's lines are steps of the application that stands before them
@@ -113,15 +132,21 @@ is_step form.Flip = false
 is_step form.App = false
 is_step form.Take = true
 is_step form.Give = true
+is_step form.Bind = true
+is_step form.Connect = true
+is_step form.Send = true
+is_step form.Burst = true
 is_step form.Raw = true
 is_step form.Recv = true
+is_step form.Close = true
 is_step form.Wait = true
 
 -- all forms
 abbrev pub all_forms : List Form
 all_forms =
     form.Until ∷ form.Rounds ∷ form.Shuffle ∷ form.Moves ∷ form.Node ∷ form.Bridge ∷ form.Link ∷ form.Route
-    ∷ form.Lose ∷ form.Repeat ∷ form.Delay ∷ form.Flip ∷ form.App ∷ form.Take ∷ form.Give ∷ form.Raw ∷ form.Recv ∷ form.Wait ∷ []
+    ∷ form.Lose ∷ form.Repeat ∷ form.Delay ∷ form.Flip ∷ form.App ∷ form.Take ∷ form.Give
+    ∷ form.Bind ∷ form.Connect ∷ form.Send ∷ form.Burst ∷ form.Raw ∷ form.Recv ∷ form.Close ∷ form.Wait ∷ []
 
 -- the words of an optional group
 abbrev pub group_of : Group → List Part

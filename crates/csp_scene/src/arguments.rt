@@ -5,7 +5,7 @@ ghost use Rattle.std.specs.List.{flat_map};
 ghost use Rattle.csp_text.specs.Names.{is_name};
 ghost use Rattle.csp_text.specs.Numbers.{is_decimal};
 ghost use Rattle.csp_text.specs.Hexadecimal.{is_bytes, bytes_of};
-ghost use Rattle.csp_scene.specs.Arguments.{word_at, number_at, is_keyword, keyword_place, setting, spaced, text_from};
+ghost use Rattle.csp_scene.specs.Arguments.{word_at, number_at, is_keyword, keyword_place, has_keyword, setting, spaced, text_from};
 ghost use Rattle.csp_scene.specs.Kept.{Fits, FitsShape, part_at, IsNamePart, IsNumberPart, IsInPart, has_setting, range_of};
 
 use crate::table::{Form, Keyword, Part};
@@ -77,6 +77,13 @@ fn keyword_place(keyword: Keyword, shape: &[Part]) -> usize
         .iter()
         .position(|part| is_keyword(*part, keyword))
         .unwrap_or(shape.len())
+}
+
+/// Whether a shape has a fixed word.
+pub(crate) fn has_keyword(keyword: Keyword, shape: &[Part]) -> bool
+    ensures { result ≡ has_keyword keyword shape.now }
+{
+    shape.iter().any(|part| is_keyword(*part, keyword))
 }
 
 /// The number that follows an optional word of a form, where the line has that word.

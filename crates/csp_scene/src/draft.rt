@@ -15,7 +15,9 @@ use crate::naming::iface_count;
 use crate::nodes::{new_bridge, new_node};
 use crate::refusal::SceneKind;
 use crate::scenario::{Scene, SceneLink, SceneNode, Schedule};
-use crate::steps::{raw_step, recv_step, wait_step};
+use crate::steps::{
+    bind_step, burst_step, close_step, connect_step, raw_step, recv_step, send_step, wait_step,
+};
 use crate::table::{Form, Part};
 use csp_app::Step;
 use csp_link::FaultKind;
@@ -147,8 +149,13 @@ impl Draft {
             Form::App => self.state_app(alloc, args),
             Form::Take => self.state_step(Step::Take),
             Form::Give => self.state_step(Step::Give),
+            Form::Bind => self.state_step(bind_step(shape, args)),
+            Form::Connect => self.state_step(connect_step(shape, args)),
+            Form::Send => self.state_step(send_step(args)),
+            Form::Burst => self.state_step(burst_step(args)),
             Form::Raw => self.state_step(raw_step(args)),
             Form::Recv => self.state_step(recv_step(shape, args)),
+            Form::Close => self.state_step(close_step(args)),
             Form::Wait => self.state_step(wait_step(args)),
         }
     }

@@ -2,7 +2,7 @@
 
 use csp_base::{MAX_FRAME, MAX_PAYLOAD};
 use csp_link::MAX_REPEATS;
-use csp_log::SLOTS;
+use csp_log::{MAX_DATA, SLOTS};
 
 /// The most bytes that a line has.
 pub const MAX_LINE: usize = 8192;
@@ -67,11 +67,35 @@ pub const DEFAULT_INBOX: u32 = 16;
 /// The greatest number of a slot of an application.
 pub const MAX_SLOT: u32 = SLOTS as u32 - 1;
 
-/// The most packets that a step may wait for.
+/// The greatest port.
+pub const MAX_PORT: u32 = 63;
+
+/// The least port that a connection may have as its own; the most is `MAX_PORT`.
+pub const FIRST_OWN_PORT: u32 = 48;
+
+/// The greatest address that a connection may lead to: that of all nodes.
+pub const MAX_DEST: u32 = MAX_ADDR + 1;
+
+/// The greatest number of a priority, that of the least urgent.
+pub const MAX_PRIO: u32 = 3;
+
+/// The priority of a connection whose line gives none.
+pub const DEFAULT_PRIO: u32 = 2;
+
+/// The header's flag of a checksum at the payload's end.
+pub const CRC_FLAG: u8 = 0x01;
+
+/// The header's flag of the reliable transport.
+pub const RDP_FLAG: u8 = 0x02;
+
+/// The most packets that a step may send, or wait for.
 pub const MAX_COUNT: u32 = 32_767;
 
 /// The most rounds that a step may wait.
 pub const MAX_ROUNDS: u32 = 100_000;
+
+/// The most bytes that a packet of a `send` or `burst` step has.
+pub const MAX_SEND: u32 = MAX_DATA as u32;
 
 /// The most bytes that a `raw` step's packet has.
 pub const MAX_RAW: u32 = MAX_PAYLOAD as u32;

@@ -1,14 +1,144 @@
 //! The steps that lines state, by their words.
 
-ghost use Rattle.std.specs.Prelude.{◌≡◌, map};
-ghost use Rattle.csp_scene.specs.Ranges.{IsStep};
-ghost use Rattle.csp_scene.specs.Steps.{raw_step, recv_step, wait_step};
+ghost use Rattle.std.specs.Prelude.{◌≡◌, ◌≤◌, map, IfSome};
+ghost use Rattle.std.specs.Option.{unwrap_or};
+ghost use Rattle.csp_base.specs.Priority.{prio_of};
+ghost use Rattle.csp_scene.specs.Arguments.{setting};
+ghost use Rattle.csp_scene.specs.Ranges.{AreFlags, IsOwnPort, IsStep};
+ghost use Rattle.csp_scene.specs.Steps.{flag_of, flags_of, bind_step, connect_step, send_step, burst_step, raw_step, recv_step, close_step, wait_step};
 ghost use Rattle.csp_scene.specs.Kept.{Fits, FitsShape};
 
-use crate::arguments::{bytes_at, number_at, setting, word_at};
+use crate::arguments::{bytes_at, has_keyword, number_at, setting, word_at};
+use crate::limits::{CRC_FLAG, DEFAULT_PRIO, MAX_DEST, MAX_PORT, MAX_PRIO, RDP_FLAG};
 use crate::table::{Form, Keyword, Part};
 use csp_app::Step;
+use csp_base::{Addr, Port, Prio};
 use csp_text::hex_word;
+
+/// A flag of the header, where the line has the word for it.
+fn flag_of(keyword: Keyword, flag: u8, shape: &[Part]) -> u8
+    ensures value { result ≡ flag_of keyword flag shape.now }
+    ensures range { result ≤ flag }
+{
+    if has_keyword(keyword, shape) { flag } else { 0 }
+}
+
+/// The flags of the header for which the line has words.
+fn flags_of(shape: &[Part]) -> u8
+    ensures value { result ≡ flags_of shape.now }
+    ensures range { AreFlags result }
+{
+    flag_of(Keyword::Crc, CRC_FLAG, shape) + flag_of(Keyword::Rdp, RDP_FLAG, shape)
+}
+
+/// The port with this number.
+fn port_of(number: u32) -> Port
+    requires { number ≤ MAX_PORT }
+    ensures { result ≡ number }
+{
+    match Port::new(number as u8) {
+        Some(port) => port,
+        None => unreachable!(),
+    }
+}
+
+/// The address with this number.
+fn dest_of(number: u32) -> Addr
+    requires { number ≤ MAX_DEST }
+    ensures { result ≡ number }
+{
+    match Addr::new(number as u8) {
+        Some(addr) => addr,
+        None => unreachable!(),
+    }
+}
+
+/// The priority with this number.
+fn prio_of(number: u32) -> Prio
+    requires { number ≤ MAX_PRIO }
+    ensures { result ≡ prio_of number }
+{
+    match number {
+        0 => Prio::Critical,
+        1 => Prio::High,
+        2 => Prio::Normal,
+        _ => Prio::Low,
+    }
+}
+
+/// The priority that a line gives.
+fn given_prio(shape: &[Part], args: &[&[u8]]) -> Prio
+    requires { FitsShape Form.Connect shape.now (map (λ word. word.now) args.now) }
+    ensures { result ≡ prio_of (unwrap_or (setting Keyword.Prio shape.now (map (λ word. word.now) args.now)) DEFAULT_PRIO) }
+{
+    prio_of(setting(Form::Connect, Keyword::Prio, shape, args).unwrap_or(DEFAULT_PRIO))
+}
+
+/// The port that a line wants as the connection's own.
+fn own_port(shape: &[Part], args: &[&[u8]]) -> Option<Port>
+    requires { FitsShape Form.Connect shape.now (map (λ word. word.now) args.now) }
+    ensures value { result ≡ setting Keyword.From shape.now (map (λ word. word.now) args.now) }
+    ensures range { IfSome result IsOwnPort }
+{
+    match setting(Form::Connect, Keyword::From, shape, args) {
+        Some(number) => Some(port_of(number)),
+        None => None,
+    }
+}
+
+/// The step of a `bind` line.
+pub(crate) fn bind_step(shape: &[Part], args: &[&[u8]]) -> Step
+    requires { Fits Form.Bind (map (λ word. word.now) args.now) }
+    ensures value { result ≡ bind_step shape.now (map (λ word. word.now) args.now) }
+    ensures kept { IsStep result }
+{
+    Step::Bind {
+        port: port_of(number_at(Form::Bind, args, 0)),
+        need: flags_of(shape),
+    }
+}
+
+/// The step of a `connect` line.
+pub(crate) fn connect_step(shape: &[Part], args: &[&[u8]]) -> Step
+    requires fits { Fits Form.Connect (map (λ word. word.now) args.now) }
+    requires shape { FitsShape Form.Connect shape.now (map (λ word. word.now) args.now) }
+    ensures value { result ≡ connect_step shape.now (map (λ word. word.now) args.now) }
+    ensures kept { IsStep result }
+{
+    Step::Connect {
+        slot: number_at(Form::Connect, args, 0) as u8,
+        dest: dest_of(number_at(Form::Connect, args, 1)),
+        port: port_of(number_at(Form::Connect, args, 2)),
+        prio: given_prio(shape, args),
+        flags: flags_of(shape),
+        from: own_port(shape, args),
+    }
+}
+
+/// The step of a `send` line.
+pub(crate) fn send_step(args: &[&[u8]]) -> Step
+    requires { Fits Form.Send (map (λ word. word.now) args.now) }
+    ensures value { result ≡ send_step (map (λ word. word.now) args.now) }
+    ensures kept { IsStep result }
+{
+    Step::Send {
+        slot: number_at(Form::Send, args, 0) as u8,
+        bytes: bytes_at(args, 1),
+    }
+}
+
+/// The step of a `burst` line.
+pub(crate) fn burst_step(args: &[&[u8]]) -> Step
+    requires { Fits Form.Burst (map (λ word. word.now) args.now) }
+    ensures value { result ≡ burst_step (map (λ word. word.now) args.now) }
+    ensures kept { IsStep result }
+{
+    Step::Burst {
+        slot: number_at(Form::Burst, args, 0) as u8,
+        count: number_at(Form::Burst, args, 1),
+        len: number_at(Form::Burst, args, 2) as u16,
+    }
+}
 
 /// The step of a `raw` line.
 pub(crate) fn raw_step(args: &[&[u8]]) -> Step
@@ -33,6 +163,17 @@ pub(crate) fn recv_step(shape: &[Part], args: &[&[u8]]) -> Step
         slot: number_at(Form::Recv, args, 0) as u8,
         count: number_at(Form::Recv, args, 1),
         rounds: setting(Form::Recv, Keyword::For, shape, args),
+    }
+}
+
+/// The step of a `close` line.
+pub(crate) fn close_step(args: &[&[u8]]) -> Step
+    requires { Fits Form.Close (map (λ word. word.now) args.now) }
+    ensures value { result ≡ close_step (map (λ word. word.now) args.now) }
+    ensures kept { IsStep result }
+{
+    Step::Close {
+        slot: number_at(Form::Close, args, 0) as u8,
     }
 }
 

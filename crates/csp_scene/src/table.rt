@@ -4,8 +4,9 @@ ghost use Rattle.std.specs.Prelude.{◌≡◌, ◌++◌, List, IfOk, OnOk, map};
 ghost use Rattle.csp_scene.specs.Table.{first_word, keyword_text, is_step, fixed_of, optional_of, group_of, with_options};
 
 use crate::limits::{
-    LAST_FRAME, MAX_ADDR, MAX_COPIES, MAX_COUNT, MAX_DELAY, MAX_FLIP, MAX_INBOX, MAX_RAW,
-    MAX_ROUNDS, MAX_SEED, MAX_SHUFFLE, MAX_SLOT, MAX_UNTIL, MIN_BUFFERS, MIN_INBOX,
+    FIRST_OWN_PORT, LAST_FRAME, MAX_ADDR, MAX_COPIES, MAX_COUNT, MAX_DELAY, MAX_DEST, MAX_FLIP,
+    MAX_INBOX, MAX_PORT, MAX_PRIO, MAX_RAW, MAX_ROUNDS, MAX_SEED, MAX_SEND, MAX_SHUFFLE, MAX_SLOT,
+    MAX_UNTIL, MIN_BUFFERS, MIN_INBOX,
 };
 use csp_base::MAX_BUFFERS;
 use std::alloc::{AllocError, Global};
@@ -43,10 +44,20 @@ pub(crate) enum Form {
     Take,
     /// `give`
     Give,
+    /// `bind PORT [crc] [rdp]`
+    Bind,
+    /// `connect SLOT ADDR PORT [prio P] [crc] [rdp] [from Q]`
+    Connect,
+    /// `send SLOT HEX`
+    Send,
+    /// `burst SLOT COUNT LEN`
+    Burst,
     /// `raw HEADER HEX`
     Raw,
     /// `recv SLOT COUNT [for R]`
     Recv,
+    /// `close SLOT`
+    Close,
     /// `wait R`
     Wait,
 }
@@ -84,6 +95,14 @@ pub(crate) enum Keyword {
     Delay,
     /// `flip`
     Flip,
+    /// `prio`
+    Prio,
+    /// `crc`
+    Crc,
+    /// `rdp`
+    Rdp,
+    /// `from`
+    From,
 }
 
 /// What stands in one place of a line.
@@ -121,7 +140,7 @@ pub(crate) enum Group {
 }
 
 /// The line forms, in the order of the table.
-pub(crate) static FORMS: [Form; 18] = [
+pub(crate) static FORMS: [Form; 23] = [
     Form::Until,
     Form::Rounds,
     Form::Shuffle,
@@ -137,8 +156,13 @@ pub(crate) static FORMS: [Form; 18] = [
     Form::App,
     Form::Take,
     Form::Give,
+    Form::Bind,
+    Form::Connect,
+    Form::Send,
+    Form::Burst,
     Form::Raw,
     Form::Recv,
+    Form::Close,
     Form::Wait,
 ];
 
@@ -263,6 +287,69 @@ static FLIP: [Part; 5] = [
 
 static APP: [Part; 2] = [Part::Name, Part::Name];
 
+static BIND: [Part; 1] = [Part::Number {
+    low: 0,
+    high: MAX_PORT,
+}];
+
+static BIND_OPTIONS: [Group; 2] = [Group::Flag(Keyword::Crc), Group::Flag(Keyword::Rdp)];
+
+static CONNECT: [Part; 3] = [
+    Part::Number {
+        low: 0,
+        high: MAX_SLOT,
+    },
+    Part::Number {
+        low: 0,
+        high: MAX_DEST,
+    },
+    Part::Number {
+        low: 0,
+        high: MAX_PORT,
+    },
+];
+
+static CONNECT_OPTIONS: [Group; 4] = [
+    Group::Setting {
+        keyword: Keyword::Prio,
+        low: 0,
+        high: MAX_PRIO,
+    },
+    Group::Flag(Keyword::Crc),
+    Group::Flag(Keyword::Rdp),
+    Group::Setting {
+        keyword: Keyword::From,
+        low: FIRST_OWN_PORT,
+        high: MAX_PORT,
+    },
+];
+
+static SEND: [Part; 2] = [
+    Part::Number {
+        low: 0,
+        high: MAX_SLOT,
+    },
+    Part::Bytes {
+        least: 1,
+        most: MAX_SEND,
+    },
+];
+
+static BURST: [Part; 3] = [
+    Part::Number {
+        low: 0,
+        high: MAX_SLOT,
+    },
+    Part::Number {
+        low: 1,
+        high: MAX_COUNT,
+    },
+    Part::Number {
+        low: 1,
+        high: MAX_SEND,
+    },
+];
+
 static RAW: [Part; 2] = [
     Part::Word,
     Part::Bytes {
@@ -286,6 +373,11 @@ static RECV_OPTIONS: [Group; 1] = [Group::Setting {
     keyword: Keyword::For,
     low: 1,
     high: MAX_ROUNDS,
+}];
+
+static CLOSE: [Part; 1] = [Part::Number {
+    low: 0,
+    high: MAX_SLOT,
 }];
 
 static WAIT: [Part; 1] = [Part::Number {
@@ -314,6 +406,10 @@ impl Keyword {
             Keyword::Repeat => b"repeat",
             Keyword::Delay => b"delay",
             Keyword::Flip => b"flip",
+            Keyword::Prio => b"prio",
+            Keyword::Crc => b"crc",
+            Keyword::Rdp => b"rdp",
+            Keyword::From => b"from",
         }
     }
 }
@@ -334,8 +430,13 @@ impl Form {
             Form::App => b"app",
             Form::Take => b"take",
             Form::Give => b"give",
+            Form::Bind => b"bind",
+            Form::Connect => b"connect",
+            Form::Send => b"send",
+            Form::Burst => b"burst",
             Form::Raw => b"raw",
             Form::Recv => b"recv",
+            Form::Close => b"close",
             Form::Wait => b"wait",
         }
     }
@@ -345,7 +446,16 @@ impl Form {
         ensures { result ≡ is_step self }
     {
         match self {
-            Form::Take | Form::Give | Form::Raw | Form::Recv | Form::Wait => true,
+            Form::Take
+            | Form::Give
+            | Form::Bind
+            | Form::Connect
+            | Form::Send
+            | Form::Burst
+            | Form::Raw
+            | Form::Recv
+            | Form::Close
+            | Form::Wait => true,
             _ => false,
         }
     }
@@ -369,8 +479,13 @@ impl Form {
             Form::Flip => &FLIP,
             Form::App => &APP,
             Form::Take | Form::Give => &[],
+            Form::Bind => &BIND,
+            Form::Connect => &CONNECT,
+            Form::Send => &SEND,
+            Form::Burst => &BURST,
             Form::Raw => &RAW,
             Form::Recv => &RECV,
+            Form::Close => &CLOSE,
             Form::Wait => &WAIT,
         }
     }
@@ -382,6 +497,8 @@ impl Form {
         match self {
             Form::Node => &NODE_OPTIONS,
             Form::Bridge => &BRIDGE_OPTIONS,
+            Form::Bind => &BIND_OPTIONS,
+            Form::Connect => &CONNECT_OPTIONS,
             Form::Recv => &RECV_OPTIONS,
             _ => &[],
         }

@@ -56,7 +56,7 @@ fn single_lines_are_refused<R: Abort>(rt: &R, alloc: Global) {
         (b"Until 10", SceneKind::Word),
         (b"rdp n1 1 1 1 0 0 0", SceneKind::Word),
         (b"hub h a b", SceneKind::Word),
-        (b"bind 1", SceneKind::Word),
+        (b"binds 1", SceneKind::Word),
         (b"until# 10", SceneKind::Word),
         (b"take", SceneKind::Place),
         (b"give", SceneKind::Place),
@@ -121,10 +121,8 @@ fn single_lines_are_refused<R: Abort>(rt: &R, alloc: Global) {
 
 /// Steps of an application.
 fn steps_are_refused<R: Abort>(rt: &R, alloc: Global) -> Result<(), Fail> {
-    let cases: [(&[u8], SceneKind); 38] = [
+    let cases: [(&[u8], SceneKind); 35] = [
         (b"tale", SceneKind::Word),
-        (b"send 0 00", SceneKind::Word),
-        (b"close 0", SceneKind::Word),
         (b"take 1", SceneKind::Count),
         (b"give give", SceneKind::Count),
         (b"raw 8612b008", SceneKind::Count),
@@ -162,13 +160,79 @@ fn steps_are_refused<R: Abort>(rt: &R, alloc: Global) -> Result<(), Fail> {
         (b"app n1 a", SceneKind::Twice),
         (b"node n1 2 buffers 4", SceneKind::Twice),
         (b"node n2 1 buffers 4 seed 5", SceneKind::Twice),
-        (b"burst 0 1 1", SceneKind::Word),
     ];
     for (line, kind) in cases.iter() {
         let whole = repeated(alloc, APP, b"", 0, line)?;
         assert_eq!(rt; refusal(alloc, &whole), Some((4, *kind)));
         let ignored = repeated(alloc, APP, b"\n  # b\n   \n", 1, line)?;
         assert_eq!(rt; refusal(alloc, &ignored), Some((7, *kind)));
+    }
+    Ok(())
+}
+
+/// Steps of connections, where a step may stand and where none may.
+fn connection_steps_are_refused<R: Abort>(rt: &R, alloc: Global) -> Result<(), Fail> {
+    let cases: [(&[u8], SceneKind); 54] = [
+        (b"bind", SceneKind::Count),
+        (b"bind 1 crc rdp 1", SceneKind::Count),
+        (b"bind crc rdp 1 crc", SceneKind::Count),
+        (b"connect", SceneKind::Count),
+        (b"connect 0 1", SceneKind::Count),
+        (b"connect 0 1 10 prio 1 crc rdp from 50 1", SceneKind::Count),
+        (b"send", SceneKind::Count),
+        (b"send 0", SceneKind::Count),
+        (b"send 0 00 00", SceneKind::Count),
+        (b"burst 0", SceneKind::Count),
+        (b"burst 0 1", SceneKind::Count),
+        (b"burst 0 1 1 1", SceneKind::Count),
+        (b"close", SceneKind::Count),
+        (b"close 0 0", SceneKind::Count),
+        (b"close 0 for 1", SceneKind::Count),
+        (b"bind 1 rdp crc", SceneKind::Choice),
+        (b"bind crc 1", SceneKind::Choice),
+        (b"bind 64 Crc", SceneKind::Choice),
+        (b"bind 1 crc crc", SceneKind::Choice),
+        (b"connect 0 1 10 rdp", SceneKind::Choice),
+        (b"connect 4 1 10 crc rdp", SceneKind::Choice),
+        (b"connect 0 1 10 prio 1 rdp", SceneKind::Choice),
+        (b"connect 0 1 10 rdp from 47", SceneKind::Choice),
+        (b"connect 0 1 10 prio 1 crc rdp from 50", SceneKind::Choice),
+        (b"connect 0 1 10 a b c d e f", SceneKind::Choice),
+        (b"connect 0 1 10 rdp crc", SceneKind::Choice),
+        (b"connect 0 1 10 crc prio 1", SceneKind::Choice),
+        (b"connect 0 1 10 from 50 crc", SceneKind::Choice),
+        (b"connect 0 1 10 from 50 prio 1", SceneKind::Choice),
+        (b"connect 0 1 prio 1 10", SceneKind::Choice),
+        (b"connect 0 1 10 frag", SceneKind::Choice),
+        (b"bind 64", SceneKind::Number),
+        (b"bind 01 crc", SceneKind::Number),
+        (b"bind x rdp", SceneKind::Number),
+        (b"bind -1 crc rdp", SceneKind::Number),
+        (b"connect 4 1 10", SceneKind::Number),
+        (b"connect 0 32 10", SceneKind::Number),
+        (b"connect 0 1 64", SceneKind::Number),
+        (b"connect 0 1 10 prio 4", SceneKind::Number),
+        (b"connect 0 1 10 from 47", SceneKind::Number),
+        (b"connect 0 1 10 crc from 64", SceneKind::Number),
+        (b"connect 0 1 10 prio 3 crc from 048", SceneKind::Number),
+        (b"send 0 -", SceneKind::Number),
+        (b"send 4 00", SceneKind::Number),
+        (b"send 0 0", SceneKind::Number),
+        (b"send 0 0g", SceneKind::Number),
+        (b"burst 0 0 1", SceneKind::Number),
+        (b"burst 0 32768 1", SceneKind::Number),
+        (b"burst 0 1 0", SceneKind::Number),
+        (b"burst 0 1 248", SceneKind::Number),
+        (b"burst 4 1 1", SceneKind::Number),
+        (b"close 4", SceneKind::Number),
+        (b"close 00", SceneKind::Number),
+        (b"close -", SceneKind::Number),
+    ];
+    for (line, kind) in cases.iter() {
+        let whole = repeated(alloc, APP, b"", 0, line)?;
+        assert_eq!(rt; refusal(alloc, &whole), Some((4, *kind)));
+        let homeless = repeated(alloc, NODE, b"", 0, line)?;
+        assert_eq!(rt; refusal(alloc, &homeless), Some((3, SceneKind::Place)));
     }
     Ok(())
 }
@@ -465,6 +529,7 @@ fn long_lines_are_refused<R: Abort>(rt: &R, alloc: Global) -> Result<(), Fail> {
 fn each_kind_is_named_at_the_first_refused_line(rt: HostRuntime) -> Result<(), Fail> {
     single_lines_are_refused(&rt, rt.alloc());
     steps_are_refused(&rt, rt.alloc())?;
+    connection_steps_are_refused(&rt, rt.alloc())?;
     later_lines_are_refused(&rt, rt.alloc())?;
     network_lines_are_refused_by_their_form(&rt, rt.alloc())?;
     network_lines_are_refused_by_what_they_say(&rt, rt.alloc())?;
@@ -489,6 +554,11 @@ fn limits_are_met_exactly(rt: HostRuntime) -> Result<(), Fail> {
     assert_eq!(rt; parse(rt.alloc(), &most).is_ok(), true);
     let more = repeated(rt.alloc(), &bytes, b"aF", 257, b"")?;
     assert_eq!(rt; refusal(rt.alloc(), &more), Some((4, SceneKind::Number)));
+    let data = repeated(rt.alloc(), APP, b"send 3 ", 1, b"")?;
+    let most_data = repeated(rt.alloc(), &data, b"aF", 247, b"")?;
+    assert_eq!(rt; parse(rt.alloc(), &most_data).is_ok(), true);
+    let more_data = repeated(rt.alloc(), &data, b"aF", 248, b"")?;
+    assert_eq!(rt; refusal(rt.alloc(), &more_data), Some((4, SceneKind::Number)));
     Ok(())
 }
 
@@ -602,6 +672,13 @@ fn a_scene_has_what_its_lines_state(rt: HostRuntime) -> Result<(), Fail> {
             &rt,
             b"until 9\nnode n1 1 buffers 4\nbridge b1 buffers 5 inbox 7\nnode n2 2 buffers 4\nlink bus can n2 b1\n  link  l1 kiss b1 n1 \nroute n2  0/0   bus , 9/2 bus 3\nroute n2 8/3 bus 31\nfault bus ba 4294967295 repeat 7\nfault bus ab 1 flip 4247\nfault l1 ba 1 delay 100000\nfault l1 ba 1 lose\napp n1 n1\ntake\nschedule steps n1 tick b1.bus\nschedule steps n1.n1 l1 n1.l1 tick b1",
             "Scene { until: 9, schedule: Steps([Router(0), Tick, Iface(1, 0), App(0, 0), Link(1), Iface(0, 0), Tick, Router(1)]), nodes: [SceneNode { name: \"n1\", addr: Some(Addr(1)), buffers: 4, seed: 0, inbox: 16, routes: Table { rows: [] }, apps: [SceneApp { name: \"n1\", steps: [Take] }] }, SceneNode { name: \"b1\", addr: None, buffers: 5, seed: 0, inbox: 7, routes: Table { rows: [] }, apps: [] }, SceneNode { name: \"n2\", addr: Some(Addr(2)), buffers: 4, seed: 0, inbox: 16, routes: Table { rows: [Row { addr: Addr(0), mask: 0, iface: 0, via: None }, Row { addr: Addr(8), mask: 2, iface: 0, via: Some(Addr(3)) }, Row { addr: Addr(8), mask: 3, iface: 0, via: Some(Addr(31)) }] }, apps: [] }], links: [SceneLink { name: \"bus\", kind: Can, ends: [End { node: 2, iface: 0 }, End { node: 1, iface: 0 }], plan: [Fault { dir: 1, frame: 4294967295, kind: Repeat(7) }, Fault { dir: 0, frame: 1, kind: Flip(4247) }] }, SceneLink { name: \"l1\", kind: Kiss, ends: [End { node: 1, iface: 1 }, End { node: 0, iface: 0 }], plan: [Fault { dir: 1, frame: 1, kind: Delay(100000) }, Fault { dir: 1, frame: 1, kind: Lose }] }] }",
+        )?
+    );
+    assert!(rt;
+        is_shown(
+            &rt,
+            b"until 1\nnode n1 1 buffers 4\napp n1 a\nbind 0\nbind 63 rdp\nbind 10 crc\nbind 47 crc rdp\nconnect 0 31 63\nconnect 3 0 0 prio 0 crc from 48\nconnect 1 1 10 crc\nconnect 2 3 10 prio 3\nconnect 2 3 10 from 63\nsend 0 00aF\nburst 3 32767 247\nburst 0 1 1\nclose 3\n",
+            "Scene { until: 1, schedule: Rounds, nodes: [SceneNode { name: \"n1\", addr: Some(Addr(1)), buffers: 4, seed: 0, inbox: 16, routes: Table { rows: [] }, apps: [SceneApp { name: \"a\", steps: [Bind { port: Port(0), need: 0 }, Bind { port: Port(63), need: 2 }, Bind { port: Port(10), need: 1 }, Bind { port: Port(47), need: 3 }, Connect { slot: 0, dest: Addr(31), port: Port(63), prio: Normal, flags: 0, from: None }, Connect { slot: 3, dest: Addr(0), port: Port(0), prio: Critical, flags: 1, from: Some(Port(48)) }, Connect { slot: 1, dest: Addr(1), port: Port(10), prio: Normal, flags: 1, from: None }, Connect { slot: 2, dest: Addr(3), port: Port(10), prio: Low, flags: 0, from: None }, Connect { slot: 2, dest: Addr(3), port: Port(10), prio: Normal, flags: 0, from: Some(Port(63)) }, Send { slot: 0, bytes: [0, 175] }, Burst { slot: 3, count: 32767, len: 247 }, Burst { slot: 0, count: 1, len: 1 }, Close { slot: 3 }] }] }], links: [] }",
         )?
     );
     assert!(rt;
