@@ -26,7 +26,7 @@ use Rattle.csp_scene.specs.Scene.{PlainNode, PlainSchedule, PlainScene, in_round
 use Rattle.csp_scene.specs.Links.{node_at}
 use Rattle.csp_scene.specs.Naming.{node_named, router_named, link_named}
 use Rattle.csp_scene.specs.Arguments.{word_at, number_at, text_from}
-use Rattle.csp_scene.specs.Steps.{raw_step, recv_step, wait_step}
+use Rattle.csp_scene.specs.Steps.{bind_step, connect_step, send_step, burst_step, raw_step, recv_step, close_step, wait_step}
 use Rattle.csp_scene.specs.Draft.{PlainDraft, no_draft, demand, and_then, with_node, with_link}
 use Rattle.csp_scene.specs.Nodes.{state_until, new_node, new_bridge, may_add_node, state_node, new_app, may_add_app, with_app_at, state_app_at, state_app, last_app, with_step_at, state_step_at, state_step}
 use Rattle.csp_scene.specs.Joining.{link_kind, new_link, may_add_link, state_link_between, state_link, kind_of, known_ifaces, with_routes, add_routes, routed, state_route}
@@ -130,6 +130,9 @@ moves_has d words =
 same_has : (d : PlainDraft) (args : List (List ℕ)) (told : Result PlainDraft SceneKind) → HasAtMost (move_count d) told → HasAtMost (move_count d + length args) told
 same_has d args told h = more_has (move_count d) (move_count d + length args) told (omega arith) h
 
+step_line : (d : PlainDraft) (args : List (List ℕ)) (step : Step) → HasAtMost (move_count d + length args) (state_step d step)
+step_line d args step = same_has d args (state_step d step) (step_has d step d.host)
+
 state_has : (one : Form) (shape : List Part) (d : PlainDraft) (args : List (List ℕ)) → HasAtMost (move_count d + length args) (state one shape d args)
 state_has form.Until shape d args = same_has d args (state_until d args) (until_has d args)
 state_has form.Rounds shape d args = same_has d args (state_schedule d in_rounds) (schedule_has d in_rounds (omega arith))
@@ -146,11 +149,16 @@ state_has form.Repeat shape d args = same_has d args (state_fault d args (fault.
 state_has form.Delay shape d args = same_has d args (state_fault d args (fault.Delay (number_at args 4))) (fault_has d (planned args (fault.Delay (number_at args 4))) (link_named (word_at args 0) d.links))
 state_has form.Flip shape d args = same_has d args (state_fault d args (fault.Flip (number_at args 4))) (fault_has d (planned args (fault.Flip (number_at args 4))) (link_named (word_at args 0) d.links))
 state_has form.App shape d args = same_has d args (state_app d args) (app_has d (word_at args 1) (router_named (word_at args 0) d.nodes))
-state_has form.Take shape d args = same_has d args (state_step d step.Take) (step_has d step.Take d.host)
-state_has form.Give shape d args = same_has d args (state_step d step.Give) (step_has d step.Give d.host)
-state_has form.Raw shape d args = same_has d args (state_step d (raw_step args)) (step_has d (raw_step args) d.host)
-state_has form.Recv shape d args = same_has d args (state_step d (recv_step shape args)) (step_has d (recv_step shape args) d.host)
-state_has form.Wait shape d args = same_has d args (state_step d (wait_step args)) (step_has d (wait_step args) d.host)
+state_has form.Take shape d args = step_line d args step.Take
+state_has form.Give shape d args = step_line d args step.Give
+state_has form.Bind shape d args = step_line d args (bind_step shape args)
+state_has form.Connect shape d args = step_line d args (connect_step shape args)
+state_has form.Send shape d args = step_line d args (send_step args)
+state_has form.Burst shape d args = step_line d args (burst_step args)
+state_has form.Raw shape d args = step_line d args (raw_step args)
+state_has form.Recv shape d args = step_line d args (recv_step shape args)
+state_has form.Close shape d args = step_line d args (close_step args)
+state_has form.Wait shape d args = step_line d args (wait_step args)
 
 by_comment : (most : ℕ) (comment : Bool) (ignored told : Result PlainDraft SceneKind) → HasAtMost most ignored → HasAtMost most told → HasAtMost most (cond comment ignored told)
 by_comment most true ignored told h k = h

@@ -1,5 +1,5 @@
 -- What `fault` lines state.
-use Rattle.std.specs.Prelude.{ℕ, ◌==◌, Bool, not, ◌&&◌, nat_lt, List, [], ◌∷◌, ◌++◌, slice_index_or, slice_set, Option, Some, None, Result, Ok, Err, if◌then◌else◌}
+use Rattle.std.specs.Prelude.{ℕ, ◌==◌, Bool, true, false, not, ◌&&◌, nat_lt, List, [], ◌∷◌, ◌++◌, slice_index_or, slice_set, Option, Some, None, Result, Ok, Err, if◌then◌else◌}
 use Rattle.std.specs.List.{list_any}
 use Rattle.std.specs.Str.{bytes_eq}
 use Rattle.csp_link.specs.declared.fault.Fault.{Fault}
@@ -7,6 +7,8 @@ use Rattle.csp_link.specs.declared.fault.FaultKind.{FaultKind}
 use Rattle.csp_link.specs.declared.fault.FaultKind.TheVariants.{Lose, Repeat, Delay, Flip}
 use Rattle.csp_log.specs.declared.places.LinkKind.TheVariants as carried
 use Rattle.csp_scene.specs.declared.limits.TheConstants.{MAX_FAULTS}
+use Rattle.csp_scene.specs.declared.harm.Harm.{Harm}
+use Rattle.csp_scene.specs.declared.harm.Harm.TheVariants as harm
 use Rattle.csp_scene.specs.declared.refusal.SceneKind.{SceneKind}
 use Rattle.csp_scene.specs.declared.refusal.SceneKind.TheVariants as kind
 use Rattle.csp_scene.specs.declared.table.Keyword.TheVariants as keyword
@@ -25,16 +27,24 @@ direction_of word = if bytes_eq word (keyword_text keyword.Ba) then 1 else 0
 abbrev pub planned : List (List ℕ) → FaultKind → Fault
 planned args what = record { dir = direction_of (word_at args 1); frame = number_at args 2; kind = what }
 
--- the number of the variant of what a fault does
-abbrev pub harm_number : FaultKind → ℕ
-harm_number Lose = 0
-harm_number (Repeat copies) = 1
-harm_number (Delay rounds) = 2
-harm_number (Flip bit) = 3
+-- what a fault does, apart from how often, how long and where
+abbrev pub harm_of : FaultKind → Harm
+harm_of Lose = harm.Lose
+harm_of (Repeat copies) = harm.Repeat
+harm_of (Delay rounds) = harm.Delay
+harm_of (Flip bit) = harm.Flip
+
+-- the same of two faults
+abbrev pub is_same_harm : Harm → Harm → Bool
+is_same_harm harm.Lose harm.Lose = true
+is_same_harm harm.Repeat harm.Repeat = true
+is_same_harm harm.Delay harm.Delay = true
+is_same_harm harm.Flip harm.Flip = true
+is_same_harm _ _ = false
 
 -- two faults of one direction, one frame and one kind
 abbrev pub is_same_fault : Fault → Fault → Bool
-is_same_fault fault other = fault.frame == other.frame && fault.dir == other.dir && harm_number fault.kind == harm_number other.kind
+is_same_fault fault other = fault.frame == other.frame && fault.dir == other.dir && is_same_harm (harm_of fault.kind) (harm_of other.kind)
 
 -- a plan has a fault of the same direction, frame and kind
 abbrev pub has_fault : Fault → List Fault → Bool

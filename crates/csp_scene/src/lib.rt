@@ -8,6 +8,7 @@ mod arguments;
 mod checks;
 mod draft;
 mod faults;
+mod harm;
 mod joining;
 mod judge;
 mod limits;

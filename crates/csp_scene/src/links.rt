@@ -3,34 +3,23 @@
 ghost use Rattle.std.specs.Prelude.{◌≡◌, ◌≤◌, ◌+◌, ◌∷◌, [], List, OnOk, IfOk, length};
 ghost use Rattle.std.specs.List.{list_any};
 ghost use Rattle.csp_scene.specs.Links.{touches};
-ghost use Rattle.csp_scene.specs.Faults.{harm_number, has_fault, with_fault};
+ghost use Rattle.csp_scene.specs.Faults.{has_fault, with_fault};
 ghost use Rattle.csp_scene.specs.Stated.{stated_of};
 
+use crate::harm::Harm;
 use crate::scenario::SceneLink;
 use csp_base::Name;
-use csp_link::{Fault, FaultKind};
+use csp_link::Fault;
 use std::alloc::{AllocError, Global};
 use std::collections::BTreeSet;
 use std::marker::Model;
-
-/// The number of what a fault does, among all that faults do.
-fn harm_number(kind: FaultKind) -> u8
-    ensures { result ≡ harm_number kind }
-{
-    match kind {
-        FaultKind::Lose => 0,
-        FaultKind::Repeat(_) => 1,
-        FaultKind::Delay(_) => 2,
-        FaultKind::Flip(_) => 3,
-    }
-}
 
 /// What a fault is of: no two faults of a link are of the same.
 #[derive(Clone, Copy, PartialEq, Eq, PartialOrd, Ord, Debug)]
 pub(crate) struct Stated {
     frame: u64,
     dir: u8,
-    harm: u8,
+    harm: Harm,
 }
 
 impl Stated {
@@ -41,7 +30,7 @@ impl Stated {
         Stated {
             frame: fault.frame,
             dir: fault.dir,
-            harm: harm_number(fault.kind),
+            harm: Harm::of(fault.kind),
         }
     }
 }
