@@ -1,10 +1,13 @@
 //! Reports of records that were made by hand, with events that no scenario brings about yet.
 
+ghost use Rattle.std.specs.Prelude.{IfSome};
+ghost use Rattle.csp_scene.specs.Ranges.{IsScene};
+
 use csp_base::Prio;
 use csp_log::Event::{Discarded, Refused};
 use csp_log::{Discard, Draft, Event, Events, Log, Place, QueueId, Why};
 use csp_record::{HeldBy, PartyLog, Record, Who};
-use csp_scene::parse;
+use csp_scene::{Scene, parse};
 use csp_top::report;
 use std::alloc::Global;
 
@@ -133,15 +136,22 @@ fn record(
     })
 }
 
-/// The report of such a record of a node with one application.
+/// The scene of that node.
+fn scene(alloc: Global) -> Option<Scene>
+    ensures { IfSome result IsScene }
+{
+    parse(alloc, SCENARIO).ok()
+}
+
+/// The report of such a record of that node.
 fn report_of(
     alloc: Global,
     discarded: &[&[Event]],
     reported: &[&[Event]],
     step: u32,
 ) -> Option<String> {
-    let scene = parse(alloc, SCENARIO).ok()?;
     let record = record(alloc, discarded, reported, step)?;
+    let scene = scene(alloc)?;
     report(alloc, &scene, &record).ok()
 }
 
