@@ -1,8 +1,7 @@
 -- the bytes of the packets that steps send, and that `Up` carries these packets
-use Rattle.std.proofs.Common.{◌≡◌, ℕ, ◌+◌, ◌%◌, ◌<◌, ◌≤◌, Option, Some, None, List, [], ◌∷◌, ◌++◌, length, refl, arith}
-use Rattle.std.specs.List.{slice_get}
+use Rattle.std.proofs.Common.{◌≡◌, ℕ, ◌+◌, ◌%◌, [], ◌∷◌, ◌++◌, length, refl, arith}
 use Rattle.std.proofs.lemmas.List.FromFn.{map-range_with_len_more, length-map-range_with_len}
-use Rattle.csp_app.specs.Making.{batch_of, batch_at, burst_bytes, filled}
+use Rattle.csp_app.specs.Making.{batch_of, burst_bytes, filled}
 use Rattle.csp_app.specs.Room.{IsStep}
 use Rattle.csp_app.specs.declared.step.Step.{Step}
 use Rattle.csp_app.specs.declared.step.Step.TheVariants as step

@@ -24,11 +24,9 @@ use Rattle.csp_deck.specs.Carried.{IsCarried, IsRequest, IsUpItem}
 use Rattle.csp_deck.specs.Step.{kind_of, CanServe}
 use Rattle.csp_log.specs.declared.note.Note.{Note}
 use Rattle.csp_log.specs.declared.places.Carries.TheVariants as lane
-use Rattle.csp_log.specs.declared.places.QueueId.TheVariants as queue
 use Rattle.csp_log.specs.declared.places.Rule.TheVariants as rule
 use Rattle.csp_log.specs.declared.shown.ItemShown.{ItemShown}
 use Rattle.csp_log.specs.declared.shown.ItemShown.TheVariants as item
-use Rattle.csp_log.specs.declared.shown.OpShown.TheVariants as op
 
 carried_up : (b : Bool) (i : ItemShown) → b ≡ true → IsUpItem i → IsSomeAnd (if b then Some (rule.Lane lane.Up) else None) (λ r. IsCarried r i)
 carried_up true i e h = h

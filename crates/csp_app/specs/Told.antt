@@ -1,5 +1,5 @@
 -- what a turn comes to, once its answer is known
-use Rattle.std.specs.Prelude.{ℕ, ◌+◌, true, false, None, List, [], ◌∷◌, ◌++◌}
+use Rattle.std.specs.Prelude.{◌+◌, true, false, None, List, [], ◌∷◌, ◌++◌}
 use Rattle.csp_app.specs.PlainApp.{PlainApp}
 use Rattle.csp_log.specs.declared.event.Event.{Event}
 

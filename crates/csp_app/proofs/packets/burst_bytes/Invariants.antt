@@ -1,4 +1,4 @@
-use Rattle.std.proofs.Common.{◌≡◌, vec_len}
+use Rattle.std.proofs.Common.{◌≡◌}
 use Rattle.csp_app.specs.Making.{burst_bytes}
 use Rattle.csp_app.proofs.packets.burst_bytes.Given as goal
 
