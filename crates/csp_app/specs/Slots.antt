@@ -32,7 +32,7 @@ closed_on k slots = slice_set slots k (record (slot_at slots k) { ordinal = (slo
 abbrev pub down_on : ℕ → List Slot → List Slot
 down_on k slots = slice_set slots k (record (slot_at slots k) { down = true })
 
--- what a note that was popped says of its slot; one of another kind, which no step waits for, says nothing
+-- what a note that was popped says of its slot; one of another kind changes nothing there
 abbrev pub noted : Note → List Slot → List Slot
 noted (note.Closed k) slots = closed_on k slots
 noted (note.Down k) slots = down_on k slots

@@ -150,7 +150,7 @@ turn_of s now plan.Take = takes (λ b. over (record s { held = s.held ++ b ∷ [
 turn_of s now plan.Give = gives (slice_get s.held 0) (record s { held = drop 1 s.held }) (over s) (λ b. put_off (record s { held = b ∷ s.held }))
 turn_of s now plan.Skip = rests (over s)
 -- bind, connect, close: the note is pushed, and is made anew at the next try; then `Down` is popped until its answer
--- (a packet in the place of the note, which has none, would be given back)
+-- (a note has no buffer; one that came back in its place would be given back)
 turn_of s now (plan.Ask n) = pushes (Some (item.Note n)) s (still (record s { asked = true })) (λ i. put_off (record s { taken = packet_in i }))
 turn_of s now plan.Await = pops s answered
 -- send, burst, raw: a buffer is taken and filled, and pushed; what comes back is kept for the next try

@@ -8,7 +8,7 @@ pub record Told : Type 0 where
   pub state : PlainApp
   pub events : List Event
 
--- the present step is not done yet
+-- nothing is reported, and the present step stays
 abbrev pub still : PlainApp → Told
 still s = record { state = s; events = [] }
 
