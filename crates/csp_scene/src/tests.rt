@@ -558,7 +558,10 @@ fn limits_are_met_exactly(rt: HostRuntime) -> Result<(), Fail> {
     let most_data = repeated(rt.alloc(), &data, b"aF", 247, b"")?;
     assert_eq!(rt; parse(rt.alloc(), &most_data).is_ok(), true);
     let more_data = repeated(rt.alloc(), &data, b"aF", 248, b"")?;
-    assert_eq!(rt; refusal(rt.alloc(), &more_data), Some((4, SceneKind::Number)));
+    assert_eq!(rt;
+        refusal(rt.alloc(), &more_data),
+        Some((4, SceneKind::Number))
+    );
     Ok(())
 }
 
