@@ -2,6 +2,7 @@ pub mod Bytes
 pub mod Drafting
 pub mod Layout
 pub mod Moving
+pub mod Noting
 pub mod Pictures
 pub mod PlainDraft
 pub mod PlainLog

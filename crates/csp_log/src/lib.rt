@@ -11,6 +11,7 @@ mod item;
 mod log;
 mod moved;
 mod note;
+mod noted;
 mod operation;
 mod places;
 mod remains;
@@ -26,6 +27,7 @@ pub use item::Item;
 pub use log::Log;
 pub use moved::{LoggedPacket, Moved};
 pub use note::{Note, Why};
+pub use noted::Noted;
 pub use operation::{Answer, Op};
 pub use places::{
     Carries, DOWN_ROOM, End, IFACES, LINK_ENDS, LINK_ROOM, LinkKind, MAX_DATA, OUT_ROOM, Place,

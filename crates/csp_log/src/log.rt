@@ -3,14 +3,16 @@
 ghost use Rattle.std.specs.Prelude.{◌≡◌, ℕ, ◌+◌, ◌-◌, ◌*◌, ◌^◌, ◌<◌, ◌≤◌, [], ◌++◌, ◌∷◌, length, max, slice_get, Some, OnOk, OnErr, vec_len, vec_capacity};
 ghost use Rattle.std.specs.Option.{option_map};
 ghost use Rattle.csp_log.specs.Moving.{moved_in, moved_by};
+ghost use Rattle.csp_log.specs.Noting.{noted_in};
 ghost use Rattle.csp_log.specs.PlainLog.{with_entry, entry_with, all_events};
 ghost use Rattle.csp_log.specs.Rows.{spoken_of, row_entry, op_of, answer_of, bytes_in, events_in, IsRowIn, Says};
 
 use crate::deeds::{keep, read_answer, read_op};
 use crate::draft::Draft;
 use crate::moved::read_moved;
+use crate::noted::read_noted;
 use crate::row::{Deed, Line, Row, What};
-use crate::{AnswerShown, Entry, Event, Events, MAX_EVENTS, Moved, OpShown};
+use crate::{AnswerShown, Entry, Event, Events, MAX_EVENTS, Moved, Noted, OpShown};
 use csp_base::MAX_FRAME;
 use std::alloc::{AllocError, Global};
 use std::marker::Model;
@@ -135,6 +137,17 @@ impl Log {
         match self.lines[index as usize].what {
             What::Kept(place) => moved_of(&self.bytes, &self.rows[place as usize]),
             What::Rested | What::FoundNoBuffer | What::FoundEmpty(_) => Moved::NoPacket,
+        }
+    }
+
+    /// The note that the turn of this entry moved, counted from 0.
+    pub fn noted(&self, index: u64) -> Noted
+        requires { index < length self.now.entries }
+        ensures { option_map noted_in (slice_get self.now.entries index) ≡ Some result }
+    {
+        match self.lines[index as usize].what {
+            What::Kept(place) => read_noted(&self.rows[place as usize].deed),
+            What::Rested | What::FoundNoBuffer | What::FoundEmpty(_) => Noted::NoNote,
         }
     }
 

@@ -1,6 +1,9 @@
+pub mod Connections
 pub mod Passed
+pub mod Payloads
 pub mod Record
 pub mod Table
+pub mod Traffic
 pub mod Transmissions
 pub mod Who
 pub mod Whole

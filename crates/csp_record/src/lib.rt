@@ -1,12 +1,17 @@
-//! The record of a run: what each party did, what was left where, and how the run ended; and what it counts.
+//! The record of a run: what each party did, what was left where, and how the run ended; and what it tells of
+//! packets and connections.
 #![tactic(auto)]
 
+mod connections;
 mod counts;
+mod payloads;
 mod record;
 mod transmissions;
 mod who;
 
+pub use connections::{Opening, openings};
 pub use counts::passed;
 pub use csp_log::{HeldBy, Left};
+pub use payloads::{Payload, Payloads, Traffic, Way, sent, took};
 pub use record::{PartyLog, Record};
 pub use who::Who;

@@ -4,12 +4,14 @@ ghost use Rattle.std.specs.Prelude.{IfSome};
 ghost use Rattle.csp_scene.specs.Ranges.{IsScene};
 
 use csp_base::Prio;
-use csp_log::Event::{Discarded, Refused};
-use csp_log::{Discard, Draft, Event, Events, Log, Place, QueueId, Why};
+use csp_buffer::Memory;
+use csp_log::Event::{Discarded, Opened, Refused, Sent, Took};
+use csp_log::{Answer, Discard, Draft, Event, Events, Item, Log, Note, Op, Place, QueueId, Why};
 use csp_record::{HeldBy, PartyLog, Record, Who};
 use csp_scene::{Scene, parse};
 use csp_top::report;
 use std::alloc::Global;
+use std::mem::ManuallyDrop;
 
 /// The most entries of a log that is made here.
 const MOST: u64 = 20;
@@ -67,18 +69,98 @@ const REFUSED: [&[Event]; 2] = [
 
 /// The report of a record with those events.
 const TOLD: &str =
-    "csp-report 1\nend unfinished 7\nnode n1 1 buffers 11 free 1 inbox 3 lane 3 router 1 iface 1 app 2\nrouter n1 noroute 4 backout 1 refused 2 crc 3 nosocket 1 noslot 1 required 1 malformed 1 mixed 1 noconn 1 stray 2 full 1\napp n1 a step 9\nempty n1 a 1\nrefused n1 a 2 notbindable\ngaveup n1 a 4\ndown n1 a 5\nrefused n1 a 7 timeout\nstale 0\npassed 0\n";
+    "csp-report 1\nend unfinished 7\nnode n1 1 buffers 11 free 1 inbox 3 lane 3 router 1 iface 1 app 2\nrouter n1 noroute 4 backout 1 refused 2 crc 3 nosocket 1 noslot 1 required 1 malformed 1 mixed 1 noconn 1 stray 2 full 1\napp n1 a step 9\nempty n1 a 1\nrefused n1 a 2 notbindable\ngaveup n1 a 4\ndown n1 a 5\nrefused n1 a 7 timeout\nconn n1 a 0 0 plain\nstale 0\npassed 0\n";
 
 /// The report of a record whose router told nothing, and whose application was refused in each way.
 const WORDS: &str =
     "csp-report 1\nend finished 7\nnode n1 1 buffers 11 free 1 inbox 3 lane 3 router 1 iface 1 app 2\nrouter n1 noroute 0 backout 0 refused 0 crc 0 nosocket 0 noslot 0 required 0 malformed 0 mixed 0 noconn 0 stray 0 full 0\napp n1 a ended\nrefused n1 a 1 inuse\nrefused n1 a 2 notbindable\nrefused n1 a 3 busy\nrefused n1 a 4 portbusy\nrefused n1 a 5 timeout\nrefused n1 a 6 reset\nstale 0\npassed 0\n";
 
+/// Two nodes, of which the first has an application.
+const PEERS: &[u8] = b"until 10\nnode n1 1 buffers 11\nnode n2 2 buffers 4\napp n1 a\ntake\n";
+
+/// What a turn moved.
+#[derive(Clone, Copy)]
+enum Deed {
+    /// Nothing.
+    Rested,
+    /// The router told an application that this slot is free again.
+    Freed(QueueId, u8),
+    /// It popped a packet with this payload from this queue.
+    Popped(QueueId, &'static [u8]),
+}
+
+/// The turns of a router: openings on two slots, one of them twice, with payloads sent on them; and the like of
+/// another application.
+#[rattlefmt::skip]
+const ROUTER: [(Deed, &[Event]); 12] = [
+    (Deed::Rested, &[Opened { app: 0, slot: 1, nth: None, peer: None }]),
+    (Deed::Popped(QueueId::Up(0), &[0xC0, 0xDB]), &[Sent { slot: 1, ordinal: 0 }]),
+    (Deed::Rested, &[Opened { app: 0, slot: 0, nth: Some(3), peer: Some((1, 7)) }, Opened { app: 1, slot: 0, nth: None, peer: None }]),
+    (Deed::Popped(QueueId::Up(0), &[]), &[Sent { slot: 0, ordinal: 0 }]),
+    (Deed::Popped(QueueId::Up(1), &[5]), &[Sent { slot: 0, ordinal: 0 }]),
+    (Deed::Popped(QueueId::Up(0), &[6]), &[]),
+    (Deed::Freed(QueueId::Down(0), 0), &[]),
+    (Deed::Freed(QueueId::Down(1), 0), &[]),
+    (Deed::Rested, &[Opened { app: 0, slot: 0, nth: Some(4), peer: None }]),
+    (Deed::Popped(QueueId::Up(0), &[1, 2]), &[Sent { slot: 0, ordinal: 1 }]),
+    (Deed::Popped(QueueId::Up(0), &[3]), &[Sent { slot: 0, ordinal: 1 }]),
+    (Deed::Rested, &[Opened { app: 0, slot: 3, nth: Some(5), peer: Some((2, 0)) }]),
+];
+
+/// The turns of the application: what it took.
+#[rattlefmt::skip]
+const TAKER: [(Deed, &[Event]); 4] = [
+    (Deed::Popped(QueueId::Down(0), &[0xFF]), &[Took { slot: 1, ordinal: 0 }]),
+    (Deed::Popped(QueueId::Down(0), &[9]), &[Took { slot: 0, ordinal: 1 }]),
+    (Deed::Popped(QueueId::Down(0), &[8]), &[Took { slot: 0, ordinal: 0 }]),
+    (Deed::Popped(QueueId::Down(0), &[7]), &[Took { slot: 2, ordinal: 0 }]),
+];
+
+/// The report of a record with those turns.
+const TALKED: &str =
+    "csp-report 1\nend finished 7\nnode n1 1 buffers 11 free 1 inbox 3 lane 3 router 1 iface 1 app 2\nnode n2 2 buffers 4 free 4 inbox 0 lane 0 router 0 iface 0 app 0\nrouter n1 noroute 0 backout 0 refused 0 crc 0 nosocket 0 noslot 0 required 0 malformed 0 mixed 0 noconn 0 stray 0 full 0\nrouter n2 noroute 4 backout 1 refused 2 crc 3 nosocket 1 noslot 1 required 1 malformed 1 mixed 1 noconn 1 stray 2 full 1\napp n1 a ended\nconn n1 a 0 0 rdp 3 peer n2 7\nsent n1 a 0 0 1 -\ntook n1 a 0 0 1 08\nconn n1 a 0 1 rdp 4 peer none\nsent n1 a 0 1 1 0102\nsent n1 a 0 1 2 03\ntook n1 a 0 1 1 09\nconn n1 a 1 0 plain\nsent n1 a 1 0 1 c0db\ntook n1 a 1 0 1 ff\nconn n1 a 3 0 rdp 5 peer none\nstale 0\npassed 0\n";
+
+/// Notes that the router told an application that a slot is free again.
+fn draft_freed(draft: &mut Draft, queue: QueueId, slot: u8) {
+    let op = Op::Push(queue, Item::Note(Note::Closed { slot }));
+    draft.ask(&op);
+    let _op = unsafe { ManuallyDrop::new_unchecked(op) };
+}
+
+/// Notes that a packet with this payload was popped.
+fn draft_popped(alloc: Global, draft: &mut Draft, queue: QueueId, payload: &[u8]) {
+    let Ok((memory, mut buffers)) = Memory::open(alloc, 1) else {
+        return;
+    };
+    let buffer = buffers.pop();
+    let _memory = unsafe { ManuallyDrop::new_unchecked(memory) };
+    let _others = unsafe { ManuallyDrop::new_unchecked(buffers) };
+    let Some(mut buffer) = buffer else {
+        return;
+    };
+    let _room = buffer.push_tail(payload);
+    draft.ask(&Op::Pop(queue));
+    let answer = Answer::Popped(Item::Packet { mark: 0, buffer });
+    draft.answer(&answer);
+    let _answer = unsafe { ManuallyDrop::new_unchecked(answer) };
+}
+
+/// Notes what a turn moved.
+fn draft_deed(alloc: Global, draft: &mut Draft, deed: Deed) {
+    match deed {
+        Deed::Rested => {}
+        Deed::Freed(queue, slot) => draft_freed(draft, queue, slot),
+        Deed::Popped(queue, payload) => draft_popped(alloc, draft, queue, payload),
+    }
+}
+
 /// Appends an entry with these events, where there is room.
-fn append(alloc: Global, log: &mut Log, events: &[Event]) -> Option<()> {
+fn append(alloc: Global, log: &mut Log, deed: Deed, events: &[Event]) -> Option<()> {
     if log.len() >= MOST {
         return None;
     }
-    let draft = Draft::open(alloc).ok()?;
+    let mut draft = Draft::open(alloc).ok()?;
+    draft_deed(alloc, &mut draft, deed);
     let mut told = Events::new();
     told.try_extend_from_slice(events).ok()?;
     log.reserve(1).ok()?;
@@ -91,9 +173,18 @@ fn append(alloc: Global, log: &mut Log, events: &[Event]) -> Option<()> {
 fn party(alloc: Global, who: Who, entries: &[&[Event]], step: u32) -> Option<PartyLog> {
     let mut log = Log::new(alloc);
     for events in entries {
-        append(alloc, &mut log, *events)?;
+        append(alloc, &mut log, Deed::Rested, *events)?;
     }
     Some(PartyLog { who, log, step })
+}
+
+/// A party with these turns.
+fn busy(alloc: Global, who: Who, turns: &[(Deed, &[Event])]) -> Option<PartyLog> {
+    let mut log = Log::new(alloc);
+    for (deed, events) in turns {
+        append(alloc, &mut log, *deed, *events)?;
+    }
+    Some(PartyLog { who, log, step: 0 })
 }
 
 /// What the places of a node with eleven buffers and of another node held.
@@ -111,18 +202,12 @@ fn places(alloc: Global) -> Option<Vec<HeldBy>> {
     Some(places)
 }
 
-/// The record of a run whose router and whose application told these events, among other parties.
-fn record(
-    alloc: Global,
-    discarded: &[&[Event]],
-    reported: &[&[Event]],
-    step: u32,
-) -> Option<Record> {
+/// The record of a run with this router and this application, among other parties.
+fn record(alloc: Global, router: PartyLog, app: PartyLog) -> Option<Record> {
+    let step = app.step;
     let other = party(alloc, Who::App(1, 0), &REFUSED, 0)?;
     let other_router = party(alloc, Who::Router(1), &DISCARDED, 0)?;
-    let router = party(alloc, Who::Router(0), discarded, 0)?;
     let neighbour = party(alloc, Who::App(0, 1), &REFUSED, 2)?;
-    let app = party(alloc, Who::App(0, 0), reported, step)?;
     let mut parties = Vec::new(alloc);
     for party in [other, other_router, router, neighbour, app] {
         parties.push(party).ok()?;
@@ -136,22 +221,33 @@ fn record(
     })
 }
 
-/// The scene of that node.
-fn scene(alloc: Global) -> Option<Scene>
+/// The scene of a scenario.
+fn scene(alloc: Global, text: &[u8]) -> Option<Scene>
     ensures { IfSome result IsScene }
 {
-    parse(alloc, SCENARIO).ok()
+    parse(alloc, text).ok()
 }
 
-/// The report of such a record of that node.
+/// The report of such a record of a node with one application.
 fn report_of(
     alloc: Global,
     discarded: &[&[Event]],
     reported: &[&[Event]],
     step: u32,
 ) -> Option<String> {
-    let record = record(alloc, discarded, reported, step)?;
-    let scene = scene(alloc)?;
+    let router = party(alloc, Who::Router(0), discarded, 0)?;
+    let app = party(alloc, Who::App(0, 0), reported, step)?;
+    let record = record(alloc, router, app)?;
+    let scene = scene(alloc, SCENARIO)?;
+    report(alloc, &scene, &record).ok()
+}
+
+/// The report of a record whose router and application had those turns.
+fn talk_of(alloc: Global) -> Option<String> {
+    let router = busy(alloc, Who::Router(0), &ROUTER)?;
+    let app = busy(alloc, Who::App(0, 0), &TAKER)?;
+    let record = record(alloc, router, app)?;
+    let scene = scene(alloc, PEERS)?;
     report(alloc, &scene, &record).ok()
 }
 
@@ -159,7 +255,8 @@ fn report_of(
 fn a_report_tells_each_event_and_each_refusal_has_its_word(rt: HostRuntime) {
     let told = report_of(rt.alloc(), &DISCARDED, &REPORTED, 9);
     let words = report_of(rt.alloc(), &[], &REFUSED, 0);
-    for (got, wanted) in [(told, TOLD), (words, WORDS)] {
+    let talked = talk_of(rt.alloc());
+    for (got, wanted) in [(told, TOLD), (words, WORDS), (talked, TALKED)] {
         match got {
             Some(got) => assert!(rt; got.as_str() == wanted, "{got}"),
             None => panic!(rt; "no report"),

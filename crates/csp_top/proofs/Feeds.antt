@@ -4,6 +4,8 @@ use Rattle.std.proofs.lemmas.Bool.{eqb-true}
 use Rattle.std.proofs.lemmas.List.Splits.{slice_split-cons_no}
 use Rattle.std.specs.List.{AllByRecursion, list_all, slice_split, onto_first, join_with_byte}
 use Rattle.std.specs.Fmt.{digits, decimal, digits_onto, digit_glyph}
+use Rattle.std.specs.Prelude.{slice_index}
+use Rattle.hex.specs.Hex.{lower_digits, encode_with, encode_lower}
 use Rattle.csp_text.specs.Names.{is_name_byte, is_name}
 use Rattle.csp_top.specs.Lines.{Line, text_of}
 
@@ -83,3 +85,14 @@ plain (b ∷ bytes) all = let parts = both (not (eqb b 10)) (list_all (λ b. not
     opposite : (t : Bool) → not t ≡ true → t ≡ false
     opposite true e = cc
     opposite false e = refl
+
+digit_lacks : (digits : List ℕ) → Lacks 10 digits → (i : ℕ) → eqb (slice_index digits i) 10 ≡ false
+digit_lacks [] all i = refl
+digit_lacks (d ∷ digits) all zero = all.0
+digit_lacks (d ∷ digits) all (suc i) = digit_lacks digits all.1 i
+
+-- hexadecimal digits have no line feed
+pub Lacks-hex : (bytes : List ℕ) → Lacks 10 (encode_lower bytes)
+unfolding encode_with
+Lacks-hex [] = tt
+Lacks-hex (b ∷ bytes) = (digit_lacks lower_digits (plain lower_digits refl) (b / 16), (digit_lacks lower_digits (plain lower_digits refl) (b % 16), Lacks-hex bytes))

@@ -1,4 +1,5 @@
 mod Adding
+mod Conns
 mod Feeds
 mod Ifaces
 mod Joining

@@ -1,6 +1,6 @@
 -- The report's lines, joined; and the lines that its line feeds determine.
-use Rattle.std.proofs.Common.{◌≡◌, ℕ, suc, ◌+◌, Bool, true, false, cond, eqb, Option, None, Some, List, [], ◌∷◌, ◌++◌, map, refl, sym, ap, subst, ◌∙◌, append_assoc, add-zero, arith}
-use Rattle.std.specs.Prelude.{codes, count_by, slice_get, IsTrue}
+use Rattle.std.proofs.Common.{◌≡◌, ℕ, zero, suc, ◌+◌, Bool, true, false, cond, eqb, Option, None, Some, List, [], ◌∷◌, ◌++◌, map, refl, sym, ap, subst, ◌∙◌, append_assoc, add-zero, arith}
+use Rattle.std.specs.Prelude.{⊤, codes, count_by, slice_get, IsTrue}
 use Rattle.std.specs.List.{AllByRecursion, flat_map, enumerate_from, join_with_byte}
 use Rattle.std.specs.Fmt.{decimal}
 use Rattle.std.specs.Option.{option_map}
@@ -28,12 +28,15 @@ use Rattle.csp_top.specs.declared.reporting.places.PlaceKind.TheVariants as kind
 use Rattle.csp_top.specs.Lines.{Line, ended_line, text_of}
 use Rattle.csp_top.specs.Parties.{party_at, entries_at, events_at}
 use Rattle.csp_top.specs.ReportPlaces.{held_in}
+use Rattle.csp_top.specs.ReportConns.{conn_words, peer_flow, kind_words, opening_line, bytes_word, payload_lines, Traffics, opening_lines, slot_lines, all_slots, traffic_of, conn_lines}
+use Rattle.csp_record.specs.declared.connections.Opening.{Opening}
+use Rattle.csp_record.specs.Connections.{openings}
 use Rattle.csp_top.specs.ReportEvents.{is_discard, all_discards, discard_words, word_of, word_of_refusal, step_line, refused_line, event_lines}
 use Rattle.csp_top.specs.ReportIfaces.{counted, count_word, all_counts, iface_line}
 use Rattle.csp_top.specs.Report.{title_line, end_line, name_words, node_line, router_words, router_line, node_iface_lines, state_line, app_lines, node_app_lines, count_lines, report_lines, report}
 use Rattle.csp_top.specs.PlacesAddUp.{AddsUp, is_of_node, PlacesAddUp}
 use Rattle.csp_top.proofs.Adding.{adding}
-use Rattle.csp_top.proofs.Feeds.{Lacks, all_joined, Lacks-join, Lacks-decimal, Lacks-name, plain, split_lines}
+use Rattle.csp_top.proofs.Feeds.{Lacks, all_joined, Lacks-join, Lacks-decimal, Lacks-name, Lacks-hex, plain, split_lines}
 
 joined : (s a b c d e f g t u n r i p x : List ℕ) → a ≡ s ++ t → b ≡ a ++ u → c ≡ b ++ n → d ≡ c ++ r → e ≡ d ++ i → f ≡ e ++ p → g ≡ f ++ x → g ≡ s ++ (t ++ (u ++ (n ++ (r ++ (i ++ (p ++ x))))))
 joined s a b c d e f g t u n r i p x e1 e2 e3 e4 e5 e6 e7 = rw (e7, e6, e5, e4, e3, e2, e1) (simp append_assoc)
@@ -47,7 +50,7 @@ pub report_joined : (nodes : List PlainNode) (links : List PlainLink) (run : Pla
     → c ≡ b ++ text_of (map (λ node. node_line run node.0 node.1) (enumerate_from 0 nodes))
     → d ≡ c ++ text_of (map (λ node. router_line run node.0 node.1) (enumerate_from 0 nodes))
     → e ≡ d ++ text_of (flat_map (λ node. node_iface_lines run.parties node.0 node.1.name links) (enumerate_from 0 nodes))
-    → f ≡ e ++ text_of (flat_map (λ node. node_app_lines run.parties node.0 node.1.name node.1.apps) (enumerate_from 0 nodes))
+    → f ≡ e ++ text_of (flat_map (λ node. node_app_lines nodes run.parties node.0 node.1.name node.1.apps) (enumerate_from 0 nodes))
     → g ≡ f ++ text_of (count_lines run)
     → g ≡ s ++ text_of (report_lines nodes links run)
 unfolding report_lines
@@ -57,7 +60,7 @@ report_joined nodes links run s a b c d e f g e1 e2 e3 e4 e5 e6 e7 =
     (map (λ node. node_line run node.0 node.1) (enumerate_from 0 nodes))
     (map (λ node. router_line run node.0 node.1) (enumerate_from 0 nodes))
     (flat_map (λ node. node_iface_lines run.parties node.0 node.1.name links) (enumerate_from 0 nodes))
-    (flat_map (λ node. node_app_lines run.parties node.0 node.1.name node.1.apps) (enumerate_from 0 nodes))
+    (flat_map (λ node. node_app_lines nodes run.parties node.0 node.1.name node.1.apps) (enumerate_from 0 nodes))
     (count_lines run)))
 
 -- the report is the text of its lines
@@ -204,6 +207,29 @@ good_node_ifaces parties k [] links all named_links = tt
 good_node_ifaces parties k (n ∷ nodes) links all named_links =
     all_joined IsGood (node_iface_lines parties k n.name links) _ (good_ifaces parties k 0 n.name all.0.name (links_at k links) (some_named k links named_links)) (good_node_ifaces parties (k + 1) nodes links all.1 named_links)
 
+-- the name of a peer's node
+abbrev FlowLacks : Option (List ℕ × ℕ) → Type 0
+FlowLacks None = ⊤
+FlowLacks (Some flow) = Lacks 10 flow.0
+
+node_lacks : (nodes : List PlainNode) → AllByRecursion IsNode nodes → (i nth : ℕ) → FlowLacks (option_map (λ node. (node.name, nth)) (slice_get nodes i))
+node_lacks [] all i nth = tt
+node_lacks (n ∷ nodes) all zero nth = named n.name all.0.name
+node_lacks (n ∷ nodes) all (suc i) nth = node_lacks nodes all.1 i nth
+
+peer_lacks : (nodes : List PlainNode) → AllByRecursion IsNode nodes → (peer : Option (ℕ × ℕ)) → FlowLacks (peer_flow nodes peer)
+peer_lacks nodes all None = tt
+peer_lacks nodes all (Some flow) = node_lacks nodes all flow.0 flow.1
+
+kind_lacks : (nth : Option ℕ) (flow : Option (List ℕ × ℕ)) → FlowLacks flow → AllByRecursion (Lacks 10) (kind_words nth flow)
+kind_lacks None flow lacks = (plain (codes "plain") refl, tt)
+kind_lacks (Some nth) None lacks = (plain (codes "rdp") refl, (number nth, (plain (codes "peer") refl, (plain (codes "none") refl, tt))))
+kind_lacks (Some nth) (Some flow) lacks = (plain (codes "rdp") refl, (number nth, (plain (codes "peer") refl, (lacks, (number flow.1, tt)))))
+
+bytes_lack : (payload : List ℕ) → Lacks 10 (bytes_word payload)
+bytes_lack [] = plain (codes "-") refl
+bytes_lack (byte ∷ bytes) = Lacks-hex (byte ∷ bytes)
+
 links_named : (nodes : List PlainNode) (all_links links : List PlainLink) → AllByRecursion (IsLink nodes all_links) links → AllByRecursion (λ link. IsTrue (is_name link.name)) links
 links_named nodes all_links [] all = tt
 links_named nodes all_links (link ∷ links) all = (all.0.name, links_named nodes all_links links all.1)
@@ -240,19 +266,63 @@ module _ (node app : List ℕ) (node_is : IsTrue (is_name node)) (app_is : IsTru
   good_events [] = tt
   good_events (e ∷ events) = all_joined IsGood (event_lines node app e) (flat_map (event_lines node app) events) (good_event e) (good_events events)
 
-  good_app : (party : Option PlainPartyLog) → AllByRecursion IsGood (app_lines node app party)
-  good_app None = tt
-  good_app (Some party) = (good_state party.step, good_events (all_events party.entries))
+  numbers_lack : (word : List ℕ) (slot ordinal : ℕ) → Lacks 10 word → AllByRecursion (Lacks 10) (conn_words word node app slot ordinal)
+  numbers_lack word slot ordinal lacks = (lacks, (named node node_is, (named app app_is, (number slot, (number ordinal, tt)))))
 
-good_apps : (parties : List PlainPartyLog) (place k : ℕ) (node : List ℕ) → IsTrue (is_name node) → (apps : List PlainApp) → AllByRecursion IsApp apps → AllByRecursion IsGood (flat_map (λ app. app_lines node app.1.name (party_at parties (seat.App place app.0))) (enumerate_from k apps))
-good_apps parties place k node is [] all = tt
-good_apps parties place k node is (app ∷ apps) all =
-    all_joined IsGood (app_lines node app.name (party_at parties (seat.App place k))) _ (good_app node app.name is all.0.name (party_at parties (seat.App place k))) (good_apps parties place (k + 1) node is apps all.1)
+  good_payloads : (word : List ℕ) (slot ordinal k : ℕ) (payloads : List (List ℕ)) → Lacks 10 word
+      → ((i : ℕ) (payload : List ℕ) → is_of_node (join_with_byte 32 (conn_words word node app slot ordinal ++ decimal i ∷ bytes_word payload ∷ [])) ≡ false)
+      → AllByRecursion IsGood (map (λ payload. conn_words word node app slot ordinal ++ decimal (payload.0 + 1) ∷ bytes_word payload.1 ∷ []) (enumerate_from k payloads))
+  good_payloads word slot ordinal k [] lacks starts = tt
+  good_payloads word slot ordinal k (payload ∷ payloads) lacks starts = (
+    other (conn_words word node app slot ordinal ++ decimal (k + 1) ∷ bytes_word payload ∷ [])
+        (all_joined (Lacks 10) (conn_words word node app slot ordinal) (decimal (k + 1) ∷ bytes_word payload ∷ []) (numbers_lack word slot ordinal lacks) (number (k + 1), (bytes_lack payload, tt)))
+        (starts (k + 1) payload),
+    good_payloads word slot ordinal (k + 1) payloads lacks starts,
+  )
 
-good_node_apps : (parties : List PlainPartyLog) (k : ℕ) (nodes : List PlainNode) → AllByRecursion IsNode nodes → AllByRecursion IsGood (flat_map (λ node. node_app_lines parties node.0 node.1.name node.1.apps) (enumerate_from k nodes))
-good_node_apps parties k [] all = tt
-good_node_apps parties k (n ∷ nodes) all =
-    all_joined IsGood (node_app_lines parties k n.name n.apps) _ (good_apps parties k 0 n.name all.0.name n.apps all.0.apps) (good_node_apps parties (k + 1) nodes all.1)
+  module _ (nodes : List PlainNode) (nodes_are : AllByRecursion IsNode nodes) where
+    good_opening : (traffic : Traffics) (o : Opening) → AllByRecursion IsGood (opening_lines nodes node app traffic o)
+    good_opening traffic o = (
+      other (opening_line nodes node app o)
+          (all_joined (Lacks 10) (conn_words (codes "conn") node app o.slot o.ordinal) (kind_words o.nth (peer_flow nodes o.peer)) (numbers_lack (codes "conn") o.slot o.ordinal (plain (codes "conn") refl)) (kind_lacks o.nth (peer_flow nodes o.peer) (peer_lacks nodes nodes_are o.peer)))
+          refl,
+      all_joined IsGood (payload_lines (codes "sent") node app o.slot o.ordinal (traffic.sent_on o.slot o.ordinal)) _
+          (good_payloads (codes "sent") o.slot o.ordinal 0 (traffic.sent_on o.slot o.ordinal) (plain (codes "sent") refl) (λ i payload. refl))
+          (good_payloads (codes "took") o.slot o.ordinal 0 (traffic.took_on o.slot o.ordinal) (plain (codes "took") refl) (λ i payload. refl)),
+    )
+
+    good_slot : (traffic : Traffics) (opened : List Opening) (slot : ℕ) → AllByRecursion IsGood (slot_lines nodes node app traffic opened slot)
+    good_slot traffic [] slot = tt
+    good_slot traffic (o ∷ opened) slot = all_joined IsGood (cond (eqb o.slot slot) (opening_lines nodes node app traffic o) []) _ (by (eqb o.slot slot)) (good_slot traffic opened slot)
+      where
+        by : (t : Bool) → AllByRecursion IsGood (cond t (opening_lines nodes node app traffic o) [])
+        by true = good_opening traffic o
+        by false = tt
+
+    good_slots : (traffic : Traffics) (opened : List Opening) (slots : List ℕ) → AllByRecursion IsGood (flat_map (slot_lines nodes node app traffic opened) slots)
+    good_slots traffic opened [] = tt
+    good_slots traffic opened (slot ∷ slots) = all_joined IsGood (slot_lines nodes node app traffic opened slot) _ (good_slot traffic opened slot) (good_slots traffic opened slots)
+
+    good_app : (router : List Entry) (number : ℕ) (party : Option PlainPartyLog) → AllByRecursion IsGood (app_lines nodes node router app number party)
+    good_app router number None = tt
+    good_app router number (Some party) = (
+      good_state party.step,
+      all_joined IsGood (flat_map (event_lines node app) (all_events party.entries)) (conn_lines nodes node app number router party.entries) (good_events (all_events party.entries)) (good_slots (traffic_of number router party.entries) (openings number router) all_slots),
+    )
+
+module _ (all_nodes : List PlainNode) (nodes_are : AllByRecursion IsNode all_nodes) where
+  good_apps : (parties : List PlainPartyLog) (place k : ℕ) (node : List ℕ) → IsTrue (is_name node) → (apps : List PlainApp) → AllByRecursion IsApp apps
+      → AllByRecursion IsGood (flat_map (λ app. app_lines all_nodes node (entries_at parties (seat.Router place)) app.1.name app.0 (party_at parties (seat.App place app.0))) (enumerate_from k apps))
+  good_apps parties place k node is [] all = tt
+  good_apps parties place k node is (app ∷ apps) all =
+      all_joined IsGood (app_lines all_nodes node (entries_at parties (seat.Router place)) app.name k (party_at parties (seat.App place k))) _
+      (good_app node app.name is all.0.name all_nodes nodes_are (entries_at parties (seat.Router place)) k (party_at parties (seat.App place k)))
+      (good_apps parties place (k + 1) node is apps all.1)
+
+  good_node_apps : (parties : List PlainPartyLog) (k : ℕ) (nodes : List PlainNode) → AllByRecursion IsNode nodes → AllByRecursion IsGood (flat_map (λ node. node_app_lines all_nodes parties node.0 node.1.name node.1.apps) (enumerate_from k nodes))
+  good_node_apps parties k [] all = tt
+  good_node_apps parties k (n ∷ nodes) all =
+      all_joined IsGood (node_app_lines all_nodes parties k n.name n.apps) _ (good_apps parties k 0 n.name all.0.name n.apps all.0.apps) (good_node_apps parties (k + 1) nodes all.1)
 
 good_end : (run : PlainRecord) → IsGood (end_line run)
 good_end run = other (end_line run) (plain (codes "end") refl, (flag run.finished, (number run.rounds, tt))) refl
@@ -277,14 +347,14 @@ good_lines scene run is whole =
     let ns : List Line = map (λ node. node_line run node.0 node.1) (enumerate_from 0 scene.nodes) in
     let rs : List Line = map (λ node. router_line run node.0 node.1) (enumerate_from 0 scene.nodes) in
     let is_lines : List Line = flat_map (λ node. node_iface_lines run.parties node.0 node.1.name scene.links) (enumerate_from 0 scene.nodes) in
-    let ps : List Line = flat_map (λ node. node_app_lines run.parties node.0 node.1.name node.1.apps) (enumerate_from 0 scene.nodes) in
+    let ps : List Line = flat_map (λ node. node_app_lines scene.nodes run.parties node.0 node.1.name node.1.apps) (enumerate_from 0 scene.nodes) in
     let head : AllByRecursion IsGood two_lines = (other title_line (plain (codes "csp-report") refl, (number 1, tt)) refl, (good_end run, tt)) in
     let nodes : AllByRecursion IsGood ns = good_nodes run 0 scene.nodes is.nodes (λ i n e. let at : i ≡ 0 + i = omega arith in subst (λ (p : ℕ). IsWholeNode run p n.buffers) at (whole i n.buffers (counted_at scene.nodes i n e))) in
     let ifaces : AllByRecursion IsGood is_lines = good_node_ifaces run.parties 0 scene.nodes scene.links is.nodes (links_named scene.nodes scene.links scene.links is.links) in
     all_joined IsGood (two_lines ++ ns ++ rs ++ is_lines ++ ps) (count_lines run)
     (all_joined IsGood (two_lines ++ ns ++ rs ++ is_lines) ps
     (all_joined IsGood (two_lines ++ ns ++ rs) is_lines (all_joined IsGood (two_lines ++ ns) rs (all_joined IsGood two_lines ns head nodes) (good_routers run 0 scene.nodes is.nodes)) ifaces)
-    (good_node_apps run.parties 0 scene.nodes is.nodes))
+    (good_node_apps scene.nodes is.nodes run.parties 0 scene.nodes is.nodes))
     (good_counts run)
 
 -- each line of the report that is a node's or a bridge's adds up, where the record is whole

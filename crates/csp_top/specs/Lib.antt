@@ -1,5 +1,6 @@
 pub mod Lines
 pub mod Parties
+pub mod ReportConns
 pub mod ReportEvents
 pub mod ReportIfaces
 pub mod ReportPlaces

@@ -3,6 +3,7 @@ use Rattle.std.specs.Prelude.{ℕ, ◌==◌, Option, None, Some, List, [], ◌�
 use Rattle.std.specs.List.{flat_map, enumerate_from}
 use Rattle.std.specs.Fmt.{decimal}
 use Rattle.csp_log.specs.PlainLog.{all_events}
+use Rattle.csp_log.specs.declared.entry.Entry.{Entry}
 use Rattle.csp_log.specs.declared.event.Discard.TheVariants as discard
 use Rattle.csp_scene.specs.Links.{links_at}
 use Rattle.csp_scene.specs.Scene.{PlainScene, PlainNode, PlainApp, PlainLink}
@@ -11,6 +12,7 @@ use Rattle.csp_record.specs.Record.{PlainPartyLog, PlainRecord}
 use Rattle.csp_top.specs.Lines.{Line, text_of}
 use Rattle.csp_top.specs.Parties.{party_at, entries_at, events_at}
 use Rattle.csp_top.specs.ReportPlaces.{held_in}
+use Rattle.csp_top.specs.ReportConns.{conn_lines}
 use Rattle.csp_top.specs.ReportEvents.{all_discards, discard_words, event_lines}
 use Rattle.csp_top.specs.ReportIfaces.{iface_line}
 use Rattle.csp_top.specs.declared.reporting.parties.Seat.TheVariants as seat
@@ -60,15 +62,15 @@ node_iface_lines parties place node links =
 abbrev pub state_line : List ℕ → List ℕ → ℕ → Line
 state_line node app step = codes "app" ∷ node ∷ app ∷ (if step == 0 then codes "ended" ∷ [] else codes "step" ∷ decimal step ∷ [])
 
--- the lines of an application: its state, then what it reported in order of time
-abbrev pub app_lines : List ℕ → List ℕ → Option PlainPartyLog → List Line
-app_lines node app None = []
-app_lines node app (Some party) = state_line node app party.step ∷ flat_map (event_lines node app) (all_events party.entries)
+-- the lines of an application: its state, then what it reported in order of time, then its connections, by its router's entries and its own
+abbrev pub app_lines : List PlainNode → List ℕ → List Entry → List ℕ → ℕ → Option PlainPartyLog → List Line
+app_lines nodes node router app number None = []
+app_lines nodes node router app number (Some party) = state_line node app party.step ∷ flat_map (event_lines node app) (all_events party.entries) ++ conn_lines nodes node app number router party.entries
 
 -- the lines of these applications of the node at this place, each found among the parties of the record
-abbrev pub node_app_lines : List PlainPartyLog → ℕ → List ℕ → List PlainApp → List Line
-node_app_lines parties place node apps =
-    flat_map (λ app. app_lines node app.1.name (party_at parties (seat.App place app.0))) (enumerate_from 0 apps)
+abbrev pub node_app_lines : List PlainNode → List PlainPartyLog → ℕ → List ℕ → List PlainApp → List Line
+node_app_lines nodes parties place node apps =
+    flat_map (λ app. app_lines nodes node (entries_at parties (seat.Router place)) app.1.name app.0 (party_at parties (seat.App place app.0))) (enumerate_from 0 apps)
 
 -- the last two lines: `stale 0`, since no copy comes too late yet, and `passed P`
 abbrev pub count_lines : PlainRecord → List Line
@@ -81,7 +83,7 @@ report_lines nodes links record' =
     ++ map (λ node. node_line record' node.0 node.1) (enumerate_from 0 nodes)
     ++ map (λ node. router_line record' node.0 node.1) (enumerate_from 0 nodes)
     ++ flat_map (λ node. node_iface_lines record'.parties node.0 node.1.name links) (enumerate_from 0 nodes)
-    ++ flat_map (λ node. node_app_lines record'.parties node.0 node.1.name node.1.apps) (enumerate_from 0 nodes)
+    ++ flat_map (λ node. node_app_lines nodes record'.parties node.0 node.1.name node.1.apps) (enumerate_from 0 nodes)
     ++ count_lines record'
 
 -- the report: its lines joined, each with the line feed that ends it

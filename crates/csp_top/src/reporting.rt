@@ -1,6 +1,7 @@
 //! The report of a run, line by line.
 
 mod apps;
+mod conns;
 mod ifaces;
 mod lines;
 mod parties;

@@ -1,4 +1,4 @@
-//! The lines of an application: whether it ended, and what it reported.
+//! The lines of an application: whether it ended, what it reported, and its connections.
 
 ghost use Rattle.std.specs.Prelude.{◌≡◌, ◌++◌, ◌∷◌, ◌==◌, if◌then◌else◌, OnOk, codes, Some};
 ghost use Rattle.std.specs.Option.{option_map};
@@ -6,15 +6,26 @@ ghost use Rattle.std.specs.String.{string_bytes};
 ghost use Rattle.std.specs.Fmt.{decimal};
 ghost use Rattle.std.specs.List.{flat_map, enumerate_from};
 ghost use Rattle.csp_top.specs.Lines.{ended_line, text_of};
+ghost use Rattle.csp_top.specs.Parties.{party_at, entries_of};
+ghost use Rattle.csp_top.specs.ReportConns.{conn_lines};
 ghost use Rattle.csp_top.specs.ReportEvents.{word_of_refusal, step_line, refused_line, event_lines};
 ghost use Rattle.csp_top.specs.Report.{state_line, app_lines, node_app_lines};
 
+use crate::reporting::conns::push_conns;
 use crate::reporting::lines::{begin_line, end_line, push_count, push_counted, push_word};
 use crate::reporting::parties::{Seat, party_at};
-use csp_log::{Event, Why};
+use csp_log::{Event, Log, Why};
 use csp_record::{PartyLog, Record};
 use csp_scene::{SceneApp, SceneNode};
-use std::alloc::AllocError;
+use std::alloc::{AllocError, Global};
+
+/// The node of an application: its name, its router, and all nodes, by which a peer's node has its name.
+#[derive(Drop)]
+struct Host<'a> {
+    nodes: &'a [SceneNode],
+    node: &'a str,
+    router: Option<&'a PartyLog>,
+}
 
 /// Appends ` ended`, or ` step K` with the present step, from 1.
 fn push_progress(out: &mut String, step: u32) -> Result<(), AllocError>
@@ -120,74 +131,115 @@ fn push_events(out: &mut String, node: &str, app: &str, events: &[Event]) -> Res
     Ok(())
 }
 
-/// Appends the lines of an application, where its party is given.
-fn push_app(out: &mut String, node: &str, app: &str, party: &PartyLog) -> Result<(), AllocError>
-    ensures { OnOk result (string_bytes out.new ≡ string_bytes out.old ++ text_of (app_lines node.now app.now (Some party.now))) }
-{
-    push_state(out, node, app, party.step)?;
-    push_events(out, node, app, party.log.all_events())
-}
-
-/// Appends the lines of an application, where its party is found.
-fn push_found(
+/// Appends the lines of the connections of an application, where its router's party is found.
+fn push_talk(
+    alloc: Global,
     out: &mut String,
-    node: &str,
+    host: &Host,
     app: &str,
-    party: Option<&PartyLog>,
+    number: usize,
+    own: &Log,
 ) -> Result<(), AllocError>
-    ensures { OnOk result (string_bytes out.new ≡ string_bytes out.old ++ text_of (app_lines node.now app.now (option_map (λ party. party.now) party.entry))) }
+    ensures { OnOk result (string_bytes out.new ≡ string_bytes out.old ++ text_of (conn_lines host.now.nodes.now host.now.node.now app.now number (entries_of (option_map (λ party. party.now) host.now.router)) own.now.entries)) }
 {
-    match party {
-        Some(party) => push_app(out, node, app, party),
+    match host.router {
+        Some(router) => push_conns(
+            alloc,
+            out,
+            host.nodes,
+            host.node,
+            app,
+            number,
+            &router.log,
+            own,
+        ),
         None => Ok(()),
     }
 }
 
-/// Appends the lines of all applications of the node at this place.
-fn push_node_apps(
+/// Appends the lines of an application, where its party is given.
+fn push_app(
+    alloc: Global,
     out: &mut String,
-    run: &Record,
-    place: usize,
-    node: &SceneNode,
+    host: &Host,
+    app: &str,
+    number: usize,
+    party: &PartyLog,
 ) -> Result<(), AllocError>
-    ensures { OnOk result (string_bytes out.new ≡ string_bytes out.old ++ text_of (node_app_lines run.now.parties place node.now.name node.now.apps)) }
+    ensures { OnOk result (string_bytes out.new ≡ string_bytes out.old ++ text_of (app_lines host.now.nodes.now host.now.node.now (entries_of (option_map (λ party. party.now) host.now.router)) app.now number (Some party.now))) }
 {
-    push_app_list(
-        out,
-        run.parties.as_slice(),
-        place,
-        node.name.as_str(),
-        node.apps.as_slice(),
-    )
+    push_state(out, host.node, app, party.step)?;
+    push_events(out, host.node, app, party.log.all_events())?;
+    push_talk(alloc, out, host, app, number, &party.log)
+}
+
+/// Appends the lines of an application, where its party is found.
+fn push_found(
+    alloc: Global,
+    out: &mut String,
+    host: &Host,
+    app: &str,
+    number: usize,
+    party: Option<&PartyLog>,
+) -> Result<(), AllocError>
+    ensures { OnOk result (string_bytes out.new ≡ string_bytes out.old ++ text_of (app_lines host.now.nodes.now host.now.node.now (entries_of (option_map (λ party. party.now) host.now.router)) app.now number (option_map (λ party. party.now) party.entry))) }
+{
+    match party {
+        Some(party) => push_app(alloc, out, host, app, number, party),
+        None => Ok(()),
+    }
 }
 
 /// Appends the lines of these applications of the node at this place.
 fn push_app_list(
+    alloc: Global,
     out: &mut String,
+    host: &Host,
     parties: &[PartyLog],
     place: usize,
-    node: &str,
     apps: &[SceneApp],
 ) -> Result<(), AllocError>
-    ensures { OnOk result (string_bytes out.new ≡ string_bytes out.old ++ text_of (node_app_lines parties.now place node.now apps.now)) }
+    requires { option_map (λ party. party.now) host.now.router ≡ party_at parties.now (Seat.Router place) }
+    ensures { OnOk result (string_bytes out.new ≡ string_bytes out.old ++ text_of (node_app_lines host.now.nodes.now parties.now place host.now.node.now apps.now)) }
 {
     for (number, app) in apps.iter().enumerate() {
         let party = party_at(parties, Seat::App(place, number));
-        push_found(out, node, app.name.as_str(), party)?;
+        push_found(alloc, out, host, app.name.as_str(), number, party)?;
     }
     Ok(())
 }
 
+/// Appends the lines of all applications of the node at this place.
+fn push_node_apps(
+    alloc: Global,
+    out: &mut String,
+    nodes: &[SceneNode],
+    run: &Record,
+    place: usize,
+    node: &SceneNode,
+) -> Result<(), AllocError>
+    ensures { OnOk result (string_bytes out.new ≡ string_bytes out.old ++ text_of (node_app_lines nodes.now run.now.parties place node.now.name node.now.apps)) }
+{
+    let parties = run.parties.as_slice();
+    let host = Host {
+        nodes,
+        node: node.name.as_str(),
+        router: party_at(parties, Seat::Router(place)),
+    };
+    push_app_list(alloc, out, &host, parties, place, node.apps.as_slice())
+}
+
 /// Appends the lines of the applications of all nodes.
 pub(crate) fn push_apps(
+    alloc: Global,
     out: &mut String,
     nodes: &[SceneNode],
     run: &Record,
 ) -> Result<(), AllocError>
-    ensures { OnOk result (string_bytes out.new ≡ string_bytes out.old ++ text_of (flat_map (λ node. node_app_lines run.now.parties node.0 node.1.name node.1.apps) (enumerate_from 0 nodes.now))) }
+    ensures { OnOk result (string_bytes out.new ≡ string_bytes out.old ++ text_of (flat_map (λ node. node_app_lines nodes.now run.now.parties node.0 node.1.name node.1.apps) (enumerate_from 0 nodes.now))) }
 {
     for (place, node) in nodes.iter().enumerate() {
-        push_node_apps(out, run, place, node)?;
+        push_node_apps(alloc, out, nodes, run, place, node)?;
     }
     Ok(())
 }

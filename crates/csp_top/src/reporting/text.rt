@@ -55,6 +55,7 @@ fn push_last(out: &mut String, run: &Record, count: u64) -> Result<(), AllocErro
 
 /// Appends the lines of a report on these nodes and links, of which the last has this number.
 fn push_lines(
+    alloc: Global,
     out: &mut String,
     nodes: &[SceneNode],
     links: &[SceneLink],
@@ -69,15 +70,15 @@ fn push_lines(
     push_nodes(out, nodes, run)?;
     push_routers(out, nodes, run)?;
     push_ifaces(out, nodes, links, run)?;
-    push_apps(out, nodes, run)?;
+    push_apps(alloc, out, nodes, run)?;
     push_last(out, run, count)?;
     Ok(())
 }
 
 #[tactic(auto, using(crate::proofs::ReportLemmas::report_is))]
 /// The report of a run of this scene: where each buffer was at the end, what the routers discarded, what the
-/// interfaces sent and accepted, how far each application came, and how many packets passed a link changed. Each
-/// line ends with a line feed.
+/// interfaces sent and accepted, how far each application came, what it sent and took on its connections, and how
+/// many packets passed a link changed. Each line ends with a line feed.
 pub fn report(alloc: Global, scene: &Scene, run: &Record) -> Result<String, AllocError>
     requires { IsScene scene.now }
     ensures bytes { IfOk result (λ text. string_bytes text ≡ report scene.now run.now) }
@@ -86,6 +87,7 @@ pub fn report(alloc: Global, scene: &Scene, run: &Record) -> Result<String, Allo
     let count = passed(alloc, run)?;
     let mut out = String::new(alloc);
     push_lines(
+        alloc,
         &mut out,
         scene.nodes.as_slice(),
         scene.links.as_slice(),

@@ -7,4 +7,4 @@ use Rattle.csp_top.proofs.reporting.apps.push_apps.Given as goal
 
 -- the text so far, then the lines that are still to come, are those of all nodes
 abbrev pub invariant-loop-place : goal.invariant-loop-place
-invariant-loop-place l = string_bytes l.out ++ text_of (flat_map (λ node. node_app_lines l.run.parties node.0 node.1.name node.1.apps) (enumerate_from l.place (drop l.place l.nodes))) ≡ string_bytes l.initial.out ++ text_of (flat_map (λ node. node_app_lines l.run.parties node.0 node.1.name node.1.apps) (enumerate_from 0 l.nodes))
+invariant-loop-place l = string_bytes l.out ++ text_of (flat_map (λ node. node_app_lines l.nodes l.run.parties node.0 node.1.name node.1.apps) (enumerate_from l.place (drop l.place l.nodes))) ≡ string_bytes l.initial.out ++ text_of (flat_map (λ node. node_app_lines l.nodes l.run.parties node.0 node.1.name node.1.apps) (enumerate_from 0 l.nodes))

@@ -1,0 +1,47 @@
+-- what an application sent, and what it took, on each of its connections
+use Rattle.std.specs.Prelude.{ℕ, ◌==◌, ◌&&◌, Bool, false, if◌then◌else◌, Option, None, Some, List, [], ◌∷◌}
+use Rattle.std.specs.List.{flat_map}
+use Rattle.csp_log.specs.Moving.{moved_in}
+use Rattle.csp_log.specs.declared.entry.Entry.{Entry}
+use Rattle.csp_log.specs.declared.event.Event.{Event}
+use Rattle.csp_log.specs.declared.event.Event.TheVariants as event
+use Rattle.csp_log.specs.declared.moved.Moved.{Moved}
+use Rattle.csp_log.specs.declared.moved.Moved.TheVariants as moved
+use Rattle.csp_log.specs.declared.places.QueueId.{QueueId}
+use Rattle.csp_log.specs.declared.places.QueueId.TheVariants as queue
+use Rattle.csp_record.specs.declared.payloads.Way.{Way}
+use Rattle.csp_record.specs.declared.payloads.Way.TheVariants as way
+
+-- whether payloads go this way through a queue: from this application by its `Up`, and to it by its `Down`
+abbrev pub leads : Way → ℕ → QueueId → Bool
+leads way.Sent app (queue.Up number) = number == app
+leads way.Took app (queue.Down number) = number == app
+leads _ app _ = false
+
+-- the payload that was popped from that queue
+abbrev pub carried : Way → ℕ → Moved → Option (List ℕ)
+carried which app (moved.Popped from packet) = (if leads which app from then Some packet.payload else None)
+carried which app _ = None
+
+-- whether an event tells that a payload was sent, or taken, on the connection of this slot and this ordinal
+abbrev pub is_on : Way → ℕ → ℕ → Event → Bool
+is_on way.Sent slot ordinal (event.Sent s o) = s == slot && o == ordinal
+is_on way.Took slot ordinal (event.Took s o) = s == slot && o == ordinal
+is_on _ slot ordinal _ = false
+
+-- the payload that a turn moved, once for each of its events that tells so
+abbrev pub told_on : Way → ℕ → ℕ → List Event → Option (List ℕ) → List (List ℕ)
+told_on which slot ordinal events None = []
+told_on which slot ordinal events (Some payload) = flat_map (λ e. if is_on which slot ordinal e then payload ∷ [] else []) events
+
+-- what an entry tells
+abbrev pub payloads_in : Way → ℕ → ℕ → ℕ → Entry → List (List ℕ)
+payloads_in which app slot ordinal e = told_on which slot ordinal e.events.items (carried which app (moved_in e))
+
+-- what was sent on a connection of this application, by the entries of its router, in order of time
+abbrev pub sent : ℕ → ℕ → ℕ → List Entry → List (List ℕ)
+sent app slot ordinal entries = flat_map (payloads_in way.Sent app slot ordinal) entries
+
+-- what was taken from it, by the entries of the application
+abbrev pub took : ℕ → ℕ → ℕ → List Entry → List (List ℕ)
+took app slot ordinal entries = flat_map (payloads_in way.Took app slot ordinal) entries
