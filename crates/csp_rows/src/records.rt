@@ -139,9 +139,11 @@ fn draft_popped(alloc: Global, draft: &mut Draft, queue: QueueId, payload: &[u8]
         return;
     };
     let _room = buffer.push_tail(payload);
-    draft.ask(&Op::Pop(queue));
+    let op = Op::Pop(queue);
+    draft.ask(&op);
     let answer = Answer::Popped(Item::Packet { mark: 0, buffer });
     draft.answer(&answer);
+    let _op = unsafe { ManuallyDrop::new_unchecked(op) };
     let _answer = unsafe { ManuallyDrop::new_unchecked(answer) };
 }
 

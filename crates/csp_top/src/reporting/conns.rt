@@ -1,17 +1,17 @@
 //! The lines of the connections of an application: what was sent and taken on each.
 
-ghost use Rattle.std.specs.Prelude.{◌≡◌, ◌==◌, ◌++◌, ◌∷◌, ◌+◌, [], if◌then◌else◌, OnOk, codes, map};
+ghost use Rattle.std.specs.Prelude.{◌≡◌, ◌==◌, ◌++◌, ◌∷◌, [], if◌then◌else◌, OnOk};
 ghost use Rattle.std.specs.Option.{option_map};
 ghost use Rattle.std.specs.String.{string_bytes};
 ghost use Rattle.std.specs.Fmt.{decimal};
 ghost use Rattle.std.specs.List.{flat_map, join_with_byte};
 ghost use Rattle.csp_record.specs.Traffic.{payloads_on};
 ghost use Rattle.csp_top.specs.Lines.{ended_line, text_of};
-ghost use Rattle.csp_top.specs.ReportConns.{conn_words, peer_flow, rdp_words, kind_words, opening_line, bytes_word, payload_lines, opening_lines, slot_lines, all_slots, conn_lines};
+ghost use Rattle.csp_top.specs.ReportConns.{conn_words, peer_flow, rdp_words, kind_words, opening_line, bytes_word, payload_lines, opening_lines, slot_lines, conn_lines};
 
 use crate::reporting::lines::{begin_line, end_line, push_count, push_counted, push_word};
 use csp_log::Log;
-use csp_record::{Opening, Payload, Payloads, Traffic, openings, sent, took};
+use csp_record::{Opening, Payload, Traffic, openings, sent, took};
 use csp_scene::SceneNode;
 use csp_text::push_hex;
 use std::alloc::{AllocError, Global};
