@@ -1,6 +1,5 @@
 -- What a call of the program owes: what it writes by what it read, and when each answer comes.
-use Rattle.std.specs.Prelude.{ℕ, ◌≡◌, ◌≤◌, Bool, false, List, [], ◌∷◌, ◌++◌, length, Option, None, Some, Ok, IfSome, codes}
-use Rattle.std.specs.Str.{bytes_eq}
+use Rattle.std.specs.Prelude.{ℕ, ◌≡◌, ◌≤◌, List, [], ◌++◌, length, Option, None, Some, Ok, IfSome}
 use Rattle.csp_base.specs.Transfer.{WrotePrefix}
 use Rattle.std.specs.Io.KnownBytes.{Appends}
 use Rattle.csp_scene.specs.Scene.{PlainScene}
@@ -10,12 +9,6 @@ use Rattle.csp_world.specs.Record.{sim_record}
 use Rattle.csp_top.specs.Report.{report}
 use Rattle.csp_top.specs.PlacesAddUp.{PlacesAddUp}
 use Rattle.csp_top.specs.declared.status.TheConstants.{MAX_SCENARIO}
-
--- the words are the command `sim`
-abbrev pub is_sim : List (List ℕ) → Bool
-is_sim [] = false
-is_sim (word ∷ []) = bytes_eq word (codes "sim")
-is_sim (word ∷ other ∷ words) = false
 
 -- the text states a scene, whose run ends before its logs are full, and these bytes are the report of its record
 pub record IsReportOf (text bytes : List ℕ) : Type 0 where

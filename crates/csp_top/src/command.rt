@@ -1,28 +1,30 @@
-//! The command line: exactly `sim`.
+//! The command that the words name.
 
-ghost use Rattle.std.specs.Prelude.{◌≡◌, ◌≢◌, ◌+◌, ◌↔◌, ℕ, false, Err, IfSome, map};
+ghost use Rattle.std.specs.Prelude.{◌≡◌, ◌≢◌, ◌+◌, ◌↔◌, ℕ, Err, IfSome, map};
 ghost use Rattle.std.specs.String.{string_bytes};
 ghost use Rattle.csp_base.specs.Faults.{Rose};
 ghost use Rattle.csp_base.specs.Transfer.{TookExactly};
 ghost use Rattle.csp_scene.specs.Judge.{scene_of};
 ghost use Rattle.csp_scene.specs.declared.refusal.SceneKind.{SceneKind};
-ghost use Rattle.csp_top.specs.Main.{is_sim, WroteReport, WrotePart, WasRead, WroteWhole, IsPastEntries};
+ghost use Rattle.csp_top.specs.Main.{WroteReport, WrotePart, WasRead, WroteWhole, IsPastEntries};
+ghost use Rattle.csp_words.specs.Grammar.{command_of};
 
 use crate::simulation::sim_main;
 use crate::status::{LimitKind, MAX_SCENARIO, Status};
 use csp_base::{Sink, Source};
+use csp_words::{Command, WordsError, command};
 use csp_world::MAX_ENTRIES;
 use std::alloc::Global;
 
 /// Runs the command that the words name, over the source and the sink. `words` doesn't hold the program's
-/// name. Any words but exactly `sim` are refused, and then nothing is read.
+/// name. Words outside the grammar are refused, and then nothing is read.
 pub fn csp_main<S: Source, K: Sink>(
     alloc: Global,
     words: &[String],
     source: &mut S,
     sink: &mut K,
 ) -> Status
-    ensures words { (result ≡ Status.Words) ↔ (is_sim (map string_bytes words.now) ≡ false) }
+    ensures words { (result ≡ Status.Words) ↔ (command_of (map string_bytes words.now) ≡ Err WordsError.Grammar) }
     ensures unread { result ≡ Status.Words → source.new ≡ source.old }
     ensures done { result ≡ Status.Done → IfSome (S.left source.old) (λ text. WroteReport text (K.written sink.old) (K.written sink.new)) }
     ensures places { result ≡ Status.Done → WroteWhole (K.written sink.old) (K.written sink.new) }
@@ -40,19 +42,8 @@ pub fn csp_main<S: Source, K: Sink>(
     ensures entries_read { (number : ℕ) → result ≡ Status.Limit LimitKind.Entries number → WasRead (S.left source.old) (S.left source.new) }
     ensures unwritten { result ≢ Status.Done → result ≢ Status.WriteFault → sink.new ≡ sink.old }
 {
-    if is_sim(words) {
-        sim_main(alloc, source, sink)
-    } else {
-        Status::Words
-    }
-}
-
-/// Whether the words are exactly `sim`.
-fn is_sim(words: &[String]) -> bool
-    ensures { result ≡ is_sim (map string_bytes words.now) }
-{
-    match words {
-        [word] => word.as_str() == "sim",
-        _ => false,
+    match command(words) {
+        Ok(Command::Sim) => sim_main(alloc, source, sink),
+        Err(_) => Status::Words,
     }
 }
