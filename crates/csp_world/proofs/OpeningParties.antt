@@ -24,7 +24,7 @@ use Rattle.csp_log.specs.declared.places.Rule.TheVariants as rule
 use Rattle.csp_nodes.specs.DecksAt.{DecksAt}
 use Rattle.csp_nodes.specs.Fresh.{fresh_buffers}
 use Rattle.csp_nodes.specs.Serving.{at_end, of_frames, rule_there}
-use Rattle.csp_party.specs.Any.{plain, uses, holds, PlainParty, a_bridge, an_iface, an_app}
+use Rattle.csp_party.specs.Any.{plain, uses, holds, PlainParty, a_bridge, an_iface, an_app, count}
 use Rattle.csp_party.specs.declared.any.AnyParty.TheVariants as party
 use Rattle.csp_record.specs.declared.who.Who.TheVariants as who
 use Rattle.csp_route.specs.Routes.{Routes}
@@ -122,7 +122,7 @@ pub router_new : Stands → (w : PlainWorld) (place addr : ℕ) (n : PlainNode) 
     → plain (party.Router r) ≡ router_for (config_of place addr n links) → IsNew w (who.Router place) (party.Router r)
 router_new stands w place addr n links r at e = record {
   ready = λ later until goes. tt;
-  counted = refl;
+  counted = ap count e;
   served = λ q s u. there_at w.decks place n links q s at (router_there stands place addr n links q s (subst (λ (p : PlainParty). uses p q ≡ Some s) e u));
   called = tt;
   holds = ap holds e;
