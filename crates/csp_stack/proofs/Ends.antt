@@ -11,7 +11,6 @@ use Rattle.csp_conn.specs.declared.slot.Slot.{Slot}
 use Rattle.csp_conn.specs.declared.slot.Slot.TheVariants.{Free, Held, Open}
 use Rattle.csp_log.specs.declared.note.Note.{Note}
 use Rattle.csp_log.specs.declared.note.Note.TheVariants as note
-use Rattle.csp_socket.specs.Bound.{owner_of}
 use Rattle.csp_stack.specs.PlainPorts.{PlainPorts, accepted, answered, answered_by, bind_by, close, close_by, connect, connect_by, ended_by, ends, fresh, terms_at, with_terms}
 use Rattle.csp_stack.specs.declared.owed.Owed.{Owed}
 use Rattle.csp_stack.specs.declared.request.Request.{Request}

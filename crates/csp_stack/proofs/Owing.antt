@@ -1,6 +1,6 @@
 -- answers owed: to each application one at most, and so no more than there are applications
 use Rattle.std.specs.Prelude.{IfSome, get_or, replicate}
-use Rattle.std.proofs.Common.{◌≡◌, ℕ, zero, suc, None, ◌+◌, ◌<◌, ◌≤◌, ◌==◌, eqb, Bool, true, false, cond, nat_lt, List, [], ◌∷◌, ◌++◌, length, drop, refl, arith, ap, ◌∙◌}
+use Rattle.std.proofs.Common.{◌≡◌, ℕ, zero, suc, None, ◌+◌, ◌<◌, ◌≤◌, eqb, Bool, true, false, cond, nat_lt, List, [], ◌∷◌, ◌++◌, length, drop, refl, arith, ap}
 use Rattle.std.specs.List.{All, count_by}
 use Rattle.std.proofs.lemmas.Bool.{eqb-true, eqb-false, ltb-true, ltb-false}
 use Rattle.std.proofs.lemmas.List.Elements.{All-cons, All-head, All-tail, All-append}

@@ -1,8 +1,6 @@
 -- what ports come to, and what holds of them then
-use Rattle.std.proofs.Common.{◌≡◌, ◌≢◌, ℕ, ◌+◌, ◌<◌, ◌≤◌, Bool, true, false, nat_lt, List, [], ◌∷◌, drop, Option, None, Some, Result, Ok, Err, ◌↔◌, refl, arith, sym, subst, ◌∙◌}
-use Rattle.std.specs.List.{All}
+use Rattle.std.proofs.Common.{◌≡◌, ℕ, ◌<◌, ◌≤◌, Bool, true, false, nat_lt, Option, None, Some, Result, Err, ◌↔◌, refl, arith, sym, ◌∙◌}
 use Rattle.std.proofs.lemmas.Bool.{ltb-true, ltb-false}
-use Rattle.std.proofs.lemmas.List.Elements.{All-drop}
 use Rattle.csp_conn.specs.PlainConns.{PlainConns}
 use Rattle.csp_log.specs.declared.note.Note.TheVariants as note
 use Rattle.csp_log.specs.declared.note.Why.{Why}
@@ -11,7 +9,7 @@ use Rattle.csp_socket.specs.Bound.{owner_of, with_owner}
 use Rattle.csp_socket.specs.declared.sockets.BindError.{BindError}
 use Rattle.csp_socket.specs.declared.sockets.BindError.TheVariants as bind_error
 use Rattle.csp_socket.specs.declared.sockets.TheConstants.{BINDABLE_PORTS}
-use Rattle.csp_stack.specs.Kept.{ArePorts, IsOwed}
+use Rattle.csp_stack.specs.Kept.{ArePorts}
 use Rattle.csp_stack.specs.PlainPorts.{PlainPorts, bind, bind_by, owing}
 use Rattle.csp_stack.specs.declared.ports.Ports.TheInside.{Inside}
 
