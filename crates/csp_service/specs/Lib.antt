@@ -1,0 +1,5 @@
+pub mod Services
+pub mod Counting
+pub mod Facts
+pub mod Clock
+pub mod Answers

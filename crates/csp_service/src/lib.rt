@@ -1,0 +1,18 @@
+//! The services of a node: what it answers at the ports that no application binds. A reply is a function of
+//! the request, of what the node knows and of the time.
+#![tactic(auto)]
+
+mod answers;
+mod clock;
+mod facts;
+mod memory;
+mod requests;
+mod service;
+mod stats;
+#[cfg(test)]
+mod tests;
+
+pub use answers::{REBOOT, SHUTDOWN, Served, ServiceError, answer};
+pub use facts::{Facts, IFACE_ROOM, MEMORY};
+pub use service::Service;
+pub use stats::{Count, Stats};
