@@ -4,6 +4,7 @@ ghost use Rattle.std.specs.Prelude.{◌≡◌, ◌<◌, ◌≤◌, ◌^◌, [], 
 ghost use Rattle.csp_cmp.specs.Reading.{decoded};
 ghost use Rattle.csp_cmp.specs.Requests.{chunk_in};
 ghost use Rattle.csp_cmp.specs.Replies.{ident_bytes};
+ghost use Rattle.csp_route.specs.Routes.{IsWithin};
 ghost use Rattle.csp_service.specs.Answers.{answered, outcome, rebooted, replied, requested};
 
 use crate::clock::{seconds, tell_clock};
@@ -65,11 +66,12 @@ pub fn answer(port: Port, request: &[u8], facts: &mut Facts, now: u64, out: &mut
     ensures value { outcome result out.new.items facts.new ≡ answered port request.now facts.old now }
     ensures kept { (error : ServiceError) → result ≡ Served.Refused error → facts.new ≡ facts.old }
 
-    // What the next call asks of the facts.
+    // What the next call asks of the facts, and what a router asks of its table.
     ensures ifaces { facts.new.ifaces ≡ facts.old.ifaces }
     ensures stats { facts.new.stats ≡ facts.old.stats }
     ensures clock { facts.new.clock <ℤ pos (2 ^ 62) }
     ensures ahead { pos 0 ≤ℤ (facts.new.clock +ℤ pos now) }
+    ensures known { IsWithin (length facts.old.ifaces) facts.old.routes → IsWithin (length facts.new.ifaces) facts.new.routes }
 {
     out.clear();
     match Service::at(port) {
@@ -95,6 +97,7 @@ fn answer_cmp(request: &[u8], facts: &mut Facts, now: u64, out: &mut CmpReply) -
     ensures stats { facts.new.stats ≡ facts.old.stats }
     ensures clock { facts.new.clock <ℤ pos (2 ^ 62) }
     ensures ahead { pos 0 ≤ℤ (facts.new.clock +ℤ pos now) }
+    ensures known { IsWithin (length facts.old.ifaces) facts.old.routes → IsWithin (length facts.new.ifaces) facts.new.routes }
 {
     match decode(request) {
         Ok(request) => serve(request, facts, now, out),
@@ -116,6 +119,7 @@ fn serve(request: CmpRequest, facts: &mut Facts, now: u64, out: &mut CmpReply) -
     ensures stats { facts.new.stats ≡ facts.old.stats }
     ensures clock { facts.new.clock <ℤ pos (2 ^ 62) }
     ensures ahead { pos 0 ≤ℤ (facts.new.clock +ℤ pos now) }
+    ensures known { IsWithin (length facts.old.ifaces) facts.old.routes → IsWithin (length facts.new.ifaces) facts.new.routes }
 {
     match request {
         CmpRequest::Ident => tell_name(facts, out),

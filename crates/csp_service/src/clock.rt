@@ -20,6 +20,7 @@ pub(crate) fn tell_clock(
     requires now { now < 2 ^ 62 }
     ensures value { outcome result out.new.items facts.new ≡ told_clock (set_by sec nsec facts.old.clock now) facts.old now }
     ensures replied { result ≡ Served.Reply }
+    ensures routes { facts.new.routes ≡ facts.old.routes }
     ensures ifaces { facts.new.ifaces ≡ facts.old.ifaces }
     ensures stats { facts.new.stats ≡ facts.old.stats }
     ensures clock { facts.new.clock <ℤ pos (2 ^ 62) }

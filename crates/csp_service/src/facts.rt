@@ -1,5 +1,8 @@
 //! What a node's services know and change.
 
+ghost use Rattle.std.specs.Prelude.{◌≡◌, ◌≤◌, replicate};
+ghost use Rattle.csp_service.specs.Counting.{no_stats};
+
 use crate::Stats;
 use arrayvec::ArrayVec;
 use csp_base::Name;
@@ -44,4 +47,38 @@ impl Model for Facts {
     ghost view = { λ f. record { name = f.name.bytes; routes = f.routes; ifaces = map (λ n. n.bytes) f.ifaces.items; stats = f.stats.items; memory = f.memory; clock = f.clock } };
 
     ghost invariant = { λ f. length f.memory ≡ MEMORY };
+}
+
+impl Facts {
+    ghost use Rattle.std.specs.Prelude.{◌≡◌};
+    ghost use Rattle.csp_route.specs.Text.{names_of};
+    ghost use Rattle.csp_service.specs.Facts.{new_facts};
+
+    /// What a node of this name, with these routes and interfaces, knows before it is asked anything: nothing
+    /// is counted, its memory is zero, and its clock shows the time.
+    pub fn new(name: Name, routes: Table, ifaces: ArrayVec<Name, IFACE_ROOM>) -> Facts
+        ensures { result ≡ new_facts name.bytes routes (names_of ifaces.items) }
+    {
+        let stats = no_stats(ifaces.len());
+        Facts {
+            name,
+            routes,
+            ifaces,
+            stats,
+            memory: [0; MEMORY],
+            clock: 0,
+        }
+    }
+}
+
+/// The counts of so many interfaces before anything is counted.
+fn no_stats(count: usize) -> ArrayVec<Stats, IFACE_ROOM>
+    requires { count ≤ IFACE_ROOM }
+    ensures { result.items ≡ replicate count no_stats }
+{
+    let mut stats = ArrayVec::new();
+    for _ in 0..count {
+        stats.push(Stats::new());
+    }
+    stats
 }

@@ -32,6 +32,7 @@ pub(crate) fn poke(
     requires empty { out.old.items ≡ [] }
     ensures value { outcome result out.new.items facts.new ≡ poked addr bytes facts.old }
     ensures kept { (error : ServiceError) → result ≡ Served.Refused error → facts.new ≡ facts.old }
+    ensures routes { facts.new.routes ≡ facts.old.routes }
     ensures ifaces { facts.new.ifaces ≡ facts.old.ifaces }
     ensures stats { facts.new.stats ≡ facts.old.stats }
     ensures clock { facts.new.clock ≡ facts.old.clock }

@@ -5,6 +5,7 @@ ghost use Rattle.std.specs.List.{position};
 ghost use Rattle.std.specs.Str.{bytes_eq};
 ghost use Rattle.csp_cmp.specs.declared.request.CmpRequest.TheVariants as request;
 ghost use Rattle.csp_cmp.specs.Replies.{same_bytes};
+ghost use Rattle.csp_route.specs.Routes.{IsWithin};
 ghost use Rattle.csp_route.specs.Text.{names_of};
 ghost use Rattle.csp_service.specs.Answers.{hop_of, iface_of, name_in, outcome, routed, row_asked, told_stats};
 
@@ -30,6 +31,7 @@ pub(crate) fn set_route(
     ensures ifaces { facts.new.ifaces ≡ facts.old.ifaces }
     ensures stats { facts.new.stats ≡ facts.old.stats }
     ensures clock { facts.new.clock ≡ facts.old.clock }
+    ensures known { IsWithin (length facts.old.ifaces) facts.old.routes → IsWithin (length facts.new.ifaces) facts.new.routes }
 {
     match row_asked(dest, via, iface, facts.ifaces.as_slice()) {
         Ok(row) => match facts.routes.set(row) {
@@ -48,6 +50,7 @@ fn row_asked(dest: u8, via: u8, field: [u8; NAME_LEN], ifaces: &[Name]) -> Resul
     requires { length ifaces.now ≤ IFACE_ROOM }
     ensures value { result ≡ row_asked dest via field (names_of ifaces.now) }
     ensures mask { IfOk result (λ row. row.mask ≤ MAX_MASK) }
+    ensures known { IfOk result (λ row. row.iface < length ifaces.now) }
 {
     let Some(addr) = Addr::new(dest) else {
         return Err(ServiceError::BadAddress);

@@ -17,16 +17,8 @@ fn node(rt: &impl Abort) -> Facts
 {
     let mut ifaces = ArrayVec::new();
     ifaces.push(Name::from("bus").ok().expect(rt, "a short name"));
-    let mut stats = ArrayVec::new();
-    stats.push(Stats::new());
-    Facts {
-        name: Name::from("payload").ok().expect(rt, "a short name"),
-        routes: Table::new(),
-        ifaces,
-        stats,
-        memory: [0; MEMORY],
-        clock: 0,
-    }
+    let name = Name::from("payload").ok().expect(rt, "a short name");
+    Facts::new(name, Table::new(), ifaces)
 }
 
 /// What is refused, by port and request.
