@@ -6,11 +6,12 @@ ghost use Rattle.csp_service.specs.Counting.{no_stats};
 use crate::Stats;
 use arrayvec::ArrayVec;
 use csp_base::Name;
+use csp_log::IFACES;
 use csp_route::Table;
 use std::marker::Model;
 
 /// The most interfaces of a node.
-pub const IFACE_ROOM: usize = 12;
+pub const IFACE_ROOM: usize = IFACES as usize;
 
 /// The bytes of memory that a node's memory service has.
 pub const MEMORY: usize = 1024;
