@@ -6,6 +6,7 @@ ghost use Rattle.csp_lists.specs.PlainDeck.{rule_of};
 ghost use Rattle.csp_log.specs.declared.places.QueueId.{QueueId};
 ghost use Rattle.csp_log.specs.declared.places.Rule.{Rule};
 ghost use Rattle.csp_stack.specs.Config.{IsConfig};
+ghost use Rattle.csp_stack.specs.Party.{count_of};
 ghost use Rattle.csp_vectors.specs.Bench.{Serves};
 
 use arrayvec::ArrayVec;
@@ -84,6 +85,7 @@ fn config<R: Abort>(rt: &R) -> StackConfig
 /// The lists of node 1 with one buffer, and its router.
 fn opened<R: Abort>(rt: &R, alloc: Global) -> (ListDeck, Stack)
     ensures serves { Serves result.1 result.0 }
+    ensures counted { count_of result.1.router ≡ 0 }
     ensures up { rule_of result.0.deck (QueueId.Up 0) ≡ Some (Rule.Lane Carries.Up) }
 {
     let (memory, buffers) = match Memory::open(alloc, 1) {
@@ -149,8 +151,10 @@ fn step(
     desk: &mut Desk,
 )
     requires serves { Serves router.old deck.old }
+    requires counted { count_of router.old.router ≤ length log.old.entries }
     requires room { 0 < log.old.spare }
     ensures serves { Serves router.new deck.new }
+    ensures counted { count_of router.new.router ≤ length log.new.entries }
     ensures room { log.old.spare ≤ log.new.spare + 1 }
 {
     turn(router, deck, log, spares, desk, 0);

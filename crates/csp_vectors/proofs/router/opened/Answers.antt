@@ -13,3 +13,6 @@ returns-clause-serves g c =
 
 pub returns-clause-up : goal.returns-clause-up
 returns-clause-up g c = rw c.in-Ok-open-2.ensures.ok refl
+
+pub returns-clause-counted : goal.returns-clause-counted
+returns-clause-counted g c = rw c.in-Ok-open.ensures refl
