@@ -1,5 +1,5 @@
 -- What a log's entries tell of connections, one entry after the other.
-use Rattle.std.proofs.Common.{◌≡◌, ℕ, zero, suc, ◌+◌, Bool, true, false, cond, ◌&&◌, eqb, None, Some, List, [], ◌∷◌, ◌++◌, refl, sym, ap, ◌∙◌, take, drop, add-one, append-nil, append_assoc, unwrap_or, arith}
+use Rattle.std.proofs.Common.{◌≡◌, ℕ, zero, suc, ◌+◌, ◌≤◌, Bool, true, false, cond, ◌&&◌, eqb, Option, None, Some, List, [], ◌∷◌, ◌++◌, refl, sym, ap, ◌∙◌, drop, add-one, append-nil, append_assoc, unwrap_or, replicate, arith}
 use Rattle.std.proofs.lemmas.Bool.{eqb-true}
 use Rattle.std.proofs.lemmas.Bool.Decides.{nat_tests}
 use Rattle.std.specs.BTreeMap as tree
@@ -14,8 +14,8 @@ use Rattle.csp_log.specs.declared.entry.Entry.{Entry}
 use Rattle.csp_log.specs.declared.event.Event.{Event}
 use Rattle.csp_log.specs.declared.noted.Noted.{Noted}
 use Rattle.csp_log.specs.declared.noted.Noted.TheVariants as noted
-use Rattle.csp_record.specs.declared.connections.Opening.{Opening}
-use Rattle.csp_record.specs.Connections.{told_free, opened_by, openings_after}
+use Rattle.csp_record.specs.Ends.{Ends, no_ends, ended, counted, freed_by}
+use Rattle.csp_record.specs.declared.payloads.Way.{Way}
 use Rattle.csp_record.specs.Traffic.{pair_cmp, payloads_on, Gains}
 
 abbrev Table : Type 0
@@ -60,33 +60,48 @@ Gains-one old mid new slot ordinal payload list is out in' = λ s o. by s o (eqb
         ∙ out (s, o) ∙ ap (λ b. cond b None (tree.get pair_cmp old (s, o))) (key-is slot ordinal s o ∙ h))
         ∙ sym (append-nil (payloads_on old.entries s o))
 
--- what a function gives of a list with its next element
-pub flat-next : {X Y : Type 0} (f : X → List Y) (xs : List X) (k : ℕ) → flat_map f (take k xs) ++ option_map_or f (slice_get xs k) [] ≡ flat_map f (take (k + 1) xs)
-flat-next {X} {Y} f xs k = by xs k ∙ ap (λ m. flat_map f (take m xs)) (sym (add-one k))
+-- counts of nothing are no ends
+pub counted-none : (n : ℕ) → counted (replicate n 0) ≡ no_ends
+counted-none n = λ i slot. zeros n slot i
   where
-    by : (xs : List X) (k : ℕ) → flat_map f (take k xs) ++ option_map_or f (slice_get xs k) [] ≡ flat_map f (take (suc k) xs)
-    by [] zero = refl
-    by [] (suc k) = refl
-    by (x ∷ xs) zero = sym (append-nil (f x))
-    by (x ∷ xs) (suc k) = append_assoc (f x) (flat_map f (take k xs)) (option_map_or f (slice_get xs k) []) ∙ ap (λ t. f x ++ t) (by xs k)
+    zeros : (n slot : ℕ) → counted (replicate n 0) slot ≡ no_ends slot
+    zeros zero slot = refl
+    zeros (suc n) zero = refl
+    zeros (suc n) (suc slot) = zeros n slot
 
-from_next : (app : ℕ) (freed : List ℕ) (entries : List Entry) (k : ℕ) (events : List Event) (note : Noted)
-    → option_map (λ e. e.events.items) (slice_get entries k) ≡ Some events → option_map noted_in (slice_get entries k) ≡ Some note
-    → openings_after app freed (drop k entries) ≡ flat_map (opened_by app freed) events ++ openings_after app (freed ++ told_free app note) (drop (suc k) entries)
-from_next app freed [] k events note e n = cc
-from_next app freed (x ∷ xs) zero events note e n =
-    let ev : x.events.items ≡ events = ap (λ o. unwrap_or o []) e in
-    let nt : noted_in x ≡ note = ap (λ o. unwrap_or o noted.NoNote) n in
-    ap (λ es. flat_map (opened_by app freed) es ++ openings_after app (freed ++ told_free app (noted_in x)) xs) ev
-    ∙ ap (λ t. flat_map (opened_by app freed) events ++ openings_after app (freed ++ told_free app t) xs) nt
-from_next app freed (x ∷ xs) (suc k) events note e n = from_next app freed xs k events note e n
+-- with one entry more, each slot has at most one end more
+pub ended-few : (freed : Option ℕ) (ends more : Ends) (most : ℕ) → more ≡ ended freed ends → ((slot : ℕ) → ends slot ≤ most) → (slot : ℕ) → more slot ≤ most + 1
+ended-few freed ends more most is few slot = rw (is) (by freed)
+  where
+    one : (b : Bool) → cond b (ends slot + 1) (ends slot) ≤ most + 1
+    one true = omega (arith, few slot)
+    one false = omega (arith, few slot)
 
--- the openings with those of the next entry, and then those that are still to come
-pub openings-next : (app : ℕ) (entries : List Entry) (k : ℕ) (events : List Event) (note : Noted) (list more whole : List Opening) (freed freed_more : List ℕ)
-    → option_map (λ e. e.events.items) (slice_get entries k) ≡ Some events → option_map noted_in (slice_get entries k) ≡ Some note
-    → more ≡ list ++ flat_map (opened_by app freed) events → freed_more ≡ freed ++ told_free app note
-    → list ++ openings_after app freed (drop k entries) ≡ whole → more ++ openings_after app freed_more (drop (k + 1) entries) ≡ whole
-openings-next app entries k events note list more whole freed freed_more e n m f before =
-    rw (m, f, add-one k)
-    (append_assoc list (flat_map (opened_by app freed) events) (openings_after app (freed ++ told_free app note) (drop (suc k) entries))
-    ∙ ap (λ t. list ++ t) (sym (from_next app freed entries k events note e n)) ∙ before)
+    by : (freed : Option ℕ) → ended freed ends slot ≤ most + 1
+    by None = omega (arith, few slot)
+    by (Some other) = one (eqb slot other)
+
+-- what is told entry by entry, where the ends before each entry decide
+module _ {Y : Type 0} (which : Way) (app : ℕ) (told : Ends → Entry → List Y) (after : Ends → List Entry → List Y)
+    (after-cons : (ends : Ends) (e : Entry) (entries : List Entry) → after ends (e ∷ entries) ≡ told ends e ++ after (ended (freed_by which app (noted_in e)) ends) entries) where
+  from_next : (ends : Ends) (entries : List Entry) (k : ℕ) (note : Noted) → option_map noted_in (slice_get entries k) ≡ Some note
+      → after ends (drop k entries) ≡ option_map_or (told ends) (slice_get entries k) [] ++ after (ended (freed_by which app note) ends) (drop (suc k) entries)
+  from_next ends [] k note is = cc
+  from_next ends (e ∷ entries) zero note is =
+      after-cons ends e entries ∙ ap (λ n. told ends e ++ after (ended (freed_by which app n) ends) entries) (ap (λ o. unwrap_or o noted.NoNote) is)
+  from_next ends (e ∷ entries) (suc k) note is = from_next ends entries k note is
+
+  -- what was told so far with what the next entry tells, and then what is still to come
+  pub told-next : (ends more_ends : Ends) (entries : List Entry) (k : ℕ) (note : Noted) (so_far here whole : List Y)
+      → option_map noted_in (slice_get entries k) ≡ Some note → more_ends ≡ ended (freed_by which app note) ends → here ≡ option_map_or (told ends) (slice_get entries k) []
+      → so_far ++ after ends (drop k entries) ≡ whole → (so_far ++ here) ++ after more_ends (drop (k + 1) entries) ≡ whole
+  told-next ends more_ends entries k note so_far here whole is more tells before =
+      rw (more, tells, add-one k)
+      (append_assoc so_far (option_map_or (told ends) (slice_get entries k) []) (after (ended (freed_by which app note) ends) (drop (suc k) entries))
+      ∙ ap (λ t. so_far ++ t) (sym (from_next ends entries k note is)) ∙ before)
+
+-- what the events of an entry tell
+pub told-events : {Y : Type 0} (f : Event → List Y) (o : Option Entry) (events : List Event) → option_map (λ e. e.events.items) o ≡ Some events
+    → flat_map f events ≡ option_map_or (λ e. flat_map f e.events.items) o []
+told-events f None events is = cc
+told-events f (Some e) events is = ap (λ (o : Option (List Event)). flat_map f (unwrap_or o [])) (sym is)

@@ -1,4 +1,5 @@
 pub mod Connections
+pub mod Ends
 pub mod Passed
 pub mod Payloads
 pub mod Record

@@ -4,9 +4,12 @@ ghost use Rattle.std.specs.Prelude.{◌≡◌, ◌++◌, ◌<◌, [], length, sl
 ghost use Rattle.std.specs.List.{flat_map};
 ghost use Rattle.std.specs.Option.{option_map_or};
 ghost use Rattle.csp_log.specs.Noting.{noted_in};
-ghost use Rattle.csp_record.specs.Connections.{told_free, ends_of, opened_by, openings};
+ghost use Rattle.csp_record.specs.Connections.{opened_by, openings};
+ghost use Rattle.csp_record.specs.Ends.{counted};
 
-use csp_log::{Event, Log, Note, Noted, QueueId};
+use crate::ends::Ends;
+use crate::payloads::Way;
+use csp_log::{Event, Log};
 use std::alloc::{AllocError, Global};
 
 /// A connection that became open.
@@ -22,21 +25,14 @@ pub struct Opening {
     pub peer: Option<(u8, u32)>,
 }
 
-/// How often a slot is among those that were freed.
-fn ends_of(slot: u8, freed: &[u8]) -> u64
-    ensures { result ≡ ends_of slot freed.now }
-{
-    freed.iter().filter(|other| **other == slot).count() as u64
-}
-
 /// Appends the connection of this application that an event tells to be open.
 fn add_opening(
     list: &mut Vec<Opening>,
     app: usize,
-    freed: &[u8],
+    ends: &Ends,
     event: Event,
 ) -> Result<(), AllocError>
-    ensures { OnOk result (list.new.items ≡ list.old.items ++ opened_by app freed.now event) }
+    ensures { OnOk result (list.new.items ≡ list.old.items ++ opened_by app (counted ends.now) event) }
 {
     match event {
         Event::Opened {
@@ -47,7 +43,7 @@ fn add_opening(
         } if usize::from(number) == app => {
             list.push(Opening {
                 slot,
-                ordinal: ends_of(slot, freed),
+                ordinal: ends.of(slot),
                 nth,
                 peer,
             })?;
@@ -61,29 +57,15 @@ fn add_opening(
 fn add_openings(
     list: &mut Vec<Opening>,
     app: usize,
-    freed: &[u8],
+    ends: &Ends,
     events: &[Event],
 ) -> Result<(), AllocError>
-    ensures { OnOk result (list.new.items ≡ list.old.items ++ flat_map (opened_by app freed.now) events.now) }
+    ensures { OnOk result (list.new.items ≡ list.old.items ++ flat_map (opened_by app (counted ends.now)) events.now) }
 {
     for event in events {
-        add_opening(list, app, freed, *event)?;
+        add_opening(list, app, ends, *event)?;
     }
     Ok(())
-}
-
-/// Appends the slot of this application that a note tells to be free again.
-fn add_freed(freed: &mut Vec<u8>, app: usize, noted: Noted) -> Result<(), AllocError>
-    ensures { OnOk result (freed.new.items ≡ freed.old.items ++ told_free app noted) }
-{
-    match noted {
-        Noted::Pushed(QueueId::Down(number), Note::Closed { slot }) if usize::from(number) == app =>
-            {
-                freed.push(slot)?;
-                Ok(())
-            }
-        _ => Ok(()),
-    }
 }
 
 /// The connections of this application that became open, in order of time, by the log of its router.
@@ -91,10 +73,10 @@ pub fn openings(alloc: Global, log: &Log, app: usize) -> Result<Vec<Opening>, Al
     ensures { IfOk result (λ list. list.items ≡ openings app log.now.entries) }
 {
     let mut list = Vec::new(alloc);
-    let mut freed = Vec::new(alloc);
+    let mut ends = Ends::none();
     for index in 0..log.len() {
-        add_openings(&mut list, app, freed.as_slice(), log.events(index))?;
-        add_freed(&mut freed, app, log.noted(index))?;
+        add_openings(&mut list, app, &ends, log.events(index))?;
+        ends.note(Way::Sent, app, log.noted(index));
     }
     Ok(list)
 }

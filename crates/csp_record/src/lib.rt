@@ -4,6 +4,7 @@
 
 mod connections;
 mod counts;
+mod ends;
 mod payloads;
 mod record;
 mod transmissions;

@@ -3,9 +3,11 @@
 ghost use Rattle.std.specs.Prelude.{◌≡◌, ◌==◌, ◌&&◌, ◌++◌, ◌∷◌, ◌<◌, if◌then◌else◌, ℕ, [], Some, length, slice_get, unwrap_or, OnOk, IfOk};
 ghost use Rattle.std.specs.List.{flat_map};
 ghost use Rattle.std.specs.Option.{option_map, option_map_or};
-ghost use Rattle.csp_record.specs.Payloads.{leads, carried, is_on, told_on, payloads_in, sent, took};
+ghost use Rattle.csp_record.specs.Ends.{no_ends, counted};
+ghost use Rattle.csp_record.specs.Payloads.{leads, carried, is_on, told_on, payloads_in, payloads_after, sent, took};
 ghost use Rattle.csp_record.specs.Traffic.{payloads_on, Gains};
 
+use crate::ends::Ends;
 use csp_log::{Event, Log, Moved, QueueId};
 use std::alloc::{AllocError, Global};
 use std::collections::BTreeMap;
@@ -155,15 +157,16 @@ fn add<'a>(
 fn add_event<'a>(
     alloc: Global,
     table: &mut Table<'a>,
+    ends: &Ends,
     way: Way,
     payload: &'a [u8],
     event: Event,
 ) -> Result<(), AllocError>
-    ensures { OnOk result (Gains table.old.entries table.new.entries (λ s o. if is_on way s o event then payload.now ∷ [] else [])) }
+    ensures { OnOk result (Gains table.old.entries table.new.entries (λ s o. if is_on way s o (counted ends.now) event then payload.now ∷ [] else [])) }
 {
     match (way, event) {
-        (Way::Sent, Event::Sent { slot, ordinal }) | (Way::Took, Event::Took { slot, ordinal }) => {
-            add(alloc, table, slot, u64::from(ordinal), payload)
+        (Way::Sent, Event::Sent { slot, .. }) | (Way::Took, Event::Took { slot, .. }) => {
+            add(alloc, table, slot, ends.of(slot), payload)
         }
         _ => Ok(()),
     }
@@ -173,14 +176,15 @@ fn add_event<'a>(
 fn add_told<'a>(
     alloc: Global,
     table: &mut Table<'a>,
+    ends: &Ends,
     way: Way,
     payload: &'a [u8],
     events: &[Event],
 ) -> Result<(), AllocError>
-    ensures { OnOk result (Gains table.old.entries table.new.entries (λ s o. told_on way s o events.now (Some payload.now))) }
+    ensures { OnOk result (Gains table.old.entries table.new.entries (λ s o. told_on way s o (counted ends.now) events.now (Some payload.now))) }
 {
     for event in events {
-        add_event(alloc, table, way, payload, *event)?;
+        add_event(alloc, table, ends, way, payload, *event)?;
     }
     Ok(())
 }
@@ -189,16 +193,17 @@ fn add_told<'a>(
 fn add_entry<'a>(
     alloc: Global,
     table: &mut Table<'a>,
+    ends: &Ends,
     way: Way,
     app: usize,
     log: &'a Log,
     index: u64,
 ) -> Result<(), AllocError>
     requires { index < length log.now.entries }
-    ensures { OnOk result (Gains table.old.entries table.new.entries (λ s o. option_map_or (payloads_in way app s o) (slice_get log.now.entries index) [])) }
+    ensures { OnOk result (Gains table.old.entries table.new.entries (λ s o. option_map_or (payloads_in way app s o (counted ends.now)) (slice_get log.now.entries index) [])) }
 {
     match carried(&log.moved(index), way, app) {
-        Some(payload) => add_told(alloc, table, way, payload, log.events(index)),
+        Some(payload) => add_told(alloc, table, ends, way, payload, log.events(index)),
         None => Ok(()),
     }
 }
@@ -210,11 +215,13 @@ fn traffic_of<'a>(
     way: Way,
     app: usize,
 ) -> Result<Traffic<'a>, AllocError>
-    ensures { IfOk result (λ traffic. (slot ordinal : ℕ) → payloads_on traffic slot ordinal ≡ flat_map (payloads_in way app slot ordinal) log.now.entries) }
+    ensures { IfOk result (λ traffic. (slot ordinal : ℕ) → payloads_on traffic slot ordinal ≡ payloads_after way app slot ordinal no_ends log.now.entries) }
 {
     let mut table = BTreeMap::new(alloc);
+    let mut ends = Ends::none();
     for index in 0..log.len() {
-        add_entry(alloc, &mut table, way, app, log, index)?;
+        add_entry(alloc, &mut table, &ends, way, app, log, index)?;
+        ends.note(way, app, log.noted(index));
     }
     Ok(Traffic { table })
 }

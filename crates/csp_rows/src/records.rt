@@ -85,12 +85,14 @@ enum Deed {
     Rested,
     /// The router told an application that this slot is free again.
     Freed(QueueId, u8),
+    /// The application heard so.
+    Heard(QueueId, u8),
     /// It popped a packet with this payload from this queue.
     Popped(QueueId, &'static [u8]),
 }
 
 /// The turns of a router: openings on two slots, one of them twice, with payloads sent on them; and the like of
-/// another application.
+/// another application. The last payload's event tells another ordinal than the slot has by its Closed answers.
 #[rattlefmt::skip]
 const ROUTER: [(Deed, &[Event]); 12] = [
     (Deed::Rested, &[Opened { app: 0, slot: 1, nth: None, peer: None }]),
@@ -103,16 +105,17 @@ const ROUTER: [(Deed, &[Event]); 12] = [
     (Deed::Freed(QueueId::Down(1), 0), &[]),
     (Deed::Rested, &[Opened { app: 0, slot: 0, nth: Some(4), peer: None }]),
     (Deed::Popped(QueueId::Up(0), &[1, 2]), &[Sent { slot: 0, ordinal: 1 }]),
-    (Deed::Popped(QueueId::Up(0), &[3]), &[Sent { slot: 0, ordinal: 1 }]),
+    (Deed::Popped(QueueId::Up(0), &[3]), &[Sent { slot: 0, ordinal: 5 }]),
     (Deed::Rested, &[Opened { app: 0, slot: 3, nth: Some(5), peer: Some((2, 0)) }]),
 ];
 
-/// The turns of the application: what it took.
+/// The turns of the application: what it took, before and after it heard that a slot is free again.
 #[rattlefmt::skip]
-const TAKER: [(Deed, &[Event]); 4] = [
+const TAKER: [(Deed, &[Event]); 5] = [
     (Deed::Popped(QueueId::Down(0), &[0xFF]), &[Took { slot: 1, ordinal: 0 }]),
-    (Deed::Popped(QueueId::Down(0), &[9]), &[Took { slot: 0, ordinal: 1 }]),
     (Deed::Popped(QueueId::Down(0), &[8]), &[Took { slot: 0, ordinal: 0 }]),
+    (Deed::Heard(QueueId::Down(0), 0), &[]),
+    (Deed::Popped(QueueId::Down(0), &[9]), &[Took { slot: 0, ordinal: 1 }]),
     (Deed::Popped(QueueId::Down(0), &[7]), &[Took { slot: 2, ordinal: 0 }]),
 ];
 
@@ -125,6 +128,16 @@ fn draft_freed(draft: &mut Draft, queue: QueueId, slot: u8) {
     let op = Op::Push(queue, Item::Note(Note::Closed { slot }));
     draft.ask(&op);
     let _op = unsafe { ManuallyDrop::new_unchecked(op) };
+}
+
+/// Notes that the application popped what tells so.
+fn draft_heard(draft: &mut Draft, queue: QueueId, slot: u8) {
+    let op = Op::Pop(queue);
+    draft.ask(&op);
+    let answer = Answer::Popped(Item::Note(Note::Closed { slot }));
+    draft.answer(&answer);
+    let _op = unsafe { ManuallyDrop::new_unchecked(op) };
+    let _answer = unsafe { ManuallyDrop::new_unchecked(answer) };
 }
 
 /// Notes that a packet with this payload was popped.
@@ -152,6 +165,7 @@ fn draft_deed(alloc: Global, draft: &mut Draft, deed: Deed) {
     match deed {
         Deed::Rested => {}
         Deed::Freed(queue, slot) => draft_freed(draft, queue, slot),
+        Deed::Heard(queue, slot) => draft_heard(draft, queue, slot),
         Deed::Popped(queue, payload) => draft_popped(alloc, draft, queue, payload),
     }
 }

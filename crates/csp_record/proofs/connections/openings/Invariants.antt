@@ -1,7 +1,10 @@
-use Rattle.std.proofs.Common.{◌≡◌, ◌++◌, drop}
+use Rattle.std.proofs.Common.{◌≡◌, ℕ, ◌≤◌, ◌++◌, drop}
 use Rattle.csp_record.specs.Connections.{openings, openings_after}
+use Rattle.csp_record.specs.Ends.{counted}
 use Rattle.csp_record.proofs.connections.openings.Given as goal
 
--- the openings so far, then those of the entries that are still to come, are those of all entries
+-- the openings so far, then those of the entries that are still to come, are those of all entries; and no slot has more ends than there were entries
 abbrev pub invariant-loop-index : goal.invariant-loop-index
-invariant-loop-index l = l.list.items ++ openings_after l.app l.freed.items (drop l.index l.log.entries) ≡ openings l.app l.log.entries
+invariant-loop-index l =
+    (l.list.items ++ openings_after l.app (counted l.ends) (drop l.index l.log.entries) ≡ openings l.app l.log.entries)
+    × ((slot : ℕ) → counted l.ends slot ≤ l.index)

@@ -1,9 +1,11 @@
-use Rattle.std.proofs.Common.{◌≡◌, ℕ, take}
-use Rattle.std.specs.List.{flat_map}
-use Rattle.csp_record.specs.Payloads.{payloads_in}
+use Rattle.std.proofs.Common.{◌≡◌, ℕ, ◌≤◌, ◌++◌, drop}
+use Rattle.csp_record.specs.Ends.{no_ends, counted}
+use Rattle.csp_record.specs.Payloads.{payloads_after}
 use Rattle.csp_record.specs.Traffic.{payloads_on}
 use Rattle.csp_record.proofs.payloads.traffic_of.Given as goal
 
--- what the entries so far tell
+-- what the entries so far told, then what those tell that are still to come, is what all entries tell; and no slot has more ends than there were entries
 abbrev pub invariant-loop-index : goal.invariant-loop-index
-invariant-loop-index l = (slot ordinal : ℕ) → payloads_on l.table.entries slot ordinal ≡ flat_map (payloads_in l.way l.app slot ordinal) (take l.index l.log.entries)
+invariant-loop-index l =
+    ((slot ordinal : ℕ) → payloads_on l.table.entries slot ordinal ++ payloads_after l.way l.app slot ordinal (counted l.ends) (drop l.index l.log.entries) ≡ payloads_after l.way l.app slot ordinal no_ends l.log.entries)
+    × ((slot : ℕ) → counted l.ends slot ≤ l.index)

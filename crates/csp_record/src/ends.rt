@@ -1,0 +1,66 @@
+//! How often each slot of an application was freed, counted along a log.
+
+ghost use Rattle.std.specs.Prelude.{◌≡◌, ℕ, ◌-◌, ◌^◌, ◌<◌};
+ghost use Rattle.csp_record.specs.Ends.{no_ends, ended, freed_by, counted};
+
+use crate::payloads::Way;
+use csp_log::{Note, Noted, QueueId};
+use std::marker::Model;
+
+/// How many numbers a slot may have.
+const SLOT_NUMBERS: usize = 256;
+
+/// The number of Closed answers so far for each slot, which is the ordinal of its present or next connection.
+#[derive(Drop)]
+pub(crate) struct Ends {
+    counts: [u64; SLOT_NUMBERS],
+}
+
+impl Model for Ends {
+    ghost use Rattle.std.specs.Prelude.{ℕ, List};
+
+    ghost Value = { List ℕ };
+
+    ghost view = { λ e. e.counts };
+}
+
+impl Ends {
+    /// No slot was freed.
+    pub(crate) fn none() -> Ends
+        ensures { counted result ≡ no_ends }
+    {
+        Ends {
+            counts: [0; SLOT_NUMBERS],
+        }
+    }
+
+    /// How often this slot was freed.
+    pub(crate) fn of(&self, slot: u8) -> u64
+        ensures { result ≡ counted self.now slot }
+    {
+        self.counts[usize::from(slot)]
+    }
+
+    /// Counts the Closed answer to this application that was moved, if one was: pushed, in a router's log, or
+    /// popped, in the application's own.
+    pub(crate) fn note(&mut self, way: Way, app: usize, noted: Noted)
+        requires { (slot : ℕ) → counted self.old slot < 2 ^ 64 - 1 }
+        ensures { counted self.new ≡ ended (freed_by way app noted) (counted self.old) }
+    {
+        if let Some(slot) = freed(way, app, noted) {
+            self.counts[usize::from(slot)] += 1;
+        }
+    }
+}
+
+/// The slot of this application for which a Closed answer was moved.
+fn freed(way: Way, app: usize, noted: Noted) -> Option<u8>
+    ensures { result ≡ freed_by way app noted }
+{
+    match (way, noted) {
+        (Way::Sent, Noted::Pushed(QueueId::Down(number), Note::Closed { slot }))
+        | (Way::Took, Noted::Popped(QueueId::Down(number), Note::Closed { slot }))
+            if usize::from(number) == app => { Some(slot) }
+        _ => None,
+    }
+}
