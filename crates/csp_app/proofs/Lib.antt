@@ -3,5 +3,4 @@ pub mod Counting
 pub mod Hearing
 pub mod Laws
 pub mod Popping
-pub mod Scripts
 pub mod Takes

@@ -11,8 +11,6 @@ mod progress;
 mod slot;
 mod step;
 mod telling;
-#[cfg(test)]
-mod tests;
 
 pub use app::App;
 pub use step::Step;

@@ -39,14 +39,3 @@ impl Addr {
         self.0
     }
 }
-
-#[cfg(test)]
-mod tests {
-    use super::*;
-
-    #[test]
-    fn addresses_have_five_bits(rt: HostRuntime) {
-        assert!(rt; Addr::new(31).is_some());
-        assert!(rt; Addr::new(32).is_none());
-    }
-}

@@ -39,14 +39,3 @@ impl Port {
         self.0
     }
 }
-
-#[cfg(test)]
-mod tests {
-    use super::*;
-
-    #[test]
-    fn ports_have_six_bits(rt: HostRuntime) {
-        assert!(rt; Port::new(63).is_some());
-        assert!(rt; Port::new(64).is_none());
-    }
-}

@@ -5,8 +5,6 @@ mod buffer;
 mod errors;
 mod memory;
 mod shown;
-#[cfg(test)]
-mod tests;
 mod trail;
 
 pub use buffer::{Buffer, CELL_SIZE};

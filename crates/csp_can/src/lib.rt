@@ -17,6 +17,3 @@ pub use cutting::fragments;
 pub use frames::{CanFrame, MAX_DATA};
 pub use identifiers::{Identifier, Key, Kind};
 pub use partials::{GIVE_UP, MAX_PARTIALS};
-
-#[cfg(test)]
-mod tests;

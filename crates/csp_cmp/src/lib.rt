@@ -8,8 +8,6 @@ mod errors;
 mod reading;
 mod replies;
 mod request;
-#[cfg(test)]
-mod tests;
 
 pub use code::Code;
 pub use errors::CmpError;

@@ -40,24 +40,3 @@ impl Flags for FlagSet {
         FlagSet(bits)
     }
 }
-
-#[cfg(test)]
-mod tests {
-    use super::*;
-
-    #[test]
-    fn flags_have_their_names(rt: HostRuntime) {
-        let rows = [
-            ("CRC32", 0x01),
-            ("RDP", 0x02),
-            ("XTEA", 0x04),
-            ("HMAC", 0x08),
-            ("FRAG", 0x10),
-        ];
-        for (name, bits) in rows {
-            assert_eq!(rt; FlagSet::from_name(name), Some(FlagSet(bits)), "{name}");
-        }
-        assert!(rt; FlagSet(0xe2).contains(FlagSet::RDP));
-        assert!(rt; !FlagSet(0xe2).contains(FlagSet::CRC32));
-    }
-}

@@ -15,8 +15,3 @@ buffers_numbered (b ∷ bs) = ap (λ ns. b.picture.number ∷ ns) (buffers_numbe
 pub items_numbered : (is : List Item) → flat_map (λ i. item_numbers (shown_item i)) is ≡ numbers_of (map shown_item is)
 items_numbered [] = refl
 items_numbered (i ∷ is) = rw (items_numbered is) refl
-
--- as many numbers as buffers
-pub backs_long : (bs : List PlainBuffer) → length (numbers_back bs) ≡ length bs
-backs_long [] = refl
-backs_long (b ∷ bs) = ap suc (backs_long bs)

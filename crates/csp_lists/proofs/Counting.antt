@@ -50,18 +50,6 @@ holders_counted d k =
 pub gathered_all : (d : PlainDeck) (k : ℕ) → times k (buffer_numbers d.pool.items) + times k (queued_numbers d) ≡ times k (numbers_in d)
 gathered_all d k = sym (times-append k (buffer_numbers d.pool.items) (queued_numbers d))
 
--- as many buffers as numbers
-pub buffers_long : (buffers : List Content) → length (buffer_numbers buffers) ≡ length buffers
-buffers_long [] = refl
-buffers_long (b ∷ buffers) = ap suc (buffers_long buffers)
-
--- a deck with just these numbers gives back as many buffers
-pub gathered_count : (d : PlainDeck) (ns : List ℕ) → ((k : ℕ) → times k (numbers_in d) ≡ times k ns) → length d.pool.items + length (queued_numbers d) ≡ length ns
-gathered_count d ns e =
-    ap (λ n. n + length (queued_numbers d)) (sym (buffers_long d.pool.items))
-    ∙ sym (length-append (buffer_numbers d.pool.items) (queued_numbers d))
-    ∙ long_same (numbers_in d) ns e
-
 -- nothing is in the queues at the opening
 opened_none : (inbox : ℕ) (links : List Carries) (ps : List Place) → numbers_among (map (opening_queue inbox links) ps) ≡ []
 opened_none inbox links [] = refl

@@ -11,24 +11,10 @@ use Rattle.csp_buffer.specs.Memory.{PlainMemory, AreAllOf, HaveEachOnce, fresh, 
 use Rattle.csp_buffer.specs.PlainBuffer.{PlainBuffer}
 use Rattle.csp_lists.specs.Gathered.{pictures}
 
--- they are of its region, and as many as it has
-pub fresh_of_it : (m : PlainMemory) → AreAllOf m.region (fresh_all m)
-fresh_of_it m = All-map (λ b. b.region ≡ m.region) (fresh m.region) (range_with_len 0 m.count) (λ k d h. refl)
-
+-- they are as many as it has
 pub fresh_long : (m : PlainMemory) → length (pictures (fresh_all m)) ≡ m.count
 fresh_long m = length-map (fresh_all m) (λ b. b.picture) ∙ length-map (range_with_len 0 m.count) (fresh m.region) ∙ length-range_with_len 0 m.count
 
--- with their pictures, in whatever buffers of the region, there are as many, and each number is there once
+-- with their pictures, in whatever buffers of the region, there are as many
 pub back_long : (m : PlainMemory) (bs : List PlainBuffer) → pictures bs ≡ pictures (fresh_all m) → length bs ≡ m.count
 back_long m bs e = sym (length-map bs (λ b. b.picture)) ∙ ap length e ∙ fresh_long m
-
-numbered : (bs : List PlainBuffer) → map (λ b. b.picture.number) bs ≡ map (λ (c : Content). c.number) (pictures bs)
-numbered [] = refl
-numbered (b ∷ bs) = ap (λ ns. b.picture.number ∷ ns) (numbered bs)
-
-fresh_numbers : (r : RegionName) (ns : List ℕ) → map (λ (c : Content). c.number) (pictures (map (fresh r) ns)) ≡ ns
-fresh_numbers r [] = refl
-fresh_numbers r (n ∷ ns) = ap (λ xs. n ∷ xs) (fresh_numbers r ns)
-
-pub back_once : (m : PlainMemory) (bs : List PlainBuffer) → pictures bs ≡ pictures (fresh_all m) → HaveEachOnce m.count bs
-back_once m bs e k = ap (count_by (λ n. n == k)) (numbered bs ∙ ap (map (λ (c : Content). c.number)) e ∙ fresh_numbers m.region (range_with_len 0 m.count))

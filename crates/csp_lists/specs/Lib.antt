@@ -1,4 +1,3 @@
-pub mod Carrier
 pub mod DeckParts
 pub mod Gathered
 pub mod Order

@@ -11,8 +11,6 @@ mod pool;
 mod queue;
 mod queues;
 mod shape;
-#[cfg(test)]
-mod tests;
 
 pub use laws::{conserves, counts_holders, gathers, keeps_shape, opens, weighs};
 pub use list_deck::ListDeck;

@@ -7,8 +7,6 @@ mod parts;
 mod prefix;
 mod row;
 mod table;
-#[cfg(test)]
-mod tests;
 mod text;
 mod writing;
 

@@ -36,6 +36,3 @@ pub use limits::{
 pub use reading::parse;
 pub use refusal::{SceneError, SceneKind};
 pub use scenario::{Move, Scene, SceneApp, SceneLink, SceneNode, Schedule};
-
-#[cfg(test)]
-mod tests;

@@ -9,8 +9,6 @@ mod memory;
 mod requests;
 mod service;
 mod stats;
-#[cfg(test)]
-mod tests;
 
 pub use answers::{REBOOT, SHUTDOWN, Served, ServiceError, answer};
 pub use facts::{Facts, IFACE_ROOM, MEMORY};

@@ -17,6 +17,3 @@ pub use hexadecimal::{
 };
 pub use naming::{MAX_NAME, is_name, name};
 pub use numeral::{is_decimal, number, push_number};
-
-#[cfg(test)]
-mod tests;

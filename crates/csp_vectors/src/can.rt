@@ -1,8 +1,10 @@
-//! CAN: frames as they stand on the bus, and what a listener makes of hostile ones.
+//! CAN: frames as they stand on the bus, how many a packet has, and what a listener makes of hostile ones.
+
+ghost use Rattle.std.specs.Prelude.{◌≤◌};
 
 mod cases;
 
-use csp_base::{Addr, Trace};
+use csp_base::{Addr, MAX_PAYLOAD, Trace};
 use csp_can::{CanEvent, MAX_DATA, Reassembly, fragments};
 use std::process::Abort;
 use std::test::Fail;
@@ -88,5 +90,24 @@ fn frames_as_written(rt: HostRuntime) -> Result<(), Fail> {
         assert_eq!(rt; frame.bytes.as_slice(), *bytes);
     }
     assert!(rt; frames.next().is_none());
+    Ok(())
+}
+
+/// How many frames a packet with so many bytes of payload has.
+fn count(length: usize, dest: Addr) -> usize
+    requires { length ≤ MAX_PAYLOAD }
+{
+    let bytes = [7; MAX_PAYLOAD];
+    fragments(HEADER, &bytes[..length], dest, 5).count()
+}
+
+#[test]
+fn a_payload_has_as_many_frames_as_it_needs(rt: HostRuntime) -> Result<(), Fail> {
+    let dest = Addr::new(2).ok_or("an address")?;
+    assert_eq!(rt; count(0, dest), 1);
+    assert_eq!(rt; count(2, dest), 1);
+    assert_eq!(rt; count(3, dest), 2);
+    assert_eq!(rt; count(10, dest), 2);
+    assert_eq!(rt; count(256, dest), 33);
     Ok(())
 }

@@ -10,11 +10,15 @@ mod crc;
 #[cfg(test)]
 mod damage;
 #[cfg(test)]
+mod headers;
+#[cfg(test)]
 mod interfaces;
 #[cfg(test)]
 mod kiss;
 #[cfg(test)]
 mod links;
+#[cfg(test)]
+mod numbers;
 #[cfg(test)]
 mod passed;
 #[cfg(test)]
