@@ -5,9 +5,9 @@ use Rattle.std.specs.Option.{option_map, option_map_or}
 use Rattle.std.proofs.lemmas.List.{take-append-drop}
 use Rattle.std.proofs.lemmas.List.Folds.{find-append}
 use Rattle.std.proofs.Math.Seq.{drop-cons, take-suc, take-length}
-use Rattle.std.specs.Prelude.{if◌then◌else◌}
-use Rattle.csp_rdp_window.specs.Places.{ArePlaced, held_in}
-use Rattle.csp_rdp_window.specs.Sending.{is_loose, without_loose}
+use Rattle.std.specs.Prelude.{if◌then◌else◌, is_some}
+use Rattle.csp_rdp_window.specs.Places.{ArePlaced, first_held, held_in, without_held}
+use Rattle.csp_rdp_window.specs.Sending.{first_pending, is_loose, without_loose}
 use Rattle.csp_rdp_window.specs.declared.pending.Pending.{Pending}
 
 pub held_in-append : {T : Type 0} (xs ys : List (Option T)) → held_in (xs ++ ys) ≡ held_in xs ++ held_in ys
@@ -119,6 +119,70 @@ pub taken-is : (xs : List (Option Pending)) (i : ℕ) (x : Option Pending) → i
     find is_loose (held_in (take i xs)) ≡ None → x ≡ find is_loose (held_in xs)
 taken-is xs i None h e f none = cc
 taken-is xs i (Some q) h e f none = sym (found is_loose xs i (Some q) q h e refl f none)
+
+-- ---- the first that is held
+
+first_held-after : {T : Type 0} (front back : List (Option T)) → held_in front ≡ [] → first_held (front ++ back) ≡ first_held back
+first_held-after [] back none = refl
+first_held-after (None ∷ front) back none = first_held-after front back none
+first_held-after (Some x ∷ front) back none = cc
+
+without_held-after : {T : Type 0} (front back : List (Option T)) → held_in front ≡ [] → without_held (front ++ back) ≡ front ++ without_held back
+without_held-after [] back none = refl
+without_held-after (None ∷ front) back none = ap (λ l. None ∷ l) (without_held-after front back none)
+without_held-after (Some x ∷ front) back none = cc
+
+pub first_held-at : {T : Type 0} (xs : List (Option T)) (i : ℕ) (x : Option T) → i < length xs → x ≡ get_or xs i x → is_some x ≡ true →
+    held_in (take i xs) ≡ [] → x ≡ first_held xs
+first_held-at xs i None h e f none = cc
+first_held-at xs i (Some q) h e f none = sym (ap first_held (whole-item xs i (Some q) h e) ∙ first_held-after (take i xs) (Some q ∷ drop (suc i) xs) none)
+
+pub without_held-at : {T : Type 0} (xs : List (Option T)) (i : ℕ) (x : Option T) → i < length xs → x ≡ get_or xs i x → is_some x ≡ true →
+    held_in (take i xs) ≡ [] → slice_set xs i None ≡ without_held xs
+without_held-at xs i None h e f none = cc
+without_held-at xs i (Some q) h e f none =
+    set-item xs i None h ∙ sym (ap without_held (whole-item xs i (Some q) h e) ∙ without_held-after (take i xs) (Some q ∷ drop (suc i) xs) none)
+
+-- no place so far, and not this one
+pub held_in-none : {T : Type 0} (xs : List (Option T)) (i : ℕ) (x : Option T) → i < length xs → x ≡ get_or xs i x → is_some x ≡ false →
+    held_in (take i xs) ≡ [] → held_in (take (i + 1) xs) ≡ []
+held_in-none xs i None h e f none = ap held_in (take-item xs i None h e) ∙ held_in-append (take i xs) (None ∷ []) ∙ ap (λ l. l ++ []) none
+held_in-none xs i (Some q) h e f none = cc
+
+pub held_in-whole : {T : Type 0} (xs : List (Option T)) (i : ℕ) → length xs ≤ i → i ≤ length xs → held_in (take i xs) ≡ [] → held_in xs ≡ []
+held_in-whole xs i a b none = ap held_in (sym (take-all xs i a b)) ∙ none
+
+pub first_held-none : {T : Type 0} (xs : List (Option T)) → held_in xs ≡ [] → first_held xs ≡ None
+first_held-none [] none = refl
+first_held-none (None ∷ xs) none = first_held-none xs none
+first_held-none (Some x ∷ xs) none = cc
+
+pub without_held-none : {T : Type 0} (xs : List (Option T)) → held_in xs ≡ [] → without_held xs ≡ xs
+without_held-none [] none = refl
+without_held-none (None ∷ xs) none = ap (λ l. None ∷ l) (without_held-none xs none)
+without_held-none (Some x ∷ xs) none = cc
+
+-- it is taken out of what is held
+pub held_in-without : {T : Type 0} (xs : List (Option T)) → held_in (without_held xs) ≡ drop 1 (held_in xs)
+held_in-without [] = refl
+held_in-without (None ∷ xs) = held_in-without xs
+held_in-without (Some x ∷ xs) = refl
+
+pub first_held-pending : (xs : List (Option Pending)) → option_map (λ p. p.buffer) (first_held xs) ≡ first_pending (held_in xs)
+first_held-pending [] = refl
+first_held-pending (None ∷ xs) = first_held-pending xs
+first_held-pending (Some x ∷ xs) = refl
+
+pub ArePlaced-without : (una t : ℕ) (xs : List (Option Pending)) → ArePlaced una t xs → ArePlaced una t (without_held xs)
+ArePlaced-without una t [] p = p
+ArePlaced-without una t (None ∷ xs) p = ArePlaced-without una (t + 1) xs p
+ArePlaced-without una t (Some x ∷ xs) p = p.2
+
+-- no more is held than there are places
+pub held_in-few : {T : Type 0} (xs : List (Option T)) → length (held_in xs) ≤ length xs
+held_in-few [] = omega arith
+held_in-few (None ∷ xs) = let rest = held_in-few xs in omega (arith, rest)
+held_in-few (Some x ∷ xs) = let rest = held_in-few xs in omega (arith, rest)
 
 -- ---- a change of what each place has
 

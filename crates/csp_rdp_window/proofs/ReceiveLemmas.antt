@@ -11,7 +11,7 @@ use Rattle.csp_base.specs.declared.sequence.Seq.{Seq}
 use Rattle.csp_buffer.specs.PlainBuffer.{PlainBuffer}
 use Rattle.csp_rdp_window.specs.Numbers.{number_in, times}
 use Rattle.csp_rdp_window.specs.Offers.{handed_back}
-use Rattle.csp_rdp_window.specs.Places.{held_in, kept_in}
+use Rattle.csp_rdp_window.specs.Places.{first_held, held_in, kept_in, without_held}
 use Rattle.csp_rdp_window.specs.Receiving.{Kept, PlainRecv, first_buffer, is_awaited, is_kept, kept_with, missing_from, offered_at, recv_numbers, with_kept, without_first}
 use Rattle.csp_rdp_window.specs.declared.receive.Offer.{Offer}
 use Rattle.csp_rdp_window.specs.declared.receive.Offer.TheVariants as offer
@@ -189,27 +189,20 @@ pub kept_in-more : (t : ℕ) (xs : List (Option PlainBuffer)) (i : ℕ) (x : Opt
 kept_in-more t xs i x h e = ap (kept_in t) (take-item xs i x h e) ∙ kept_in-after t xs i (x ∷ []) (omega arith)
 
 -- the first that is kept
-pub first-is : (t : ℕ) (xs : List (Option PlainBuffer)) (i : ℕ) (x : Option PlainBuffer) → i < length xs → x ≡ get_or xs i x → is_some x ≡ true →
-    kept_in t (take i xs) ≡ [] → x ≡ first_buffer (kept_in t xs)
-first-is t xs i None h e f none = cc
-first-is t xs i (Some b) h e f none =
-    sym (ap (λ l. first_buffer (kept_in t l)) (whole-item xs i (Some b) h e)
-    ∙ ap first_buffer (kept_in-after t xs i (Some b ∷ drop (suc i) xs) (omega arith))
-    ∙ ap (λ l. first_buffer (l ++ kept_in (t + i) (Some b ∷ drop (suc i) xs))) none)
+pub kept_in-first : (t : ℕ) (xs : List (Option PlainBuffer)) → first_held xs ≡ first_buffer (kept_in t xs)
+kept_in-first t [] = refl
+kept_in-first t (None ∷ xs) = kept_in-first (t + 1) xs
+kept_in-first t (Some b ∷ xs) = refl
 
-pub first-taken : (t : ℕ) (xs : List (Option PlainBuffer)) (i : ℕ) (x : Option PlainBuffer) → i < length xs → x ≡ get_or xs i x → is_some x ≡ true →
-    kept_in t (take i xs) ≡ [] → kept_in t (slice_set xs i None) ≡ without_first (kept_in t xs)
-first-taken t xs i None h e f none = cc
-first-taken t xs i (Some b) h e f none =
-    ap (kept_in t) (set-item xs i None h)
-    ∙ kept_in-after t xs i (None ∷ drop (suc i) xs) (omega arith)
-    ∙ ap (λ l. l ++ kept_in (t + i) (None ∷ drop (suc i) xs)) none
-    ∙ sym (ap (λ l. without_first (kept_in t l)) (whole-item xs i (Some b) h e)
-    ∙ ap without_first (kept_in-after t xs i (Some b ∷ drop (suc i) xs) (omega arith))
-    ∙ ap (λ l. without_first (l ++ kept_in (t + i) (Some b ∷ drop (suc i) xs))) none)
+pub kept_in-without : (t : ℕ) (xs : List (Option PlainBuffer)) → kept_in t (without_held xs) ≡ without_first (kept_in t xs)
+kept_in-without t [] = refl
+kept_in-without t (None ∷ xs) = kept_in-without (t + 1) xs
+kept_in-without t (Some b ∷ xs) = refl
 
-pub kept_in-none : (t : ℕ) (xs : List (Option PlainBuffer)) (i : ℕ) → length xs ≤ i → i ≤ length xs → kept_in t (take i xs) ≡ [] → kept_in t xs ≡ []
-kept_in-none t xs i p q none = ap (kept_in t) (sym (take-all xs i p q)) ∙ none
+pub kept_in-few : (t : ℕ) (xs : List (Option PlainBuffer)) → length (kept_in t xs) ≤ length xs
+kept_in-few t [] = omega arith
+kept_in-few t (None ∷ xs) = let rest = kept_in-few (t + 1) xs in omega (arith, rest)
+kept_in-few t (Some b ∷ xs) = let rest = kept_in-few (t + 1) xs in omega (arith, rest)
 
 -- an empty place is missing
 pub missing-here : (t : ℕ) (xs : List (Option PlainBuffer)) (i : ℕ) (x : Option PlainBuffer) → i < length xs → x ≡ get_or xs i x → x ≡ None →

@@ -12,6 +12,18 @@ held_in [] = []
 held_in (None ∷ places) = held_in places
 held_in (Some x ∷ places) = x ∷ held_in places
 
+-- the first that places hold
+abbrev pub first_held : {T : Type 0} → List (Option T) → Option T
+first_held [] = None
+first_held (None ∷ places) = first_held places
+first_held (Some x ∷ places) = Some x
+
+-- the places without it
+abbrev pub without_held : {T : Type 0} → List (Option T) → List (Option T)
+without_held [] = []
+without_held (None ∷ places) = None ∷ without_held places
+without_held (Some x ∷ places) = None ∷ places
+
 -- what places hold, the first that of this index, the next that of the next
 abbrev pub kept_in : ℕ → List (Option PlainBuffer) → List Kept
 kept_in t [] = []

@@ -145,3 +145,10 @@ without_loose (p ∷ ps) = if p.needed then p ∷ without_loose ps else ps
 
 abbrev pub drained : PlainSend → PlainSend
 drained w = record w { packets = without_loose w.packets }
+
+-- ---- the end of a run
+
+-- the buffer of the first packet, whatever it is
+abbrev pub first_pending : List Pending → Option PlainBuffer
+first_pending [] = None
+first_pending (p ∷ ps) = Some p.buffer

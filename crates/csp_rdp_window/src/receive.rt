@@ -7,7 +7,7 @@ ghost use Rattle.csp_rdp_window.specs.Offers.{handed_back};
 ghost use Rattle.csp_rdp_window.specs.Places.{held_in, kept_in};
 ghost use Rattle.csp_rdp_window.specs.Receiving.{PlainRecv, confirmed, first_buffer, first_missing, index_in, is_awaited, is_kept, kept_numbers, missing_from, next_buffer, offered, offered_at, opening_recv, recv_numbers, with_kept, without_first, without_next};
 
-use crate::places::put;
+use crate::places::{put, take_first};
 use crate::shown::shown_index;
 use arrayvec::ArrayVec;
 use csp_base::Seq;
@@ -148,6 +148,15 @@ impl RecvWindow {
         let _empty = unsafe { ManuallyDrop::new_unchecked(places) };
     }
 
+    /// The number of its places: it holds no more buffers.
+    pub fn capacity(&self) -> usize
+        ensures value { result ≡ RECEIVE_PLACES }
+        ensures few { length self.now.kept ≤ result }
+    {
+        let places: &[Option<Buffer>] = &self.places;
+        places.len()
+    }
+
     /// The last index that was delivered.
     pub fn cur(&self) -> u64
         ensures value { result ≡ self.now.cur }
@@ -255,19 +264,6 @@ fn leading(places: &[Option<Buffer>]) -> u64
         count += 1;
     }
     count
-}
-
-// Takes what the first place that is not empty has.
-fn take_first(places: &mut [Option<Buffer>]) -> Option<Buffer>
-    ensures buffer { (t : ℕ) → result ≡ first_buffer (kept_in t places.old) }
-    ensures state { (t : ℕ) → kept_in t places.new ≡ without_first (kept_in t places.old) }
-{
-    for place in places.iter_mut() {
-        if place.is_some() {
-            return place.take();
-        }
-    }
-    None
 }
 
 // Whether a place has the buffer of this number.

@@ -6,10 +6,10 @@ ghost use Rattle.std.specs.Option.{option_map, option_map_or};
 ghost use Rattle.csp_base.specs.Sequence.{number_of};
 ghost use Rattle.csp_rdp_window.specs.Numbers.{left_over, number_in, times, with_payload};
 ghost use Rattle.csp_rdp_window.specs.Places.{ArePlaced, held_in};
-ghost use Rattle.csp_rdp_window.specs.Sending.{PlainSend, acked, acknowledges, admitted, drained, due_index, fresh, heard, is_due, is_full, is_loose, listed, listed_at, loose_buffer, marked, needed_if, newest_of, opening_send, packet_at, payload_at, send_numbers, with_mark, without_listed, without_loose};
+ghost use Rattle.csp_rdp_window.specs.Sending.{PlainSend, acked, acknowledges, admitted, drained, due_index, first_pending, fresh, heard, is_due, is_full, is_loose, listed, listed_at, loose_buffer, marked, needed_if, newest_of, opening_send, packet_at, payload_at, send_numbers, with_mark, without_listed, without_loose};
 ghost use Rattle.csp_rdp_window.specs.Shown.{shown};
 
-use crate::places::put;
+use crate::places::{put, take_first};
 use crate::shown::shown_index;
 use crate::{Mark, Pending};
 use csp_base::Seq;
@@ -158,6 +158,17 @@ impl SendWindow {
         }
     }
 
+    /// Takes out the first buffer, whether or not it is needed: for the end of a run.
+    pub fn take_out(&mut self) -> Option<Buffer>
+        ensures buffer { result ≡ first_pending self.old.packets }
+        ensures state { self.new ≡ record self.old { packets = drop 1 self.old.packets } }
+    {
+        match take_first(&mut self.places) {
+            Some(packet) => Some(packet.into_buffer()),
+            None => None,
+        }
+    }
+
     /// Whether it holds the buffer of this number.
     pub fn holds(&self, number: u16) -> bool
         ensures { result ≡ nat_lt 0 (times number (send_numbers self.now)) }
@@ -177,6 +188,15 @@ impl SendWindow {
             places,
         } = self;
         let _empty = unsafe { ManuallyDrop::new_unchecked(places) };
+    }
+
+    /// The number of its places: it holds no more buffers.
+    pub fn capacity(&self) -> usize
+        ensures value { result ≡ SEND_PLACES }
+        ensures few { length self.now.packets ≤ result }
+    {
+        let places: &[Option<Pending>] = &self.places;
+        places.len()
     }
 
     /// The least index that is not acknowledged.
