@@ -6,6 +6,10 @@ use Rattle.csp_rdp_header.specs.declared.errors.OptionError.TheVariants.{BadLeng
 use Rattle.csp_rdp_header.specs.declared.options.Options.{Options}
 use Rattle.csp_rdp_header.specs.declared.options.TheConstants.{MAX_WINDOW, OPTIONS_LEN}
 
+-- the options where nothing else is said
+abbrev pub usual_options : Options
+usual_options = record { window = 4; conn_timeout = 10000; packet_timeout = 1000; delayed = 1; ack_timeout = 250; ack_count = 2 }
+
 -- the bytes of the options: six numbers of 32 bits, each the most significant byte first
 abbrev pub option_bytes : Options → List ℕ
 option_bytes o = to_be_bytes w32 o.window ++ to_be_bytes w32 o.conn_timeout ++ to_be_bytes w32 o.packet_timeout ++ to_be_bytes w32 o.delayed ++ to_be_bytes w32 o.ack_timeout ++ to_be_bytes w32 o.ack_count

@@ -1,7 +1,7 @@
 //! The options of a connection.
 
 ghost use Rattle.std.specs.Prelude.{◌≡◌, ◌+◌, ◌≤◌, length, IfOk, ℕ, List};
-ghost use Rattle.csp_rdp_header.specs.Options.{checked, judged, number_at, option_bytes};
+ghost use Rattle.csp_rdp_header.specs.Options.{checked, judged, number_at, option_bytes, usual_options};
 
 use crate::OptionError;
 
@@ -30,6 +30,20 @@ pub struct Options {
 }
 
 impl Options {
+    /// The options of a connection where nothing else is said.
+    pub fn usual() -> Options
+        ensures { result ≡ usual_options }
+    {
+        Options {
+            window: 4,
+            conn_timeout: 10_000,
+            packet_timeout: 1_000,
+            delayed: 1,
+            ack_timeout: 250,
+            ack_count: 2,
+        }
+    }
+
     /// The options that these bytes are, where each is in its range.
     pub fn decode(bytes: &[u8]) -> Result<Options, OptionError>
         ensures value { result ≡ judged bytes.now }
