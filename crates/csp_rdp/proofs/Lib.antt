@@ -1,4 +1,6 @@
 pub mod CountLemmas
+pub mod FarLemmas
+pub mod HoldingLemmas
 pub mod RegionLemmas
 pub mod RowLemmas
 pub mod SoundLemmas

@@ -9,14 +9,14 @@ use Rattle.csp_base.specs.declared.traces.Tag.{Tag}
 use Rattle.csp_buffer.specs.PlainBuffer.{PlainBuffer}
 use Rattle.csp_rdp_header.specs.Numbers.{numbers_of}
 use Rattle.csp_rdp_header.specs.declared.head.RdpHead.{RdpHead}
-use Rattle.csp_rdp_window.specs.Receiving.{Kept, first_buffer, kept_with, without_first}
+use Rattle.csp_rdp_window.specs.Receiving.{Kept, PlainRecv, first_buffer, kept_with, without_first}
 use Rattle.csp_rdp_window.specs.Sending.{PlainSend, acked_at, acknowledges, admitted, fresh, heard, is_inside, is_loose, listed, loose_buffer, marked, needed_if, newest_of, with_mark, without_listed, without_loose}
 use Rattle.csp_rdp_window.specs.Shown.{shown}
 use Rattle.csp_rdp_window.specs.Times.{has_passed}
 use Rattle.csp_rdp_window.specs.declared.pending.Mark.{Mark}
 use Rattle.csp_rdp_window.specs.declared.pending.Mark.TheVariants.{Acknowledged, Abandoned, Sent, Missed}
 use Rattle.csp_rdp_window.specs.declared.pending.Pending.{Pending}
-use Rattle.csp_rdp.specs.Holding.{handing_out, unneeded_in, unneeded_or, without_kept}
+use Rattle.csp_rdp.specs.Holding.{handing_out, rdp_buffers, recv_rested, rested, taken_out, taken_out_of, unneeded, unneeded_in, unneeded_or, useless_buffers, without_kept}
 use Rattle.csp_rdp.specs.Jobs.{closed_in, delivery_in, reset_after, sending_index, sent, taken_in, timed_out, ticked}
 use Rattle.csp_rdp.specs.Machine.{PlainRdp, broken, left, owes_rst}
 use Rattle.csp_rdp.specs.Regions.{AreAllIn, AreIn, IsIn}
@@ -81,11 +81,11 @@ in-kept name t b (k ∷ ks) in_ e = go (nat_lt t k.index) (in-kept name t b ks i
     go true rest = (e, in_)
     go false rest = (in_.0, rest)
 
-in-filtered : (name : RegionName) (test : Kept → Bool) (ks : List Kept) → AreIn name (keeping_ ks) → AreIn name (keeping_ (filter test ks))
-in-filtered name test [] in_ = tt
-in-filtered name test (k ∷ ks) in_ = go (test k) (in-filtered name test ks in_.1)
+in-filtered : {T : Type 0} (name : RegionName) (buffer : T → PlainBuffer) (test : T → Bool) (xs : List T) → AreIn name (map buffer xs) → AreIn name (map buffer (filter test xs))
+in-filtered name buffer test [] in_ = tt
+in-filtered name buffer test (x ∷ xs) in_ = go (test x) (in-filtered name buffer test xs in_.1)
   where
-    go : (c : Bool) → AreIn name (keeping_ (filter test ks)) → AreIn name (keeping_ (cond c (k ∷ filter test ks) (filter test ks)))
+    go : (c : Bool) → AreIn name (map buffer (filter test xs)) → AreIn name (map buffer (cond c (x ∷ filter test xs) (filter test xs)))
     go true rest = (in_.0, rest)
     go false rest = rest
 
@@ -161,7 +161,7 @@ in-sent name job.Ack time r all = record { sending = all.sending; kept = all.kep
 
 pub in-taken : (name : RegionName) (state : State) (r : PlainRdp) → AreAllIn name r → AreAllIn name (taken_in state r) × IsIn name (delivery_in state r)
 in-taken name Open r all = (
-  record { sending = all.sending; kept = in-filtered name (λ k. not (k.index == r.recv.cur + 1)) r.recv.kept all.kept },
+  record { sending = all.sending; kept = in-filtered name (λ k. k.buffer) (λ k. not (k.index == r.recv.cur + 1)) r.recv.kept all.kept },
   in-found name (λ k. k.index == r.recv.cur + 1) r.recv.kept all.kept,
 )
 in-taken name SynSent r all = (all, tt)
@@ -222,3 +222,33 @@ in-handed-out name (Some b) r e all =
     let P : Option PlainBuffer → Type 0 = λ x. IsIn name x in
     (record { sending = d.0; kept = all.kept }, subst P e d.1)
 in-handed-out name None r e all = in-unneeded name r.state r all
+
+-- ---- all of it
+
+in-both : (name : RegionName) (bs cs : List PlainBuffer) → AreIn name bs → AreIn name cs → AreIn name (bs ++ cs)
+in-both name [] cs p q = q
+in-both name (b ∷ bs) cs p q = (p.0, in-both name bs cs p.1 q)
+
+pub in-buffers : (name : RegionName) (r : PlainRdp) → AreAllIn name r → AreIn name (rdp_buffers r)
+in-buffers name r all = in-both name (sending r.send.packets) (keeping_ r.recv.kept) all.sending all.kept
+
+in-useless : (name : RegionName) (state : State) (w : PlainRecv) → AreIn name (keeping_ w.kept) → AreIn name (keeping_ (recv_rested state w).kept) × AreIn name (useless_buffers state w)
+in-useless name Open w in_ = (in_, tt)
+in-useless name SynSent w in_ = (tt, in_)
+in-useless name SynRcvd w in_ = (tt, in_)
+in-useless name CloseWait w in_ = (tt, in_)
+in-useless name Closed w in_ = (tt, in_)
+
+pub in-rested : (name : RegionName) (r : PlainRdp) → AreAllIn name r → AreAllIn name (rested r) × AreIn name (unneeded r)
+in-rested name r all =
+    let kept = in-useless name r.state r.recv all.kept in
+    let needed = in-filtered name (λ p. p.buffer) (λ p. p.needed) r.send.packets all.sending in
+    let loose = in-filtered name (λ p. p.buffer) is_loose r.send.packets all.sending in
+    (record { sending = needed; kept = kept.0 }, in-both name (sending (filter is_loose r.send.packets)) (useless_buffers r.state r.recv) loose kept.1)
+
+in-out : (name : RegionName) (ps : List Pending) (r : PlainRdp) → AreIn name (sending ps) → AreAllIn name r → AreAllIn name (taken_out_of ps r)
+in-out name [] r in_ all = record { sending = all.sending; kept = (in-first name r.recv.kept all.kept).0 }
+in-out name (p ∷ ps) r in_ all = record { sending = in_.1; kept = all.kept }
+
+pub in-taken-out : (name : RegionName) (r : PlainRdp) → AreAllIn name r → AreAllIn name (taken_out r)
+in-taken-out name r all = in-out name r.send.packets r all.sending all

@@ -1,8 +1,8 @@
 -- what holds of a connection's fields goes on to hold
-use Rattle.std.proofs.Common.{◌≡◌, ℕ, ◌+◌, ◌-◌, ◌≤◌, Bool, true, false, not, cond, List, [], ◌∷◌, ◌++◌, length, map, Option, Some, None, arith, ap, sym, refl}
+use Rattle.std.proofs.Common.{◌≡◌, ℕ, ◌+◌, ◌-◌, ◌≤◌, Bool, true, false, not, cond, List, [], ◌∷◌, ◌++◌, length, drop, map, Option, Some, None, arith, ap, sym, ◌∙◌, refl}
 use Rattle.std.specs.List.{find, list_any}
 use Rattle.std.specs.Option.{option_map, option_map_or}
-use Rattle.std.specs.Prelude.{◌==◌, if◌then◌else◌, is_some, IsSome, pos, unwrap_or}
+use Rattle.std.specs.Prelude.{◌==◌, ◌&&◌, if◌then◌else◌, is_some, IsSome, pos, unwrap_or}
 use Rattle.std.proofs.lemmas.Bool.{eq-eqb}
 use Rattle.csp_base.specs.declared.limits.TheConstants.{MAX_PAYLOAD}
 use Rattle.csp_base.specs.Sequence.{number_of}
@@ -17,7 +17,7 @@ use Rattle.csp_rdp_window.specs.declared.pending.Pending.{Pending}
 use Rattle.csp_rdp.specs.Machine.{PlainRdp}
 use Rattle.csp_rdp.specs.Jobs.{filled, filled_with, headed}
 use Rattle.csp_rdp.specs.declared.jobs.Job.TheVariants as job
-use Rattle.csp_rdp.specs.Sound.{AreShort, IsOver, IsUnopened}
+use Rattle.csp_rdp.specs.Sound.{AreLoose, ArePacketsIn, AreShort, IsOver, IsUnopened}
 use Rattle.csp_rdp.specs.declared.answers.State.{State}
 use Rattle.csp_rdp.specs.declared.answers.State.TheVariants.{Closed, SynSent, SynRcvd, Open, CloseWait}
 
@@ -116,11 +116,11 @@ pub due-there : (time timeout : ℕ) (w : PlainSend) (i : ℕ) → due_index tim
 due-there time timeout w i e = there (is_due time timeout) w.packets i e
 
 -- an empty list has empty parts
-pub first-empty : {A : Type 0} (f : A → ℕ) (xs : List A) (ys : List ℕ) → map f xs ++ ys ≡ [] → xs ≡ []
+pub first-empty : {A B : Type 0} (f : A → B) (xs : List A) (ys : List B) → map f xs ++ ys ≡ [] → xs ≡ []
 first-empty f [] ys e = refl
 first-empty f (x ∷ xs) ys e = cc
 
-pub second-empty : {A : Type 0} (f : A → ℕ) (xs : List ℕ) (ys : List A) → xs ++ map f ys ≡ [] → ys ≡ []
+pub second-empty : {A B : Type 0} (f : A → B) (xs : List B) (ys : List A) → xs ++ map f ys ≡ [] → ys ≡ []
 second-empty f [] [] e = refl
 second-empty f (x ∷ xs) [] e = refl
 second-empty f [] (y ∷ ys) e = cc
@@ -150,3 +150,108 @@ unopened-opening SynRcvd start window = (refl, refl)
 unopened-opening Open start window = tt
 unopened-opening CloseWait start window = tt
 unopened-opening Closed start window = tt
+
+-- ---- the packets of the send window, by state
+
+-- what is done to each packet makes none needed that was not
+AreLoose-mapped : (f : Pending → Pending) (ps : List Pending) → ((p : Pending) → p.needed ≡ false → (f p).needed ≡ false) → AreLoose ps → AreLoose (map f ps)
+AreLoose-mapped f [] keeps loose = tt
+AreLoose-mapped f (p ∷ ps) keeps loose = (keeps p loose.0, AreLoose-mapped f ps keeps loose.1)
+
+packets-mapped : (f : Pending → Pending) (state : State) (ps : List Pending) → ((p : Pending) → p.needed ≡ false → (f p).needed ≡ false) → ArePacketsIn state ps → ArePacketsIn state (map f ps)
+packets-mapped f SynSent ps keeps in_ = ap (map f) in_
+packets-mapped f SynRcvd ps keeps in_ = ap (map f) in_
+packets-mapped f Open ps keeps in_ = tt
+packets-mapped f CloseWait ps keeps in_ = AreLoose-mapped f ps keeps in_
+packets-mapped f Closed ps keeps in_ = AreLoose-mapped f ps keeps in_
+
+and-false : (a b : Bool) → a ≡ false → (a && b) ≡ false
+and-false true b e = cc
+and-false false b e = refl
+
+if-needed : (b : Bool) (x y : Pending) → x.needed ≡ y.needed → (if b then x else y).needed ≡ y.needed
+if-needed true x y e = e
+if-needed false x y e = refl
+
+marked-loose : (m : Mark) (p : Pending) → p.needed ≡ false → (marked m p).needed ≡ false
+marked-loose (Acknowledged last) p e = and-false p.needed _ e
+marked-loose (Listed index) p e = and-false p.needed _ e
+marked-loose Abandoned p e = refl
+marked-loose (Sent index time) p e = if-needed (p.index == index) _ p refl ∙ e
+marked-loose (Missed newest time timeout) p e = if-needed _ _ p refl ∙ e
+
+pub packets-marked : (m : Mark) (state : State) (ps : List Pending) → ArePacketsIn state ps → ArePacketsIn state (map (marked m) ps)
+packets-marked m state ps in_ = packets-mapped (marked m) state ps (marked-loose m) in_
+
+pub packets-heard : (state : State) (ns : List Seq) (time timeout : ℕ) (w : PlainSend) → ArePacketsIn state w.packets → ArePacketsIn state (heard ns time timeout w).packets
+packets-heard state ns time timeout w in_ =
+    let ts = listed w ns in
+    packets-marked (Missed (newest_of ts) time timeout) state (without_listed ts w).packets
+    (packets-mapped (λ p. needed_if (not (list_any (λ t. t == p.index) ts)) p) state w.packets (λ p e. and-false p.needed _ e) in_)
+
+pub packets-acked : (state : State) (o : Option ℕ) (w : PlainSend) → ArePacketsIn state w.packets → ArePacketsIn state (acked_at o w).packets
+packets-acked state None w in_ = in_
+packets-acked state (Some t) w in_ = go (is_inside w t)
+  where
+    go : (b : Bool) → ArePacketsIn state (if b then record (with_mark (Acknowledged t) w) { una = t + 1 } else w).packets
+    go true = packets-marked (Acknowledged t) state w.packets in_
+    go false = in_
+
+-- an abandoned packet is not needed
+AreLoose-abandoned : (ps : List Pending) → AreLoose (map (marked Abandoned) ps)
+AreLoose-abandoned [] = tt
+AreLoose-abandoned (p ∷ ps) = (refl, AreLoose-abandoned ps)
+
+pub packets-left : (state : State) (ps : List Pending) → IsOver state → ArePacketsIn state (map (marked Abandoned) ps)
+packets-left Closed ps over = AreLoose-abandoned ps
+packets-left CloseWait ps over = AreLoose-abandoned ps
+packets-left SynSent ps over = absurd over
+packets-left SynRcvd ps over = absurd over
+packets-left Open ps over = absurd over
+
+-- packets that are taken out leave the others
+AreLoose-drained : (ps : List Pending) → AreLoose ps → AreLoose (without_loose ps)
+AreLoose-drained [] loose = tt
+AreLoose-drained (p ∷ ps) loose = go p.needed (AreLoose-drained ps loose.1)
+  where
+    go : (b : Bool) → AreLoose (without_loose ps) → AreLoose (if b then p ∷ without_loose ps else ps)
+    go true rest = (loose.0, rest)
+    go false rest = loose.1
+
+pub packets-drained : (state : State) (ps : List Pending) → ArePacketsIn state ps → ArePacketsIn state (without_loose ps)
+packets-drained SynSent ps in_ = ap without_loose in_
+packets-drained SynRcvd ps in_ = ap without_loose in_
+packets-drained Open ps in_ = tt
+packets-drained CloseWait ps in_ = AreLoose-drained ps in_
+packets-drained Closed ps in_ = AreLoose-drained ps in_
+
+AreLoose-dropped : (ps : List Pending) → AreLoose ps → AreLoose (drop 1 ps)
+AreLoose-dropped [] loose = tt
+AreLoose-dropped (p ∷ ps) loose = loose.1
+
+pub packets-dropped : (state : State) (ps : List Pending) → ArePacketsIn state ps → ArePacketsIn state (drop 1 ps)
+packets-dropped SynSent ps in_ = ap (drop 1) in_
+packets-dropped SynRcvd ps in_ = ap (drop 1) in_
+packets-dropped Open ps in_ = tt
+packets-dropped CloseWait ps in_ = AreLoose-dropped ps in_
+packets-dropped Closed ps in_ = AreLoose-dropped ps in_
+
+pub AreShort-dropped : (ps : List Pending) → AreShort ps → AreShort (drop 1 ps)
+AreShort-dropped [] short = tt
+AreShort-dropped (p ∷ ps) short = short.1
+
+-- an open connection may have any
+pub packets-open : (state : State) (ps : List Pending) → state ≡ Open → ArePacketsIn state ps
+packets-open Open ps e = tt
+packets-open SynSent ps e = cc
+packets-open SynRcvd ps e = cc
+packets-open CloseWait ps e = cc
+packets-open Closed ps e = cc
+
+-- and each may have none
+pub packets-none : (state : State) → ArePacketsIn state []
+packets-none SynSent = refl
+packets-none SynRcvd = refl
+packets-none Open = tt
+packets-none CloseWait = tt
+packets-none Closed = tt

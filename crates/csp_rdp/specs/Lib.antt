@@ -1,4 +1,5 @@
 pub mod Changes
+pub mod Counts
 pub mod Holding
 pub mod Jobs
 pub mod Machine

@@ -2,12 +2,13 @@
 use Rattle.std.specs.Prelude.{ℕ, Bool, true, false, if◌then◌else◌, Option, None}
 use Rattle.std.specs.Option.{option_map}
 use Rattle.csp_base.specs.declared.traces.Tag.{Tag}
+use Rattle.csp_rdp_header.specs.Options.{usual_options}
 use Rattle.csp_rdp_header.specs.declared.options.Options.{Options}
 use Rattle.csp_rdp_window.specs.Receiving.{PlainRecv, opening_recv}
 use Rattle.csp_rdp_window.specs.Sending.{PlainSend, opening_send, with_mark}
 use Rattle.csp_rdp_window.specs.declared.pending.Mark.TheVariants.{Abandoned}
 use Rattle.csp_rdp.specs.declared.answers.State.{State}
-use Rattle.csp_rdp.specs.declared.answers.State.TheVariants.{SynSent, SynRcvd, Open, CloseWait}
+use Rattle.csp_rdp.specs.declared.answers.State.TheVariants.{Closed, SynSent, SynRcvd, Open, CloseWait}
 use Rattle.csp_rdp.specs.declared.jobs.Owed.{Owed}
 
 -- a connection: its state, its options, its own flow (a node and the how-manieth connection of it), the flow of its peer,
@@ -32,6 +33,10 @@ abbrev pub flow_of : Tag → ℕ × ℕ
 flow_of t = (t.node, t.nth)
 
 -- ---- opening
+
+-- nothing is owed
+abbrev pub nothing_owed : Owed
+nothing_owed = record { rst = false; syn = false; syn_sent = None; eak = false; ack = false; delivered = 0; first = 0 }
 
 -- a new connection owes the packet that opens it, and nothing else
 abbrev pub opening_owed : Owed
@@ -59,6 +64,10 @@ connecting start options node nth time = made SynSent start options 0 None node 
 -- a connection that is asked of the node: SynRcvd; the number of the packet is the receive start
 abbrev pub accepting : ℕ → Options → ℕ → Option Tag → ℕ → ℕ → ℕ → PlainRdp
 accepting start options other tag node nth time = made SynRcvd start options other (option_map flow_of tag) node nth time
+
+-- the machine of a slot without a connection: it is closed, holds nothing and owes nothing
+abbrev pub idle : PlainRdp
+idle = record (made Closed 0 usual_options 0 None 0 0 0) { owed = nothing_owed }
 
 -- ---- the steps from state to state
 

@@ -1,5 +1,5 @@
 -- what holds of a connection's fields
-use Rattle.std.specs.Prelude.{◌≡◌, ◌-◌, ◌≤◌, List, [], ◌∷◌, length, ⊤}
+use Rattle.std.specs.Prelude.{◌≡◌, ◌-◌, ◌≤◌, false, List, [], ◌∷◌, length, ⊤}
 use Rattle.csp_base.specs.declared.limits.TheConstants.{MAX_PAYLOAD}
 use Rattle.csp_rdp_header.specs.declared.options.Options.{Options}
 use Rattle.csp_rdp_header.specs.declared.options.TheConstants.{MAX_WINDOW}
@@ -23,11 +23,25 @@ IsUnopened Open w = ⊤
 IsUnopened CloseWait w = ⊤
 IsUnopened Closed w = ⊤
 
+-- none of these packets is needed
+abbrev pub AreLoose : List Pending → Type 0
+AreLoose [] = ⊤
+AreLoose (p ∷ ps) = (p.needed ≡ false) × AreLoose ps
+
+-- before the connection is open there is no packet to send, and once it is over none is needed
+abbrev pub ArePacketsIn : State → List Pending → Type 0
+ArePacketsIn SynSent ps = ps ≡ []
+ArePacketsIn SynRcvd ps = ps ≡ []
+ArePacketsIn Open ps = ⊤
+ArePacketsIn CloseWait ps = AreLoose ps
+ArePacketsIn Closed ps = AreLoose ps
+
 pub record IsSound (state : State) (options : Options) (send : PlainSend) (recv : PlainRecv) (owed : Owed) : Type 0 where
   pub low : 1 ≤ options.window
   pub high : options.window ≤ MAX_WINDOW
   pub short : AreShort send.packets
   pub unopened : IsUnopened state recv
+  pub packets : ArePacketsIn state send.packets
   pub counted : owed.delivered ≤ recv.cur
 
 -- a state that a connection comes to when it leaves Open

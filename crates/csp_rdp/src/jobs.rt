@@ -40,20 +40,30 @@ pub struct Owed {
 
 impl Owed {
     ghost use Rattle.csp_rdp.specs.Jobs.{counted};
-    ghost use Rattle.csp_rdp.specs.Machine.{opening_owed};
+    ghost use Rattle.csp_rdp.specs.Machine.{nothing_owed, opening_owed};
+
+    /// Nothing is owed.
+    pub(crate) fn nothing() -> Owed
+        ensures { result ≡ nothing_owed }
+    {
+        Owed {
+            rst: false,
+            syn: false,
+            syn_sent: None,
+            eak: false,
+            ack: false,
+            delivered: 0,
+            first: 0,
+        }
+    }
 
     /// What a new connection owes.
     pub(crate) fn opening() -> Owed
         ensures { result ≡ opening_owed }
     {
         Owed {
-            rst: false,
             syn: true,
-            syn_sent: None,
-            eak: false,
-            ack: false,
-            delivered: 0,
-            first: 0,
+            ..Owed::nothing()
         }
     }
 

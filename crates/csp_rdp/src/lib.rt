@@ -10,5 +10,5 @@ mod rows;
 
 pub use answers::{Change, Result2, State, Why};
 pub use jobs::Job;
-pub use laws::keeps_region;
+pub use laws::{keeps_count, keeps_region, keeps_rest, numbers};
 pub use rdp::Rdp;

@@ -1,13 +1,13 @@
 //! The machine.
 
 ghost use Rattle.std.specs.Prelude.{◌≡◌, ◌≢◌, ◌+◌, ◌-◌, ◌==◌, ◌^◌, ◌<◌, ◌≤◌, ◌↔◌, ◌++◌, ◌||◌, ◌&&◌, not, ℕ, true, false, [], ◌∷◌, length, nat_lt, Some, None, pos, IsSome, IsTrue, IsErr, OnOk, OnErr, OnSome, IfErr};
-ghost use Rattle.std.specs.Option.{option_map};
+ghost use Rattle.std.specs.Option.{MatchOption, option_map};
 ghost use Rattle.csp_base.specs.Sequence.{number_of};
 ghost use Rattle.csp_buffer.specs.PlainBuffer.{with_picture};
 ghost use Rattle.csp_rdp.specs.Changes.{change_between, close_change};
-ghost use Rattle.csp_rdp.specs.Holding.{rdp_numbers, unneeded_buffer, unneeded_in, without_kept, without_unneeded};
+ghost use Rattle.csp_rdp.specs.Holding.{rdp_buffers, rdp_numbers, rested, taken_out, unneeded, unneeded_buffer, unneeded_in, without_kept, without_unneeded};
 ghost use Rattle.csp_rdp.specs.Jobs.{admitting, closing, delivering, delivery, filled, headed, is_ack_due, job_in, job_of, keeping_again, reset_after, sent, ticked, timed_out, without_ack, without_delivery};
-ghost use Rattle.csp_rdp.specs.Machine.{accepting, broken, connecting, flow_of, left, made, opened, owes_ack, owes_rst, started, una_of};
+ghost use Rattle.csp_rdp.specs.Machine.{accepting, broken, connecting, flow_of, idle, left, made, opened, owes_ack, owes_rst, started, una_of};
 ghost use Rattle.csp_rdp.specs.Sound.{IsOver, IsUnopened};
 ghost use Rattle.csp_rdp.specs.Table.{ack_row, acknowledged, after, back_of, close_wait_row, data_row, entered, handed, is_bad_list, is_stray, keeping, least, listing, open_row, reset_row, row_of, since_moved, syn_rcvd_row, syn_sent_row};
 ghost use Rattle.csp_rdp.specs.declared.answers.Why.TheVariants as why;
@@ -27,7 +27,9 @@ use csp_buffer::Buffer;
 use csp_rdp_header::{
     ACK, EAK, MAX_WINDOW, Options, RST, RdpHead, SYN, eak_decode, eak_encode, is_malformed,
 };
-use csp_rdp_window::{Mark, Offer, RecvWindow, SendWindow, has_passed};
+use csp_rdp_window::{
+    Mark, Offer, RECEIVE_PLACES, RecvWindow, SEND_PLACES, SendWindow, has_passed,
+};
 use std::marker::Model;
 
 /// A connection of the reliable transport.
@@ -112,6 +114,26 @@ impl Rdp {
             SendWindow::new(start, options.window),
             (syn.seq, peer_of(tag)),
         )
+    }
+
+    /// What stands where there is no connection: it is closed, holds no buffer and owes nothing.
+    pub fn idle() -> Rdp
+        ensures { result ≡ idle }
+    {
+        let options = Options::usual();
+        Rdp {
+            state: State::Closed,
+            options,
+            node: 0,
+            nth: 0,
+            peer: None,
+            was_open: false,
+            since: 0,
+            send: SendWindow::new(Seq(0), options.window),
+            recv: RecvWindow::new(Seq(0), options.window),
+            owed: Owed::nothing(),
+            reset_at: None,
+        }
     }
 
     /// Hands over a packet, whose head was cut off. It comes to a row of the table of states.
@@ -271,11 +293,22 @@ impl Rdp {
     pub fn drain(&mut self) -> Option<Buffer>
         ensures buffer { result ≡ unneeded_buffer self.old }
         ensures state { self.new ≡ without_unneeded self.old }
+
+        // Called until it hands out none, it hands out all that is not needed, in order.
+        ensures all { MatchOption result ((unneeded self.old ≡ []) × (rested self.old ≡ self.old) × (self.new ≡ self.old)) (λ b. (unneeded self.old ≡ b ∷ unneeded self.new) × (rested self.new ≡ rested self.old)) }
         ensures holds { (k : ℕ) → times k (rdp_numbers self.new) + times k (number_in result) ≡ times k (rdp_numbers self.old) }
     {
-        match self.send.drain() {
+        self.hand_out()
+    }
+
+    /// Takes out the first buffer, whether or not it is needed: for the end of a run.
+    pub fn take_out(&mut self) -> Option<Buffer>
+        ensures buffers { MatchOption result ((rdp_buffers self.old ≡ []) × (self.new ≡ self.old)) (λ b. rdp_buffers self.old ≡ b ∷ rdp_buffers self.new) }
+        ensures state { self.new ≡ taken_out self.old }
+    {
+        match self.send.take_out() {
             Some(buffer) => Some(buffer),
-            None => self.drain_kept(),
+            None => self.recv.drain(),
         }
     }
 
@@ -285,8 +318,29 @@ impl Rdp {
 
         // Before it is open nothing is kept, and nothing was delivered.
         ensures unopened { IsUnopened self.now.state self.now.recv }
+
+        // While it is not open, what it does not need is all that it holds.
+        ensures empty { (self.now.state ≢ State.Open) → unneeded self.now ≡ [] → rdp_numbers self.now ≡ [] }
+
+        // It holds no more than its windows have places.
+        ensures few { length (rdp_numbers self.now) ≤ SEND_PLACES + RECEIVE_PLACES }
     {
+        let _places = self.send.capacity() + self.recv.capacity();
         self.state
+    }
+
+    /// The how-manieth connection of its node it is.
+    pub fn nth(&self) -> u32
+        ensures { result ≡ self.now.nth }
+    {
+        self.nth
+    }
+
+    /// Whether it was ever open.
+    pub fn was_open(&self) -> bool
+        ensures { result ≡ self.now.was_open }
+    {
+        self.was_open
     }
 
     /// The flow of its peer, a node and the how-manieth connection of it, where the packet that set the
@@ -337,6 +391,18 @@ impl Rdp {
         } = self;
         send.end();
         recv.end();
+    }
+
+    // Hands out what the send window does not need, or what is kept.
+    fn hand_out(&mut self) -> Option<Buffer>
+        ensures buffer { result ≡ unneeded_buffer self.old }
+        ensures state { self.new ≡ without_unneeded self.old }
+        ensures holds { (k : ℕ) → times k (rdp_numbers self.new) + times k (number_in result) ≡ times k (rdp_numbers self.old) }
+    {
+        match self.send.drain() {
+            Some(buffer) => Some(buffer),
+            None => self.drain_kept(),
+        }
     }
 
     // Hands out what is kept, where the connection is not open.

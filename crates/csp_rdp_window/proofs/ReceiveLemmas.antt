@@ -16,7 +16,7 @@ use Rattle.csp_rdp_window.specs.Receiving.{Kept, PlainRecv, first_buffer, is_awa
 use Rattle.csp_rdp_window.specs.declared.receive.Offer.{Offer}
 use Rattle.csp_rdp_window.specs.declared.receive.Offer.TheVariants as offer
 use Rattle.csp_rdp_window.proofs.CountLemmas.{times-cons}
-use Rattle.csp_rdp_window.proofs.PlaceLemmas.{set-item, take-all, take-item, whole-item}
+use Rattle.csp_rdp_window.proofs.PlaceLemmas.{take-item}
 
 pub kept_in-append : (t : ℕ) (xs ys : List (Option PlainBuffer)) → kept_in t (xs ++ ys) ≡ kept_in t xs ++ kept_in (t + length xs) ys
 kept_in-append t [] ys = let same : t + 0 ≡ t = omega arith in rw same refl

@@ -3,7 +3,7 @@ use Rattle.csp_rdp_window.specs.Receiving.{confirmed}
 use Rattle.csp_rdp.specs.Jobs.{counted}
 use Rattle.csp_rdp.specs.Table.{row_of}
 use Rattle.std.proofs.Common.{refl}
-use Rattle.csp_rdp.proofs.RegionLemmas.{in-admitting, in-after, in-closed, in-delivered, in-handed-out, in-kept-again, in-sent, in-taken, in-ticked}
+use Rattle.csp_rdp.proofs.RegionLemmas.{in-admitting, in-after, in-buffers, in-closed, in-delivered, in-handed-out, in-kept-again, in-rested, in-sent, in-taken, in-taken-out, in-ticked}
 use Rattle.csp_rdp.proofs.laws.keeps_region.Goals as goal
 
 pub returns : goal.returns
@@ -18,4 +18,10 @@ returns c = record {
   ticked = λ name time r all. in-ticked name time r all;
   closed = λ name time r all. in-closed name r.state time r all;
   drained = λ name r all. in-handed-out name (loose_buffer r.send) r refl all;
+  rested = λ name r all. in-rested name r all;
+  taken_out = λ name r all. in-taken-out name r all;
+  all = λ name r all. in-buffers name r all;
+  idle = λ name. record { sending = tt; kept = tt };
+  connecting = λ name start options node nth time. record { sending = tt; kept = tt };
+  accepting = λ name start options other tag node nth time. record { sending = tt; kept = tt };
 }

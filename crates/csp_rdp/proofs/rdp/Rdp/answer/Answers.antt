@@ -18,5 +18,6 @@ invariant_of-self c =
       high = c.self.invariant.high;
       short = c.self.invariant.short;
       unopened = rw opening (unopened-opening c.self.inside.state c.args.other.0 c.self.inside.options.window);
+      packets = c.self.invariant.packets;
       counted = omega (arith, counted, un.1, cur);
     }

@@ -3,8 +3,8 @@ use Rattle.csp_rdp.specs.Holding.{rdp_numbers}
 use Rattle.csp_rdp_window.specs.Numbers.{times}
 use Rattle.csp_rdp_window.specs.Receiving.{recv_numbers}
 use Rattle.csp_rdp_window.specs.Sending.{send_numbers}
-use Rattle.csp_rdp.proofs.SoundLemmas.{AreShort-drained}
-use Rattle.csp_rdp.proofs.rdp.Rdp.drain.Goals as goal
+use Rattle.csp_rdp.proofs.SoundLemmas.{AreShort-drained, packets-drained}
+use Rattle.csp_rdp.proofs.rdp.Rdp.hand_out.Goals as goal
 
 pub invariant_of-self : goal.invariant_of-self
 invariant_of-self c = record {
@@ -12,6 +12,7 @@ invariant_of-self c = record {
   high = c.self.invariant.high;
   short = rw c.drain.ensures.state (AreShort-drained c.self.inside.send.packets c.self.invariant.short);
   unopened = c.self.invariant.unopened;
+  packets = rw c.drain.ensures.state (packets-drained c.self.inside.state c.self.inside.send.packets c.self.invariant.packets);
   counted = c.self.invariant.counted;
 }
 

@@ -1,5 +1,5 @@
 use Rattle.csp_rdp_window.specs.Shown.{shown}
-use Rattle.csp_rdp.proofs.SoundLemmas.{AreShort-acked}
+use Rattle.csp_rdp.proofs.SoundLemmas.{AreShort-acked, packets-acked}
 use Rattle.csp_rdp.proofs.rdp.Rdp.hear.Goals as goal
 
 pub invariant_of-self : goal.invariant_of-self
@@ -10,5 +10,6 @@ invariant_of-self c =
       high = c.self.invariant.high;
       short = rw c.acked-inside.ensures.state (AreShort-acked (shown c.args.number.0 send.start send.una) send c.self.invariant.short);
       unopened = c.self.invariant.unopened;
+      packets = rw c.acked-inside.ensures.state (packets-acked c.self.inside.state (shown c.args.number.0 send.start send.una) send c.self.invariant.packets);
       counted = c.self.invariant.counted;
     }

@@ -1,5 +1,4 @@
-use Rattle.std.proofs.Common.{◌+◌, ◌≤◌, ap, arith, length}
-use Rattle.csp_rdp_window.specs.Places.{kept_in}
+use Rattle.std.proofs.Common.{◌+◌, ap, arith, length}
 use Rattle.csp_rdp_window.proofs.ReceiveLemmas.{kept_in-few}
 use Rattle.csp_rdp_window.proofs.receive.RecvWindow.capacity.Goals as goal
 

@@ -1,5 +1,4 @@
-use Rattle.std.proofs.Common.{◌≤◌, ap, arith, length}
-use Rattle.csp_rdp_window.specs.Places.{held_in}
+use Rattle.std.proofs.Common.{ap, arith, length}
 use Rattle.csp_rdp_window.proofs.PlaceLemmas.{held_in-few}
 use Rattle.csp_rdp_window.proofs.send.SendWindow.capacity.Goals as goal
 

@@ -1,4 +1,4 @@
-use Rattle.std.proofs.Common.{◌≡◌, ◌∙◌, Some, ap, drop, sym}
+use Rattle.std.proofs.Common.{◌∙◌, Some, ap, drop, sym}
 use Rattle.std.specs.Option.{option_map}
 use Rattle.csp_rdp_window.specs.Places.{held_in}
 use Rattle.csp_rdp_window.specs.Sending.{PlainSend, first_pending}
