@@ -41,7 +41,7 @@ pub fn keeps_region()
         → AreAllIn name (accepting start options other tag node nth time) }
 {}
 
-/// No more packets were admitted, and no more delivered, than there were admissions and deliveries.
+/// After n admissions and deliveries together no more than n packets were admitted, and no more delivered.
 pub fn keeps_count()
     ensures handed { (n : ℕ) (h : RdpHead) (tag : Option Tag) (p : PlainBuffer) (time : ℕ) (r : PlainRdp) → IsFar n r → IsFar n (handed h tag p time r) }
     ensures admitted { (n : ℕ) (b : PlainBuffer) (time : ℕ) (r : PlainRdp) → IsFar n r → IsFar (n + 1) (admitting b time r) }

@@ -325,6 +325,7 @@ impl Rdp {
         // It holds no more than its windows have places.
         ensures few { length (rdp_numbers self.now) ≤ SEND_PLACES + RECEIVE_PLACES }
     {
+        // The windows hold no more than this.
         let _places = self.send.capacity() + self.recv.capacity();
         self.state
     }
