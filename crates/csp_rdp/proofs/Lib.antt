@@ -1,3 +1,4 @@
+pub mod BalanceLemmas
 pub mod CountLemmas
 pub mod FarLemmas
 pub mod HoldingLemmas

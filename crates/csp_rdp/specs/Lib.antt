@@ -1,3 +1,4 @@
+pub mod Balance
 pub mod Changes
 pub mod Counts
 pub mod Holding

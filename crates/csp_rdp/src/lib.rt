@@ -3,12 +3,14 @@
 #![tactic(auto)]
 
 mod answers;
+mod conserving;
 mod jobs;
 mod laws;
 mod rdp;
 mod rows;
 
 pub use answers::{Change, Result2, State, Why};
+pub use conserving::{conserves, keeps_whole};
 pub use jobs::Job;
 pub use laws::{keeps_count, keeps_region, keeps_rest, numbers};
 pub use rdp::Rdp;
