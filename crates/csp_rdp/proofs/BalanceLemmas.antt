@@ -20,7 +20,7 @@ use Rattle.csp_rdp_window.specs.declared.pending.Mark.{Mark}
 use Rattle.csp_rdp_window.specs.declared.pending.Mark.TheVariants.{Acknowledged, Abandoned, Sent, Missed}
 use Rattle.csp_rdp_window.specs.declared.pending.Pending.{Pending}
 use Rattle.csp_rdp.specs.Balance.{Balanced, IsInOrder, IsWhole}
-use Rattle.csp_rdp.specs.Holding.{handing_out, rdp_numbers, unneeded_in, unneeded_or, without_kept}
+use Rattle.csp_rdp.specs.Holding.{handing_out, rdp_numbers, recv_rested, rested, taken_out_of, unneeded_in, unneeded_or, without_kept}
 use Rattle.csp_rdp.specs.Jobs.{admitting, closed_in, counted, delivering, delivery_in, keeping_again, reset_after, sending_index, sent, taken_in, ticked, timed_out}
 use Rattle.csp_rdp.specs.Machine.{PlainRdp, broken, left, owes_rst}
 use Rattle.csp_rdp.specs.Sound.{IsOver, IsUnopened}
@@ -460,3 +460,25 @@ whole-less Closed r whole = record { unopened = unopened-drained r.state r.recv 
 pub whole-drained : (o : Option PlainBuffer) (r : PlainRdp) → IsWhole r → IsWhole (handing_out o r)
 whole-drained (Some b) r whole = record { unopened = whole.unopened; ordered = whole.ordered }
 whole-drained None r whole = whole-less r.state r whole
+
+-- a window that is emptied
+unopened-empty : (s : State) (w : PlainRecv) → IsUnopened s w → IsUnopened s (record w { kept = [] })
+unopened-empty SynSent w un = (refl, un.1)
+unopened-empty SynRcvd w un = (refl, un.1)
+unopened-empty Open w un = tt
+unopened-empty CloseWait w un = tt
+unopened-empty Closed w un = tt
+
+whole-useless : (s : State) (r : PlainRdp) → IsWhole r → IsWhole (record r { recv = recv_rested s r.recv })
+whole-useless Open r whole = whole
+whole-useless SynSent r whole = record { unopened = unopened-empty r.state r.recv whole.unopened; ordered = tt }
+whole-useless SynRcvd r whole = record { unopened = unopened-empty r.state r.recv whole.unopened; ordered = tt }
+whole-useless CloseWait r whole = record { unopened = unopened-empty r.state r.recv whole.unopened; ordered = tt }
+whole-useless Closed r whole = record { unopened = unopened-empty r.state r.recv whole.unopened; ordered = tt }
+
+pub whole-rested : (r : PlainRdp) → IsWhole r → IsWhole (rested r)
+whole-rested r whole = let now = whole-useless r.state r whole in record { unopened = now.unopened; ordered = now.ordered }
+
+pub whole-out : (ps : List Pending) (r : PlainRdp) → IsWhole r → IsWhole (taken_out_of ps r)
+whole-out [] r whole = record { unopened = unopened-drained r.state r.recv whole.unopened; ordered = order-first r.recv.cur r.recv.kept whole.ordered }
+whole-out (p ∷ ps) r whole = record { unopened = whole.unopened; ordered = whole.ordered }

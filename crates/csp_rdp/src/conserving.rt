@@ -4,9 +4,9 @@ ghost use Rattle.std.specs.Prelude.{◌≡◌, ◌+◌, ◌++◌, ℕ, false, []
 ghost use Rattle.csp_base.specs.declared.traces.Tag.{Tag};
 ghost use Rattle.csp_buffer.specs.PlainBuffer.{PlainBuffer};
 ghost use Rattle.csp_rdp.specs.Balance.{Balanced, IsWhole};
-ghost use Rattle.csp_rdp.specs.Holding.{rdp_numbers, unneeded_buffer, without_unneeded};
+ghost use Rattle.csp_rdp.specs.Holding.{rdp_numbers, rested, taken_out, unneeded_buffer, without_unneeded};
 ghost use Rattle.csp_rdp.specs.Jobs.{admitting, closing, delivering, delivery, keeping_again, sent, ticked, without_delivery};
-ghost use Rattle.csp_rdp.specs.Machine.{PlainRdp, accepting, connecting};
+ghost use Rattle.csp_rdp.specs.Machine.{PlainRdp, accepting, connecting, idle};
 ghost use Rattle.csp_rdp.specs.Table.{back_of, handed, row_of};
 ghost use Rattle.csp_rdp.specs.declared.jobs.Job.{Job};
 ghost use Rattle.csp_rdp_header.specs.declared.head.RdpHead.{RdpHead};
@@ -18,6 +18,7 @@ use crate::State;
 
 /// A new connection is whole, and a connection that is whole is so after each of its calls.
 pub fn keeps_whole()
+    ensures idle { IsWhole idle }
     ensures connecting { (start : ℕ) (options : Options) (node nth time : ℕ) → IsWhole (connecting start options node nth time) }
     ensures accepting { (start : ℕ) (options : Options) (other : ℕ) (tag : Option Tag) (node nth time : ℕ) → IsWhole (accepting start options other tag node nth time) }
     ensures handed { (h : RdpHead) (tag : Option Tag) (p : PlainBuffer) (time : ℕ) (r : PlainRdp) → IsWhole r → IsWhole (handed h tag p time r) }
@@ -32,6 +33,8 @@ pub fn keeps_whole()
     ensures ticked { (time : ℕ) (r : PlainRdp) → IsWhole r → IsWhole (ticked time r) }
     ensures closed { (time : ℕ) (r : PlainRdp) → IsWhole r → IsWhole (closing time r) }
     ensures drained { (r : PlainRdp) → IsWhole r → IsWhole (without_unneeded r) }
+    ensures rested { (r : PlainRdp) → IsWhole r → IsWhole (rested r) }
+    ensures taken_out { (r : PlainRdp) → IsWhole r → IsWhole (taken_out r) }
 {}
 
 /// After each call the buffers of a connection and those that it hands back or out are those that it had
