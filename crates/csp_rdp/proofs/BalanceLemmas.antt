@@ -5,7 +5,7 @@ use Rattle.std.specs.List.{filter, find, list_any}
 use Rattle.std.specs.Option.{option_map}
 use Rattle.std.specs.Prelude.{◌==◌, if◌then◌else◌, nat_le, nat_lt}
 use Rattle.std.proofs.lemmas.Bool.{eqb-false, eqb-true, ltb-false, ltb-true}
-use Rattle.std.proofs.lemmas.List.{append-nil, append_assoc, length-append, map-append}
+use Rattle.std.proofs.lemmas.List.{append-nil, append_assoc, length-append, length-map, map-append}
 use Rattle.csp_base.specs.declared.sequence.Seq.{Seq}
 use Rattle.csp_base.specs.declared.traces.Tag.{Tag}
 use Rattle.csp_buffer.specs.PlainBuffer.{PlainBuffer}
@@ -20,7 +20,8 @@ use Rattle.csp_rdp_window.specs.declared.pending.Mark.{Mark}
 use Rattle.csp_rdp_window.specs.declared.pending.Mark.TheVariants.{Acknowledged, Abandoned, Sent, Missed}
 use Rattle.csp_rdp_window.specs.declared.pending.Pending.{Pending}
 use Rattle.csp_rdp.specs.Balance.{Balanced, IsInOrder, IsWhole}
-use Rattle.csp_rdp.specs.Holding.{handing_out, rdp_numbers, recv_rested, rested, taken_out_of, unneeded_in, unneeded_or, without_kept}
+use Rattle.csp_rdp.specs.Holding.{handing_out, loose_buffers, rdp_numbers, recv_rested, rested, taken_out_of, unneeded, unneeded_in, unneeded_or, useless_buffers, without_kept}
+use Rattle.csp_rdp.proofs.HoldingLemmas.{parted-numbers}
 use Rattle.csp_rdp.specs.Jobs.{admitting, closed_in, counted, delivering, delivery_in, keeping_again, reset_after, sending_index, sent, taken_in, ticked, timed_out}
 use Rattle.csp_rdp.specs.Machine.{PlainRdp, broken, left, owes_rst}
 use Rattle.csp_rdp.specs.Sound.{IsOver, IsUnopened}
@@ -482,3 +483,45 @@ whole-rested r whole = let now = whole-useless r.state r whole in record { unope
 pub whole-out : (ps : List Pending) (r : PlainRdp) → IsWhole r → IsWhole (taken_out_of ps r)
 whole-out [] r whole = record { unopened = unopened-drained r.state r.recv whole.unopened; ordered = order-first r.recv.cur r.recv.kept whole.ordered }
 whole-out (p ∷ ps) r whole = record { unopened = whole.unopened; ordered = whole.ordered }
+
+-- ---- what is needed, and what is not
+
+loose-count : (ps : List Pending) → length (filter is_loose ps) + length (filter (λ p. p.needed) ps) ≡ length ps
+loose-count [] = refl
+loose-count (p ∷ ps) = go p.needed (loose-count ps)
+  where
+    go : (b : Bool) → length (filter is_loose ps) + length (filter (λ p. p.needed) ps) ≡ length ps →
+        length (cond (not b) (p ∷ filter is_loose ps) (filter is_loose ps)) + length (cond b (p ∷ filter (λ p. p.needed) ps) (filter (λ p. p.needed) ps)) ≡ length (p ∷ ps)
+    go true rest = omega (arith, rest)
+    go false rest = omega (arith, rest)
+
+useless-count : (s : State) (w : PlainRecv) → length (useless_buffers s w) + length (recv_rested s w).kept ≡ length w.kept
+useless-count Open w = omega arith
+useless-count SynSent w = omega (arith, length-map w.kept (λ k. k.buffer))
+useless-count SynRcvd w = omega (arith, length-map w.kept (λ k. k.buffer))
+useless-count CloseWait w = omega (arith, length-map w.kept (λ k. k.buffer))
+useless-count Closed w = omega (arith, length-map w.kept (λ k. k.buffer))
+
+numbers-count : (r : PlainRdp) → length (rdp_numbers r) ≡ length r.send.packets + length r.recv.kept
+numbers-count r =
+    let a = length-append (send_numbers r.send) (recv_numbers r.recv) in
+    let b = length-map r.send.packets (λ p. p.buffer.picture.number) in
+    let d = length-map r.recv.kept (λ k. k.buffer.picture.number) in
+    omega (arith, a, b, d)
+
+unneeded-count : (r : PlainRdp) → length (unneeded r) ≡ length (filter is_loose r.send.packets) + length (useless_buffers r.state r.recv)
+unneeded-count r =
+    let a = length-append (loose_buffers r.send) (useless_buffers r.state r.recv) in
+    let b = length-map (filter is_loose r.send.packets) (λ p. p.buffer) in
+    omega (arith, a, b)
+
+pub parted-balanced : (r : PlainRdp) → Balanced (map (λ b. b.picture.number) (unneeded r) ++ rdp_numbers (rested r)) (rdp_numbers r)
+parted-balanced r = record {
+  numbers = λ k. let a = times-append k (map (λ b. b.picture.number) (unneeded r)) (rdp_numbers (rested r)) in let b = parted-numbers k r in omega (arith, a, b);
+  count =
+    let a = length-append (map (λ b. b.picture.number) (unneeded r)) (rdp_numbers (rested r)) in
+    let b = length-map (unneeded r) (λ b. b.picture.number) in
+    let d = loose-count r.send.packets in
+    let e = useless-count r.state r.recv in
+    omega (arith, a, b, d, e, numbers-count r, numbers-count (rested r), unneeded-count r);
+}

@@ -1,10 +1,10 @@
 //! Laws of the machine, over its definitions: it neither loses nor doubles a buffer.
 
-ghost use Rattle.std.specs.Prelude.{◌≡◌, ◌+◌, ◌++◌, ℕ, false, [], ◌∷◌, Option};
+ghost use Rattle.std.specs.Prelude.{◌≡◌, ◌+◌, ◌++◌, ℕ, map, false, [], ◌∷◌, Option};
 ghost use Rattle.csp_base.specs.declared.traces.Tag.{Tag};
 ghost use Rattle.csp_buffer.specs.PlainBuffer.{PlainBuffer};
 ghost use Rattle.csp_rdp.specs.Balance.{Balanced, IsWhole};
-ghost use Rattle.csp_rdp.specs.Holding.{rdp_numbers, rested, taken_out, unneeded_buffer, without_unneeded};
+ghost use Rattle.csp_rdp.specs.Holding.{rdp_numbers, rested, taken_out, unneeded, unneeded_buffer, without_unneeded};
 ghost use Rattle.csp_rdp.specs.Jobs.{admitting, closing, delivering, delivery, keeping_again, sent, ticked, without_delivery};
 ghost use Rattle.csp_rdp.specs.Machine.{PlainRdp, accepting, connecting, idle};
 ghost use Rattle.csp_rdp.specs.Table.{back_of, handed, row_of};
@@ -50,4 +50,5 @@ pub fn conserves()
     ensures ticked { (time : ℕ) (r : PlainRdp) → rdp_numbers (ticked time r) ≡ rdp_numbers r }
     ensures closed { (time : ℕ) (r : PlainRdp) → rdp_numbers (closing time r) ≡ rdp_numbers r }
     ensures drained { (r : PlainRdp) → Balanced (rdp_numbers (without_unneeded r) ++ number_in (unneeded_buffer r)) (rdp_numbers r) }
+    ensures parted { (r : PlainRdp) → Balanced (map (λ b. b.picture.number) (unneeded r) ++ rdp_numbers (rested r)) (rdp_numbers r) }
 {}

@@ -160,7 +160,7 @@ impl Rdp {
         requires short { length buffer.picture.payload ≤ MAX_PAYLOAD - 9 }
         // What is not needed any more was handed out.
         requires drained { loose_buffer self.old.send ≡ None }
-        requires countable { self.old.send.nxt < 2 ^ 32 - 1 }
+        requires countable { self.old.send.nxt < 2 ^ 32 }
         ensures full { IsErr result ↔ IsTrue (is_full self.old.send) }
         ensures ok { OnOk result (self.new ≡ admitting buffer now self.old) }
         ensures err { OnErr result (self.new ≡ self.old) }

@@ -44,7 +44,7 @@ send_view start window una nxt places = record { start = start.0; window = windo
 pub record IsSendSound (window una nxt : ℕ) (places : List (Option Pending)) : Type 0 where
   pub low : 1 ≤ una
   pub ordered : una ≤ nxt
-  pub range : nxt < 2 ^ 32
+  pub range : nxt ≤ 2 ^ 32
   pub narrow : window ≤ 20
   pub placed : ArePlaced una nxt places
 

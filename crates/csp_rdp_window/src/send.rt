@@ -69,7 +69,7 @@ impl SendWindow {
     pub fn admit(&mut self, buffer: Buffer) -> Result<Seq, Buffer>
         // What is not needed any more was handed out, so that there is a place.
         requires drained { loose_buffer self.old ≡ None }
-        requires countable { self.old.nxt < 2 ^ 32 - 1 }
+        requires countable { self.old.nxt < 2 ^ 32 }
         ensures full { IsErr result ↔ IsTrue (is_full self.old) }
         ensures ok { OnOk result (self.new ≡ admitted buffer self.old) }
         ensures number { IfOk result (λ n. n.0 ≡ number_of self.old.start (pos self.old.nxt)) }
@@ -211,7 +211,7 @@ impl SendWindow {
     /// The next index.
     pub fn nxt(&self) -> u64
         ensures value { result ≡ self.now.nxt }
-        ensures range { self.now.nxt < 2 ^ 32 }
+        ensures range { self.now.nxt ≤ 2 ^ 32 }
     {
         self.nxt
     }

@@ -3,7 +3,7 @@ use Rattle.csp_rdp_window.specs.Receiving.{confirmed}
 use Rattle.csp_rdp_window.specs.Sending.{loose_buffer}
 use Rattle.csp_rdp.specs.Jobs.{counted}
 use Rattle.csp_rdp.specs.Table.{row_of}
-use Rattle.csp_rdp.proofs.BalanceLemmas.{admitted-balanced, again-balanced, delivery-balanced, drained-balanced, handed-balanced, numbers-closed, numbers-delivered, numbers-sent, numbers-ticked}
+use Rattle.csp_rdp.proofs.BalanceLemmas.{admitted-balanced, again-balanced, delivery-balanced, drained-balanced, handed-balanced, numbers-closed, numbers-delivered, numbers-sent, numbers-ticked, parted-balanced}
 use Rattle.csp_rdp.proofs.conserving.conserves.Goals as goal
 
 pub returns : goal.returns
@@ -17,4 +17,5 @@ returns c = record {
   ticked = λ time r. numbers-ticked time r;
   closed = λ time r. numbers-closed r.state time r;
   drained = λ r. drained-balanced (loose_buffer r.send) r refl;
+  parted = λ r. parted-balanced r;
 }
