@@ -144,6 +144,7 @@ impl App {
 }
 
 /// A buffer goes back to the pool.
+#[inline(never)]
 fn given(buffer: Option<Buffer>) -> Op
     ensures op { shown_op result ≡ giving_op (option_map (λ b. b.picture) buffer) }
     ensures of_it { (r : RegionName) → IfSome buffer (λ b. b.region ≡ r) → IsOpOf r result }
@@ -155,6 +156,7 @@ fn given(buffer: Option<Buffer>) -> Op
 }
 
 /// A packet with its mark goes to the `Up` of this application.
+#[inline(never)]
 fn pushed(number: u8, mark: u8, packet: Option<Buffer>) -> Op
     ensures op { shown_op result ≡ pushing_op number (option_map (λ b. ItemShown.Packet mark b.picture) packet) }
     ensures of_it { (r : RegionName) → IfSome packet (λ b. b.region ≡ r) → IsOpOf r result }

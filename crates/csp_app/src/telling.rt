@@ -32,6 +32,23 @@ impl App {
         ensures events { report.new.items ≡ events self.old.app now (shown_answer answer) }
         ensures state { self.new ≡ with_app self.old (tells self.old.app now (shown_answer answer)) }
     {
+        if let Answer::Empty = answer {
+            self.told_empty(now, report);
+        } else {
+            self.told_of(answer, now, report);
+        }
+    }
+
+    /// Any answer. It has room for what one may bring, which a turn that found nothing needn't pay for.
+    #[inline(never)]
+    fn told_of(&mut self, answer: Answer, now: u64, report: &mut Events)
+        requires fits { IsAnswerOf (uses self.old.app) (awaits self.old.app) (shown_answer answer) }
+        requires of_it { IsAnswerFrom self.old.region answer }
+        requires countable { count self.old.app < 2 ^ 32 - 1 }
+        requires unwritten { report.old.items ≡ [] }
+        ensures events { report.new.items ≡ events self.old.app now (shown_answer answer) }
+        ensures state { self.new ≡ with_app self.old (tells self.old.app now (shown_answer answer)) }
+    {
         match answer {
             Answer::Nothing => self.told_nothing(now, report),
             Answer::Taken(buffer) => self.told_taken(buffer, now, report),
@@ -246,6 +263,7 @@ impl App {
     }
 
     /// `Down` was popped, and what came is noted: a step that waits looks whether it is done.
+    #[inline(always)]
     fn look_on(&mut self, plan: Plan, note: Option<Note>, now: u64) -> Option<Event>
         requires resting { self.old.app.doing ≡ Plan.Rest }
         requires step { CanLook self.old.app plan }
@@ -309,6 +327,7 @@ impl App {
 
     /// A `recv` step looks whether it is done: enough packets, the rounds passed, the slot down.
     #[tactic(auto, using(crate::proofs::Takes::takes_less))]
+    #[inline(always)]
     fn look_for(&mut self, slot: u8, count: u32, rounds: Option<u32>, now: u64) -> Option<Event>
         requires resting { self.old.app.doing ≡ Plan.Rest }
         requires step { GoesOn self.old.app }

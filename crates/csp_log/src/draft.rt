@@ -3,12 +3,12 @@
 ghost use Rattle.std.specs.Prelude.{◌≡◌, ◌≤◌, [], length, vec_capacity, IfOk};
 ghost use Rattle.csp_log.specs.Pictures.{Fits, shown_op, shown_answer};
 ghost use Rattle.csp_log.specs.PlainDraft.{drafted};
-ghost use Rattle.csp_log.specs.Rows.{item_of, packet_of, turned_back, IsItemLong};
+ghost use Rattle.csp_log.specs.Rows.{draft_of, item_of, packet_of, turned_back, IsDeedLong, IsItemLong};
 ghost use Rattle.csp_log.specs.Pictures.{shown_item};
 
 use crate::deeds::keep;
 use crate::row::{Deed, FrameHead, ItemHead, PacketHead};
-use crate::{Answer, Item, Op};
+use crate::{Answer, AnswerShown, Item, Op, OpShown, QueueId};
 use csp_base::{MAX_FRAME, MAX_PAYLOAD};
 use csp_buffer::Buffer;
 use std::alloc::{AllocError, Global};
@@ -51,15 +51,40 @@ impl Draft {
     pub fn ask(&mut self, op: &Op)
         ensures { self.new ≡ drafted (shown_op op.now) }
     {
-        self.deed = Deed::Rested;
+        match op {
+            Op::Nothing => self.note(Deed::Rested),
+            Op::Take => self.note(Deed::FoundNoBuffer),
+            Op::Give(buffer) => self.give(buffer),
+            Op::Push(queue, item) => self.push(*queue, item),
+            Op::Pop(queue) => self.note(Deed::FoundEmpty(*queue)),
+        }
+    }
+
+    /// Notes an operation that carries nothing.
+    fn note(&mut self, deed: Deed)
+        requires { IsDeedLong 0 deed }
+        ensures { self.new ≡ draft_of [] deed }
+    {
         self.bytes.clear();
-        self.deed = match op {
-            Op::Nothing => Deed::Rested,
-            Op::Take => Deed::FoundNoBuffer,
-            Op::Give(buffer) => Deed::Gave(keep_packet(&mut self.bytes, buffer)),
-            Op::Push(queue, item) => Deed::Pushed(*queue, keep_item(&mut self.bytes, item)),
-            Op::Pop(queue) => Deed::FoundEmpty(*queue),
-        };
+        self.deed = deed;
+    }
+
+    /// Notes that this buffer is given.
+    #[inline(never)]
+    fn give(&mut self, buffer: &Buffer)
+        ensures { self.new ≡ drafted (OpShown.Give buffer.now.picture) }
+    {
+        self.bytes.clear();
+        self.deed = Deed::Gave(keep_packet(&mut self.bytes, buffer));
+    }
+
+    /// Notes that this item is pushed.
+    #[inline(never)]
+    fn push(&mut self, queue: QueueId, item: &Item)
+        ensures { self.new ≡ drafted (OpShown.Push queue (shown_item item.now)) }
+    {
+        self.bytes.clear();
+        self.deed = Deed::Pushed(queue, keep_item(&mut self.bytes, item));
     }
 
     /// Notes what that was answered. What comes back is what was handed in.
@@ -69,32 +94,47 @@ impl Draft {
         ensures { self.new ≡ record { op = self.old.op; answer = shown_answer answer.now } }
     {
         match answer {
-            Answer::Taken(buffer) => {
-                self.bytes.clear();
-                self.deed = Deed::Took(keep_packet(&mut self.bytes, buffer));
-            }
-            Answer::Popped(item) => {
-                if let Deed::FoundEmpty(queue) = self.deed {
-                    self.bytes.clear();
-                    self.deed = Deed::Popped(queue, keep_item(&mut self.bytes, item));
-                }
-            }
-            Answer::PoolFull(_) | Answer::Full(_) => self.deed = refused(self.deed),
+            Answer::Taken(buffer) => self.take(buffer),
+            Answer::Popped(item) => self.pop(item),
+            Answer::PoolFull(_) | Answer::Full(_) => turn_back(&mut self.deed),
             Answer::Nothing | Answer::NoBuffer | Answer::Given | Answer::Pushed | Answer::Empty =>
                 {}
         }
     }
+
+    /// Notes that this buffer was taken.
+    #[inline(never)]
+    fn take(&mut self, buffer: &Buffer)
+        ensures { self.new ≡ record { op = OpShown.Take; answer = AnswerShown.Taken buffer.now.picture } }
+    {
+        self.bytes.clear();
+        self.deed = Deed::Took(keep_packet(&mut self.bytes, buffer));
+    }
+
+    /// Notes that this item was popped.
+    #[inline(never)]
+    fn pop(&mut self, item: &Item)
+        requires asked { self.old ≡ drafted self.old.op }
+        requires fits { Fits self.old.op (AnswerShown.Popped (shown_item item.now)) }
+        ensures { self.new ≡ record { op = self.old.op; answer = AnswerShown.Popped (shown_item item.now) } }
+    {
+        if let Deed::FoundEmpty(queue) = self.deed {
+            self.bytes.clear();
+            self.deed = Deed::Popped(queue, keep_item(&mut self.bytes, item));
+        }
+    }
 }
 
-/// The deed of which what was handed in comes back.
-fn refused(deed: Deed) -> Deed
-    ensures { result ≡ turned_back deed }
+/// What was handed in comes back.
+#[inline(never)]
+fn turn_back(deed: &mut Deed)
+    ensures { deed.new ≡ turned_back deed.old }
 {
-    match deed {
+    *deed = match *deed {
         Deed::Gave(packet) => Deed::FoundPoolFull(packet),
         Deed::Pushed(queue, item) => Deed::FoundFull(queue, item),
-        _ => deed,
-    }
+        deed => deed,
+    };
 }
 
 /// Takes in the payload of a packet, and tells what else it is.
