@@ -3,17 +3,19 @@
 ghost use Rattle.std.specs.Prelude.{◌≡◌, ℕ, suc, ◌+◌, ◌*◌, ◌^◌, ◌<◌, ◌≤◌, true, false, Some, length};
 ghost use Rattle.csp_base.specs.declared.turns.Turn.{Turn};
 ghost use Rattle.csp_deck.specs.Carried.{IsCarriedIn};
-ghost use Rattle.csp_deck.specs.Regions.{IsOpOf, IsAnswerFrom};
+ghost use Rattle.csp_deck.specs.Regions.{IsOpOf, IsItemOf, IsAnswerFrom};
 ghost use Rattle.csp_deck.specs.Runs.{IsKept, last_time};
 ghost use Rattle.csp_deck.specs.Step.{HasCause, CanServe, IsAnswerOf, kind_of, entry_of, op_numbers, answer_numbers, times};
-ghost use Rattle.csp_log.specs.Pictures.{Fits, shown_op, shown_answer, turn_of};
+ghost use Rattle.csp_log.specs.Pictures.{Fits, shown_op, shown_answer, shown_item, turn_of};
 ghost use Rattle.csp_log.specs.PlainLog.{with_entry};
 ghost use Rattle.csp_log.specs.declared.places.QueueId.{QueueId};
 ghost use Rattle.csp_log.specs.declared.places.Rule.{Rule};
 ghost use Rattle.csp_log.specs.declared.shown.AnswerShown.{AnswerShown};
+ghost use Rattle.csp_log.specs.declared.shown.OpShown.{OpShown};
 
-use crate::{Answer, Deck, Desk, Log, Op, Party, Spares};
+use crate::{Answer, Deck, Desk, Item, Log, Op, Party, QueueId, Spares};
 use csp_base::Turn;
+use csp_buffer::Buffer;
 
 /// One turn of a party: it asks, the deck serves that one operation, it is told the answer, and the
 /// log has one entry more.
@@ -103,17 +105,48 @@ fn serve<D: Deck>(deck: &mut D, op: Op) -> Answer
             Some(buffer) => Answer::Taken(buffer),
             None => Answer::NoBuffer,
         },
-        Op::Give(buffer) => match deck.give(buffer) {
-            Ok(()) => Answer::Given,
-            Err(buffer) => Answer::PoolFull(buffer),
-        },
-        Op::Push(queue, item) => match deck.push(queue, item) {
-            Ok(()) => Answer::Pushed,
-            Err(item) => Answer::Full(item),
-        },
+        Op::Give(buffer) => give(deck, buffer),
+        Op::Push(queue, item) => push(deck, queue, item),
         Op::Pop(queue) => match deck.pop(queue) {
             Some(item) => Answer::Popped(item),
             None => Answer::Empty,
         },
+    }
+}
+
+/// Has the deck put a buffer into the pool.
+#[inline(never)]
+fn give<D: Deck>(deck: &mut D, buffer: Buffer) -> Answer
+    requires { buffer.region ≡ D.region deck.old }
+    ensures answers { D.answers deck.old (OpShown.Give buffer.picture) (shown_answer result) deck.new }
+    ensures fits { Fits (OpShown.Give buffer.picture) (shown_answer result) }
+    ensures cause { HasCause (D.was_empty deck.old deck.new) (D.was_full deck.old deck.new) (OpShown.Give buffer.picture) (shown_answer result) }
+    ensures carried { IsAnswerOf (D.rule deck.old) (kind_of (OpShown.Give buffer.picture)) (shown_answer result) }
+    ensures of_it { IsAnswerFrom (D.region deck.old) result }
+    ensures rules { (q : QueueId) → D.rule deck.new q ≡ D.rule deck.old q }
+    ensures region { D.region deck.new ≡ D.region deck.old }
+{
+    match deck.give(buffer) {
+        Ok(()) => Answer::Given,
+        Err(buffer) => Answer::PoolFull(buffer),
+    }
+}
+
+/// Has the deck append an item to a queue.
+#[inline(never)]
+fn push<D: Deck>(deck: &mut D, queue: QueueId, item: Item) -> Answer
+    requires carried { IsCarriedIn (D.rule deck.old queue) (shown_item item) }
+    requires of_it { IsItemOf (D.region deck.old) item }
+    ensures answers { D.answers deck.old (OpShown.Push queue (shown_item item)) (shown_answer result) deck.new }
+    ensures fits { Fits (OpShown.Push queue (shown_item item)) (shown_answer result) }
+    ensures cause { HasCause (D.was_empty deck.old deck.new) (D.was_full deck.old deck.new) (OpShown.Push queue (shown_item item)) (shown_answer result) }
+    ensures carried { IsAnswerOf (D.rule deck.old) (kind_of (OpShown.Push queue (shown_item item))) (shown_answer result) }
+    ensures of_it { IsAnswerFrom (D.region deck.old) result }
+    ensures rules { (q : QueueId) → D.rule deck.new q ≡ D.rule deck.old q }
+    ensures region { D.region deck.new ≡ D.region deck.old }
+{
+    match deck.push(queue, item) {
+        Ok(()) => Answer::Pushed,
+        Err(item) => Answer::Full(item),
     }
 }
