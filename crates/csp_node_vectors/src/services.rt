@@ -1,24 +1,20 @@
 //! Worked requests to the services of a node, at each port.
 
-ghost use Rattle.std.specs.Prelude.{◌≡◌, length, pos};
-
 use arrayvec::ArrayVec;
 use csp_base::{Name, Port};
 use csp_cmp::{CmpError, CmpReply, MAX_REPLY};
 use csp_log::Event;
 use csp_route::Table;
-use csp_service::{Facts, Served, ServiceError, answer};
+use csp_service::{Names, Served, ServiceError, Services, answer};
+use std::alloc::Global;
 use std::process::Abort;
 
-/// A node `payload` with one interface, `bus`, before it was asked anything.
-fn node(rt: &impl Abort) -> Facts
-    ensures even { length result.stats ≡ length result.ifaces }
-    ensures clock { result.clock ≡ pos 0 }
-{
+/// A node `payload` with one interface, `bus`.
+fn node(rt: &impl Abort) -> Names {
     let mut ifaces = ArrayVec::new();
     ifaces.push(Name::from("bus").ok().expect(rt, "a short name"));
-    let name = Name::from("payload").ok().expect(rt, "a short name");
-    Facts::new(name, Table::new(), ifaces)
+    let node = Name::from("payload").ok().expect(rt, "a short name");
+    Names { node, ifaces }
 }
 
 /// What is refused, by port and request.
@@ -75,28 +71,38 @@ const IDENT: &[u8] =
     b"\xFF\x01payload\0\0\0\0\0\0\0\0\0\0\0\0\0csp bench\0\0\0\0\0\0\0\0\0\0\0\0\0\0\0\0\0\0\0\0\0profile 1\0\0\0\0\0\0\0\0\0\0\02000-01-01\0\000:00:00\0";
 
 /// What a new node answers after 5,500 milliseconds.
-fn asked(rt: &impl Abort, port: u8, request: &[u8], out: &mut CmpReply) -> Served {
+fn asked<R: Abort>(rt: &R, alloc: Global, port: u8, request: &[u8], out: &mut CmpReply) -> Served {
     assert!(rt; request.len() <= MAX_REPLY);
     let port = Port::new(port).expect(rt, "a port");
-    answer(port, request, &mut node(rt), 5500, out)
+    let mut services = Services::open(alloc).ok().expect(rt, "ample memory");
+    let mut routes = Table::new();
+    answer(
+        port,
+        request,
+        &node(rt),
+        &mut routes,
+        &mut services,
+        5500,
+        out,
+    )
 }
 
 #[test]
 fn requests_without_reply(rt: HostRuntime) {
     let mut out = CmpReply::new();
     for (port, request, error) in REFUSED {
-        assert!(rt; asked(&rt, port, request, &mut out) == Served::Refused(error));
+        assert!(rt; asked(&rt, rt.alloc(), port, request, &mut out) == Served::Refused(error));
         assert!(rt; out.is_empty());
     }
-    assert!(rt; asked(&rt, 2, &[], &mut out) == Served::NoService);
-    assert!(rt; asked(&rt, 4, &[0x80, 7, 0x80, 7], &mut out) == Served::Silent(Event::Reboot));
+    assert!(rt; asked(&rt, rt.alloc(), 2, &[], &mut out) == Served::NoService);
+    assert!(rt; asked(&rt, rt.alloc(), 4, &[0x80, 7, 0x80, 7], &mut out) == Served::Silent(Event::Reboot));
 }
 
 #[test]
 fn requests_with_a_reply(rt: HostRuntime) {
     let mut out = CmpReply::new();
     for (port, request, reply) in REPLIES {
-        assert!(rt; asked(&rt, port, request, &mut out) == Served::Reply);
+        assert!(rt; asked(&rt, rt.alloc(), port, request, &mut out) == Served::Reply);
         assert!(rt; out.as_slice() == reply);
     }
 }

@@ -27,7 +27,7 @@ use Rattle.csp_service.specs.declared.service.Service.{Service}
 use Rattle.csp_service.specs.declared.service.Service.TheVariants as service
 use Rattle.csp_service.specs.Services.{service_at}
 use Rattle.csp_service.specs.Counting.{no_stats}
-use Rattle.csp_service.specs.Facts.{PlainFacts}
+use Rattle.csp_service.specs.Facts.{PlainFacts, PlainServices}
 use Rattle.csp_service.specs.Clock.{nanos_of, seconds_of, set_by, shown}
 
 -- what comes of a request: what is answered, the bytes of the reply (none without one), and the facts afterwards
@@ -47,6 +47,14 @@ replied bytes facts = outcome Reply bytes facts
 -- a refusal, which changes nothing
 abbrev pub refused : ServiceError → PlainFacts → Outcome
 refused error facts = outcome (Refused error) [] facts
+
+-- the facts with this in place of what the services keep
+abbrev pub with_services : PlainFacts → PlainServices → PlainFacts
+with_services facts services = record facts { services = services }
+
+-- the facts with this routing table
+abbrev pub with_routes : PlainFacts → Routes → PlainFacts
+with_routes facts routes = record facts { routes = routes }
 
 -- the bytes before this place, or all where there is none
 abbrev pub up_to : Option ℕ → List ℕ → List ℕ
@@ -87,17 +95,17 @@ has_no_room table prefix = (finite.len table == MAX_ROWS) && is_none (finite.get
 abbrev pub routed : List ℕ → Result Row ServiceError → PlainFacts → Outcome
 routed reply (Err error) facts = refused error facts
 routed reply (Ok row) facts =
-    if has_no_room facts.routes (key_of row) then refused Full facts else replied reply (record facts { routes = with_row facts.routes row })
+    if has_no_room facts.routes (key_of row) then refused Full facts else replied reply (with_routes facts (with_row facts.routes row))
 
 -- an interface's counts are told
 abbrev pub told_stats : List ℕ → Option ℕ → PlainFacts → Outcome
 told_stats field None facts = refused NoInterface facts
-told_stats field (Some iface) facts = replied (stats_bytes field (get_or facts.stats iface no_stats).counts) facts
+told_stats field (Some iface) facts = replied (stats_bytes field (get_or facts.services.stats iface no_stats).counts) facts
 
 -- memory is read, where all of it is there
 abbrev pub peeked : ℕ → ℕ → PlainFacts → Outcome
 peeked addr len facts =
-    if nat_lt MEMORY (addr + len) then refused BadAddress facts else replied (peek_bytes addr (slice_range facts.memory addr (addr + len))) facts
+    if nat_lt MEMORY (addr + len) then refused BadAddress facts else replied (peek_bytes addr (slice_range facts.services.memory addr (addr + len))) facts
 
 -- memory with these bytes in it from an address on
 abbrev pub overwritten : List ℕ → ℕ → List ℕ → List ℕ
@@ -107,12 +115,12 @@ overwritten memory addr bytes = take addr memory ++ bytes ++ drop (addr + length
 abbrev pub poked : ℕ → ArrayVec ℕ → PlainFacts → Outcome
 poked addr bytes facts =
     if nat_lt MEMORY (addr + length bytes.items) then refused BadAddress facts
-    else replied (same_bytes (Poke addr bytes)) (record facts { memory = overwritten facts.memory addr bytes.items })
+    else replied (same_bytes (Poke addr bytes)) (with_services facts (record facts.services { memory = overwritten facts.services.memory addr bytes.items }))
 
 -- the clock is told, as it is once the request was heard
 abbrev pub told_clock : ℤ → PlainFacts → ℕ → Outcome
 told_clock clock facts now =
-    replied (clock_bytes (seconds_of (shown clock now)) (nanos_of (shown clock now))) (record facts { clock = clock })
+    replied (clock_bytes (seconds_of (shown clock now)) (nanos_of (shown clock now))) (with_services facts (record facts.services { clock = clock }))
 
 -- a request of the management protocol, by its kind
 abbrev pub requested : Result CmpRequest CmpError → PlainFacts → ℕ → Outcome
@@ -122,7 +130,7 @@ requested (Ok (RouteSet dest via field)) facts now = routed (same_bytes (RouteSe
 requested (Ok (Stats field)) facts now = told_stats field (iface_of field facts.ifaces) facts
 requested (Ok (Peek addr len)) facts now = peeked addr len facts
 requested (Ok (Poke addr bytes)) facts now = poked addr bytes facts
-requested (Ok (Clock sec nsec)) facts now = told_clock (set_by sec nsec facts.clock now) facts now
+requested (Ok (Clock sec nsec)) facts now = told_clock (set_by sec nsec facts.services.clock now) facts now
 
 -- a request to start again or to stop: just the four bytes of its number
 abbrev pub rebooted : List ℕ → Served

@@ -1,5 +1,5 @@
 -- the clock of a node
-use Rattle.std.specs.Prelude.{ℕ, ◌+◌, ◌*◌, ◌/◌, ◌%◌, ◌^◌, ℤ, pos, negsuc, ◌+ℤ◌, ◌-ℤ◌, if◌then◌else◌, ◌==◌}
+use Rattle.std.specs.Prelude.{ℕ, ◌+◌, ◌*◌, ◌/◌, ◌%◌, ◌^◌, ℤ, pos, negsuc, ◌+ℤ◌, ◌-ℤ◌, ◌<ℤ◌, ◌≤ℤ◌, if◌then◌else◌, ◌==◌}
 
 -- an integer that is not negative, as a number
 abbrev pub natural : ℤ → ℕ
@@ -25,3 +25,8 @@ seconds_of millis = (millis / 1000) % 2 ^ 32
 -- and the nanoseconds besides
 abbrev pub nanos_of : ℕ → ℕ
 nanos_of millis = (millis % 1000) * 1000000
+
+-- a clock is less than 2^62 milliseconds ahead of the time, and at most so far behind it
+pub record IsClock (clock : ℤ) : Type 0 where
+  pub ahead : clock <ℤ pos (2 ^ 62)
+  pub behind : pos 0 ≤ℤ (clock +ℤ pos (2 ^ 62))

@@ -1,19 +1,22 @@
 //! What the services answer.
 
-ghost use Rattle.std.specs.Prelude.{◌≡◌, ◌<◌, ◌≤◌, ◌^◌, [], length, Ok, pos, ◌+ℤ◌, ◌≤ℤ◌, ◌<ℤ◌};
+ghost use Rattle.std.specs.Prelude.{◌≡◌, ◌<◌, ◌≤◌, ◌^◌, [], length, Ok};
 ghost use Rattle.csp_cmp.specs.Reading.{decoded};
 ghost use Rattle.csp_cmp.specs.Requests.{chunk_in};
 ghost use Rattle.csp_cmp.specs.Replies.{ident_bytes};
 ghost use Rattle.csp_route.specs.Routes.{IsWithin};
-ghost use Rattle.csp_service.specs.Answers.{answered, outcome, rebooted, replied, requested};
+ghost use Rattle.csp_service.specs.Answers.{answered, outcome, rebooted, requested};
+ghost use Rattle.csp_service.specs.Facts.{known};
 
 use crate::clock::{seconds, tell_clock};
 use crate::memory::{peek, poke};
 use crate::requests::{set_route, tell_stats};
-use crate::{Facts, MEMORY, Service};
+use crate::facts::{MEMORY, Names, Services};
+use crate::Service;
 use csp_base::Port;
 use csp_cmp::{CmpError, CmpReply, CmpRequest, MAX_CHUNK, MAX_REPLY, decode, ident_reply};
 use csp_log::Event;
+use csp_route::Table;
 use thiserror::Error;
 
 /// The number that asks a node to start again.
@@ -55,27 +58,29 @@ pub enum ServiceError {
     BadMagic,
 }
 
-/// Answers a request that came to a port of the node, at a time in milliseconds. A reply is written into
-/// `out`, in place of what stood there; without one `out` is left empty. A refusal changes nothing.
-pub fn answer(port: Port, request: &[u8], facts: &mut Facts, now: u64, out: &mut CmpReply) -> Served
+/// Answers a request that came to a port of the node of these names, at a time in milliseconds. A request may
+/// change the routing table and what the services keep; one that is refused changes nothing. A reply is written
+/// into `out`, in place of what stood there; without one `out` is left empty.
+pub fn answer(
+    port: Port,
+    request: &[u8],
+    names: &Names,
+    routes: &mut Table,
+    services: &mut Services,
+    now: u64,
+    out: &mut CmpReply,
+) -> Served
     requires fits { port ≡ 1 → length request.now ≤ MAX_REPLY }
-    requires even { length facts.old.stats ≡ length facts.old.ifaces }
-    requires clock { facts.old.clock <ℤ pos (2 ^ 62) }
-    requires ahead { pos 0 ≤ℤ (facts.old.clock +ℤ pos now) }
     requires now { now < 2 ^ 62 }
-    ensures value { outcome result out.new.items facts.new ≡ answered port request.now facts.old now }
-    ensures kept { (error : ServiceError) → result ≡ Served.Refused error → facts.new ≡ facts.old }
+    ensures value { outcome result out.new.items (known names.now routes.new services.new) ≡ answered port request.now (known names.now routes.old services.old) now }
+    ensures kept { (error : ServiceError) → result ≡ Served.Refused error → (routes.new ≡ routes.old) × (services.new ≡ services.old) }
 
-    // What the next call asks of the facts, and what a router asks of its table.
-    ensures ifaces { facts.new.ifaces ≡ facts.old.ifaces }
-    ensures stats { facts.new.stats ≡ facts.old.stats }
-    ensures clock { facts.new.clock <ℤ pos (2 ^ 62) }
-    ensures ahead { pos 0 ≤ℤ (facts.new.clock +ℤ pos now) }
-    ensures known { IsWithin (length facts.old.ifaces) facts.old.routes → IsWithin (length facts.new.ifaces) facts.new.routes }
+    // What a router asks of its table.
+    ensures known { IsWithin (length names.now.ifaces.items) routes.old → IsWithin (length names.now.ifaces.items) routes.new }
 {
     out.clear();
     match Service::at(port) {
-        Some(Service::Cmp) => answer_cmp(request, facts, now, out),
+        Some(Service::Cmp) => answer_cmp(request, names, routes, services, now, out),
         Some(Service::Ping) => reply(request, out),
         Some(Service::FreeMemory) => reply(&(MEMORY as u32).to_be_bytes(), out),
         Some(Service::Reboot) => reboot(request),
@@ -85,57 +90,62 @@ pub fn answer(port: Port, request: &[u8], facts: &mut Facts, now: u64, out: &mut
 }
 
 /// Answers a request of the management protocol.
-fn answer_cmp(request: &[u8], facts: &mut Facts, now: u64, out: &mut CmpReply) -> Served
+fn answer_cmp(
+    request: &[u8],
+    names: &Names,
+    routes: &mut Table,
+    services: &mut Services,
+    now: u64,
+    out: &mut CmpReply,
+) -> Served
     requires empty { out.old.items ≡ [] }
-    requires even { length facts.old.stats ≡ length facts.old.ifaces }
-    requires clock { facts.old.clock <ℤ pos (2 ^ 62) }
-    requires ahead { pos 0 ≤ℤ (facts.old.clock +ℤ pos now) }
     requires now { now < 2 ^ 62 }
-    ensures value { outcome result out.new.items facts.new ≡ requested (decoded request.now) facts.old now }
-    ensures kept { (error : ServiceError) → result ≡ Served.Refused error → facts.new ≡ facts.old }
-    ensures ifaces { facts.new.ifaces ≡ facts.old.ifaces }
-    ensures stats { facts.new.stats ≡ facts.old.stats }
-    ensures clock { facts.new.clock <ℤ pos (2 ^ 62) }
-    ensures ahead { pos 0 ≤ℤ (facts.new.clock +ℤ pos now) }
-    ensures known { IsWithin (length facts.old.ifaces) facts.old.routes → IsWithin (length facts.new.ifaces) facts.new.routes }
+    ensures value { outcome result out.new.items (known names.now routes.new services.new) ≡ requested (decoded request.now) (known names.now routes.old services.old) now }
+    ensures kept { (error : ServiceError) → result ≡ Served.Refused error → (routes.new ≡ routes.old) × (services.new ≡ services.old) }
+    ensures known { IsWithin (length names.now.ifaces.items) routes.old → IsWithin (length names.now.ifaces.items) routes.new }
 {
     match decode(request) {
-        Ok(request) => serve(request, facts, now, out),
+        Ok(request) => serve(request, names, routes, services, now, out),
         Err(error) => Served::Refused(ServiceError::Cmp(error)),
     }
 }
 
 /// Does what a request of the management protocol asks for.
-fn serve(request: CmpRequest, facts: &mut Facts, now: u64, out: &mut CmpReply) -> Served
+fn serve(
+    request: CmpRequest,
+    names: &Names,
+    routes: &mut Table,
+    services: &mut Services,
+    now: u64,
+    out: &mut CmpReply,
+) -> Served
     requires few { chunk_in request ≤ MAX_CHUNK }
     requires empty { out.old.items ≡ [] }
-    requires even { length facts.old.stats ≡ length facts.old.ifaces }
-    requires clock { facts.old.clock <ℤ pos (2 ^ 62) }
-    requires ahead { pos 0 ≤ℤ (facts.old.clock +ℤ pos now) }
     requires now { now < 2 ^ 62 }
-    ensures value { outcome result out.new.items facts.new ≡ requested (Ok request) facts.old now }
-    ensures kept { (error : ServiceError) → result ≡ Served.Refused error → facts.new ≡ facts.old }
-    ensures ifaces { facts.new.ifaces ≡ facts.old.ifaces }
-    ensures stats { facts.new.stats ≡ facts.old.stats }
-    ensures clock { facts.new.clock <ℤ pos (2 ^ 62) }
-    ensures ahead { pos 0 ≤ℤ (facts.new.clock +ℤ pos now) }
-    ensures known { IsWithin (length facts.old.ifaces) facts.old.routes → IsWithin (length facts.new.ifaces) facts.new.routes }
+    ensures value { outcome result out.new.items (known names.now routes.new services.new) ≡ requested (Ok request) (known names.now routes.old services.old) now }
+    ensures kept { (error : ServiceError) → result ≡ Served.Refused error → (routes.new ≡ routes.old) × (services.new ≡ services.old) }
+    ensures known { IsWithin (length names.now.ifaces.items) routes.old → IsWithin (length names.now.ifaces.items) routes.new }
 {
+    let ifaces = names.ifaces.as_slice();
     match request {
-        CmpRequest::Ident => tell_name(facts, out),
-        CmpRequest::RouteSet { dest, via, iface } => set_route(dest, via, iface, facts, out),
-        CmpRequest::Stats { iface } => tell_stats(iface, facts, out),
-        CmpRequest::Peek { addr, len } => peek(addr, len, facts, out),
-        CmpRequest::Poke { addr, bytes } => poke(addr, bytes, facts, out),
-        CmpRequest::Clock { sec, nsec } => tell_clock(sec, nsec, facts, now, out),
+        CmpRequest::Ident => tell_name(names, out),
+        CmpRequest::RouteSet { dest, via, iface } => {
+            set_route(dest, via, iface, ifaces, routes, out)
+        }
+        CmpRequest::Stats { iface } => tell_stats(iface, ifaces, services, out),
+        CmpRequest::Peek { addr, len } => peek(addr, len, services, out),
+        CmpRequest::Poke { addr, bytes } => poke(addr, bytes, services, out),
+        CmpRequest::Clock { sec, nsec } => tell_clock(sec, nsec, services, now, out),
     }
 }
 
 /// Tells who the node is.
-fn tell_name(facts: &Facts, out: &mut CmpReply) -> Served
-    ensures { outcome result out.new.items facts.now ≡ replied (ident_bytes facts.now.name) facts.now }
+fn tell_name(names: &Names, out: &mut CmpReply) -> Served
+    requires empty { out.old.items ≡ [] }
+    ensures served { result ≡ Served.Reply }
+    ensures reply { out.new.items ≡ ident_bytes names.now.node.bytes }
 {
-    ident_reply(facts.name.as_str(), out);
+    ident_reply(names.node.as_str(), out);
     Served::Reply
 }
 

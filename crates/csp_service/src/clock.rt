@@ -1,46 +1,40 @@
 //! The clock of a node.
 
-ghost use Rattle.std.specs.Prelude.{◌≡◌, ◌<◌, ◌^◌, [], pos, ◌+ℤ◌, ◌≤ℤ◌, ◌<ℤ◌};
-ghost use Rattle.csp_service.specs.Answers.{outcome, told_clock};
-ghost use Rattle.csp_service.specs.Clock.{millis_of, nanos_of, seconds_of, set_by, shown};
+ghost use Rattle.std.specs.Prelude.{◌≡◌, ◌<◌, ◌^◌, [], pos};
+ghost use Rattle.csp_cmp.specs.Replies.{clock_bytes};
+ghost use Rattle.csp_service.specs.Clock.{IsClock, millis_of, nanos_of, seconds_of, set_by, shown};
 
-use crate::{Facts, Served};
+use crate::Served;
+use crate::facts::Services;
 use csp_cmp::{CmpReply, clock_reply};
 
 /// Tells the clock; a request that has seconds other than 0 sets it first.
 pub(crate) fn tell_clock(
     sec: u32,
     nsec: u32,
-    facts: &mut Facts,
+    services: &mut Services,
     now: u64,
     out: &mut CmpReply,
 ) -> Served
-    requires clock { facts.old.clock <ℤ pos (2 ^ 62) }
-    requires ahead { pos 0 ≤ℤ (facts.old.clock +ℤ pos now) }
+    requires empty { out.old.items ≡ [] }
     requires now { now < 2 ^ 62 }
-    ensures value { outcome result out.new.items facts.new ≡ told_clock (set_by sec nsec facts.old.clock now) facts.old now }
     ensures replied { result ≡ Served.Reply }
-    ensures routes { facts.new.routes ≡ facts.old.routes }
-    ensures ifaces { facts.new.ifaces ≡ facts.old.ifaces }
-    ensures stats { facts.new.stats ≡ facts.old.stats }
-    ensures clock { facts.new.clock <ℤ pos (2 ^ 62) }
-    ensures ahead { pos 0 ≤ℤ (facts.new.clock +ℤ pos now) }
+    ensures reply { out.new.items ≡ clock_bytes (seconds_of (shown (set_by sec nsec services.old.clock now) now)) (nanos_of (shown (set_by sec nsec services.old.clock now) now)) }
+    ensures services { services.new ≡ record services.old { clock = set_by sec nsec services.old.clock now } }
 {
-    let clock = set_by(sec, nsec, facts.clock, now);
+    let clock = set_by(sec, nsec, services.clock, now);
     let millis = shown(clock, now);
-    facts.clock = clock;
+    services.clock = clock;
     clock_reply(seconds(millis), nanos(millis), out);
     Served::Reply
 }
 
 /// How far the clock is ahead of the time once a request was heard.
 fn set_by(sec: u32, nsec: u32, clock: i64, now: u64) -> i64
-    requires below { clock <ℤ pos (2 ^ 62) }
-    requires ahead { pos 0 ≤ℤ (clock +ℤ pos now) }
+    requires clock { IsClock clock }
     requires now { now < 2 ^ 62 }
     ensures value { result ≡ set_by sec nsec clock now }
-    ensures below { result <ℤ pos (2 ^ 62) }
-    ensures ahead { pos 0 ≤ℤ (result +ℤ pos now) }
+    ensures clock { IsClock result }
 {
     if sec == 0 {
         clock
@@ -59,12 +53,12 @@ fn millis(sec: u32, nsec: u32) -> u64
 
 /// The milliseconds that a clock shows.
 fn shown(clock: i64, now: u64) -> u64
-    requires below { clock <ℤ pos (2 ^ 62) }
-    requires ahead { pos 0 ≤ℤ (clock +ℤ pos now) }
+    requires clock { IsClock clock }
     requires now { now < 2 ^ 62 }
     ensures { result ≡ shown clock now }
 {
-    (clock + now as i64) as u64
+    let millis = clock + now as i64;
+    if millis < 0 { 0 } else { millis as u64 }
 }
 
 /// The seconds of milliseconds, as a number of 32 bits.

@@ -1,13 +1,14 @@
 //! What a node's services know and change.
 
-ghost use Rattle.std.specs.Prelude.{◌≡◌, ◌≤◌, replicate};
-ghost use Rattle.csp_service.specs.Counting.{no_stats};
+ghost use Rattle.std.specs.Prelude.{◌≡◌, ◌+◌, ◌<◌, ◌^◌, IfOk};
+ghost use Rattle.csp_service.specs.Counting.{counted};
+ghost use Rattle.csp_service.specs.Facts.{new_services};
 
-use crate::Stats;
+use crate::{Count, Stats};
 use arrayvec::ArrayVec;
 use csp_base::Name;
 use csp_log::IFACES;
-use csp_route::Table;
+use std::alloc::{AllocError, Global};
 use std::marker::Model;
 
 /// The most interfaces of a node.
@@ -16,70 +17,64 @@ pub const IFACE_ROOM: usize = IFACES as usize;
 /// The bytes of memory that a node's memory service has.
 pub const MEMORY: usize = 1024;
 
-/// What the services of a node know and change. Contracts see it as a `PlainFacts`: names as their bytes, and
-/// the routing table as a finite map.
+/// The names of a node and of its interfaces, which no request changes.
 #[derive(Drop)]
-pub struct Facts {
+pub struct Names {
     /// The node's name.
-    pub name: Name,
-    /// Its routing table.
-    pub routes: Table,
+    pub node: Name,
     /// The names of its interfaces, in the order of their numbers.
     pub ifaces: ArrayVec<Name, IFACE_ROOM>,
-    /// What it counted of each, in the same order.
-    pub stats: ArrayVec<Stats, IFACE_ROOM>,
-    /// Its memory.
-    pub memory: [u8; MEMORY],
-    /// By how many milliseconds its clock is ahead of the time.
-    pub clock: i64,
 }
 
-impl Model for Facts {
-    ghost use Rattle.std.specs.Coded.{codes};
-    ghost use Rattle.std.specs.Prelude.{◌≡◌, map, length};
-    ghost use Rattle.csp_route.specs.Codes.{routes_code};
-    ghost use Rattle.csp_service.specs.Facts.{PlainFacts};
-    ghost use Rattle.csp_service.specs.declared.facts.TheConstants.{MEMORY};
-
-    ghost Value = { PlainFacts };
-
-    ghost coded = { Prim.hlevel (codes, routes_code) };
-
-    ghost view = { λ f. record { name = f.name.bytes; routes = f.routes; ifaces = map (λ n. n.bytes) f.ifaces.items; stats = f.stats.items; memory = f.memory; clock = f.clock } };
-
-    ghost invariant = { λ f. length f.memory ≡ MEMORY };
+/// What the services of a node keep. Contracts see it as `PlainServices`.
+#[derive(Drop)]
+pub struct Services {
+    /// What was counted of each interface, in the order of their numbers.
+    pub(crate) stats: Vec<Stats>,
+    /// The memory.
+    pub(crate) memory: Vec<u8>,
+    /// By how many milliseconds the clock is ahead of the time.
+    pub(crate) clock: i64,
 }
 
-impl Facts {
-    ghost use Rattle.std.specs.Prelude.{◌≡◌};
-    ghost use Rattle.csp_route.specs.Text.{names_of};
-    ghost use Rattle.csp_service.specs.Facts.{new_facts};
+impl Model for Services {
+    ghost use Rattle.std.specs.Prelude.{◌≡◌, length};
+    ghost use Rattle.csp_service.specs.Facts.{PlainServices};
+    ghost use Rattle.csp_service.specs.Kept.{AreKept};
 
-    /// What a node of this name, with these routes and interfaces, knows before it is asked anything: nothing
-    /// is counted, its memory is zero, and its clock shows the time.
-    pub fn new(name: Name, routes: Table, ifaces: ArrayVec<Name, IFACE_ROOM>) -> Facts
-        ensures { result ≡ new_facts name.bytes routes (names_of ifaces.items) }
+    ghost Value = { PlainServices };
+
+    ghost view = { λ s. record { stats = s.stats.items; memory = s.memory.items; clock = s.clock } };
+
+    ghost invariant = { λ s. AreKept s.stats.items s.memory.items s.clock };
+}
+
+impl Services {
+    /// The services of a node before it is asked anything: nothing is counted, the memory is zero, and the
+    /// clock shows the time.
+    ///
+    /// # Errors
+    /// Want of memory.
+    pub fn open(alloc: Global) -> Result<Services, AllocError>
+        ensures { IfOk result (λ s. s ≡ new_services) }
     {
-        let stats = no_stats(ifaces.len());
-        Facts {
-            name,
-            routes,
-            ifaces,
+        let stats = Vec::from_elem(alloc, Stats::new(), IFACE_ROOM)?;
+        let memory = Vec::from_elem(alloc, 0u8, MEMORY)?;
+        Ok(Services {
             stats,
-            memory: [0; MEMORY],
+            memory,
             clock: 0,
+        })
+    }
+
+    /// Counts so many more of the interface of this number, where a node may have one. A count stops at the
+    /// greatest number of 32 bits.
+    pub fn count(&mut self, iface: u8, count: Count, by: u32)
+        ensures { self.new ≡ record self.old { stats = counted self.old.stats iface count by } }
+    {
+        let place = usize::from(iface);
+        if place < self.stats.len() {
+            self.stats[place].raise(count, by);
         }
     }
-}
-
-/// The counts of so many interfaces before anything is counted.
-fn no_stats(count: usize) -> ArrayVec<Stats, IFACE_ROOM>
-    requires { count ≤ IFACE_ROOM }
-    ensures { result.items ≡ replicate count no_stats }
-{
-    let mut stats = ArrayVec::new();
-    for _ in 0..count {
-        stats.push(Stats::new());
-    }
-    stats
 }

@@ -11,6 +11,6 @@ mod service;
 mod stats;
 
 pub use answers::{REBOOT, SHUTDOWN, Served, ServiceError, answer};
-pub use facts::{Facts, IFACE_ROOM, MEMORY};
+pub use facts::{IFACE_ROOM, MEMORY, Names, Services};
 pub use service::Service;
 pub use stats::{Count, Stats};

@@ -1,24 +1,26 @@
 //! The memory that requests read and write.
 
 ghost use Rattle.std.specs.Prelude.{◌≡◌, ◌+◌, ◌≤◌, [], length};
-ghost use Rattle.csp_service.specs.Answers.{outcome, overwritten, peeked, poked};
+ghost use Rattle.csp_service.specs.Answers.{outcome, overwritten, peeked, poked, with_services};
+ghost use Rattle.csp_service.specs.Facts.{PlainFacts};
 
-use crate::{Facts, MEMORY, Served, ServiceError};
+use crate::facts::{MEMORY, Services};
+use crate::{Served, ServiceError};
 use arrayvec::ArrayVec;
 use csp_cmp::{CmpReply, CmpRequest, MAX_CHUNK, peek_reply, same_reply};
 
 /// Reads memory.
-pub(crate) fn peek(addr: u32, len: u8, facts: &Facts, out: &mut CmpReply) -> Served
+pub(crate) fn peek(addr: u32, len: u8, services: &Services, out: &mut CmpReply) -> Served
     requires empty { out.old.items ≡ [] }
     requires few { len ≤ MAX_CHUNK }
-    ensures { outcome result out.new.items facts.now ≡ peeked addr len facts.now }
+    ensures { (facts : PlainFacts) → outcome result out.new.items (with_services facts services.now) ≡ peeked addr len (with_services facts services.now) }
 {
     let start = addr as usize;
     let end = start + usize::from(len);
     if end > MEMORY {
         return Served::Refused(ServiceError::BadAddress);
     }
-    peek_reply(addr, &facts.memory[start..end], out);
+    peek_reply(addr, &services.memory[start..end], out);
     Served::Reply
 }
 
@@ -26,21 +28,17 @@ pub(crate) fn peek(addr: u32, len: u8, facts: &Facts, out: &mut CmpReply) -> Ser
 pub(crate) fn poke(
     addr: u32,
     bytes: ArrayVec<u8, MAX_CHUNK>,
-    facts: &mut Facts,
+    services: &mut Services,
     out: &mut CmpReply,
 ) -> Served
     requires empty { out.old.items ≡ [] }
-    ensures value { outcome result out.new.items facts.new ≡ poked addr bytes facts.old }
-    ensures kept { (error : ServiceError) → result ≡ Served.Refused error → facts.new ≡ facts.old }
-    ensures routes { facts.new.routes ≡ facts.old.routes }
-    ensures ifaces { facts.new.ifaces ≡ facts.old.ifaces }
-    ensures stats { facts.new.stats ≡ facts.old.stats }
-    ensures clock { facts.new.clock ≡ facts.old.clock }
+    ensures value { (facts : PlainFacts) → outcome result out.new.items (with_services facts services.new) ≡ poked addr bytes (with_services facts services.old) }
+    ensures kept { (error : ServiceError) → result ≡ Served.Refused error → services.new ≡ services.old }
 {
     if addr as usize + bytes.len() > MEMORY {
         return Served::Refused(ServiceError::BadAddress);
     }
-    overwrite(&mut facts.memory, addr as usize, bytes.as_slice());
+    overwrite(services.memory.as_mut_slice(), addr as usize, bytes.as_slice());
     same_reply(&CmpRequest::Poke { addr, bytes }, out);
     Served::Reply
 }

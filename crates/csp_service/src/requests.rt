@@ -7,12 +7,14 @@ ghost use Rattle.csp_cmp.specs.declared.request.CmpRequest.TheVariants as reques
 ghost use Rattle.csp_cmp.specs.Replies.{same_bytes};
 ghost use Rattle.csp_route.specs.Routes.{IsWithin};
 ghost use Rattle.csp_route.specs.Text.{names_of};
-ghost use Rattle.csp_service.specs.Answers.{hop_of, iface_of, name_in, outcome, routed, row_asked, told_stats};
+ghost use Rattle.csp_service.specs.Answers.{hop_of, iface_of, name_in, outcome, routed, row_asked, told_stats, with_routes, with_services};
+ghost use Rattle.csp_service.specs.Facts.{PlainFacts};
 
-use crate::{Facts, IFACE_ROOM, Served, ServiceError};
+use crate::facts::{IFACE_ROOM, Services};
+use crate::{Served, ServiceError};
 use csp_base::{Addr, Name};
 use csp_cmp::{CmpReply, CmpRequest, NAME_LEN, same_reply, stats_reply};
-use csp_route::{MAX_MASK, Row};
+use csp_route::{MAX_MASK, Row, Table};
 
 /// The number that stands for no next hop.
 pub const NO_HOP: u8 = 255;
@@ -22,19 +24,18 @@ pub(crate) fn set_route(
     dest: u8,
     via: u8,
     iface: [u8; NAME_LEN],
-    facts: &mut Facts,
+    ifaces: &[Name],
+    routes: &mut Table,
     out: &mut CmpReply,
 ) -> Served
     requires empty { out.old.items ≡ [] }
-    ensures value { outcome result out.new.items facts.new ≡ routed (same_bytes (request.RouteSet dest via iface)) (row_asked dest via iface facts.old.ifaces) facts.old }
-    ensures kept { (error : ServiceError) → result ≡ Served.Refused error → facts.new ≡ facts.old }
-    ensures ifaces { facts.new.ifaces ≡ facts.old.ifaces }
-    ensures stats { facts.new.stats ≡ facts.old.stats }
-    ensures clock { facts.new.clock ≡ facts.old.clock }
-    ensures known { IsWithin (length facts.old.ifaces) facts.old.routes → IsWithin (length facts.new.ifaces) facts.new.routes }
+    requires few { length ifaces.now ≤ IFACE_ROOM }
+    ensures value { (facts : PlainFacts) → outcome result out.new.items (with_routes facts routes.new) ≡ routed (same_bytes (request.RouteSet dest via iface)) (row_asked dest via iface (names_of ifaces.now)) (with_routes facts routes.old) }
+    ensures kept { (error : ServiceError) → result ≡ Served.Refused error → routes.new ≡ routes.old }
+    ensures known { IsWithin (length ifaces.now) routes.old → IsWithin (length ifaces.now) routes.new }
 {
-    match row_asked(dest, via, iface, facts.ifaces.as_slice()) {
-        Ok(row) => match facts.routes.set(row) {
+    match row_asked(dest, via, iface, ifaces) {
+        Ok(row) => match routes.set(row) {
             Ok(()) => {
                 same_reply(&CmpRequest::RouteSet { dest, via, iface }, out);
                 Served::Reply
@@ -74,14 +75,19 @@ fn row_asked(dest: u8, via: u8, field: [u8; NAME_LEN], ifaces: &[Name]) -> Resul
 }
 
 /// Tells what an interface counted.
-pub(crate) fn tell_stats(iface: [u8; NAME_LEN], facts: &Facts, out: &mut CmpReply) -> Served
+pub(crate) fn tell_stats(
+    iface: [u8; NAME_LEN],
+    ifaces: &[Name],
+    services: &Services,
+    out: &mut CmpReply,
+) -> Served
     requires empty { out.old.items ≡ [] }
-    requires even { length facts.now.stats ≡ length facts.now.ifaces }
-    ensures { outcome result out.new.items facts.now ≡ told_stats iface (iface_of iface facts.now.ifaces) facts.now }
+    requires few { length ifaces.now ≤ IFACE_ROOM }
+    ensures { (facts : PlainFacts) → outcome result out.new.items (with_services facts services.now) ≡ told_stats iface (iface_of iface (names_of ifaces.now)) (with_services facts services.now) }
 {
-    match iface_of(iface, facts.ifaces.as_slice()) {
+    match iface_of(iface, ifaces) {
         Some(number) => {
-            stats_reply(iface, &facts.stats[number].counts, out);
+            stats_reply(iface, &services.stats[number].counts, out);
             Served::Reply
         }
         None => Served::Refused(ServiceError::NoInterface),

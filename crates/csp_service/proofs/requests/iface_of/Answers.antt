@@ -2,7 +2,7 @@ use Rattle.std.proofs.Common.{◌∙◌, ℕ, List, ap}
 use Rattle.std.specs.List.{position}
 use Rattle.std.specs.Str.{bytes_eq}
 use Rattle.csp_route.specs.Text.{names_of}
-use Rattle.csp_service.proofs.Names.{named}
+use Rattle.csp_service.proofs.Naming.{named}
 use Rattle.csp_service.proofs.requests.iface_of.Goals as goal
 
 pub returns-clause-value : goal.returns-clause-value
