@@ -57,7 +57,7 @@ give_asks f s b bs t h =
       holds = λ k. rw (left, t) (omega (arith, times-append k (b.number ∷ []) (numbers_of (bs ++ out_buffers s.out))));
     }
 
-push_asks : (f : Facts) (s : State) (x : Leaving) → s.trash ≡ [] → s.out ≡ Some x → IsSound f s → Asks f s (plan.Push x.queue)
+push_asks : (f : Facts) (s : State) (x : Leaving) → s.trash ≡ [] → s.out ≡ Some x → IsSound f s → Asks f s (plan.Push x.queue (length x.buffer.payload))
 push_asks f s x t o h = record {
   sound = record { room = h.room; place = (t, refl); sendable = tt; within = h.within; apps = h.apps };
   holds = λ k. rw (t, o) (omega arith);

@@ -1,5 +1,6 @@
 pub mod Comes
 pub mod Config
+pub mod Counting
 pub mod Inside
 pub mod Kept
 pub mod Party
@@ -7,6 +8,8 @@ pub mod PlainPorts
 pub mod Readings
 pub mod Router
 pub mod Rules
+pub mod Sending
+pub mod Serving
 pub mod Sources
 pub mod Told
 pub mod Turn

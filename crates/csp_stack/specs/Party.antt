@@ -41,7 +41,7 @@ asked_of r time = record r { state = asked_at r.facts r.state time }
 abbrev pub kind_of_plan : Plan → Kind
 kind_of_plan plan.Rest = nothing
 kind_of_plan plan.Give = giving
-kind_of_plan (plan.Push queue) = pushing queue
+kind_of_plan (plan.Push queue _) = pushing queue
 kind_of_plan plan.Hear = popping queue.Inbox
 kind_of_plan (plan.Serve k) = popping (queue.Up k)
 kind_of_plan (plan.Reply k) = pushing (queue.Down k)
@@ -70,7 +70,7 @@ IsSendable f (Some o) = IsCarriedIn (rules_of f o.queue) (item.Packet o.mark o.b
 abbrev pub HasPlace : Plan → State → Type 0
 HasPlace plan.Rest s = ⊤
 HasPlace plan.Give s = length s.trash < TRASH_ROOM
-HasPlace (plan.Push _) s = (s.trash ≡ []) × (s.out ≡ None)
+HasPlace (plan.Push _ _) s = (s.trash ≡ []) × (s.out ≡ None)
 HasPlace plan.Hear s = (s.trash ≡ []) × (s.out ≡ None)
 HasPlace (plan.Serve k) s = (s.trash ≡ []) × (s.out ≡ None) × (waiting k s.ports.owed ≡ 0)
 HasPlace (plan.Reply _) s = (s.trash ≡ []) × (s.out ≡ None)
@@ -93,7 +93,7 @@ pub record IsFrom (f : Facts) (number : ℕ) (i : ItemShown) : Type 0 where
 abbrev pub Awaits : Facts → Plan → AnswerShown → Type 0
 Awaits f plan.Rest a = (buffer_in a ≡ None) × (item_in a ≡ None)
 Awaits f plan.Give a = item_in a ≡ None
-Awaits f (plan.Push _) a = buffer_in a ≡ None
+Awaits f (plan.Push _ _) a = buffer_in a ≡ None
 Awaits f plan.Hear a = buffer_in a ≡ None
 Awaits f (plan.Serve k) a = (buffer_in a ≡ None) × IfSome (item_in a) (IsFrom f k)
 Awaits f (plan.Reply _) a = buffer_in a ≡ None

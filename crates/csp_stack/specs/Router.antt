@@ -5,6 +5,7 @@ use Rattle.csp_buffer.specs.Content.{Content}
 use Rattle.csp_deck.specs.Keeping.{numbers_of}
 use Rattle.csp_log.specs.declared.places.QueueId.{QueueId}
 use Rattle.csp_route.specs.Routes.{Routes}
+use Rattle.csp_service.specs.Facts.{PlainServices}
 use Rattle.csp_stack.specs.PlainPorts.{PlainPorts}
 use Rattle.csp_stack.specs.declared.plan.Plan.{Plan}
 
@@ -24,11 +25,12 @@ pub record Leaving : Type 0 where
   pub mark : ℕ
   pub buffer : Content
 
--- what turns change: the routing table, the node's ports, the buffers that are to go back to the pool, the packet
+-- what turns change: the routing table, the node's ports, what its services keep, the buffers that are to go back to the pool, the packet
 -- that is to go out, the source with which the next look for work begins, and what is awaited
 pub record State : Type 0 where
   pub routes : Routes
   pub ports : PlainPorts
+  pub services : PlainServices
   pub trash : List Content
   pub out : Option Leaving
   pub cursor : ℕ

@@ -9,8 +9,7 @@ use Rattle.csp_conn.specs.declared.slot.Connection.{Connection}
 use Rattle.csp_conn.specs.declared.slot.Slot.{Slot}
 use Rattle.csp_conn.specs.declared.slot.Slot.TheVariants as slot
 use Rattle.csp_crc.specs.Check.{payload_of}
-use Rattle.csp_crc.specs.Crc.{checked}
-use Rattle.csp_header.specs.Word.{header_at, word_of}
+use Rattle.csp_header.specs.Word.{header_at}
 use Rattle.csp_header.specs.declared.word.Header.{Header}
 use Rattle.csp_log.specs.declared.event.Discard.TheVariants as why
 use Rattle.csp_log.specs.declared.event.Event.TheVariants as event
@@ -22,11 +21,18 @@ use Rattle.csp_log.specs.declared.shown.ItemShown.{ItemShown}
 use Rattle.csp_log.specs.declared.shown.ItemShown.TheVariants as item
 use Rattle.csp_route.specs.Routes.{route_of}
 use Rattle.csp_route.specs.declared.row.Row.{Row}
+use Rattle.csp_service.specs.Answers.{Outcome, answered}
+use Rattle.csp_service.specs.declared.answers.Served.{Served}
+use Rattle.csp_service.specs.declared.answers.Served.TheVariants.{NoService, Refused, Reply, Silent}
+use Rattle.csp_service.specs.declared.stats.Count.TheVariants as count
 use Rattle.csp_socket.specs.Bound.{owner_of}
+use Rattle.csp_stack.specs.Counting.{counting}
 use Rattle.csp_stack.specs.PlainPorts.{PlainPorts, accepted, bind, close, connect, connects, terms_at}
 use Rattle.csp_stack.specs.Readings.{is_checked, is_here, is_reliable, is_secured, lacks, mark_of}
 use Rattle.csp_stack.specs.Router.{Facts, Leaving, State}
-use Rattle.csp_stack.specs.Told.{Told, unchanged, discarded, leaving, reporting, with_ports}
+use Rattle.csp_stack.specs.Sending.{headed}
+use Rattle.csp_stack.specs.Serving.{facts_of, reply_in, with_facts}
+use Rattle.csp_stack.specs.Told.{Told, unchanged, discarded, leaving, reporting, spent, with_ports}
 use Rattle.csp_stack.specs.declared.request.Request.{Request}
 use Rattle.csp_stack.specs.declared.terms.Terms.{Terms}
 
@@ -85,14 +91,14 @@ by_destination false None s p = Err (discarded s why.NoRoute p.buffer)
 by_destination false (Some row) s p = Err (by_way (row.iface == p.mark) row s p)
 by_destination true row s p = Ok p
 
--- 2. an authenticated or encrypted packet is Refused
+-- 2. an authenticated or encrypted packet is Refused, which counts for the interface that it came in on
 abbrev pub by_security : (is_secured : Bool) → State → Arrival → Ruling
-by_security true s p = Err (discarded s why.Refused p.buffer)
+by_security true s p = Err (discarded (counting s p.mark count.AuthErrors 1) why.Refused p.buffer)
 by_security false s p = Ok p
 
--- 3. of a packet with a checksum the checksum is cut off: one that is missing or wrong is CrcWrong
+-- 3. of a packet with a checksum the checksum is cut off: one that is missing or wrong is CrcWrong, which counts for the interface that it came in on
 abbrev pub by_checksum : (is_checked : Bool) → (payload : Option (List ℕ)) → State → Arrival → Ruling
-by_checksum true None s p = Err (discarded s why.CrcWrong p.buffer)
+by_checksum true None s p = Err (discarded (counting s p.mark count.ReceiveErrors 1) why.CrcWrong p.buffer)
 by_checksum true (Some payload) s p = Ok (record p { buffer = record p.buffer { payload = payload } })
 by_checksum false payload s p = Ok p
 
@@ -141,9 +147,19 @@ by_socket None lacks slot s p = Ok p
 by_socket (Some owner) true slot s p = Err (discarded s why.Required p.buffer)
 by_socket (Some owner) false slot s p = Err (accepting slot s owner.0 p)
 
--- 6. no service has the packet's port: that is NoSocket
-abbrev pub by_service : State → Arrival → Told
-by_service s p = discarded s why.NoSocket p.buffer
+-- what a service made of a request: a reply is sent; without one the node has this to report; a refused request is Malformed; and without a service a packet is NoSocket
+abbrev pub by_answer : Served → (reply : List ℕ) → Facts → State → Arrival → Told
+by_answer Reply reply f s p = sent f s (reply_in f p.head p.buffer reply)
+by_answer (Silent e) reply f s p = spent s e p.buffer
+by_answer (Refused error) reply f s p = discarded s why.Malformed p.buffer
+by_answer NoService reply f s p = discarded s why.NoSocket p.buffer
+
+abbrev pub by_outcome : Outcome → Facts → State → Arrival → Told
+by_outcome o f s p = by_answer o.served o.reply f (with_facts s o.facts) p
+
+-- 6. a packet to the port of a service is the service's request
+abbrev pub by_service : Facts → State → ℕ → Arrival → Told
+by_service f s time p = by_outcome (answered p.head.dport p.buffer.payload (facts_of f s) time) f s p
 
 -- what the next rules make of a packet that is left to them
 abbrev pub onward : Ruling → (Arrival → Told) → Told
@@ -155,21 +171,21 @@ abbrev pub owner_for : State → Arrival → Option (ℕ × ℕ)
 owner_for s p = owner_of s.ports.bound p.head.dport
 
 -- the rules from the fourth on, from the third on, and all: the first rule that decides
-abbrev pub heard_at_port : State → Arrival → Told
-heard_at_port s p =
+abbrev pub heard_at_port : Facts → State → ℕ → Arrival → Told
+heard_at_port f s time p =
     onward (by_transport (is_reliable p.head) s p) (λ p.
     onward (by_connection (found s.ports.conns (connection_of p.head)) (lacks (owner_for s p) p.head) s p) (λ p.
     onward (by_socket (owner_for s p) (lacks (owner_for s p) p.head) (slot_for s.ports (owner_for s p)) s p) (λ p.
-    by_service s p)))
+    by_service f s time p)))
 
-abbrev pub heard_here : State → Arrival → Told
-heard_here s p =
+abbrev pub heard_here : Facts → State → ℕ → Arrival → Told
+heard_here f s time p =
     onward (by_security (is_secured p.head) s p) (λ p.
     onward (by_checksum (is_checked p.head) (payload_of p.buffer.payload) s p) (λ p.
-    heard_at_port s p))
+    heard_at_port f s time p))
 
 abbrev pub heard : Facts → State → ℕ → Arrival → Told
-heard f s time p = onward (by_destination (is_here f.addr p.head) (route_of s.routes p.head.dst) s p) (λ p. heard_here s p)
+heard f s time p = onward (by_destination (is_here f.addr p.head) (route_of s.routes p.head.dst) s p) (λ p. heard_here f s time p)
 
 -- ---- from an application
 
@@ -177,12 +193,8 @@ heard f s time p = onward (by_destination (is_here f.addr p.head) (route_of s.ro
 abbrev pub header_for : Facts → Connection → Terms → Header
 header_for f c t = record { prio = t.prio; src = f.addr; dst = c.peer; dport = c.peer_port; sport = c.own_port; flags = record { 0 = t.flags } }
 
-abbrev pub protected : (is_checked : Bool) → Content → Content
-protected true b = record b { payload = checked b.payload }
-protected false b = b
-
 abbrev pub addressed : Facts → Connection → Terms → Content → Content
-addressed f c t b = record (protected (is_checked (header_for f c t)) b) { header = word_of (header_for f c t) }
+addressed f c t b = headed (header_for f c t) b
 
 -- a packet for a slot is sent on the slot's connection; without one it is NoConn
 abbrev pub by_slot : Slot → Facts → State → ℕ → ℕ → Content → Told

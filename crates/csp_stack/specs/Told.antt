@@ -16,9 +16,13 @@ pub record Told : Type 0 where
 abbrev pub unchanged : State → Told
 unchanged s = record { state = s; events = [] }
 
--- a packet is discarded for this reason: its buffer joins the trash
+-- of a packet nothing comes but this report: its buffer joins the trash
+abbrev pub spent : State → Event → Content → Told
+spent s e b = record { state = record s { trash = s.trash ++ b ∷ [] }; events = e ∷ [] }
+
+-- a packet is discarded for this reason
 abbrev pub discarded : State → Discard → Content → Told
-discarded s why b = record { state = record s { trash = s.trash ++ b ∷ [] }; events = event.Discarded why ∷ [] }
+discarded s why b = spent s (event.Discarded why) b
 
 -- a packet is to go out
 abbrev pub leaving : State → Leaving → Told

@@ -1,12 +1,14 @@
 -- the turns of a router: what one is, what is asked in it, and what the answer comes to
-use Rattle.std.specs.Prelude.{ℕ, ◌+◌, Bool, true, false, List, [], ◌∷◌, drop, Option, None, Some}
+use Rattle.std.specs.Prelude.{ℕ, ◌+◌, Bool, true, false, List, [], ◌∷◌, drop, length, Option, None, Some}
 use Rattle.csp_buffer.specs.Content.{Content}
+use Rattle.csp_log.specs.declared.places.QueueId.{QueueId}
 use Rattle.csp_log.specs.declared.places.QueueId.TheVariants as queue
 use Rattle.csp_log.specs.declared.shown.AnswerShown.{AnswerShown}
 use Rattle.csp_log.specs.declared.shown.ItemShown.{ItemShown}
 use Rattle.csp_log.specs.declared.shown.ItemShown.TheVariants as item
 use Rattle.csp_log.specs.declared.shown.OpShown.{OpShown}
 use Rattle.csp_log.specs.declared.shown.OpShown.TheVariants as op
+use Rattle.csp_stack.specs.Counting.{came_in, was_full, went_out}
 use Rattle.csp_stack.specs.PlainPorts.{answered}
 use Rattle.csp_stack.specs.Readings.{buffer_in, is_pushed, item_in}
 use Rattle.csp_stack.specs.Router.{Facts, Leaving, State}
@@ -38,7 +40,7 @@ work_found f s (Some k) = work_at s (source_at f k)
 -- the first of these that fits: there is trash; a packet is to go out; else the first source with work
 abbrev pub plan_by : List Content → Option Leaving → Plan → Plan
 plan_by (_ ∷ _) out work = plan.Give
-plan_by [] (Some o) work = plan.Push o.queue
+plan_by [] (Some o) work = plan.Push o.queue (length o.buffer.payload)
 plan_by [] None work = work
 
 abbrev pub plan_of : Facts → State → ℕ → Plan
@@ -66,7 +68,7 @@ replying (o ∷ _) = op.Push (queue.Down o.app) (item.Note o.note)
 abbrev pub op_of : State → Plan → OpShown
 op_of s plan.Rest = op.Nothing
 op_of s plan.Give = giving s.trash
-op_of s (plan.Push _) = pushing s.out
+op_of s (plan.Push _ _) = pushing s.out
 op_of s plan.Hear = op.Pop queue.Inbox
 op_of s (plan.Serve k) = op.Pop (queue.Up k)
 op_of s (plan.Reply _) = replying s.ports.owed
@@ -75,7 +77,7 @@ op_of s (plan.Reply _) = replying s.ports.owed
 abbrev pub handed : Facts → State → Plan → State
 handed f s plan.Rest = s
 handed f s plan.Give = record s { trash = drop 1 s.trash }
-handed f s (plan.Push _) = record s { out = None }
+handed f s (plan.Push _ _) = record s { out = None }
 handed f s plan.Hear = record s { cursor = place_past f 0 }
 handed f s (plan.Serve k) = record s { cursor = place_past f (k + 1) }
 handed f s (plan.Reply _) = record s { cursor = place_past f (f.apps + 1) }
@@ -101,10 +103,15 @@ abbrev pub told_pushing : State → Option Arrival → Told
 told_pushing s None = unchanged s
 told_pushing s (Some p) = unsent s p.buffer
 
+-- a packet was pushed to its queue, or the queue had no room: either is counted
+abbrev pub told_sending : (is_pushed : Bool) → QueueId → ℕ → State → Option Arrival → Told
+told_sending true queue bytes s p = unchanged (went_out s queue bytes)
+told_sending false queue bytes s p = told_pushing (was_full s queue) p
+
 -- a packet of the inbox
 abbrev pub told_hearing : Facts → State → ℕ → Option Arrival → Told
 told_hearing f s time None = unchanged s
-told_hearing f s time (Some p) = heard f s time p
+told_hearing f s time (Some p) = heard f (came_in s p.mark p.buffer) time p
 
 -- an item of an application
 abbrev pub told_serving : Facts → State → ℕ → ℕ → Option ItemShown → Told
@@ -120,7 +127,7 @@ told_replying false s p = told_pushing s p
 abbrev pub told_by : Plan → Facts → State → ℕ → AnswerShown → Told
 told_by plan.Rest f s time a = unchanged s
 told_by plan.Give f s time a = told_giving s (buffer_in a)
-told_by (plan.Push _) f s time a = told_pushing s (packet_in (item_in a))
+told_by (plan.Push queue bytes) f s time a = told_sending (is_pushed a) queue bytes s (packet_in (item_in a))
 told_by plan.Hear f s time a = told_hearing f s time (packet_in (item_in a))
 told_by (plan.Serve k) f s time a = told_serving f s time k (item_in a)
 told_by (plan.Reply _) f s time a = told_replying (is_pushed a) s (packet_in (item_in a))

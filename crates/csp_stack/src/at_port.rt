@@ -1,26 +1,38 @@
 //! What becomes of a packet at its port: the rules from the fourth on.
 
-ghost use Rattle.std.specs.Prelude.{◌≡◌, ◌<◌, [], None};
+ghost use Rattle.std.specs.Prelude.{◌≡◌, ◌+◌, ◌<◌, ◌≤◌, ◌^◌, [], None, true, IfSome, length};
+ghost use Rattle.csp_base.specs.declared.limits.TheConstants.{MAX_PAYLOAD};
 ghost use Rattle.csp_conn.specs.Opening.{first_free, found};
 ghost use Rattle.csp_stack.specs.Comes.{ComesTo, IsFree, Rules, arrival_of};
 ghost use Rattle.csp_stack.specs.Party.{IsSendable};
-ghost use Rattle.csp_stack.specs.Readings.{is_reliable, lacks};
+ghost use Rattle.csp_route.specs.Routes.{IsWithin};
+ghost use Rattle.csp_stack.specs.Readings.{is_checked, is_reliable, lacks};
 ghost use Rattle.csp_stack.specs.Told.{leaving};
-ghost use Rattle.csp_stack.specs.Rules.{accepting, by_connection, by_service, by_socket, by_transport, connection_of, heard_at_port, owner_for, slot_for, to_slot};
+ghost use Rattle.csp_stack.specs.Rules.{accepting, by_connection, by_socket, by_transport, connection_of, heard_at_port, owner_for, slot_for, to_slot};
 
 use crate::Outgoing;
 use crate::facts::Facts;
 use crate::packet::Packet;
 use crate::readings::{is_packet_lacking, is_packet_reliable};
+use crate::services::judge_service;
 use crate::state::State;
 use csp_deck::{Discard, Event, Events, SLOTS};
 
 /// The first of the rules from the fourth on that decides.
-pub fn hear_at_port(facts: &Facts, state: &mut State, packet: Packet, report: &mut Events)
+pub fn hear_at_port(
+    facts: &Facts,
+    state: &mut State,
+    now: u64,
+    packet: Packet,
+    report: &mut Events,
+)
     requires free { IsFree state.old.state report.old.items }
     requires of_it { packet.buffer.region ≡ state.old.region }
+    requires early { now < 2 ^ 62 }
+    requires room { is_checked packet.header ≡ true → length packet.buffer.picture.payload + 4 ≤ MAX_PAYLOAD }
+    requires within { IsWithin (length facts.now.ifaces) state.old.state.routes }
     requires apps { state.old.state.ports.conns.apps ≡ facts.now.apps }
-    ensures told { ComesTo state.old state.new report.old.items report.new.items (heard_at_port state.old.state (arrival_of packet)) }
+    ensures told { ComesTo state.old state.new report.old.items report.new.items (heard_at_port facts.now state.old.state now (arrival_of packet)) }
     ensures sendable { IsSendable facts.now state.new.state.out }
     ensures apps { state.new.state.ports.conns.apps ≡ facts.now.apps }
 {
@@ -33,7 +45,7 @@ pub fn hear_at_port(facts: &Facts, state: &mut State, packet: Packet, report: &m
     let Some(packet) = judge_socket(facts, state, packet, report) else {
         return;
     };
-    judge_service(state, packet, report);
+    judge_service(facts, state, now, packet, report);
 }
 
 /// No router has the reliable transport yet.
@@ -41,6 +53,7 @@ fn judge_transport(state: &mut State, packet: Packet, report: &mut Events) -> Op
     requires free { IsFree state.old.state report.old.items }
     requires of_it { packet.buffer.region ≡ state.old.region }
     ensures told { Rules result state.old state.new report.old.items report.new.items (by_transport (is_reliable packet.header) state.old.state (arrival_of packet)) }
+    ensures same { IfSome result (λ p. p ≡ packet) }
     ensures none { state.new.state.out ≡ None }
     ensures ports { state.new.state.ports ≡ state.old.state.ports }
 {
@@ -62,6 +75,7 @@ fn judge_connection(
     requires of_it { packet.buffer.region ≡ state.old.region }
     requires apps { state.old.state.ports.conns.apps ≡ facts.now.apps }
     ensures told { Rules result state.old state.new report.old.items report.new.items (by_connection (found state.old.state.ports.conns (connection_of packet.header)) (lacks (owner_for state.old.state (arrival_of packet)) packet.header) state.old.state (arrival_of packet)) }
+    ensures same { IfSome result (λ p. p ≡ packet) }
     ensures sendable { IsSendable facts.now state.new.state.out }
     ensures ports { state.new.state.ports ≡ state.old.state.ports }
 {
@@ -101,6 +115,7 @@ fn judge_socket(
     requires of_it { packet.buffer.region ≡ state.old.region }
     requires apps { state.old.state.ports.conns.apps ≡ facts.now.apps }
     ensures told { Rules result state.old state.new report.old.items report.new.items (by_socket (owner_for state.old.state (arrival_of packet)) (lacks (owner_for state.old.state (arrival_of packet)) packet.header) (slot_for state.old.state.ports (owner_for state.old.state (arrival_of packet))) state.old.state (arrival_of packet)) }
+    ensures same { IfSome result (λ p. p ≡ packet) }
     ensures sendable { IsSendable facts.now state.new.state.out }
     ensures apps { state.new.state.ports.conns.apps ≡ facts.now.apps }
 {
@@ -143,15 +158,4 @@ fn accept(facts: &Facts, state: &mut State, app: u8, packet: Packet, report: &mu
         }
         None => state.discard(Discard::NoSlot, packet.into_buffer(), report),
     }
-}
-
-/// 6. No service has the packet's port.
-fn judge_service(state: &mut State, packet: Packet, report: &mut Events)
-    requires free { IsFree state.old.state report.old.items }
-    requires of_it { packet.buffer.region ≡ state.old.region }
-    ensures told { ComesTo state.old state.new report.old.items report.new.items (by_service state.old.state (arrival_of packet)) }
-    ensures none { state.new.state.out ≡ None }
-    ensures ports { state.new.state.ports ≡ state.old.state.ports }
-{
-    state.discard(Discard::NoSocket, packet.into_buffer(), report);
 }

@@ -2,12 +2,9 @@
 
 use arrayvec::ArrayVec;
 use csp_base::{Addr, Name};
-use csp_deck::IFACES;
 use csp_route::Table;
+use csp_service::IFACE_ROOM;
 use std::marker::Model;
-
-/// The most interfaces of a node, as the room of a list of their names.
-pub const IFACE_ROOM: usize = IFACES as usize;
 
 /// The configuration of a node's router. Contracts see it as a `PlainConfig`: the names as their
 /// bytes, and the routing table as a finite map.

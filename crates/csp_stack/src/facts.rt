@@ -1,8 +1,7 @@
 //! What no turn of a router changes.
 
-use crate::config::IFACE_ROOM;
-use arrayvec::ArrayVec;
-use csp_base::{Addr, Name};
+use csp_base::Addr;
+use csp_service::Names;
 use std::marker::Model;
 
 /// What a router knows of its node from its opening on.
@@ -10,10 +9,9 @@ use std::marker::Model;
 pub struct Facts {
     pub node: u8,
     pub addr: Addr,
-    pub name: Name,
     pub seed: u16,
     pub apps: u8,
-    pub ifaces: ArrayVec<Name, IFACE_ROOM>,
+    pub names: Names,
 }
 
 impl Model for Facts {
@@ -22,5 +20,5 @@ impl Model for Facts {
 
     ghost Value = { Plain };
 
-    ghost view = { λ f. record { node = f.node; addr = f.addr; name = f.name.bytes; seed = f.seed; apps = f.apps; ifaces = map (λ n. n.bytes) f.ifaces.items } };
+    ghost view = { λ f. record { node = f.node; addr = f.addr; name = f.names.node.bytes; seed = f.seed; apps = f.apps; ifaces = map (λ n. n.bytes) f.names.ifaces.items } };
 }

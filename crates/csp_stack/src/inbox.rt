@@ -1,6 +1,7 @@
 //! What becomes of a packet from the inbox: the rules, in their order.
 
-ghost use Rattle.std.specs.Prelude.{◌≡◌, ◌==◌, ◌<◌, None, length};
+ghost use Rattle.std.specs.Prelude.{◌≡◌, ◌==◌, ◌+◌, ◌<◌, ◌≤◌, ◌^◌, None, true, IfSome, length};
+ghost use Rattle.csp_base.specs.declared.limits.TheConstants.{MAX_PAYLOAD};
 ghost use Rattle.csp_crc.specs.Check.{payload_of};
 ghost use Rattle.csp_route.specs.Routes.{IsWithin, route_of};
 ghost use Rattle.csp_stack.specs.Comes.{ComesTo, IsFree, Rules, arrival_of};
@@ -10,20 +11,23 @@ ghost use Rattle.csp_stack.specs.Rules.{by_checksum, by_destination, by_security
 
 use crate::Outgoing;
 use crate::at_port::hear_at_port;
+use crate::counting::count;
 use crate::facts::Facts;
 use crate::packet::Packet;
 use crate::readings::{is_packet_checked, is_packet_here, is_packet_secured};
 use crate::state::State;
 use csp_deck::{Discard, Events};
 use csp_route::Row;
+use csp_service::Count;
 
 /// The first rule that decides.
-pub fn hear(facts: &Facts, state: &mut State, _now: u64, packet: Packet, report: &mut Events)
+pub fn hear(facts: &Facts, state: &mut State, now: u64, packet: Packet, report: &mut Events)
     requires free { IsFree state.old.state report.old.items }
     requires of_it { packet.buffer.region ≡ state.old.region }
     requires within { IsWithin (length facts.now.ifaces) state.old.state.routes }
+    requires early { now < 2 ^ 62 }
     requires apps { state.old.state.ports.conns.apps ≡ facts.now.apps }
-    ensures told { ComesTo state.old state.new report.old.items report.new.items (heard facts.now state.old.state _now (arrival_of packet)) }
+    ensures told { ComesTo state.old state.new report.old.items report.new.items (heard facts.now state.old.state now (arrival_of packet)) }
     ensures sendable { IsSendable facts.now state.new.state.out }
     ensures apps { state.new.state.ports.conns.apps ≡ facts.now.apps }
 {
@@ -36,7 +40,7 @@ pub fn hear(facts: &Facts, state: &mut State, _now: u64, packet: Packet, report:
     let Some(packet) = judge_checksum(state, packet, report) else {
         return;
     };
-    hear_at_port(facts, state, packet, report);
+    hear_at_port(facts, state, now, packet, report);
 }
 
 /// 1. A packet for another node goes on as it is by the row of its route.
@@ -91,6 +95,7 @@ fn judge_security(state: &mut State, packet: Packet, report: &mut Events) -> Opt
     if !is_packet_secured(&packet.header) {
         return Some(packet);
     }
+    count(state, packet.mark, Count::AuthErrors, 1);
     state.discard(Discard::Refused, packet.into_buffer(), report);
     None
 }
@@ -100,6 +105,7 @@ fn judge_checksum(state: &mut State, packet: Packet, report: &mut Events) -> Opt
     requires free { IsFree state.old.state report.old.items }
     requires of_it { packet.buffer.region ≡ state.old.region }
     ensures told { Rules result state.old state.new report.old.items report.new.items (by_checksum (is_checked packet.header) (payload_of packet.buffer.picture.payload) state.old.state (arrival_of packet)) }
+    ensures room { IfSome result (λ p. is_checked p.header ≡ true → length p.buffer.picture.payload + 4 ≤ MAX_PAYLOAD) }
     ensures none { state.new.state.out ≡ None }
     ensures ports { state.new.state.ports ≡ state.old.state.ports }
 {
@@ -109,6 +115,7 @@ fn judge_checksum(state: &mut State, packet: Packet, report: &mut Events) -> Opt
     match packet.without_checksum() {
         Ok(packet) => Some(packet),
         Err(packet) => {
+            count(state, packet.mark, Count::ReceiveErrors, 1);
             state.discard(Discard::CrcWrong, packet.into_buffer(), report);
             None
         }

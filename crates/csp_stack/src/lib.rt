@@ -4,6 +4,7 @@
 
 mod at_port;
 mod config;
+mod counting;
 mod facts;
 mod inbox;
 mod outgoing;
@@ -15,6 +16,7 @@ mod ports;
 mod readings;
 mod request;
 mod sending;
+mod services;
 mod serving;
 mod sources;
 mod stack;
@@ -22,7 +24,8 @@ mod state;
 mod terms;
 mod turn;
 
-pub use config::{IFACE_ROOM, StackConfig};
+pub use config::StackConfig;
+pub use csp_service::IFACE_ROOM;
 pub use outgoing::Outgoing;
 pub use owed::Owed;
 pub use plan::Plan;

@@ -1,7 +1,9 @@
 //! A packet from the inbox.
 
-ghost use Rattle.std.specs.Prelude.{◌≡◌, ◌-◌, ◌≤◌, ◌↔◌, IsTrue, IsSome, Some, length, take};
+ghost use Rattle.std.specs.Prelude.{◌≡◌, ◌+◌, ◌-◌, ◌≤◌, ◌↔◌, IfOk, IsTrue, IsSome, Some, length, take};
+ghost use Rattle.csp_base.specs.declared.limits.TheConstants.{MAX_PAYLOAD};
 ghost use Rattle.csp_crc.specs.Check.{payload_of};
+ghost use Rattle.csp_service.specs.Services.{service_at};
 ghost use Rattle.csp_stack.specs.Comes.{arrival_of, cut_to};
 ghost use Rattle.csp_stack.specs.Rules.{answer_flags, arrival, connection_of};
 
@@ -11,6 +13,7 @@ use csp_buffer::Buffer;
 use csp_conn::Connection;
 use csp_crc::check;
 use csp_header::{FlagSet, Header};
+use csp_service::Service;
 
 /// The bytes of a checksum, at the end of a payload.
 const CHECKSUM: usize = 4;
@@ -46,6 +49,13 @@ impl Packet {
         self.header.dst
     }
 
+    /// The service that has the port that it came to, if one has.
+    pub fn service(&self) -> Option<Service>
+        ensures { result ≡ service_at self.now.header.dport }
+    {
+        Service::at(self.header.dport)
+    }
+
     /// Its connection: with the node and the port that it came from, by the port that it came to.
     pub fn connection(&self) -> Connection
         ensures { result ≡ connection_of self.now.header }
@@ -78,7 +88,8 @@ impl Packet {
 
     /// Cuts the checksum off its payload, or gives it back as it is where that is missing or wrong.
     pub fn without_checksum(mut self) -> Result<Packet, Packet>
-        ensures { result ≡ cut_to (payload_of self.buffer.picture.payload) self }
+        ensures value { result ≡ cut_to (payload_of self.buffer.picture.payload) self }
+        ensures room { IfOk result (λ p. length p.buffer.picture.payload + CHECKSUM ≤ MAX_PAYLOAD) }
     {
         if has_checksum(self.buffer.payload()) && self.buffer.cut_tail(CHECKSUM).is_ok() {
             return Ok(self);

@@ -9,8 +9,8 @@ pub enum Plan {
     Rest,
     /// The first buffer of the trash goes back to the pool.
     Give,
-    /// The packet that is to go out is pushed to this queue.
-    Push(QueueId),
+    /// The packet that is to go out is pushed to this queue, with so many bytes of payload.
+    Push(QueueId, u32),
     /// A packet is taken from the inbox.
     Hear,
     /// An item is taken from the application of this number.

@@ -1,11 +1,14 @@
 //! The sending of a node's own packets.
 
-ghost use Rattle.std.specs.Prelude.{◌≡◌, ◌≤◌, length};
+ghost use Rattle.std.specs.Prelude.{◌≡◌, ◌+◌, ◌≤◌, true, length};
+ghost use Rattle.csp_base.specs.declared.limits.TheConstants.{MAX_PAYLOAD};
 ghost use Rattle.csp_buffer.specs.PlainBuffer.{with_picture};
 ghost use Rattle.csp_route.specs.Routes.{IsWithin};
 ghost use Rattle.csp_stack.specs.Comes.{ComesTo, IsFree};
 ghost use Rattle.csp_stack.specs.Party.{IsSendable};
-ghost use Rattle.csp_stack.specs.Rules.{addressed, protected, sent};
+ghost use Rattle.csp_stack.specs.Readings.{is_checked};
+ghost use Rattle.csp_stack.specs.Rules.{addressed, sent};
+ghost use Rattle.csp_stack.specs.Sending.{headed, protected};
 
 use crate::facts::Facts;
 use crate::readings::is_packet_checked;
@@ -38,8 +41,7 @@ pub fn send(facts: &Facts, state: &mut State, buffer: Buffer, report: &mut Event
     }
 }
 
-/// A packet of a connection: with the connection's priority, flags, addresses and ports, and with a checksum
-/// where its flags say so.
+/// A packet of a connection: with the connection's priority, flags, addresses and ports.
 pub fn addressed(facts: &Facts, connection: Connection, terms: Terms, buffer: Buffer) -> Buffer
     requires { length buffer.picture.payload ≤ MAX_DATA }
     ensures { result ≡ with_picture buffer (addressed facts.now connection terms buffer.picture) }
@@ -52,6 +54,14 @@ pub fn addressed(facts: &Facts, connection: Connection, terms: Terms, buffer: Bu
         sport: connection.own_port,
         flags: FlagSet(terms.flags),
     };
+    headed(header, buffer)
+}
+
+/// A packet with this header, and with the checksum of its payload where the header's flags say so.
+pub fn headed(header: Header, buffer: Buffer) -> Buffer
+    requires { is_checked header ≡ true → length buffer.picture.payload + 4 ≤ MAX_PAYLOAD }
+    ensures { result ≡ with_picture buffer (headed header buffer.picture) }
+{
     let mut packet = protected(is_packet_checked(&header), buffer);
     packet.set_header(header.encode());
     packet
@@ -60,7 +70,7 @@ pub fn addressed(facts: &Facts, connection: Connection, terms: Terms, buffer: Bu
 /// Appends the checksum of its payload to a packet that is to have one.
 #[tactic(auto, unfolding(csp_crc::specs::Crc::checked))]
 fn protected(is_checked: bool, buffer: Buffer) -> Buffer
-    requires { length buffer.picture.payload ≤ MAX_DATA }
+    requires { is_checked ≡ true → length buffer.picture.payload + 4 ≤ MAX_PAYLOAD }
     ensures { result ≡ with_picture buffer (protected is_checked buffer.picture) }
 {
     let mut packet = buffer;

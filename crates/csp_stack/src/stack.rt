@@ -10,6 +10,7 @@ use crate::facts::Facts;
 use crate::state::State;
 use csp_arena::RegionToken;
 use csp_buffer::Buffer;
+use csp_service::Names;
 use std::alloc::{AllocError, Global};
 use std::marker::Model;
 
@@ -43,7 +44,7 @@ impl Stack {
     /// buffers are to be of this region.
     ///
     /// # Errors
-    /// Want of memory for the room of its trash.
+    /// Want of memory for the room of its trash, for answers owed, and for what its services keep.
     pub fn open(
         alloc: Global,
         config: StackConfig,
@@ -66,10 +67,9 @@ impl Stack {
             facts: Facts {
                 node,
                 addr,
-                name,
                 seed,
                 apps,
-                ifaces,
+                names: Names { node: name, ifaces },
             },
             state,
         })

@@ -11,7 +11,7 @@ ghost use Rattle.csp_stack.specs.Comes.{ComesTo, leaving_of};
 ghost use Rattle.csp_stack.specs.Config.{opening_state};
 ghost use Rattle.csp_stack.specs.Readings.{buffer_in, item_in};
 ghost use Rattle.csp_stack.specs.Router.{drained, buffers, holds, out_buffers};
-ghost use Rattle.csp_stack.specs.Told.{discarded, leaving};
+ghost use Rattle.csp_stack.specs.Told.{discarded, leaving, spent};
 
 use crate::ports::Ports;
 use crate::{Outgoing, Plan};
@@ -21,6 +21,7 @@ use csp_buffer::Buffer;
 use csp_conn::MAX_APPS;
 use csp_deck::{Answer, Discard, Event, Events, Item, Pile};
 use csp_route::{Row, Table};
+use csp_service::Services;
 use std::alloc::{AllocError, Global};
 use std::marker::Model;
 
@@ -32,6 +33,7 @@ pub const TRASH_ROOM: usize = 1_000;
 pub struct State {
     pub routes: Table,
     pub ports: Ports,
+    pub services: Services,
     pub trash: Pile,
     pub out: Option<Outgoing>,
     pub cursor: usize,
@@ -51,7 +53,7 @@ impl Model for State {
     ghost use Rattle.csp_stack.specs.Comes.{leaving_of};
     ghost use Rattle.csp_stack.specs.Inside.{IsState};
 
-    ghost view = { λ s. record { region = s.trash.region; state = record { routes = s.routes; ports = s.ports; trash = s.trash.contents; out = option_map leaving_of s.out; cursor = s.cursor; doing = s.doing } } };
+    ghost view = { λ s. record { region = s.trash.region; state = record { routes = s.routes; ports = s.ports; services = s.services; trash = s.trash.contents; out = option_map leaving_of s.out; cursor = s.cursor; doing = s.doing } } };
 
     ghost invariant = { IsState };
 }
@@ -68,10 +70,12 @@ impl State {
         ensures { IfOk result (λ s. s ≡ record { region = region.name; state = opening_state apps routes }) }
     {
         let ports = Ports::open(alloc, apps)?;
+        let services = Services::open(alloc)?;
         let trash = Pile::open(alloc, region, TRASH_ROOM)?;
         Ok(State {
             routes,
             ports,
+            services,
             trash,
             out: None,
             cursor: 0,
@@ -124,8 +128,18 @@ impl State {
         requires room { length report.old.items < MAX_EVENTS }
         ensures { ComesTo self.old self.new report.old.items report.new.items (discarded self.old.state why buffer.picture) }
     {
+        self.spend(Event::Discarded(why), buffer, report);
+    }
+
+    /// Of a packet nothing comes but a report: its buffer joins the trash.
+    pub fn spend(&mut self, event: Event, buffer: Buffer, report: &mut Events)
+        requires trash { length self.old.state.trash < TRASH_ROOM }
+        requires of_it { buffer.region ≡ self.old.region }
+        requires room { length report.old.items < MAX_EVENTS }
+        ensures { ComesTo self.old self.new report.old.items report.new.items (spent self.old.state event buffer.picture) }
+    {
         self.trash.add(buffer);
-        report.push(Event::Discarded(why));
+        report.push(event);
     }
 
     /// A packet is to go out.
@@ -183,6 +197,7 @@ impl State {
         let State {
             routes: _,
             ports: _,
+            services: _,
             trash,
             out,
             cursor: _,

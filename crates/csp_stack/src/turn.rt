@@ -12,8 +12,9 @@ ghost use Rattle.csp_stack.specs.PlainPorts.{ends, waiting};
 ghost use Rattle.csp_stack.specs.Readings.{buffer_in, is_pushed, item_in};
 ghost use Rattle.csp_stack.specs.Rules.{packet_in};
 ghost use Rattle.csp_stack.specs.Sources.{has_work, place_with_work, source_at};
-ghost use Rattle.csp_stack.specs.Turn.{asked_at, asked_by, asks_at, op_of, job_of, told_by, told_giving, told_hearing, told_pushing, told_replying, told_serving, work_found};
+ghost use Rattle.csp_stack.specs.Turn.{asked_at, asked_by, asks_at, op_of, job_of, told_by, told_giving, told_hearing, told_pushing, told_replying, told_sending, told_serving, work_found};
 
+use crate::counting::{count_full, count_in, count_out};
 use crate::facts::Facts;
 use crate::inbox::hear;
 use crate::owed::Owed;
@@ -39,7 +40,7 @@ pub fn begin(facts: &Facts, state: &mut State, now: u64) -> Op
         return Op::Give(buffer);
     }
     if let Some(packet) = state.out.take() {
-        state.doing = Plan::Push(packet.queue);
+        state.doing = Plan::Push(packet.queue, packet.buffer.payload().len() as u32);
         return packet.into_push();
     }
     begin_work(facts, state, now)
@@ -133,6 +134,7 @@ pub fn finish(facts: &Facts, state: &mut State, now: u64, answer: Answer, report
     requires place { HasPlace state.old.state.doing state.old.state }
     requires fits { Awaits facts.now state.old.state.doing (shown_answer answer) }
     requires countable { ends state.old.state.ports < 2 ^ 32 - 1 }
+    requires early { now < 2 ^ 62 }
     requires of_it { IsAnswerFrom state.old.region answer }
     requires unwritten { report.old.items ≡ [] }
     requires sendable { IsSendable facts.now state.old.state.out }
@@ -145,7 +147,7 @@ pub fn finish(facts: &Facts, state: &mut State, now: u64, answer: Answer, report
     match state.end_turn() {
         Plan::Rest => finish_rest(state, answer),
         Plan::Give => finish_give(state, answer),
-        Plan::Push(_) => finish_push(state, answer, report),
+        Plan::Push(queue, bytes) => finish_send(state, queue, bytes, answer, report),
         Plan::Hear => finish_hear(facts, state, now, answer, report),
         Plan::Serve(app) => finish_serve(facts, state, now, app, answer, report),
         Plan::Reply(_) => finish_reply(state, answer, report),
@@ -187,6 +189,23 @@ fn finish_push(state: &mut State, answer: Answer, report: &mut Events)
     }
 }
 
+/// A packet was pushed to its queue, or the queue had no room: either is counted.
+fn finish_send(state: &mut State, queue: QueueId, bytes: u32, answer: Answer, report: &mut Events)
+    requires free { IsFree state.old.state report.old.items }
+    requires fits { buffer_in (shown_answer answer) ≡ None }
+    requires of_it { IsAnswerFrom state.old.region answer }
+    ensures told { ComesTo state.old state.new report.old.items report.new.items (told_sending (is_pushed (shown_answer answer)) queue bytes state.old.state (packet_in (item_in (shown_answer answer)))) }
+    ensures out { state.new.state.out ≡ state.old.state.out }
+    ensures apps { state.new.state.ports.conns.apps ≡ state.old.state.ports.conns.apps }
+{
+    if let Answer::Pushed = answer {
+        count_out(state, queue, bytes);
+    } else {
+        count_full(state, queue);
+        finish_push(state, answer, report);
+    }
+}
+
 /// A packet that its queue has no room for is discarded.
 fn refuse(state: &mut State, item: Item, report: &mut Events)
     requires free { IsFree state.old.state report.old.items }
@@ -206,6 +225,7 @@ fn finish_hear(facts: &Facts, state: &mut State, now: u64, answer: Answer, repor
     requires fits { buffer_in (shown_answer answer) ≡ None }
     requires of_it { IsAnswerFrom state.old.region answer }
     requires within { IsWithin (length facts.now.ifaces) state.old.state.routes }
+    requires early { now < 2 ^ 62 }
     requires apps { state.old.state.ports.conns.apps ≡ facts.now.apps }
     ensures apps { state.new.state.ports.conns.apps ≡ facts.now.apps }
     ensures told { ComesTo state.old state.new report.old.items report.new.items (told_hearing facts.now state.old.state now (packet_in (item_in (shown_answer answer)))) }
@@ -221,13 +241,17 @@ fn hear_item(facts: &Facts, state: &mut State, now: u64, item: Item, report: &mu
     requires free { IsFree state.old.state report.old.items }
     requires of_it { IsItemOf state.old.region item }
     requires within { IsWithin (length facts.now.ifaces) state.old.state.routes }
+    requires early { now < 2 ^ 62 }
     requires apps { state.old.state.ports.conns.apps ≡ facts.now.apps }
     ensures apps { state.new.state.ports.conns.apps ≡ facts.now.apps }
     ensures told { ComesTo state.old state.new report.old.items report.new.items (told_hearing facts.now state.old.state now (packet_in (Some (shown_item item)))) }
     ensures sendable { IsSendable facts.now state.new.state.out }
 {
     match item {
-        Item::Packet { mark, buffer } => hear(facts, state, now, Packet::of(mark, buffer), report),
+        Item::Packet { mark, buffer } => {
+            count_in(state, mark, &buffer);
+            hear(facts, state, now, Packet::of(mark, buffer), report);
+        }
         Item::Note(_) => {}
         Item::Frame(_) => {}
     }

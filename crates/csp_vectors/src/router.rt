@@ -33,8 +33,8 @@ enum Fate {
 // The interface that a packet came in on (`None`: an application sent it), its header, what became of it.
 type Case = (Option<u8>, u32, Fate);
 
-// At node 1, whose routes are `3 a, 8/2 b 9`.
-const CASES: [Case; 12] = [
+// At node 1, whose routes are `3 a, 8/2 b 9`. Node 3 pings it, also by the address of every node, and asks for a restart without a number.
+const CASES: [Case; 16] = [
     (Some(0), 0x8222_B000, Fate::Discarded(Discard::NoRoute)),
     (Some(0), 0x8232_B000, Fate::Discarded(Discard::BackOut)),
     (
@@ -47,6 +47,18 @@ const CASES: [Case; 12] = [
     (Some(0), 0x8292_B00D, Fate::Pushed(QueueId::Out(1), 9)),
     (Some(0), 0x8612_B008, Fate::Discarded(Discard::Refused)),
     (Some(0), 0x861B_F000, Fate::Discarded(Discard::NoSocket)),
+    (
+        Some(1),
+        0x8610_7000,
+        Fate::Pushed(QueueId::Out(0), UNMARKED),
+    ),
+    (
+        Some(1),
+        0x87F0_7000,
+        Fate::Pushed(QueueId::Out(0), UNMARKED),
+    ),
+    (Some(1), 0x8610_7002, Fate::Discarded(Discard::NoSocket)),
+    (Some(1), 0x8611_3000, Fate::Discarded(Discard::Malformed)),
     (None, 0x8222_B000, Fate::Discarded(Discard::NoRoute)),
     (None, 0x8232_B000, Fate::Pushed(QueueId::Out(0), UNMARKED)),
     (None, 0x8292_B000, Fate::Pushed(QueueId::Out(1), 9)),

@@ -5,17 +5,17 @@ use Rattle.csp_stack.specs.Rules.{heard_at_port, heard_here}
 use Rattle.csp_stack.proofs.inbox.hear.Goals as goal
 
 pub returns-in_default-clause-told : goal.returns-in_default-clause-told
-returns-in_default-clause-told c = c.in_default.ensures.told (λ q. heard_here c.args.state.now.state q)
+returns-in_default-clause-told c = c.in_default.ensures.told (λ q. heard_here c.args.facts.now c.args.state.now.state c.args.now q)
 
 pub returns-in_default-judge_security-clause-told : goal.returns-in_default-judge_security-clause-told
 returns-in_default-judge_security-clause-told c =
-    rw (c.in-Some.ensures.told.0 (λ q. heard_here c.args.state.now.state q))
-    (unmoved c.args.state.now _ _ _ _ _ (λ s. heard_here s (arrival_of c.in-Some.packet)) c.in-Some.ensures.told.2 c.in-Some.ensures.told.3 (c.in_default-judge_security.ensures.told (λ q. by_rest c.judge_destination.new.state.state q)))
+    rw (c.in-Some.ensures.told.0 (λ q. heard_here c.args.facts.now c.args.state.now.state c.args.now q))
+    (unmoved c.args.state.now _ _ _ _ _ (λ s. heard_here c.args.facts.now s c.args.now (arrival_of c.in-Some.packet)) c.in-Some.ensures.told.2 c.in-Some.ensures.told.3 (c.in_default-judge_security.ensures.told (λ q. by_rest c.args.facts.now c.judge_destination.new.state.state c.args.now q)))
 
 pub returns-in_default-judge_checksum-clause-told : goal.returns-in_default-judge_checksum-clause-told
 returns-in_default-judge_checksum-clause-told c =
-    rw (c.in-Some.ensures.told.0 (λ q. heard_here c.args.state.now.state q))
-    (unmoved c.args.state.now _ _ _ _ _ (λ s. heard_here s (arrival_of c.in-Some.packet)) c.in-Some.ensures.told.2 c.in-Some.ensures.told.3
-    (rw (c.in-Some-judge_security.ensures.told.0 (λ q. by_rest c.judge_destination.new.state.state q))
-    (unmoved c.judge_destination.new.state _ _ _ _ _ (λ s. by_rest s (arrival_of c.in-Some-judge_security.packet)) c.in-Some-judge_security.ensures.told.2 c.in-Some-judge_security.ensures.told.3
-    (c.in_default-judge_checksum.ensures.told (λ q. heard_at_port c.judge_security.new.state.state q)))))
+    rw (c.in-Some.ensures.told.0 (λ q. heard_here c.args.facts.now c.args.state.now.state c.args.now q))
+    (unmoved c.args.state.now _ _ _ _ _ (λ s. heard_here c.args.facts.now s c.args.now (arrival_of c.in-Some.packet)) c.in-Some.ensures.told.2 c.in-Some.ensures.told.3
+    (rw (c.in-Some-judge_security.ensures.told.0 (λ q. by_rest c.args.facts.now c.judge_destination.new.state.state c.args.now q))
+    (unmoved c.judge_destination.new.state _ _ _ _ _ (λ s. by_rest c.args.facts.now s c.args.now (arrival_of c.in-Some-judge_security.packet)) c.in-Some-judge_security.ensures.told.2 c.in-Some-judge_security.ensures.told.3
+    (c.in_default-judge_checksum.ensures.told (λ q. heard_at_port c.args.facts.now c.judge_security.new.state.state c.args.now q)))))
