@@ -95,7 +95,9 @@ fn requests_without_reply(rt: HostRuntime) {
         assert!(rt; out.is_empty());
     }
     assert!(rt; asked(&rt, rt.alloc(), 2, &[], &mut out) == Served::NoService);
-    assert!(rt; asked(&rt, rt.alloc(), 4, &[0x80, 7, 0x80, 7], &mut out) == Served::Silent(Event::Reboot));
+    assert!(rt;
+        asked(&rt, rt.alloc(), 4, &[0x80, 7, 0x80, 7], &mut out) == Served::Silent(Event::Reboot)
+    );
 }
 
 #[test]

@@ -1,5 +1,5 @@
 -- what a node's services know and change
-use Rattle.std.specs.Prelude.{ℕ, ℤ, pos, List, map, replicate}
+use Rattle.std.specs.Prelude.{ℕ, ℤ, pos, List, replicate}
 use Rattle.csp_route.specs.Routes.{Routes}
 use Rattle.csp_route.specs.Text.{names_of}
 use Rattle.csp_service.specs.declared.facts.Names.{Names}

@@ -8,11 +8,11 @@ ghost use Rattle.csp_route.specs.Routes.{IsWithin};
 ghost use Rattle.csp_service.specs.Answers.{answered, outcome, rebooted, requested};
 ghost use Rattle.csp_service.specs.Facts.{known};
 
+use crate::Service;
 use crate::clock::{seconds, tell_clock};
+use crate::facts::{MEMORY, Names, Services};
 use crate::memory::{peek, poke};
 use crate::requests::{set_route, tell_stats};
-use crate::facts::{MEMORY, Names, Services};
-use crate::Service;
 use csp_base::Port;
 use csp_cmp::{CmpError, CmpReply, CmpRequest, MAX_CHUNK, MAX_REPLY, decode, ident_reply};
 use csp_log::Event;

@@ -38,7 +38,11 @@ pub(crate) fn poke(
     if addr as usize + bytes.len() > MEMORY {
         return Served::Refused(ServiceError::BadAddress);
     }
-    overwrite(services.memory.as_mut_slice(), addr as usize, bytes.as_slice());
+    overwrite(
+        services.memory.as_mut_slice(),
+        addr as usize,
+        bytes.as_slice(),
+    );
     same_reply(&CmpRequest::Poke { addr, bytes }, out);
     Served::Reply
 }

@@ -19,13 +19,7 @@ use crate::state::State;
 use csp_deck::{Discard, Event, Events, SLOTS};
 
 /// The first of the rules from the fourth on that decides.
-pub fn hear_at_port(
-    facts: &Facts,
-    state: &mut State,
-    now: u64,
-    packet: Packet,
-    report: &mut Events,
-)
+pub fn hear_at_port(facts: &Facts, state: &mut State, now: u64, packet: Packet, report: &mut Events)
     requires free { IsFree state.old.state report.old.items }
     requires of_it { packet.buffer.region ≡ state.old.region }
     requires early { now < 2 ^ 62 }

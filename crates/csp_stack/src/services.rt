@@ -64,13 +64,7 @@ fn echo(facts: &Facts, state: &mut State, packet: Packet, report: &mut Events)
 }
 
 /// A service is asked, where one has the packet's port.
-fn ask_service(
-    facts: &Facts,
-    state: &mut State,
-    now: u64,
-    packet: Packet,
-    report: &mut Events,
-)
+fn ask_service(facts: &Facts, state: &mut State, now: u64, packet: Packet, report: &mut Events)
     requires free { IsFree state.old.state report.old.items }
     requires of_it { packet.buffer.region ≡ state.old.region }
     requires early { now < 2 ^ 62 }
@@ -91,13 +85,7 @@ fn ask_service(
 }
 
 /// What the services answer to a packet.
-fn ask(
-    facts: &Facts,
-    state: &mut State,
-    now: u64,
-    packet: &Packet,
-    reply: &mut CmpReply,
-) -> Served
+fn ask(facts: &Facts, state: &mut State, now: u64, packet: &Packet, reply: &mut CmpReply) -> Served
     requires early { now < 2 ^ 62 }
     requires short { packet.now.header.dport ≢ 1 }
     ensures value { outcome result reply.new.items (facts_of facts.now state.new.state) ≡ answered packet.now.header.dport packet.now.buffer.picture.payload (facts_of facts.now state.old.state) now }
