@@ -8,8 +8,8 @@ use csp_buffer::Memory;
 use csp_log::Event::{Discarded, Opened, Refused, Sent, Took};
 use csp_log::{Answer, Discard, Draft, Event, Events, Item, Log, Note, Op, Place, QueueId, Why};
 use csp_record::{HeldBy, PartyLog, Record, Who};
+use csp_report::report;
 use csp_scene::{Scene, parse};
-use csp_top::report;
 use std::alloc::Global;
 use std::mem::ManuallyDrop;
 
@@ -46,7 +46,7 @@ const DISCARDED: [&[Event]; 6] = [
     &[Discarded(Discard::Stray), Discarded(Discard::NoConn), Discarded(Discard::Mixed), Discarded(Discard::Malformed),
       Discarded(Discard::Required), Discarded(Discard::NoSlot), Discarded(Discard::BackOut), Discarded(Discard::Stray)],
     &[Discarded(Discard::CrcWrong), Discarded(Discard::NoRoute), Discarded(Discard::NoRoute), Discarded(Discard::NoRoute),
-      Discarded(Discard::NoRoute)],
+      Discarded(Discard::NoRoute), Event::Shutdown],
 ];
 
 /// The events of the entries of an application: what a report tells, with other events between.
@@ -69,7 +69,7 @@ const REFUSED: [&[Event]; 2] = [
 
 /// The report of a record with those events.
 const TOLD: &str =
-    "csp-report 1\nend unfinished 7\nnode n1 1 buffers 11 free 1 inbox 3 lane 3 router 1 iface 1 app 2\nrouter n1 noroute 4 backout 1 refused 2 crc 3 nosocket 1 noslot 1 required 1 malformed 1 mixed 1 noconn 1 stray 2 full 1\napp n1 a step 9\nempty n1 a 1\nrefused n1 a 2 notbindable\ngaveup n1 a 4\ndown n1 a 5\nrefused n1 a 7 timeout\nconn n1 a 0 0 plain\nstale 0\npassed 0\n";
+    "csp-report 1\nend unfinished 7\nnode n1 1 buffers 11 free 1 inbox 3 lane 3 router 1 iface 1 app 2\nrouter n1 noroute 4 backout 1 refused 2 crc 3 nosocket 1 noslot 1 required 1 malformed 1 mixed 1 noconn 1 stray 2 full 1\nevent n1 shutdown 5\napp n1 a step 9\nempty n1 a 1\nrefused n1 a 2 notbindable\ngaveup n1 a 4\ndown n1 a 5\nrefused n1 a 7 timeout\nconn n1 a 0 0 plain\nstale 0\npassed 0\n";
 
 /// The report of a record whose router told nothing, and whose application was refused in each way.
 const WORDS: &str =
@@ -92,21 +92,24 @@ enum Deed {
 }
 
 /// The turns of a router: openings on two slots, one of them twice, with payloads sent on them; and the like of
-/// another application. The last payload's event tells another ordinal than the slot has by its Closed answers.
+/// another application. Between them it was asked to start again and to stop. The last payload's event tells
+/// another ordinal than the slot has by its Closed answers.
 #[rattlefmt::skip]
-const ROUTER: [(Deed, &[Event]); 12] = [
+const ROUTER: [(Deed, &[Event]); 14] = [
     (Deed::Rested, &[Opened { app: 0, slot: 1, nth: None, peer: None }]),
     (Deed::Popped(QueueId::Up(0), &[0xC0, 0xDB]), &[Sent { slot: 1, ordinal: 0 }]),
     (Deed::Rested, &[Opened { app: 0, slot: 0, nth: Some(3), peer: Some((1, 7)) }, Opened { app: 1, slot: 0, nth: None, peer: None }]),
     (Deed::Popped(QueueId::Up(0), &[]), &[Sent { slot: 0, ordinal: 0 }]),
     (Deed::Popped(QueueId::Up(1), &[5]), &[Sent { slot: 0, ordinal: 0 }]),
     (Deed::Popped(QueueId::Up(0), &[6]), &[]),
+    (Deed::Popped(QueueId::Inbox, &[0x80, 7, 0x80, 7]), &[Event::Reboot]),
     (Deed::Freed(QueueId::Down(0), 0), &[]),
     (Deed::Freed(QueueId::Down(1), 0), &[]),
     (Deed::Rested, &[Opened { app: 0, slot: 0, nth: Some(4), peer: None }]),
     (Deed::Popped(QueueId::Up(0), &[1, 2]), &[Sent { slot: 0, ordinal: 1 }]),
     (Deed::Popped(QueueId::Up(0), &[3]), &[Sent { slot: 0, ordinal: 5 }]),
     (Deed::Rested, &[Opened { app: 0, slot: 3, nth: Some(5), peer: Some((2, 0)) }]),
+    (Deed::Rested, &[Event::Shutdown, Discarded(Discard::Full), Event::Reboot]),
 ];
 
 /// The turns of the application: what it took, before and after it heard that a slot is free again.
@@ -121,7 +124,7 @@ const TAKER: [(Deed, &[Event]); 5] = [
 
 /// The report of a record with those turns.
 const TALKED: &str =
-    "csp-report 1\nend finished 7\nnode n1 1 buffers 11 free 1 inbox 3 lane 3 router 1 iface 1 app 2\nnode n2 2 buffers 4 free 4 inbox 0 lane 0 router 0 iface 0 app 0\nrouter n1 noroute 0 backout 0 refused 0 crc 0 nosocket 0 noslot 0 required 0 malformed 0 mixed 0 noconn 0 stray 0 full 0\nrouter n2 noroute 4 backout 1 refused 2 crc 3 nosocket 1 noslot 1 required 1 malformed 1 mixed 1 noconn 1 stray 2 full 1\napp n1 a ended\nconn n1 a 0 0 rdp 3 peer n2 7\nsent n1 a 0 0 1 -\ntook n1 a 0 0 1 08\nconn n1 a 0 1 rdp 4 peer none\nsent n1 a 0 1 1 0102\nsent n1 a 0 1 2 03\ntook n1 a 0 1 1 09\nconn n1 a 1 0 plain\nsent n1 a 1 0 1 c0db\ntook n1 a 1 0 1 ff\nconn n1 a 3 0 rdp 5 peer none\nstale 0\npassed 0\n";
+    "csp-report 1\nend finished 7\nnode n1 1 buffers 11 free 1 inbox 3 lane 3 router 1 iface 1 app 2\nnode n2 2 buffers 4 free 4 inbox 0 lane 0 router 0 iface 0 app 0\nrouter n1 noroute 0 backout 0 refused 0 crc 0 nosocket 0 noslot 0 required 0 malformed 0 mixed 0 noconn 0 stray 0 full 1\nrouter n2 noroute 4 backout 1 refused 2 crc 3 nosocket 1 noslot 1 required 1 malformed 1 mixed 1 noconn 1 stray 2 full 1\nevent n1 reboot 6\nevent n1 shutdown 13\nevent n1 reboot 13\nevent n2 shutdown 5\napp n1 a ended\nconn n1 a 0 0 rdp 3 peer n2 7\nsent n1 a 0 0 1 -\ntook n1 a 0 0 1 08\nconn n1 a 0 1 rdp 4 peer none\nsent n1 a 0 1 1 0102\nsent n1 a 0 1 2 03\ntook n1 a 0 1 1 09\nconn n1 a 1 0 plain\nsent n1 a 1 0 1 c0db\ntook n1 a 1 0 1 ff\nconn n1 a 3 0 rdp 5 peer none\nstale 0\npassed 0\n";
 
 /// Notes that the router told an application that a slot is free again.
 fn draft_freed(draft: &mut Draft, queue: QueueId, slot: u8) {
@@ -250,21 +253,21 @@ fn report_of(
     discarded: &[&[Event]],
     reported: &[&[Event]],
     step: u32,
-) -> Option<String> {
+) -> Option<Vec<u8>> {
     let router = party(alloc, Who::Router(0), discarded, 0)?;
     let app = party(alloc, Who::App(0, 0), reported, step)?;
     let record = record(alloc, router, app)?;
     let scene = scene(alloc, SCENARIO)?;
-    report(alloc, &scene, &record).ok()
+    report(alloc, &record, &scene).ok()
 }
 
 /// The report of a record whose router and application had those turns.
-fn talk_of(alloc: Global) -> Option<String> {
+fn talk_of(alloc: Global) -> Option<Vec<u8>> {
     let router = busy(alloc, Who::Router(0), &ROUTER)?;
     let app = busy(alloc, Who::App(0, 0), &TAKER)?;
     let record = record(alloc, router, app)?;
     let scene = scene(alloc, PEERS)?;
-    report(alloc, &scene, &record).ok()
+    report(alloc, &record, &scene).ok()
 }
 
 #[test]
@@ -274,7 +277,7 @@ fn a_report_tells_each_event_and_each_refusal_has_its_word(rt: HostRuntime) {
     let talked = talk_of(rt.alloc());
     for (got, wanted) in [(told, TOLD), (words, WORDS), (talked, TALKED)] {
         match got {
-            Some(got) => assert!(rt; got.as_str() == wanted, "{got}"),
+            Some(got) => assert_eq!(rt; got.as_slice(), wanted.as_bytes()),
             None => panic!(rt; "no report"),
         }
     }

@@ -1,11 +1,3 @@
-pub mod Lines
-pub mod Parties
-pub mod ReportConns
-pub mod ReportEvents
-pub mod ReportIfaces
-pub mod ReportPlaces
-pub mod Report
-pub mod PlacesAddUp
 pub mod Main
 pub mod Statuses
 pub mod Said

@@ -1,13 +1,16 @@
 -- What a call of the program owes: what it writes by what it read, and when each answer comes.
-use Rattle.std.specs.Prelude.{ℕ, ◌≡◌, ◌≤◌, List, [], ◌++◌, length, Option, None, Some, Ok, IfSome}
+use Rattle.std.specs.Prelude.{ℕ, ◌≡◌, ◌≤◌, List, [], ◌++◌, length, Option, None, Some, Ok, IfSome, ⊤}
+use Rattle.csp_base.specs.Faults.{Rose}
 use Rattle.csp_base.specs.Transfer.{WrotePrefix}
 use Rattle.std.specs.Io.KnownBytes.{Appends}
 use Rattle.csp_scene.specs.Scene.{PlainScene}
 use Rattle.csp_scene.specs.Judge.{scene_of}
 use Rattle.csp_record.specs.Record.{PlainRecord}
 use Rattle.csp_world.specs.Record.{sim_record}
-use Rattle.csp_top.specs.Report.{report}
-use Rattle.csp_top.specs.PlacesAddUp.{PlacesAddUp}
+use Rattle.csp_report.specs.Report.{report}
+use Rattle.csp_report.specs.PlacesAddUp.{PlacesAddUp}
+use Rattle.csp_top.specs.declared.status.Status.{Status}
+use Rattle.csp_top.specs.declared.status.Status.TheVariants as status
 use Rattle.csp_top.specs.declared.status.TheConstants.{MAX_SCENARIO}
 
 -- the text states a scene, whose run ends before its logs are full, and these bytes are the report of its record
@@ -39,3 +42,20 @@ WasRead left_old left_new = IfSome left_old (λ text. (length text ≤ MAX_SCENA
 -- in what was written, each node's line has six places that add up to its number of buffers
 abbrev pub WroteWhole : Option (List ℕ) → Option (List ℕ) → Type 0
 WroteWhole old new = IfSome old (λ before. (bytes : List ℕ) × (new ≡ Some (before ++ bytes)) × PlacesAddUp bytes)
+
+-- nothing hinders a report of this text: it has no more bytes than the limit, it states a scene, no count of faults
+-- rises, neither of reading nor of writing, and the run of the scene doesn't stop at the entry limit
+pub record IsUnhindered (text : List ℕ) (reading_old reading_new writing_old writing_new : ℕ) : Type 0 where
+  pub short : length text ≤ MAX_SCENARIO
+  pub scene : PlainScene
+  pub run : PlainRecord
+  pub stated : scene_of text ≡ Ok scene
+  pub reading_steady : Rose reading_old reading_new → ⊥
+  pub writing_steady : Rose writing_old writing_new → ⊥
+  pub ran : sim_record scene ≡ Some run
+
+-- the answer is Done, and the whole report of the text was written, or it is want of memory
+abbrev pub IsDoneOrNoMemory : List ℕ → Option (List ℕ) → Option (List ℕ) → Status → Type 0
+IsDoneOrNoMemory text old new status.Done = WroteReport text old new
+IsDoneOrNoMemory text old new status.NoMemory = ⊤
+IsDoneOrNoMemory text old new _ = ⊥

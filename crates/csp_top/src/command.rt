@@ -1,12 +1,12 @@
 //! The command that the words name.
 
-ghost use Rattle.std.specs.Prelude.{◌≡◌, ◌≢◌, ◌+◌, ◌↔◌, ℕ, Err, IfSome, map};
+ghost use Rattle.std.specs.Prelude.{◌≡◌, ◌≢◌, ◌+◌, ◌↔◌, ℕ, Ok, Err, IfSome, map};
 ghost use Rattle.std.specs.String.{string_bytes};
 ghost use Rattle.csp_base.specs.Faults.{Rose};
 ghost use Rattle.csp_base.specs.Transfer.{TookExactly};
 ghost use Rattle.csp_scene.specs.Judge.{scene_of};
 ghost use Rattle.csp_scene.specs.declared.refusal.SceneKind.{SceneKind};
-ghost use Rattle.csp_top.specs.Main.{WroteReport, WrotePart, WasRead, WroteWhole, IsPastEntries};
+ghost use Rattle.csp_top.specs.Main.{WroteReport, WrotePart, WasRead, WroteWhole, IsPastEntries, IsUnhindered, IsDoneOrNoMemory};
 ghost use Rattle.csp_words.specs.Grammar.{command_of};
 
 use crate::simulation::sim_main;
@@ -40,6 +40,7 @@ pub fn csp_main<S: Source, K: Sink>(
     ensures bytes { (number : ℕ) → result ≡ Status.Limit LimitKind.Bytes number → (number ≡ MAX_SCENARIO) × TookExactly (S.left source.old) (S.left source.new) (MAX_SCENARIO + 1) }
     ensures entries { (number : ℕ) → result ≡ Status.Limit LimitKind.Entries number → (number ≡ MAX_ENTRIES) × IfSome (S.left source.old) IsPastEntries }
     ensures entries_read { (number : ℕ) → result ≡ Status.Limit LimitKind.Entries number → WasRead (S.left source.old) (S.left source.new) }
+    ensures complete { command_of (map string_bytes words.now) ≡ Ok Command.Sim → IfSome (S.left source.old) (λ text. IsUnhindered text (S.faults source.old) (S.faults source.new) (K.faults sink.old) (K.faults sink.new) → IsDoneOrNoMemory text (K.written sink.old) (K.written sink.new) result) }
     ensures unwritten { result ≢ Status.Done → result ≢ Status.WriteFault → sink.new ≡ sink.old }
 {
     match command(words) {

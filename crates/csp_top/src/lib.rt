@@ -3,14 +3,12 @@
 #![tactic(auto)]
 
 mod command;
-mod reporting;
 mod saying;
 mod simulation;
 mod status;
 mod words;
 
 pub use command::csp_main;
-pub use reporting::report;
 pub use saying::say;
 pub use simulation::sim_main;
 pub use status::{LimitKind, MAX_SCENARIO, Status};

@@ -2,18 +2,17 @@
 //! report written. The first refusal in this order is the answer.
 
 ghost use Rattle.std.specs.Prelude.{◌≡◌, ◌≢◌, ◌≤◌, ◌+◌, ℕ, Err, IfSome, IfOk, length};
-ghost use Rattle.std.specs.String.{string_bytes};
 ghost use Rattle.csp_base.specs.Faults.{Rose};
 ghost use Rattle.csp_base.specs.Transfer.{TookExactly};
 ghost use Rattle.csp_scene.specs.Judge.{scene_of};
 ghost use Rattle.csp_scene.specs.declared.refusal.SceneKind.{SceneKind};
-ghost use Rattle.csp_top.specs.Main.{WroteReport, WrotePart, WasRead, WroteWhole, IsReportOf, IsPastEntries};
+ghost use Rattle.csp_top.specs.Main.{WroteReport, WrotePart, WasRead, WroteWhole, IsReportOf, IsPastEntries, IsUnhindered, IsDoneOrNoMemory};
 ghost use Rattle.csp_top.specs.Statuses.{status_of_read, status_of};
-ghost use Rattle.csp_top.specs.PlacesAddUp.{PlacesAddUp};
+ghost use Rattle.csp_report.specs.PlacesAddUp.{PlacesAddUp};
 
-use crate::reporting::report;
 use crate::status::{LimitKind, MAX_SCENARIO, Status};
 use csp_base::{ReadError, Sink, Source, read_up_to, write_whole};
+use csp_report::report;
 use csp_scene::{SceneError, SceneKind, parse};
 use csp_world::{MAX_ENTRIES, SimError, simulate};
 use std::alloc::Global;
@@ -35,6 +34,7 @@ pub fn sim_main<S: Source, K: Sink>(alloc: Global, source: &mut S, sink: &mut K)
     ensures entries { (number : ℕ) → result ≡ Status.Limit LimitKind.Entries number → (number ≡ MAX_ENTRIES) × IfSome (S.left source.old) IsPastEntries }
     ensures entries_read { (number : ℕ) → result ≡ Status.Limit LimitKind.Entries number → WasRead (S.left source.old) (S.left source.new) }
     ensures no_words { result ≢ Status.Words }
+    ensures complete { IfSome (S.left source.old) (λ text. IsUnhindered text (S.faults source.old) (S.faults source.new) (K.faults sink.old) (K.faults sink.new) → IsDoneOrNoMemory text (K.written sink.old) (K.written sink.new) result) }
     ensures unwritten { result ≢ Status.Done → result ≢ Status.WriteFault → sink.new ≡ sink.old }
 {
     let text = match read_up_to(alloc, source, MAX_SCENARIO) {
@@ -45,7 +45,7 @@ pub fn sim_main<S: Source, K: Sink>(alloc: Global, source: &mut S, sink: &mut K)
         Ok(report) => report,
         Err(refusal) => return refusal.status(),
     };
-    match write_whole(sink, report.as_bytes()) {
+    match write_whole(sink, report.as_slice()) {
         Ok(()) => Status::Done,
         Err(_) => Status::WriteFault,
     }
@@ -93,10 +93,10 @@ impl Refusal {
 }
 
 /// The report of a text: of the run of the scene that it states.
-fn report_of(alloc: Global, text: &[u8]) -> Result<String, Refusal>
+fn report_of(alloc: Global, text: &[u8]) -> Result<Vec<u8>, Refusal>
     requires { length text.now ≤ MAX_SCENARIO }
-    ensures report { IfOk result (λ bytes. IsReportOf text.now (string_bytes bytes)) }
-    ensures places { IfOk result (λ bytes. PlacesAddUp (string_bytes bytes)) }
+    ensures report { IfOk result (λ bytes. IsReportOf text.now bytes.items) }
+    ensures places { IfOk result (λ bytes. PlacesAddUp bytes.items) }
     ensures scene { (line : ℕ) (kind : SceneKind) → result ≡ Err (Refusal.Scene line kind) → scene_of text.now ≡ Err (record { line = line; kind = kind }) }
     ensures entries { result ≡ Err Refusal.Entries → IsPastEntries text.now }
 {
@@ -110,7 +110,7 @@ fn report_of(alloc: Global, text: &[u8]) -> Result<String, Refusal>
         Err(SimError::Entries) => return Err(Refusal::Entries),
         Err(SimError::NoMemory) => return Err(Refusal::NoMemory),
     };
-    match report(alloc, &scene, &record) {
+    match report(alloc, &record, &scene) {
         Ok(bytes) => Ok(bytes),
         Err(_) => Err(Refusal::NoMemory),
     }

@@ -1,0 +1,6 @@
+mod Adding
+mod ConnLines
+mod Feeds
+mod IfaceLines
+mod Joining
+mod ReportLemmas

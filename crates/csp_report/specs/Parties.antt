@@ -1,0 +1,35 @@
+-- The parties of a record that a report speaks of.
+use Rattle.std.specs.Prelude.{◌==◌, ◌&&◌, Bool, false, Option, None, Some, List, [], find}
+use Rattle.csp_log.specs.PlainLog.{all_events}
+use Rattle.csp_log.specs.declared.entry.Entry.{Entry}
+use Rattle.csp_log.specs.declared.event.Event.{Event}
+use Rattle.csp_record.specs.Record.{PlainPartyLog}
+use Rattle.csp_record.specs.declared.who.Who.{Who}
+use Rattle.csp_record.specs.declared.who.Who.TheVariants as who
+use Rattle.csp_report.specs.declared.parties.Seat.{Seat}
+use Rattle.csp_report.specs.declared.parties.Seat.TheVariants as seat
+
+-- whether a party has this seat
+abbrev pub is_at : Seat → Who → Bool
+is_at (seat.Router node) (who.Router n) = n == node
+is_at (seat.Bridge node) (who.Bridge n) = n == node
+is_at (seat.Iface node number) (who.Iface n k) = n == node && k == number
+is_at (seat.App node number) (who.App n k) = n == node && k == number
+is_at _ _ = false
+
+-- the first party that has it
+abbrev pub party_at : List PlainPartyLog → Seat → Option PlainPartyLog
+party_at parties place = find (λ party. is_at place party.who) parties
+
+-- a party's entries, where there is the party
+abbrev pub entries_of : Option PlainPartyLog → List Entry
+entries_of None = []
+entries_of (Some party) = party.entries
+
+-- the entries of the party that has this seat
+abbrev pub entries_at : List PlainPartyLog → Seat → List Entry
+entries_at parties place = entries_of (party_at parties place)
+
+-- what it reported, in order of time
+abbrev pub events_at : List PlainPartyLog → Seat → List Event
+events_at parties place = all_events (entries_at parties place)

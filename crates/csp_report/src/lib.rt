@@ -1,0 +1,14 @@
+//! The report of a run, line by line, from the scene and the record of its run.
+#![tactic(auto)]
+
+mod apps;
+mod conns;
+mod events;
+mod ifaces;
+mod lines;
+mod parties;
+mod places;
+mod routers;
+mod text;
+
+pub use text::report;

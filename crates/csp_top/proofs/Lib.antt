@@ -1,6 +1,0 @@
-mod Adding
-mod Conns
-mod Feeds
-mod Ifaces
-mod Joining
-mod ReportLemmas

@@ -1,7 +1,0 @@
-use Rattle.std.proofs.Common.{◌≡◌, take, sum_by}
-use Rattle.csp_top.specs.ReportIfaces.{weight}
-use Rattle.csp_top.proofs.reporting.ifaces.sum_events.Given as goal
-
--- the sum so far
-abbrev pub invariant-loop-event : goal.invariant-loop-event
-invariant-loop-event l = l.sum ≡ sum_by (weight l.which) (take l.event-index l.events)
