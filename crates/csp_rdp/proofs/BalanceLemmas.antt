@@ -519,9 +519,9 @@ pub parted-balanced : (r : PlainRdp) → Balanced (map (λ b. b.picture.number) 
 parted-balanced r = record {
   numbers = λ k. let a = times-append k (map (λ b. b.picture.number) (unneeded r)) (rdp_numbers (rested r)) in let b = parted-numbers k r in omega (arith, a, b);
   count =
-    let a = length-append (map (λ b. b.picture.number) (unneeded r)) (rdp_numbers (rested r)) in
-    let b = length-map (unneeded r) (λ b. b.picture.number) in
-    let d = loose-count r.send.packets in
-    let e = useless-count r.state r.recv in
-    omega (arith, a, b, d, e, numbers-count r, numbers-count (rested r), unneeded-count r);
+      let a = length-append (map (λ b. b.picture.number) (unneeded r)) (rdp_numbers (rested r)) in
+      let b = length-map (unneeded r) (λ b. b.picture.number) in
+      let d = loose-count r.send.packets in
+      let e = useless-count r.state r.recv in
+      omega (arith, a, b, d, e, numbers-count r, numbers-count (rested r), unneeded-count r);
 }
