@@ -23,10 +23,10 @@ use Rattle.csp_rdp.proofs.CountLemmas.{times-append, times-cons}
 use Rattle.csp_rdp.proofs.SoundLemmas.{first-empty}
 
 -- the buffers of packets, and of what is kept
-abbrev sending : List Pending → List PlainBuffer
+abbrev pub sending : List Pending → List PlainBuffer
 sending ps = map (λ p. p.buffer) ps
 
-abbrev keeping_ : List Kept → List PlainBuffer
+abbrev pub keeping_ : List Kept → List PlainBuffer
 keeping_ ks = map (λ k. k.buffer) ks
 
 abbrev numbers : List PlainBuffer → List ℕ

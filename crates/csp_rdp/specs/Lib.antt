@@ -7,3 +7,4 @@ pub mod Machine
 pub mod Regions
 pub mod Sound
 pub mod Table
+pub mod Placed

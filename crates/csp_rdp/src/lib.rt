@@ -6,6 +6,7 @@ mod answers;
 mod conserving;
 mod jobs;
 mod laws;
+mod placing;
 mod rdp;
 mod rows;
 
@@ -13,4 +14,5 @@ pub use answers::{Change, Result2, State, Why};
 pub use conserving::{conserves, keeps_whole};
 pub use jobs::Job;
 pub use laws::{keeps_count, keeps_region, keeps_rest, numbers};
+pub use placing::sees_no_region;
 pub use rdp::Rdp;
