@@ -1,0 +1,92 @@
+-- what follows a step of a machine counts no further
+use Rattle.std.specs.Prelude.{ℕ, Bool, true, false, Option, None, Some, get_or}
+use Rattle.std.specs.List.{All}
+use Rattle.std.proofs.Common.{zero, suc, ◌≤◌, List, [], ◌∷◌, arith}
+use Rattle.std.proofs.lemmas.List.Elements.{All-head, All-set, All-tail}
+use Rattle.csp_conn.specs.PlainConns.{place_of}
+use Rattle.csp_ports.specs.Counts.{AreFar}
+use Rattle.csp_ports.specs.PlainPorts.{PlainPorts, PlainStalled, fresh, machine_at, terms_at, with_machine, with_terms}
+use Rattle.csp_ports.specs.Steps.{changed, closed_by, connected_by, dropped_in, dropped_on, given_up, refused_by}
+use Rattle.csp_ports.specs.declared.terms.Terms.{Terms}
+use Rattle.csp_ports.specs.declared.terms.Wish.{Wish}
+use Rattle.csp_ports.specs.declared.terms.Wish.TheVariants as wish
+use Rattle.csp_rdp.specs.Counts.{IsFar}
+use Rattle.csp_rdp.specs.Machine.{PlainRdp, idle}
+use Rattle.csp_rdp.specs.declared.answers.Change.{Change}
+use Rattle.csp_rdp.specs.declared.answers.Change.TheVariants as change
+use Rattle.csp_rdp.specs.declared.answers.State.{State}
+use Rattle.csp_rdp.specs.declared.answers.State.TheVariants.{Closed, SynSent, SynRcvd, Open, CloseWait}
+use Rattle.csp_rdp.specs.declared.answers.Why.{Why}
+
+-- what holds of all, and of what stands for one that is not there, holds at each place
+all_or : {A : Type 0} → (P : A → Type 0) (xs : List A) (k : ℕ) (d : A) → All P xs → P d → P (get_or xs k d)
+all_or P [] k d all one = one
+all_or P (x ∷ xs) zero d all one = All-head P x xs all
+all_or P (x ∷ xs) (suc k) d all one = all_or P xs k d (All-tail P x xs all) one
+
+-- another machine in the place of a slot's
+pub far_machine : (n : ℕ) (p : PlainPorts) (app slot : ℕ) (r : PlainRdp) → IsFar n r → AreFar n p → AreFar n (with_machine p app slot r)
+far_machine n p app slot r one h = record { machines = All-set (IsFar n) p.machines (place_of app slot) r one h.machines; made = h.made; ends = h.ends }
+
+-- other terms
+pub far_terms : (n : ℕ) (p : PlainPorts) (app slot : ℕ) (t : Terms) → t.ordinal ≤ n → AreFar n p → AreFar n (with_terms p app slot t)
+far_terms n p app slot t one h = record { machines = h.machines; made = h.made; ends = All-set (λ t. t.ordinal ≤ n) p.terms (place_of app slot) t one h.ends }
+
+-- the terms of a slot
+pub far_at : (n : ℕ) (p : PlainPorts) (app slot : ℕ) → AreFar n p → (terms_at p app slot).ordinal ≤ n
+far_at n p app slot h = all_or (λ t. t.ordinal ≤ n) p.terms (place_of app slot) fresh h.ends (omega arith)
+
+pub far_idle : (n : ℕ) → IsFar n idle
+far_idle n = record { admitted = omega arith; delivered = omega arith }
+
+pub far_machine_at : (n : ℕ) (p : PlainPorts) (app slot : ℕ) → AreFar n p → IsFar n (machine_at p app slot)
+far_machine_at n p app slot h = all_or (IsFar n) p.machines (place_of app slot) idle h.machines (far_idle n)
+
+far_given_up : (n : ℕ) (p : PlainPorts) (app slot : ℕ) → AreFar n p → AreFar n (given_up app slot p).ports
+far_given_up n p app slot h = record {
+  machines = All-set (IsFar n) p.machines (place_of app slot) idle (far_idle n) h.machines;
+  made = h.made;
+  ends = All-set (λ t. t.ordinal ≤ n) p.terms (place_of app slot) _ (far_at n p app slot h) h.ends;
+}
+
+far_wish : (n : ℕ) (p : PlainPorts) (app slot : ℕ) (w : Wish) → AreFar n p → AreFar n (with_terms p app slot (record (terms_at p app slot) { wish = w }))
+far_wish n p app slot w h = far_terms n p app slot (record (terms_at p app slot) { wish = w }) (far_at n p app slot h) h
+
+far_connected : (n : ℕ) (w : Wish) (p : PlainPorts) (app slot : ℕ) → AreFar n p → AreFar n (connected_by w app slot p)
+far_connected n wish.Connection p app slot h = let k = far_wish n p app slot wish.Nothing h in record { machines = k.machines; made = k.made; ends = k.ends }
+far_connected n wish.Nothing p app slot h = h
+far_connected n wish.End p app slot h = h
+far_connected n wish.Ended p app slot h = h
+
+far_refused : (n : ℕ) (w : Wish) (why : Why) (p : PlainPorts) (app slot : ℕ) → AreFar n p → AreFar n (refused_by w why app slot p).ports
+far_refused n wish.Connection why p app slot h = let k = far_given_up n p app slot h in record { machines = k.machines; made = k.made; ends = k.ends }
+far_refused n wish.Nothing why p app slot h = far_given_up n p app slot h
+far_refused n wish.End why p app slot h = far_given_up n p app slot h
+far_refused n wish.Ended why p app slot h = far_given_up n p app slot h
+
+far_closed : (n : ℕ) (w : Wish) (was_open : Bool) (p : PlainPorts) (app slot : ℕ) → AreFar n p → AreFar n (closed_by w was_open app slot p).ports
+far_closed n wish.End o p app slot h = let k = far_wish n p app slot wish.Ended h in record { machines = k.machines; made = k.made; ends = k.ends }
+far_closed n wish.Nothing true p app slot h = h
+far_closed n wish.Nothing false p app slot h = far_given_up n p app slot h
+far_closed n wish.Connection o p app slot h = h
+far_closed n wish.Ended o p app slot h = h
+
+-- what a change of the connection comes to
+pub far_changed : (n : ℕ) (ch : Change) (p : PlainPorts) (app slot : ℕ) → AreFar n p → AreFar n (changed ch app slot p).ports
+far_changed n change.None p app slot h = h
+far_changed n change.Opened p app slot h = far_connected n (terms_at p app slot).wish p app slot h
+far_changed n (change.Refused why) p app slot h = far_refused n (terms_at p app slot).wish why p app slot h
+far_changed n change.Down p app slot h = far_terms n p app slot (record (terms_at p app slot) { is_down = true }) (far_at n p app slot h) h
+far_changed n change.Closed p app slot h = far_closed n (terms_at p app slot).wish (machine_at p app slot).was_open p app slot h
+
+-- a packet that waits is discarded
+far_dropped_in : (n : ℕ) (s : State) (app : ℕ) (w : PlainStalled) (p : PlainPorts) → AreFar n p → AreFar n (dropped_in s app w p).ports
+far_dropped_in n Open app w p h = h
+far_dropped_in n SynSent app w p h = record { machines = h.machines; made = h.made; ends = h.ends }
+far_dropped_in n SynRcvd app w p h = record { machines = h.machines; made = h.made; ends = h.ends }
+far_dropped_in n CloseWait app w p h = record { machines = h.machines; made = h.made; ends = h.ends }
+far_dropped_in n Closed app w p h = record { machines = h.machines; made = h.made; ends = h.ends }
+
+pub far_dropped : (n : ℕ) (o : Option PlainStalled) (app : ℕ) (p : PlainPorts) → AreFar n p → AreFar n (dropped_on o app p).ports
+far_dropped n None app p h = h
+far_dropped n (Some w) app p h = far_dropped_in n (machine_at p app w.slot).state app w p h

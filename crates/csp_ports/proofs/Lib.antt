@@ -1,0 +1,12 @@
+pub mod Binding
+pub mod Counting
+pub mod Following
+pub mod Holding
+pub mod Keeping
+pub mod Letting
+pub mod Owing
+pub mod Quiet
+pub mod Sizing
+pub mod Tasking
+pub mod Waiting
+pub mod Wishing

@@ -1,0 +1,79 @@
+-- the timers open no connection, and so report nothing
+use Rattle.std.specs.Prelude.{Bool, true, false, if◌then◌else◌, ◌==◌}
+use Rattle.std.proofs.Common.{◌≡◌, ◌≢◌, ℕ, List, [], refl, sym, ◌∙◌}
+use Rattle.csp_log.specs.declared.event.Event.{Event}
+use Rattle.csp_ports.specs.PlainPorts.{PlainPorts, machine_at, terms_at}
+use Rattle.csp_ports.specs.Steps.{changed, closed_by, refused_by}
+use Rattle.csp_ports.specs.declared.terms.Wish.{Wish}
+use Rattle.csp_ports.specs.declared.terms.Wish.TheVariants as wish
+use Rattle.csp_rdp.specs.Changes.{change_between}
+use Rattle.csp_rdp.specs.Jobs.{ticked, timed_out}
+use Rattle.csp_rdp.specs.Machine.{PlainRdp, broken}
+use Rattle.csp_rdp.specs.declared.answers.Change.{Change}
+use Rattle.csp_rdp.specs.declared.answers.Change.TheVariants as change
+use Rattle.csp_rdp.specs.declared.answers.State.{State}
+use Rattle.csp_rdp.specs.declared.answers.State.TheVariants.{Closed, SynSent, SynRcvd, Open, CloseWait}
+use Rattle.csp_rdp.specs.declared.answers.Why.{Why}
+use Rattle.csp_rdp_window.specs.Times.{has_passed}
+use Rattle.std.specs.Prelude.{Some}
+
+closed_quiet : (w : Wish) (was : Bool) (app slot : ℕ) (p : PlainPorts) → (closed_by w was app slot p).events ≡ []
+closed_quiet wish.End was app slot p = refl
+closed_quiet wish.Nothing true app slot p = refl
+closed_quiet wish.Nothing false app slot p = refl
+closed_quiet wish.Connection was app slot p = refl
+closed_quiet wish.Ended was app slot p = refl
+
+refused_quiet : (w : Wish) (why : Why) (app slot : ℕ) (p : PlainPorts) → (refused_by w why app slot p).events ≡ []
+refused_quiet wish.End why app slot p = refl
+refused_quiet wish.Nothing why app slot p = refl
+refused_quiet wish.Connection why app slot p = refl
+refused_quiet wish.Ended why app slot p = refl
+
+-- only an opening is reported
+pub changed_quiet : (x : Change) (app slot : ℕ) (p : PlainPorts) → (x ≡ change.Opened → ⊥) → (changed x app slot p).events ≡ []
+changed_quiet change.None app slot p h = refl
+changed_quiet change.Opened app slot p h = absurd (h refl)
+changed_quiet (change.Refused why) app slot p h = refused_quiet (terms_at p app slot).wish why app slot p
+changed_quiet change.Down app slot p h = refl
+changed_quiet change.Closed app slot p h = closed_quiet (terms_at p app slot).wish (machine_at p app slot).was_open app slot p
+
+-- what a timer can come to
+broke : (b : Bool) (time : ℕ) (r : PlainRdp) (why : Why) → r.state ≡ Open → change_between Open (if b then r else broken time r).state why ≡ change.Opened → ⊥
+broke true time r why e h = absurd (go r.state e h)
+  where
+    go : (s : State) → s ≡ Open → change_between Open s why ≡ change.Opened → ⊥
+    go Open e h = cc
+    go Closed e h = cc
+    go SynSent e h = cc
+    go SynRcvd e h = cc
+    go CloseWait e h = cc
+broke false time r why e h = cc
+
+ran_out : (s : State) (time : ℕ) (r : PlainRdp) (why : Why) → r.state ≡ s → change_between s (timed_out s time r).state why ≡ change.Opened → ⊥
+ran_out SynSent time r why e h = cc
+ran_out SynRcvd time r why e h = cc
+ran_out Open time r why e h = broke (r.send.una == r.send.nxt) time r why e h
+ran_out CloseWait time r why e h = cc
+ran_out Closed time r why e h = same r.state e h
+  where
+    same : (t : State) → t ≡ Closed → change_between Closed t why ≡ change.Opened → ⊥
+    same Closed e h = cc
+    same SynSent e h = cc
+    same SynRcvd e h = cc
+    same Open e h = cc
+    same CloseWait e h = cc
+
+stays : (s : State) (why : Why) → change_between s s why ≡ change.Opened → ⊥
+stays SynSent why h = cc
+stays SynRcvd why h = cc
+stays Open why h = cc
+stays CloseWait why h = cc
+stays Closed why h = cc
+
+pub never_opens : (time : ℕ) (r : PlainRdp) (why : Why) → change_between r.state (ticked time r).state why ≡ change.Opened → ⊥
+never_opens time r why h = go (has_passed (Some r.since) r.options.conn_timeout time) h
+  where
+    go : (b : Bool) → change_between r.state (if b then timed_out r.state time r else r).state why ≡ change.Opened → ⊥
+    go true h = ran_out r.state time r why refl h
+    go false h = stays r.state why h

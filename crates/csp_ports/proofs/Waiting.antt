@@ -1,0 +1,63 @@
+-- packets that wait for room, and what becomes of them
+use Rattle.std.specs.Prelude.{Bool, Err, None, Ok, Option, Result, Some, false, get_or, slice_set, true}
+use Rattle.std.specs.Option.{option_map}
+use Rattle.std.specs.Vec.{with_item}
+use Rattle.std.proofs.Common.{◌≡◌, ℕ, zero, suc, ◌<◌, List, [], ◌∷◌, length, arith, ap, refl, sym, ◌∙◌}
+use Rattle.std.proofs.lemmas.List.{get_or-set_same, set-get_or}
+use Rattle.csp_buffer.specs.PlainBuffer.{PlainBuffer}
+use Rattle.csp_conn.specs.PlainConns.{place_of}
+use Rattle.csp_deck.specs.Regions.{nowhere}
+use Rattle.csp_ports.proofs.Keeping.{machine_seen, machine_stepped}
+use Rattle.csp_ports.specs.Kept.{Admits, AdmitsIn, ArePorts, ports_at}
+use Rattle.csp_ports.specs.PlainPorts.{PlainPorts, PlainStalled, PortsAt, anywhere, machine_at, stalled_at, with_machine, with_ports_at, with_stalled}
+use Rattle.csp_ports.specs.Steps.{has_room, settled, settled_by, settled_on}
+use Rattle.csp_ports.specs.declared.ports.Ports.TheInside.{Inside}
+use Rattle.csp_rdp.specs.Jobs.{admitting}
+use Rattle.csp_rdp.specs.Machine.{PlainRdp, idle}
+use Rattle.csp_rdp.specs.Placed.{placed}
+
+-- a machine that admits a packet, or does not, in the place of a slot
+admits_by : (p : Inside) (at : PortsAt) (app slot place : ℕ) (r new : PlainRdp) (b : PlainBuffer) (time : ℕ) (room : Bool) (answer : Result Unit PlainBuffer) → ports_at p ≡ at → place ≡ place_of app slot → place < 16 → ArePorts p → r ≡ get_or p.machines.items place r
+    → Admits room answer (placed nowhere r) (placed nowhere new) b time → AdmitsIn room answer at (ports_at (record p { machines = with_item p.machines place new })) app slot b time
+admits_by p at app slot place r new b time true answer view e there a value h =
+    (h.0, machine_stepped p at app slot place r new (admitting (anywhere b.picture) time) view e there a value h.1)
+admits_by p at app slot place r new b time false answer view e there a value h =
+    (h.0, machine_stepped p at app slot place r new (λ q. q) view e there a value h.1 ∙ ap (λ (ms : List PlainRdp). with_ports_at at (record at.ports { machines = ms })) (set-get_or at.ports.machines (place_of app slot) idle))
+
+pub admits_in : (p : Inside) (at : PortsAt) (app slot place : ℕ) (r new : PlainRdp) (b : PlainBuffer) (time : ℕ) (answer : Result Unit PlainBuffer) → ports_at p ≡ at → place ≡ place_of app slot → place < 16 → ArePorts p → r ≡ get_or p.machines.items place r
+    → Admits (has_room (placed nowhere r)) answer (placed nowhere r) (placed nowhere new) b time → AdmitsIn (has_room (machine_at at.ports app slot)) answer at (ports_at (record p { machines = with_item p.machines place new })) app slot b time
+admits_in p at app slot place r new b time answer view e there a value h =
+    rw (sym (machine_seen p at app slot place r view e there a value)) (admits_by p at app slot place r new b time (has_room (placed nowhere r)) answer view e there a value h)
+
+set_set : {X : Type 0} → (xs : List X) (i : ℕ) (a b : X) → slice_set (slice_set xs i a) i b ≡ slice_set xs i b
+set_set [] i a b = refl
+set_set (x ∷ xs) zero a b = refl
+set_set (x ∷ xs) (suc i) a b = ap (λ (l : List _). x ∷ l) (set_set xs i a b)
+
+none_set : {X : Type 0} → (xs : List (Option X)) (i : ℕ) → get_or (slice_set xs i None) i None ≡ None
+none_set [] i = refl
+none_set (x ∷ xs) zero = refl
+none_set (x ∷ xs) (suc i) = none_set xs i
+
+-- where it is not admitted none waits
+pub none_left : (old mid new : PortsAt) (app slot : ℕ) (b back : PlainBuffer) (time : ℕ) (room : Bool) → mid ≡ with_ports_at old (with_stalled old.ports app None) → AdmitsIn room (Err back) mid new app slot b time → stalled_at new.ports app ≡ None
+none_left old mid new app slot b back time true e h = absurd cc
+none_left old mid new app slot b back time false e h = ap (λ (x : PortsAt). stalled_at x.ports app) (h.1 ∙ e) ∙ none_set old.ports.stalled app
+
+-- and it waits again as it did
+settled_by_err : (old mid out new : PortsAt) (app : ℕ) (s : PlainStalled) (b back : PlainBuffer) (time : ℕ) (room : Bool) → mid ≡ with_ports_at old (with_stalled old.ports app None) → Some s ≡ stalled_at old.ports app → has_room (machine_at old.ports app s.slot) ≡ room → s.buffer ≡ anywhere b.picture
+    → AdmitsIn room (Err back) mid out app s.slot b time → new ≡ with_ports_at out (with_stalled out.ports app (Some (record { slot = s.slot; buffer = anywhere back.picture }))) → new ≡ with_ports_at old (settled_on (Some s) time app old.ports)
+settled_by_err old mid out new app s b back time true e waits is same h put = absurd cc
+settled_by_err old mid out new app s b back time false e waits is same h put =
+    let given : back ≡ b = cc in
+    let whole : Option PlainStalled = Some (record { slot = s.slot; buffer = anywhere back.picture }) in
+    let it : whole ≡ Some s = ap (λ (c : PlainBuffer). Some (record { slot = s.slot; buffer = c })) (ap (λ (c : PlainBuffer). anywhere c.picture) given ∙ sym same) in
+    put
+    ∙ (ap (λ (x : PortsAt). with_ports_at x (with_stalled x.ports app whole)) (h.1 ∙ e)
+    ∙ (ap (λ (ss : List (Option PlainStalled)). with_ports_at old (record old.ports { stalled = ss })) (set_set old.ports.stalled app None whole ∙ (ap (λ (o : Option PlainStalled). slice_set old.ports.stalled app o) (it ∙ waits) ∙ set-get_or old.ports.stalled app None))
+    ∙ ap (λ (room : Bool). with_ports_at old (settled_by room time app s old.ports)) (sym is)))
+
+pub settled_err : (old mid out new : PortsAt) (app : ℕ) (s : PlainStalled) (b back : PlainBuffer) (time : ℕ) → mid ≡ with_ports_at old (with_stalled old.ports app None) → Some s ≡ stalled_at old.ports app → s.buffer ≡ anywhere b.picture
+    → AdmitsIn (has_room (machine_at mid.ports app s.slot)) (Err back) mid out app s.slot b time → new ≡ with_ports_at out (with_stalled out.ports app (Some (record { slot = s.slot; buffer = anywhere back.picture }))) → new ≡ with_ports_at old (settled time app old.ports)
+settled_err old mid out new app s b back time e waits same h put =
+    settled_by_err old mid out new app s b back time _ e waits (sym (ap (λ (x : PortsAt). has_room (machine_at x.ports app s.slot)) e)) same h put ∙ ap (λ (o : Option PlainStalled). with_ports_at old (settled_on o time app old.ports)) waits

@@ -1,0 +1,15 @@
+use Rattle.std.proofs.Common.{◌≡◌, subst, sym, ◌∙◌}
+use Rattle.csp_arena.specs.Cells.{RegionName}
+use Rattle.csp_ports.proofs.Keeping.{machines_kept}
+use Rattle.csp_ports.proofs.Waiting.{admits_in}
+use Rattle.csp_ports.specs.Kept.{IsHoused}
+use Rattle.csp_ports.specs.PlainPorts.{PortsAt}
+use Rattle.csp_ports.proofs.ports.Ports.admit.Goals as goal
+
+pub invariant_of-self : goal.invariant_of-self
+invariant_of-self c =
+    let region = subst (λ (x : PortsAt). c.args.buffer.region ≡ x.region) (sym c.self.view_is) c.requires.of_it in
+    machines_kept c.self.inside c.place.result c.admit.new.machine (subst (λ (n : RegionName). IsHoused n c.admit.new.machine) region c.admit.ensures.housed) c.self.invariant
+
+pub returns : goal.returns
+returns c = admits_in c.self.inside c.args.self.now c.args.app c.args.slot c.place.result c.index_mut.result.now c.admit.new.machine c.args.buffer c.args.now c.admit.result c.self.view_is c.place.ensures.value c.place.ensures.inside c.self.invariant c.index_mut.ensures.value c.admit.ensures.admits

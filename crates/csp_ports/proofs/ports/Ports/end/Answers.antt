@@ -1,0 +1,10 @@
+use Rattle.std.proofs.Common.{◌∙◌, ap}
+use Rattle.csp_ports.specs.Held.{held}
+use Rattle.csp_ports.proofs.Holding.{nothing-held}
+use Rattle.csp_ports.proofs.ports.Ports.end.Goals as goal
+
+pub end_all_stalled-requires : goal.end_all_stalled-requires
+end_all_stalled-requires c = (nothing-held c.self.inside.stalled c.self.inside.machines.items (ap (λ p. held p.ports) c.self.view_is ∙ c.requires)).0
+
+pub end_machines-requires : goal.end_machines-requires
+end_machines-requires c = (nothing-held c.self.inside.stalled c.self.inside.machines.items (ap (λ p. held p.ports) c.self.view_is ∙ c.requires)).1

@@ -1,0 +1,68 @@
+use Rattle.std.specs.Option.{option_to_list}
+use Rattle.std.proofs.Common.{◌-◌, ◌^◌, List, ◌∷◌, ◌++◌, ap, refl, subst, sym, ◌∙◌}
+use Rattle.std.proofs.lemmas.List.{append-nil}
+use Rattle.csp_deck.specs.Keeping.{with_contents}
+use Rattle.csp_log.specs.declared.event.Event.{Event}
+use Rattle.csp_ports.proofs.Counting.{far_changed, far_dropped}
+use Rattle.csp_ports.proofs.Following.{then_comes}
+use Rattle.csp_ports.proofs.Tasking.{come_comes, settled_apps}
+use Rattle.csp_ports.specs.Came.{Comes, come, pictures, reporting, then}
+use Rattle.csp_ports.specs.Counts.{IsCountable}
+use Rattle.csp_ports.specs.Packets.{back_by, handing_event, stray_events}
+use Rattle.csp_ports.specs.PlainPorts.{PortsAt, anywhere, machine_at, stalled_at}
+use Rattle.csp_ports.specs.Steps.{changed, dropped, settled, stepped, went}
+use Rattle.csp_rdp.specs.Changes.{change_between}
+use Rattle.csp_rdp.specs.Table.{back_of, handed, is_stray, row_of}
+use Rattle.csp_rdp.specs.declared.answers.Change.{Change}
+use Rattle.csp_rdp.specs.declared.answers.Why.TheVariants as machine_why
+use Rattle.csp_ports.proofs.ports.Ports.hand.Goals as goal
+
+pub settle-requires-clause-countable : goal.settle-requires-clause-countable
+settle-requires-clause-countable c =
+    let n = 2 ^ 32 - 2 in
+    let app = c.args.app in
+    let one = subst (λ (x : PortsAt). IsCountable x.ports) (sym c.change.ensures.comes.ports) (far_changed n c.hand_machine-change.result c.hand_machine-change.new.self.ports app c.args.slot c.hand_machine-change.ensures.countable) in
+    subst (λ (x : PortsAt). IsCountable x.ports) (sym c.drop_stalled.ensures.comes.ports) (far_dropped n (stalled_at c.change.new.self.ports app) app c.change.new.self.ports one)
+
+pub returns-clause-comes : goal.returns-clause-comes
+returns-clause-comes c =
+    let at = c.args.self.now in
+    let app = c.args.app in
+    let slot = c.args.slot in
+    let now = c.args.now in
+    let head = c.args.head in
+    let packet = anywhere c.args.packet.picture in
+    let tag = packet.picture.trace.tag in
+    let r = machine_at at.ports app slot in
+    let row = row_of r head packet.picture.payload in
+    let back = back_of row packet in
+    let next = handed head tag packet now r in
+    let trash = with_contents c.args.trash.now (c.args.trash.now.contents ++ pictures (option_to_list back)) in
+    let events = c.hand_machine-change.new.report.items in
+    let mid = c.hand_machine-change.new.self in
+    then_comes at at c.settle.new.self c.args.trash.now trash c.drop_stalled.new.trash c.args.report.now.items events c.drop_stalled.new.report.items
+    (reporting (handing_event r tag) (back_by back (is_stray row) at.ports)) (λ p. then (went r.state machine_why.Reset app slot next p) (λ p. then (dropped app p) (λ p. come (settled now app p))))
+    (record {
+      ports = refl;
+      trash = refl;
+      events = c.hand_machine-change.ensures.report ∙ ap (λ (es : List Event). es ++ handing_event r tag ∷ stray_events back (is_stray row)) (sym c.requires.report);
+    })
+    (then_comes at c.change.new.self c.settle.new.self trash c.change.new.trash c.drop_stalled.new.trash events c.change.new.report.items c.drop_stalled.new.report.items
+    (went r.state machine_why.Reset app slot next at.ports) (λ p. then (dropped app p) (λ p. come (settled now app p)))
+    (then_comes at mid c.change.new.self trash c.hand_machine-change.new.trash c.change.new.trash events events c.change.new.report.items
+    (stepped app slot next at.ports) (changed (change_between r.state next.state machine_why.Reset) app slot)
+    (record {
+      ports = c.hand_machine-change.ensures.comes.ports;
+      trash = c.hand_machine-change.ensures.comes.trash;
+      events = sym (append-nil events);
+    })
+    (subst (λ (x : Change). Comes mid c.change.new.self c.hand_machine-change.new.trash c.change.new.trash events c.change.new.report.items (changed x app slot mid.ports)) c.hand_machine-change.ensures.change c.change.ensures.comes))
+    (then_comes c.change.new.self c.drop_stalled.new.self c.settle.new.self c.change.new.trash c.drop_stalled.new.trash c.drop_stalled.new.trash c.change.new.report.items c.drop_stalled.new.report.items c.drop_stalled.new.report.items
+    (dropped app c.change.new.self.ports) (λ p. come (settled now app p)) c.drop_stalled.ensures.comes
+    (come_comes c.drop_stalled.new.self c.settle.new.self (settled now app c.drop_stalled.new.self.ports) c.drop_stalled.new.trash c.drop_stalled.new.report.items c.settle.ensures.ports)))
+
+pub returns-clause-apps : goal.returns-clause-apps
+returns-clause-apps c =
+    ap (λ (x : PortsAt). x.ports.conns.apps) c.settle.ensures.ports
+    ∙ (settled_apps (stalled_at c.drop_stalled.new.self.ports c.args.app) c.args.now c.args.app c.drop_stalled.new.self.ports
+    ∙ (c.drop_stalled.ensures.apps ∙ (c.change.ensures.apps ∙ ap (λ (x : PortsAt). x.ports.conns.apps) c.hand_machine-change.ensures.comes.ports)))

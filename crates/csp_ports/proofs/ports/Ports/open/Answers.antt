@@ -1,0 +1,23 @@
+use Rattle.std.proofs.Common.{None, IfSome, arith, refl}
+use Rattle.std.proofs.lemmas.List.Elements.{All-nil, All-replicate}
+use Rattle.csp_ports.specs.Kept.{IsHoused, IsOwed, IsWaiting}
+use Rattle.csp_rdp.specs.Machine.{idle}
+use Rattle.csp_ports.proofs.Holding.{idle-housed, none-bound, wishes-none}
+use Rattle.csp_ports.proofs.ports.Ports.open.Goals as goal
+
+pub invariant_of-result : goal.invariant_of-result
+invariant_of-result c = record {
+  few = rw c.new.ensures c.requires;
+  apps = rw c.new.ensures refl;
+  slots = refl;
+  room = c.in_ok-owed.ensures.capacity;
+  owners = λ port. none-bound c.new-2.result port c.new.result.apps c.new-2.ensures;
+  owed = rw (c.in_ok-owed.ensures.items) (All-nil (IsOwed c.new.result.apps));
+  due = λ app.
+      let none = wishes-none 16 app in
+      rw (c.in_ok-owed.ensures.items, c.fresh.ensures) omega (arith, none);
+  all = rw c.in_ok-machines.ensures refl;
+  housed = rw c.in_ok-machines.ensures (All-replicate (IsHoused c.args.region.name) 16 idle (idle-housed c.args.region.name));
+  places = refl;
+  waits = All-replicate (λ s. IfSome s (IsWaiting c.args.region.name)) 4 None tt;
+}

@@ -1,0 +1,20 @@
+use Rattle.std.proofs.Common.{List, ap, subst, sym, ◌∙◌}
+use Rattle.csp_log.specs.declared.event.Event.{Event}
+use Rattle.csp_ports.proofs.Tasking.{admitting_apps, submitted_comes}
+use Rattle.csp_ports.specs.Came.{Comes}
+use Rattle.csp_ports.specs.Packets.{submitting}
+use Rattle.csp_ports.specs.PlainPorts.{PortsAt, machine_at}
+use Rattle.csp_ports.specs.Steps.{has_room}
+use Rattle.csp_rdp.specs.Machine.{PlainRdp}
+use Rattle.csp_ports.proofs.ports.Ports.submit.Goals as goal
+
+pub returns-in-Open-clause-comes : goal.returns-in-Open-clause-comes
+returns-in-Open-clause-comes c =
+    let opened = sym (ap (λ (q : PlainRdp). q.state) c.machine.ensures) ∙ (sym c.state.ensures.value ∙ c.in-Open.is) in
+    subst (λ (es : List Event). Comes c.args.self.now c.send.new.self c.args.trash.now c.args.trash.now es c.send.new.report.items (submitting c.args.self.now.ports c.args.app c.args.slot c.args.packet.picture c.args.now)) (sym c.requires.report)
+    (submitted_comes c.args.self.now c.send.new.self c.args.trash.now c.send.new.report.items c.args.app c.args.slot c.args.packet.picture c.args.now opened c.send.ensures.ports c.send.ensures.report)
+
+pub returns-in-Open-clause-apps : goal.returns-in-Open-clause-apps
+returns-in-Open-clause-apps c =
+    ap (λ (x : PortsAt). x.ports.conns.apps) c.send.ensures.ports
+    ∙ admitting_apps (has_room (machine_at c.args.self.now.ports c.args.app c.args.slot)) c.args.self.now.ports c.args.app c.args.slot c.args.packet.picture c.args.now

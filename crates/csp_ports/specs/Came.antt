@@ -1,0 +1,41 @@
+-- what comes of a step of a node's ports
+use Rattle.std.specs.Prelude.{◌≡◌, List, [], ◌∷◌, ◌++◌, map, Some, None}
+use Rattle.csp_buffer.specs.Content.{Content}
+use Rattle.csp_buffer.specs.PlainBuffer.{PlainBuffer}
+use Rattle.csp_deck.specs.Keeping.{PlainPile, with_contents}
+use Rattle.csp_log.specs.declared.event.Discard.{Discard}
+use Rattle.csp_log.specs.declared.event.Event.{Event}
+use Rattle.csp_log.specs.declared.event.Event.TheVariants as event
+use Rattle.csp_ports.specs.PlainPorts.{PlainPorts, PortsAt, with_ports_at}
+
+-- the ports after it, the buffers that are not needed any more, which join the trash in this order, and what is reported
+pub record Came : Type 0 where
+  pub ports : PlainPorts
+  pub loose : List Content
+  pub events : List Event
+
+-- these ports, and nothing besides
+abbrev pub come : PlainPorts → Came
+come p = record { ports = p; loose = []; events = [] }
+
+-- first the one, then the other
+abbrev pub then : Came → (PlainPorts → Came) → Came
+then c next = let d = next c.ports in record { ports = d.ports; loose = c.loose ++ d.loose; events = c.events ++ d.events }
+
+-- this is reported before the rest
+abbrev pub reporting : Event → Came → Came
+reporting e c = record c { events = e ∷ c.events }
+
+-- a packet is discarded for this reason
+abbrev pub discarding : Discard → Content → PlainPorts → Came
+discarding why b p = record { ports = p; loose = b ∷ []; events = event.Discarded why ∷ [] }
+
+-- the pictures of buffers
+abbrev pub pictures : List PlainBuffer → List Content
+pictures bs = map (λ b. b.picture) bs
+
+-- the code comes to it: its ports are these, the trash has the buffers besides those before, and the report the events
+pub record Comes (old new : PortsAt) (before after : PlainPile) (earlier later : List Event) (c : Came) : Type 0 where
+  pub ports : new ≡ with_ports_at old c.ports
+  pub trash : after ≡ with_contents before (before.contents ++ c.loose)
+  pub events : later ≡ earlier ++ c.events

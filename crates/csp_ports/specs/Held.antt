@@ -1,0 +1,46 @@
+-- the buffers that a node's ports hold
+use Rattle.std.specs.Prelude.{ℕ, List, [], ◌∷◌, ◌++◌, map, Option, None, Some}
+use Rattle.std.specs.List.{flat_map}
+use Rattle.csp_buffer.specs.Content.{Content}
+use Rattle.csp_buffer.specs.PlainBuffer.{PlainBuffer}
+use Rattle.csp_ports.specs.Came.{pictures}
+use Rattle.csp_ports.specs.PlainPorts.{PlainPorts, PlainStalled}
+use Rattle.csp_rdp.specs.Holding.{rdp_buffers, taken_out}
+use Rattle.csp_rdp.specs.Machine.{PlainRdp}
+
+-- that of a packet that waits for room
+abbrev pub stalled_buffers : Option PlainStalled → List PlainBuffer
+stalled_buffers None = []
+stalled_buffers (Some s) = s.buffer ∷ []
+
+-- those of the packets that wait, in the order of applications, then those of the machines, in the order of slots
+abbrev pub held_buffers : PlainPorts → List PlainBuffer
+held_buffers p = flat_map stalled_buffers p.stalled ++ flat_map rdp_buffers p.machines
+
+abbrev pub held : PlainPorts → List Content
+held p = pictures (held_buffers p)
+
+-- ---- at the end of a run they are taken out, one by one
+
+-- the first packet that waits is taken out
+abbrev pub without_stalled : List (Option PlainStalled) → List (Option PlainStalled)
+without_stalled [] = []
+without_stalled (None ∷ ss) = None ∷ without_stalled ss
+without_stalled (Some _ ∷ ss) = None ∷ ss
+
+-- the first machine that holds a buffer hands out its first
+abbrev pub first_out : List PlainBuffer → PlainRdp → List PlainRdp → (rest : List PlainRdp) → List PlainRdp
+first_out [] r rs rest = r ∷ rest
+first_out (_ ∷ _) r rs rest = taken_out r ∷ rs
+
+abbrev pub without_held : List PlainRdp → List PlainRdp
+without_held [] = []
+without_held (r ∷ rs) = first_out (rdp_buffers r) r rs (without_held rs)
+
+-- the ports without the first buffer that they hold
+abbrev pub emptied_by : (waiting : List PlainBuffer) → PlainPorts → PlainPorts
+emptied_by (_ ∷ _) p = record p { stalled = without_stalled p.stalled }
+emptied_by [] p = record p { machines = without_held p.machines }
+
+abbrev pub emptied : PlainPorts → PlainPorts
+emptied p = emptied_by (flat_map stalled_buffers p.stalled) p

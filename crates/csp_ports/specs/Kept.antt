@@ -1,0 +1,114 @@
+-- what holds of a node's ports at every time
+use Rattle.std.specs.Prelude.{◌≡◌, ℕ, ◌+◌, ◌-◌, ◌<◌, ◌≤◌, List, [], ◌∷◌, length, map, Option, None, Some, IfSome, sum_by, take, drop, Bool, true, false, Result, Ok, Err}
+use Rattle.std.specs.List.{All}
+use Rattle.std.specs.Option.{option_map}
+use Rattle.std.specs.VecDeque.{deque_capacity}
+use Rattle.csp_arena.specs.Cells.{RegionName}
+use Rattle.csp_base.specs.declared.limits.TheConstants.{MAX_PAYLOAD}
+use Rattle.csp_conn.specs.PlainConns.{place_of}
+use Rattle.csp_conn.specs.declared.conns.TheConstants.{MAX_APPS, SLOTS}
+use Rattle.csp_deck.specs.Carried.{IsReply}
+use Rattle.csp_ports.specs.PlainPorts.{PlainPorts, PlainStalled, PortsAt, anywhere, waiting, with_ports_at}
+use Rattle.csp_ports.specs.Steps.{admitted}
+use Rattle.csp_ports.specs.declared.owed.Owed.{Owed}
+use Rattle.csp_ports.specs.declared.places.TheConstants.{ALL_SLOTS}
+use Rattle.csp_ports.specs.declared.ports.Ports.TheInside.{Inside}
+use Rattle.csp_ports.specs.declared.ports.TheConstants.{MAX_OWED, ANSWERS}
+use Rattle.csp_ports.specs.declared.stalled.Stalled.{Stalled}
+use Rattle.csp_ports.specs.declared.terms.Terms.{Terms}
+use Rattle.csp_ports.specs.declared.terms.Wish.{Wish}
+use Rattle.csp_ports.specs.declared.terms.Wish.TheVariants as wish
+use Rattle.csp_buffer.specs.PlainBuffer.{PlainBuffer}
+use Rattle.csp_deck.specs.Keeping.{PlainPile}
+use Rattle.csp_deck.specs.Regions.{nowhere}
+use Rattle.csp_ports.specs.Held.{held}
+use Rattle.csp_rdp.specs.Balance.{IsWhole}
+use Rattle.csp_rdp.specs.Holding.{rdp_numbers, unneeded}
+use Rattle.csp_rdp.specs.Jobs.{admitting}
+use Rattle.csp_rdp_window.specs.declared.receive.TheConstants.{RECEIVE_PLACES}
+use Rattle.csp_rdp_window.specs.declared.send.TheConstants.{SEND_PLACES}
+use Rattle.csp_rdp.specs.Machine.{PlainRdp}
+use Rattle.csp_rdp.specs.Placed.{placed}
+use Rattle.csp_rdp.specs.Regions.{AreAllIn}
+use Rattle.csp_socket.specs.Bound.{owner_of}
+
+abbrev pub stalled_of : Stalled → PlainStalled
+stalled_of s = record { slot = s.slot; buffer = anywhere s.buffer.picture }
+
+-- a node's ports as contracts see them
+abbrev pub plain_ports : Inside → PlainPorts
+plain_ports p = record {
+  conns = p.conns;
+  terms = p.terms;
+  machines = map (placed nowhere) p.machines.items;
+  stalled = map (option_map stalled_of) p.stalled;
+  bound = p.sockets;
+  owed = p.owed.items;
+  next = p.next;
+  made = p.made;
+}
+
+abbrev pub ports_at : Inside → PortsAt
+ports_at p = record { region = p.token.name; ports = plain_ports p }
+
+-- an answer is one that the lane to an application that there is carries
+pub record IsOwed (apps : ℕ) (o : Owed) : Type 0 where
+  pub app : o.app < apps
+  pub reply : IsReply o.note
+
+-- the answers that are still to come at a slot: one, where its application waits for a connection or for an end
+abbrev pub wished : Wish → ℕ
+wished wish.Nothing = 0
+wished wish.Connection = 1
+wished wish.End = 1
+wished wish.Ended = 0
+
+-- and at the slots of an application
+abbrev pub wishes : ℕ → List Terms → ℕ
+wishes app terms = sum_by (λ t. wished t.wish) (take SLOTS (drop (place_of app 0) terms))
+
+-- the machine of a slot: its buffers are of the region, it holds none that it does not need, and no more than its windows have places
+pub record IsHoused (name : RegionName) (r : PlainRdp) : Type 0 where
+  pub region : AreAllIn name r
+  pub whole : IsWhole r
+  pub rested : unneeded r ≡ []
+  pub few : length (rdp_numbers r) ≤ SEND_PLACES + RECEIVE_PLACES
+
+-- a buffer is admitted where there is room, and else handed back
+abbrev pub Admits : (room : Bool) → Result Unit PlainBuffer → (old new : PlainRdp) → PlainBuffer → ℕ → Type 0
+Admits true answer old new b time = (answer ≡ Ok tt) × (new ≡ admitting (anywhere b.picture) time old)
+Admits false answer old new b time = (answer ≡ Err b) × (new ≡ old)
+
+-- and on a slot's connection
+abbrev pub AdmitsIn : (room : Bool) → Result Unit PlainBuffer → (old new : PortsAt) → ℕ → ℕ → PlainBuffer → ℕ → Type 0
+AdmitsIn true answer old new app slot b time = (answer ≡ Ok tt) × (new ≡ with_ports_at old (admitted time app slot (anywhere b.picture) old.ports))
+AdmitsIn false answer old new app slot b time = (answer ≡ Err b) × (new ≡ old)
+
+-- the trash is of the same region, and has room for all buffers that the ports hold, and for so many more
+pub record IsRoomy (more : ℕ) (p : PortsAt) (trash : PlainPile) : Type 0 where
+  pub region : trash.region ≡ p.region
+  pub room : length trash.contents + length (held p.ports) + more ≤ trash.room
+
+-- a packet that waits for room: for a slot, in a buffer of the region, with room for a head and a checksum
+pub record IsWaiting (name : RegionName) (s : Stalled) : Type 0 where
+  pub slot : s.slot < SLOTS
+  pub region : s.buffer.region ≡ name
+  pub short : length s.buffer.picture.payload ≤ MAX_PAYLOAD - 9
+
+pub record ArePorts (p : Inside) : Type 0 where
+  -- there are no more applications than may be, and there is room for all answers that may be owed
+  pub few : p.conns.apps ≤ MAX_APPS
+  pub apps : p.apps ≡ p.conns.apps
+  pub slots : length p.terms ≡ ALL_SLOTS
+  pub room : MAX_OWED ≤ deque_capacity p.owed
+  -- ports are bound by applications that there are
+  pub owners : (port : ℕ) → IfSome (owner_of p.sockets port) (λ o. o.0 < p.conns.apps)
+  -- and so are answers owed; with those still to come an application has at most one more than it has slots
+  pub owed : All (IsOwed p.conns.apps) p.owed.items
+  pub due : (app : ℕ) → waiting app p.owed.items + wishes app p.terms ≤ ANSWERS
+  -- each slot has its machine, which holds what it needs alone
+  pub all : length p.machines.items ≡ ALL_SLOTS
+  pub housed : All (IsHoused p.token.name) p.machines.items
+  -- each application has a place for a packet that waits
+  pub places : length p.stalled ≡ MAX_APPS
+  pub waits : All (λ s. IfSome s (IsWaiting p.token.name)) p.stalled

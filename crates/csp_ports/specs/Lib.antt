@@ -1,0 +1,9 @@
+pub mod PlainPorts
+pub mod Came
+pub mod Steps
+pub mod Asking
+pub mod Packets
+pub mod Tasks
+pub mod Counts
+pub mod Held
+pub mod Kept

@@ -1,0 +1,122 @@
+-- the ports of a node as plain data: its connections, the ports that are bound, and the answers owed to applications
+use Rattle.std.specs.Prelude.{ℕ, ◌+◌, ◌*◌, ◌%◌, ◌==◌, Bool, true, false, Option, None, Some, List, [], ◌∷◌, ◌++◌, get_or, slice_set, replicate, count_by}
+use Rattle.csp_arena.specs.Cells.{RegionName}
+use Rattle.csp_base.specs.declared.priority.Prio.{Prio}
+use Rattle.csp_base.specs.declared.priority.Prio.TheVariants.{Normal}
+use Rattle.csp_buffer.specs.Content.{Content}
+use Rattle.csp_buffer.specs.PlainBuffer.{PlainBuffer}
+use Rattle.csp_conn.specs.PlainConns.{PlainConns, conns_of, place_of}
+use Rattle.csp_conn.specs.declared.conns.TheConstants.{MAX_APPS}
+use Rattle.csp_deck.specs.Regions.{nowhere}
+use Rattle.csp_log.specs.declared.note.Note.{Note}
+use Rattle.csp_ports.specs.declared.owed.Owed.{Owed}
+use Rattle.csp_ports.specs.declared.places.TheConstants.{ALL_SLOTS}
+use Rattle.csp_ports.specs.declared.terms.Terms.{Terms}
+use Rattle.csp_ports.specs.declared.terms.Wish.{Wish}
+use Rattle.csp_ports.specs.declared.terms.Wish.TheVariants as wish
+use Rattle.csp_rdp.specs.Machine.{PlainRdp, idle}
+use Rattle.csp_socket.specs.Bound.{Bound, bound_none}
+
+-- a packet of an application that waits for room in the window of a slot's connection
+pub record PlainStalled : Type 0 where
+  pub slot : ℕ
+  pub buffer : PlainBuffer
+
+-- the connections; for each slot, in the order of application, then slot, how its packets
+-- are sent and how far it has come, and the machine of its reliable connection; for each application the packet that waits
+-- for room in a window; who bound which port; the answers owed to applications, the oldest first; the slot with which the
+-- next look for a task begins; and how many reliable connections the node has made
+pub record PlainPorts : Type 0 where
+  pub conns : PlainConns
+  pub terms : List Terms
+  pub machines : List PlainRdp
+  pub stalled : List (Option PlainStalled)
+  pub bound : Bound
+  pub owed : List Owed
+  pub next : ℕ
+  pub made : ℕ
+
+-- and with the region that all their buffers are of; in the ports themselves buffers have no region, so that what comes of a
+-- packet does not depend on where the memory lies
+pub record PortsAt : Type 0 where
+  pub region : RegionName
+  pub ports : PlainPorts
+
+-- these ports in place of what they were; their region stays
+abbrev pub with_ports_at : PortsAt → PlainPorts → PortsAt
+with_ports_at p ports = record { region = p.region; ports = ports }
+
+-- a packet in a buffer, wherever that is
+abbrev pub anywhere : Content → PlainBuffer
+anywhere b = record { picture = b; region = nowhere }
+
+-- a slot before its first connection
+abbrev pub fresh : Terms
+fresh = record { prio = Normal; flags = 0; wish = wish.Nothing; is_down = false; ordinal = 0 }
+
+-- so many applications before any of them has asked for something
+abbrev pub ports_of : ℕ → PlainPorts
+ports_of apps = record {
+  conns = conns_of apps;
+  terms = replicate ALL_SLOTS fresh;
+  machines = replicate ALL_SLOTS idle;
+  stalled = replicate MAX_APPS None;
+  bound = bound_none;
+  owed = [];
+  next = 0;
+  made = 0;
+}
+
+-- ---- answers
+
+-- an answer is owed besides
+abbrev pub owing : PlainPorts → ℕ → Note → PlainPorts
+owing p app answer = record p { owed = p.owed ++ record { app = app; note = answer } ∷ [] }
+
+-- how many answers wait to be pushed to an application
+abbrev pub waiting : ℕ → List Owed → ℕ
+waiting app owed = count_by (λ o. o.app == app) owed
+
+-- ---- slots
+
+-- how a slot's packets are sent, and how far the slot has come
+abbrev pub terms_at : PlainPorts → ℕ → ℕ → Terms
+terms_at p app slot = get_or p.terms (place_of app slot) fresh
+
+abbrev pub with_terms : PlainPorts → ℕ → ℕ → Terms → PlainPorts
+with_terms p app slot terms = record p { terms = slice_set p.terms (place_of app slot) terms }
+
+-- the application waits for this at the slot
+abbrev pub wishing : PlainPorts → ℕ → ℕ → Wish → PlainPorts
+wishing p app slot what = with_terms p app slot (record (terms_at p app slot) { wish = what })
+
+-- the application has asked for the slot's end
+abbrev pub is_closing : Wish → Bool
+is_closing wish.Nothing = false
+is_closing wish.Connection = false
+is_closing wish.End = true
+is_closing wish.Ended = true
+
+-- the machine of a slot's reliable connection; where the slot has none it is idle
+abbrev pub machine_at : PlainPorts → ℕ → ℕ → PlainRdp
+machine_at p app slot = get_or p.machines (place_of app slot) idle
+
+abbrev pub with_machine : PlainPorts → ℕ → ℕ → PlainRdp → PlainPorts
+with_machine p app slot r = record p { machines = slice_set p.machines (place_of app slot) r }
+
+-- the packet of an application that waits for room
+abbrev pub stalled_at : PlainPorts → ℕ → Option PlainStalled
+stalled_at p app = get_or p.stalled app None
+
+abbrev pub with_stalled : PlainPorts → ℕ → Option PlainStalled → PlainPorts
+with_stalled p app what = record p { stalled = slice_set p.stalled app what }
+
+-- a connection begins on a slot: its packets are sent with this priority and these flags, and the application waits for this
+abbrev pub begun : PlainPorts → ℕ → ℕ → Prio → ℕ → Wish → PlainPorts
+begun p app slot prio flags what = with_terms p app slot (record (terms_at p app slot) { prio = prio; flags = flags; wish = what; is_down = false })
+
+-- ---- the node's own flows
+
+-- the start of the n-th reliable connection of a node with this seed
+abbrev pub start_of : (seed : ℕ) → ℕ → ℕ
+start_of seed n = (seed + 1000 * n) % 65536

@@ -1,0 +1,171 @@
+-- what follows when the machine of a slot's reliable connection has made a step
+use Rattle.std.specs.Prelude.{ℕ, ◌+◌, ◌*◌, ◌/◌, ◌%◌, ◌==◌, not, Bool, true, false, Option, None, Some, List, [], ◌∷◌}
+use Rattle.std.specs.List.{range_with_len}
+use Rattle.csp_conn.specs.PlainConns.{with_slot}
+use Rattle.csp_conn.specs.declared.conns.TheConstants.{SLOTS}
+use Rattle.csp_conn.specs.declared.slot.Slot.TheVariants.{Free}
+use Rattle.csp_log.specs.declared.event.Discard.TheVariants as why
+use Rattle.csp_log.specs.declared.event.Event.TheVariants as event
+use Rattle.csp_log.specs.declared.note.Note.TheVariants as note
+use Rattle.csp_log.specs.declared.note.Why.TheVariants as reason
+use Rattle.csp_log.specs.declared.note.Why.{Why}
+use Rattle.csp_ports.specs.Came.{Came, come, then, reporting, discarding, pictures}
+use Rattle.csp_ports.specs.PlainPorts.{PlainPorts, PlainStalled, machine_at, owing, stalled_at, terms_at, wishing, with_machine, with_stalled, with_terms}
+use Rattle.csp_ports.specs.declared.terms.Wish.{Wish}
+use Rattle.csp_ports.specs.declared.terms.Wish.TheVariants as wish
+use Rattle.csp_buffer.specs.PlainBuffer.{PlainBuffer}
+use Rattle.csp_rdp.specs.Changes.{change_between}
+use Rattle.csp_rdp.specs.Holding.{rdp_buffers, rested, unneeded}
+use Rattle.csp_rdp.specs.Jobs.{admitting, ticked}
+use Rattle.csp_rdp.specs.Machine.{PlainRdp, idle}
+use Rattle.csp_rdp.specs.declared.answers.Change.{Change}
+use Rattle.csp_rdp.specs.declared.answers.Change.TheVariants as change
+use Rattle.csp_rdp.specs.declared.answers.State.TheVariants.{Closed, SynSent, SynRcvd, Open, CloseWait}
+use Rattle.csp_rdp.specs.declared.answers.State.{State}
+use Rattle.csp_rdp.specs.declared.answers.Why.{Why as MachineWhy}
+use Rattle.csp_rdp.specs.declared.answers.Why.TheVariants as machine_why
+use Rattle.csp_rdp_window.specs.Sending.{is_full}
+
+-- the machine is then this: what it does not need any more is let go
+abbrev pub stepped : ℕ → ℕ → PlainRdp → PlainPorts → Came
+stepped app slot r p = record { ports = with_machine p app slot (rested r); loose = pictures (unneeded r); events = [] }
+
+-- another machine takes its place; what the one before still held is let go
+abbrev pub replaced : ℕ → ℕ → PlainRdp → PlainPorts → Came
+replaced app slot r p = record { ports = with_machine p app slot r; loose = pictures (rdp_buffers (machine_at p app slot)); events = [] }
+
+-- the slot is free, has no reliable connection, owes nothing any more, and its next connection is of this ordinal
+abbrev pub vacated : (ordinal : ℕ) → ℕ → ℕ → PlainPorts → Came
+vacated ordinal app slot p =
+    replaced app slot idle
+    (with_terms (record p { conns = with_slot p.conns app slot Free }) app slot (record (terms_at p app slot) { wish = wish.Nothing; is_down = false; ordinal = ordinal }))
+
+-- without an answer to a close: the next is of the same ordinal, since this one never was open
+abbrev pub given_up : ℕ → ℕ → PlainPorts → Came
+given_up app slot p = vacated (terms_at p app slot).ordinal app slot p
+
+-- by the answer to a close: the next is the next in order
+abbrev pub freed : ℕ → ℕ → PlainPorts → Came
+freed app slot p = vacated ((terms_at p app slot).ordinal + 1) app slot p
+
+-- the application that waited for its connection is told that it is open
+abbrev pub connected_by : Wish → ℕ → ℕ → PlainPorts → PlainPorts
+connected_by wish.Connection app slot p = owing (wishing p app slot wish.Nothing) app (note.Connected slot)
+connected_by wish.Nothing app slot p = p
+connected_by wish.End app slot p = p
+connected_by wish.Ended app slot p = p
+
+abbrev pub connected : ℕ → ℕ → PlainPorts → PlainPorts
+connected app slot p = connected_by (terms_at p app slot).wish app slot p
+
+-- why a connection that was asked for is refused, as an answer says it
+abbrev pub reason_of : MachineWhy → Why
+reason_of machine_why.Timeout = reason.Timeout
+reason_of machine_why.Reset = reason.Reset
+
+-- a connection that was asked for is refused: its slot is free, and the application that waited is told so
+abbrev pub refused_by : Wish → MachineWhy → ℕ → ℕ → PlainPorts → Came
+refused_by wish.Connection why app slot p = then (given_up app slot p) (λ p. come (owing p app (note.Refused (reason_of why))))
+refused_by wish.Nothing why app slot p = given_up app slot p
+refused_by wish.End why app slot p = given_up app slot p
+refused_by wish.Ended why app slot p = given_up app slot p
+
+abbrev pub refused : MachineWhy → ℕ → ℕ → PlainPorts → Came
+refused why app slot p = refused_by (terms_at p app slot).wish why app slot p
+
+-- a Down note is owed
+abbrev pub down : ℕ → ℕ → PlainPorts → PlainPorts
+down app slot p = with_terms p app slot (record (terms_at p app slot) { is_down = true })
+
+-- the connection is closed: the application that asked for that is told so; else a slot whose connection was open stays in
+-- use, and that of one that never was is free
+abbrev pub closed_by : Wish → (was_open : Bool) → ℕ → ℕ → PlainPorts → Came
+closed_by wish.End was_open app slot p = come (owing (wishing p app slot wish.Ended) app (note.Closed slot))
+closed_by wish.Nothing true app slot p = come p
+closed_by wish.Nothing false app slot p = given_up app slot p
+closed_by wish.Connection was_open app slot p = come p
+closed_by wish.Ended was_open app slot p = come p
+
+abbrev pub closed : ℕ → ℕ → PlainPorts → Came
+closed app slot p = closed_by (terms_at p app slot).wish (machine_at p app slot).was_open app slot p
+
+-- what a change of the connection comes to, which its application did not ask for: an opening is reported; a refusal frees
+-- the slot; a connection that is not open any more owes a Down note
+abbrev pub changed : Change → ℕ → ℕ → PlainPorts → Came
+changed change.None app slot p = come p
+changed change.Opened app slot p =
+    let r = machine_at p app slot in
+    reporting (event.Opened app slot (Some r.nth) r.peer) (come (connected app slot p))
+changed (change.Refused why) app slot p = refused why app slot p
+changed change.Down app slot p = come (down app slot p)
+changed change.Closed app slot p = closed app slot p
+
+-- a step from a state to a machine, and what it changed
+abbrev pub went : State → MachineWhy → ℕ → ℕ → PlainRdp → PlainPorts → Came
+went before why app slot r p = then (stepped app slot r p) (changed (change_between before r.state why) app slot)
+
+-- ---- the packet that waits for room
+
+-- there is room for a packet: the connection is open, and its window is not full
+abbrev pub has_room_in : State → PlainRdp → Bool
+has_room_in Open r = not (is_full r.send)
+has_room_in SynSent r = false
+has_room_in SynRcvd r = false
+has_room_in CloseWait r = false
+has_room_in Closed r = false
+
+abbrev pub has_room : PlainRdp → Bool
+has_room r = has_room_in r.state r
+
+-- a packet is admitted to the window of a slot's connection
+abbrev pub admitted : ℕ → ℕ → ℕ → PlainBuffer → PlainPorts → PlainPorts
+admitted time app slot b p = with_machine p app slot (admitting b time (machine_at p app slot))
+
+-- the packet that waits is admitted where there is room
+abbrev pub settled_by : (room : Bool) → ℕ → ℕ → PlainStalled → PlainPorts → PlainPorts
+settled_by true time app s p = admitted time app s.slot s.buffer (with_stalled p app None)
+settled_by false time app s p = p
+
+abbrev pub settled_on : Option PlainStalled → ℕ → ℕ → PlainPorts → PlainPorts
+settled_on None time app p = p
+settled_on (Some s) time app p = settled_by (has_room (machine_at p app s.slot)) time app s p
+
+abbrev pub settled : ℕ → ℕ → PlainPorts → PlainPorts
+settled time app p = settled_on (stalled_at p app) time app p
+
+-- it is discarded as NoConn where its connection is not open any more
+abbrev pub dropped_in : State → ℕ → PlainStalled → PlainPorts → Came
+dropped_in Open app s p = come p
+dropped_in SynSent app s p = discarding why.NoConn s.buffer.picture (with_stalled p app None)
+dropped_in SynRcvd app s p = discarding why.NoConn s.buffer.picture (with_stalled p app None)
+dropped_in CloseWait app s p = discarding why.NoConn s.buffer.picture (with_stalled p app None)
+dropped_in Closed app s p = discarding why.NoConn s.buffer.picture (with_stalled p app None)
+
+abbrev pub dropped_on : Option PlainStalled → ℕ → PlainPorts → Came
+dropped_on None app p = come p
+dropped_on (Some s) app p = dropped_in (machine_at p app s.slot).state app s p
+
+abbrev pub dropped : ℕ → PlainPorts → Came
+dropped app p = dropped_on (stalled_at p app) app p
+
+-- ---- the timers
+
+-- the timer of a slot is tried
+abbrev pub timed_at : ℕ → ℕ → ℕ → PlainPorts → Came
+timed_at time app slot p =
+    let r = machine_at p app slot in
+    went r.state machine_why.Timeout app slot (ticked time r) p
+
+-- and those of several, by their places
+abbrev pub timed_in : ℕ → List ℕ → PlainPorts → Came
+timed_in time [] p = come p
+timed_in time (k ∷ ks) p = then (timed_at time (k / SLOTS) (k % SLOTS) p) (timed_in time ks)
+
+-- the packets of several applications that wait for a connection which is not open any more are discarded
+abbrev pub dropped_of : List ℕ → PlainPorts → Came
+dropped_of [] p = come p
+dropped_of (app ∷ apps) p = then (dropped app p) (dropped_of apps)
+
+-- all timers are tried, in the order of application, then slot; then the packets are discarded that wait in vain
+abbrev pub timed : ℕ → PlainPorts → Came
+timed time p = then (timed_in time (range_with_len 0 (p.conns.apps * SLOTS)) p) (λ p. dropped_of (range_with_len 0 p.conns.apps) p)

@@ -1,0 +1,96 @@
+-- what the reliable connections of a node owe, and in which order they come to it
+use Rattle.std.specs.Prelude.{ℕ, ◌+◌, ◌-◌, ◌*◌, ◌/◌, ◌%◌, ◌==◌, ◌&&◌, nat_lt, Bool, true, false, cond, Option, None, Some, List, [], ◌∷◌, ◌++◌, find, is_some}
+use Rattle.std.specs.List.{range_with_len}
+use Rattle.std.specs.Option.{option_map}
+use Rattle.csp_buffer.specs.Content.{Content}
+use Rattle.csp_buffer.specs.PlainBuffer.{PlainBuffer}
+use Rattle.csp_conn.specs.PlainConns.{place_of}
+use Rattle.csp_conn.specs.declared.conns.TheConstants.{SLOTS}
+use Rattle.csp_ports.specs.Came.{Came, come, then}
+use Rattle.csp_ports.specs.PlainPorts.{PlainPorts, anywhere, machine_at, terms_at, with_machine, with_terms}
+use Rattle.csp_ports.specs.Steps.{dropped, went}
+use Rattle.csp_ports.specs.declared.task.Task.{Task}
+use Rattle.csp_ports.specs.declared.task.Task.TheVariants as task
+use Rattle.csp_rdp.specs.Jobs.{delivering, filled, job_of, keeping_again, sent, without_delivery}
+use Rattle.csp_rdp.specs.declared.answers.Why.TheVariants as machine_why
+use Rattle.csp_rdp.specs.declared.jobs.Job.{Job}
+use Rattle.csp_rdp.specs.declared.jobs.Job.TheVariants as job
+
+-- ---- which task is first
+
+-- of a slot: a reset and the opening packet come before the Down note, all others after it
+abbrev pub task_by : (is_down : Bool) → Option Job → Option Task
+task_by is_down (Some job.Rst) = Some (task.Make job.Rst)
+task_by is_down (Some job.Syn) = Some (task.Make job.Syn)
+task_by true (Some job.Deliver) = Some task.Tell
+task_by true (Some job.Eak) = Some task.Tell
+task_by true (Some job.Data) = Some task.Tell
+task_by true (Some job.Ack) = Some task.Tell
+task_by true None = Some task.Tell
+task_by false (Some job.Deliver) = Some task.Deliver
+task_by false (Some job.Eak) = Some (task.Make job.Eak)
+task_by false (Some job.Data) = Some (task.Make job.Data)
+task_by false (Some job.Ack) = Some (task.Make job.Ack)
+task_by false None = None
+
+abbrev pub task_at : ℕ → PlainPorts → ℕ → ℕ → Option Task
+task_at time p app slot = task_by (terms_at p app slot).is_down (job_of time (machine_at p app slot))
+
+-- that of the slot at a place
+abbrev pub task_of : ℕ → PlainPorts → ℕ → Option Task
+task_of time p k = task_at time p (k / SLOTS) (k % SLOTS)
+
+-- whether that slot is there and has one
+abbrev pub has_task : ℕ → PlainPorts → ℕ → Bool
+has_task time p k = nat_lt k (p.conns.apps * SLOTS) && is_some (task_of time p k)
+
+-- the places of the slots once round in a circle, from the one with which the look begins
+abbrev pub circle : PlainPorts → List ℕ
+circle p = range_with_len p.next (p.conns.apps * SLOTS - p.next) ++ range_with_len 0 p.next
+
+-- the place of the first slot with a task
+abbrev pub place_with_task : ℕ → PlainPorts → Option ℕ
+place_with_task time p = find (has_task time p) (circle p)
+
+-- that slot, and its task
+abbrev pub task_with : ℕ → PlainPorts → Option ℕ → Option (ℕ × ℕ × Task)
+task_with time p None = None
+task_with time p (Some k) = option_map (λ t. (k / SLOTS, k % SLOTS, t)) (task_of time p k)
+
+abbrev pub next_task : ℕ → PlainPorts → Option (ℕ × ℕ × Task)
+next_task time p = task_with time p (place_with_task time p)
+
+-- ---- what comes of a task
+
+-- the next look begins past a slot
+abbrev pub past : ℕ → PlainPorts → ℕ
+past k p = cond (k + 1 == p.conns.apps * SLOTS) 0 (k + 1)
+
+-- a slot comes to its task
+abbrev pub turned : ℕ → ℕ → PlainPorts → PlainPorts
+turned app slot p = record p { next = past (place_of app slot) p }
+
+-- the Down note is pushed
+abbrev pub told_down : ℕ → ℕ → PlainPorts → PlainPorts
+told_down app slot p = with_terms p app slot (record (terms_at p app slot) { is_down = false })
+
+-- the packet that is to be delivered is taken out
+abbrev pub without_packet : ℕ → ℕ → PlainPorts → PlainPorts
+without_packet app slot p = with_machine p app slot (without_delivery (machine_at p app slot))
+
+-- it is delivered
+abbrev pub delivered : ℕ → ℕ → ℕ → PlainPorts → Came
+delivered time app slot p =
+    let r = machine_at p app slot in
+    then (went r.state machine_why.Reset app slot (delivering time r) p) (dropped app)
+
+-- its lane had no room: it is kept again
+abbrev pub kept_again : ℕ → ℕ → Content → PlainPorts → PlainPorts
+kept_again app slot b p = with_machine p app slot (keeping_again (anywhere b) (machine_at p app slot))
+
+-- a packet is made in a buffer, and the machine notes that it is sent
+abbrev pub made_in : Job → ℕ → ℕ → ℕ → Content → PlainPorts → Content
+made_in j time app slot b p = (filled j time (machine_at p app slot) (anywhere b)).picture
+
+abbrev pub making : Job → ℕ → ℕ → ℕ → PlainPorts → PlainPorts
+making j time app slot p = with_machine p app slot (sent j time (machine_at p app slot))

@@ -1,0 +1,260 @@
+//! What applications ask of their node's ports, and what the pushes of answers come to.
+
+ghost use Rattle.std.specs.Prelude.{◌≡◌, ◌+◌, ◌<◌, ◌≤◌, ℕ, [], ◌++◌, length, None, Some};
+ghost use Rattle.csp_conn.specs.PlainConns.{IsThere, slot_at};
+ghost use Rattle.csp_conn.specs.Slots.{is_free};
+ghost use Rattle.csp_deck.specs.Carried.{IsReply};
+ghost use Rattle.csp_ports.specs.Asking.{answered, bind, close, connect, ended_by, ending_in, held_by, is_reliable};
+ghost use Rattle.csp_deck.specs.Keeping.{with_contents};
+ghost use Rattle.csp_deck.specs.Regions.{nowhere};
+ghost use Rattle.csp_log.specs.declared.event.TheConstants.{MAX_EVENTS};
+ghost use Rattle.csp_ports.specs.Came.{Comes, pictures};
+ghost use Rattle.csp_ports.specs.Counts.{IsCountable};
+ghost use Rattle.csp_ports.specs.Kept.{IsHoused, IsRoomy};
+ghost use Rattle.csp_ports.specs.PlainPorts.{machine_at, start_of, waiting, with_ports_at};
+ghost use Rattle.csp_ports.specs.Steps.{replaced, stepped};
+ghost use Rattle.csp_rdp.specs.Holding.{rdp_numbers, rested, unneeded};
+ghost use Rattle.csp_rdp.specs.Jobs.{closing};
+ghost use Rattle.csp_rdp.specs.Machine.{connecting};
+ghost use Rattle.csp_rdp.specs.Placed.{placed};
+
+use crate::handing::start_of;
+use crate::origin::Origin;
+use crate::owed::Owed;
+use crate::places::place;
+use crate::ports::Ports;
+use crate::request::Request;
+use crate::steps::let_go;
+use crate::terms::Wish;
+use csp_base::Port;
+use csp_conn::OpenError;
+use csp_deck::{Event, Events, Note, Pile, Why};
+use csp_rdp::{Rdp, State, conserves, keeps_region, keeps_rest, keeps_whole, sees_no_region};
+use csp_rdp_header::MAX_WINDOW;
+use csp_socket::BindError;
+
+/// The flag of the reliable transport (RDP).
+const RELIABLE: u8 = 0x02;
+
+/// Whether these flags are those of the reliable transport.
+pub(crate) fn is_reliable(flags: u8) -> bool
+    ensures { result ≡ is_reliable flags }
+{
+    flags & RELIABLE == RELIABLE
+}
+
+/// Why a port was not bound, as an answer says it.
+fn why_unbound(error: BindError) -> Why
+    ensures not_bindable { error ≡ BindError.NotBindable → result ≡ Why.NotBindable }
+    ensures in_use { (owner : ℕ) → error ≡ BindError.InUse owner → result ≡ Why.InUse }
+{
+    match error {
+        BindError::NotBindable => Why::NotBindable,
+        BindError::InUse { owner: _ } => Why::InUse,
+    }
+}
+
+/// Why a connection was not made, as an answer says it.
+fn why_unopened(error: OpenError) -> Why
+    ensures busy { error ≡ OpenError.Busy → result ≡ Why.Busy }
+    ensures port_busy { error ≡ OpenError.PortBusy → result ≡ Why.PortBusy }
+{
+    match error {
+        OpenError::Busy => Why::Busy,
+        OpenError::PortBusy => Why::PortBusy,
+    }
+}
+
+impl Ports {
+    /// Binds a port for an application, where packets need these flags.
+    pub fn bind(&mut self, app: u8, port: Port, need: u8)
+        requires app { app < self.old.ports.conns.apps }
+        requires first { waiting app self.old.ports.owed ≡ 0 }
+        ensures ports { self.new ≡ with_ports_at self.old (bind self.old.ports app port need) }
+        ensures apps { self.new.ports.conns.apps ≡ self.old.ports.conns.apps }
+    {
+        match self.sockets.bind(app, port, need) {
+            Ok(()) => self.owe(app, Note::Bound),
+            Err(error) => {
+                let why = why_unbound(error);
+                self.owe(app, Note::Refused { why });
+            }
+        }
+    }
+
+    /// Makes a connection that an application asks for, or refuses it.
+    pub fn connect(
+        &mut self,
+        origin: Origin,
+        app: u8,
+        request: Request,
+        now: u64,
+        trash: &mut Pile,
+        report: &mut Events,
+    )
+        requires there { IsThere self.old.ports.conns app request.slot }
+        requires first { waiting app self.old.ports.owed ≡ 0 }
+        requires countable { IsCountable self.old.ports }
+        requires roomy { IsRoomy 0 self.old trash.old }
+        requires low { 1 ≤ origin.options.window }
+        requires high { origin.options.window ≤ MAX_WINDOW }
+        requires report { length report.old.items < MAX_EVENTS }
+        ensures comes { Comes self.old self.new trash.old trash.new report.old.items report.new.items (connect origin self.old.ports app request now) }
+        ensures apps { self.new.ports.conns.apps ≡ self.old.ports.conns.apps }
+    {
+        let Request {
+            slot,
+            dest,
+            port,
+            prio,
+            flags,
+            from,
+        } = request;
+        match self.conns.open(app, slot, dest, port, from) {
+            Ok(_) if is_reliable(flags) => {
+                self.begin(app, slot, prio, flags, Wish::Connection);
+                self.ask(origin, app, slot, now, trash);
+            }
+            Ok(_) => {
+                self.begin(app, slot, prio, flags, Wish::Nothing);
+                self.owe(app, Note::Connected { slot });
+                report.push(Event::Opened {
+                    app,
+                    slot,
+                    nth: None,
+                    peer: None,
+                });
+            }
+            Err(error) => {
+                let why = why_unopened(error);
+                self.owe(app, Note::Refused { why });
+            }
+        }
+    }
+
+    /// The machine of a slot asks for a reliable connection.
+    fn ask(&mut self, origin: Origin, app: u8, slot: u8, now: u64, trash: &mut Pile)
+        requires there { IsThere self.old.ports.conns app slot }
+        requires countable { IsCountable self.old.ports }
+        requires roomy { IsRoomy 0 self.old trash.old }
+        requires low { 1 ≤ origin.options.window }
+        requires high { origin.options.window ≤ MAX_WINDOW }
+        ensures comes { Comes self.old self.new trash.old trash.new [] [] (replaced app slot (connecting (start_of origin.seed self.old.ports.made) origin.options origin.node self.old.ports.made now) (record self.old.ports { made = self.old.ports.made + 1 })) }
+        ensures apps { self.new.ports.conns.apps ≡ self.old.ports.conns.apps }
+    {
+        keeps_region();
+        keeps_rest();
+        keeps_whole();
+        let nth = self.made;
+        let start = start_of(origin.seed, nth);
+        let machine = Rdp::connect(start, origin.options, origin.node, nth, now);
+        self.made += 1;
+        self.replace(app, slot, machine, trash);
+    }
+
+    /// Ends a slot that an application asks to be closed.
+    pub fn close(&mut self, app: u8, slot: u8, now: u64, trash: &mut Pile)
+        requires there { IsThere self.old.ports.conns app slot }
+        requires first { waiting app self.old.ports.owed ≡ 0 }
+        requires roomy { IsRoomy 0 self.old trash.old }
+        ensures comes { Comes self.old self.new trash.old trash.new [] [] (close self.old.ports app slot now) }
+        ensures apps { self.new.ports.conns.apps ≡ self.old.ports.conns.apps }
+    {
+        if self.terms(app, slot).wish.is_closing() {
+            return;
+        }
+        self.hold_free(app, slot);
+        let state = self.close_machine(app, slot, now, trash);
+        self.end_in(state, app, slot);
+    }
+
+    /// A slot that is free is held by its close.
+    fn hold_free(&mut self, app: u8, slot: u8)
+        requires there { IsThere self.old.ports.conns app slot }
+        ensures { self.new ≡ with_ports_at self.old (held_by (is_free (slot_at self.old.ports.conns app slot)) self.old.ports app slot) }
+    {
+        if self.conns.slot(app, slot).is_free() {
+            self.conns.hold(app, slot);
+        }
+    }
+
+    /// The machine of a slot closes. Its state then.
+    fn close_machine(&mut self, app: u8, slot: u8, now: u64, trash: &mut Pile) -> State
+        requires there { IsThere self.old.ports.conns app slot }
+        requires roomy { IsRoomy 0 self.old trash.old }
+        ensures comes { Comes self.old self.new trash.old trash.new [] [] (stepped app slot (closing now (machine_at self.old.ports app slot)) self.old.ports) }
+        ensures state { result ≡ (closing now (machine_at self.old.ports app slot)).state }
+    {
+        close(&mut self.machines[place(app, slot)], now, trash)
+    }
+
+    /// The answer to a close is owed at once, or still to come, by the state of the slot's machine after it.
+    fn end_in(&mut self, state: State, app: u8, slot: u8)
+        requires there { IsThere self.old.ports.conns app slot }
+        requires first { waiting app self.old.ports.owed ≡ 0 }
+        ensures { self.new ≡ with_ports_at self.old (ending_in state app slot self.old.ports) }
+    {
+        let mut terms = self.terms(app, slot);
+        match state {
+            State::Closed => {
+                terms.wish = Wish::Ended;
+                self.set_terms(app, slot, terms);
+                self.owe(app, Note::Closed { slot });
+            }
+            State::SynSent | State::SynRcvd | State::Open | State::CloseWait => {
+                terms.wish = Wish::End;
+                self.set_terms(app, slot, terms);
+            }
+        }
+    }
+
+    /// The answer that was owed first is pushed.
+    pub fn answer(&mut self, trash: &mut Pile)
+        requires countable { IsCountable self.old.ports }
+        requires roomy { IsRoomy 0 self.old trash.old }
+        ensures comes { Comes self.old self.new trash.old trash.new [] [] (answered self.old.ports) }
+        ensures apps { self.new.ports.conns.apps ≡ self.old.ports.conns.apps }
+    {
+        if let Some(Owed { app, note }) = self.owed.pop_front() {
+            self.end_by(app, note, trash);
+        }
+    }
+
+    /// What an answer does when it is pushed.
+    fn end_by(&mut self, app: u8, note: Note, trash: &mut Pile)
+        requires app { app < self.old.ports.conns.apps }
+        requires reply { IsReply note }
+        requires countable { IsCountable self.old.ports }
+        requires roomy { IsRoomy 0 self.old trash.old }
+        ensures comes { Comes self.old self.new trash.old trash.new [] [] (ended_by note app self.old.ports) }
+        ensures apps { self.new.ports.conns.apps ≡ self.old.ports.conns.apps }
+    {
+        match note {
+            Note::Closed { slot } => {
+                let terms = self.terms(app, slot);
+                self.vacate(app, slot, terms.ordinal + 1, trash);
+            }
+            Note::Bound | Note::Connected { .. } | Note::Refused { .. } | Note::Down { .. } => {}
+            Note::Bind { .. } | Note::Connect { .. } | Note::Close { .. } => {}
+        }
+    }
+}
+
+/// The machine of a slot that an application closes. Its state then.
+fn close(machine: &mut Rdp, now: u64, trash: &mut Pile) -> State
+    requires housed { IsHoused trash.old.region machine.old }
+    requires room { length trash.old.contents + length (rdp_numbers machine.old) ≤ trash.old.room }
+    ensures machine { placed nowhere machine.new ≡ rested (closing now (placed nowhere machine.old)) }
+    ensures housed { IsHoused trash.old.region machine.new }
+    ensures trash { trash.new ≡ with_contents trash.old (trash.old.contents ++ pictures (unneeded (closing now (placed nowhere machine.old)))) }
+    ensures size { length trash.new.contents + length (rdp_numbers machine.new) ≡ length trash.old.contents + length (rdp_numbers machine.old) }
+    ensures state { result ≡ (closing now (placed nowhere machine.old)).state }
+{
+    sees_no_region();
+    keeps_region();
+    keeps_whole();
+    conserves();
+    let _change = machine.close(now);
+    let_go(machine, trash);
+    machine.state()
+}

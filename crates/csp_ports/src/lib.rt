@@ -1,0 +1,26 @@
+//! The ports of a node: the connections on its applications' slots, plain ones and reliable ones, the ports
+//! that applications bound, and the answers that applications are owed.
+#![tactic(auto)]
+
+mod asking;
+mod handing;
+mod held;
+mod origin;
+mod owed;
+mod places;
+mod ports;
+mod request;
+mod stalled;
+mod steps;
+mod task;
+mod tasks;
+mod terms;
+
+pub use handing::Invitation;
+pub use held::MAX_HELD;
+pub use origin::Origin;
+pub use owed::Owed;
+pub use ports::Ports;
+pub use request::Request;
+pub use task::Task;
+pub use terms::{Terms, Wish};

@@ -1,0 +1,194 @@
+//! What a node keeps of its ports.
+
+ghost use Rattle.std.specs.Prelude.{◌≡◌, ◌+◌, ◌*◌, ◌<◌, ◌≤◌, ℕ, None, Some, IfOk, IfSome, [], length, slice_get, replicate, is_some};
+ghost use Rattle.std.specs.List.{All};
+ghost use Rattle.std.specs.Option.{option_map};
+ghost use Rattle.csp_conn.specs.Opening.{found};
+ghost use Rattle.csp_conn.specs.PlainConns.{IsThere, slot_at};
+ghost use Rattle.csp_conn.specs.Slots.{between};
+ghost use Rattle.csp_deck.specs.Carried.{IsReply};
+ghost use Rattle.csp_ports.specs.Kept.{IsOwed, wished, wishes};
+ghost use Rattle.csp_ports.specs.PlainPorts.{owing, ports_of, machine_at, stalled_at, terms_at, waiting, with_ports_at, with_terms};
+ghost use Rattle.csp_deck.specs.Regions.{nowhere};
+ghost use Rattle.csp_rdp.specs.Machine.{idle};
+ghost use Rattle.csp_rdp.specs.Placed.{placed};
+ghost use Rattle.csp_socket.specs.Bound.{owner_of};
+
+use crate::owed::Owed;
+use crate::places::{ALL_SLOTS, place};
+use crate::stalled::Stalled;
+use crate::terms::Terms;
+use csp_arena::RegionToken;
+use csp_base::{Addr, Port};
+use csp_conn::{Conns, MAX_APPS, SLOTS, Slot};
+use csp_deck::Note;
+use csp_rdp::Rdp;
+use csp_socket::Sockets;
+use std::alloc::{AllocError, Global};
+use std::collections::VecDeque;
+use std::marker::Model;
+
+/// The most answers of an application that are owed or still to come: one for each slot, and one more,
+/// since nothing is taken from an application while an answer to it waits.
+pub const ANSWERS: usize = 5;
+
+const _: () = prove!(ANSWERS == SLOTS + 1);
+
+/// The most answers that are owed at a time.
+pub const MAX_OWED: usize = 20;
+
+const _: () = prove!(MAX_OWED == MAX_APPS * ANSWERS);
+
+/// The ports of a node. Contracts see them as `PlainPorts`, and the region that their buffers are of.
+///
+/// They take no memory but at their opening. They are ended when they hold no buffer.
+pub struct Ports {
+    pub(crate) token: RegionToken,
+    pub(crate) apps: u8,
+    pub(crate) conns: Conns,
+    pub(crate) terms: [Terms; ALL_SLOTS],
+    pub(crate) machines: Vec<Rdp>,
+    pub(crate) stalled: [Option<Stalled>; MAX_APPS],
+    pub(crate) sockets: Sockets,
+    pub(crate) owed: VecDeque<Owed>,
+    pub(crate) next: usize,
+    pub(crate) made: u32,
+}
+
+impl Model for Ports {
+    ghost use Rattle.csp_ports.specs.PlainPorts.{PortsAt};
+
+    ghost Value = { PortsAt };
+
+    ghost use Rattle.csp_ports.specs.Kept.{ArePorts, ports_at};
+
+    ghost view = { ports_at };
+
+    ghost invariant = { ArePorts };
+}
+
+impl Ports {
+    /// The ports of so many applications before any of them has asked for something. The buffers that
+    /// they will hold are to be of this region.
+    ///
+    /// # Errors
+    /// Want of memory for the answers and the machines.
+    pub fn open(alloc: Global, apps: u8, region: RegionToken) -> Result<Ports, AllocError>
+        requires { apps ≤ MAX_APPS }
+        ensures { IfOk result (λ p. p ≡ record { region = region.name; ports = ports_of apps }) }
+    {
+        let owed = VecDeque::with_capacity(alloc, MAX_OWED)?;
+        let machines = idle_machines(alloc)?;
+        Ok(Ports {
+            token: region,
+            apps,
+            conns: Conns::new(apps),
+            terms: [Terms::fresh(); ALL_SLOTS],
+            machines,
+            stalled: [None, None, None, None],
+            sockets: Sockets::new(),
+            owed,
+            next: 0,
+            made: 0,
+        })
+    }
+
+    /// What a slot has.
+    pub fn slot(&self, app: u8, slot: u8) -> Slot
+        requires { IsThere self.now.ports.conns app slot }
+        ensures { result ≡ slot_at self.now.ports.conns app slot }
+    {
+        self.conns.slot(app, slot)
+    }
+
+    /// How a slot's packets are sent, and how far the slot has come.
+    pub fn terms(&self, app: u8, slot: u8) -> Terms
+        requires { IsThere self.now.ports.conns app slot }
+        ensures value { result ≡ terms_at self.now.ports app slot }
+
+        // With those still to come an application has no more answers than it may have.
+        ensures due { (a : ℕ) → waiting a self.now.ports.owed + wishes a self.now.ports.terms ≤ ANSWERS }
+    {
+        let terms = &self.terms;
+        terms[place(app, slot)]
+    }
+
+    /// The machine of a slot's reliable connection; an idle one where the slot has none.
+    pub fn machine(&self, app: u8, slot: u8) -> &Rdp
+        requires { IsThere self.now.ports.conns app slot }
+        ensures { placed nowhere result.now ≡ machine_at self.now.ports app slot }
+    {
+        &self.machines[place(app, slot)]
+    }
+
+    /// The application and the slot that have this connection.
+    pub fn find(&self, peer: Addr, peer_port: Port, own_port: Port) -> Option<(u8, u8)>
+        ensures value { result ≡ found self.now.ports.conns (between peer peer_port own_port) }
+        ensures there { IfSome result (λ at. IsThere self.now.ports.conns at.0 at.1) }
+    {
+        self.conns.find(peer, peer_port, own_port)
+    }
+
+    /// The application that bound a port, and the flags that a packet needs there.
+    pub fn owner(&self, port: Port) -> Option<(u8, u8)>
+        ensures value { result ≡ owner_of self.now.ports.bound port }
+        ensures there { IfSome result (λ o. o.0 < self.now.ports.conns.apps) }
+    {
+        self.sockets.owner(port)
+    }
+
+    /// How many answers wait to be pushed to an application.
+    pub fn waiting(&self, app: u8) -> usize
+        ensures { result ≡ waiting app self.now.ports.owed }
+    {
+        self.owed.iter().filter(|owed| owed.app == app).count()
+    }
+
+    /// Whether a packet of an application waits for room.
+    pub fn is_stalled(&self, app: u8) -> bool
+        requires { app < MAX_APPS }
+        ensures { result ≡ is_some (stalled_at self.now.ports app) }
+    {
+        self.stalled[app as usize].is_some()
+    }
+
+    /// The answer that is to be pushed first.
+    pub fn first_owed(&self) -> Option<Owed>
+        ensures value { result ≡ slice_get self.now.ports.owed 0 }
+        ensures owed { IfSome result (λ o. IsOwed self.now.ports.conns.apps o) }
+    {
+        self.owed.front().copied()
+    }
+
+    /// An answer is owed to an application, which has fewer than it may have.
+    pub(crate) fn owe(&mut self, app: u8, note: Note)
+        requires app { app < self.old.ports.conns.apps }
+        requires reply { IsReply note }
+        requires room { waiting app self.old.ports.owed + wishes app self.old.ports.terms < ANSWERS }
+        ensures { self.new ≡ with_ports_at self.old (owing self.old.ports app note) }
+    {
+        self.owed.push_back_reserved(Owed { app, note });
+    }
+
+    /// Other terms for a slot, with no more answers still to come.
+    pub(crate) fn set_terms(&mut self, app: u8, slot: u8, terms: Terms)
+        requires there { IsThere self.old.ports.conns app slot }
+        requires due { (waiting app self.old.ports.owed + wishes app self.old.ports.terms) + wished terms.wish ≤ ANSWERS + wished (terms_at self.old.ports app slot).wish }
+        ensures ports { self.new ≡ with_ports_at self.old (with_terms self.old.ports app slot terms) }
+        ensures wishes { wishes app self.new.ports.terms + wished (terms_at self.old.ports app slot).wish ≡ wishes app self.old.ports.terms + wished terms.wish }
+    {
+        let all = &mut self.terms;
+        all[place(app, slot)] = terms;
+    }
+}
+
+/// A machine that is idle for each slot.
+fn idle_machines(alloc: Global) -> Result<Vec<Rdp>, AllocError>
+    ensures { IfOk result (λ machines. machines.items ≡ replicate ALL_SLOTS idle) }
+{
+    let mut machines = Vec::with_capacity(alloc, ALL_SLOTS)?;
+    for _ in 0..ALL_SLOTS {
+        machines.push_reserved(Rdp::idle());
+    }
+    Ok(machines)
+}

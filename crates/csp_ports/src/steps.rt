@@ -1,0 +1,442 @@
+//! What follows when the machine of a slot's reliable connection has made a step.
+
+ghost use Rattle.std.specs.Prelude.{◌≡◌, not, ◌+◌, ◌-◌, ◌*◌, ◌^◌, ◌<◌, ◌≤◌, ℕ, [], ◌∷◌, ◌++◌, length, None, Some, IfSome};
+ghost use Rattle.std.specs.List.{range_with_len};
+ghost use Rattle.std.specs.Option.{option_map};
+ghost use Rattle.csp_conn.specs.PlainConns.{IsThere};
+ghost use Rattle.csp_deck.specs.Keeping.{with_contents};
+ghost use Rattle.csp_deck.specs.Regions.{nowhere};
+ghost use Rattle.csp_log.specs.declared.event.Discard.TheVariants as why;
+ghost use Rattle.csp_log.specs.declared.event.Event.TheVariants as event;
+ghost use Rattle.csp_log.specs.declared.event.TheConstants.{MAX_EVENTS};
+ghost use Rattle.csp_ports.specs.Came.{Comes, discarding, pictures};
+ghost use Rattle.csp_ports.specs.Held.{held, stalled_buffers};
+ghost use Rattle.csp_ports.specs.Kept.{Admits, AdmitsIn, IsHoused, IsRoomy, IsWaiting, stalled_of, wished, wishes};
+ghost use Rattle.csp_ports.specs.PlainPorts.{anywhere, machine_at, stalled_at, terms_at, with_stalled, with_ports_at};
+ghost use Rattle.csp_ports.specs.Steps.{changed, closed, connected, dropped, dropped_of, given_up, has_room, reason_of, refused, replaced, settled, timed, timed_at, timed_in, vacated};
+ghost use Rattle.csp_ports.specs.Counts.{IsCountable};
+ghost use Rattle.csp_rdp.specs.Balance.{IsWhole};
+ghost use Rattle.csp_rdp.specs.Changes.{change_between};
+ghost use Rattle.csp_rdp.specs.Counts.{IsFar};
+ghost use Rattle.csp_rdp.specs.Holding.{rdp_buffers, rdp_numbers, rested, unneeded};
+ghost use Rattle.csp_rdp.specs.Jobs.{ticked};
+ghost use Rattle.csp_rdp.specs.Placed.{placed};
+ghost use Rattle.csp_rdp.specs.Regions.{AreAllIn};
+ghost use Rattle.csp_rdp_window.specs.Sending.{is_full};
+ghost use Rattle.csp_rdp.specs.declared.answers.Why.TheVariants as machine_why;
+
+use crate::places::place;
+use crate::ports::Ports;
+use crate::stalled::{Stalled, put};
+use crate::terms::Wish;
+use csp_base::MAX_PAYLOAD;
+use csp_buffer::Buffer;
+use csp_conn::{MAX_APPS, SLOTS};
+use csp_deck::{Discard, Event, Events, Note, Pile, Why};
+use csp_rdp::{
+    Change, Rdp, State, Why as MachineWhy, conserves, keeps_region, keeps_rest, keeps_whole,
+    numbers, sees_no_region,
+};
+
+/// Why a connection that was asked for is refused, as an answer says it.
+fn reason_of(why: MachineWhy) -> Why
+    ensures { result ≡ reason_of why }
+{
+    match why {
+        MachineWhy::Timeout => Why::Timeout,
+        MachineWhy::Reset => Why::Reset,
+    }
+}
+
+/// What a machine does not need any more joins the trash.
+pub(crate) fn let_go(machine: &mut Rdp, trash: &mut Pile)
+    requires of_it { AreAllIn trash.old.region machine.old }
+    requires whole { IsWhole machine.old }
+    requires room { length trash.old.contents + length (unneeded machine.old) ≤ trash.old.room }
+    ensures machine { machine.new ≡ rested machine.old }
+    ensures housed { IsHoused trash.old.region machine.new }
+    ensures trash { trash.new ≡ with_contents trash.old (trash.old.contents ++ pictures (unneeded machine.old)) }
+{
+    keeps_region();
+    keeps_rest();
+    keeps_whole();
+    while let Some(buffer) = machine.drain() {
+        trash.add(buffer);
+    }
+    // What holds of a machine's buffers is a clause of this reading.
+    let _state = machine.state();
+}
+
+/// The timer of a machine is tried.
+fn tick(machine: &mut Rdp, now: u64, trash: &mut Pile) -> Change
+    requires housed { IsHoused trash.old.region machine.old }
+    requires room { length trash.old.contents + length (rdp_numbers machine.old) ≤ trash.old.room }
+    ensures machine { placed nowhere machine.new ≡ rested (ticked now (placed nowhere machine.old)) }
+    ensures housed { IsHoused trash.old.region machine.new }
+    ensures trash { trash.new ≡ with_contents trash.old (trash.old.contents ++ pictures (unneeded (ticked now (placed nowhere machine.old)))) }
+    ensures size { length trash.new.contents + length (rdp_numbers machine.new) ≡ length trash.old.contents + length (rdp_numbers machine.old) }
+    ensures change { result ≡ change_between machine.old.state (ticked now (placed nowhere machine.old)).state machine_why.Timeout }
+{
+    sees_no_region();
+    keeps_region();
+    keeps_whole();
+    conserves();
+    let change = machine.tick(now);
+    let_go(machine, trash);
+    change
+}
+
+/// A packet is admitted where there is room for it, or handed back.
+pub(crate) fn admit(machine: &mut Rdp, buffer: Buffer, now: u64) -> Result<(), Buffer>
+    requires housed { IsHoused buffer.region machine.old }
+    requires short { length buffer.picture.payload ≤ MAX_PAYLOAD - 9 }
+    requires countable { IsFar (2 ^ 32 - 2) machine.old }
+    ensures admits { Admits (has_room (placed nowhere machine.old)) result (placed nowhere machine.old) (placed nowhere machine.new) buffer now }
+    ensures housed { IsHoused buffer.region machine.new }
+{
+    match machine.state() {
+        State::Open => admit_open(machine, buffer, now),
+        State::SynSent | State::SynRcvd | State::CloseWait | State::Closed => Err(buffer),
+    }
+}
+
+/// What a machine still holds joins the trash, and the machine is spent.
+fn spend(machine: Rdp, trash: &mut Pile)
+    requires of_it { AreAllIn trash.old.region machine }
+    requires room { length trash.old.contents + length (rdp_numbers machine) ≤ trash.old.room }
+    ensures { trash.new ≡ with_contents trash.old (trash.old.contents ++ pictures (rdp_buffers (placed nowhere machine))) }
+{
+    sees_no_region();
+    keeps_region();
+    numbers();
+    let mut machine = machine;
+    while let Some(buffer) = machine.take_out() {
+        trash.add(buffer);
+    }
+    machine.end();
+}
+
+/// A packet is admitted to the window of an open connection, or handed back where that is full.
+fn admit_open(machine: &mut Rdp, buffer: Buffer, now: u64) -> Result<(), Buffer>
+    requires housed { IsHoused buffer.region machine.old }
+    requires open { machine.old.state ≡ State.Open }
+    requires short { length buffer.picture.payload ≤ MAX_PAYLOAD - 9 }
+    requires countable { IsFar (2 ^ 32 - 2) machine.old }
+    ensures admits { Admits (not (is_full machine.old.send)) result (placed nowhere machine.old) (placed nowhere machine.new) buffer now }
+    ensures housed { IsHoused buffer.region machine.new }
+{
+    sees_no_region();
+    keeps_region();
+    keeps_rest();
+    keeps_whole();
+    let answer = machine.admit(buffer, now);
+    // What holds of a machine's buffers is a clause of this reading.
+    let _state = machine.state();
+    answer
+}
+
+impl Ports {
+    /// Tries the timers of all reliable connections, in the order of application, then slot. A packet that
+    /// waits for a connection which is not open any more is discarded.
+    pub fn tick(&mut self, now: u64, trash: &mut Pile, report: &mut Events)
+        requires roomy { IsRoomy 0 self.old trash.old }
+        requires report { report.old.items ≡ [] }
+        ensures comes { Comes self.old self.new trash.old trash.new report.old.items report.new.items (timed now self.old.ports) }
+        ensures few { length report.new.items ≤ MAX_APPS }
+        ensures apps { self.new.ports.conns.apps ≡ self.old.ports.conns.apps }
+    {
+        self.tick_all(now, trash, report);
+        self.drop_all(trash, report);
+    }
+
+    fn tick_all(&mut self, now: u64, trash: &mut Pile, report: &mut Events)
+        requires roomy { IsRoomy 0 self.old trash.old }
+        requires report { report.old.items ≡ [] }
+        ensures comes { Comes self.old self.new trash.old trash.new report.old.items report.new.items (timed_in now (range_with_len 0 (self.old.ports.conns.apps * SLOTS)) self.old.ports) }
+        ensures roomy { IsRoomy 0 self.new trash.new }
+        ensures report { report.new.items ≡ [] }
+        ensures apps { self.new.ports.conns.apps ≡ self.old.ports.conns.apps }
+    {
+        for at in 0..self.slot_count() {
+            let (app, slot) = self.slot_at(at);
+            self.tick_at(app, slot, now, trash, report);
+        }
+    }
+
+    fn drop_all(&mut self, trash: &mut Pile, report: &mut Events)
+        requires roomy { IsRoomy 0 self.old trash.old }
+        requires report { report.old.items ≡ [] }
+        ensures comes { Comes self.old self.new trash.old trash.new report.old.items report.new.items (dropped_of (range_with_len 0 self.old.ports.conns.apps) self.old.ports) }
+        ensures few { length report.new.items ≤ MAX_APPS }
+        ensures apps { self.new.ports.conns.apps ≡ self.old.ports.conns.apps }
+    {
+        for app in 0..self.apps {
+            self.drop_stalled(app, trash, report);
+        }
+    }
+
+    /// Tries the timer of a slot.
+    fn tick_at(&mut self, app: u8, slot: u8, now: u64, trash: &mut Pile, report: &mut Events)
+        requires there { IsThere self.old.ports.conns app slot }
+        requires roomy { IsRoomy 0 self.old trash.old }
+        requires report { length report.old.items < MAX_EVENTS }
+        ensures comes { Comes self.old self.new trash.old trash.new report.old.items report.new.items (timed_at now app slot self.old.ports) }
+        ensures quiet { report.new.items ≡ report.old.items }
+        ensures roomy { IsRoomy 0 self.new trash.new }
+        ensures apps { self.new.ports.conns.apps ≡ self.old.ports.conns.apps }
+    {
+        let change = tick(&mut self.machines[place(app, slot)], now, trash);
+        self.change(change, app, slot, trash, report);
+    }
+
+    /// What a change of a slot's connection comes to, which the application did not ask for.
+    pub(crate) fn change(
+        &mut self,
+        change: Change,
+        app: u8,
+        slot: u8,
+        trash: &mut Pile,
+        report: &mut Events,
+    )
+        requires there { IsThere self.old.ports.conns app slot }
+        requires roomy { IsRoomy 0 self.old trash.old }
+        requires report { length report.old.items < MAX_EVENTS }
+        ensures comes { Comes self.old self.new trash.old trash.new report.old.items report.new.items (changed change app slot self.old.ports) }
+        ensures roomy { IsRoomy 0 self.new trash.new }
+        ensures few { length report.new.items ≤ length report.old.items + 1 }
+        ensures apps { self.new.ports.conns.apps ≡ self.old.ports.conns.apps }
+    {
+        match change {
+            Change::None => {}
+            Change::Opened => {
+                self.report_opening(app, slot, report);
+                self.answer_connect(app, slot);
+            }
+            Change::Refused(why) => self.refuse(app, slot, why, trash),
+            Change::Down => {
+                let mut terms = self.terms(app, slot);
+                terms.is_down = true;
+                self.set_terms(app, slot, terms);
+            }
+            Change::Closed => self.answer_close(app, slot, trash),
+        }
+    }
+
+    /// That a slot's reliable connection is open is reported.
+    fn report_opening(&self, app: u8, slot: u8, report: &mut Events)
+        requires there { IsThere self.now.ports.conns app slot }
+        requires report { length report.old.items < MAX_EVENTS }
+        ensures { report.new.items ≡ report.old.items ++ (event.Opened app slot (Some (machine_at self.now.ports app slot).nth) (machine_at self.now.ports app slot).peer) ∷ [] }
+    {
+        let machine = self.machine(app, slot);
+        report.push(Event::Opened {
+            app,
+            slot,
+            nth: Some(machine.nth()),
+            peer: machine.peer(),
+        });
+    }
+
+    /// The application that waited for its connection is told that it is open.
+    fn answer_connect(&mut self, app: u8, slot: u8)
+        requires there { IsThere self.old.ports.conns app slot }
+        ensures ports { self.new ≡ with_ports_at self.old (connected app slot self.old.ports) }
+    {
+        let mut terms = self.terms(app, slot);
+        if terms.wish == Wish::Connection {
+            terms.wish = Wish::Nothing;
+            self.set_terms(app, slot, terms);
+            self.owe(app, Note::Connected { slot });
+        }
+    }
+
+    /// A connection that was asked for is refused: its slot is free, and the application that waited is told
+    /// so.
+    fn refuse(&mut self, app: u8, slot: u8, why: MachineWhy, trash: &mut Pile)
+        requires there { IsThere self.old.ports.conns app slot }
+        requires roomy { IsRoomy 0 self.old trash.old }
+        ensures comes { Comes self.old self.new trash.old trash.new [] [] (refused why app slot self.old.ports) }
+        ensures roomy { IsRoomy 0 self.new trash.new }
+        ensures apps { self.new.ports.conns.apps ≡ self.old.ports.conns.apps }
+    {
+        let waits = self.terms(app, slot).wish == Wish::Connection;
+        self.give_up(app, slot, trash);
+        if waits {
+            self.owe(
+                app,
+                Note::Refused {
+                    why: reason_of(why),
+                },
+            );
+        }
+    }
+
+    /// A connection is closed: the application that asked for that is told so, and the slot of one that
+    /// never was open is free.
+    fn answer_close(&mut self, app: u8, slot: u8, trash: &mut Pile)
+        requires there { IsThere self.old.ports.conns app slot }
+        requires roomy { IsRoomy 0 self.old trash.old }
+        ensures comes { Comes self.old self.new trash.old trash.new [] [] (closed app slot self.old.ports) }
+        ensures roomy { IsRoomy 0 self.new trash.new }
+        ensures apps { self.new.ports.conns.apps ≡ self.old.ports.conns.apps }
+    {
+        let mut terms = self.terms(app, slot);
+        match terms.wish {
+            Wish::End => {
+                terms.wish = Wish::Ended;
+                self.set_terms(app, slot, terms);
+                self.owe(app, Note::Closed { slot });
+            }
+            Wish::Nothing => {
+                if !self.machine(app, slot).was_open() {
+                    self.give_up(app, slot, trash);
+                }
+            }
+            Wish::Connection | Wish::Ended => {}
+        }
+    }
+
+    /// A slot is free without an answer to a close.
+    fn give_up(&mut self, app: u8, slot: u8, trash: &mut Pile)
+        requires there { IsThere self.old.ports.conns app slot }
+        requires roomy { IsRoomy 0 self.old trash.old }
+        ensures comes { Comes self.old self.new trash.old trash.new [] [] (given_up app slot self.old.ports) }
+        ensures wishes { wishes app self.new.ports.terms + wished (terms_at self.old.ports app slot).wish ≡ wishes app self.old.ports.terms }
+        ensures roomy { IsRoomy 0 self.new trash.new }
+        ensures apps { self.new.ports.conns.apps ≡ self.old.ports.conns.apps }
+    {
+        let terms = self.terms(app, slot);
+        self.vacate(app, slot, terms.ordinal, trash);
+    }
+
+    /// A slot is free, and its next connection is of this ordinal.
+    pub(crate) fn vacate(&mut self, app: u8, slot: u8, ordinal: u32, trash: &mut Pile)
+        requires there { IsThere self.old.ports.conns app slot }
+        requires roomy { IsRoomy 0 self.old trash.old }
+        ensures comes { Comes self.old self.new trash.old trash.new [] [] (vacated ordinal app slot self.old.ports) }
+        ensures wishes { wishes app self.new.ports.terms + wished (terms_at self.old.ports app slot).wish ≡ wishes app self.old.ports.terms }
+        ensures roomy { IsRoomy 0 self.new trash.new }
+        ensures apps { self.new.ports.conns.apps ≡ self.old.ports.conns.apps }
+    {
+        let mut terms = self.terms(app, slot);
+        self.conns.free(app, slot);
+        terms.wish = Wish::Nothing;
+        terms.is_down = false;
+        terms.ordinal = ordinal;
+        self.set_terms(app, slot, terms);
+        self.replace(app, slot, Rdp::idle(), trash);
+    }
+
+    /// Another machine takes the place of a slot's; what that one still held joins the trash.
+    pub(crate) fn replace(&mut self, app: u8, slot: u8, machine: Rdp, trash: &mut Pile)
+        requires there { IsThere self.old.ports.conns app slot }
+        requires housed { IsHoused self.old.region machine }
+        requires empty { rdp_numbers machine ≡ [] }
+        requires roomy { IsRoomy 0 self.old trash.old }
+        ensures comes { Comes self.old self.new trash.old trash.new [] [] (replaced app slot (placed nowhere machine) self.old.ports) }
+        ensures roomy { IsRoomy 0 self.new trash.new }
+        ensures apps { self.new.ports.conns.apps ≡ self.old.ports.conns.apps }
+    {
+        let old = std::mem::replace(&mut self.machines[place(app, slot)], machine);
+        spend(old, trash);
+    }
+
+    /// The packet of an application that waits for room is discarded where its connection is not open.
+    pub(crate) fn drop_stalled(&mut self, app: u8, trash: &mut Pile, report: &mut Events)
+        requires app { app < self.old.ports.conns.apps }
+        requires roomy { IsRoomy 0 self.old trash.old }
+        requires report { length report.old.items < MAX_EVENTS }
+        ensures comes { Comes self.old self.new trash.old trash.new report.old.items report.new.items (dropped app self.old.ports) }
+        ensures roomy { IsRoomy 0 self.new trash.new }
+        ensures report { length report.new.items ≤ length report.old.items + 1 }
+        ensures apps { self.new.ports.conns.apps ≡ self.old.ports.conns.apps }
+    {
+        match self.stalled_slot(app) {
+            Some(slot) if self.machine(app, slot).state() != State::Open => {
+                self.discard_stalled(app, trash, report);
+            }
+            _ => {}
+        }
+    }
+
+    /// The slot for whose window the packet of an application waits.
+    fn stalled_slot(&self, app: u8) -> Option<u8>
+        requires app { app < self.now.ports.conns.apps }
+        ensures slot { result ≡ option_map (λ s. s.slot) (stalled_at self.now.ports app) }
+        ensures there { IfSome result (λ slot. IsThere self.now.ports.conns app slot) }
+    {
+        match &self.stalled[app as usize] {
+            Some(stalled) => Some(stalled.slot),
+            None => None,
+        }
+    }
+
+    /// The packet of an application that waits for room is discarded.
+    fn discard_stalled(&mut self, app: u8, trash: &mut Pile, report: &mut Events)
+        requires app { app < self.old.ports.conns.apps }
+        requires roomy { IsRoomy 0 self.old trash.old }
+        requires report { length report.old.items < MAX_EVENTS }
+        ensures comes { IfSome (stalled_at self.old.ports app) (λ s. Comes self.old self.new trash.old trash.new report.old.items report.new.items (discarding why.NoConn s.buffer.picture (with_stalled self.old.ports app None))) }
+        ensures roomy { IsRoomy 0 self.new trash.new }
+        ensures few { length report.new.items ≤ length report.old.items + 1 }
+        ensures apps { self.new.ports.conns.apps ≡ self.old.ports.conns.apps }
+    {
+        if let Some(stalled) = self.take_stalled(app) {
+            report.push(Event::Discarded(Discard::NoConn));
+            trash.add(stalled.into_buffer());
+        }
+    }
+
+    /// Takes out the packet of an application that waits for room.
+    fn take_stalled(&mut self, app: u8) -> Option<Stalled>
+        requires app { app < self.old.ports.conns.apps }
+        ensures stalled { option_map stalled_of result ≡ stalled_at self.old.ports app }
+        ensures ports { self.new ≡ with_ports_at self.old (with_stalled self.old.ports app None) }
+        ensures waits { IfSome result (IsWaiting self.old.region) }
+        ensures size { length (held self.new.ports) + length (stalled_buffers (stalled_at self.old.ports app)) ≡ length (held self.old.ports) }
+    {
+        self.stalled[app as usize].take()
+    }
+
+    /// The packet of an application that waits for room is admitted where there is some.
+    pub(crate) fn settle(&mut self, app: u8, now: u64)
+        requires app { app < self.old.ports.conns.apps }
+        requires countable { IsCountable self.old.ports }
+        ensures ports { self.new ≡ with_ports_at self.old (settled now app self.old.ports) }
+    {
+        if let Some(stalled) = self.take_stalled(app) {
+            let Stalled { slot, buffer } = stalled;
+            if let Err(buffer) = self.admit(app, slot, buffer, now) {
+                self.stall(app, slot, buffer);
+            }
+        }
+    }
+
+    /// A packet is admitted to the window of a slot's connection where there is room, or handed back.
+    pub(crate) fn admit(
+        &mut self,
+        app: u8,
+        slot: u8,
+        buffer: Buffer,
+        now: u64,
+    ) -> Result<(), Buffer>
+        requires there { IsThere self.old.ports.conns app slot }
+        requires of_it { buffer.region ≡ self.old.region }
+        requires short { length buffer.picture.payload ≤ MAX_PAYLOAD - 9 }
+        requires countable { IsFar (2 ^ 32 - 2) (machine_at self.old.ports app slot) }
+        ensures { AdmitsIn (has_room (machine_at self.old.ports app slot)) result self.old self.new app slot buffer now }
+    {
+        admit(&mut self.machines[place(app, slot)], buffer, now)
+    }
+
+    /// A packet of an application waits for room in a slot's window, where none waits.
+    pub(crate) fn stall(&mut self, app: u8, slot: u8, buffer: Buffer)
+        requires there { IsThere self.old.ports.conns app slot }
+        requires of_it { buffer.region ≡ self.old.region }
+        requires short { length buffer.picture.payload ≤ MAX_PAYLOAD - 9 }
+        requires none { stalled_at self.old.ports app ≡ None }
+        ensures { self.new ≡ with_ports_at self.old (with_stalled self.old.ports app (Some (record { slot = slot; buffer = anywhere buffer.picture }))) }
+    {
+        put(&mut self.stalled[app as usize], Stalled { slot, buffer });
+    }
+}

@@ -1,0 +1,212 @@
+//! What the reliable connections of a node owe, and what comes of it.
+
+ghost use Rattle.std.specs.Prelude.{◌≡◌, ◌≢◌, ◌+◌, ◌-◌, ◌*◌, ◌/◌, ◌%◌, ◌^◌, ◌<◌, ◌≤◌, ◌++◌, ℕ, false, [], length, None, Some, IfSome};
+ghost use Rattle.std.specs.Option.{option_map};
+ghost use Rattle.csp_buffer.specs.PlainBuffer.{with_picture};
+ghost use Rattle.csp_conn.specs.PlainConns.{IsThere};
+ghost use Rattle.csp_deck.specs.Keeping.{with_contents};
+ghost use Rattle.csp_deck.specs.Regions.{nowhere};
+ghost use Rattle.csp_rdp.specs.Placed.{placed, placed_buffer};
+ghost use Rattle.csp_ports.specs.Came.{Comes, pictures};
+ghost use Rattle.csp_ports.specs.Counts.{IsCountable};
+ghost use Rattle.csp_ports.specs.Kept.{IsHoused, IsRoomy};
+ghost use Rattle.csp_ports.specs.PlainPorts.{machine_at, with_ports_at};
+ghost use Rattle.csp_ports.specs.Tasks.{delivered, has_task, kept_again, made_in, making, next_task, place_with_task, task_at, task_of, told_down, turned, without_packet};
+ghost use Rattle.csp_rdp.specs.Counts.{IsFar};
+ghost use Rattle.csp_rdp.specs.Changes.{change_between};
+ghost use Rattle.csp_rdp.specs.Holding.{rdp_numbers, rested, unneeded};
+ghost use Rattle.csp_rdp.specs.Jobs.{delivering, delivery, job_of};
+ghost use Rattle.csp_rdp.specs.declared.answers.Why.TheVariants as machine_why;
+ghost use Rattle.csp_rdp_window.specs.Receiving.{is_kept};
+
+use crate::places::{ALL_SLOTS, place};
+use crate::ports::Ports;
+use crate::steps::let_go;
+use crate::task::{Task, task_by};
+use csp_base::MAX_PAYLOAD;
+use csp_buffer::Buffer;
+use csp_conn::SLOTS;
+use csp_deck::{Events, Pile};
+use csp_rdp::{
+    Change, Job, Rdp, State, conserves, keeps_region, keeps_rest, keeps_whole, sees_no_region,
+};
+
+impl Ports {
+    /// How many slots the node's applications have.
+    pub(crate) fn slot_count(&self) -> usize
+        ensures value { result ≡ self.now.ports.conns.apps * SLOTS }
+        ensures few { result ≤ ALL_SLOTS }
+    {
+        usize::from(self.apps) * SLOTS
+    }
+
+    /// The first task of a slot.
+    pub fn task(&self, app: u8, slot: u8, now: u64) -> Option<Task>
+        requires there { IsThere self.now.ports.conns app slot }
+        ensures { result ≡ task_at now self.now.ports app slot }
+    {
+        sees_no_region();
+        task_by(
+            self.terms(app, slot).is_down,
+            self.machine(app, slot).job(now),
+        )
+    }
+
+    /// That of the slot at a place.
+    fn task_of(&self, at: usize, now: u64) -> Option<Task>
+        requires inside { at < self.now.ports.conns.apps * SLOTS }
+        ensures { result ≡ task_of now self.now.ports at }
+    {
+        let (app, slot) = self.slot_at(at);
+        self.task(app, slot, now)
+    }
+
+    /// The slot at a place.
+    pub(crate) fn slot_at(&self, at: usize) -> (u8, u8)
+        requires inside { at < self.now.ports.conns.apps * SLOTS }
+        ensures value { result ≡ (at / SLOTS, at % SLOTS) }
+        ensures there { IsThere self.now.ports.conns result.0 result.1 }
+    {
+        // That no place is past the last is a clause of this reading.
+        let _count = self.slot_count();
+        ((at / SLOTS) as u8, (at % SLOTS) as u8)
+    }
+
+    /// The first slot with a task, in their circle, and the task.
+    pub fn next_task(&self, now: u64) -> Option<(u8, u8, Task)>
+        ensures value { result ≡ next_task now self.now.ports }
+        ensures there { IfSome result (λ t. IsThere self.now.ports.conns t.0 t.1) }
+    {
+        let at = self.find_place(now)?;
+        let task = self.task_of(at, now)?;
+        let (app, slot) = self.slot_at(at);
+        Some((app, slot, task))
+    }
+
+    /// The place of the first slot with a task, in their circle.
+    fn find_place(&self, now: u64) -> Option<usize>
+        ensures place { result ≡ place_with_task now self.now.ports }
+        ensures inside { IfSome result (λ at. at < self.now.ports.conns.apps * SLOTS) }
+    {
+        let count = self.slot_count();
+        (self.next..count)
+            .chain(0..self.next)
+            .find(|at| self.has_task(*at, now))
+    }
+
+    /// Whether the slot at a place has a task. Past the last there is none.
+    fn has_task(&self, at: usize, now: u64) -> bool
+        ensures { result ≡ has_task now self.now.ports at }
+    {
+        at < self.slot_count() && self.task_of(at, now).is_some()
+    }
+
+    /// A slot comes to its task: the next look begins past it.
+    pub fn turn(&mut self, app: u8, slot: u8)
+        requires there { IsThere self.old.ports.conns app slot }
+        ensures { self.new ≡ with_ports_at self.old (turned app slot self.old.ports) }
+    {
+        let next = usize::from(app) * SLOTS + usize::from(slot) + 1;
+        self.next = if next == self.slot_count() { 0 } else { next };
+    }
+
+    /// The Down note of a slot is pushed.
+    pub fn tell_down(&mut self, app: u8, slot: u8)
+        requires there { IsThere self.old.ports.conns app slot }
+        ensures { self.new ≡ with_ports_at self.old (told_down app slot self.old.ports) }
+    {
+        let mut terms = self.terms(app, slot);
+        terms.is_down = false;
+        self.set_terms(app, slot, terms);
+    }
+
+    /// Takes out the packet that a slot's connection is to deliver.
+    pub fn take_packet(&mut self, app: u8, slot: u8) -> Option<Buffer>
+        requires there { IsThere self.old.ports.conns app slot }
+        ensures packet { option_map (placed_buffer nowhere) result ≡ delivery (machine_at self.old.ports app slot) }
+        ensures ports { self.new ≡ with_ports_at self.old (without_packet app slot self.old.ports) }
+        ensures of_it { IfSome result (λ b. b.region ≡ self.old.region) }
+    {
+        sees_no_region();
+        keeps_region();
+        keeps_whole();
+        keeps_rest();
+        conserves();
+        self.machines[place(app, slot)].deliver()
+    }
+
+    /// The packet that was taken out is delivered.
+    pub fn deliver(&mut self, app: u8, slot: u8, now: u64, trash: &mut Pile, report: &mut Events)
+        requires there { IsThere self.old.ports.conns app slot }
+        requires open { (machine_at self.old.ports app slot).state ≡ State.Open }
+        requires taken { is_kept (machine_at self.old.ports app slot).recv ((machine_at self.old.ports app slot).recv.cur + 1) ≡ false }
+        requires countable { IsCountable self.old.ports }
+        requires roomy { IsRoomy 0 self.old trash.old }
+        requires report { report.old.items ≡ [] }
+        ensures comes { Comes self.old self.new trash.old trash.new report.old.items report.new.items (delivered now app slot self.old.ports) }
+        ensures apps { self.new.ports.conns.apps ≡ self.old.ports.conns.apps }
+    {
+        sees_no_region();
+        let change = deliver(&mut self.machines[place(app, slot)], now, trash);
+        self.change(change, app, slot, trash, report);
+        self.drop_stalled(app, trash, report);
+    }
+
+    /// The packet that was taken out could not be delivered: it is kept again.
+    pub fn keep_packet(&mut self, app: u8, slot: u8, packet: Buffer)
+        requires there { IsThere self.old.ports.conns app slot }
+        requires of_it { packet.region ≡ self.old.region }
+        requires open { (machine_at self.old.ports app slot).state ≡ State.Open }
+        requires taken { is_kept (machine_at self.old.ports app slot).recv ((machine_at self.old.ports app slot).recv.cur + 1) ≡ false }
+        ensures { self.new ≡ with_ports_at self.old (kept_again app slot packet.picture self.old.ports) }
+    {
+        sees_no_region();
+        keeps_region();
+        keeps_whole();
+        keeps_rest();
+        let machine = &mut self.machines[place(app, slot)];
+        machine.put_back(packet);
+        // That it holds no more than its windows have places is a clause of this reading.
+        let _state = machine.state();
+    }
+
+    /// Fills a cleared buffer with the packet that a slot's connection owes first.
+    pub fn make(&mut self, app: u8, slot: u8, job: Job, packet: &mut Buffer, now: u64)
+        requires there { IsThere self.old.ports.conns app slot }
+        requires of_it { packet.old.region ≡ self.old.region }
+        requires owed { job_of now (machine_at self.old.ports app slot) ≡ Some job }
+        requires sent { job ≢ Job.Deliver }
+        requires cleared { packet.old.picture.payload ≡ [] }
+        ensures packet { packet.new ≡ with_picture packet.old (made_in job now app slot packet.old.picture self.old.ports) }
+        ensures ports { self.new ≡ with_ports_at self.old (making job now app slot self.old.ports) }
+        ensures short { length packet.new.picture.payload ≤ MAX_PAYLOAD - 4 }
+    {
+        sees_no_region();
+        keeps_region();
+        keeps_whole();
+        keeps_rest();
+        self.machines[place(app, slot)].fill(job, packet, now);
+    }
+}
+
+/// A packet of a machine is delivered. What the machine does not need any more joins the trash.
+fn deliver(machine: &mut Rdp, now: u64, trash: &mut Pile) -> Change
+    requires housed { IsHoused trash.old.region machine.old }
+    requires open { machine.old.state ≡ State.Open }
+    requires taken { is_kept machine.old.recv (machine.old.recv.cur + 1) ≡ false }
+    requires countable { IsFar (2 ^ 32 - 2) machine.old }
+    requires room { length trash.old.contents + length (rdp_numbers machine.old) ≤ trash.old.room }
+    ensures machine { placed nowhere machine.new ≡ rested (delivering now (placed nowhere machine.old)) }
+    ensures housed { IsHoused trash.old.region machine.new }
+    ensures trash { trash.new ≡ with_contents trash.old (trash.old.contents ++ pictures (unneeded (delivering now (placed nowhere machine.old)))) }
+    ensures size { length trash.new.contents + length (rdp_numbers machine.new) ≡ length trash.old.contents + length (rdp_numbers machine.old) }
+    ensures change { result ≡ change_between machine.old.state (delivering now (placed nowhere machine.old)).state machine_why.Reset }
+{
+    sees_no_region();
+    keeps_region();
+    keeps_whole();
+    conserves();
+    let change = machine.delivered(now);
+    let_go(machine, trash);
+    change
+}
