@@ -19,7 +19,7 @@ use Rattle.csp_rdp.specs.declared.answers.State.TheVariants.{Closed, SynSent, Sy
 use Rattle.csp_rdp.specs.declared.answers.Why.{Why}
 
 -- what holds of all, and of what stands for one that is not there, holds at each place
-all_or : {A : Type 0} → (P : A → Type 0) (xs : List A) (k : ℕ) (d : A) → All P xs → P d → P (get_or xs k d)
+pub all_or : {A : Type 0} → (P : A → Type 0) (xs : List A) (k : ℕ) (d : A) → All P xs → P d → P (get_or xs k d)
 all_or P [] k d all one = one
 all_or P (x ∷ xs) zero d all one = All-head P x xs all
 all_or P (x ∷ xs) (suc k) d all one = all_or P xs k d (All-tail P x xs all) one
@@ -42,7 +42,7 @@ far_idle n = record { admitted = omega arith; delivered = omega arith }
 pub far_machine_at : (n : ℕ) (p : PlainPorts) (app slot : ℕ) → AreFar n p → IsFar n (machine_at p app slot)
 far_machine_at n p app slot h = all_or (IsFar n) p.machines (place_of app slot) idle h.machines (far_idle n)
 
-far_given_up : (n : ℕ) (p : PlainPorts) (app slot : ℕ) → AreFar n p → AreFar n (given_up app slot p).ports
+pub far_given_up : (n : ℕ) (p : PlainPorts) (app slot : ℕ) → AreFar n p → AreFar n (given_up app slot p).ports
 far_given_up n p app slot h = record {
   machines = All-set (IsFar n) p.machines (place_of app slot) idle (far_idle n) h.machines;
   made = h.made;
@@ -52,7 +52,7 @@ far_given_up n p app slot h = record {
 far_wish : (n : ℕ) (p : PlainPorts) (app slot : ℕ) (w : Wish) → AreFar n p → AreFar n (with_terms p app slot (record (terms_at p app slot) { wish = w }))
 far_wish n p app slot w h = far_terms n p app slot (record (terms_at p app slot) { wish = w }) (far_at n p app slot h) h
 
-far_connected : (n : ℕ) (w : Wish) (p : PlainPorts) (app slot : ℕ) → AreFar n p → AreFar n (connected_by w app slot p)
+pub far_connected : (n : ℕ) (w : Wish) (p : PlainPorts) (app slot : ℕ) → AreFar n p → AreFar n (connected_by w app slot p)
 far_connected n wish.Connection p app slot h = let k = far_wish n p app slot wish.Nothing h in record { machines = k.machines; made = k.made; ends = k.ends }
 far_connected n wish.Nothing p app slot h = h
 far_connected n wish.End p app slot h = h
@@ -64,7 +64,7 @@ far_refused n wish.Nothing why p app slot h = far_given_up n p app slot h
 far_refused n wish.End why p app slot h = far_given_up n p app slot h
 far_refused n wish.Ended why p app slot h = far_given_up n p app slot h
 
-far_closed : (n : ℕ) (w : Wish) (was_open : Bool) (p : PlainPorts) (app slot : ℕ) → AreFar n p → AreFar n (closed_by w was_open app slot p).ports
+pub far_closed : (n : ℕ) (w : Wish) (was_open : Bool) (p : PlainPorts) (app slot : ℕ) → AreFar n p → AreFar n (closed_by w was_open app slot p).ports
 far_closed n wish.End o p app slot h = let k = far_wish n p app slot wish.Ended h in record { machines = k.machines; made = k.made; ends = k.ends }
 far_closed n wish.Nothing true p app slot h = h
 far_closed n wish.Nothing false p app slot h = far_given_up n p app slot h

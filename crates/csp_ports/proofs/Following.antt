@@ -2,7 +2,6 @@
 use Rattle.std.specs.List.{range_with_len}
 use Rattle.std.proofs.Common.{◌≡◌, ℕ, suc, ◌+◌, ◌-◌, ◌<◌, List, ◌∷◌, ◌++◌, arith, ap, ◌∙◌}
 use Rattle.std.proofs.lemmas.List.{append_assoc}
-use Rattle.csp_buffer.specs.Content.{Content}
 use Rattle.csp_deck.specs.Keeping.{PlainPile, with_contents}
 use Rattle.csp_log.specs.declared.event.Event.{Event}
 use Rattle.csp_ports.specs.Came.{Came, Comes, then}

@@ -320,7 +320,7 @@ housed-same name rs ss same all = rw same all
 
 -- ---- the numbers of what is held
 
-pictured : (bs : List PlainBuffer) → numbers_of (pictures bs) ≡ map (λ b. b.picture.number) bs
+pub pictured : (bs : List PlainBuffer) → numbers_of (pictures bs) ≡ map (λ b. b.picture.number) bs
 pictured [] = refl
 pictured (b ∷ bs) = ap (λ l. b.picture.number ∷ l) (pictured bs)
 

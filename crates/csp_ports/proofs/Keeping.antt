@@ -1,8 +1,8 @@
 -- what holds of a node's ports goes on to hold when a part of them changes
-use Rattle.std.specs.Prelude.{IfSome, None, Option, Some, get_or, slice_set}
+use Rattle.std.specs.Prelude.{IfSome, None, Option, get_or, slice_set}
 use Rattle.std.specs.Option.{option_map}
 use Rattle.csp_ports.specs.declared.stalled.Stalled.{Stalled}
-use Rattle.std.proofs.Common.{◌≡◌, ℕ, ◌+◌, ◌<◌, ◌≤◌, List, length, map, refl, arith, ap, sym, ◌∙◌}
+use Rattle.std.proofs.Common.{◌≡◌, ℕ, ◌+◌, ◌<◌, ◌≤◌, List, map, arith, ap, sym, ◌∙◌}
 use Rattle.std.specs.Vec.{with_item}
 use Rattle.std.proofs.lemmas.List.{get_or-map, length-set, map-set}
 use Rattle.std.proofs.lemmas.List.Elements.{All-get_or, All-set}

@@ -1,9 +1,12 @@
--- the timers open no connection, and so report nothing
+-- the timers open no connection, and so report nothing but the packets that are discarded
 use Rattle.std.specs.Prelude.{Bool, true, false, if◌then◌else◌, ◌==◌}
-use Rattle.std.proofs.Common.{◌≡◌, ◌≢◌, ℕ, List, [], refl, sym, ◌∙◌}
+use Rattle.std.proofs.Common.{◌≡◌, ℕ, List, [], ◌∷◌, ◌++◌, Option, None, refl, ap, ap₂, sym, ◌∙◌}
+use Rattle.csp_deck.specs.Keeping.{PlainPile}
 use Rattle.csp_log.specs.declared.event.Event.{Event}
-use Rattle.csp_ports.specs.PlainPorts.{PlainPorts, machine_at, terms_at}
-use Rattle.csp_ports.specs.Steps.{changed, closed_by, refused_by}
+use Rattle.csp_ports.proofs.Holding.{nil-left, nil-right}
+use Rattle.csp_ports.specs.Came.{Comes}
+use Rattle.csp_ports.specs.PlainPorts.{PlainPorts, PlainStalled, PortsAt, machine_at, stalled_at, terms_at}
+use Rattle.csp_ports.specs.Steps.{changed, closed_by, dropped, dropped_in, dropped_of, dropped_on, refused_by}
 use Rattle.csp_ports.specs.declared.terms.Wish.{Wish}
 use Rattle.csp_ports.specs.declared.terms.Wish.TheVariants as wish
 use Rattle.csp_rdp.specs.Changes.{change_between}
@@ -77,3 +80,29 @@ never_opens time r why h = go (has_passed (Some r.since) r.options.conn_timeout 
     go : (b : Bool) → change_between r.state (if b then timed_out r.state time r else r).state why ≡ change.Opened → ⊥
     go true h = ran_out r.state time r why refl h
     go false h = stays r.state why h
+
+-- where a packet that waits is discarded its buffer is let go, so that nothing is reported where nothing is let go
+dropped_in_quiet : (s : State) (app : ℕ) (w : PlainStalled) (p : PlainPorts) → (dropped_in s app w p).loose ≡ [] → (dropped_in s app w p).events ≡ []
+dropped_in_quiet Open app w p none = refl
+dropped_in_quiet SynSent app w p none = absurd cc
+dropped_in_quiet SynRcvd app w p none = absurd cc
+dropped_in_quiet CloseWait app w p none = absurd cc
+dropped_in_quiet Closed app w p none = absurd cc
+
+dropped_on_quiet : (o : Option PlainStalled) (app : ℕ) (p : PlainPorts) → (dropped_on o app p).loose ≡ [] → (dropped_on o app p).events ≡ []
+dropped_on_quiet None app p none = refl
+dropped_on_quiet (Some w) app p none = dropped_in_quiet (machine_at p app w.slot).state app w p none
+
+dropped_of_quiet : (apps : List ℕ) (p : PlainPorts) → (dropped_of apps p).loose ≡ [] → (dropped_of apps p).events ≡ []
+dropped_of_quiet [] p none = refl
+dropped_of_quiet (app ∷ apps) p none =
+    let d = dropped app p in
+    let rest = dropped_of apps d.ports in
+    ap₂ (λ xs ys. xs ++ ys) (dropped_on_quiet (stalled_at p app) app p (nil-left d.loose rest.loose none)) (dropped_of_quiet apps d.ports (nil-right d.loose rest.loose none))
+
+pub drops_quietly : (old new : PortsAt) (before after : PlainPile) (earlier later : List Event) (apps : List ℕ) (p : PlainPorts) → Comes old new before after earlier later (dropped_of apps p) →
+    earlier ≡ [] → after.contents ≡ [] → later ≡ []
+drops_quietly old new before after earlier later apps p comes first none =
+    let all = ap (λ (t : PlainPile). t.contents) comes.trash in
+    let loose = nil-right before.contents (dropped_of apps p).loose (sym all ∙ none) in
+    comes.events ∙ ap₂ (λ xs ys. xs ++ ys) first (dropped_of_quiet apps p loose)

@@ -1,15 +1,14 @@
 -- packets that wait for room, and what becomes of them
-use Rattle.std.specs.Prelude.{Bool, Err, None, Ok, Option, Result, Some, false, get_or, slice_set, true}
-use Rattle.std.specs.Option.{option_map}
+use Rattle.std.specs.Prelude.{Bool, Err, None, Option, Result, Some, false, get_or, slice_set, true}
 use Rattle.std.specs.Vec.{with_item}
-use Rattle.std.proofs.Common.{◌≡◌, ℕ, zero, suc, ◌<◌, List, [], ◌∷◌, length, arith, ap, refl, sym, ◌∙◌}
-use Rattle.std.proofs.lemmas.List.{get_or-set_same, set-get_or}
+use Rattle.std.proofs.Common.{◌≡◌, ℕ, zero, suc, ◌<◌, List, [], ◌∷◌, ap, refl, sym, ◌∙◌}
+use Rattle.std.proofs.lemmas.List.{set-get_or}
 use Rattle.csp_buffer.specs.PlainBuffer.{PlainBuffer}
 use Rattle.csp_conn.specs.PlainConns.{place_of}
 use Rattle.csp_deck.specs.Regions.{nowhere}
 use Rattle.csp_ports.proofs.Keeping.{machine_seen, machine_stepped}
 use Rattle.csp_ports.specs.Kept.{Admits, AdmitsIn, ArePorts, ports_at}
-use Rattle.csp_ports.specs.PlainPorts.{PlainPorts, PlainStalled, PortsAt, anywhere, machine_at, stalled_at, with_machine, with_ports_at, with_stalled}
+use Rattle.csp_ports.specs.PlainPorts.{PlainStalled, PortsAt, anywhere, machine_at, stalled_at, with_ports_at, with_stalled}
 use Rattle.csp_ports.specs.Steps.{has_room, settled, settled_by, settled_on}
 use Rattle.csp_ports.specs.declared.ports.Ports.TheInside.{Inside}
 use Rattle.csp_rdp.specs.Jobs.{admitting}

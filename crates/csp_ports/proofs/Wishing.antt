@@ -1,6 +1,6 @@
 -- the answers that are still to come at the slots of an application
-use Rattle.std.specs.Prelude.{get_or, slice_range, slice_set, sum_by}
-use Rattle.std.proofs.Common.{◌≡◌, ℕ, zero, suc, ◌+◌, ◌-◌, ◌*◌, ◌<◌, ◌≤◌, nat_lt, Bool, true, false, List, length, take, drop, min, refl, arith, ap, sym, ◌∙◌}
+use Rattle.std.specs.Prelude.{get_or, slice_set, sum_by}
+use Rattle.std.proofs.Common.{◌≡◌, ℕ, ◌+◌, ◌-◌, ◌<◌, ◌≤◌, nat_lt, Bool, true, false, List, length, take, drop, refl, arith}
 use Rattle.std.proofs.lemmas.Bool.{ltb-true, ltb-false}
 use Rattle.std.proofs.lemmas.List.{drop-set-add, drop-set-lt, take-set-le, get_or-drop, get_or-take, length-drop, length-take}
 use Rattle.std.proofs.Math.Seq.{take-set-lt}

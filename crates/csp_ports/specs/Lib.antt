@@ -5,5 +5,6 @@ pub mod Asking
 pub mod Packets
 pub mod Tasks
 pub mod Counts
+pub mod Keeps
 pub mod Held
 pub mod Kept

@@ -1,5 +1,5 @@
 -- what comes of packets: those that open a connection, those that are handed to a reliable one, and those of applications
-use Rattle.std.specs.Prelude.{ℕ, ◌+◌, ◌==◌, Bool, true, false, Option, None, Some, List, [], ◌∷◌}
+use Rattle.std.specs.Prelude.{ℕ, ◌+◌, Bool, true, false, Option, None, Some, List, [], ◌∷◌}
 use Rattle.csp_base.specs.declared.priority.Prio.{Prio}
 use Rattle.csp_base.specs.declared.traces.Tag.{Tag}
 use Rattle.csp_buffer.specs.Content.{Content}
@@ -12,7 +12,7 @@ use Rattle.csp_log.specs.declared.event.Event.{Event}
 use Rattle.csp_log.specs.declared.event.Event.TheVariants as event
 use Rattle.std.specs.Option.{option_to_list}
 use Rattle.csp_ports.specs.Came.{Came, come, then, reporting, discarding, pictures}
-use Rattle.csp_ports.specs.PlainPorts.{PlainPorts, PlainStalled, anywhere, begun, machine_at, start_of, terms_at, with_stalled}
+use Rattle.csp_ports.specs.PlainPorts.{PlainPorts, anywhere, begun, machine_at, start_of, terms_at, with_stalled}
 use Rattle.csp_ports.specs.Steps.{admitted, dropped, has_room, replaced, settled, went}
 use Rattle.csp_ports.specs.declared.handing.Invitation.{Invitation}
 use Rattle.csp_ports.specs.declared.origin.Origin.{Origin}

@@ -1,5 +1,5 @@
 -- the ports of a node as plain data: its connections, the ports that are bound, and the answers owed to applications
-use Rattle.std.specs.Prelude.{ℕ, ◌+◌, ◌*◌, ◌%◌, ◌==◌, Bool, true, false, Option, None, Some, List, [], ◌∷◌, ◌++◌, get_or, slice_set, replicate, count_by}
+use Rattle.std.specs.Prelude.{ℕ, ◌+◌, ◌*◌, ◌%◌, ◌==◌, Bool, true, false, Option, None, List, [], ◌∷◌, ◌++◌, get_or, slice_set, replicate, count_by}
 use Rattle.csp_arena.specs.Cells.{RegionName}
 use Rattle.csp_base.specs.declared.priority.Prio.{Prio}
 use Rattle.csp_base.specs.declared.priority.Prio.TheVariants.{Normal}

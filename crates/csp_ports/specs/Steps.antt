@@ -1,5 +1,5 @@
 -- what follows when the machine of a slot's reliable connection has made a step
-use Rattle.std.specs.Prelude.{ℕ, ◌+◌, ◌*◌, ◌/◌, ◌%◌, ◌==◌, not, Bool, true, false, Option, None, Some, List, [], ◌∷◌}
+use Rattle.std.specs.Prelude.{ℕ, ◌+◌, ◌*◌, ◌/◌, ◌%◌, not, Bool, true, false, Option, None, Some, List, [], ◌∷◌}
 use Rattle.std.specs.List.{range_with_len}
 use Rattle.csp_conn.specs.PlainConns.{with_slot}
 use Rattle.csp_conn.specs.declared.conns.TheConstants.{SLOTS}

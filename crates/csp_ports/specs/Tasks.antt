@@ -1,12 +1,11 @@
 -- what the reliable connections of a node owe, and in which order they come to it
-use Rattle.std.specs.Prelude.{ℕ, ◌+◌, ◌-◌, ◌*◌, ◌/◌, ◌%◌, ◌==◌, ◌&&◌, nat_lt, Bool, true, false, cond, Option, None, Some, List, [], ◌∷◌, ◌++◌, find, is_some}
+use Rattle.std.specs.Prelude.{ℕ, ◌+◌, ◌-◌, ◌*◌, ◌/◌, ◌%◌, ◌==◌, ◌&&◌, nat_lt, Bool, true, false, cond, Option, None, Some, List, ◌++◌, find, is_some}
 use Rattle.std.specs.List.{range_with_len}
 use Rattle.std.specs.Option.{option_map}
 use Rattle.csp_buffer.specs.Content.{Content}
-use Rattle.csp_buffer.specs.PlainBuffer.{PlainBuffer}
 use Rattle.csp_conn.specs.PlainConns.{place_of}
 use Rattle.csp_conn.specs.declared.conns.TheConstants.{SLOTS}
-use Rattle.csp_ports.specs.Came.{Came, come, then}
+use Rattle.csp_ports.specs.Came.{Came, then}
 use Rattle.csp_ports.specs.PlainPorts.{PlainPorts, anywhere, machine_at, terms_at, with_machine, with_terms}
 use Rattle.csp_ports.specs.Steps.{dropped, went}
 use Rattle.csp_ports.specs.declared.task.Task.{Task}

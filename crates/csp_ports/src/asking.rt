@@ -10,6 +10,7 @@ ghost use Rattle.csp_deck.specs.Regions.{nowhere};
 ghost use Rattle.csp_log.specs.declared.event.TheConstants.{MAX_EVENTS};
 ghost use Rattle.csp_ports.specs.Came.{Comes, pictures};
 ghost use Rattle.csp_ports.specs.Counts.{IsCountable};
+ghost use Rattle.csp_ports.specs.Keeps.{Keeps};
 ghost use Rattle.csp_ports.specs.Kept.{IsHoused, IsRoomy};
 ghost use Rattle.csp_ports.specs.PlainPorts.{machine_at, start_of, waiting, with_ports_at};
 ghost use Rattle.csp_ports.specs.Steps.{replaced, stepped};
@@ -72,6 +73,7 @@ impl Ports {
         requires first { waiting app self.old.ports.owed ≡ 0 }
         ensures ports { self.new ≡ with_ports_at self.old (bind self.old.ports app port need) }
         ensures apps { self.new.ports.conns.apps ≡ self.old.ports.conns.apps }
+        ensures keeps { Keeps 0 self.old.ports self.new.ports [] [] [] }
     {
         match self.sockets.bind(app, port, need) {
             Ok(()) => self.owe(app, Note::Bound),
@@ -101,6 +103,7 @@ impl Ports {
         requires report { length report.old.items < MAX_EVENTS }
         ensures comes { Comes self.old self.new trash.old trash.new report.old.items report.new.items (connect origin self.old.ports app request now) }
         ensures apps { self.new.ports.conns.apps ≡ self.old.ports.conns.apps }
+        ensures keeps { Keeps 1 self.old.ports self.new.ports trash.old.contents trash.new.contents [] }
     {
         let Request {
             slot,
@@ -159,7 +162,9 @@ impl Ports {
         requires roomy { IsRoomy 0 self.old trash.old }
         ensures comes { Comes self.old self.new trash.old trash.new [] [] (close self.old.ports app slot now) }
         ensures apps { self.new.ports.conns.apps ≡ self.old.ports.conns.apps }
+        ensures keeps { Keeps 0 self.old.ports self.new.ports trash.old.contents trash.new.contents [] }
     {
+        self.whole();
         if self.terms(app, slot).wish.is_closing() {
             return;
         }
@@ -214,6 +219,7 @@ impl Ports {
         requires roomy { IsRoomy 0 self.old trash.old }
         ensures comes { Comes self.old self.new trash.old trash.new [] [] (answered self.old.ports) }
         ensures apps { self.new.ports.conns.apps ≡ self.old.ports.conns.apps }
+        ensures keeps { Keeps 1 self.old.ports self.new.ports trash.old.contents trash.new.contents [] }
     {
         if let Some(Owed { app, note }) = self.owed.pop_front() {
             self.end_by(app, note, trash);

@@ -12,6 +12,7 @@ ghost use Rattle.csp_deck.specs.Regions.{nowhere};
 ghost use Rattle.csp_rdp.specs.Placed.{placed};
 ghost use Rattle.csp_ports.specs.Came.{Comes, pictures};
 ghost use Rattle.csp_ports.specs.Counts.{IsCountable};
+ghost use Rattle.csp_ports.specs.Keeps.{Keeps};
 ghost use Rattle.csp_ports.specs.Kept.{IsHoused, IsRoomy, wished, wishes};
 ghost use Rattle.csp_ports.specs.declared.ports.TheConstants.{ANSWERS};
 ghost use Rattle.csp_rdp.specs.Changes.{change_between};
@@ -58,6 +59,7 @@ impl Ports {
         ensures ports { MatchOption result (self.new ≡ self.old) (λ slot. self.new ≡ with_ports_at self.old (accepted self.old.ports app slot connection prio flags)) }
         ensures there { IfSome result (λ slot. slot < SLOTS) }
         ensures apps { self.new.ports.conns.apps ≡ self.old.ports.conns.apps }
+        ensures keeps { Keeps 0 self.old.ports self.new.ports [] [] [] }
     {
         let Connection {
             peer,
@@ -94,10 +96,12 @@ impl Ports {
         ensures slot { result ≡ first_free self.old.ports.conns app }
         ensures comes { MatchOption result ((self.new ≡ self.old) × (trash.new ≡ trash.old)) (λ slot. Comes self.old self.new trash.old trash.new [] [] (invited origin self.old.ports app slot connection prio flags invitation now)) }
         ensures apps { self.new.ports.conns.apps ≡ self.old.ports.conns.apps }
+        ensures keeps { Keeps 1 self.old.ports self.new.ports trash.old.contents trash.new.contents [] }
     {
         keeps_region();
         keeps_rest();
         keeps_whole();
+        self.whole();
         let slot = self.accept(app, connection, prio, flags)?;
         let Invitation { head, tag, options } = invitation;
         let nth = self.made;
@@ -126,7 +130,9 @@ impl Ports {
         requires report { report.old.items ≡ [] }
         ensures comes { Comes self.old self.new trash.old trash.new report.old.items report.new.items (handing self.old.ports app slot head packet.picture now) }
         ensures apps { self.new.ports.conns.apps ≡ self.old.ports.conns.apps }
+        ensures keeps { Keeps 1 self.old.ports self.new.ports trash.old.contents trash.new.contents (packet.picture.number ∷ []) }
     {
+        self.whole();
         let change = self.hand_machine(app, slot, head, packet, now, trash, report);
         self.change(change, app, slot, trash, report);
         self.drop_stalled(app, trash, report);
@@ -188,7 +194,9 @@ impl Ports {
         requires report { report.old.items ≡ [] }
         ensures comes { Comes self.old self.new trash.old trash.new report.old.items report.new.items (submitting self.old.ports app slot packet.picture now) }
         ensures apps { self.new.ports.conns.apps ≡ self.old.ports.conns.apps }
+        ensures keeps { Keeps 1 self.old.ports self.new.ports trash.old.contents trash.new.contents (packet.picture.number ∷ []) }
     {
+        self.whole();
         match self.machine(app, slot).state() {
             State::Open => self.send(app, slot, packet, now, report),
             State::SynSent | State::SynRcvd | State::CloseWait | State::Closed => {

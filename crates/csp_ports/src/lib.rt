@@ -5,6 +5,7 @@
 mod asking;
 mod handing;
 mod held;
+mod laws;
 mod origin;
 mod owed;
 mod places;
@@ -18,6 +19,7 @@ mod terms;
 
 pub use handing::Invitation;
 pub use held::MAX_HELD;
+pub use laws::counts;
 pub use origin::Origin;
 pub use owed::Owed;
 pub use ports::Ports;

@@ -7,6 +7,7 @@ ghost use Rattle.csp_conn.specs.Opening.{found};
 ghost use Rattle.csp_conn.specs.PlainConns.{IsThere, slot_at};
 ghost use Rattle.csp_conn.specs.Slots.{between};
 ghost use Rattle.csp_deck.specs.Carried.{IsReply};
+ghost use Rattle.csp_ports.specs.Keeps.{AreWhole};
 ghost use Rattle.csp_ports.specs.Kept.{IsOwed, wished, wishes};
 ghost use Rattle.csp_ports.specs.PlainPorts.{owing, ports_of, machine_at, stalled_at, terms_at, waiting, with_ports_at, with_terms};
 ghost use Rattle.csp_deck.specs.Regions.{nowhere};
@@ -146,7 +147,7 @@ impl Ports {
 
     /// Whether a packet of an application waits for room.
     pub fn is_stalled(&self, app: u8) -> bool
-        requires { app < MAX_APPS }
+        requires { app < self.now.ports.conns.apps }
         ensures { result ≡ is_some (stalled_at self.now.ports app) }
     {
         self.stalled[app as usize].is_some()
@@ -158,6 +159,13 @@ impl Ports {
         ensures owed { IfSome result (λ o. IsOwed self.now.ports.conns.apps o) }
     {
         self.owed.front().copied()
+    }
+
+    /// Each slot has its machine, which is whole, and each application a place for a packet that waits.
+    pub(crate) fn whole(&self)
+        ensures { AreWhole self.now.ports }
+    {
+        let _machines = &self.machines;
     }
 
     /// An answer is owed to an application, which has fewer than it may have.

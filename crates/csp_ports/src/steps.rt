@@ -11,6 +11,7 @@ ghost use Rattle.csp_log.specs.declared.event.Event.TheVariants as event;
 ghost use Rattle.csp_log.specs.declared.event.TheConstants.{MAX_EVENTS};
 ghost use Rattle.csp_ports.specs.Came.{Comes, discarding, pictures};
 ghost use Rattle.csp_ports.specs.Held.{held, stalled_buffers};
+ghost use Rattle.csp_ports.specs.Keeps.{Keeps};
 ghost use Rattle.csp_ports.specs.Kept.{Admits, AdmitsIn, IsHoused, IsRoomy, IsWaiting, stalled_of, wished, wishes};
 ghost use Rattle.csp_ports.specs.PlainPorts.{anywhere, machine_at, stalled_at, terms_at, with_stalled, with_ports_at};
 ghost use Rattle.csp_ports.specs.Steps.{changed, closed, connected, dropped, dropped_of, given_up, has_room, reason_of, refused, replaced, settled, timed, timed_at, timed_in, vacated};
@@ -81,6 +82,10 @@ fn tick(machine: &mut Rdp, now: u64, trash: &mut Pile) -> Change
     keeps_region();
     keeps_whole();
     conserves();
+    // A closed connection has no timer, and holds nothing that it does not need.
+    if machine.state() == State::Closed {
+        return Change::None;
+    }
     let change = machine.tick(now);
     let_go(machine, trash);
     change
@@ -142,9 +147,12 @@ impl Ports {
         requires roomy { IsRoomy 0 self.old trash.old }
         requires report { report.old.items ≡ [] }
         ensures comes { Comes self.old self.new trash.old trash.new report.old.items report.new.items (timed now self.old.ports) }
+        ensures quiet { trash.new.contents ≡ [] → report.new.items ≡ [] }
         ensures few { length report.new.items ≤ MAX_APPS }
         ensures apps { self.new.ports.conns.apps ≡ self.old.ports.conns.apps }
+        ensures keeps { Keeps 0 self.old.ports self.new.ports trash.old.contents trash.new.contents [] }
     {
+        self.whole();
         self.tick_all(now, trash, report);
         self.drop_all(trash, report);
     }

@@ -1,6 +1,6 @@
 //! What the reliable connections of a node owe, and what comes of it.
 
-ghost use Rattle.std.specs.Prelude.{◌≡◌, ◌≢◌, ◌+◌, ◌-◌, ◌*◌, ◌/◌, ◌%◌, ◌^◌, ◌<◌, ◌≤◌, ◌++◌, ℕ, false, [], length, None, Some, IfSome};
+ghost use Rattle.std.specs.Prelude.{◌≡◌, ◌≢◌, ◌+◌, ◌-◌, ◌*◌, ◌/◌, ◌%◌, ◌^◌, ◌<◌, ◌≤◌, ◌++◌, ℕ, false, [], ◌∷◌, length, None, Some, IfSome};
 ghost use Rattle.std.specs.Option.{option_map};
 ghost use Rattle.csp_buffer.specs.PlainBuffer.{with_picture};
 ghost use Rattle.csp_conn.specs.PlainConns.{IsThere};
@@ -9,8 +9,9 @@ ghost use Rattle.csp_deck.specs.Regions.{nowhere};
 ghost use Rattle.csp_rdp.specs.Placed.{placed, placed_buffer};
 ghost use Rattle.csp_ports.specs.Came.{Comes, pictures};
 ghost use Rattle.csp_ports.specs.Counts.{IsCountable};
+ghost use Rattle.csp_ports.specs.Keeps.{IsOwedBy, Keeps};
 ghost use Rattle.csp_ports.specs.Kept.{IsHoused, IsRoomy};
-ghost use Rattle.csp_ports.specs.PlainPorts.{machine_at, with_ports_at};
+ghost use Rattle.csp_ports.specs.PlainPorts.{anywhere, machine_at, with_ports_at};
 ghost use Rattle.csp_ports.specs.Tasks.{delivered, has_task, kept_again, made_in, making, next_task, place_with_task, task_at, task_of, told_down, turned, without_packet};
 ghost use Rattle.csp_rdp.specs.Counts.{IsFar};
 ghost use Rattle.csp_rdp.specs.Changes.{change_between};
@@ -76,6 +77,7 @@ impl Ports {
     pub fn next_task(&self, now: u64) -> Option<(u8, u8, Task)>
         ensures value { result ≡ next_task now self.now.ports }
         ensures there { IfSome result (λ t. IsThere self.now.ports.conns t.0 t.1) }
+        ensures owed { IfSome result (λ t. IsOwedBy t.2 now t.0 t.1 self.now.ports) }
     {
         let at = self.find_place(now)?;
         let task = self.task_of(at, now)?;
@@ -104,7 +106,9 @@ impl Ports {
     /// A slot comes to its task: the next look begins past it.
     pub fn turn(&mut self, app: u8, slot: u8)
         requires there { IsThere self.old.ports.conns app slot }
-        ensures { self.new ≡ with_ports_at self.old (turned app slot self.old.ports) }
+        ensures ports { self.new ≡ with_ports_at self.old (turned app slot self.old.ports) }
+        ensures apps { self.new.ports.conns.apps ≡ self.old.ports.conns.apps }
+        ensures keeps { Keeps 0 self.old.ports self.new.ports [] [] [] }
     {
         let next = usize::from(app) * SLOTS + usize::from(slot) + 1;
         self.next = if next == self.slot_count() { 0 } else { next };
@@ -113,7 +117,9 @@ impl Ports {
     /// The Down note of a slot is pushed.
     pub fn tell_down(&mut self, app: u8, slot: u8)
         requires there { IsThere self.old.ports.conns app slot }
-        ensures { self.new ≡ with_ports_at self.old (told_down app slot self.old.ports) }
+        ensures ports { self.new ≡ with_ports_at self.old (told_down app slot self.old.ports) }
+        ensures apps { self.new.ports.conns.apps ≡ self.old.ports.conns.apps }
+        ensures keeps { Keeps 0 self.old.ports self.new.ports [] [] [] }
     {
         let mut terms = self.terms(app, slot);
         terms.is_down = false;
@@ -121,18 +127,26 @@ impl Ports {
     }
 
     /// Takes out the packet that a slot's connection is to deliver.
-    pub fn take_packet(&mut self, app: u8, slot: u8) -> Option<Buffer>
+    pub fn take_packet(&mut self, app: u8, slot: u8) -> Buffer
         requires there { IsThere self.old.ports.conns app slot }
-        ensures packet { option_map (placed_buffer nowhere) result ≡ delivery (machine_at self.old.ports app slot) }
+        requires owed { IsOwedBy Task.Deliver 0 app slot self.old.ports }
+        ensures packet { delivery (machine_at self.old.ports app slot) ≡ Some (anywhere result.picture) }
         ensures ports { self.new ≡ with_ports_at self.old (without_packet app slot self.old.ports) }
-        ensures of_it { IfSome result (λ b. b.region ≡ self.old.region) }
+        ensures of_it { result.region ≡ self.old.region }
+        ensures open { (machine_at self.new.ports app slot).state ≡ State.Open }
+        ensures taken { is_kept (machine_at self.new.ports app slot).recv ((machine_at self.new.ports app slot).recv.cur + 1) ≡ false }
+        ensures apps { self.new.ports.conns.apps ≡ self.old.ports.conns.apps }
+        ensures keeps { Keeps 0 self.old.ports self.new.ports [] (result.picture ∷ []) [] }
     {
         sees_no_region();
         keeps_region();
         keeps_whole();
         keeps_rest();
         conserves();
-        self.machines[place(app, slot)].deliver()
+        match self.machines[place(app, slot)].deliver() {
+            Some(packet) => packet,
+            None => unreachable!(),
+        }
     }
 
     /// The packet that was taken out is delivered.
@@ -145,6 +159,7 @@ impl Ports {
         requires report { report.old.items ≡ [] }
         ensures comes { Comes self.old self.new trash.old trash.new report.old.items report.new.items (delivered now app slot self.old.ports) }
         ensures apps { self.new.ports.conns.apps ≡ self.old.ports.conns.apps }
+        ensures keeps { Keeps 1 self.old.ports self.new.ports trash.old.contents trash.new.contents [] }
     {
         sees_no_region();
         let change = deliver(&mut self.machines[place(app, slot)], now, trash);
@@ -158,7 +173,9 @@ impl Ports {
         requires of_it { packet.region ≡ self.old.region }
         requires open { (machine_at self.old.ports app slot).state ≡ State.Open }
         requires taken { is_kept (machine_at self.old.ports app slot).recv ((machine_at self.old.ports app slot).recv.cur + 1) ≡ false }
-        ensures { self.new ≡ with_ports_at self.old (kept_again app slot packet.picture self.old.ports) }
+        ensures ports { self.new ≡ with_ports_at self.old (kept_again app slot packet.picture self.old.ports) }
+        ensures apps { self.new.ports.conns.apps ≡ self.old.ports.conns.apps }
+        ensures keeps { Keeps 0 self.old.ports self.new.ports [] [] (packet.picture.number ∷ []) }
     {
         sees_no_region();
         keeps_region();
@@ -180,6 +197,10 @@ impl Ports {
         ensures packet { packet.new ≡ with_picture packet.old (made_in job now app slot packet.old.picture self.old.ports) }
         ensures ports { self.new ≡ with_ports_at self.old (making job now app slot self.old.ports) }
         ensures short { length packet.new.picture.payload ≤ MAX_PAYLOAD - 4 }
+        ensures number { packet.new.picture.number ≡ packet.old.picture.number }
+        ensures region { packet.new.region ≡ packet.old.region }
+        ensures apps { self.new.ports.conns.apps ≡ self.old.ports.conns.apps }
+        ensures keeps { Keeps 0 self.old.ports self.new.ports [] [] [] }
     {
         sees_no_region();
         keeps_region();

@@ -1,6 +1,5 @@
-use Rattle.std.proofs.Common.{◌≡◌, arith, ap, sym, ◌∙◌, refl}
-use Rattle.csp_arena.specs.Cells.{RegionName}
-use Rattle.csp_deck.specs.Keeping.{PlainPile, with_contents}
+use Rattle.std.proofs.Common.{ap, sym, ◌∙◌, refl}
+use Rattle.csp_deck.specs.Keeping.{PlainPile}
 use Rattle.csp_ports.proofs.Letting.{next_in, next_joins, next_room}
 use Rattle.csp_rdp.specs.Holding.{unneeded}
 use Rattle.csp_ports.proofs.steps.let_go.Goals as goal

@@ -1,4 +1,4 @@
-use Rattle.std.proofs.Common.{◌≡◌, List, ◌++◌, ap, sym, ◌∙◌}
+use Rattle.std.proofs.Common.{List, ◌++◌, ap, sym, ◌∙◌}
 use Rattle.csp_buffer.specs.Content.{Content}
 use Rattle.csp_deck.specs.Keeping.{with_contents}
 use Rattle.csp_deck.specs.Regions.{nowhere}

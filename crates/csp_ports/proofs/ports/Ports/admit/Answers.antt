@@ -1,4 +1,4 @@
-use Rattle.std.proofs.Common.{◌≡◌, subst, sym, ◌∙◌}
+use Rattle.std.proofs.Common.{◌≡◌, subst, sym}
 use Rattle.csp_arena.specs.Cells.{RegionName}
 use Rattle.csp_ports.proofs.Keeping.{machines_kept}
 use Rattle.csp_ports.proofs.Waiting.{admits_in}

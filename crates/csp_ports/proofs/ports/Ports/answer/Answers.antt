@@ -2,6 +2,11 @@ use Rattle.std.proofs.lemmas.List.Elements.{All-drop}
 use Rattle.csp_ports.proofs.Owing.{due_less}
 use Rattle.csp_ports.specs.Kept.{IsOwed, wishes}
 use Rattle.csp_ports.specs.declared.ports.TheConstants.{ANSWERS}
+use Rattle.std.proofs.Common.{[], rules}
+use Rattle.csp_ports.proofs.Flowing.{keeps_of}
+use Rattle.csp_ports.proofs.Serving.{flows_answered}
+use Rattle.csp_ports.proofs.Wholes.{whole_seen}
+use Rattle.csp_ports.specs.Asking.{answered}
 use Rattle.csp_ports.proofs.ports.Ports.answer.Goals as goal
 
 pub invariant_of-self : goal.invariant_of-self
@@ -21,3 +26,11 @@ invariant_of-self c =
       places = a.places;
       waits = a.waits;
     }
+
+pub returns-in-Some-clause-comes : goal.returns-in-Some-clause-comes
+returns-in-Some-clause-comes c = search rules
+
+pub returns-in-Some-clause-keeps : goal.returns-in-Some-clause-keeps
+returns-in-Some-clause-keeps c =
+    keeps_of 1 c.args.self.now c.end_by.new.self c.args.trash.now c.end_by.new.trash [] [] (answered c.args.self.now.ports) []
+    (returns-in-Some-clause-comes c) (flows_answered c.args.self.now.ports (whole_seen c.self.inside c.args.self.now c.self.view_is c.self.invariant))

@@ -1,4 +1,4 @@
-use Rattle.std.proofs.Common.{◌≡◌, ◌+◌, ◌++◌, length, arith, ap, refl, subst, sym, ◌∙◌}
+use Rattle.std.proofs.Common.{◌≡◌, ◌++◌, length, arith, ap, refl, subst, sym, ◌∙◌}
 use Rattle.csp_arena.specs.Cells.{RegionName}
 use Rattle.csp_deck.specs.Keeping.{with_contents}
 use Rattle.csp_ports.proofs.Keeping.{machine_seen, machine_stepped, machines_kept}

@@ -1,4 +1,4 @@
-use Rattle.std.proofs.Common.{◌≡◌, ◌+◌, ◌++◌, false, length, arith, ap, subst, sym, ◌∙◌}
+use Rattle.std.proofs.Common.{◌≡◌, ◌+◌, ◌++◌, false, length, arith, ap, subst, sym, ◌∙◌, []}
 use Rattle.std.proofs.lemmas.List.{append-nil}
 use Rattle.std.specs.Vec.{with_item}
 use Rattle.csp_arena.specs.Cells.{RegionName}
@@ -18,6 +18,10 @@ use Rattle.csp_rdp.specs.Machine.{PlainRdp}
 use Rattle.csp_rdp.specs.declared.answers.Change.{Change}
 use Rattle.csp_rdp.specs.declared.answers.Why.TheVariants as machine_why
 use Rattle.csp_rdp_window.specs.Receiving.{is_kept}
+use Rattle.csp_ports.proofs.Flowing.{keeps_of}
+use Rattle.csp_ports.proofs.Serving.{flows_delivered}
+use Rattle.csp_ports.proofs.Wholes.{there_few, whole_seen}
+use Rattle.csp_ports.specs.Tasks.{delivered}
 use Rattle.csp_ports.proofs.ports.Ports.deliver.Goals as goal
 
 pub deliver-change-requires-clause-taken : goal.deliver-change-requires-clause-taken
@@ -66,3 +70,11 @@ returns-clause-comes c =
     })
     (subst (λ (x : Change). Comes mid c.change.new.self c.deliver-change.new.trash c.change.new.trash events c.change.new.report.items (changed x app slot mid.ports)) change c.change.ensures.comes))
     c.drop_stalled.ensures.comes
+
+pub returns-clause-keeps : goal.returns-clause-keeps
+returns-clause-keeps c =
+    let p = c.args.self.now.ports in
+    let whole = whole_seen c.self.inside c.args.self.now c.self.view_is c.self.invariant in
+    let few = there_few p c.args.app c.args.slot whole c.requires.there in
+    keeps_of 1 c.args.self.now c.drop_stalled.new.self c.args.trash.now c.drop_stalled.new.trash c.args.report.now.items c.drop_stalled.new.report.items (delivered c.args.now c.args.app c.args.slot p) []
+    (returns-clause-comes c) (flows_delivered p c.args.now c.args.app c.args.slot few.0 few.1 whole c.requires.open c.requires.taken)

@@ -1,4 +1,4 @@
-use Rattle.std.proofs.Common.{◌≡◌, ◌+◌, ◌-◌, arith, sym, ◌∙◌}
+use Rattle.std.proofs.Common.{◌+◌, ◌-◌, arith, sym, ◌∙◌}
 use Rattle.std.specs.List.{range_with_len}
 use Rattle.csp_ports.proofs.Following.{range_next, then_comes}
 use Rattle.csp_ports.specs.Steps.{dropped, dropped_of}

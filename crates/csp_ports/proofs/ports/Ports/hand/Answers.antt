@@ -1,5 +1,5 @@
 use Rattle.std.specs.Option.{option_to_list}
-use Rattle.std.proofs.Common.{◌-◌, ◌^◌, List, ◌∷◌, ◌++◌, ap, refl, subst, sym, ◌∙◌}
+use Rattle.std.proofs.Common.{◌-◌, ◌^◌, List, ◌∷◌, ◌++◌, ap, refl, subst, sym, ◌∙◌, []}
 use Rattle.std.proofs.lemmas.List.{append-nil}
 use Rattle.csp_deck.specs.Keeping.{with_contents}
 use Rattle.csp_log.specs.declared.event.Event.{Event}
@@ -8,13 +8,16 @@ use Rattle.csp_ports.proofs.Following.{then_comes}
 use Rattle.csp_ports.proofs.Tasking.{come_comes, settled_apps}
 use Rattle.csp_ports.specs.Came.{Comes, come, pictures, reporting, then}
 use Rattle.csp_ports.specs.Counts.{IsCountable}
-use Rattle.csp_ports.specs.Packets.{back_by, handing_event, stray_events}
+use Rattle.csp_ports.specs.Packets.{back_by, handing_event, stray_events, handing}
 use Rattle.csp_ports.specs.PlainPorts.{PortsAt, anywhere, machine_at, stalled_at}
 use Rattle.csp_ports.specs.Steps.{changed, dropped, settled, stepped, went}
 use Rattle.csp_rdp.specs.Changes.{change_between}
 use Rattle.csp_rdp.specs.Table.{back_of, handed, is_stray, row_of}
 use Rattle.csp_rdp.specs.declared.answers.Change.{Change}
 use Rattle.csp_rdp.specs.declared.answers.Why.TheVariants as machine_why
+use Rattle.csp_ports.proofs.Flowing.{keeps_of}
+use Rattle.csp_ports.proofs.Serving.{flows_handed}
+use Rattle.csp_ports.proofs.Wholes.{there_few}
 use Rattle.csp_ports.proofs.ports.Ports.hand.Goals as goal
 
 pub settle-requires-clause-countable : goal.settle-requires-clause-countable
@@ -66,3 +69,10 @@ returns-clause-apps c =
     ap (λ (x : PortsAt). x.ports.conns.apps) c.settle.ensures.ports
     ∙ (settled_apps (stalled_at c.drop_stalled.new.self.ports c.args.app) c.args.now c.args.app c.drop_stalled.new.self.ports
     ∙ (c.drop_stalled.ensures.apps ∙ (c.change.ensures.apps ∙ ap (λ (x : PortsAt). x.ports.conns.apps) c.hand_machine-change.ensures.comes.ports)))
+
+pub returns-clause-keeps : goal.returns-clause-keeps
+returns-clause-keeps c =
+    let p = c.args.self.now.ports in
+    let few = there_few p c.args.app c.args.slot c.whole.ensures c.requires.there in
+    keeps_of 1 c.args.self.now c.settle.new.self c.args.trash.now c.drop_stalled.new.trash c.args.report.now.items c.drop_stalled.new.report.items (handing p c.args.app c.args.slot c.args.head c.args.packet.picture c.args.now) (c.args.packet.picture.number ∷ [])
+    (returns-clause-comes c) (flows_handed p c.args.app c.args.slot c.args.head c.args.packet.picture c.args.now few.0 few.1 c.whole.ensures)

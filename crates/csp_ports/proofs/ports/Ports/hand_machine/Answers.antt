@@ -1,5 +1,5 @@
 use Rattle.std.specs.Option.{option_to_list}
-use Rattle.std.proofs.Common.{◌≡◌, ◌+◌, ◌-◌, ◌^◌, ◌∷◌, ◌++◌, length, arith, ap, refl, subst, sym, ◌∙◌}
+use Rattle.std.proofs.Common.{◌≡◌, ◌-◌, ◌^◌, ◌∷◌, ◌++◌, length, arith, ap, refl, subst, sym, ◌∙◌}
 use Rattle.csp_arena.specs.Cells.{RegionName}
 use Rattle.csp_deck.specs.Keeping.{PlainPile, with_contents}
 use Rattle.csp_deck.specs.Regions.{nowhere}

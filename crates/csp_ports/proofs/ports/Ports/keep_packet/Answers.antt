@@ -1,4 +1,4 @@
-use Rattle.std.proofs.Common.{◌≡◌, ◌+◌, false, ap, subst, sym, ◌∙◌}
+use Rattle.std.proofs.Common.{◌≡◌, ◌+◌, false, ap, subst, sym, ◌∙◌, [], ◌∷◌}
 use Rattle.csp_deck.specs.Regions.{nowhere}
 use Rattle.csp_ports.proofs.Keeping.{housed_in, machine_seen, machine_stepped, machines_kept}
 use Rattle.csp_ports.specs.Kept.{IsHoused}
@@ -7,6 +7,9 @@ use Rattle.csp_rdp.specs.Jobs.{keeping_again}
 use Rattle.csp_rdp.specs.Machine.{PlainRdp}
 use Rattle.csp_rdp.specs.Placed.{placed}
 use Rattle.csp_rdp_window.specs.Receiving.{is_kept}
+use Rattle.csp_ports.proofs.Serving.{keeps_again}
+use Rattle.csp_ports.proofs.Wholes.{there_few, whole_seen}
+use Rattle.csp_ports.specs.Keeps.{Keeps}
 use Rattle.csp_ports.proofs.ports.Ports.keep_packet.Goals as goal
 
 pub invariant_of-self : goal.invariant_of-self
@@ -30,9 +33,17 @@ invariant_of-self c =
     })
     c.self.invariant
 
-pub returns : goal.returns
-returns c =
+pub returns-clause-ports : goal.returns-clause-ports
+returns-clause-ports c =
     let p = c.self.inside in
     let r = c.index_mut-machine.result.now in
     machine_stepped p c.args.self.now c.args.app c.args.slot c.place.result r c.put_back.new.self (keeping_again (anywhere c.args.packet.picture)) c.self.view_is c.place.ensures.value c.place.ensures.inside c.self.invariant
     c.index_mut-machine.ensures.value (ap (placed nowhere) c.put_back.ensures.state ∙ c.sees_no_region.ensures.kept_again nowhere c.args.packet r)
+
+pub returns-clause-keeps : goal.returns-clause-keeps
+returns-clause-keeps c =
+    let p = c.args.self.now.ports in
+    let whole = whole_seen c.self.inside c.args.self.now c.self.view_is c.self.invariant in
+    let few = there_few p c.args.app c.args.slot whole c.requires.there in
+    subst (λ (x : PortsAt). Keeps 0 p x.ports [] [] (c.args.packet.picture.number ∷ [])) (sym (returns-clause-ports c))
+    (keeps_again p c.args.app c.args.slot c.args.packet.picture few.1 whole c.requires.open c.requires.taken)

@@ -1,13 +1,16 @@
-use Rattle.std.proofs.Common.{length, arith, ap, subst, sym, ◌∙◌}
+use Rattle.std.proofs.Common.{length, arith, ap, subst, sym, ◌∙◌, []}
 use Rattle.csp_buffer.specs.PlainBuffer.{PlainBuffer, with_picture}
 use Rattle.csp_deck.specs.Regions.{nowhere}
 use Rattle.csp_ports.proofs.Keeping.{housed_in, machine_seen, machine_stepped, machines_kept}
 use Rattle.csp_ports.proofs.Tasking.{housed_next}
 use Rattle.csp_ports.specs.Kept.{IsHoused}
-use Rattle.csp_ports.specs.PlainPorts.{anywhere}
+use Rattle.csp_ports.specs.PlainPorts.{anywhere, PortsAt}
 use Rattle.csp_rdp.specs.Jobs.{filled, job_of, sent}
 use Rattle.csp_rdp.specs.Machine.{PlainRdp}
 use Rattle.csp_rdp.specs.Placed.{placed}
+use Rattle.csp_ports.proofs.Serving.{keeps_made}
+use Rattle.csp_ports.proofs.Wholes.{there_few, whole_seen}
+use Rattle.csp_ports.specs.Keeps.{Keeps}
 use Rattle.csp_ports.proofs.ports.Ports.make.Goals as goal
 
 pub fill-requires-clause-owed : goal.fill-requires-clause-owed
@@ -43,3 +46,10 @@ returns-clause-ports c =
     let r = c.index_mut.result.now in
     machine_stepped c.self.inside c.args.self.now c.args.app c.args.slot c.place.result r c.fill.new.self (sent c.args.job c.args.now) c.self.view_is c.place.ensures.value c.place.ensures.inside c.self.invariant
     c.index_mut.ensures.value (ap (placed nowhere) c.fill.ensures.state ∙ c.sees_no_region.ensures.sent nowhere c.args.job c.args.now r)
+
+pub returns-clause-keeps : goal.returns-clause-keeps
+returns-clause-keeps c =
+    let p = c.args.self.now.ports in
+    let whole = whole_seen c.self.inside c.args.self.now c.self.view_is c.self.invariant in
+    let few = there_few p c.args.app c.args.slot whole c.requires.there in
+    subst (λ (x : PortsAt). Keeps 0 p x.ports [] [] []) (sym (returns-clause-ports c)) (keeps_made c.args.job p c.args.now c.args.app c.args.slot few.1 whole)

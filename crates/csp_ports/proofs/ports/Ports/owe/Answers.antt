@@ -1,4 +1,4 @@
-use Rattle.std.proofs.Common.{◌≡◌, ◌+◌, ◌<◌, arith, subst, sym}
+use Rattle.std.proofs.Common.{◌+◌, ◌<◌, arith, subst, sym}
 use Rattle.csp_ports.proofs.Owing.{due_more, owed_more, owed_room}
 use Rattle.csp_ports.specs.Kept.{IsOwed, wishes}
 use Rattle.csp_ports.specs.PlainPorts.{PortsAt, waiting}

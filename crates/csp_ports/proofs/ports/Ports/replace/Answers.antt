@@ -1,4 +1,4 @@
-use Rattle.std.proofs.Common.{◌≡◌, ◌++◌, length, arith, ap, refl, subst, sym, ◌∙◌}
+use Rattle.std.proofs.Common.{◌++◌, length, arith, ap, refl, subst, sym, ◌∙◌}
 use Rattle.csp_deck.specs.Keeping.{PlainPile, with_contents}
 use Rattle.csp_deck.specs.Regions.{nowhere}
 use Rattle.csp_ports.proofs.Keeping.{machine_in, machine_set, machines_kept}

@@ -1,12 +1,10 @@
 use Rattle.std.proofs.Common.{◌≡◌, ◌+◌, ◌≤◌, arith, subst, sym}
 use Rattle.std.specs.Prelude.{slice_set}
-use Rattle.csp_conn.specs.PlainConns.{place_of}
 use Rattle.csp_ports.proofs.Keeping.{terms_kept}
 use Rattle.csp_ports.proofs.Wishing.{wishes_at}
 use Rattle.csp_ports.specs.Kept.{wished, wishes}
 use Rattle.csp_ports.specs.PlainPorts.{PortsAt, fresh, terms_at, waiting}
 use Rattle.csp_ports.specs.declared.ports.TheConstants.{ANSWERS}
-use Rattle.csp_ports.specs.declared.terms.Terms.{Terms}
 use Rattle.csp_ports.proofs.ports.Ports.set_terms.Goals as goal
 
 pub invariant_of-self : goal.invariant_of-self

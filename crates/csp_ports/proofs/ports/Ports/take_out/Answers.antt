@@ -9,6 +9,7 @@ use Rattle.csp_ports.specs.PlainPorts.{with_ports_at}
 use Rattle.csp_rdp.specs.Placed.{placed}
 use Rattle.csp_rdp_window.specs.Places.{held_in}
 use Rattle.csp_ports.proofs.Holding.{housed-same, housed-without, machine-out, none-stalled, packet-out, placed-without, stalled-long, stalled-without, taken-region, taken-without, waits-first, waits-without}
+use Rattle.csp_ports.proofs.Serving.{keeps_out, keeps_out_or}
 use Rattle.csp_ports.proofs.ports.Ports.take_out.Goals as goal
 
 pub invariant_of-self : goal.invariant_of-self
@@ -99,3 +100,9 @@ pub returns-in-None-clause-of_it : goal.returns-in-None-clause-of_it
 returns-in-None-clause-of_it c =
     rw (← c.self.view_is)
     (taken-region c.self.inside.token.name c.deref_mut.result.now c.take_held.new.machines c.take_held.result (rw (c.deref_mut.ensures.value) c.self.invariant.housed) c.take_held.ensures.buffers)
+
+pub returns-in-Some-clause-keeps : goal.returns-in-Some-clause-keeps
+returns-in-Some-clause-keeps c = keeps_out c.args.self.now _ c.in-Some.buffer.picture (returns-in-Some-clause-buffers c) (returns-in-Some-clause-ports c)
+
+pub returns-in-None-clause-keeps : goal.returns-in-None-clause-keeps
+returns-in-None-clause-keeps c = keeps_out_or c.args.self.now _ c.take_held.result (returns-in-None-clause-buffers c) (returns-in-None-clause-ports c)

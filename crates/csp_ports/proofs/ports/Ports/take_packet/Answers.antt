@@ -1,4 +1,4 @@
-use Rattle.std.proofs.Common.{Option, length, arith, ap, subst, sym, ◌∙◌}
+use Rattle.std.proofs.Common.{Option, length, arith, ap, subst, sym, ◌∙◌, [], ◌∷◌, ◌+◌}
 use Rattle.std.proofs.lemmas.List.{length-append}
 use Rattle.std.specs.Option.{option_map}
 use Rattle.csp_buffer.specs.PlainBuffer.{PlainBuffer}
@@ -6,13 +6,17 @@ use Rattle.csp_deck.specs.Regions.{nowhere}
 use Rattle.csp_ports.proofs.Keeping.{housed_in, machine_seen, machine_stepped, machines_kept}
 use Rattle.csp_ports.proofs.Tasking.{housed_next}
 use Rattle.csp_ports.specs.Kept.{IsHoused}
-use Rattle.csp_ports.specs.PlainPorts.{PortsAt}
+use Rattle.csp_ports.specs.PlainPorts.{PortsAt, machine_at}
 use Rattle.csp_rdp.specs.Holding.{rdp_numbers}
 use Rattle.csp_rdp.specs.Jobs.{delivery, without_delivery}
 use Rattle.csp_rdp.specs.Machine.{PlainRdp}
 use Rattle.csp_rdp.specs.Placed.{placed, placed_buffer}
 use Rattle.csp_rdp.specs.Regions.{IsIn}
 use Rattle.csp_rdp_window.specs.Numbers.{number_in}
+use Rattle.csp_ports.proofs.Serving.{keeps_taken, nothing_there, now_taken}
+use Rattle.csp_ports.proofs.Wholes.{there_few, whole_seen}
+use Rattle.csp_ports.specs.Keeps.{Keeps}
+use Rattle.csp_rdp_window.specs.Receiving.{is_kept}
 use Rattle.csp_ports.proofs.ports.Ports.take_packet.Goals as goal
 
 pub invariant_of-self : goal.invariant_of-self
@@ -28,11 +32,19 @@ invariant_of-self c =
     (omega (arith, ap (λ (q : PlainRdp). length (rdp_numbers q)) same, (c.conserves.ensures.taken r h.whole).count, length-append (rdp_numbers (without_delivery r)) (number_in (delivery r)))) h)
     c.self.invariant
 
+pub unreachable-requires : goal.unreachable-requires
+unreachable-requires c =
+    let r = c.index_mut.result.now in
+    let seen = machine_seen c.self.inside c.args.self.now c.args.app c.args.slot c.place.result r c.self.view_is c.place.ensures.value c.place.ensures.inside c.self.invariant c.index_mut.ensures.value in
+    nothing_there (delivery (machine_at c.args.self.now.ports c.args.app c.args.slot))
+    (sym (ap delivery seen) ∙ (c.sees_no_region.ensures.delivery nowhere r ∙ ap (λ (o : Option PlainBuffer). option_map (placed_buffer nowhere) o) (sym c.deliver.ensures.buffer ∙ c.in-None.is)))
+    c.requires.owed.1
+
 pub returns-clause-packet : goal.returns-clause-packet
 returns-clause-packet c =
     let r = c.index_mut.result.now in
     let seen = machine_seen c.self.inside c.args.self.now c.args.app c.args.slot c.place.result r c.self.view_is c.place.ensures.value c.place.ensures.inside c.self.invariant c.index_mut.ensures.value in
-    ap (λ (o : Option PlainBuffer). option_map (placed_buffer nowhere) o) c.deliver.ensures.buffer ∙ (sym (c.sees_no_region.ensures.delivery nowhere r) ∙ ap delivery seen)
+    sym (ap delivery seen) ∙ (c.sees_no_region.ensures.delivery nowhere r ∙ ap (λ (o : Option PlainBuffer). option_map (placed_buffer nowhere) o) (sym c.deliver.ensures.buffer ∙ c.in-Some.is))
 
 pub returns-clause-ports : goal.returns-clause-ports
 returns-clause-ports c =
@@ -46,4 +58,28 @@ returns-clause-of_it c =
     let name = p.token.name in
     let r = c.index_mut.result.now in
     let h = subst (λ (q : PlainRdp). IsHoused name q) (sym c.index_mut.ensures.value) (housed_in p c.place.result r c.place.ensures.inside c.self.invariant) in
-    rw c.deliver.ensures.buffer (subst (λ (x : PortsAt). IsIn x.region (delivery r)) c.self.view_is (c.keeps_region.ensures.taken name r h.region).1)
+    subst (λ (o : Option PlainBuffer). IsIn c.args.self.now.region o) (sym c.deliver.ensures.buffer ∙ c.in-Some.is)
+    (subst (λ (x : PortsAt). IsIn x.region (delivery r)) c.self.view_is (c.keeps_region.ensures.taken name r h.region).1)
+
+pub returns-clause-open : goal.returns-clause-open
+returns-clause-open c =
+    let p = c.args.self.now.ports in
+    let whole = whole_seen c.self.inside c.args.self.now c.self.view_is c.self.invariant in
+    let few = there_few p c.args.app c.args.slot whole c.requires.there in
+    ap (λ (x : PortsAt). (machine_at x.ports c.args.app c.args.slot).state) (returns-clause-ports c) ∙ (now_taken p c.args.app c.args.slot few.1 whole c.requires.owed.0).0
+
+pub returns-clause-taken : goal.returns-clause-taken
+returns-clause-taken c =
+    let p = c.args.self.now.ports in
+    let whole = whole_seen c.self.inside c.args.self.now c.self.view_is c.self.invariant in
+    let few = there_few p c.args.app c.args.slot whole c.requires.there in
+    ap (λ (x : PortsAt). is_kept (machine_at x.ports c.args.app c.args.slot).recv ((machine_at x.ports c.args.app c.args.slot).recv.cur + 1)) (returns-clause-ports c)
+    ∙ (now_taken p c.args.app c.args.slot few.1 whole c.requires.owed.0).1
+
+pub returns-clause-keeps : goal.returns-clause-keeps
+returns-clause-keeps c =
+    let p = c.args.self.now.ports in
+    let whole = whole_seen c.self.inside c.args.self.now c.self.view_is c.self.invariant in
+    let few = there_few p c.args.app c.args.slot whole c.requires.there in
+    subst (λ (x : PortsAt). Keeps 0 p x.ports [] (c.in-Some.packet.picture ∷ []) []) (sym (returns-clause-ports c))
+    (keeps_taken p c.args.app c.args.slot c.in-Some.packet.picture few.1 whole (returns-clause-packet c))

@@ -1,6 +1,6 @@
-use Rattle.std.specs.Prelude.{None, Option, slice_set}
+use Rattle.std.specs.Prelude.{None, Option}
 use Rattle.std.specs.Option.{option_map}
-use Rattle.std.proofs.Common.{◌≡◌, ◌<◌, length, arith, ap, subst, sym, ◌∙◌}
+use Rattle.std.proofs.Common.{◌<◌, length, arith, ap, subst, sym, ◌∙◌}
 use Rattle.std.proofs.lemmas.List.{length-map}
 use Rattle.csp_ports.proofs.Keeping.{stalled_set}
 use Rattle.csp_ports.proofs.Sizing.{stalled_size}

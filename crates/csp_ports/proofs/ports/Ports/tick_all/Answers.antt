@@ -1,4 +1,4 @@
-use Rattle.std.proofs.Common.{◌≡◌, ℕ, ◌+◌, ◌-◌, ◌*◌, ◌/◌, ◌%◌, subst, sym, ◌∙◌}
+use Rattle.std.proofs.Common.{ℕ, ◌+◌, ◌-◌, ◌*◌, ◌/◌, ◌%◌, subst, sym, ◌∙◌}
 use Rattle.std.specs.List.{range_with_len}
 use Rattle.csp_conn.specs.declared.conns.TheConstants.{SLOTS}
 use Rattle.csp_ports.proofs.Following.{range_next, then_comes}

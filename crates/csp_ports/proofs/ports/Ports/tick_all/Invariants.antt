@@ -1,4 +1,4 @@
-use Rattle.std.proofs.Common.{◌≡◌, ℕ, ◌-◌, ◌*◌, List, []}
+use Rattle.std.proofs.Common.{◌≡◌, ◌-◌, ◌*◌, List, []}
 use Rattle.std.specs.List.{range_with_len}
 use Rattle.csp_conn.specs.declared.conns.TheConstants.{SLOTS}
 use Rattle.csp_deck.specs.Keeping.{PlainPile}

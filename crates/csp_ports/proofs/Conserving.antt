@@ -1,0 +1,222 @@
+-- what comes of each step of ports, and that it neither loses a buffer nor counts further than it may
+use Rattle.std.specs.Prelude.{Bool, true, false, IfSome, None, Option, Some}
+use Rattle.std.specs.List.{range_with_len}
+use Rattle.std.proofs.Common.{◌≡◌, ℕ, zero, suc, ◌+◌, ◌*◌, ◌/◌, ◌%◌, ◌<◌, ◌≤◌, List, [], ◌∷◌, ◌++◌, refl, arith, ap, subst, sym, ◌∙◌}
+use Rattle.std.proofs.lemmas.List.{length-set}
+use Rattle.std.proofs.lemmas.List.Elements.{All-set}
+use Rattle.csp_buffer.specs.Content.{Content}
+use Rattle.csp_buffer.specs.PlainBuffer.{PlainBuffer}
+use Rattle.csp_conn.specs.PlainConns.{place_of, with_slot}
+use Rattle.csp_conn.specs.declared.conns.TheConstants.{SLOTS}
+use Rattle.csp_conn.specs.declared.slot.Slot.TheVariants.{Free}
+use Rattle.csp_ports.proofs.Counting.{all_or, far_at, far_changed, far_closed, far_connected, far_idle, far_terms}
+use Rattle.csp_ports.proofs.Flowing.{Flows, far_later, flows_machine, flows_rested, flows_still, flows_then, machine_far, machine_later, machine_whole, whole_at}
+use Rattle.csp_ports.proofs.Weighing.{machine_gone, tally, tally_append, tally_none, tally_same, waiting_tallied, weigh, weight}
+use Rattle.csp_ports.proofs.Wholes.{admitted_whole, idle_whole, ticked_whole}
+use Rattle.csp_ports.specs.Came.{pictures}
+use Rattle.csp_ports.specs.Counts.{AreFar}
+use Rattle.csp_ports.specs.Held.{stalled_buffers}
+use Rattle.csp_ports.specs.Keeps.{AreWhole}
+use Rattle.csp_ports.specs.PlainPorts.{PlainPorts, PlainStalled, machine_at, stalled_at, terms_at, with_machine, with_stalled, with_terms}
+use Rattle.csp_ports.specs.Steps.{changed, closed_by, connected_by, down, dropped, dropped_in, dropped_of, dropped_on, freed, given_up, has_room, refused_by, settled, settled_by, settled_on, timed, timed_at, timed_in, vacated, went}
+use Rattle.csp_ports.specs.declared.terms.Terms.{Terms}
+use Rattle.csp_ports.specs.declared.terms.Wish.{Wish}
+use Rattle.csp_ports.specs.declared.terms.Wish.TheVariants as wish
+use Rattle.csp_rdp.specs.Balance.{IsWhole}
+use Rattle.csp_rdp.specs.Changes.{change_between}
+use Rattle.csp_rdp.specs.Counts.{IsFar}
+use Rattle.csp_rdp.specs.Holding.{rdp_buffers, rdp_numbers, rested, unneeded}
+use Rattle.csp_rdp.specs.Jobs.{admitting, ticked}
+use Rattle.csp_rdp.specs.Machine.{PlainRdp, idle}
+use Rattle.csp_rdp.specs.declared.answers.Change.{Change}
+use Rattle.csp_rdp.specs.declared.answers.Change.TheVariants as change
+use Rattle.csp_rdp.specs.declared.answers.State.{State}
+use Rattle.csp_rdp.specs.declared.answers.State.TheVariants.{Closed, SynSent, SynRcvd, Open, CloseWait}
+use Rattle.csp_rdp.specs.declared.answers.Why.{Why}
+use Rattle.csp_rdp.specs.declared.answers.Why.TheVariants as machine_why
+use Rattle.csp_rdp.proofs.BalanceLemmas.{admitted-balanced, numbers-ticked}
+use Rattle.csp_rdp.proofs.FarLemmas.{far-ticked}
+
+-- ---- steps that count no further
+
+pub no_further : (p q : PlainPorts) → ((n : ℕ) → AreFar n p → AreFar n q) → (n : ℕ) → AreFar n p → AreFar (n + 0) q
+no_further p q f n h = far_later n (n + 0) q (omega arith) (f n h)
+
+pub flows_none : (m : ℕ) (p : PlainPorts) → AreWhole p → Flows m p p [] []
+flows_none m p h = flows_still m p p refl refl refl (λ n k. far_later n (n + m) p (omega arith) k) h
+
+-- ---- the machine of a slot goes
+
+-- another one that holds nothing takes its place
+pub flows_replaced : (p : PlainPorts) (app slot : ℕ) (r : PlainRdp) → IsWhole r → IsFar 0 r → rdp_numbers r ≡ [] → AreWhole p → Flows 0 p (with_machine p app slot r) (pictures (rdp_buffers (machine_at p app slot))) []
+flows_replaced p app slot r whole far empty h = record {
+  counts = λ o. omega (arith, machine_gone o p app slot r empty, tally_none o);
+  far = λ n k. machine_far 0 n p app slot r (machine_later 0 (n + 0) r (omega arith) far) k;
+  whole = machine_whole p app slot r whole h;
+}
+
+-- the slot is vacated
+conns_far : (n : ℕ) (p : PlainPorts) (app slot : ℕ) → AreFar n p → AreFar n (record p { conns = with_slot p.conns app slot Free })
+conns_far n p app slot h = record { machines = h.machines; made = h.made; ends = h.ends }
+
+flows_vacated : (m ordinal app slot : ℕ) (p : PlainPorts) → ((n : ℕ) → AreFar n p → ordinal ≤ n + m) → AreWhole p → Flows m p (vacated ordinal app slot p).ports (vacated ordinal app slot p).loose []
+flows_vacated m ordinal app slot p one h =
+    let free : PlainPorts = record p { conns = with_slot p.conns app slot Free } in
+    let t : Terms = record (terms_at p app slot) { wish = wish.Nothing; is_down = false; ordinal = ordinal } in
+    let q : PlainPorts = with_terms free app slot t in
+    let first : Flows m p q [] [] = flows_still m p q refl refl refl (λ n k. far_terms (n + m) free app slot t (one n k) (conns_far (n + m) p app slot (far_later n (n + m) p (omega arith) k))) h in
+    flows_then m 0 m p q (with_machine q app slot idle) [] (pictures (rdp_buffers (machine_at q app slot))) [] (omega arith) first
+    (flows_replaced q app slot idle idle_whole (far_idle 0) refl first.whole)
+
+flows_given_up : (app slot : ℕ) (p : PlainPorts) → AreWhole p → Flows 0 p (given_up app slot p).ports (given_up app slot p).loose []
+flows_given_up app slot p h = flows_vacated 0 (terms_at p app slot).ordinal app slot p (λ n k. omega (arith, far_at n p app slot k)) h
+
+pub flows_freed : (app slot : ℕ) (p : PlainPorts) → AreWhole p → Flows 1 p (freed app slot p).ports (freed app slot p).loose []
+flows_freed app slot p h = flows_vacated 1 ((terms_at p app slot).ordinal + 1) app slot p (λ n k. omega (arith, far_at n p app slot k)) h
+
+-- ---- what a change of a connection comes to
+
+flows_connected : (w : Wish) (app slot : ℕ) (p : PlainPorts) → AreWhole p → Flows 0 p (connected_by w app slot p) [] []
+flows_connected wish.Connection app slot p h = flows_still 0 p (connected_by wish.Connection app slot p) refl refl refl (no_further p (connected_by wish.Connection app slot p) (λ n k. far_connected n wish.Connection p app slot k)) h
+flows_connected wish.Nothing app slot p h = flows_none 0 p h
+flows_connected wish.End app slot p h = flows_none 0 p h
+flows_connected wish.Ended app slot p h = flows_none 0 p h
+
+flows_refused : (w : Wish) (why : Why) (app slot : ℕ) (p : PlainPorts) → AreWhole p → Flows 0 p (refused_by w why app slot p).ports (refused_by w why app slot p).loose []
+flows_refused wish.Connection why app slot p h =
+    let first = flows_given_up app slot p h in
+    let g = (given_up app slot p).ports in
+    let q = (refused_by wish.Connection why app slot p).ports in
+    flows_then 0 0 0 p g q (given_up app slot p).loose [] [] (omega arith) first
+    (flows_still 0 g q refl refl refl (no_further g q (λ n k. record { machines = k.machines; made = k.made; ends = k.ends })) first.whole)
+flows_refused wish.Nothing why app slot p h = flows_given_up app slot p h
+flows_refused wish.End why app slot p h = flows_given_up app slot p h
+flows_refused wish.Ended why app slot p h = flows_given_up app slot p h
+
+flows_closed : (w : Wish) (was_open : Bool) (app slot : ℕ) (p : PlainPorts) → AreWhole p → Flows 0 p (closed_by w was_open app slot p).ports (closed_by w was_open app slot p).loose []
+flows_closed wish.End o app slot p h = flows_still 0 p (closed_by wish.End o app slot p).ports refl refl refl (no_further p (closed_by wish.End o app slot p).ports (λ n k. far_closed n wish.End o p app slot k)) h
+flows_closed wish.Nothing true app slot p h = flows_none 0 p h
+flows_closed wish.Nothing false app slot p h = flows_given_up app slot p h
+flows_closed wish.Connection o app slot p h = flows_none 0 p h
+flows_closed wish.Ended o app slot p h = flows_none 0 p h
+
+pub flows_changed : (ch : Change) (app slot : ℕ) (p : PlainPorts) → AreWhole p → Flows 0 p (changed ch app slot p).ports (changed ch app slot p).loose []
+flows_changed change.None app slot p h = flows_none 0 p h
+flows_changed change.Opened app slot p h = flows_connected (terms_at p app slot).wish app slot p h
+flows_changed (change.Refused why) app slot p h = flows_refused (terms_at p app slot).wish why app slot p h
+flows_changed change.Down app slot p h = flows_still 0 p (down app slot p) refl refl refl (no_further p (down app slot p) (λ n k. far_changed n change.Down p app slot k)) h
+flows_changed change.Closed app slot p h = flows_closed (terms_at p app slot).wish (machine_at p app slot).was_open app slot p h
+
+-- a machine made a step, and what it changed; besides, it may hand back what came
+pub flows_went : (m : ℕ) (p : PlainPorts) (app slot : ℕ) (before : State) (why : Why) (r : PlainRdp) (back : List Content) (came : List ℕ) → place_of app slot < 16 → AreWhole p → IsWhole r → ((n : ℕ) → IsFar n (machine_at p app slot) → IsFar (n + m) r)
+    → ((o : Option ℕ) → weigh o back + tally o (rdp_numbers r) ≡ tally o (rdp_numbers (machine_at p app slot)) + tally o came) → Flows m p (went before why app slot r p).ports ((back ++ pictures (unneeded r)) ++ (changed (change_between before r.state why) app slot (with_machine p app slot (rested r))).loose) came
+flows_went m p app slot before why r back came there h whole far even =
+    let q = with_machine p app slot (rested r) in
+    let ch = change_between before r.state why in
+    let first = flows_rested m p app slot r back came there h whole far even in
+    flows_then m 0 m p q (changed ch app slot q).ports (back ++ pictures (unneeded r)) (changed ch app slot q).loose came (omega arith) first (flows_changed ch app slot q first.whole)
+
+-- ---- packets that wait
+
+-- another, or none, in the place of an application's
+pub flows_stalled : (p : PlainPorts) (app : ℕ) (v : Option PlainStalled) (loose : List Content) (came : List ℕ) → app < 4 → AreWhole p → IfSome v (λ s. s.slot < SLOTS)
+    → ((o : Option ℕ) → weigh o loose + weight o (stalled_buffers v) ≡ weight o (stalled_buffers (stalled_at p app)) + tally o came) → Flows 0 p (with_stalled p app v) loose came
+flows_stalled p app v loose came there h slot even = record {
+  counts = λ o. omega (arith, waiting_tallied o p app v (omega (arith, there, h.places)), even o);
+  far = no_further p (with_stalled p app v) (λ n k. record { machines = k.machines; made = k.made; ends = k.ends });
+  whole = record {
+    few = h.few;
+    slots = h.slots;
+    machines = h.machines;
+    places = length-set p.stalled app v ∙ h.places;
+    waits = All-set (λ (s : Option PlainStalled). IfSome s (λ t. t.slot < SLOTS)) p.stalled app v slot h.waits;
+  };
+}
+
+-- one is taken out
+taken_even : (o : Option ℕ) (p : PlainPorts) (app : ℕ) (s : PlainStalled) → stalled_at p app ≡ Some s → weigh o (s.buffer.picture ∷ []) + weight o (stalled_buffers None) ≡ weight o (stalled_buffers (stalled_at p app)) + tally o []
+taken_even o p app s e = ap (λ (w : Option PlainStalled). weight o (stalled_buffers w) + tally o []) (sym e)
+
+flows_unstalled : (p : PlainPorts) (app : ℕ) (s : PlainStalled) → stalled_at p app ≡ Some s → app < 4 → AreWhole p → Flows 0 p (with_stalled p app None) (s.buffer.picture ∷ []) []
+flows_unstalled p app s e there h = flows_stalled p app None (s.buffer.picture ∷ []) [] there h tt (λ o. taken_even o p app s e)
+
+-- it is discarded where its connection is not open any more
+flows_dropped_in : (st : State) (app : ℕ) (s : PlainStalled) (p : PlainPorts) → stalled_at p app ≡ Some s → app < 4 → AreWhole p → Flows 0 p (dropped_in st app s p).ports (dropped_in st app s p).loose []
+flows_dropped_in Open app s p e there h = flows_none 0 p h
+flows_dropped_in SynSent app s p e there h = flows_unstalled p app s e there h
+flows_dropped_in SynRcvd app s p e there h = flows_unstalled p app s e there h
+flows_dropped_in CloseWait app s p e there h = flows_unstalled p app s e there h
+flows_dropped_in Closed app s p e there h = flows_unstalled p app s e there h
+
+pub flows_dropped : (app : ℕ) (p : PlainPorts) → app < 4 → AreWhole p → Flows 0 p (dropped app p).ports (dropped app p).loose []
+flows_dropped app p there h = go (stalled_at p app) refl
+  where
+    go : (w : Option PlainStalled) → stalled_at p app ≡ w → Flows 0 p (dropped_on w app p).ports (dropped_on w app p).loose []
+    go None e = flows_none 0 p h
+    go (Some s) e = flows_dropped_in (machine_at p app s.slot).state app s p e there h
+
+-- a packet is admitted to a window
+pub flows_admitted : (p : PlainPorts) (time app slot : ℕ) (b : PlainBuffer) → place_of app slot < 16 → AreWhole p → Flows 1 p (with_machine p app slot (admitting b time (machine_at p app slot))) [] (b.picture.number ∷ [])
+flows_admitted p time app slot b there h =
+    let r = machine_at p app slot in
+    flows_machine 1 p app slot (admitting b time r) [] (b.picture.number ∷ []) there h (admitted_whole b time r (whole_at p app slot h))
+    (λ n far. record { admitted = omega (arith, far.admitted); delivered = omega (arith, far.delivered) })
+    (λ o. omega (arith, tally_none o, tally_same o (rdp_numbers (admitting b time r)) (rdp_numbers r ++ b.picture.number ∷ []) (admitted-balanced b time r), tally_append o (rdp_numbers r) (b.picture.number ∷ [])))
+
+-- the packet that waits is, where there is room
+settled_there : (p : PlainPorts) (app : ℕ) (s : PlainStalled) → stalled_at p app ≡ Some s → AreWhole p → s.slot < SLOTS
+settled_there p app s e h = subst (λ (w : Option PlainStalled). IfSome w (λ t. t.slot < SLOTS)) e (all_or (λ (w : Option PlainStalled). IfSome w (λ t. t.slot < SLOTS)) p.stalled app None h.waits tt)
+
+flows_settled_by : (room : Bool) (time app : ℕ) (s : PlainStalled) (p : PlainPorts) → stalled_at p app ≡ Some s → app < 4 → AreWhole p → Flows 1 p (settled_by room time app s p) [] []
+flows_settled_by false time app s p e there h = flows_none 1 p h
+flows_settled_by true time app s p e there h =
+    let first = flows_unstalled p app s e there h in
+    let q = with_stalled p app None in
+    let last = flows_admitted q time app s.slot s.buffer (omega (arith, there, settled_there p app s e h)) first.whole in
+    record {
+      counts = λ o. omega (arith, first.counts o, last.counts o, tally_none o);
+      far = λ n k. last.far n (far_later (n + 0) n q (omega arith) (first.far n k));
+      whole = last.whole;
+    }
+
+pub flows_settled : (time app : ℕ) (p : PlainPorts) → app < 4 → AreWhole p → Flows 1 p (settled time app p) [] []
+flows_settled time app p there h = go (stalled_at p app) refl
+  where
+    go : (w : Option PlainStalled) → stalled_at p app ≡ w → Flows 1 p (settled_on w time app p) [] []
+    go None e = flows_none 1 p h
+    go (Some s) e = flows_settled_by (has_room (machine_at p app s.slot)) time app s p e there h
+
+-- ---- the timers
+
+flows_timed_at : (time app slot : ℕ) (p : PlainPorts) → place_of app slot < 16 → AreWhole p → Flows 0 p (timed_at time app slot p).ports (timed_at time app slot p).loose []
+flows_timed_at time app slot p there h =
+    let r = machine_at p app slot in
+    flows_went 0 p app slot r.state machine_why.Timeout (ticked time r) [] [] there h (ticked_whole time r (whole_at p app slot h))
+    (λ n far. machine_later n (n + 0) (ticked time r) (omega arith) (far-ticked n time r far))
+    (λ o. omega (arith, tally_none o, ap (tally o) (numbers-ticked time r)))
+
+place_again : (k : ℕ) → k < 16 → place_of (k / SLOTS) (k % SLOTS) < 16
+place_again k h = omega (arith, h)
+
+flows_timed_in : (time a n : ℕ) (p : PlainPorts) → a + n ≤ 16 → AreWhole p → Flows 0 p (timed_in time (range_with_len a n) p).ports (timed_in time (range_with_len a n) p).loose []
+flows_timed_in time a zero p few h = flows_none 0 p h
+flows_timed_in time a (suc n) p few h =
+    let one = timed_at time (a / SLOTS) (a % SLOTS) p in
+    let rest = timed_in time (range_with_len (a + 1) n) one.ports in
+    let first = flows_timed_at time (a / SLOTS) (a % SLOTS) p (place_again a (omega (arith, few))) h in
+    flows_then 0 0 0 p one.ports rest.ports one.loose rest.loose [] (omega arith) first (flows_timed_in time (a + 1) n one.ports (omega (arith, few)) first.whole)
+
+flows_dropped_of : (a n : ℕ) (p : PlainPorts) → a + n ≤ 4 → AreWhole p → Flows 0 p (dropped_of (range_with_len a n) p).ports (dropped_of (range_with_len a n) p).loose []
+flows_dropped_of a zero p few h = flows_none 0 p h
+flows_dropped_of a (suc n) p few h =
+    let one = dropped a p in
+    let rest = dropped_of (range_with_len (a + 1) n) one.ports in
+    let first = flows_dropped a p (omega (arith, few)) h in
+    flows_then 0 0 0 p one.ports rest.ports one.loose rest.loose [] (omega arith) first (flows_dropped_of (a + 1) n one.ports (omega (arith, few)) first.whole)
+
+pub flows_timed : (time : ℕ) (p : PlainPorts) → AreWhole p → Flows 0 p (timed time p).ports (timed time p).loose []
+flows_timed time p h =
+    let one = timed_in time (range_with_len 0 (p.conns.apps * SLOTS)) p in
+    let rest = dropped_of (range_with_len 0 one.ports.conns.apps) one.ports in
+    let first = flows_timed_in time 0 (p.conns.apps * SLOTS) p (omega (arith, h.few)) h in
+    flows_then 0 0 0 p one.ports rest.ports one.loose rest.loose [] (omega arith) first (flows_dropped_of 0 one.ports.conns.apps one.ports (omega (arith, first.whole.few)) first.whole)

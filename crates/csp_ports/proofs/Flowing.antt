@@ -1,0 +1,118 @@
+-- no step of ports loses a buffer or uses it twice, and none counts further than it may
+use Rattle.std.specs.Prelude.{None, Option, Some}
+use Rattle.std.specs.List.{flat_map}
+use Rattle.std.proofs.Common.{◌≡◌, ℕ, ◌+◌, ◌<◌, ◌≤◌, List, [], ◌++◌, arith, ap, ap₂, subst, sym, ◌∙◌}
+use Rattle.std.proofs.lemmas.List.{length-append, length-set}
+use Rattle.std.proofs.lemmas.List.Elements.{All-set, All-weaker}
+use Rattle.csp_buffer.specs.Content.{Content}
+use Rattle.csp_conn.specs.PlainConns.{place_of}
+use Rattle.csp_deck.specs.Keeping.{PlainPile}
+use Rattle.csp_log.specs.declared.event.Event.{Event}
+use Rattle.csp_ports.proofs.Counting.{all_or, far_machine_at}
+use Rattle.csp_ports.proofs.Weighing.{long, machine_tallied, parted_tally, tally, tally_none, weigh, weigh_append}
+use Rattle.csp_ports.proofs.Wholes.{idle_whole}
+use Rattle.csp_ports.specs.Came.{Came, Comes, pictures}
+use Rattle.csp_ports.specs.Counts.{AreFar}
+use Rattle.csp_ports.specs.Held.{held, stalled_buffers}
+use Rattle.csp_ports.specs.Keeps.{AreWhole, Keeps}
+use Rattle.csp_ports.specs.PlainPorts.{PlainPorts, PlainStalled, PortsAt, machine_at, with_machine}
+use Rattle.csp_rdp.specs.Balance.{IsWhole}
+use Rattle.csp_rdp.specs.Counts.{IsFar}
+use Rattle.csp_rdp.specs.Holding.{rdp_buffers, rdp_numbers, rested, unneeded}
+use Rattle.csp_rdp.specs.Machine.{PlainRdp, idle}
+use Rattle.csp_rdp.proofs.BalanceLemmas.{whole-rested}
+use Rattle.csp_rdp.proofs.FarLemmas.{far-rested}
+
+-- ---- how far ports have come
+
+pub machine_later : (m n : ℕ) (r : PlainRdp) → m ≤ n → IsFar m r → IsFar n r
+machine_later m n r more h = record { admitted = omega (arith, more, h.admitted); delivered = omega (arith, more, h.delivered) }
+
+pub far_later : (m n : ℕ) (p : PlainPorts) → m ≤ n → AreFar m p → AreFar n p
+far_later m n p more h = record {
+  machines = All-weaker (IsFar m) (IsFar n) (λ r far. machine_later m n r more far) p.machines h.machines;
+  made = omega (arith, more, h.made);
+  ends = All-weaker (λ t. t.ordinal ≤ m) (λ t. t.ordinal ≤ n) (λ t one. omega (arith, more, one)) p.terms h.ends;
+}
+
+-- ---- a step of ports: what is let go, and the numbers that came
+
+pub record Flows (m : ℕ) (p q : PlainPorts) (loose : List Content) (came : List ℕ) : Type 0 where
+  pub counts : (o : Option ℕ) → weigh o loose + weigh o (held q) ≡ weigh o (held p) + tally o came
+  pub far : (n : ℕ) → AreFar n p → AreFar (n + m) q
+  pub whole : AreWhole q
+
+-- one step after another
+pub flows_then : (k m n : ℕ) (p q r : PlainPorts) (first second : List Content) (came : List ℕ) → k + m ≡ n → Flows k p q first came → Flows m q r second [] → Flows n p r (first ++ second) came
+flows_then k m n p q r first second came sum f g = record {
+  counts = λ o. omega (arith, f.counts o, g.counts o, weigh_append o first second, tally_none o);
+  far = λ a h. far_later ((a + k) + m) (a + n) r (omega (arith, sum)) (g.far (a + k) (f.far a h));
+  whole = g.whole;
+}
+
+-- so it goes where the buffers stay where they are
+same_whole : (p q : PlainPorts) → q.conns.apps ≡ p.conns.apps → q.machines ≡ p.machines → q.stalled ≡ p.stalled → AreWhole p → AreWhole q
+same_whole p q a b c h = record {
+  few = rw a h.few;
+  slots = rw b h.slots;
+  machines = rw b h.machines;
+  places = rw c h.places;
+  waits = rw c h.waits;
+}
+
+pub flows_still : (m : ℕ) (p q : PlainPorts) → q.conns.apps ≡ p.conns.apps → q.machines ≡ p.machines → q.stalled ≡ p.stalled → ((n : ℕ) → AreFar n p → AreFar (n + m) q) → AreWhole p → Flows m p q [] []
+flows_still m p q a b c far h = record {
+  counts = λ o.
+      ap (λ (n : ℕ). tally o [] + n) (ap (weigh o) (ap₂ (λ (ss : List (Option PlainStalled)) (rs : List PlainRdp). pictures (flat_map stalled_buffers ss ++ flat_map rdp_buffers rs)) c b))
+      ∙ omega (arith, tally_none o);
+  far = far;
+  whole = same_whole p q a b c h;
+}
+
+-- another machine in the place of a slot's
+pub machine_whole : (p : PlainPorts) (app slot : ℕ) (r : PlainRdp) → IsWhole r → AreWhole p → AreWhole (with_machine p app slot r)
+machine_whole p app slot r one h = record {
+  few = h.few;
+  slots = length-set p.machines (place_of app slot) r ∙ h.slots;
+  machines = All-set IsWhole p.machines (place_of app slot) r one h.machines;
+  places = h.places;
+  waits = h.waits;
+}
+
+pub machine_far : (m n : ℕ) (p : PlainPorts) (app slot : ℕ) (r : PlainRdp) → IsFar (n + m) r → AreFar n p → AreFar (n + m) (with_machine p app slot r)
+machine_far m n p app slot r one h =
+    let k = far_later n (n + m) p (omega arith) h in
+    record { machines = All-set (IsFar (n + m)) p.machines (place_of app slot) r one k.machines; made = k.made; ends = k.ends }
+
+pub flows_machine : (m : ℕ) (p : PlainPorts) (app slot : ℕ) (r : PlainRdp) (loose : List Content) (came : List ℕ) → place_of app slot < 16 → AreWhole p → IsWhole r → ((n : ℕ) → IsFar n (machine_at p app slot) → IsFar (n + m) r)
+    → ((o : Option ℕ) → weigh o loose + tally o (rdp_numbers r) ≡ tally o (rdp_numbers (machine_at p app slot)) + tally o came) → Flows m p (with_machine p app slot r) loose came
+flows_machine m p app slot r loose came there h whole far even = record {
+  counts = λ o. omega (arith, machine_tallied o p app slot r (omega (arith, there, h.slots)), even o);
+  far = λ n k. machine_far m n p app slot r (far n (far_machine_at n p app slot k)) k;
+  whole = machine_whole p app slot r whole h;
+}
+
+-- what it does not need any more is let go
+pub flows_rested : (m : ℕ) (p : PlainPorts) (app slot : ℕ) (r : PlainRdp) (back : List Content) (came : List ℕ) → place_of app slot < 16 → AreWhole p → IsWhole r → ((n : ℕ) → IsFar n (machine_at p app slot) → IsFar (n + m) r)
+    → ((o : Option ℕ) → weigh o back + tally o (rdp_numbers r) ≡ tally o (rdp_numbers (machine_at p app slot)) + tally o came) → Flows m p (with_machine p app slot (rested r)) (back ++ pictures (unneeded r)) came
+flows_rested m p app slot r back came there h whole far even =
+    flows_machine m p app slot (rested r) (back ++ pictures (unneeded r)) came there h (whole-rested r whole) (λ n one. far-rested (n + m) r (far n one))
+    (λ o. omega (arith, even o, parted_tally o r, weigh_append o back (pictures (unneeded r))))
+
+-- the machine of a slot is whole
+pub whole_at : (p : PlainPorts) (app slot : ℕ) → AreWhole p → IsWhole (machine_at p app slot)
+whole_at p app slot h = all_or IsWhole p.machines (place_of app slot) idle h.machines idle_whole
+
+-- ---- and what comes of it
+
+pub keeps_from : (m : ℕ) (p q : PlainPorts) (before loose : List Content) (came : List ℕ) → Flows m p q loose came → Keeps m p q before (before ++ loose) came
+keeps_from m p q before loose came h = record {
+  numbers = λ k. omega (arith, h.counts (Some k), weigh_append (Some k) before loose);
+  size = omega (arith, h.counts None, length-append before loose, long loose, long (held p), long (held q));
+  far = h.far;
+}
+
+pub keeps_of : (m : ℕ) (old new : PortsAt) (before after : PlainPile) (e f : List Event) (c : Came) (came : List ℕ) → Comes old new before after e f c → Flows m old.ports c.ports c.loose came → Keeps m old.ports new.ports before.contents after.contents came
+keeps_of m old new before after e f c came h flows =
+    subst (λ (x : PortsAt). Keeps m old.ports x.ports before.contents after.contents came) (sym h.ports)
+    (subst (λ (x : PlainPile). Keeps m old.ports c.ports before.contents x.contents came) (sym h.trash) (keeps_from m old.ports c.ports before.contents c.loose came flows))

@@ -1,0 +1,312 @@
+-- what comes of packets, tasks, and what applications ask: that it neither loses a buffer nor counts further than it may
+use Rattle.std.specs.Prelude.{Bool, true, false, MatchOption, None, Option, Some}
+use Rattle.std.specs.List.{All, flat_map}
+use Rattle.std.specs.Option.{IsSome, option_to_list}
+use Rattle.std.proofs.Common.{◌≡◌, ℕ, ◌+◌, ◌<◌, ◌≤◌, List, [], ◌∷◌, ◌++◌, length, refl, arith, ap, subst, sym, ◌∙◌}
+use Rattle.std.proofs.lemmas.List.{append_assoc, get_or-set_same}
+use Rattle.std.proofs.lemmas.List.Elements.{All-cons, All-head, All-tail}
+use Rattle.csp_base.specs.declared.priority.Prio.{Prio}
+use Rattle.csp_buffer.specs.Content.{Content}
+use Rattle.csp_buffer.specs.PlainBuffer.{PlainBuffer}
+use Rattle.csp_conn.specs.Opening.{gone_on, is_refused, own_port_of}
+use Rattle.csp_conn.specs.PlainConns.{PlainConns, place_of, slot_at, with_slot}
+use Rattle.csp_conn.specs.Slots.{between, is_free}
+use Rattle.csp_conn.specs.declared.slot.Connection.{Connection}
+use Rattle.csp_conn.specs.declared.slot.Slot.{Slot}
+use Rattle.csp_conn.specs.declared.slot.Slot.TheVariants.{Free, Held, Open as Opened}
+use Rattle.csp_log.specs.declared.note.Note.{Note}
+use Rattle.csp_log.specs.declared.note.Note.TheVariants as note
+use Rattle.csp_log.specs.declared.note.Why.TheVariants as why
+use Rattle.csp_ports.proofs.Conserving.{flows_admitted, flows_dropped, flows_freed, flows_none, flows_replaced, flows_settled, flows_stalled, flows_went, no_further}
+use Rattle.csp_ports.proofs.Counting.{far_at, far_terms}
+use Rattle.csp_ports.proofs.Flowing.{Flows, far_later, flows_machine, flows_rested, flows_still, flows_then, keeps_from, machine_later, whole_at}
+use Rattle.csp_ports.proofs.Weighing.{tally, tally_append, tally_none, tally_same, weigh, weigh_append, weight}
+use Rattle.csp_ports.proofs.Wholes.{closed_whole, sent_whole}
+use Rattle.csp_ports.specs.Asking.{answered, answered_by, close_by, connect, connect_by, ended, ended_by, ending_in, held_by, is_reliable, joined, linked}
+use Rattle.csp_ports.specs.Came.{pictures}
+use Rattle.csp_ports.specs.Counts.{AreFar}
+use Rattle.csp_ports.specs.Held.{emptied, emptied_by, first_out, held, stalled_buffers, without_held}
+use Rattle.csp_ports.specs.Keeps.{AreWhole, Keeps}
+use Rattle.csp_ports.specs.Packets.{accepted, admitting_by, handing, invited, submitting_in}
+use Rattle.csp_ports.specs.PlainPorts.{PlainPorts, PlainStalled, PortsAt, anywhere, machine_at, owing, stalled_at, start_of, terms_at, with_machine, with_ports_at, with_stalled, with_terms, wishing}
+use Rattle.csp_ports.specs.Steps.{changed, dropped, has_room, settled, went}
+use Rattle.csp_ports.specs.Tasks.{delivered, kept_again, making, without_packet}
+use Rattle.csp_ports.specs.declared.handing.Invitation.{Invitation}
+use Rattle.csp_ports.specs.declared.origin.Origin.{Origin}
+use Rattle.csp_ports.specs.declared.owed.Owed.{Owed}
+use Rattle.csp_ports.specs.declared.request.Request.{Request}
+use Rattle.csp_ports.specs.declared.terms.Terms.{Terms}
+use Rattle.csp_ports.specs.declared.terms.Wish.{Wish}
+use Rattle.csp_ports.specs.declared.terms.Wish.TheVariants as wish
+use Rattle.csp_rdp.specs.Balance.{IsWhole}
+use Rattle.csp_rdp.specs.Changes.{change_between}
+use Rattle.csp_rdp.specs.Counts.{IsFar}
+use Rattle.csp_rdp.specs.Holding.{rdp_buffers, rdp_numbers, rested, taken_out, unneeded}
+use Rattle.csp_rdp.specs.Jobs.{closing, counted, delivering, delivery, keeping_again, sent, taken_in, without_delivery}
+use Rattle.csp_rdp.specs.Machine.{PlainRdp, accepting, connecting, idle}
+use Rattle.csp_rdp.specs.Table.{back_of, handed, row_of}
+use Rattle.csp_rdp.specs.declared.answers.State.{State}
+use Rattle.csp_rdp.specs.declared.answers.State.TheVariants.{Closed, SynSent, SynRcvd, Open, CloseWait}
+use Rattle.csp_rdp.specs.declared.answers.Why.TheVariants as machine_why
+use Rattle.csp_rdp.specs.declared.jobs.Job.{Job}
+use Rattle.csp_rdp_header.specs.declared.head.RdpHead.{RdpHead}
+use Rattle.csp_rdp_window.specs.Numbers.{number_in}
+use Rattle.csp_rdp_window.specs.Receiving.{confirmed, is_kept}
+use Rattle.csp_rdp.proofs.BalanceLemmas.{again-balanced, delivery-balanced, handed-balanced, numbers-closed, numbers-delivered, numbers-sent, missing-taken, whole-again, whole-delivered, whole-handed, whole-taken}
+use Rattle.csp_rdp.proofs.FarLemmas.{far-after, far-closed, far-delivered, far-sent, far-taken, far-taken-out}
+
+-- ---- tasks
+
+pub nothing_there : (o : Option PlainBuffer) → o ≡ None → IsSome o → ⊥
+nothing_there None e some = cc
+nothing_there (Some b) e some = cc
+
+-- a packet is taken out to be delivered
+pub keeps_taken : (p : PlainPorts) (app slot : ℕ) (b : Content) → place_of app slot < 16 → AreWhole p → delivery (machine_at p app slot) ≡ Some (anywhere b) → Keeps 0 p (without_packet app slot p) [] (b ∷ []) []
+keeps_taken p app slot b there h e =
+    let r = machine_at p app slot in
+    let whole = whole_at p app slot h in
+    keeps_from 0 p (without_packet app slot p) [] (b ∷ []) []
+    (flows_machine 0 p app slot (without_delivery r) (b ∷ []) [] there h (whole-taken r.state r refl whole) (λ n far. machine_later n (n + 0) (without_delivery r) (omega arith) (far-taken n r.state r far))
+    (λ o.
+    let even = tally_same o (rdp_numbers (without_delivery r) ++ number_in (delivery r)) (rdp_numbers r) (delivery-balanced r.state r whole) in
+    let out = ap (λ (d : Option PlainBuffer). tally o (number_in d)) e in
+    omega (arith, tally_none o, even, out, tally_append o (rdp_numbers (without_delivery r)) (number_in (delivery r)))))
+
+taken_same : (s : State) (r : PlainRdp) → ((taken_in s r).state ≡ r.state) × ((taken_in s r).recv.cur ≡ r.recv.cur)
+taken_same Open r = (refl, refl)
+taken_same SynSent r = (refl, refl)
+taken_same SynRcvd r = (refl, refl)
+taken_same CloseWait r = (refl, refl)
+taken_same Closed r = (refl, refl)
+
+-- the connection is open then, and does not keep it any more
+pub now_taken : (p : PlainPorts) (app slot : ℕ) → place_of app slot < 16 → AreWhole p → (machine_at p app slot).state ≡ Open
+    → ((machine_at (without_packet app slot p) app slot).state ≡ Open) × (is_kept (machine_at (without_packet app slot p) app slot).recv ((machine_at (without_packet app slot p) app slot).recv.cur + 1) ≡ false)
+now_taken p app slot there h opened =
+    let r = machine_at p app slot in
+    let new : machine_at (without_packet app slot p) app slot ≡ without_delivery r = get_or-set_same p.machines (place_of app slot) (without_delivery r) idle (omega (arith, there, h.slots)) in
+    let same = taken_same r.state r in
+    subst (λ (q : PlainRdp). (q.state ≡ Open) × (is_kept q.recv (q.recv.cur + 1) ≡ false)) (sym new)
+    (same.0 ∙ opened, ap (λ (n : ℕ). is_kept (without_delivery r).recv (n + 1)) same.1 ∙ missing-taken r.state r opened)
+
+-- it is kept again
+pub keeps_again : (p : PlainPorts) (app slot : ℕ) (b : Content) → place_of app slot < 16 → AreWhole p → (machine_at p app slot).state ≡ Open → is_kept (machine_at p app slot).recv ((machine_at p app slot).recv.cur + 1) ≡ false → Keeps 0 p (kept_again app slot b p) [] [] (b.number ∷ [])
+keeps_again p app slot b there h opened none =
+    let r = machine_at p app slot in
+    keeps_from 0 p (kept_again app slot b p) [] [] (b.number ∷ [])
+    (flows_machine 0 p app slot (keeping_again (anywhere b) r) [] (b.number ∷ []) there h (whole-again (anywhere b) r opened none (whole_at p app slot h)) (λ n far. record { admitted = omega (arith, far.admitted); delivered = omega (arith, far.delivered) })
+    (λ o. omega (arith, tally_none o, tally_same o (rdp_numbers (keeping_again (anywhere b) r)) (rdp_numbers r ++ b.number ∷ []) (again-balanced (anywhere b) r), tally_append o (rdp_numbers r) (b.number ∷ []))))
+
+-- a packet is made
+pub keeps_made : (j : Job) (p : PlainPorts) (time app slot : ℕ) → place_of app slot < 16 → AreWhole p → Keeps 0 p (making j time app slot p) [] [] []
+keeps_made j p time app slot there h =
+    let r = machine_at p app slot in
+    keeps_from 0 p (making j time app slot p) [] [] []
+    (flows_machine 0 p app slot (sent j time r) [] [] there h (sent_whole j time r (whole_at p app slot h)) (λ n far. machine_later n (n + 0) (sent j time r) (omega arith) (far-sent n j time r far))
+    (λ o. omega (arith, tally_none o, ap (tally o) (numbers-sent j time r))))
+
+-- a packet is delivered
+pub flows_delivered : (p : PlainPorts) (time app slot : ℕ) → app < 4 → place_of app slot < 16 → AreWhole p → (machine_at p app slot).state ≡ Open → is_kept (machine_at p app slot).recv ((machine_at p app slot).recv.cur + 1) ≡ false
+    → Flows 1 p (delivered time app slot p).ports (delivered time app slot p).loose []
+flows_delivered p time app slot few there h opened none =
+    let r = machine_at p app slot in
+    let one = went r.state machine_why.Reset app slot (delivering time r) p in
+    let first =
+    flows_went 1 p app slot r.state machine_why.Reset (delivering time r) [] [] there h (whole-delivered time r opened none (whole_at p app slot h)) (λ n far. far-delivered n time r far)
+    (λ o. omega (arith, tally_none o, ap (tally o) (numbers-delivered r.reset_at time (record r { recv = confirmed r.recv; owed = counted time r.owed }))))
+    in
+    flows_then 1 0 1 p one.ports (dropped app one.ports).ports one.loose (dropped app one.ports).loose [] (omega arith) first (flows_dropped app one.ports few first.whole)
+
+-- ---- packets
+
+back_tally : (o : Option ℕ) (back : Option PlainBuffer) → weigh o (pictures (option_to_list back)) ≡ tally o (number_in back)
+back_tally o None = refl
+back_tally o (Some b) = refl
+
+-- one is handed to a machine
+pub flows_handed : (p : PlainPorts) (app slot : ℕ) (head : RdpHead) (b : Content) (time : ℕ) → app < 4 → place_of app slot < 16 → AreWhole p → Flows 1 p (handing p app slot head b time).ports (handing p app slot head b time).loose (b.number ∷ [])
+flows_handed p app slot head b time few there h =
+    let r = machine_at p app slot in
+    let row = row_of r head b.payload in
+    let new = handed head b.trace.tag (anywhere b) time r in
+    let back = pictures (option_to_list (back_of row (anywhere b))) in
+    let whole = whole_at p app slot h in
+    let one = went r.state machine_why.Reset app slot new p in
+    let q = with_machine p app slot (rested new) in
+    let also = (changed (change_between r.state new.state machine_why.Reset) app slot q).loose in
+    let two = dropped app one.ports in
+    let last = settled time app two.ports in
+    let first =
+    flows_went 0 p app slot r.state machine_why.Reset new back (b.number ∷ []) there h (whole-handed row head b.trace.tag (anywhere b) time r refl whole) (λ n far. machine_later n (n + 0) new (omega arith) (far-after n row head b.trace.tag (anywhere b) time r far))
+    (λ o. omega (
+      arith,
+      tally_same o (rdp_numbers new ++ number_in (back_of row (anywhere b))) (rdp_numbers r ++ b.number ∷ []) (handed-balanced row head b.trace.tag (anywhere b) time r refl whole),
+      tally_append o (rdp_numbers new) (number_in (back_of row (anywhere b))),
+      tally_append o (rdp_numbers r) (b.number ∷ []),
+      back_tally o (back_of row (anywhere b)),
+    ))
+    in
+    let second = flows_then 0 0 0 p one.ports two.ports ((back ++ pictures (unneeded new)) ++ also) two.loose (b.number ∷ []) (omega arith) first (flows_dropped app one.ports few first.whole) in
+    let third = flows_then 0 1 1 p two.ports last (((back ++ pictures (unneeded new)) ++ also) ++ two.loose) [] (b.number ∷ []) (omega arith) second (flows_settled time app two.ports few second.whole) in
+    let same : (((back ++ pictures (unneeded new)) ++ also) ++ two.loose) ++ [] ≡ back ++ ((pictures (unneeded new) ++ also) ++ (two.loose ++ [])) =
+    append_assoc ((back ++ pictures (unneeded new)) ++ also) two.loose []
+    ∙ (ap (λ (cs : List Content). cs ++ (two.loose ++ [])) (append_assoc back (pictures (unneeded new)) also)
+    ∙ append_assoc back (pictures (unneeded new) ++ also) (two.loose ++ []))
+    in
+    subst (λ (cs : List Content). Flows 1 p last cs (b.number ∷ [])) same third
+
+-- one that an application sends
+flows_admitting : (room : Bool) (p : PlainPorts) (time app slot : ℕ) (b : Content) → app < 4 → slot < 4 → AreWhole p → stalled_at p app ≡ None → Flows 1 p (admitting_by room p app slot b time) [] (b.number ∷ [])
+flows_admitting true p time app slot b few there h none = flows_admitted p time app slot (anywhere b) (omega (arith, few, there)) h
+flows_admitting false p time app slot b few there h none =
+    let v : Option PlainStalled = Some (record { slot = slot; buffer = anywhere b }) in
+    let one = flows_stalled p app v [] (b.number ∷ []) few h there (λ o. omega (arith, tally_none o, ap (λ (w : Option PlainStalled). weight o (stalled_buffers w)) none)) in
+    record { counts = one.counts; far = λ n k. far_later (n + 0) (n + 1) (with_stalled p app v) (omega arith) (one.far n k); whole = one.whole }
+
+flows_lost : (p : PlainPorts) (b : Content) → AreWhole p → Flows 1 p p (b ∷ []) (b.number ∷ [])
+flows_lost p b h = record { counts = λ o. omega arith; far = λ n k. far_later n (n + 1) p (omega arith) k; whole = h }
+
+pub flows_submitted : (st : State) (p : PlainPorts) (app slot : ℕ) (b : Content) (time : ℕ) → app < 4 → slot < 4 → AreWhole p → stalled_at p app ≡ None → Flows 1 p (submitting_in st p app slot b time).ports (submitting_in st p app slot b time).loose (b.number ∷ [])
+flows_submitted Open p app slot b time few there h none = flows_admitting (has_room (machine_at p app slot)) p time app slot b few there h none
+flows_submitted SynSent p app slot b time few there h none = flows_lost p b h
+flows_submitted SynRcvd p app slot b time few there h none = flows_lost p b h
+flows_submitted CloseWait p app slot b time few there h none = flows_lost p b h
+flows_submitted Closed p app slot b time few there h none = flows_lost p b h
+
+-- ---- connections that begin
+
+connecting_whole : (start node nth time : ℕ) (o : Origin) → IsWhole (connecting start o.options node nth time)
+connecting_whole start node nth time o = record { unopened = (refl, refl); ordered = tt }
+
+-- they count one further
+linked_far : (n m : ℕ) (p q : PlainPorts) (app slot : ℕ) (t : Terms) → q.machines ≡ p.machines → q.terms ≡ (with_terms p app slot t).terms → t.ordinal ≡ (terms_at p app slot).ordinal → q.made ≤ p.made + m → AreFar n p → AreFar (n + m) q
+linked_far n m p q app slot t machines terms ordinal made h =
+    let k = far_terms (n + m) p app slot t (omega (arith, ordinal, far_at n p app slot h)) (far_later n (n + m) p (omega arith) h) in
+    record { machines = rw machines k.machines; made = omega (arith, made, h.made); ends = rw terms k.ends }
+
+-- the applications stay
+opened_apps : (own : ℕ) (from : Option ℕ) (c : PlainConns) → (gone_on c own from).apps ≡ c.apps
+opened_apps own None c = refl
+opened_apps own (Some port) c = refl
+
+-- one that an application asks for
+flows_joined : (reliable : Bool) (o : Origin) (p : PlainPorts) (app : ℕ) (r : Request) (own time : ℕ) → AreWhole p → Flows 1 p (joined reliable o p app r own time).ports (joined reliable o p app r own time).loose []
+flows_joined false o p app r own time h =
+    let q = (joined false o p app r own time).ports in
+    let t : Terms = record (terms_at p app r.slot) { prio = r.prio; flags = r.flags; wish = wish.Nothing; is_down = false } in
+    flows_still 1 p q (opened_apps own r.from (with_slot p.conns app r.slot (Opened (between r.dest r.port own)))) refl refl (λ n k. linked_far n 1 p q app r.slot t refl refl refl (omega arith) k) h
+flows_joined true o p app r own time h =
+    let q : PlainPorts = record (linked wish.Connection p app r own) { made = p.made + 1 } in
+    let machine = connecting (start_of o.seed p.made) o.options o.node p.made time in
+    let t : Terms = record (terms_at p app r.slot) { prio = r.prio; flags = r.flags; wish = wish.Connection; is_down = false } in
+    let first = flows_still 1 p q (opened_apps own r.from (with_slot p.conns app r.slot (Opened (between r.dest r.port own)))) refl refl (λ n k. linked_far n 1 p q app r.slot t refl refl refl (omega arith) k) h in
+    flows_then 1 0 1 p q (with_machine q app r.slot machine) [] (pictures (rdp_buffers (machine_at q app r.slot))) [] (omega arith) first
+    (flows_replaced q app r.slot machine (connecting_whole (start_of o.seed p.made) o.node p.made time o) (record { admitted = omega arith; delivered = omega arith }) refl first.whole)
+
+flows_unasked : (p : PlainPorts) (app : ℕ) (what : Note) → AreWhole p → Flows 1 p (owing p app what) [] []
+flows_unasked p app what h = flows_still 1 p (owing p app what) refl refl refl (λ n k. let l = far_later n (n + 1) p (omega arith) k in record { machines = l.machines; made = l.made; ends = l.ends }) h
+
+flows_connect_by : (s : Slot) (refused : Bool) (own : Option ℕ) (o : Origin) (p : PlainPorts) (app : ℕ) (r : Request) (time : ℕ) → AreWhole p → Flows 1 p (connect_by s refused own o p app r time).ports (connect_by s refused own o p app r time).loose []
+flows_connect_by Free true own o p app r time h = flows_unasked p app (note.Refused why.PortBusy) h
+flows_connect_by Free false (Some own) o p app r time h = flows_joined (is_reliable r.flags) o p app r own time h
+flows_connect_by Free false None o p app r time h = flows_none 1 p h
+flows_connect_by Held refused own o p app r time h = flows_unasked p app (note.Refused why.Busy) h
+flows_connect_by (Opened _) refused own o p app r time h = flows_unasked p app (note.Refused why.Busy) h
+
+pub flows_connected : (o : Origin) (p : PlainPorts) (app : ℕ) (r : Request) (time : ℕ) → AreWhole p → Flows 1 p (connect o p app r time).ports (connect o p app r time).loose []
+flows_connected o p app r time h = flows_connect_by (slot_at p.conns app r.slot) (is_refused p.conns r.dest r.from) (own_port_of p.conns r.dest r.from) o p app r time h
+
+-- one that a packet asks for
+pub flows_invited : (o : Origin) (p : PlainPorts) (app slot : ℕ) (c : Connection) (prio : Prio) (flags : ℕ) (i : Invitation) (time : ℕ) → AreWhole p → Flows 1 p (invited o p app slot c prio flags i time).ports (invited o p app slot c prio flags i time).loose []
+flows_invited o p app slot c prio flags i time h =
+    let q : PlainPorts = record (accepted p app slot c prio flags) { made = p.made + 1 } in
+    let machine = accepting (start_of o.seed p.made) i.options i.head.seq.0 i.tag o.node p.made time in
+    let t : Terms = record (terms_at p app slot) { prio = prio; flags = flags; wish = wish.Nothing; is_down = false } in
+    let first = flows_still 1 p q refl refl refl (λ n k. linked_far n 1 p q app slot t refl refl refl (omega arith) k) h in
+    flows_then 1 0 1 p q (with_machine q app slot machine) [] (pictures (rdp_buffers (machine_at q app slot))) [] (omega arith) first
+    (flows_replaced q app slot machine (record { unopened = (refl, refl); ordered = tt }) (record { admitted = omega arith; delivered = omega arith }) refl first.whole)
+
+-- ---- connections that end
+
+far_wish : (n : ℕ) (p : PlainPorts) (app slot : ℕ) (w : Wish) → AreFar n p → AreFar n (wishing p app slot w)
+far_wish n p app slot w h = far_terms n p app slot (record (terms_at p app slot) { wish = w }) (far_at n p app slot h) h
+
+flows_ending : (st : State) (app slot : ℕ) (p : PlainPorts) → AreWhole p → Flows 0 p (ending_in st app slot p) [] []
+flows_ending Closed app slot p h =
+    flows_still 0 p (ended app slot p) refl refl refl (no_further p (ended app slot p) (λ n k. let w = far_wish n p app slot wish.Ended k in record { machines = w.machines; made = w.made; ends = w.ends })) h
+flows_ending SynSent app slot p h = flows_still 0 p (wishing p app slot wish.End) refl refl refl (no_further p (wishing p app slot wish.End) (λ n k. far_wish n p app slot wish.End k)) h
+flows_ending SynRcvd app slot p h = flows_still 0 p (wishing p app slot wish.End) refl refl refl (no_further p (wishing p app slot wish.End) (λ n k. far_wish n p app slot wish.End k)) h
+flows_ending Open app slot p h = flows_still 0 p (wishing p app slot wish.End) refl refl refl (no_further p (wishing p app slot wish.End) (λ n k. far_wish n p app slot wish.End k)) h
+flows_ending CloseWait app slot p h = flows_still 0 p (wishing p app slot wish.End) refl refl refl (no_further p (wishing p app slot wish.End) (λ n k. far_wish n p app slot wish.End k)) h
+
+-- by its application
+flows_held : (free : Bool) (p : PlainPorts) (app slot : ℕ) → AreWhole p → Flows 0 p (held_by free p app slot) [] [] × (machine_at (held_by free p app slot) app slot ≡ machine_at p app slot)
+flows_held true p app slot h = (flows_still 0 p (held_by true p app slot) refl refl refl (no_further p (held_by true p app slot) (λ n k. record { machines = k.machines; made = k.made; ends = k.ends })) h, refl)
+flows_held false p app slot h = (flows_none 0 p h, refl)
+
+pub flows_ended : (closing_now : Bool) (p : PlainPorts) (app slot time : ℕ) → place_of app slot < 16 → AreWhole p → Flows 0 p (close_by closing_now p app slot time).ports (close_by closing_now p app slot time).loose []
+flows_ended true p app slot time there h = flows_none 0 p h
+flows_ended false p app slot time there h =
+    let r = machine_at p app slot in
+    let new = closing time r in
+    let q = held_by (is_free (slot_at p.conns app slot)) p app slot in
+    let zero = flows_held (is_free (slot_at p.conns app slot)) p app slot h in
+    let one = with_machine q app slot (rested new) in
+    let first =
+    flows_rested 0 q app slot new [] [] there zero.0.whole (closed_whole r.state time r (whole_at p app slot h))
+    (λ n far. machine_later n (n + 0) new (omega arith) (far-closed n r.state time r (subst (IsFar n) zero.1 far)))
+    (λ o. omega (arith, tally_none o, ap (tally o) (numbers-closed r.state time r), ap (λ (x : PlainRdp). tally o (rdp_numbers x)) zero.1))
+    in
+    let second = flows_then 0 0 0 p q one [] (pictures (unneeded new)) [] (omega arith) zero.0 first in
+    flows_then 0 0 0 p one (ending_in new.state app slot one) (pictures (unneeded new)) [] [] (omega arith) second (flows_ending new.state app slot one second.whole)
+
+-- by the answer to its close
+flows_ended_by : (what : Note) (app : ℕ) (p : PlainPorts) → AreWhole p → Flows 1 p (ended_by what app p).ports (ended_by what app p).loose []
+flows_ended_by (note.Closed slot) app p h = flows_freed app slot p h
+flows_ended_by note.Bound app p h = flows_none 1 p h
+flows_ended_by (note.Connected slot) app p h = flows_none 1 p h
+flows_ended_by (note.Refused reason) app p h = flows_none 1 p h
+flows_ended_by (note.Down slot) app p h = flows_none 1 p h
+flows_ended_by (note.Bind port need) app p h = flows_none 1 p h
+flows_ended_by (note.Connect slot dest port prio flags from) app p h = flows_none 1 p h
+flows_ended_by (note.Close slot) app p h = flows_none 1 p h
+
+flows_answered_by : (os : List Owed) (p : PlainPorts) → AreWhole p → Flows 1 p (answered_by os p).ports (answered_by os p).loose []
+flows_answered_by [] p h = flows_none 1 p h
+flows_answered_by (o ∷ os) p h =
+    let q : PlainPorts = record p { owed = os } in
+    let first = flows_still 0 p q refl refl refl (no_further p q (λ n k. record { machines = k.machines; made = k.made; ends = k.ends })) h in
+    let next = ended_by o.note o.app q in
+    flows_then 0 1 1 p q next.ports [] next.loose [] (omega arith) first (flows_ended_by o.note o.app q first.whole)
+
+pub flows_answered : (p : PlainPorts) → AreWhole p → Flows 1 p (answered p).ports (answered p).loose []
+flows_answered p h = flows_answered_by p.owed p h
+
+-- ---- the end of a run: buffers are taken out
+
+far_without : (n : ℕ) (rs : List PlainRdp) → All (IsFar n) rs → All (IsFar n) (without_held rs)
+far_without n [] all = all
+far_without n (r ∷ rs) all = go (rdp_buffers r) (far_without n rs (All-tail (IsFar n) r rs all))
+  where
+    go : (bs : List PlainBuffer) → All (IsFar n) (without_held rs) → All (IsFar n) (first_out bs r rs (without_held rs))
+    go [] rest = All-cons (IsFar n) r (without_held rs) (All-head (IsFar n) r rs all) rest
+    go (b ∷ bs) rest = All-cons (IsFar n) (taken_out r) rs (far-taken-out n r (All-head (IsFar n) r rs all)) (All-tail (IsFar n) r rs all)
+
+far_emptied : (n : ℕ) (bs : List PlainBuffer) (p : PlainPorts) → AreFar n p → AreFar n (emptied_by bs p)
+far_emptied n (b ∷ bs) p h = record { machines = h.machines; made = h.made; ends = h.ends }
+far_emptied n [] p h = record { machines = far_without n p.machines h.machines; made = h.made; ends = h.ends }
+
+pub keeps_out : (old new : PortsAt) (b : Content) → held old.ports ≡ b ∷ held new.ports → new ≡ with_ports_at old (emptied old.ports) → Keeps 0 old.ports new.ports [] (b ∷ []) []
+keeps_out old new b e is = record {
+  numbers = λ k. omega (arith, ap (weigh (Some k)) e, weigh_append (Some k) (b ∷ []) (held new.ports));
+  size = omega (arith, ap length e);
+  far = λ n h. subst (λ (x : PortsAt). AreFar (n + 0) x.ports) (sym is) (far_later n (n + 0) (emptied old.ports) (omega arith) (far_emptied n (flat_map stalled_buffers old.ports.stalled) old.ports h));
+}
+
+pub keeps_out_or : (old new : PortsAt) (o : Option PlainBuffer) → MatchOption o ((held old.ports ≡ []) × (new ≡ old)) (λ b. held old.ports ≡ b.picture ∷ held new.ports) → new ≡ with_ports_at old (emptied old.ports)
+    → MatchOption o (Keeps 0 old.ports new.ports [] [] []) (λ b. Keeps 0 old.ports new.ports [] (b.picture ∷ []) [])
+keeps_out_or old new None h is =
+    subst (λ (x : PortsAt). Keeps 0 old.ports x.ports [] [] []) (sym h.1)
+    (record { numbers = λ k. omega arith; size = omega arith; far = λ n k. far_later n (n + 0) old.ports (omega arith) k })
+keeps_out_or old new (Some b) h is = keeps_out old new b.picture h is
