@@ -8,14 +8,16 @@ use Rattle.std.proofs.lemmas.List.Sums.{sum_by_push, sum_by-set}
 use Rattle.csp_app.specs.declared.step.Step.{Step}
 use Rattle.csp_link.specs.declared.fault.Fault.{Fault}
 use Rattle.csp_log.specs.declared.places.LinkKind.{LinkKind}
+use Rattle.csp_rdp_header.specs.declared.options.Options.{Options}
 use Rattle.csp_route.specs.Routes.{Routes, IsWithin}
 use Rattle.csp_text.specs.Names.{is_name}
 use Rattle.csp_scene.specs.declared.limits.TheConstants.{MAX_UNTIL, MAX_NODES, MAX_LINKS, MAX_APPS, MAX_STEPS, MAX_FAULTS}
 use Rattle.csp_scene.specs.Scene.{PlainApp, PlainNode, PlainLink, PlainSchedule}
 use Rattle.csp_scene.specs.Links.{links_at, node_at, fault_count}
-use Rattle.csp_scene.specs.Ranges.{IsStep, IsApp, IsNode, IsPlanned, IsSchedule}
+use Rattle.csp_scene.specs.Ranges.{IsStep, AreOptions, IsApp, IsNode, IsPlanned, IsSchedule}
 use Rattle.csp_scene.specs.Draft.{PlainDraft, no_draft, with_node, with_link}
 use Rattle.csp_scene.specs.Nodes.{with_app, with_app_at, last_app, with_step, with_last_step, with_step_at}
+use Rattle.csp_scene.specs.Transport.{with_rdp, with_rdp_at}
 use Rattle.csp_scene.specs.Joining.{new_link, with_routes}
 use Rattle.csp_scene.specs.Faults.{with_fault, with_fault_at, link_at, no_link}
 use Rattle.csp_scene.specs.Kept.{IsDraft, IsHost, IsLinkAfter}
@@ -147,6 +149,20 @@ replaced d at node host is more here within held =
       host = held;
     }
 
+-- which nodes had their line of options does not matter
+with_places : (d : PlainDraft) (tuned : List ℕ) → IsDraft d → IsDraft (record d { tuned = tuned })
+with_places d tuned is = record {
+  until = is.until;
+  schedule = is.schedule;
+  nodes = is.nodes;
+  few = is.few;
+  links = is.links;
+  few_links = is.few_links;
+  faults = is.faults;
+  routes = is.routes;
+  host = is.host;
+}
+
 -- an application
 IsNode-app : (node : PlainNode) (app : PlainApp) → IsNode node → node.addr ≢ None → IsApp app → length node.apps < MAX_APPS → IsNode (with_app app node)
 IsNode-app node app is router here room = record {
@@ -158,6 +174,7 @@ IsNode-app node app is router here room = record {
   seed = is.seed;
   some_inbox = is.some_inbox;
   most_inbox = is.most_inbox;
+  options = is.options;
   apps = AllByRecursion-push IsApp node.apps app is.apps here;
   few = omega (arith, room, length-append node.apps (app ∷ []));
 }
@@ -192,6 +209,7 @@ IsNode-step node step is some here room = record {
   seed = is.seed;
   some_inbox = is.some_inbox;
   most_inbox = is.most_inbox;
+  options = is.options;
   apps = AllByRecursion-set IsApp node.apps (length node.apps - 1) (with_step step (last_app node)) is.apps (IsApp-step (last_app node) step (AllByRecursion-at IsApp node.apps (length node.apps - 1) _ is.apps (omega arith)) here room);
   few = omega (arith, is.few, length-set node.apps (length node.apps - 1) (with_step step (last_app node)));
 }
@@ -215,6 +233,7 @@ IsNode-routes node routes is router = record {
   seed = is.seed;
   some_inbox = is.some_inbox;
   most_inbox = is.most_inbox;
+  options = is.options;
   apps = is.apps;
   few = is.few;
 }
@@ -225,6 +244,30 @@ IsDraft-routes d place routes is within router leads =
     let next : PlainNode = record node { routes = routes } in
     replaced d place next d.host is (omega arith) (IsNode-routes node routes (AllByRecursion-at IsNode d.nodes place _ is.nodes within) router) leads
     (host_grows d.nodes d.links (set d.nodes place next) d.links d.host (grows_set d place next (omega arith)) is.host)
+
+-- the options of a node's reliable connections
+IsNode-rdp : (node : PlainNode) (options : Options) → IsNode node → AreOptions options → IsNode (with_rdp options node)
+IsNode-rdp node options is here = record {
+  name = is.name;
+  addr = is.addr;
+  bridge = λ none. record { apps = (is.bridge none).apps; routes = (is.bridge none).routes };
+  least = is.least;
+  most = is.most;
+  seed = is.seed;
+  some_inbox = is.some_inbox;
+  most_inbox = is.most_inbox;
+  options = here;
+  apps = is.apps;
+  few = is.few;
+}
+
+pub IsDraft-rdp : (d : PlainDraft) (place : ℕ) (options : Options) → IsDraft d → place < length d.nodes → AreOptions options → IsDraft (with_rdp_at place options d)
+IsDraft-rdp d place options is within here =
+    let node = node_at d.nodes place in
+    let next = with_rdp options node in
+    with_places (record d { nodes = set d.nodes place next }) (d.tuned ++ place ∷ [])
+    (replaced d place next d.host is (omega arith) (IsNode-rdp node options (AllByRecursion-at IsNode d.nodes place _ is.nodes within) here) (is.routes.each place)
+    (host_grows d.nodes d.links (set d.nodes place next) d.links d.host (grows_set d place next (omega arith)) is.host))
 
 -- a link
 pub IsDraft-link : (d : PlainDraft) (word : List ℕ) (kind : LinkKind) (one other : ℕ) → IsDraft d → IsTrue (is_name word) → one < length d.nodes → other < length d.nodes → one ≢ other → length d.links < MAX_LINKS → IsDraft (with_link (new_link d.links word kind one other) d)

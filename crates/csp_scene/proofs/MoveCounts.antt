@@ -10,6 +10,7 @@ use Rattle.csp_app.specs.declared.step.Step.TheVariants as step
 use Rattle.csp_link.specs.declared.fault.Fault.{Fault}
 use Rattle.csp_link.specs.declared.fault.FaultKind.TheVariants as fault
 use Rattle.csp_log.specs.declared.places.LinkKind.{LinkKind}
+use Rattle.csp_rdp_header.specs.declared.options.Options.{Options}
 use Rattle.csp_route.specs.Routes.{Routes, merged}
 use Rattle.csp_route.specs.Text.{parsed}
 use Rattle.csp_route.specs.declared.error.RouteError.{RouteError}
@@ -29,6 +30,7 @@ use Rattle.csp_scene.specs.Arguments.{word_at, number_at, text_from}
 use Rattle.csp_scene.specs.Steps.{bind_step, connect_step, send_step, burst_step, raw_step, recv_step, close_step, wait_step}
 use Rattle.csp_scene.specs.Draft.{PlainDraft, no_draft, demand, and_then, with_node, with_link}
 use Rattle.csp_scene.specs.Nodes.{state_until, new_node, new_bridge, may_add_node, state_node, new_app, may_add_app, with_app_at, state_app_at, state_app, last_app, with_step_at, state_step_at, state_step}
+use Rattle.csp_scene.specs.Transport.{given_options, is_tuned, with_rdp_at, state_rdp_at, state_rdp}
 use Rattle.csp_scene.specs.Joining.{link_kind, new_link, may_add_link, state_link_between, state_link, kind_of, known_ifaces, with_routes, add_routes, routed, state_route}
 use Rattle.csp_scene.specs.Faults.{planned, may_add_fault, with_fault_at, state_fault_at, state_fault}
 use Rattle.csp_scene.specs.Moves.{move_of}
@@ -74,6 +76,12 @@ step_has : (d : PlainDraft) (step : Step) (place : Option ℕ) → HasAtMost (mo
 step_has d step None = err_has (move_count d) kind.Place
 step_has d step (Some place) =
     demanded (move_count d) (ltb (length (last_app (node_at d.nodes place)).steps) MAX_STEPS) kind.Full (Ok (with_step_at place step d)) (ok_has (move_count d) (with_step_at place step d) (omega arith))
+
+rdp_has : (d : PlainDraft) (options : Options) (place : Option ℕ) → HasAtMost (move_count d) (state_rdp_at d options place)
+rdp_has d options None = err_has (move_count d) kind.Unknown
+rdp_has d options (Some place) =
+    let next = with_rdp_at place options d in
+    demanded (move_count d) (not (is_tuned d place)) kind.Twice (Ok next) (ok_has (move_count d) next (omega arith))
 
 link_has : (d : PlainDraft) (word : List ℕ) (carries : LinkKind) (one other : Option ℕ) → HasAtMost (move_count d) (state_link_between d word carries one other)
 link_has d word carries None other = err_has (move_count d) kind.Unknown
@@ -140,6 +148,7 @@ state_has form.Shuffle shape d args = same_has d args (state_schedule d (shuffle
 state_has form.Moves shape d args = more_has (move_count d + length (drop 1 args)) (move_count d + length args) (state_moves d (drop 1 args)) (omega (arith, length-drop 1 args)) (moves_has d (drop 1 args))
 state_has form.Node shape d args = same_has d args (state_node d (new_node shape args)) (node_has d (new_node shape args))
 state_has form.Bridge shape d args = same_has d args (state_node d (new_bridge shape args)) (node_has d (new_bridge shape args))
+state_has form.Rdp shape d args = same_has d args (state_rdp d args) (rdp_has d (given_options args) (router_named (word_at args 0) d.nodes))
 state_has form.Link shape d args = same_has d args (state_link d args) (link_has d (word_at args 0) (link_kind (word_at args 1)) (node_named (word_at args 2) d.nodes) (node_named (word_at args 3) d.nodes))
 state_has form.Route shape d args =
     let place = router_named (word_at args 0) d.nodes in

@@ -3,17 +3,19 @@ use Rattle.std.specs.Prelude.{ℕ, Bool, true, false, List, [], ◌∷◌, ◌++
 use Rattle.csp_scene.specs.Scene.{PlainNode, PlainLink, PlainSchedule}
 use Rattle.csp_scene.specs.declared.refusal.SceneKind.{SceneKind}
 
--- a scene in the making: `until` and the schedule where they were given, the nodes, the links, and the place of the node of the last `app` line
+-- a scene in the making: `until` and the schedule where they were given, the nodes, the links, the place of the node of the last `app` line,
+-- and the places of the nodes that had their `rdp` line
 pub record PlainDraft : Type 0 where
   pub until : Option ℕ
   pub schedule : Option PlainSchedule
   pub nodes : List PlainNode
   pub links : List PlainLink
   pub host : Option ℕ
+  pub tuned : List ℕ
 
 -- before the first line
 abbrev pub no_draft : PlainDraft
-no_draft = record { until = None; schedule = None; nodes = []; links = []; host = None }
+no_draft = record { until = None; schedule = None; nodes = []; links = []; host = None; tuned = [] }
 
 -- a test that a line has to pass, and the kind of a line that fails it
 abbrev pub demand : {A : Type 0} → Bool → SceneKind → Result A SceneKind → Result A SceneKind

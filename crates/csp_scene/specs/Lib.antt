@@ -10,6 +10,7 @@ pub mod Arguments
 pub mod Steps
 pub mod Draft
 pub mod Nodes
+pub mod Transport
 pub mod Joining
 pub mod Faults
 pub mod Stated

@@ -2,6 +2,7 @@
 use Rattle.std.specs.Prelude.{ℕ, ◌==◌, Bool, List, [], None, length, filter, slice_index_or}
 use Rattle.std.specs.List.{list_any, sum_by}
 use Rattle.std.specs.FinMap as finite
+use Rattle.csp_rdp_header.specs.Options.{usual_options}
 use Rattle.csp_scene.specs.Scene.{PlainNode, PlainLink}
 
 -- whether a link touches the node in a place
@@ -14,7 +15,7 @@ links_at place links = filter (touches place) links
 
 -- the node in a place
 abbrev pub no_node : PlainNode
-no_node = record { name = []; addr = None; buffers = 0; seed = 0; inbox = 0; routes = finite.empty; apps = [] }
+no_node = record { name = []; addr = None; buffers = 0; seed = 0; inbox = 0; options = usual_options; routes = finite.empty; apps = [] }
 
 abbrev pub node_at : List PlainNode → ℕ → PlainNode
 node_at nodes place = slice_index_or nodes place no_node

@@ -4,6 +4,7 @@ use Rattle.std.specs.List.{list_any}
 use Rattle.std.specs.Option.{unwrap_or}
 use Rattle.std.specs.FinMap as finite
 use Rattle.csp_app.specs.declared.step.Step.{Step}
+use Rattle.csp_rdp_header.specs.Options.{usual_options}
 use Rattle.csp_scene.specs.declared.limits.TheConstants.{MAX_NODES, MAX_APPS, MAX_STEPS, DEFAULT_SEED, DEFAULT_INBOX}
 use Rattle.csp_scene.specs.declared.table.Keyword.TheVariants as keyword
 use Rattle.csp_scene.specs.declared.table.Part.{Part}
@@ -27,6 +28,7 @@ new_node shape args = record {
   buffers = number_at args 3;
   seed = unwrap_or (setting keyword.Seed shape args) DEFAULT_SEED;
   inbox = unwrap_or (setting keyword.Inbox shape args) DEFAULT_INBOX;
+  options = usual_options;
   routes = finite.empty;
   apps = [];
 }
@@ -39,6 +41,7 @@ new_bridge shape args = record {
   buffers = number_at args 2;
   seed = DEFAULT_SEED;
   inbox = unwrap_or (setting keyword.Inbox shape args) DEFAULT_INBOX;
+  options = usual_options;
   routes = finite.empty;
   apps = [];
 }

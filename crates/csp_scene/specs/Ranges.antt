@@ -11,9 +11,11 @@ use Rattle.csp_link.specs.declared.fault.FaultKind.{FaultKind}
 use Rattle.csp_link.specs.declared.fault.FaultKind.TheVariants as fault
 use Rattle.csp_link.specs.declared.fault.TheConstants.{MAX_REPEATS}
 use Rattle.csp_log.specs.declared.places.TheConstants.{MAX_DATA, SLOTS}
+use Rattle.csp_rdp_header.specs.declared.options.Options.{Options}
+use Rattle.csp_rdp_header.specs.declared.options.TheConstants.{MAX_WINDOW}
 use Rattle.csp_route.specs.Routes.{IsWithin}
 use Rattle.csp_text.specs.Names.{is_name}
-use Rattle.csp_scene.specs.declared.limits.TheConstants.{MAX_UNTIL, MAX_ADDR, MAX_NODES, MAX_LINKS, BRIDGE_LINKS, MAX_APPS, MAX_STEPS, MIN_BUFFERS, MAX_SEED, MIN_INBOX, MAX_INBOX, MAX_PORT, FIRST_OWN_PORT, MAX_DEST, CRC_FLAG, RDP_FLAG, MAX_COUNT, MAX_ROUNDS, MAX_FAULTS, LAST_FRAME, MAX_DELAY, MAX_FLIP, MAX_SHUFFLE}
+use Rattle.csp_scene.specs.declared.limits.TheConstants.{MAX_UNTIL, MAX_ADDR, MAX_NODES, MAX_LINKS, BRIDGE_LINKS, MAX_APPS, MAX_STEPS, MIN_BUFFERS, MAX_SEED, MIN_INBOX, MAX_INBOX, MAX_PORT, FIRST_OWN_PORT, MAX_DEST, CRC_FLAG, RDP_FLAG, MAX_COUNT, MAX_ROUNDS, MAX_FAULTS, LAST_FRAME, MAX_DELAY, MAX_FLIP, MAX_SHUFFLE, MAX_OPTION}
 use Rattle.csp_log.specs.declared.places.End.{End}
 use Rattle.csp_scene.specs.declared.scenario.Move.{Move}
 use Rattle.csp_scene.specs.declared.scenario.Move.TheVariants as move
@@ -56,7 +58,22 @@ pub record IsBridge (node : PlainNode) : Type 0 where
   pub apps : node.apps ≡ []
   pub routes : node.routes ≡ finite.empty
 
--- a node has a name, an address below the broadcast address or else it is a bridge; buffers, seed and inbox in their ranges, and applications
+-- a timeout of a node's reliable connections, in rounds
+abbrev pub IsTimeout : ℕ → Type 0
+IsTimeout rounds = (1 ≤ rounds) × (rounds ≤ MAX_OPTION)
+
+-- the options of a node's reliable connections, each in its range
+pub record AreOptions (options : Options) : Type 0 where
+  pub least_window : 1 ≤ options.window
+  pub most_window : options.window ≤ MAX_WINDOW
+  pub conn_timeout : IsTimeout options.conn_timeout
+  pub packet_timeout : IsTimeout options.packet_timeout
+  pub delayed : options.delayed ≤ MAX_OPTION
+  pub ack_timeout : options.ack_timeout ≤ MAX_OPTION
+  pub ack_count : options.ack_count ≤ MAX_OPTION
+
+-- a node has a name, an address below the broadcast address or else it is a bridge; buffers, seed, inbox and options in their ranges,
+-- and applications
 pub record IsNode (node : PlainNode) : Type 0 where
   pub name : IsTrue (is_name node.name)
   pub addr : IfSome node.addr (λ addr. addr ≤ MAX_ADDR)
@@ -66,6 +83,7 @@ pub record IsNode (node : PlainNode) : Type 0 where
   pub seed : node.seed ≤ MAX_SEED
   pub some_inbox : MIN_INBOX ≤ node.inbox
   pub most_inbox : node.inbox ≤ MAX_INBOX
+  pub options : AreOptions node.options
   pub apps : AllByRecursion IsApp node.apps
   pub few : length node.apps ≤ MAX_APPS
 

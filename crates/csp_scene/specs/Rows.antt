@@ -1,13 +1,10 @@
 -- All shapes that a line may have, and which of them a line fits.
-use Rattle.std.specs.Prelude.{ℕ, Bool, true, not, ◌&&◌, List, length, map}
+use Rattle.std.specs.Prelude.{ℕ, Bool, ◌&&◌, List, length, map}
 use Rattle.std.specs.List.{flat_map}
 use Rattle.std.specs.Str.{bytes_eq}
 use Rattle.csp_scene.specs.Table.{first_word, is_step, all_forms, shapes_of}
 use Rattle.csp_scene.specs.Checks.{has_count, whole_passes}
-use Rattle.csp_scene.specs.Arguments.{has_keyword}
 use Rattle.csp_scene.specs.declared.table.Form.{Form}
-use Rattle.csp_scene.specs.declared.table.Form.TheVariants as form
-use Rattle.csp_scene.specs.declared.table.Keyword.TheVariants as keyword
 use Rattle.csp_scene.specs.declared.table.Part.{Part}
 use Rattle.csp_scene.specs.declared.checks.Check.TheVariants as check
 
@@ -39,12 +36,6 @@ begins_step first row = begins first row && is_step row.form
 abbrev pub begins_count : List ℕ → ℕ → PlainRow → Bool
 begins_count first count row = begins first row && has_count row.shape count
 
--- a row that a line may be of, and not only count its words by: the reliable transport is not in the bench yet, so that no
--- connection may ask for it
-abbrev pub is_offered : Form → List Part → Bool
-is_offered form.Connect shape = not (has_keyword keyword.Rdp shape)
-is_offered _ shape = true
-
 -- such a row, with the line's fixed words in their places
 abbrev pub has_choice : List ℕ → List (List ℕ) → PlainRow → Bool
-has_choice first args row = begins_count first (length args) row && is_offered row.form row.shape && whole_passes check.Fixed row.shape args
+has_choice first args row = begins_count first (length args) row && whole_passes check.Fixed row.shape args

@@ -3,6 +3,7 @@ use Rattle.std.specs.Prelude.{ℕ, List, [], Option}
 use Rattle.csp_app.specs.declared.step.Step.{Step}
 use Rattle.csp_link.specs.declared.fault.Fault.{Fault}
 use Rattle.csp_log.specs.declared.places.LinkKind.{LinkKind}
+use Rattle.csp_rdp_header.specs.declared.options.Options.{Options}
 use Rattle.csp_route.specs.Routes.{Routes}
 use Rattle.csp_log.specs.declared.places.End.{End}
 use Rattle.csp_scene.specs.declared.scenario.Move.{Move}
@@ -14,14 +15,15 @@ pub record PlainApp : Type 0 where
   pub name : List ℕ
   pub steps : List Step
 
--- a node: its name, its address, how many buffers it has, its seed, the room of its inbox for each priority, its routing table,
--- its applications in order; a bridge is a node without an address
+-- a node: its name, its address, how many buffers it has, its seed, the room of its inbox for each priority, the options of the
+-- reliable connections that it asks for, its routing table, its applications in order; a bridge is a node without an address
 pub record PlainNode : Type 0 where
   pub name : List ℕ
   pub addr : Option ℕ
   pub buffers : ℕ
   pub seed : ℕ
   pub inbox : ℕ
+  pub options : Options
   pub routes : Routes
   pub apps : List PlainApp
 

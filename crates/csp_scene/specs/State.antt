@@ -15,6 +15,7 @@ use Rattle.csp_scene.specs.Arguments.{number_at}
 use Rattle.csp_scene.specs.Steps.{bind_step, connect_step, send_step, burst_step, raw_step, recv_step, close_step, wait_step}
 use Rattle.csp_scene.specs.Draft.{PlainDraft, demand}
 use Rattle.csp_scene.specs.Nodes.{state_until, new_node, new_bridge, state_node, state_app, state_step}
+use Rattle.csp_scene.specs.Transport.{state_rdp}
 use Rattle.csp_scene.specs.Joining.{state_link, state_route}
 use Rattle.csp_scene.specs.Faults.{state_fault}
 use Rattle.csp_scene.specs.Schedule.{state_schedule, state_moves}
@@ -27,6 +28,7 @@ state form.Shuffle shape d args = state_schedule d (shuffled (number_at args 1))
 state form.Moves shape d args = state_moves d (drop 1 args)
 state form.Node shape d args = state_node d (new_node shape args)
 state form.Bridge shape d args = state_node d (new_bridge shape args)
+state form.Rdp shape d args = state_rdp d args
 state form.Link shape d args = state_link d args
 state form.Route shape d args = state_route d args
 state form.Lose shape d args = state_fault d args fault.Lose

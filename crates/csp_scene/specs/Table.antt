@@ -1,7 +1,8 @@
 -- The line forms of the scenario language, a row each.
 use Rattle.std.specs.Prelude.{ℕ, Bool, true, false, List, [], ◌∷◌, ◌++◌, codes}
-use Rattle.csp_scene.specs.declared.limits.TheConstants.{MAX_UNTIL, MAX_SHUFFLE, MAX_ADDR, MIN_BUFFERS, MAX_SEED, MIN_INBOX, MAX_INBOX, LAST_FRAME, MAX_COPIES, MAX_DELAY, MAX_FLIP, MAX_SLOT, MAX_PORT, FIRST_OWN_PORT, MAX_DEST, MAX_PRIO, MAX_COUNT, MAX_ROUNDS, MAX_SEND, MAX_RAW}
+use Rattle.csp_scene.specs.declared.limits.TheConstants.{MAX_UNTIL, MAX_SHUFFLE, MAX_ADDR, MIN_BUFFERS, MAX_SEED, MIN_INBOX, MAX_INBOX, LAST_FRAME, MAX_COPIES, MAX_DELAY, MAX_FLIP, MAX_SLOT, MAX_PORT, FIRST_OWN_PORT, MAX_DEST, MAX_PRIO, MAX_COUNT, MAX_ROUNDS, MAX_SEND, MAX_RAW, MAX_OPTION}
 use Rattle.csp_base.specs.declared.limits.TheConstants.{MAX_BUFFERS}
+use Rattle.csp_rdp_header.specs.declared.options.TheConstants.{MAX_WINDOW}
 use Rattle.csp_scene.specs.declared.table.Form.{Form}
 use Rattle.csp_scene.specs.declared.table.Form.TheVariants as form
 use Rattle.csp_scene.specs.declared.table.Keyword.{Keyword}
@@ -41,6 +42,7 @@ first_word form.Shuffle = codes "schedule"
 first_word form.Moves = codes "schedule"
 first_word form.Node = codes "node"
 first_word form.Bridge = codes "bridge"
+first_word form.Rdp = codes "rdp"
 first_word form.Link = codes "link"
 first_word form.Route = codes "route"
 first_word form.Lose = codes "fault"
@@ -71,6 +73,8 @@ fixed_of form.Shuffle = Fixed keyword.Shuffle ∷ Number 0 MAX_SHUFFLE ∷ []
 fixed_of form.Moves = Fixed keyword.Steps ∷ Moves ∷ []
 fixed_of form.Node = Name ∷ Number 0 MAX_ADDR ∷ Fixed keyword.Buffers ∷ Number MIN_BUFFERS MAX_BUFFERS ∷ []
 fixed_of form.Bridge = Name ∷ Fixed keyword.Buffers ∷ Number MIN_BUFFERS MAX_BUFFERS ∷ []
+fixed_of form.Rdp =
+    Name ∷ Number 1 MAX_WINDOW ∷ Number 1 MAX_OPTION ∷ Number 1 MAX_OPTION ∷ Number 0 MAX_OPTION ∷ Number 0 MAX_OPTION ∷ Number 0 MAX_OPTION ∷ []
 fixed_of form.Link = Name ∷ Either keyword.Kiss keyword.Can ∷ Name ∷ Name ∷ []
 fixed_of form.Route = Name ∷ Text ∷ []
 fixed_of form.Lose = fault_of keyword.Lose []
@@ -97,6 +101,7 @@ optional_of form.Shuffle = []
 optional_of form.Moves = []
 optional_of form.Node = Setting keyword.Seed 0 MAX_SEED ∷ Setting keyword.Inbox MIN_INBOX MAX_INBOX ∷ []
 optional_of form.Bridge = Setting keyword.Inbox MIN_INBOX MAX_INBOX ∷ []
+optional_of form.Rdp = []
 optional_of form.Link = []
 optional_of form.Route = []
 optional_of form.Lose = []
@@ -123,6 +128,7 @@ is_step form.Shuffle = false
 is_step form.Moves = false
 is_step form.Node = false
 is_step form.Bridge = false
+is_step form.Rdp = false
 is_step form.Link = false
 is_step form.Route = false
 is_step form.Lose = false
@@ -144,7 +150,7 @@ is_step form.Wait = true
 -- all forms
 abbrev pub all_forms : List Form
 all_forms =
-    form.Until ∷ form.Rounds ∷ form.Shuffle ∷ form.Moves ∷ form.Node ∷ form.Bridge ∷ form.Link ∷ form.Route
+    form.Until ∷ form.Rounds ∷ form.Shuffle ∷ form.Moves ∷ form.Node ∷ form.Bridge ∷ form.Rdp ∷ form.Link ∷ form.Route
     ∷ form.Lose ∷ form.Repeat ∷ form.Delay ∷ form.Flip ∷ form.App ∷ form.Take ∷ form.Give
     ∷ form.Bind ∷ form.Connect ∷ form.Send ∷ form.Burst ∷ form.Raw ∷ form.Recv ∷ form.Close ∷ form.Wait ∷ []
 

@@ -42,6 +42,7 @@ pub(crate) struct Draft {
     pub(crate) nodes: Vec<SceneNode>,
     pub(crate) links: Vec<LinkDraft>,
     pub(crate) host: Option<usize>,
+    pub(crate) tuned: Vec<usize>,
 }
 
 impl Model for Draft {
@@ -61,6 +62,7 @@ impl Model for Draft {
       nodes = draft.nodes.items;
       links = draft.links.items;
       host = draft.host;
+      tuned = draft.tuned.items;
     } };
 }
 
@@ -107,6 +109,7 @@ impl Draft {
             nodes: Vec::new(alloc),
             links: Vec::new(alloc),
             host: None,
+            tuned: Vec::new(alloc),
         }
     }
 
@@ -131,6 +134,7 @@ impl Draft {
             Form::Moves => self.state_moves(alloc, &args[1..]),
             Form::Node => self.state_node(new_node(alloc, shape, args)),
             Form::Bridge => self.state_node(new_bridge(alloc, shape, args)),
+            Form::Rdp => self.state_rdp(args),
             Form::Link => self.state_link(alloc, args),
             Form::Route => self.state_route(alloc, args),
             Form::Lose => self.state_fault(args, planned(form, args, FaultKind::Lose)),

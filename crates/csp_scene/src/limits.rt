@@ -64,6 +64,10 @@ pub const MAX_INBOX: u32 = 64;
 /// The room of an inbox for each priority where the node's line gives none.
 pub const DEFAULT_INBOX: u32 = 16;
 
+/// The greatest number that an option of a node's reliable connections may be; the window is at most
+/// `MAX_WINDOW`.
+pub const MAX_OPTION: u32 = 4_294_967_295;
+
 /// The greatest number of a slot of an application.
 pub const MAX_SLOT: u32 = SLOTS as u32 - 1;
 

@@ -20,6 +20,7 @@ use crate::scenario::{SceneApp, SceneNode};
 use crate::table::{Form, Keyword, Part};
 use csp_app::Step;
 use csp_base::{Addr, Name};
+use csp_rdp_header::Options;
 use csp_route::Table;
 use std::alloc::Global;
 
@@ -39,6 +40,7 @@ pub(crate) fn new_node(alloc: Global, shape: &[Part], args: &[&[u8]]) -> SceneNo
         buffers: number_at(Form::Node, args, 3) as u16,
         seed: setting(Form::Node, Keyword::Seed, shape, args).unwrap_or(DEFAULT_SEED) as u16,
         inbox: setting(Form::Node, Keyword::Inbox, shape, args).unwrap_or(DEFAULT_INBOX) as u16,
+        options: Options::usual(),
         routes: Table::new(),
         apps: Vec::new(alloc),
     }
@@ -57,6 +59,7 @@ pub(crate) fn new_bridge(alloc: Global, shape: &[Part], args: &[&[u8]]) -> Scene
         buffers: number_at(Form::Bridge, args, 2) as u16,
         seed: DEFAULT_SEED as u16,
         inbox: setting(Form::Bridge, Keyword::Inbox, shape, args).unwrap_or(DEFAULT_INBOX) as u16,
+        options: Options::usual(),
         routes: Table::new(),
         apps: Vec::new(alloc),
     }

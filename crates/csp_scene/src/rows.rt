@@ -3,14 +3,13 @@
 ghost use Rattle.std.specs.Prelude.{◌≡◌, ◌++◌, ◌==◌, ◌&&◌, ◌≤◌, List, Some, Ok, Err, IfOk, OnOk, MatchResult, length, map};
 ghost use Rattle.std.specs.Str.{bytes_eq};
 ghost use Rattle.csp_scene.specs.Table.{first_word, is_step, fixed_of, optional_of, with_options, shapes_of};
-ghost use Rattle.csp_scene.specs.Rows.{PlainRow, row_of, rows_of, all_rows, begins, begins_step, begins_count, is_offered, has_choice};
+ghost use Rattle.csp_scene.specs.Rows.{PlainRow, row_of, rows_of, all_rows, begins, begins_step, begins_count, has_choice};
 ghost use Rattle.csp_scene.specs.Judge.{fit};
 ghost use Rattle.csp_scene.specs.Kept.{IsOneOf, IsShapeOf, Fits, FitsShape};
 
-use crate::arguments::has_keyword;
 use crate::checks::{Check, has_count, whole_passes};
 use crate::refusal::SceneKind;
-use crate::table::{FORMS, Form, Group, Keyword, Part};
+use crate::table::{FORMS, Form, Group, Part};
 use std::alloc::{AllocError, Global};
 use std::marker::Model;
 
@@ -68,24 +67,11 @@ impl Row {
         self.begins(first) && has_count(&self.shape, count)
     }
 
-    /// Whether a line may be of this row, and not only count its words by it: the reliable transport
-    /// is not in the bench yet, so that no connection may ask for it.
-    fn is_offered(&self) -> bool
-        ensures { result ≡ is_offered self.now.form self.now.shape }
-    {
-        match self.form {
-            Form::Connect => !has_keyword(Keyword::Rdp, &self.shape),
-            _ => true,
-        }
-    }
-
     /// Whether such a line may be of this row, and has its fixed words in their places.
     pub(crate) fn has_choice(&self, first: &[u8], args: &[&[u8]]) -> bool
         ensures { result ≡ has_choice first.now (map (λ word. word.now) args.now) self.now }
     {
-        self.begins_count(first, args.len())
-            && self.is_offered()
-            && whole_passes(Check::Fixed, &self.shape, args)
+        self.begins_count(first, args.len()) && whole_passes(Check::Fixed, &self.shape, args)
     }
 
     /// Whether the names and then the numbers of a line fit: one whose number of words and fixed

@@ -5,6 +5,7 @@ use csp_app::Step;
 use csp_base::{Addr, Name};
 use csp_link::Fault;
 use csp_log::{End, LINK_ENDS, LinkKind};
+use csp_rdp_header::Options;
 use csp_route::Table;
 use std::marker::Model;
 
@@ -38,6 +39,9 @@ pub struct SceneNode {
     pub seed: u16,
     /// The room of its inbox for each priority, `MIN_INBOX` to `MAX_INBOX`.
     pub inbox: u16,
+    /// The options of the reliable connections that it asks for: the usual ones where no line gives
+    /// others. A bridge asks for none.
+    pub options: Options,
     /// Its routing table, whose rows lead to its interfaces. A bridge has no row.
     pub routes: Table,
     /// Its applications, in the order of their lines. A bridge has none.
@@ -59,6 +63,7 @@ impl Model for SceneNode {
       buffers = node.buffers;
       seed = node.seed;
       inbox = node.inbox;
+      options = node.options;
       routes = node.routes;
       apps = node.apps.items;
     } };

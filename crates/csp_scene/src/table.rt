@@ -5,10 +5,11 @@ ghost use Rattle.csp_scene.specs.Table.{first_word, keyword_text, is_step, fixed
 
 use crate::limits::{
     FIRST_OWN_PORT, LAST_FRAME, MAX_ADDR, MAX_COPIES, MAX_COUNT, MAX_DELAY, MAX_DEST, MAX_FLIP,
-    MAX_INBOX, MAX_PORT, MAX_PRIO, MAX_RAW, MAX_ROUNDS, MAX_SEED, MAX_SEND, MAX_SHUFFLE, MAX_SLOT,
-    MAX_UNTIL, MIN_BUFFERS, MIN_INBOX,
+    MAX_INBOX, MAX_OPTION, MAX_PORT, MAX_PRIO, MAX_RAW, MAX_ROUNDS, MAX_SEED, MAX_SEND,
+    MAX_SHUFFLE, MAX_SLOT, MAX_UNTIL, MIN_BUFFERS, MIN_INBOX,
 };
 use csp_base::MAX_BUFFERS;
+use csp_rdp_header::MAX_WINDOW;
 use std::alloc::{AllocError, Global};
 
 /// A line form.
@@ -26,6 +27,8 @@ pub(crate) enum Form {
     Node,
     /// `bridge NAME buffers N [inbox C]`
     Bridge,
+    /// `rdp NODE W CT PT DA AT AC`
+    Rdp,
     /// `link NAME kiss NODE NODE`, `link NAME can NODE NODE`
     Link,
     /// `route NODE TEXT`
@@ -140,13 +143,14 @@ pub(crate) enum Group {
 }
 
 /// The line forms, in the order of the table.
-pub(crate) static FORMS: [Form; 23] = [
+pub(crate) static FORMS: [Form; 24] = [
     Form::Until,
     Form::Rounds,
     Form::Shuffle,
     Form::Moves,
     Form::Node,
     Form::Bridge,
+    Form::Rdp,
     Form::Link,
     Form::Route,
     Form::Lose,
@@ -223,6 +227,34 @@ static BRIDGE_OPTIONS: [Group; 1] = [Group::Setting {
     low: MIN_INBOX,
     high: MAX_INBOX,
 }];
+
+static RDP: [Part; 7] = [
+    Part::Name,
+    Part::Number {
+        low: 1,
+        high: MAX_WINDOW,
+    },
+    Part::Number {
+        low: 1,
+        high: MAX_OPTION,
+    },
+    Part::Number {
+        low: 1,
+        high: MAX_OPTION,
+    },
+    Part::Number {
+        low: 0,
+        high: MAX_OPTION,
+    },
+    Part::Number {
+        low: 0,
+        high: MAX_OPTION,
+    },
+    Part::Number {
+        low: 0,
+        high: MAX_OPTION,
+    },
+];
 
 static LINK: [Part; 4] = [
     Part::Name,
@@ -424,6 +456,7 @@ impl Form {
             Form::Rounds | Form::Shuffle | Form::Moves => b"schedule",
             Form::Node => b"node",
             Form::Bridge => b"bridge",
+            Form::Rdp => b"rdp",
             Form::Link => b"link",
             Form::Route => b"route",
             Form::Lose | Form::Repeat | Form::Delay | Form::Flip => b"fault",
@@ -471,6 +504,7 @@ impl Form {
             Form::Moves => &MOVES,
             Form::Node => &NODE,
             Form::Bridge => &BRIDGE,
+            Form::Rdp => &RDP,
             Form::Link => &LINK,
             Form::Route => &ROUTE,
             Form::Lose => &LOSE,

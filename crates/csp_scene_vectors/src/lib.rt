@@ -14,4 +14,6 @@ mod shown;
 #[cfg(test)]
 mod texts;
 #[cfg(test)]
+mod transport;
+#[cfg(test)]
 mod words;

@@ -20,7 +20,7 @@ fn single_lines_are_refused<R: Abort>(rt: &R, alloc: Global) {
         (b" \r", SceneKind::Byte),
         (b"untill 10", SceneKind::Word),
         (b"Until 10", SceneKind::Word),
-        (b"rdp n1 1 1 1 0 0 0", SceneKind::Word),
+        (b"Rdp n1 1 1 1 0 0 0", SceneKind::Word),
         (b"hub h a b", SceneKind::Word),
         (b"binds 1", SceneKind::Word),
         (b"until# 10", SceneKind::Word),
@@ -138,7 +138,7 @@ fn steps_are_refused<R: Abort>(rt: &R, alloc: Global) -> Result<(), Fail> {
 
 /// Steps of connections, where a step may stand and where none may.
 fn connection_steps_are_refused<R: Abort>(rt: &R, alloc: Global) -> Result<(), Fail> {
-    let cases: [(&[u8], SceneKind); 54] = [
+    let cases: [(&[u8], SceneKind); 57] = [
         (b"bind", SceneKind::Count),
         (b"bind 1 crc rdp 1", SceneKind::Count),
         (b"bind crc rdp 1 crc", SceneKind::Count),
@@ -158,13 +158,12 @@ fn connection_steps_are_refused<R: Abort>(rt: &R, alloc: Global) -> Result<(), F
         (b"bind crc 1", SceneKind::Choice),
         (b"bind 64 Crc", SceneKind::Choice),
         (b"bind 1 crc crc", SceneKind::Choice),
-        (b"connect 0 1 10 rdp", SceneKind::Choice),
-        (b"connect 4 1 10 crc rdp", SceneKind::Choice),
-        (b"connect 0 1 10 prio 1 rdp", SceneKind::Choice),
-        (b"connect 0 1 10 rdp from 47", SceneKind::Choice),
-        (b"connect 0 1 10 prio 1 crc rdp from 50", SceneKind::Choice),
         (b"connect 0 1 10 a b c d e f", SceneKind::Choice),
         (b"connect 0 1 10 rdp crc", SceneKind::Choice),
+        (b"connect 0 1 10 rdp rdp", SceneKind::Choice),
+        (b"connect 0 1 10 rdp prio 1", SceneKind::Choice),
+        (b"connect 0 1 10 from 50 rdp", SceneKind::Choice),
+        (b"connect 4 1 10 crc Rdp", SceneKind::Choice),
         (b"connect 0 1 10 crc prio 1", SceneKind::Choice),
         (b"connect 0 1 10 from 50 crc", SceneKind::Choice),
         (b"connect 0 1 10 from 50 prio 1", SceneKind::Choice),
@@ -181,6 +180,10 @@ fn connection_steps_are_refused<R: Abort>(rt: &R, alloc: Global) -> Result<(), F
         (b"connect 0 1 10 from 47", SceneKind::Number),
         (b"connect 0 1 10 crc from 64", SceneKind::Number),
         (b"connect 0 1 10 prio 3 crc from 048", SceneKind::Number),
+        (b"connect 4 1 10 crc rdp", SceneKind::Number),
+        (b"connect 0 1 10 prio 4 rdp", SceneKind::Number),
+        (b"connect 0 1 10 rdp from 47", SceneKind::Number),
+        (b"connect 0 1 10 prio 1 crc rdp from 64", SceneKind::Number),
         (b"send 0 -", SceneKind::Number),
         (b"send 4 00", SceneKind::Number),
         (b"send 0 0", SceneKind::Number),
@@ -261,7 +264,7 @@ fn later_lines_are_refused<R: Abort>(rt: &R, alloc: Global) -> Result<(), Fail> 
 
 /// Lines of one byte too many.
 fn long_lines_are_refused<R: Abort>(rt: &R, alloc: Global) -> Result<(), Fail> {
-    let fronts: [&[u8]; 19] = [
+    let fronts: [&[u8]; 21] = [
         b"until 5",
         b"# a comment",
         b"  ",
@@ -281,6 +284,8 @@ fn long_lines_are_refused<R: Abort>(rt: &R, alloc: Global) -> Result<(), Fail> {
         b"fault l1 ab 1 lose",
         b"fault",
         b"fault l9",
+        b"rdp n1 1 1 1 0 0 0",
+        b"rdp",
     ];
     for front in fronts.iter() {
         if front.len() <= MAX_LINE {
