@@ -3,6 +3,7 @@ pub mod Ends
 pub mod Passed
 pub mod Payloads
 pub mod Record
+pub mod Stale
 pub mod Table
 pub mod Traffic
 pub mod Transmissions

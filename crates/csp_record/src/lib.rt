@@ -3,6 +3,7 @@
 #![tactic(auto)]
 
 mod connections;
+mod copies;
 mod counts;
 mod ends;
 mod payloads;
@@ -11,6 +12,7 @@ mod transmissions;
 mod who;
 
 pub use connections::{Opening, openings};
+pub use copies::stale;
 pub use counts::passed;
 pub use csp_log::{HeldBy, Left};
 pub use payloads::{Payload, Payloads, Traffic, Way, sent, took};

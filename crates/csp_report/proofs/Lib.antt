@@ -4,3 +4,4 @@ mod Feeds
 mod IfaceLines
 mod Joining
 mod ReportLemmas
+mod SummaryLemmas

@@ -19,6 +19,7 @@ use Rattle.csp_log.specs.declared.event.Event.TheVariants as event
 use Rattle.csp_log.specs.declared.note.Why.{Why}
 use Rattle.csp_log.specs.declared.note.Why.TheVariants as why
 use Rattle.csp_record.specs.Passed.{passed}
+use Rattle.csp_record.specs.Stale.{stale}
 use Rattle.csp_record.specs.Record.{PlainPartyLog, PlainRecord}
 use Rattle.csp_record.specs.Whole.{IsWhole, IsWholeNode}
 use Rattle.csp_report.specs.declared.ifaces.IfaceCount.{IfaceCount}
@@ -368,7 +369,7 @@ counted_at nodes i n e = slice_get-map (λ (n : PlainNode). n.buffers) nodes i �
 
 good_counts : (run : PlainRecord) → AllByRecursion IsGood (count_lines run)
 good_counts run = (
-  other (codes "stale" ∷ decimal 0 ∷ []) (plain (codes "stale") refl, (number 0, tt)) refl,
+  other (codes "stale" ∷ decimal (stale run) ∷ []) (plain (codes "stale") refl, (number (stale run), tt)) refl,
   (other (codes "passed" ∷ decimal (passed run) ∷ []) (plain (codes "passed") refl, (number (passed run), tt)) refl, tt),
 )
 

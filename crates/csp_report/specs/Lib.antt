@@ -6,3 +6,4 @@ pub mod Ifaces
 pub mod Places
 pub mod Report
 pub mod PlacesAddUp
+pub mod Summary

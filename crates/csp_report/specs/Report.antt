@@ -9,6 +9,7 @@ use Rattle.csp_scene.specs.Links.{links_at}
 use Rattle.csp_scene.specs.Scene.{PlainScene, PlainNode, PlainApp, PlainLink}
 use Rattle.csp_record.specs.Passed.{passed}
 use Rattle.csp_record.specs.Record.{PlainPartyLog, PlainRecord}
+use Rattle.csp_record.specs.Stale.{stale}
 use Rattle.csp_report.specs.Lines.{Line, text_of}
 use Rattle.csp_report.specs.Parties.{party_at, entries_at, events_at}
 use Rattle.csp_report.specs.Places.{held_in}
@@ -76,9 +77,9 @@ abbrev pub node_app_lines : List PlainNode → List PlainPartyLog → ℕ → Li
 node_app_lines nodes parties place node apps =
     flat_map (λ app. app_lines nodes node (entries_at parties (seat.Router place)) app.1.name app.0 (party_at parties (seat.App place app.0))) (enumerate_from 0 apps)
 
--- the last two lines: `stale 0`, since no copy comes too late yet, and `passed P`
+-- the last two lines: `stale S` and `passed P`
 abbrev pub count_lines : PlainRecord → List Line
-count_lines record' = (codes "stale" ∷ decimal 0 ∷ []) ∷ (codes "passed" ∷ decimal (passed record') ∷ []) ∷ []
+count_lines record' = (codes "stale" ∷ decimal (stale record') ∷ []) ∷ (codes "passed" ∷ decimal (passed record') ∷ []) ∷ []
 
 -- the lines of a report on these nodes and links: each kind of line for all nodes before the next kind begins
 unfoldable pub report_lines : List PlainNode → List PlainLink → PlainRecord → List Line

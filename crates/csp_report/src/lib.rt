@@ -9,6 +9,8 @@ mod lines;
 mod parties;
 mod places;
 mod routers;
+mod summing;
 mod text;
 
+pub use summing::summary;
 pub use text::report;

@@ -5,6 +5,7 @@ ghost use Rattle.std.specs.String.{string_bytes};
 ghost use Rattle.std.specs.Fmt.{decimal};
 ghost use Rattle.csp_scene.specs.Ranges.{IsScene};
 ghost use Rattle.csp_record.specs.Passed.{passed};
+ghost use Rattle.csp_record.specs.Stale.{stale};
 ghost use Rattle.csp_record.specs.Whole.{IsWhole};
 ghost use Rattle.csp_report.specs.Lines.{ended_line, text_of};
 ghost use Rattle.csp_report.specs.Report.{end_line, count_lines, report_lines, report};
@@ -16,7 +17,7 @@ use crate::ifaces::push_ifaces;
 use crate::lines::{begin_line, end_line, push_count, push_counted};
 use crate::places::push_nodes;
 use crate::routers::push_routers;
-use csp_record::{Record, passed};
+use csp_record::{Record, passed, stale};
 use csp_scene::{Scene, SceneLink, SceneNode};
 use std::alloc::{AllocError, Global};
 
@@ -45,12 +46,23 @@ fn push_end(out: &mut String, run: &Record) -> Result<(), AllocError>
     end_line(out)
 }
 
+/// How many stale copies a record tells of. Memory is wanting where they are more than 64 bits count.
+fn stale_copies(run: &Record) -> Result<u64, AllocError>
+    ensures { IfOk result (λ count. count ≡ stale run.now) }
+{
+    let count = stale(run);
+    if count == u64::MAX {
+        return Err(AllocError);
+    }
+    Ok(count)
+}
+
 /// Appends the last two lines, of which the second has this number.
 fn push_last(out: &mut String, run: &Record, count: u64) -> Result<(), AllocError>
     requires { count ≡ passed run.now }
     ensures { OnOk result (string_bytes out.new ≡ string_bytes out.old ++ text_of (count_lines run.now)) }
 {
-    push_total(out, "stale", 0)?;
+    push_total(out, "stale", stale_copies(run)?)?;
     push_total(out, "passed", count)
 }
 
@@ -80,8 +92,8 @@ fn push_lines(
 #[tactic(auto, using(crate::proofs::ReportLemmas::report_is))]
 /// The report of a run of this scene: where each buffer was at the end, what the routers discarded, what the
 /// interfaces sent and accepted, which nodes were asked to start again or to stop, how far each application came,
-/// what it sent and took on its connections, and how many packets passed a link changed. Each line ends with a
-/// line feed.
+/// what it sent and took on its connections, how many stale copies there were, and how many packets passed a link
+/// changed. Each line ends with a line feed.
 pub fn report(alloc: Global, run: &Record, scene: &Scene) -> Result<Vec<u8>, AllocError>
     requires { IsScene scene.now }
     ensures bytes { IfOk result (λ bytes. bytes.items ≡ report scene.now run.now) }
