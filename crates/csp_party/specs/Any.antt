@@ -64,6 +64,14 @@ is_ready (an_iface i) time = i.doing ≡ iface_plan.Rest
 is_ready (an_app a) time = ⊤
 is_ready (a_link l) time = ⊤
 
+-- it was asked at this time, and can be told: a router as it says, any other always
+abbrev pub is_waiting : PlainParty → ℕ → Type 0
+is_waiting (a_router r) time = router.waits_of r time
+is_waiting (a_bridge b) time = ⊤
+is_waiting (an_iface i) time = ⊤
+is_waiting (an_app a) time = ⊤
+is_waiting (a_link l) time = ⊤
+
 -- what kind of operation it waits to be answered
 abbrev pub awaits : PlainParty → Kind
 awaits (a_router r) = router.awaits_of r

@@ -29,11 +29,11 @@ pub enum AnyParty {
 
 impl Party for AnyParty {
     ghost use Rattle.std.specs.Prelude.{⊤};
-    ghost use Rattle.csp_party.specs.Any.{plain, region_of, is_ready, awaits, has_ended, uses, count, needs, asks, asked, tells, events, holds, with_plain};
+    ghost use Rattle.csp_party.specs.Any.{plain, region_of, is_ready, is_waiting, awaits, has_ended, uses, count, needs, asks, asked, tells, events, holds, with_plain};
 
     ghost is_ready = { λ p now. is_ready (plain p) now };
 
-    ghost is_waiting = { λ _ _. ⊤ };
+    ghost is_waiting = { λ p now. is_waiting (plain p) now };
 
     ghost awaits = { λ p. awaits (plain p) };
 

@@ -1,223 +1,245 @@
--- no buffer is lost, the trash has one more at most, and the table leads to interfaces that are there: for each thing that may become of an answer
-use Rattle.std.proofs.Common.{◌≡◌, ℕ, ◌+◌, ◌≤◌, ◌==◌, Bool, true, false, List, [], ◌∷◌, ◌++◌, length, Option, Some, None, refl, ap, subst, ◌∙◌, arith, length-append}
+-- no buffer is lost and none is used twice: what a router holds, counted, and what the steps of its state keep
+use Rattle.std.proofs.Common.{◌≡◌, ℕ, Bool, true, false, ◌+◌, ◌≤◌, List, [], ◌∷◌, ◌++◌, length, Option, Some, None, refl, ap, ◌∙◌, arith, length-append}
 use Rattle.std.proofs.lemmas.List.{map-append}
-use Rattle.csp_base.specs.Trace.{no_trace}
 use Rattle.csp_buffer.specs.Content.{Content}
-use Rattle.csp_conn.specs.Opening.{found}
-use Rattle.csp_conn.specs.PlainConns.{slot_at}
-use Rattle.csp_conn.specs.declared.slot.Slot.{Slot}
-use Rattle.csp_conn.specs.declared.slot.Slot.TheVariants as slot
-use Rattle.csp_crc.specs.Check.{payload_of}
 use Rattle.csp_deck.proofs.Keeping.{times-append}
 use Rattle.csp_deck.specs.Keeping.{numbers_of}
-use Rattle.csp_deck.specs.Step.{times, item_numbers}
-use Rattle.csp_header.specs.Word.{header_at}
-use Rattle.csp_log.specs.declared.event.Discard.{Discard}
+use Rattle.csp_deck.specs.Step.{times}
 use Rattle.csp_log.specs.declared.event.Event.{Event}
-use Rattle.csp_log.specs.declared.event.Event.TheVariants as event
-use Rattle.csp_log.specs.declared.note.Note.{Note}
-use Rattle.csp_log.specs.declared.note.Note.TheVariants as note
-use Rattle.csp_log.specs.declared.places.TheConstants.{UNMARKED}
-use Rattle.csp_log.specs.declared.shown.ItemShown.{ItemShown}
-use Rattle.csp_log.specs.declared.shown.ItemShown.TheVariants as item
-use Rattle.csp_route.specs.Routes.{IsWithin, route_of}
-use Rattle.csp_route.specs.declared.row.Row.{Row}
-use Rattle.csp_service.proofs.Leading.{answered_leads}
-use Rattle.csp_service.specs.Answers.{Outcome, answered}
-use Rattle.csp_service.specs.declared.answers.Served.{Served}
-use Rattle.csp_service.specs.declared.answers.Served.TheVariants as answer
-use Rattle.csp_service.specs.declared.stats.Count.TheVariants as count
+use Rattle.csp_ports.specs.Counts.{AreFar}
+use Rattle.csp_ports.specs.Held.{held}
+use Rattle.csp_ports.specs.Keeps.{Keeps as PortsKeep}
+use Rattle.csp_ports.specs.PlainPorts.{PlainPorts}
+use Rattle.csp_rdp.specs.Counts.{IsFar}
+use Rattle.csp_rdp.specs.Machine.{PlainRdp}
+use Rattle.csp_route.specs.Routes.{IsWithin}
+use Rattle.csp_service.specs.Facts.{PlainFacts}
 use Rattle.csp_service.specs.declared.stats.Stats.{Stats}
-use Rattle.csp_stack.proofs.Ends.{accepted_ends, bind_ends, close_ends, connect_ends}
-use Rattle.csp_stack.specs.Counting.{counting, with_stats}
-use Rattle.csp_stack.specs.PlainPorts.{PlainPorts, accepted, bind, close, connect, connects, ends, terms_at}
-use Rattle.csp_stack.specs.declared.request.Request.{Request}
-use Rattle.csp_stack.specs.Readings.{is_here, is_secured, is_checked, is_reliable, lacks}
-use Rattle.csp_stack.specs.Router.{Facts, Leaving, State, out_buffers, holds}
-use Rattle.csp_stack.specs.Rules.{Arrival, accepting, addressed, answer_flags, by_answer, by_way, by_connection, by_destination, by_security, by_checksum, by_service, by_mark, by_slot, by_socket, by_transport, connection_of, header_for, onward, heard, heard_at_port, heard_here, owner_for, requested, sent, sent_by, served, slot_for, to_slot}
-use Rattle.csp_stack.specs.Sending.{protected}
-use Rattle.csp_stack.specs.Serving.{facts_of, reply_header, reply_in, with_facts}
-use Rattle.csp_stack.specs.Told.{Told, unchanged, discarded, leaving, kept, reporting, spent, with_ports}
-use Rattle.csp_stack.specs.declared.terms.Terms.{Terms}
+use Rattle.csp_stack.specs.Counting.{with_stats}
+use Rattle.csp_stack.specs.Serving.{with_facts}
+use Rattle.csp_conn.specs.declared.slot.Connection.{Connection}
+use Rattle.csp_header.specs.declared.word.Header.{Header}
+use Rattle.csp_ports.specs.declared.terms.Terms.{Terms}
+use Rattle.csp_stack.specs.Readings.{is_checked}
+use Rattle.csp_stack.specs.Rules.{addressed, header_for}
+use Rattle.csp_stack.specs.Sending.{headed, protected}
+use Rattle.csp_stack.specs.Keeps.{Keeps}
+use Rattle.csp_stack.specs.Router.{Facts, Leaving, State, StateAt, holds, out_buffers}
+use Rattle.csp_stack.specs.Told.{absorbed, kept, leaving, spent, unchanged}
 
 -- a number is in two lists together as often as in each
 pub times_append : (k : ℕ) (ns ms : List ℕ) → times k (ns ++ ms) ≡ times k ns + times k ms
 times_append k ns ms = times-append k ns ms
 
--- the buffers of a trash and of a packet that is to go out, counted
-abbrev pub counted : ℕ → List Content → Option Leaving → ℕ
-counted k trash out = times k (numbers_of (trash ++ out_buffers out))
+pub times_both : (k : ℕ) (xs ys : List Content) → times k (numbers_of (xs ++ ys)) ≡ times k (numbers_of xs) + times k (numbers_of ys)
+times_both k xs ys = ap (times k) (map-append (λ (b : Content). b.number) xs ys) ∙ times-append k (numbers_of xs) (numbers_of ys)
 
-pub counted_apart : (k : ℕ) (trash : List Content) (out : Option Leaving) → counted k trash out ≡ times k (numbers_of trash) + times k (numbers_of (out_buffers out))
-counted_apart k trash out = ap (times k) (map-append (λ (b : Content). b.number) trash (out_buffers out)) ∙ times-append k (numbers_of trash) (numbers_of (out_buffers out))
+-- what is held is in the trash, is to go out, or is in the ports
+pub holds_apart : (k : ℕ) (trash : List Content) (out : Option Leaving) (p : PlainPorts) → times k (numbers_of (trash ++ out_buffers out ++ held p))
+    ≡ times k (numbers_of trash) + (times k (numbers_of (out_buffers out)) + times k (numbers_of (held p)))
+holds_apart k trash out p =
+    let first = times_both k (trash ++ out_buffers out) (held p) in
+    let second = times_both k trash (out_buffers out) in
+    omega (arith, first, second)
 
-pub counted_more : (k : ℕ) (trash : List Content) (b : Content) → times k (numbers_of (trash ++ b ∷ [])) ≡ times k (numbers_of trash) + times k (b.number ∷ [])
-counted_more k trash b = ap (times k) (map-append (λ (b : Content). b.number) trash (b ∷ [])) ∙ times-append k (numbers_of trash) (b.number ∷ [])
+-- who counted no further than n counted no further than the next
+far_on : (n : ℕ) (r : PlainRdp) → IsFar n r → IsFar (n + 1) r
+far_on n r h = let a = h.admitted in let d = h.delivered in record { admitted = omega (arith, a); delivered = omega (arith, d) }
 
-pub counted_first : (k : ℕ) (trash : List Content) (b : Content) → times k (b.number ∷ numbers_of trash) ≡ times k (b.number ∷ []) + times k (numbers_of trash)
-counted_first k trash b = times-append k (b.number ∷ []) (numbers_of trash)
-
--- what is told has the buffers of the state and these; its table leads to the node's interfaces if the state's does; and it leaves all else
-pub record Keeps (f : Facts) (s : State) (ns : List ℕ) (t : Told) : Type 0 where
-  pub numbers : (k : ℕ) → times k (holds t.state) ≡ times k (holds s) + times k ns
-  pub room : length t.state.trash ≤ length s.trash + 1
-  pub within : IsWithin (length f.ifaces) s.routes → IsWithin (length f.ifaces) t.state.routes
-  pub doing : t.state.doing ≡ s.doing
-  pub ends : ends t.state.ports ≤ ends s.ports + 1
-
-pub unchanged_keeps : (f : Facts) (s : State) → Keeps f s [] (unchanged s)
-unchanged_keeps f s = record { numbers = λ k. omega arith; room = omega arith; within = λ w. w; doing = refl; ends = omega arith }
-
-pub spent_keeps : (f : Facts) (s : State) (e : Event) (b : Content) → Keeps f s (b.number ∷ []) (spent s e b)
-spent_keeps f s e b = record {
-  numbers = λ k. omega (arith, counted_apart k (s.trash ++ b ∷ []) s.out, counted_apart k s.trash s.out, counted_more k s.trash b);
-  room = omega (arith, length-append s.trash (b ∷ []));
-  within = λ w. w;
-  doing = refl;
-  ends = omega arith;
+pub far_later : (n : ℕ) (p : PlainPorts) → AreFar n p → AreFar (n + 1) p
+far_later n p h = let made = h.made in record {
+  machines = λ k d lt. far_on n _ (h.machines k d lt);
+  made = omega (arith, made);
+  ends = λ k d lt. let one = h.ends k d lt in omega (arith, one);
 }
 
-pub discarded_keeps : (f : Facts) (s : State) (why : Discard) (b : Content) → Keeps f s (b.number ∷ []) (discarded s why b)
-discarded_keeps f s why b = spent_keeps f s (event.Discarded why) b
+-- of a packet nothing comes but a report
+pub spent_keeps : (ifaces : ℕ) (s : State) (e : Event) (b : Content) → Keeps ifaces s (spent s e b).state (b.number ∷ [])
+spent_keeps ifaces s e b = record {
+  numbers = λ k.
+      let old = holds_apart k s.trash s.out s.ports in
+      let new = holds_apart k (s.trash ++ b ∷ []) s.out s.ports in
+      let more = times_both k s.trash (b ∷ []) in
+      omega (arith, old, new, more);
+  room = let more = length-append s.trash (b ∷ []) in omega (arith, more);
+  within = λ w. w;
+  far = λ n h. far_later n s.ports h;
+  apps = refl;
+  doing = refl;
+  early = refl;
+}
 
--- counts change nothing of it
-pub counted_keeps : (f : Facts) (s : State) (stats : List Stats) (ns : List ℕ) (t : Told) → Keeps f (with_stats s stats) ns t → Keeps f s ns t
-counted_keeps f s stats ns t h = record { numbers = h.numbers; room = h.room; within = h.within; doing = h.doing; ends = h.ends }
+pub absorbed_keeps : (ifaces : ℕ) (s : State) (b : Content) → Keeps ifaces s (absorbed b (unchanged s)).state (b.number ∷ [])
+absorbed_keeps ifaces s b = record {
+  numbers = λ k.
+      let old = holds_apart k s.trash s.out s.ports in
+      let new = holds_apart k (s.trash ++ b ∷ []) s.out s.ports in
+      let more = times_both k s.trash (b ∷ []) in
+      omega (arith, old, new, more);
+  room = let more = length-append s.trash (b ∷ []) in omega (arith, more);
+  within = λ w. w;
+  far = λ n h. far_later n s.ports h;
+  apps = refl;
+  doing = refl;
+  early = refl;
+}
 
-pub leaving_keeps : (f : Facts) (s : State) (o : Leaving) → s.out ≡ None → Keeps f s (o.buffer.number ∷ []) (leaving s o)
-leaving_keeps f s o none = record {
-  numbers = λ k. omega (arith, counted_apart k s.trash (Some o), counted_apart k s.trash s.out, ap (λ (out : Option Leaving). times k (numbers_of (out_buffers out))) none);
+-- nothing comes of it
+pub unchanged_keeps : (ifaces : ℕ) (s : State) → Keeps ifaces s s []
+unchanged_keeps ifaces s = record {
+  numbers = λ k. omega arith;
   room = omega arith;
   within = λ w. w;
+  far = λ n h. far_later n s.ports h;
+  apps = refl;
   doing = refl;
-  ends = omega arith;
+  early = refl;
 }
 
-pub kept_keeps : (f : Facts) (s : State) (b : Content) → Keeps f s (b.number ∷ []) (kept s b)
-kept_keeps f s b = record {
-  numbers = λ k. omega (arith, counted_apart k (b ∷ s.trash) s.out, counted_apart k s.trash s.out, counted_first k s.trash b);
+-- a packet is to go out
+pub leaving_keeps : (ifaces : ℕ) (s : State) (o : Leaving) → s.out ≡ None → Keeps ifaces s (leaving s o).state (o.buffer.number ∷ [])
+leaving_keeps ifaces s o none = record {
+  numbers = λ k.
+      let old = holds_apart k s.trash s.out s.ports in
+      let new = holds_apart k s.trash (Some o) s.ports in
+      let empty = ap (λ (out : Option Leaving). times k (numbers_of (out_buffers out))) none in
+      omega (arith, old, new, empty);
   room = omega arith;
   within = λ w. w;
+  far = λ n h. far_later n s.ports h;
+  apps = refl;
   doing = refl;
-  ends = omega arith;
+  early = refl;
 }
 
--- each rule
-sent_by_keeps : (f : Facts) (own : Bool) (row : Option Row) (s : State) (b : Content) → s.out ≡ None → Keeps f s (b.number ∷ []) (sent_by own row s b)
-sent_by_keeps f true row s b none = leaving_keeps f s _ none
-sent_by_keeps f false None s b none = discarded_keeps f s _ b
-sent_by_keeps f false (Some row) s b none = leaving_keeps f s _ none
+-- a buffer is the first of the trash again
+pub kept_keeps : (ifaces : ℕ) (s : State) (b : Content) → Keeps ifaces s (kept s b).state (b.number ∷ [])
+kept_keeps ifaces s b = record {
+  numbers = λ k.
+      let old = holds_apart k s.trash s.out s.ports in
+      let new = holds_apart k (b ∷ s.trash) s.out s.ports in
+      let more = times_both k (b ∷ []) s.trash in
+      omega (arith, old, new, more);
+  room = omega arith;
+  within = λ w. w;
+  far = λ n h. far_later n s.ports h;
+  apps = refl;
+  doing = refl;
+  early = refl;
+}
 
-by_way_keeps : (f : Facts) (back : Bool) (row : Row) (s : State) (p : Arrival) → s.out ≡ None → Keeps f s (p.buffer.number ∷ []) (by_way back row s p)
-by_way_keeps f true row s p none = discarded_keeps f s _ p.buffer
-by_way_keeps f false row s p none = leaving_keeps f s _ none
+-- the timers are tried
+pub timed_holds : (seen inside : StateAt) (p : PlainPorts) (after : List Content) (early : List Event) → inside ≡ seen → PortsKeep 0 inside.state.ports p inside.state.trash after [] →
+    (k : ℕ) → times k (holds (record inside.state { ports = p; trash = after; early = early })) ≡ times k (holds seen.state)
+timed_holds seen inside p after early same h k =
+    let s = inside.state in
+    let old = holds_apart k s.trash s.out s.ports in
+    let new = holds_apart k after s.out p in
+    let step = h.numbers k in
+    let kept : times k (holds (record s { ports = p; trash = after; early = early })) ≡ times k (holds s) = omega (arith, old, new, step) in
+    kept ∙ ap (λ (x : StateAt). times k (holds x.state)) same
 
-sent_keeps : (f : Facts) (s : State) (b : Content) → s.out ≡ None → Keeps f s (b.number ∷ []) (sent f s b)
-sent_keeps f s b none = sent_by_keeps f ((header_at b.header).dst == f.addr) (route_of s.routes (header_at b.header).dst) s b none
+-- who counted no further than n and nothing more
+pub far_same : (n : ℕ) (p : PlainPorts) → AreFar (n + 0) p → AreFar n p
+far_same n p x = let made = x.made in record {
+  machines = λ k d lt. let r = x.machines k d lt in let a = r.admitted in let c = r.delivered in record { admitted = omega (arith, a); delivered = omega (arith, c) };
+  made = omega (arith, made);
+  ends = λ k d lt. let e = x.ends k d lt in omega (arith, e);
+}
 
+-- the ports make a step that counts one further at most, and let go what joins the trash
+pub ported_keeps : (ifaces more : ℕ) (s : State) (p : PlainPorts) (after : List Content) (came : List ℕ) → more ≤ 1 → length came ≤ 1 → p.conns.apps ≡ s.ports.conns.apps →
+    PortsKeep more s.ports p s.trash after came → Keeps ifaces s (record s { ports = p; trash = after }) came
+ported_keeps ifaces more s p after came few one apps h = record {
+  numbers = λ k.
+      let old = holds_apart k s.trash s.out s.ports in
+      let new = holds_apart k after s.out p in
+      let step = h.numbers k in
+      omega (arith, old, new, step);
+  room = let size = h.size in omega (arith, size, one);
+  within = λ w. w;
+  far = λ n far. far_of more few n (h.far n far);
+  apps = apps;
+  doing = refl;
+  early = refl;
+}
+  where
+    far_of : (m : ℕ) → m ≤ 1 → (n : ℕ) → AreFar (n + m) p → AreFar (n + 1) p
+    far_of m few n x = let made = x.made in record {
+      machines = λ k d lt. let r = x.machines k d lt in let a = r.admitted in let c = r.delivered in record { admitted = omega (arith, a, few); delivered = omega (arith, c, few) };
+      made = omega (arith, made, few);
+      ends = λ k d lt. let e = x.ends k d lt in omega (arith, e, few);
+    }
+
+-- the ports alone make a step
+pub ported_alone : (ifaces more : ℕ) (s : State) (p : PlainPorts) (came : List ℕ) → more ≤ 1 → length came ≤ 1 → p.conns.apps ≡ s.ports.conns.apps →
+    PortsKeep more s.ports p [] [] came → Keeps ifaces s (record s { ports = p }) came
+ported_alone ifaces more s p came few one apps h =
+    let beside : PortsKeep more s.ports p s.trash s.trash came = record { numbers = λ k. let step = h.numbers k in omega (arith, step); size = let size = h.size in omega (arith, size); far = h.far } in
+    ported_keeps ifaces more s p s.trash came few one apps beside
+
+pub ported_seen : (seen inside : StateAt) (ifaces more : ℕ) (p : PlainPorts) (came : List ℕ) → inside ≡ seen → more ≤ 1 → length came ≤ 1 → p.conns.apps ≡ inside.state.ports.conns.apps →
+    PortsKeep more inside.state.ports p [] [] came → Keeps ifaces seen.state (record inside.state { ports = p }) came
+ported_seen seen inside ifaces more p came same few one apps h = rw (← same) (ported_alone ifaces more inside.state p came few one apps h)
+
+-- what was counted comes before another step
+pub after_counts : (ifaces : ℕ) (s t : State) (stats : List Stats) (came : List ℕ) → Keeps ifaces (with_stats s stats) t came → Keeps ifaces s t came
+after_counts ifaces s t stats came k = record { numbers = k.numbers; room = k.room; within = k.within; far = k.far; apps = k.apps; doing = k.doing; early = k.early }
+
+-- and a packet joins the trash besides
+pub absorbing_keeps : (ifaces more : ℕ) (s : State) (p : PlainPorts) (after : List Content) (b : Content) → more ≤ 1 → p.conns.apps ≡ s.ports.conns.apps →
+    PortsKeep more s.ports p s.trash after [] → Keeps ifaces s (record s { ports = p; trash = after ++ b ∷ [] }) (b.number ∷ [])
+absorbing_keeps ifaces more s p after b few apps h =
+    let k = ported_keeps ifaces more s p after [] few (omega arith) apps h in
+    record {
+      numbers = λ n.
+          let old = holds_apart n after s.out p in
+          let new = holds_apart n (after ++ b ∷ []) s.out p in
+          let one = times_both n after (b ∷ []) in
+          let step = k.numbers n in
+          omega (arith, old, new, one, step);
+      room = let size = h.size in let one = length-append after (b ∷ []) in omega (arith, size, one);
+      within = λ w. w;
+      far = k.far;
+      apps = apps;
+      doing = refl;
+      early = refl;
+    }
+
+-- a step of the ports that lets nothing go, and counts no further, comes before another step
+pub after_ports : (ifaces : ℕ) (s t : State) (p : PlainPorts) (came : List ℕ) → p.conns.apps ≡ s.ports.conns.apps → PortsKeep 0 s.ports p [] [] [] →
+    Keeps ifaces (record s { ports = p }) t came → Keeps ifaces s t came
+after_ports ifaces s t p came apps h k = record {
+  numbers = λ n.
+      let old = holds_apart n s.trash s.out s.ports in
+      let new = holds_apart n s.trash s.out p in
+      let first = h.numbers n in
+      let second = k.numbers n in
+      omega (arith, old, new, first, second);
+  room = let size = h.size in let room = k.room in omega (arith, size, room);
+  within = k.within;
+  far = λ n far. k.far n (far_same n p (h.far n far));
+  apps = k.apps ∙ apps;
+  doing = k.doing;
+  early = k.early;
+}
+
+-- where nothing came of it before, what comes of it now came of the state as it was
+pub stayed : (old new : StateAt) (t : State) (n : ℕ) (came : List ℕ) → new ≡ old → Keeps n new.state t came → Keeps n old.state t came
+stayed old new t n came same k = rw (← same) k
+
+-- what services changed comes before another step
+pub after_services : (ifaces : ℕ) (s t : State) (facts : PlainFacts) (came : List ℕ) → (IsWithin ifaces s.routes → IsWithin ifaces facts.routes) →
+    Keeps ifaces (with_facts s facts) t came → Keeps ifaces s t came
+after_services ifaces s t facts came within k = record { numbers = k.numbers; room = k.room; within = λ w. k.within (within w); far = k.far; apps = k.apps; doing = k.doing; early = k.early }
+
+-- a packet keeps its number when it gets a checksum and a header
 protected_number : (checked : Bool) (b : Content) → (protected checked b).number ≡ b.number
 protected_number true b = refl
 protected_number false b = refl
 
--- a service's answer
-answer_keeps : (x : Served) (reply : List ℕ) (f : Facts) (s : State) (p : Arrival) → s.out ≡ None → Keeps f s (p.buffer.number ∷ []) (by_answer x reply f s p)
-answer_keeps answer.Reply reply f s p none =
-    subst (λ (n : ℕ). Keeps f s (n ∷ []) (by_answer answer.Reply reply f s p)) (protected_number (is_checked (reply_header f p.head)) (record p.buffer { payload = reply; trace = no_trace }))
-    (sent_keeps f s (reply_in f p.head p.buffer reply) none)
-answer_keeps (answer.Silent e) reply f s p none = spent_keeps f s e p.buffer
-answer_keeps (answer.Refused error) reply f s p none = discarded_keeps f s _ p.buffer
-answer_keeps answer.NoService reply f s p none = discarded_keeps f s _ p.buffer
+pub headed_number : (h : Header) (b : Content) → (headed h b).number ≡ b.number
+headed_number h b = protected_number (is_checked h) b
 
-service_keeps : (f : Facts) (s : State) (time : ℕ) (p : Arrival) → s.out ≡ None → Keeps f s (p.buffer.number ∷ []) (by_service f s time p)
-service_keeps f s time p none =
-    let o : Outcome = answered p.head.dport p.buffer.payload (facts_of f s) time in
-    let h : Keeps f (with_facts s o.facts) (p.buffer.number ∷ []) (by_answer o.served o.reply f (with_facts s o.facts) p) = answer_keeps o.served o.reply f (with_facts s o.facts) p none in
-    record { numbers = h.numbers; room = h.room; within = λ w. h.within (answered_leads p.head.dport p.buffer.payload (facts_of f s) time w); doing = h.doing; ends = h.ends }
-
--- the rules from the third on
-abbrev pub by_rest : Facts → State → ℕ → Arrival → Told
-by_rest f s time p = onward (by_checksum (is_checked p.head) (payload_of p.buffer.payload) s p) (λ q. heard_at_port f s time q)
-
--- the ports change, and something may be reported
-pub ported_keeps : (f : Facts) (s : State) (ports : PlainPorts) (es : List Event) → ends ports ≤ ends s.ports + 1 → Keeps f s [] (record { state = with_ports s ports; events = es })
-ported_keeps f s ports es h = record { numbers = λ k. omega arith; room = omega arith; within = λ w. w; doing = refl; ends = h }
-
-reporting_keeps : (f : Facts) (s : State) (ns : List ℕ) (e : Event) (t : Told) → Keeps f s ns t → Keeps f s ns (reporting e t)
-reporting_keeps f s ns e t h = record { numbers = h.numbers; room = h.room; within = h.within; doing = h.doing; ends = h.ends }
-
-accepting_keeps : (f : Facts) (slot : Option ℕ) (s : State) (app : ℕ) (p : Arrival) → s.out ≡ None → Keeps f s (p.buffer.number ∷ []) (accepting slot s app p)
-accepting_keeps f None s app p none = discarded_keeps f s _ p.buffer
-accepting_keeps f (Some slot) s app p none =
-    let q : PlainPorts = accepted s.ports app slot (connection_of p.head) p.head.prio (answer_flags p.head) in
-    let h = leaving_keeps f (with_ports s q) (to_slot app slot p.buffer) none in
-    record { numbers = h.numbers; room = h.room; within = h.within; doing = h.doing; ends = accepted_ends s.ports app slot (connection_of p.head) p.head.prio (answer_flags p.head) }
-
-socket_keeps : (f : Facts) (owner : Option (ℕ × ℕ)) (lacking : Bool) (slot : Option ℕ) (s : State) (time : ℕ) (p : Arrival) → s.out ≡ None → Keeps f s (p.buffer.number ∷ []) (onward (by_socket owner lacking slot s p) (λ q. by_service f s time q))
-socket_keeps f None lacking slot s time p none = service_keeps f s time p none
-socket_keeps f (Some owner) true slot s time p none = discarded_keeps f s _ p.buffer
-socket_keeps f (Some owner) false slot s time p none = accepting_keeps f slot s owner.0 p none
-
--- the rules from the fifth on, and from the fourth on
-abbrev pub by_port : Facts → State → ℕ → Arrival → Told
-by_port f s time p = onward (by_socket (owner_for s p) (lacks (owner_for s p) p.head) (slot_for s.ports (owner_for s p)) s p) (λ q. by_service f s time q)
-
-abbrev pub by_link : Facts → State → ℕ → Arrival → Told
-by_link f s time p = onward (by_connection (found s.ports.conns (connection_of p.head)) (lacks (owner_for s p) p.head) s p) (λ q. by_port f s time q)
-
-connection_keeps : (f : Facts) (at : Option (ℕ × ℕ)) (lacking : Bool) (s : State) (time : ℕ) (p : Arrival) → s.out ≡ None → Keeps f s (p.buffer.number ∷ []) (onward (by_connection at lacking s p) (λ q. by_port f s time q))
-connection_keeps f None lacking s time p none = socket_keeps f (owner_for s p) (lacks (owner_for s p) p.head) (slot_for s.ports (owner_for s p)) s time p none
-connection_keeps f (Some at) true s time p none = discarded_keeps f s _ p.buffer
-connection_keeps f (Some at) false s time p none = leaving_keeps f s _ none
-
-transport_keeps : (f : Facts) (reliable : Bool) (s : State) (time : ℕ) (p : Arrival) → s.out ≡ None → Keeps f s (p.buffer.number ∷ []) (onward (by_transport reliable s p) (λ q. by_link f s time q))
-transport_keeps f true s time p none = discarded_keeps f s _ p.buffer
-transport_keeps f false s time p none = connection_keeps f (found s.ports.conns (connection_of p.head)) (lacks (owner_for s p) p.head) s time p none
-
-port_keeps : (f : Facts) (s : State) (time : ℕ) (p : Arrival) → s.out ≡ None → Keeps f s (p.buffer.number ∷ []) (heard_at_port f s time p)
-port_keeps f s time p none = transport_keeps f (is_reliable p.head) s time p none
-
-checksum_keeps : (f : Facts) (checked : Bool) (payload : Option (List ℕ)) (s : State) (time : ℕ) (p : Arrival) → s.out ≡ None → Keeps f s (p.buffer.number ∷ []) (onward (by_checksum checked payload s p) (λ q. heard_at_port f s time q))
-checksum_keeps f false payload s time p none = port_keeps f s time p none
-checksum_keeps f true None s time p none = counted_keeps f s _ _ _ (discarded_keeps f (counting s p.mark count.ReceiveErrors 1) _ p.buffer)
-checksum_keeps f true (Some payload) s time p none = port_keeps f s time (record p { buffer = record p.buffer { payload = payload } }) none
-
-security_keeps : (f : Facts) (secured : Bool) (s : State) (time : ℕ) (p : Arrival) → s.out ≡ None → Keeps f s (p.buffer.number ∷ []) (onward (by_security secured s p) (λ q. by_rest f s time q))
-security_keeps f true s time p none = counted_keeps f s _ _ _ (discarded_keeps f (counting s p.mark count.AuthErrors 1) _ p.buffer)
-security_keeps f false s time p none = checksum_keeps f (is_checked p.head) (payload_of p.buffer.payload) s time p none
-
-destination_keeps : (f : Facts) (here : Bool) (row : Option Row) (s : State) (time : ℕ) (p : Arrival) → s.out ≡ None → Keeps f s (p.buffer.number ∷ []) (onward (by_destination here row s p) (λ q. heard_here f s time q))
-destination_keeps f true row s time p none = security_keeps f (is_secured p.head) s time p none
-destination_keeps f false None s time p none = discarded_keeps f s _ p.buffer
-destination_keeps f false (Some row) s time p none = by_way_keeps f (row.iface == p.mark) row s p none
-
-pub heard_keeps : (f : Facts) (s : State) (time : ℕ) (p : Arrival) → s.out ≡ None → Keeps f s (p.buffer.number ∷ []) (heard f s time p)
-heard_keeps f s time p none = destination_keeps f (is_here f.addr p.head) (route_of s.routes p.head.dst) s time p none
-
-slot_keeps : (x : Slot) (f : Facts) (s : State) (app number : ℕ) (b : Content) → s.out ≡ None → Keeps f s (b.number ∷ []) (by_slot x f s app number b)
-slot_keeps slot.Free f s app number b none = discarded_keeps f s _ b
-slot_keeps slot.Held f s app number b none = discarded_keeps f s _ b
-slot_keeps (slot.Open c) f s app number b none =
-    let t : Terms = terms_at s.ports app number in
-    subst (λ (n : ℕ). Keeps f s (n ∷ []) (by_slot (slot.Open c) f s app number b)) (protected_number (is_checked (header_for f c t)) b)
-    (reporting_keeps f s _ _ _ (sent_keeps f s (addressed f c t b) none))
-
-mark_keeps : (unmarked : Bool) (f : Facts) (s : State) (app mark : ℕ) (b : Content) → s.out ≡ None → Keeps f s (b.number ∷ []) (by_mark unmarked f s app mark b)
-mark_keeps true f s app mark b none = sent_keeps f s b none
-mark_keeps false f s app mark b none = slot_keeps (slot_at s.ports.conns app mark) f s app mark b none
-
-requested_keeps : (f : Facts) (s : State) (app : ℕ) (n : Note) → Keeps f s [] (requested s app n)
-requested_keeps f s app (note.Bind port need) = ported_keeps f s (bind s.ports app port need) [] (bind_ends _ _ s.ports app port need)
-requested_keeps f s app (note.Connect slot dest port prio flags from) =
-    let r : Request = record { slot = slot; dest = dest; port = port; prio = prio; flags = flags; from = from } in
-    ported_keeps f s (connect s.ports app r) (connects s.ports app r) (connect_ends s.ports app r)
-requested_keeps f s app (note.Close slot) = ported_keeps f s (close s.ports app slot) [] (close_ends s.ports app slot)
-requested_keeps f s app note.Bound = unchanged_keeps f s
-requested_keeps f s app (note.Connected slot) = unchanged_keeps f s
-requested_keeps f s app (note.Refused reason) = unchanged_keeps f s
-requested_keeps f s app (note.Closed slot) = unchanged_keeps f s
-requested_keeps f s app (note.Down slot) = unchanged_keeps f s
-
-pub served_keeps : (f : Facts) (s : State) (time app : ℕ) (i : ItemShown) → s.out ≡ None → Keeps f s (item_numbers i) (served f s time app i)
-served_keeps f s time app (item.Packet mark b) none = mark_keeps (mark == UNMARKED) f s app mark b none
-served_keeps f s time app (item.Note n) none = requested_keeps f s app n
-served_keeps f s time app (item.Frame _) none = unchanged_keeps f s
+pub addressed_number : (f : Facts) (c : Connection) (t : Terms) (b : Content) → (addressed f c t b).number ≡ b.number
+addressed_number f c t b = headed_number (header_for f c t) b

@@ -1,8 +1,5 @@
-pub mod Asking
-pub mod Ends
+pub mod Awaiting
 pub mod Keeping
-pub mod Owing
-pub mod Porting
+pub mod Resting
 pub mod Sendable
-pub mod Telling
 pub mod Unmoved

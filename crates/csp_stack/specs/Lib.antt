@@ -1,10 +1,9 @@
 pub mod Comes
+pub mod Keeps
 pub mod Config
 pub mod Counting
 pub mod Inside
-pub mod Kept
 pub mod Party
-pub mod PlainPorts
 pub mod Readings
 pub mod Router
 pub mod Rules

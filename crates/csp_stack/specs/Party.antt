@@ -1,7 +1,7 @@
 -- the router as one who takes turns
-use Rattle.std.specs.Prelude.{◌≡◌, ℕ, ◌<◌, ◌≤◌, cond, nat_lt, List, [], length, Option, None, Some, IfSome, ⊤}
+use Rattle.std.specs.Prelude.{◌≡◌, ◌≢◌, ℕ, ◌+◌, ◌<◌, ◌≤◌, false, cond, nat_lt, List, [], length, Option, None, Some, IfSome, ⊤}
 use Rattle.csp_deck.specs.Carried.{IsCarriedIn, IsUpItem}
-use Rattle.csp_deck.specs.Step.{Kind, nothing, giving, pushing, popping}
+use Rattle.csp_deck.specs.Step.{IsCleared, Kind, nothing, taking, giving, pushing, popping}
 use Rattle.csp_log.specs.declared.event.Event.{Event}
 use Rattle.csp_log.specs.declared.places.Carries.TheVariants as lane
 use Rattle.csp_log.specs.declared.places.QueueId.{QueueId}
@@ -13,7 +13,15 @@ use Rattle.csp_log.specs.declared.shown.ItemShown.{ItemShown}
 use Rattle.csp_log.specs.declared.shown.ItemShown.TheVariants as item
 use Rattle.csp_log.specs.declared.shown.OpShown.{OpShown}
 use Rattle.csp_route.specs.Routes.{IsWithin}
-use Rattle.csp_stack.specs.PlainPorts.{ends, waiting}
+use Rattle.csp_conn.specs.PlainConns.{IsThere}
+use Rattle.csp_ports.specs.Counts.{greatest}
+use Rattle.csp_ports.specs.Held.{held}
+use Rattle.csp_ports.specs.PlainPorts.{machine_at, stalled_at, waiting}
+use Rattle.csp_rdp.specs.Jobs.{job_of}
+use Rattle.csp_rdp.specs.declared.answers.State.TheVariants.{Open}
+use Rattle.csp_rdp.specs.declared.jobs.Job.TheVariants.{Deliver}
+use Rattle.csp_rdp_header.specs.declared.options.TheConstants.{MAX_WINDOW}
+use Rattle.csp_rdp_window.specs.Receiving.{is_kept}
 use Rattle.csp_stack.specs.Readings.{buffer_in, item_in}
 use Rattle.csp_stack.specs.Router.{Facts, Leaving, State, Router}
 use Rattle.csp_stack.specs.Turn.{asks_at, asked_at, told_at}
@@ -45,13 +53,16 @@ kind_of_plan (plan.Push queue _) = pushing queue
 kind_of_plan plan.Hear = popping queue.Inbox
 kind_of_plan (plan.Serve k) = popping (queue.Up k)
 kind_of_plan (plan.Reply k) = pushing (queue.Down k)
+kind_of_plan (plan.Tell k _) = pushing (queue.Down k)
+kind_of_plan (plan.Deliver k _) = pushing (queue.Down k)
+kind_of_plan (plan.Make _ _ _) = taking
 
 abbrev pub awaits_of : Router → Kind
 awaits_of r = kind_of_plan r.state.doing
 
--- the numbers that its turns raise, added up
+-- the greatest of the numbers that its turns raise
 abbrev pub count_of : Router → ℕ
-count_of r = ends r.state.ports
+count_of r = greatest r.state.ports
 
 -- what it is once it was told an answer, and what it reports
 abbrev pub told_of : Router → ℕ → AnswerShown → Router
@@ -65,24 +76,66 @@ abbrev pub IsSendable : Facts → Option Leaving → Type 0
 IsSendable f None = ⊤
 IsSendable f (Some o) = IsCarriedIn (rules_of f o.queue) (item.Packet o.mark o.buffer)
 
--- what came back has its place: a buffer in the trash, a packet where nothing else is; and an answer to an application
--- is owed alone
-abbrev pub HasPlace : Plan → State → Type 0
-HasPlace plan.Rest s = ⊤
-HasPlace plan.Give s = length s.trash < TRASH_ROOM
-HasPlace (plan.Push _ _) s = (s.trash ≡ []) × (s.out ≡ None)
-HasPlace plan.Hear s = (s.trash ≡ []) × (s.out ≡ None)
-HasPlace (plan.Serve k) s = (s.trash ≡ []) × (s.out ≡ None) × (waiting k s.ports.owed ≡ 0)
-HasPlace (plan.Reply _) s = (s.trash ≡ []) × (s.out ≡ None)
+-- nothing is in the way of a packet, and the timers had nothing to report
+pub record IsClear (s : State) : Type 0 where
+  pub trash : s.trash ≡ []
+  pub out : s.out ≡ None
+  pub early : s.early ≡ []
 
--- what holds of a router before and after each question and answer: its trash is never past its room, what comes has its
--- place, what is to go out can go, each route leads to an interface of the node, and its ports are those of its applications
+-- the connection on a slot is open, and the packet that it is to deliver was taken out
+pub record IsDelivering (s : State) (app slot : ℕ) : Type 0 where
+  pub is_open : (machine_at s.ports app slot).state ≡ Open
+  pub is_taken : is_kept (machine_at s.ports app slot).recv ((machine_at s.ports app slot).recv.cur + 1) ≡ false
+
+-- what came back has its place: a buffer in the trash, a packet where nothing else is, or with the connection that it was taken from; and an
+-- answer to an application is owed alone, as a packet of it waits for room alone
+abbrev pub HasPlace : Plan → State → Type 0
+HasPlace plan.Rest s = s.early ≡ []
+HasPlace plan.Give s = length s.trash + length (held s.ports) < TRASH_ROOM
+HasPlace (plan.Push _ _) s = IsClear s
+HasPlace plan.Hear s = IsClear s
+HasPlace (plan.Serve k) s = IsClear s × (waiting k s.ports.owed ≡ 0) × (stalled_at s.ports k ≡ None)
+HasPlace (plan.Reply _) s = IsClear s
+HasPlace (plan.Tell k slot) s = IsClear s × IsThere s.ports.conns k slot
+HasPlace (plan.Deliver k slot) s = IsClear s × IsThere s.ports.conns k slot × IsDelivering s k slot
+HasPlace (plan.Make k slot _) s = IsClear s × IsThere s.ports.conns k slot
+
+-- a packet that waits for its buffer is the one that its connection owes at this time
+abbrev pub IsWaiting : Plan → State → ℕ → Type 0
+IsWaiting plan.Rest s time = ⊤
+IsWaiting plan.Give s time = ⊤
+IsWaiting (plan.Push _ _) s time = ⊤
+IsWaiting plan.Hear s time = ⊤
+IsWaiting (plan.Serve _) s time = ⊤
+IsWaiting (plan.Reply _) s time = ⊤
+IsWaiting (plan.Tell _ _) s time = ⊤
+IsWaiting (plan.Deliver _ _) s time = ⊤
+IsWaiting (plan.Make k slot j) s time = (job_of time (machine_at s.ports k slot) ≡ Some j) × (j ≢ Deliver)
+
+abbrev pub waits_of : Router → ℕ → Type 0
+waits_of r time = IsWaiting r.state.doing r.state time
+
+-- what holds of a router before and after each question and answer: its trash is never past its room, not even with all that its ports
+-- hold; what comes has its place, what is to go out can go, each route leads to an interface of the node, its ports are those of its
+-- applications, and the window of its connections is one that a connection may have
 pub record IsSound (f : Facts) (s : State) : Type 0 where
-  pub room : length s.trash ≤ TRASH_ROOM
+  pub room : length s.trash + length (held s.ports) ≤ TRASH_ROOM
   pub place : HasPlace s.doing s
   pub sendable : IsSendable f s.out
   pub within : IsWithin (length f.ifaces) s.routes
   pub apps : s.ports.conns.apps ≡ f.apps
+  pub low : 1 ≤ f.options.window
+  pub high : f.options.window ≤ MAX_WINDOW
+
+-- and what holds once its timers were tried: where they reported something there is trash
+pub record IsTimed (f : Facts) (s : State) : Type 0 where
+  pub room : length s.trash + length (held s.ports) ≤ TRASH_ROOM
+  pub quiet : s.trash ≡ [] → s.early ≡ []
+  pub sendable : IsSendable f s.out
+  pub within : IsWithin (length f.ifaces) s.routes
+  pub apps : s.ports.conns.apps ≡ f.apps
+  pub low : 1 ≤ f.options.window
+  pub high : f.options.window ≤ MAX_WINDOW
 
 -- an item of an application that is there, and that its lane carries
 pub record IsFrom (f : Facts) (number : ℕ) (i : ItemShown) : Type 0 where
@@ -97,3 +150,6 @@ Awaits f (plan.Push _ _) a = buffer_in a ≡ None
 Awaits f plan.Hear a = buffer_in a ≡ None
 Awaits f (plan.Serve k) a = (buffer_in a ≡ None) × IfSome (item_in a) (IsFrom f k)
 Awaits f (plan.Reply _) a = buffer_in a ≡ None
+Awaits f (plan.Tell _ _) a = buffer_in a ≡ None
+Awaits f (plan.Deliver _ _) a = buffer_in a ≡ None
+Awaits f (plan.Make _ _ _) a = (item_in a ≡ None) × IfSome (buffer_in a) IsCleared

@@ -6,16 +6,23 @@ use Rattle.csp_deck.specs.Keeping.{numbers_of}
 use Rattle.csp_log.specs.declared.places.QueueId.{QueueId}
 use Rattle.csp_route.specs.Routes.{Routes}
 use Rattle.csp_service.specs.Facts.{PlainServices}
-use Rattle.csp_stack.specs.PlainPorts.{PlainPorts}
+use Rattle.csp_log.specs.declared.event.Event.{Event}
+use Rattle.csp_ports.specs.Held.{emptied, held}
+use Rattle.csp_ports.specs.PlainPorts.{PlainPorts}
+use Rattle.csp_ports.specs.declared.origin.Origin.{Origin}
+use Rattle.csp_rdp_header.specs.declared.options.Options.{Options}
 use Rattle.csp_stack.specs.declared.plan.Plan.{Plan}
+use Rattle.csp_stack.specs.declared.plan.Plan.TheVariants.{Rest}
 
 -- what no turn changes: its node's place among the nodes, address and name, what its first sequence numbers are
--- drawn from, the number of its applications, and the names of its interfaces in the order of their numbers
+-- drawn from, the options of the reliable connections that it asks for, the number of its applications, and the names of its
+-- interfaces in the order of their numbers
 pub record Facts : Type 0 where
   pub node : ℕ
   pub addr : ℕ
   pub name : List ℕ
   pub seed : ℕ
+  pub options : Options
   pub apps : ℕ
   pub ifaces : List (List ℕ)
 
@@ -25,14 +32,19 @@ pub record Leaving : Type 0 where
   pub mark : ℕ
   pub buffer : Content
 
+-- what its reliable connections begin with
+abbrev pub origin_of : Facts → Origin
+origin_of f = record { node = f.node; seed = f.seed; options = f.options }
+
 -- what turns change: the routing table, the node's ports, what its services keep, the buffers that are to go back to the pool, the packet
--- that is to go out, the source with which the next look for work begins, and what is awaited
+-- that is to go out, what the timers of this turn reported, the source with which the next look for work begins, and what is awaited
 pub record State : Type 0 where
   pub routes : Routes
   pub ports : PlainPorts
   pub services : PlainServices
   pub trash : List Content
   pub out : Option Leaving
+  pub early : List Event
   pub cursor : ℕ
   pub doing : Plan
 
@@ -59,18 +71,25 @@ abbrev pub out_buffers : Option Leaving → List Content
 out_buffers None = []
 out_buffers (Some o) = o.buffer ∷ []
 
--- the buffers that a router holds: those in its trash, and that of the packet to go out
+-- the buffers that a router holds: those in its trash, that of the packet to go out, and those of its ports
 abbrev pub buffers : State → List Content
-buffers s = s.trash ++ out_buffers s.out
+buffers s = s.trash ++ out_buffers s.out ++ held s.ports
 
 -- and their numbers
 abbrev pub holds : State → List ℕ
 holds s = numbers_of (buffers s)
 
--- the state without the first of its buffers, as they are taken out at the end of a run
-abbrev pub drained_by : List Content → State → State
-drained_by (b ∷ bs) s = record s { trash = bs }
-drained_by [] s = record s { out = None }
+-- nothing is awaited any more
+abbrev pub at_rest : State → State
+at_rest s = record s { early = []; doing = Rest }
+
+-- the state without the first of its buffers, as they are taken out at the end of a run: the trash, the packet that is to go out, the ports.
+-- Where it holds none it stays
+abbrev pub drained_by : List Content → Option Leaving → List Content → State → State
+drained_by (_ ∷ bs) out kept s = at_rest (record s { trash = bs })
+drained_by [] (Some o) kept s = at_rest (record s { out = None })
+drained_by [] None (_ ∷ _) s = at_rest (record s { ports = emptied s.ports })
+drained_by [] None [] s = s
 
 abbrev pub drained : State → State
-drained s = drained_by s.trash s
+drained s = drained_by s.trash s.out (held s.ports) s

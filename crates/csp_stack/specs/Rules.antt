@@ -1,5 +1,5 @@
 -- what a node does with a packet; where a rule asks a question, the answer is its first argument
-use Rattle.std.specs.Prelude.{ℕ, ◌==◌, Bool, true, false, List, Option, None, Some, Result, Ok, Err}
+use Rattle.std.specs.Prelude.{ℕ, ◌==◌, ◌||◌, not, Bool, true, false, List, Option, None, Some, Result, Ok, Err}
 use Rattle.std.specs.Int.RustNames.{bit_and}
 use Rattle.csp_buffer.specs.Content.{Content}
 use Rattle.csp_conn.specs.Opening.{first_free, found}
@@ -11,6 +11,8 @@ use Rattle.csp_conn.specs.declared.slot.Slot.TheVariants as slot
 use Rattle.csp_crc.specs.Check.{payload_of}
 use Rattle.csp_header.specs.Word.{header_at}
 use Rattle.csp_header.specs.declared.word.Header.{Header}
+use Rattle.csp_base.specs.declared.traces.Tag.{Tag}
+use Rattle.csp_log.specs.declared.event.Discard.{Discard}
 use Rattle.csp_log.specs.declared.event.Discard.TheVariants as why
 use Rattle.csp_log.specs.declared.event.Event.TheVariants as event
 use Rattle.csp_log.specs.declared.note.Note.{Note}
@@ -27,14 +29,26 @@ use Rattle.csp_service.specs.declared.answers.Served.TheVariants.{NoService, Ref
 use Rattle.csp_service.specs.declared.stats.Count.TheVariants as count
 use Rattle.csp_socket.specs.Bound.{owner_of}
 use Rattle.csp_stack.specs.Counting.{counting}
-use Rattle.csp_stack.specs.PlainPorts.{PlainPorts, accepted, bind, close, connect, connects, terms_at}
+use Rattle.csp_ports.specs.Asking.{bind, close, connect}
+use Rattle.csp_ports.specs.Asking.{is_reliable as are_reliable}
+use Rattle.csp_ports.specs.Packets.{accepted, handing, invited, submitting}
+use Rattle.csp_ports.specs.PlainPorts.{PlainPorts, terms_at}
+use Rattle.csp_ports.specs.Tasks.{made_in, making}
+use Rattle.csp_ports.specs.declared.handing.Invitation.{Invitation}
+use Rattle.csp_ports.specs.declared.request.Request.{Request}
+use Rattle.csp_ports.specs.declared.terms.Terms.{Terms}
+use Rattle.csp_rdp.specs.declared.jobs.Job.{Job}
+use Rattle.csp_rdp_header.specs.Head.{has_flag, parted}
+use Rattle.csp_rdp_header.specs.Options.{judged}
+use Rattle.csp_rdp_header.specs.declared.errors.OptionError.{OptionError}
+use Rattle.csp_rdp_header.specs.declared.head.RdpHead.{RdpHead}
+use Rattle.csp_rdp_header.specs.declared.head.TheConstants.{ACK, RST, SYN}
+use Rattle.csp_rdp_header.specs.declared.options.Options.{Options}
 use Rattle.csp_stack.specs.Readings.{is_checked, is_here, is_reliable, is_secured, lacks, mark_of}
-use Rattle.csp_stack.specs.Router.{Facts, Leaving, State}
+use Rattle.csp_stack.specs.Router.{Facts, Leaving, State, origin_of}
 use Rattle.csp_stack.specs.Sending.{headed}
 use Rattle.csp_stack.specs.Serving.{facts_of, reply_in, with_facts}
-use Rattle.csp_stack.specs.Told.{Told, unchanged, discarded, leaving, reporting, spent, with_ports}
-use Rattle.csp_stack.specs.declared.request.Request.{Request}
-use Rattle.csp_stack.specs.declared.terms.Terms.{Terms}
+use Rattle.csp_stack.specs.Told.{Told, absorbed, unchanged, discarded, leaving, ported, reporting, spent, with_ports}
 
 -- ---- sending
 
@@ -102,20 +116,35 @@ by_checksum true None s p = Err (discarded (counting s p.mark count.ReceiveError
 by_checksum true (Some payload) s p = Ok (record p { buffer = record p.buffer { payload = payload } })
 by_checksum false payload s p = Ok p
 
--- no router has the reliable transport yet: a packet of it is NoSocket
-abbrev pub by_transport : (is_reliable : Bool) → State → Arrival → Ruling
-by_transport true s p = Err (discarded s why.NoSocket p.buffer)
-by_transport false s p = Ok p
-
 -- a packet goes to the application that has its connection, marked with the slot
 abbrev pub to_slot : ℕ → ℕ → Content → Leaving
 to_slot app slot b = record { queue = queue.Down app; mark = slot; buffer = b }
 
--- 4. a packet of a connection in use goes to its application; without a flag that its own port needs it is Required
-abbrev pub by_connection : (at : Option (ℕ × ℕ)) → (lacks : Bool) → State → Arrival → Ruling
-by_connection None lacks s p = Ok p
-by_connection (Some at) true s p = Err (discarded s why.Required p.buffer)
-by_connection (Some at) false s p = Err (leaving s (to_slot at.0 at.1 p.buffer))
+-- a packet of the reliable transport goes to the machine of its connection, without its head; one that is shorter than a head is Malformed
+abbrev pub to_machine : Option (List ℕ × RdpHead) → State → ℕ → ℕ → ℕ → Arrival → Told
+to_machine None s app slot time p = discarded s why.Malformed p.buffer
+to_machine (Some read) s app slot time p = ported s (handing s.ports app slot read.1 (record p.buffer { payload = read.0 }) time)
+
+abbrev pub to_connection : (is_reliable : Bool) → State → ℕ → ℕ → ℕ → Arrival → Told
+to_connection false s app slot time p = leaving s (to_slot app slot p.buffer)
+to_connection true s app slot time p = to_machine (parted p.buffer.payload) s app slot time p
+
+-- whether a packet is of the reliable transport and its connection is not, or the other way round
+abbrev pub differs : (is_reliable : Bool) → (flags : ℕ) → Bool
+differs true flags = not (are_reliable flags)
+differs false flags = are_reliable flags
+
+abbrev pub is_mixed : PlainPorts → Option (ℕ × ℕ) → Header → Bool
+is_mixed ports None h = false
+is_mixed ports (Some at) h = differs (is_reliable h) (terms_at ports at.0 at.1).flags
+
+-- 4. a packet of a connection in use: of another transport than the connection it is Mixed, and without a flag that its own port needs
+-- Required; a plain one goes to the connection's application, and one of the reliable transport to the connection's machine
+abbrev pub by_connection : (at : Option (ℕ × ℕ)) → (is_mixed lacks : Bool) → State → ℕ → Arrival → Ruling
+by_connection None mixed lacks s time p = Ok p
+by_connection (Some at) true lacks s time p = Err (discarded s why.Mixed p.buffer)
+by_connection (Some at) false true s time p = Err (discarded s why.Required p.buffer)
+by_connection (Some at) false false s time p = Err (to_connection (is_reliable p.head) s at.0 at.1 time p)
 
 -- the connection of a packet that has come: with the node and the port that it came from, by the port that it came to
 abbrev pub connection_of : Header → Connection
@@ -141,11 +170,45 @@ abbrev pub slot_for : PlainPorts → Option (ℕ × ℕ) → Option ℕ
 slot_for ports None = None
 slot_for ports (Some owner) = first_free ports.conns owner.0
 
+-- a packet asks for a reliable connection where it is a SYN, neither ACK nor RST, with options that are each in its range. A packet that
+-- is shorter than a head is Malformed, another one than a SYN is NoConn, and one with other options is Malformed
+abbrev pub asked_with : Result Options OptionError → RdpHead → Option Tag → Result Invitation Discard
+asked_with (Err _) h tag = Err why.Malformed
+asked_with (Ok options) h tag = Ok (record { head = h; tag = tag; options = options })
+
+abbrev pub asked_by : (is_syn other : Bool) → List ℕ → RdpHead → Option Tag → Result Invitation Discard
+asked_by false other options h tag = Err why.NoConn
+asked_by true true options h tag = Err why.NoConn
+asked_by true false options h tag = asked_with (judged options) h tag
+
+abbrev pub invitation_in : Option (List ℕ × RdpHead) → Option Tag → Result Invitation Discard
+invitation_in None tag = Err why.Malformed
+invitation_in (Some read) tag = asked_by (has_flag read.1 SYN) (has_flag read.1 ACK || has_flag read.1 RST) read.0 read.1 tag
+
+abbrev pub invitation_of : Content → Result Invitation Discard
+invitation_of b = invitation_in (parted b.payload) b.trace.tag
+
+-- it opens one in the least free slot of an application; where all are in use it is NoSlot
+abbrev pub inviting : Result Invitation Discard → (slot : Option ℕ) → Facts → State → ℕ → ℕ → Arrival → Told
+inviting (Err reason) slot f s app time p = discarded s reason p.buffer
+inviting (Ok i) None f s app time p = discarded s why.NoSlot p.buffer
+inviting (Ok i) (Some slot) f s app time p =
+    absorbed p.buffer (ported s (invited (origin_of f) s.ports app slot (connection_of p.head) p.head.prio (answer_flags p.head) i time))
+
+abbrev pub at_socket : (is_reliable : Bool) → (slot : Option ℕ) → Facts → State → ℕ → ℕ → Arrival → Told
+at_socket false slot f s app time p = accepting slot s app p
+at_socket true slot f s app time p = inviting (invitation_of p.buffer) slot f s app time p
+
 -- 5. a packet to a bound port opens a connection of the port's application; without a flag that the port needs it is Required
-abbrev pub by_socket : (owner : Option (ℕ × ℕ)) → (lacks : Bool) → (slot : Option ℕ) → State → Arrival → Ruling
-by_socket None lacks slot s p = Ok p
-by_socket (Some owner) true slot s p = Err (discarded s why.Required p.buffer)
-by_socket (Some owner) false slot s p = Err (accepting slot s owner.0 p)
+abbrev pub by_socket : (owner : Option (ℕ × ℕ)) → (lacks : Bool) → (slot : Option ℕ) → Facts → State → ℕ → Arrival → Ruling
+by_socket None lacks slot f s time p = Ok p
+by_socket (Some owner) true slot f s time p = Err (discarded s why.Required p.buffer)
+by_socket (Some owner) false slot f s time p = Err (at_socket (is_reliable p.head) slot f s owner.0 time p)
+
+-- 6. elsewhere a packet of the reliable transport is NoSocket
+abbrev pub by_transport : (is_reliable : Bool) → State → Arrival → Ruling
+by_transport true s p = Err (discarded s why.NoSocket p.buffer)
+by_transport false s p = Ok p
 
 -- what a service made of a request: a reply is sent; without one the node has this to report; a refused request is Malformed; and without a service a packet is NoSocket
 abbrev pub by_answer : Served → (reply : List ℕ) → Facts → State → Arrival → Told
@@ -157,7 +220,7 @@ by_answer NoService reply f s p = discarded s why.NoSocket p.buffer
 abbrev pub by_outcome : Outcome → Facts → State → Arrival → Told
 by_outcome o f s p = by_answer o.served o.reply f (with_facts s o.facts) p
 
--- 6. a packet to the port of a service is the service's request
+-- and a packet to the port of a service is the service's request
 abbrev pub by_service : Facts → State → ℕ → Arrival → Told
 by_service f s time p = by_outcome (answered p.head.dport p.buffer.payload (facts_of f s) time) f s p
 
@@ -170,13 +233,22 @@ onward (Err told) next = told
 abbrev pub owner_for : State → Arrival → Option (ℕ × ℕ)
 owner_for s p = owner_of s.ports.bound p.head.dport
 
--- the rules from the fourth on, from the third on, and all: the first rule that decides
+-- the rules from the sixth on, from the fifth on, from the fourth on, from the second on, and all: the first rule that decides
+abbrev pub heard_elsewhere : Facts → State → ℕ → Arrival → Told
+heard_elsewhere f s time p = onward (by_transport (is_reliable p.head) s p) (λ p. by_service f s time p)
+
+abbrev pub heard_at_socket : Facts → State → ℕ → Arrival → Told
+heard_at_socket f s time p =
+    onward (by_socket (owner_for s p) (lacks (owner_for s p) p.head) (slot_for s.ports (owner_for s p)) f s time p) (λ p.
+    heard_elsewhere f s time p)
+
+abbrev pub slot_of : State → Arrival → Option (ℕ × ℕ)
+slot_of s p = found s.ports.conns (connection_of p.head)
+
 abbrev pub heard_at_port : Facts → State → ℕ → Arrival → Told
 heard_at_port f s time p =
-    onward (by_transport (is_reliable p.head) s p) (λ p.
-    onward (by_connection (found s.ports.conns (connection_of p.head)) (lacks (owner_for s p) p.head) s p) (λ p.
-    onward (by_socket (owner_for s p) (lacks (owner_for s p) p.head) (slot_for s.ports (owner_for s p)) s p) (λ p.
-    by_service f s time p)))
+    onward (by_connection (slot_of s p) (is_mixed s.ports (slot_of s p) p.head) (lacks (owner_for s p) p.head) s time p) (λ p.
+    heard_at_socket f s time p)
 
 abbrev pub heard_here : Facts → State → ℕ → Arrival → Told
 heard_here f s time p =
@@ -196,33 +268,46 @@ header_for f c t = record { prio = t.prio; src = f.addr; dst = c.peer; dport = c
 abbrev pub addressed : Facts → Connection → Terms → Content → Content
 addressed f c t b = headed (header_for f c t) b
 
--- a packet for a slot is sent on the slot's connection; without one it is NoConn
-abbrev pub by_slot : Slot → Facts → State → ℕ → ℕ → Content → Told
-by_slot slot.Free f s app number b = discarded s why.NoConn b
-by_slot slot.Held f s app number b = discarded s why.NoConn b
-by_slot (slot.Open c) f s app number b =
+-- a packet for a slot is sent on the slot's connection: on a plain one at once, and to a reliable one it is handed over; without one it is NoConn
+abbrev pub on_connection : (is_reliable : Bool) → Connection → Facts → State → ℕ → ℕ → ℕ → Content → Told
+on_connection false c f s app number time b =
     reporting (event.Sent number (terms_at s.ports app number).ordinal) (sent f s (addressed f c (terms_at s.ports app number) b))
+on_connection true c f s app number time b = ported s (submitting s.ports app number b time)
+
+abbrev pub by_slot : Slot → Facts → State → ℕ → ℕ → ℕ → Content → Told
+by_slot slot.Free f s app number time b = discarded s why.NoConn b
+by_slot slot.Held f s app number time b = discarded s why.NoConn b
+by_slot (slot.Open c) f s app number time b = on_connection (are_reliable (terms_at s.ports app number).flags) c f s app number time b
 
 -- an unmarked packet is sent as it is, and one for a slot by its connection
-abbrev pub by_mark : (is_unmarked : Bool) → Facts → State → ℕ → ℕ → Content → Told
-by_mark true f s app mark b = sent f s b
-by_mark false f s app mark b = by_slot (slot_at s.ports.conns app mark) f s app mark b
+abbrev pub by_mark : (is_unmarked : Bool) → Facts → State → ℕ → ℕ → ℕ → Content → Told
+by_mark true f s app mark time b = sent f s b
+by_mark false f s app mark time b = by_slot (slot_at s.ports.conns app mark) f s app mark time b
 
 -- a request is answered; the router's own answers are no requests
-abbrev pub requested : State → ℕ → Note → Told
-requested s app (note.Bind port need) = unchanged (with_ports s (bind s.ports app port need))
-requested s app (note.Connect slot dest port prio flags from) =
+abbrev pub requested : Facts → State → ℕ → ℕ → Note → Told
+requested f s app time (note.Bind port need) = unchanged (with_ports s (bind s.ports app port need))
+requested f s app time (note.Connect slot dest port prio flags from) =
     let r : Request = record { slot = slot; dest = dest; port = port; prio = prio; flags = flags; from = from } in
-    record { state = with_ports s (connect s.ports app r); events = connects s.ports app r }
-requested s app (note.Close slot) = unchanged (with_ports s (close s.ports app slot))
-requested s app note.Bound = unchanged s
-requested s app (note.Connected slot) = unchanged s
-requested s app (note.Refused reason) = unchanged s
-requested s app (note.Closed slot) = unchanged s
-requested s app (note.Down slot) = unchanged s
+    ported s (connect (origin_of f) s.ports app r time)
+requested f s app time (note.Close slot) = ported s (close s.ports app slot time)
+requested f s app time note.Bound = unchanged s
+requested f s app time (note.Connected slot) = unchanged s
+requested f s app time (note.Refused reason) = unchanged s
+requested f s app time (note.Closed slot) = unchanged s
+requested f s app time (note.Down slot) = unchanged s
 
 -- what becomes of an item of an application; a frame is none of what an application sends
 abbrev pub served : Facts → State → ℕ → (app : ℕ) → ItemShown → Told
-served f s time app (item.Packet mark b) = by_mark (mark == UNMARKED) f s app mark b
-served f s time app (item.Note request) = requested s app request
+served f s time app (item.Packet mark b) = by_mark (mark == UNMARKED) f s app mark time b
+served f s time app (item.Note request) = requested f s app time request
 served f s time app (item.Frame _) = unchanged s
+
+-- ---- from the machine of a connection
+
+-- a packet that a slot's connection owes is made in a buffer, and sent. Where the slot has no connection none is owed: the buffer joins the trash
+abbrev pub made_on : Slot → Job → Facts → State → ℕ → ℕ → ℕ → Content → Told
+made_on slot.Free j f s app number time b = absorbed b (unchanged s)
+made_on slot.Held j f s app number time b = absorbed b (unchanged s)
+made_on (slot.Open c) j f s app number time b =
+    sent f (with_ports s (making j time app number s.ports)) (addressed f c (terms_at s.ports app number) (made_in j time app number b s.ports))

@@ -1,9 +1,11 @@
 -- the sources of work, and the look for one that has some
-use Rattle.std.specs.Prelude.{ℕ, ◌+◌, ◌-◌, ◌==◌, Bool, true, false, cond, nat_le, List, [], ◌∷◌, ◌++◌, Option, find}
+use Rattle.std.specs.Prelude.{ℕ, ◌+◌, ◌-◌, ◌==◌, ◌&&◌, not, Bool, true, false, cond, nat_le, List, [], ◌∷◌, ◌++◌, Option, None, Some, find, is_some}
 use Rattle.std.specs.List.{range_with_len}
-use Rattle.csp_stack.specs.PlainPorts.{waiting}
+use Rattle.csp_ports.specs.PlainPorts.{stalled_at, waiting}
+use Rattle.csp_ports.specs.Tasks.{next_task}
+use Rattle.csp_ports.specs.declared.owed.Owed.{Owed}
+use Rattle.csp_ports.specs.declared.task.Task.{Task}
 use Rattle.csp_stack.specs.Router.{Facts, State}
-use Rattle.csp_stack.specs.declared.owed.Owed.{Owed}
 use Rattle.csp_stack.specs.declared.sources.Source.{Source}
 use Rattle.csp_stack.specs.declared.sources.Source.TheVariants as source
 
@@ -15,16 +17,17 @@ source_count f = f.apps + 2
 abbrev pub source_at : Facts → ℕ → Source
 source_at f k = cond (k == 0) source.Inbox (cond (nat_le k f.apps) (source.App (k - 1)) source.Jobs)
 
--- there are jobs where an answer is owed
-abbrev pub has_jobs : List Owed → Bool
-has_jobs [] = false
-has_jobs (_ ∷ _) = true
+-- there are jobs where an answer is owed, or a connection has a task
+abbrev pub has_jobs : List Owed → Option (ℕ × ℕ × Task) → Bool
+has_jobs (_ ∷ _) task = true
+has_jobs [] (Some _) = true
+has_jobs [] None = false
 
--- the inbox always has work; an application has some unless an answer to it waits to be pushed
+-- the inbox always has work; an application has some unless an answer to it waits to be pushed, or a packet of it for room in a window
 abbrev pub has_work : State → ℕ → Source → Bool
 has_work s time source.Inbox = true
-has_work s time (source.App k) = waiting k s.ports.owed == 0
-has_work s time source.Jobs = has_jobs s.ports.owed
+has_work s time (source.App k) = (waiting k s.ports.owed == 0) && not (is_some (stalled_at s.ports k))
+has_work s time source.Jobs = has_jobs s.ports.owed (next_task time s.ports)
 
 -- the places once round in a circle, from the cursor on
 abbrev pub circle : Facts → ℕ → List ℕ

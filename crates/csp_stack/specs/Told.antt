@@ -4,7 +4,8 @@ use Rattle.csp_buffer.specs.Content.{Content}
 use Rattle.csp_log.specs.declared.event.Discard.{Discard}
 use Rattle.csp_log.specs.declared.event.Event.{Event}
 use Rattle.csp_log.specs.declared.event.Event.TheVariants as event
-use Rattle.csp_stack.specs.PlainPorts.{PlainPorts}
+use Rattle.csp_ports.specs.Came.{Came}
+use Rattle.csp_ports.specs.PlainPorts.{PlainPorts}
 use Rattle.csp_stack.specs.Router.{Leaving, State}
 
 -- the state after it, and what it reports
@@ -32,9 +33,21 @@ leaving s o = record { state = record s { out = Some o }; events = [] }
 abbrev pub with_ports : State → PlainPorts → State
 with_ports s ports = record s { ports = ports }
 
+-- what comes of a step of the ports: what they let go joins the trash
+abbrev pub ported : State → Came → Told
+ported s c = record { state = record s { ports = c.ports; trash = s.trash ++ c.loose }; events = c.events }
+
+-- and so does a packet besides
+abbrev pub absorbed : Content → Told → Told
+absorbed b t = record t { state = record t.state { trash = t.state.trash ++ b ∷ [] } }
+
 -- this is reported before the rest
 abbrev pub reporting : Event → Told → Told
 reporting e t = record t { events = e ∷ t.events }
+
+-- and so are these
+abbrev pub after_all : List Event → Told → Told
+after_all es t = record t { events = es ++ t.events }
 
 -- a buffer is the first of the trash again
 abbrev pub kept : State → Content → Told

@@ -1,88 +1,175 @@
 //! What becomes of a packet at its port: the rules from the fourth on.
 
-ghost use Rattle.std.specs.Prelude.{◌≡◌, ◌+◌, ◌<◌, ◌≤◌, ◌^◌, [], None, true, IfSome, length};
+ghost use Rattle.std.specs.Prelude.{◌≡◌, ◌+◌, ◌<◌, ◌≤◌, ◌^◌, ℕ, ⊤, [], ◌∷◌, None, true, IfSome, MatchOption, length};
 ghost use Rattle.csp_base.specs.declared.limits.TheConstants.{MAX_PAYLOAD};
-ghost use Rattle.csp_conn.specs.Opening.{first_free, found};
-ghost use Rattle.csp_stack.specs.Comes.{ComesTo, IsFree, Rules, arrival_of};
+ghost use Rattle.csp_conn.specs.Opening.{first_free};
+ghost use Rattle.csp_conn.specs.PlainConns.{IsThere};
+ghost use Rattle.csp_ports.specs.Counts.{IsCountable};
+ghost use Rattle.csp_ports.specs.PlainPorts.{terms_at};
+ghost use Rattle.csp_rdp_header.specs.Head.{parted};
+ghost use Rattle.csp_stack.specs.Comes.{ComesTo, IsFree, IsServing, Rules, arrival_of};
+ghost use Rattle.csp_stack.specs.Keeps.{Keeps};
 ghost use Rattle.csp_stack.specs.Party.{IsSendable};
-ghost use Rattle.csp_route.specs.Routes.{IsWithin};
 ghost use Rattle.csp_stack.specs.Readings.{is_checked, is_reliable, lacks};
+ghost use Rattle.csp_stack.specs.Rules.{accepting, at_socket, by_connection, by_socket, by_transport, differs, heard_at_port, heard_at_socket, heard_elsewhere, inviting, invitation_of, is_mixed, owner_for, slot_for, slot_of, to_connection, to_machine, to_slot};
 ghost use Rattle.csp_stack.specs.Told.{leaving};
-ghost use Rattle.csp_stack.specs.Rules.{accepting, by_connection, by_socket, by_transport, connection_of, heard_at_port, owner_for, slot_for, to_slot};
 
 use crate::Outgoing;
 use crate::facts::Facts;
+use crate::invitation::read_invitation;
 use crate::packet::Packet;
-use crate::readings::{is_packet_lacking, is_packet_reliable};
+use crate::readings::{are_flags_reliable, is_packet_lacking, is_packet_reliable};
 use crate::services::judge_service;
 use crate::state::State;
 use csp_deck::{Discard, Event, Events, SLOTS};
 
 /// The first of the rules from the fourth on that decides.
 pub fn hear_at_port(facts: &Facts, state: &mut State, now: u64, packet: Packet, report: &mut Events)
-    requires free { IsFree state.old.state report.old.items }
+    requires sound { IsServing facts.now state.old.state }
+    requires unwritten { report.old.items ≡ [] }
+    requires of_it { packet.buffer.region ≡ state.old.region }
+    requires countable { IsCountable state.old.state.ports }
+    requires early { now < 2 ^ 62 }
+    requires room { is_checked packet.header ≡ true → length packet.buffer.picture.payload + 4 ≤ MAX_PAYLOAD }
+    ensures told { ComesTo state.old state.new report.old.items report.new.items (heard_at_port facts.now state.old.state now (arrival_of packet)) }
+    ensures sendable { IsSendable facts.now state.new.state.out }
+    ensures keeps { Keeps (length facts.now.ifaces) state.old.state state.new.state (packet.buffer.picture.number ∷ []) }
+{
+    let Some(packet) = judge_connection(facts, state, now, packet, report) else {
+        return;
+    };
+    hear_at_socket(facts, state, now, packet, report);
+}
+
+/// The first of the rules from the fifth on that decides.
+fn hear_at_socket(facts: &Facts, state: &mut State, now: u64, packet: Packet, report: &mut Events)
+    requires sound { IsServing facts.now state.old.state }
+    requires unwritten { report.old.items ≡ [] }
+    requires of_it { packet.buffer.region ≡ state.old.region }
+    requires countable { IsCountable state.old.state.ports }
+    requires early { now < 2 ^ 62 }
+    requires room { is_checked packet.header ≡ true → length packet.buffer.picture.payload + 4 ≤ MAX_PAYLOAD }
+    ensures told { ComesTo state.old state.new report.old.items report.new.items (heard_at_socket facts.now state.old.state now (arrival_of packet)) }
+    ensures sendable { IsSendable facts.now state.new.state.out }
+    ensures keeps { Keeps (length facts.now.ifaces) state.old.state state.new.state (packet.buffer.picture.number ∷ []) }
+{
+    let Some(packet) = judge_socket(facts, state, now, packet, report) else {
+        return;
+    };
+    hear_elsewhere(facts, state, now, packet, report);
+}
+
+/// The first of the rules from the sixth on that decides.
+fn hear_elsewhere(facts: &Facts, state: &mut State, now: u64, packet: Packet, report: &mut Events)
+    requires sound { IsServing facts.now state.old.state }
+    requires unwritten { report.old.items ≡ [] }
     requires of_it { packet.buffer.region ≡ state.old.region }
     requires early { now < 2 ^ 62 }
     requires room { is_checked packet.header ≡ true → length packet.buffer.picture.payload + 4 ≤ MAX_PAYLOAD }
-    requires within { IsWithin (length facts.now.ifaces) state.old.state.routes }
-    requires apps { state.old.state.ports.conns.apps ≡ facts.now.apps }
-    ensures told { ComesTo state.old state.new report.old.items report.new.items (heard_at_port facts.now state.old.state now (arrival_of packet)) }
+    ensures told { ComesTo state.old state.new report.old.items report.new.items (heard_elsewhere facts.now state.old.state now (arrival_of packet)) }
     ensures sendable { IsSendable facts.now state.new.state.out }
-    ensures apps { state.new.state.ports.conns.apps ≡ facts.now.apps }
+    ensures keeps { Keeps (length facts.now.ifaces) state.old.state state.new.state (packet.buffer.picture.number ∷ []) }
 {
-    let Some(packet) = judge_transport(state, packet, report) else {
-        return;
-    };
-    let Some(packet) = judge_connection(facts, state, packet, report) else {
-        return;
-    };
-    let Some(packet) = judge_socket(facts, state, packet, report) else {
-        return;
-    };
-    judge_service(facts, state, now, packet, report);
-}
-
-/// No router has the reliable transport yet.
-fn judge_transport(state: &mut State, packet: Packet, report: &mut Events) -> Option<Packet>
-    requires free { IsFree state.old.state report.old.items }
-    requires of_it { packet.buffer.region ≡ state.old.region }
-    ensures told { Rules result state.old state.new report.old.items report.new.items (by_transport (is_reliable packet.header) state.old.state (arrival_of packet)) }
-    ensures same { IfSome result (λ p. p ≡ packet) }
-    ensures none { state.new.state.out ≡ None }
-    ensures ports { state.new.state.ports ≡ state.old.state.ports }
-{
-    if !is_packet_reliable(&packet.header) {
-        return Some(packet);
+    if is_packet_reliable(&packet.header) {
+        state.discard(Discard::NoSocket, packet.into_buffer(), report);
+    } else {
+        judge_service(facts, state, now, packet, report);
     }
-    state.discard(Discard::NoSocket, packet.into_buffer(), report);
-    None
 }
 
-/// 4. A packet of a connection in use goes to the connection's application.
+/// 4. A packet of a connection in use goes to the connection's application, or its machine.
 fn judge_connection(
     facts: &Facts,
     state: &mut State,
+    now: u64,
     packet: Packet,
     report: &mut Events,
 ) -> Option<Packet>
-    requires free { IsFree state.old.state report.old.items }
+    requires sound { IsServing facts.now state.old.state }
+    requires unwritten { report.old.items ≡ [] }
     requires of_it { packet.buffer.region ≡ state.old.region }
-    requires apps { state.old.state.ports.conns.apps ≡ facts.now.apps }
-    ensures told { Rules result state.old state.new report.old.items report.new.items (by_connection (found state.old.state.ports.conns (connection_of packet.header)) (lacks (owner_for state.old.state (arrival_of packet)) packet.header) state.old.state (arrival_of packet)) }
+    requires countable { IsCountable state.old.state.ports }
+    ensures told { Rules result state.old state.new report.old.items report.new.items (by_connection (slot_of state.old.state (arrival_of packet)) (is_mixed state.old.state.ports (slot_of state.old.state (arrival_of packet)) packet.header) (lacks (owner_for state.old.state (arrival_of packet)) packet.header) state.old.state now (arrival_of packet)) }
     ensures same { IfSome result (λ p. p ≡ packet) }
     ensures sendable { IsSendable facts.now state.new.state.out }
-    ensures ports { state.new.state.ports ≡ state.old.state.ports }
+    ensures keeps { MatchOption result (Keeps (length facts.now.ifaces) state.old.state state.new.state (packet.buffer.picture.number ∷ [])) (λ _. ⊤) }
 {
     let header = packet.header;
     let Some((app, slot)) = state.ports.find(header.src, header.sport, header.dport) else {
         return Some(packet);
     };
-    if is_packet_lacking(state.ports.owner(header.dport), &header) {
+    if is_apart(state, app, slot, &packet) {
+        state.discard(Discard::Mixed, packet.into_buffer(), report);
+    } else if is_packet_lacking(state.ports.owner(header.dport), &header) {
         state.discard(Discard::Required, packet.into_buffer(), report);
+    } else {
+        hear_on(facts, state, app, slot, now, packet, report);
+    }
+    None
+}
+
+/// Whether a packet is of the reliable transport and the connection on a slot is not, or the other way round.
+fn is_apart(state: &State, app: u8, slot: u8, packet: &Packet) -> bool
+    requires there { IsThere state.now.state.ports.conns app slot }
+    ensures { result ≡ differs (is_reliable packet.now.header) (terms_at state.now.state.ports app slot).flags }
+{
+    let flags = state.ports.terms(app, slot).flags;
+    if is_packet_reliable(&packet.header) {
+        !are_flags_reliable(flags)
+    } else {
+        are_flags_reliable(flags)
+    }
+}
+
+/// A packet of the connection on a slot goes to its application, or its machine.
+fn hear_on(
+    facts: &Facts,
+    state: &mut State,
+    app: u8,
+    slot: u8,
+    now: u64,
+    packet: Packet,
+    report: &mut Events,
+)
+    requires sound { IsServing facts.now state.old.state }
+    requires unwritten { report.old.items ≡ [] }
+    requires there { IsThere state.old.state.ports.conns app slot }
+    requires of_it { packet.buffer.region ≡ state.old.region }
+    requires countable { IsCountable state.old.state.ports }
+    ensures told { ComesTo state.old state.new report.old.items report.new.items (to_connection (is_reliable packet.header) state.old.state app slot now (arrival_of packet)) }
+    ensures sendable { IsSendable facts.now state.new.state.out }
+    ensures keeps { Keeps (length facts.now.ifaces) state.old.state state.new.state (packet.buffer.picture.number ∷ []) }
+{
+    if is_packet_reliable(&packet.header) {
+        hear_by_machine(facts, state, app, slot, now, packet, report);
     } else {
         leave_to_slot(facts, state, app, slot, packet);
     }
-    None
+}
+
+/// A packet of the reliable transport goes to the machine of its connection, without its head.
+fn hear_by_machine(
+    facts: &Facts,
+    state: &mut State,
+    app: u8,
+    slot: u8,
+    now: u64,
+    packet: Packet,
+    report: &mut Events,
+)
+    requires sound { IsServing facts.now state.old.state }
+    requires unwritten { report.old.items ≡ [] }
+    requires there { IsThere state.old.state.ports.conns app slot }
+    requires of_it { packet.buffer.region ≡ state.old.region }
+    requires countable { IsCountable state.old.state.ports }
+    ensures told { ComesTo state.old state.new report.old.items report.new.items (to_machine (parted packet.buffer.picture.payload) state.old.state app slot now (arrival_of packet)) }
+    ensures out { state.new.state.out ≡ None }
+    ensures keeps { Keeps (length facts.now.ifaces) state.old.state state.new.state (packet.buffer.picture.number ∷ []) }
+{
+    match packet.without_head() {
+        Ok((head, buffer)) => state.hand(app, slot, head, buffer, now, report),
+        Err(buffer) => state.discard(Discard::Malformed, buffer, report),
+    }
 }
 
 /// A packet is to go to a slot of an application.
@@ -94,6 +181,7 @@ fn leave_to_slot(facts: &Facts, state: &mut State, app: u8, slot: u8, packet: Pa
     requires slot { slot < SLOTS }
     ensures told { ComesTo state.old state.new [] [] (leaving state.old.state (to_slot app slot packet.buffer.picture)) }
     ensures sendable { IsSendable facts.now state.new.state.out }
+    ensures keeps { (ifaces : ℕ) → Keeps ifaces state.old.state state.new.state (packet.buffer.picture.number ∷ []) }
 {
     state.leave(Outgoing::to_slot(app, slot, packet.into_buffer()));
 }
@@ -102,16 +190,18 @@ fn leave_to_slot(facts: &Facts, state: &mut State, app: u8, slot: u8, packet: Pa
 fn judge_socket(
     facts: &Facts,
     state: &mut State,
+    now: u64,
     packet: Packet,
     report: &mut Events,
 ) -> Option<Packet>
-    requires free { IsFree state.old.state report.old.items }
+    requires sound { IsServing facts.now state.old.state }
+    requires unwritten { report.old.items ≡ [] }
     requires of_it { packet.buffer.region ≡ state.old.region }
-    requires apps { state.old.state.ports.conns.apps ≡ facts.now.apps }
-    ensures told { Rules result state.old state.new report.old.items report.new.items (by_socket (owner_for state.old.state (arrival_of packet)) (lacks (owner_for state.old.state (arrival_of packet)) packet.header) (slot_for state.old.state.ports (owner_for state.old.state (arrival_of packet))) state.old.state (arrival_of packet)) }
+    requires countable { IsCountable state.old.state.ports }
+    ensures told { Rules result state.old state.new report.old.items report.new.items (by_socket (owner_for state.old.state (arrival_of packet)) (lacks (owner_for state.old.state (arrival_of packet)) packet.header) (slot_for state.old.state.ports (owner_for state.old.state (arrival_of packet))) facts.now state.old.state now (arrival_of packet)) }
     ensures same { IfSome result (λ p. p ≡ packet) }
     ensures sendable { IsSendable facts.now state.new.state.out }
-    ensures apps { state.new.state.ports.conns.apps ≡ facts.now.apps }
+    ensures keeps { MatchOption result (Keeps (length facts.now.ifaces) state.old.state state.new.state (packet.buffer.picture.number ∷ [])) (λ _. ⊤) }
 {
     let header = packet.header;
     let owner = state.ports.owner(header.dport);
@@ -121,20 +211,38 @@ fn judge_socket(
     if is_packet_lacking(owner, &header) {
         state.discard(Discard::Required, packet.into_buffer(), report);
     } else {
-        accept(facts, state, app, packet, report);
+        hear_at(facts, state, app, now, packet, report);
     }
     None
 }
 
+/// A packet to a port that an application has bound opens a connection.
+fn hear_at(facts: &Facts, state: &mut State, app: u8, now: u64, packet: Packet, report: &mut Events)
+    requires sound { IsServing facts.now state.old.state }
+    requires unwritten { report.old.items ≡ [] }
+    requires of_it { packet.buffer.region ≡ state.old.region }
+    requires countable { IsCountable state.old.state.ports }
+    requires app { app < facts.now.apps }
+    ensures told { ComesTo state.old state.new report.old.items report.new.items (at_socket (is_reliable packet.header) (first_free state.old.state.ports.conns app) facts.now state.old.state app now (arrival_of packet)) }
+    ensures sendable { IsSendable facts.now state.new.state.out }
+    ensures keeps { Keeps (length facts.now.ifaces) state.old.state state.new.state (packet.buffer.picture.number ∷ []) }
+{
+    if is_packet_reliable(&packet.header) {
+        invite(facts, state, app, now, packet, report);
+    } else {
+        accept(facts, state, app, packet, report);
+    }
+}
+
 /// A packet opens a connection in the least free slot of an application, and goes there.
 fn accept(facts: &Facts, state: &mut State, app: u8, packet: Packet, report: &mut Events)
-    requires free { IsFree state.old.state report.old.items }
+    requires sound { IsServing facts.now state.old.state }
+    requires unwritten { report.old.items ≡ [] }
     requires of_it { packet.buffer.region ≡ state.old.region }
-    requires apps { state.old.state.ports.conns.apps ≡ facts.now.apps }
     requires app { app < facts.now.apps }
     ensures told { ComesTo state.old state.new report.old.items report.new.items (accepting (first_free state.old.state.ports.conns app) state.old.state app (arrival_of packet)) }
     ensures sendable { IsSendable facts.now state.new.state.out }
-    ensures apps { state.new.state.ports.conns.apps ≡ facts.now.apps }
+    ensures keeps { Keeps (length facts.now.ifaces) state.old.state state.new.state (packet.buffer.picture.number ∷ []) }
 {
     let (connection, flags) = (packet.connection(), packet.answer_flags());
     match state
@@ -151,5 +259,33 @@ fn accept(facts: &Facts, state: &mut State, app: u8, packet: Packet, report: &mu
             leave_to_slot(facts, state, app, slot, packet);
         }
         None => state.discard(Discard::NoSlot, packet.into_buffer(), report),
+    }
+}
+
+/// A packet that asks for a reliable connection opens one in the least free slot of an application.
+fn invite(facts: &Facts, state: &mut State, app: u8, now: u64, packet: Packet, report: &mut Events)
+    requires sound { IsServing facts.now state.old.state }
+    requires unwritten { report.old.items ≡ [] }
+    requires of_it { packet.buffer.region ≡ state.old.region }
+    requires countable { IsCountable state.old.state.ports }
+    requires app { app < facts.now.apps }
+    ensures told { ComesTo state.old state.new report.old.items report.new.items (inviting (invitation_of packet.buffer.picture) (first_free state.old.state.ports.conns app) facts.now state.old.state app now (arrival_of packet)) }
+    ensures out { state.new.state.out ≡ None }
+    ensures keeps { Keeps (length facts.now.ifaces) state.old.state state.new.state (packet.buffer.picture.number ∷ []) }
+{
+    let invitation = match read_invitation(&packet.buffer) {
+        Ok(invitation) => invitation,
+        Err(why) => {
+            state.discard(why, packet.into_buffer(), report);
+            return;
+        }
+    };
+    let (connection, flags) = (packet.connection(), packet.answer_flags());
+    let prio = packet.header.prio;
+    let buffer = packet.into_buffer();
+    if let Err(buffer) = state.invite(
+        facts, app, connection, prio, flags, invitation, buffer, now,
+    ) {
+        state.discard(Discard::NoSlot, buffer, report);
     }
 }

@@ -2,6 +2,7 @@
 
 use arrayvec::ArrayVec;
 use csp_base::{Addr, Name};
+use csp_rdp_header::Options;
 use csp_route::Table;
 use csp_service::IFACE_ROOM;
 use std::marker::Model;
@@ -18,6 +19,8 @@ pub struct StackConfig {
     pub name: Name,
     /// What the first sequence numbers of its connections are drawn from.
     pub seed: u16,
+    /// The options of the reliable connections that it asks for.
+    pub options: Options,
     /// The routing table at the opening.
     pub routes: Table,
     /// The names of its interfaces, in the order of their numbers.
@@ -36,5 +39,5 @@ impl Model for StackConfig {
 
     ghost coded = { Prim.hlevel (codes, routes_code) };
 
-    ghost view = { λ c. record { facts = record { node = c.node; addr = c.addr; name = c.name.bytes; seed = c.seed; apps = c.apps; ifaces = map (λ n. n.bytes) c.ifaces.items }; routes = c.routes } };
+    ghost view = { λ c. record { facts = record { node = c.node; addr = c.addr; name = c.name.bytes; seed = c.seed; options = c.options; apps = c.apps; ifaces = map (λ n. n.bytes) c.ifaces.items }; routes = c.routes } };
 }

@@ -1,6 +1,11 @@
 //! What no turn of a router changes.
 
+ghost use Rattle.std.specs.Prelude.{◌≡◌};
+ghost use Rattle.csp_stack.specs.Router.{origin_of};
+
 use csp_base::Addr;
+use csp_ports::Origin;
+use csp_rdp_header::Options;
 use csp_service::Names;
 use std::marker::Model;
 
@@ -10,6 +15,7 @@ pub struct Facts {
     pub node: u8,
     pub addr: Addr,
     pub seed: u16,
+    pub options: Options,
     pub apps: u8,
     pub names: Names,
 }
@@ -20,5 +26,18 @@ impl Model for Facts {
 
     ghost Value = { Plain };
 
-    ghost view = { λ f. record { node = f.node; addr = f.addr; name = f.names.node.bytes; seed = f.seed; apps = f.apps; ifaces = map (λ n. n.bytes) f.names.ifaces.items } };
+    ghost view = { λ f. record { node = f.node; addr = f.addr; name = f.names.node.bytes; seed = f.seed; options = f.options; apps = f.apps; ifaces = map (λ n. n.bytes) f.names.ifaces.items } };
+}
+
+impl Facts {
+    /// What the node's reliable connections begin with.
+    pub fn origin(&self) -> Origin
+        ensures { result ≡ origin_of self.now }
+    {
+        Origin {
+            node: self.node,
+            seed: self.seed,
+            options: self.options,
+        }
+    }
 }

@@ -1,10 +1,12 @@
 //! What becomes of a packet from the inbox: the rules, in their order.
 
-ghost use Rattle.std.specs.Prelude.{◌≡◌, ◌==◌, ◌+◌, ◌<◌, ◌≤◌, ◌^◌, None, true, IfSome, length};
+ghost use Rattle.std.specs.Prelude.{◌≡◌, ◌==◌, ◌+◌, ◌<◌, ◌≤◌, ◌^◌, ℕ, ⊤, [], ◌∷◌, None, true, IfSome, MatchOption, length};
 ghost use Rattle.csp_base.specs.declared.limits.TheConstants.{MAX_PAYLOAD};
 ghost use Rattle.csp_crc.specs.Check.{payload_of};
 ghost use Rattle.csp_route.specs.Routes.{IsWithin, route_of};
-ghost use Rattle.csp_stack.specs.Comes.{ComesTo, IsFree, Rules, arrival_of};
+ghost use Rattle.csp_ports.specs.Counts.{IsCountable};
+ghost use Rattle.csp_stack.specs.Comes.{ComesTo, IsFree, IsServing, Rules, arrival_of};
+ghost use Rattle.csp_stack.specs.Keeps.{Keeps};
 ghost use Rattle.csp_stack.specs.Party.{IsSendable};
 ghost use Rattle.csp_stack.specs.Readings.{is_checked, is_here, is_secured};
 ghost use Rattle.csp_stack.specs.Rules.{by_checksum, by_destination, by_security, by_way, heard};
@@ -22,14 +24,14 @@ use csp_service::Count;
 
 /// The first rule that decides.
 pub fn hear(facts: &Facts, state: &mut State, now: u64, packet: Packet, report: &mut Events)
-    requires free { IsFree state.old.state report.old.items }
+    requires sound { IsServing facts.now state.old.state }
+    requires unwritten { report.old.items ≡ [] }
     requires of_it { packet.buffer.region ≡ state.old.region }
-    requires within { IsWithin (length facts.now.ifaces) state.old.state.routes }
+    requires countable { IsCountable state.old.state.ports }
     requires early { now < 2 ^ 62 }
-    requires apps { state.old.state.ports.conns.apps ≡ facts.now.apps }
     ensures told { ComesTo state.old state.new report.old.items report.new.items (heard facts.now state.old.state now (arrival_of packet)) }
     ensures sendable { IsSendable facts.now state.new.state.out }
-    ensures apps { state.new.state.ports.conns.apps ≡ facts.now.apps }
+    ensures keeps { Keeps (length facts.now.ifaces) state.old.state state.new.state (packet.buffer.picture.number ∷ []) }
 {
     let Some(packet) = judge_destination(facts, state, packet, report) else {
         return;
@@ -54,8 +56,9 @@ fn judge_destination(
     requires of_it { packet.buffer.region ≡ state.old.region }
     requires within { IsWithin (length facts.now.ifaces) state.old.state.routes }
     ensures told { Rules result state.old state.new report.old.items report.new.items (by_destination (is_here facts.now.addr packet.header) (route_of state.old.state.routes packet.header.dst) state.old.state (arrival_of packet)) }
+    ensures same { IfSome result (λ p. p ≡ packet) }
     ensures sendable { IsSendable facts.now state.new.state.out }
-    ensures ports { state.new.state.ports ≡ state.old.state.ports }
+    ensures keeps { MatchOption result (Keeps (length facts.now.ifaces) state.old.state state.new.state (packet.buffer.picture.number ∷ [])) (λ _. ⊤) }
 {
     if is_packet_here(facts.addr, &packet.header) {
         return Some(packet);
@@ -75,7 +78,7 @@ fn forward(facts: &Facts, state: &mut State, row: Row, packet: Packet, report: &
     requires way { row.iface < length facts.now.ifaces }
     ensures told { ComesTo state.old state.new report.old.items report.new.items (by_way (row.iface == packet.mark) row state.old.state (arrival_of packet)) }
     ensures sendable { IsSendable facts.now state.new.state.out }
-    ensures ports { state.new.state.ports ≡ state.old.state.ports }
+    ensures keeps { Keeps (length facts.now.ifaces) state.old.state state.new.state (packet.buffer.picture.number ∷ []) }
 {
     if row.iface == packet.mark {
         state.discard(Discard::BackOut, packet.into_buffer(), report);
@@ -89,8 +92,9 @@ fn judge_security(state: &mut State, packet: Packet, report: &mut Events) -> Opt
     requires free { IsFree state.old.state report.old.items }
     requires of_it { packet.buffer.region ≡ state.old.region }
     ensures told { Rules result state.old state.new report.old.items report.new.items (by_security (is_secured packet.header) state.old.state (arrival_of packet)) }
+    ensures same { IfSome result (λ p. p ≡ packet) }
     ensures none { state.new.state.out ≡ None }
-    ensures ports { state.new.state.ports ≡ state.old.state.ports }
+    ensures keeps { MatchOption result ((ifaces : ℕ) → Keeps ifaces state.old.state state.new.state (packet.buffer.picture.number ∷ [])) (λ _. ⊤) }
 {
     if !is_packet_secured(&packet.header) {
         return Some(packet);
@@ -107,7 +111,7 @@ fn judge_checksum(state: &mut State, packet: Packet, report: &mut Events) -> Opt
     ensures told { Rules result state.old state.new report.old.items report.new.items (by_checksum (is_checked packet.header) (payload_of packet.buffer.picture.payload) state.old.state (arrival_of packet)) }
     ensures room { IfSome result (λ p. is_checked p.header ≡ true → length p.buffer.picture.payload + 4 ≤ MAX_PAYLOAD) }
     ensures none { state.new.state.out ≡ None }
-    ensures ports { state.new.state.ports ≡ state.old.state.ports }
+    ensures keeps { MatchOption result ((ifaces : ℕ) → Keeps ifaces state.old.state state.new.state (packet.buffer.picture.number ∷ [])) (λ p. p.buffer.picture.number ≡ packet.buffer.picture.number) }
 {
     if !is_packet_checked(&packet.header) {
         return Some(packet);

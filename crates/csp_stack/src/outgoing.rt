@@ -23,6 +23,7 @@ impl Outgoing {
         ensures packet { leaving_of result ≡ by_row row buffer.picture }
         ensures mark { IsHop (mark_of row.via) }
         ensures region { result.buffer.region ≡ buffer.region }
+        ensures number { result.buffer.picture.number ≡ buffer.picture.number }
     {
         let mark = match row.via {
             Some(via) => via.get(),
@@ -39,6 +40,7 @@ impl Outgoing {
     pub(crate) fn to_itself(buffer: Buffer) -> Outgoing
         ensures packet { leaving_of result ≡ to_itself buffer.picture }
         ensures region { result.buffer.region ≡ buffer.region }
+        ensures number { result.buffer.picture.number ≡ buffer.picture.number }
     {
         Outgoing {
             queue: QueueId::Inbox,
@@ -51,6 +53,7 @@ impl Outgoing {
     pub(crate) fn to_slot(app: u8, slot: u8, buffer: Buffer) -> Outgoing
         ensures packet { leaving_of result ≡ to_slot app slot buffer.picture }
         ensures region { result.buffer.region ≡ buffer.region }
+        ensures number { result.buffer.picture.number ≡ buffer.picture.number }
     {
         Outgoing {
             queue: QueueId::Down(app),

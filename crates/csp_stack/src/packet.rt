@@ -1,10 +1,12 @@
 //! A packet from the inbox.
 
-ghost use Rattle.std.specs.Prelude.{◌≡◌, ◌+◌, ◌-◌, ◌≤◌, ◌↔◌, IfOk, IsTrue, IsSome, Some, length, take};
+ghost use Rattle.std.specs.Prelude.{◌≡◌, ◌+◌, ◌-◌, ◌≤◌, ◌↔◌, IfOk, IfSome, MatchResult, ⊤, IsTrue, IsSome, Some, length, take};
 ghost use Rattle.csp_base.specs.declared.limits.TheConstants.{MAX_PAYLOAD};
 ghost use Rattle.csp_crc.specs.Check.{payload_of};
 ghost use Rattle.csp_service.specs.Services.{service_at};
-ghost use Rattle.csp_stack.specs.Comes.{arrival_of, cut_to};
+ghost use Rattle.std.specs.Option.{option_map};
+ghost use Rattle.csp_rdp_header.specs.Head.{parted};
+ghost use Rattle.csp_stack.specs.Comes.{arrival_of, beheaded, cut_to};
 ghost use Rattle.csp_stack.specs.Rules.{answer_flags, arrival, connection_of};
 
 use bitflags::Flags;
@@ -13,6 +15,7 @@ use csp_buffer::Buffer;
 use csp_conn::Connection;
 use csp_crc::check;
 use csp_header::{FlagSet, Header};
+use csp_rdp_header::{HEAD_LEN, RdpHead};
 use csp_service::Service;
 
 /// The bytes of a checksum, at the end of a payload.
@@ -86,9 +89,24 @@ impl Packet {
         buffer
     }
 
+    /// Its head of the reliable transport, and its buffer without that, or the buffer as it is where it is
+    /// too short for one.
+    pub fn without_head(self) -> Result<(RdpHead, Buffer), Buffer>
+        ensures value { result ≡ beheaded (parted self.buffer.picture.payload) self.buffer }
+        ensures number { MatchResult result (λ read. read.1.picture.number ≡ self.buffer.picture.number) (λ buffer. buffer ≡ self.buffer) }
+        ensures region { MatchResult result (λ read. read.1.region ≡ self.buffer.region) (λ _. ⊤) }
+    {
+        let mut buffer = self.into_buffer();
+        match read_head(buffer.payload()) {
+            Some(head) if buffer.cut_tail(HEAD_LEN).is_ok() => Ok((head, buffer)),
+            _ => Err(buffer),
+        }
+    }
+
     /// Cuts the checksum off its payload, or gives it back as it is where that is missing or wrong.
     pub fn without_checksum(mut self) -> Result<Packet, Packet>
         ensures value { result ≡ cut_to (payload_of self.buffer.picture.payload) self }
+        ensures number { MatchResult result (λ p. p.buffer.picture.number ≡ self.buffer.picture.number) (λ p. p ≡ self) }
         ensures room { IfOk result (λ p. length p.buffer.picture.payload + CHECKSUM ≤ MAX_PAYLOAD) }
     {
         if has_checksum(self.buffer.payload()) && self.buffer.cut_tail(CHECKSUM).is_ok() {
@@ -105,4 +123,16 @@ fn has_checksum(payload: &[u8]) -> bool
     ensures cut { IsTrue result → (CHECKSUM ≤ length payload.now) × (payload_of payload.now ≡ Some (take (length payload.now - CHECKSUM) payload.now)) }
 {
     check(payload).is_ok()
+}
+
+/// The head at the end of a payload, where it is long enough for one.
+fn read_head(payload: &[u8]) -> Option<RdpHead>
+    ensures value { result ≡ option_map (λ read. read.1) (parted payload.now) }
+    ensures cut { IfSome (parted payload.now) (λ read. read.0 ≡ take (length payload.now - HEAD_LEN) payload.now) }
+    ensures fits { IfSome result (λ _. HEAD_LEN ≤ length payload.now) }
+{
+    match RdpHead::decode(payload) {
+        Ok((_, head)) => Some(head),
+        Err(_) => None,
+    }
 }

@@ -3,15 +3,16 @@
 use crate::Stack;
 use crate::turn::{begin, finish};
 use csp_deck::{Answer, Events, Op, Party, Spares};
+use csp_ports::counts;
 
 impl Party for Stack {
     ghost use Rattle.std.specs.Prelude.{⊤, false};
-    ghost use Rattle.csp_stack.specs.Party.{asks_of, asked_of, awaits_of, count_of, events_of, rules_of, told_of};
+    ghost use Rattle.csp_stack.specs.Party.{asks_of, asked_of, awaits_of, count_of, events_of, rules_of, told_of, waits_of};
     ghost use Rattle.csp_stack.specs.Router.{holds, with_router};
 
     ghost is_ready = { λ _ _. ⊤ };
 
-    ghost is_waiting = { λ _ _. ⊤ };
+    ghost is_waiting = { λ r now. waits_of r.router now };
 
     ghost awaits = { λ r. awaits_of r.router };
 
@@ -34,10 +35,12 @@ impl Party for Stack {
     ghost holds = { λ r. holds r.router.state };
 
     fn ask(&mut self, now: u64) -> Op {
+        counts();
         begin(&self.facts, &mut self.state, now)
     }
 
     fn told(&mut self, answer: Answer, now: u64, report: &mut Events, _spares: &mut Spares) {
+        counts();
         finish(&self.facts, &mut self.state, now, answer, report);
     }
 

@@ -1,6 +1,7 @@
 //! What the rules read off a packet's header.
 
 ghost use Rattle.std.specs.Prelude.{◌≡◌};
+ghost use Rattle.csp_ports.specs.Asking.{is_reliable as are_reliable};
 ghost use Rattle.csp_stack.specs.Readings.{is_checked, is_here, is_reliable, is_secured, lacks};
 
 use bitflags::Flags;
@@ -37,6 +38,13 @@ pub fn is_packet_reliable(header: &Header) -> bool
     ensures { result ≡ is_reliable header.now }
 {
     header.flags.contains(FlagSet::RDP)
+}
+
+/// Whether these flags are those of the reliable transport (RDP).
+pub fn are_flags_reliable(flags: u8) -> bool
+    ensures { result ≡ are_reliable flags }
+{
+    FlagSet(flags).contains(FlagSet::RDP)
 }
 
 /// Whether a packet lacks a flag that its port needs, where an application has bound the port.

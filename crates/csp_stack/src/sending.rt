@@ -1,24 +1,26 @@
 //! The sending of a node's own packets.
 
-ghost use Rattle.std.specs.Prelude.{◌≡◌, ◌+◌, ◌≤◌, true, length};
+ghost use Rattle.std.specs.Prelude.{◌≡◌, ◌+◌, ◌≤◌, ◌∷◌, [], true, length};
 ghost use Rattle.csp_base.specs.declared.limits.TheConstants.{MAX_PAYLOAD};
 ghost use Rattle.csp_buffer.specs.PlainBuffer.{with_picture};
 ghost use Rattle.csp_route.specs.Routes.{IsWithin};
 ghost use Rattle.csp_stack.specs.Comes.{ComesTo, IsFree};
+ghost use Rattle.csp_stack.specs.Keeps.{Keeps};
 ghost use Rattle.csp_stack.specs.Party.{IsSendable};
 ghost use Rattle.csp_stack.specs.Readings.{is_checked};
 ghost use Rattle.csp_stack.specs.Rules.{addressed, sent};
 ghost use Rattle.csp_stack.specs.Sending.{headed, protected};
 
+use crate::Outgoing;
 use crate::facts::Facts;
 use crate::readings::is_packet_checked;
 use crate::state::State;
-use crate::{Outgoing, Terms};
 use csp_buffer::Buffer;
 use csp_conn::Connection;
 use csp_crc::crc32c;
-use csp_deck::{Discard, Events, MAX_DATA};
+use csp_deck::{Discard, Events};
 use csp_header::{FlagSet, Header};
+use csp_ports::Terms;
 
 /// Sends a packet of the node as it is: to its own address through its inbox, else by the row of its
 /// route. Without one it is discarded.
@@ -29,6 +31,7 @@ pub fn send(facts: &Facts, state: &mut State, buffer: Buffer, report: &mut Event
     requires within { IsWithin (length facts.now.ifaces) state.old.state.routes }
     ensures told { ComesTo state.old state.new report.old.items report.new.items (sent facts.now state.old.state buffer.picture) }
     ensures sendable { IsSendable facts.now state.new.state.out }
+    ensures keeps { Keeps (length facts.now.ifaces) state.old.state state.new.state (buffer.picture.number ∷ []) }
 {
     let destination = Header::decode(buffer.header()).dst;
     if destination == facts.addr {
@@ -43,7 +46,7 @@ pub fn send(facts: &Facts, state: &mut State, buffer: Buffer, report: &mut Event
 
 /// A packet of a connection: with the connection's priority, flags, addresses and ports.
 pub fn addressed(facts: &Facts, connection: Connection, terms: Terms, buffer: Buffer) -> Buffer
-    requires { length buffer.picture.payload ≤ MAX_DATA }
+    requires { length buffer.picture.payload + 4 ≤ MAX_PAYLOAD }
     ensures { result ≡ with_picture buffer (addressed facts.now connection terms buffer.picture) }
 {
     let header = Header {

@@ -1,11 +1,12 @@
 //! What becomes of a packet to the port of a service.
 
-ghost use Rattle.std.specs.Prelude.{◌≡◌, ◌≢◌, ◌+◌, ◌<◌, ◌≤◌, ◌^◌, true, length};
+ghost use Rattle.std.specs.Prelude.{◌≡◌, ◌≢◌, ◌+◌, ◌<◌, ◌≤◌, ◌^◌, [], ◌∷◌, true, length};
 ghost use Rattle.csp_base.specs.declared.limits.TheConstants.{MAX_PAYLOAD};
 ghost use Rattle.csp_base.specs.Trace.{no_trace};
 ghost use Rattle.csp_buffer.specs.PlainBuffer.{with_picture};
 ghost use Rattle.csp_route.specs.Routes.{IsWithin};
 ghost use Rattle.csp_stack.specs.Comes.{ComesTo, IsFree, arrival_of};
+ghost use Rattle.csp_stack.specs.Keeps.{Keeps};
 ghost use Rattle.csp_stack.specs.Party.{IsSendable};
 ghost use Rattle.csp_stack.specs.Readings.{is_checked};
 ghost use Rattle.csp_stack.specs.Rules.{by_service, sent};
@@ -39,7 +40,7 @@ pub fn judge_service(
     requires within { IsWithin (length facts.now.ifaces) state.old.state.routes }
     ensures told { ComesTo state.old state.new report.old.items report.new.items (by_service facts.now state.old.state now (arrival_of packet)) }
     ensures sendable { IsSendable facts.now state.new.state.out }
-    ensures ports { state.new.state.ports ≡ state.old.state.ports }
+    ensures keeps { Keeps (length facts.now.ifaces) state.old.state state.new.state (packet.buffer.picture.number ∷ []) }
 {
     match packet.service() {
         Some(Service::Ping) => echo(facts, state, packet, report),
@@ -55,7 +56,7 @@ fn echo(facts: &Facts, state: &mut State, packet: Packet, report: &mut Events)
     requires within { IsWithin (length facts.now.ifaces) state.old.state.routes }
     ensures told { ComesTo state.old state.new report.old.items report.new.items (sent facts.now state.old.state (reply_in facts.now packet.header packet.buffer.picture packet.buffer.picture.payload)) }
     ensures sendable { IsSendable facts.now state.new.state.out }
-    ensures ports { state.new.state.ports ≡ state.old.state.ports }
+    ensures keeps { Keeps (length facts.now.ifaces) state.old.state state.new.state (packet.buffer.picture.number ∷ []) }
 {
     let header = reply_header(facts, &packet.header);
     let mut buffer = packet.into_buffer();
@@ -72,7 +73,7 @@ fn ask_service(facts: &Facts, state: &mut State, now: u64, packet: Packet, repor
     requires within { IsWithin (length facts.now.ifaces) state.old.state.routes }
     ensures told { ComesTo state.old state.new report.old.items report.new.items (by_service facts.now state.old.state now (arrival_of packet)) }
     ensures sendable { IsSendable facts.now state.new.state.out }
-    ensures ports { state.new.state.ports ≡ state.old.state.ports }
+    ensures keeps { Keeps (length facts.now.ifaces) state.old.state state.new.state (packet.buffer.picture.number ∷ []) }
 {
     let mut reply = CmpReply::new();
     let served = ask(facts, state, now, &packet, &mut reply);
@@ -116,7 +117,7 @@ fn send_reply(
     requires within { IsWithin (length facts.now.ifaces) state.old.state.routes }
     ensures told { ComesTo state.old state.new report.old.items report.new.items (sent facts.now state.old.state (reply_in facts.now packet.header packet.buffer.picture reply.now.items)) }
     ensures sendable { IsSendable facts.now state.new.state.out }
-    ensures ports { state.new.state.ports ≡ state.old.state.ports }
+    ensures keeps { Keeps (length facts.now.ifaces) state.old.state state.new.state (packet.buffer.picture.number ∷ []) }
 {
     let header = reply_header(facts, &packet.header);
     let buffer = refilled(packet.into_buffer(), reply);

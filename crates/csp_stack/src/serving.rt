@@ -1,41 +1,50 @@
 //! What becomes of what an application pushed.
 
-ghost use Rattle.std.specs.Prelude.{◌≡◌, ◌==◌, ◌<◌, ◌≤◌, [], length};
+ghost use Rattle.std.specs.Prelude.{◌≡◌, ◌==◌, ◌<◌, ◌≤◌, ℕ, [], ◌∷◌, None, length};
 ghost use Rattle.csp_conn.specs.PlainConns.{IsThere, slot_at};
 ghost use Rattle.csp_deck.specs.Carried.{IsRequest};
 ghost use Rattle.csp_deck.specs.Regions.{IsItemOf};
+ghost use Rattle.csp_deck.specs.Step.{item_numbers};
 ghost use Rattle.csp_log.specs.Pictures.{shown_item};
-ghost use Rattle.csp_route.specs.Routes.{IsWithin};
-ghost use Rattle.csp_stack.specs.Comes.{ComesTo, IsFree};
+ghost use Rattle.csp_ports.specs.Asking.{bind};
+ghost use Rattle.csp_ports.specs.Asking.{is_reliable as are_reliable};
+ghost use Rattle.csp_ports.specs.Counts.{IsCountable};
+ghost use Rattle.csp_ports.specs.PlainPorts.{stalled_at, terms_at, waiting};
+ghost use Rattle.csp_stack.specs.Comes.{ComesTo, IsServing};
+ghost use Rattle.csp_stack.specs.Keeps.{Keeps};
 ghost use Rattle.csp_stack.specs.Party.{IsFrom, IsSendable};
-ghost use Rattle.csp_stack.specs.PlainPorts.{connect, connects, waiting};
-ghost use Rattle.csp_stack.specs.Rules.{by_mark, by_slot, requested, served};
-ghost use Rattle.csp_stack.specs.Told.{with_ports};
+ghost use Rattle.csp_stack.specs.Rules.{by_mark, by_slot, on_connection, requested, served};
+ghost use Rattle.csp_stack.specs.Told.{unchanged, with_ports};
 
 use crate::facts::Facts;
-use crate::request::Request;
+use crate::readings::are_flags_reliable;
 use crate::sending::{addressed, send};
 use crate::state::State;
+use csp_base::Port;
 use csp_buffer::Buffer;
-use csp_conn::Slot;
+use csp_conn::{Connection, Slot};
 use csp_deck::{Discard, Event, Events, Item, ItemShown, MAX_DATA, Note, UNMARKED};
+use csp_ports::Request;
 
 /// What becomes of an item of the application of this number.
-pub fn serve(facts: &Facts, state: &mut State, _now: u64, app: u8, item: Item, report: &mut Events)
-    requires free { IsFree state.old.state report.old.items }
+#[tactic(auto, using(crate::proofs::Keeping::unchanged_keeps))]
+pub fn serve(facts: &Facts, state: &mut State, now: u64, app: u8, item: Item, report: &mut Events)
+    requires sound { IsServing facts.now state.old.state }
     requires unwritten { report.old.items ≡ [] }
     requires of_it { IsItemOf state.old.region item }
     requires from { IsFrom facts.now app (shown_item item) }
     requires first { waiting app state.old.state.ports.owed ≡ 0 }
-    requires within { IsWithin (length facts.now.ifaces) state.old.state.routes }
-    requires apps { state.old.state.ports.conns.apps ≡ facts.now.apps }
-    ensures told { ComesTo state.old state.new report.old.items report.new.items (served facts.now state.old.state _now app (shown_item item)) }
+    requires alone { stalled_at state.old.state.ports app ≡ None }
+    requires countable { IsCountable state.old.state.ports }
+    ensures told { ComesTo state.old state.new report.old.items report.new.items (served facts.now state.old.state now app (shown_item item)) }
     ensures sendable { IsSendable facts.now state.new.state.out }
-    ensures apps { state.new.state.ports.conns.apps ≡ facts.now.apps }
+    ensures keeps { Keeps (length facts.now.ifaces) state.old.state state.new.state (item_numbers (shown_item item)) }
 {
     match item {
-        Item::Packet { mark, buffer } => serve_packet(facts, state, app, mark, buffer, report),
-        Item::Note(note) => request(state, app, note, report),
+        Item::Packet { mark, buffer } => {
+            serve_packet(facts, state, now, app, mark, buffer, report);
+        }
+        Item::Note(note) => request(facts, state, now, app, note, report),
         Item::Frame(_) => {}
     }
 }
@@ -44,25 +53,26 @@ pub fn serve(facts: &Facts, state: &mut State, _now: u64, app: u8, item: Item, r
 fn serve_packet(
     facts: &Facts,
     state: &mut State,
+    now: u64,
     app: u8,
     mark: u8,
     buffer: Buffer,
     report: &mut Events,
 )
-    requires free { IsFree state.old.state report.old.items }
+    requires sound { IsServing facts.now state.old.state }
     requires unwritten { report.old.items ≡ [] }
     requires of_it { buffer.region ≡ state.old.region }
     requires from { IsFrom facts.now app (ItemShown.Packet mark buffer.picture) }
-    requires within { IsWithin (length facts.now.ifaces) state.old.state.routes }
-    requires apps { state.old.state.ports.conns.apps ≡ facts.now.apps }
-    ensures told { ComesTo state.old state.new report.old.items report.new.items (by_mark (mark == UNMARKED) facts.now state.old.state app mark buffer.picture) }
+    requires alone { stalled_at state.old.state.ports app ≡ None }
+    requires countable { IsCountable state.old.state.ports }
+    ensures told { ComesTo state.old state.new report.old.items report.new.items (by_mark (mark == UNMARKED) facts.now state.old.state app mark now buffer.picture) }
     ensures sendable { IsSendable facts.now state.new.state.out }
-    ensures apps { state.new.state.ports.conns.apps ≡ facts.now.apps }
+    ensures keeps { Keeps (length facts.now.ifaces) state.old.state state.new.state (buffer.picture.number ∷ []) }
 {
     if mark == UNMARKED {
         send(facts, state, buffer, report);
     } else {
-        serve_slot(facts, state, app, mark, buffer, report);
+        serve_slot(facts, state, now, app, mark, buffer, report);
     }
 }
 
@@ -70,52 +80,85 @@ fn serve_packet(
 fn serve_slot(
     facts: &Facts,
     state: &mut State,
+    now: u64,
     app: u8,
     slot: u8,
     buffer: Buffer,
     report: &mut Events,
 )
-    requires free { IsFree state.old.state report.old.items }
+    requires sound { IsServing facts.now state.old.state }
     requires unwritten { report.old.items ≡ [] }
     requires of_it { buffer.region ≡ state.old.region }
     requires there { IsThere state.old.state.ports.conns app slot }
     requires room { length buffer.picture.payload ≤ MAX_DATA }
-    requires within { IsWithin (length facts.now.ifaces) state.old.state.routes }
-    ensures told { ComesTo state.old state.new report.old.items report.new.items (by_slot (slot_at state.old.state.ports.conns app slot) facts.now state.old.state app slot buffer.picture) }
+    requires alone { stalled_at state.old.state.ports app ≡ None }
+    requires countable { IsCountable state.old.state.ports }
+    ensures told { ComesTo state.old state.new report.old.items report.new.items (by_slot (slot_at state.old.state.ports.conns app slot) facts.now state.old.state app slot now buffer.picture) }
     ensures sendable { IsSendable facts.now state.new.state.out }
-    ensures ports { state.new.state.ports ≡ state.old.state.ports }
+    ensures keeps { Keeps (length facts.now.ifaces) state.old.state state.new.state (buffer.picture.number ∷ []) }
 {
     match state.ports.slot(app, slot) {
         Slot::Free | Slot::Held => state.discard(Discard::NoConn, buffer, report),
         Slot::Open(connection) => {
-            let terms = state.ports.terms(app, slot);
-            report.push(Event::Sent {
-                slot,
-                ordinal: terms.ordinal,
-            });
-            send(
-                facts,
-                state,
-                addressed(facts, connection, terms, buffer),
-                report,
-            );
+            serve_connection(facts, state, now, app, slot, connection, buffer, report);
         }
     }
 }
 
+/// A packet for a slot is sent on a plain connection, or handed over to a reliable one.
+fn serve_connection(
+    facts: &Facts,
+    state: &mut State,
+    now: u64,
+    app: u8,
+    slot: u8,
+    connection: Connection,
+    buffer: Buffer,
+    report: &mut Events,
+)
+    requires sound { IsServing facts.now state.old.state }
+    requires unwritten { report.old.items ≡ [] }
+    requires of_it { buffer.region ≡ state.old.region }
+    requires there { IsThere state.old.state.ports.conns app slot }
+    requires room { length buffer.picture.payload ≤ MAX_DATA }
+    requires alone { stalled_at state.old.state.ports app ≡ None }
+    requires countable { IsCountable state.old.state.ports }
+    ensures told { ComesTo state.old state.new report.old.items report.new.items (on_connection (are_reliable (terms_at state.old.state.ports app slot).flags) connection facts.now state.old.state app slot now buffer.picture) }
+    ensures sendable { IsSendable facts.now state.new.state.out }
+    ensures keeps { Keeps (length facts.now.ifaces) state.old.state state.new.state (buffer.picture.number ∷ []) }
+{
+    let terms = state.ports.terms(app, slot);
+    if are_flags_reliable(terms.flags) {
+        state.submit(app, slot, buffer, now, report);
+        return;
+    }
+    report.push(Event::Sent {
+        slot,
+        ordinal: terms.ordinal,
+    });
+    send(
+        facts,
+        state,
+        addressed(facts, connection, terms, buffer),
+        report,
+    );
+}
+
 /// A request is answered.
-fn request(state: &mut State, app: u8, note: Note, report: &mut Events)
-    requires free { IsFree state.old.state report.old.items }
+#[tactic(auto, using(crate::proofs::Keeping::unchanged_keeps))]
+fn request(facts: &Facts, state: &mut State, now: u64, app: u8, note: Note, report: &mut Events)
+    requires sound { IsServing facts.now state.old.state }
     requires unwritten { report.old.items ≡ [] }
     requires app { app < state.old.state.ports.conns.apps }
     requires asks { IsRequest note }
     requires first { waiting app state.old.state.ports.owed ≡ 0 }
-    ensures told { ComesTo state.old state.new report.old.items report.new.items (requested state.old.state app note) }
-    ensures out { state.new.state.out ≡ state.old.state.out }
-    ensures apps { state.new.state.ports.conns.apps ≡ state.old.state.ports.conns.apps }
+    requires countable { IsCountable state.old.state.ports }
+    ensures told { ComesTo state.old state.new report.old.items report.new.items (requested facts.now state.old.state app now note) }
+    ensures out { state.new.state.out ≡ None }
+    ensures keeps { Keeps (length facts.now.ifaces) state.old.state state.new.state [] }
 {
     match note {
-        Note::Bind { port, need } => state.ports.bind(app, port, need),
+        Note::Bind { port, need } => bind(state, app, port, need),
         Note::Connect {
             slot,
             dest,
@@ -123,8 +166,8 @@ fn request(state: &mut State, app: u8, note: Note, report: &mut Events)
             prio,
             flags,
             from,
-        } => connect(
-            state,
+        } => state.connect(
+            facts,
             app,
             Request {
                 slot,
@@ -134,24 +177,22 @@ fn request(state: &mut State, app: u8, note: Note, report: &mut Events)
                 flags,
                 from,
             },
+            now,
             report,
         ),
-        Note::Close { slot } => state.ports.close(app, slot),
+        Note::Close { slot } => state.close(app, slot, now),
         Note::Bound | Note::Connected { .. } | Note::Refused { .. } => {}
         Note::Closed { .. } | Note::Down { .. } => {}
     }
 }
 
-/// A connection is made, which is reported, or refused.
-fn connect(state: &mut State, app: u8, request: Request, report: &mut Events)
-    requires unwritten { report.old.items ≡ [] }
-    requires there { IsThere state.old.state.ports.conns app request.slot }
+/// A port is bound, or refused.
+#[tactic(auto, using(crate::proofs::Keeping::ported_keeps))]
+fn bind(state: &mut State, app: u8, port: Port, need: u8)
+    requires app { app < state.old.state.ports.conns.apps }
     requires first { waiting app state.old.state.ports.owed ≡ 0 }
-    ensures told { ComesTo state.old state.new report.old.items report.new.items (record { state = with_ports state.old.state (connect state.old.state.ports app request); events = connects state.old.state.ports app request }) }
-    ensures out { state.new.state.out ≡ state.old.state.out }
-    ensures apps { state.new.state.ports.conns.apps ≡ state.old.state.ports.conns.apps }
+    ensures told { ComesTo state.old state.new [] [] (unchanged (with_ports state.old.state (bind state.old.state.ports app port need))) }
+    ensures keeps { (ifaces : ℕ) → Keeps ifaces state.old.state state.new.state [] }
 {
-    if let Some(event) = state.ports.connect(app, request) {
-        report.push(event);
-    }
+    state.ports.bind(app, port, need);
 }

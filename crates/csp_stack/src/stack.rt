@@ -58,6 +58,7 @@ impl Stack {
             addr,
             name,
             seed,
+            options,
             routes,
             ifaces,
             apps,
@@ -68,6 +69,7 @@ impl Stack {
                 node,
                 addr,
                 seed,
+                options,
                 apps,
                 names: Names { node: name, ifaces },
             },
@@ -82,8 +84,8 @@ impl Stack {
         self.state.holds(number)
     }
 
-    /// Hands out a buffer that it holds, the trash before the packet that is to go out. `None` where
-    /// it holds none.
+    /// Hands out a buffer that it holds: the trash, then the packet that is to go out, then what its ports
+    /// hold. `None` where it holds none.
     pub fn drain(&mut self) -> Option<Buffer>
         ensures buffers { MatchOption result ((buffers self.old.router.state ≡ []) × (self.new ≡ self.old)) (λ b. buffers self.old.router.state ≡ b.picture ∷ buffers self.new.router.state) }
         ensures holds { MatchOption result ((holds self.old.router.state ≡ []) × (self.new ≡ self.old)) (λ b. holds self.old.router.state ≡ b.picture.number ∷ holds self.new.router.state) }

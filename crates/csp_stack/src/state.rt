@@ -1,33 +1,37 @@
 //! What the turns of a router change.
 
-ghost use Rattle.std.specs.Prelude.{◌≡◌, ℕ, ◌<◌, ◌≤◌, IfSome, [], ◌∷◌, ◌++◌, None, Some, length, map, nat_lt, IfOk, MatchOption, IsTrue, ◌↔◌};
+ghost use Rattle.std.specs.Prelude.{◌≡◌, ℕ, ◌+◌, ◌<◌, ◌≤◌, IfSome, [], ◌∷◌, ◌++◌, None, Some, length, map, nat_lt, IfOk, MatchOption, IsTrue, ◌↔◌};
 ghost use Rattle.std.specs.Option.{option_map};
-ghost use Rattle.csp_deck.specs.Step.{times};
+ghost use Rattle.csp_deck.specs.Step.{answer_numbers, item_numbers, times};
 ghost use Rattle.csp_deck.specs.Regions.{IsAnswerFrom, IsItemOf};
 ghost use Rattle.csp_log.specs.Pictures.{shown_answer, shown_item};
 ghost use Rattle.csp_log.specs.declared.event.TheConstants.{MAX_EVENTS};
+ghost use Rattle.csp_ports.specs.Held.{held};
 ghost use Rattle.csp_route.specs.Routes.{route_of, IsWithin};
 ghost use Rattle.csp_stack.specs.Comes.{ComesTo, leaving_of};
 ghost use Rattle.csp_stack.specs.Config.{opening_state};
 ghost use Rattle.csp_stack.specs.Readings.{buffer_in, item_in};
-ghost use Rattle.csp_stack.specs.Router.{drained, buffers, holds, out_buffers};
-ghost use Rattle.csp_stack.specs.Told.{discarded, leaving, spent};
+ghost use Rattle.csp_stack.specs.Keeps.{Keeps};
+ghost use Rattle.csp_stack.specs.Router.{at_rest, drained, buffers, holds, out_buffers};
+ghost use Rattle.csp_stack.specs.Told.{absorbed, discarded, leaving, spent, unchanged};
 
-use crate::ports::Ports;
 use crate::{Outgoing, Plan};
 use csp_arena::RegionToken;
 use csp_base::Addr;
 use csp_buffer::Buffer;
 use csp_conn::MAX_APPS;
 use csp_deck::{Answer, Discard, Event, Events, Item, Pile};
+use csp_ports::{MAX_HELD, Ports};
 use csp_route::{Row, Table};
 use csp_service::Services;
 use std::alloc::{AllocError, Global};
 use std::marker::Model;
 
-/// How many buffers the trash has room for. It is far more than a router ever has there, since it
-/// takes nothing from a queue while there is trash.
+/// How many buffers the trash has room for: for all that the ports of a node hold, which may end at once, and
+/// some more. Nothing is taken from a queue while there is trash.
 pub const TRASH_ROOM: usize = 1_000;
+
+const _: () = prove!(MAX_HELD < TRASH_ROOM);
 
 /// The part of a router that its turns change. Contracts see it as a `State` and its region.
 pub struct State {
@@ -36,6 +40,7 @@ pub struct State {
     pub services: Services,
     pub trash: Pile,
     pub out: Option<Outgoing>,
+    pub early: Events,
     pub cursor: usize,
     pub doing: Plan,
 }
@@ -53,7 +58,7 @@ impl Model for State {
     ghost use Rattle.csp_stack.specs.Comes.{leaving_of};
     ghost use Rattle.csp_stack.specs.Inside.{IsState};
 
-    ghost view = { λ s. record { region = s.trash.region; state = record { routes = s.routes; ports = s.ports; services = s.services; trash = s.trash.contents; out = option_map leaving_of s.out; cursor = s.cursor; doing = s.doing } } };
+    ghost view = { λ s. record { region = s.trash.region; state = record { routes = s.routes; ports = s.ports.ports; services = s.services; trash = s.trash.contents; out = option_map leaving_of s.out; early = s.early.items; cursor = s.cursor; doing = s.doing } } };
 
     ghost invariant = { IsState };
 }
@@ -69,18 +74,24 @@ impl State {
         requires { apps ≤ MAX_APPS }
         ensures { IfOk result (λ s. s ≡ record { region = region.name; state = opening_state apps routes }) }
     {
-        let ports = Ports::open(alloc, apps)?;
         let services = Services::open(alloc)?;
-        let trash = Pile::open(alloc, region, TRASH_ROOM)?;
-        Ok(State {
-            routes,
-            ports,
-            services,
-            trash,
-            out: None,
-            cursor: 0,
-            doing: Plan::Rest,
-        })
+        let trash = Pile::open(alloc, region.copy(), TRASH_ROOM)?;
+        match Ports::open(alloc, apps, region) {
+            Ok(ports) => Ok(State {
+                routes,
+                ports,
+                services,
+                trash,
+                out: None,
+                early: Events::new(),
+                cursor: 0,
+                doing: Plan::Rest,
+            }),
+            Err(error) => {
+                trash.end();
+                Err(error)
+            }
+        }
     }
 
     /// The row of the routing table that a packet to this address takes.
@@ -96,6 +107,7 @@ impl State {
         requires fits { item_in (shown_answer answer) ≡ None }
         requires of_it { IsAnswerFrom self.now.region answer }
         ensures buffer { option_map (λ b. b.picture) result ≡ buffer_in (shown_answer answer) }
+        ensures numbers { MatchOption result (answer_numbers (shown_answer answer) ≡ []) (λ b. answer_numbers (shown_answer answer) ≡ b.picture.number ∷ []) }
         ensures of_it { IfSome result (λ b. b.region ≡ self.now.region) }
     {
         match answer {
@@ -111,6 +123,7 @@ impl State {
         requires fits { buffer_in (shown_answer answer) ≡ None }
         requires of_it { IsAnswerFrom self.now.region answer }
         ensures item { option_map shown_item result ≡ item_in (shown_answer answer) }
+        ensures numbers { MatchOption result (answer_numbers (shown_answer answer) ≡ []) (λ i. answer_numbers (shown_answer answer) ≡ item_numbers (shown_item i)) }
         ensures of_it { IfSome result (λ i. IsItemOf self.now.region i) }
     {
         match answer {
@@ -122,37 +135,67 @@ impl State {
     }
 
     /// A packet is discarded for this reason: its buffer joins the trash, and that is reported.
+    #[tactic(auto, using(crate::proofs::Keeping::spent_keeps))]
     pub fn discard(&mut self, why: Discard, buffer: Buffer, report: &mut Events)
         requires trash { length self.old.state.trash < TRASH_ROOM }
         requires of_it { buffer.region ≡ self.old.region }
         requires room { length report.old.items < MAX_EVENTS }
-        ensures { ComesTo self.old self.new report.old.items report.new.items (discarded self.old.state why buffer.picture) }
+        ensures told { ComesTo self.old self.new report.old.items report.new.items (discarded self.old.state why buffer.picture) }
+        ensures keeps { (ifaces : ℕ) → Keeps ifaces self.old.state self.new.state (buffer.picture.number ∷ []) }
     {
         self.spend(Event::Discarded(why), buffer, report);
     }
 
     /// Of a packet nothing comes but a report: its buffer joins the trash.
+    #[tactic(auto, using(crate::proofs::Keeping::spent_keeps))]
     pub fn spend(&mut self, event: Event, buffer: Buffer, report: &mut Events)
         requires trash { length self.old.state.trash < TRASH_ROOM }
         requires of_it { buffer.region ≡ self.old.region }
         requires room { length report.old.items < MAX_EVENTS }
-        ensures { ComesTo self.old self.new report.old.items report.new.items (spent self.old.state event buffer.picture) }
+        ensures told { ComesTo self.old self.new report.old.items report.new.items (spent self.old.state event buffer.picture) }
+        ensures keeps { (ifaces : ℕ) → Keeps ifaces self.old.state self.new.state (buffer.picture.number ∷ []) }
     {
         self.trash.add(buffer);
         report.push(event);
     }
 
+    /// The buffer of a packet of which nothing comes joins the trash.
+    #[tactic(auto, using(crate::proofs::Keeping::absorbed_keeps))]
+    pub fn absorb(&mut self, buffer: Buffer)
+        requires trash { length self.old.state.trash < TRASH_ROOM }
+        requires of_it { buffer.region ≡ self.old.region }
+        ensures told { ComesTo self.old self.new [] [] (absorbed buffer.picture (unchanged self.old.state)) }
+        ensures keeps { (ifaces : ℕ) → Keeps ifaces self.old.state self.new.state (buffer.picture.number ∷ []) }
+    {
+        self.trash.add(buffer);
+    }
+
     /// A packet is to go out.
+    #[tactic(auto, using(crate::proofs::Keeping::leaving_keeps))]
     pub fn leave(&mut self, packet: Outgoing)
         requires none { self.old.state.out ≡ None }
         requires of_it { packet.buffer.region ≡ self.old.region }
-        ensures { ComesTo self.old self.new [] [] (leaving self.old.state (leaving_of packet)) }
+        ensures told { ComesTo self.old self.new [] [] (leaving self.old.state (leaving_of packet)) }
+        ensures keeps { (ifaces : ℕ) → Keeps ifaces self.old.state self.new.state (packet.buffer.picture.number ∷ []) }
     {
         put(&mut self.out, packet);
     }
 
-    /// Ends what the turn was, and says what that is.
-    pub fn end_turn(&mut self) -> Plan
+    /// Ends what the turn was, and says what that is. What the timers reported comes first.
+    pub fn end_turn(&mut self, report: &mut Events) -> Plan
+        requires unwritten { report.old.items ≡ [] }
+        ensures was { result ≡ self.old.state.doing }
+        ensures state { self.new ≡ record self.old { state = at_rest self.old.state } }
+        ensures report { report.new.items ≡ self.old.state.early }
+    {
+        if !self.early.is_empty() {
+            std::mem::swap(&mut self.early, report);
+        }
+        self.await_nothing()
+    }
+
+    /// What was awaited is awaited no more.
+    fn await_nothing(&mut self) -> Plan
         ensures was { result ≡ self.old.state.doing }
         ensures state { self.new ≡ record self.old { state = record self.old.state { doing = Plan.Rest } } }
     {
@@ -162,10 +205,12 @@ impl State {
     }
 
     /// A buffer is the first of the trash again.
+    #[tactic(auto, using(crate::proofs::Keeping::kept_keeps))]
     pub fn keep(&mut self, buffer: Buffer)
         requires room { length self.old.state.trash < TRASH_ROOM }
         requires of_it { buffer.region ≡ self.old.region }
-        ensures { self.new ≡ record self.old { state = record self.old.state { trash = buffer.picture ∷ self.old.state.trash } } }
+        ensures state { self.new ≡ record self.old { state = record self.old.state { trash = buffer.picture ∷ self.old.state.trash } } }
+        ensures keeps { (ifaces : ℕ) → Keeps ifaces self.old.state self.new.state (buffer.picture.number ∷ []) }
     {
         self.trash.put_back(buffer);
     }
@@ -175,19 +220,36 @@ impl State {
     pub fn holds(&self, number: u16) -> bool
         ensures { IsTrue result ↔ (0 < times number (holds self.now.state)) }
     {
-        self.trash.holds(number) || is_out(&self.out, number)
+        self.trash.holds(number) || is_out(&self.out, number) || self.ports.holds(number)
     }
 
-    /// Hands out a buffer that is in it, the trash before the packet that is to go out.
+    /// Hands out a buffer that is in it: the trash, then the packet that is to go out, then those of the ports.
     pub fn drain(&mut self) -> Option<Buffer>
         ensures buffers { MatchOption result ((buffers self.old.state ≡ []) × (self.new ≡ self.old)) (λ b. buffers self.old.state ≡ b.picture ∷ buffers self.new.state) }
         ensures of_it { IfSome result (λ b. b.region ≡ self.old.region) }
         ensures rest { self.new ≡ record self.old { state = drained self.old.state } }
+        ensures fewer { length self.new.state.trash + length (held self.new.state.ports) ≤ length self.old.state.trash + length (held self.old.state.ports) }
+        ensures apps { self.new.state.ports.conns.apps ≡ self.old.state.ports.conns.apps }
     {
-        match self.trash.pop() {
-            Some(buffer) => Some(buffer),
-            None => self.out.take().map(Outgoing::into_buffer),
+        if let Some(buffer) = self.trash.pop() {
+            self.rest();
+            return Some(buffer);
         }
+        if let Some(packet) = self.out.take() {
+            self.rest();
+            return Some(packet.into_buffer());
+        }
+        let buffer = self.ports.take_out()?;
+        self.rest();
+        Some(buffer)
+    }
+
+    /// Nothing is awaited any more.
+    fn rest(&mut self)
+        ensures { self.new ≡ record self.old { state = at_rest self.old.state } }
+    {
+        self.early.clear();
+        self.doing = Plan::Rest;
     }
 
     /// Ends a state without a buffer.
@@ -196,13 +258,15 @@ impl State {
     {
         let State {
             routes: _,
-            ports: _,
+            ports,
             services: _,
             trash,
             out,
+            early: _,
             cursor: _,
             doing: _,
         } = self;
+        ports.end();
         trash.end();
         if let Some(_packet) = out {
             unreachable!();

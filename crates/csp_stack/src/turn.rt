@@ -1,39 +1,64 @@
 //! The turns of a router: what one asks, and what its answer comes to.
 
-ghost use Rattle.std.specs.Prelude.{◌≡◌, ℕ, ◌-◌, ◌^◌, None, Some, IfSome, [], length, ◌<◌};
+ghost use Rattle.std.specs.Prelude.{◌≡◌, ◌≢◌, true, ℕ, ◌-◌, ◌+◌, ◌^◌, None, Some, IfSome, [], length, ◌<◌, ◌≤◌};
 ghost use Rattle.std.specs.Option.{option_map};
+ghost use Rattle.csp_conn.specs.PlainConns.{IsThere};
 ghost use Rattle.csp_deck.specs.Regions.{IsAnswerFrom, IsItemOf, IsOpOf};
-ghost use Rattle.csp_deck.specs.Step.{CanServe};
+ghost use Rattle.csp_deck.specs.Step.{CanServe, IsCleared, answer_numbers, item_numbers, times};
 ghost use Rattle.csp_log.specs.Pictures.{shown_answer, shown_item, shown_op};
-ghost use Rattle.csp_route.specs.Routes.{IsWithin};
-ghost use Rattle.csp_stack.specs.Comes.{ComesTo, IsFree};
-ghost use Rattle.csp_stack.specs.Party.{Awaits, HasPlace, IsFrom, IsSendable, rules_of};
-ghost use Rattle.csp_stack.specs.PlainPorts.{ends, waiting};
+ghost use Rattle.csp_ports.specs.Counts.{AreFar, IsCountable};
+ghost use Rattle.csp_ports.specs.Held.{held};
+ghost use Rattle.csp_ports.specs.Keeps.{IsOwedBy};
+ghost use Rattle.csp_ports.specs.PlainPorts.{machine_at, stalled_at, waiting};
+ghost use Rattle.csp_ports.specs.Tasks.{next_task};
+ghost use Rattle.csp_rdp.specs.Jobs.{job_of};
+ghost use Rattle.csp_stack.specs.Comes.{ComesTo, IsFree, IsServing};
+ghost use Rattle.csp_stack.specs.Keeps.{Asks, Keeps};
+ghost use Rattle.csp_stack.specs.Party.{Awaits, HasPlace, IsClear, IsDelivering, IsFrom, IsSendable, IsSound, IsTimed, IsWaiting, rules_of};
 ghost use Rattle.csp_stack.specs.Readings.{buffer_in, is_pushed, item_in};
+ghost use Rattle.csp_stack.specs.Router.{at_rest, holds};
 ghost use Rattle.csp_stack.specs.Rules.{packet_in};
 ghost use Rattle.csp_stack.specs.Sources.{has_work, place_with_work, source_at};
-ghost use Rattle.csp_stack.specs.Turn.{asked_at, asked_by, asks_at, op_of, job_of, told_by, told_giving, told_hearing, told_pushing, told_replying, told_sending, told_serving, work_found};
+ghost use Rattle.csp_stack.specs.Turn.{asked_at, asked_by, asks_at, jobs_by, op_of, plan_for, plan_of, told_at, told_by, told_delivering, told_giving, told_hearing, told_keeping, told_making, told_noting, told_pushing, told_replying, told_sending, told_serving, work_found};
+ghost use Rattle.csp_stack.specs.declared.state.TheConstants.{TRASH_ROOM};
 
 use crate::counting::{count_full, count_in, count_out};
 use crate::facts::Facts;
 use crate::inbox::hear;
-use crate::owed::Owed;
+use crate::making::make;
 use crate::packet::Packet;
 use crate::serving::serve;
 use crate::sources::{count_sources, past_app, past_inbox, past_jobs, source_in};
 use crate::state::State;
 use crate::{Plan, Source};
-use csp_deck::{Answer, Discard, Events, Item, Op, QueueId};
+use csp_deck::{Answer, Discard, Events, Item, Note, Op, QueueId};
+use csp_ports::{Owed, Task};
+use csp_rdp::Job;
 
-/// Begins a turn: what it asks, and the state without what it hands over.
+/// Begins a turn: what it asks, and the state without what it hands over. The timers are tried first.
 pub fn begin(facts: &Facts, state: &mut State, now: u64) -> Op
-    requires sendable { IsSendable facts.now state.old.state.out }
-    requires apps { state.old.state.ports.conns.apps ≡ facts.now.apps }
+    requires sound { IsSound facts.now state.old.state }
     ensures served { CanServe (rules_of facts.now) (shown_op result) }
     ensures op { shown_op result ≡ asks_at facts.now state.old.state now }
     ensures state { state.new.state ≡ asked_at facts.now state.old.state now }
     ensures of_it { IsOpOf state.old.region result }
     ensures region { state.new.region ≡ state.old.region }
+    ensures asks { Asks facts.now state.old.state state.new.state now (shown_op result) }
+{
+    state.try_timers(now);
+    begin_plan(facts, state, now)
+}
+
+/// Begins a turn once the timers were tried.
+#[tactic(auto, using(crate::proofs::Resting::give_asks, crate::proofs::Resting::push_asks))]
+fn begin_plan(facts: &Facts, state: &mut State, now: u64) -> Op
+    requires sound { IsTimed facts.now state.old.state }
+    ensures served { CanServe (rules_of facts.now) (shown_op result) }
+    ensures op { shown_op result ≡ op_of state.old.state (plan_of facts.now state.old.state now) }
+    ensures state { state.new.state ≡ asked_by facts.now state.old.state (plan_of facts.now state.old.state now) }
+    ensures of_it { IsOpOf state.old.region result }
+    ensures region { state.new.region ≡ state.old.region }
+    ensures asks { Asks facts.now state.old.state state.new.state now (shown_op result) }
 {
     if let Some(buffer) = state.trash.pop() {
         state.doing = Plan::Give;
@@ -47,13 +72,16 @@ pub fn begin(facts: &Facts, state: &mut State, now: u64) -> Op
 }
 
 /// Begins a turn at the first source with work, from the cursor on.
+#[tactic(auto, using(crate::proofs::Resting::plainly_asks))]
 fn begin_work(facts: &Facts, state: &mut State, now: u64) -> Op
-    requires apps { state.old.state.ports.conns.apps ≡ facts.now.apps }
+    requires sound { IsTimed facts.now state.old.state }
+    requires clear { IsClear state.old.state }
     ensures served { CanServe (rules_of facts.now) (shown_op result) }
-    ensures op { shown_op result ≡ op_of state.old.state (work_found facts.now state.old.state (place_with_work facts.now state.old.state now)) }
-    ensures state { state.new.state ≡ asked_by facts.now state.old.state (work_found facts.now state.old.state (place_with_work facts.now state.old.state now)) }
+    ensures op { shown_op result ≡ op_of state.old.state (work_found facts.now state.old.state now (place_with_work facts.now state.old.state now)) }
+    ensures state { state.new.state ≡ asked_by facts.now state.old.state (work_found facts.now state.old.state now (place_with_work facts.now state.old.state now)) }
     ensures of_it { IsOpOf state.old.region result }
     ensures region { state.new.region ≡ state.old.region }
+    ensures asks { Asks facts.now state.old.state state.new.state now (shown_op result) }
 {
     match find_work(facts, state, now) {
         Some(Source::Inbox) => {
@@ -66,40 +94,131 @@ fn begin_work(facts: &Facts, state: &mut State, now: u64) -> Op
             state.doing = Plan::Serve(app);
             Op::Pop(QueueId::Up(app))
         }
-        Some(Source::Jobs) => begin_job(facts, state),
-        None => {
-            state.doing = Plan::Rest;
-            Op::Nothing
-        }
+        Some(Source::Jobs) => begin_job(facts, state, now),
+        None => rest(facts, state, now),
     }
 }
 
-/// Begins a turn at the jobs: the answer that came to be owed first is pushed.
-#[tactic(auto, using(crate::proofs::Sendable::reply_served))]
-fn begin_job(facts: &Facts, state: &mut State) -> Op
-    requires apps { state.old.state.ports.conns.apps ≡ facts.now.apps }
+/// Begins a turn without work.
+#[tactic(auto, using(crate::proofs::Resting::plainly_asks))]
+fn rest(facts: &Facts, state: &mut State, _now: u64) -> Op
+    requires sound { IsTimed facts.now state.old.state }
+    requires clear { IsClear state.old.state }
+    ensures op { result ≡ Op.Nothing }
+    ensures state { state.new ≡ record state.old { state = asked_by facts.now state.old.state Plan.Rest } }
+    ensures asks { Asks facts.now state.old.state state.new.state _now (shown_op result) }
+{
+    state.doing = Plan::Rest;
+    Op::Nothing
+}
+
+/// Begins a turn at the jobs: the answer that came to be owed first is pushed; where none is owed the next
+/// connection with a task comes to it.
+#[tactic(auto, using(crate::proofs::Resting::plainly_asks, crate::proofs::Sendable::reply_served))]
+fn begin_job(facts: &Facts, state: &mut State, now: u64) -> Op
+    requires sound { IsTimed facts.now state.old.state }
+    requires clear { IsClear state.old.state }
     ensures served { CanServe (rules_of facts.now) (shown_op result) }
-    ensures op { shown_op result ≡ op_of state.old.state (job_of state.old.state.ports.owed) }
-    ensures state { state.new.state ≡ asked_by facts.now state.old.state (job_of state.old.state.ports.owed) }
+    ensures op { shown_op result ≡ op_of state.old.state (jobs_by state.old.state.ports.owed (next_task now state.old.state.ports)) }
+    ensures state { state.new.state ≡ asked_by facts.now state.old.state (jobs_by state.old.state.ports.owed (next_task now state.old.state.ports)) }
     ensures of_it { IsOpOf state.old.region result }
     ensures region { state.new.region ≡ state.old.region }
+    ensures asks { Asks facts.now state.old.state state.new.state now (shown_op result) }
 {
-    match state.ports.first_owed() {
-        Some(Owed { app, note }) => {
-            state.cursor = past_jobs(facts);
-            state.doing = Plan::Reply(app);
-            Op::Push(QueueId::Down(app), Item::Note(note))
-        }
-        None => {
-            state.doing = Plan::Rest;
-            Op::Nothing
-        }
+    if let Some(Owed { app, note }) = state.ports.first_owed() {
+        state.cursor = past_jobs(facts);
+        state.doing = Plan::Reply(app);
+        return Op::Push(QueueId::Down(app), Item::Note(note));
     }
+    match state.ports.next_task(now) {
+        Some((app, slot, task)) => begin_task(facts, state, app, slot, task, now),
+        None => rest(facts, state, now),
+    }
+}
+
+/// Begins a turn of a connection that comes to its task.
+fn begin_task(facts: &Facts, state: &mut State, app: u8, slot: u8, task: Task, now: u64) -> Op
+    requires sound { IsTimed facts.now state.old.state }
+    requires clear { IsClear state.old.state }
+    requires there { IsThere state.old.state.ports.conns app slot }
+    requires owed { IsOwedBy task now app slot state.old.state.ports }
+    ensures served { CanServe (rules_of facts.now) (shown_op result) }
+    ensures op { shown_op result ≡ op_of state.old.state (plan_for app slot task) }
+    ensures state { state.new.state ≡ asked_by facts.now state.old.state (plan_for app slot task) }
+    ensures of_it { IsOpOf state.old.region result }
+    ensures region { state.new.region ≡ state.old.region }
+    ensures asks { Asks facts.now state.old.state state.new.state now (shown_op result) }
+{
+    match task {
+        Task::Tell => begin_note(facts, state, app, slot, now),
+        Task::Deliver => begin_delivery(facts, state, app, slot, now),
+        Task::Make(job) => begin_packet(facts, state, app, slot, job, now),
+    }
+}
+
+/// Begins the push of a Down note.
+#[tactic(auto, using(crate::proofs::Resting::ports_ask, crate::proofs::Sendable::reply_served))]
+fn begin_note(facts: &Facts, state: &mut State, app: u8, slot: u8, _now: u64) -> Op
+    requires sound { IsTimed facts.now state.old.state }
+    requires clear { IsClear state.old.state }
+    requires there { IsThere state.old.state.ports.conns app slot }
+    ensures served { CanServe (rules_of facts.now) (shown_op result) }
+    ensures op { shown_op result ≡ op_of state.old.state (Plan.Tell app slot) }
+    ensures state { state.new.state ≡ asked_by facts.now state.old.state (Plan.Tell app slot) }
+    ensures of_it { IsOpOf state.old.region result }
+    ensures region { state.new.region ≡ state.old.region }
+    ensures asks { Asks facts.now state.old.state state.new.state _now (shown_op result) }
+{
+    state.cursor = past_jobs(facts);
+    state.doing = Plan::Tell(app, slot);
+    state.ports.turn(app, slot);
+    Op::Push(QueueId::Down(app), Item::Note(Note::Down { slot }))
+}
+
+/// Begins the push of the packet that a connection is to deliver, which it hands over.
+#[tactic(auto, using(crate::proofs::Resting::ports_ask, crate::proofs::Resting::ports_then, crate::proofs::Sendable::to_slot_sendable))]
+fn begin_delivery(facts: &Facts, state: &mut State, app: u8, slot: u8, _now: u64) -> Op
+    requires sound { IsTimed facts.now state.old.state }
+    requires clear { IsClear state.old.state }
+    requires there { IsThere state.old.state.ports.conns app slot }
+    requires owed { IsOwedBy Task.Deliver _now app slot state.old.state.ports }
+    ensures served { CanServe (rules_of facts.now) (shown_op result) }
+    ensures op { shown_op result ≡ op_of state.old.state (Plan.Deliver app slot) }
+    ensures state { state.new.state ≡ asked_by facts.now state.old.state (Plan.Deliver app slot) }
+    ensures of_it { IsOpOf state.old.region result }
+    ensures region { state.new.region ≡ state.old.region }
+    ensures asks { Asks facts.now state.old.state state.new.state _now (shown_op result) }
+{
+    state.cursor = past_jobs(facts);
+    state.doing = Plan::Deliver(app, slot);
+    state.ports.turn(app, slot);
+    let buffer = state.ports.take_packet(app, slot);
+    Op::Push(QueueId::Down(app), Item::Packet { mark: slot, buffer })
+}
+
+/// Begins the taking of a buffer for a packet that a connection owes.
+#[tactic(auto, using(crate::proofs::Resting::ports_ask))]
+fn begin_packet(facts: &Facts, state: &mut State, app: u8, slot: u8, job: Job, _now: u64) -> Op
+    requires sound { IsTimed facts.now state.old.state }
+    requires clear { IsClear state.old.state }
+    requires there { IsThere state.old.state.ports.conns app slot }
+    requires owed { IsOwedBy (Task.Make job) _now app slot state.old.state.ports }
+    ensures op { result ≡ Op.Take }
+    ensures state { state.new.state ≡ asked_by facts.now state.old.state (Plan.Make app slot job) }
+    ensures region { state.new.region ≡ state.old.region }
+    ensures asks { Asks facts.now state.old.state state.new.state _now (shown_op result) }
+{
+    state.cursor = past_jobs(facts);
+    state.doing = Plan::Make(app, slot, job);
+    state.ports.turn(app, slot);
+    Op::Take
 }
 
 /// The first source with work, from the cursor on.
 fn find_work(facts: &Facts, state: &State, now: u64) -> Option<Source>
+    requires apps { state.now.state.ports.conns.apps ≡ facts.now.apps }
     ensures there { (k : ℕ) → result ≡ Some (Source.App k) → k < facts.now.apps }
+    ensures works { IfSome result (λ source. has_work state.now.state now source ≡ true) }
     ensures source { result ≡ option_map (source_at facts.now) (place_with_work facts.now state.now.state now) }
 {
     match find_place(facts, state, now) {
@@ -110,7 +229,9 @@ fn find_work(facts: &Facts, state: &State, now: u64) -> Option<Source>
 
 /// The place of the first source with work, from the cursor on.
 fn find_place(facts: &Facts, state: &State, now: u64) -> Option<usize>
-    ensures { result ≡ place_with_work facts.now state.now.state now }
+    requires apps { state.now.state.ports.conns.apps ≡ facts.now.apps }
+    ensures place { result ≡ place_with_work facts.now state.now.state now }
+    ensures works { IfSome result (λ k. has_work state.now.state now (source_at facts.now k) ≡ true) }
 {
     let count = count_sources(facts);
     (state.cursor..count)
@@ -119,38 +240,72 @@ fn find_place(facts: &Facts, state: &State, now: u64) -> Option<usize>
 }
 
 /// Whether a source has work.
-fn works(state: &State, _now: u64, source: Source) -> bool
-    ensures { result ≡ has_work state.now.state _now source }
+fn works(state: &State, now: u64, source: Source) -> bool
+    requires there { (k : ℕ) → source ≡ Source.App k → k < state.now.state.ports.conns.apps }
+    ensures { result ≡ has_work state.now.state now source }
 {
     match source {
         Source::Inbox => true,
-        Source::App(app) => state.ports.waiting(app) == 0,
-        Source::Jobs => state.ports.first_owed().is_some(),
+        Source::App(app) => state.ports.waiting(app) == 0 && !state.ports.is_stalled(app),
+        Source::Jobs => state.ports.first_owed().is_some() || state.ports.next_task(now).is_some(),
     }
 }
 
 /// Ends a turn with its answer.
+#[tactic(auto, using(crate::proofs::Resting::finished_sound))]
 pub fn finish(facts: &Facts, state: &mut State, now: u64, answer: Answer, report: &mut Events)
-    requires place { HasPlace state.old.state.doing state.old.state }
+    requires sound { IsSound facts.now state.old.state }
     requires fits { Awaits facts.now state.old.state.doing (shown_answer answer) }
-    requires countable { ends state.old.state.ports < 2 ^ 32 - 1 }
+    requires waits { IsWaiting state.old.state.doing state.old.state now }
+    requires countable { IsCountable state.old.state.ports }
     requires early { now < 2 ^ 62 }
     requires of_it { IsAnswerFrom state.old.region answer }
     requires unwritten { report.old.items ≡ [] }
-    requires sendable { IsSendable facts.now state.old.state.out }
-    requires within { IsWithin (length facts.now.ifaces) state.old.state.routes }
-    requires apps { state.old.state.ports.conns.apps ≡ facts.now.apps }
-    ensures told { ComesTo state.old state.new report.old.items report.new.items (told_by state.old.state.doing facts.now (record state.old.state { doing = Plan.Rest }) now (shown_answer answer)) }
-    ensures sendable { IsSendable facts.now state.new.state.out }
-    ensures apps { state.new.state.ports.conns.apps ≡ facts.now.apps }
+    ensures told { ComesTo state.old state.new [] report.new.items (told_at facts.now state.old.state now (shown_answer answer)) }
+    ensures sound { IsSound facts.now state.new.state }
+    ensures numbers { (k : ℕ) → times k (holds state.new.state) ≡ times k (holds state.old.state) + times k (answer_numbers (shown_answer answer)) }
+    ensures far { (n : ℕ) → AreFar n state.old.state.ports → AreFar (n + 1) state.new.state.ports }
 {
-    match state.end_turn() {
+    let doing = state.end_turn(report);
+    finish_plan(facts, state, now, doing, answer, report);
+}
+
+/// Ends the turn that a plan was.
+#[tactic(auto, using(crate::proofs::Keeping::unchanged_keeps))]
+fn finish_plan(
+    facts: &Facts,
+    state: &mut State,
+    now: u64,
+    doing: Plan,
+    answer: Answer,
+    report: &mut Events,
+)
+    requires sound { IsSound facts.now (record state.old.state { doing = doing; early = report.old.items }) }
+    requires fits { Awaits facts.now doing (shown_answer answer) }
+    requires waits { IsWaiting doing state.old.state now }
+    requires countable { IsCountable state.old.state.ports }
+    requires early { now < 2 ^ 62 }
+    requires of_it { IsAnswerFrom state.old.region answer }
+    requires rests { at_rest state.old.state ≡ state.old.state }
+    ensures told { ComesTo state.old state.new report.old.items report.new.items (told_by doing facts.now state.old.state now (shown_answer answer)) }
+    ensures sendable { IsSendable facts.now state.new.state.out }
+    ensures keeps { Keeps (length facts.now.ifaces) state.old.state state.new.state (answer_numbers (shown_answer answer)) }
+    ensures room { length state.new.state.trash + length (held state.new.state.ports) ≤ TRASH_ROOM }
+{
+    // That the trash has room for all that the ports hold is a clause of this reading.
+    state.bounds();
+    match doing {
         Plan::Rest => finish_rest(state, answer),
         Plan::Give => finish_give(state, answer),
         Plan::Push(queue, bytes) => finish_send(state, queue, bytes, answer, report),
         Plan::Hear => finish_hear(facts, state, now, answer, report),
         Plan::Serve(app) => finish_serve(facts, state, now, app, answer, report),
-        Plan::Reply(_) => finish_reply(state, answer, report),
+        Plan::Reply(_) => finish_reply(facts, state, answer, report),
+        Plan::Tell(app, slot) => finish_note(facts, state, app, slot, answer, report),
+        Plan::Deliver(app, slot) => finish_delivery(facts, state, now, app, slot, answer, report),
+        Plan::Make(app, slot, job) => {
+            finish_packet(facts, state, now, app, slot, job, answer, report);
+        }
     }
 }
 
@@ -159,6 +314,7 @@ fn finish_rest(state: &State, answer: Answer)
     requires no_buffer { buffer_in (shown_answer answer) ≡ None }
     requires no_item { item_in (shown_answer answer) ≡ None }
     requires of_it { IsAnswerFrom state.now.region answer }
+    ensures { answer_numbers (shown_answer answer) ≡ [] }
 {
     if let Some(_item) = state.item_of(answer) {
         unreachable!();
@@ -166,11 +322,13 @@ fn finish_rest(state: &State, answer: Answer)
 }
 
 /// Where the pool has no room, the buffer is the first of the trash again.
+#[tactic(auto, using(crate::proofs::Keeping::unchanged_keeps))]
 fn finish_give(state: &mut State, answer: Answer)
     requires place { HasPlace Plan.Give state.old.state }
     requires fits { item_in (shown_answer answer) ≡ None }
     requires of_it { IsAnswerFrom state.old.region answer }
-    ensures { ComesTo state.old state.new [] [] (told_giving state.old.state (buffer_in (shown_answer answer))) }
+    ensures told { ComesTo state.old state.new [] [] (told_giving state.old.state (buffer_in (shown_answer answer))) }
+    ensures keeps { (ifaces : ℕ) → Keeps ifaces state.old.state state.new.state (answer_numbers (shown_answer answer)) }
 {
     if let Some(buffer) = state.buffer_of(answer) {
         state.keep(buffer);
@@ -178,11 +336,14 @@ fn finish_give(state: &mut State, answer: Answer)
 }
 
 /// Where the queue has no room, the packet is discarded.
+#[tactic(auto, using(crate::proofs::Keeping::unchanged_keeps))]
 fn finish_push(state: &mut State, answer: Answer, report: &mut Events)
     requires free { IsFree state.old.state report.old.items }
     requires fits { buffer_in (shown_answer answer) ≡ None }
     requires of_it { IsAnswerFrom state.old.region answer }
-    ensures { ComesTo state.old state.new report.old.items report.new.items (told_pushing state.old.state (packet_in (item_in (shown_answer answer)))) }
+    ensures told { ComesTo state.old state.new report.old.items report.new.items (told_pushing state.old.state (packet_in (item_in (shown_answer answer)))) }
+    ensures out { state.new.state.out ≡ None }
+    ensures keeps { (ifaces : ℕ) → Keeps ifaces state.old.state state.new.state (answer_numbers (shown_answer answer)) }
 {
     if let Some(item) = state.item_of(answer) {
         refuse(state, item, report);
@@ -190,13 +351,14 @@ fn finish_push(state: &mut State, answer: Answer, report: &mut Events)
 }
 
 /// A packet was pushed to its queue, or the queue had no room: either is counted.
+#[tactic(auto, using(crate::proofs::Keeping::unchanged_keeps))]
 fn finish_send(state: &mut State, queue: QueueId, bytes: u32, answer: Answer, report: &mut Events)
     requires free { IsFree state.old.state report.old.items }
     requires fits { buffer_in (shown_answer answer) ≡ None }
     requires of_it { IsAnswerFrom state.old.region answer }
     ensures told { ComesTo state.old state.new report.old.items report.new.items (told_sending (is_pushed (shown_answer answer)) queue bytes state.old.state (packet_in (item_in (shown_answer answer)))) }
-    ensures out { state.new.state.out ≡ state.old.state.out }
-    ensures apps { state.new.state.ports.conns.apps ≡ state.old.state.ports.conns.apps }
+    ensures out { state.new.state.out ≡ None }
+    ensures keeps { (ifaces : ℕ) → Keeps ifaces state.old.state state.new.state (answer_numbers (shown_answer answer)) }
 {
     if let Answer::Pushed = answer {
         count_out(state, queue, bytes);
@@ -207,10 +369,13 @@ fn finish_send(state: &mut State, queue: QueueId, bytes: u32, answer: Answer, re
 }
 
 /// A packet that its queue has no room for is discarded.
+#[tactic(auto, using(crate::proofs::Keeping::unchanged_keeps))]
 fn refuse(state: &mut State, item: Item, report: &mut Events)
     requires free { IsFree state.old.state report.old.items }
     requires of_it { IsItemOf state.old.region item }
-    ensures { ComesTo state.old state.new report.old.items report.new.items (told_pushing state.old.state (packet_in (Some (shown_item item)))) }
+    ensures told { ComesTo state.old state.new report.old.items report.new.items (told_pushing state.old.state (packet_in (Some (shown_item item)))) }
+    ensures out { state.new.state.out ≡ None }
+    ensures keeps { (ifaces : ℕ) → Keeps ifaces state.old.state state.new.state (item_numbers (shown_item item)) }
 {
     match item {
         Item::Packet { mark: _, buffer } => state.discard(Discard::Full, buffer, report),
@@ -220,16 +385,17 @@ fn refuse(state: &mut State, item: Item, report: &mut Events)
 }
 
 /// A packet from the inbox goes by the rules.
+#[tactic(auto, using(crate::proofs::Keeping::unchanged_keeps))]
 fn finish_hear(facts: &Facts, state: &mut State, now: u64, answer: Answer, report: &mut Events)
-    requires free { IsFree state.old.state report.old.items }
+    requires sound { IsServing facts.now state.old.state }
+    requires unwritten { report.old.items ≡ [] }
     requires fits { buffer_in (shown_answer answer) ≡ None }
     requires of_it { IsAnswerFrom state.old.region answer }
-    requires within { IsWithin (length facts.now.ifaces) state.old.state.routes }
+    requires countable { IsCountable state.old.state.ports }
     requires early { now < 2 ^ 62 }
-    requires apps { state.old.state.ports.conns.apps ≡ facts.now.apps }
-    ensures apps { state.new.state.ports.conns.apps ≡ facts.now.apps }
     ensures told { ComesTo state.old state.new report.old.items report.new.items (told_hearing facts.now state.old.state now (packet_in (item_in (shown_answer answer)))) }
     ensures sendable { IsSendable facts.now state.new.state.out }
+    ensures keeps { Keeps (length facts.now.ifaces) state.old.state state.new.state (answer_numbers (shown_answer answer)) }
 {
     if let Some(item) = state.item_of(answer) {
         hear_item(facts, state, now, item, report);
@@ -237,15 +403,16 @@ fn finish_hear(facts: &Facts, state: &mut State, now: u64, answer: Answer, repor
 }
 
 /// An item from the inbox is a packet.
+#[tactic(auto, using(crate::proofs::Keeping::unchanged_keeps))]
 fn hear_item(facts: &Facts, state: &mut State, now: u64, item: Item, report: &mut Events)
-    requires free { IsFree state.old.state report.old.items }
+    requires sound { IsServing facts.now state.old.state }
+    requires unwritten { report.old.items ≡ [] }
     requires of_it { IsItemOf state.old.region item }
-    requires within { IsWithin (length facts.now.ifaces) state.old.state.routes }
+    requires countable { IsCountable state.old.state.ports }
     requires early { now < 2 ^ 62 }
-    requires apps { state.old.state.ports.conns.apps ≡ facts.now.apps }
-    ensures apps { state.new.state.ports.conns.apps ≡ facts.now.apps }
     ensures told { ComesTo state.old state.new report.old.items report.new.items (told_hearing facts.now state.old.state now (packet_in (Some (shown_item item)))) }
     ensures sendable { IsSendable facts.now state.new.state.out }
+    ensures keeps { Keeps (length facts.now.ifaces) state.old.state state.new.state (item_numbers (shown_item item)) }
 {
     match item {
         Item::Packet { mark, buffer } => {
@@ -258,6 +425,7 @@ fn hear_item(facts: &Facts, state: &mut State, now: u64, item: Item, report: &mu
 }
 
 /// An item from an application is sent, or discarded.
+#[tactic(auto, using(crate::proofs::Keeping::unchanged_keeps))]
 fn finish_serve(
     facts: &Facts,
     state: &mut State,
@@ -266,17 +434,17 @@ fn finish_serve(
     answer: Answer,
     report: &mut Events,
 )
-    requires free { IsFree state.old.state report.old.items }
+    requires sound { IsServing facts.now state.old.state }
+    requires unwritten { report.old.items ≡ [] }
     requires fits { buffer_in (shown_answer answer) ≡ None }
     requires from { IfSome (item_in (shown_answer answer)) (IsFrom facts.now app) }
     requires first { waiting app state.old.state.ports.owed ≡ 0 }
-    requires unwritten { report.old.items ≡ [] }
+    requires alone { stalled_at state.old.state.ports app ≡ None }
     requires of_it { IsAnswerFrom state.old.region answer }
-    requires within { IsWithin (length facts.now.ifaces) state.old.state.routes }
-    requires apps { state.old.state.ports.conns.apps ≡ facts.now.apps }
-    ensures apps { state.new.state.ports.conns.apps ≡ facts.now.apps }
+    requires countable { IsCountable state.old.state.ports }
     ensures told { ComesTo state.old state.new report.old.items report.new.items (told_serving facts.now state.old.state now app (item_in (shown_answer answer))) }
     ensures sendable { IsSendable facts.now state.new.state.out }
+    ensures keeps { Keeps (length facts.now.ifaces) state.old.state state.new.state (answer_numbers (shown_answer answer)) }
 {
     if let Some(item) = state.item_of(answer) {
         serve(facts, state, now, app, item, report);
@@ -284,18 +452,121 @@ fn finish_serve(
 }
 
 /// An answer to an application was pushed, or stays owed where its lane has no room.
-fn finish_reply(state: &mut State, answer: Answer, report: &mut Events)
-    requires free { IsFree state.old.state report.old.items }
+fn finish_reply(facts: &Facts, state: &mut State, answer: Answer, report: &mut Events)
+    requires sound { IsServing facts.now state.old.state }
+    requires unwritten { report.old.items ≡ [] }
     requires fits { buffer_in (shown_answer answer) ≡ None }
     requires of_it { IsAnswerFrom state.old.region answer }
-    requires countable { ends state.old.state.ports < 2 ^ 32 - 1 }
+    requires countable { IsCountable state.old.state.ports }
     ensures told { ComesTo state.old state.new report.old.items report.new.items (told_replying (is_pushed (shown_answer answer)) state.old.state (packet_in (item_in (shown_answer answer)))) }
-    ensures out { state.new.state.out ≡ state.old.state.out }
-    ensures apps { state.new.state.ports.conns.apps ≡ state.old.state.ports.conns.apps }
+    ensures out { state.new.state.out ≡ None }
+    ensures keeps { Keeps (length facts.now.ifaces) state.old.state state.new.state (answer_numbers (shown_answer answer)) }
 {
     if let Answer::Pushed = answer {
-        state.ports.answer();
+        state.answer();
     } else {
         finish_push(state, answer, report);
+    }
+}
+
+/// A Down note was pushed, or stays owed where its lane has no room.
+fn finish_note(
+    facts: &Facts,
+    state: &mut State,
+    app: u8,
+    slot: u8,
+    answer: Answer,
+    report: &mut Events,
+)
+    requires sound { IsServing facts.now state.old.state }
+    requires unwritten { report.old.items ≡ [] }
+    requires there { IsThere state.old.state.ports.conns app slot }
+    requires fits { buffer_in (shown_answer answer) ≡ None }
+    requires of_it { IsAnswerFrom state.old.region answer }
+    ensures told { ComesTo state.old state.new report.old.items report.new.items (told_noting (is_pushed (shown_answer answer)) state.old.state app slot (packet_in (item_in (shown_answer answer)))) }
+    ensures out { state.new.state.out ≡ None }
+    ensures keeps { Keeps (length facts.now.ifaces) state.old.state state.new.state (answer_numbers (shown_answer answer)) }
+{
+    if let Answer::Pushed = answer {
+        state.ports.tell_down(app, slot);
+    } else {
+        finish_push(state, answer, report);
+    }
+}
+
+/// A packet was delivered, or its connection keeps it again where its lane has no room.
+fn finish_delivery(
+    facts: &Facts,
+    state: &mut State,
+    now: u64,
+    app: u8,
+    slot: u8,
+    answer: Answer,
+    report: &mut Events,
+)
+    requires sound { IsServing facts.now state.old.state }
+    requires unwritten { report.old.items ≡ [] }
+    requires there { IsThere state.old.state.ports.conns app slot }
+    requires taken { IsDelivering state.old.state app slot }
+    requires fits { buffer_in (shown_answer answer) ≡ None }
+    requires of_it { IsAnswerFrom state.old.region answer }
+    requires countable { IsCountable state.old.state.ports }
+    ensures told { ComesTo state.old state.new report.old.items report.new.items (told_delivering (is_pushed (shown_answer answer)) state.old.state app slot now (packet_in (item_in (shown_answer answer)))) }
+    ensures out { state.new.state.out ≡ None }
+    ensures keeps { Keeps (length facts.now.ifaces) state.old.state state.new.state (answer_numbers (shown_answer answer)) }
+{
+    if let Answer::Pushed = answer {
+        state.deliver(app, slot, now, report);
+    } else {
+        keep_delivery(state, app, slot, answer);
+    }
+}
+
+/// A packet that could not be delivered is kept by its connection again.
+#[tactic(auto, using(crate::proofs::Keeping::unchanged_keeps))]
+fn keep_delivery(state: &mut State, app: u8, slot: u8, answer: Answer)
+    requires none { state.old.state.out ≡ None }
+    requires there { IsThere state.old.state.ports.conns app slot }
+    requires taken { IsDelivering state.old.state app slot }
+    requires fits { buffer_in (shown_answer answer) ≡ None }
+    requires of_it { IsAnswerFrom state.old.region answer }
+    ensures told { ComesTo state.old state.new [] [] (told_keeping state.old.state app slot (packet_in (item_in (shown_answer answer)))) }
+    ensures out { state.new.state.out ≡ None }
+    ensures keeps { (ifaces : ℕ) → Keeps ifaces state.old.state state.new.state (answer_numbers (shown_answer answer)) }
+{
+    match state.item_of(answer) {
+        Some(Item::Packet { mark: _, buffer }) => state.ports.keep_packet(app, slot, buffer),
+        Some(Item::Note(_)) => {}
+        Some(Item::Frame(_)) => {}
+        None => {}
+    }
+}
+
+/// A buffer came for a packet that a connection owes. Without one the packet stays owed.
+#[tactic(auto, using(crate::proofs::Keeping::unchanged_keeps))]
+fn finish_packet(
+    facts: &Facts,
+    state: &mut State,
+    now: u64,
+    app: u8,
+    slot: u8,
+    job: Job,
+    answer: Answer,
+    report: &mut Events,
+)
+    requires sound { IsServing facts.now state.old.state }
+    requires unwritten { report.old.items ≡ [] }
+    requires there { IsThere state.old.state.ports.conns app slot }
+    requires owed { job_of now (machine_at state.old.state.ports app slot) ≡ Some job }
+    requires sent { job ≢ Job.Deliver }
+    requires fits { item_in (shown_answer answer) ≡ None }
+    requires cleared { IfSome (buffer_in (shown_answer answer)) IsCleared }
+    requires of_it { IsAnswerFrom state.old.region answer }
+    ensures told { ComesTo state.old state.new report.old.items report.new.items (told_making facts.now state.old.state app slot job now (buffer_in (shown_answer answer))) }
+    ensures sendable { IsSendable facts.now state.new.state.out }
+    ensures keeps { Keeps (length facts.now.ifaces) state.old.state state.new.state (answer_numbers (shown_answer answer)) }
+{
+    if let Some(buffer) = state.buffer_of(answer) {
+        make(facts, state, now, app, slot, job, buffer, report);
     }
 }

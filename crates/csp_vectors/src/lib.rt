@@ -23,3 +23,5 @@ mod numbers;
 mod passed;
 #[cfg(test)]
 mod router;
+#[cfg(test)]
+mod stale;

@@ -17,6 +17,7 @@ use csp_deck::{
     UNMARKED, turn,
 };
 use csp_lists::ListDeck;
+use csp_rdp_header::Options;
 use csp_route::Table;
 use csp_stack::{Stack, StackConfig};
 use std::alloc::Global;
@@ -88,6 +89,7 @@ fn config<R: Abort>(rt: &R) -> StackConfig
         addr: Addr::new(1).expect(rt, "5 bits"),
         name: name(rt, "n"),
         seed: 0,
+        options: Options::usual(),
         routes,
         ifaces,
         apps: 1,

@@ -3,6 +3,7 @@ pub mod ClosingMembers
 pub mod ClosingSums
 pub mod ClosingParts
 pub mod CountLaws
+pub mod FewRounds
 pub mod FitLemmas
 pub mod FullLemmas
 pub mod HolderLemmas

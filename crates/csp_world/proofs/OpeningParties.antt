@@ -129,7 +129,7 @@ router_new stands w place addr n links r at e = record {
 }
 
 pub router_is : (place addr count : ℕ) (n seen : PlainNode) (links : List PlainLink) (routes : Routes) (ifaces : List (List ℕ)) → seen ≡ n → count ≡ length seen.apps → routes ≡ seen.routes → ifaces ≡ map (λ l. l.name) links
-    → router_for (record { facts = record { node = place; addr = addr; name = seen.name; seed = seen.seed; apps = count; ifaces = ifaces }; routes = routes }) ≡ router_for (config_of place addr n links)
+    → router_for (record { facts = record { node = place; addr = addr; name = seen.name; seed = seen.seed; options = seen.options; apps = count; ifaces = ifaces }; routes = routes }) ≡ router_for (config_of place addr n links)
 router_is place addr count n seen links routes ifaces same counted copied named = rw (counted, copied, named, same) refl
 
 pub bridge_new : Stands → (w : PlainWorld) (place : ℕ) (n : PlainNode) (links : List PlainLink) (b : bridge.BridgeAt) → slice_get w.decks place ≡ Some (opened_deck n links) → length links ≡ BRIDGE_LINKS

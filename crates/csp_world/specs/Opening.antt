@@ -28,7 +28,7 @@ opened_deck n links = opening_deck (fresh_buffers n.buffers) n.inbox (length n.a
 -- what the router of the node at this place is given, with its address and the links that it is on
 abbrev pub config_of : ℕ → ℕ → PlainNode → List PlainLink → PlainConfig
 config_of place addr n links = record {
-  facts = record { node = place; addr = addr; name = n.name; seed = n.seed; apps = length n.apps; ifaces = map (λ l. l.name) links };
+  facts = record { node = place; addr = addr; name = n.name; seed = n.seed; options = n.options; apps = length n.apps; ifaces = map (λ l. l.name) links };
   routes = n.routes;
 }
 

@@ -235,6 +235,7 @@ impl World {
                 addr,
                 name: node.name,
                 seed: node.seed,
+                options: node.options,
                 routes: node.routes.copy(),
                 ifaces: names_at(place, links),
                 apps: node.apps.len() as u8,

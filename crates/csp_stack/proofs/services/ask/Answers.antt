@@ -1,4 +1,4 @@
-use Rattle.std.proofs.Common.{◌≡◌, ℕ, length, ap, sym, subst}
+use Rattle.std.proofs.Common.{ℕ, length, ap, sym, subst}
 use Rattle.std.proofs.lemmas.List.{length-map}
 use Rattle.csp_route.specs.Routes.{IsWithin, Routes}
 use Rattle.csp_stack.specs.Router.{Facts, StateAt}

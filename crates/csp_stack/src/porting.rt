@@ -1,0 +1,193 @@
+//! The steps of a node's ports, as steps of its router: what the ports let go joins the trash.
+
+ghost use Rattle.std.specs.Prelude.{◌≡◌, ◌+◌, ◌-◌, ◌^◌, ◌<◌, ◌≤◌, ℕ, [], ◌∷◌, ◌++◌, length, None, Some, Ok, Err, IfErr, IfOk, MatchOption};
+ghost use Rattle.csp_base.specs.declared.limits.TheConstants.{MAX_PAYLOAD};
+ghost use Rattle.csp_conn.specs.Opening.{first_free};
+ghost use Rattle.csp_conn.specs.PlainConns.{IsThere};
+ghost use Rattle.csp_deck.specs.Step.{times};
+ghost use Rattle.csp_ports.specs.Asking.{answered, close, connect};
+ghost use Rattle.csp_ports.specs.Counts.{AreFar, IsCountable};
+ghost use Rattle.csp_ports.specs.Held.{held};
+ghost use Rattle.csp_ports.specs.Packets.{handing, invited, submitting};
+ghost use Rattle.csp_ports.specs.PlainPorts.{stalled_at, waiting};
+ghost use Rattle.csp_ports.specs.Tasks.{delivered};
+ghost use Rattle.csp_rdp_header.specs.declared.options.TheConstants.{MAX_WINDOW};
+ghost use Rattle.csp_stack.specs.Comes.{ComesTo, IsServing};
+ghost use Rattle.csp_stack.specs.Keeps.{Keeps};
+ghost use Rattle.csp_stack.specs.Party.{IsDelivering};
+ghost use Rattle.csp_stack.specs.Router.{holds, origin_of};
+ghost use Rattle.csp_stack.specs.Told.{absorbed, ported};
+ghost use Rattle.csp_stack.specs.Turn.{timed};
+ghost use Rattle.csp_stack.specs.declared.state.TheConstants.{TRASH_ROOM};
+
+use crate::facts::Facts;
+use crate::state::State;
+use csp_base::Prio;
+use csp_buffer::Buffer;
+use csp_conn::Connection;
+use csp_deck::Events;
+use csp_ports::{Invitation, MAX_HELD, Request};
+use csp_rdp_header::RdpHead;
+
+impl State {
+    /// Its ports hold so many buffers at most.
+    pub fn bounds(&self)
+        ensures { length (held self.now.state.ports) ≤ MAX_HELD }
+    {
+        self.ports.bounds();
+    }
+
+    /// The timers are tried: what they report is kept for the turn's end.
+    pub fn try_timers(&mut self, now: u64)
+        requires room { length self.old.state.trash + length (held self.old.state.ports) ≤ TRASH_ROOM }
+        ensures state { self.new ≡ record self.old { state = timed self.old.state now } }
+        ensures quiet { self.new.state.trash ≡ [] → self.new.state.early ≡ [] }
+        ensures numbers { (k : ℕ) → times k (holds self.new.state) ≡ times k (holds self.old.state) }
+        ensures room { length self.new.state.trash + length (held self.new.state.ports) ≤ TRASH_ROOM }
+        ensures far { (n : ℕ) → AreFar n self.old.state.ports → AreFar n self.new.state.ports }
+        ensures apps { self.new.state.ports.conns.apps ≡ self.old.state.ports.conns.apps }
+    {
+        self.early.clear();
+        self.ports.tick(now, &mut self.trash, &mut self.early);
+    }
+
+    /// The answer that was owed first is pushed.
+    #[tactic(auto, using(crate::proofs::Keeping::ported_keeps))]
+    pub fn answer(&mut self)
+        requires room { length self.old.state.trash + length (held self.old.state.ports) ≤ TRASH_ROOM }
+        requires countable { IsCountable self.old.state.ports }
+        ensures told { ComesTo self.old self.new [] [] (ported self.old.state (answered self.old.state.ports)) }
+        ensures keeps { (ifaces : ℕ) → Keeps ifaces self.old.state self.new.state [] }
+    {
+        self.ports.answer(&mut self.trash);
+    }
+
+    /// A packet that was taken out of a connection is delivered.
+    #[tactic(auto, using(crate::proofs::Keeping::ported_keeps))]
+    pub fn deliver(&mut self, app: u8, slot: u8, now: u64, report: &mut Events)
+        requires there { IsThere self.old.state.ports.conns app slot }
+        requires taken { IsDelivering self.old.state app slot }
+        requires room { length self.old.state.trash + length (held self.old.state.ports) ≤ TRASH_ROOM }
+        requires countable { IsCountable self.old.state.ports }
+        requires unwritten { report.old.items ≡ [] }
+        ensures told { ComesTo self.old self.new report.old.items report.new.items (ported self.old.state (delivered now app slot self.old.state.ports)) }
+        ensures keeps { (ifaces : ℕ) → Keeps ifaces self.old.state self.new.state [] }
+    {
+        self.ports.deliver(app, slot, now, &mut self.trash, report);
+    }
+
+    /// Hands a packet with this head, which was cut off, to the machine of a slot.
+    #[tactic(auto, using(crate::proofs::Keeping::ported_keeps))]
+    pub fn hand(
+        &mut self,
+        app: u8,
+        slot: u8,
+        head: RdpHead,
+        packet: Buffer,
+        now: u64,
+        report: &mut Events,
+    )
+        requires there { IsThere self.old.state.ports.conns app slot }
+        requires of_it { packet.region ≡ self.old.region }
+        requires room { length self.old.state.trash + length (held self.old.state.ports) < TRASH_ROOM }
+        requires countable { IsCountable self.old.state.ports }
+        requires unwritten { report.old.items ≡ [] }
+        ensures told { ComesTo self.old self.new report.old.items report.new.items (ported self.old.state (handing self.old.state.ports app slot head packet.picture now)) }
+        ensures keeps { (ifaces : ℕ) → Keeps ifaces self.old.state self.new.state (packet.picture.number ∷ []) }
+    {
+        self.ports
+            .hand(app, slot, head, packet, now, &mut self.trash, report);
+    }
+
+    /// Hands a packet of an application to the reliable connection on its slot.
+    #[tactic(auto, using(crate::proofs::Keeping::ported_keeps))]
+    pub fn submit(&mut self, app: u8, slot: u8, packet: Buffer, now: u64, report: &mut Events)
+        requires there { IsThere self.old.state.ports.conns app slot }
+        requires of_it { packet.region ≡ self.old.region }
+        requires short { length packet.picture.payload ≤ MAX_PAYLOAD - 9 }
+        requires alone { stalled_at self.old.state.ports app ≡ None }
+        requires room { length self.old.state.trash + length (held self.old.state.ports) < TRASH_ROOM }
+        requires countable { IsCountable self.old.state.ports }
+        requires unwritten { report.old.items ≡ [] }
+        ensures told { ComesTo self.old self.new report.old.items report.new.items (ported self.old.state (submitting self.old.state.ports app slot packet.picture now)) }
+        ensures keeps { (ifaces : ℕ) → Keeps ifaces self.old.state self.new.state (packet.picture.number ∷ []) }
+    {
+        self.ports
+            .submit(app, slot, packet, now, &mut self.trash, report);
+    }
+
+    /// Makes a connection that an application asks for, or refuses it.
+    #[tactic(auto, using(crate::proofs::Keeping::ported_keeps))]
+    pub fn connect(
+        &mut self,
+        facts: &Facts,
+        app: u8,
+        request: Request,
+        now: u64,
+        report: &mut Events,
+    )
+        requires sound { IsServing facts.now self.old.state }
+        requires there { IsThere self.old.state.ports.conns app request.slot }
+        requires first { waiting app self.old.state.ports.owed ≡ 0 }
+        requires countable { IsCountable self.old.state.ports }
+        requires unwritten { report.old.items ≡ [] }
+        ensures told { ComesTo self.old self.new report.old.items report.new.items (ported self.old.state (connect (origin_of facts.now) self.old.state.ports app request now)) }
+        ensures keeps { (ifaces : ℕ) → Keeps ifaces self.old.state self.new.state [] }
+    {
+        self.ports
+            .connect(facts.origin(), app, request, now, &mut self.trash, report);
+    }
+
+    /// Ends a slot that an application asks to be closed.
+    #[tactic(auto, using(crate::proofs::Keeping::ported_keeps))]
+    pub fn close(&mut self, app: u8, slot: u8, now: u64)
+        requires there { IsThere self.old.state.ports.conns app slot }
+        requires first { waiting app self.old.state.ports.owed ≡ 0 }
+        requires room { length self.old.state.trash + length (held self.old.state.ports) ≤ TRASH_ROOM }
+        ensures told { ComesTo self.old self.new [] [] (ported self.old.state (close self.old.state.ports app slot now)) }
+        ensures keeps { (ifaces : ℕ) → Keeps ifaces self.old.state self.new.state [] }
+    {
+        self.ports.close(app, slot, now, &mut self.trash);
+    }
+
+    /// Opens a reliable connection by a packet that asks for one, in the least free slot of an application: the
+    /// packet joins the trash. Where all slots are in use it is handed back.
+    pub fn invite(
+        &mut self,
+        facts: &Facts,
+        app: u8,
+        connection: Connection,
+        prio: Prio,
+        flags: u8,
+        invitation: Invitation,
+        packet: Buffer,
+        now: u64,
+    ) -> Result<(), Buffer>
+        requires sound { IsServing facts.now self.old.state }
+        requires app { app < self.old.state.ports.conns.apps }
+        requires of_it { packet.region ≡ self.old.region }
+        requires countable { IsCountable self.old.state.ports }
+        requires low { 1 ≤ invitation.options.window }
+        requires high { invitation.options.window ≤ MAX_WINDOW }
+        ensures told { MatchOption (first_free self.old.state.ports.conns app) ((result ≡ Err packet) × (self.new ≡ self.old)) (λ slot. (result ≡ Ok tt) × ComesTo self.old self.new [] [] (absorbed packet.picture (ported self.old.state (invited (origin_of facts.now) self.old.state.ports app slot connection prio flags invitation now)))) }
+        ensures back { IfErr result (λ b. (b ≡ packet) × (self.new ≡ self.old)) }
+        ensures keeps { IfOk result (λ _. (ifaces : ℕ) → Keeps ifaces self.old.state self.new.state (packet.picture.number ∷ [])) }
+    {
+        match self.ports.invite(
+            facts.origin(),
+            app,
+            connection,
+            prio,
+            flags,
+            invitation,
+            now,
+            &mut self.trash,
+        ) {
+            Some(_) => {
+                self.trash.add(packet);
+                Ok(())
+            }
+            None => Err(packet),
+        }
+    }
+}
