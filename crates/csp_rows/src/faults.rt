@@ -45,13 +45,18 @@ type Case = (
 );
 
 #[rattlefmt::skip]
-static CASES: [Case; 19] = [
+static CASES: [Case; 24] = [
     // Other words are answered before the source is read.
     (&[], NODE, NONE, NONE, ROOM, Words, b"", 0, 0),
     (&["--help"], NODE, NONE, NONE, ROOM, Words, b"", 0, 0),
     (&["Sim"], NODE, NONE, NONE, ROOM, Words, b"", 0, 0),
     (&["sim", "sim"], NODE, NONE, NONE, ROOM, Words, b"", 0, 0),
     (&["sim", ""], NODE, &[0], NONE, ROOM, Words, b"", 0, 0),
+    (&["gen"], NODE, NONE, NONE, ROOM, Words, b"", 0, 0),
+    (&["gen", "0"], NODE, NONE, NONE, ROOM, Words, b"", 0, 0),
+    (&["gen", "501"], NODE, NONE, NONE, ROOM, Words, b"", 0, 0),
+    (&["gen", "020"], NODE, NONE, NONE, ROOM, Words, b"", 0, 0),
+    (&["gen", "20", "20"], NODE, NONE, NONE, ROOM, Words, b"", 0, 0),
     // The first read, the one that would find the end, and nothing is read after a fault.
     (SIM, NODE, &[0], NONE, ROOM, ReadFault, b"", 1, 0),
     (SIM, NODE, &[1], NONE, ROOM, ReadFault, b"", 2, 0),

@@ -3,9 +3,9 @@
 ghost use Rattle.std.specs.Prelude.{IfSome};
 ghost use Rattle.csp_scene.specs.Ranges.{IsScene};
 
-use csp_base::Prio;
+use csp_base::{Prio, Tag};
 use csp_buffer::Memory;
-use csp_log::Event::{Discarded, Opened, Refused, Sent, Took};
+use csp_log::Event::{Discarded, Handed, Opened, Refused, Sent, Took};
 use csp_log::{Answer, Discard, Draft, Event, Events, Item, Log, Note, Op, Place, QueueId, Why};
 use csp_record::{HeldBy, PartyLog, Record, Who};
 use csp_report::report;
@@ -93,9 +93,11 @@ enum Deed {
 
 /// The turns of a router: openings on two slots, one of them twice, with payloads sent on them; and the like of
 /// another application. Between them it was asked to start again and to stop. The last payload's event tells
-/// another ordinal than the slot has by its Closed answers.
+/// another ordinal than the slot has by its Closed answers. At the end packets were handed to connections: without a
+/// tag, to one that has a peer and to one that has none; with the tag of another flow than the peer's; and with the
+/// peer's own.
 #[rattlefmt::skip]
-const ROUTER: [(Deed, &[Event]); 14] = [
+const ROUTER: [(Deed, &[Event]); 15] = [
     (Deed::Rested, &[Opened { app: 0, slot: 1, nth: None, peer: None }]),
     (Deed::Popped(QueueId::Up(0), &[0xC0, 0xDB]), &[Sent { slot: 1, ordinal: 0 }]),
     (Deed::Rested, &[Opened { app: 0, slot: 0, nth: Some(3), peer: Some((1, 7)) }, Opened { app: 1, slot: 0, nth: None, peer: None }]),
@@ -110,6 +112,9 @@ const ROUTER: [(Deed, &[Event]); 14] = [
     (Deed::Popped(QueueId::Up(0), &[3]), &[Sent { slot: 0, ordinal: 5 }]),
     (Deed::Rested, &[Opened { app: 0, slot: 3, nth: Some(5), peer: Some((2, 0)) }]),
     (Deed::Rested, &[Event::Shutdown, Discarded(Discard::Full), Event::Reboot]),
+    (Deed::Rested, &[Handed { nth: 3, peer: Some((1, 7)), tag: None, cur: 0, una: 1 }, Handed { nth: 4, peer: None, tag: None, cur: 0, una: 1 },
+      Handed { nth: 3, peer: Some((1, 7)), tag: Some(Tag { node: 1, nth: 8, index: 1, ack: 0 }), cur: 0, una: 1 },
+      Handed { nth: 3, peer: Some((1, 7)), tag: Some(Tag { node: 1, nth: 7, index: 1, ack: 0 }), cur: 0, una: 1 }]),
 ];
 
 /// The turns of the application: what it took, before and after it heard that a slot is free again.
@@ -124,7 +129,7 @@ const TAKER: [(Deed, &[Event]); 5] = [
 
 /// The report of a record with those turns.
 const TALKED: &str =
-    "csp-report 1\nend finished 7\nnode n1 1 buffers 11 free 1 inbox 3 lane 3 router 1 iface 1 app 2\nnode n2 2 buffers 4 free 4 inbox 0 lane 0 router 0 iface 0 app 0\nrouter n1 noroute 0 backout 0 refused 0 crc 0 nosocket 0 noslot 0 required 0 malformed 0 mixed 0 noconn 0 stray 0 full 1\nrouter n2 noroute 4 backout 1 refused 2 crc 3 nosocket 1 noslot 1 required 1 malformed 1 mixed 1 noconn 1 stray 2 full 1\nevent n1 reboot 6\nevent n1 shutdown 13\nevent n1 reboot 13\nevent n2 shutdown 5\napp n1 a ended\nconn n1 a 0 0 rdp 3 peer n2 7\nsent n1 a 0 0 1 -\ntook n1 a 0 0 1 08\nconn n1 a 0 1 rdp 4 peer none\nsent n1 a 0 1 1 0102\nsent n1 a 0 1 2 03\ntook n1 a 0 1 1 09\nconn n1 a 1 0 plain\nsent n1 a 1 0 1 c0db\ntook n1 a 1 0 1 ff\nconn n1 a 3 0 rdp 5 peer none\nstale 0\npassed 0\n";
+    "csp-report 1\nend finished 7\nnode n1 1 buffers 11 free 1 inbox 3 lane 3 router 1 iface 1 app 2\nnode n2 2 buffers 4 free 4 inbox 0 lane 0 router 0 iface 0 app 0\nrouter n1 noroute 0 backout 0 refused 0 crc 0 nosocket 0 noslot 0 required 0 malformed 0 mixed 0 noconn 0 stray 0 full 1\nrouter n2 noroute 4 backout 1 refused 2 crc 3 nosocket 1 noslot 1 required 1 malformed 1 mixed 1 noconn 1 stray 2 full 1\nevent n1 reboot 6\nevent n1 shutdown 13\nevent n1 reboot 13\nevent n2 shutdown 5\napp n1 a ended\nconn n1 a 0 0 rdp 3 peer n2 7\nsent n1 a 0 0 1 -\ntook n1 a 0 0 1 08\nconn n1 a 0 1 rdp 4 peer none\nsent n1 a 0 1 1 0102\nsent n1 a 0 1 2 03\ntook n1 a 0 1 1 09\nconn n1 a 1 0 plain\nsent n1 a 1 0 1 c0db\ntook n1 a 1 0 1 ff\nconn n1 a 3 0 rdp 5 peer none\nstale 2\npassed 0\n";
 
 /// Notes that the router told an application that a slot is free again.
 fn draft_freed(draft: &mut Draft, queue: QueueId, slot: u8) {

@@ -5,7 +5,7 @@ use csp_top::{say, sim_main};
 use std::alloc::{AllocError, Global};
 
 /// Room for what a scenario prints.
-const ROOM: usize = 65_536;
+const ROOM: usize = 262_144;
 
 /// Whether a scenario printed what it should.
 #[derive(Clone, Copy, PartialEq, Eq, Debug)]

@@ -2,3 +2,4 @@ pub mod Main
 pub mod Statuses
 pub mod Said
 pub mod Words
+pub mod Gen

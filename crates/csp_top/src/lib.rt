@@ -3,6 +3,7 @@
 #![tactic(auto)]
 
 mod command;
+mod generation;
 mod saying;
 mod simulation;
 mod status;

@@ -67,7 +67,7 @@ fn read_status(error: ReadError) -> Status
 
 /// Why a text has no report.
 #[derive(Clone, Copy, PartialEq, Eq, Debug)]
-enum Refusal {
+pub(crate) enum Refusal {
     /// Memory was wanting.
     NoMemory,
     /// The text is refused at this line.
@@ -78,7 +78,7 @@ enum Refusal {
 
 impl Refusal {
     /// What the program answers then.
-    fn status(self) -> Status
+    pub(crate) fn status(self) -> Status
         ensures { result ≡ status_of self }
     {
         match self {
@@ -93,7 +93,7 @@ impl Refusal {
 }
 
 /// The report of a text: of the run of the scene that it states.
-fn report_of(alloc: Global, text: &[u8]) -> Result<Vec<u8>, Refusal>
+pub(crate) fn report_of(alloc: Global, text: &[u8]) -> Result<Vec<u8>, Refusal>
     requires { length text.now ≤ MAX_SCENARIO }
     ensures report { IfOk result (λ bytes. IsReportOf text.now bytes.items) }
     ensures places { IfOk result (λ bytes. PlacesAddUp bytes.items) }

@@ -17,15 +17,15 @@ pub enum LimitKind {
 /// How a call of the program ends. The exit statuses are 0 to 6 in the order of the variants.
 #[derive(Clone, Copy, PartialEq, Eq, Debug)]
 pub enum Status {
-    /// The source was read to its end and the whole report was written.
+    /// The source was read to its end, for `gen` not at all, and the whole report or summary was written.
     Done,
     /// Memory was wanting. Nothing was written.
     NoMemory,
     /// The words are not a command. Nothing was read.
     Words,
-    /// The source counted a fault. Nothing was written.
+    /// The source counted a fault, which it can't for `gen`. Nothing was written.
     ReadFault,
-    /// The sink counted a fault. A prefix of the report was written.
+    /// The sink counted a fault. A prefix of the report or summary was written.
     WriteFault,
     /// The scenario is refused: its first refused line, from 1, and what is wrong with it.
     Scene {

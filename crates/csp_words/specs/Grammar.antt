@@ -1,14 +1,36 @@
 -- the grammar of the command line
-use Rattle.std.specs.Prelude.{ℕ, ◌&&◌, Bool, true, false, if◌then◌else◌, List, [], ◌∷◌, Result, Ok, Err, codes}
+use Rattle.std.specs.Prelude.{ℕ, ◌≡◌, ◌≤◌, ◌&&◌, Bool, true, false, if◌then◌else◌, List, [], ◌∷◌, map, Result, Ok, Err, codes}
+use Rattle.std.specs.Fmt.{decimal}
+use Rattle.std.specs.List.{range_with_len}
 use Rattle.std.specs.Str.{bytes_eq}
+use Rattle.csp_gen.specs.declared.scenario.TheConstants.{MAX_PACKETS}
 use Rattle.csp_words.specs.declared.grammar.Command.{Command}
-use Rattle.csp_words.specs.declared.grammar.Command.TheVariants.{Sim}
+use Rattle.csp_words.specs.declared.grammar.Command.TheVariants.{Sim, Gen}
 use Rattle.csp_words.specs.declared.grammar.WordsError.{WordsError}
 use Rattle.csp_words.specs.declared.grammar.WordsError.TheVariants.{Grammar}
 
--- the rows of the grammar: words, and the command that they name
-abbrev pub rows : List (List (List ℕ) × Command)
-rows = (codes "sim" ∷ [], Sim) ∷ []
+-- a row of the grammar: words, and the command that they name
+abbrev pub Row : Type 0
+Row = List (List ℕ) × Command
+
+-- `sim`
+abbrev pub sim_row : Row
+sim_row = (codes "sim" ∷ [], Sim)
+
+-- `gen N`, N in decimal digits
+abbrev pub gen_words : ℕ → List (List ℕ)
+gen_words packets = codes "gen" ∷ decimal packets ∷ []
+
+abbrev pub gen_row : ℕ → Row
+gen_row packets = (gen_words packets, Gen packets)
+
+-- N from 1 to the most
+unfoldable pub gen_rows : List Row
+gen_rows = map gen_row (range_with_len 1 MAX_PACKETS)
+
+-- the rows of the grammar
+abbrev pub rows : List Row
+rows = sim_row ∷ gen_rows
 
 -- words are those of a row, neither more nor fewer
 abbrev pub are_words : List (List ℕ) → List (List ℕ) → Bool
@@ -18,10 +40,16 @@ are_words (a ∷ words) [] = false
 are_words (a ∷ words) (b ∷ others) = bytes_eq a b && are_words words others
 
 -- the command of the first row with these words
-abbrev pub found_in : List (List (List ℕ) × Command) → List (List ℕ) → Result Command WordsError
+abbrev pub found_in : List Row → List (List ℕ) → Result Command WordsError
 found_in [] words = Err Grammar
 found_in (row ∷ more) words = if are_words words row.0 then Ok row.1 else found_in more words
 
 -- the command that words name
 abbrev pub command_of : List (List ℕ) → Result Command WordsError
 command_of words = found_in rows words
+
+-- words are `gen N` for this N, which is in its range
+pub record AreGen (packets : ℕ) (words : List (List ℕ)) : Type 0 where
+  pub least : 1 ≤ packets
+  pub most : packets ≤ MAX_PACKETS
+  pub words_are : words ≡ gen_words packets

@@ -7,6 +7,11 @@ use thiserror::Error;
 pub enum Command {
     /// To run a scenario by its schedule: `sim`.
     Sim,
+    /// To make a scenario, run it and sum its report up: `gen N`.
+    Gen {
+        /// How many packets it sends, 1 to `csp_gen::MAX_PACKETS`.
+        packets: u32,
+    },
 }
 
 /// Why words are no command.

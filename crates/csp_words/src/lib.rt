@@ -1,4 +1,5 @@
-//! The words of the command line, a small exact grammar: the only command is the one word `sim`.
+//! The words of the command line, a small exact grammar: `sim`, and `gen N` with N from 1 to the most packets
+//! of a generated scenario.
 #![tactic(auto)]
 
 mod grammar;

@@ -1,22 +1,14 @@
-use Rattle.std.proofs.Common.{◌≡◌, ◌∷◌, [], ℕ, List, codes, ap, sym, refl, ◌∙◌, arith}
-use Rattle.std.proofs.lemmas.Slice.Eq.{bytes_eq-Decides}
+use Rattle.std.proofs.Common.{map, ap, sym, ◌∙◌}
 use Rattle.std.specs.String.{string_bytes}
-use Rattle.csp_words.proofs.Rows.{longer, only}
+use Rattle.csp_words.specs.Grammar.{command_of}
+use Rattle.csp_words.proofs.Rows.{of_sim, of_gen, to_gen, of_none, to_none}
 use Rattle.csp_words.proofs.words.command.Goals as goal
 
-pub returns-in-len1-clause-sim : goal.returns-in-len1-clause-sim
-returns-in-len1-clause-sim c =
-    let one = only string_bytes c.args.words.now c.word-item.result (omega arith) (omega arith) c.word-item.is in
-    let text : c.as_str.result.now ≡ codes "sim" = (bytes_eq-Decides c.as_str.result.now (codes "sim")).0 (sym c.eq.ensures ∙ c.if-eq.true) in
-    let all = one ∙ ap (λ (x : List ℕ). x ∷ []) (sym c.as_str.ensures.value ∙ text) in
-    (λ _. all, λ _. refl)
+pub returns-clause-sim : goal.returns-clause-sim
+returns-clause-sim c = (λ e. of_sim (map string_bytes c.args.words.now) (sym c.named.ensures ∙ e), λ e. c.named.ensures ∙ ap command_of e)
 
-pub returns-in-len1-clause-refused : goal.returns-in-len1-clause-refused
-returns-in-len1-clause-refused c =
-    let one = only string_bytes c.args.words.now c.word-item.result (omega arith) (omega arith) c.word-item.is in
-    let text : c.as_str.result.now ≡ codes "sim" = (bytes_eq-Decides c.as_str.result.now (codes "sim")).0 (sym c.eq.ensures ∙ c.if-eq.true) in
-    let all = one ∙ ap (λ (x : List ℕ). x ∷ []) (sym c.as_str.ensures.value ∙ text) in
-    (λ h _. cc, λ h. absurd (h all))
+pub returns-clause-generated : goal.returns-clause-generated
+returns-clause-generated c packets = (λ e. of_gen packets (map string_bytes c.args.words.now) (sym c.named.ensures ∙ e), λ are. c.named.ensures ∙ to_gen packets (map string_bytes c.args.words.now) are)
 
-pub returns-in_default-3-clause-value : goal.returns-in_default-3-clause-value
-returns-in_default-3-clause-value c = longer string_bytes c.args.words.now (omega arith)
+pub returns-clause-refused : goal.returns-clause-refused
+returns-clause-refused c = (λ e. to_none (map string_bytes c.args.words.now) (sym c.named.ensures ∙ e), λ no. c.named.ensures ∙ of_none (map string_bytes c.args.words.now) no.0 no.1)
