@@ -62,6 +62,22 @@ for scenario in "$here"/scenarios/*.scn; do
   compare "$(basename "$scenario")" 0
 done
 
+# 0: generated scenarios: the summary of 20 packets, whose frame 32 is lost; standard input is not looked at.
+printf '%s\n' 'csp-gen 20' 'end finished 166' \
+  'node ground 1 buffers 32 free 30 inbox 0 lane 0 router 2 iface 0 app 0' \
+  'node relay 2 buffers 32 free 32 inbox 0 lane 0 router 0 iface 0 app 0' \
+  'node payload 3 buffers 32 free 32 inbox 0 lane 0 router 0 iface 0 app 0' \
+  'took 20' 'stale 0' 'passed 0' > "$work/wanted_out"
+cp "$work/nothing" "$work/wanted_said"
+"$program" gen 20 <&- > "$work/out" 2> "$work/said"
+got=$?
+compare 'gen 20' 0
+"$program" gen 500 < "$work/nothing" > "$work/wanted_out" 2> "$work/said"
+"$program" gen 500 < "$work/nothing" > "$work/out" 2> "$work/said"
+got=$?
+grep -qx 'took 500' "$work/out" || echo 'took 500 is wanted' > "$work/said"
+compare 'gen 500, a second time' 0
+
 # 0 and 5: the longest texts, of a line feed for each byte.
 printf 'csp-report 1\nend finished 0\nstale 0\npassed 0\n' > "$work/wanted_out"
 cp "$work/nothing" "$work/wanted_said"
@@ -83,6 +99,10 @@ compare 'a run in 24 MiB' 1
 cp "$here/scenarios/one_node.scn" "$work/in"
 refused 'no words' 2 'cspsim: bad words'
 refused 'sim x' 2 'cspsim: bad words' sim x
+refused 'gen alone' 2 'cspsim: bad words' gen
+refused 'gen 0' 2 'cspsim: bad words' gen 0
+refused 'gen 501' 2 'cspsim: bad words' gen 501
+refused 'gen 020' 2 'cspsim: bad words' gen 020
 refused '--help' 2 'cspsim: bad words' --help
 refused 'sim and an empty word' 2 'cspsim: bad words' sim ''
 refused 'a word that is not UTF-8' 2 'cspsim: bad words' $'\xff'
