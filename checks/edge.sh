@@ -62,6 +62,21 @@ for scenario in "$here"/scenarios/*.scn; do
   compare "$(basename "$scenario")" 0
 done
 
+# 0: the change that the README makes to the mission: nobody waits at the port, so the connection is not made.
+sed 's/^bind 10 rdp/bind 11 rdp/' "$here/scenarios/mission.scn" > "$work/in"
+printf '%s\n' 'end unfinished 20000' \
+  'node ground 1 buffers 32 free 32 inbox 0 lane 0 router 0 iface 0 app 0' \
+  'node relay 2 buffers 32 free 32 inbox 0 lane 0 router 0 iface 0 app 0' \
+  'node payload 3 buffers 32 free 32 inbox 0 lane 0 router 0 iface 0 app 0' \
+  'router ground noroute 0 backout 0 refused 0 crc 0 nosocket 0 noslot 0 required 0 malformed 0 mixed 0 noconn 200 stray 0 full 0' \
+  'router payload noroute 0 backout 0 refused 0 crc 0 nosocket 9 noslot 0 required 0 malformed 0 mixed 0 noconn 0 stray 0 full 0' \
+  'app ground ops ended' 'refused ground ops 7 timeout' 'app payload cam step 2' > "$work/wanted_out"
+cp "$work/nothing" "$work/wanted_said"
+"$program" sim < "$work/in" > "$work/report" 2> "$work/said"
+got=$?
+grep -xFf "$work/wanted_out" "$work/report" > "$work/out"
+compare 'the mission with another port' 0
+
 # 0: generated scenarios: the summary of 20 packets, whose frame 32 is lost; standard input is not looked at.
 printf '%s\n' 'csp-gen 20' 'end finished 166' \
   'node ground 1 buffers 32 free 30 inbox 0 lane 0 router 2 iface 0 app 0' \
