@@ -177,6 +177,21 @@ no-useless r e = right-empty (loose_buffers r.send) (useless_buffers r.state r.r
 pub drained-loose : (r : PlainRdp) → unneeded r ≡ [] → loose_buffer r.send ≡ None
 drained-loose r e = ap (option_map (λ p. p.buffer)) (none-loose r.send.packets (no-loose r e))
 
+still-kept : (s : State) (ks : List Kept) (r : PlainRdp) → find is_loose r.send.packets ≡ None → useless_buffers s (at s ks r).recv ≡ [] → rested (at s ks r) ≡ at s ks r
+still-kept Open ks r e none = same-part (at Open ks r) e
+still-kept SynSent [] r e none = same-part (at SynSent [] r) e
+still-kept SynSent (k ∷ ks) r e none = cc
+still-kept SynRcvd [] r e none = same-part (at SynRcvd [] r) e
+still-kept SynRcvd (k ∷ ks) r e none = cc
+still-kept CloseWait [] r e none = same-part (at CloseWait [] r) e
+still-kept CloseWait (k ∷ ks) r e none = cc
+still-kept Closed [] r e none = same-part (at Closed [] r) e
+still-kept Closed (k ∷ ks) r e none = cc
+
+-- what holds nothing without need is what it would be without that
+pub rested-still : (r : PlainRdp) → unneeded r ≡ [] → rested r ≡ r
+rested-still r e = still-kept r.state r.recv.kept r (none-loose r.send.packets (no-loose r e)) (no-useless r e)
+
 useless-rested : (s : State) (w : PlainRecv) → useless_buffers s (recv_rested s w) ≡ []
 useless-rested SynSent w = refl
 useless-rested SynRcvd w = refl

@@ -64,6 +64,7 @@ pub fn keeps_count()
 pub fn keeps_rest()
     ensures rested { (r : PlainRdp) → unneeded (rested r) ≡ [] }
     ensures again { (r : PlainRdp) → rested (rested r) ≡ rested r }
+    ensures still { (r : PlainRdp) → unneeded r ≡ [] → rested r ≡ r }
     ensures loose { (r : PlainRdp) → unneeded r ≡ [] → loose_buffer r.send ≡ None }
     ensures admitted { (b : PlainBuffer) (time : ℕ) (r : PlainRdp) → unneeded r ≡ [] → unneeded (admitting b time r) ≡ [] }
     ensures sent { (j : Job) (time : ℕ) (r : PlainRdp) → unneeded r ≡ [] → unneeded (sent j time r) ≡ [] }

@@ -16,6 +16,7 @@ ghost use Rattle.csp_rdp_header.specs.Numbers.{is_malformed};
 ghost use Rattle.csp_rdp_window.specs.Numbers.{left_over, number_in, times, with_payload};
 ghost use Rattle.csp_rdp_window.specs.Receiving.{index_in, is_awaited, is_kept};
 ghost use Rattle.csp_rdp_window.specs.Sending.{acknowledges, due_index, is_full, loose_buffer, opening_send, packet_at, payload_at, with_mark};
+ghost use Rattle.csp_rdp_window.specs.Times.{has_passed};
 
 use crate::answers::change_between;
 use crate::jobs::Owed;
@@ -255,6 +256,14 @@ impl Rdp {
         ensures holds { (k : ℕ) → times k (rdp_numbers self.new) ≡ times k (rdp_numbers self.old) + times k (buffer.picture.number ∷ []) }
     {
         self.recv.put_back(buffer);
+    }
+
+    /// Whether its timer has passed. Where it has not, trying it changes nothing.
+    pub fn is_late(&self, now: u64) -> bool
+        ensures late { result ≡ has_passed (Some self.now.since) self.now.options.conn_timeout now }
+        ensures rest { result ≡ false → ticked now self.now ≡ self.now }
+    {
+        has_passed(Some(self.since), self.options.conn_timeout, now)
     }
 
     /// Tries the timer.
