@@ -60,6 +60,13 @@ impl Draft {
         }
     }
 
+    /// Notes a look into a queue, with the answer that it is empty.
+    pub fn look(&mut self, queue: QueueId)
+        ensures { self.new ≡ drafted (OpShown.Pop queue) }
+    {
+        self.note(Deed::FoundEmpty(queue));
+    }
+
     /// Notes an operation that carries nothing.
     fn note(&mut self, deed: Deed)
         requires { IsDeedLong 0 deed }
@@ -70,7 +77,7 @@ impl Draft {
     }
 
     /// Notes that this buffer is given.
-    #[inline(never)]
+    #[inline(always)]
     fn give(&mut self, buffer: &Buffer)
         ensures { self.new ≡ drafted (OpShown.Give buffer.now.picture) }
     {
@@ -79,7 +86,7 @@ impl Draft {
     }
 
     /// Notes that this item is pushed.
-    #[inline(never)]
+    #[inline(always)]
     fn push(&mut self, queue: QueueId, item: &Item)
         ensures { self.new ≡ drafted (OpShown.Push queue (shown_item item.now)) }
     {
@@ -103,7 +110,7 @@ impl Draft {
     }
 
     /// Notes that this buffer was taken.
-    #[inline(never)]
+    #[inline(always)]
     fn take(&mut self, buffer: &Buffer)
         ensures { self.new ≡ record { op = OpShown.Take; answer = AnswerShown.Taken buffer.now.picture } }
     {
@@ -112,7 +119,7 @@ impl Draft {
     }
 
     /// Notes that this item was popped.
-    #[inline(never)]
+    #[inline(always)]
     fn pop(&mut self, item: &Item)
         requires asked { self.old ≡ drafted self.old.op }
         requires fits { Fits self.old.op (AnswerShown.Popped (shown_item item.now)) }
@@ -126,7 +133,7 @@ impl Draft {
 }
 
 /// What was handed in comes back.
-#[inline(never)]
+#[inline(always)]
 fn turn_back(deed: &mut Deed)
     ensures { deed.new ≡ turned_back deed.old }
 {
@@ -138,6 +145,7 @@ fn turn_back(deed: &mut Deed)
 }
 
 /// Takes in the payload of a packet, and tells what else it is.
+#[inline(always)]
 fn keep_packet(bytes: &mut Vec<u8>, buffer: &Buffer) -> PacketHead
     requires none { bytes.old.items ≡ [] }
     requires room { MAX_FRAME ≤ vec_capacity bytes.old }
@@ -154,6 +162,7 @@ fn keep_packet(bytes: &mut Vec<u8>, buffer: &Buffer) -> PacketHead
 }
 
 /// Takes in the bytes of an item, and tells what else it is.
+#[inline(always)]
 fn keep_item(bytes: &mut Vec<u8>, item: &Item) -> ItemHead
     requires none { bytes.old.items ≡ [] }
     requires room { MAX_FRAME ≤ vec_capacity bytes.old }

@@ -4,6 +4,7 @@ ghost use Rattle.std.specs.Prelude.{◌≡◌, ℕ, ◌+◌, ◌-◌, ◌*◌, �
 ghost use Rattle.std.specs.Option.{option_map};
 ghost use Rattle.csp_log.specs.Moving.{moved_in, moved_by};
 ghost use Rattle.csp_log.specs.Noting.{noted_in};
+ghost use Rattle.csp_log.specs.PlainDraft.{drafted};
 ghost use Rattle.csp_log.specs.PlainLog.{with_entry, entry_with, all_events};
 ghost use Rattle.csp_log.specs.Rows.{spoken_of, row_entry, op_of, answer_of, bytes_in, events_in, IsRowIn, Says};
 
@@ -12,10 +13,18 @@ use crate::draft::Draft;
 use crate::moved::read_moved;
 use crate::noted::read_noted;
 use crate::row::{Deed, Line, Row, What};
-use crate::{AnswerShown, Entry, Event, Events, MAX_EVENTS, Moved, Noted, OpShown};
+use crate::{AnswerShown, Entry, Event, Events, MAX_EVENTS, Moved, Noted, OpShown, QueueId};
 use csp_base::MAX_FRAME;
 use std::alloc::{AllocError, Global};
 use std::marker::Model;
+
+/// For how many lines, rows and bytes a log takes room at least, where it takes any: so many at a time that it is
+/// seldom moved.
+const FEWEST_LINES: usize = 16_384;
+
+const FEWEST_ROWS: usize = 2_048;
+
+const FEWEST_BYTES: usize = 262_144;
 
 /// The turns of a party, the oldest first. Contracts see it as a list of entries and a number, for
 /// how many more there is room.
@@ -85,9 +94,9 @@ impl Log {
             return Ok(());
         }
         let room = entries as usize;
-        self.lines.reserve(room)?;
-        self.rows.reserve(room)?;
-        self.bytes.reserve(room * MAX_FRAME)?;
+        make_room(&mut self.lines, room, FEWEST_LINES)?;
+        make_room(&mut self.rows, room, FEWEST_ROWS)?;
+        make_room(&mut self.bytes, room * MAX_FRAME, FEWEST_BYTES)?;
         self.events.reserve(room * MAX_EVENTS)?;
         self.spare = entries;
         Ok(())
@@ -153,6 +162,7 @@ impl Log {
 
     /// Appends the entry of a turn at this time: what was asked and answered, and what was told. It
     /// takes no memory.
+    #[inline(always)]
     pub fn append(&mut self, time: u64, draft: &Draft, told: &Events)
         requires room { 0 < self.old.spare }
         ensures { self.new ≡ with_entry self.old (entry_with time draft.now told.now.items) }
@@ -167,9 +177,36 @@ impl Log {
         self.lines.push_reserved(Line { time, what });
         self.spare -= 1;
     }
+
+    /// Appends the entry of a turn at this time that looked into a queue, which was empty, and told
+    /// nothing. It takes no memory.
+    pub fn append_empty(&mut self, time: u64, queue: QueueId)
+        requires room { 0 < self.old.spare }
+        ensures { self.new ≡ with_entry self.old (entry_with time (drafted (OpShown.Pop queue)) []) }
+    {
+        let Log { lines, spare, .. } = self;
+        let what = What::FoundEmpty(queue);
+        lines.push_reserved(Line { time, what });
+        *spare -= 1;
+    }
+}
+
+/// Makes room in a list for so many elements more, and for `fewest` of them where it has too little. A refusal changes
+/// nothing.
+fn make_room<T: Copy>(list: &mut Vec<T>, room: usize, fewest: usize) -> Result<(), AllocError>
+    ensures items { list.new.items ≡ list.old.items }
+    ensures len { vec_len list.new ≡ vec_len list.old }
+    ensures room { OnOk result (vec_len list.new + room ≤ vec_capacity list.new) }
+    ensures more { vec_capacity list.old ≤ vec_capacity list.new }
+{
+    if list.capacity() - list.len() < room {
+        list.reserve(room.max(fewest))?;
+    }
+    Ok(())
 }
 
 /// What the line of a turn says. It keeps a row of what the line can't say by itself.
+#[inline(always)]
 fn say(
     rows: &mut Vec<Row>,
     bytes: &mut Vec<u8>,
@@ -214,6 +251,7 @@ fn spoken(deed: &Deed, quiet: bool) -> Option<What>
 }
 
 /// Keeps what a turn carried and what it told, and gives the place of its row.
+#[inline(always)]
 fn keep_row(
     rows: &mut Vec<Row>,
     bytes: &mut Vec<u8>,
