@@ -38,6 +38,7 @@ impl Ports {
     pub fn bounds(&self)
         ensures { length (held self.now.ports) ≤ MAX_HELD }
     {
+        // Read for the checker alone, which then knows what is true of all ports.
         let _machines = &self.machines;
     }
 

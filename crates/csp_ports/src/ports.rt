@@ -165,6 +165,7 @@ impl Ports {
     pub(crate) fn whole(&self)
         ensures { AreWhole self.now.ports }
     {
+        // Read for the checker alone, which then knows what is true of all ports.
         let _machines = &self.machines;
     }
 

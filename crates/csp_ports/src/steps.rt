@@ -81,9 +81,14 @@ fn tick(machine: &mut Rdp, now: u64, trash: &mut Pile) -> Change
     sees_no_region();
     keeps_region();
     keeps_whole();
+    keeps_rest();
     conserves();
     // A closed connection has no timer, and holds nothing that it does not need.
     if machine.state() == State::Closed {
+        return Change::None;
+    }
+    // Nor does one whose timer has not passed.
+    if !machine.is_late(now) {
         return Change::None;
     }
     let change = machine.tick(now);
@@ -198,6 +203,7 @@ impl Ports {
     }
 
     /// What a change of a slot's connection comes to, which the application did not ask for.
+    #[inline(always)]
     pub(crate) fn change(
         &mut self,
         change: Change,
@@ -231,6 +237,7 @@ impl Ports {
     }
 
     /// That a slot's reliable connection is open is reported.
+    #[inline(never)]
     fn report_opening(&self, app: u8, slot: u8, report: &mut Events)
         requires there { IsThere self.now.ports.conns app slot }
         requires report { length report.old.items < MAX_EVENTS }
@@ -246,6 +253,7 @@ impl Ports {
     }
 
     /// The application that waited for its connection is told that it is open.
+    #[inline(never)]
     fn answer_connect(&mut self, app: u8, slot: u8)
         requires there { IsThere self.old.ports.conns app slot }
         ensures ports { self.new ≡ with_ports_at self.old (connected app slot self.old.ports) }
@@ -260,6 +268,7 @@ impl Ports {
 
     /// A connection that was asked for is refused: its slot is free, and the application that waited is told
     /// so.
+    #[inline(never)]
     fn refuse(&mut self, app: u8, slot: u8, why: MachineWhy, trash: &mut Pile)
         requires there { IsThere self.old.ports.conns app slot }
         requires roomy { IsRoomy 0 self.old trash.old }
@@ -281,6 +290,7 @@ impl Ports {
 
     /// A connection is closed: the application that asked for that is told so, and the slot of one that
     /// never was open is free.
+    #[inline(never)]
     fn answer_close(&mut self, app: u8, slot: u8, trash: &mut Pile)
         requires there { IsThere self.old.ports.conns app slot }
         requires roomy { IsRoomy 0 self.old trash.old }
