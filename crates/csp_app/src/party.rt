@@ -45,6 +45,11 @@ impl Party for App {
         self.told_now(answer, now, report)
     }
 
+    fn miss(&mut self, now: u64, report: &mut Events, _spares: &mut Spares) {
+        let _doing = &self.doing;
+        self.told_empty(now, report)
+    }
+
     fn ended(&self) -> bool {
         self.is_done()
     }

@@ -249,7 +249,7 @@ impl App {
     }
 
     #[tactic(auto, using(crate::proofs::Popping::empty_hears, crate::proofs::Popping::empty_comes))]
-    fn told_empty(&mut self, now: u64, report: &mut Events)
+    pub(crate) fn told_empty(&mut self, now: u64, report: &mut Events)
         requires fits { IsAnswerOf (uses self.old.app) (awaits self.old.app) AnswerShown.Empty }
         requires unwritten { report.old.items ≡ [] }
         ensures events { report.new.items ≡ events self.old.app now AnswerShown.Empty }

@@ -65,6 +65,17 @@ module _ {S : Type 0} (p : Steps S) where
         omega (arith, law k, kept.held k);
   }
 
+  -- the same, of a state and entries that are just these
+  pub IsKept-next : (holds : S → List ℕ) (opening s t : S) (es fs : List Entry) (time : ℕ) (a : AnswerShown)
+      → last_time 0 es ≤ time → p.has_ended s ≡ false → Fits (p.asks s time) a
+      → t ≡ p.tells (p.asked s time) time a
+      → fs ≡ es ++ entry_of time (p.asks s time) a (p.events (p.asked s time) time a) ∷ []
+      → ((k : ℕ) → times k (holds t) + times k (op_numbers (p.asks s time)) ≡ times k (holds s) + times k (answer_numbers a))
+      → IsKept p holds opening es s
+      → IsKept p holds opening fs t
+  IsKept-next holds opening s t es fs time a late goes_on fits reached logged law kept =
+      rw (logged, reached) (IsKept-push holds opening s es time a late goes_on fits (λ k. rw reached at (law k)) kept)
+
 -- the entry of a turn, of what it is made of
 pub entry_of-made : (time : ℕ) (o : OpShown) (a : AnswerShown) (events : List Event) (e : Entry) → e.time ≡ time → e.op ≡ o → e.answer ≡ a → e.events.items ≡ events → e ≡ entry_of time o a events
 entry_of-made time o a events e t u v w = rw (← t, ← u, ← v, ← w) refl

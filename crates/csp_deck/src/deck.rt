@@ -1,6 +1,6 @@
 //! What serves a party.
 
-ghost use Rattle.std.specs.Prelude.{◌≡◌, ℕ, ⊤, Option, IsSome, IfSome, IfErr, MatchOption, MatchResult};
+ghost use Rattle.std.specs.Prelude.{◌≡◌, ℕ, ⊤, Option, IsSome, IsTrue, false, IfSome, IfErr, MatchOption, MatchResult};
 ghost use Rattle.std.specs.List.{AllByRecursion};
 ghost use Rattle.csp_deck.specs.Carried.{IsCarriedIn, place_for, places_of, passed_over};
 ghost use Rattle.csp_deck.specs.Regions.{IsItemOf};
@@ -85,4 +85,17 @@ pub trait Deck {
         ensures of_it { IfSome result (λ i. IsItemOf (region self.old) i) }
         ensures rules { (q : QueueId) → rule self.new q ≡ rule self.old q }
         ensures region { region self.new ≡ region self.old };
+
+    /// Looks into a queue, and says whether it was empty. Where this does not say so, nothing was done.
+    fn misses(&mut self, queue: QueueId) -> bool
+        requires { IsSome (rule self.old queue) }
+        ensures answer { IsTrue result → answers self.old (OpShown.Pop queue) AnswerShown.Empty self.new }
+        ensures empty { IsTrue result → AllByRecursion (was_empty self.old self.new) (places_of queue) }
+        ensures rest { result ≡ false → self.new ≡ self.old }
+        ensures rules { (q : QueueId) → rule self.new q ≡ rule self.old q }
+        ensures region { region self.new ≡ region self.old }
+    {
+        let _queue = queue;
+        false
+    }
 }

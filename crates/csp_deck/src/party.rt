@@ -105,6 +105,27 @@ pub trait Party {
         // It holds besides what it was given.
         ensures holds { (k : ℕ) → times k (holds self.new) ≡ times k (holds self.old) + times k (answer_numbers (shown_answer answer)) };
 
+    /// Ends the turn of a look into a queue that was empty, as `told` does.
+    fn miss(&mut self, now: u64, report: &mut Events, spares: &mut Spares)
+        requires waiting { is_waiting self.old now }
+        requires fits { IsAnswerOf (uses self.old) (awaits self.old) AnswerShown.Empty }
+        requires early { now < 2 ^ 62 }
+        requires countable { count self.old < 2 ^ 32 - 1 }
+        requires unwritten { report.old.items ≡ [] }
+        requires stock { needs self.old ≤ spares.old }
+        ensures events { report.new.items ≡ events self.old now AnswerShown.Empty }
+        ensures state { self.new ≡ tells self.old now AnswerShown.Empty }
+        ensures ready { (later : ℕ) → now ≤ later → later < 2 ^ 62 → has_ended self.new ≡ false → is_ready self.new later }
+        ensures uses { (q : QueueId) → uses self.new q ≡ uses self.old q }
+        ensures region { region self.new ≡ region self.old }
+        ensures count { count self.new ≤ count self.old + 1 }
+        ensures needs { needs self.new ≡ needs self.old }
+        ensures stock { spares.old ≤ spares.new + needs self.old }
+        ensures holds { (k : ℕ) → times k (holds self.new) ≡ times k (holds self.old) }
+    {
+        self.told(Answer::Empty, now, report, spares)
+    }
+
     /// Whether it is done.
     fn ended(&self) -> bool
         ensures { result ≡ has_ended self.now };

@@ -1,6 +1,6 @@
 //! One turn of a party.
 
-ghost use Rattle.std.specs.Prelude.{◌≡◌, ℕ, suc, ◌+◌, ◌*◌, ◌^◌, ◌<◌, ◌≤◌, true, false, Some, length};
+ghost use Rattle.std.specs.Prelude.{◌≡◌, ℕ, suc, ◌+◌, ◌-◌, ◌*◌, ◌^◌, ◌<◌, ◌≤◌, true, false, Some, length};
 ghost use Rattle.csp_base.specs.declared.turns.Turn.{Turn};
 ghost use Rattle.csp_deck.specs.Carried.{IsCarriedIn};
 ghost use Rattle.csp_deck.specs.Regions.{IsOpOf, IsItemOf, IsAnswerFrom};
@@ -73,6 +73,88 @@ pub fn turn<P: Party, D: Deck>(
     // Read for the checker alone, which then knows that the log has fewer entries than its count can tell.
     let _room = log.len();
     let op = party.ask(now);
+    answer(party, deck, log, spares, desk, now, op)
+}
+
+/// Has the deck serve the operation that a party asked, tells the party the answer, and logs the turn.
+fn answer<P: Party, D: Deck>(
+    party: &mut P,
+    deck: &mut D,
+    log: &mut Log,
+    spares: &mut Spares,
+    desk: &mut Desk,
+    now: u64,
+    op: Op,
+) -> Turn
+    requires waiting { P.is_waiting party.old now }
+    requires awaits { P.awaits party.old ≡ kind_of (shown_op op) }
+    requires early { now < 2 ^ 62 }
+    requires room { 0 < log.old.spare }
+    requires countable { P.count party.old < 2 ^ 32 - 1 }
+    requires asked { CanServe (P.uses party.old) (shown_op op) }
+    requires served { (q : QueueId) (r : Rule) → P.uses party.old q ≡ Some r → D.rule deck.old q ≡ Some r }
+    requires of_it { IsOpOf (D.region deck.old) op }
+    requires region { P.region party.old ≡ D.region deck.old }
+    requires stock { P.needs party.old ≤ spares.old }
+    ensures went { (answer : AnswerShown)
+        × D.answers deck.old (shown_op op) answer deck.new
+        × Fits (shown_op op) answer
+        × HasCause (D.was_empty deck.old deck.new) (D.was_full deck.old deck.new) (shown_op op) answer
+        × (party.new ≡ P.tells party.old now answer)
+        × (log.new ≡ with_entry log.old (entry_of now (shown_op op) answer (P.events party.old now answer)))
+        × (result ≡ turn_of answer)
+        × ((k : ℕ) → times k (P.holds party.new) ≡ times k (P.holds party.old) + times k (answer_numbers answer)) }
+    ensures ready { (later : ℕ) → now ≤ later → later < 2 ^ 62 → P.has_ended party.new ≡ false → P.is_ready party.new later }
+    ensures counted { P.count party.new ≤ P.count party.old + 1 }
+    ensures uses { (q : QueueId) → P.uses party.new q ≡ P.uses party.old q }
+    ensures rules { (q : QueueId) → D.rule deck.new q ≡ D.rule deck.old q }
+    ensures region { (P.region party.new ≡ P.region party.old) × (D.region deck.new ≡ D.region deck.old) }
+    ensures needs { P.needs party.new ≡ P.needs party.old }
+    ensures stock { spares.old ≤ spares.new + P.needs party.old }
+{
+    match op {
+        Op::Pop(queue) => look(party, deck, log, spares, desk, now, queue),
+        op => carry(party, deck, log, spares, desk, now, op),
+    }
+}
+
+/// The same, for any operation.
+#[inline(never)]
+fn carry<P: Party, D: Deck>(
+    party: &mut P,
+    deck: &mut D,
+    log: &mut Log,
+    spares: &mut Spares,
+    desk: &mut Desk,
+    now: u64,
+    op: Op,
+) -> Turn
+    requires waiting { P.is_waiting party.old now }
+    requires awaits { P.awaits party.old ≡ kind_of (shown_op op) }
+    requires early { now < 2 ^ 62 }
+    requires room { 0 < log.old.spare }
+    requires countable { P.count party.old < 2 ^ 32 - 1 }
+    requires asked { CanServe (P.uses party.old) (shown_op op) }
+    requires served { (q : QueueId) (r : Rule) → P.uses party.old q ≡ Some r → D.rule deck.old q ≡ Some r }
+    requires of_it { IsOpOf (D.region deck.old) op }
+    requires region { P.region party.old ≡ D.region deck.old }
+    requires stock { P.needs party.old ≤ spares.old }
+    ensures went { (answer : AnswerShown)
+        × D.answers deck.old (shown_op op) answer deck.new
+        × Fits (shown_op op) answer
+        × HasCause (D.was_empty deck.old deck.new) (D.was_full deck.old deck.new) (shown_op op) answer
+        × (party.new ≡ P.tells party.old now answer)
+        × (log.new ≡ with_entry log.old (entry_of now (shown_op op) answer (P.events party.old now answer)))
+        × (result ≡ turn_of answer)
+        × ((k : ℕ) → times k (P.holds party.new) ≡ times k (P.holds party.old) + times k (answer_numbers answer)) }
+    ensures ready { (later : ℕ) → now ≤ later → later < 2 ^ 62 → P.has_ended party.new ≡ false → P.is_ready party.new later }
+    ensures counted { P.count party.new ≤ P.count party.old + 1 }
+    ensures uses { (q : QueueId) → P.uses party.new q ≡ P.uses party.old q }
+    ensures rules { (q : QueueId) → D.rule deck.new q ≡ D.rule deck.old q }
+    ensures region { (P.region party.new ≡ P.region party.old) × (D.region deck.new ≡ D.region deck.old) }
+    ensures needs { P.needs party.new ≡ P.needs party.old }
+    ensures stock { spares.old ≤ spares.new + P.needs party.old }
+{
     let Desk { draft, report } = desk;
     draft.ask(&op);
     let answer = serve(deck, op);
@@ -82,6 +164,93 @@ pub fn turn<P: Party, D: Deck>(
     party.told(answer, now, report, spares);
     log.append(now, draft, report);
     turn
+}
+
+/// The same, for a look into a queue: most find nothing, and needn't pay for what others carry.
+fn look<P: Party, D: Deck>(
+    party: &mut P,
+    deck: &mut D,
+    log: &mut Log,
+    spares: &mut Spares,
+    desk: &mut Desk,
+    now: u64,
+    queue: QueueId,
+) -> Turn
+    requires waiting { P.is_waiting party.old now }
+    requires awaits { P.awaits party.old ≡ kind_of (OpShown.Pop queue) }
+    requires early { now < 2 ^ 62 }
+    requires room { 0 < log.old.spare }
+    requires countable { P.count party.old < 2 ^ 32 - 1 }
+    requires asked { CanServe (P.uses party.old) (OpShown.Pop queue) }
+    requires served { (q : QueueId) (r : Rule) → P.uses party.old q ≡ Some r → D.rule deck.old q ≡ Some r }
+    requires region { P.region party.old ≡ D.region deck.old }
+    requires stock { P.needs party.old ≤ spares.old }
+    ensures went { (answer : AnswerShown)
+        × D.answers deck.old (OpShown.Pop queue) answer deck.new
+        × Fits (OpShown.Pop queue) answer
+        × HasCause (D.was_empty deck.old deck.new) (D.was_full deck.old deck.new) (OpShown.Pop queue) answer
+        × (party.new ≡ P.tells party.old now answer)
+        × (log.new ≡ with_entry log.old (entry_of now (OpShown.Pop queue) answer (P.events party.old now answer)))
+        × (result ≡ turn_of answer)
+        × ((k : ℕ) → times k (P.holds party.new) ≡ times k (P.holds party.old) + times k (answer_numbers answer)) }
+    ensures ready { (later : ℕ) → now ≤ later → later < 2 ^ 62 → P.has_ended party.new ≡ false → P.is_ready party.new later }
+    ensures counted { P.count party.new ≤ P.count party.old + 1 }
+    ensures uses { (q : QueueId) → P.uses party.new q ≡ P.uses party.old q }
+    ensures rules { (q : QueueId) → D.rule deck.new q ≡ D.rule deck.old q }
+    ensures region { (P.region party.new ≡ P.region party.old) × (D.region deck.new ≡ D.region deck.old) }
+    ensures needs { P.needs party.new ≡ P.needs party.old }
+    ensures stock { spares.old ≤ spares.new + P.needs party.old }
+{
+    if deck.misses(queue) {
+        miss(party, log, spares, desk, now, queue);
+        Turn::Idle
+    } else {
+        carry(party, deck, log, spares, desk, now, Op::Pop(queue))
+    }
+}
+
+/// Tells a party that the queue into which it looked was empty, and logs the turn.
+fn miss<P: Party>(
+    party: &mut P,
+    log: &mut Log,
+    spares: &mut Spares,
+    desk: &mut Desk,
+    now: u64,
+    queue: QueueId,
+)
+    requires waiting { P.is_waiting party.old now }
+    requires awaits { P.awaits party.old ≡ kind_of (OpShown.Pop queue) }
+    requires early { now < 2 ^ 62 }
+    requires room { 0 < log.old.spare }
+    requires countable { P.count party.old < 2 ^ 32 - 1 }
+    requires stock { P.needs party.old ≤ spares.old }
+    ensures party { party.new ≡ P.tells party.old now AnswerShown.Empty }
+    ensures log { log.new ≡ with_entry log.old (entry_of now (OpShown.Pop queue) AnswerShown.Empty (P.events party.old now AnswerShown.Empty)) }
+    ensures holds { (k : ℕ) → times k (P.holds party.new) ≡ times k (P.holds party.old) }
+    ensures ready { (later : ℕ) → now ≤ later → later < 2 ^ 62 → P.has_ended party.new ≡ false → P.is_ready party.new later }
+    ensures counted { P.count party.new ≤ P.count party.old + 1 }
+    ensures uses { (q : QueueId) → P.uses party.new q ≡ P.uses party.old q }
+    ensures region { P.region party.new ≡ P.region party.old }
+    ensures needs { P.needs party.new ≡ P.needs party.old }
+    ensures stock { spares.old ≤ spares.new + P.needs party.old }
+{
+    desk.report.clear();
+    party.miss(now, &mut desk.report, spares);
+    log_miss(log, desk, now, queue);
+}
+
+/// Logs a look into a queue that was empty, with what was reported of it.
+fn log_miss(log: &mut Log, desk: &mut Desk, time: u64, queue: QueueId)
+    requires { 0 < log.old.spare }
+    ensures { log.new ≡ with_entry log.old (entry_of time (OpShown.Pop queue) AnswerShown.Empty desk.old.report.items) }
+{
+    let Desk { draft, report } = desk;
+    if report.is_empty() {
+        log.append_empty(time, queue);
+    } else {
+        draft.look(queue);
+        log.append(time, draft, report);
+    }
 }
 
 /// Has the deck serve one operation.
@@ -115,7 +284,7 @@ fn serve<D: Deck>(deck: &mut D, op: Op) -> Answer
 }
 
 /// Has the deck put a buffer into the pool.
-#[inline(never)]
+#[inline]
 fn give<D: Deck>(deck: &mut D, buffer: Buffer) -> Answer
     requires { buffer.region ≡ D.region deck.old }
     ensures answers { D.answers deck.old (OpShown.Give buffer.picture) (shown_answer result) deck.new }
@@ -133,7 +302,7 @@ fn give<D: Deck>(deck: &mut D, buffer: Buffer) -> Answer
 }
 
 /// Has the deck append an item to a queue.
-#[inline(never)]
+#[inline]
 fn push<D: Deck>(deck: &mut D, queue: QueueId, item: Item) -> Answer
     requires carried { IsCarriedIn (D.rule deck.old queue) (shown_item item) }
     requires of_it { IsItemOf (D.region deck.old) item }

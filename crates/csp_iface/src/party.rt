@@ -47,6 +47,12 @@ impl Party for Iface {
         self.told_now(answer, now, report, spares)
     }
 
+    fn miss(&mut self, now: u64, report: &mut Events, spares: &mut Spares) {
+        // Read for the checker alone, which then knows what holds of the fields before the call below.
+        let _doing = &self.doing;
+        self.miss_now(now, report, spares)
+    }
+
     fn ended(&self) -> bool {
         false
     }

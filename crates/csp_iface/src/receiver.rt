@@ -76,6 +76,7 @@ impl Receiver {
 
     /// Reads on in the frame in hand until a packet is whole, which goes into `whole`, or the frame is
     /// used up. Gives how many pieces were refused.
+    #[inline(always)]
     pub fn read_on(&mut self, whole: &mut Option<Packet>, spares: &mut Spares) -> u32
         requires { whole.old ≡ None }
         ensures receiver { self.new ≡ (read_further self.old).receiver }

@@ -62,6 +62,7 @@ impl Stream {
     /// Reads on in the frame in hand until a packet is whole, which goes into `whole`, or the frame is
     /// used up. Gives how many pieces were refused.
     #[tactic(auto, unfolding(csp_kiss::specs::GoingOn::read_on))]
+    #[inline(always)]
     pub fn read_on(&mut self, whole: &mut Option<Packet>, spares: &mut Spares) -> u32
         requires { whole.old ≡ None }
         ensures state { let p = read_on self.old.reading self.old.rest in
@@ -79,6 +80,7 @@ impl Stream {
     }
 
     /// Reads on in a frame from this place on.
+    #[inline(never)]
     fn read_in(
         &mut self,
         frame: BoxedFrame,

@@ -46,8 +46,24 @@ impl Iface {
         }
     }
 
+    /// Ends a turn whose look into a queue found nothing.
+    pub(crate) fn miss_now(&mut self, now: u64, report: &mut Events, spares: &mut Spares)
+        requires fits { IsAnswerOf (uses self.old.iface) (awaits self.old.iface) AnswerShown.Empty }
+        requires unwritten { report.old.items ≡ [] }
+        ensures events { report.new.items ≡ events self.old.iface now AnswerShown.Empty }
+        ensures state { self.new ≡ with_iface self.old (tells self.old.iface now AnswerShown.Empty) }
+        ensures stock { spares.old ≤ spares.new }
+    {
+        self.told_empty(now);
+        let count = self.read_on(spares);
+        if count > 0 {
+            report.push(Event::Bad { count });
+        }
+    }
+
     /// Reads on in the frame in hand, but nothing while a packet is in hand. Gives how many pieces were
     /// refused.
+    #[inline(always)]
     fn read_on(&mut self, spares: &mut Spares) -> u32
         requires { self.old.iface.doing ≡ Plan.Rest }
         ensures state { self.new ≡ with_iface self.old (record self.old.iface { receiver = (read_after self.old.iface).receiver; whole = (read_after self.old.iface).whole }) }

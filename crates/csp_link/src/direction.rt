@@ -52,6 +52,7 @@ impl Direction {
     /// The operation of a turn, and what is to be kept in mind of it. A frame that is pushed leaves
     /// the direction.
     #[tactic(auto, using(crate::proofs::Due::due_inside, crate::proofs::Due::due_there, crate::proofs::Due::none_due))]
+    #[inline(always)]
     pub fn ask(&mut self, way: Way, now: u64) -> (Op, Doing)
         ensures op { shown_op result.0 ≡ op_of way (plan_in self.old now) }
         ensures doing { result.1 ≡ doing_of (plan_in self.old now) }

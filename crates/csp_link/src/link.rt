@@ -128,7 +128,7 @@ impl Link {
     }
 
     /// Nothing changes but that the other direction is next.
-    fn told_rest(&mut self)
+    pub(crate) fn told_rest(&mut self)
         ensures { self.new ≡ turned self.old }
     {
         self.way = self.way.other();

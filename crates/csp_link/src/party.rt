@@ -46,6 +46,10 @@ impl Party for Link {
         self.told_now(answer, now, spares)
     }
 
+    fn miss(&mut self, _now: u64, _report: &mut Events, _spares: &mut Spares) {
+        self.told_rest()
+    }
+
     fn ended(&self) -> bool {
         false
     }

@@ -1,5 +1,5 @@
 -- what a list deck answers, from what one of its queues answered
-use Rattle.std.proofs.Common.{◌≡◌, ℕ, suc, ◌<◌, ◌≤◌, ltb, Bool, true, false, List, [], ◌∷◌, ◌++◌, length, map, slice_get, slice_set, Option, Some, None, Result, Ok, Err, IsSome, IsSomeAnd, MatchOption, MatchResult, refl, sym, ap, ◌∙◌, arith}
+use Rattle.std.proofs.Common.{◌≡◌, ℕ, suc, ◌<◌, ◌≤◌, ltb, Bool, true, false, List, [], ◌∷◌, ◌++◌, length, map, slice_get, slice_set, Option, Some, None, Result, Ok, Err, IsSome, IsSomeAnd, MatchOption, MatchResult, IsTrue, not, nat_lt, refl, sym, ap, subst, ◌∙◌, arith}
 use Rattle.std.specs.List.{AllByRecursion}
 use Rattle.std.specs.Option.{option_map, option_and_then}
 use Rattle.std.proofs.lemmas.Bool.{lt-ltb, le-ltb}
@@ -184,6 +184,23 @@ module _ (d : PlainDeck) (exists : (p : Prio) → IsSome (queue_at d (place.Inbo
       let w = most_urgent_so (has_packet d Critical) (has_packet d High) (has_packet d Normal) refl refl refl in
       pops_so d queue.Inbox (places_before p) (places_after p) at q new (inbox_split p) w.0 w.1 (λ i c. of_priority p i q (ruled p refl) c) there e r fact
   pops_named l at q new r there e ruled fact = lane_pops l at q new refl (λ _. refl) refl there e r fact
+
+  -- the pop of a queue without items changes nothing
+  pub none_pops : (l : QueueId) (at : ℕ) (q : PlainQueue) → position_of d.shape (pops_at d l) ≡ Some at → slice_get d.queues at ≡ Some q
+      → ((p : Prio) → pops_at d l ≡ place.Inbox p → q.rule ≡ rule.Priority p) → q.items ≡ [] → PopsSo d l None d
+  none_pops l at q there e ruled h =
+      subst (λ (qs : List PlainQueue). PopsSo d l None (record d { queues = qs })) (unwritten d.queues at q e)
+      (pops_named l at q q None there e ruled (h, refl))
+
+-- a queue that hasn't items has none
+pub without_items : (q : PlainQueue) → IsTrue (not (has_items (Some q))) → q.items ≡ []
+without_items q h = by q.items h where
+  by : (items : List ItemShown) → IsTrue (not (nat_lt 0 (length items))) → items ≡ []
+  by [] h = refl
+  by (i ∷ items) h =
+      let more = lt-ltb 0 (length (i ∷ items)) (omega (arith)) in
+      let bad : false ≡ true = rw more at h in
+      cc
 
 -- the queue of a push carries the item
 lane_carries : (d : PlainDeck) (p : Place) (i : ItemShown) (at : ℕ) (q : PlainQueue) → position_of d.shape p ≡ Some at → slice_get d.queues at ≡ Some q → IsCarriedIn (option_map (λ q. q.rule) (queue_at d p)) i → IsCarried q.rule i

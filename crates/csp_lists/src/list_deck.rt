@@ -1,6 +1,6 @@
 //! A node's pool and queues as plain lists.
 
-ghost use Rattle.std.specs.Prelude.{◌≡◌, ◌+◌, ◌<◌, ◌≤◌, ◌++◌, length, map, slice_get, All, vec_len, vec_capacity, IfOk, IfErr, IfSome, IsSome};
+ghost use Rattle.std.specs.Prelude.{◌≡◌, ◌+◌, ◌<◌, ◌≤◌, ◌++◌, length, map, slice_get, All, vec_len, vec_capacity, IfOk, IfErr, IfSome, IsSome, IsTrue, None};
 ghost use Rattle.csp_deck.specs.Carried.{place_for};
 ghost use Rattle.csp_deck.specs.Regions.{IsItemOf};
 ghost use Rattle.csp_buffer.specs.Memory.{AreAllOf};
@@ -179,6 +179,15 @@ impl ListDeck {
         self.queues.pop(at)
     }
 
+    /// Whether a pop of this queue finds nothing.
+    pub fn is_empty_at(&self, queue: QueueId) -> bool
+        requires { IsSome (rule_of self.now.deck queue) }
+        ensures { IsTrue result → PopsSo self.now.deck queue None self.now.deck }
+    {
+        let at = self.shape.position(self.pops_at(queue));
+        !self.queues.has_items(at)
+    }
+
     /// Where a pop of this queue takes its item, if there is one.
     fn pops_at(&self, queue: QueueId) -> Place
         ensures { result ≡ pops_at self.now.deck queue }
@@ -250,6 +259,10 @@ impl Deck for ListDeck {
 
     fn pop(&mut self, queue: QueueId) -> Option<Item> {
         self.pop_from(queue)
+    }
+
+    fn misses(&mut self, queue: QueueId) -> bool {
+        self.is_empty_at(queue)
     }
 }
 

@@ -40,6 +40,7 @@ use Rattle.csp_nodes.specs.Serving.{answer_at, answer_there, answer_in, at_end, 
 use Rattle.csp_record.specs.Who.{node_of}
 use Rattle.csp_record.specs.declared.who.Who.{Who}
 use Rattle.csp_record.specs.declared.who.Who.TheVariants as who
+use Rattle.csp_nodes.proofs.SetLemmas.{set_same}
 
 -- the lists of these nodes as a party sees them
 abbrev pub seen : List DeckAt → List (List End) → Who → DecksAt
@@ -368,6 +369,13 @@ pops law nodes links w q n name d e (Some i) go at some so reg =
       rules = rules_stay law _ _ _ _ s;
       region = region_stays _ _ _ _ s;
     }
+
+-- a queue in which a pop finds nothing
+pub finds_none : KeepsRules → (nodes : List DeckAt) (links : List (List End)) (w : Who) (q : QueueId) (n : ℕ) (name : QueueId) (d : DeckAt)
+    → goes links w q ≡ Some (n, name) → slice_get nodes n ≡ Some d → IsSome (rule_in (decks_of nodes) links w q) → lists.PopsSo d.deck name None d.deck
+    → PopsSo (seen nodes links w) q None (seen nodes links w)
+finds_none law nodes links w q n name d go at some so =
+    subst (λ (ns : List DeckAt). PopsSo (seen nodes links w) q None (seen ns links w)) (set_same nodes n d at) (pops law nodes links w q n name d d None go at some so refl)
 
 -- the pool of the party's node
 pool_there : (links : List (List End)) (w : Who) (n : ℕ) → node_of w ≡ Some n → place_in links w place.Pool ≡ Some (n, place.Pool)

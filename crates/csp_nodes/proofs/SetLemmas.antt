@@ -33,3 +33,10 @@ sum_set f (z ∷ xs) (suc i) x y e =
     later _ _ (f z) _ _ _ _ (sum_by-cons f z (set xs i y)) (sum_by-cons f z xs) (sum_set f xs i x y e) where
       later : (a b z s t u v : ℕ) → a ≡ z + s → b ≡ z + t → s + u ≡ t + v → a + u ≡ b + v
       later a b z s t u v e f g = omega arith
+
+-- an element set to what it was
+pub set_same : {X : Type 0} (xs : List X) (i : ℕ) (x : X) → slice_get xs i ≡ Some x → set xs i x ≡ xs
+set_same [] zero x e = cc
+set_same [] (suc i) x e = cc
+set_same (z ∷ xs) zero x e = cc
+set_same (z ∷ xs) (suc i) x e = ap (λ ys. z ∷ ys) (set_same xs i x e)

@@ -166,7 +166,7 @@ impl Decks {
 }
 
 impl Decks {
-    ghost use Rattle.std.specs.Prelude.{IfSome, IfErr, IsSome};
+    ghost use Rattle.std.specs.Prelude.{IfSome, IfErr, IsSome, IsTrue, None};
     ghost use Rattle.std.specs.Option.{option_map};
     ghost use Rattle.csp_deck.specs.Carried.{IsCarriedIn};
     ghost use Rattle.csp_deck.specs.Regions.{IsItemOf};
@@ -241,6 +241,17 @@ impl Decks {
             None => unreachable!(),
         }
     }
+
+    fn is_empty_at(&self, queue: QueueId) -> bool
+        requires { IsSome (rule_at self.now queue) }
+        ensures { IsTrue result → PopsSo self.now queue None self.now }
+    {
+        keeps_shape();
+        match self.goes(queue) {
+            Some((node, name)) => self.nodes[node].is_empty_at(name),
+            None => unreachable!(),
+        }
+    }
 }
 
 impl Deck for Decks {
@@ -272,6 +283,10 @@ impl Deck for Decks {
 
     fn pop(&mut self, queue: QueueId) -> Option<Item> {
         self.pop_from(queue)
+    }
+
+    fn misses(&mut self, queue: QueueId) -> bool {
+        self.is_empty_at(queue)
     }
 }
 

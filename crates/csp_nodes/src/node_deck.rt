@@ -116,7 +116,7 @@ impl NodeDeck {
 }
 
 impl NodeDeck {
-    ghost use Rattle.std.specs.Prelude.{IfSome, IfErr, IsSome};
+    ghost use Rattle.std.specs.Prelude.{IfSome, IfErr, IsSome, IsTrue, None};
     ghost use Rattle.std.specs.Option.{option_map};
     ghost use Rattle.csp_deck.specs.Carried.{IsCarriedIn};
     ghost use Rattle.csp_deck.specs.Regions.{IsItemOf};
@@ -170,5 +170,13 @@ impl NodeDeck {
     {
         keeps_shape();
         self.deck.pop(queue)
+    }
+
+    /// Whether a pop of this queue finds nothing.
+    pub(crate) fn is_empty_at(&self, queue: QueueId) -> bool
+        requires { IsSome (rule_of self.now.deck queue) }
+        ensures { IsTrue result → PopsSo self.now.deck queue None self.now.deck }
+    {
+        self.deck.is_empty_at(queue)
     }
 }

@@ -77,6 +77,16 @@ impl Party for AnyParty {
         }
     }
 
+    fn miss(&mut self, now: u64, report: &mut Events, spares: &mut Spares) {
+        match self {
+            AnyParty::Router(router) => router.miss(now, report, spares),
+            AnyParty::Bridge(bridge) => bridge.miss(now, report, spares),
+            AnyParty::Iface(iface) => iface.miss(now, report, spares),
+            AnyParty::App(app) => app.miss(now, report, spares),
+            AnyParty::Link(link) => link.miss(now, report, spares),
+        }
+    }
+
     fn ended(&self) -> bool {
         match self {
             AnyParty::Router(router) => router.ended(),

@@ -44,6 +44,10 @@ answer_awaited f (plan.Make k slot j) (answer.Taken b) h = (refl, h)
 answer_awaited f (plan.Make k slot j) answer.NoBuffer h = (refl, tt)
 answer_awaited f d a h = absurd h
 
+-- what is an answer of a router as it is seen is one of it as it is
+pub seen_awaited : (inside seen : RouterAt) (a : AnswerShown) → inside ≡ seen → IsAnswerOf (rules_of seen.router.facts) (awaits_of seen.router) a → IsAnswerOf (rules_of inside.router.facts) (kind_of_plan inside.router.state.doing) a
+seen_awaited inside seen a e h = rw e h
+
 pub awaited : (inside seen : RouterAt) (a : AnswerShown) → inside ≡ seen → IsAnswerOf (rules_of seen.router.facts) (awaits_of seen.router) a → Awaits inside.router.facts inside.router.state.doing a
 awaited inside seen a e h = answer_awaited inside.router.facts inside.router.state.doing a (rw e h)
 

@@ -1,7 +1,7 @@
 //! The router takes turns.
 
 use crate::Stack;
-use crate::turn::{begin, finish};
+use crate::turn::{begin, finish, miss};
 use csp_deck::{Answer, Events, Op, Party, Spares};
 use csp_ports::counts;
 
@@ -42,6 +42,11 @@ impl Party for Stack {
     fn told(&mut self, answer: Answer, now: u64, report: &mut Events, _spares: &mut Spares) {
         counts();
         finish(&self.facts, &mut self.state, now, answer, report);
+    }
+
+    fn miss(&mut self, now: u64, report: &mut Events, _spares: &mut Spares) {
+        counts();
+        miss(&self.facts, &mut self.state, now, report);
     }
 
     fn ended(&self) -> bool {

@@ -4,7 +4,7 @@ ghost use Rattle.std.specs.Prelude.{◌≡◌, ◌≢◌, true, ℕ, ◌-◌, �
 ghost use Rattle.std.specs.Option.{option_map};
 ghost use Rattle.csp_conn.specs.PlainConns.{IsThere};
 ghost use Rattle.csp_deck.specs.Regions.{IsAnswerFrom, IsItemOf, IsOpOf};
-ghost use Rattle.csp_deck.specs.Step.{CanServe, IsCleared, answer_numbers, item_numbers, times};
+ghost use Rattle.csp_deck.specs.Step.{CanServe, IsAnswerOf, IsCleared, answer_numbers, item_numbers, times};
 ghost use Rattle.csp_log.specs.Pictures.{shown_answer, shown_item, shown_op};
 ghost use Rattle.csp_ports.specs.Counts.{AreFar, IsCountable};
 ghost use Rattle.csp_ports.specs.Held.{held};
@@ -14,7 +14,7 @@ ghost use Rattle.csp_ports.specs.Tasks.{next_task};
 ghost use Rattle.csp_rdp.specs.Jobs.{job_of};
 ghost use Rattle.csp_stack.specs.Comes.{ComesTo, IsFree, IsServing};
 ghost use Rattle.csp_stack.specs.Keeps.{Asks, Keeps};
-ghost use Rattle.csp_stack.specs.Party.{Awaits, HasPlace, IsClear, IsDelivering, IsFrom, IsSendable, IsSound, IsTimed, IsWaiting, rules_of};
+ghost use Rattle.csp_stack.specs.Party.{Awaits, HasPlace, IsClear, IsDelivering, IsFrom, IsSendable, IsSound, IsTimed, IsWaiting, kind_of_plan, rules_of};
 ghost use Rattle.csp_stack.specs.Readings.{buffer_in, is_pushed, item_in};
 ghost use Rattle.csp_stack.specs.Router.{at_rest, holds};
 ghost use Rattle.csp_stack.specs.Rules.{packet_in};
@@ -31,7 +31,7 @@ use crate::serving::serve;
 use crate::sources::{count_sources, past_app, past_inbox, past_jobs, source_in};
 use crate::state::State;
 use crate::{Plan, Source};
-use csp_deck::{Answer, Discard, Events, Item, Note, Op, QueueId};
+use csp_deck::{Answer, AnswerShown, Discard, Events, Item, Note, Op, QueueId};
 use csp_ports::{Owed, Task};
 use csp_rdp::Job;
 
@@ -64,7 +64,9 @@ fn begin_plan(facts: &Facts, state: &mut State, now: u64) -> Op
         state.doing = Plan::Give;
         return Op::Give(buffer);
     }
-    if let Some(packet) = state.out.take() {
+    if state.out.is_some()
+        && let Some(packet) = state.out.take()
+    {
         state.doing = Plan::Push(packet.queue, packet.buffer.payload().len() as u32);
         return packet.into_push();
     }
@@ -268,6 +270,43 @@ pub fn finish(facts: &Facts, state: &mut State, now: u64, answer: Answer, report
 {
     let doing = state.end_turn(report);
     finish_plan(facts, state, now, doing, answer, report);
+}
+
+/// Ends a turn that looked into a queue, which was empty.
+#[tactic(auto, using(crate::proofs::Resting::finished_sound))]
+pub fn miss(facts: &Facts, state: &mut State, now: u64, report: &mut Events)
+    requires sound { IsSound facts.now state.old.state }
+    requires fits { IsAnswerOf (rules_of facts.now) (kind_of_plan state.old.state.doing) AnswerShown.Empty }
+    requires waits { IsWaiting state.old.state.doing state.old.state now }
+    requires unwritten { report.old.items ≡ [] }
+    ensures told { ComesTo state.old state.new [] report.new.items (told_at facts.now state.old.state now AnswerShown.Empty) }
+    ensures sound { IsSound facts.now state.new.state }
+    ensures numbers { (k : ℕ) → times k (holds state.new.state) ≡ times k (holds state.old.state) }
+    ensures far { (n : ℕ) → AreFar n state.old.state.ports → AreFar (n + 1) state.new.state.ports }
+{
+    let doing = state.end_turn(report);
+    miss_plan(facts, state, now, doing, report);
+}
+
+/// Ends the turn that a plan was, where its queue was empty: nothing comes.
+#[tactic(auto, using(crate::proofs::Keeping::unchanged_keeps))]
+fn miss_plan(_facts: &Facts, state: &mut State, _now: u64, doing: Plan, report: &mut Events)
+    requires sound { IsSound _facts.now (record state.old.state { doing = doing; early = report.old.items }) }
+    requires fits { IsAnswerOf (rules_of _facts.now) (kind_of_plan doing) AnswerShown.Empty }
+    requires waits { IsWaiting doing state.old.state _now }
+    requires rests { at_rest state.old.state ≡ state.old.state }
+    ensures told { ComesTo state.old state.new report.old.items report.new.items (told_by doing _facts.now state.old.state _now AnswerShown.Empty) }
+    ensures sendable { IsSendable _facts.now state.new.state.out }
+    ensures keeps { Keeps (length _facts.now.ifaces) state.old.state state.new.state [] }
+    ensures room { length state.new.state.trash + length (held state.new.state.ports) ≤ TRASH_ROOM }
+{
+    // That the trash has room for all that the ports hold is a clause of this reading.
+    state.bounds();
+    match doing {
+        Plan::Hear | Plan::Serve(_) => {}
+        Plan::Rest | Plan::Give | Plan::Push(_, _) | Plan::Make(_, _, _) => unreachable!(),
+        Plan::Reply(_) | Plan::Tell(_, _) | Plan::Deliver(_, _) => unreachable!(),
+    }
 }
 
 /// Ends the turn that a plan was.

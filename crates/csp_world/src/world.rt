@@ -101,6 +101,7 @@ impl World {
     ///
     /// `Turn::Ended` where it had ended before: then nothing is done or logged. `Turn::Idle` where
     /// nothing was asked, or the pool or queue was empty or full.
+    #[inline(always)]
     pub fn step(&mut self, party: usize) -> Turn
         requires party { party < length self.old.plain.members }
         requires room { 0 < slice_index self.old.spares party }
