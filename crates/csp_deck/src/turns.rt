@@ -50,6 +50,9 @@ pub fn turn<P: Party, D: Deck>(
         × (result ≡ turn_of answer)
         × ((k : ℕ) → times k (P.holds party.new) + times k (op_numbers (P.asks party.old now)) ≡ times k (P.holds party.old) + times k (answer_numbers answer)) }
 
+    // What it asked is served by queues that it uses, and what it pushed is such as they carry.
+    ensures asked { P.has_ended party.old ≡ false → CanServe (P.uses party.old) (P.asks party.old now) }
+
     // It had what it handed over.
     ensures had { P.has_ended party.old ≡ false → (k : ℕ) → times k (op_numbers (P.asks party.old now)) ≤ times k (P.holds party.old) }
 

@@ -59,3 +59,6 @@ pub returns-clause-had : goal.returns-clause-had
 returns-clause-had g c = λ _ k.
     let before = rw c.ask-op.ensures.op at (c.ask-op.ensures.holds k) in
     omega (arith, before)
+
+pub returns-clause-asked : goal.returns-clause-asked
+returns-clause-asked g c = λ _. rw c.ask-op.ensures.op at c.ask-op.ensures.served
