@@ -9,3 +9,4 @@ pub mod Stated
 pub mod Scenes
 pub mod MoveCounts
 pub mod Moving
+pub mod NamesApart

@@ -245,7 +245,7 @@ finish_has d (Some until) scene e = by_demand (are_joined d.links 0 d.nodes) e
     by_demand true is = let same : whole ≡ scene = cc in subst (λ (one : PlainScene). length (moves_in one.schedule) ≤ move_count d) same (omega arith)
     by_demand false is = absurd (cc)
 
-unlined : {A B : Type 0} (P : B → Type 0) (count : ℕ) (told : Result A SceneKind) (next : A → Result B Refusal) (b : B) → ((a : A) → told ≡ Ok a → next a ≡ Ok b → P b) → in_line count told next ≡ Ok b → P b
+pub unlined : {A B : Type 0} (P : B → Type 0) (count : ℕ) (told : Result A SceneKind) (next : A → Result B Refusal) (b : B) → ((a : A) → told ≡ Ok a → next a ≡ Ok b → P b) → in_line count told next ≡ Ok b → P b
 unlined P count (Ok a) next b h e = h a refl e
 unlined P count (Err kind) next b h e = absurd (cc)
 

@@ -1,5 +1,5 @@
 -- Who has a name.
-use Rattle.std.specs.Prelude.{ℕ, ◌==◌, Bool, false, ◌&&◌, ◌||◌, List, map, Option, Some, None, is_some}
+use Rattle.std.specs.Prelude.{ℕ, ◌≡◌, ◌==◌, Bool, false, ◌&&◌, ◌||◌, List, map, slice_get, Option, Some, None, is_some}
 use Rattle.std.specs.List.{list_any, position}
 use Rattle.std.specs.Str.{bytes_eq}
 use Rattle.csp_scene.specs.Scene.{PlainApp, PlainNode, PlainLink}
@@ -51,3 +51,7 @@ has_addr addr (Some other) = other == addr
 abbrev pub is_addr_taken : Option ℕ → List PlainNode → Bool
 is_addr_taken None nodes = false
 is_addr_taken (Some addr) nodes = list_any (λ node. has_addr addr node.addr) nodes
+
+-- no two nodes have the same name
+abbrev pub AreNamedApart : List PlainNode → Type 0
+AreNamedApart nodes = (i j : ℕ) (n m : PlainNode) → slice_get nodes i ≡ Some n → slice_get nodes j ≡ Some m → n.name ≡ m.name → i ≡ j

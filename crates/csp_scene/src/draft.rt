@@ -1,11 +1,11 @@
 //! What the lines read so far state.
 
-ghost use Rattle.std.specs.Prelude.{◌≡◌, ◌≤◌, ◌+◌, map, Ok, Err, IfOk, OnOk, length};
+ghost use Rattle.std.specs.Prelude.{◌≡◌, ◌≤◌, ◌+◌, [], map, Ok, Err, IfOk, OnOk, length};
 ghost use Rattle.csp_scene.specs.Ranges.{IsScene};
 ghost use Rattle.csp_scene.specs.Links.{links_at};
 ghost use Rattle.csp_scene.specs.Draft.{no_draft};
 ghost use Rattle.csp_scene.specs.State.{state, is_joined, are_joined, finish};
-ghost use Rattle.csp_scene.specs.Kept.{IsDraft, Fits, FitsShape, Judged};
+ghost use Rattle.csp_scene.specs.Kept.{AreLinksAfter, IsDraft, Fits, FitsShape, Judged};
 
 use crate::arguments::number_at;
 use crate::faults::planned;
@@ -170,6 +170,7 @@ impl Draft {
         ensures value { IfOk result (λ scene. finish self ≡ Ok scene) }
         ensures kind { (kind : SceneKind) → result ≡ Err (LineError.Kind kind) → finish self ≡ Err kind }
         ensures kept { IfOk result IsScene }
+        ensures ends { IfOk result (λ scene. AreLinksAfter (length scene.nodes) [] scene.links) }
     {
         let Some(until) = self.until else {
             return Err(LineError::Kind(SceneKind::Missing));

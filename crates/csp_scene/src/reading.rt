@@ -1,10 +1,11 @@
 //! A text line by line.
 
-ghost use Rattle.std.specs.Prelude.{◌≡◌, ℕ, ◌≤◌, IfOk, length};
+ghost use Rattle.std.specs.Prelude.{◌≡◌, ℕ, ◌≤◌, [], IfOk, length};
 ghost use Rattle.csp_scene.specs.Scene.{moves_in};
 ghost use Rattle.csp_scene.specs.Ranges.{IsScene};
 ghost use Rattle.csp_scene.specs.Judge.{scene_of};
-ghost use Rattle.csp_scene.specs.Kept.{error_at};
+ghost use Rattle.csp_scene.specs.Kept.{AreLinksAfter, error_at};
+ghost use Rattle.csp_scene.specs.Naming.{AreNamedApart};
 ghost use Rattle.csp_scene.specs.declared.refusal.SceneKind.{SceneKind};
 
 use crate::draft::{Draft, LineError};
@@ -33,6 +34,8 @@ pub fn parse(alloc: Global, bytes: &[u8]) -> Result<Scene, SceneError>
     ensures scene { IfOk result (λ scene. scene_of bytes.now ≡ Ok scene) }
     ensures refused { (line : ℕ) (kind : SceneKind) → result ≡ Err (SceneError.Refused line kind) → scene_of bytes.now ≡ Err (record { line = line; kind = kind }) }
     ensures ranges { IfOk result IsScene }
+    ensures ends { IfOk result (λ scene. AreLinksAfter (length scene.nodes) [] scene.links) }
+    ensures apart { IfOk result (λ scene. AreNamedApart scene.nodes) }
     ensures moves { IfOk result (λ scene. length (moves_in scene.schedule) ≤ length bytes.now) }
 {
     let Ok(table) = all_rows(alloc) else {

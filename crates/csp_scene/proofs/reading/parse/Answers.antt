@@ -1,5 +1,6 @@
 use Rattle.csp_scene.proofs.Texts.{more_read, refused_read, done_read, missing_read, refused_from}
 use Rattle.csp_scene.proofs.MoveCounts.{scene_moves}
+use Rattle.csp_scene.proofs.NamesApart.{scene_apart}
 use Rattle.csp_scene.proofs.reading.parse.Goals as goal
 
 pub returns-in-Err-clause-refused : goal.returns-in-Err-clause-refused
@@ -18,6 +19,11 @@ loop-line-preserved c = record {
 pub returns-in-Ok-finish-clause-scene : goal.returns-in-Ok-finish-clause-scene
 returns-in-Ok-finish-clause-scene c =
     done_read _ _ _ _ c.in-Ok-finish.scene _ _ _ c.loop-line-test.false c.in-Ok-finish.ensures.value c.loop-line.invariant.read
+
+pub returns-in-Ok-finish-clause-apart : goal.returns-in-Ok-finish-clause-apart
+returns-in-Ok-finish-clause-apart c =
+    scene_apart c.args.bytes.now c.in-Ok-finish.scene
+    (done_read _ _ _ _ c.in-Ok-finish.scene _ _ _ c.loop-line-test.false c.in-Ok-finish.ensures.value c.loop-line.invariant.read)
 
 pub returns-in-Ok-finish-clause-moves : goal.returns-in-Ok-finish-clause-moves
 returns-in-Ok-finish-clause-moves c =
