@@ -1,0 +1,133 @@
+-- What crosses a link and its lanes keeps its trace.
+use Rattle.std.proofs.Common.{◌≡◌, ℕ, zero, suc, ◌+◌, ◌==◌, Bool, true, false, Option, Some, None, List, [], ◌∷◌, ◌++◌, replicate, slice_get, unwrap_or, sym, ap, subst, arith}
+use Rattle.std.specs.Prelude.{if◌then◌else◌}
+use Rattle.std.specs.List.{AllByRecursion}
+use Rattle.csp_base.specs.declared.traces.Trace.{Trace}
+use Rattle.csp_link.specs.Applied.{frames_popped, frames_pushed, made, made_from, popped_by, pushed_by}
+use Rattle.csp_link.specs.Copies.{copies_of, damaged}
+use Rattle.csp_link.specs.Fates.{Fates, fate_at, fates_of}
+use Rattle.csp_link.specs.PlainLink.{lane_of}
+use Rattle.csp_link.specs.Ways.{number, other, from_queue, to_queue}
+use Rattle.csp_link.specs.declared.fates.Fate.{Fate}
+use Rattle.csp_link.specs.declared.fault.Fault.{Fault}
+use Rattle.csp_link.specs.declared.way.Way.{Way}
+use Rattle.csp_log.specs.declared.entry.Entry.{Entry}
+use Rattle.csp_log.specs.declared.frame.Frame.{Frame}
+use Rattle.csp_log.specs.declared.places.Carries.{Carries}
+use Rattle.csp_log.specs.declared.places.End.{End}
+use Rattle.csp_log.specs.declared.places.QueueId.{QueueId}
+use Rattle.csp_log.specs.declared.places.QueueId.TheVariants as queue
+use Rattle.csp_log.specs.declared.shown.ItemShown.{ItemShown}
+use Rattle.csp_log.specs.declared.shown.ItemShown.TheVariants as item
+use Rattle.csp_log.specs.declared.shown.OpShown.{OpShown}
+use Rattle.csp_log.specs.declared.shown.OpShown.TheVariants as op
+use Rattle.csp_log.specs.declared.shown.AnswerShown.{AnswerShown}
+use Rattle.csp_log.specs.declared.shown.AnswerShown.TheVariants as answer
+use Rattle.csp_record.specs.Record.{PlainRecord}
+use Rattle.csp_scene.proofs.Lists.{AllByRecursion-append}
+use Rattle.csp_scene.specs.Scene.{PlainScene, PlainLink}
+use Rattle.csp_consistent.specs.Lanes.{PlainLane, IsInOrder, AreInOrder, end_lanes, lanes_on, link_lanes, lanes_from, lanes_of}
+use Rattle.csp_consistent.specs.Links.{IsPlanned}
+use Rattle.csp_consistent.specs.Reading.{entries_of, is_queue, put_by, got_by, puts, gets, left_in}
+use Rattle.csp_consistent.proofs.Each.{each_first, each_last, each_if, each_permuted}
+use Rattle.csp_consistent.proofs.Received.{IsFrameOf}
+
+-- the frames that a link popped
+popped_frame : (Q : Trace → Type 0) (b : Bool) (f : Frame) → AllByRecursion (IsFrameOf Q) (if b then item.Frame f ∷ [] else []) → AllByRecursion (λ g. Q g.trace) (if b then f ∷ [] else [])
+popped_frame Q true f all = all
+popped_frame Q false f all = tt
+
+popped_of : (Q : Trace → Type 0) (way : Way) (o : OpShown) (a : AnswerShown) → AllByRecursion (IsFrameOf Q) (got_by (from_queue way) o a) → AllByRecursion (λ f. Q f.trace) (popped_by way o a)
+popped_of Q way (op.Pop (queue.Tx k)) (answer.Popped (item.Frame f)) all = popped_frame Q (k == number way) f all
+popped_of Q way _ _ all = tt
+
+all_popped : (Q : Trace → Type 0) (way : Way) (es : List Entry) → AllByRecursion (IsFrameOf Q) (gets (from_queue way) es) → AllByRecursion (λ f. Q f.trace) (frames_popped way es)
+all_popped Q way [] all = tt
+all_popped Q way (e ∷ es) all =
+    AllByRecursion-append (λ (f : Frame). Q f.trace) (popped_by way e.op e.answer) (frames_popped way es)
+    (popped_of Q way e.op e.answer (each_first (IsFrameOf Q) (got_by (from_queue way) e.op e.answer) (gets (from_queue way) es) all))
+    (all_popped Q way es (each_last (IsFrameOf Q) (got_by (from_queue way) e.op e.answer) (gets (from_queue way) es) all))
+
+-- their copies
+damaged_of : (Q : Trace → Type 0) (flip : Option ℕ) (f : Frame) → Q f.trace → Q (damaged flip f).trace
+damaged_of Q None f here = here
+damaged_of Q (Some bit) f here = here
+
+alike : (Q : Trace → Type 0) (n : ℕ) (f : Frame) → Q f.trace → AllByRecursion (λ g. Q g.trace) (replicate n f)
+alike Q zero f here = tt
+alike Q (suc n) f here = (here, alike Q n f here)
+
+copies_have : (Q : Trace → Type 0) (fate : Fate) (f : Frame) → Q f.trace → AllByRecursion (λ g. Q g.trace) (copies_of fate f)
+copies_have Q fate f here =
+    chosen fate.lost
+  where
+    chosen : (b : Bool) → AllByRecursion (λ g. Q g.trace) (if b then [] else replicate (fate.repeats + 1) (damaged fate.flip f))
+    chosen true = tt
+    chosen false = alike Q (fate.repeats + 1) (damaged fate.flip f) (damaged_of Q fate.flip f here)
+
+all_made : (Q : Trace → Type 0) (fates : Fates) (n : ℕ) (fs : List Frame) → AllByRecursion (λ f. Q f.trace) fs → AllByRecursion (λ f. Q f.trace) (made_from fates n fs)
+all_made Q fates n [] all = tt
+all_made Q fates n (f ∷ fs) all =
+    AllByRecursion-append (λ (g : Frame). Q g.trace) (copies_of (fate_at fates n) f) (made_from fates (n + 1) fs) (copies_have Q (fate_at fates n) f all.0) (all_made Q fates (n + 1) fs all.1)
+
+-- the frames that it pushed
+pushed_frame : (Q : Trace → Type 0) (b : Bool) (f : Frame) → AllByRecursion (λ g. Q g.trace) (if b then f ∷ [] else []) → AllByRecursion (IsFrameOf Q) (if b then item.Frame f ∷ [] else [])
+pushed_frame Q true f all = all
+pushed_frame Q false f all = tt
+
+-- a frame goes over a link only to an `Rx`
+lone_frame : (Q : Trace → Type 0) (way : Way) (q : QueueId) (f : Frame) (a : AnswerShown) → AllByRecursion (λ g. Q g.trace) (pushed_by way (op.Push q (item.Frame f)) a) → AllByRecursion (IsFrameOf Q) (put_by (to_queue way) (op.Push q (item.Frame f)) a)
+lone_frame Q way (queue.Rx k) f answer.Pushed all = pushed_frame Q (k == number (other way)) f all
+lone_frame Q way queue.Inbox f answer.Pushed all = tt
+lone_frame Q way (queue.Up k) f answer.Pushed all = tt
+lone_frame Q way (queue.Down k) f answer.Pushed all = tt
+lone_frame Q way (queue.Out k) f answer.Pushed all = tt
+lone_frame Q way (queue.Tx k) f answer.Pushed all = tt
+lone_frame Q way q f _ all = tt
+
+pushed_of : (Q : Trace → Type 0) (way : Way) (o : OpShown) (a : AnswerShown) → AllByRecursion (λ f. Q f.trace) (pushed_by way o a) → AllByRecursion (IsFrameOf Q) (put_by (to_queue way) o a)
+pushed_of Q way (op.Push q (item.Packet mark b)) answer.Pushed all = each_if (IsFrameOf Q) (is_queue (to_queue way) q) (item.Packet mark b) tt
+pushed_of Q way (op.Push q (item.Note n)) answer.Pushed all = each_if (IsFrameOf Q) (is_queue (to_queue way) q) (item.Note n) tt
+pushed_of Q way (op.Push q (item.Frame f)) a all = lone_frame Q way q f a all
+pushed_of Q way _ _ all = tt
+
+all_pushed : (Q : Trace → Type 0) (way : Way) (es : List Entry) → AllByRecursion (λ f. Q f.trace) (frames_pushed way es) → AllByRecursion (IsFrameOf Q) (puts (to_queue way) es)
+all_pushed Q way [] all = tt
+all_pushed Q way (e ∷ es) all =
+    AllByRecursion-append (IsFrameOf Q) (put_by (to_queue way) e.op e.answer) (puts (to_queue way) es)
+    (pushed_of Q way e.op e.answer (each_first (λ (f : Frame). Q f.trace) (pushed_by way e.op e.answer) (frames_pushed way es) all))
+    (all_pushed Q way es (each_last (λ (f : Frame). Q f.trace) (pushed_by way e.op e.answer) (frames_pushed way es) all))
+
+-- what holds of the traces that a link popped in a direction holds of those that it pushed
+pub across : (Q : Trace → Type 0) (plan : List Fault) (way : Way) (es : List Entry) → IsPlanned plan es way → AllByRecursion (IsFrameOf Q) (gets (from_queue way) es) → AllByRecursion (IsFrameOf Q) (puts (to_queue way) es)
+across Q plan way es planned all =
+    let all_copies : AllByRecursion (λ (f : Frame). Q f.trace) (made plan way (frames_popped way es)) = all_made Q (fates_of (number way) plan) 1 (frames_popped way es) (all_popped Q way es all) in
+    all_pushed Q way es (each_first (λ (f : Frame). Q f.trace) (frames_pushed way es) planned.rest
+    (each_permuted (λ (f : Frame). Q f.trace) (made plan way (frames_popped way es)) (frames_pushed way es ++ planned.rest) planned.copies all_copies))
+
+-- what holds of all that was put into a lane holds of all that was got from it
+pub through : (P : ItemShown → Type 0) (r : PlainRecord) (l : PlainLane) → IsInOrder r l → AllByRecursion P (puts l.from.queue (entries_of r l.from.who)) → AllByRecursion P (gets l.to.queue (entries_of r l.to.who))
+through P r l order all =
+    each_first P (gets l.to.queue (entries_of r l.to.who)) (left_in r l.node l.queue 0) (subst (AllByRecursion P) (sym order.order) all)
+
+-- the lanes of a link with two ends
+abbrev pub AreLanes : PlainRecord → ℕ → Carries → End → End → Type 0
+AreLanes r n carries a b = AllByRecursion (IsInOrder r) (end_lanes n carries 0 a ++ end_lanes n carries 1 b)
+
+lanes_there : (r : PlainRecord) (n m j : ℕ) (links : List PlainLink) (l : PlainLink) (a b : End) → m ≡ n + j → slice_get links j ≡ Some l → l.ends ≡ a ∷ b ∷ [] → AllByRecursion (IsInOrder r) (link_lanes n links)
+    → AreLanes r m (lane_of l.kind) a b
+lanes_there r n m j [] l a b e there two all = absurd cc
+lanes_there r n m zero (x ∷ links) l a b e there two all =
+    let same : x ≡ l = ap (λ o. unwrap_or o x) there in
+    let place : n ≡ m = omega (arith, e) in
+    subst (λ es. AllByRecursion (IsInOrder r) (lanes_on m (lane_of l.kind) 0 es)) two
+    (subst (λ k. AllByRecursion (IsInOrder r) (lanes_on k (lane_of l.kind) 0 l.ends)) place
+    (subst (λ (y : PlainLink). AllByRecursion (IsInOrder r) (lanes_on n (lane_of y.kind) 0 y.ends)) same
+    (each_first (IsInOrder r) (lanes_on n (lane_of x.kind) 0 x.ends) (link_lanes (n + 1) links) all)))
+lanes_there r n m (suc j) (x ∷ links) l a b e there two all =
+    lanes_there r (n + 1) m j links l a b (omega (arith, e)) there two (each_last (IsInOrder r) (lanes_on n (lane_of x.kind) 0 x.ends) (link_lanes (n + 1) links) all)
+
+pub link_lanes_of : (scene : PlainScene) (r : PlainRecord) (n : ℕ) (l : PlainLink) (a b : End) → AreInOrder scene r → slice_get scene.links n ≡ Some l → l.ends ≡ a ∷ b ∷ [] → AreLanes r n (lane_of l.kind) a b
+unfolding lanes_of
+link_lanes_of scene r n l a b order there two =
+    lanes_there r 0 n n scene.links l a b (omega arith) there two (each_last (IsInOrder r) (lanes_from 0 scene.nodes scene.links) (link_lanes 0 scene.links) order)

@@ -1,0 +1,13 @@
+pub mod Across
+pub mod AppQueues
+pub mod Beyond
+pub mod Each
+pub mod Heard
+pub mod IfaceQueues
+pub mod Names
+pub mod OwnQueues
+pub mod Owners
+pub mod Planned
+pub mod Received
+pub mod RouterQueues
+pub mod Transmitted

@@ -1,0 +1,295 @@
+-- A router pushes to its applications, its interfaces, and without a mark to its inbox.
+use Rattle.std.proofs.Common.{ℕ, ◌==◌, Bool, true, false, Option, None, Some, List, [], ◌∷◌, Result, Ok, Err, refl}
+use Rattle.std.specs.Prelude.{⊤}
+use Rattle.csp_buffer.specs.Content.{Content}
+use Rattle.csp_buffer.specs.PlainBuffer.{PlainBuffer}
+use Rattle.csp_conn.specs.PlainConns.{slot_at}
+use Rattle.csp_conn.specs.declared.slot.Connection.{Connection}
+use Rattle.csp_conn.specs.declared.slot.Slot.{Slot}
+use Rattle.csp_conn.specs.declared.slot.Slot.TheVariants as slot
+use Rattle.csp_consistent.specs.Queues.{MayAsk, MayPush}
+use Rattle.csp_crc.specs.Check.{payload_of}
+use Rattle.csp_log.specs.declared.event.Discard.{Discard}
+use Rattle.csp_log.specs.declared.note.Note.{Note}
+use Rattle.csp_log.specs.declared.note.Note.TheVariants as note
+use Rattle.csp_log.specs.declared.places.QueueId.{QueueId}
+use Rattle.csp_log.specs.declared.places.QueueId.TheVariants as queue
+use Rattle.csp_log.specs.declared.places.TheConstants.{UNMARKED}
+use Rattle.csp_log.specs.declared.shown.AnswerShown.{AnswerShown}
+use Rattle.csp_log.specs.declared.shown.ItemShown.{ItemShown}
+use Rattle.csp_log.specs.declared.shown.ItemShown.TheVariants as item
+use Rattle.csp_ports.specs.declared.handing.Invitation.{Invitation}
+use Rattle.csp_ports.specs.declared.owed.Owed.{Owed}
+use Rattle.csp_rdp.specs.Jobs.{delivery}
+use Rattle.csp_rdp.specs.declared.jobs.Job.{Job}
+use Rattle.csp_rdp_header.specs.declared.head.RdpHead.{RdpHead}
+use Rattle.csp_record.specs.declared.who.Who.TheVariants as who
+use Rattle.csp_ports.specs.PlainPorts.{machine_at}
+use Rattle.csp_route.specs.Routes.{route_of}
+use Rattle.csp_route.specs.declared.row.Row.{Row}
+use Rattle.csp_service.specs.Answers.{Outcome, answered}
+use Rattle.csp_service.specs.declared.answers.Served.{Served}
+use Rattle.csp_service.specs.declared.answers.Served.TheVariants.{NoService, Refused, Reply, Silent}
+use Rattle.csp_stack.specs.Readings.{buffer_in, is_checked, is_here, is_pushed, is_reliable, is_secured, item_in, lacks}
+use Rattle.csp_stack.specs.Router.{Facts, Leaving, State}
+use Rattle.csp_stack.specs.Rules.{Arrival, Ruling, packet_in}
+use Rattle.csp_stack.specs.Rules as rules
+use Rattle.csp_stack.specs.Serving.{facts_of}
+use Rattle.csp_stack.specs.Told.{Told}
+use Rattle.csp_stack.specs.Turn as turn
+use Rattle.csp_stack.specs.declared.plan.Plan.{Plan}
+use Rattle.csp_stack.specs.declared.plan.Plan.TheVariants as plan
+
+-- what is to go out goes where a router pushes
+abbrev pub IsOutward : Option Leaving → Type 0
+IsOutward None = ⊤
+IsOutward (Some o) = MayPush (who.Router 0) o.queue (item.Packet o.mark o.buffer)
+
+abbrev Goes : Told → Type 0
+Goes t = IsOutward t.state.out
+
+-- whatever a rule makes of a packet goes there, where what was to go out did
+go_sent : (own : Bool) (row : Option Row) (s : State) (b : Content) → IsOutward s.out → Goes (rules.sent_by own row s b)
+go_sent true row s b h = refl
+go_sent false None s b h = h
+go_sent false (Some row) s b h = tt
+
+go_way : (back : Bool) (row : Row) (s : State) (p : Arrival) → IsOutward s.out → Goes (rules.by_way back row s p)
+go_way true row s p h = h
+go_way false row s p h = tt
+
+abbrev GoesBy : Ruling → Type 0
+GoesBy (Ok p) = ⊤
+GoesBy (Err t) = Goes t
+
+go_on : (r : Ruling) (next : Arrival → Told) → GoesBy r → ((p : Arrival) → Goes (next p)) → Goes (rules.onward r next)
+go_on (Ok p) next h then = then p
+go_on (Err t) next h then = h
+
+go_destination : (here : Bool) (row : Option Row) (s : State) (p : Arrival) → IsOutward s.out → GoesBy (rules.by_destination here row s p)
+go_destination false None s p h = h
+go_destination false (Some row) s p h = go_way (row.iface == p.mark) row s p h
+go_destination true row s p h = tt
+
+go_security : (secured : Bool) (s : State) (p : Arrival) → IsOutward s.out → GoesBy (rules.by_security secured s p)
+go_security true s p h = h
+go_security false s p h = tt
+
+go_checksum : (checked : Bool) (payload : Option (List ℕ)) (s : State) (p : Arrival) → IsOutward s.out → GoesBy (rules.by_checksum checked payload s p)
+go_checksum true None s p h = h
+go_checksum true (Some payload) s p h = tt
+go_checksum false payload s p h = tt
+
+go_machine : (read : Option (List ℕ × RdpHead)) (s : State) (app slot time : ℕ) (p : Arrival) → IsOutward s.out → Goes (rules.to_machine read s app slot time p)
+go_machine None s app slot time p h = h
+go_machine (Some read) s app slot time p h = h
+
+go_connection : (reliable : Bool) (s : State) (app slot time : ℕ) (p : Arrival) → IsOutward s.out → Goes (rules.to_connection reliable s app slot time p)
+go_connection false s app slot time p h = tt
+go_connection true s app slot time p h = go_machine _ s app slot time p h
+
+go_by_connection : (at : Option (ℕ × ℕ)) (mixed lacks : Bool) (s : State) (time : ℕ) (p : Arrival) → IsOutward s.out → GoesBy (rules.by_connection at mixed lacks s time p)
+go_by_connection None mixed lacks s time p h = tt
+go_by_connection (Some at) true lacks s time p h = h
+go_by_connection (Some at) false true s time p h = h
+go_by_connection (Some at) false false s time p h = go_connection _ s at.0 at.1 time p h
+
+go_accepting : (free : Option ℕ) (s : State) (app : ℕ) (p : Arrival) → IsOutward s.out → Goes (rules.accepting free s app p)
+go_accepting None s app p h = h
+go_accepting (Some slot) s app p h = tt
+
+go_inviting : (i : Result Invitation Discard) (free : Option ℕ) (f : Facts) (s : State) (app time : ℕ) (p : Arrival) → IsOutward s.out → Goes (rules.inviting i free f s app time p)
+go_inviting (Err reason) free f s app time p h = h
+go_inviting (Ok i) None f s app time p h = h
+go_inviting (Ok i) (Some slot) f s app time p h = h
+
+go_socket : (reliable : Bool) (free : Option ℕ) (f : Facts) (s : State) (app time : ℕ) (p : Arrival) → IsOutward s.out → Goes (rules.at_socket reliable free f s app time p)
+go_socket false free f s app time p h = go_accepting free s app p h
+go_socket true free f s app time p h = go_inviting _ free f s app time p h
+
+go_by_socket : (owner : Option (ℕ × ℕ)) (lacks : Bool) (free : Option ℕ) (f : Facts) (s : State) (time : ℕ) (p : Arrival) → IsOutward s.out → GoesBy (rules.by_socket owner lacks free f s time p)
+go_by_socket None lacks free f s time p h = tt
+go_by_socket (Some owner) true free f s time p h = h
+go_by_socket (Some owner) false free f s time p h = go_socket _ free f s owner.0 time p h
+
+go_transport : (reliable : Bool) (s : State) (p : Arrival) → IsOutward s.out → GoesBy (rules.by_transport reliable s p)
+go_transport true s p h = h
+go_transport false s p h = tt
+
+go_answer : (served : Served) (reply : List ℕ) (f : Facts) (s : State) (p : Arrival) → IsOutward s.out → Goes (rules.by_answer served reply f s p)
+go_answer Reply reply f s p h = go_sent _ _ s _ h
+go_answer (Silent e) reply f s p h = h
+go_answer (Refused error) reply f s p h = h
+go_answer NoService reply f s p h = h
+
+go_outcome : (o : Outcome) (f : Facts) (s : State) (p : Arrival) → IsOutward s.out → Goes (rules.by_outcome o f s p)
+go_outcome o f s p h = go_answer o.served o.reply f _ p h
+
+go_elsewhere : (f : Facts) (s : State) (time : ℕ) (p : Arrival) → IsOutward s.out → Goes (rules.heard_elsewhere f s time p)
+go_elsewhere f s time p h =
+    go_on (rules.by_transport (is_reliable p.head) s p) (λ x. rules.by_service f s time x) (go_transport (is_reliable p.head) s p h)
+    (λ x. go_outcome (answered x.head.dport x.buffer.payload (facts_of f s) time) f s x h)
+
+go_at_socket : (f : Facts) (s : State) (time : ℕ) (p : Arrival) → IsOutward s.out → Goes (rules.heard_at_socket f s time p)
+go_at_socket f s time p h =
+    let owner = rules.owner_for s p in
+    go_on (rules.by_socket owner (lacks owner p.head) (rules.slot_for s.ports owner) f s time p) (λ x. rules.heard_elsewhere f s time x)
+    (go_by_socket owner (lacks owner p.head) (rules.slot_for s.ports owner) f s time p h) (λ x. go_elsewhere f s time x h)
+
+go_at_port : (f : Facts) (s : State) (time : ℕ) (p : Arrival) → IsOutward s.out → Goes (rules.heard_at_port f s time p)
+go_at_port f s time p h =
+    let at = rules.slot_of s p in
+    let lacking = lacks (rules.owner_for s p) p.head in
+    go_on (rules.by_connection at (rules.is_mixed s.ports at p.head) lacking s time p) (λ x. rules.heard_at_socket f s time x)
+    (go_by_connection at (rules.is_mixed s.ports at p.head) lacking s time p h) (λ x. go_at_socket f s time x h)
+
+go_here : (f : Facts) (s : State) (time : ℕ) (p : Arrival) → IsOutward s.out → Goes (rules.heard_here f s time p)
+go_here f s time p h =
+    go_on (rules.by_security (is_secured p.head) s p) (λ x. rules.onward (rules.by_checksum (is_checked x.head) (payload_of x.buffer.payload) s x) (λ y. rules.heard_at_port f s time y))
+    (go_security (is_secured p.head) s p h)
+    (λ x. go_on (rules.by_checksum (is_checked x.head) (payload_of x.buffer.payload) s x) (λ y. rules.heard_at_port f s time y)
+    (go_checksum (is_checked x.head) (payload_of x.buffer.payload) s x h) (λ y. go_at_port f s time y h))
+
+go_heard : (f : Facts) (s : State) (time : ℕ) (p : Arrival) → IsOutward s.out → Goes (rules.heard f s time p)
+go_heard f s time p h =
+    go_on (rules.by_destination (is_here f.addr p.head) (route_of s.routes p.head.dst) s p) (λ x. rules.heard_here f s time x)
+    (go_destination (is_here f.addr p.head) (route_of s.routes p.head.dst) s p h) (λ x. go_here f s time x h)
+
+-- and so does what it makes of an item of an application
+go_on_connection : (reliable : Bool) (c : Connection) (f : Facts) (s : State) (app number time : ℕ) (b : Content) → IsOutward s.out → Goes (rules.on_connection reliable c f s app number time b)
+go_on_connection false c f s app number time b h = go_sent _ _ s _ h
+go_on_connection true c f s app number time b h = h
+
+go_slot : (x : Slot) (f : Facts) (s : State) (app number time : ℕ) (b : Content) → IsOutward s.out → Goes (rules.by_slot x f s app number time b)
+go_slot slot.Free f s app number time b h = h
+go_slot slot.Held f s app number time b h = h
+go_slot (slot.Open c) f s app number time b h = go_on_connection _ c f s app number time b h
+
+go_mark : (unmarked : Bool) (f : Facts) (s : State) (app mark time : ℕ) (b : Content) → IsOutward s.out → Goes (rules.by_mark unmarked f s app mark time b)
+go_mark true f s app mark time b h = go_sent _ _ s b h
+go_mark false f s app mark time b h = go_slot (slot_at s.ports.conns app mark) f s app mark time b h
+
+go_request : (f : Facts) (s : State) (app time : ℕ) (n : Note) → IsOutward s.out → Goes (rules.requested f s app time n)
+go_request f s app time (note.Bind port need) h = h
+go_request f s app time (note.Connect slot dest port prio flags from) h = h
+go_request f s app time (note.Close slot) h = h
+go_request f s app time note.Bound h = h
+go_request f s app time (note.Connected slot) h = h
+go_request f s app time (note.Refused reason) h = h
+go_request f s app time (note.Closed slot) h = h
+go_request f s app time (note.Down slot) h = h
+
+go_served : (f : Facts) (s : State) (time app : ℕ) (i : ItemShown) → IsOutward s.out → Goes (rules.served f s time app i)
+go_served f s time app (item.Packet mark b) h = go_mark (mark == UNMARKED) f s app mark time b h
+go_served f s time app (item.Note n) h = go_request f s app time n h
+go_served f s time app (item.Frame x) h = h
+
+go_made : (x : Slot) (j : Job) (f : Facts) (s : State) (app number time : ℕ) (b : Content) → IsOutward s.out → Goes (rules.made_on x j f s app number time b)
+go_made slot.Free j f s app number time b h = h
+go_made slot.Held j f s app number time b h = h
+go_made (slot.Open c) j f s app number time b h = go_sent _ _ _ _ h
+
+-- so it is with each answer
+go_giving : (s : State) (b : Option Content) → IsOutward s.out → Goes (turn.told_giving s b)
+go_giving s None h = h
+go_giving s (Some b) h = h
+
+go_pushing : (s : State) (p : Option Arrival) → IsOutward s.out → Goes (turn.told_pushing s p)
+go_pushing s None h = h
+go_pushing s (Some p) h = h
+
+go_sending : (pushed : Bool) (q : QueueId) (bytes : ℕ) (s : State) (p : Option Arrival) → IsOutward s.out → Goes (turn.told_sending pushed q bytes s p)
+go_sending true q bytes s p h = h
+go_sending false q bytes s p h = go_pushing _ p h
+
+go_hearing : (f : Facts) (s : State) (time : ℕ) (p : Option Arrival) → IsOutward s.out → Goes (turn.told_hearing f s time p)
+go_hearing f s time None h = h
+go_hearing f s time (Some p) h = go_heard f _ time p h
+
+go_serving : (f : Facts) (s : State) (time k : ℕ) (i : Option ItemShown) → IsOutward s.out → Goes (turn.told_serving f s time k i)
+go_serving f s time k None h = h
+go_serving f s time k (Some i) h = go_served f s time k i h
+
+go_replying : (pushed : Bool) (s : State) (p : Option Arrival) → IsOutward s.out → Goes (turn.told_replying pushed s p)
+go_replying true s p h = h
+go_replying false s p h = go_pushing s p h
+
+go_noting : (pushed : Bool) (s : State) (app slot : ℕ) (p : Option Arrival) → IsOutward s.out → Goes (turn.told_noting pushed s app slot p)
+go_noting true s app slot p h = h
+go_noting false s app slot p h = go_pushing s p h
+
+go_keeping : (s : State) (app slot : ℕ) (p : Option Arrival) → IsOutward s.out → Goes (turn.told_keeping s app slot p)
+go_keeping s app slot None h = h
+go_keeping s app slot (Some p) h = h
+
+go_delivering : (pushed : Bool) (s : State) (app slot time : ℕ) (p : Option Arrival) → IsOutward s.out → Goes (turn.told_delivering pushed s app slot time p)
+go_delivering true s app slot time p h = h
+go_delivering false s app slot time p h = go_keeping s app slot p h
+
+go_making : (f : Facts) (s : State) (app slot : ℕ) (j : Job) (time : ℕ) (b : Option Content) → IsOutward s.out → Goes (turn.told_making f s app slot j time b)
+go_making f s app slot j time None h = h
+go_making f s app slot j time (Some b) h = go_made (slot_at s.ports.conns app slot) j f s app slot time b h
+
+go_told : (p : Plan) (f : Facts) (s : State) (time : ℕ) (a : AnswerShown) → IsOutward s.out → Goes (turn.told_by p f s time a)
+go_told plan.Rest f s time a h = h
+go_told plan.Give f s time a h = go_giving s (buffer_in a) h
+go_told (plan.Push q bytes) f s time a h = go_sending (is_pushed a) q bytes s (packet_in (item_in a)) h
+go_told plan.Hear f s time a h = go_hearing f s time (packet_in (item_in a)) h
+go_told (plan.Serve k) f s time a h = go_serving f s time k (item_in a) h
+go_told (plan.Reply k) f s time a h = go_replying (is_pushed a) s (packet_in (item_in a)) h
+go_told (plan.Tell app slot) f s time a h = go_noting (is_pushed a) s app slot (packet_in (item_in a)) h
+go_told (plan.Deliver app slot) f s time a h = go_delivering (is_pushed a) s app slot time (packet_in (item_in a)) h
+go_told (plan.Make app slot j) f s time a h = go_making f s app slot j time (buffer_in a) h
+
+go_handed : (f : Facts) (s : State) (p : Plan) → IsOutward s.out → IsOutward (turn.handed f s p).out
+go_handed f s plan.Rest h = h
+go_handed f s plan.Give h = h
+go_handed f s (plan.Push q bytes) h = tt
+go_handed f s plan.Hear h = h
+go_handed f s (plan.Serve k) h = h
+go_handed f s (plan.Reply k) h = h
+go_handed f s (plan.Tell app slot) h = h
+go_handed f s (plan.Deliver app slot) h = h
+go_handed f s (plan.Make app slot j) h = h
+
+-- after each turn
+pub router_outward : (f : Facts) (s : State) (time : ℕ) (a : AnswerShown) → IsOutward s.out → IsOutward (turn.told_at f (turn.asked_at f s time) time a).state.out
+router_outward f s time a h = go_told _ f _ time a (go_handed f (turn.timed s time) (turn.plan_of f (turn.timed s time) time) h)
+
+-- and what it asks is what a router may
+may_give : (node : ℕ) (bs : List Content) → MayAsk (who.Router node) (turn.giving bs)
+may_give node [] = tt
+may_give node (b ∷ bs) = tt
+
+may_send : (node : ℕ) (out : Option Leaving) → IsOutward out → MayAsk (who.Router node) (turn.pushing out)
+may_send node None h = tt
+may_send node (Some o) h = may o.queue h where
+  may : (q : QueueId) → MayPush (who.Router 0) q (item.Packet o.mark o.buffer) → MayPush (who.Router node) q (item.Packet o.mark o.buffer)
+  may queue.Inbox g = g
+  may (queue.Up k) g = g
+  may (queue.Down k) g = g
+  may (queue.Out k) g = g
+  may (queue.Tx k) g = g
+  may (queue.Rx k) g = g
+
+may_reply : (node : ℕ) (owed : List Owed) → MayAsk (who.Router node) (turn.replying owed)
+may_reply node [] = tt
+may_reply node (o ∷ owed) = tt
+
+may_deliver : (node : ℕ) (b : Option PlainBuffer) (app slot : ℕ) → MayAsk (who.Router node) (turn.delivering b app slot)
+may_deliver node None app slot = tt
+may_deliver node (Some b) app slot = tt
+
+may_ask : (node : ℕ) (s : State) (p : Plan) → IsOutward s.out → MayAsk (who.Router node) (turn.op_of s p)
+may_ask node s plan.Rest h = tt
+may_ask node s plan.Give h = may_give node s.trash
+may_ask node s (plan.Push q bytes) h = may_send node s.out h
+may_ask node s plan.Hear h = tt
+may_ask node s (plan.Serve k) h = tt
+may_ask node s (plan.Reply k) h = may_reply node s.ports.owed
+may_ask node s (plan.Tell app slot) h = tt
+may_ask node s (plan.Deliver app slot) h = may_deliver node (delivery (machine_at s.ports app slot)) app slot
+may_ask node s (plan.Make app slot j) h = tt
+
+pub router_asks : (node : ℕ) (f : Facts) (s : State) (time : ℕ) → IsOutward s.out → MayAsk (who.Router node) (turn.asks_at f s time)
+router_asks node f s time h = may_ask node (turn.timed s time) (turn.plan_of f (turn.timed s time) time) h

@@ -1,0 +1,23 @@
+//! What follows from the consistency of a record.
+
+ghost use Rattle.csp_consistent.specs.Lanes.{AreInOrder};
+ghost use Rattle.csp_consistent.specs.Links.{ArePlanned};
+ghost use Rattle.csp_consistent.specs.Origins.{HaveOrigins};
+ghost use Rattle.csp_consistent.specs.Parties.{parties_of};
+ghost use Rattle.csp_consistent.specs.Runs.{AreLogsOf};
+ghost use Rattle.csp_record.specs.Record.{PlainRecord};
+ghost use Rattle.csp_scene.specs.Kept.{AreLinksAfter};
+ghost use Rattle.csp_scene.specs.Scene.{PlainScene};
+ghost use Rattle.std.specs.Prelude.{[], length};
+
+/// A record whose logs are runs of its parties shows links that apply their plans.
+pub fn applies_plans()
+    ensures { (scene : PlainScene) (r : PlainRecord) → AreLogsOf (parties_of scene) r.parties → ArePlanned scene r }
+{}
+
+/// Where each lane besides is in order, and each link of the scene ends at the interfaces after those
+/// of the earlier links, each packet that an interface handed to its inbox was sent by the interface
+/// at the other end of its link, and has the tag of what was sent and one hop more.
+pub fn names_origins()
+    ensures { (scene : PlainScene) (r : PlainRecord) → AreLinksAfter (length scene.nodes) [] scene.links → AreLogsOf (parties_of scene) r.parties → AreInOrder scene r → HaveOrigins scene r }
+{}

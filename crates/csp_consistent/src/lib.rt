@@ -1,0 +1,9 @@
+//! What ties the logs of a run together, whatever the order of its turns: a record that is consistent with its scene, and what follows
+//! from that alone.
+#![tactic(auto)]
+
+mod laws;
+mod queues;
+
+pub use laws::{applies_plans, names_origins};
+pub use queues::use_their_own;
