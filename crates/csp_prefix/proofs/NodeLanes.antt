@@ -1,0 +1,160 @@
+-- The lanes of a node are in order, and each name's log is that of its party.
+use Rattle.std.proofs.Common.{◌≡◌, ◌⊎◌, inl, inr, ℕ, zero, suc, ◌+◌, ◌<◌, Some, List, [], ◌∷◌, flat_map, length, slice_get, unwrap_or, refl, sym, ap, ◌∙◌, subst, arith}
+use Rattle.std.specs.List.{AllByRecursion, range_with_len}
+use Rattle.csp_app.specs.PlainApp as plain_app
+use Rattle.csp_deck.specs.Carried.{IsUpItem}
+use Rattle.csp_deck.specs.Runs.{IsRun}
+use Rattle.csp_log.specs.declared.entry.Entry.{Entry}
+use Rattle.csp_log.specs.declared.places.QueueId.TheVariants as queue
+use Rattle.csp_party.specs.Any.{PlainParty, an_app}
+use Rattle.csp_record.specs.Record.{PlainRecord}
+use Rattle.csp_record.specs.declared.who.Who.{Who}
+use Rattle.csp_record.specs.declared.who.Who.TheVariants as who
+use Rattle.csp_scene.specs.Links.{links_at}
+use Rattle.csp_scene.specs.Ranges.{IsApp, IsNode, IsScene}
+use Rattle.csp_scene.specs.Scene.{PlainLink, PlainNode, PlainScene}
+use Rattle.csp_stack.specs.Router.{Router}
+use Rattle.csp_prefix.specs.Apps.{IsTrueApp}
+use Rattle.csp_consistent.specs.Lanes.{AreInOrder, IsInOrder, PlainLane, app_lanes, hub_of, lanes_from, lanes_of, lanes_within, link_lanes, out_lane}
+use Rattle.csp_consistent.specs.Parties.{config_of, parties_of, party_steps, router_for}
+use Rattle.csp_consistent.specs.Reading.{entries_of, gets, puts}
+use Rattle.csp_prefix.specs.Routers.{IsRouterLog, IsUntraced, opening_router, router_steps}
+use Rattle.csp_consistent.specs.Runs.{AreLogsOf, IsClearedIn}
+use Rattle.csp_consistent.proofs.Across.{through}
+use Rattle.csp_prefix.proofs.AppItems.{puts_up_items}
+use Rattle.csp_prefix.proofs.AppTurns.{true_apps}
+use Rattle.csp_consistent.proofs.Each.{each_first, each_last}
+use Rattle.csp_prefix.proofs.HubLogs.{app_run, comes_so, router_run, serves_own}
+use Rattle.csp_consistent.proofs.Names.{Logged}
+use Rattle.csp_consistent.proofs.Owners.{IsAppAt, IsOf, IsOwner, IsRouterAt}
+use Rattle.csp_prefix.proofs.PacketLists.{each_at, each_both}
+use Rattle.csp_consistent.proofs.Planned.{logged}
+
+-- ---- lanes
+
+-- what holds of what each number gives holds of what this one gives
+at_number : {X : Type 0} (P : X → Type 0) (f : ℕ → List X) (a n k j : ℕ) → j ≡ a + k → k < n → AllByRecursion P (flat_map f (range_with_len a n)) → AllByRecursion P (f j)
+at_number P f a zero k j e low all = absurd (omega (arith, low))
+at_number P f a (suc n) zero j e low all =
+    let same : a ≡ j = omega (arith, e) in
+    subst (λ m. AllByRecursion P (f m)) same (each_first P (f a) (flat_map f (range_with_len (a + 1) n)) all)
+at_number P f a (suc n) (suc k) j e low all = at_number P f (a + 1) n k j (omega (arith, e)) (omega (arith, low)) (each_last P (f a) (flat_map f (range_with_len (a + 1) n)) all)
+
+-- those of the node at this place
+abbrev lanes_at : ℕ → PlainNode → List PlainLink → List PlainLane
+lanes_at place n links = lanes_within place (hub_of place n.addr) (length n.apps) (length (links_at place links))
+
+node_lanes : (r : PlainRecord) (links : List PlainLink) (m j place : ℕ) (n : PlainNode) (nodes : List PlainNode) → place ≡ m + j → slice_get nodes j ≡ Some n
+    → AllByRecursion (IsInOrder r) (lanes_from m nodes links) → AllByRecursion (IsInOrder r) (lanes_at place n links)
+node_lanes r links m j place n [] e there all = absurd cc
+node_lanes r links m zero place n (x ∷ nodes) e there all =
+    let same : x ≡ n = ap (λ o. unwrap_or o x) there in
+    let here : m ≡ place = omega (arith, e) in
+    subst (λ y. AllByRecursion (IsInOrder r) (lanes_at place y links)) same
+    (subst (λ k. AllByRecursion (IsInOrder r) (lanes_at k x links)) here (each_first (IsInOrder r) (lanes_at m x links) (lanes_from (m + 1) nodes links) all))
+node_lanes r links m (suc j) place n (x ∷ nodes) e there all =
+    node_lanes r links (m + 1) j place n nodes (omega (arith, e)) there (each_last (IsInOrder r) (lanes_at m x links) (lanes_from (m + 1) nodes links) all)
+
+pub lanes_there : (scene : PlainScene) (r : PlainRecord) (place : ℕ) (n : PlainNode) → AreInOrder scene r → slice_get scene.nodes place ≡ Some n → AllByRecursion (IsInOrder r) (lanes_at place n scene.links)
+unfolding lanes_of
+lanes_there scene r place n order there =
+    node_lanes r scene.links 0 place place n scene.nodes (omega arith) there (each_first (IsInOrder r) (lanes_from 0 scene.nodes scene.links) (link_lanes 0 scene.links) order)
+
+-- from an application and to it, and to an interface
+pub app_lanes_there : (scene : PlainScene) (r : PlainRecord) (place k : ℕ) (n : PlainNode) → AreInOrder scene r → slice_get scene.nodes place ≡ Some n → k < length n.apps
+    → AllByRecursion (IsInOrder r) (app_lanes place (hub_of place n.addr) k)
+app_lanes_there scene r place k n order there low =
+    at_number (IsInOrder r) (app_lanes place (hub_of place n.addr)) 0 (length n.apps) k k (omega arith) low
+    (each_first (IsInOrder r) (flat_map (app_lanes place (hub_of place n.addr)) (range_with_len 0 (length n.apps)))
+    (flat_map (λ j. out_lane place (hub_of place n.addr) j ∷ []) (range_with_len 0 (length (links_at place scene.links)))) (lanes_there scene r place n order there))
+
+pub out_lane_there : (scene : PlainScene) (r : PlainRecord) (place k : ℕ) (n : PlainNode) → AreInOrder scene r → slice_get scene.nodes place ≡ Some n → k < length (links_at place scene.links)
+    → IsInOrder r (out_lane place (hub_of place n.addr) k)
+out_lane_there scene r place k n order there low =
+    (at_number (IsInOrder r) (λ j. out_lane place (hub_of place n.addr) j ∷ []) 0 (length (links_at place scene.links)) k k (omega arith) low
+    (each_last (IsInOrder r) (flat_map (app_lanes place (hub_of place n.addr)) (range_with_len 0 (length n.apps)))
+    (flat_map (λ j. out_lane place (hub_of place n.addr) j ∷ []) (range_with_len 0 (length (links_at place scene.links)))) (lanes_there scene r place n order there))).0
+
+-- ---- the logs of names
+
+-- what has this name, if it has a log
+pub owner_of : (scene : PlainScene) (r : PlainRecord) (w : Who) (l : Logged (IsOf scene) w r.parties) → IsOwner scene.nodes scene.links w l.opening.party
+owner_of scene r w l = subst (λ v. IsOwner scene.nodes scene.links v l.opening.party) l.name l.holds
+
+pub run_of : (scene : PlainScene) (r : PlainRecord) (w : Who) (p : PlainParty) (l : Logged (IsOf scene) w r.parties) → l.opening.party ≡ p → IsRun party_steps 0 p (entries_of r w)
+run_of scene r w p l is = subst (λ es. IsRun party_steps 0 p es) (sym l.entries) (subst (λ q. IsRun party_steps 0 q l.log.entries) is l.logged.run)
+
+pub cleared_of : (scene : PlainScene) (r : PlainRecord) (w : Who) (l : Logged (IsOf scene) w r.parties) → AllByRecursion (λ e. IsClearedIn e.answer) (entries_of r w)
+cleared_of scene r w l = subst (AllByRecursion (λ (e : Entry). IsClearedIn e.answer)) (sym l.entries) l.logged.cleared
+
+same_node : (scene : PlainScene) (place : ℕ) (n m : PlainNode) → slice_get scene.nodes place ≡ Some n → slice_get scene.nodes place ≡ Some m → n ≡ m
+same_node scene place n m one other = ap (λ o. unwrap_or o n) (sym one ∙ other)
+
+-- ---- applications
+
+empty_true : (number : ℕ) → IsTrueApp number []
+empty_true number = record { untraced = tt; takes = λ slot ordinal. refl }
+
+-- what an application of a node, or none, put and took
+pub app_true : (scene : PlainScene) (r : PlainRecord) (place number : ℕ) → AreLogsOf (parties_of scene) r.parties → IsTrueApp number (entries_of r (who.App place number))
+app_true scene r place number are =
+    told (logged scene r (who.App place number) are)
+  where
+    told : (entries_of r (who.App place number) ≡ []) ⊎ Logged (IsOf scene) (who.App place number) r.parties → IsTrueApp number (entries_of r (who.App place number))
+    told (inl none) = subst (IsTrueApp number) (sym none) (empty_true number)
+    told (inr l) =
+        let at : IsAppAt scene.nodes place number l.opening.party = owner_of scene r (who.App place number) l in
+        true_apps number at.app.steps (entries_of r (who.App place number)) (record {
+          run = app_run (entries_of r (who.App place number)) 0 (plain_app.opening number at.app.steps) (run_of scene r (who.App place number) (an_app (plain_app.opening number at.app.steps)) l at.party);
+          cleared = cleared_of scene r (who.App place number) l;
+        })
+
+-- what an application of a node put into its `Up` is what an `Up` carries
+app_items : (scene : PlainScene) (r : PlainRecord) (place number : ℕ) → IsScene scene → AreLogsOf (parties_of scene) r.parties → AllByRecursion IsUpItem (puts (queue.Up number) (entries_of r (who.App place number)))
+app_items scene r place number is are =
+    told (logged scene r (who.App place number) are)
+  where
+    told : (entries_of r (who.App place number) ≡ []) ⊎ Logged (IsOf scene) (who.App place number) r.parties → AllByRecursion IsUpItem (puts (queue.Up number) (entries_of r (who.App place number)))
+    told (inl none) = subst (λ es. AllByRecursion IsUpItem (puts (queue.Up number) es)) (sym none) tt
+    told (inr l) =
+        let at : IsAppAt scene.nodes place number l.opening.party = owner_of scene r (who.App place number) l in
+        puts_up_items number at.app.steps (entries_of r (who.App place number)) (each_at IsApp at.node.apps number at.app (each_at IsNode scene.nodes place at.node is.nodes at.there).apps at.of_it).ranges
+        (app_run (entries_of r (who.App place number)) 0 (plain_app.opening number at.app.steps) (run_of scene r (who.App place number) (an_app (plain_app.opening number at.app.steps)) l at.party))
+
+-- ---- routers
+
+-- what a router got from an application of its node
+up_items : (scene : PlainScene) (r : PlainRecord) (place k : ℕ) (n : PlainNode) → IsScene scene → AreLogsOf (parties_of scene) r.parties → AreInOrder scene r → slice_get scene.nodes place ≡ Some n → k < length n.apps
+    → AllByRecursion (λ i. IsUpItem i × IsUntraced i) (gets (queue.Up k) (entries_of r (hub_of place n.addr)))
+up_items scene r place k n is are order there low =
+    let lanes : AllByRecursion (IsInOrder r) (app_lanes place (hub_of place n.addr) k) = app_lanes_there scene r place k n order there low in
+    through (λ i. IsUpItem i × IsUntraced i) r _ lanes.0
+    (each_both IsUpItem IsUntraced (λ i. IsUpItem i × IsUntraced i) (puts (queue.Up k) (entries_of r (who.App place k))) (λ i a b. (a, b)) (app_items scene r place k is are) (app_true scene r place k are).untraced)
+
+-- the log of a router of a scene is one
+pub record RouterThere (scene : PlainScene) (r : PlainRecord) (place : ℕ) : Type 0 where
+  pub node : PlainNode
+  pub addr : ℕ
+  pub there : slice_get scene.nodes place ≡ Some node
+  pub called : node.addr ≡ Some addr
+  pub log : IsRouterLog (config_of place addr node (links_at place scene.links)).facts node.routes (entries_of r (who.Router place))
+
+pub router_there : (scene : PlainScene) (r : PlainRecord) (place : ℕ) → IsScene scene → AreLogsOf (parties_of scene) r.parties → AreInOrder scene r → Logged (IsOf scene) (who.Router place) r.parties → RouterThere scene r place
+router_there scene r place is are order l =
+    let at : IsRouterAt scene.nodes scene.links place l.opening.party = owner_of scene r (who.Router place) l in
+    let es : List Entry = entries_of r (who.Router place) in
+    let s : Router = opening_router (config_of place at.addr at.node (links_at place scene.links)).facts at.node.routes in
+    let run : IsRun router_steps 0 s es = router_run es 0 s (run_of scene r (who.Router place) (router_for (config_of place at.addr at.node (links_at place scene.links))) l at.party) in
+    let ups : (k : ℕ) → k < length at.node.apps → AllByRecursion (λ i. IsUpItem i × IsUntraced i) (gets (queue.Up k) es) =
+    λ k low. subst (λ a. AllByRecursion (λ i. IsUpItem i × IsUntraced i) (gets (queue.Up k) (entries_of r (hub_of place a)))) at.called (up_items scene r place k at.node is are order at.there low) in
+    record {
+      node = at.node;
+      addr = at.addr;
+      there = at.there;
+      called = at.called;
+      log = record {
+        few = (each_at IsNode scene.nodes place at.node is.nodes at.there).few;
+        run = run;
+        comes = comes_so (length at.node.apps) es (cleared_of scene r (who.Router place) l) (serves_own es 0 s run) ups;
+      };
+    }

@@ -1,0 +1,225 @@
+-- The payloads of a connection, read by entries and by items, are the same.
+use Rattle.std.proofs.Common.{◌≡◌, ℕ, ◌+◌, ◌==◌, ◌&&◌, Bool, true, false, Some, None, List, [], ◌∷◌, ◌++◌, flat_map, refl, sym, ap, ◌∙◌, append_assoc, append-nil, eqb-true}
+use Rattle.std.specs.Prelude.{if◌then◌else◌, ⊤}
+use Rattle.std.specs.List.{AllByRecursion}
+use Rattle.csp_log.specs.Moving.{moved_by}
+use Rattle.csp_log.specs.Noting.{noted_by, noted_in}
+use Rattle.csp_log.specs.declared.entry.Entry.{Entry}
+use Rattle.csp_log.specs.declared.event.Event.{Event}
+use Rattle.csp_log.specs.declared.event.Event.TheVariants as event
+use Rattle.csp_log.specs.declared.note.Note.{Note}
+use Rattle.csp_log.specs.declared.note.Note.TheVariants as note
+use Rattle.csp_log.specs.declared.places.QueueId.TheVariants as queue
+use Rattle.csp_log.specs.declared.shown.ItemShown.{ItemShown}
+use Rattle.csp_log.specs.declared.shown.ItemShown.TheVariants as item
+use Rattle.csp_log.specs.declared.shown.OpShown.{OpShown}
+use Rattle.csp_log.specs.declared.shown.OpShown.TheVariants as op
+use Rattle.csp_log.specs.declared.shown.AnswerShown.{AnswerShown}
+use Rattle.csp_log.specs.declared.shown.AnswerShown.TheVariants as answer
+use Rattle.csp_record.specs.Ends.{Ends, no_ends, ended, freed_by, told_free}
+use Rattle.csp_record.specs.Payloads.{carried, is_on, payloads_after, told_on, took}
+use Rattle.csp_record.specs.declared.payloads.Way.TheVariants as way
+use Rattle.csp_prefix.specs.Delivered.{delivered, delivered_after, delivered_by}
+use Rattle.csp_prefix.specs.Items.{ends_by, payload_by, payloads_from, payloads_in}
+use Rattle.csp_prefix.specs.Prefix.{IsBeginning}
+use Rattle.csp_consistent.specs.Reading.{got_by, gets, is_queue, put_by, puts}
+
+-- ---- items
+
+-- how many Closed answers there are for a slot after items
+abbrev pub ends_in : ℕ → ℕ → List ItemShown → ℕ
+ends_in slot ends [] = ends
+ends_in slot ends (i ∷ is) = ends_in slot (ends_by slot ends i) is
+
+pub payloads_append : (slot ordinal ends : ℕ) (xs ys : List ItemShown) → payloads_from slot ordinal ends (xs ++ ys) ≡ payloads_from slot ordinal ends xs ++ payloads_from slot ordinal (ends_in slot ends xs) ys
+payloads_append slot ordinal ends [] ys = refl
+payloads_append slot ordinal ends (x ∷ xs) ys =
+    ap (λ ps. payload_by slot ordinal ends x ++ ps) (payloads_append slot ordinal (ends_by slot ends x) xs ys)
+    ∙ sym (append_assoc (payload_by slot ordinal ends x) (payloads_from slot ordinal (ends_by slot ends x) xs) (payloads_from slot ordinal (ends_in slot (ends_by slot ends x) xs) ys))
+
+-- of a beginning of items they are a beginning
+pub payloads_begin : (slot ordinal : ℕ) (xs left ys : List ItemShown) → xs ++ left ≡ ys → IsBeginning (payloads_in slot ordinal xs) (payloads_in slot ordinal ys)
+payloads_begin slot ordinal xs left ys e = record {
+  rest = payloads_from slot ordinal (ends_in slot 0 xs) left;
+  whole = sym (payloads_append slot ordinal 0 xs left) ∙ ap (payloads_in slot ordinal) e;
+}
+
+-- an item that is no packet has none, and one that is no Closed answer ends none
+no_payload : (slot ordinal n : ℕ) (b : Bool) (i : ItemShown) → payload_by slot ordinal n i ≡ [] → [] ≡ payloads_from slot ordinal n (if b then i ∷ [] else [])
+no_payload slot ordinal n true i e = ap (λ ps. ps ++ []) (sym e)
+no_payload slot ordinal n false i e = refl
+
+no_end : (slot n : ℕ) (b : Bool) (i : ItemShown) → ends_by slot n i ≡ n → n ≡ ends_in slot n (if b then i ∷ [] else [])
+no_end slot n true i e = sym e
+no_end slot n false i e = refl
+
+-- a test of slot and ordinal goes by the ends of the slot alone
+same_test : (ends : Ends) (mark slot ordinal n : ℕ) → ends slot ≡ n → (mark == slot && ends mark == ordinal) ≡ (mark == slot && n == ordinal)
+same_test ends mark slot ordinal n e =
+    by (mark == slot) refl
+  where
+    by : (b : Bool) → (mark == slot) ≡ b → (b && ends mark == ordinal) ≡ (b && n == ordinal)
+    by true same = ap (λ k. k == ordinal) (ap ends (eqb-true mark slot same) ∙ e)
+    by false same = refl
+
+-- ---- by the entries of an application
+
+abbrev pub IsNoTook : Event → Type 0
+IsNoTook (event.Took slot told) = ⊥
+IsNoTook _ = ⊤
+
+-- the events tell once that a packet was taken on this slot
+pub record IsTookOnce (mark : ℕ) (es : List Event) : Type 0 where
+  pub ordinal : ℕ
+  pub rest : List Event
+  pub events : es ≡ event.Took mark ordinal ∷ rest
+  pub once : AllByRecursion IsNoTook rest
+
+-- so they do where a packet was popped
+abbrev pub TellsTook : OpShown → AnswerShown → List Event → Type 0
+TellsTook (op.Pop q) (answer.Popped (item.Packet mark b)) es = IsTookOnce mark es
+TellsTook _ _ es = ⊤
+
+none_on : (slot ordinal : ℕ) (ends : Ends) (payload : List ℕ) (es : List Event) → AllByRecursion IsNoTook es → flat_map (λ e. if is_on way.Took slot ordinal ends e then payload ∷ [] else []) es ≡ []
+none_on slot ordinal ends payload [] all = refl
+none_on slot ordinal ends payload (event.Took s told ∷ es) all = absurd all.0
+none_on slot ordinal ends payload (_ ∷ es) all = none_on slot ordinal ends payload es all.1
+
+took_one : (slot ordinal n mark : ℕ) (ends : Ends) (payload : List ℕ) (es : List Event) → IsTookOnce mark es → ends slot ≡ n
+    → told_on way.Took slot ordinal ends es (Some payload) ≡ (if mark == slot && n == ordinal then payload ∷ [] else []) ++ []
+took_one slot ordinal n mark ends payload es t e =
+    ap (λ xs. told_on way.Took slot ordinal ends xs (Some payload)) t.events
+    ∙ ap (λ ps. (if mark == slot && ends mark == ordinal then payload ∷ [] else []) ++ ps) (none_on slot ordinal ends payload t.rest t.once)
+    ∙ ap (λ b. (if b then payload ∷ [] else []) ++ []) (same_test ends mark slot ordinal n e)
+
+-- what a turn tells to be taken is what it got from its `Down`
+took_by : (app slot ordinal n : ℕ) (ends : Ends) (o : OpShown) (a : AnswerShown) (es : List Event) → TellsTook o a es → ends slot ≡ n
+    → told_on way.Took slot ordinal ends es (carried way.Took app (moved_by o a)) ≡ payloads_from slot ordinal n (got_by (queue.Down app) o a)
+took_by app slot ordinal n ends (op.Pop (queue.Down k)) (answer.Popped (item.Packet mark b)) es t e =
+    by (k == app)
+  where
+    by : (c : Bool) → told_on way.Took slot ordinal ends es (if c then Some b.payload else None) ≡ payloads_from slot ordinal n (if c then item.Packet mark b ∷ [] else [])
+    by true = took_one slot ordinal n mark ends b.payload es t e
+    by false = refl
+took_by app slot ordinal n ends (op.Pop queue.Inbox) (answer.Popped (item.Packet mark b)) es t e = refl
+took_by app slot ordinal n ends (op.Pop (queue.Up k)) (answer.Popped (item.Packet mark b)) es t e = refl
+took_by app slot ordinal n ends (op.Pop (queue.Out k)) (answer.Popped (item.Packet mark b)) es t e = refl
+took_by app slot ordinal n ends (op.Pop (queue.Tx k)) (answer.Popped (item.Packet mark b)) es t e = refl
+took_by app slot ordinal n ends (op.Pop (queue.Rx k)) (answer.Popped (item.Packet mark b)) es t e = refl
+took_by app slot ordinal n ends (op.Pop q) (answer.Popped (item.Frame f)) es t e = no_payload slot ordinal n (is_queue (queue.Down app) q) (item.Frame f) refl
+took_by app slot ordinal n ends (op.Pop q) (answer.Popped (item.Note m)) es t e = no_payload slot ordinal n (is_queue (queue.Down app) q) (item.Note m) refl
+took_by app slot ordinal n ends (op.Push q (item.Packet mark b)) answer.Pushed es t e = refl
+took_by app slot ordinal n ends (op.Push q (item.Frame f)) answer.Pushed es t e = refl
+took_by app slot ordinal n ends (op.Push q (item.Note m)) answer.Pushed es t e = refl
+took_by app slot ordinal n ends _ _ es t e = refl
+
+-- and it ends the slots that it got Closed answers for
+heard_end : (app slot n : ℕ) (ends : Ends) (k : ℕ) (m : Note) → ends slot ≡ n
+    → ended (freed_by way.Took app (noted_by (op.Pop (queue.Down k)) (answer.Popped (item.Note m)))) ends slot ≡ ends_in slot n (if k == app then item.Note m ∷ [] else [])
+heard_end app slot n ends k (note.Closed freed) e =
+    by (k == app)
+  where
+    by : (c : Bool) → ended (if c then Some freed else None) ends slot ≡ ends_in slot n (if c then item.Note (note.Closed freed) ∷ [] else [])
+    by true = ap (λ x. if slot == freed then x + 1 else x) e
+    by false = e
+heard_end app slot n ends k m e = e ∙ no_end slot n (k == app) (item.Note m) refl
+
+took_end : (app slot n : ℕ) (ends : Ends) (o : OpShown) (a : AnswerShown) → ends slot ≡ n
+    → ended (freed_by way.Took app (noted_by o a)) ends slot ≡ ends_in slot n (got_by (queue.Down app) o a)
+took_end app slot n ends (op.Pop (queue.Down k)) (answer.Popped (item.Note m)) e = heard_end app slot n ends k m e
+took_end app slot n ends (op.Pop queue.Inbox) (answer.Popped (item.Note m)) e = e
+took_end app slot n ends (op.Pop (queue.Up k)) (answer.Popped (item.Note m)) e = e
+took_end app slot n ends (op.Pop (queue.Out k)) (answer.Popped (item.Note m)) e = e
+took_end app slot n ends (op.Pop (queue.Tx k)) (answer.Popped (item.Note m)) e = e
+took_end app slot n ends (op.Pop (queue.Rx k)) (answer.Popped (item.Note m)) e = e
+took_end app slot n ends (op.Pop q) (answer.Popped (item.Packet mark b)) e = e ∙ no_end slot n (is_queue (queue.Down app) q) (item.Packet mark b) refl
+took_end app slot n ends (op.Pop q) (answer.Popped (item.Frame f)) e = e ∙ no_end slot n (is_queue (queue.Down app) q) (item.Frame f) refl
+took_end app slot n ends (op.Push q (item.Note m)) answer.Pushed e = e
+took_end app slot n ends (op.Push q (item.Packet mark b)) answer.Pushed e = e
+took_end app slot n ends (op.Push q (item.Frame f)) answer.Pushed e = e
+took_end app slot n ends _ _ e = e
+
+took_after : (app slot ordinal n : ℕ) (ends : Ends) (es : List Entry) → AllByRecursion (λ e. TellsTook e.op e.answer e.events.items) es → ends slot ≡ n
+    → payloads_after way.Took app slot ordinal ends es ≡ payloads_from slot ordinal n (gets (queue.Down app) es)
+took_after app slot ordinal n ends [] all e = refl
+took_after app slot ordinal n ends (x ∷ es) all e =
+    let m : ℕ = ends_in slot n (got_by (queue.Down app) x.op x.answer) in
+    ap (λ ps. ps ++ payloads_after way.Took app slot ordinal (ended (freed_by way.Took app (noted_in x)) ends) es) (took_by app slot ordinal n ends x.op x.answer x.events.items all.0 e)
+    ∙ ap (λ ps. payloads_from slot ordinal n (got_by (queue.Down app) x.op x.answer) ++ ps)
+    (took_after app slot ordinal m (ended (freed_by way.Took app (noted_in x)) ends) es all.1 (took_end app slot n ends x.op x.answer e))
+    ∙ sym (payloads_append slot ordinal n (got_by (queue.Down app) x.op x.answer) (gets (queue.Down app) es))
+
+-- what an application took are the payloads of what it got
+pub took_is : (app slot ordinal : ℕ) (es : List Entry) → AllByRecursion (λ e. TellsTook e.op e.answer e.events.items) es → took app slot ordinal es ≡ payloads_in slot ordinal (gets (queue.Down app) es)
+took_is app slot ordinal es all = took_after app slot ordinal 0 no_ends es all refl
+
+-- ---- by the entries of a router
+
+one_delivered : (app slot ordinal n : ℕ) (ends : Ends) (k mark : ℕ) (payload : List ℕ) (i : ItemShown) → payload_by slot ordinal n i ≡ (if mark == slot && n == ordinal then payload ∷ [] else []) → ends slot ≡ n
+    → (if k == app && mark == slot && ends slot == ordinal then payload ∷ [] else []) ≡ payloads_from slot ordinal n (if k == app then i ∷ [] else [])
+one_delivered app slot ordinal n ends k mark payload i is e =
+    by (k == app)
+  where
+    by : (c : Bool) → (if c && mark == slot && ends slot == ordinal then payload ∷ [] else []) ≡ payloads_from slot ordinal n (if c then i ∷ [] else [])
+    by true = ap (λ x. if mark == slot && x == ordinal then payload ∷ [] else []) e ∙ sym is ∙ sym (append-nil (payload_by slot ordinal n i))
+    by false = refl
+
+delivered_one : (app slot ordinal n : ℕ) (ends : Ends) (o : OpShown) (a : AnswerShown) → ends slot ≡ n
+    → delivered_by app slot ordinal ends o a ≡ payloads_from slot ordinal n (put_by (queue.Down app) o a)
+delivered_one app slot ordinal n ends (op.Push (queue.Down k) (item.Packet mark b)) answer.Pushed e = one_delivered app slot ordinal n ends k mark b.payload (item.Packet mark b) refl e
+delivered_one app slot ordinal n ends (op.Push queue.Inbox (item.Packet mark b)) answer.Pushed e = refl
+delivered_one app slot ordinal n ends (op.Push (queue.Up k) (item.Packet mark b)) answer.Pushed e = refl
+delivered_one app slot ordinal n ends (op.Push (queue.Out k) (item.Packet mark b)) answer.Pushed e = refl
+delivered_one app slot ordinal n ends (op.Push (queue.Tx k) (item.Packet mark b)) answer.Pushed e = refl
+delivered_one app slot ordinal n ends (op.Push (queue.Rx k) (item.Packet mark b)) answer.Pushed e = refl
+delivered_one app slot ordinal n ends (op.Push (queue.Down k) (item.Frame f)) answer.Pushed e = no_payload slot ordinal n (k == app) (item.Frame f) refl
+delivered_one app slot ordinal n ends (op.Push queue.Inbox (item.Frame f)) answer.Pushed e = refl
+delivered_one app slot ordinal n ends (op.Push (queue.Up k) (item.Frame f)) answer.Pushed e = refl
+delivered_one app slot ordinal n ends (op.Push (queue.Out k) (item.Frame f)) answer.Pushed e = refl
+delivered_one app slot ordinal n ends (op.Push (queue.Tx k) (item.Frame f)) answer.Pushed e = refl
+delivered_one app slot ordinal n ends (op.Push (queue.Rx k) (item.Frame f)) answer.Pushed e = refl
+delivered_one app slot ordinal n ends (op.Push (queue.Down k) (item.Note m)) answer.Pushed e = no_payload slot ordinal n (k == app) (item.Note m) refl
+delivered_one app slot ordinal n ends (op.Push queue.Inbox (item.Note m)) answer.Pushed e = refl
+delivered_one app slot ordinal n ends (op.Push (queue.Up k) (item.Note m)) answer.Pushed e = refl
+delivered_one app slot ordinal n ends (op.Push (queue.Out k) (item.Note m)) answer.Pushed e = refl
+delivered_one app slot ordinal n ends (op.Push (queue.Tx k) (item.Note m)) answer.Pushed e = refl
+delivered_one app slot ordinal n ends (op.Push (queue.Rx k) (item.Note m)) answer.Pushed e = refl
+delivered_one app slot ordinal n ends _ _ e = refl
+
+told_end : (app slot n : ℕ) (ends : Ends) (k : ℕ) (m : Note) → ends slot ≡ n
+    → ended (told_free app (noted_by (op.Push (queue.Down k) (item.Note m)) answer.Pushed)) ends slot ≡ ends_in slot n (if k == app then item.Note m ∷ [] else [])
+told_end app slot n ends k (note.Closed freed) e =
+    by (k == app)
+  where
+    by : (c : Bool) → ended (if c then Some freed else None) ends slot ≡ ends_in slot n (if c then item.Note (note.Closed freed) ∷ [] else [])
+    by true = ap (λ x. if slot == freed then x + 1 else x) e
+    by false = e
+told_end app slot n ends k m e = e ∙ no_end slot n (k == app) (item.Note m) refl
+
+delivered_end : (app slot n : ℕ) (ends : Ends) (o : OpShown) (a : AnswerShown) → ends slot ≡ n
+    → ended (told_free app (noted_by o a)) ends slot ≡ ends_in slot n (put_by (queue.Down app) o a)
+delivered_end app slot n ends (op.Push (queue.Down k) (item.Note m)) answer.Pushed e = told_end app slot n ends k m e
+delivered_end app slot n ends (op.Push queue.Inbox (item.Note m)) answer.Pushed e = e
+delivered_end app slot n ends (op.Push (queue.Up k) (item.Note m)) answer.Pushed e = e
+delivered_end app slot n ends (op.Push (queue.Out k) (item.Note m)) answer.Pushed e = e
+delivered_end app slot n ends (op.Push (queue.Tx k) (item.Note m)) answer.Pushed e = e
+delivered_end app slot n ends (op.Push (queue.Rx k) (item.Note m)) answer.Pushed e = e
+delivered_end app slot n ends (op.Push q (item.Packet mark b)) answer.Pushed e = e ∙ no_end slot n (is_queue (queue.Down app) q) (item.Packet mark b) refl
+delivered_end app slot n ends (op.Push q (item.Frame f)) answer.Pushed e = e ∙ no_end slot n (is_queue (queue.Down app) q) (item.Frame f) refl
+delivered_end app slot n ends (op.Pop q) (answer.Popped (item.Note m)) e = e
+delivered_end app slot n ends (op.Pop q) (answer.Popped (item.Packet mark b)) e = e
+delivered_end app slot n ends (op.Pop q) (answer.Popped (item.Frame f)) e = e
+delivered_end app slot n ends _ _ e = e
+
+delivered_from : (app slot ordinal n : ℕ) (ends : Ends) (es : List Entry) → ends slot ≡ n → delivered_after app slot ordinal ends es ≡ payloads_from slot ordinal n (puts (queue.Down app) es)
+delivered_from app slot ordinal n ends [] e = refl
+delivered_from app slot ordinal n ends (x ∷ es) e =
+    let m : ℕ = ends_in slot n (put_by (queue.Down app) x.op x.answer) in
+    ap (λ ps. ps ++ delivered_after app slot ordinal (ended (told_free app (noted_in x)) ends) es) (delivered_one app slot ordinal n ends x.op x.answer e)
+    ∙ ap (λ ps. payloads_from slot ordinal n (put_by (queue.Down app) x.op x.answer) ++ ps)
+    (delivered_from app slot ordinal m (ended (told_free app (noted_in x)) ends) es (delivered_end app slot n ends x.op x.answer e))
+    ∙ sym (payloads_append slot ordinal n (put_by (queue.Down app) x.op x.answer) (puts (queue.Down app) es))
+
+-- what a router delivered are the payloads of what it put
+pub delivered_is : (app slot ordinal : ℕ) (es : List Entry) → delivered app slot ordinal es ≡ payloads_in slot ordinal (puts (queue.Down app) es)
+delivered_is app slot ordinal es = delivered_from app slot ordinal 0 no_ends es refl

@@ -1,0 +1,140 @@
+-- the end of a slot: its close, and the answer to it
+use Rattle.std.specs.Prelude.{Bool, true, false, None, Option}
+use Rattle.std.proofs.Common.{◌≡◌, ℕ, ◌+◌, ◌<◌, List, ap, refl, sym, subst, ◌∙◌}
+use Rattle.csp_base.specs.declared.traces.Tag.{Tag}
+use Rattle.csp_conn.specs.Slots.{is_free}
+use Rattle.csp_conn.specs.PlainConns.{slot_at}
+use Rattle.csp_conn.specs.declared.conns.TheConstants.{SLOTS}
+use Rattle.csp_conn.specs.declared.slot.Connection.{Connection}
+use Rattle.csp_conn.specs.declared.slot.Slot.{Slot}
+use Rattle.csp_conn.specs.declared.slot.Slot.TheVariants as has
+use Rattle.csp_ports.specs.Asking.{close, close_by, ending_in, held_by}
+use Rattle.csp_ports.specs.Asking.{is_reliable as are_reliable}
+use Rattle.csp_ports.specs.Came.{come, then}
+use Rattle.csp_ports.specs.PlainPorts.{PlainPorts, is_closing, machine_at, stalled_at, terms_at, with_terms}
+use Rattle.csp_ports.specs.Steps.{stepped}
+use Rattle.csp_ports.specs.declared.origin.Origin.{Origin}
+use Rattle.csp_ports.specs.declared.terms.Terms.{Terms}
+use Rattle.csp_ports.specs.declared.terms.Wish.{Wish}
+use Rattle.csp_ports.specs.declared.terms.Wish.TheVariants as wish
+use Rattle.csp_rdp.specs.Holding.{rested}
+use Rattle.csp_rdp.specs.Jobs.{closing}
+use Rattle.csp_rdp.specs.Machine.{PlainRdp, idle}
+use Rattle.csp_rdp.specs.declared.answers.State.{State}
+use Rattle.csp_rdp.specs.declared.answers.State.TheVariants as state
+use Rattle.csp_rdp_header.specs.declared.head.RdpHead.{RdpHead}
+use Rattle.csp_prefix.proofs.PortChanges.{at_view}
+use Rattle.csp_prefix.proofs.PortFacts.{All, Leaves, comes_of, fine_of, used, using}
+use Rattle.csp_prefix.proofs.PortSlots.{AreFine, AreFineBut, ended_but, look, machine_but, none_some, slot_but, terms_but, whole}
+use Rattle.csp_prefix.proofs.PortViews.{View, now_of, view}
+use Rattle.csp_prefix.specs.Ports.{AreGood, Books, Comes, IsInUse, IsPlain, IsSlot, IsVacant, Ordinals, ends_due, waiting_on}
+use Rattle.csp_prefix.specs.Slots.{IsKept, Now, Numbering}
+use Rattle.csp_prefix.specs.Slots.{with_machine as with_other}
+
+-- ---- the close
+
+end_ended : wish.End ≡ wish.Ended → ⊥
+end_ended e = cc
+
+-- other terms, by what they are
+pub terms_by : {Is : Numbering → ℕ → ℕ → Now → Type 0} {Tight : ℕ → Type 0} {m : Numbering} {ordinals : Ordinals} {books : Books} {p : PlainPorts} {app slot : ℕ} {v : View} (f : Terms → Terms) → AreFineBut Is Tight m ordinals books p app slot v
+    → AreFineBut Is Tight m ordinals books (with_terms p app slot (f (terms_at p app slot))) app slot (record v { terms = f v.terms })
+terms_by {Is} {Tight} {m} {ordinals} {books} {p} {app} {slot} {v} f h =
+    subst (λ (v : View). AreFineBut Is Tight m ordinals books (with_terms p app slot (f (terms_at p app slot))) app slot (record v { terms = f v.terms })) h.seen (terms_but (at_view h) (f (terms_at p app slot)))
+
+-- the slot is as it was but for what its application waits for
+module _ {Is : Numbering → ℕ → ℕ → Now → Type 0} {m : Numbering} {ordinals : Ordinals} {books : Books} {q : PlainPorts} {app slot : ℕ} {v : View} (h : AreFineBut Is All m ordinals books q app slot v)
+    (counted : v.terms.ordinal ≡ ordinals app slot) (ends : v.ends ≡ 0) (none : v.waits ≡ None) (holds : (w : Wish) → IsSlot Is v.what (record v.terms { wish = w }) m app slot (now_of v)) where
+  later_fine : AreFine Is All m ordinals books (with_terms q app slot (record (terms_at q app slot) { wish = wish.End }))
+  later_fine =
+      whole (terms_by (λ (t : Terms). record t { wish = wish.End }) h)
+      (record { counted = counted; ends = ends; over = λ e. absurd (end_ended e); waits = λ t payload e. absurd (none_some payload (sym none ∙ e)); holds = holds wish.End })
+
+  ending_fine : (s : State) → v.machine.state ≡ s → AreFine Is All m ordinals books (ending_in s app slot q)
+  ending_fine state.Closed e =
+      whole (ended_but (terms_by (λ (t : Terms). record t { wish = wish.Ended }) h))
+      (record { counted = counted; ends = ap (λ (k : ℕ). k + 1) ends; over = λ _. e; waits = λ t payload e. absurd (none_some payload (sym none ∙ e)); holds = holds wish.Ended })
+  ending_fine state.SynSent e = later_fine
+  ending_fine state.SynRcvd e = later_fine
+  ending_fine state.Open e = later_fine
+  ending_fine state.CloseWait e = later_fine
+
+ending_apps : (s : State) (app slot : ℕ) (q : PlainPorts) → (ending_in s app slot q).conns.apps ≡ q.conns.apps
+ending_apps state.Closed app slot q = refl
+ending_apps state.SynSent app slot q = refl
+ending_apps state.SynRcvd app slot q = refl
+ending_apps state.Open app slot q = refl
+ending_apps state.CloseWait app slot q = refl
+
+-- before the close no answer to it is owed
+none_due : (w : Wish) → is_closing w ≡ false → ends_due w ≡ 0
+none_due wish.Nothing e = refl
+none_due wish.Connection e = refl
+none_due wish.End e = refl
+none_due wish.Ended e = absurd cc
+
+-- an idle machine stays so
+still : (time : ℕ) (r : PlainRdp) → r ≡ idle → rested (closing time r) ≡ idle
+still time r e = ap (λ (r : PlainRdp). rested (closing time r)) e
+
+module _ {o : Origin} {Fed : PlainRdp → RdpHead → Option Tag → List ℕ → Type 0} {Invites : RdpHead → Option Tag → Type 0} {Is : Numbering → ℕ → ℕ → Now → Type 0} (kept : IsKept o Fed Invites Is)
+    {m : Numbering} {ordinals : Ordinals} {books : Books} {p : PlainPorts} (app slot time : ℕ) (here : app < p.conns.apps) (there : slot < SLOTS) (none : stalled_at p app ≡ None) (g : AreGood Is m ordinals books p) where
+  -- a slot with a connection
+  closed_use : (c : Connection) (b : Bool) (w : Wish) → let x = view p books app slot in x.what ≡ has.Open c → are_reliable x.terms.flags ≡ b
+      → IsSlot Is x.what (record x.terms { wish = w }) m app slot (now_of (record x { machine = rested (closing time x.machine) }))
+  closed_use c true w e f =
+      let x = view p books app slot in
+      let n = now_of (record x { machine = rested (closing time x.machine) }) in
+      let is : Is m app slot (now_of x) = used Is m app slot x.what x.terms (now_of x) c e f (g.slots app slot here there) in
+      using Is m app slot x.what (record x.terms { wish = w }) n c e f (kept.rests m app slot (with_other (closing time x.machine) (now_of x)) (kept.closes m app slot (now_of x) time is))
+  closed_use c false w e f =
+      let x = view p books app slot in
+      let n = now_of (record x { machine = rested (closing time x.machine) }) in
+      let k : IsPlain (now_of x) = subst (λ (b : Bool). IsInUse Is b m app slot (now_of x)) f (subst (λ (w : Slot). IsSlot Is w x.terms m app slot (now_of x)) e (g.slots app slot here there)) in
+      let l : IsPlain n = record { machine = still time x.machine k.machine; waits = k.waits; opened = k.opened } in
+      subst (λ (s : Slot). IsSlot Is s (record x.terms { wish = w }) m app slot n) (sym e) (subst (λ (b : Bool). IsInUse Is b m app slot n) (sym f) l)
+
+  vacant_still : let x = view p books app slot in IsVacant (now_of x) → IsVacant (now_of (record x { machine = rested (closing time x.machine) }))
+  vacant_still k = record { machine = still time (machine_at p app slot) k.machine; waits = k.waits; book = k.book }
+
+  none_waits : waiting_on slot (stalled_at p app) ≡ None
+  none_waits = ap (waiting_on slot) none
+
+  -- one that is free, and any other
+  close_free : let x = view p books app slot in x.ends ≡ 0 → x.what ≡ has.Free → Leaves Is All m ordinals books p.conns.apps (then (stepped app slot (closing time x.machine) (held_by true p app slot)) (λ p. come (ending_in (closing time x.machine).state app slot p)))
+  close_free due e =
+      let x = view p books app slot in
+      let r = closing time x.machine in
+      let k : IsVacant (now_of x) × (x.terms.wish ≡ wish.Nothing) = subst (λ (w : Slot). IsSlot Is w x.terms m app slot (now_of x)) e (g.slots app slot here there) in
+      record {
+        same = ending_apps r.state app slot (stepped app slot r (held_by true p app slot)).ports;
+        new = tt;
+        fine = ending_fine (machine_but (slot_but (look app slot here there (fine_of g)) has.Held p.conns.last) (rested r)) (g.counted app slot here there) due none_waits (λ _. vacant_still k.0) r.state refl;
+      }
+
+  close_used : let x = view p books app slot in x.ends ≡ 0 → ((w : Wish) → IsSlot Is x.what (record x.terms { wish = w }) m app slot (now_of (record x { machine = rested (closing time x.machine) })))
+      → Leaves Is All m ordinals books p.conns.apps (then (stepped app slot (closing time x.machine) (held_by false p app slot)) (λ p. come (ending_in (closing time x.machine).state app slot p)))
+  close_used due holds =
+      let r = closing time (machine_at p app slot) in
+      record {
+        same = ending_apps r.state app slot (stepped app slot r (held_by false p app slot)).ports;
+        new = tt;
+        fine = ending_fine (machine_but (look app slot here there (fine_of g)) (rested r)) (g.counted app slot here there) due none_waits holds r.state refl;
+      }
+
+  close_slot : (w : Slot) → let x = view p books app slot in x.ends ≡ 0 → x.what ≡ w
+      → Leaves Is All m ordinals books p.conns.apps (then (stepped app slot (closing time x.machine) (held_by (is_free w) p app slot)) (λ p. come (ending_in (closing time x.machine).state app slot p)))
+  close_slot has.Free due e = close_free due e
+  close_slot has.Held due e =
+      let x = view p books app slot in
+      let n = now_of (record x { machine = rested (closing time x.machine) }) in
+      let k : IsVacant (now_of x) = subst (λ (w : Slot). IsSlot Is w x.terms m app slot (now_of x)) e (g.slots app slot here there) in
+      close_used due (λ w. subst (λ (s : Slot). IsSlot Is s (record x.terms { wish = w }) m app slot n) (sym e) (vacant_still k))
+  close_slot (has.Open c) due e = close_used due (λ w. closed_use c _ w e refl)
+
+  close_on : (b : Bool) → is_closing (terms_at p app slot).wish ≡ b → Leaves Is All m ordinals books p.conns.apps (close_by b p app slot time)
+  close_on true e = record { same = refl; new = tt; fine = fine_of g }
+  close_on false e = close_slot (slot_at p.conns app slot) (g.ends app slot here there ∙ none_due (terms_at p app slot).wish e) refl
+
+  pub close_comes : Comes Is m ordinals books p.conns.apps (close p app slot time)
+  close_comes = comes_of (close_on (is_closing (terms_at p app slot).wish) refl) (λ _. tt)

@@ -1,0 +1,177 @@
+-- ports that are good, by their slots; one step after another; and what is on a slot
+use Rattle.std.specs.Prelude.{Bool, true, false, None, Option, ⊤}
+use Rattle.std.proofs.Common.{◌≡◌, ◌⊎◌, inl, inr, ℕ, ◌+◌, List, [], ◌∷◌, ◌++◌, ap, refl, sym, subst, ◌∙◌}
+use Rattle.csp_base.specs.declared.traces.Tag.{Tag}
+use Rattle.csp_conn.specs.declared.slot.Connection.{Connection}
+use Rattle.csp_conn.specs.declared.slot.Slot.{Slot}
+use Rattle.csp_conn.specs.declared.slot.Slot.TheVariants as has
+use Rattle.csp_log.specs.declared.event.Event.{Event}
+use Rattle.csp_ports.specs.Asking.{is_reliable as are_reliable}
+use Rattle.csp_ports.specs.Came.{Came, then}
+use Rattle.csp_ports.specs.PlainPorts.{PlainPorts, machine_at, stalled_at}
+use Rattle.csp_ports.specs.declared.origin.Origin.{Origin}
+use Rattle.csp_ports.specs.declared.terms.Terms.{Terms}
+use Rattle.csp_ports.specs.declared.terms.Wish.TheVariants as wish
+use Rattle.csp_rdp.specs.Machine.{PlainRdp, idle}
+use Rattle.csp_rdp.specs.declared.answers.State.TheVariants.{Open}
+use Rattle.csp_rdp_header.specs.declared.head.RdpHead.{RdpHead}
+use Rattle.csp_prefix.proofs.PortSlots.{AreFine, AreFineBut, waiting_here, waiting_open}
+use Rattle.csp_prefix.proofs.PortViews.{View, now_of, view}
+use Rattle.csp_prefix.specs.Ports.{AreGood, AreNew, Books, Comes, IsInUse, IsPlain, IsSlot, IsVacant, Ordinals, noted, noted_by}
+use Rattle.csp_prefix.specs.Slots.{GoesOn, IsKept, Now, Numbering}
+
+-- every application
+abbrev pub All : ℕ → Type 0
+All _ = ⊤
+
+-- ---- good ports are fine on each slot, and the other way round
+
+module _ {Is : Numbering → ℕ → ℕ → Now → Type 0} {m : Numbering} {ordinals : Ordinals} {books : Books} {p : PlainPorts} where
+  pub fine_of : AreGood Is m ordinals books p → AreFine Is All m ordinals books p
+  fine_of g = record {
+    shape = record {
+      few = g.few;
+      conns = g.conns;
+      terms = g.terms;
+      machines = g.machines;
+      places = g.places;
+      made = g.made;
+      owners = g.owners;
+      owed = g.owed;
+      waits = λ app s k e. (g.waits app s k e).0;
+    };
+    slots = λ a s k l. record {
+      counted = g.counted a s k l;
+      ends = g.ends a s k l;
+      over = g.over a s k l;
+      waits = λ t payload e. waiting_open (stalled_at p a) s payload (λ (slot : ℕ). (machine_at p a slot).state ≡ Open) (λ t f. (g.waits a t k f).1) e;
+      holds = g.slots a s k l;
+    };
+  }
+
+  pub good_of : AreFine Is All m ordinals books p → AreGood Is m ordinals books p
+  good_of h = record {
+    few = h.shape.few;
+    conns = h.shape.conns;
+    terms = h.shape.terms;
+    machines = h.shape.machines;
+    places = h.shape.places;
+    made = h.shape.made;
+    owners = h.shape.owners;
+    owed = h.shape.owed;
+    counted = λ a s k l. (h.slots a s k l).counted;
+    waits = λ a s k e.
+        let there = h.shape.waits a s k e in
+        (there, (h.slots a s.slot k there).waits tt s.buffer.picture.payload (waiting_here (stalled_at p a) s e));
+    ends = λ a s k l. (h.slots a s k l).ends;
+    over = λ a s k l. (h.slots a s k l).over;
+    slots = λ a s k l. (h.slots a s k l).holds;
+  }
+
+-- ---- steps
+
+-- what comes leaves every slot fine, with what is reported noted
+pub record Leaves (Is : Numbering → ℕ → ℕ → Now → Type 0) (Tight : ℕ → Type 0) (m : Numbering) (ordinals : Ordinals) (books : Books) (apps : ℕ) (c : Came) : Type 0 where
+  pub same : c.ports.conns.apps ≡ apps
+  pub new : AreNew apps c.events books
+  pub fine : AreFine Is Tight m ordinals (noted c.events books) c.ports
+
+new_both : (apps : ℕ) (es fs : List Event) (books : Books) → AreNew apps es books → AreNew apps fs (noted es books) → AreNew apps (es ++ fs) books
+new_both apps [] fs books h k = k
+new_both apps (e ∷ es) fs books h k = (h.0, new_both apps es fs (noted_by e books) h.1 k)
+
+noted_both : (es fs : List Event) (books : Books) → noted fs (noted es books) ≡ noted (es ++ fs) books
+noted_both [] fs books = refl
+noted_both (e ∷ es) fs books = noted_both es fs (noted_by e books)
+
+module _ {Is : Numbering → ℕ → ℕ → Now → Type 0} {Tight : ℕ → Type 0} {m : Numbering} {ordinals : Ordinals} {books : Books} {apps : ℕ} where
+  pub comes_of : {c : Came} → Leaves Is Tight m ordinals books apps c → ((a : ℕ) → Tight a) → Comes Is m ordinals books apps c
+  comes_of h tight = record { same = h.same; new = h.new; good = good_of (tightened h.fine) }
+    where
+      tightened : {p : PlainPorts} {others : Books} → AreFine Is Tight m ordinals others p → AreFine Is All m ordinals others p
+      tightened h = record {
+        shape = h.shape;
+        slots = λ a s k l. let f = h.slots a s k l in record { counted = f.counted; ends = f.ends; over = f.over; waits = λ t. f.waits (tight a); holds = f.holds };
+      }
+
+  pub then_leaves : {Loose : ℕ → Type 0} (c : Came) (next : PlainPorts → Came) → Leaves Is Loose m ordinals books apps c
+      → Leaves Is Tight m ordinals (noted c.events books) apps (next c.ports) → Leaves Is Tight m ordinals books apps (then c next)
+  then_leaves c next h k = record {
+    same = k.same;
+    new = new_both apps c.events (next c.ports).events books h.new k.new;
+    fine = subst (λ (bs : Books). AreFine Is Tight m ordinals bs (next c.ports).ports) (noted_both c.events (next c.ports).events books) k.fine;
+  }
+
+-- ---- what is on a slot
+
+-- it has no reliable connection
+pub record IsResting (v : View) : Type 0 where
+  pub machine : v.machine ≡ idle
+  pub waits : v.waits ≡ None
+
+-- it has one
+pub record IsReliable (Is : Numbering → ℕ → ℕ → Now → Type 0) (m : Numbering) (app slot : ℕ) (v : View) : Type 0 where
+  pub connection : Connection
+  pub what : v.what ≡ has.Open connection
+  pub reliable : are_reliable v.terms.flags ≡ true
+  pub holds : Is m app slot (now_of v)
+
+module _ (Is : Numbering → ℕ → ℕ → Now → Type 0) (m : Numbering) (app slot : ℕ) where
+  pub used : (w : Slot) (t : Terms) (n : Now) (c : Connection) → w ≡ has.Open c → are_reliable t.flags ≡ true → IsSlot Is w t m app slot n → Is m app slot n
+  used w t n c e f h = subst (λ (b : Bool). IsInUse Is b m app slot n) f (subst (λ (w : Slot). IsSlot Is w t m app slot n) e h)
+
+  pub using : (w : Slot) (t : Terms) (n : Now) (c : Connection) → w ≡ has.Open c → are_reliable t.flags ≡ true → Is m app slot n → IsSlot Is w t m app slot n
+  using w t n c e f h = subst (λ (w : Slot). IsSlot Is w t m app slot n) (sym e) (subst (λ (b : Bool). IsInUse Is b m app slot n) (sym f) h)
+
+  pub either : (v : View) → IsSlot Is v.what v.terms m app slot (now_of v) → IsResting v ⊎ IsReliable Is m app slot v
+  either v h = by_slot v.what refl
+    where
+      by_flags : (c : Connection) (b : Bool) → v.what ≡ has.Open c → are_reliable v.terms.flags ≡ b → IsResting v ⊎ IsReliable Is m app slot v
+      by_flags c true e f = inr (record { connection = c; what = e; reliable = f; holds = used v.what v.terms (now_of v) c e f h })
+      by_flags c false e f =
+          let k : IsPlain (now_of v) = subst (λ (b : Bool). IsInUse Is b m app slot (now_of v)) f (subst (λ (w : Slot). IsSlot Is w v.terms m app slot (now_of v)) e h) in
+          inl (record { machine = k.machine; waits = k.waits })
+
+      by_slot : (w : Slot) → v.what ≡ w → IsResting v ⊎ IsReliable Is m app slot v
+      by_slot has.Free e =
+          let k : IsVacant (now_of v) × (v.terms.wish ≡ wish.Nothing) = subst (λ (w : Slot). IsSlot Is w v.terms m app slot (now_of v)) e h in
+          inl (record { machine = k.0.machine; waits = k.0.waits })
+      by_slot has.Held e =
+          let k : IsVacant (now_of v) = subst (λ (w : Slot). IsSlot Is w v.terms m app slot (now_of v)) e h in
+          inl (record { machine = k.machine; waits = k.waits })
+      by_slot (has.Open c) e = by_flags c (are_reliable v.terms.flags) e refl
+
+-- ---- other connections are made
+
+module _ {o : Origin} {Fed : PlainRdp → RdpHead → Option Tag → List ℕ → Type 0} {Invites : RdpHead → Option Tag → Type 0} {Is : Numbering → ℕ → ℕ → Now → Type 0} (kept : IsKept o Fed Invites Is) where
+  grown_use : (b : Bool) (old new : Numbering) (app slot : ℕ) (n : Now) → GoesOn old new → IsInUse Is b old app slot n → IsInUse Is b new app slot n
+  grown_use true old new app slot n g h = kept.grows old new app slot n g h
+  grown_use false old new app slot n g h = h
+
+  grown_slot : (w : Slot) (t : Terms) (old new : Numbering) (app slot : ℕ) (n : Now) → GoesOn old new → IsSlot Is w t old app slot n → IsSlot Is w t new app slot n
+  grown_slot has.Free t old new app slot n g h = h
+  grown_slot has.Held t old new app slot n g h = h
+  grown_slot (has.Open c) t old new app slot n g h = grown_use (are_reliable t.flags) old new app slot n g h
+
+  pub grown_but : {Tight : ℕ → Type 0} {old : Numbering} {ordinals : Ordinals} {books : Books} {p : PlainPorts} {app slot : ℕ} {v : View} (new : Numbering) → GoesOn old new → new.made ≡ old.made + 1 → AreFineBut Is Tight old ordinals books p app slot v
+      → AreFineBut Is Tight new ordinals books (record p { made = p.made + 1 }) app slot v
+  grown_but {old = old} {books = books} {p = p} new g more h = record {
+    shape = record {
+      few = h.shape.few;
+      conns = h.shape.conns;
+      terms = h.shape.terms;
+      machines = h.shape.machines;
+      places = h.shape.places;
+      made = ap (λ (k : ℕ). k + 1) h.shape.made ∙ sym more;
+      owners = h.shape.owners;
+      owed = h.shape.owed;
+      waits = h.shape.waits;
+    };
+    here = h.here;
+    there = h.there;
+    seen = h.seen;
+    others = λ a s k l t.
+        let f = h.others a s k l t in
+        let x = view p books a s in
+        record { counted = f.counted; ends = f.ends; over = f.over; waits = f.waits; holds = grown_slot x.what x.terms old new a s (now_of x) g f.holds };
+  }

@@ -1,0 +1,36 @@
+-- every step of the ports keeps what is known of each connection
+use Rattle.std.specs.Prelude.{Option}
+use Rattle.std.proofs.Common.{ℕ, List}
+use Rattle.csp_base.specs.declared.traces.Tag.{Tag}
+use Rattle.csp_ports.specs.declared.origin.Origin.{Origin}
+use Rattle.csp_rdp.specs.Machine.{PlainRdp}
+use Rattle.csp_rdp_header.specs.declared.head.RdpHead.{RdpHead}
+use Rattle.csp_prefix.proofs.PortAnswers.{answered_answers}
+use Rattle.csp_prefix.proofs.PortBegun.{accepted_good, connect_comes, invited_comes}
+use Rattle.csp_prefix.proofs.PortEnds.{close_comes}
+use Rattle.csp_prefix.proofs.PortPackets.{delivered_comes, handed_comes}
+use Rattle.csp_prefix.proofs.PortQuiet.{bound_good, keeps_good, makes_good, opens_good, owes_good, told_good, turned_good}
+use Rattle.csp_prefix.proofs.PortSubmits.{submitted_submits}
+use Rattle.csp_prefix.proofs.PortTimes.{timed_comes}
+use Rattle.csp_prefix.specs.Ports.{ArePortsKept}
+use Rattle.csp_prefix.specs.Slots.{IsKept, Now, Numbering}
+
+pub ports_kept : (o : Origin) (Fed : PlainRdp → RdpHead → Option Tag → List ℕ → Type 0) (Invites : RdpHead → Option Tag → Type 0) (Is : Numbering → ℕ → ℕ → Now → Type 0) → IsKept o Fed Invites Is → ArePortsKept o Fed Invites Is
+ports_kept o Fed Invites Is kept = record {
+  opens = λ apps home few. opens_good Is apps home few;
+  times = λ m ordinals books p time g. timed_comes kept g time;
+  turns = λ m ordinals books p app slot g. turned_good g app slot;
+  binds = λ m ordinals books p app port need here g. bound_good g app port need here;
+  connects = λ m ordinals books p app r time here there g. connect_comes kept app r here there g time;
+  closes = λ m ordinals books p app slot time here there none g. close_comes kept app slot time here there none g;
+  accepts = λ m ordinals books p app slot c prio flags here there free plain g. accepted_good app slot here there g c prio flags free plain;
+  invites = λ m ordinals books p app slot c prio flags i time here there free reliable syn invites g. invited_comes kept app slot here there g c prio flags i time free reliable syn invites;
+  hands = λ m ordinals books p app slot h b time here there on fed g. handed_comes kept app slot here there g h b time on fed;
+  submits = λ m ordinals books p app slot b time here there on none g. submitted_submits kept app slot b time here there on none g;
+  owes = λ m ordinals books p app slot time j here there e g. owes_good kept app slot here there g time j e;
+  makes = λ m ordinals books p app slot time j here there e g. makes_good kept app slot here there g time j e;
+  delivers = λ m ordinals books p app slot time b here there e g. delivered_comes kept app slot here there g time b e;
+  keeps = λ m ordinals books p app slot b here there e g. keeps_good kept app slot here there g b e;
+  tells = λ m ordinals books p app slot g. told_good g app slot;
+  answers = λ m ordinals books p first rest e g. answered_answers g first rest e;
+}

@@ -1,0 +1,241 @@
+-- steps of the ports that tell the log nothing
+use Rattle.std.specs.Prelude.{◌==◌, Bool, true, false, IfSome, None, Option, Some, get_or, nat_lt, replicate, slice_set}
+use Rattle.std.proofs.Common.{◌≡◌, ◌⊎◌, inl, inr, ℕ, zero, suc, ◌*◌, ◌<◌, ◌≤◌, List, length, ap, refl, sym, subst, ◌∙◌}
+use Rattle.std.proofs.Math.ListN.{length-replicate}
+use Rattle.std.proofs.lemmas.Bool.{eqb-false, eqb-true, ltb-false, ltb-true}
+use Rattle.std.proofs.lemmas.List.{get_or-set_other, get_or-set_same, length-set, set_past}
+use Rattle.csp_base.specs.declared.traces.Tag.{Tag}
+use Rattle.csp_buffer.specs.PlainBuffer.{PlainBuffer}
+use Rattle.csp_conn.specs.PlainConns.{place_of}
+use Rattle.csp_conn.specs.declared.conns.TheConstants.{MAX_APPS, SLOTS}
+use Rattle.csp_conn.specs.declared.slot.Slot.{Slot}
+use Rattle.csp_conn.specs.declared.slot.Slot.TheVariants as has
+use Rattle.csp_deck.specs.Carried.{IsReply}
+use Rattle.csp_log.specs.declared.note.Note.{Note}
+use Rattle.csp_log.specs.declared.note.Note.TheVariants as note
+use Rattle.csp_log.specs.declared.note.Why.TheVariants as why
+use Rattle.csp_ports.specs.Asking.{bind, bind_by}
+use Rattle.csp_ports.specs.PlainPorts.{PlainPorts, anywhere, fresh, machine_at, owing, ports_of, terms_at, with_machine}
+use Rattle.csp_ports.specs.Tasks.{kept_again, making, told_down, turned, without_packet}
+use Rattle.csp_ports.specs.declared.origin.Origin.{Origin}
+use Rattle.csp_ports.specs.declared.terms.Terms.{Terms}
+use Rattle.csp_rdp.specs.Jobs.{delivery, job_of, keeping_again, sent, taken_in, without_delivery}
+use Rattle.csp_rdp.specs.Machine.{PlainRdp, idle}
+use Rattle.csp_rdp.specs.declared.answers.State.{State}
+use Rattle.csp_rdp.specs.declared.answers.State.TheVariants.{Closed, CloseWait, Open, SynRcvd, SynSent}
+use Rattle.csp_rdp.specs.declared.jobs.Job.{Job}
+use Rattle.csp_rdp.specs.declared.jobs.Job.TheVariants as job
+use Rattle.csp_rdp_header.specs.declared.head.RdpHead.{RdpHead}
+use Rattle.csp_socket.specs.Bound.{owner_of, with_owner}
+use Rattle.csp_prefix.proofs.PortChanges.{IsUse, at_view, use_fine}
+use Rattle.csp_prefix.proofs.PortFacts.{All, IsReliable, IsResting, either, fine_of, good_of}
+use Rattle.csp_prefix.proofs.PortSlots.{AreFine, AreFineBut, IsFine, IsQuiet, look, machine_but, none_some, owing_quiet, owing_shape, whole}
+use Rattle.csp_prefix.proofs.PortViews.{View, now_of, view}
+use Rattle.csp_prefix.specs.Ports.{AreGood, Books, IsReliableOn, IsSlot, Ordinals, ends_due, now_at, waiting_on}
+use Rattle.csp_prefix.specs.Slots.{IsKept, Now, Numbering, blank}
+
+-- ---- lists with another element
+
+pub set_all : {X : Type 0} (xs : List X) (k j : ℕ) (x d : X) (P : X → Type 0) → (j ≡ k → P x) → P (get_or xs j d) → P (get_or (slice_set xs k x) j d)
+set_all xs k j x d P new old = go (j == k) refl
+  where
+    inside : (b : Bool) → nat_lt k (length xs) ≡ b → j ≡ k → P (get_or (slice_set xs k x) j d)
+    inside true f e = subst P (sym (ap (λ (j : ℕ). get_or (slice_set xs k x) j d) e ∙ get_or-set_same xs k x d (ltb-true k (length xs) f))) (new e)
+    inside false f e = subst P (sym (ap (λ (ys : List _). get_or ys j d) (set_past xs k x (ltb-false k (length xs) f)))) old
+
+    go : (b : Bool) → (j == k) ≡ b → P (get_or (slice_set xs k x) j d)
+    go true e = inside (nat_lt k (length xs)) refl (eqb-true j k e)
+    go false e = subst P (sym (get_or-set_other xs k j x d (λ f. eqb-false j k e f))) old
+
+replicate_get : {X : Type 0} (n i : ℕ) (x : X) → get_or (replicate n x) i x ≡ x
+replicate_get zero i x = refl
+replicate_get (suc n) zero x = refl
+replicate_get (suc n) (suc i) x = replicate_get n i x
+
+-- ---- a look past a slot, and a note that is told
+
+module _ {Is : Numbering → ℕ → ℕ → Now → Type 0} {m : Numbering} {ordinals : Ordinals} {books : Books} {p : PlainPorts} (g : AreGood Is m ordinals books p) where
+  pub turned_good : (app slot : ℕ) → AreGood Is m ordinals books (turned app slot p)
+  turned_good app slot = record {
+    few = g.few;
+    conns = g.conns;
+    terms = g.terms;
+    machines = g.machines;
+    places = g.places;
+    made = g.made;
+    owners = g.owners;
+    owed = g.owed;
+    counted = g.counted;
+    waits = g.waits;
+    ends = g.ends;
+    over = g.over;
+    slots = g.slots;
+  }
+
+  pub told_good : (app slot : ℕ) → AreGood Is m ordinals books (told_down app slot p)
+  told_good app slot =
+      let h = fine_of g in
+      good_of (record {
+        shape = record {
+          few = g.few;
+          conns = g.conns;
+          terms = length-set p.terms (place_of app slot) (record (terms_at p app slot) { is_down = false }) ∙ g.terms;
+          machines = g.machines;
+          places = g.places;
+          made = g.made;
+          owners = g.owners;
+          owed = g.owed;
+          waits = h.shape.waits;
+        };
+        slots = λ a s k l.
+            let f = h.slots a s k l in
+            set_all p.terms (place_of app slot) (place_of a s) (record (terms_at p app slot) { is_down = false }) fresh
+            (λ t. IsFine Is All m (ordinals a s) a s (record (view p books a s) { terms = t }))
+            (λ e. subst (λ (k : ℕ). IsFine Is All m (ordinals a s) a s (record (view p books a s) { terms = record (get_or p.terms k fresh) { is_down = false } })) e
+            (told_fine (view p books a s) f))
+            f;
+      })
+    where
+      told_slot : (w : Slot) (t : Terms) (a s : ℕ) (n : Now) → IsSlot Is w t m a s n → IsSlot Is w (record t { is_down = false }) m a s n
+      told_slot has.Free t a s n h = h
+      told_slot has.Held t a s n h = h
+      told_slot (has.Open c) t a s n h = h
+
+      told_fine : {ordinal a s : ℕ} (v : View) → IsFine Is All m ordinal a s v → IsFine Is All m ordinal a s (record v { terms = record v.terms { is_down = false } })
+      told_fine {ordinal} {a} {s} v f = record { counted = f.counted; ends = f.ends; over = f.over; waits = f.waits; holds = told_slot v.what v.terms a s (now_of v) f.holds }
+
+  -- ---- ports
+
+  pub owing_good : (app : ℕ) (answer : Note) → app < p.conns.apps → IsReply answer → IsQuiet answer → AreGood Is m ordinals books (owing p app answer)
+  owing_good app answer here reply none =
+      let h = fine_of g in
+      good_of (record {
+        shape = owing_shape app answer h.shape here reply;
+        slots = λ a s k l. subst (IsFine Is All m (ordinals a s) a s) (sym (owing_quiet p books app answer a s none)) (h.slots a s k l);
+      })
+
+  owned_good : (app port need : ℕ) → app < p.conns.apps → AreGood Is m ordinals books (record p { bound = with_owner p.bound port app need })
+  owned_good app port need here = record {
+    few = g.few;
+    conns = g.conns;
+    terms = g.terms;
+    machines = g.machines;
+    places = g.places;
+    made = g.made;
+    owners = λ q. set_all p.bound port q (Some (app, need)) None (λ (x : Option (ℕ × ℕ)). IfSome x (λ o. o.0 < p.conns.apps)) (λ _. here) (g.owners q);
+    owed = g.owed;
+    counted = g.counted;
+    waits = g.waits;
+    ends = g.ends;
+    over = g.over;
+    slots = g.slots;
+  }
+
+-- a port is bound, or not
+module _ {Is : Numbering → ℕ → ℕ → Now → Type 0} {m : Numbering} {ordinals : Ordinals} {books : Books} {p : PlainPorts} (g : AreGood Is m ordinals books p) where
+  bound_by : (b : Bool) (owner : Option (ℕ × ℕ)) (app port need : ℕ) → app < p.conns.apps → AreGood Is m ordinals books (bind_by b owner p app port need)
+  bound_by false owner app port need here = owing_good g app (note.Refused why.NotBindable) here tt (λ s. refl)
+  bound_by true (Some owner) app port need here = owing_good g app (note.Refused why.InUse) here tt (λ s. refl)
+  bound_by true None app port need here = owing_good (owned_good g app port need here) app note.Bound here tt (λ s. refl)
+
+  pub bound_good : (app port need : ℕ) → app < p.conns.apps → AreGood Is m ordinals books (bind p app port need)
+  bound_good app port need here = bound_by _ (owner_of p.bound port) app port need here
+
+-- ---- the opening
+
+pub opens_good : (Is : Numbering → ℕ → ℕ → Now → Type 0) (apps : ℕ) (home : ℕ → ℕ × ℕ × ℕ) → apps ≤ MAX_APPS → AreGood Is (record { made = 0; home = home }) (λ _ _. 0) (λ _ _. blank) (ports_of apps)
+opens_good Is apps home few = record {
+  few = few;
+  conns = length-replicate (apps * SLOTS) has.Free;
+  terms = refl;
+  machines = refl;
+  places = refl;
+  made = refl;
+  owners = λ port. subst (λ (x : Option (ℕ × ℕ)). IfSome x (λ o. o.0 < apps)) (sym (replicate_get 48 port None)) tt;
+  owed = tt;
+  counted = λ a s k l. ap (λ (t : Terms). t.ordinal) (replicate_get 16 (place_of a s) fresh);
+  waits = λ a s k e. absurd (none_some s (sym (replicate_get 4 a None) ∙ e));
+  ends = λ a s k l. ap (λ (t : Terms). ends_due t.wish) (sym (replicate_get 16 (place_of a s) fresh));
+  over = λ a s k l e. ap (λ (r : PlainRdp). r.state) (replicate_get 16 (place_of a s) idle);
+  slots = λ a s k l.
+      subst (λ (w : Slot). IsSlot Is w (terms_at (ports_of apps) a s) (record { made = 0; home = home }) a s (now_at (ports_of apps) (λ _ _. blank) a s)) (sym (replicate_get (apps * SLOTS) (place_of a s) has.Free))
+      (record { machine = replicate_get 16 (place_of a s) idle; waits = ap (waiting_on s) (replicate_get 4 a None); book = refl }, ap (λ (t : Terms). t.wish) (replicate_get 16 (place_of a s) fresh));
+}
+
+-- ---- the connection of a slot as it is
+
+-- it owes something only where it is a reliable one
+pub idle_job : (time : ℕ) (r : PlainRdp) (j : Job) → r ≡ idle → job_of time r ≡ Some j → ⊥
+idle_job time r j e f = none_some j (sym (ap (job_of time) e) ∙ f)
+
+pub idle_delivery : (r : PlainRdp) (b : PlainBuffer) → r ≡ idle → delivery r ≡ Some b → ⊥
+idle_delivery r b e f = none_some b (sym (ap delivery e) ∙ f)
+
+pub sent_state : (j : Job) (time : ℕ) (r : PlainRdp) → (sent j time r).state ≡ r.state
+sent_state job.Rst time r = refl
+sent_state job.Syn time r = refl
+sent_state job.Deliver time r = refl
+sent_state job.Eak time r = refl
+sent_state job.Data time r = refl
+sent_state job.Ack time r = refl
+
+pub taken_state : (r : PlainRdp) → (without_delivery r).state ≡ r.state
+taken_state r = go r.state
+  where
+    go : (s : State) → (taken_in s r).state ≡ r.state
+    go Open = refl
+    go SynSent = refl
+    go SynRcvd = refl
+    go CloseWait = refl
+    go Closed = refl
+
+-- a reliable connection on a fine slot, where there is one
+pub use_of : {Is : Numbering → ℕ → ℕ → Now → Type 0} {Tight : ℕ → Type 0} {m : Numbering} {ordinal app slot : ℕ} {v : View} → IsFine Is Tight m ordinal app slot v → IsReliable Is m app slot v → IsUse Is m ordinal app slot v (now_of v)
+use_of f r = record { connection = r.connection; what = r.what; reliable = r.reliable; counted = f.counted; ends = f.ends; over = f.over; holds = r.holds }
+
+-- another machine by a step that leaves its state
+pub stepped_fine : {Is : Numbering → ℕ → ℕ → Now → Type 0} {Tight : ℕ → Type 0} {m : Numbering} {ordinals : Ordinals} {books : Books} {app slot : ℕ} (q : PlainPorts) (v : View) (r : PlainRdp) → AreFineBut Is Tight m ordinals books q app slot (record v { machine = r })
+    → r.state ≡ v.machine.state → IsFine Is Tight m (ordinals app slot) app slot v → IsReliable Is m app slot v → Is m app slot (now_of (record v { machine = r })) → AreFine Is Tight m ordinals books q
+stepped_fine q v r h same f k is =
+    whole h
+    (use_fine {v = record v { machine = r }} (λ t payload e. same ∙ f.waits t payload e)
+    (record { connection = k.connection; what = k.what; reliable = k.reliable; counted = f.counted; ends = f.ends; over = λ e. same ∙ f.over e; holds = is }))
+
+pub used_on : {Is : Numbering → ℕ → ℕ → Now → Type 0} {m : Numbering} {ordinals : Ordinals} {books : Books} {p : PlainPorts} (app slot : ℕ) → app < p.conns.apps → slot < SLOTS → AreGood Is m ordinals books p → ((machine_at p app slot ≡ idle) → ⊥) → IsReliable Is m app slot (view p books app slot)
+used_on {Is} {m} {ordinals} {books} {p} app slot here there g busy = go (either Is m app slot (view p books app slot) (g.slots app slot here there))
+  where
+    go : IsResting (view p books app slot) ⊎ IsReliable Is m app slot (view p books app slot) → IsReliable Is m app slot (view p books app slot)
+    go (inl r) = absurd (busy r.machine)
+    go (inr k) = k
+
+-- another machine, by what is there
+pub machine_by : {Is : Numbering → ℕ → ℕ → Now → Type 0} {Tight : ℕ → Type 0} {m : Numbering} {ordinals : Ordinals} {books : Books} {p : PlainPorts} {app slot : ℕ} {v : View} (f : PlainRdp → PlainRdp) → AreFineBut Is Tight m ordinals books p app slot v
+    → AreFineBut Is Tight m ordinals books (with_machine p app slot (f (machine_at p app slot))) app slot (record v { machine = f v.machine })
+machine_by {Is} {Tight} {m} {ordinals} {books} {p} {app} {slot} {v} f h =
+    subst (λ (v : View). AreFineBut Is Tight m ordinals books (with_machine p app slot (f (machine_at p app slot))) app slot (record v { machine = f v.machine })) h.seen (machine_but (at_view h) (f (machine_at p app slot)))
+
+module _ {o : Origin} {Fed : PlainRdp → RdpHead → Option Tag → List ℕ → Type 0} {Invites : RdpHead → Option Tag → Type 0} {Is : Numbering → ℕ → ℕ → Now → Type 0} (kept : IsKept o Fed Invites Is)
+    {m : Numbering} {ordinals : Ordinals} {books : Books} {p : PlainPorts} (app slot : ℕ) (here : app < p.conns.apps) (there : slot < SLOTS) (g : AreGood Is m ordinals books p) where
+  pub owes_good : (time : ℕ) (j : Job) → job_of time (machine_at p app slot) ≡ Some j → IsReliableOn p app slot × Is m app slot (now_at p books app slot)
+  owes_good time j e =
+      let k : IsReliable Is m app slot (view p books app slot) = used_on app slot here there g (λ f. idle_job time (machine_at p app slot) j f e) in
+      (record { connection = k.connection; there = k.what; reliable = k.reliable }, k.holds)
+
+  pub makes_good : (time : ℕ) (j : Job) → job_of time (machine_at p app slot) ≡ Some j → AreGood Is m ordinals books (making j time app slot p)
+  makes_good time j e =
+      let x = view p books app slot in
+      let h = fine_of g in
+      let k : IsReliable Is m app slot x = used_on app slot here there g (λ f. idle_job time (machine_at p app slot) j f e) in
+      good_of
+      (stepped_fine (making j time app slot p) x (sent j time x.machine) (machine_but (look app slot here there h) (sent j time x.machine)) (sent_state j time x.machine) (h.slots app slot here there) k
+      (kept.makes m app slot (now_of x) time j e k.holds))
+
+  pub keeps_good : (b : PlainBuffer) → delivery (machine_at p app slot) ≡ Some b → AreGood Is m ordinals books (kept_again app slot b.picture (without_packet app slot p))
+  keeps_good b e =
+      let x = view p books app slot in
+      let h = fine_of g in
+      let r = keeping_again (anywhere b.picture) (without_delivery x.machine) in
+      let k : IsReliable Is m app slot x = used_on app slot here there g (λ f. idle_delivery (machine_at p app slot) b f e) in
+      good_of
+      (stepped_fine (kept_again app slot b.picture (without_packet app slot p)) x r (machine_by (keeping_again (anywhere b.picture)) (machine_but (look app slot here there h) (without_delivery x.machine))) (taken_state x.machine) (h.slots app slot here there) k
+      (kept.keeps m app slot (now_of x) b (anywhere b.picture) e refl k.holds))

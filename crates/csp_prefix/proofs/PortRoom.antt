@@ -1,0 +1,146 @@
+-- packets that wait for room in a window
+use Rattle.std.specs.Prelude.{◌==◌, Bool, true, false, None, Option, Some}
+use Rattle.std.proofs.Common.{◌≡◌, ◌≢◌, ◌⊎◌, inl, inr, ℕ, ◌<◌, List, arith, refl, sym, subst, ◌∙◌}
+use Rattle.std.proofs.lemmas.Bool.{eqb-false, eqb-true}
+use Rattle.std.proofs.lemmas.List.{get_or-set_same}
+use Rattle.csp_base.specs.declared.traces.Tag.{Tag}
+use Rattle.csp_log.specs.declared.event.Discard.TheVariants as why
+use Rattle.csp_ports.specs.Came.{come, discarding}
+use Rattle.csp_ports.specs.PlainPorts.{PlainPorts, PlainStalled, machine_at, stalled_at, with_stalled}
+use Rattle.csp_ports.specs.Steps.{dropped, dropped_in, dropped_on, has_room, has_room_in, settled, settled_by, settled_on}
+use Rattle.csp_ports.specs.declared.origin.Origin.{Origin}
+use Rattle.csp_rdp.specs.Jobs.{admitting}
+use Rattle.csp_rdp.specs.Machine.{PlainRdp}
+use Rattle.csp_rdp.specs.declared.answers.State.{State}
+use Rattle.csp_rdp.specs.declared.answers.State.TheVariants.{Closed, CloseWait, Open, SynRcvd, SynSent}
+use Rattle.csp_rdp_header.specs.declared.head.RdpHead.{RdpHead}
+use Rattle.csp_prefix.proofs.PortChanges.{use_fine}
+use Rattle.csp_prefix.proofs.PortFacts.{All, IsReliable, IsResting, Leaves, either}
+use Rattle.csp_prefix.proofs.PortSlots.{AreFine, AreFineBut, IsFor, look, machine_but, none_some, some_same, stalled_but, waiting_here, waiting_open, whole}
+use Rattle.csp_prefix.proofs.PortViews.{View, now_of, view}
+use Rattle.csp_prefix.specs.Ports.{Books, Ordinals, waiting_on}
+use Rattle.csp_prefix.specs.Slots.{IsKept, Now, Numbering}
+
+-- the connection of the packet that waits is open also for this application
+tighten : {Is : Numbering → ℕ → ℕ → Now → Type 0} {Loose Tight : ℕ → Type 0} {m : Numbering} {ordinals : Ordinals} {books : Books} {p : PlainPorts} (app : ℕ) → AreFine Is Loose m ordinals books p → ((a : ℕ) → Tight a → (a ≡ app → ⊥) → Loose a)
+    → ((t : PlainStalled) → stalled_at p app ≡ Some t → (machine_at p app t.slot).state ≡ Open) → AreFine Is Tight m ordinals books p
+tighten {Loose = Loose} {Tight = Tight} {p = p} app h wider opened = record {
+  shape = h.shape;
+  slots = λ a s k l.
+      let f = h.slots a s k l in
+      record { counted = f.counted; ends = f.ends; over = f.over; waits = λ t payload e. go a s payload t e (f.waits) (a == app) refl; holds = f.holds };
+}
+  where
+    go : (a s : ℕ) (payload : List ℕ) → Tight a → waiting_on s (stalled_at p a) ≡ Some payload → (Loose a → (payload : List ℕ) → waiting_on s (stalled_at p a) ≡ Some payload → (machine_at p a s).state ≡ Open) → (b : Bool) → (a == app) ≡ b
+        → (machine_at p a s).state ≡ Open
+    go a s payload t e old true g =
+        let same : a ≡ app = eqb-true a app g in
+        subst (λ (a : ℕ). waiting_on s (stalled_at p a) ≡ Some payload → (machine_at p a s).state ≡ Open) (sym same) (λ e. waiting_open (stalled_at p app) s payload (λ (slot : ℕ). (machine_at p app slot).state ≡ Open) opened e) e
+    go a s payload t e old false g = old (wider a t (λ f. eqb-false a app g f)) payload e
+
+waiting_for_it : (o : Option PlainStalled) (s : PlainStalled) → o ≡ Some s → IsFor s.slot o
+waiting_for_it o s e = subst (IsFor s.slot) (sym e) refl
+
+module _ {o : Origin} {Fed : PlainRdp → RdpHead → Option Tag → List ℕ → Type 0} {Invites : RdpHead → Option Tag → Type 0} {Is : Numbering → ℕ → ℕ → Now → Type 0} (kept : IsKept o Fed Invites Is)
+    {Loose : ℕ → Type 0} {m : Numbering} {ordinals : Ordinals} {books : Books} {p : PlainPorts} (app : ℕ) (here : app < p.conns.apps) (h : AreFine Is Loose m ordinals books p) where
+  -- it waits for a reliable connection
+  waits_on : (s : PlainStalled) → stalled_at p app ≡ Some s → IsReliable Is m app s.slot (view p books app s.slot)
+  waits_on s e = go (either Is m app s.slot (view p books app s.slot) (h.slots app s.slot here (h.shape.waits app s here e)).holds)
+    where
+      go : IsResting (view p books app s.slot) ⊎ IsReliable Is m app s.slot (view p books app s.slot) → IsReliable Is m app s.slot (view p books app s.slot)
+      go (inl r) = absurd (none_some s.buffer.picture.payload (sym r.waits ∙ waiting_here (stalled_at p app) s e))
+      go (inr k) = k
+
+  -- it is taken out
+  without_but : (s : PlainStalled) → stalled_at p app ≡ Some s → AreFineBut Is Loose m ordinals books (with_stalled p app None) app s.slot (record (view p books app s.slot) { waits = None })
+  without_but s e = stalled_but (look app s.slot here (h.shape.waits app s here e) h) None (waiting_for_it (stalled_at p app) s e) tt
+
+  dropped_fine : (s : PlainStalled) → stalled_at p app ≡ Some s → (machine_at p app s.slot).state ≢ Open → AreFine Is Loose m ordinals books (with_stalled p app None)
+  dropped_fine s e closed =
+      let x = view p books app s.slot in
+      let y : View = record x { waits = None } in
+      let f = h.slots app s.slot here (h.shape.waits app s here e) in
+      let k : IsReliable Is m app s.slot x = waits_on s e in
+      whole (without_but s e)
+      (use_fine {v = y} (λ t payload e. absurd (none_some payload e))
+      (record { connection = k.connection; what = k.what; reliable = k.reliable; counted = f.counted; ends = f.ends; over = f.over; holds = kept.drops m app s.slot (now_of x) closed k.holds }))
+
+  module _ {Tight : ℕ → Type 0} (wider : (a : ℕ) → Tight a → (a ≡ app → ⊥) → Loose a) where
+    rest_fine : AreFine Is Tight m ordinals books p → Leaves Is Tight m ordinals books p.conns.apps (come p)
+    rest_fine k = record { same = refl; new = tt; fine = k }
+
+    discarded_leaves : (s : PlainStalled) → stalled_at p app ≡ Some s → (machine_at p app s.slot).state ≢ Open → Leaves Is Tight m ordinals books p.conns.apps (discarding why.NoConn s.buffer.picture (with_stalled p app None))
+    discarded_leaves s e closed =
+        let near : stalled_at (with_stalled p app None) app ≡ None = get_or-set_same p.stalled app None None (omega (arith, h.shape.places, h.shape.few, here)) in
+        record { same = refl; new = (tt, tt); fine = tighten app (dropped_fine s e closed) wider (λ t f. absurd (none_some t (sym near ∙ f))) }
+
+    dropped_by : (s : PlainStalled) (b : State) → stalled_at p app ≡ Some s → (machine_at p app s.slot).state ≡ b → Leaves Is Tight m ordinals books p.conns.apps (dropped_in b app s p)
+    dropped_by s Open e f = rest_fine (tighten app h wider (λ t g. subst (λ (u : PlainStalled). (machine_at p app u.slot).state ≡ Open) (some_same s t (sym e ∙ g)) f))
+    dropped_by s SynSent e f = discarded_leaves s e (λ g. absurd (sent_open (sym f ∙ g)))
+      where
+        sent_open : SynSent ≡ Open → ⊥
+        sent_open e = cc
+    dropped_by s SynRcvd e f = discarded_leaves s e (λ g. absurd (rcvd_open (sym f ∙ g)))
+      where
+        rcvd_open : SynRcvd ≡ Open → ⊥
+        rcvd_open e = cc
+    dropped_by s CloseWait e f = discarded_leaves s e (λ g. absurd (wait_open (sym f ∙ g)))
+      where
+        wait_open : CloseWait ≡ Open → ⊥
+        wait_open e = cc
+    dropped_by s Closed e f = discarded_leaves s e (λ g. absurd (closed_open (sym f ∙ g)))
+      where
+        closed_open : Closed ≡ Open → ⊥
+        closed_open e = cc
+
+    dropped_of_it : (w : Option PlainStalled) → stalled_at p app ≡ w → Leaves Is Tight m ordinals books p.conns.apps (dropped_on w app p)
+    dropped_of_it None e = rest_fine (tighten app h wider (λ t g. absurd (none_some t (sym e ∙ g))))
+    dropped_of_it (Some s) e = dropped_by s (machine_at p app s.slot).state e refl
+
+    pub dropped_leaves : Leaves Is Tight m ordinals books p.conns.apps (dropped app p)
+    dropped_leaves = dropped_of_it (stalled_at p app) refl
+
+-- ---- where there is room it is admitted
+
+room_open : (r : PlainRdp) → has_room r ≡ true → r.state ≡ Open
+room_open r e = go r.state refl e
+  where
+    go : (s : State) → r.state ≡ s → has_room_in s r ≡ true → s ≡ Open
+    go Open f e = refl
+    go SynSent f e = absurd cc
+    go SynRcvd f e = absurd cc
+    go CloseWait f e = absurd cc
+    go Closed f e = absurd cc
+
+module _ {o : Origin} {Fed : PlainRdp → RdpHead → Option Tag → List ℕ → Type 0} {Invites : RdpHead → Option Tag → Type 0} {Is : Numbering → ℕ → ℕ → Now → Type 0} (kept : IsKept o Fed Invites Is)
+    {m : Numbering} {ordinals : Ordinals} {books : Books} {p : PlainPorts} (app : ℕ) (here : app < p.conns.apps) (h : AreFine Is All m ordinals books p) (time : ℕ) where
+  settled_room : (s : PlainStalled) (b : Bool) → stalled_at p app ≡ Some s → has_room (machine_at p app s.slot) ≡ b → Leaves Is All m ordinals books p.conns.apps (come (settled_by b time app s p))
+  settled_room s true e room =
+      let x = view p books app s.slot in
+      let y : View = record x { waits = None; machine = admitting s.buffer time x.machine } in
+      let f = h.slots app s.slot here (h.shape.waits app s here e) in
+      let k : IsReliable Is m app s.slot x = waits_on kept app here h s e in
+      record {
+        same = refl;
+        new = tt;
+        fine =
+            whole (machine_but (without_but kept app here h s e) (admitting s.buffer time x.machine))
+            (use_fine {v = y} (λ t payload e. absurd (none_some payload e))
+            (record {
+              connection = k.connection;
+              what = k.what;
+              reliable = k.reliable;
+              counted = f.counted;
+              ends = f.ends;
+              over = f.over;
+              holds = kept.settles m app s.slot (now_of x) s.buffer time (room_open x.machine room) (waiting_here (stalled_at p app) s e) k.holds;
+            }));
+      }
+  settled_room s false e room = record { same = refl; new = tt; fine = h }
+
+  settled_it : (w : Option PlainStalled) → stalled_at p app ≡ w → Leaves Is All m ordinals books p.conns.apps (come (settled_on w time app p))
+  settled_it None e = record { same = refl; new = tt; fine = h }
+  settled_it (Some s) e = settled_room s (has_room (machine_at p app s.slot)) e refl
+
+  pub settled_leaves : Leaves Is All m ordinals books p.conns.apps (come (settled time app p))
+  settled_leaves = settled_it (stalled_at p app) refl

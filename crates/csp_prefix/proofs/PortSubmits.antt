@@ -1,0 +1,105 @@
+-- packets of an application on a reliable connection
+use Rattle.std.specs.Prelude.{Bool, true, false, None, Option, Some, if◌then◌else◌}
+use Rattle.std.proofs.Common.{◌≡◌, ◌≢◌, ℕ, ◌<◌, List, [], ◌∷◌, ◌++◌, ap, refl, sym, subst}
+use Rattle.std.proofs.lemmas.Bool.{eq-eqb}
+use Rattle.csp_base.specs.declared.traces.Tag.{Tag}
+use Rattle.csp_buffer.specs.Content.{Content}
+use Rattle.csp_conn.specs.declared.conns.TheConstants.{SLOTS}
+use Rattle.csp_log.specs.declared.event.Discard.TheVariants as why
+use Rattle.csp_log.specs.declared.event.Event.TheVariants as event
+use Rattle.csp_ports.specs.Packets.{admitting_by, submitting, submitting_in}
+use Rattle.csp_ports.specs.PlainPorts.{PlainPorts, PlainStalled, anywhere, machine_at, stalled_at, terms_at}
+use Rattle.csp_ports.specs.Steps.{has_room}
+use Rattle.csp_ports.specs.declared.origin.Origin.{Origin}
+use Rattle.csp_rdp.specs.Jobs.{admitting}
+use Rattle.csp_rdp.specs.Machine.{PlainRdp}
+use Rattle.csp_rdp.specs.declared.answers.State.{State}
+use Rattle.csp_rdp.specs.declared.answers.State.TheVariants.{Closed, CloseWait, Open, SynRcvd, SynSent}
+use Rattle.csp_rdp_header.specs.declared.head.RdpHead.{RdpHead}
+use Rattle.csp_prefix.proofs.PortChanges.{use_fine}
+use Rattle.csp_prefix.proofs.PortFacts.{fine_of, good_of, used}
+use Rattle.csp_prefix.proofs.PortSlots.{IsFor, book_but, look, machine_but, stalled_but, whole}
+use Rattle.csp_prefix.proofs.PortViews.{now_of, view}
+use Rattle.csp_prefix.specs.Ports.{AreGood, Books, IsReliableOn, Ordinals, Submits, waiting_on, with_sent}
+use Rattle.csp_prefix.specs.Slots.{Book, IsKept, Now, Numbering}
+
+submitting_apps : (s : State) (p : PlainPorts) (app slot : ℕ) (b : Content) (time : ℕ) → (submitting_in s p app slot b time).ports.conns.apps ≡ p.conns.apps
+submitting_apps Open p app slot b time = go (has_room (machine_at p app slot))
+  where
+    go : (room : Bool) → (admitting_by room p app slot b time).conns.apps ≡ p.conns.apps
+    go true = refl
+    go false = refl
+submitting_apps SynSent p app slot b time = refl
+submitting_apps SynRcvd p app slot b time = refl
+submitting_apps CloseWait p app slot b time = refl
+submitting_apps Closed p app slot b time = refl
+
+module _ {o : Origin} {Fed : PlainRdp → RdpHead → Option Tag → List ℕ → Type 0} {Invites : RdpHead → Option Tag → Type 0} {Is : Numbering → ℕ → ℕ → Now → Type 0} (kept : IsKept o Fed Invites Is)
+    {m : Numbering} {ordinals : Ordinals} {books : Books} {p : PlainPorts} (app slot : ℕ) (b : Content) (time : ℕ) (here : app < p.conns.apps) (there : slot < SLOTS) (on : IsReliableOn p app slot) (none : stalled_at p app ≡ None) (g : AreGood Is m ordinals books p) where
+  is_there : Is m app slot (now_of (view p books app slot))
+  is_there = let x = view p books app slot in used Is m app slot x.what x.terms (now_of x) on.connection on.there on.reliable (g.slots app slot here there)
+
+  none_waits : waiting_on slot (stalled_at p app) ≡ None
+  none_waits = ap (waiting_on slot) none
+
+  -- it is told sent
+  abbrev sent_book : Book
+  sent_book = record (books app slot) { sent = (books app slot).sent ++ b.payload ∷ [] }
+
+  abbrev stalled_now : PlainStalled
+  stalled_now = record { slot = slot; buffer = anywhere b }
+
+  waits_now : waiting_on slot (Some stalled_now) ≡ Some b.payload
+  waits_now = ap (λ (x : Bool). if x then Some b.payload else None) (eq-eqb slot slot refl)
+
+  admitting_good : (room : Bool) → (machine_at p app slot).state ≡ Open → AreGood Is m ordinals (with_sent app slot b.payload books) (admitting_by room p app slot b time)
+  admitting_good true opened =
+      let x = view p books app slot in
+      let r = admitting (anywhere b) time x.machine in
+      good_of
+      (whole (book_but (machine_but (look app slot here there (fine_of g)) r) sent_book)
+      (use_fine {v = record x { machine = r; book = sent_book }} (λ t payload e. opened)
+      (record {
+        connection = on.connection;
+        what = on.there;
+        reliable = on.reliable;
+        counted = g.counted app slot here there;
+        ends = g.ends app slot here there;
+        over = g.over app slot here there;
+        holds = kept.admits m app slot (now_of x) (anywhere b) time opened none_waits is_there;
+      })))
+  admitting_good false opened =
+      let x = view p books app slot in
+      let w = waiting_on slot (Some stalled_now) in
+      good_of
+      (whole (book_but (stalled_but (look app slot here there (fine_of g)) (Some stalled_now) (subst (IsFor slot) (sym none) tt) refl) sent_book)
+      (use_fine {v = record x { waits = w; book = sent_book }} (λ t payload e. opened)
+      (record {
+        connection = on.connection;
+        what = on.there;
+        reliable = on.reliable;
+        counted = g.counted app slot here there;
+        ends = g.ends app slot here there;
+        over = g.over app slot here there;
+        holds = subst (λ (w : Option (List ℕ)). Is m app slot (record { machine = x.machine; ordinal = x.terms.ordinal; waits = w; book = sent_book })) (sym waits_now) (kept.delays m app slot (now_of x) b.payload opened none_waits is_there);
+      })))
+
+  abbrev Sends : State → Type 0
+  Sends s = ((submitting_in s p app slot b time).events ≡ event.Sent slot (terms_at p app slot).ordinal ∷ []) × AreGood Is m ordinals (with_sent app slot b.payload books) (submitting_in s p app slot b time).ports
+
+  abbrev Discards : State → Type 0
+  Discards s = ((submitting_in s p app slot b time).events ≡ event.Discarded why.NoConn ∷ []) × AreGood Is m ordinals books (submitting_in s p app slot b time).ports
+
+  discards : (s : State) → s ≢ Open → Discards s
+  discards Open other = absurd (other refl)
+  discards SynSent other = (refl, g)
+  discards SynRcvd other = (refl, g)
+  discards CloseWait other = (refl, g)
+  discards Closed other = (refl, g)
+
+  pub submitted_submits : Submits Is m ordinals books p app slot b (submitting p app slot b time)
+  submitted_submits = record {
+    same = submitting_apps (machine_at p app slot).state p app slot b time;
+    sent = λ e. subst Sends (sym e) (refl, admitting_good (has_room (machine_at p app slot)) e);
+    not_sent = λ e. discards (machine_at p app slot).state e;
+  }

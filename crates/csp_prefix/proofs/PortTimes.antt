@@ -1,0 +1,173 @@
+-- the timers of all reliable connections
+use Rattle.std.specs.Prelude.{◌==◌, Bool, true, false, Option, Some, if◌then◌else◌}
+use Rattle.std.specs.List.{AllByRecursion, range_with_len}
+use Rattle.std.proofs.Common.{◌≡◌, ◌⊎◌, inl, inr, ℕ, zero, suc, ◌+◌, ◌*◌, ◌/◌, ◌%◌, ◌<◌, List, [], ◌∷◌, arith, refl, sym, subst}
+use Rattle.csp_base.specs.declared.traces.Tag.{Tag}
+use Rattle.csp_conn.specs.declared.conns.TheConstants.{SLOTS}
+use Rattle.csp_ports.specs.PlainPorts.{PlainPorts, machine_at}
+use Rattle.csp_ports.specs.Steps.{dropped, dropped_of, timed, timed_at, timed_in, went}
+use Rattle.csp_ports.specs.declared.origin.Origin.{Origin}
+use Rattle.csp_rdp.specs.Holding.{rested}
+use Rattle.csp_rdp.specs.Jobs.{ticked, timed_out}
+use Rattle.csp_rdp.specs.Machine.{PlainRdp, broken, idle}
+use Rattle.csp_rdp.specs.declared.answers.State.{State}
+use Rattle.csp_rdp.specs.declared.answers.State.TheVariants.{Closed, CloseWait, Open, SynRcvd, SynSent}
+use Rattle.csp_rdp.specs.declared.answers.Why.TheVariants as machine_why
+use Rattle.csp_rdp_header.specs.declared.head.RdpHead.{RdpHead}
+use Rattle.csp_rdp_window.specs.Times.{has_passed}
+use Rattle.csp_prefix.proofs.PortChanges.{IsEdge, went_leaves}
+use Rattle.csp_prefix.proofs.PortFacts.{IsReliable, IsResting, Leaves, either, fine_of, good_of, then_leaves}
+use Rattle.csp_prefix.proofs.PortPackets.{loosened}
+use Rattle.csp_prefix.proofs.PortRoom.{dropped_leaves}
+use Rattle.csp_prefix.proofs.PortSlots.{AreFine, IsFine, look, machine_but, whole}
+use Rattle.csp_prefix.proofs.PortViews.{now_of, view}
+use Rattle.csp_prefix.specs.Ports.{AreGood, Books, Comes, Ordinals}
+use Rattle.csp_prefix.specs.Slots.{IsKept, Now, Numbering, Opens}
+use Rattle.csp_prefix.specs.Slots.{with_machine as with_other}
+
+-- no application
+abbrev Never : ℕ → Type 0
+Never _ = ⊥
+
+-- ---- one timer
+
+-- it never opens a connection, and one that is closed stays so
+abbrev Ticks : State → State → Type 0
+Ticks before after = (Opens before after → ⊥) × (before ≡ Closed → after ≡ Closed)
+
+stays_as : (s : State) → Ticks s s
+stays_as SynSent = (λ k. k, λ e. e)
+stays_as SynRcvd = (λ k. k, λ e. e)
+stays_as Open = (λ k. k, λ e. e)
+stays_as CloseWait = (λ k. k, λ e. e)
+stays_as Closed = (λ k. k, λ e. e)
+
+times_out : (s : State) (time : ℕ) (r : PlainRdp) → r.state ≡ s → Ticks s (timed_out s time r).state
+times_out SynSent time r e = (λ k. k, λ e. refl)
+times_out SynRcvd time r e = (λ k. k, λ e. refl)
+times_out Open time r e = go (r.send.una == r.send.nxt)
+  where
+    go : (b : Bool) → Ticks Open (if b then r else broken time r).state
+    go true = subst (Ticks Open) (sym e) (stays_as Open)
+    go false = (λ k. k, λ e. absurd cc)
+times_out CloseWait time r e = (λ k. k, λ e. refl)
+times_out Closed time r e = subst (Ticks Closed) (sym e) (stays_as Closed)
+
+ticks : (time : ℕ) (r : PlainRdp) → Ticks r.state (ticked time r).state
+ticks time r = go (has_passed (Some r.since) r.options.conn_timeout time)
+  where
+    go : (b : Bool) → Ticks r.state (if b then timed_out r.state time r else r).state
+    go true = times_out r.state time r refl
+    go false = stays_as r.state
+
+idle_ticks : (time : ℕ) → ticked time idle ≡ idle
+idle_ticks time = go (has_passed (Some 0) idle.options.conn_timeout time)
+  where
+    go : (b : Bool) → (if b then idle else idle) ≡ idle
+    go true = refl
+    go false = refl
+
+module _ {o : Origin} {Fed : PlainRdp → RdpHead → Option Tag → List ℕ → Type 0} {Invites : RdpHead → Option Tag → Type 0} {Is : Numbering → ℕ → ℕ → Now → Type 0} (kept : IsKept o Fed Invites Is)
+    {m : Numbering} {ordinals : Ordinals} {books : Books} {p : PlainPorts} (time app slot : ℕ) (here : app < p.conns.apps) (there : slot < SLOTS) (h : AreFine Is Never m ordinals books p) where
+  idle_timed : machine_at p app slot ≡ idle → Leaves Is Never m ordinals books p.conns.apps (timed_at time app slot p)
+  idle_timed e =
+      let x = view p books app slot in
+      let f = h.slots app slot here there in
+      subst (λ (r : PlainRdp). Leaves Is Never m ordinals books p.conns.apps (went r.state machine_why.Timeout app slot (ticked time r) p)) (sym e)
+      (subst (λ (r : PlainRdp). Leaves Is Never m ordinals books p.conns.apps (went idle.state machine_why.Timeout app slot r p)) (sym (idle_ticks time))
+      (record {
+        same = refl;
+        new = tt;
+        fine =
+            whole (machine_but (look app slot here there h) (rested idle))
+            (subst (λ (r : PlainRdp). IsFine Is Never m (ordinals app slot) app slot (record x { machine = r })) e f);
+      }))
+
+  ticked_edge : IsReliable Is m app slot (view p books app slot) → IsEdge Is m (ordinals app slot) app slot (machine_at p app slot).state (ticked time (machine_at p app slot)) (view p books app slot)
+  ticked_edge k =
+      let x = view p books app slot in
+      let f = h.slots app slot here there in
+      let t = ticks time x.machine in
+      record {
+        connection = k.connection;
+        what = k.what;
+        reliable = k.reliable;
+        counted = f.counted;
+        ends = f.ends;
+        over = f.over;
+        stays = t.1;
+        early = kept.early m app slot (now_of x) k.holds;
+        opens = λ s. absurd (t.0 s);
+        rests = λ _. kept.rests m app slot (with_other (ticked time x.machine) (now_of x)) (kept.ticks m app slot (now_of x) time k.holds);
+      }
+
+  timed_leaves : Leaves Is Never m ordinals books p.conns.apps (timed_at time app slot p)
+  timed_leaves = go (either Is m app slot (view p books app slot) (h.slots app slot here there).holds)
+    where
+      go : IsResting (view p books app slot) ⊎ IsReliable Is m app slot (view p books app slot) → Leaves Is Never m ordinals books p.conns.apps (timed_at time app slot p)
+      go (inl r) = idle_timed r.machine
+      go (inr k) = went_leaves kept (look app slot here there h) (machine_at p app slot).state machine_why.Timeout (ticked time (machine_at p app slot)) (λ n. n) (ticked_edge k)
+
+-- ---- all timers
+
+divides : (k n : ℕ) → k < n * 4 → (k / 4 < n) × (k % 4 < 4)
+divides k n h = (omega (arith, h), omega arith)
+
+range_below : (a n most : ℕ) → a + n ≡ most → AllByRecursion (λ k. k < most) (range_with_len a n)
+range_below a zero most e = tt
+range_below a (suc n) most e = (omega (arith, e), range_below (a + 1) n most (omega (arith, e)))
+
+looser : {Is : Numbering → ℕ → ℕ → Now → Type 0} {Loose Tight : ℕ → Type 0} {m : Numbering} {ordinals : Ordinals} {books : Books} {p : PlainPorts} → ((a : ℕ) → a < p.conns.apps → Tight a → Loose a) → AreFine Is Loose m ordinals books p → AreFine Is Tight m ordinals books p
+looser wider h = record {
+  shape = h.shape;
+  slots = λ a s k l. let f = h.slots a s k l in record { counted = f.counted; ends = f.ends; over = f.over; waits = λ t. f.waits (wider a k t); holds = f.holds };
+}
+
+-- the applications before this one
+abbrev Before : ℕ → ℕ → Type 0
+Before n k = k < n
+
+module _ {o : Origin} {Fed : PlainRdp → RdpHead → Option Tag → List ℕ → Type 0} {Invites : RdpHead → Option Tag → Type 0} {Is : Numbering → ℕ → ℕ → Now → Type 0} (kept : IsKept o Fed Invites Is) {m : Numbering} {ordinals : Ordinals} (time apps : ℕ) where
+  timed_one : {books : Books} {p : PlainPorts} (k : ℕ) → k < apps * 4 → p.conns.apps ≡ apps → AreFine Is Never m ordinals books p → Leaves Is Never m ordinals books apps (timed_at time (k / SLOTS) (k % SLOTS) p)
+  timed_one {books} {p} k below same h =
+      let d = divides k apps below in
+      subst (λ (n : ℕ). Leaves Is Never m ordinals books n (timed_at time (k / SLOTS) (k % SLOTS) p)) same
+      (timed_leaves kept time (k / SLOTS) (k % SLOTS) (subst (λ (n : ℕ). k / SLOTS < n) (sym same) d.0) d.1 h)
+
+  timed_all : (ks : List ℕ) {books : Books} {p : PlainPorts} → AllByRecursion (λ k. k < apps * 4) ks → p.conns.apps ≡ apps → AreFine Is Never m ordinals books p → Leaves Is Never m ordinals books apps (timed_in time ks p)
+  timed_all [] below same h = record { same = same; new = tt; fine = h }
+  timed_all (k ∷ ks) {books} {p} below same h =
+      let first : Leaves Is Never m ordinals books apps (timed_at time (k / SLOTS) (k % SLOTS) p) = timed_one k below.0 same h in
+      then_leaves (timed_at time (k / SLOTS) (k % SLOTS) p) (timed_in time ks) first (timed_all ks below.1 first.same first.fine)
+
+  dropped_one : {books : Books} {p : PlainPorts} (a : ℕ) → a < apps → p.conns.apps ≡ apps → AreFine Is (Before a) m ordinals books p → Leaves Is (Before (a + 1)) m ordinals books apps (dropped a p)
+  dropped_one {books} {p} a below same h =
+      subst (λ (n : ℕ). Leaves Is (Before (a + 1)) m ordinals books n (dropped a p)) same
+      (dropped_leaves kept a (subst (λ (n : ℕ). a < n) (sym same) below) h {Tight = Before (a + 1)} (λ k t other. closer a k t other))
+    where
+      closer : (a k : ℕ) → k < a + 1 → (k ≡ a → ⊥) → k < a
+      closer a k t other = omega (arith, t, other)
+
+  dropped_all : (n a : ℕ) {books : Books} {p : PlainPorts} → a + n ≡ apps → p.conns.apps ≡ apps → AreFine Is (Before a) m ordinals books p → Leaves Is (Before apps) m ordinals books apps (dropped_of (range_with_len a n) p)
+  dropped_all zero a e same h = record { same = same; new = tt; fine = looser (λ k l t. omega (arith, e, t)) h }
+  dropped_all (suc n) a {books} {p} e same h =
+      let first : Leaves Is (Before (a + 1)) m ordinals books apps (dropped a p) = dropped_one a (omega (arith, e)) same h in
+      then_leaves (dropped a p) (dropped_of (range_with_len (a + 1) n)) first (dropped_all n (a + 1) (omega (arith, e)) first.same first.fine)
+
+module _ {o : Origin} {Fed : PlainRdp → RdpHead → Option Tag → List ℕ → Type 0} {Invites : RdpHead → Option Tag → Type 0} {Is : Numbering → ℕ → ℕ → Now → Type 0} (kept : IsKept o Fed Invites Is) {m : Numbering} {ordinals : Ordinals} {books : Books} {p : PlainPorts} (g : AreGood Is m ordinals books p) (time : ℕ) where
+  all_timed : Leaves Is Never m ordinals books p.conns.apps (timed_in time (range_with_len 0 (p.conns.apps * SLOTS)) p)
+  all_timed = timed_all kept time p.conns.apps (range_with_len 0 (p.conns.apps * SLOTS)) (range_below 0 (p.conns.apps * 4) (p.conns.apps * 4) (omega arith)) refl (loosened (fine_of g))
+
+  all_dropped : {bs : Books} {q : PlainPorts} → q.conns.apps ≡ p.conns.apps → AreFine Is Never m ordinals bs q → Leaves Is (Before p.conns.apps) m ordinals bs p.conns.apps (dropped_of (range_with_len 0 q.conns.apps) q)
+  all_dropped {bs} {q} same h =
+      subst (λ (n : ℕ). Leaves Is (Before n) m ordinals bs n (dropped_of (range_with_len 0 q.conns.apps) q)) same
+      (dropped_all kept time q.conns.apps q.conns.apps 0 (omega arith) refl (looser (λ k l t. absurd (omega (arith, t))) h))
+
+  pub timed_comes : Comes Is m ordinals books p.conns.apps (timed time p)
+  timed_comes =
+      let k = then_leaves (timed_in time (range_with_len 0 (p.conns.apps * SLOTS)) p) (λ p. dropped_of (range_with_len 0 p.conns.apps) p) all_timed (all_dropped all_timed.same all_timed.fine) in
+      record {
+        same = k.same;
+        new = k.new;
+        good = good_of (looser (λ a l t. subst (λ (n : ℕ). a < n) k.same l) k.fine);
+      }

@@ -1,0 +1,223 @@
+-- what comes of an item of an application
+use Rattle.std.proofs.Common.{◌≡◌, ◌≢◌, ◌⊎◌, inl, inr, ℕ, ◌<◌, ◌==◌, ◌&&◌, Bool, true, false, Option, None, Some, List, [], ◌∷◌, ◌++◌, refl, sym, ap, ◌∙◌, subst, arith}
+use Rattle.std.specs.Prelude.{if◌then◌else◌, nat_lt}
+use Rattle.std.specs.List.{AllByRecursion, flat_map}
+use Rattle.std.proofs.lemmas.Bool.{eq-eqb, eqb-true}
+use Rattle.std.proofs.lemmas.List.{append-nil}
+use Rattle.csp_buffer.specs.Content.{Content}
+use Rattle.csp_conn.specs.PlainConns.{slot_at}
+use Rattle.csp_conn.specs.declared.conns.TheConstants.{SLOTS}
+use Rattle.csp_conn.specs.declared.slot.Connection.{Connection}
+use Rattle.csp_conn.specs.declared.slot.Slot.{Slot}
+use Rattle.csp_conn.specs.declared.slot.Slot.TheVariants as has
+use Rattle.csp_deck.specs.Carried.{IsUpItem}
+use Rattle.csp_log.specs.declared.event.Discard.TheVariants as why
+use Rattle.csp_log.specs.declared.event.Event.{Event}
+use Rattle.csp_log.specs.declared.event.Event.TheVariants as event
+use Rattle.csp_log.specs.declared.note.Note.{Note}
+use Rattle.csp_log.specs.declared.note.Note.TheVariants as note
+use Rattle.csp_log.specs.declared.places.QueueId.TheVariants as queue
+use Rattle.csp_log.specs.declared.places.TheConstants.{UNMARKED}
+use Rattle.csp_log.specs.declared.shown.AnswerShown.TheVariants as answer
+use Rattle.csp_log.specs.declared.shown.ItemShown.{ItemShown}
+use Rattle.csp_log.specs.declared.shown.ItemShown.TheVariants as item
+use Rattle.csp_log.specs.declared.shown.OpShown.TheVariants as op
+use Rattle.csp_ports.specs.Asking.{bind, bind_by, close, connect}
+use Rattle.csp_ports.specs.Asking.{is_reliable as are_reliable}
+use Rattle.csp_ports.specs.Came.{Came}
+use Rattle.csp_ports.specs.Packets.{submitting}
+use Rattle.csp_ports.specs.PlainPorts.{PlainPorts, machine_at, stalled_at, terms_at}
+use Rattle.csp_ports.specs.declared.request.Request.{Request}
+use Rattle.csp_ports.specs.declared.terms.Terms.{Terms}
+use Rattle.csp_rdp.specs.declared.answers.State.{State as MachineState}
+use Rattle.csp_rdp.specs.declared.answers.State.TheVariants as state
+use Rattle.csp_record.specs.Connections.{opened_by}
+use Rattle.csp_record.specs.Ends.{Ends}
+use Rattle.csp_record.specs.Payloads.{is_on, told_on}
+use Rattle.csp_record.specs.declared.payloads.Way.TheVariants as way
+use Rattle.csp_route.specs.Routes.{route_of}
+use Rattle.csp_route.specs.declared.row.Row.{Row}
+use Rattle.csp_header.specs.Word.{header_at}
+use Rattle.csp_socket.specs.Bound.{owner_of}
+use Rattle.csp_socket.specs.declared.sockets.TheConstants.{BINDABLE_PORTS}
+use Rattle.csp_stack.specs.Readings.{is_checked}
+use Rattle.csp_stack.specs.Router.{Facts, State, origin_of}
+use Rattle.csp_stack.specs.Rules.{addressed, by_mark, by_slot, header_for, on_connection, requested, sent, sent_by, served}
+use Rattle.csp_stack.specs.Told.{Told, discarded}
+use Rattle.csp_prefix.specs.Ports.{AreGood, IsInUse, IsSlot, Submits, now_at, with_sent}
+use Rattle.csp_prefix.specs.Routers.{IsUntraced}
+use Rattle.csp_prefix.specs.Slots.{Book}
+use Rattle.csp_prefix.proofs.RouterBooks.{Past, Tells, no_openings_of, past_after, past_same, sent_on, tells_sent}
+use Rattle.csp_prefix.proofs.RouterEntry.{AreUnsent, quiet_entry}
+use Rattle.csp_prefix.proofs.RouterHeard.{Quietly, protected_trace, stands_discarded, stands_sent, stands_unchanged}
+use Rattle.csp_prefix.proofs.RouterStanding.{Aim, IsAim, IsOut, Stands, good_plain, stands_comes}
+
+-- ---- events that tell nothing that was sent
+pub unsent_none : AreUnsent []
+unsent_none slot ordinal ends None = refl
+unsent_none slot ordinal ends (Some payload) = refl
+
+pub unsent_one : (e : Event) → ((slot ordinal : ℕ) (ends : Ends) → is_on way.Sent slot ordinal ends e ≡ false) → AreUnsent (e ∷ [])
+unsent_one e none slot ordinal ends None = refl
+unsent_one e none slot ordinal ends (Some payload) = rw (none slot ordinal ends) refl
+
+-- ---- the entry of a packet that was sent on a connection
+sent_here : (k slot a s o : ℕ) (ends : Ends) (payload : List ℕ) (told : ℕ) (rest : List Event) → AreUnsent rest
+    → told_on way.Sent s o ends (event.Sent slot told ∷ rest) (if k == a then Some payload else None) ≡ (if k == a && slot == s && ends s == o then payload ∷ [] else [])
+sent_here k slot a s o ends payload told rest unsent = by_app (k == a)
+  where
+    by_slot : (t : Bool) → (slot == s) ≡ t → (if t && ends slot == o then payload ∷ [] else []) ≡ (if t && ends s == o then payload ∷ [] else [])
+    by_slot true e = ap (λ n. if ends n == o then payload ∷ [] else []) (eqb-true slot s e)
+    by_slot false e = refl
+
+    by_app : (t : Bool) → told_on way.Sent s o ends (event.Sent slot told ∷ rest) (if t then Some payload else None) ≡ (if t && slot == s && ends s == o then payload ∷ [] else [])
+    by_app false = refl
+    by_app true = ap (λ xs. (if slot == s && ends slot == o then payload ∷ [] else []) ++ xs) (unsent s o ends (Some payload)) ∙ append-nil _ ∙ by_slot (slot == s) refl
+
+pub sent_entry : (k slot told : ℕ) (b : Content) (rest : List Event) (h : Past) → AreUnsent rest → ((app : ℕ) (ends : Ends) → flat_map (opened_by app ends) rest ≡ [])
+    → sent_on k slot b.payload h ≡ past_after (op.Pop (queue.Up k)) (answer.Popped (item.Packet slot b)) (event.Sent slot told ∷ rest) h
+sent_entry k slot told b rest h unsent none =
+    past_same (sent_on k slot b.payload h) (past_after (op.Pop (queue.Up k)) (answer.Popped (item.Packet slot b)) (event.Sent slot told ∷ rest) h)
+    (λ app. sym (append-nil (h.opened app)) ∙ ap (λ xs. h.opened app ++ xs) (sym (none app (h.ends app))))
+    (λ a s o. ap (λ xs. h.sent a s o ++ xs) (sym (sent_here k slot a s o (h.ends a) b.payload told rest unsent)))
+    (λ a s o. sym (append-nil _)) (λ a s. refl)
+
+-- a packet without a trace has none when it is addressed
+addressed_untraced : (f : Facts) (c : Connection) (t : Terms) (i : ℕ) (b : Content) → IsUntraced (item.Packet i b) → (addressed f c t b).trace.tag ≡ None
+addressed_untraced f c t i b e = ap (λ x. x.tag) (protected_trace (is_checked (header_for f c t)) b) ∙ ap (λ x. x.tag) e
+
+open_or : (s : MachineState) → (s ≡ state.Open) ⊎ (s ≢ state.Open)
+open_or state.Open = inl refl
+open_or state.SynSent = inr (λ e. cc)
+open_or state.SynRcvd = inr (λ e. cc)
+open_or state.CloseWait = inr (λ e. cc)
+open_or state.Closed = inr (λ e. cc)
+
+module _ (g : Aim) (f : Facts) (whole : Past) (k : IsAim g f whole) where
+  -- what holds of the router holds of it after the turn that popped this item
+  abbrev pub Serves : Past → ℕ → ItemShown → Told → Type 0
+  Serves h app i t = AllByRecursion g.fresh t.events → Stands g f (past_after (op.Pop (queue.Up app)) (answer.Popped i) t.events h) t.state.ports t.state.out
+
+  quiet_packet : (h : Past) (app mark : ℕ) (b : Content) (t : Told) → AreUnsent t.events → Quietly g f whole k h t → Serves h app (item.Packet mark b) t
+  quiet_packet h app mark b t unsent w fresh =
+      subst (λ x. Stands g f x t.state.ports t.state.out) (quiet_entry (op.Pop (queue.Up app)) (answer.Popped (item.Packet mark b)) t.events h (record { free = λ a. refl; sent = λ a s o ends. unsent s o ends _; down = λ a s o ends. refl })) (w fresh)
+
+  quiet_note : (h : Past) (app : ℕ) (n : Note) (t : Told) → Quietly g f whole k h t → Serves h app (item.Note n) t
+  quiet_note h app n t w fresh =
+      subst (λ x. Stands g f x t.state.ports t.state.out) (quiet_entry (op.Pop (queue.Up app)) (answer.Popped (item.Note n)) t.events h (record { free = λ a. refl; sent = λ a s o ends. refl; down = λ a s o ends. refl })) (w fresh)
+
+  discarded_unsent : (reason : why.the_data) → AreUnsent (event.Discarded reason ∷ [])
+  discarded_unsent reason = unsent_one (event.Discarded reason) (λ s o ends. refl)
+
+  -- ---- a good packet goes out
+  record IsSentOff (s : State) (t : Told) : Type 0 where
+    ports : t.state.ports ≡ s.ports
+    leaves : (books : ℕ → ℕ → Book) → IsOut g f.apps books t.state.out
+    unsent : AreUnsent t.events
+    none : (app : ℕ) (ends : Ends) → flat_map (opened_by app ends) t.events ≡ []
+
+  sent_off : (own : Bool) (row : Option Row) (s : State) (b : Content) → s.out ≡ None → g.good b → IsSentOff s (sent_by own row s b)
+  sent_off true row s b empty good = record { ports = refl; leaves = λ books. good; unsent = unsent_none; none = λ app ends. refl }
+  sent_off false None s b empty good = record { ports = refl; leaves = λ books. subst (IsOut g f.apps books) (sym empty) tt; unsent = discarded_unsent why.NoRoute; none = λ app ends. refl }
+  sent_off false (Some row) s b empty good = record { ports = refl; leaves = λ books. inl good; unsent = unsent_none; none = λ app ends. refl }
+
+  -- ---- a packet for a slot
+  by_connection_so : (reliable : Bool) (c : Connection) (h : Past) (s : State) (app slot time : ℕ) (b : Content) → slot_at s.ports.conns app slot ≡ has.Open c → are_reliable (terms_at s.ports app slot).flags ≡ reliable
+      → app < s.ports.conns.apps → slot < SLOTS → stalled_at s.ports app ≡ None → s.out ≡ None → IsUntraced (item.Packet slot b) → Stands g f h s.ports s.out → Serves h app (item.Packet slot b) (on_connection reliable c f s app slot time b)
+  by_connection_so false c h s app slot time b there plain few low free empty untraced w =
+      let told : ℕ = (terms_at s.ports app slot).ordinal in
+      let x : Content = addressed f c (terms_at s.ports app slot) b in
+      let to : ℕ = (header_at x.header).dst in
+      let off = sent_off (to == f.addr) (route_of s.routes to) s x empty (k.untraced x (addressed_untraced f c (terms_at s.ports app slot) slot b untraced)) in
+      let t : Told = sent f s x in
+      let one = w.good.slots app slot few low in
+      let used = subst (λ o. IsSlot g.is o (terms_at s.ports app slot) w.numbering app slot (now_at s.ports w.books app slot)) there one in
+      let opened = (subst (λ r. IsInUse g.is r w.numbering app slot (now_at s.ports w.books app slot)) plain used).opened in
+      λ fresh. subst (λ y. Stands g f y t.state.ports t.state.out) (sent_entry app slot told b t.events h off.unsent off.none) (record {
+        numbering = w.numbering;
+        books = with_sent app slot b.payload w.books;
+        good = subst (λ p. AreGood g.is w.numbering h.ends (with_sent app slot b.payload w.books) p) (sym off.ports)
+            (good_plain g f whole k w.numbering h.ends w.books s.ports app slot (record (w.books app slot) { sent = (w.books app slot).sent ++ b.payload ∷ [] }) opened refl w.good);
+        tells = tells_sent g.over f.apps w.numbering h w.books app slot b.payload w.tells;
+        apps = ap (λ (p : PlainPorts). p.conns.apps) off.ports ∙ w.apps;
+        out = off.leaves (with_sent app slot b.payload w.books);
+      })
+  by_connection_so true c h s app slot time b there reliable few low free empty untraced w =
+      let came : Came = submitting s.ports app slot b time in
+      let done = k.ports.submits w.numbering h.ends w.books s.ports app slot b time few low (record { connection = c; there = there; reliable = reliable }) free w.good in
+      by_state came done (open_or (machine_at s.ports app slot).state)
+    where
+      none_out : (books : ℕ → ℕ → Book) → IsOut g f.apps books s.out
+      none_out books = subst (IsOut g f.apps books) (sym empty) tt
+
+      by_state : (came : Came) → Submits g.is w.numbering h.ends w.books s.ports app slot b came → ((machine_at s.ports app slot).state ≡ state.Open) ⊎ ((machine_at s.ports app slot).state ≢ state.Open)
+          → AllByRecursion g.fresh came.events → Stands g f (past_after (op.Pop (queue.Up app)) (answer.Popped (item.Packet slot b)) came.events h) came.ports s.out
+      by_state came done (inl is) fresh =
+          let now = done.sent is in
+          subst (λ es. Stands g f (past_after (op.Pop (queue.Up app)) (answer.Popped (item.Packet slot b)) es h) came.ports s.out) (sym now.0)
+          (subst (λ y. Stands g f y came.ports s.out) (sent_entry app slot (terms_at s.ports app slot).ordinal b [] h unsent_none (λ a ends. refl)) (record {
+            numbering = w.numbering;
+            books = with_sent app slot b.payload w.books;
+            good = now.1;
+            tells = tells_sent g.over f.apps w.numbering h w.books app slot b.payload w.tells;
+            apps = done.same ∙ w.apps;
+            out = none_out (with_sent app slot b.payload w.books);
+          }))
+      by_state came done (inr is) fresh =
+          let now = done.not_sent is in
+          subst (λ es. Stands g f (past_after (op.Pop (queue.Up app)) (answer.Popped (item.Packet slot b)) es h) came.ports s.out) (sym now.0)
+          (subst (λ y. Stands g f y came.ports s.out)
+          (quiet_entry (op.Pop (queue.Up app)) (answer.Popped (item.Packet slot b)) (event.Discarded why.NoConn ∷ []) h (record { free = λ a. refl; sent = λ a s o ends. discarded_unsent why.NoConn s o ends _; down = λ a s o ends. refl }))
+          (record {
+            numbering = w.numbering;
+            books = w.books;
+            good = now.1;
+            tells = subst (λ y. Tells g.over f.apps w.numbering y w.books) (sym (no_openings_of h (event.Discarded why.NoConn) (λ a ends. refl))) w.tells;
+            apps = done.same ∙ w.apps;
+            out = none_out w.books;
+          }))
+
+  by_slot_so : (o : Slot) (h : Past) (s : State) (app slot time : ℕ) (b : Content) → slot_at s.ports.conns app slot ≡ o → app < s.ports.conns.apps → slot < SLOTS → stalled_at s.ports app ≡ None → s.out ≡ None
+      → IsUntraced (item.Packet slot b) → Stands g f h s.ports s.out → Serves h app (item.Packet slot b) (by_slot o f s app slot time b)
+  by_slot_so has.Free h s app slot time b there few low free empty untraced w = quiet_packet h app slot b (discarded s why.NoConn b) (discarded_unsent why.NoConn) (stands_discarded g f whole k h s why.NoConn b w)
+  by_slot_so has.Held h s app slot time b there few low free empty untraced w = quiet_packet h app slot b (discarded s why.NoConn b) (discarded_unsent why.NoConn) (stands_discarded g f whole k h s why.NoConn b w)
+  by_slot_so (has.Open c) h s app slot time b there few low free empty untraced w = by_connection_so (are_reliable (terms_at s.ports app slot).flags) c h s app slot time b there refl few low free empty untraced w
+
+  by_mark_so : (unmarked : Bool) (h : Past) (s : State) (app mark time : ℕ) (b : Content) → (mark == UNMARKED) ≡ unmarked → app < s.ports.conns.apps → IsUpItem (item.Packet mark b) → stalled_at s.ports app ≡ None → s.out ≡ None
+      → IsUntraced (item.Packet mark b) → Stands g f h s.ports s.out → Serves h app (item.Packet mark b) (by_mark unmarked f s app mark time b)
+  by_mark_so true h s app mark time b e few up free empty untraced w =
+      let good = k.untraced b (ap (λ x. x.tag) untraced) in
+      let off = sent_off ((header_at b.header).dst == f.addr) (route_of s.routes (header_at b.header).dst) s b empty good in
+      quiet_packet h app mark b (sent f s b) off.unsent (stands_sent g f whole k h s b w good)
+  by_mark_so false h s app mark time b e few up free empty untraced w =
+      let marked : mark ≢ UNMARKED = λ is. absurd (let same : (mark == UNMARKED) ≡ true = eq-eqb mark UNMARKED is in cc) in
+      by_slot_so (slot_at s.ports.conns app mark) h s app mark time b refl few (up marked).0 free empty untraced w
+
+  -- ---- a request
+  requested_so : (n : Note) (h : Past) (s : State) (app time : ℕ) → app < s.ports.conns.apps → IsUpItem (item.Note n) → stalled_at s.ports app ≡ None → Stands g f h s.ports s.out → Quietly g f whole k h (requested f s app time n)
+  requested_so (note.Bind port need) h s app time few up free w =
+      stands_unchanged g f whole k h (record s { ports = bind s.ports app port need })
+      (record { numbering = w.numbering; books = w.books; good = k.ports.binds w.numbering h.ends w.books s.ports app port need few w.good; tells = w.tells; apps = bind_apps (owner_of s.ports.bound port) (nat_lt port BINDABLE_PORTS) ∙ w.apps; out = w.out })
+    where
+      bind_apps : (o : Option (ℕ × ℕ)) (can : Bool) → (bind_by can o s.ports app port need).conns.apps ≡ s.ports.conns.apps
+      bind_apps o false = refl
+      bind_apps (Some owner) true = refl
+      bind_apps None true = refl
+  requested_so (note.Connect slot dest port prio flags from) h s app time few up free w =
+      let r : Request = record { slot = slot; dest = dest; port = port; prio = prio; flags = flags; from = from } in
+      let done = k.ports.connects w.numbering h.ends w.books s.ports app r time few up w.good in
+      λ fresh. stands_comes g f h s.ports s.out w done.after (connect (origin_of f) s.ports app r time) done.goes_on k.grows done.comes
+  requested_so (note.Close slot) h s app time few up free w =
+      λ fresh. stands_comes g f h s.ports s.out w w.numbering (close s.ports app slot time) (record { more = omega arith; same = λ n lt. refl }) k.grows
+      (k.ports.closes w.numbering h.ends w.books s.ports app slot time few up free w.good)
+  requested_so note.Bound h s app time few up free w = stands_unchanged g f whole k h s w
+  requested_so (note.Connected slot) h s app time few up free w = stands_unchanged g f whole k h s w
+  requested_so (note.Refused reason) h s app time few up free w = stands_unchanged g f whole k h s w
+  requested_so (note.Closed slot) h s app time few up free w = stands_unchanged g f whole k h s w
+  requested_so (note.Down slot) h s app time few up free w = stands_unchanged g f whole k h s w
+
+  pub stands_served : (i : ItemShown) (h : Past) (s : State) (app time : ℕ) → app < s.ports.conns.apps → IsUpItem i → IsUntraced i → stalled_at s.ports app ≡ None → s.out ≡ None → Stands g f h s.ports s.out
+      → Serves h app i (served f s time app i)
+  stands_served (item.Packet mark b) h s app time few up untraced free empty w = by_mark_so (mark == UNMARKED) h s app mark time b refl few up free empty untraced w
+  stands_served (item.Note n) h s app time few up untraced free empty w = quiet_note h app n (requested f s app time n) (requested_so n h s app time few up free w)
+  stands_served (item.Frame frame) h s app time few up untraced free empty w = absurd up

@@ -1,0 +1,210 @@
+-- what holds of a router between two steps, for what is to be known of its connections
+use Rattle.std.proofs.Common.{◌≡◌, ◌⊎◌, ℕ, ◌<◌, Bool, true, false, Option, None, Some, List, [], ◌∷◌, refl, sym, ap, ◌∙◌, subst}
+use Rattle.std.specs.Prelude.{⊤}
+use Rattle.csp_base.specs.declared.traces.Tag.{Tag}
+use Rattle.csp_buffer.specs.Content.{Content}
+use Rattle.csp_conn.specs.PlainConns.{slot_at}
+use Rattle.csp_conn.specs.declared.conns.TheConstants.{SLOTS}
+use Rattle.csp_conn.specs.declared.slot.Connection.{Connection}
+use Rattle.csp_conn.specs.declared.slot.Slot.{Slot}
+use Rattle.csp_conn.specs.declared.slot.Slot.TheVariants as has
+use Rattle.csp_crc.specs.Check.{payload_of}
+use Rattle.csp_header.specs.Word.{header_at}
+use Rattle.csp_log.specs.declared.event.Event.{Event}
+use Rattle.csp_log.specs.declared.event.Event.TheVariants as event
+use Rattle.csp_log.specs.declared.places.QueueId.{QueueId}
+use Rattle.csp_log.specs.declared.places.QueueId.TheVariants as queue
+use Rattle.csp_ports.specs.Asking.{is_reliable as are_reliable}
+use Rattle.csp_ports.specs.Came.{Came}
+use Rattle.csp_ports.specs.Packets.{handing_event}
+use Rattle.csp_ports.specs.PlainPorts.{PlainPorts, machine_at, stalled_at, terms_at}
+use Rattle.csp_ports.specs.Tasks.{made_in}
+use Rattle.csp_ports.specs.declared.terms.Terms.{Terms}
+use Rattle.csp_rdp.specs.Jobs.{job_of}
+use Rattle.csp_rdp.specs.Machine.{PlainRdp}
+use Rattle.csp_rdp.specs.declared.jobs.Job.{Job}
+use Rattle.csp_rdp_header.specs.Head.{has_flag, parted}
+use Rattle.csp_rdp_header.specs.declared.head.RdpHead.{RdpHead}
+use Rattle.csp_rdp_header.specs.declared.head.TheConstants.{SYN}
+use Rattle.csp_record.specs.declared.connections.Opening.{Opening}
+use Rattle.csp_stack.specs.Readings.{is_checked}
+use Rattle.csp_stack.specs.Router.{Facts, Leaving, origin_of}
+use Rattle.csp_stack.specs.Rules.{addressed}
+use Rattle.csp_prefix.specs.Ports.{AreGood, AreNew, ArePortsKept, Books, Comes, IsInUse, IsNew, IsSlot, Ordinals, noted, noted_by, now_at, waiting_on, with_book}
+use Rattle.csp_prefix.specs.Prefix.{IsBeginning}
+use Rattle.csp_prefix.specs.Slots.{Book, GoesOn, Now, Numbering, blank}
+use Rattle.csp_prefix.proofs.RouterBooks.{Past, Tells, book_at, opening_on, tells_grows, tells_noted, with_openings}
+
+-- ---- what is to be known: of a connection, of what is handed to it and what opens it, of an opening whose connection is over, and of the packets that
+-- go out, that are heard, and of the events
+pub record Aim : Type 1 where
+  pub is : Numbering → ℕ → ℕ → Now → Type 0
+  pub fed : PlainRdp → RdpHead → Option Tag → List ℕ → Type 0
+  pub invites : RdpHead → Option Tag → Type 0
+  pub over : Numbering → ℕ → Opening → List (List ℕ) → Type 0
+  pub good : Content → Type 0
+  pub hears : Content → Type 0
+  pub fresh : Event → Type 0
+
+-- the payload of a packet once its checksum is cut off, where it is to have one
+abbrev pub unwrapped : (is_checked : Bool) → List ℕ → Option (List ℕ)
+unwrapped true bytes = payload_of bytes
+unwrapped false bytes = Some bytes
+
+-- what was told so far is a part of the whole
+pub record IsPart (h whole : Past) : Type 0 where
+  pub sent : (app slot ordinal : ℕ) → IsBeginning (h.sent app slot ordinal) (whole.sent app slot ordinal)
+  pub opened : (app : ℕ) → IsBeginning (h.opened app) (whole.opened app)
+
+pub record IsAim (g : Aim) (f : Facts) (whole : Past) : Type 0 where
+  pub ports : ArePortsKept (origin_of f) g.fed g.invites g.is
+  pub ended : (m : Numbering) (app slot : ℕ) (n : Now) (how : Option ℕ × Option (ℕ × ℕ)) → g.is m app slot n → n.book.opened ≡ Some how → g.over m app (opening_on slot n.ordinal how) n.book.down
+  pub plain : (m : Numbering) (app slot ordinal : ℕ) (down : List (List ℕ)) → g.over m app (opening_on slot ordinal (None, None)) down
+  pub grows : (m m' : Numbering) (app : ℕ) (x : Opening) (down : List (List ℕ)) → GoesOn m m' → g.over m app x down → g.over m' app x down
+  pub never_plain : (m : Numbering) (app slot : ℕ) (n : Now) → g.is m app slot n → n.book.opened ≡ Some (None, None) → ⊥
+  pub untraced : (b : Content) → b.trace.tag ≡ None → g.good b
+  pub makes : (h : Past) (m : Numbering) (books : Books) (p : PlainPorts) (app slot time : ℕ) (j : Job) (b : Content) (c : Connection) → IsPart h whole → Tells g.over f.apps m h books
+      → (terms_at p app slot).ordinal ≡ h.ends app slot → g.is m app slot (now_at p books app slot) → job_of time (machine_at p app slot) ≡ Some j
+      → g.good (addressed f c (terms_at p app slot) (made_in j time app slot b p))
+  pub feeds : (b : Content) (payload : List ℕ) (r : PlainRdp) (read : List ℕ × RdpHead) → g.hears b → unwrapped (is_checked (header_at b.header)) b.payload ≡ Some payload → parted payload ≡ Some read
+      → g.fresh (handing_event r b.trace.tag) → g.fed r read.1 b.trace.tag read.0
+  pub asks : (b : Content) (payload : List ℕ) (read : List ℕ × RdpHead) → g.hears b → unwrapped (is_checked (header_at b.header)) b.payload ≡ Some payload → parted payload ≡ Some read
+      → has_flag read.1 SYN ≡ true → g.invites read.1 b.trace.tag
+
+-- ---- what is to go out: it is good, or goes out as it was heard; and to an application only on a plain connection
+abbrev pub IsOutTo : Aim → ℕ → Books → QueueId → ℕ → Content → Type 0
+IsOutTo g apps books queue.Inbox mark b = g.good b
+IsOutTo g apps books (queue.Out k) mark b = g.good b ⊎ g.hears b
+IsOutTo g apps books (queue.Down k) mark b = (k < apps) × (mark < SLOTS) × ((books k mark).opened ≡ Some (None, None))
+IsOutTo g apps books (queue.Up k) mark b = ⊤
+IsOutTo g apps books (queue.Tx k) mark b = ⊤
+IsOutTo g apps books (queue.Rx k) mark b = ⊤
+
+abbrev pub IsOut : Aim → ℕ → Books → Option Leaving → Type 0
+IsOut g apps books None = ⊤
+IsOut g apps books (Some o) = IsOutTo g apps books o.queue o.mark o.buffer
+
+-- ---- the ports and what is to go out, as the log tells
+pub record Stands (g : Aim) (f : Facts) (h : Past) (p : PlainPorts) (leaves : Option Leaving) : Type 0 where
+  pub numbering : Numbering
+  pub books : Books
+  pub good : AreGood g.is numbering h.ends books p
+  pub tells : Tells g.over f.apps numbering h books
+  pub apps : p.conns.apps ≡ f.apps
+  pub out : IsOut g f.apps books leaves
+
+-- ---- connections that are plain, and those that are over
+abbrev now_with : PlainPorts → ℕ → ℕ → Book → Now
+now_with p app slot b = record { machine = machine_at p app slot; ordinal = (terms_at p app slot).ordinal; waits = waiting_on slot (stalled_at p app); book = b }
+
+blank_unopened : (b : Book) (how : Option ℕ × Option (ℕ × ℕ)) → b ≡ blank → b.opened ≡ Some how → ⊥
+blank_unopened b how e is = let none : b.opened ≡ None = ap (λ (c : Book). c.opened) e in cc
+
+module _ (g : Aim) (f : Facts) (whole : Past) (k : IsAim g f whole) where
+  over_in_use : (reliable : Bool) (m : Numbering) (app slot : ℕ) (n : Now) (how : Option ℕ × Option (ℕ × ℕ)) → IsInUse g.is reliable m app slot n → n.book.opened ≡ Some how → g.over m app (opening_on slot n.ordinal how) n.book.down
+  over_in_use true m app slot n how is e = k.ended m app slot n how is e
+  over_in_use false m app slot n how is e =
+      let same : (None, None) ≡ how = some_same (sym is.opened ∙ e) in
+      subst (λ w. g.over m app (opening_on slot n.ordinal w) n.book.down) same (k.plain m app slot n.ordinal n.book.down)
+    where
+      some_same : {x y : Option ℕ × Option (ℕ × ℕ)} → ◌≡◌ {A = Option (Option ℕ × Option (ℕ × ℕ))} (Some x) (Some y) → x ≡ y
+      some_same q = cc
+
+  over_slot : (s : Slot) (t : Terms) (m : Numbering) (app slot : ℕ) (n : Now) (how : Option ℕ × Option (ℕ × ℕ)) → IsSlot g.is s t m app slot n → n.book.opened ≡ Some how → g.over m app (opening_on slot n.ordinal how) n.book.down
+  over_slot has.Free t m app slot n how is e = absurd (blank_unopened n.book how is.0.book e)
+  over_slot has.Held t m app slot n how is e = absurd (blank_unopened n.book how is.book e)
+  over_slot (has.Open c) t m app slot n how is e = over_in_use (are_reliable t.flags) m app slot n how is e
+
+  -- what is to be known of the present connection of a slot
+  pub over_present : (h : Past) (m : Numbering) (books : Books) (p : PlainPorts) (app slot : ℕ) (how : Option ℕ × Option (ℕ × ℕ)) → AreGood g.is m h.ends books p → app < p.conns.apps → slot < SLOTS
+      → (books app slot).opened ≡ Some how → g.over m app (opening_on slot (h.ends app slot) how) (books app slot).down
+  over_present h m books p app slot how good few low e =
+      subst (λ o. g.over m app (opening_on slot o how) (books app slot).down) (good.counted app slot few low)
+      (over_slot (slot_at p.conns app slot) (terms_at p app slot) m app slot (now_at p books app slot) how (good.slots app slot few low) e)
+
+  plain_in_use : (reliable : Bool) (m : Numbering) (app slot : ℕ) (n : Now) (b : Book) → IsInUse g.is reliable m app slot n → n.book.opened ≡ Some (None, None) → b.opened ≡ n.book.opened → IsInUse g.is reliable m app slot (record n { book = b })
+  plain_in_use true m app slot n b is e same = absurd (k.never_plain m app slot n is e)
+  plain_in_use false m app slot n b is e same = record { machine = is.machine; waits = is.waits; opened = same ∙ e }
+
+  plain_slot : (s : Slot) (t : Terms) (m : Numbering) (app slot : ℕ) (n : Now) (b : Book) → IsSlot g.is s t m app slot n → n.book.opened ≡ Some (None, None) → b.opened ≡ n.book.opened → IsSlot g.is s t m app slot (record n { book = b })
+  plain_slot has.Free t m app slot n b is e same = absurd (blank_unopened n.book (None, None) is.0.book e)
+  plain_slot has.Held t m app slot n b is e same = absurd (blank_unopened n.book (None, None) is.book e)
+  plain_slot (has.Open c) t m app slot n b is e same = plain_in_use (are_reliable t.flags) m app slot n b is e same
+
+  -- of a plain connection nothing is known but that it is open
+  pub good_plain : (m : Numbering) (ordinals : Ordinals) (books : Books) (p : PlainPorts) (app slot : ℕ) (b : Book) → (books app slot).opened ≡ Some (None, None) → b.opened ≡ (books app slot).opened
+      → AreGood g.is m ordinals books p → AreGood g.is m ordinals (with_book app slot b books) p
+  good_plain m ordinals books p app slot b e same good = record {
+    few = good.few;
+    conns = good.conns;
+    terms = good.terms;
+    machines = good.machines;
+    places = good.places;
+    made = good.made;
+    owners = good.owners;
+    owed = good.owed;
+    counted = good.counted;
+    waits = good.waits;
+    ends = good.ends;
+    over = good.over;
+    slots = λ a s few low. book_at (λ a s c. IsSlot g.is (slot_at p.conns a s) (terms_at p a s) m a s (now_at p books a s) → (books a s).opened ≡ (books a s).opened → IsSlot g.is (slot_at p.conns a s) (terms_at p a s) m a s (now_with p a s c))
+        app slot b books a s
+        (λ is q. plain_slot (slot_at p.conns app slot) (terms_at p app slot) m app slot (now_at p books app slot) b is e same)
+        (λ differ is q. is) (good.slots a s few low) refl;
+  }
+
+-- ---- what an opening leaves as it was
+kept_by : (apps : ℕ) (e : Event) (books : Books) (app slot : ℕ) (how : Option ℕ × Option (ℕ × ℕ)) → IsNew apps e books → (books app slot).opened ≡ Some how → (noted_by e books app slot).opened ≡ Some how
+kept_by apps (event.Opened a s nth peer) books app slot how new is =
+    book_at (λ x y b. (books x y).opened ≡ Some how → b.opened ≡ Some how) a s _ books app slot
+    (λ was. absurd (let bad : ◌≡◌ {A = Option (Option ℕ × Option (ℕ × ℕ))} None (Some how) = sym new.2 ∙ was in cc)) (λ differ was. was) is
+kept_by apps (event.Sent s o) books app slot how new is = is
+kept_by apps (event.TookEmpty step) books app slot how new is = is
+kept_by apps (event.Took s o) books app slot how new is = is
+kept_by apps (event.Refused step reason) books app slot how new is = is
+kept_by apps (event.GaveUp step) books app slot how new is = is
+kept_by apps (event.SlotDown step) books app slot how new is = is
+kept_by apps (event.Discarded reason) books app slot how new is = is
+kept_by apps (event.Handed nth peer tag cur una) books app slot how new is = is
+kept_by apps (event.Transmitted serial) books app slot how new is = is
+kept_by apps (event.Bad count) books app slot how new is = is
+kept_by apps event.Starved books app slot how new is = is
+kept_by apps event.InboxFull books app slot how new is = is
+kept_by apps event.Reboot books app slot how new is = is
+kept_by apps event.Shutdown books app slot how new is = is
+
+pub opened_kept : (apps : ℕ) (es : List Event) (books : Books) (app slot : ℕ) (how : Option ℕ × Option (ℕ × ℕ)) → AreNew apps es books → (books app slot).opened ≡ Some how → (noted es books app slot).opened ≡ Some how
+opened_kept apps [] books app slot how new is = is
+opened_kept apps (e ∷ es) books app slot how new is = opened_kept apps es (noted_by e books) app slot how new.1 (kept_by apps e books app slot how new.0 is)
+
+out_to_kept : (g : Aim) (apps : ℕ) (es : List Event) (books : Books) (q : QueueId) (mark : ℕ) (b : Content) → AreNew apps es books → IsOutTo g apps books q mark b → IsOutTo g apps (noted es books) q mark b
+out_to_kept g apps es books queue.Inbox mark b new is = is
+out_to_kept g apps es books (queue.Out k) mark b new is = is
+out_to_kept g apps es books (queue.Down k) mark b new is = (is.0, is.1, opened_kept apps es books k mark (None, None) new is.2)
+out_to_kept g apps es books (queue.Up k) mark b new is = tt
+out_to_kept g apps es books (queue.Tx k) mark b new is = tt
+out_to_kept g apps es books (queue.Rx k) mark b new is = tt
+
+pub out_kept : (g : Aim) (apps : ℕ) (es : List Event) (books : Books) (o : Option Leaving) → AreNew apps es books → IsOut g apps books o → IsOut g apps (noted es books) o
+out_kept g apps es books None new is = tt
+out_kept g apps es books (Some o) new is = out_to_kept g apps es books o.queue o.mark o.buffer new is
+
+-- ---- a step of the ports
+pub stands_came : (g : Aim) (f : Facts) (h : Past) (apps : ℕ) (o : Option Leaving) (m : Numbering) (books : Books) (c : Came) → apps ≡ f.apps → Tells g.over f.apps m h books → IsOut g f.apps books o
+    → Comes g.is m h.ends books apps c → Stands g f (with_openings c.events h) c.ports o
+stands_came g f h apps o m books c same tells out came =
+    let new : AreNew f.apps c.events books = subst (λ a. AreNew a c.events books) same came.new in
+    record {
+      numbering = m;
+      books = noted c.events books;
+      good = came.good;
+      tells = tells_noted g.over f.apps m c.events h books new tells;
+      apps = came.same ∙ same;
+      out = out_kept g f.apps c.events books o new out;
+    }
+
+pub stands_comes : (g : Aim) (f : Facts) (h : Past) (p : PlainPorts) (o : Option Leaving) (w : Stands g f h p o) (m : Numbering) (c : Came) → GoesOn w.numbering m
+    → ((m m' : Numbering) (app : ℕ) (x : Opening) (down : List (List ℕ)) → GoesOn m m' → g.over m app x down → g.over m' app x down)
+    → Comes g.is m h.ends w.books p.conns.apps c → Stands g f (with_openings c.events h) c.ports o
+stands_comes g f h p o w m c on grows came =
+    stands_came g f h p.conns.apps o m w.books c w.apps (tells_grows g.over f.apps w.numbering m h w.books (λ app x down. grows w.numbering m app x down on) w.tells) w.out came

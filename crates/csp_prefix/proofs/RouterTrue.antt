@@ -1,0 +1,106 @@
+-- what is known of a router by the whole of its log, for what is to be known of its connections
+use Rattle.std.proofs.Common.{◌≡◌, ℕ, zero, suc, ◌+◌, ◌<◌, Some, List, [], ◌∷◌, ◌++◌, length, refl, sym, ap, ◌∙◌, subst, arith}
+use Rattle.std.specs.List.{AllByRecursion, slice_get}
+use Rattle.std.proofs.lemmas.List.{append-nil}
+use Rattle.csp_buffer.specs.Content.{Content}
+use Rattle.csp_conn.specs.declared.conns.TheConstants.{SLOTS}
+use Rattle.csp_log.specs.declared.entry.Entry.{Entry}
+use Rattle.csp_log.specs.declared.places.QueueId.TheVariants as queue
+use Rattle.csp_log.specs.declared.shown.AnswerShown.{AnswerShown}
+use Rattle.csp_log.specs.declared.shown.AnswerShown.TheVariants as answer
+use Rattle.csp_log.specs.declared.shown.ItemShown.{ItemShown}
+use Rattle.csp_log.specs.declared.shown.ItemShown.TheVariants as item
+use Rattle.csp_log.specs.declared.shown.OpShown.{OpShown}
+use Rattle.csp_log.specs.declared.shown.OpShown.TheVariants as op
+use Rattle.csp_record.specs.Connections.{openings}
+use Rattle.csp_record.specs.Payloads.{sent}
+use Rattle.csp_record.specs.declared.connections.Opening.{Opening}
+use Rattle.csp_route.specs.Routes.{Routes}
+use Rattle.csp_stack.specs.Config.{opening_state}
+use Rattle.csp_stack.specs.Router.{Facts}
+use Rattle.csp_prefix.specs.Delivered.{delivered}
+use Rattle.csp_consistent.specs.Reading.{got_by, gets}
+use Rattle.csp_prefix.specs.Routers.{ComesSo, IsFlowOf, IsRouterLog}
+use Rattle.csp_prefix.specs.Slots.{blank}
+use Rattle.csp_prefix.proofs.RouterBooks.{Past, all_at, no_past, over_now, tells_nothing}
+use Rattle.csp_prefix.proofs.RouterRun.{IsCome, IsRunSo, past_of, reads_down, reads_opened, reads_sent, run_stands}
+use Rattle.csp_prefix.proofs.RouterStanding.{Aim, IsAim, IsPart, Stands, over_present}
+use Rattle.csp_prefix.proofs.RouterTurn.{HearsSo}
+
+-- all that a log tells
+abbrev pub past : List Entry → Past
+past es = past_of es no_past
+
+pub past_opened : (es : List Entry) (app : ℕ) → (past es).opened app ≡ openings app es
+past_opened es app = reads_opened es no_past app
+
+pub past_sent : (es : List Entry) (app slot ordinal : ℕ) → (past es).sent app slot ordinal ≡ sent app slot ordinal es
+past_sent es app slot ordinal = reads_sent es no_past app slot ordinal
+
+pub past_down : (es : List Entry) (app slot ordinal : ℕ) → (past es).down app slot ordinal ≡ delivered app slot ordinal es
+past_down es app slot ordinal = reads_down es no_past app slot ordinal
+
+pub part_all : (h : Past) → IsPart h h
+part_all h = record { sent = λ app slot ordinal. record { rest = []; whole = append-nil (h.sent app slot ordinal) }; opened = λ app. record { rest = []; whole = append-nil (h.opened app) } }
+
+-- ---- what was got, entry by entry
+get_past : (xs ys : List ItemShown) (i : ℕ) → slice_get (xs ++ ys) (length xs + i) ≡ slice_get ys i
+get_past [] ys i = let same : length {A = ItemShown} [] + i ≡ i = omega arith in ap (slice_get ys) same
+get_past (x ∷ xs) ys i = let same : length (x ∷ xs) + i ≡ suc (length xs + i) = omega arith in ap (slice_get (x ∷ (xs ++ ys))) same ∙ get_past xs ys i
+
+IsGotBy : (Content → Type 0) → OpShown → AnswerShown → Type 0
+IsGotBy P o a = (at mark : ℕ) (b : Content) → slice_get (got_by queue.Inbox o a) at ≡ Some (item.Packet mark b) → P b
+
+heard_one : (g : Aim) (o : OpShown) (a : AnswerShown) → ((at mark : ℕ) (b : Content) → slice_get (got_by queue.Inbox o a) at ≡ Some (item.Packet mark b) → g.hears b) → HearsSo g o a
+heard_one g (op.Pop queue.Inbox) (answer.Popped (item.Packet mark b)) h = h 0 mark b refl
+heard_one g _ _ h = tt
+
+get_first : (xs ys : List ItemShown) (i : ℕ) (x : ItemShown) → slice_get xs i ≡ Some x → slice_get (xs ++ ys) i ≡ Some x
+get_first [] ys i x e = absurd cc
+get_first (z ∷ zs) ys zero x e = e
+get_first (z ∷ zs) ys (suc i) x e = get_first zs ys i x e
+
+pub heard_all : (g : Aim) (es : List Entry) → ((at mark : ℕ) (b : Content) → slice_get (gets queue.Inbox es) at ≡ Some (item.Packet mark b) → g.hears b) → AllByRecursion (λ e. HearsSo g e.op e.answer) es
+heard_all g [] h = tt
+heard_all g (e ∷ es) h =
+    let first : List ItemShown = got_by queue.Inbox e.op e.answer in (
+      heard_one g e.op e.answer (λ at mark b q. h at mark b (get_first first (gets queue.Inbox es) at (item.Packet mark b) q)),
+      heard_all g es (λ at mark b q. h (length first + at) mark b (get_past first (gets queue.Inbox es) at ∙ q)),
+    )
+
+-- ---- what is known of a run
+all_come : (g : Aim) (es : List Entry) → AllByRecursion (λ e. ComesSo e.op e.answer) es → AllByRecursion (λ e. HearsSo g e.op e.answer) es → AllByRecursion (λ e. AllByRecursion g.fresh e.events.items) es → AllByRecursion (IsCome g) es
+all_come g [] c h f = tt
+all_come g (e ∷ es) c h f = (record { comes = c.0; hears = h.0; fresh = f.0 }, all_come g es c.1 h.1 f.1)
+
+pub run_known : (g : Aim) (f : Facts) (routes : Routes) (es : List Entry) → IsAim g f (past es) → IsRouterLog f routes es → ((at mark : ℕ) (b : Content) → slice_get (gets queue.Inbox es) at ≡ Some (item.Packet mark b) → g.hears b)
+    → AllByRecursion (λ e. AllByRecursion g.fresh e.events.items) es → IsRunSo g f no_past es
+run_known g f routes es k log hears fresh =
+    run_stands g f (past es) k es 0 no_past (opening_state f.apps routes) log.run (all_come g es log.comes (heard_all g es hears) fresh) (part_all (past es)) (record {
+      numbering = record { made = 0; home = λ n. (0, 0, 0) };
+      books = λ app slot. blank;
+      good = k.ports.opens f.apps (λ n. (0, 0, 0)) log.few;
+      tells = tells_nothing g.over f.apps (record { made = 0; home = λ n. (0, 0, 0) });
+      apps = refl;
+      out = tt;
+    })
+
+-- of each opening what is to be known is known
+pub opening_known : (g : Aim) (f : Facts) (es : List Entry) → IsAim g f (past es) → (r : IsRunSo g f no_past es) → (app nth : ℕ) (x : Opening) → IsFlowOf es app nth x → g.over r.stands.numbering app x (delivered app x.slot x.ordinal es)
+opening_known g f es k r app nth x is =
+    let h : Past = past es in
+    let w : Stands g f h r.ports r.leaves = r.stands in
+    let there : slice_get (h.opened app) is.at ≡ Some x = ap (λ xs. slice_get xs is.at) (past_opened es app) ∙ is.there in
+    let i = all_at _ (h.opened app) is.at x (w.tells.told app) there in
+    let few : app < r.ports.conns.apps = subst (λ n. app < n) (sym w.apps) i.app_there in
+    subst (g.over w.numbering app x) (past_down es app x.slot x.ordinal)
+    (over_now g.over f.apps w.numbering h w.books app x.slot x (λ how e. over_present g f h k h w.numbering w.books r.ports app x.slot how w.good few i.slot_there e) (w.tells.down app x.slot) refl i.reached i.present i.over)
+
+-- and its application and its slot are there
+pub opening_placed : (g : Aim) (f : Facts) (es : List Entry) → IsRunSo g f no_past es → (app at : ℕ) (x : Opening) → slice_get (openings app es) at ≡ Some x → (app < f.apps) × (x.slot < SLOTS)
+opening_placed g f es r app at x e =
+    let h : Past = past es in
+    let w : Stands g f h r.ports r.leaves = r.stands in
+    let there : slice_get (h.opened app) at ≡ Some x = ap (λ xs. slice_get xs at) (past_opened es app) ∙ e in
+    let i = all_at _ (h.opened app) at x (w.tells.told app) there in
+    (i.app_there, i.slot_there)

@@ -1,0 +1,429 @@
+-- the turns of a router: what is to be known of its connections holds after each
+use Rattle.std.proofs.Common.{◌≡◌, ◌≢◌, ◌⊎◌, ℕ, ◌-◌, ◌<◌, ◌≤◌, ◌==◌, Bool, true, false, cond, nat_le, Option, None, Some, List, [], ◌∷◌, ◌++◌, length, refl, sym, ap, ◌∙◌, subst, arith}
+use Rattle.std.specs.Prelude.{is_some, ⊤}
+use Rattle.std.specs.List.{AllByRecursion}
+use Rattle.std.proofs.lemmas.Bool.{eqb-false, leb-true}
+use Rattle.std.proofs.lemmas.List.{append-nil, append_assoc}
+use Rattle.csp_buffer.specs.Content.{Content}
+use Rattle.csp_buffer.specs.PlainBuffer.{PlainBuffer}
+use Rattle.csp_conn.specs.declared.conns.TheConstants.{SLOTS}
+use Rattle.csp_deck.specs.Carried.{IsReply}
+use Rattle.csp_log.specs.Moving.{moved_by}
+use Rattle.csp_log.specs.Noting.{noted_by as note_moved}
+use Rattle.csp_log.specs.Pictures.{Fits}
+use Rattle.csp_log.specs.declared.noted.Noted.TheVariants as noted
+use Rattle.csp_log.specs.declared.event.Discard.TheVariants as why
+use Rattle.csp_log.specs.declared.event.Event.{Event}
+use Rattle.csp_log.specs.declared.event.Event.TheVariants as event
+use Rattle.csp_log.specs.declared.note.Note.{Note}
+use Rattle.csp_log.specs.declared.note.Note.TheVariants as note
+use Rattle.csp_log.specs.declared.places.QueueId.{QueueId}
+use Rattle.csp_log.specs.declared.places.QueueId.TheVariants as queue
+use Rattle.csp_log.specs.declared.shown.AnswerShown.{AnswerShown}
+use Rattle.csp_log.specs.declared.shown.AnswerShown.TheVariants as answer
+use Rattle.csp_log.specs.declared.shown.ItemShown.{ItemShown}
+use Rattle.csp_log.specs.declared.shown.ItemShown.TheVariants as item
+use Rattle.csp_log.specs.declared.shown.OpShown.{OpShown}
+use Rattle.csp_log.specs.declared.shown.OpShown.TheVariants as op
+use Rattle.csp_ports.specs.Asking.{answered}
+use Rattle.csp_ports.specs.Came.{Came}
+use Rattle.csp_ports.specs.Kept.{IsOwed}
+use Rattle.csp_ports.specs.PlainPorts.{PlainPorts, machine_at, stalled_at, terms_at}
+use Rattle.csp_ports.specs.Steps.{timed as ports_timed}
+use Rattle.csp_ports.specs.Tasks.{delivered, kept_again, made_in, making, next_task, told_down, turned, without_packet}
+use Rattle.csp_ports.specs.declared.owed.Owed.{Owed}
+use Rattle.csp_ports.specs.declared.task.Task.{Task}
+use Rattle.csp_ports.specs.declared.task.Task.TheVariants as task
+use Rattle.csp_rdp.specs.Jobs.{delivery, job_of}
+use Rattle.csp_rdp.specs.declared.jobs.Job.{Job}
+use Rattle.csp_record.specs.Ends.{Ends, told_free}
+use Rattle.csp_record.specs.Payloads.{carried, told_on}
+use Rattle.csp_record.specs.declared.payloads.Way.TheVariants as way
+use Rattle.csp_stack.specs.Counting.{came_in, was_full}
+use Rattle.csp_stack.specs.Readings.{buffer_in}
+use Rattle.csp_stack.specs.Router.{Facts, Leaving, State, at_rest}
+use Rattle.csp_stack.specs.Rules.{Arrival, addressed, arrival, heard, made_on, packet_in, sent}
+use Rattle.csp_stack.specs.Sources.{circle, has_work, place_with_work, source_at}
+use Rattle.csp_stack.specs.Told.{Told}
+use Rattle.csp_stack.specs.Turn.{asked_at, asked_by, asks_at, delivering, giving, handed, jobs_by, op_of, plan_by, plan_for, plan_of, pushing, replying, timed, told_at, told_by, told_giving, told_keeping, told_pushing, work_at, work_found}
+use Rattle.csp_stack.specs.declared.plan.Plan.{Plan}
+use Rattle.csp_stack.specs.declared.plan.Plan.TheVariants as plan
+use Rattle.csp_stack.specs.declared.sources.Source.TheVariants as source
+use Rattle.csp_prefix.specs.Delivered.{delivered_by}
+use Rattle.csp_prefix.specs.Ports.{AreGood, Answers, with_book, with_down}
+use Rattle.csp_prefix.specs.Prefix.{IsBeginning}
+use Rattle.csp_prefix.specs.Routers.{ComesSo}
+use Rattle.csp_prefix.specs.Slots.{blank}
+use Rattle.csp_prefix.proofs.RouterBooks.{Past, down_on, freed_on, no_openings, no_openings_of, ordinals_freed, past_after, past_same, tells_down, tells_freed, with_openings}
+use Rattle.csp_prefix.proofs.RouterEntry.{IsQuiet, new_unsent, quiet_entry, split_entry}
+use Rattle.csp_prefix.proofs.RouterHeard.{Quietly, stands_heard, stands_sent}
+use Rattle.csp_prefix.proofs.RouterMute.{answered_mute}
+use Rattle.csp_prefix.proofs.RouterPlans.{IsTask, deliver_job, found_passes, make_job, serves_free, task_there}
+use Rattle.csp_prefix.proofs.RouterServed.{stands_served}
+use Rattle.csp_prefix.proofs.RouterStanding.{Aim, IsAim, IsOut, IsPart, Stands, good_plain, over_present, stands_came, stands_comes}
+
+-- ---- what is heard, and what is pushed
+abbrev pub HearsSo : Aim → OpShown → AnswerShown → Type 0
+HearsSo g (op.Pop queue.Inbox) (answer.Popped (item.Packet mark b)) = g.hears b
+HearsSo g _ _ = ⊤
+
+abbrev pub PushedSo : Aim → OpShown → AnswerShown → Type 0
+PushedSo g (op.Push queue.Inbox (item.Packet mark b)) answer.Pushed = g.good b
+PushedSo g (op.Push (queue.Out k) (item.Packet mark b)) answer.Pushed = g.good b ⊎ g.hears b
+PushedSo g _ _ = ⊤
+
+-- ---- parts
+beginning_before : {X : Type 0} (xs ys zs : List X) → IsBeginning (xs ++ ys) zs → IsBeginning xs zs
+beginning_before xs ys zs b = record { rest = ys ++ b.rest; whole = sym (append_assoc xs ys b.rest) ∙ b.whole }
+
+pub part_before : (o : OpShown) (a : AnswerShown) (es : List Event) (h whole : Past) → IsPart (past_after o a es h) whole → IsPart h whole
+part_before o a es h whole p = record { sent = λ app slot ordinal. beginning_before (h.sent app slot ordinal) _ _ (p.sent app slot ordinal); opened = λ app. beginning_before (h.opened app) _ _ (p.opened app) }
+
+-- ---- entries of turns that push or are given
+quiet_giving : (trash : List Content) (a : AnswerShown) (es : List Event) → IsQuiet (giving trash) a es
+quiet_giving [] a es = record { free = λ app. refl; sent = λ app s o ends. refl; down = λ app s o ends. refl }
+quiet_giving (b ∷ bs) a es = record { free = λ app. refl; sent = λ app s o ends. refl; down = λ app s o ends. refl }
+
+quiet_take : (a : AnswerShown) (es : List Event) → IsQuiet op.Take a es
+quiet_take a es = record { free = λ app. refl; sent = λ app s o ends. refl; down = λ app s o ends. refl }
+
+quiet_nothing : (a : AnswerShown) (es : List Event) → IsQuiet op.Nothing a es
+quiet_nothing a es = record { free = λ app. refl; sent = λ app s o ends. refl; down = λ app s o ends. refl }
+
+free_full : (q : QueueId) (i j : ItemShown) (app : ℕ) → told_free app (note_moved (op.Push q i) (answer.Full j)) ≡ None
+free_full q (item.Packet mark b) j app = refl
+free_full q (item.Frame frame) j app = refl
+free_full q (item.Note n) j app = refl
+
+sent_full : (q : QueueId) (i j : ItemShown) (app slot ordinal : ℕ) (ends : Ends) (es : List Event) → told_on way.Sent slot ordinal ends es (carried way.Sent app (moved_by (op.Push q i) (answer.Full j))) ≡ []
+sent_full q (item.Packet mark b) j app slot ordinal ends es = refl
+sent_full q (item.Frame frame) j app slot ordinal ends es = refl
+sent_full q (item.Note n) j app slot ordinal ends es = refl
+
+down_full : (q : QueueId) (i j : ItemShown) (app slot ordinal : ℕ) (ends : Ends) → delivered_by app slot ordinal ends (op.Push q i) (answer.Full j) ≡ []
+down_full queue.Inbox i j app slot ordinal ends = refl
+down_full (queue.Up k) i j app slot ordinal ends = refl
+down_full (queue.Down k) (item.Packet mark b) j app slot ordinal ends = refl
+down_full (queue.Down k) (item.Frame frame) j app slot ordinal ends = refl
+down_full (queue.Down k) (item.Note n) j app slot ordinal ends = refl
+down_full (queue.Out k) i j app slot ordinal ends = refl
+down_full (queue.Tx k) i j app slot ordinal ends = refl
+down_full (queue.Rx k) i j app slot ordinal ends = refl
+
+quiet_full : (q : QueueId) (i j : ItemShown) (es : List Event) → IsQuiet (op.Push q i) (answer.Full j) es
+quiet_full q i j es = record { free = free_full q i j; sent = λ app s o ends. sent_full q i j app s o ends es; down = down_full q i j }
+
+-- the push of a packet
+quiet_pushed : (q : QueueId) (mark : ℕ) (b : Content) (es : List Event) → ((app slot ordinal : ℕ) (ends : Ends) → delivered_by app slot ordinal ends (op.Push q (item.Packet mark b)) answer.Pushed ≡ []) → IsQuiet (op.Push q (item.Packet mark b)) answer.Pushed es
+quiet_pushed q mark b es none = record { free = λ app. refl; sent = λ app s o ends. refl; down = none }
+
+down_entry : (app slot : ℕ) (b : Content) (es : List Event) (h : Past) → with_openings es (down_on app slot b.payload h) ≡ past_after (op.Push (queue.Down app) (item.Packet slot b)) answer.Pushed es h
+down_entry app slot b es h =
+    past_same (with_openings es (down_on app slot b.payload h)) (past_after (op.Push (queue.Down app) (item.Packet slot b)) answer.Pushed es h)
+    (λ a. refl) (λ a s o. sym (append-nil _)) (λ a s o. refl) (λ a s. refl)
+
+-- the push of an answer
+quiet_answer : (app : ℕ) (n : Note) → ((a : ℕ) → told_free a (noted.Pushed (queue.Down app) n) ≡ None) → IsQuiet (op.Push (queue.Down app) (item.Note n)) answer.Pushed []
+quiet_answer app n none = record { free = none; sent = λ a s o ends. refl; down = λ a s o ends. refl }
+
+freed_entry : (app slot : ℕ) (h : Past) → freed_on app slot h ≡ past_after (op.Push (queue.Down app) (item.Note (note.Closed slot))) answer.Pushed [] h
+freed_entry app slot h =
+    past_same (freed_on app slot h) (past_after (op.Push (queue.Down app) (item.Note (note.Closed slot))) answer.Pushed [] h)
+    (λ a. sym (append-nil _)) (λ a s o. sym (append-nil _)) (λ a s o. sym (append-nil _)) (λ a s. refl)
+
+module _ (g : Aim) (f : Facts) (whole : Past) (k : IsAim g f whole) where
+  abbrev after_told : State → ℕ → Plan → AnswerShown → Told
+  after_told s time p a = told_by p f (at_rest (asked_by f s p)) time a
+
+  abbrev Turns : Past → State → ℕ → Plan → AnswerShown → Type 0
+  Turns h s time p a = Fits (op_of s p) a → ComesSo (op_of s p) a → HearsSo g (op_of s p) a → IsPart (past_after (op_of s p) a (after_told s time p a).events h) whole → AllByRecursion g.fresh (after_told s time p a).events
+      → Stands g f (past_after (op_of s p) a (after_told s time p a).events h) (after_told s time p a).state.ports (after_told s time p a).state.out × PushedSo g (op_of s p) a
+
+  unmoved : (o : OpShown) (a : AnswerShown) (h : Past) (p : PlainPorts) (leaves : Option Leaving) → IsQuiet o a [] → Stands g f h p leaves → Stands g f (past_after o a [] h) p leaves
+  unmoved o a h p leaves q w = subst (λ x. Stands g f x p leaves) (no_openings h ∙ quiet_entry o a [] h q) w
+
+  quietly : (o : OpShown) (a : AnswerShown) (h : Past) (t : Told) → IsQuiet o a t.events → Quietly g f whole k h t → AllByRecursion g.fresh t.events → Stands g f (past_after o a t.events h) t.state.ports t.state.out
+  quietly o a h t q w fresh = subst (λ x. Stands g f x t.state.ports t.state.out) (quiet_entry o a t.events h q) (w fresh)
+
+  -- ---- no work, and the trash
+  turn_rest : (h : Past) (s : State) (time : ℕ) (a : AnswerShown) → Stands g f h s.ports s.out → Turns h s time plan.Rest a
+  turn_rest h s time answer.Nothing w = λ fits comes hears part fresh. (unmoved op.Nothing answer.Nothing h s.ports s.out (quiet_nothing answer.Nothing []) w, tt)
+  turn_rest h s time a w = λ fits comes hears part fresh. absurd fits
+
+  pushed_giving : (trash : List Content) (a : AnswerShown) → PushedSo g (giving trash) a
+  pushed_giving [] a = tt
+  pushed_giving (b ∷ bs) a = tt
+
+  told_giving_same : (o : Option Content) (s : State) (h : Past) (x : OpShown) (a : AnswerShown) → ((es : List Event) → IsQuiet x a es) → Stands g f h s.ports s.out
+      → Stands g f (past_after x a (told_giving s o).events h) (told_giving s o).state.ports (told_giving s o).state.out
+  told_giving_same None s h x a q w = unmoved x a h s.ports s.out (q []) w
+  told_giving_same (Some b) s h x a q w = unmoved x a h s.ports s.out (q []) w
+
+  turn_give : (h : Past) (s : State) (time : ℕ) (a : AnswerShown) → Stands g f h s.ports s.out → Turns h s time plan.Give a
+  turn_give h s time a w = λ fits comes hears part fresh. (told_giving_same (buffer_in a) (at_rest (asked_by f s plan.Give)) h (giving s.trash) a (quiet_giving s.trash a) w, pushed_giving s.trash a)
+
+  -- ---- a packet that is to go out
+  no_out : (h : Past) (p : PlainPorts) (o : Option Leaving) → Stands g f h p o → Stands g f h p None
+  no_out h p o w = record { numbering = w.numbering; books = w.books; good = w.good; tells = w.tells; apps = w.apps; out = tt }
+
+  push_so : (q : QueueId) (mark : ℕ) (b : Content) (h : Past) (p : PlainPorts) (w : Stands g f h p (Some (record { queue = q; mark = mark; buffer = b })))
+      → Stands g f (past_after (op.Push q (item.Packet mark b)) answer.Pushed [] h) p None × PushedSo g (op.Push q (item.Packet mark b)) answer.Pushed
+  push_so queue.Inbox mark b h p w = (unmoved (op.Push queue.Inbox (item.Packet mark b)) answer.Pushed h p None (quiet_pushed queue.Inbox mark b [] (λ a s o ends. refl)) (no_out h p _ w), w.out)
+  push_so (queue.Out x) mark b h p w = (unmoved (op.Push (queue.Out x) (item.Packet mark b)) answer.Pushed h p None (quiet_pushed (queue.Out x) mark b [] (λ a s o ends. refl)) (no_out h p _ w), w.out)
+  push_so (queue.Up x) mark b h p w = (unmoved (op.Push (queue.Up x) (item.Packet mark b)) answer.Pushed h p None (quiet_pushed (queue.Up x) mark b [] (λ a s o ends. refl)) (no_out h p _ w), tt)
+  push_so (queue.Tx x) mark b h p w = (unmoved (op.Push (queue.Tx x) (item.Packet mark b)) answer.Pushed h p None (quiet_pushed (queue.Tx x) mark b [] (λ a s o ends. refl)) (no_out h p _ w), tt)
+  push_so (queue.Rx x) mark b h p w = (unmoved (op.Push (queue.Rx x) (item.Packet mark b)) answer.Pushed h p None (quiet_pushed (queue.Rx x) mark b [] (λ a s o ends. refl)) (no_out h p _ w), tt)
+  push_so (queue.Down app) mark b h p w = (
+    subst (λ x. Stands g f x p None) (no_openings (down_on app mark b.payload h) ∙ down_entry app mark b [] h) (record {
+      numbering = w.numbering;
+      books = with_down app mark b.payload w.books;
+      good = good_plain g f whole k w.numbering h.ends w.books p app mark (record (w.books app mark) { down = (w.books app mark).down ++ b.payload ∷ [] }) w.out.2 refl w.good;
+      tells = tells_down g.over f.apps w.numbering h w.books app mark b.payload w.tells;
+      apps = w.apps;
+      out = tt;
+    }),
+    tt,
+  )
+
+  pushed_full : (q : QueueId) (i j : ItemShown) → PushedSo g (op.Push q i) (answer.Full j)
+  pushed_full queue.Inbox (item.Packet mark b) j = tt
+  pushed_full (queue.Out x) (item.Packet mark b) j = tt
+  pushed_full (queue.Up x) i j = tt
+  pushed_full (queue.Down x) i j = tt
+  pushed_full (queue.Tx x) i j = tt
+  pushed_full (queue.Rx x) i j = tt
+  pushed_full queue.Inbox (item.Frame frame) j = tt
+  pushed_full (queue.Out x) (item.Frame frame) j = tt
+  pushed_full queue.Inbox (item.Note n) j = tt
+  pushed_full (queue.Out x) (item.Note n) j = tt
+
+  -- what a full queue hands back changes nothing but the trash
+  back_so : (q : QueueId) (i j : ItemShown) (o : Option Arrival) (h : Past) (s : State) → Stands g f h s.ports s.out
+      → Stands g f (past_after (op.Push q i) (answer.Full j) (told_pushing s o).events h) (told_pushing s o).state.ports (told_pushing s o).state.out
+  back_so q i j None h s w = unmoved (op.Push q i) (answer.Full j) h s.ports s.out (quiet_full q i j []) w
+  back_so q i j (Some p) h s w =
+      subst (λ x. Stands g f x s.ports s.out) (quiet_entry (op.Push q i) (answer.Full j) (event.Discarded why.Full ∷ []) h (quiet_full q i j (event.Discarded why.Full ∷ [])))
+      (subst (λ x. Stands g f x s.ports s.out) (sym (no_openings_of h (event.Discarded why.Full) (λ app ends. refl))) w)
+
+  sending_so : (o : Leaving) (h : Past) (s : State) (time : ℕ) (a : AnswerShown) → Stands g f h s.ports (Some o) → Fits (op.Push o.queue (item.Packet o.mark o.buffer)) a
+      → Stands g f (past_after (op.Push o.queue (item.Packet o.mark o.buffer)) a (after_told s time (plan.Push o.queue (length o.buffer.payload)) a).events h) (after_told s time (plan.Push o.queue (length o.buffer.payload)) a).state.ports
+      (after_told s time (plan.Push o.queue (length o.buffer.payload)) a).state.out × PushedSo g (op.Push o.queue (item.Packet o.mark o.buffer)) a
+  sending_so o h s time answer.Pushed w fits = push_so o.queue o.mark o.buffer h s.ports w
+  sending_so o h s time (answer.Full i) w fits =
+      (back_so o.queue (item.Packet o.mark o.buffer) i (packet_in (Some i)) h (was_full (at_rest (asked_by f s (plan.Push o.queue (length o.buffer.payload)))) o.queue) (no_out h s.ports _ w), pushed_full o.queue (item.Packet o.mark o.buffer) i)
+  sending_so o h s time a w fits = absurd fits
+
+  turn_push : (o : Leaving) (h : Past) (s : State) (time : ℕ) (a : AnswerShown) → s.out ≡ Some o → Stands g f h s.ports s.out → Turns h s time (plan.Push o.queue (length o.buffer.payload)) a
+  turn_push o h s time a e w =
+      let p : Plan = plan.Push o.queue (length o.buffer.payload) in
+      subst (λ x. Fits (pushing x) a → ComesSo (pushing x) a → HearsSo g (pushing x) a → IsPart (past_after (pushing x) a (after_told s time p a).events h) whole → AllByRecursion g.fresh (after_told s time p a).events
+      → Stands g f (past_after (pushing x) a (after_told s time p a).events h) (after_told s time p a).state.ports (after_told s time p a).state.out × PushedSo g (pushing x) a) (sym e)
+      (λ fits comes hears part fresh. sending_so o h s time a (subst (Stands g f h s.ports) e w) fits)
+
+  -- ---- a packet of the inbox
+  turn_hear : (h : Past) (s : State) (time : ℕ) (a : AnswerShown) → Stands g f h s.ports s.out → Turns h s time plan.Hear a
+  turn_hear h s time (answer.Popped (item.Packet mark b)) w = λ fits comes hears part fresh.
+      let t = heard f (came_in (at_rest (asked_by f s plan.Hear)) mark b) time (arrival mark b) in (
+        quietly (op.Pop queue.Inbox) (answer.Popped (item.Packet mark b)) h t (record { free = λ app. refl; sent = λ app x o ends. refl; down = λ app x o ends. refl })
+            (stands_heard g f whole k h (came_in (at_rest (asked_by f s plan.Hear)) mark b) time mark b answered_mute hears w) fresh,
+        tt,
+      )
+  turn_hear h s time (answer.Popped (item.Frame frame)) w = λ fits comes hears part fresh.
+      (unmoved (op.Pop queue.Inbox) (answer.Popped (item.Frame frame)) h s.ports s.out (record { free = λ app. refl; sent = λ app x o ends. refl; down = λ app x o ends. refl }) w, tt)
+  turn_hear h s time (answer.Popped (item.Note n)) w = λ fits comes hears part fresh.
+      (unmoved (op.Pop queue.Inbox) (answer.Popped (item.Note n)) h s.ports s.out (record { free = λ app. refl; sent = λ app x o ends. refl; down = λ app x o ends. refl }) w, tt)
+  turn_hear h s time answer.Empty w = λ fits comes hears part fresh. (unmoved (op.Pop queue.Inbox) answer.Empty h s.ports s.out (record { free = λ app. refl; sent = λ app x o ends. refl; down = λ app x o ends. refl }) w, tt)
+  turn_hear h s time a w = λ fits comes hears part fresh. absurd fits
+
+  -- ---- an item of an application
+  turn_serve : (app : ℕ) (h : Past) (s : State) (time : ℕ) (a : AnswerShown) → app < f.apps → stalled_at s.ports app ≡ None → s.out ≡ None → Stands g f h s.ports s.out → Turns h s time (plan.Serve app) a
+  turn_serve app h s time (answer.Popped i) few free empty w = λ fits comes hears part fresh.
+      (stands_served g f whole k i h (at_rest (asked_by f s (plan.Serve app))) app time (subst (λ n. app < n) (sym w.apps) few) comes.0 comes.1 free empty w fresh, tt)
+  turn_serve app h s time answer.Empty few free empty w = λ fits comes hears part fresh.
+      (unmoved (op.Pop (queue.Up app)) answer.Empty h s.ports s.out (record { free = λ a. refl; sent = λ a x o ends. refl; down = λ a x o ends. refl }) w, tt)
+  turn_serve app h s time a few free empty w = λ fits comes hears part fresh. absurd fits
+
+  -- ---- an answer that is owed
+  plain_answer : (app : ℕ) (n : Note) (c : Came) (h : Past) (p : PlainPorts) (o : Option Leaving) (w : Stands g f h p o) → ((a : ℕ) → told_free a (noted.Pushed (queue.Down app) n) ≡ None) → c.ports.conns.apps ≡ p.conns.apps
+      → AreGood g.is w.numbering h.ends w.books c.ports → Stands g f (past_after (op.Push (queue.Down app) (item.Note n)) answer.Pushed [] h) c.ports o
+  plain_answer app n c h p o w none same good =
+      unmoved (op.Push (queue.Down app) (item.Note n)) answer.Pushed h c.ports o (quiet_answer app n none) (record { numbering = w.numbering; books = w.books; good = good; tells = w.tells; apps = same ∙ w.apps; out = w.out })
+
+  answered_so : (n : Note) (app : ℕ) (c : Came) (h : Past) (p : PlainPorts) (w : Stands g f h p None) → app < p.conns.apps → IsReply n → Answers g.is w.numbering h.ends w.books p.conns.apps (record { app = app; note = n }) c
+      → Stands g f (past_after (op.Push (queue.Down app) (item.Note n)) answer.Pushed [] h) c.ports None
+  answered_so (note.Closed slot) app c h p w few reply a =
+      subst (λ x. Stands g f x c.ports None) (freed_entry app slot h) (record {
+        numbering = w.numbering;
+        books = with_book app slot blank w.books;
+        good = subst (λ o. AreGood g.is w.numbering o (with_book app slot blank w.books) c.ports) (ordinals_freed app slot h) a.good;
+        tells = tells_freed g.over f.apps w.numbering h w.books app slot (λ how e. over_present g f whole k h w.numbering w.books p app slot how w.good few reply e) w.tells;
+        apps = a.same ∙ w.apps;
+        out = tt;
+      })
+  answered_so note.Bound app c h p w few reply a = plain_answer app note.Bound c h p None w (λ x. refl) a.same a.good
+  answered_so (note.Connected slot) app c h p w few reply a = plain_answer app (note.Connected slot) c h p None w (λ x. refl) a.same a.good
+  answered_so (note.Refused reason) app c h p w few reply a = plain_answer app (note.Refused reason) c h p None w (λ x. refl) a.same a.good
+  answered_so (note.Down slot) app c h p w few reply a = plain_answer app (note.Down slot) c h p None w (λ x. refl) a.same a.good
+  answered_so (note.Bind port need) app c h p w few reply a = absurd reply
+  answered_so (note.Connect slot dest port prio flags from) app c h p w few reply a = absurd reply
+  answered_so (note.Close slot) app c h p w few reply a = absurd reply
+
+  pushed_down : (app : ℕ) (i : ItemShown) (a : AnswerShown) → PushedSo g (op.Push (queue.Down app) i) a
+  pushed_down app i a = tt
+
+  replying_so : (o : Owed) (rest : List Owed) (h : Past) (s : State) (time : ℕ) (a : AnswerShown) → s.ports.owed ≡ o ∷ rest → s.out ≡ None → Stands g f h s.ports s.out → Fits (op.Push (queue.Down o.app) (item.Note o.note)) a
+      → Stands g f (past_after (op.Push (queue.Down o.app) (item.Note o.note)) a (after_told s time (plan.Reply o.app) a).events h) (after_told s time (plan.Reply o.app) a).state.ports (after_told s time (plan.Reply o.app) a).state.out
+  replying_so o rest h s time answer.Pushed e empty w fits =
+      let v = subst (Stands g f h s.ports) empty w in
+      let c : Came = answered s.ports in
+      let done = k.ports.answers v.numbering h.ends v.books s.ports o rest e v.good in
+      let owed = (subst (AllByRecursion (IsOwed s.ports.conns.apps)) e v.good.owed).0 in
+      subst (λ es. Stands g f (past_after (op.Push (queue.Down o.app) (item.Note o.note)) answer.Pushed es h) c.ports s.out) (sym done.quiet)
+      (subst (λ x. Stands g f (past_after (op.Push (queue.Down o.app) (item.Note o.note)) answer.Pushed [] h) c.ports x) (sym empty)
+      (answered_so o.note o.app c h s.ports v owed.app owed.reply done))
+  replying_so o rest h s time (answer.Full i) e empty w fits = back_so (queue.Down o.app) (item.Note o.note) i (packet_in (Some i)) h (at_rest (asked_by f s (plan.Reply o.app))) w
+  replying_so o rest h s time a e empty w fits = absurd fits
+
+  pushed_replying : (owed : List Owed) (a : AnswerShown) → PushedSo g (replying owed) a
+  pushed_replying [] a = tt
+  pushed_replying (o ∷ os) a = tt
+
+  turn_reply : (o : Owed) (rest : List Owed) (h : Past) (s : State) (time : ℕ) (a : AnswerShown) → s.ports.owed ≡ o ∷ rest → s.out ≡ None → Stands g f h s.ports s.out → Turns h s time (plan.Reply o.app) a
+  turn_reply o rest h s time a e empty w =
+      let p : Plan = plan.Reply o.app in
+      λ fits comes hears part fresh. (
+        subst (λ x. Fits (replying x) a → Stands g f (past_after (replying x) a (after_told s time p a).events h) (after_told s time p a).state.ports (after_told s time p a).state.out) (sym e)
+            (replying_so o rest h s time a e empty w) fits,
+        pushed_replying s.ports.owed a,
+      )
+
+  -- ---- a Down note
+  turned_stands : (app slot : ℕ) (h : Past) (p : PlainPorts) (o : Option Leaving) → Stands g f h p o → Stands g f h (turned app slot p) o
+  turned_stands app slot h p o w = record { numbering = w.numbering; books = w.books; good = k.ports.turns w.numbering h.ends w.books p app slot w.good; tells = w.tells; apps = w.apps; out = w.out }
+
+  turn_tell : (app slot : ℕ) (h : Past) (s : State) (time : ℕ) (a : AnswerShown) → Stands g f h s.ports s.out → Turns h s time (plan.Tell app slot) a
+  turn_tell app slot h s time answer.Pushed w = λ fits comes hears part fresh.
+      let v = turned_stands app slot h s.ports s.out w in (
+        unmoved (op.Push (queue.Down app) (item.Note (note.Down slot))) answer.Pushed h (told_down app slot (turned app slot s.ports)) s.out (quiet_answer app (note.Down slot) (λ x. refl))
+            (record { numbering = v.numbering; books = v.books; good = k.ports.tells v.numbering h.ends v.books (turned app slot s.ports) app slot v.good; tells = v.tells; apps = v.apps; out = v.out }),
+        tt,
+      )
+  turn_tell app slot h s time (answer.Full i) w = λ fits comes hears part fresh.
+      (back_so (queue.Down app) (item.Note (note.Down slot)) i (packet_in (Some i)) h (at_rest (asked_by f s (plan.Tell app slot))) (turned_stands app slot h s.ports s.out w), tt)
+  turn_tell app slot h s time a w = λ fits comes hears part fresh. absurd fits
+
+  -- ---- a packet that is delivered
+  delivering_so : (app slot : ℕ) (b : PlainBuffer) (h : Past) (s : State) (time : ℕ) (a : AnswerShown) → app < s.ports.conns.apps → slot < SLOTS → delivery (machine_at s.ports app slot) ≡ Some b → s.out ≡ None → Stands g f h s.ports s.out
+      → Fits (op.Push (queue.Down app) (item.Packet slot b.picture)) a
+      → Stands g f (past_after (op.Push (queue.Down app) (item.Packet slot b.picture)) a (after_told s time (plan.Deliver app slot) a).events h) (after_told s time (plan.Deliver app slot) a).state.ports (after_told s time (plan.Deliver app slot) a).state.out
+  delivering_so app slot b h s time answer.Pushed few low e empty w fits =
+      let v = turned_stands app slot h s.ports s.out w in
+      let q : PlainPorts = turned app slot s.ports in
+      let c : Came = delivered time app slot (without_packet app slot q) in
+      let came = k.ports.delivers v.numbering h.ends v.books q app slot time b few low e v.good in
+      subst (λ x. Stands g f x c.ports s.out) (down_entry app slot b.picture c.events h)
+      (stands_came g f (down_on app slot b.picture.payload h) s.ports.conns.apps s.out v.numbering (with_down app slot b.picture.payload v.books) c w.apps (tells_down g.over f.apps v.numbering h v.books app slot b.picture.payload v.tells)
+      (subst (IsOut g f.apps (with_down app slot b.picture.payload v.books)) (sym empty) tt) came)
+  delivering_so app slot b h s time (answer.Full i) few low e empty w fits =
+      let v = turned_stands app slot h s.ports s.out w in
+      let q : PlainPorts = turned app slot s.ports in
+      let t : State = at_rest (asked_by f s (plan.Deliver app slot)) in
+      subst (λ j. Stands g f (past_after (op.Push (queue.Down app) (item.Packet slot b.picture)) (answer.Full j) (told_keeping t app slot (packet_in (Some j))).events h) (told_keeping t app slot (packet_in (Some j))).state.ports (told_keeping t app slot (packet_in (Some j))).state.out) (sym fits)
+      (unmoved (op.Push (queue.Down app) (item.Packet slot b.picture)) (answer.Full (item.Packet slot b.picture)) h (kept_again app slot b.picture (without_packet app slot q)) s.out (quiet_full (queue.Down app) (item.Packet slot b.picture) (item.Packet slot b.picture) [])
+      (record { numbering = v.numbering; books = v.books; good = k.ports.keeps v.numbering h.ends v.books q app slot b few low e v.good; tells = v.tells; apps = v.apps; out = v.out }))
+  delivering_so app slot b h s time a few low e empty w fits = absurd fits
+
+  turn_deliver : (o : Option PlainBuffer) (app slot : ℕ) (h : Past) (s : State) (time : ℕ) (a : AnswerShown) → app < s.ports.conns.apps → slot < SLOTS → delivery (machine_at s.ports app slot) ≡ o → is_some o ≡ true → s.out ≡ None → Stands g f h s.ports s.out
+      → Turns h s time (plan.Deliver app slot) a
+  turn_deliver None app slot h s time a few low e some empty w = absurd cc
+  turn_deliver (Some b) app slot h s time a few low e some empty w =
+      let p : Plan = plan.Deliver app slot in
+      λ fits comes hears part fresh. (
+        subst (λ x. Fits (delivering x app slot) a → Stands g f (past_after (delivering x app slot) a (after_told s time p a).events h) (after_told s time p a).state.ports (after_told s time p a).state.out) (sym e)
+            (delivering_so app slot b h s time a few low e empty w) fits,
+        subst (λ x. PushedSo g (delivering x app slot) a) (sym e) tt,
+      )
+
+  -- ---- a packet that is made
+  turn_make : (app slot : ℕ) (j : Job) (h : Past) (s : State) (time : ℕ) (a : AnswerShown) → app < s.ports.conns.apps → slot < SLOTS → job_of time (machine_at s.ports app slot) ≡ Some j → s.out ≡ None → Stands g f h s.ports s.out
+      → Turns h s time (plan.Make app slot j) a
+  turn_make app slot j h s time (answer.Taken b) few low e empty w = λ fits comes hears part fresh.
+      let v = turned_stands app slot h s.ports s.out w in
+      let q : PlainPorts = turned app slot s.ports in
+      let t : State = at_rest (asked_by f s (plan.Make app slot j)) in
+      let known = k.ports.owes v.numbering h.ends v.books q app slot time j few low e v.good in
+      let x : Content = addressed f known.0.connection (terms_at q app slot) (made_in j time app slot b q) in
+      let good : g.good x = k.makes h v.numbering v.books q app slot time j b known.0.connection (part_before op.Take (answer.Taken b) (after_told s time (plan.Make app slot j) (answer.Taken b)).events h whole part) v.tells (v.good.counted app slot few low) known.1 e in
+      let u : Stands g f h (making j time app slot q) s.out = record { numbering = v.numbering; books = v.books; good = k.ports.makes v.numbering h.ends v.books q app slot time j few low e v.good; tells = v.tells; apps = v.apps; out = v.out } in
+      let done = stands_sent g f whole k h (record t { ports = making j time app slot q }) x u good in (
+        subst (λ o. AllByRecursion g.fresh (made_on o j f t app slot time b).events → Stands g f (past_after op.Take (answer.Taken b) (made_on o j f t app slot time b).events h) (made_on o j f t app slot time b).state.ports (made_on o j f t app slot time b).state.out)
+            (sym known.0.there) (quietly op.Take (answer.Taken b) h (sent f (record t { ports = making j time app slot q }) x) (quiet_take (answer.Taken b) (sent f (record t { ports = making j time app slot q }) x).events) done) fresh,
+        tt,
+      )
+  turn_make app slot j h s time answer.NoBuffer few low e empty w = λ fits comes hears part fresh.
+      (unmoved op.Take answer.NoBuffer h (turned app slot s.ports) s.out (quiet_take answer.NoBuffer []) (turned_stands app slot h s.ports s.out w), tt)
+  turn_make app slot j h s time a few low e empty w = λ fits comes hears part fresh. absurd fits
+
+  -- ---- the jobs, by which is owed
+  turn_task : (x : Task) (app slot : ℕ) (h : Past) (s : State) (time : ℕ) (a : AnswerShown) → IsTask time s.ports (app, slot, x) → s.out ≡ None → Stands g f h s.ports s.out → Turns h s time (plan_for app slot x) a
+  turn_task task.Tell app slot h s time a is empty w = turn_tell app slot h s time a w
+  turn_task task.Deliver app slot h s time a is empty w = turn_deliver (delivery (machine_at s.ports app slot)) app slot h s time a is.app_there is.slot_there refl (deliver_job time s.ports app slot is.is_task) empty w
+  turn_task (task.Make j) app slot h s time a is empty w = turn_make app slot j h s time a is.app_there is.slot_there (make_job time s.ports app slot j is.is_task) empty w
+
+  turn_jobs : (owed : List Owed) (o : Option (ℕ × ℕ × Task)) (h : Past) (s : State) (time : ℕ) (a : AnswerShown) → s.ports.owed ≡ owed → next_task time s.ports ≡ o → s.out ≡ None → Stands g f h s.ports s.out → Turns h s time (jobs_by owed o) a
+  turn_jobs (o ∷ os) t h s time a e q empty w = turn_reply o os h s time a e empty w
+  turn_jobs [] (Some t) h s time a e q empty w = turn_task t.2 t.0 t.1 h s time a (task_there time s.ports t q) empty w
+  turn_jobs [] None h s time a e q empty w = turn_rest h s time a w
+
+  -- ---- the work that was found
+  turn_source : (first few : Bool) (place : ℕ) (h : Past) (s : State) (time : ℕ) (a : AnswerShown) → (place == 0) ≡ first → nat_le place f.apps ≡ few → has_work s time (cond first source.Inbox (cond few (source.App (place - 1)) source.Jobs)) ≡ true
+      → s.out ≡ None → Stands g f h s.ports s.out → Turns h s time (work_at s time (cond first source.Inbox (cond few (source.App (place - 1)) source.Jobs))) a
+  turn_source true few place h s time a e q works empty w = turn_hear h s time a w
+  turn_source false true place h s time a e q works empty w =
+      let low : place ≤ f.apps = leb-true place f.apps q in
+      let more : place ≢ 0 = eqb-false place 0 e in
+      turn_serve (place - 1) h s time a (omega (arith, low, more)) (serves_free s time (place - 1) works) empty w
+  turn_source false false place h s time a e q works empty w = turn_jobs s.ports.owed (next_task time s.ports) h s time a refl refl empty w
+
+  turn_place : (o : Option ℕ) (h : Past) (s : State) (time : ℕ) (a : AnswerShown) → place_with_work f s time ≡ o → s.out ≡ None → Stands g f h s.ports s.out → Turns h s time (work_found f s time o) a
+  turn_place None h s time a e empty w = turn_rest h s time a w
+  turn_place (Some place) h s time a e empty w =
+      turn_source (place == 0) (nat_le place f.apps) place h s time a refl refl (found_passes (λ x. has_work s time (source_at f x)) (circle f s.cursor) place e) empty w
+
+  turn_plan : (trash : List Content) (o : Option Leaving) (h : Past) (s : State) (time : ℕ) (a : AnswerShown) → s.out ≡ o → Stands g f h s.ports s.out → Turns h s time (plan_by trash o (work_found f s time (place_with_work f s time))) a
+  turn_plan (b ∷ bs) o h s time a e w = turn_give h s time a w
+  turn_plan [] (Some o) h s time a e w = turn_push o h s time a e w
+  turn_plan [] None h s time a e w = turn_place (place_with_work f s time) h s time a refl e w
+
+  -- ---- a whole turn
+  handed_early : (s : State) (p : Plan) → (handed f s p).early ≡ s.early
+  handed_early s plan.Rest = refl
+  handed_early s plan.Give = refl
+  handed_early s (plan.Push q n) = refl
+  handed_early s plan.Hear = refl
+  handed_early s (plan.Serve x) = refl
+  handed_early s (plan.Reply x) = refl
+  handed_early s (plan.Tell app slot) = refl
+  handed_early s (plan.Deliver app slot) = refl
+  handed_early s (plan.Make app slot j) = refl
+
+  all_second : {X : Type 0} (P : X → Type 0) (xs ys : List X) → AllByRecursion P (xs ++ ys) → AllByRecursion P ys
+  all_second P [] ys all = all
+  all_second P (x ∷ xs) ys all = all_second P xs ys all.1
+
+  pub turn_stands : (h : Past) (s : State) (time : ℕ) (a : AnswerShown) → Stands g f h s.ports s.out → Fits (asks_at f s time) a → ComesSo (asks_at f s time) a → HearsSo g (asks_at f s time) a
+      → IsPart (past_after (asks_at f s time) a (told_at f (asked_at f s time) time a).events h) whole → AllByRecursion g.fresh (told_at f (asked_at f s time) time a).events
+      → Stands g f (past_after (asks_at f s time) a (told_at f (asked_at f s time) time a).events h) (told_at f (asked_at f s time) time a).state.ports (told_at f (asked_at f s time) time a).state.out × PushedSo g (asks_at f s time) a
+  turn_stands h s time a w fits comes hears part fresh =
+      let c : Came = ports_timed time s.ports in
+      let t : State = timed s time in
+      let p : Plan = plan_of f t time in
+      let came = k.ports.times w.numbering h.ends w.books s.ports time w.good in
+      let old : Past = with_openings c.events h in
+      let v : Stands g f old t.ports t.out = stands_comes g f h s.ports s.out w w.numbering c (record { more = omega arith; same = λ n lt. refl }) k.grows came in
+      let told : Told = after_told t time p a in
+      let events : (told_at f (asked_at f s time) time a).events ≡ c.events ++ told.events = ap (λ es. es ++ told.events) (handed_early t p) in
+      let same : past_after (op_of t p) a told.events old ≡ past_after (op_of t p) a (told_at f (asked_at f s time) time a).events h =
+      split_entry (op_of t p) a c.events told.events h (new_unsent s.ports.conns.apps c.events w.books came.new) ∙ ap (λ es. past_after (op_of t p) a es h) (sym events) in
+      let done = turn_plan t.trash t.out old t time a refl v fits comes hears (subst (λ x. IsPart x whole) (sym same) part) (all_second g.fresh c.events told.events (subst (AllByRecursion g.fresh) events fresh)) in
+      (subst (λ x. Stands g f x told.state.ports told.state.out) same done.0, done.1)

@@ -1,0 +1,8 @@
+use Rattle.std.specs.Prelude.{⊤}
+use Rattle.csp_prefix.proofs.MachineSender.{sender-kept}
+use Rattle.csp_prefix.proofs.PortKept.{ports_kept}
+use Rattle.csp_prefix.proofs.ports.keeps_senders.Goals as goal
+use Rattle.csp_prefix.specs.Machines.{IsSender}
+
+pub returns : goal.returns
+returns c = λ o. ports_kept o (λ _ _ _ _. ⊤) (λ _ _. ⊤) (IsSender o) (sender-kept o)

@@ -1,0 +1,9 @@
+pub mod Apps
+pub mod Delivered
+pub mod Flows
+pub mod Items
+pub mod Machines
+pub mod Ports
+pub mod Prefix
+pub mod Routers
+pub mod Slots

@@ -1,0 +1,225 @@
+-- What is to be known of the ports of a node, step by step, where a predicate is known of each reliable connection on a slot.
+use Rattle.std.specs.Prelude.{◌≡◌, ◌≢◌, ℕ, ◌+◌, ◌*◌, ◌<◌, ◌≤◌, ◌==◌, ◌&&◌, Bool, true, false, if◌then◌else◌, Option, None, Some, List, [], ◌∷◌, ◌++◌, length, count_by, IfSome, ⊤}
+use Rattle.std.specs.List.{AllByRecursion}
+use Rattle.csp_base.specs.declared.traces.Tag.{Tag}
+use Rattle.csp_base.specs.declared.priority.Prio.{Prio}
+use Rattle.csp_buffer.specs.Content.{Content}
+use Rattle.csp_buffer.specs.PlainBuffer.{PlainBuffer}
+use Rattle.csp_conn.specs.PlainConns.{slot_at}
+use Rattle.csp_conn.specs.declared.conns.TheConstants.{MAX_APPS, SLOTS}
+use Rattle.csp_conn.specs.declared.slot.Connection.{Connection}
+use Rattle.csp_conn.specs.declared.slot.Slot.{Slot}
+use Rattle.csp_conn.specs.declared.slot.Slot.TheVariants as has
+use Rattle.csp_log.specs.declared.event.Discard.TheVariants as why
+use Rattle.csp_log.specs.declared.event.Event.{Event}
+use Rattle.csp_log.specs.declared.event.Event.TheVariants as event
+use Rattle.csp_log.specs.declared.note.Note.{Note}
+use Rattle.csp_log.specs.declared.note.Note.TheVariants as note
+use Rattle.csp_ports.specs.Asking.{answered, bind, close, connect}
+use Rattle.csp_ports.specs.Asking.{is_reliable as are_reliable}
+use Rattle.csp_ports.specs.Came.{Came}
+use Rattle.csp_ports.specs.Kept.{IsOwed}
+use Rattle.csp_ports.specs.Packets.{accepted, handing, invited, submitting}
+use Rattle.csp_ports.specs.PlainPorts.{PlainPorts, PlainStalled, machine_at, ports_of, stalled_at, terms_at}
+use Rattle.csp_ports.specs.Steps.{timed}
+use Rattle.csp_ports.specs.Tasks.{delivered, kept_again, making, told_down, turned, without_packet}
+use Rattle.csp_ports.specs.declared.handing.Invitation.{Invitation}
+use Rattle.csp_ports.specs.declared.origin.Origin.{Origin}
+use Rattle.csp_ports.specs.declared.owed.Owed.{Owed}
+use Rattle.csp_ports.specs.declared.places.TheConstants.{ALL_SLOTS}
+use Rattle.csp_ports.specs.declared.request.Request.{Request}
+use Rattle.csp_ports.specs.declared.terms.Terms.{Terms}
+use Rattle.csp_ports.specs.declared.terms.Wish.{Wish}
+use Rattle.csp_ports.specs.declared.terms.Wish.TheVariants as wish
+use Rattle.csp_rdp.specs.Jobs.{delivery, job_of}
+use Rattle.csp_rdp.specs.Machine.{PlainRdp, idle}
+use Rattle.csp_rdp.specs.declared.answers.State.TheVariants.{Closed, Open}
+use Rattle.csp_rdp.specs.declared.jobs.Job.{Job}
+use Rattle.csp_rdp_header.specs.Head.{has_flag}
+use Rattle.csp_rdp_header.specs.declared.head.RdpHead.{RdpHead}
+use Rattle.csp_rdp_header.specs.declared.head.TheConstants.{SYN}
+use Rattle.csp_socket.specs.Bound.{owner_of}
+use Rattle.csp_prefix.specs.Slots.{Book, GoesOn, Now, Numbering, blank}
+
+-- ---- what the log tells of each slot
+
+-- the books of all slots, by application and slot, and their ordinals
+abbrev pub Books : Type 0
+Books = ℕ → ℕ → Book
+
+abbrev pub Ordinals : Type 0
+Ordinals = ℕ → ℕ → ℕ
+
+-- with another one for a slot
+abbrev pub with_book : ℕ → ℕ → Book → Books → Books
+with_book app slot b books = λ a s. if a == app && s == slot then b else books a s
+
+abbrev pub with_ordinal : ℕ → ℕ → ℕ → Ordinals → Ordinals
+with_ordinal app slot ordinal ordinals = λ a s. if a == app && s == slot then ordinal else ordinals a s
+
+-- a connection became open, a payload was sent, a payload was delivered
+abbrev pub with_opened : ℕ → ℕ → Option ℕ × Option (ℕ × ℕ) → Books → Books
+with_opened app slot how books = with_book app slot (record (books app slot) { opened = Some how }) books
+
+abbrev pub with_sent : ℕ → ℕ → List ℕ → Books → Books
+with_sent app slot payload books = with_book app slot (record (books app slot) { sent = (books app slot).sent ++ payload ∷ [] }) books
+
+abbrev pub with_down : ℕ → ℕ → List ℕ → Books → Books
+with_down app slot payload books = with_book app slot (record (books app slot) { down = (books app slot).down ++ payload ∷ [] }) books
+
+-- the books after an event, and after several
+abbrev pub noted_by : Event → Books → Books
+noted_by (event.Opened app slot nth peer) books = with_opened app slot (nth, peer) books
+noted_by _ books = books
+
+abbrev pub noted : List Event → Books → Books
+noted [] books = books
+noted (e ∷ es) books = noted es (noted_by e books)
+
+-- each event is none that something was sent; and it tells an opening only of a slot that is there, whose connection was not open before
+abbrev pub IsNew : ℕ → Event → Books → Type 0
+IsNew apps (event.Opened app slot nth peer) books = (app < apps) × (slot < SLOTS) × ((books app slot).opened ≡ None)
+IsNew apps (event.Sent slot ordinal) books = ⊥
+IsNew apps _ books = ⊤
+
+abbrev pub AreNew : ℕ → List Event → Books → Type 0
+AreNew apps [] books = ⊤
+AreNew apps (e ∷ es) books = IsNew apps e books × AreNew apps es (noted_by e books)
+
+-- ---- the ports between two steps
+
+-- the payload of the packet that waits for room on a slot
+abbrev pub waiting_on : ℕ → Option PlainStalled → Option (List ℕ)
+waiting_on slot None = None
+waiting_on slot (Some s) = (if s.slot == slot then Some s.buffer.picture.payload else None)
+
+-- the connection on a slot
+abbrev pub now_at : PlainPorts → Books → ℕ → ℕ → Now
+now_at p books app slot = record { machine = machine_at p app slot; ordinal = (terms_at p app slot).ordinal; waits = waiting_on slot (stalled_at p app); book = books app slot }
+
+-- nothing is on a slot
+pub record IsVacant (n : Now) : Type 0 where
+  pub machine : n.machine ≡ idle
+  pub waits : n.waits ≡ None
+  pub book : n.book ≡ blank
+
+-- a plain connection, which is open
+pub record IsPlain (n : Now) : Type 0 where
+  pub machine : n.machine ≡ idle
+  pub waits : n.waits ≡ None
+  pub opened : n.book.opened ≡ Some (None, None)
+
+-- of a reliable one the predicate is known
+abbrev pub IsInUse : (Numbering → ℕ → ℕ → Now → Type 0) → (are_reliable : Bool) → Numbering → ℕ → ℕ → Now → Type 0
+IsInUse Is true m app slot n = Is m app slot n
+IsInUse Is false m app slot n = IsPlain n
+
+abbrev pub IsSlot : (Numbering → ℕ → ℕ → Now → Type 0) → Slot → Terms → Numbering → ℕ → ℕ → Now → Type 0
+IsSlot Is has.Free t m app slot n = IsVacant n × (t.wish ≡ wish.Nothing)
+IsSlot Is has.Held t m app slot n = IsVacant n
+IsSlot Is (has.Open c) t m app slot n = IsInUse Is (are_reliable t.flags) m app slot n
+
+-- a note is the answer to the close of a slot; it is owed to an application
+abbrev pub is_end : ℕ → Note → Bool
+is_end slot (note.Closed s) = s == slot
+is_end slot _ = false
+
+abbrev pub is_end_of : ℕ → ℕ → Owed → Bool
+is_end_of app slot o = o.app == app && is_end slot o.note
+
+-- how many such answers there are to be
+abbrev pub ends_due : Wish → ℕ
+ends_due wish.Ended = 1
+ends_due wish.Nothing = 0
+ends_due wish.Connection = 0
+ends_due wish.End = 0
+
+-- what holds of the ports between two turns
+pub record AreGood (Is : Numbering → ℕ → ℕ → Now → Type 0) (m : Numbering) (ordinals : Ordinals) (books : Books) (p : PlainPorts) : Type 0 where
+  pub few : p.conns.apps ≤ MAX_APPS
+  pub conns : length p.conns.slots ≡ p.conns.apps * SLOTS
+  pub terms : length p.terms ≡ ALL_SLOTS
+  pub machines : length p.machines ≡ ALL_SLOTS
+  pub places : length p.stalled ≡ MAX_APPS
+  pub made : p.made ≡ m.made
+  pub owners : (port : ℕ) → IfSome (owner_of p.bound port) (λ o. o.0 < p.conns.apps)
+  pub owed : AllByRecursion (IsOwed p.conns.apps) p.owed
+  pub counted : (app slot : ℕ) → app < p.conns.apps → slot < SLOTS → (terms_at p app slot).ordinal ≡ ordinals app slot
+  pub waits : (app : ℕ) (s : PlainStalled) → app < p.conns.apps → stalled_at p app ≡ Some s → (s.slot < SLOTS) × ((machine_at p app s.slot).state ≡ Open)
+  pub ends : (app slot : ℕ) → app < p.conns.apps → slot < SLOTS → count_by (is_end_of app slot) p.owed ≡ ends_due (terms_at p app slot).wish
+  pub over : (app slot : ℕ) → app < p.conns.apps → slot < SLOTS → (terms_at p app slot).wish ≡ wish.Ended → (machine_at p app slot).state ≡ Closed
+  pub slots : (app slot : ℕ) → app < p.conns.apps → slot < SLOTS → IsSlot Is (slot_at p.conns app slot) (terms_at p app slot) m app slot (now_at p books app slot)
+
+-- a step of the ports keeps that, with what it reports noted in the books
+pub record Comes (Is : Numbering → ℕ → ℕ → Now → Type 0) (m : Numbering) (ordinals : Ordinals) (books : Books) (apps : ℕ) (c : Came) : Type 0 where
+  pub same : c.ports.conns.apps ≡ apps
+  pub new : AreNew apps c.events books
+  pub good : AreGood Is m ordinals (noted c.events books) c.ports
+
+-- and so does one that may have made a connection
+pub record ComesWith (Is : Numbering → ℕ → ℕ → Now → Type 0) (m : Numbering) (ordinals : Ordinals) (books : Books) (apps : ℕ) (c : Came) : Type 0 where
+  pub after : Numbering
+  pub goes_on : GoesOn m after
+  pub comes : Comes Is after ordinals books apps c
+
+-- a reliable connection is on a slot
+pub record IsReliableOn (p : PlainPorts) (app slot : ℕ) : Type 0 where
+  pub connection : Connection
+  pub there : slot_at p.conns app slot ≡ has.Open connection
+  pub reliable : are_reliable (terms_at p app slot).flags ≡ true
+
+-- a packet of an application on such a connection is sent, and the log tells so; or nothing comes of it
+pub record Submits (Is : Numbering → ℕ → ℕ → Now → Type 0) (m : Numbering) (ordinals : Ordinals) (books : Books) (p : PlainPorts) (app slot : ℕ) (b : Content) (c : Came) : Type 0 where
+  pub same : c.ports.conns.apps ≡ p.conns.apps
+  pub sent : (machine_at p app slot).state ≡ Open → (c.events ≡ event.Sent slot (terms_at p app slot).ordinal ∷ []) × AreGood Is m ordinals (with_sent app slot b.payload books) c.ports
+  pub not_sent : (machine_at p app slot).state ≢ Open → (c.events ≡ event.Discarded why.NoConn ∷ []) × AreGood Is m ordinals books c.ports
+
+-- the first answer that is owed is pushed: that to a close ends the slot's connection
+abbrev pub ordinals_after : ℕ → Note → Ordinals → Ordinals
+ordinals_after app (note.Closed slot) ordinals = with_ordinal app slot (ordinals app slot + 1) ordinals
+ordinals_after app _ ordinals = ordinals
+
+abbrev pub books_after : ℕ → Note → Books → Books
+books_after app (note.Closed slot) books = with_book app slot blank books
+books_after app _ books = books
+
+pub record Answers (Is : Numbering → ℕ → ℕ → Now → Type 0) (m : Numbering) (ordinals : Ordinals) (books : Books) (apps : ℕ) (o : Owed) (c : Came) : Type 0 where
+  pub same : c.ports.conns.apps ≡ apps
+  pub quiet : c.events ≡ []
+  pub good : AreGood Is m (ordinals_after o.app o.note ordinals) (books_after o.app o.note books) c.ports
+
+-- ---- every step of the ports keeps it
+
+pub record ArePortsKept (o : Origin) (Fed : PlainRdp → RdpHead → Option Tag → List ℕ → Type 0) (Invites : RdpHead → Option Tag → Type 0)
+    (Is : Numbering → ℕ → ℕ → Now → Type 0) : Type 0 where
+  pub opens : (apps : ℕ) (home : ℕ → ℕ × ℕ × ℕ) → apps ≤ MAX_APPS → AreGood Is (record { made = 0; home = home }) (λ _ _. 0) (λ _ _. blank) (ports_of apps)
+  pub times : (m : Numbering) (ordinals : Ordinals) (books : Books) (p : PlainPorts) (time : ℕ) → AreGood Is m ordinals books p → Comes Is m ordinals books p.conns.apps (timed time p)
+  pub turns : (m : Numbering) (ordinals : Ordinals) (books : Books) (p : PlainPorts) (app slot : ℕ) → AreGood Is m ordinals books p → AreGood Is m ordinals books (turned app slot p)
+  pub binds : (m : Numbering) (ordinals : Ordinals) (books : Books) (p : PlainPorts) (app port need : ℕ) → app < p.conns.apps → AreGood Is m ordinals books p → AreGood Is m ordinals books (bind p app port need)
+  pub connects : (m : Numbering) (ordinals : Ordinals) (books : Books) (p : PlainPorts) (app : ℕ) (r : Request) (time : ℕ) → app < p.conns.apps → r.slot < SLOTS
+      → AreGood Is m ordinals books p → ComesWith Is m ordinals books p.conns.apps (connect o p app r time)
+  pub closes : (m : Numbering) (ordinals : Ordinals) (books : Books) (p : PlainPorts) (app slot time : ℕ) → app < p.conns.apps → slot < SLOTS → stalled_at p app ≡ None
+      → AreGood Is m ordinals books p → Comes Is m ordinals books p.conns.apps (close p app slot time)
+  pub accepts : (m : Numbering) (ordinals : Ordinals) (books : Books) (p : PlainPorts) (app slot : ℕ) (c : Connection) (prio : Prio) (flags : ℕ) → app < p.conns.apps → slot < SLOTS
+      → slot_at p.conns app slot ≡ has.Free → are_reliable flags ≡ false
+      → AreGood Is m ordinals books p → AreGood Is m ordinals (with_opened app slot (None, None) books) (accepted p app slot c prio flags)
+  pub invites : (m : Numbering) (ordinals : Ordinals) (books : Books) (p : PlainPorts) (app slot : ℕ) (c : Connection) (prio : Prio) (flags : ℕ) (i : Invitation) (time : ℕ) → app < p.conns.apps → slot < SLOTS
+      → slot_at p.conns app slot ≡ has.Free → are_reliable flags ≡ true → has_flag i.head SYN ≡ true → Invites i.head i.tag
+      → AreGood Is m ordinals books p → ComesWith Is m ordinals books p.conns.apps (invited o p app slot c prio flags i time)
+  pub hands : (m : Numbering) (ordinals : Ordinals) (books : Books) (p : PlainPorts) (app slot : ℕ) (h : RdpHead) (b : Content) (time : ℕ) → app < p.conns.apps → slot < SLOTS
+      → IsReliableOn p app slot → Fed (machine_at p app slot) h b.trace.tag b.payload
+      → AreGood Is m ordinals books p → Comes Is m ordinals books p.conns.apps (handing p app slot h b time)
+  pub submits : (m : Numbering) (ordinals : Ordinals) (books : Books) (p : PlainPorts) (app slot : ℕ) (b : Content) (time : ℕ) → app < p.conns.apps → slot < SLOTS
+      → IsReliableOn p app slot → stalled_at p app ≡ None
+      → AreGood Is m ordinals books p → Submits Is m ordinals books p app slot b (submitting p app slot b time)
+  pub owes : (m : Numbering) (ordinals : Ordinals) (books : Books) (p : PlainPorts) (app slot time : ℕ) (j : Job) → app < p.conns.apps → slot < SLOTS → job_of time (machine_at p app slot) ≡ Some j
+      → AreGood Is m ordinals books p → IsReliableOn p app slot × Is m app slot (now_at p books app slot)
+  pub makes : (m : Numbering) (ordinals : Ordinals) (books : Books) (p : PlainPorts) (app slot time : ℕ) (j : Job) → app < p.conns.apps → slot < SLOTS → job_of time (machine_at p app slot) ≡ Some j
+      → AreGood Is m ordinals books p → AreGood Is m ordinals books (making j time app slot p)
+  pub delivers : (m : Numbering) (ordinals : Ordinals) (books : Books) (p : PlainPorts) (app slot time : ℕ) (b : PlainBuffer) → app < p.conns.apps → slot < SLOTS → delivery (machine_at p app slot) ≡ Some b
+      → AreGood Is m ordinals books p → Comes Is m ordinals (with_down app slot b.picture.payload books) p.conns.apps (delivered time app slot (without_packet app slot p))
+  pub keeps : (m : Numbering) (ordinals : Ordinals) (books : Books) (p : PlainPorts) (app slot : ℕ) (b : PlainBuffer) → app < p.conns.apps → slot < SLOTS → delivery (machine_at p app slot) ≡ Some b
+      → AreGood Is m ordinals books p → AreGood Is m ordinals books (kept_again app slot b.picture (without_packet app slot p))
+  pub tells : (m : Numbering) (ordinals : Ordinals) (books : Books) (p : PlainPorts) (app slot : ℕ) → AreGood Is m ordinals books p → AreGood Is m ordinals books (told_down app slot p)
+  pub answers : (m : Numbering) (ordinals : Ordinals) (books : Books) (p : PlainPorts) (first : Owed) (rest : List Owed) → p.owed ≡ first ∷ rest
+      → AreGood Is m ordinals books p → Answers Is m ordinals books p.conns.apps first (answered p)
