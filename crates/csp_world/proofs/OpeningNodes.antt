@@ -32,7 +32,7 @@ pub fresh_long : (n : ℕ) → length (fresh_buffers n) ≡ n
 fresh_long n = length-map (range_with_len 0 n) cleared ∙ length-range_with_len 0 n
 
 -- their numbers are those from 0 up
-fresh_numbers : (n : ℕ) → buffer_numbers (fresh_buffers n) ≡ range_with_len 0 n
+pub fresh_numbers : (n : ℕ) → buffer_numbers (fresh_buffers n) ≡ range_with_len 0 n
 fresh_numbers n =
     flat_map-map (λ (b : Content). b.number ∷ []) cleared (range_with_len 0 n)
     ∙ flat_map_single (λ (x : ℕ). x) (range_with_len 0 n)

@@ -7,6 +7,7 @@ use Rattle.std.proofs.lemmas.Option.{same_Some, slice_get-map, slice_get_within}
 use Rattle.csp_app.specs.PlainApp as app
 use Rattle.csp_app.specs.declared.step.Step.{Step}
 use Rattle.csp_bridge.specs.PlainBridge as bridge
+use Rattle.csp_consistent.specs.Parties.{config_of, router_for}
 use Rattle.csp_iface.specs.Links.{carried_on}
 use Rattle.csp_iface.specs.PlainIface as iface
 use Rattle.csp_link.specs.PlainLink as link
@@ -35,7 +36,7 @@ use Rattle.csp_world.proofs.OpeningLists.{get-push}
 use Rattle.csp_world.proofs.OpeningNodes.{fresh_long}
 use Rattle.csp_world.proofs.OpeningRules.{Stands, up_rule, down_rule, out_rule, tx_rule, rx_rule}
 use Rattle.csp_world.specs.Inside.{IsNew, rooms, world_of}
-use Rattle.csp_world.specs.Opening.{CanJoin, opened_deck, config_of, router_for}
+use Rattle.csp_world.specs.Opening.{CanJoin, opened_deck}
 use Rattle.csp_world.specs.World.{PlainWorld}
 use Rattle.csp_world.specs.declared.member.Member.{Member}
 

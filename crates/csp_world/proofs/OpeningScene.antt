@@ -75,11 +75,11 @@ deck_from place (x ∷ nodes) links zero n e =
       opened_by (Some x) = Some (opened_deck x (links_at (place + 0) links))
 deck_from place (x ∷ nodes) links (suc k) n e = deck_from (place + 1) nodes links k n e ∙ ap (λ (j : ℕ). Some (opened_deck n (links_at j links))) (omega arith)
 
-deck_there : (nodes : List PlainNode) (links : List PlainLink) (k : ℕ) (n : PlainNode) → slice_get nodes k ≡ Some n → slice_get (decks_from 0 nodes links) k ≡ Some (opened_deck n (links_at k links))
+pub deck_there : (nodes : List PlainNode) (links : List PlainLink) (k : ℕ) (n : PlainNode) → slice_get nodes k ≡ Some n → slice_get (decks_from 0 nodes links) k ≡ Some (opened_deck n (links_at k links))
 deck_there nodes links k n e = deck_from 0 nodes links k n e ∙ ap (λ (j : ℕ). Some (opened_deck n (links_at j links))) (omega arith)
 
 -- a node that is there
-node_there : (nodes : List PlainNode) (k : ℕ) → k < length nodes → (n : PlainNode) × (slice_get nodes k ≡ Some n)
+pub node_there : (nodes : List PlainNode) (k : ℕ) → k < length nodes → (n : PlainNode) × (slice_get nodes k ≡ Some n)
 node_there [] k low = absurd (omega (arith, low))
 node_there (x ∷ nodes) zero low = (x, refl)
 node_there (x ∷ nodes) (suc k) low = node_there nodes k (omega (arith, low))

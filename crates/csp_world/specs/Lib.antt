@@ -2,6 +2,7 @@ pub mod Grown
 pub mod Holders
 pub mod Inside
 pub mod Opening
+pub mod Reached
 pub mod Record
 pub mod Schedule
 pub mod Seen

@@ -3,6 +3,7 @@ use Rattle.std.specs.Prelude.{ℕ, ◌≡◌, ◌+◌, Option, None, Some, List,
 use Rattle.std.specs.Option.{option_and_then}
 use Rattle.csp_app.specs.PlainApp as app
 use Rattle.csp_bridge.specs.PlainBridge as bridge
+use Rattle.csp_consistent.specs.Parties.{config_of, router_for}
 use Rattle.csp_iface.specs.PlainIface as iface
 use Rattle.csp_link.specs.Fates.{IsFault}
 use Rattle.csp_link.specs.PlainLink as link
@@ -13,31 +14,21 @@ use Rattle.csp_log.specs.declared.places.QueueId.{QueueId}
 use Rattle.csp_log.specs.declared.places.Rule.{Rule}
 use Rattle.csp_nodes.specs.Fresh.{fresh_buffers}
 use Rattle.csp_nodes.specs.Serving.{at_end, of_frames, rule_there}
-use Rattle.csp_party.specs.Any.{PlainParty, a_router, a_bridge, an_iface, an_app, a_link}
+use Rattle.csp_party.specs.Any.{PlainParty, a_bridge, an_iface, an_app, a_link}
 use Rattle.csp_record.specs.declared.who.Who.{Who}
 use Rattle.csp_record.specs.declared.who.Who.TheVariants as who
 use Rattle.csp_scene.specs.Links.{links_at}
 use Rattle.csp_scene.specs.Scene.{PlainScene, PlainNode, PlainLink, PlainApp}
-use Rattle.csp_stack.specs.Config.{PlainConfig, opening_state}
+use Rattle.csp_stack.specs.Config.{PlainConfig}
 use Rattle.csp_world.specs.World.{PlainMember, PlainWorld}
 
 -- the lists of a node on these links: all its buffers are in the pool, and its queues are empty
 abbrev pub opened_deck : PlainNode → List PlainLink → PlainDeck
 opened_deck n links = opening_deck (fresh_buffers n.buffers) n.inbox (length n.apps) (map (λ l. lane_of l.kind) links)
 
--- what the router of the node at this place is given, with its address and the links that it is on
-abbrev pub config_of : ℕ → ℕ → PlainNode → List PlainLink → PlainConfig
-config_of place addr n links = record {
-  facts = record { node = place; addr = addr; name = n.name; seed = n.seed; options = n.options; apps = length n.apps; ifaces = map (λ l. l.name) links };
-  routes = n.routes;
-}
-
 -- a party before its first turn
 abbrev pub new_member : Who → PlainParty → PlainMember
 new_member w p = record { who = w; party = p; entries = [] }
-
-abbrev pub router_for : PlainConfig → PlainParty
-router_for c = a_router (record { facts = c.facts; state = opening_state c.facts.apps c.routes })
 
 abbrev pub new_router : ℕ → PlainConfig → PlainMember
 new_router place c = new_member (who.Router place) (router_for c)

@@ -1,6 +1,7 @@
 //! The world of a simulation: the lists of its nodes and their parties, step by step, and its record.
 #![tactic(auto)]
 
+mod laws;
 mod limits;
 mod member;
 mod moves;
@@ -10,6 +11,7 @@ mod schedule;
 mod world;
 
 pub use csp_record::{HeldBy, Left, PartyLog, Record, Who};
+pub use laws::{holds_parts, is_consistent, reaches};
 pub use limits::{MAX_ENTRIES, TURNS_PER_ROUND};
 pub use schedule::{SimError, simulate};
 pub use world::World;

@@ -1,7 +1,9 @@
 //! The run of a scene, by its schedule.
 
-ghost use Rattle.std.specs.Prelude.{◌≡◌, ◌+◌, ◌-◌, ◌<◌, ◌≤◌, ◌^◌, Some, None, All, length, map, OnOk, IfOk, IsErrOf};
+ghost use Rattle.std.specs.Prelude.{◌≡◌, ◌+◌, ◌-◌, ◌<◌, ◌≤◌, ◌^◌, Some, None, All, [], length, map, OnOk, IfOk, IsErrOf};
+ghost use Rattle.csp_consistent.specs.Consistent.{IsConsistent};
 ghost use Rattle.csp_record.specs.Whole.{IsWhole};
+ghost use Rattle.csp_scene.specs.Kept.{AreLinksAfter};
 ghost use Rattle.csp_scene.specs.Ranges.{IsScene};
 ghost use Rattle.csp_scene.specs.Scene.{moves_in};
 ghost use Rattle.csp_world.specs.Holders.{counts};
@@ -47,6 +49,7 @@ pub fn simulate(alloc: Global, scene: &Scene) -> Result<Record, SimError>
     ensures record { IfOk result (λ r. sim_record scene.now ≡ Some r) }
     ensures entries { IsErrOf result SimError.Entries → sim_record scene.now ≡ None }
     ensures conserved { IfOk result (IsWhole (map (λ n. n.buffers) scene.now.nodes)) }
+    ensures consistent { AreLinksAfter (length scene.now.nodes) [] scene.now.links → IfOk result (IsConsistent scene.now) }
 {
     let mut world = World::open(alloc, scene)?;
     let ran = run(&mut world, scene);

@@ -7,7 +7,9 @@ ghost use Rattle.csp_buffer.specs.Content.{Content};
 ghost use Rattle.csp_log.specs.declared.shown.AnswerShown.TheVariants as answer;
 ghost use Rattle.csp_party.specs.Any.{plain};
 ghost use Rattle.csp_record.specs.Who.{home_of, node_of};
+ghost use Rattle.csp_scene.specs.Scene.{PlainScene};
 ghost use Rattle.csp_world.specs.Holders.{holders, deck_holders, counts, HasOneHolder};
+ghost use Rattle.csp_world.specs.Reached.{IsReached};
 ghost use Rattle.csp_world.specs.Schedule.{names, place_named};
 ghost use Rattle.csp_world.specs.Seen.{has_number, answer_at_place, turn_by, log_len};
 ghost use Rattle.csp_world.specs.World.{turn, tick, finished, entries, is_done};
@@ -106,6 +108,7 @@ impl World {
         requires party { party < length self.old.plain.members }
         requires room { 0 < slice_index self.old.spares party }
         ensures plain { self.new.plain ≡ turn self.old.plain party }
+        ensures reached { (scene : PlainScene) → IsReached scene self.old.plain → IsReached scene self.new.plain }
         ensures turn { result ≡ turn_by (answer_at_place self.old.plain party) }
         ensures spares { slice_index self.old.spares party ≤ slice_index self.new.spares party + 1 }
         ensures others { (k : ℕ) → k ≢ party → slice_index self.new.spares k ≡ slice_index self.old.spares k }
@@ -130,6 +133,7 @@ impl World {
     pub fn tick(&mut self)
         requires { self.old.plain.time + 1 < 2 ^ 62 }
         ensures plain { self.new.plain ≡ tick self.old.plain }
+        ensures reached { (scene : PlainScene) → IsReached scene self.old.plain → IsReached scene self.new.plain }
         ensures spares { self.new.spares ≡ self.old.spares }
         ensures one_holder { HasOneHolder self.new.plain }
     {

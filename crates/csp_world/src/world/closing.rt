@@ -3,14 +3,20 @@
 ghost use Rattle.std.specs.Prelude.{◌≡◌, ℕ, ◌+◌, ◌<◌, ◌≤◌, ◌++◌, [], ◌∷◌, Some, All, length, map, slice_get, vec_len, vec_capacity};
 ghost use Rattle.std.specs.List.{flat_map};
 ghost use Rattle.std.specs.Option.{option_map};
+ghost use Rattle.csp_consistent.specs.Consistent.{IsConsistent};
 ghost use Rattle.csp_nodes.specs.Emptied.{IsComplete, PlainEmptied, emptied_in, with_gathered};
 ghost use Rattle.csp_nodes.specs.Gathering.{pools_held};
 ghost use Rattle.csp_record.specs.Whole.{IsWhole};
+ghost use Rattle.csp_scene.specs.Kept.{AreLinksAfter};
+ghost use Rattle.csp_scene.specs.Ranges.{IsScene};
+ghost use Rattle.csp_scene.specs.Scene.{PlainScene};
 ghost use Rattle.csp_world.specs.Holders.{counts, holds_at};
+ghost use Rattle.csp_world.specs.Reached.{IsReached};
 ghost use Rattle.csp_world.specs.Record.{member_held, member_log, record_of};
 ghost use Rattle.csp_world.specs.Seen.{plain_member};
 ghost use Rattle.csp_world.specs.Taking.{IsTakeable};
 
+use crate::laws::is_consistent;
 use crate::member::Member;
 use crate::room::Room;
 use crate::world::{World, all_done};
@@ -25,7 +31,9 @@ impl World {
     pub fn close(self) -> Record
         ensures record { result ≡ record_of self.plain }
         ensures whole { IsWhole (counts self.plain) result }
+        ensures consistent { (scene : PlainScene) → IsScene scene → AreLinksAfter (length scene.nodes) [] scene.links → IsReached scene self.plain → IsConsistent scene result }
     {
+        is_consistent();
         gathers();
         weighs();
         let World {

@@ -2,6 +2,7 @@
 
 ghost use Rattle.std.specs.Prelude.{◌≡◌, ◌+◌, ◌*◌, ◌<◌, ◌≤◌, ◌^◌, ◌++◌, ◌∷◌, ℕ, [], Some, All, length, map, slice_get, vec_len, vec_capacity, OnOk, IfOk, IsSomeAnd};
 ghost use Rattle.std.specs.List.{AllByRecursion};
+ghost use Rattle.csp_consistent.specs.Parties.{config_of};
 ghost use Rattle.csp_link.specs.PlainLink.{lane_of};
 ghost use Rattle.csp_party.specs.Any.{plain, region_of};
 ghost use Rattle.csp_record.specs.Who.{node_of};
@@ -11,7 +12,8 @@ ghost use Rattle.csp_scene.specs.Ranges.{IsScene, IsNode, IsJoined, IsApp};
 ghost use Rattle.csp_scene.specs.Scene.{PlainNode};
 ghost use Rattle.csp_world.specs.Holders.{HasOneHolder};
 ghost use Rattle.csp_world.specs.Inside.{IsNew, rooms};
-ghost use Rattle.csp_world.specs.Opening.{CanJoin, opening, opened_deck, config_of, members_of, decks_from, members_from, ifaces_from, apps_from, links_from, new_member, new_hub, new_router, new_bridge, iface_on, new_app, new_link};
+ghost use Rattle.csp_world.specs.Opening.{CanJoin, opening, opened_deck, members_of, decks_from, members_from, ifaces_from, apps_from, links_from, new_member, new_hub, new_router, new_bridge, iface_on, new_app, new_link};
+ghost use Rattle.csp_world.specs.Reached.{IsReached};
 
 use crate::member::Member;
 use crate::room::Room;
@@ -50,6 +52,7 @@ impl World {
     pub fn open(alloc: Global, scene: &Scene) -> Result<World, AllocError>
         requires { IsScene scene.now }
         ensures plain { IfOk result (λ world. world.plain ≡ opening scene.now) }
+        ensures reached { IfOk result (λ world. IsReached scene.now world.plain) }
         ensures one_holder { IfOk result (λ world. HasOneHolder world.plain) }
     {
         let mut world = World::bare(alloc)?;

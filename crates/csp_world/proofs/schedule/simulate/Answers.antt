@@ -6,6 +6,7 @@ use Rattle.csp_world.specs.Holders.{counts}
 use Rattle.csp_world.specs.declared.schedule.SimError.TheVariants as refusal
 use Rattle.csp_world.specs.Schedule.{IsThere, names}
 use Rattle.csp_world.specs.World.{PlainWorld, entries}
+use Rattle.csp_world.proofs.ReachingLemmas.{reached_run}
 use Rattle.csp_world.proofs.RunLemmas.{run_from, recorded, not_recorded}
 use Rattle.csp_world.proofs.ScheduleNames.{all_there}
 use Rattle.csp_world.proofs.ScheduleOpening.{opening_few, opening_empty, opening_time, opening_counts}
@@ -36,6 +37,12 @@ pub returns-in-Ok-clause-conserved : goal.returns-in-Ok-clause-conserved
 returns-in-Ok-clause-conserved c =
     let same = c.in-Ok.ensures.counts ∙ ap counts c.in_ok-world.ensures.plain ∙ opening_counts c.args.scene.now in
     subst (λ (ns : List ℕ). IsWhole ns c.close-record.result) same c.close-record.ensures.whole
+
+pub returns-in-Ok-clause-consistent : goal.returns-in-Ok-clause-consistent
+returns-in-Ok-clause-consistent c = λ after.
+    let scene = c.args.scene.now in
+    let reached = reached_run scene c.run-ran.new.world.plain (run_from scene c.in_ok-world.world.plain c.in_ok-world.ensures.plain ∙ c.in-Ok.ensures.run) in
+    c.close-record.ensures.consistent scene c.requires.scene after reached
 
 pub returns-in-Err-clause-entries : goal.returns-in-Err-clause-entries
 returns-in-Err-clause-entries c = λ e.

@@ -1,4 +1,5 @@
 use Rattle.std.proofs.Common.{◌≡◌, map, sym, ◌∙◌, ap, subst}
+use Rattle.csp_consistent.specs.Consistent.{IsConsistent}
 use Rattle.csp_nodes.specs.Emptied.{emptied_in}
 use Rattle.csp_record.specs.Record.{PlainRecord}
 use Rattle.csp_record.specs.Whole.{IsWhole}
@@ -51,3 +52,6 @@ returns-clause-whole c =
     subst (λ (r : PlainRecord). IsWhole (counts c.args.self.plain) r) (sym (returns-clause-record c))
     (subst (λ (s : SeenWorld). IsWhole (counts s.plain) (record_of s.plain)) c.self.view_is
     (whole (world_of c.self.inside.decks c.self.inside.members.items c.self.inside.time) c.gathers.ensures c.weighs.ensures.weight c.self.invariant.conserved))
+
+pub returns-clause-consistent : goal.returns-clause-consistent
+returns-clause-consistent c = λ scene is after reached. subst (IsConsistent scene) (sym (returns-clause-record c)) (c.is_consistent.ensures scene c.args.self.plain is after reached)

@@ -7,12 +7,14 @@ use Rattle.csp_nodes.specs.DecksAt.{DecksAt}
 use Rattle.csp_party.specs.Any.{has_ended, plain}
 use Rattle.csp_world.specs.Holders.{HasOneHolder, IsConserved, counts}
 use Rattle.csp_world.specs.Inside.{rooms, world_of}
+use Rattle.csp_world.specs.Reached.{IsReached}
 use Rattle.csp_world.specs.Seen.{plain_member, answer_at_place, turn_by}
 use Rattle.csp_world.specs.SeenWorld.{SeenWorld}
 use Rattle.csp_world.specs.World.{PlainMember, turn}
 use Rattle.csp_world.proofs.FitLemmas.{all_grown, all_set, as_many, room_kept}
 use Rattle.csp_world.proofs.FullLemmas.{never_full}
 use Rattle.csp_world.proofs.HolderLemmas.{Moves, moves_conserve, one_holder}
+use Rattle.csp_world.proofs.ReachingLemmas.{reached_turn}
 use Rattle.csp_world.proofs.StepLemmas.{Went, went, came_to, member_got, plain_got, spare_at, spare_new, spare_other, spare_spent}
 use Rattle.csp_world.proofs.world.World.step.Goals as goal
 
@@ -72,6 +74,9 @@ invariant_of-self c =
 
 pub returns-clause-plain : goal.returns-clause-plain
 returns-clause-plain c = went _ _ _ _ _ _ _ _ (did c) ∙ ap (λ (v : SeenWorld). turn v.plain c.args.party) c.self.view_is
+
+pub returns-clause-reached : goal.returns-clause-reached
+returns-clause-reached c = λ scene reached. subst (IsReached scene) (sym (returns-clause-plain c)) (reached_turn scene c.args.self.now.plain c.args.party reached)
 
 pub returns-clause-turn : goal.returns-clause-turn
 returns-clause-turn c = came_to _ _ _ _ _ _ _ _ (did c) ∙ ap (λ (v : SeenWorld). turn_by (answer_at_place v.plain c.args.party)) c.self.view_is

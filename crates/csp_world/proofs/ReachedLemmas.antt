@@ -1,0 +1,213 @@
+-- What is true of each world that turns and ticks make of a scene's opening.
+use Rattle.std.proofs.Common.{◌≡◌, ℕ, ◌+◌, ◌==◌, Bool, true, false, Option, None, Some, List, [], ◌∷◌, ◌++◌, length, map, refl, sym, subst, ap, ◌∙◌, arith}
+use Rattle.std.specs.Prelude.{slice_get, if◌then◌else◌}
+use Rattle.std.specs.List.{AllByRecursion, flat_map}
+use Rattle.std.specs.Option.{option_map, option_to_list}
+use Rattle.std.proofs.Math.Bool.{and-false}
+use Rattle.std.proofs.lemmas.Grind.{flat_map-append}
+use Rattle.std.proofs.lemmas.Option.{slice_get-map}
+use Rattle.csp_consistent.proofs.Names.{are_apart}
+use Rattle.csp_consistent.proofs.OwnQueues.{scene_own}
+use Rattle.csp_consistent.proofs.Owners.{are_owners}
+use Rattle.csp_consistent.specs.Inboxes.{AreInboxesInOrder, IsInboxInOrder}
+use Rattle.csp_consistent.specs.Lanes.{AreInOrder, IsInOrder, PlainLane, hub_of, lanes_of}
+use Rattle.csp_consistent.specs.Parties.{parties_of}
+use Rattle.csp_consistent.specs.Pools.{AreNumbersKept, IsPoolWhole, held_at, held_here}
+use Rattle.csp_consistent.specs.Runs.{AreLogsOf}
+use Rattle.csp_deck.specs.Step.{times}
+use Rattle.csp_link.specs.PlainLink.{lane_of}
+use Rattle.csp_lists.specs.PlainDeck.{PlainDeck, buffer_numbers}
+use Rattle.csp_log.specs.declared.places.End.{End}
+use Rattle.csp_log.specs.declared.places.Place.TheVariants as place
+use Rattle.csp_nodes.specs.Fresh.{fresh_buffers}
+use Rattle.csp_nodes.specs.Gathering.{pools_held, queues_held}
+use Rattle.csp_record.specs.Who.{home_of}
+use Rattle.csp_record.specs.declared.who.Who.{Who}
+use Rattle.csp_record.specs.declared.who.Who.TheVariants as who
+use Rattle.csp_scene.proofs.Lists.{AllByRecursion-map}
+use Rattle.csp_scene.specs.Kept.{AreLinksAfter}
+use Rattle.csp_scene.specs.Links.{links_at}
+use Rattle.csp_scene.specs.Ranges.{IsScene}
+use Rattle.csp_scene.specs.Scene.{PlainLink, PlainNode, PlainScene}
+use Rattle.csp_party.specs.Any.{asks, has_ended, holds}
+use Rattle.csp_world.proofs.EndsApart.{ends_in}
+use Rattle.csp_world.proofs.InboxLemmas.{IsInboxKept, IsKnown, inbox_in_order, inbox_opened, inbox_turn}
+use Rattle.csp_world.proofs.KeptLemmas.{IsPoolKept, gave_logs, kept_opened, kept_turn, took_logs}
+use Rattle.csp_world.proofs.LaneLemmas.{IsLaneKept, IsLaneOf, lane_in_order, lane_opened, lane_turn}
+use Rattle.csp_world.proofs.LinkLanes.{all_lanes_of}
+use Rattle.csp_world.proofs.LocalLemmas.{Keeps, all_kept}
+use Rattle.csp_world.proofs.LoggedLemmas.{AreLogged, logged_logs, logged_tick, logged_turn}
+use Rattle.csp_world.proofs.MovedLemmas.{KeepsShape, right-kept}
+use Rattle.csp_world.proofs.OpenedLemmas.{members_opened, opening_logged}
+use Rattle.csp_world.proofs.OpeningNodes.{fresh_numbers}
+use Rattle.csp_world.proofs.OpeningRules.{Stands}
+use Rattle.csp_world.proofs.OpeningScene.{deck_there}
+use Rattle.csp_world.proofs.PlaceHeldLemmas.{AreQueued, KeepsQueues, no_pool, none_in_queues, pool_held, queued-kept, queued-opening}
+use Rattle.csp_world.proofs.PlacesLemmas.{places_kept}
+use Rattle.csp_world.specs.Opening.{decks_from, opened_deck, opening}
+use Rattle.csp_world.specs.Reached.{Happening, IsReached, a_tick, a_turn, world_after}
+use Rattle.csp_world.specs.Record.{held_by, member_held, record_of}
+use Rattle.csp_world.specs.World.{PlainMember, PlainWorld, turn, turn_at, turned}
+
+-- each party has taken the turns of its log
+all_logged : (scene : PlainScene) (hs : List Happening) → AreLogged (world_after scene hs).time (parties_of scene) (world_after scene hs).members
+all_logged scene [] = opening_logged scene
+all_logged scene (a_turn place ∷ hs) = logged_turn (world_after scene hs) (parties_of scene) place (all_logged scene hs)
+all_logged scene (a_tick ∷ hs) = logged_tick _ (parties_of scene) _ (all_logged scene hs)
+
+pub reached_logs : (scene : PlainScene) (w : PlainWorld) → IsReached scene w → AreLogsOf (parties_of scene) (record_of w).parties
+reached_logs scene w r = rw r.there (logged_logs _ (parties_of scene) _ (all_logged scene r.happenings))
+
+-- what the answers keep of the lists of each node
+all_turn_at : (P : PlainDeck → Type 0) → Keeps P → (w : PlainWorld) (place : ℕ) (found : Option PlainMember) → AllByRecursion P w.decks → AllByRecursion P (turn_at w place found).decks
+all_turn_at P keeps w place None all = all
+all_turn_at P keeps w place (Some m) all = by (has_ended m.party) where
+  by : (ended : Bool) → AllByRecursion P (if ended then w else turned w place m).decks
+  by true = all
+  by false = all_kept P keeps w.decks w.links m.who (asks m.party w.time) all
+
+all_turn : (P : PlainDeck → Type 0) → Keeps P → (w : PlainWorld) (place : ℕ) → AllByRecursion P w.decks → AllByRecursion P (turn w place).decks
+unfolding turn
+all_turn P keeps w place all = all_turn_at P keeps w place (slice_get w.members place) all
+
+pub all_after : (P : PlainDeck → Type 0) → Keeps P → (scene : PlainScene) → AllByRecursion P (opening scene).decks → (hs : List Happening) → AllByRecursion P (world_after scene hs).decks
+all_after P keeps scene all [] = all
+all_after P keeps scene all (a_turn place ∷ hs) = all_turn P keeps (world_after scene hs) place (all_after P keeps scene all hs)
+all_after P keeps scene all (a_tick ∷ hs) = all_after P keeps scene all hs
+
+-- each queue stands where a queue does
+decks_queued : (place : ℕ) (nodes : List PlainNode) (links : List PlainLink) → AllByRecursion AreQueued (decks_from place nodes links)
+decks_queued place [] links = tt
+decks_queued place (n ∷ nodes) links = (queued-opening (fresh_buffers n.buffers) n.inbox (length n.apps) (map (λ l. lane_of l.kind) (links_at place links)), decks_queued (place + 1) nodes links)
+
+opening_queued : (scene : PlainScene) → AllByRecursion AreQueued (opening scene).decks
+unfolding opening
+opening_queued scene = decks_queued 0 scene.nodes scene.links
+
+opening_there : (scene : PlainScene) (node : ℕ) (n : PlainNode) → slice_get scene.nodes node ≡ Some n → slice_get (opening scene).decks node ≡ Some (opened_deck n (links_at node scene.links))
+unfolding opening
+opening_there scene node n at = deck_there scene.nodes scene.links node n at
+
+-- each pool is kept
+opening_kept : (scene : PlainScene) (node : ℕ) (n : PlainNode) → slice_get scene.nodes node ≡ Some n → IsPoolKept node n.buffers (opening scene).decks (opening scene).members
+opening_kept scene node n at = rw (members_opened scene) (kept_opened node n.buffers _ (opened_deck n (links_at node scene.links)) (parties_of scene) (opening_there scene node n at) (fresh_numbers n.buffers))
+
+all_pooled : (scene : PlainScene) (node : ℕ) (n : PlainNode) → slice_get scene.nodes node ≡ Some n → (hs : List Happening) → IsPoolKept node n.buffers (world_after scene hs).decks (world_after scene hs).members
+all_pooled scene node n at [] = opening_kept scene node n at
+all_pooled scene node n at (a_turn place ∷ hs) = kept_turn node n.buffers (world_after scene hs) place (all_pooled scene node n at hs)
+all_pooled scene node n at (a_tick ∷ hs) = all_pooled scene node n at hs
+
+-- no party holds anything there
+none_by : (node : ℕ) (numbers : List ℕ) (w : Who) → flat_map (held_here node place.Pool) (option_to_list (option_map (held_by numbers) (home_of w))) ≡ []
+none_by node numbers (who.Router n) = rw (and-false (n == node)) refl
+none_by node numbers (who.Bridge n) = rw (and-false (n == node)) refl
+none_by node numbers (who.Iface n k) = rw (and-false (n == node)) refl
+none_by node numbers (who.App n k) = rw (and-false (n == node)) refl
+none_by node numbers (who.Link k) = refl
+
+none_at_parties : (node : ℕ) (ms : List PlainMember) → flat_map (held_here node place.Pool) (flat_map member_held ms) ≡ []
+none_at_parties node [] = refl
+none_at_parties node (m ∷ ms) = rw (flat_map-append (held_here node place.Pool) (member_held m) (flat_map member_held ms), none_by node (holds m.party) m.who, none_at_parties node ms) refl
+
+-- so what the record says that a pool held is what is in it
+recorded_pool : (w : PlainWorld) (node : ℕ) (d : PlainDeck) → AllByRecursion AreQueued w.decks → slice_get w.decks node ≡ Some d → held_at (record_of w) node place.Pool ≡ buffer_numbers d.pool.items
+recorded_pool w node d apart at =
+    let pools = map (λ (x : PlainDeck). x.pool) w.decks in
+    let here = held_here node place.Pool in
+    let there : slice_get pools node ≡ Some d.pool = slice_get-map (λ (x : PlainDeck). x.pool) w.decks node ∙ ap (option_map (λ (x : PlainDeck). x.pool)) at in
+    flat_map-append here (queues_held 0 w.decks) (flat_map member_held w.members ++ pools_held 0 pools)
+    ∙ ap (λ (ns : List ℕ). ns ++ flat_map here (flat_map member_held w.members ++ pools_held 0 pools)) (none_in_queues node 0 place.Pool no_pool w.decks apart)
+    ∙ flat_map-append here (flat_map member_held w.members) (pools_held 0 pools)
+    ∙ ap (λ (ns : List ℕ). ns ++ flat_map here (pools_held 0 pools)) (none_at_parties node w.members)
+    ∙ pool_held node pools d.pool there
+
+pool_whole : (w : PlainWorld) (node count : ℕ) → AllByRecursion AreQueued w.decks → IsPoolKept node count w.decks w.members → IsPoolWhole (record_of w) node count
+pool_whole w node count apart h k =
+    let gives = ap (times k) (gave_logs node w.members) in
+    let takes = ap (times k) (took_logs node w.members) in
+    let left = ap (times k) (recorded_pool w node h.deck apart h.there) in
+    let kept = h.kept k in
+    omega (arith, gives, takes, left, kept)
+
+-- so the numbers are kept
+pub reached_numbers : KeepsQueues → (scene : PlainScene) (w : PlainWorld) → IsReached scene w → AreNumbersKept scene (record_of w)
+reached_numbers law scene w r =
+    let v = world_after scene r.happenings in
+    let queued = all_after AreQueued (queued-kept law) scene (opening_queued scene) r.happenings in
+    let kept : AreNumbersKept scene (record_of v) = record {
+      pools = λ node n at. pool_whole v node n.buffers queued (all_pooled scene node n at r.happenings);
+      places = places_kept scene v (all_logged scene r.happenings) queued;
+    } in
+    subst (λ (x : PlainWorld). AreNumbersKept scene (record_of x)) (sym r.there) kept
+
+-- and so is each inbox
+scene_known : Stands → KeepsQueues → KeepsShape → (scene : PlainScene) → IsScene scene → IsKnown scene (parties_of scene)
+scene_known stands queues shape scene is = record {
+  stands = stands;
+  queues = queues;
+  shape = shape;
+  keeps = right-kept queues shape;
+  apart = are_apart scene;
+  own = scene_own scene;
+  owned = are_owners scene;
+  few = is.few_links;
+}
+
+opening_inbox : (scene : PlainScene) (node : ℕ) (n : PlainNode) → slice_get scene.nodes node ≡ Some n → IsInboxKept node n (opening scene).decks (opening scene).members
+opening_inbox scene node n at =
+    rw (members_opened scene)
+    (inbox_opened node n (fresh_buffers n.buffers) n.inbox (length n.apps) (map (λ l. lane_of l.kind) (links_at node scene.links)) (opening scene).decks (parties_of scene) (opening_there scene node n at))
+
+all_inboxes : (scene : PlainScene) → IsKnown scene (parties_of scene) → (node : ℕ) (n : PlainNode) → slice_get scene.nodes node ≡ Some n → (hs : List Happening) → IsInboxKept node n (world_after scene hs).decks (world_after scene hs).members
+all_inboxes scene known node n at [] = opening_inbox scene node n at
+all_inboxes scene known node n at (a_turn place ∷ hs) = inbox_turn scene (parties_of scene) known node n at (world_after scene hs) (all_logged scene hs) place (all_inboxes scene known node n at hs)
+all_inboxes scene known node n at (a_tick ∷ hs) = all_inboxes scene known node n at hs
+
+pub reached_inboxes : Stands → KeepsQueues → KeepsShape → (scene : PlainScene) (w : PlainWorld) → IsScene scene → IsReached scene w → AreInboxesInOrder scene (record_of w)
+reached_inboxes stands queues shape scene w is r = λ node n p at.
+    subst (λ (x : PlainWorld). IsInboxInOrder (record_of x) node (hub_of node n.addr) p) (sym r.there)
+    (inbox_in_order (world_after scene r.happenings) node n (all_inboxes scene (scene_known stands queues shape scene is) node n at r.happenings) p)
+
+-- the links have their ends still
+links_turn_at : (w : PlainWorld) (place : ℕ) (found : Option PlainMember) → (turn_at w place found).links ≡ w.links
+links_turn_at w place None = refl
+links_turn_at w place (Some m) = by (has_ended m.party) where
+  after : Bool → PlainWorld
+  after ended = (if ended then w else turned w place m)
+
+  by : (ended : Bool) → (after ended).links ≡ w.links
+  by true = refl
+  by false = refl
+
+links_turn : (w : PlainWorld) (place : ℕ) → (turn w place).links ≡ w.links
+unfolding turn
+links_turn w place = links_turn_at w place (slice_get w.members place)
+
+links_opening : (scene : PlainScene) → (opening scene).links ≡ ends_in scene.links
+unfolding opening
+links_opening scene = refl
+
+links_after : (scene : PlainScene) (hs : List Happening) → (world_after scene hs).links ≡ ends_in scene.links
+links_after scene [] = links_opening scene
+links_after scene (a_turn place ∷ hs) = links_turn (world_after scene hs) place ∙ links_after scene hs
+links_after scene (a_tick ∷ hs) = links_after scene hs
+
+-- and so each lane is in order
+opening_lane : (scene : PlainScene) → IsKnown scene (parties_of scene) → (l : PlainLane) → IsLaneOf scene (ends_in scene.links) l → IsLaneKept l (opening scene).decks (opening scene).members
+opening_lane scene known l is =
+    rw (members_opened scene) (lane_opened scene (parties_of scene) known (ends_in scene.links) l is (opening scene).decks (opening_there scene l.node is.node is.there))
+
+all_lanes : (scene : PlainScene) → IsKnown scene (parties_of scene) → (l : PlainLane) → IsLaneOf scene (ends_in scene.links) l → (hs : List Happening) → IsLaneKept l (world_after scene hs).decks (world_after scene hs).members
+all_lanes scene known l is [] = opening_lane scene known l is
+all_lanes scene known l is (a_turn place ∷ hs) =
+    let w = world_after scene hs in
+    lane_turn scene (parties_of scene) known l w (subst (λ (links : List (List End)). IsLaneOf scene links l) (sym (links_after scene hs)) is) (all_logged scene hs) place (all_lanes scene known l is hs)
+all_lanes scene known l is (a_tick ∷ hs) = all_lanes scene known l is hs
+
+pub reached_lanes : Stands → KeepsQueues → KeepsShape → (scene : PlainScene) (w : PlainWorld) → IsScene scene → AreLinksAfter (length scene.nodes) [] scene.links → IsReached scene w → AreInOrder scene (record_of w)
+reached_lanes stands queues shape scene w is after r =
+    let v = world_after scene r.happenings in
+    let links = ends_in scene.links in
+    let known = scene_known stands queues shape scene is in
+    subst (λ (x : PlainWorld). AreInOrder scene (record_of x)) (sym r.there)
+    (AllByRecursion-map (IsLaneOf scene links) (IsInOrder (record_of v)) (lanes_of scene) (λ l of. lane_in_order v scene links l of (all_lanes scene known l of r.happenings)) (all_lanes_of scene is after))
