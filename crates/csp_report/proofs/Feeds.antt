@@ -34,7 +34,7 @@ split_lines Q last (words ∷ lines) all =
     let cut : slice_split (λ b. eqb b 10) ((line ++ 10 ∷ []) ++ text_of lines) ≡ line ∷ slice_split (λ b. eqb b 10) (text_of lines) = rw append_assoc (split_line line (text_of lines) all.0.0) in
     subst (λ (parts : List (List ℕ)). AllByRecursion Q parts) (sym cut) (all.0.1, split_lines Q last lines all.1)
 
-not_eqb : (a c : ℕ) → c < a → eqb a c ≡ false
+pub not_eqb : (a c : ℕ) → c < a → eqb a c ≡ false
 not_eqb a c h = by_test (eqb a c) refl
   where
     by_test : (t : Bool) → eqb a c ≡ t → t ≡ false

@@ -1,7 +1,13 @@
 mod Adding
 mod ConnLines
+mod Cutting
 mod Feeds
 mod IfaceLines
 mod Joining
+mod PrefixText
+mod PrefixTold
 mod ReportLemmas
 mod SummaryLemmas
+mod Telling
+mod ToldLines
+mod ToldPrefix

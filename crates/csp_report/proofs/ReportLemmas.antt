@@ -75,7 +75,7 @@ report_is scene run = refl
 abbrev MayStand : List ℕ → Type 0
 MayStand line = IsTrue (is_of_node line) → AddsUp line
 
-abbrev IsGood : Line → Type 0
+abbrev pub IsGood : Line → Type 0
 IsGood words = Lacks 10 (join_with_byte 32 words) × MayStand (join_with_byte 32 words)
 
 never : {A : Type 0} → false ≡ true → A
@@ -373,7 +373,7 @@ good_counts run = (
   (other (codes "passed" ∷ decimal (passed run) ∷ []) (plain (codes "passed") refl, (number (passed run), tt)) refl, tt),
 )
 
-good_lines : (scene : PlainScene) (run : PlainRecord) → IsScene scene → IsWhole (map (λ n. n.buffers) scene.nodes) run → AllByRecursion IsGood (report_lines scene.nodes scene.links run)
+pub good_lines : (scene : PlainScene) (run : PlainRecord) → IsScene scene → IsWhole (map (λ n. n.buffers) scene.nodes) run → AllByRecursion IsGood (report_lines scene.nodes scene.links run)
 unfolding report_lines
 good_lines scene run is whole =
     let two_lines : List Line = title_line ∷ end_line run ∷ [] in

@@ -7,3 +7,5 @@ pub mod Places
 pub mod Report
 pub mod PlacesAddUp
 pub mod Summary
+pub mod ReliablePrefix
+pub mod Shown

@@ -1,5 +1,5 @@
 -- The parties of a record that a report speaks of.
-use Rattle.std.specs.Prelude.{◌==◌, ◌&&◌, Bool, false, Option, None, Some, List, [], find}
+use Rattle.std.specs.Prelude.{ℕ, ◌==◌, ◌&&◌, Bool, false, Option, None, Some, List, [], find}
 use Rattle.csp_log.specs.PlainLog.{all_events}
 use Rattle.csp_log.specs.declared.entry.Entry.{Entry}
 use Rattle.csp_log.specs.declared.event.Event.{Event}
@@ -16,6 +16,13 @@ is_at (seat.Bridge node) (who.Bridge n) = n == node
 is_at (seat.Iface node number) (who.Iface n k) = n == node && k == number
 is_at (seat.App node number) (who.App n k) = n == node && k == number
 is_at _ _ = false
+
+-- whether a party is the router of the node in this place, and whether it is the application of this number there
+abbrev pub is_router : ℕ → Who → Bool
+is_router place w = is_at (seat.Router place) w
+
+abbrev pub is_app : ℕ → ℕ → Who → Bool
+is_app place number w = is_at (seat.App place number) w
 
 -- the first party that has it
 abbrev pub party_at : List PlainPartyLog → Seat → Option PlainPartyLog

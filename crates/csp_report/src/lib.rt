@@ -5,6 +5,7 @@ mod apps;
 mod conns;
 mod events;
 mod ifaces;
+mod laws;
 mod lines;
 mod parties;
 mod places;
@@ -12,5 +13,6 @@ mod routers;
 mod summing;
 mod text;
 
+pub use laws::tells_prefix;
 pub use summing::summary;
 pub use text::report;
