@@ -1,1 +1,3 @@
 pub mod Generated
+mod OpeningNumbers
+mod Prefix

@@ -3,3 +3,4 @@ pub mod Statuses
 pub mod Said
 pub mod Words
 pub mod Gen
+pub mod Prefix

@@ -8,7 +8,9 @@ use Rattle.csp_scene.specs.Judge.{scene_of}
 use Rattle.csp_record.specs.Record.{PlainRecord}
 use Rattle.csp_world.specs.Record.{sim_record}
 use Rattle.csp_report.specs.Report.{report}
+use Rattle.csp_consistent.specs.Consistent.{IsConsistent}
 use Rattle.csp_report.specs.PlacesAddUp.{PlacesAddUp}
+use Rattle.csp_report.specs.ReliablePrefix.{HasReliablePrefix}
 use Rattle.csp_words.specs.Grammar.{command_of}
 use Rattle.csp_words.specs.declared.grammar.Command.TheVariants as command
 use Rattle.csp_top.specs.declared.status.Status.{Status}
@@ -23,12 +25,13 @@ IsSim words = command_of words ≡ Ok command.Sim
 abbrev pub IsGen : ℕ → List (List ℕ) → Type 0
 IsGen packets words = command_of words ≡ Ok (command.Gen packets)
 
--- the text states a scene, whose run ends before its logs are full, and these bytes are the report of its record
+-- the text states a scene, whose run ends before its logs are full; its record is consistent with the scene, and these bytes are its report
 pub record IsReportOf (text bytes : List ℕ) : Type 0 where
   pub scene : PlainScene
   pub run : PlainRecord
   pub stated : scene_of text ≡ Ok scene
   pub ran : sim_record scene ≡ Some run
+  pub consistent : IsConsistent scene run
   pub reported : bytes ≡ report scene run
 
 -- the text states a scene whose logs reach the entry limit
@@ -52,6 +55,11 @@ WasRead left_old left_new = IfSome left_old (λ text. (length text ≤ MAX_SCENA
 -- in what was written, each node's line has six places that add up to its number of buffers
 abbrev pub WroteWhole : Option (List ℕ) → Option (List ℕ) → Type 0
 WroteWhole old new = IfSome old (λ before. (bytes : List ℕ) × (new ≡ Some (before ++ bytes)) × PlacesAddUp bytes)
+
+-- in what was written, where it tells of no stale copy and of no changed packet, what was taken on each reliable connection with a peer is the
+-- beginning of what the peer sent
+abbrev pub WroteReliably : Option (List ℕ) → Option (List ℕ) → Type 0
+WroteReliably old new = IfSome old (λ before. (bytes : List ℕ) × (new ≡ Some (before ++ bytes)) × HasReliablePrefix bytes)
 
 -- nothing hinders a report of this text: it has no more bytes than the limit, it states a scene, no count of faults
 -- rises, neither of reading nor of writing, and the run of the scene doesn't stop at the entry limit

@@ -6,7 +6,7 @@ ghost use Rattle.csp_base.specs.Faults.{Rose};
 ghost use Rattle.csp_base.specs.Transfer.{TookExactly};
 ghost use Rattle.csp_scene.specs.Judge.{scene_of};
 ghost use Rattle.csp_scene.specs.declared.refusal.SceneKind.{SceneKind};
-ghost use Rattle.csp_top.specs.Main.{WroteReport, WrotePart, WasRead, WroteWhole, IsPastEntries, IsUnhindered, IsDoneOrNoMemory, IsSim, IsGen};
+ghost use Rattle.csp_top.specs.Main.{WroteReport, WrotePart, WasRead, WroteReliably, WroteWhole, IsPastEntries, IsUnhindered, IsDoneOrNoMemory, IsSim, IsGen};
 ghost use Rattle.csp_top.specs.Gen.{WroteSummary, WroteSummaryPart, HasReport, IsSummedUpOrNoMemory};
 ghost use Rattle.csp_top.specs.declared.status.LimitKind.{LimitKind};
 ghost use Rattle.csp_words.specs.Grammar.{command_of};
@@ -33,6 +33,7 @@ pub fn csp_main<S: Source, K: Sink>(
     ensures done { IsSim (map string_bytes words.now) → result ≡ Status.Done → IfSome (S.left source.old) (λ text. WroteReport text (K.written sink.old) (K.written sink.new)) }
     ensures summed { (packets : ℕ) → IsGen packets (map string_bytes words.now) → result ≡ Status.Done → WroteSummary packets (K.written sink.old) (K.written sink.new) }
     ensures places { result ≡ Status.Done → WroteWhole (K.written sink.old) (K.written sink.new) }
+    ensures reliable { IsSim (map string_bytes words.now) → result ≡ Status.Done → WroteReliably (K.written sink.old) (K.written sink.new) }
     ensures read { IsSim (map string_bytes words.now) → result ≡ Status.Done → WasRead (S.left source.old) (S.left source.new) }
     ensures read_fault { result ≡ Status.ReadFault → Rose (S.faults source.old) (S.faults source.new) }
     ensures no_read_fault { result ≢ Status.ReadFault → S.faults source.new ≡ S.faults source.old }

@@ -4,12 +4,15 @@
 
 mod command;
 mod generation;
+mod laws;
+mod numbers;
 mod saying;
 mod simulation;
 mod status;
 mod words;
 
 pub use command::csp_main;
+pub use laws::{stays_reliable, tells_reliable_prefix};
 pub use saying::say;
 pub use simulation::sim_main;
 pub use status::{LimitKind, MAX_SCENARIO, Status};

@@ -6,12 +6,16 @@ ghost use Rattle.csp_base.specs.Faults.{Rose};
 ghost use Rattle.csp_base.specs.Transfer.{TookExactly};
 ghost use Rattle.csp_scene.specs.Judge.{scene_of};
 ghost use Rattle.csp_scene.specs.declared.refusal.SceneKind.{SceneKind};
-ghost use Rattle.csp_top.specs.Main.{WroteReport, WrotePart, WasRead, WroteWhole, IsReportOf, IsPastEntries, IsUnhindered, IsDoneOrNoMemory};
+ghost use Rattle.csp_top.specs.Main.{WroteReport, WrotePart, WasRead, WroteReliably, WroteWhole, IsReportOf, IsPastEntries, IsUnhindered, IsDoneOrNoMemory};
 ghost use Rattle.csp_top.specs.Statuses.{status_of_read, status_of};
 ghost use Rattle.csp_report.specs.PlacesAddUp.{PlacesAddUp};
+ghost use Rattle.csp_report.specs.ReliablePrefix.{HasReliablePrefix};
 
+use crate::laws::tells_reliable_prefix;
+use crate::numbers::hold_numbers;
 use crate::status::{LimitKind, MAX_SCENARIO, Status};
 use csp_base::{ReadError, Sink, Source, read_up_to, write_whole};
+use csp_prefix::{opens_on_slots, takes_a_prefix};
 use csp_report::report;
 use csp_scene::{SceneError, SceneKind, parse};
 use csp_world::{MAX_ENTRIES, SimError, simulate};
@@ -21,6 +25,7 @@ use std::alloc::Global;
 pub fn sim_main<S: Source, K: Sink>(alloc: Global, source: &mut S, sink: &mut K) -> Status
     ensures done { result ≡ Status.Done → IfSome (S.left source.old) (λ text. WroteReport text (K.written sink.old) (K.written sink.new)) }
     ensures places { result ≡ Status.Done → WroteWhole (K.written sink.old) (K.written sink.new) }
+    ensures reliable { result ≡ Status.Done → WroteReliably (K.written sink.old) (K.written sink.new) }
     ensures read { result ≡ Status.Done → WasRead (S.left source.old) (S.left source.new) }
     ensures read_fault { result ≡ Status.ReadFault → Rose (S.faults source.old) (S.faults source.new) }
     ensures no_read_fault { result ≢ Status.ReadFault → S.faults source.new ≡ S.faults source.old }
@@ -97,9 +102,13 @@ pub(crate) fn report_of(alloc: Global, text: &[u8]) -> Result<Vec<u8>, Refusal>
     requires { length text.now ≤ MAX_SCENARIO }
     ensures report { IfOk result (λ bytes. IsReportOf text.now bytes.items) }
     ensures places { IfOk result (λ bytes. PlacesAddUp bytes.items) }
+    ensures reliable { IfOk result (λ bytes. HasReliablePrefix bytes.items) }
     ensures scene { (line : ℕ) (kind : SceneKind) → result ≡ Err (Refusal.Scene line kind) → scene_of text.now ≡ Err (record { line = line; kind = kind }) }
     ensures entries { result ≡ Err Refusal.Entries → IsPastEntries text.now }
 {
+    takes_a_prefix();
+    opens_on_slots();
+    tells_reliable_prefix();
     let scene = match parse(alloc, text) {
         Ok(scene) => scene,
         Err(SceneError::Refused { line, kind }) => return Err(Refusal::Scene { line, kind }),
@@ -110,6 +119,7 @@ pub(crate) fn report_of(alloc: Global, text: &[u8]) -> Result<Vec<u8>, Refusal>
         Err(SimError::Entries) => return Err(Refusal::Entries),
         Err(SimError::NoMemory) => return Err(Refusal::NoMemory),
     };
+    hold_numbers(&record);
     match report(alloc, &record, &scene) {
         Ok(bytes) => Ok(bytes),
         Err(_) => Err(Refusal::NoMemory),
