@@ -1,10 +1,11 @@
--- How a buffer keeps its trace. Only this crate's own invariants speak of it.
+-- How a buffer and a log keep a trace: its parts side by side.
 use Rattle.std.specs.Prelude.{ℕ, Option, None, Some}
 use Rattle.csp_base.specs.declared.traces.Origin.{Origin}
 use Rattle.csp_base.specs.declared.traces.Tag.{Tag}
 use Rattle.csp_base.specs.declared.traces.Trace.{Trace}
 use Rattle.csp_buffer.specs.declared.trail.Parts.{Parts}
 use Rattle.csp_buffer.specs.declared.trail.Parts.TheVariants as part
+use Rattle.csp_buffer.specs.declared.trail.Trail.{Trail}
 
 -- the trace that has these parts of those
 abbrev pub with_parts : Parts → Origin → ℕ → Tag → Trace
@@ -12,6 +13,10 @@ with_parts part.Neither origin hops tag = record { origin = None; hops = hops; t
 with_parts part.Origin origin hops tag = record { origin = Some origin; hops = hops; tag = None }
 with_parts part.Tag origin hops tag = record { origin = None; hops = hops; tag = Some tag }
 with_parts part.Both origin hops tag = record { origin = Some origin; hops = hops; tag = Some tag }
+
+-- the trace that is kept so
+abbrev pub trace_of : Trail → Trace
+trace_of t = with_parts t.parts (record { node = t.node; iface = t.iface; serial = t.serial }) t.hops (record { node = t.owner; nth = t.nth; index = t.index; ack = t.ack })
 
 -- which parts there are
 abbrev pub parts_of : Option Origin → Option Tag → Parts

@@ -2,6 +2,7 @@
 
 ghost use Rattle.std.specs.Prelude.{◌≡◌, ◌+◌, ◌-◌, ◌<◌, ◌≤◌, ◌↔◌, ◌++◌, length, take, IsErr, OnOk, OnErr};
 ghost use Rattle.csp_buffer.specs.PlainBuffer.{IsBufferCell, buffer_of, emptied, with_picture};
+ghost use Rattle.csp_buffer.specs.Trails.{trace_of};
 ghost use Rattle.csp_buffer.specs.Words.{overwritten};
 
 use crate::trail::Trail;
@@ -35,9 +36,10 @@ impl Model for Buffer {
 
     ghost use Rattle.csp_base.specs.declared.limits.TheConstants.{MAX_PAYLOAD};
     ghost use Rattle.csp_buffer.specs.PlainBuffer.{IsBufferCell};
+    ghost use Rattle.csp_buffer.specs.Trails.{trace_of};
     ghost use Rattle.csp_buffer.specs.Words.{kept_in};
 
-    ghost view = { λ b. kept_in b.cell b.length b.trail };
+    ghost view = { λ b. kept_in b.cell b.length (trace_of b.trail) };
 
     ghost invariant = { λ b. IsBufferCell b.cell × (b.length ≤ MAX_PAYLOAD) };
 }
@@ -106,6 +108,13 @@ impl Buffer {
         ensures { result ≡ self.now.picture.trace }
     {
         self.trail.trace()
+    }
+
+    /// The same, in few bytes.
+    pub fn trail(&self) -> Trail
+        ensures { trace_of result ≡ self.now.picture.trace }
+    {
+        self.trail
     }
 
     /// Writes the trace, and nothing else.

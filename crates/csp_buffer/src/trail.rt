@@ -1,10 +1,9 @@
-//! A trace in few bytes, since a buffer is handed on by value.
+//! A trace in few bytes, since a buffer is handed on by value, and logs keep many.
 
 ghost use Rattle.std.specs.Prelude.{◌≡◌};
-ghost use Rattle.csp_buffer.specs.Trails.{parts_of};
+ghost use Rattle.csp_buffer.specs.Trails.{parts_of, trace_of};
 
 use csp_base::{Origin, Tag, Trace};
-use std::marker::Model;
 
 /// Which parts a trace has besides its hops.
 #[derive(Clone, Copy)]
@@ -15,9 +14,9 @@ pub(crate) enum Parts {
     Both,
 }
 
-/// A trace whose parts lie side by side. Contracts see it as the `Trace`.
-#[derive(Drop)]
-pub(crate) struct Trail {
+/// A trace whose parts lie side by side. `trace_of` of it is the trace.
+#[derive(Clone, Copy)]
+pub struct Trail {
     serial: u64,
     hops: u64,
     index: u64,
@@ -29,21 +28,10 @@ pub(crate) struct Trail {
     parts: Parts,
 }
 
-impl Model for Trail {
-    ghost use Rattle.csp_base.specs.declared.traces.Trace.{Trace};
-
-    ghost Value = { Trace };
-
-    ghost use Rattle.csp_buffer.specs.Trails.{with_parts};
-
-    ghost view = { λ t. with_parts t.parts
-        (record { node = t.node; iface = t.iface; serial = t.serial }) t.hops
-        (record { node = t.owner; nth = t.nth; index = t.index; ack = t.ack }) };
-}
-
 impl Trail {
-    pub(crate) fn of(trace: Trace) -> Trail
-        ensures { result ≡ trace }
+    /// That of a trace.
+    pub fn of(trace: Trace) -> Trail
+        ensures { trace_of result ≡ trace }
     {
         let Trace { origin, hops, tag } = trace;
         let parts = which(origin, tag);
@@ -71,8 +59,9 @@ impl Trail {
         }
     }
 
-    pub(crate) fn trace(&self) -> Trace
-        ensures { result ≡ self.now }
+    /// The trace.
+    pub fn trace(&self) -> Trace
+        ensures { result ≡ trace_of self.now }
     {
         let origin = Origin {
             node: self.node,

@@ -1,9 +1,10 @@
 -- what is said of a turn shows it, and the entries of a log stay what they are while its lists grow
-use Rattle.std.proofs.Common.{◌≡◌, ℕ, zero, suc, ◌+◌, ◌-◌, ◌*◌, ◌<◌, ◌≤◌, Bool, true, false, List, [], ◌∷◌, ◌++◌, length, map, refl, sym, ap, ◌∙◌, append-nil, arith, rules, ◌==◌, Some}
+use Rattle.std.proofs.Common.{◌≡◌, ℕ, zero, suc, ◌+◌, ◌-◌, ◌*◌, ◌<◌, ◌≤◌, Bool, true, false, List, [], ◌∷◌, ◌++◌, length, map, refl, sym, subst, ap, ◌∙◌, append-nil, arith, rules, ◌==◌, Some}
 use Rattle.std.proofs.Math.Nat.{suc-mul}
 use Rattle.std.proofs.Math.Numerals.{sub-one}
 use Rattle.std.specs.Prelude.{slice_range, slice_get, All}
 use Rattle.std.proofs.lemmas.Bool.Decides.{nat_tests}
+use Rattle.std.proofs.lemmas.Option.{same_Some}
 use Rattle.std.proofs.lemmas.Grind.{common_steps}
 use Rattle.std.proofs.lemmas.List.{map-append}
 use Rattle.std.proofs.lemmas.List.Concat.{flat_map-append}
@@ -11,16 +12,15 @@ use Rattle.std.proofs.lemmas.List.Elements.{All-head, All-tail, All-weaker, All-
 use Rattle.csp_base.specs.declared.limits.TheConstants.{MAX_FRAME}
 use Rattle.csp_log.specs.PlainDraft.{PlainDraft}
 use Rattle.csp_log.specs.PlainLog.{entry_with, all_events}
-use Rattle.csp_log.specs.Rows.{draft_of, spoken_of, row_entry, kept_entry, entry_by, entry_at, IsDeedLong, IsRowIn, IsWhatIn, IsLineIn, Says}
+use Rattle.csp_log.specs.Rows.{draft_of, spoken_of, row_entry, kept_entry, entry_at, IsDeedLong, IsRowIn, IsLineIn, Says}
 use Rattle.csp_log.specs.declared.entry.Entry.{Entry}
 use Rattle.csp_log.specs.declared.event.Event.{Event}
 use Rattle.csp_log.specs.declared.event.TheConstants.{MAX_EVENTS}
 use Rattle.csp_log.specs.declared.row.Deed.{Deed}
 use Rattle.csp_log.specs.declared.row.Deed.TheVariants as deed
 use Rattle.csp_log.specs.declared.row.Line.{Line}
+use Rattle.csp_log.specs.declared.row.Line.TheVariants as line
 use Rattle.csp_log.specs.declared.row.Row.{Row}
-use Rattle.csp_log.specs.declared.row.What.{What}
-use Rattle.csp_log.specs.declared.row.What.TheVariants as what
 
 -- a part of a list is one of any list that goes on from it
 slice_range-more : {X : Type 0} (xs more : List X) (i j : ℕ) → j ≤ length xs → slice_range (xs ++ more) i j ≡ slice_range xs i j
@@ -41,10 +41,10 @@ slice_get-pushed [] x = refl
 slice_get-pushed (y ∷ xs) x = slice_get-pushed xs x
 
 -- what a line says by itself, it says only where nothing was told
-pub says-alone : (rows : List Row) (bytes : List ℕ) (events : List Event) (bs : List ℕ) (quiet : Bool) (d : Deed) (w : What) (told : List Event) → spoken_of quiet d ≡ Some w → (quiet ≡ true → told ≡ [])
-    → Says rows bytes events (draft_of bs d) told w rows bytes events
-says-alone rows bytes events bs quiet d w told e none =
-    let shown = spoken-shows quiet d w e in
+pub says-alone : (rows : List Row) (bytes : List ℕ) (events : List Event) (time : ℕ) (bs : List ℕ) (quiet : Bool) (d : Deed) (l : Line) (told : List Event) → spoken_of quiet time d ≡ Some l → (quiet ≡ true → told ≡ [])
+    → Says rows bytes events time (draft_of bs d) told l rows bytes events
+says-alone rows bytes events time bs quiet d l told e none =
+    let shown = spoken-shows quiet d l e in
     record {
       rows_more = [];
       bytes_more = [];
@@ -56,38 +56,31 @@ says-alone rows bytes events bs quiet d w told e none =
       few = omega arith;
       inside = search rules;
       said_in = shown.1;
-      shows = λ t. rw (none shown.0) (shown.2 t);
+      shows = rw (none shown.0) shown.2;
     } where
-      spoken-shows : (quiet : Bool) (d : Deed) (w : What) → spoken_of quiet d ≡ Some w
-          → (quiet ≡ true) × (IsWhatIn (length rows) w) × ((time : ℕ) → entry_by rows bytes events time w ≡ entry_with time (draft_of bs d) [])
-      spoken-shows false d w e = cc
-      spoken-shows true deed.Rested what.Rested e = (refl, tt, λ t. refl)
-      spoken-shows true deed.Rested what.FoundNoBuffer e = cc
-      spoken-shows true deed.Rested (what.FoundEmpty q) e = cc
-      spoken-shows true deed.Rested (what.Kept k) e = cc
-      spoken-shows true deed.FoundNoBuffer what.Rested e = cc
-      spoken-shows true deed.FoundNoBuffer what.FoundNoBuffer e = (refl, tt, λ t. refl)
-      spoken-shows true deed.FoundNoBuffer (what.FoundEmpty q) e = cc
-      spoken-shows true deed.FoundNoBuffer (what.Kept k) e = cc
-      spoken-shows true (deed.FoundEmpty p) what.Rested e = cc
-      spoken-shows true (deed.FoundEmpty p) what.FoundNoBuffer e = cc
-      spoken-shows true (deed.FoundEmpty p) (what.FoundEmpty q) e = let same : p ≡ q = cc in (refl, tt, λ t. rw same refl)
-      spoken-shows true (deed.FoundEmpty p) (what.Kept k) e = cc
-      spoken-shows true (deed.Took p) w e = cc
-      spoken-shows true (deed.Gave p) w e = cc
-      spoken-shows true (deed.FoundPoolFull p) w e = cc
-      spoken-shows true (deed.Pushed q i) w e = cc
-      spoken-shows true (deed.FoundFull q i) w e = cc
-      spoken-shows true (deed.Popped q i) w e = cc
+      IsShown : Bool → Deed → Line → Type 0
+      IsShown quiet d l = (quiet ≡ true) × (IsLineIn (length rows) l) × (entry_at rows bytes events l ≡ entry_with time (draft_of bs d) [])
+
+      spoken-shows : (quiet : Bool) (d : Deed) (l : Line) → spoken_of quiet time d ≡ Some l → IsShown quiet d l
+      spoken-shows false d l e = cc
+      spoken-shows true deed.Rested l e = subst (IsShown true deed.Rested) (same_Some (line.Rested time) l e) (refl, tt, refl)
+      spoken-shows true deed.FoundNoBuffer l e = subst (IsShown true deed.FoundNoBuffer) (same_Some (line.FoundNoBuffer time) l e) (refl, tt, refl)
+      spoken-shows true (deed.FoundEmpty q) l e = subst (IsShown true (deed.FoundEmpty q)) (same_Some (line.FoundEmpty q time) l e) (refl, tt, refl)
+      spoken-shows true (deed.Took p) l e = cc
+      spoken-shows true (deed.Gave p) l e = cc
+      spoken-shows true (deed.FoundPoolFull p) l e = cc
+      spoken-shows true (deed.Pushed q i) l e = cc
+      spoken-shows true (deed.FoundFull q i) l e = cc
+      spoken-shows true (deed.Popped q i) l e = cc
 
 -- and of what it can't say there is a row
-pub says-kept : (rows : List Row) (bytes : List ℕ) (events : List Event) (draft : PlainDraft) (bs : List ℕ) (d : Deed) (told : List Event) (first_byte first_event place : ℕ) (rows_after : List Row) (bytes_after : List ℕ) (events_after : List Event)
-    → place ≡ length rows → draft_of bs d ≡ draft → first_byte ≡ length bytes → first_event ≡ length events
-    → rows_after ≡ rows ++ record { first_byte = first_byte; first_event = first_event; bytes = length bs; events = length told; deed = d } ∷ [] → bytes_after ≡ bytes ++ bs → events_after ≡ events ++ told
+pub says-kept : (rows : List Row) (bytes : List ℕ) (events : List Event) (time : ℕ) (bs : List ℕ) (d : Deed) (told : List Event) (first_byte first_event place : ℕ) (rows_after : List Row) (bytes_after : List ℕ) (events_after : List Event)
+    → place ≡ length rows → first_byte ≡ length bytes → first_event ≡ length events
+    → rows_after ≡ rows ++ record { time = time; first_byte = first_byte; first_event = first_event; bytes = length bs; events = length told; deed = d } ∷ [] → bytes_after ≡ bytes ++ bs → events_after ≡ events ++ told
     → IsDeedLong (length bs) d → length bs ≤ MAX_FRAME → length told ≤ MAX_EVENTS
-    → Says rows bytes events draft told (what.Kept place) rows_after bytes_after events_after
-says-kept rows bytes events draft bs d told first_byte first_event place rows_after bytes_after events_after at same byte event rows_are bytes_are events_are fits short few =
-    let r : Row = record { first_byte = first_byte; first_event = first_event; bytes = length bs; events = length told; deed = d } in
+    → Says rows bytes events time (draft_of bs d) told (line.Kept place) rows_after bytes_after events_after
+says-kept rows bytes events time bs d told first_byte first_event place rows_after bytes_after events_after at byte event rows_are bytes_are events_are fits short few =
+    let r : Row = record { time = time; first_byte = first_byte; first_event = first_event; bytes = length bs; events = length told; deed = d } in
     record {
       rows_more = r ∷ [];
       bytes_more = bs;
@@ -105,53 +98,52 @@ says-kept rows bytes events draft bs d told first_byte first_event place rows_af
         few = few;
       });
       said_in = rw (at, rows_are) (grind (arith, common_steps));
-      shows = λ t. rw (at, rows_are, bytes_are, events_are, slice_get-pushed rows r, byte, event, slice_range-appended bytes bs, slice_range-appended events told, ← same) refl;
+      shows = rw (at, rows_are, bytes_are, events_are, slice_get-pushed rows r, byte, event, slice_range-appended bytes bs, slice_range-appended events told) refl;
     }
 
 -- the entries of these lines, whatever follows the lists
-row_entry-more : (bytes more : List ℕ) (events told : List Event) (time : ℕ) (r : Row) → IsRowIn (length bytes) (length events) r → row_entry (bytes ++ more) (events ++ told) time r ≡ row_entry bytes events time r
-row_entry-more bytes more events told time r h =
+row_entry-more : (bytes more : List ℕ) (events told : List Event) (r : Row) → IsRowIn (length bytes) (length events) r → row_entry (bytes ++ more) (events ++ told) r ≡ row_entry bytes events r
+row_entry-more bytes more events told r h =
     rw (slice_range-more bytes more r.first_byte (r.first_byte + r.bytes) h.bytes_in, slice_range-more events told r.first_event (r.first_event + r.events) h.events_in) refl
 
-kept_entry-more : (bytes more : List ℕ) (events told : List Event) (time : ℕ) (rows : List Row) (k : ℕ) → All (IsRowIn (length bytes) (length events)) rows
-    → kept_entry (bytes ++ more) (events ++ told) time (slice_get rows k) ≡ kept_entry bytes events time (slice_get rows k)
-kept_entry-more bytes more events told time [] k all = refl
-kept_entry-more bytes more events told time (r ∷ rows) zero all = row_entry-more bytes more events told time r (All-head (IsRowIn (length bytes) (length events)) r rows all)
-kept_entry-more bytes more events told time (r ∷ rows) (suc k) all = kept_entry-more bytes more events told time rows k (All-tail (IsRowIn (length bytes) (length events)) r rows all)
+kept_entry-more : (bytes more : List ℕ) (events told : List Event) (rows : List Row) (k : ℕ) → All (IsRowIn (length bytes) (length events)) rows
+    → kept_entry (bytes ++ more) (events ++ told) (slice_get rows k) ≡ kept_entry bytes events (slice_get rows k)
+kept_entry-more bytes more events told [] k all = refl
+kept_entry-more bytes more events told (r ∷ rows) zero all = row_entry-more bytes more events told r (All-head (IsRowIn (length bytes) (length events)) r rows all)
+kept_entry-more bytes more events told (r ∷ rows) (suc k) all = kept_entry-more bytes more events told rows k (All-tail (IsRowIn (length bytes) (length events)) r rows all)
 
-entry_by-more : (rows others : List Row) (bytes more : List ℕ) (events told : List Event) (time : ℕ) (w : What) → All (IsRowIn (length bytes) (length events)) rows → IsWhatIn (length rows) w
-    → entry_by (rows ++ others) (bytes ++ more) (events ++ told) time w ≡ entry_by rows bytes events time w
-entry_by-more rows others bytes more events told time what.Rested all h = refl
-entry_by-more rows others bytes more events told time what.FoundNoBuffer all h = refl
-entry_by-more rows others bytes more events told time (what.FoundEmpty q) all h = refl
-entry_by-more rows others bytes more events told time (what.Kept k) all h = rw (slice_get-more rows others k h) (kept_entry-more bytes more events told time rows k all)
+entry_at-more : (rows others : List Row) (bytes more : List ℕ) (events told : List Event) (l : Line) → All (IsRowIn (length bytes) (length events)) rows → IsLineIn (length rows) l
+    → entry_at (rows ++ others) (bytes ++ more) (events ++ told) l ≡ entry_at rows bytes events l
+entry_at-more rows others bytes more events told (line.Rested time) all h = refl
+entry_at-more rows others bytes more events told (line.FoundNoBuffer time) all h = refl
+entry_at-more rows others bytes more events told (line.FoundEmpty q time) all h = refl
+entry_at-more rows others bytes more events told (line.Kept k) all h = rw (slice_get-more rows others k h) (kept_entry-more bytes more events told rows k all)
 
 entries-more : (rows others : List Row) (bytes more : List ℕ) (events told : List Event) (lines : List Line) → All (IsRowIn (length bytes) (length events)) rows → All (IsLineIn (length rows)) lines
     → map (entry_at (rows ++ others) (bytes ++ more) (events ++ told)) lines ≡ map (entry_at rows bytes events) lines
 entries-more rows others bytes more events told [] all within = refl
 entries-more rows others bytes more events told (l ∷ lines) all within =
     let P = IsLineIn (length rows) in
-    rw (entry_by-more rows others bytes more events told l.time l.what all (All-head P l lines within), entries-more rows others bytes more events told lines all (All-tail P l lines within)) refl
+    rw (entry_at-more rows others bytes more events told l all (All-head P l lines within), entries-more rows others bytes more events told lines all (All-tail P l lines within)) refl
 
 -- the entries with one more
-pub entries-push : (rows : List Row) (bytes : List ℕ) (events : List Event) (draft : PlainDraft) (told : List Event) (said : What) (rows_after : List Row) (bytes_after : List ℕ) (events_after : List Event) (lines : List Line) (time : ℕ)
-    → Says rows bytes events draft told said rows_after bytes_after events_after → All (IsRowIn (length bytes) (length events)) rows → All (IsLineIn (length rows)) lines
-    → map (entry_at rows_after bytes_after events_after) (lines ++ record { time = time; what = said } ∷ []) ≡ map (entry_at rows bytes events) lines ++ entry_with time draft told ∷ []
-entries-push rows bytes events draft told said rows_after bytes_after events_after lines time s all within =
-    let l : Line = record { time = time; what = said } in
+pub entries-push : (rows : List Row) (bytes : List ℕ) (events : List Event) (time : ℕ) (draft : PlainDraft) (told : List Event) (said : Line) (rows_after : List Row) (bytes_after : List ℕ) (events_after : List Event) (lines : List Line)
+    → Says rows bytes events time draft told said rows_after bytes_after events_after → All (IsRowIn (length bytes) (length events)) rows → All (IsLineIn (length rows)) lines
+    → map (entry_at rows_after bytes_after events_after) (lines ++ said ∷ []) ≡ map (entry_at rows bytes events) lines ++ entry_with time draft told ∷ []
+entries-push rows bytes events time draft told said rows_after bytes_after events_after lines s all within =
     let more = entries-more rows s.rows_more bytes s.bytes_more events s.events_more lines all within in
-    map-append (entry_at rows_after bytes_after events_after) lines (l ∷ [])
-    ∙ rw (s.rows_are, s.bytes_are, s.events_are) (ap (λ es. es ++ entry_at (rows ++ s.rows_more) (bytes ++ s.bytes_more) (events ++ s.events_more) l ∷ []) more)
-    ∙ ap (λ e. map (entry_at rows bytes events) lines ++ e ∷ []) (rw (s.rows_are, s.bytes_are, s.events_are) at (s.shows time))
+    map-append (entry_at rows_after bytes_after events_after) lines (said ∷ [])
+    ∙ rw (s.rows_are, s.bytes_are, s.events_are) (ap (λ es. es ++ entry_at (rows ++ s.rows_more) (bytes ++ s.bytes_more) (events ++ s.events_more) said ∷ []) more)
+    ∙ ap (λ e. map (entry_at rows bytes events) lines ++ e ∷ []) (rw (s.rows_are, s.bytes_are, s.events_are) at s.shows)
 
 -- the events, where they were those of the entries, are those of the entries with one more
-pub told-push : (rows : List Row) (bytes : List ℕ) (events : List Event) (draft : PlainDraft) (told : List Event) (said : What) (rows_after : List Row) (bytes_after : List ℕ) (events_after : List Event) (lines : List Line) (time : ℕ)
-    → Says rows bytes events draft told said rows_after bytes_after events_after → All (IsRowIn (length bytes) (length events)) rows → All (IsLineIn (length rows)) lines
+pub told-push : (rows : List Row) (bytes : List ℕ) (events : List Event) (time : ℕ) (draft : PlainDraft) (told : List Event) (said : Line) (rows_after : List Row) (bytes_after : List ℕ) (events_after : List Event) (lines : List Line)
+    → Says rows bytes events time draft told said rows_after bytes_after events_after → All (IsRowIn (length bytes) (length events)) rows → All (IsLineIn (length rows)) lines
     → all_events (map (entry_at rows bytes events) lines) ≡ events
-    → all_events (map (entry_at rows_after bytes_after events_after) (lines ++ record { time = time; what = said } ∷ [])) ≡ events_after
-told-push rows bytes events draft told said rows_after bytes_after events_after lines time s all within same =
+    → all_events (map (entry_at rows_after bytes_after events_after) (lines ++ said ∷ [])) ≡ events_after
+told-push rows bytes events time draft told said rows_after bytes_after events_after lines s all within same =
     let before : List Entry = map (entry_at rows bytes events) lines in
-    ap all_events (entries-push rows bytes events draft told said rows_after bytes_after events_after lines time s all within)
+    ap all_events (entries-push rows bytes events time draft told said rows_after bytes_after events_after lines s all within)
     ∙ flat_map-append (λ (e : Entry). e.events.items) before (entry_with time draft told ∷ [])
     ∙ ap (λ (es : List Event). es ++ (told ++ [])) same
     ∙ ap (λ (es : List Event). events ++ es) (append-nil told ∙ sym s.told_are)
@@ -161,27 +153,27 @@ told-push rows bytes events draft told said rows_after bytes_after events_after 
 IsRowIn-more : (n m k l : ℕ) (r : Row) → n ≤ m → k ≤ l → IsRowIn n k r → IsRowIn m l r
 IsRowIn-more n m k l r a b h = record { bytes_in = let w = h.bytes_in in omega arith; fits = h.fits; short = h.short; events_in = let w = h.events_in in omega arith; few = h.few }
 
-IsWhatIn-more : (n m : ℕ) (w : What) → n ≤ m → IsWhatIn n w → IsWhatIn m w
-IsWhatIn-more n m what.Rested le h = tt
-IsWhatIn-more n m what.FoundNoBuffer le h = tt
-IsWhatIn-more n m (what.FoundEmpty q) le h = tt
-IsWhatIn-more n m (what.Kept k) le h = omega arith
+IsLineIn-more : (n m : ℕ) (l : Line) → n ≤ m → IsLineIn n l → IsLineIn m l
+IsLineIn-more n m (line.Rested _) le h = tt
+IsLineIn-more n m (line.FoundNoBuffer _) le h = tt
+IsLineIn-more n m (line.FoundEmpty _ _) le h = tt
+IsLineIn-more n m (line.Kept k) le h = omega arith
 
-pub rows-push : (rows : List Row) (bytes : List ℕ) (events : List Event) (draft : PlainDraft) (told : List Event) (said : What) (rows_after : List Row) (bytes_after : List ℕ) (events_after : List Event)
-    → Says rows bytes events draft told said rows_after bytes_after events_after → All (IsRowIn (length bytes) (length events)) rows → All (IsRowIn (length bytes_after) (length events_after)) rows_after
-rows-push rows bytes events draft told said rows_after bytes_after events_after s all =
+pub rows-push : (rows : List Row) (bytes : List ℕ) (events : List Event) (time : ℕ) (draft : PlainDraft) (told : List Event) (said : Line) (rows_after : List Row) (bytes_after : List ℕ) (events_after : List Event)
+    → Says rows bytes events time draft told said rows_after bytes_after events_after → All (IsRowIn (length bytes) (length events)) rows → All (IsRowIn (length bytes_after) (length events_after)) rows_after
+rows-push rows bytes events time draft told said rows_after bytes_after events_after s all =
     let P = IsRowIn (length bytes_after) (length events_after) in
     let longer : length bytes ≤ length bytes_after = rw s.bytes_are (grind (arith, common_steps)) in
     let later : length events ≤ length events_after = rw s.events_are (grind (arith, common_steps)) in
     let old : All P rows = All-weaker (IsRowIn (length bytes) (length events)) P (λ r h. IsRowIn-more (length bytes) (length bytes_after) (length events) (length events_after) r longer later h) rows all in
     rw (← s.rows_are) at (All-append P rows s.rows_more old s.inside)
 
-pub lines-push : (rows : List Row) (bytes : List ℕ) (events : List Event) (draft : PlainDraft) (told : List Event) (said : What) (rows_after : List Row) (bytes_after : List ℕ) (events_after : List Event) (lines : List Line) (time : ℕ)
-    → Says rows bytes events draft told said rows_after bytes_after events_after → All (IsLineIn (length rows)) lines → All (IsLineIn (length rows_after)) (lines ++ record { time = time; what = said } ∷ [])
-lines-push rows bytes events draft told said rows_after bytes_after events_after lines time s within =
+pub lines-push : (rows : List Row) (bytes : List ℕ) (events : List Event) (time : ℕ) (draft : PlainDraft) (told : List Event) (said : Line) (rows_after : List Row) (bytes_after : List ℕ) (events_after : List Event) (lines : List Line)
+    → Says rows bytes events time draft told said rows_after bytes_after events_after → All (IsLineIn (length rows)) lines → All (IsLineIn (length rows_after)) (lines ++ said ∷ [])
+lines-push rows bytes events time draft told said rows_after bytes_after events_after lines s within =
     let P = IsLineIn (length rows_after) in
     let more : length rows ≤ length rows_after = rw s.rows_are (grind (arith, common_steps)) in
-    All-push P lines (record { time = time; what = said }) (All-weaker (IsLineIn (length rows)) P (λ l h. IsWhatIn-more (length rows) (length rows_after) l.what more h) lines within) s.said_in
+    All-push P lines said (All-weaker (IsLineIn (length rows)) P (λ l h. IsLineIn-more (length rows) (length rows_after) l more h) lines within) s.said_in
 
 -- what one of `spare` parts may take, the others still have their room
 pub room_left : (len more spare each cap : ℕ) → 0 < spare → more ≤ each → len + spare * each ≤ cap → len + more + (spare - 1) * each ≤ cap

@@ -2,6 +2,7 @@
 use Rattle.std.specs.Prelude.{◌≡◌, ℕ, Bool, true, false, ◌+◌, ◌<◌, ◌≤◌, List, [], ◌++◌, Option, Some, None, ⊤, All, length, slice_get, slice_range}
 use Rattle.csp_base.specs.declared.limits.TheConstants.{MAX_PAYLOAD, MAX_FRAME}
 use Rattle.csp_buffer.specs.Content.{Content}
+use Rattle.csp_buffer.specs.Trails.{trace_of}
 use Rattle.csp_log.specs.PlainDraft.{PlainDraft}
 use Rattle.csp_log.specs.PlainLog.{entry_with}
 use Rattle.csp_log.specs.declared.entry.Entry.{Entry}
@@ -14,9 +15,8 @@ use Rattle.csp_log.specs.declared.row.ItemHead.{ItemHead}
 use Rattle.csp_log.specs.declared.row.ItemHead.TheVariants as head
 use Rattle.csp_log.specs.declared.row.Deed.{Deed}
 use Rattle.csp_log.specs.declared.row.Deed.TheVariants as deed
-use Rattle.csp_log.specs.declared.row.What.{What}
-use Rattle.csp_log.specs.declared.row.What.TheVariants as what
 use Rattle.csp_log.specs.declared.row.Line.{Line}
+use Rattle.csp_log.specs.declared.row.Line.TheVariants as line
 use Rattle.csp_log.specs.declared.row.Row.{Row}
 use Rattle.csp_log.specs.declared.shown.ItemShown.{ItemShown}
 use Rattle.csp_log.specs.declared.shown.ItemShown.TheVariants as item_shown
@@ -27,10 +27,10 @@ use Rattle.csp_log.specs.declared.shown.AnswerShown.TheVariants as answer_shown
 
 -- the packet and the frame with these bytes
 abbrev pub packet_of : List ℕ → PacketHead → Content
-packet_of bytes p = record { number = p.number; header = p.header; payload = bytes; trace = p.trace }
+packet_of bytes p = record { number = p.number; header = p.header; payload = bytes; trace = trace_of p.trail }
 
 abbrev pub frame_of : List ℕ → FrameHead → Frame
-frame_of bytes f = record { can = f.can; bytes = record { items = bytes }; trace = f.trace }
+frame_of bytes f = record { can = f.can; bytes = record { items = bytes }; trace = trace_of f.trail }
 
 -- the item with these bytes
 abbrev pub item_of : List ℕ → ItemHead → ItemShown
@@ -97,35 +97,32 @@ bytes_in bytes r = slice_range bytes r.first_byte (r.first_byte + r.bytes)
 abbrev pub events_in : List Event → Row → List Event
 events_in events r = slice_range events r.first_event (r.first_event + r.events)
 
--- the entry of a row at this time
-abbrev pub row_entry : List ℕ → List Event → ℕ → Row → Entry
-row_entry bytes events time r = entry_with time (draft_of (bytes_in bytes r) r.deed) (events_in events r)
+-- the entry of a row
+abbrev pub row_entry : List ℕ → List Event → Row → Entry
+row_entry bytes events r = entry_with r.time (draft_of (bytes_in bytes r) r.deed) (events_in events r)
 
 -- the entry of a turn that carried and reported nothing
 abbrev pub idle_entry : ℕ → Deed → Entry
 idle_entry time d = entry_with time (draft_of [] d) []
 
-abbrev pub kept_entry : List ℕ → List Event → ℕ → Option Row → Entry
-kept_entry bytes events time None = idle_entry time deed.Rested
-kept_entry bytes events time (Some r) = row_entry bytes events time r
+abbrev pub kept_entry : List ℕ → List Event → Option Row → Entry
+kept_entry bytes events None = idle_entry 0 deed.Rested
+kept_entry bytes events (Some r) = row_entry bytes events r
 
 -- the entry of a line: of what it says, or of its row
-abbrev pub entry_by : List Row → List ℕ → List Event → ℕ → What → Entry
-entry_by rows bytes events time what.Rested = idle_entry time deed.Rested
-entry_by rows bytes events time what.FoundNoBuffer = idle_entry time deed.FoundNoBuffer
-entry_by rows bytes events time (what.FoundEmpty q) = idle_entry time (deed.FoundEmpty q)
-entry_by rows bytes events time (what.Kept k) = kept_entry bytes events time (slice_get rows k)
-
 abbrev pub entry_at : List Row → List ℕ → List Event → Line → Entry
-entry_at rows bytes events l = entry_by rows bytes events l.time l.what
+entry_at rows bytes events (line.Rested time) = idle_entry time deed.Rested
+entry_at rows bytes events (line.FoundNoBuffer time) = idle_entry time deed.FoundNoBuffer
+entry_at rows bytes events (line.FoundEmpty q time) = idle_entry time (deed.FoundEmpty q)
+entry_at rows bytes events (line.Kept k) = kept_entry bytes events (slice_get rows k)
 
 -- what a line says of a deed by itself: where nothing was told besides, that nothing was done or found
-abbrev pub spoken_of : (quiet : Bool) → Deed → Option What
-spoken_of false d = None
-spoken_of true deed.Rested = Some what.Rested
-spoken_of true deed.FoundNoBuffer = Some what.FoundNoBuffer
-spoken_of true (deed.FoundEmpty q) = Some (what.FoundEmpty q)
-spoken_of true _ = None
+abbrev pub spoken_of : (quiet : Bool) → ℕ → Deed → Option Line
+spoken_of false time d = None
+spoken_of true time deed.Rested = Some (line.Rested time)
+spoken_of true time deed.FoundNoBuffer = Some (line.FoundNoBuffer time)
+spoken_of true time (deed.FoundEmpty q) = Some (line.FoundEmpty q time)
+spoken_of true time _ = None
 
 -- a row's bytes and events stand in the lists
 pub record IsRowIn (bytes events : ℕ) (r : Row) : Type 0 where
@@ -136,17 +133,14 @@ pub record IsRowIn (bytes events : ℕ) (r : Row) : Type 0 where
   pub few : r.events ≤ MAX_EVENTS
 
 -- a line's row stands in the list
-abbrev pub IsWhatIn : ℕ → What → Type 0
-IsWhatIn rows what.Rested = ⊤
-IsWhatIn rows what.FoundNoBuffer = ⊤
-IsWhatIn rows (what.FoundEmpty _) = ⊤
-IsWhatIn rows (what.Kept k) = k < rows
-
 abbrev pub IsLineIn : ℕ → Line → Type 0
-IsLineIn rows l = IsWhatIn rows l.what
+IsLineIn rows (line.Rested _) = ⊤
+IsLineIn rows (line.FoundNoBuffer _) = ⊤
+IsLineIn rows (line.FoundEmpty _ _) = ⊤
+IsLineIn rows (line.Kept k) = k < rows
 
--- what was said of a turn shows it, with the rows, bytes and events that were kept for it at the ends of the lists
-pub record Says (rows : List Row) (bytes : List ℕ) (events : List Event) (draft : PlainDraft) (told : List Event) (said : What) (rows_after : List Row) (bytes_after : List ℕ) (events_after : List Event) : Type 0 where
+-- the line of a turn shows it, with the rows, bytes and events that were kept for it at the ends of the lists
+pub record Says (rows : List Row) (bytes : List ℕ) (events : List Event) (time : ℕ) (draft : PlainDraft) (told : List Event) (said : Line) (rows_after : List Row) (bytes_after : List ℕ) (events_after : List Event) : Type 0 where
   pub rows_more : List Row
   pub bytes_more : List ℕ
   pub events_more : List Event
@@ -156,5 +150,5 @@ pub record Says (rows : List Row) (bytes : List ℕ) (events : List Event) (draf
   pub told_are : events_more ≡ told
   pub few : length rows_more ≤ 1
   pub inside : All (IsRowIn (length bytes_after) (length events_after)) rows_more
-  pub said_in : IsWhatIn (length rows_after) said
-  pub shows : (time : ℕ) → entry_by rows_after bytes_after events_after time said ≡ entry_with time draft told
+  pub said_in : IsLineIn (length rows_after) said
+  pub shows : entry_at rows_after bytes_after events_after said ≡ entry_with time draft told

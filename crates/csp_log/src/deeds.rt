@@ -67,8 +67,8 @@ fn read_item(bytes: &[u8], item: &ItemHead) -> ItemShown
             mark: *mark,
             buffer: read_packet(bytes, packet),
         },
-        ItemHead::Frame(FrameHead { can, trace }) => {
-            ItemShown::Frame(Frame::of(*can, bytes, *trace))
+        ItemHead::Frame(FrameHead { can, trail }) => {
+            ItemShown::Frame(Frame::of(*can, bytes, trail.trace()))
         }
         ItemHead::Note(note) => ItemShown::Note(*note),
     }
@@ -78,5 +78,5 @@ fn read_packet(bytes: &[u8], packet: &PacketHead) -> Shown
     requires { length bytes.now ≤ MAX_PAYLOAD }
     ensures { result ≡ packet_of bytes.now packet.now }
 {
-    Shown::of(packet.number, packet.header, bytes, packet.trace)
+    Shown::of(packet.number, packet.header, bytes, packet.trail.trace())
 }

@@ -10,7 +10,7 @@ use crate::deeds::keep;
 use crate::row::{Deed, FrameHead, ItemHead, PacketHead};
 use crate::{Answer, AnswerShown, Item, Op, OpShown, QueueId};
 use csp_base::{MAX_FRAME, MAX_PAYLOAD};
-use csp_buffer::Buffer;
+use csp_buffer::{Buffer, Trail};
 use std::alloc::{AllocError, Global};
 use std::marker::Model;
 
@@ -157,7 +157,7 @@ fn keep_packet(bytes: &mut Vec<u8>, buffer: &Buffer) -> PacketHead
     PacketHead {
         header: buffer.header(),
         number: buffer.number(),
-        trace: buffer.trace(),
+        trail: buffer.trail(),
     }
 }
 
@@ -181,7 +181,7 @@ fn keep_item(bytes: &mut Vec<u8>, item: &Item) -> ItemHead
             keep(bytes, frame.bytes.as_slice());
             ItemHead::Frame(FrameHead {
                 can: frame.can,
-                trace: frame.trace,
+                trail: Trail::of(frame.trace),
             })
         }
         Item::Note(note) => ItemHead::Note(*note),

@@ -1,18 +1,18 @@
 //! The log of a party's turns.
 
-ghost use Rattle.std.specs.Prelude.{◌≡◌, ℕ, ◌+◌, ◌-◌, ◌*◌, ◌^◌, ◌<◌, ◌≤◌, [], ◌++◌, ◌∷◌, length, max, slice_get, Some, OnOk, OnErr, vec_len, vec_capacity};
+ghost use Rattle.std.specs.Prelude.{◌≡◌, ℕ, ◌+◌, ◌-◌, ◌*◌, ◌^◌, ◌<◌, ◌≤◌, [], ◌++◌, ◌∷◌, length, max, nat_lt, slice_get, Some, ◌&&◌, OnOk, OnErr, vec_len, vec_capacity};
 ghost use Rattle.std.specs.Option.{option_map};
 ghost use Rattle.csp_log.specs.Moving.{moved_in, moved_by};
 ghost use Rattle.csp_log.specs.Noting.{noted_in};
 ghost use Rattle.csp_log.specs.PlainDraft.{drafted};
 ghost use Rattle.csp_log.specs.PlainLog.{with_entry, entry_with, all_events};
-ghost use Rattle.csp_log.specs.Rows.{spoken_of, row_entry, op_of, answer_of, bytes_in, events_in, IsRowIn, Says};
+ghost use Rattle.csp_log.specs.Rows.{draft_of, spoken_of, row_entry, op_of, answer_of, bytes_in, events_in, IsDeedLong, IsRowIn, Says};
 
 use crate::deeds::{keep, read_answer, read_op};
 use crate::draft::Draft;
 use crate::moved::read_moved;
 use crate::noted::read_noted;
-use crate::row::{Deed, Line, Row, What};
+use crate::row::{Deed, Line, Row};
 use crate::{AnswerShown, Entry, Event, Events, MAX_EVENTS, Moved, Noted, OpShown, QueueId};
 use csp_base::MAX_FRAME;
 use std::alloc::{AllocError, Global};
@@ -29,8 +29,8 @@ const FEWEST_BYTES: usize = 262_144;
 /// The turns of a party, the oldest first. Contracts see it as a list of entries and a number, for
 /// how many more there is room.
 ///
-/// Only `reserve` takes memory. Inside, an entry is a line of 16 bytes; one that carried or reported
-/// something has besides a row of at most 128 bytes, which points into one list of bytes, for payloads
+/// Only `reserve` takes memory. Inside, an entry is a line of 8 bytes; one that carried or reported
+/// something has besides a row of at most 96 bytes, which points into one list of bytes, for payloads
 /// and frames, and one list of events.
 #[derive(Drop)]
 pub struct Log {
@@ -107,15 +107,15 @@ impl Log {
         requires { index < length self.now.entries }
         ensures { slice_get self.now.entries index ≡ Some result }
     {
-        let line = &self.lines[index as usize];
-        let time = line.time;
-        match line.what {
-            What::Rested => idle(time, OpShown::Nothing, AnswerShown::Nothing),
-            What::FoundNoBuffer => idle(time, OpShown::Take, AnswerShown::NoBuffer),
-            What::FoundEmpty(queue) => idle(time, OpShown::Pop(queue), AnswerShown::Empty),
-            What::Kept(place) => {
-                let row = &self.rows[place as usize];
-                entry_of(self.bytes.as_slice(), self.events.as_slice(), time, row)
+        match self.lines[index as usize] {
+            Line::Rested { time } => idle(time, OpShown::Nothing, AnswerShown::Nothing),
+            Line::FoundNoBuffer { time } => idle(time, OpShown::Take, AnswerShown::NoBuffer),
+            Line::FoundEmpty { queue, time } => {
+                idle(time, OpShown::Pop(queue), AnswerShown::Empty)
+            }
+            Line::Kept { row } => {
+                let row = &self.rows[row as usize];
+                entry_of(self.bytes.as_slice(), self.events.as_slice(), row)
             }
         }
     }
@@ -125,9 +125,9 @@ impl Log {
         requires { index < length self.now.entries }
         ensures { option_map (λ e. e.events.items) (slice_get self.now.entries index) ≡ Some result.now }
     {
-        match self.lines[index as usize].what {
-            What::Kept(place) => events_at(&self.events, &self.rows[place as usize]),
-            What::Rested | What::FoundNoBuffer | What::FoundEmpty(_) => &[],
+        match self.lines[index as usize] {
+            Line::Kept { row } => events_at(&self.events, &self.rows[row as usize]),
+            Line::Rested { .. } | Line::FoundNoBuffer { .. } | Line::FoundEmpty { .. } => &[],
         }
     }
 
@@ -143,9 +143,11 @@ impl Log {
         requires { index < length self.now.entries }
         ensures { option_map moved_in (slice_get self.now.entries index) ≡ Some result }
     {
-        match self.lines[index as usize].what {
-            What::Kept(place) => moved_of(&self.bytes, &self.rows[place as usize]),
-            What::Rested | What::FoundNoBuffer | What::FoundEmpty(_) => Moved::NoPacket,
+        match self.lines[index as usize] {
+            Line::Kept { row } => moved_of(&self.bytes, &self.rows[row as usize]),
+            Line::Rested { .. } | Line::FoundNoBuffer { .. } | Line::FoundEmpty { .. } => {
+                Moved::NoPacket
+            }
         }
     }
 
@@ -154,9 +156,11 @@ impl Log {
         requires { index < length self.now.entries }
         ensures { option_map noted_in (slice_get self.now.entries index) ≡ Some result }
     {
-        match self.lines[index as usize].what {
-            What::Kept(place) => read_noted(&self.rows[place as usize].deed),
-            What::Rested | What::FoundNoBuffer | What::FoundEmpty(_) => Noted::NoNote,
+        match self.lines[index as usize] {
+            Line::Kept { row } => read_noted(&self.rows[row as usize].deed),
+            Line::Rested { .. } | Line::FoundNoBuffer { .. } | Line::FoundEmpty { .. } => {
+                Noted::NoNote
+            }
         }
     }
 
@@ -167,15 +171,7 @@ impl Log {
         requires room { 0 < self.old.spare }
         ensures { self.new ≡ with_entry self.old (entry_with time draft.now told.now.items) }
     {
-        let what = say(
-            &mut self.rows,
-            &mut self.bytes,
-            &mut self.events,
-            draft,
-            told.as_slice(),
-        );
-        self.lines.push_reserved(Line { time, what });
-        self.spare -= 1;
+        self.add(time, &draft.deed, draft.bytes.as_slice(), told.as_slice());
     }
 
     /// Appends the entry of a turn at this time that looked into a queue, which was empty, and told
@@ -184,10 +180,42 @@ impl Log {
         requires room { 0 < self.old.spare }
         ensures { self.new ≡ with_entry self.old (entry_with time (drafted (OpShown.Pop queue)) []) }
     {
+        match u32::try_from(time) {
+            Ok(time) => self.add_empty(time, queue),
+            Err(_) => self.add(time, &Deed::FoundEmpty(queue), &[], &[]),
+        }
+    }
+
+    /// The same, at a time that a line can say.
+    fn add_empty(&mut self, time: u32, queue: QueueId)
+        requires room { 0 < self.old.spare }
+        ensures { self.new ≡ with_entry self.old (entry_with time (drafted (OpShown.Pop queue)) []) }
+    {
         let Log { lines, spare, .. } = self;
-        let what = What::FoundEmpty(queue);
-        lines.push_reserved(Line { time, what });
+        lines.push_reserved(Line::FoundEmpty { queue, time });
         *spare -= 1;
+    }
+
+    /// Appends the entry of a turn at this time, of a deed with its bytes, and what was told.
+    #[inline(always)]
+    fn add(&mut self, time: u64, deed: &Deed, carried: &[u8], told: &[Event])
+        requires room { 0 < self.old.spare }
+        requires fits { IsDeedLong (length carried.now) deed.now }
+        requires short { length carried.now ≤ MAX_FRAME }
+        requires told { length told.now ≤ MAX_EVENTS }
+        ensures { self.new ≡ with_entry self.old (entry_with time (draft_of carried.now deed.now) told.now) }
+    {
+        let line = say(
+            &mut self.rows,
+            &mut self.bytes,
+            &mut self.events,
+            time,
+            deed,
+            carried,
+            told,
+        );
+        self.lines.push_reserved(line);
+        self.spare -= 1;
     }
 }
 
@@ -205,42 +233,51 @@ fn make_room<T: Copy>(list: &mut Vec<T>, room: usize, fewest: usize) -> Result<(
     Ok(())
 }
 
-/// What the line of a turn says. It keeps a row of what the line can't say by itself.
+/// The line of a turn at this time, with this deed and its bytes. It keeps a row of what a line can't say.
 #[inline(always)]
 fn say(
     rows: &mut Vec<Row>,
     bytes: &mut Vec<u8>,
     events: &mut Vec<Event>,
-    draft: &Draft,
+    time: u64,
+    deed: &Deed,
+    carried: &[u8],
     told: &[Event],
-) -> What
+) -> Line
     requires few { length rows.old.items < 2 ^ 32 }
     requires row_room { vec_len rows.old < vec_capacity rows.old }
     requires byte_room { vec_len bytes.old + MAX_FRAME ≤ vec_capacity bytes.old }
     requires event_room { vec_len events.old + MAX_EVENTS ≤ vec_capacity events.old }
+    requires fits { IsDeedLong (length carried.now) deed.now }
+    requires short { length carried.now ≤ MAX_FRAME }
     requires told { length told.now ≤ MAX_EVENTS }
-    ensures says { Says rows.old.items bytes.old.items events.old.items draft.now told.now result rows.new.items bytes.new.items events.new.items }
+    ensures says { Says rows.old.items bytes.old.items events.old.items time (draft_of carried.now deed.now) told.now result rows.new.items bytes.new.items events.new.items }
     ensures rows_capacity { (vec_capacity rows.old ≤ vec_capacity rows.new) × (vec_len rows.new ≤ vec_len rows.old + 1) }
     ensures bytes_capacity { (vec_capacity bytes.old ≤ vec_capacity bytes.new) × (vec_len bytes.new ≤ vec_len bytes.old + MAX_FRAME) }
     ensures events_capacity { (vec_capacity events.old ≤ vec_capacity events.new) × (vec_len events.new ≤ vec_len events.old + MAX_EVENTS) }
 {
-    match spoken(&draft.deed, told.is_empty()) {
-        Some(what) => what,
-        None => keep_row(rows, bytes, events, draft, told),
+    match spoken(deed, time, told.is_empty()) {
+        Some(line) => line,
+        None => keep_row(rows, bytes, events, time, deed, carried, told),
     }
 }
 
 /// What a line says of a deed by itself, where nothing was told besides.
-fn spoken(deed: &Deed, quiet: bool) -> Option<What>
-    ensures { result ≡ spoken_of quiet deed.now }
+#[inline(always)]
+fn spoken(deed: &Deed, time: u64, quiet: bool) -> Option<Line>
+    ensures { result ≡ spoken_of (quiet && nat_lt time (2 ^ 32)) time deed.now }
 {
-    if !quiet {
+    if !quiet || time > u64::from(u32::MAX) {
         return None;
     }
+    let time = time as u32;
     match deed {
-        Deed::Rested => Some(What::Rested),
-        Deed::FoundNoBuffer => Some(What::FoundNoBuffer),
-        Deed::FoundEmpty(queue) => Some(What::FoundEmpty(*queue)),
+        Deed::Rested => Some(Line::Rested { time }),
+        Deed::FoundNoBuffer => Some(Line::FoundNoBuffer { time }),
+        Deed::FoundEmpty(queue) => Some(Line::FoundEmpty {
+            queue: *queue,
+            time,
+        }),
         Deed::Took(_)
         | Deed::Gave(_)
         | Deed::FoundPoolFull(_)
@@ -250,47 +287,50 @@ fn spoken(deed: &Deed, quiet: bool) -> Option<What>
     }
 }
 
-/// Keeps what a turn carried and what it told, and gives the place of its row.
-#[inline(always)]
+/// Keeps what a turn carried and what it told, and gives the line with the place of its row.
 fn keep_row(
     rows: &mut Vec<Row>,
     bytes: &mut Vec<u8>,
     events: &mut Vec<Event>,
-    draft: &Draft,
+    time: u64,
+    deed: &Deed,
+    carried: &[u8],
     told: &[Event],
-) -> What
+) -> Line
     requires few { length rows.old.items < 2 ^ 32 }
     requires row_room { vec_len rows.old < vec_capacity rows.old }
     requires byte_room { vec_len bytes.old + MAX_FRAME ≤ vec_capacity bytes.old }
     requires event_room { vec_len events.old + MAX_EVENTS ≤ vec_capacity events.old }
+    requires fits { IsDeedLong (length carried.now) deed.now }
+    requires short { length carried.now ≤ MAX_FRAME }
     requires told { length told.now ≤ MAX_EVENTS }
-    ensures says { Says rows.old.items bytes.old.items events.old.items draft.now told.now result rows.new.items bytes.new.items events.new.items }
+    ensures says { Says rows.old.items bytes.old.items events.old.items time (draft_of carried.now deed.now) told.now result rows.new.items bytes.new.items events.new.items }
     ensures rows_capacity { (vec_capacity rows.old ≤ vec_capacity rows.new) × (vec_len rows.new ≤ vec_len rows.old + 1) }
     ensures bytes_capacity { (vec_capacity bytes.old ≤ vec_capacity bytes.new) × (vec_len bytes.new ≤ vec_len bytes.old + MAX_FRAME) }
     ensures events_capacity { (vec_capacity events.old ≤ vec_capacity events.new) × (vec_len events.new ≤ vec_len events.old + MAX_EVENTS) }
 {
-    let place = rows.len() as u32;
-    let carried = draft.bytes.as_slice();
+    let row = rows.len() as u32;
     let first_byte = keep(bytes, carried);
     let first_event = keep(events, told);
     rows.push_reserved(Row {
+        time,
         first_byte,
         first_event,
         bytes: carried.len() as u16,
         events: told.len() as u8,
-        deed: draft.deed,
+        deed: *deed,
     });
-    What::Kept(place)
+    Line::Kept { row }
 }
 
-/// The entry of a row at this time, with these bytes and events.
-fn entry_of(bytes: &[u8], events: &[Event], time: u64, row: &Row) -> Entry
+/// The entry of a row, with these bytes and events.
+fn entry_of(bytes: &[u8], events: &[Event], row: &Row) -> Entry
     requires { IsRowIn (length bytes.now) (length events.now) row.now }
-    ensures { result ≡ row_entry bytes.now events.now time row.now }
+    ensures { result ≡ row_entry bytes.now events.now row.now }
 {
     let carried = &bytes[row.first_byte..row.first_byte + row.bytes as usize];
     Entry {
-        time,
+        time: row.time,
         op: read_op(carried, &row.deed),
         answer: read_answer(carried, &row.deed),
         events: events_of(events_at(events, row)),
@@ -315,11 +355,11 @@ fn events_at<'a>(events: &'a [Event], row: &Row) -> &'a [Event]
 }
 
 /// The entry of a turn that carried and told nothing.
-fn idle(time: u64, op: OpShown, answer: AnswerShown) -> Entry
+fn idle(time: u32, op: OpShown, answer: AnswerShown) -> Entry
     ensures { result ≡ entry_with time (record { op = op; answer = answer }) [] }
 {
     Entry {
-        time,
+        time: u64::from(time),
         op,
         answer,
         events: Events::new(),

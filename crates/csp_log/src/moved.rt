@@ -61,7 +61,7 @@ impl<'a> LoggedPacket<'a> {
     pub fn trace(&self) -> Trace
         ensures { result ≡ self.now.trace }
     {
-        self.head.trace
+        self.head.trail.trace()
     }
 }
 

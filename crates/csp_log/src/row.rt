@@ -1,13 +1,13 @@
-//! What a log keeps of an entry: a line, and a row where there is more to it than the line says.
+//! What a log keeps of an entry: a line, and a row where there is more to it than a line says.
 
 use crate::{Note, QueueId};
-use csp_base::Trace;
+use csp_buffer::Trail;
 
 /// The most bytes of a line.
-const MAX_LINE: usize = 16;
+const MAX_LINE: usize = 8;
 
 /// The most bytes of a row.
-const MAX_ROW: usize = 128;
+const MAX_ROW: usize = 96;
 
 const _: () = prove!(size_of::<Line>() <= MAX_LINE);
 
@@ -18,14 +18,14 @@ const _: () = prove!(size_of::<Row>() <= MAX_ROW);
 pub struct PacketHead {
     pub header: u32,
     pub number: u16,
-    pub trace: Trace,
+    pub trail: Trail,
 }
 
 /// What a frame is besides its bytes.
 #[derive(Clone, Copy)]
 pub struct FrameHead {
     pub can: Option<u32>,
-    pub trace: Trace,
+    pub trail: Trail,
 }
 
 /// What an item is besides its bytes.
@@ -51,25 +51,20 @@ pub enum Deed {
     FoundEmpty(QueueId),
 }
 
-/// What a line says of its turn: all, where nothing was carried or reported, or the place of its row.
+/// One entry of a log: all of it, where nothing was carried or reported and its time is of 32 bits, or
+/// the place of its row.
 #[derive(Clone, Copy)]
-pub enum What {
-    Rested,
-    FoundNoBuffer,
-    FoundEmpty(QueueId),
-    Kept(u32),
+pub enum Line {
+    Rested { time: u32 },
+    FoundNoBuffer { time: u32 },
+    FoundEmpty { queue: QueueId, time: u32 },
+    Kept { row: u32 },
 }
 
-/// One entry of a log.
-#[derive(Clone, Copy)]
-pub struct Line {
-    pub time: u64,
-    pub what: What,
-}
-
-/// What an entry has besides its time: its bytes and events stand in the log's lists.
+/// An entry that a line can't say by itself: its bytes and events stand in the log's lists.
 #[derive(Clone, Copy)]
 pub struct Row {
+    pub time: u64,
     pub first_byte: usize,
     pub first_event: usize,
     pub bytes: u16,
