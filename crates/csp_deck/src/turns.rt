@@ -1,6 +1,6 @@
 //! One turn of a party.
 
-ghost use Rattle.std.specs.Prelude.{◌≡◌, ℕ, suc, ◌+◌, ◌-◌, ◌*◌, ◌^◌, ◌<◌, ◌≤◌, true, false, Some, length};
+ghost use Rattle.std.specs.Prelude.{◌≡◌, ℕ, suc, ◌+◌, ◌-◌, ◌*◌, ◌^◌, ◌<◌, ◌≤◌, true, false, Some, [], length};
 ghost use Rattle.csp_base.specs.declared.turns.Turn.{Turn};
 ghost use Rattle.csp_deck.specs.Carried.{IsCarriedIn};
 ghost use Rattle.csp_deck.specs.Regions.{IsOpOf, IsItemOf, IsAnswerFrom};
@@ -13,7 +13,7 @@ ghost use Rattle.csp_log.specs.declared.places.Rule.{Rule};
 ghost use Rattle.csp_log.specs.declared.shown.AnswerShown.{AnswerShown};
 ghost use Rattle.csp_log.specs.declared.shown.OpShown.{OpShown};
 
-use crate::{Answer, Deck, Desk, Item, Log, Op, Party, QueueId, Spares};
+use crate::{Answer, Deck, Desk, Events, Item, Log, Op, Party, QueueId, Spares};
 use csp_base::Turn;
 use csp_buffer::Buffer;
 
@@ -163,7 +163,7 @@ fn carry<P: Party, D: Deck>(
     let answer = serve(deck, op);
     draft.answer(&answer);
     let turn = answer.turn();
-    report.clear();
+    empty(report);
     party.told(answer, now, report, spares);
     log.append(now, draft, report);
     turn
@@ -237,9 +237,18 @@ fn miss<P: Party>(
     ensures needs { P.needs party.new ≡ P.needs party.old }
     ensures stock { spares.old ≤ spares.new + P.needs party.old }
 {
-    desk.report.clear();
+    empty(&mut desk.report);
     party.miss(now, &mut desk.report, spares);
     log_miss(log, desk, now, queue);
+}
+
+/// Empties a list of events: mostly it is empty.
+fn empty(report: &mut Events)
+    ensures { report.new.items ≡ [] }
+{
+    if !report.is_empty() {
+        report.clear();
+    }
 }
 
 /// Logs a look into a queue that was empty, with what was reported of it.
