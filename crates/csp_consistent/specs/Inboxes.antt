@@ -1,6 +1,6 @@
 -- Consistent, part 3: of each priority of an inbox, what the one party that pops it got, followed by what was left, has each producer's
 -- puts in that producer's order, and nothing else.
-use Rattle.std.specs.Prelude.{◌≡◌, ℕ, ◌==◌, if◌then◌else◌, Some, List, ◌++◌, slice_get}
+use Rattle.std.specs.Prelude.{◌≡◌, ℕ, ◌≤◌, ◌==◌, if◌then◌else◌, Some, List, [], ◌++◌, slice_get}
 use Rattle.std.specs.List.{AllByRecursion}
 use Rattle.csp_base.specs.declared.priority.Prio.{Prio}
 use Rattle.csp_base.specs.Priority.{prio_number}
@@ -24,11 +24,19 @@ writer_of node hub mark = (if mark == UNMARKED then hub else who.Iface node mark
 abbrev pub came_through : PlainRecord → ℕ → Who → Prio → List ItemShown
 came_through r node hub p = with_priority p (gets queue.Inbox (entries_of r hub)) ++ left_in r node queue.Inbox (prio_number p)
 
--- with each mark they are what its producer put, in the producer's order; and each is a packet of this priority, with a mark that an
--- inbox carries
-pub record IsInboxInOrder (r : PlainRecord) (node : ℕ) (hub : Who) (p : Prio) : Type 0 where
+-- a priority in order: with each mark they are what its producer put, in the producer's order; and each is a packet of this priority, with a
+-- mark that an inbox carries
+pub record IsPriorityInOrder (r : PlainRecord) (node : ℕ) (hub : Who) (p : Prio) : Type 0 where
   pub order : (mark : ℕ) → with_mark mark (came_through r node hub p) ≡ with_priority p (puts queue.Inbox (entries_of r (writer_of node hub mark)))
   pub carried : AllByRecursion (IsCarried (rule.Priority p)) (came_through r node hub p)
 
+pub record IsInboxInOrder (r : PlainRecord) (node : ℕ) (hub : Who) : Type 0 where
+  -- each priority is in order
+  pub priorities : (p : Prio) → IsPriorityInOrder r node hub p
+  -- all that was got is what an inbox carries: packets alone, and so each of a priority
+  pub got : AllByRecursion (IsCarried rule.Inbox) (gets queue.Inbox (entries_of r hub))
+  -- nothing was left under a number that is no priority's
+  pub left : (prio : ℕ) → 4 ≤ prio → left_in r node queue.Inbox prio ≡ []
+
 abbrev pub AreInboxesInOrder : PlainScene → PlainRecord → Type 0
-AreInboxesInOrder scene r = (node : ℕ) (n : PlainNode) (p : Prio) → slice_get scene.nodes node ≡ Some n → IsInboxInOrder r node (hub_of node n.addr) p
+AreInboxesInOrder scene r = (node : ℕ) (n : PlainNode) → slice_get scene.nodes node ≡ Some n → IsInboxInOrder r node (hub_of node n.addr)

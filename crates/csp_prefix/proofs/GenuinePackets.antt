@@ -199,7 +199,7 @@ module _ (scene : PlainScene) (r : PlainRecord) (is : IsScene scene) (con : IsCo
       by_priority (IsGenuineBelow (flows_in scene r) (suc n)) (gets queue.Inbox (entries_of r hub)) λ p.
       each_first (Below (suc n)) (with_priority p (gets queue.Inbox (entries_of r hub))) (left_in r place queue.Inbox (prio_number p))
       (by_mark (IsGenuineBelow (flows_in scene r) (suc n)) (came_through r place hub p) λ mark.
-      subst (AllByRecursion (Below (suc n))) (sym ((con.inboxes place node p there).order mark))
+      subst (AllByRecursion (Below (suc n))) (sym (((con.inboxes place node there).priorities p).order mark))
       (each_of_priority (Below (suc n)) p (puts queue.Inbox (entries_of r (writer_of place hub mark))) (writer_below n place mark node.addr hear)))
 
   hear_below : (n : ℕ) → HearBelow n

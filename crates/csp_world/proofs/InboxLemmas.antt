@@ -2,10 +2,12 @@
 use Rattle.std.proofs.Common.{◌≡◌, ℕ, zero, suc, ◌+◌, ◌<◌, ◌≤◌, ◌==◌, Bool, true, false, Option, None, Some, List, [], ◌∷◌, ◌++◌, length, map, set, refl, sym, subst, ap, ◌∙◌, arith}
 use Rattle.std.specs.Prelude.{slice_get, if◌then◌else◌}
 use Rattle.std.specs.List.{AllByRecursion, flat_map}
+use Rattle.std.proofs.Math.Bool.{and-false}
 use Rattle.std.proofs.lemmas.Bool.Decides.{nat_tests}
 use Rattle.std.proofs.lemmas.Grind.{flat_map-append}
 use Rattle.std.proofs.lemmas.List.{append-nil, append_assoc}
 use Rattle.std.proofs.lemmas.Option.{same_Some}
+use Rattle.csp_base.proofs.PriorityLaws.{prio_number_small}
 use Rattle.csp_base.specs.Priority.{prio_number}
 use Rattle.csp_base.specs.declared.priority.Prio.{Prio}
 use Rattle.csp_consistent.proofs.Names.{AreApart, entries_in, none_there, who_is}
@@ -15,10 +17,11 @@ use Rattle.csp_consistent.specs.Inboxes.{IsInboxInOrder, writer_of}
 use Rattle.csp_consistent.specs.Lanes.{hub_of}
 use Rattle.csp_consistent.specs.Parties.{PlainOpening, party_steps}
 use Rattle.csp_consistent.specs.Queues.{MayAsk}
-use Rattle.csp_consistent.specs.Reading.{got_by, gets, is_who, left_here, left_in, of_mark, of_priority, put_by, puts, with_mark, with_priority}
+use Rattle.csp_consistent.specs.Reading.{got_by, gets, is_queue, is_who, left_here, left_in, of_mark, of_priority, put_by, puts, with_mark, with_priority}
+use Rattle.csp_deck.specs.Carried.{IsInboxItem, IsOfPriority}
 use Rattle.csp_deck.specs.Runs.{state_after, step_after}
 use Rattle.csp_deck.specs.Step.{entry_of}
-use Rattle.csp_lists.specs.Gathered.{left_at}
+use Rattle.csp_lists.specs.Gathered.{left_at, prio_named, queue_named}
 use Rattle.csp_lists.specs.Order.{places_in}
 use Rattle.csp_lists.specs.PlainDeck.{PlainDeck, PlainQueue, most_urgent, opening_deck, opening_queue, shape_of}
 use Rattle.csp_log.specs.declared.entry.Entry.{Entry}
@@ -35,11 +38,12 @@ use Rattle.csp_nodes.specs.Gathering.{all_left}
 use Rattle.csp_nodes.specs.Serving.{served}
 use Rattle.csp_party.specs.Any.{PlainParty, asked, asks, events, has_ended}
 use Rattle.csp_record.specs.declared.who.Who.{Who}
+use Rattle.csp_scene.proofs.Lists.{AllByRecursion-append, AllByRecursion-map}
 use Rattle.csp_scene.specs.Scene.{PlainLink, PlainNode, PlainScene}
 use Rattle.csp_buffer.specs.Content.{Content}
 use Rattle.csp_world.proofs.ContentLemmas.{IsRight, PicksOne, content, in_queue, is_named}
 use Rattle.csp_world.proofs.InboxNames.{IsParty, prio_is}
-use Rattle.csp_world.proofs.InboxTurns.{AllOf, IsUrgent, got_same, put_carried, put_same}
+use Rattle.csp_world.proofs.InboxTurns.{AllOf, IsUrgent, got_same, got_urgent, in_inbox, put_carried, put_same, urgent_alone}
 use Rattle.csp_world.proofs.KeptLemmas.{flat-push}
 use Rattle.csp_world.proofs.LocalLemmas.{IsLocal, Keeps, local}
 use Rattle.csp_world.proofs.LoggedLemmas.{AreLogged, logged_logs, opened}
@@ -167,6 +171,7 @@ pub record IsInboxKept (node : ℕ) (x : PlainNode) (decks : List PlainDeck) (ms
   pub right : IsRight deck
   pub order : (p : Prio) (mark : ℕ) → with_mark mark (through node x p deck ms) ≡ written node x p mark ms
   pub carried : (p : Prio) → AllOf p (through node x p deck ms)
+  pub got : AllByRecursion IsInboxItem (gets queue.Inbox (entries_in (hub_of node x.addr) (map member_log ms)))
 
 all-first : (p : Prio) (xs ys : List ItemShown) → AllOf p (xs ++ ys) → AllOf p xs
 all-first p [] ys h = tt
@@ -175,10 +180,6 @@ all-first p (x ∷ xs) ys h = (h.0, all-first p xs ys h.1)
 all-second : (p : Prio) (xs ys : List ItemShown) → AllOf p (xs ++ ys) → AllOf p ys
 all-second p [] ys h = h
 all-second p (x ∷ xs) ys h = all-second p xs ys h.1
-
-all-both : (p : Prio) (xs ys : List ItemShown) → AllOf p xs → AllOf p ys → AllOf p (xs ++ ys)
-all-both p [] ys h g = g
-all-both p (x ∷ xs) ys h g = (h.0, all-both p xs ys h.1 g)
 
 -- what is to be known of a scene and its parties
 pub record IsKnown (scene : PlainScene) (os : List PlainOpening) : Type 0 where
@@ -205,7 +206,11 @@ inbox_turned scene os known node x at w logged k m found h = record {
       ∙ ap (λ is. written node x p mark w.members ++ is) (sym (put_same scene.nodes scene.links w.links node x at m.who party o may p mark r.0))
       ∙ sym (flat_map-append (of_priority p) (puts queue.Inbox (old (writer_of node hub mark))) (if is_who (writer_of node hub mark) m.who then put_by queue.Inbox o r.0 else []))
       ∙ ap (with_priority p) (sym (puts-push queue.Inbox (old (writer_of node hub mark)) (is_who (writer_of node hub mark) m.who) e) ∙ ap (puts queue.Inbox) (sym (longer (writer_of node hub mark))));
-  carried = λ p. subst (AllOf p) (sym (grown p)) (all-both p (through node x p h.deck w.members) (put_there queue.Inbox (prio_number p) node there r.0) (h.carried p) (put_carried scene.nodes scene.links w.links node m.who party o may p r.0));
+  carried = λ p. subst (AllOf p) (sym (grown p)) (AllByRecursion-append (IsOfPriority p) (through node x p h.deck w.members) (put_there queue.Inbox (prio_number p) node there r.0) (h.carried p) (put_carried scene.nodes scene.links w.links node m.who party o may p r.0));
+  got =
+      subst (AllByRecursion IsInboxItem) (sym more)
+      (AllByRecursion-append IsInboxItem (gets queue.Inbox (old hub)) (got_urgent h.deck node there r.0) h.got
+      (AllByRecursion-map (IsOfPriority (most_urgent h.deck)) IsInboxItem (got_urgent h.deck node there r.0) (in_inbox (most_urgent h.deck)) urgent));
 } where
   hub : Who
   hub = hub_of node x.addr
@@ -245,18 +250,23 @@ inbox_turned scene os known node x at w logged k m found h = record {
       let u = most_urgent h.deck in
       all-first u (got_there queue.Inbox (prio_number u) h.deck node there r.0) (content queue.Inbox (prio_number u) l.after)
       (subst (AllOf u) (sym (move u))
-      (all-both u (content queue.Inbox (prio_number u) h.deck) (put_there queue.Inbox (prio_number u) node there r.0)
+      (AllByRecursion-append (IsOfPriority u) (content queue.Inbox (prio_number u) h.deck) (put_there queue.Inbox (prio_number u) node there r.0)
       (all-second u (with_priority u (gets queue.Inbox (old hub))) (content queue.Inbox (prio_number u) h.deck) (h.carried u))
       (put_carried scene.nodes scene.links w.links node m.who party o may u r.0)))
+
+  more : gets queue.Inbox (entries_in hub (map member_log (turned w k m).members)) ≡ gets queue.Inbox (old hub) ++ got_urgent h.deck node there r.0
+  more =
+      ap (gets queue.Inbox) (longer hub) ∙ gets-push queue.Inbox (old hub) (is_who hub m.who) e
+      ∙ ap (λ is. gets queue.Inbox (old hub) ++ is) (got_same scene.nodes scene.links w.links node x at m.who party o may h.deck r.0)
 
   grown : (p : Prio) → through node x p l.after (turned w k m).members ≡ through node x p h.deck w.members ++ put_there queue.Inbox (prio_number p) node there r.0
   grown p =
       let before = with_priority p (gets queue.Inbox (old hub)) in
       let got = got_there queue.Inbox (prio_number p) h.deck node there r.0 in
       ap (λ is. is ++ content queue.Inbox (prio_number p) l.after)
-      (ap (with_priority p) (ap (gets queue.Inbox) (longer hub) ∙ gets-push queue.Inbox (old hub) (is_who hub m.who) e)
-      ∙ flat_map-append (of_priority p) (gets queue.Inbox (old hub)) (if is_who hub m.who then got_by queue.Inbox o r.0 else [])
-      ∙ ap (λ is. before ++ is) (got_same scene.nodes scene.links w.links node x at m.who party o may h.deck p r.0 urgent))
+      (ap (with_priority p) more
+      ∙ flat_map-append (of_priority p) (gets queue.Inbox (old hub)) (got_urgent h.deck node there r.0)
+      ∙ ap (λ is. before ++ is) (urgent_alone p h.deck node there r.0 urgent))
       ∙ append_assoc before got (content queue.Inbox (prio_number p) l.after)
       ∙ ap (λ is. before ++ is) (move p)
       ∙ sym (append_assoc before (content queue.Inbox (prio_number p) h.deck) (put_there queue.Inbox (prio_number p) node there r.0))
@@ -305,16 +315,38 @@ inbox_opened node x buffers inbox apps links decks os at = record {
   right = right_opening buffers inbox apps links;
   order = λ p mark. ap (with_mark mark) (nothing p) ∙ sym (ap (λ es. with_priority p (puts queue.Inbox es)) (no_entries (writer_of node (hub_of node x.addr) mark) os));
   carried = λ p. subst (AllOf p) (sym (nothing p)) tt;
+  got = subst (λ es. AllByRecursion IsInboxItem (gets queue.Inbox es)) (sym (no_entries (hub_of node x.addr) os)) tt;
 } where
   nothing : (p : Prio) → through node x p (opening_deck buffers inbox apps links) (map opened os) ≡ []
   nothing p = rw (no_entries (hub_of node x.addr) os) (no_content queue.Inbox (prio_number p) inbox links (places_in (shape_of apps links)))
 
+-- no queue has a number that is no priority's
+none_above : (prio : ℕ) → 4 ≤ prio → (qs : List PlainQueue) → flat_map (in_queue queue.Inbox prio) qs ≡ []
+none_above prio high [] = refl
+none_above prio high (x ∷ qs) =
+    let away : (prio_named x.place == prio) ≡ false = by x.place in
+    rw (away, and-false (is_queue queue.Inbox (queue_named x.place)), none_above prio high qs) refl
+  where
+    by : (y : Place) → (prio_named y == prio) ≡ false
+    by (place.Inbox p) = let low = prio_number_small p in grind (arith, nat_tests, low, high)
+    by (place.Lane q) = grind (arith, nat_tests, high)
+    by place.Pool = grind (arith, nat_tests, high)
+    by place.Router = grind (arith, nat_tests, high)
+    by (place.Iface k) = grind (arith, nat_tests, high)
+    by (place.App k) = grind (arith, nat_tests, high)
+
 -- so the record says
-pub inbox_in_order : (w : PlainWorld) (node : ℕ) (x : PlainNode) → IsInboxKept node x w.decks w.members → (p : Prio) → IsInboxInOrder (record_of w) node (hub_of node x.addr) p
-inbox_in_order w node x h p =
-    let came = with_priority p (gets queue.Inbox (entries_in (hub_of node x.addr) (map member_log w.members))) in
-    let left = left_is w node queue.Inbox (prio_number p) h.deck h.there in
-    record {
-      order = λ mark. ap (λ is. with_mark mark (came ++ is)) left ∙ h.order p mark;
-      carried = subst (λ is. AllOf p (came ++ is)) (sym left) (h.carried p);
-    }
+pub inbox_in_order : (w : PlainWorld) (node : ℕ) (x : PlainNode) → IsInboxKept node x w.decks w.members → IsInboxInOrder (record_of w) node (hub_of node x.addr)
+inbox_in_order w node x h = record {
+  priorities = λ p. record {
+    order = λ mark. ap (λ is. with_mark mark (came p ++ is)) (left p) ∙ h.order p mark;
+    carried = subst (λ is. AllOf p (came p ++ is)) (sym (left p)) (h.carried p);
+  };
+  got = h.got;
+  left = λ prio high. left_is w node queue.Inbox prio h.deck h.there ∙ none_above prio high h.deck.queues;
+} where
+  came : Prio → List ItemShown
+  came p = with_priority p (gets queue.Inbox (entries_in (hub_of node x.addr) (map member_log w.members)))
+
+  left : (p : Prio) → left_in (record_of w) node queue.Inbox (prio_number p) ≡ content queue.Inbox (prio_number p) h.deck
+  left p = left_is w node queue.Inbox (prio_number p) h.deck h.there

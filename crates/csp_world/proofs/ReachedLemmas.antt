@@ -164,9 +164,9 @@ all_inboxes scene known node n at (a_turn place ∷ hs) = inbox_turn scene (part
 all_inboxes scene known node n at (a_tick ∷ hs) = all_inboxes scene known node n at hs
 
 pub reached_inboxes : Stands → KeepsQueues → KeepsShape → (scene : PlainScene) (w : PlainWorld) → IsScene scene → IsReached scene w → AreInboxesInOrder scene (record_of w)
-reached_inboxes stands queues shape scene w is r = λ node n p at.
-    subst (λ (x : PlainWorld). IsInboxInOrder (record_of x) node (hub_of node n.addr) p) (sym r.there)
-    (inbox_in_order (world_after scene r.happenings) node n (all_inboxes scene (scene_known stands queues shape scene is) node n at r.happenings) p)
+reached_inboxes stands queues shape scene w is r = λ node n at.
+    subst (λ (x : PlainWorld). IsInboxInOrder (record_of x) node (hub_of node n.addr)) (sym r.there)
+    (inbox_in_order (world_after scene r.happenings) node n (all_inboxes scene (scene_known stands queues shape scene is) node n at r.happenings))
 
 -- the links have their ends still
 links_turn_at : (w : PlainWorld) (place : ℕ) (found : Option PlainMember) → (turn_at w place found).links ≡ w.links

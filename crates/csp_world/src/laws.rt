@@ -22,9 +22,9 @@ use csp_lists::{keeps_shape, opens};
 /// The logs of its record are runs of the scene's parties. What was got from each lane, followed by what was
 /// left, is what was put; no more was left than the lane has room for, and a push was refused only after as
 /// many puts as that. Of each priority of an inbox, what was got with what was left has each
-/// producer's packets in its order. Of each pool, the numbers at the opening together with those
-/// given are those taken together with those left; and each other place held what was left there, or what its
-/// party held.
+/// producer's packets in its order, and nothing else. Of each pool, the numbers at the opening together with
+/// those given are those taken together with those left; and each other place held what was left there, or what
+/// its party held.
 pub fn holds_parts()
     ensures runs { (scene : PlainScene) (w : PlainWorld) → IsReached scene w → AreLogsOf (parties_of scene) (record_of w).parties }
     ensures lanes { (scene : PlainScene) (w : PlainWorld) → IsScene scene → AreLinksAfter (length scene.nodes) [] scene.links → IsReached scene w → AreInOrder scene (record_of w) }
