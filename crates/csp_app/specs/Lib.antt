@@ -1,4 +1,5 @@
 pub mod Asking
+pub mod Drained
 pub mod Making
 pub mod PlainApp
 pub mod Room
