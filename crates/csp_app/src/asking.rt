@@ -1,6 +1,9 @@
 //! What an application asks in a turn.
 
-ghost use Rattle.std.specs.Prelude.{◌≡◌, ◌<◌, false, IfSome};
+ghost use Rattle.std.specs.Prelude.{◌≡◌, ◌<◌, false, IfSome, MatchOption};
+ghost use Rattle.csp_deck.specs.Step.{CanServe};
+ghost use Rattle.csp_log.specs.declared.places.QueueId.{QueueId};
+ghost use Rattle.csp_log.specs.declared.shown.OpShown.{OpShown};
 ghost use Rattle.std.specs.Option.{option_map};
 ghost use Rattle.csp_app.specs.Turn.{giving_op, pushing_op};
 ghost use Rattle.csp_arena.specs.Cells.{RegionName};
@@ -13,7 +16,7 @@ use csp_buffer::Buffer;
 use csp_log::{Item, ItemShown, Note, Op, QueueId, SLOTS};
 
 impl App {
-    ghost use Rattle.csp_app.specs.PlainApp.{uses, has_ended, with_app};
+    ghost use Rattle.csp_app.specs.PlainApp.{uses, has_ended, holds, with_app};
     ghost use Rattle.std.specs.Prelude.{nat_le};
     ghost use Rattle.csp_app.specs.Slots.{slot_at};
     ghost use Rattle.csp_app.specs.Steps.{plan_of, give_plan, note_plan, packet_plan, recv_plan, is_enough};
@@ -110,6 +113,27 @@ impl App {
                 rounds,
             }
         }
+    }
+
+    /// The queue that this turn looks into, where it does no more.
+    #[tactic(auto, using(crate::proofs::Hearing::asked_ready))]
+    pub(crate) fn look_now(&mut self, now: u64) -> Option<QueueId>
+        requires goes_on { has_ended self.old.app ≡ false }
+        ensures looks { MatchOption result (self.new ≡ self.old) (λ q. (asks self.old.app now ≡ OpShown.Pop q) × (self.new ≡ with_app self.old (asked self.old.app now))) }
+        ensures served { IfSome result (λ q. CanServe (uses self.old.app) (OpShown.Pop q)) }
+        ensures uses { (q : QueueId) → uses self.new.app q ≡ uses self.old.app q }
+        ensures holds { holds self.new.app ≡ holds self.old.app }
+    {
+        let plan = self.plan();
+        match &plan {
+            Plan::Look => self.refused = false,
+            Plan::Await => {}
+            Plan::Receive { .. } | Plan::Wait { .. } => self.progress.note(now),
+            Plan::Rest | Plan::Skip | Plan::Use { .. } | Plan::Return => return None,
+            Plan::Take | Plan::Fill | Plan::Give | Plan::Ask(_) | Plan::Push => return None,
+        }
+        self.doing = plan;
+        Some(QueueId::Down(self.number))
     }
 
     /// The operation of this turn, whose buffer leaves the application.

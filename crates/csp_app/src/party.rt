@@ -2,7 +2,7 @@
 
 use crate::App;
 use csp_deck::{Party, Spares};
-use csp_log::{Answer, Events, Op};
+use csp_log::{Answer, Events, Op, QueueId};
 
 impl Party for App {
     ghost use Rattle.std.specs.Prelude.{⊤};
@@ -38,6 +38,12 @@ impl Party for App {
         // Read for the checker alone, which then knows what holds of the fields before the call below.
         let _doing = &self.doing;
         self.ask_now(now)
+    }
+
+    fn look(&mut self, now: u64) -> Option<QueueId> {
+        // Read for the checker alone, which then knows what holds of the fields before the call below.
+        let _doing = &self.doing;
+        self.look_now(now)
     }
 
     fn told(&mut self, answer: Answer, now: u64, report: &mut Events, _spares: &mut Spares) {

@@ -1,11 +1,11 @@
 //! What takes turns.
 
-ghost use Rattle.std.specs.Prelude.{◌≡◌, ℕ, ◌+◌, ◌-◌, ◌^◌, ◌<◌, ◌≤◌, Bool, false, List, [], Option};
+ghost use Rattle.std.specs.Prelude.{◌≡◌, ℕ, ◌+◌, ◌-◌, ◌^◌, ◌<◌, ◌≤◌, Bool, false, List, [], Option, IfSome, MatchOption};
 ghost use Rattle.csp_deck.specs.Regions.{IsOpOf, IsAnswerFrom};
 ghost use Rattle.csp_deck.specs.Step.{Kind, kind_of, CanServe, IsAnswerOf, op_numbers, answer_numbers, times};
 ghost use Rattle.csp_log.specs.Pictures.{shown_op, shown_answer};
 
-use crate::{Answer, Events, Op, Spares};
+use crate::{Answer, Events, Op, QueueId, Spares};
 
 /// A router, a bridge, an interface, an application or a link: it asks for one operation a turn, and
 /// is told its answer.
@@ -82,6 +82,25 @@ pub trait Party {
 
         // It holds no more what it hands over.
         ensures holds { (k : ℕ) → times k (holds self.new) + times k (op_numbers (shown_op result)) ≡ times k (holds self.old) };
+
+    /// The queue that this turn looks into, where such a look is all that it asks and is at hand. Else
+    /// nothing is done, and it is to be asked.
+    fn look(&mut self, now: u64) -> Option<QueueId>
+        requires ready { is_ready self.old now }
+        requires early { now < 2 ^ 62 }
+        requires countable { count self.old < 2 ^ 32 - 1 }
+        requires goes_on { has_ended self.old ≡ false }
+        ensures looks { MatchOption result (self.new ≡ self.old) (λ q. (asks self.old now ≡ OpShown.Pop q) × (self.new ≡ asked self.old now)) }
+        ensures waiting { IfSome result (λ q. is_waiting self.new now × (awaits self.new ≡ kind_of (OpShown.Pop q))) }
+        ensures served { IfSome result (λ q. CanServe (uses self.old) (OpShown.Pop q)) }
+        ensures uses { (q : QueueId) → uses self.new q ≡ uses self.old q }
+        ensures region { region self.new ≡ region self.old }
+        ensures count { count self.new ≤ count self.old }
+        ensures needs { needs self.new ≡ needs self.old }
+        ensures holds { (k : ℕ) → times k (holds self.new) ≡ times k (holds self.old) }
+    {
+        None
+    }
 
     /// Ends the turn with the operation's answer. What it reports goes into `report`, which is empty;
     /// the frames that it makes are in boxes of `spares`.

@@ -75,38 +75,41 @@ pub fn turn<P: Party, D: Deck>(
     }
     // Read for the checker alone, which then knows that the log has fewer entries than its count can tell.
     let _room = log.len();
-    let op = party.ask(now);
-    answer(party, deck, log, spares, desk, now, op)
+    match party.look(now) {
+        Some(queue) => look(party, deck, log, spares, desk, now, queue),
+        None => act(party, deck, log, spares, desk, now),
+    }
 }
 
-/// Has the deck serve the operation that a party asked, tells the party the answer, and logs the turn.
-fn answer<P: Party, D: Deck>(
+/// One turn of a party that goes on: it is asked. It has the room for an operation, which a look that finds
+/// nothing needn't pay for.
+#[inline(never)]
+fn act<P: Party, D: Deck>(
     party: &mut P,
     deck: &mut D,
     log: &mut Log,
     spares: &mut Spares,
     desk: &mut Desk,
     now: u64,
-    op: Op,
 ) -> Turn
-    requires waiting { P.is_waiting party.old now }
-    requires awaits { P.awaits party.old ≡ kind_of (shown_op op) }
+    requires goes_on { P.has_ended party.old ≡ false }
+    requires ready { P.is_ready party.old now }
     requires early { now < 2 ^ 62 }
     requires room { 0 < log.old.spare }
     requires countable { P.count party.old < 2 ^ 32 - 1 }
-    requires asked { CanServe (P.uses party.old) (shown_op op) }
     requires served { (q : QueueId) (r : Rule) → P.uses party.old q ≡ Some r → D.rule deck.old q ≡ Some r }
-    requires of_it { IsOpOf (D.region deck.old) op }
     requires region { P.region party.old ≡ D.region deck.old }
     requires stock { P.needs party.old ≤ spares.old }
     ensures went { (answer : AnswerShown)
-        × D.answers deck.old (shown_op op) answer deck.new
-        × Fits (shown_op op) answer
-        × HasCause (D.was_empty deck.old deck.new) (D.was_full deck.old deck.new) (shown_op op) answer
-        × (party.new ≡ P.tells party.old now answer)
-        × (log.new ≡ with_entry log.old (entry_of now (shown_op op) answer (P.events party.old now answer)))
+        × D.answers deck.old (P.asks party.old now) answer deck.new
+        × Fits (P.asks party.old now) answer
+        × HasCause (D.was_empty deck.old deck.new) (D.was_full deck.old deck.new) (P.asks party.old now) answer
+        × (party.new ≡ P.tells (P.asked party.old now) now answer)
+        × (log.new ≡ with_entry log.old (entry_of now (P.asks party.old now) answer (P.events (P.asked party.old now) now answer)))
         × (result ≡ turn_of answer)
-        × ((k : ℕ) → times k (P.holds party.new) ≡ times k (P.holds party.old) + times k (answer_numbers answer)) }
+        × ((k : ℕ) → times k (P.holds party.new) + times k (op_numbers (P.asks party.old now)) ≡ times k (P.holds party.old) + times k (answer_numbers answer)) }
+    ensures asked { CanServe (P.uses party.old) (P.asks party.old now) }
+    ensures had { (k : ℕ) → times k (op_numbers (P.asks party.old now)) ≤ times k (P.holds party.old) }
     ensures ready { (later : ℕ) → now ≤ later → later < 2 ^ 62 → P.has_ended party.new ≡ false → P.is_ready party.new later }
     ensures counted { P.count party.new ≤ P.count party.old + 1 }
     ensures uses { (q : QueueId) → P.uses party.new q ≡ P.uses party.old q }
@@ -115,13 +118,11 @@ fn answer<P: Party, D: Deck>(
     ensures needs { P.needs party.new ≡ P.needs party.old }
     ensures stock { spares.old ≤ spares.new + P.needs party.old }
 {
-    match op {
-        Op::Pop(queue) => look(party, deck, log, spares, desk, now, queue),
-        op => carry(party, deck, log, spares, desk, now, op),
-    }
+    let op = party.ask(now);
+    carry(party, deck, log, spares, desk, now, op)
 }
 
-/// The same, for any operation.
+/// Has the deck serve the operation that a party asked, tells the party the answer, and logs the turn.
 #[inline(never)]
 fn carry<P: Party, D: Deck>(
     party: &mut P,

@@ -1,12 +1,14 @@
 //! What an interface asks in a turn.
 
-ghost use Rattle.std.specs.Prelude.{◌≡◌, IfSome, slice_get};
+ghost use Rattle.std.specs.Prelude.{◌≡◌, IfSome, MatchOption, slice_get};
 ghost use Rattle.std.specs.Option.{option_map};
 ghost use Rattle.csp_arena.specs.Cells.{RegionName};
 ghost use Rattle.csp_deck.specs.Regions.{IsOpOf};
 ghost use Rattle.csp_deck.specs.Step.{CanServe};
 ghost use Rattle.csp_iface.specs.Asking.{given, delivered, transmitted};
 ghost use Rattle.csp_log.specs.Pictures.{shown_op};
+ghost use Rattle.csp_log.specs.declared.places.QueueId.{QueueId};
+ghost use Rattle.csp_log.specs.declared.shown.OpShown.{OpShown};
 
 use crate::Iface;
 use crate::plan::{Plan, Side};
@@ -14,7 +16,7 @@ use csp_buffer::Buffer;
 use csp_log::{BoxedFrame, Item, Op, QueueId};
 
 impl Iface {
-    ghost use Rattle.csp_iface.specs.PlainIface.{uses, with_iface};
+    ghost use Rattle.csp_iface.specs.PlainIface.{uses, holds, with_iface};
     ghost use Rattle.csp_iface.specs.Planning.{plan_of, side_plan};
     ghost use Rattle.csp_iface.specs.Asking.{asks, asked};
 
@@ -45,6 +47,25 @@ impl Iface {
             Side::Sending => Plan::Fetch,
             Side::Receiving => Plan::Receive,
         }
+    }
+
+    /// The queue that this turn looks into, where it does no more.
+    pub(crate) fn look_now(&mut self) -> Option<QueueId>
+        requires rests { self.old.iface.doing ≡ Plan.Rest }
+        ensures looks { MatchOption result (self.new ≡ self.old) (λ q. (asks self.old.iface 0 ≡ OpShown.Pop q) × (self.new ≡ with_iface self.old (asked self.old.iface 0))) }
+        ensures served { IfSome result (λ q. CanServe (uses self.old.iface) (OpShown.Pop q)) }
+        ensures uses { (q : QueueId) → uses self.new.iface q ≡ uses self.old.iface q }
+        ensures holds { holds self.new.iface ≡ holds self.old.iface }
+    {
+        let plan = self.plan();
+        let queue = match plan {
+            Plan::Fetch => QueueId::Out(self.number),
+            Plan::Receive => QueueId::Rx(self.number),
+            Plan::Rest | Plan::Return | Plan::Deliver | Plan::Take | Plan::Transmit => return None,
+        };
+        self.side = self.side.other();
+        self.doing = plan;
+        Some(queue)
     }
 
     /// The operation of this turn, whose buffer or frame leaves the interface.

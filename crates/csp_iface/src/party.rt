@@ -2,7 +2,7 @@
 
 use crate::Iface;
 use csp_deck::{Party, Spares};
-use csp_log::{Answer, Events, Op};
+use csp_log::{Answer, Events, Op, QueueId};
 
 impl Party for Iface {
     ghost use Rattle.std.specs.Prelude.{◌≡◌, ⊤, false};
@@ -39,6 +39,10 @@ impl Party for Iface {
 
     fn ask(&mut self, _now: u64) -> Op {
         self.ask_now()
+    }
+
+    fn look(&mut self, _now: u64) -> Option<QueueId> {
+        self.look_now()
     }
 
     fn told(&mut self, answer: Answer, now: u64, report: &mut Events, spares: &mut Spares) {

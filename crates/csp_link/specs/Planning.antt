@@ -24,3 +24,9 @@ plan_in d now = first_rule (first_due now d.held) (nat_le (length d.held) MOST_H
 
 abbrev pub plan_of : PlainLink → ℕ → Plan
 plan_of s now = plan_in (in_turn s) now
+
+-- whether it is a look for a frame
+abbrev pub looks : Plan → Bool
+looks (push _ _) = false
+looks pop = true
+looks wait = false

@@ -3,7 +3,7 @@
 ghost use Rattle.std.specs.Prelude.{◌≡◌, ◌+◌, ◌^◌, ◌<◌, ◌≤◌, Some, All, length, IfOk};
 ghost use Rattle.csp_link.specs.Asking.{op_of, handed, doing_of};
 ghost use Rattle.csp_link.specs.Fates.{IsFault};
-ghost use Rattle.csp_link.specs.Planning.{plan_in};
+ghost use Rattle.csp_link.specs.Planning.{plan_in, looks};
 ghost use Rattle.csp_link.specs.PlainLink.{opening_direction};
 ghost use Rattle.csp_link.specs.Room.{CanHear};
 ghost use Rattle.csp_link.specs.Telling.{kept, taken};
@@ -71,6 +71,14 @@ impl Direction {
         } else {
             (Op::Nothing, Doing::Wait)
         }
+    }
+
+    /// Whether a turn looks for a frame: none is due, and there is room.
+    #[tactic(auto, using(crate::proofs::Due::none_due))]
+    pub fn looks(&self, now: u64) -> bool
+        ensures { result ≡ looks (plan_in self.now now) }
+    {
+        self.held.len() <= MOST_HELD && self.held.first_due(now).is_none()
     }
 
     /// A frame that was to be pushed comes back into its place.

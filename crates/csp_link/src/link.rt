@@ -1,6 +1,6 @@
 //! The link itself.
 
-ghost use Rattle.std.specs.Prelude.{◌≡◌, ◌+◌, ◌-◌, ◌^◌, ◌<◌, ◌≤◌, false, Some, None, All, IsSome, IfOk};
+ghost use Rattle.std.specs.Prelude.{◌≡◌, ◌+◌, ◌-◌, ◌^◌, ◌<◌, ◌≤◌, false, Some, None, All, IsSome, IfOk, IfSome, MatchOption};
 ghost use Rattle.csp_deck.specs.Step.{CanServe, IsAnswerOf};
 ghost use Rattle.csp_link.specs.Fates.{IsFault};
 ghost use Rattle.csp_link.specs.Telling.{frame_in};
@@ -10,7 +10,7 @@ use crate::direction::Direction;
 use crate::doing::Doing;
 use crate::{Fault, MAX_REPEATS, Way};
 use csp_buffer::Buffer;
-use csp_log::{Answer, AnswerShown, BoxedFrame, Item, LinkKind, Op, Spares};
+use csp_log::{Answer, AnswerShown, BoxedFrame, Item, LinkKind, Op, OpShown, QueueId, Spares};
 use std::alloc::{AllocError, Global};
 use std::marker::Model;
 
@@ -72,6 +72,23 @@ impl Link {
         };
         self.doing = doing;
         op
+    }
+
+    /// The queue that this turn looks into, where it does no more.
+    #[tactic(auto, using(crate::proofs::Due::looks_pop))]
+    pub(crate) fn look_now(&mut self, now: u64) -> Option<QueueId>
+        ensures looks { MatchOption result (self.new ≡ self.old) (λ q. (asks self.old now ≡ OpShown.Pop q) × (self.new ≡ asked self.old now)) }
+        ensures served { IfSome result (λ q. CanServe (uses self.old) (OpShown.Pop q)) }
+    {
+        let looks = match self.way {
+            Way::Forth => self.forth.looks(now),
+            Way::Back => self.back.looks(now),
+        };
+        if !looks {
+            return None;
+        }
+        self.doing = Doing::Pop;
+        Some(self.way.from_queue())
     }
 
     /// Ends the turn with the operation's answer.

@@ -2,7 +2,7 @@
 
 use crate::{Link, MAX_REPEATS};
 use csp_deck::{Party, Spares};
-use csp_log::{Answer, Events, Op};
+use csp_log::{Answer, Events, Op, QueueId};
 
 impl Party for Link {
     ghost use Rattle.std.specs.Prelude.{⊤, false, []};
@@ -40,6 +40,10 @@ impl Party for Link {
 
     fn ask(&mut self, now: u64) -> Op {
         self.ask_now(now)
+    }
+
+    fn look(&mut self, now: u64) -> Option<QueueId> {
+        self.look_now(now)
     }
 
     fn told(&mut self, answer: Answer, now: u64, _report: &mut Events, spares: &mut Spares) {

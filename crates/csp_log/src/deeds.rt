@@ -17,7 +17,9 @@ pub fn keep<T: Copy>(list: &mut Vec<T>, more: &[T]) -> usize
     ensures capacity { vec_capacity list.old ≤ vec_capacity list.new }
 {
     let start = list.len();
-    list.extend_from_slice(more).unwrap();
+    if !more.is_empty() {
+        list.extend_from_slice(more).unwrap();
+    }
     start
 }
 

@@ -7,7 +7,7 @@ ghost use Rattle.csp_party.specs.Any.{plain, region_of, holds, present_step};
 use csp_app::App;
 use csp_bridge::Bridge;
 use csp_buffer::Buffer;
-use csp_deck::{Answer, Events, Op, Party, Spares};
+use csp_deck::{Answer, Events, Op, Party, QueueId, Spares};
 use csp_iface::Iface;
 use csp_link::Link;
 use csp_stack::Stack;
@@ -64,6 +64,16 @@ impl Party for AnyParty {
             AnyParty::Iface(iface) => iface.ask(now),
             AnyParty::App(app) => app.ask(now),
             AnyParty::Link(link) => link.ask(now),
+        }
+    }
+
+    fn look(&mut self, now: u64) -> Option<QueueId> {
+        match self {
+            AnyParty::Router(router) => router.look(now),
+            AnyParty::Bridge(bridge) => bridge.look(now),
+            AnyParty::Iface(iface) => iface.look(now),
+            AnyParty::App(app) => app.look(now),
+            AnyParty::Link(link) => link.look(now),
         }
     }
 
