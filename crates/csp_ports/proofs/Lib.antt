@@ -11,6 +11,7 @@ pub mod Quiet
 pub mod Reckoning
 pub mod Serving
 pub mod Sizing
+pub mod Stilling
 pub mod Tasking
 pub mod Waiting
 pub mod Weighing

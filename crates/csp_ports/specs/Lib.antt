@@ -1,6 +1,7 @@
 pub mod PlainPorts
 pub mod Came
 pub mod Steps
+pub mod Quiet
 pub mod Asking
 pub mod Packets
 pub mod Tasks
