@@ -1,11 +1,10 @@
 -- where no timer has anything to do, trying the timers changes nothing
-use Rattle.std.specs.Prelude.{◌/◌, ◌%◌, ◌&&◌, ◌||◌, not, Bool, true, false, Option, None, Some, if◌then◌else◌, get_or}
+use Rattle.std.specs.Prelude.{◌/◌, ◌%◌, ◌||◌, Bool, false, Option, None, Some, get_or}
 use Rattle.std.specs.List.{All, list_any, range_with_len}
 use Rattle.std.proofs.Common.{◌≡◌, ℕ, zero, suc, ◌+◌, ◌-◌, ◌*◌, ◌<◌, List, [], ◌∷◌, ◌++◌, map, refl, ap, ap₂, subst, sym, ◌∙◌}
 use Rattle.std.proofs.lemmas.Bool.{or_parts}
 use Rattle.std.proofs.lemmas.List.{set-get_or}
 use Rattle.std.proofs.lemmas.List.Elements.{All-head, All-map, All-tail, All-weaker}
-use Rattle.csp_arena.specs.Cells.{RegionName}
 use Rattle.csp_buffer.specs.PlainBuffer.{PlainBuffer}
 use Rattle.csp_conn.specs.PlainConns.{place_of}
 use Rattle.csp_conn.specs.declared.conns.TheConstants.{SLOTS}
@@ -14,37 +13,25 @@ use Rattle.csp_ports.proofs.Following.{range_next}
 use Rattle.csp_ports.specs.Came.{Came, come, pictures, then}
 use Rattle.csp_ports.specs.Kept.{ArePorts, IsHoused, plain_ports, ports_at}
 use Rattle.csp_ports.specs.PlainPorts.{PlainPorts, PlainStalled, PortsAt, machine_at, stalled_at, with_machine}
-use Rattle.csp_ports.specs.Quiet.{any_late, any_stranded, is_late, is_late_at, is_late_in, is_stranded, is_stranded_in, is_stranded_on}
+use Rattle.csp_ports.specs.Quiet.{any_stranded, any_times_out, is_stranded, is_stranded_in, is_stranded_on, times_out_at}
 use Rattle.csp_ports.specs.Steps.{changed, dropped, dropped_in, dropped_of, dropped_on, stepped, timed, timed_at, timed_in, went}
 use Rattle.csp_ports.specs.declared.ports.Ports.TheInside.{Inside}
 use Rattle.csp_rdp.proofs.HoldingLemmas.{rested-still}
 use Rattle.csp_rdp.proofs.PlacedLemmas.{placed-unneeded}
+use Rattle.csp_rdp.proofs.TimerLemmas.{in_time}
 use Rattle.csp_rdp.specs.Changes.{change_between}
-use Rattle.csp_rdp.specs.Holding.{rested, unneeded}
-use Rattle.csp_rdp.specs.Jobs.{ticked, timed_out}
+use Rattle.csp_rdp.specs.Holding.{unneeded}
 use Rattle.csp_rdp.specs.Machine.{PlainRdp, idle}
 use Rattle.csp_rdp.specs.Placed.{placed, placed_buffer}
+use Rattle.csp_rdp.specs.Timer.{times_out}
 use Rattle.csp_rdp.specs.declared.answers.Change.{Change}
 use Rattle.csp_rdp.specs.declared.answers.Change.TheVariants as change
 use Rattle.csp_rdp.specs.declared.answers.State.{State}
 use Rattle.csp_rdp.specs.declared.answers.State.TheVariants.{Closed, SynSent, SynRcvd, Open, CloseWait}
 use Rattle.csp_rdp.specs.declared.answers.Why.{Why}
 use Rattle.csp_rdp.specs.declared.answers.Why.TheVariants as machine_why
-use Rattle.csp_rdp_window.specs.Times.{has_passed}
 
 -- ---- one slot
-
--- the timer of a connection that is not late changes nothing
-in_time : (s : State) (time : ℕ) (r : PlainRdp) → is_late_in s time r ≡ false → (if has_passed (Some r.since) r.options.conn_timeout time then timed_out s time r else r) ≡ r
-in_time Closed time r h = either (has_passed (Some r.since) r.options.conn_timeout time)
-  where
-    either : (b : Bool) → (if b then r else r) ≡ r
-    either true = refl
-    either false = refl
-in_time SynSent time r h = ap (λ (b : Bool). if b then timed_out SynSent time r else r) h
-in_time SynRcvd time r h = ap (λ (b : Bool). if b then timed_out SynRcvd time r else r) h
-in_time Open time r h = ap (λ (b : Bool). if b then timed_out Open time r else r) h
-in_time CloseWait time r h = ap (λ (b : Bool). if b then timed_out CloseWait time r else r) h
 
 -- a state that stays is no change
 stays : (s : State) (why : Why) → change_between s s why ≡ change.None
@@ -61,10 +48,10 @@ still app slot p rest =
     ap₂ (λ (q : PlainRdp) (us : List PlainBuffer). record { ports = with_machine p app slot q; loose = pictures us; events = [] }) (rested-still r rest) rest
     ∙ ap (λ (ms : List PlainRdp). come (record p { machines = ms })) (set-get_or p.machines (place_of app slot) idle)
 
-timed_still : (time app slot : ℕ) (p : PlainPorts) → is_late time (machine_at p app slot) ≡ false → unneeded (machine_at p app slot) ≡ [] → timed_at time app slot p ≡ come p
+timed_still : (time app slot : ℕ) (p : PlainPorts) → times_out time (machine_at p app slot) ≡ false → unneeded (machine_at p app slot) ≡ [] → timed_at time app slot p ≡ come p
 timed_still time app slot p late rest =
     let r = machine_at p app slot in
-    ap (λ (q : PlainRdp). went r.state machine_why.Timeout app slot q p) (in_time r.state time r late)
+    ap (λ (q : PlainRdp). went r.state machine_why.Timeout app slot q p) (in_time time r late)
     ∙ (ap (λ (c : Came). (then) c (changed (change_between r.state r.state machine_why.Timeout) app slot)) (still app slot p rest)
     ∙ ap (λ (x : Change). (then) (come p) (changed x app slot)) (stays r.state machine_why.Timeout))
 
@@ -79,10 +66,10 @@ rest_at [] k h = refl
 rest_at (m ∷ ms) zero h = All-head (λ r. unneeded r ≡ []) m ms h
 rest_at (m ∷ ms) (suc k) h = rest_at ms k (All-tail (λ r. unneeded r ≡ []) m ms h)
 
-timed_in_still : (time : ℕ) (ks : List ℕ) (p : PlainPorts) → All (λ r. unneeded r ≡ []) p.machines → list_any (is_late_at time p) ks ≡ false → timed_in time ks p ≡ come p
+timed_in_still : (time : ℕ) (ks : List ℕ) (p : PlainPorts) → All (λ r. unneeded r ≡ []) p.machines → list_any (times_out_at time p) ks ≡ false → timed_in time ks p ≡ come p
 timed_in_still time [] p rest late = refl
 timed_in_still time (k ∷ ks) p rest late =
-    let parts = or_parts (is_late_at time p k) (list_any (is_late_at time p) ks) late in
+    let parts = or_parts (times_out_at time p k) (list_any (times_out_at time p) ks) late in
     then_still (timed_at time (k / SLOTS) (k % SLOTS) p) (timed_in time ks) p
     (timed_still time (k / SLOTS) (k % SLOTS) p parts.0 (rest_at p.machines (place_of (k / SLOTS) (k % SLOTS)) rest))
     (timed_in_still time ks p rest parts.1)
@@ -112,7 +99,7 @@ dropped_of_still (app ∷ apps) p h =
 pub passed : (test : ℕ → Bool) (a n : ℕ) → a < n → test a ≡ false → list_any test (range_with_len (a + 1) (n - (a + 1))) ≡ list_any test (range_with_len a (n - a))
 passed test a n inside fails = sym (ap (list_any test) (range_next a n inside) ∙ ap (λ (b : Bool). b || list_any test (range_with_len (a + 1) (n - (a + 1)))) fails)
 
-pub quiet_still : (time : ℕ) (p : PlainPorts) → All (λ r. unneeded r ≡ []) p.machines → any_late time p ≡ false → any_stranded p ≡ false → timed time p ≡ come p
+pub quiet_still : (time : ℕ) (p : PlainPorts) → All (λ r. unneeded r ≡ []) p.machines → any_times_out time p ≡ false → any_stranded p ≡ false → timed time p ≡ come p
 quiet_still time p rest late stranded =
     then_still (timed_in time (range_with_len 0 (p.conns.apps * SLOTS)) p) (λ q. dropped_of (range_with_len 0 q.conns.apps) q) p
     (timed_in_still time (range_with_len 0 (p.conns.apps * SLOTS)) p rest late)

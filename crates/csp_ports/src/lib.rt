@@ -16,6 +16,7 @@ mod steps;
 mod task;
 mod tasks;
 mod terms;
+mod timers;
 
 pub use handing::Invitation;
 pub use held::MAX_HELD;

@@ -1,7 +1,7 @@
 //! What follows when the machine of a slot's reliable connection has made a step.
 
-ghost use Rattle.std.specs.Prelude.{◌≡◌, not, ◌+◌, ◌-◌, ◌*◌, ◌^◌, ◌<◌, ◌≤◌, ℕ, [], ◌∷◌, ◌++◌, length, None, Some, IfSome, IsTrue};
-ghost use Rattle.std.specs.List.{All, range_with_len};
+ghost use Rattle.std.specs.Prelude.{◌≡◌, not, ◌+◌, ◌-◌, ◌*◌, ◌^◌, ◌<◌, ◌≤◌, ℕ, [], ◌∷◌, ◌++◌, length, None, Some, IfSome};
+ghost use Rattle.std.specs.List.{range_with_len};
 ghost use Rattle.std.specs.Option.{option_map};
 ghost use Rattle.csp_conn.specs.PlainConns.{IsThere};
 ghost use Rattle.csp_deck.specs.Keeping.{with_contents};
@@ -9,12 +9,11 @@ ghost use Rattle.csp_deck.specs.Regions.{nowhere};
 ghost use Rattle.csp_log.specs.declared.event.Discard.TheVariants as why;
 ghost use Rattle.csp_log.specs.declared.event.Event.TheVariants as event;
 ghost use Rattle.csp_log.specs.declared.event.TheConstants.{MAX_EVENTS};
-ghost use Rattle.csp_ports.specs.Came.{Comes, come, discarding, pictures};
+ghost use Rattle.csp_ports.specs.Came.{Comes, discarding, pictures};
 ghost use Rattle.csp_ports.specs.Held.{held, stalled_buffers};
 ghost use Rattle.csp_ports.specs.Keeps.{Keeps};
 ghost use Rattle.csp_ports.specs.Kept.{Admits, AdmitsIn, IsHoused, IsRoomy, IsWaiting, stalled_of, wished, wishes};
 ghost use Rattle.csp_ports.specs.PlainPorts.{anywhere, machine_at, stalled_at, terms_at, with_stalled, with_ports_at};
-ghost use Rattle.csp_ports.specs.Quiet.{any_late, any_stranded, is_late, is_late_at, is_quiet, is_stranded};
 ghost use Rattle.csp_ports.specs.Steps.{changed, closed, connected, dropped, dropped_of, given_up, has_room, reason_of, refused, replaced, settled, timed, timed_at, timed_in, vacated};
 ghost use Rattle.csp_ports.specs.Counts.{IsCountable};
 ghost use Rattle.csp_rdp.specs.Balance.{IsWhole};
@@ -27,7 +26,7 @@ ghost use Rattle.csp_rdp.specs.Regions.{AreAllIn};
 ghost use Rattle.csp_rdp_window.specs.Sending.{is_full};
 ghost use Rattle.csp_rdp.specs.declared.answers.Why.TheVariants as machine_why;
 
-use crate::places::{ALL_SLOTS, place};
+use crate::places::place;
 use crate::ports::Ports;
 use crate::stalled::{Stalled, put};
 use crate::terms::Wish;
@@ -97,13 +96,6 @@ fn tick(machine: &mut Rdp, now: u64, trash: &mut Pile) -> Change
     change
 }
 
-/// Whether the timer of a machine has passed. A closed connection has none.
-fn is_late(machine: &Rdp, now: u64) -> bool
-    ensures { result ≡ is_late now (placed nowhere machine.now) }
-{
-    machine.state() != State::Closed && machine.is_late(now)
-}
-
 /// A packet is admitted where there is room for it, or handed back.
 pub(crate) fn admit(machine: &mut Rdp, buffer: Buffer, now: u64) -> Result<(), Buffer>
     requires housed { IsHoused buffer.region machine.old }
@@ -168,67 +160,6 @@ impl Ports {
         self.whole();
         self.tick_all(now, trash, report);
         self.drop_all(trash, report);
-    }
-
-    /// Whether no timer has anything to do: no connection is late, and no packet waits for one that is not
-    /// open. Trying the timers then changes nothing.
-    pub fn is_quiet(&self, now: u64) -> bool
-        ensures value { result ≡ is_quiet now self.now.ports }
-        ensures quiet { IsTrue result → timed now self.now.ports ≡ come self.now.ports }
-    {
-        self.rest();
-        !self.any_late(now) && !self.any_stranded()
-    }
-
-    /// Each machine holds what it needs alone.
-    fn rest(&self)
-        ensures { All (λ r. unneeded r ≡ []) self.now.ports.machines }
-    {
-        // Read for the checker alone, which then knows what is true of all ports.
-        let _machines = &self.machines;
-    }
-
-    /// Whether a connection of an application is late.
-    fn any_late(&self, now: u64) -> bool
-        ensures { result ≡ any_late now self.now.ports }
-    {
-        for at in 0..self.slot_count() {
-            if self.is_late_at(at, now) {
-                return true;
-            }
-        }
-        false
-    }
-
-    /// Whether the connection of the slot at a place is late.
-    fn is_late_at(&self, at: usize, now: u64) -> bool
-        requires { at < ALL_SLOTS }
-        ensures { result ≡ is_late_at now self.now.ports at }
-    {
-        is_late(&self.machines[at], now)
-    }
-
-    /// Whether a packet waits for a connection that is not open.
-    fn any_stranded(&self) -> bool
-        ensures { result ≡ any_stranded self.now.ports }
-    {
-        for app in 0..self.apps {
-            if self.is_stranded(app) {
-                return true;
-            }
-        }
-        false
-    }
-
-    /// Whether the packet of an application waits for a connection that is not open.
-    fn is_stranded(&self, app: u8) -> bool
-        requires { app < self.now.ports.conns.apps }
-        ensures { result ≡ is_stranded self.now.ports app }
-    {
-        match self.stalled_slot(app) {
-            Some(slot) => self.machine(app, slot).state() != State::Open,
-            None => false,
-        }
     }
 
     fn tick_all(&mut self, now: u64, trash: &mut Pile, report: &mut Events)
@@ -447,7 +378,7 @@ impl Ports {
     }
 
     /// The slot for whose window the packet of an application waits.
-    fn stalled_slot(&self, app: u8) -> Option<u8>
+    pub(crate) fn stalled_slot(&self, app: u8) -> Option<u8>
         requires app { app < self.now.ports.conns.apps }
         ensures slot { result ≡ option_map (λ s. s.slot) (stalled_at self.now.ports app) }
         ensures there { IfSome result (λ slot. IsThere self.now.ports.conns app slot) }

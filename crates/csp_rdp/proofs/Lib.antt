@@ -6,3 +6,4 @@ pub mod PlacedLemmas
 pub mod RegionLemmas
 pub mod RowLemmas
 pub mod SoundLemmas
+pub mod TimerLemmas

@@ -8,3 +8,4 @@ pub mod Regions
 pub mod Sound
 pub mod Table
 pub mod Placed
+pub mod Timer

@@ -1,12 +1,13 @@
 //! The machine.
 
-ghost use Rattle.std.specs.Prelude.{◌≡◌, ◌≢◌, ◌+◌, ◌-◌, ◌^◌, ◌<◌, ◌≤◌, ◌↔◌, ℕ, false, [], ◌∷◌, length, nat_lt, Some, None, IsTrue, IsErr, OnOk, OnErr, OnSome, IfErr};
+ghost use Rattle.std.specs.Prelude.{◌≡◌, ◌≢◌, ◌+◌, ◌-◌, ◌^◌, ◌<◌, ◌≤◌, ◌↔◌, ℕ, true, false, [], ◌∷◌, length, nat_lt, Some, None, IsTrue, IsErr, OnOk, OnErr, OnSome, IfErr};
 ghost use Rattle.std.specs.Option.{MatchOption, option_map};
 ghost use Rattle.csp_rdp.specs.Changes.{change_between, close_change};
 ghost use Rattle.csp_rdp.specs.Holding.{rdp_buffers, rdp_numbers, rested, taken_out, unneeded, unneeded_buffer, unneeded_in, without_kept, without_unneeded};
 ghost use Rattle.csp_rdp.specs.Jobs.{admitting, closing, delivering, delivery, filled, job_of, keeping_again, sent, ticked, without_delivery};
 ghost use Rattle.csp_rdp.specs.Machine.{accepting, connecting, flow_of, idle, made, una_of};
 ghost use Rattle.csp_rdp.specs.Sound.{IsUnopened};
+ghost use Rattle.csp_rdp.specs.Timer.{times_out, waits_in};
 ghost use Rattle.csp_rdp.specs.Table.{back_of, handed, is_stray, row_of};
 ghost use Rattle.csp_rdp.specs.declared.answers.Why.TheVariants as why;
 ghost use Rattle.csp_rdp_window.specs.Numbers.{left_over, number_in, times};
@@ -258,6 +259,27 @@ impl Rdp {
         ensures rest { result ≡ false → ticked now self.now ≡ self.now }
     {
         has_passed(Some(self.since), self.options.conn_timeout, now)
+    }
+
+    /// Whether trying its timer changes it: the timer has passed, and it waits for its peer. An open
+    /// connection waits while something is not acknowledged; a closed one waits for nothing.
+    pub fn times_out(&self, now: u64) -> bool
+        ensures value { result ≡ times_out now self.now }
+        ensures rest { result ≡ false → ticked now self.now ≡ self.now }
+        ensures changes { result ≡ true → ticked now self.now ≢ self.now }
+    {
+        self.waits() && self.is_late(now)
+    }
+
+    // Whether it waits for its peer.
+    fn waits(&self) -> bool
+        ensures { result ≡ waits_in self.now.state self.now.send.una self.now.send.nxt }
+    {
+        match self.state {
+            State::SynSent | State::SynRcvd | State::CloseWait => true,
+            State::Open => self.send.una() != self.send.nxt(),
+            State::Closed => false,
+        }
     }
 
     /// Tries the timer.

@@ -1,14 +1,14 @@
 use Rattle.std.proofs.Common.{◌*◌, sym, ◌∙◌}
 use Rattle.csp_conn.specs.declared.conns.TheConstants.{SLOTS}
 use Rattle.csp_ports.proofs.Stilling.{passed}
-use Rattle.csp_ports.specs.Quiet.{is_late_at}
-use Rattle.csp_ports.proofs.ports.Ports.any_late.Goals as goal
+use Rattle.csp_ports.specs.Quiet.{times_out_at}
+use Rattle.csp_ports.proofs.ports.Ports.any_times_out.Goals as goal
 
 pub loop-at-preserved : goal.loop-at-preserved
 loop-at-preserved c =
     let l = c.loop-at in
     let p = c.args.self.now.ports in
     let count = p.conns.apps * SLOTS in (
-      passed (is_late_at c.args.now p) l.at count (rw (sym l.invariant.1) c.loop-at-test.true) (sym c.is_late_at.ensures ∙ c.if-is_late_at.false) ∙ l.invariant.0,
+      passed (times_out_at c.args.now p) l.at count (rw (sym l.invariant.1) c.loop-at-test.true) (sym c.times_out_at.ensures ∙ c.if-times_out_at.false) ∙ l.invariant.0,
       l.invariant.1,
     )

@@ -1,0 +1,75 @@
+//! Whether the timers have anything to do.
+
+ghost use Rattle.std.specs.Prelude.{◌≡◌, [], ◌*◌, ◌<◌, IsTrue};
+ghost use Rattle.std.specs.List.{All};
+ghost use Rattle.csp_ports.specs.Came.{come};
+ghost use Rattle.csp_ports.specs.Quiet.{any_stranded, any_times_out, is_quiet, is_stranded, times_out_at};
+ghost use Rattle.csp_ports.specs.Steps.{timed};
+ghost use Rattle.csp_rdp.specs.Holding.{unneeded};
+
+use crate::places::ALL_SLOTS;
+use crate::ports::Ports;
+use csp_rdp::State;
+
+impl Ports {
+    /// Whether the timers have nothing to do: no timer would change its connection, and no packet waits for
+    /// a connection that is not open. Trying them then changes nothing.
+    pub fn is_quiet(&self, now: u64) -> bool
+        ensures value { result ≡ is_quiet now self.now.ports }
+        ensures still { IsTrue result → timed now self.now.ports ≡ come self.now.ports }
+    {
+        self.rest();
+        !self.any_times_out(now) && !self.any_stranded()
+    }
+
+    /// Each machine holds what it needs alone.
+    fn rest(&self)
+        ensures { All (λ r. unneeded r ≡ []) self.now.ports.machines }
+    {
+        // Read for the checker alone, which then knows what is true of all ports.
+        let _machines = &self.machines;
+    }
+
+    /// Whether a timer would change its connection.
+    fn any_times_out(&self, now: u64) -> bool
+        ensures { result ≡ any_times_out now self.now.ports }
+    {
+        for at in 0..self.slot_count() {
+            if self.times_out_at(at, now) {
+                return true;
+            }
+        }
+        false
+    }
+
+    /// Whether the timer of the slot at a place would change its connection.
+    fn times_out_at(&self, at: usize, now: u64) -> bool
+        requires { at < ALL_SLOTS }
+        ensures { result ≡ times_out_at now self.now.ports at }
+    {
+        self.machines[at].times_out(now)
+    }
+
+    /// Whether a packet waits for a connection that is not open.
+    fn any_stranded(&self) -> bool
+        ensures { result ≡ any_stranded self.now.ports }
+    {
+        for app in 0..self.apps {
+            if self.is_stranded(app) {
+                return true;
+            }
+        }
+        false
+    }
+
+    /// Whether the packet of an application waits for a connection that is not open.
+    fn is_stranded(&self, app: u8) -> bool
+        requires { app < self.now.ports.conns.apps }
+        ensures { result ≡ is_stranded self.now.ports app }
+    {
+        match self.stalled_slot(app) {
+            Some(slot) => self.machine(app, slot).state() != State::Open,
+            None => false,
+        }
+    }
+}
