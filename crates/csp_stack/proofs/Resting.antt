@@ -1,8 +1,9 @@
 -- what asks and what was told is sound again
-use Rattle.std.proofs.Common.{◌≡◌, ℕ, ◌+◌, ◌≤◌, List, [], ◌∷◌, length, Option, Some, None, refl, ap, ◌∙◌, arith}
+use Rattle.std.proofs.Common.{◌≡◌, ℕ, ◌+◌, ◌≤◌, List, [], ◌∷◌, length, Option, Some, None, IfSome, MatchOption, refl, ap, ◌∙◌, arith}
 use Rattle.csp_buffer.specs.Content.{Content}
 use Rattle.csp_deck.specs.Keeping.{numbers_of}
 use Rattle.csp_deck.specs.Step.{kind_of, op_numbers, times}
+use Rattle.csp_log.specs.declared.places.QueueId.{QueueId}
 use Rattle.csp_log.specs.declared.shown.OpShown.{OpShown}
 use Rattle.csp_log.specs.declared.shown.OpShown.TheVariants as op
 use Rattle.csp_log.specs.declared.shown.ItemShown.TheVariants as item
@@ -16,7 +17,7 @@ use Rattle.csp_ports.specs.declared.held.TheConstants.{MAX_HELD}
 use Rattle.csp_stack.specs.Comes.{IsServing}
 use Rattle.csp_stack.specs.Keeps.{Asks, Keeps}
 use Rattle.csp_stack.specs.Party.{HasPlace, IsClear, IsSendable, IsSound, IsTimed, IsWaiting, kind_of_plan}
-use Rattle.csp_stack.specs.Router.{Facts, Leaving, State, at_rest, drained, drained_by, holds, out_buffers}
+use Rattle.csp_stack.specs.Router.{Facts, Leaving, State, StateAt, at_rest, drained, drained_by, holds, out_buffers}
 use Rattle.csp_stack.specs.declared.plan.Plan.{Plan}
 use Rattle.csp_stack.specs.declared.plan.Plan.TheVariants as plan
 use Rattle.csp_stack.specs.declared.state.TheConstants.{TRASH_ROOM}
@@ -68,6 +69,19 @@ plainly_asks f s cursor d time o h none place waits kind = record {
   numbers = λ k. let same = ap (times k) none in omega (arith, same);
   far = λ n far. far;
 }
+
+-- where nothing is to be done before its sources are looked at, it is as after its timers were tried
+pub still_timed : (f : Facts) (s : State) → IsSound f s → IsClear s → IsTimed f s
+still_timed f s h clear = record { room = h.room; quiet = λ _. clear.early; sendable = h.sendable; within = h.within; apps = h.apps; low = h.low; high = h.high }
+
+-- a router that looked, or did nothing, holds what it held and counts no further
+pub looked_numbers : (r : Option QueueId) (f : Facts) (a b : StateAt) (P : QueueId → Type 0) (time : ℕ) → MatchOption r (b ≡ a) P → IfSome r (λ q. Asks f a.state b.state time (op.Pop q)) → (k : ℕ) → times k (holds b.state) ≡ times k (holds a.state)
+looked_numbers None f a b P time same asks k = ap (λ (x : StateAt). times k (holds x.state)) same
+looked_numbers (Some q) f a b P time same asks k = let n = asks.numbers k in omega (arith, n)
+
+pub looked_far : (r : Option QueueId) (f : Facts) (a b : StateAt) (P : QueueId → Type 0) (time : ℕ) → MatchOption r (b ≡ a) P → IfSome r (λ q. Asks f a.state b.state time (op.Pop q)) → (n : ℕ) → AreFar n a.state.ports → AreFar n b.state.ports
+looked_far None f a b P time same asks n far = rw same far
+looked_far (Some q) f a b P time same asks n far = asks.far n far
 
 -- the timers are tried before
 pub timed_then : (f : Facts) (s m t : State) (time : ℕ) (o : OpShown) → ((k : ℕ) → times k (holds m) ≡ times k (holds s)) → ((n : ℕ) → AreFar n s.ports → AreFar n m.ports) → Asks f m t time o → Asks f s t time o

@@ -1,8 +1,8 @@
 //! The router takes turns.
 
 use crate::Stack;
-use crate::turn::{begin, finish, miss};
-use csp_deck::{Answer, Events, Op, Party, Spares};
+use crate::turn::{begin, finish, look, miss};
+use csp_deck::{Answer, Events, Op, Party, QueueId, Spares};
 use csp_ports::counts;
 
 impl Party for Stack {
@@ -37,6 +37,11 @@ impl Party for Stack {
     fn ask(&mut self, now: u64) -> Op {
         counts();
         begin(&self.facts, &mut self.state, now)
+    }
+
+    fn look(&mut self, now: u64) -> Option<QueueId> {
+        counts();
+        look(&self.facts, &mut self.state, now)
     }
 
     fn told(&mut self, answer: Answer, now: u64, report: &mut Events, _spares: &mut Spares) {

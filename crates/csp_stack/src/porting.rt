@@ -1,6 +1,6 @@
 //! The steps of a node's ports, as steps of its router: what the ports let go joins the trash.
 
-ghost use Rattle.std.specs.Prelude.{◌≡◌, ◌+◌, ◌-◌, ◌^◌, ◌<◌, ◌≤◌, ℕ, [], ◌∷◌, ◌++◌, length, None, Some, Ok, Err, IfErr, IfOk, MatchOption};
+ghost use Rattle.std.specs.Prelude.{◌≡◌, ◌+◌, ◌-◌, ◌^◌, ◌<◌, ◌≤◌, ℕ, [], ◌∷◌, ◌++◌, length, None, Some, Ok, Err, IfErr, IfOk, IsTrue, MatchOption};
 ghost use Rattle.csp_base.specs.declared.limits.TheConstants.{MAX_PAYLOAD};
 ghost use Rattle.csp_conn.specs.Opening.{first_free};
 ghost use Rattle.csp_conn.specs.PlainConns.{IsThere};
@@ -14,7 +14,7 @@ ghost use Rattle.csp_ports.specs.Tasks.{delivered};
 ghost use Rattle.csp_rdp_header.specs.declared.options.TheConstants.{MAX_WINDOW};
 ghost use Rattle.csp_stack.specs.Comes.{ComesTo, IsServing};
 ghost use Rattle.csp_stack.specs.Keeps.{Keeps};
-ghost use Rattle.csp_stack.specs.Party.{IsDelivering};
+ghost use Rattle.csp_stack.specs.Party.{IsClear, IsDelivering};
 ghost use Rattle.csp_stack.specs.Router.{holds, origin_of};
 ghost use Rattle.csp_stack.specs.Told.{absorbed, ported};
 ghost use Rattle.csp_stack.specs.Turn.{timed};
@@ -49,6 +49,18 @@ impl State {
     {
         self.early.clear();
         self.ports.tick(now, &mut self.trash, &mut self.early);
+    }
+
+    /// Whether nothing is to be done before a source is looked at: there is no trash, no packet that is to go
+    /// out and no report, and the timers have nothing to do.
+    pub fn is_still(&self, now: u64) -> bool
+        ensures clear { IsTrue result → IsClear self.now.state }
+        ensures still { IsTrue result → timed self.now.state now ≡ self.now.state }
+    {
+        self.trash.len() == 0
+            && self.out.is_none()
+            && self.early.is_empty()
+            && self.ports.is_quiet(now)
     }
 
     /// The answer that was owed first is pushed.

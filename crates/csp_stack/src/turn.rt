@@ -1,6 +1,6 @@
 //! The turns of a router: what one asks, and what its answer comes to.
 
-ghost use Rattle.std.specs.Prelude.{◌≡◌, ◌≢◌, true, ℕ, ◌-◌, ◌+◌, ◌^◌, None, Some, IfSome, [], length, ◌<◌, ◌≤◌};
+ghost use Rattle.std.specs.Prelude.{◌≡◌, ◌≢◌, true, ℕ, ◌-◌, ◌+◌, ◌^◌, None, Some, IfSome, MatchOption, [], length, ◌<◌, ◌≤◌};
 ghost use Rattle.std.specs.Option.{option_map};
 ghost use Rattle.csp_conn.specs.PlainConns.{IsThere};
 ghost use Rattle.csp_deck.specs.Regions.{IsAnswerFrom, IsItemOf, IsOpOf};
@@ -31,7 +31,7 @@ use crate::serving::serve;
 use crate::sources::{count_sources, past_app, past_inbox, past_jobs, source_in};
 use crate::state::State;
 use crate::{Plan, Source};
-use csp_deck::{Answer, AnswerShown, Discard, Events, Item, Note, Op, QueueId};
+use csp_deck::{Answer, AnswerShown, Discard, Events, Item, Note, Op, OpShown, QueueId};
 use csp_ports::{Owed, Task};
 use csp_rdp::Job;
 
@@ -71,6 +71,47 @@ fn begin_plan(facts: &Facts, state: &mut State, now: u64) -> Op
         return packet.into_push();
     }
     begin_work(facts, state, now)
+}
+
+/// Begins a turn that looks into a queue, where nothing else is to be done before. Else nothing is changed.
+#[tactic(auto, using(crate::proofs::Resting::still_timed))]
+pub fn look(facts: &Facts, state: &mut State, now: u64) -> Option<QueueId>
+    requires sound { IsSound facts.now state.old.state }
+    ensures looks { MatchOption result (state.new ≡ state.old) (λ q. (asks_at facts.now state.old.state now ≡ OpShown.Pop q) × (state.new.state ≡ asked_at facts.now state.old.state now)) }
+    ensures asks { IfSome result (λ q. Asks facts.now state.old.state state.new.state now (OpShown.Pop q)) }
+    ensures served { IfSome result (λ q. CanServe (rules_of facts.now) (OpShown.Pop q)) }
+    ensures region { state.new.region ≡ state.old.region }
+{
+    if state.is_still(now) {
+        look_for_work(facts, state, now)
+    } else {
+        None
+    }
+}
+
+/// Begins a turn at the first source with work, from the cursor on, where that is a queue.
+#[tactic(auto, using(crate::proofs::Resting::plainly_asks))]
+fn look_for_work(facts: &Facts, state: &mut State, now: u64) -> Option<QueueId>
+    requires sound { IsTimed facts.now state.old.state }
+    requires clear { IsClear state.old.state }
+    ensures looks { MatchOption result (state.new ≡ state.old) (λ q. (op_of state.old.state (work_found facts.now state.old.state now (place_with_work facts.now state.old.state now)) ≡ OpShown.Pop q) × (state.new.state ≡ asked_by facts.now state.old.state (work_found facts.now state.old.state now (place_with_work facts.now state.old.state now)))) }
+    ensures asks { IfSome result (λ q. Asks facts.now state.old.state state.new.state now (OpShown.Pop q)) }
+    ensures served { IfSome result (λ q. CanServe (rules_of facts.now) (OpShown.Pop q)) }
+    ensures region { state.new.region ≡ state.old.region }
+{
+    match find_work(facts, state, now) {
+        Some(Source::Inbox) => {
+            state.cursor = past_inbox(facts);
+            state.doing = Plan::Hear;
+            Some(QueueId::Inbox)
+        }
+        Some(Source::App(app)) => {
+            state.cursor = past_app(facts, app);
+            state.doing = Plan::Serve(app);
+            Some(QueueId::Up(app))
+        }
+        Some(Source::Jobs) | None => None,
+    }
 }
 
 /// Begins a turn at the first source with work, from the cursor on.
