@@ -2,7 +2,7 @@
 
 use crate::Bridge;
 use csp_deck::{Party, Spares};
-use csp_log::{Answer, Events, Op};
+use csp_log::{Answer, Events, Op, QueueId};
 
 impl Party for Bridge {
     ghost use Rattle.std.specs.Prelude.{⊤, false};
@@ -34,6 +34,10 @@ impl Party for Bridge {
 
     fn ask(&mut self, _now: u64) -> Op {
         self.ask_now()
+    }
+
+    fn look(&mut self, _now: u64) -> Option<QueueId> {
+        self.look_now()
     }
 
     fn told(&mut self, answer: Answer, _now: u64, report: &mut Events, _spares: &mut Spares) {

@@ -1,9 +1,11 @@
 //! What a bridge asks in a turn, and what it makes of the answer.
 
-ghost use Rattle.std.specs.Prelude.{◌≡◌, []};
+ghost use Rattle.std.specs.Prelude.{◌≡◌, [], IfSome, MatchOption};
 ghost use Rattle.csp_deck.specs.Regions.{IsAnswerFrom, IsItemOf, IsOpOf};
 ghost use Rattle.csp_deck.specs.Step.{CanServe, IsAnswerOf};
 ghost use Rattle.csp_log.specs.Pictures.{shown_answer, shown_item, shown_op};
+ghost use Rattle.csp_log.specs.declared.places.QueueId.{QueueId};
+ghost use Rattle.csp_log.specs.declared.shown.OpShown.{OpShown};
 
 use crate::Bridge;
 use crate::doing::Doing;
@@ -12,8 +14,22 @@ use csp_log::{Answer, AnswerShown, Discard, Event, Events, Item, Op, QueueId, UN
 
 impl Bridge {
     ghost use Rattle.csp_bridge.specs.Asking.{asks, asked, awaits};
-    ghost use Rattle.csp_bridge.specs.PlainBridge.{uses, with_bridge};
+    ghost use Rattle.csp_bridge.specs.PlainBridge.{holds, uses, with_bridge};
     ghost use Rattle.csp_bridge.specs.Telling.{tells, events};
+
+    /// The queue that this turn looks into, where it does no more.
+    pub(crate) fn look_now(&mut self) -> Option<QueueId>
+        ensures looks { MatchOption result (self.new ≡ self.old) (λ q. (asks self.old.bridge ≡ OpShown.Pop q) × (self.new ≡ with_bridge self.old (asked self.old.bridge))) }
+        ensures served { IfSome result (λ q. CanServe (uses self.old.bridge) (OpShown.Pop q)) }
+        ensures uses { (q : QueueId) → uses self.new.bridge q ≡ uses self.old.bridge q }
+        ensures holds { holds self.new.bridge ≡ holds self.old.bridge }
+    {
+        if !self.trash.is_empty() || !self.out.is_empty() {
+            return None;
+        }
+        self.doing = Doing::Hear;
+        Some(QueueId::Inbox)
+    }
 
     /// The operation of this turn, whose buffer leaves the bridge.
     #[tactic(auto, using(crate::proofs::Laws::out_carried))]
