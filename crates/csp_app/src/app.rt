@@ -127,7 +127,6 @@ impl App {
         ensures buffers { MatchOption result ((buffers self.old.app ≡ []) × (self.new ≡ self.old)) (λ b. buffers self.old.app ≡ b.picture ∷ buffers self.new.app) }
         ensures holds { MatchOption result ((holds self.old.app ≡ []) × (self.new ≡ self.old)) (λ b. holds self.old.app ≡ b.picture.number ∷ holds self.new.app) }
         ensures of_it { IfSome result (λ b. b.region ≡ self.old.region) }
-        ensures rest { self.new ≡ with_app self.old (record self.old.app { taken = self.new.app.taken; made = self.new.app.made; held = self.new.app.held }) }
         ensures first { self.new ≡ with_app self.old (drained self.old.app) }
     {
         if let Some(buffer) = self.taken.take() {

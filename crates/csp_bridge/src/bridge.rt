@@ -34,6 +34,7 @@ impl Model for Bridge {
 }
 
 impl Bridge {
+    ghost use Rattle.csp_bridge.specs.Drained.{drained};
     ghost use Rattle.csp_bridge.specs.PlainBridge.{opening, buffers, holds, with_bridge};
 
     /// A bridge that has heard nothing yet, for buffers of this region. It takes no memory.
@@ -61,7 +62,7 @@ impl Bridge {
         ensures buffers { MatchOption result ((buffers self.old.bridge ≡ []) × (self.new ≡ self.old)) (λ b. buffers self.old.bridge ≡ b.picture ∷ buffers self.new.bridge) }
         ensures holds { MatchOption result ((holds self.old.bridge ≡ []) × (self.new ≡ self.old)) (λ b. holds self.old.bridge ≡ b.picture.number ∷ holds self.new.bridge) }
         ensures of_it { IfSome result (λ b. b.region ≡ self.old.region) }
-        ensures rest { self.new ≡ with_bridge self.old (record self.old.bridge { trash = self.new.bridge.trash; out = self.new.bridge.out }) }
+        ensures first { self.new ≡ with_bridge self.old (drained self.old.bridge) }
     {
         if let Some(buffer) = self.trash.take() {
             return Some(buffer);

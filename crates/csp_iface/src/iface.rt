@@ -44,6 +44,7 @@ impl Model for Iface {
 }
 
 impl Iface {
+    ghost use Rattle.csp_iface.specs.Drained.{drained};
     ghost use Rattle.csp_iface.specs.PlainIface.{opening, buffers, holds, with_iface};
 
     /// The interface of this number of a node, on a link of this kind, at its opening. Its buffers are of
@@ -79,7 +80,7 @@ impl Iface {
         ensures buffers { MatchOption result ((buffers self.old.iface ≡ []) × (self.new ≡ self.old)) (λ b. buffers self.old.iface ≡ b.picture ∷ buffers self.new.iface) }
         ensures holds { MatchOption result ((holds self.old.iface ≡ []) × (self.new ≡ self.old)) (λ b. holds self.old.iface ≡ b.picture.number ∷ holds self.new.iface) }
         ensures of_it { IfSome result (λ b. b.region ≡ self.old.region) }
-        ensures rest { self.new ≡ with_iface self.old (record self.old.iface { back = self.new.iface.back; sending = self.new.iface.sending; accepted = self.new.iface.accepted }) }
+        ensures first { self.new ≡ with_iface self.old (drained self.old.iface) }
     {
         if let Some(buffer) = self.back.take() {
             return Some(buffer);
