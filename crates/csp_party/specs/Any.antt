@@ -3,17 +3,20 @@ use Rattle.std.specs.Prelude.{ℕ, ◌≡◌, ⊤, Bool, false, List, [], Option
 use Rattle.csp_app.specs.Asking as app_asking
 use Rattle.csp_app.specs.PlainApp as plain_app
 use Rattle.csp_app.specs.PlainApp.{PlainApp, AppAt}
+use Rattle.csp_app.specs.Drained as app_drained
 use Rattle.csp_app.specs.Telling as app_telling
 use Rattle.csp_arena.specs.Cells.{RegionName}
 use Rattle.csp_bridge.specs.Asking as bridge_asking
 use Rattle.csp_bridge.specs.PlainBridge as plain_bridge
 use Rattle.csp_bridge.specs.PlainBridge.{PlainBridge, BridgeAt}
+use Rattle.csp_bridge.specs.Drained as bridge_drained
 use Rattle.csp_bridge.specs.Telling as bridge_telling
 use Rattle.csp_deck.specs.Regions.{nowhere}
 use Rattle.csp_deck.specs.Step.{Kind}
 use Rattle.csp_iface.specs.Asking as iface_asking
 use Rattle.csp_iface.specs.PlainIface as plain_iface
 use Rattle.csp_iface.specs.PlainIface.{PlainIface, IfaceAt}
+use Rattle.csp_iface.specs.Drained as iface_drained
 use Rattle.csp_iface.specs.Telling as iface_telling
 use Rattle.csp_iface.specs.declared.plan.Plan.TheVariants as iface_plan
 use Rattle.csp_link.specs.Asking as link_asking
@@ -168,3 +171,11 @@ with_plain (party.Iface i) (an_iface s) = party.Iface (plain_iface.with_iface i 
 with_plain (party.App a) (an_app s) = party.App (plain_app.with_app a s)
 with_plain (party.Link l) (a_link s) = party.Link s
 with_plain p s = p
+
+-- without the first of its buffers, as it is emptied at the end of a run
+abbrev pub drained : PlainParty → PlainParty
+drained (a_router r) = a_router (record r { state = plain_router.drained r.state })
+drained (a_bridge b) = a_bridge (bridge_drained.drained b)
+drained (an_iface i) = an_iface (iface_drained.drained i)
+drained (an_app a) = an_app (app_drained.drained a)
+drained (a_link l) = a_link l

@@ -2,7 +2,7 @@
 
 ghost use Rattle.std.specs.Prelude.{◌≡◌, ◌<◌, ◌↔◌, [], ◌∷◌, ◌-◌, IfSome, MatchOption, IsTrue};
 ghost use Rattle.csp_deck.specs.Step.{times};
-ghost use Rattle.csp_party.specs.Any.{plain, region_of, holds, present_step};
+ghost use Rattle.csp_party.specs.Any.{plain, region_of, holds, drained, present_step};
 
 use csp_app::App;
 use csp_bridge::Bridge;
@@ -137,6 +137,7 @@ impl AnyParty {
         ensures holds { MatchOption result ((holds (plain self.old) ≡ []) × (self.new ≡ self.old)) (λ b. holds (plain self.old) ≡ b.picture.number ∷ holds (plain self.new)) }
         ensures of_it { IfSome result (λ b. b.region ≡ region_of self.old) }
         ensures region { region_of self.new ≡ region_of self.old }
+        ensures first { plain self.new ≡ drained (plain self.old) }
     {
         match self {
             AnyParty::Router(router) => router.drain(),
