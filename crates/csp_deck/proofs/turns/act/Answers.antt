@@ -1,5 +1,5 @@
-use Rattle.std.proofs.Common.{◌≡◌, ℕ, ◌+◌, sym, ap, ◌∙◌, arith}
-use Rattle.csp_log.specs.PlainLog.{PlainLog, with_entry}
+use Rattle.std.proofs.Common.{◌≡◌, ℕ, ◌+◌, sym, ◌∙◌, arith}
+use Rattle.csp_log.specs.PlainLog.{with_entry}
 use Rattle.csp_log.specs.Pictures.{shown_op}
 use Rattle.csp_log.specs.declared.shown.AnswerShown.{AnswerShown}
 use Rattle.csp_deck.specs.Step.{entry_of, times, op_numbers, answer_numbers}
