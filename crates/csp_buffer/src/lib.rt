@@ -11,4 +11,4 @@ pub use buffer::{Buffer, CELL_SIZE};
 pub use errors::{Full, Short};
 pub use memory::Memory;
 pub use shown::Shown;
-pub use trail::Trail;
+pub use trail::{BriefTrail, Trail};

@@ -1,1 +1,3 @@
+mod Idle
 pub mod Logged
+mod Slots

@@ -2,17 +2,23 @@
 use Rattle.std.proofs.Common.{◌≡◌, ℕ, zero, suc, ◌+◌, ◌-◌, ◌*◌, ◌<◌, ◌≤◌, Bool, true, false, List, [], ◌∷◌, ◌++◌, length, map, refl, sym, subst, ap, ◌∙◌, append-nil, arith, rules, ◌==◌, Some}
 use Rattle.std.proofs.Math.Nat.{suc-mul}
 use Rattle.std.proofs.Math.Numerals.{sub-one}
-use Rattle.std.specs.Prelude.{slice_range, slice_get, All}
-use Rattle.std.proofs.lemmas.Bool.Decides.{nat_tests}
+use Rattle.std.specs.Prelude.{slice_range, slice_get, All, take}
+use Rattle.std.specs.List.{ends_with}
+use Rattle.std.proofs.lemmas.Bool.Decides.{nat_tests, Decides-eqb}
+use Rattle.std.proofs.Math.Dec.{eqb}
 use Rattle.std.proofs.lemmas.Option.{same_Some}
+use Rattle.std.proofs.lemmas.Slice.Eq.{ends_is}
 use Rattle.std.proofs.lemmas.Grind.{common_steps}
-use Rattle.std.proofs.lemmas.List.{map-append}
+use Rattle.std.proofs.lemmas.List.{map-append, length-append}
 use Rattle.std.proofs.lemmas.List.Concat.{flat_map-append}
 use Rattle.std.proofs.lemmas.List.Elements.{All-head, All-tail, All-weaker, All-push, All-append}
 use Rattle.csp_base.specs.declared.limits.TheConstants.{MAX_FRAME}
+use Rattle.csp_base.specs.declared.traces.Trace.{Trace}
+use Rattle.csp_buffer.specs.Trails.{trace_of}
+use Rattle.csp_buffer.specs.declared.trail.Trail.{Trail}
 use Rattle.csp_log.specs.PlainDraft.{PlainDraft}
 use Rattle.csp_log.specs.PlainLog.{entry_with, all_events}
-use Rattle.csp_log.specs.Rows.{draft_of, spoken_of, row_entry, kept_entry, entry_at, IsDeedLong, IsRowIn, IsLineIn, Says}
+use Rattle.csp_log.specs.Rows.{draft_of, spoken_of, row_entry, kept_entry, entry_at, IsDeedLong, IsKeptIn, IsRowIn, IsLineIn, Says}
 use Rattle.csp_log.specs.declared.entry.Entry.{Entry}
 use Rattle.csp_log.specs.declared.event.Event.{Event}
 use Rattle.csp_log.specs.declared.event.TheConstants.{MAX_EVENTS}
@@ -41,9 +47,9 @@ slice_get-pushed [] x = refl
 slice_get-pushed (y ∷ xs) x = slice_get-pushed xs x
 
 -- what a line says by itself, it says only where nothing was told
-pub says-alone : (rows : List Row) (bytes : List ℕ) (events : List Event) (time : ℕ) (bs : List ℕ) (quiet : Bool) (d : Deed) (l : Line) (told : List Event) → spoken_of quiet time d ≡ Some l → (quiet ≡ true → told ≡ [])
-    → Says rows bytes events time (draft_of bs d) told l rows bytes events
-says-alone rows bytes events time bs quiet d l told e none =
+pub says-alone : (rows : List Row) (bytes : List ℕ) (events : List Event) (time : ℕ) (bs : List ℕ) (trace : Trace) (quiet : Bool) (d : Deed) (l : Line) (told : List Event) → spoken_of quiet time d ≡ Some l → (quiet ≡ true → told ≡ [])
+    → Says rows bytes events time (draft_of bs trace d) told l rows bytes events
+says-alone rows bytes events time bs trace quiet d l told e none =
     let shown = spoken-shows quiet d l e in
     record {
       rows_more = [];
@@ -59,7 +65,7 @@ says-alone rows bytes events time bs quiet d l told e none =
       shows = rw (none shown.0) shown.2;
     } where
       IsShown : Bool → Deed → Line → Type 0
-      IsShown quiet d l = (quiet ≡ true) × (IsLineIn (length rows) l) × (entry_at rows bytes events l ≡ entry_with time (draft_of bs d) [])
+      IsShown quiet d l = (quiet ≡ true) × (IsLineIn (length rows) l) × (entry_at rows bytes events l ≡ entry_with time (draft_of bs trace d) [])
 
       spoken-shows : (quiet : Bool) (d : Deed) (l : Line) → spoken_of quiet time d ≡ Some l → IsShown quiet d l
       spoken-shows false d l e = cc
@@ -73,32 +79,56 @@ says-alone rows bytes events time bs quiet d l told e none =
       spoken-shows true (deed.FoundFull q i) l e = cc
       spoken-shows true (deed.Popped q i) l e = cc
 
+-- bytes with which a list ends stand in it, and so do those that are appended
+ended : (front bytes carried : List ℕ) (n : ℕ) → bytes ≡ front ++ carried → n ≡ length front → IsKeptIn bytes bytes carried n
+ended front bytes carried n split at = record {
+  more = [];
+  after_is = search rules;
+  inside = rw (at, split) (grind (arith, common_steps));
+  there = rw (at, split) (slice_range-appended front carried);
+}
+
+pub kept_again : (bytes carried : List ℕ) (n : ℕ) (r : Bool) → r ≡ ends_with eqb bytes carried → r ≡ true → n ≡ length bytes - length carried → IsKeptIn bytes bytes carried n
+kept_again bytes carried n r is ends at =
+    let front : List ℕ = take (length bytes - length carried) bytes in
+    let split : bytes ≡ front ++ carried = (ends_is Decides-eqb bytes carried r is).0 ends in
+    let parts : length bytes ≡ length front + length carried = ap length split ∙ length-append front carried in
+    ended front bytes carried n split (omega arith)
+
+pub kept_anew : (bytes after carried : List ℕ) (first : ℕ) → after ≡ bytes ++ carried → first ≡ length bytes → IsKeptIn bytes after carried first
+kept_anew bytes after carried first more at = record {
+  more = carried;
+  after_is = more;
+  inside = rw (at, more) (grind (arith, common_steps));
+  there = rw (at, more) (slice_range-appended bytes carried);
+}
+
 -- and of what it can't say there is a row
-pub says-kept : (rows : List Row) (bytes : List ℕ) (events : List Event) (time : ℕ) (bs : List ℕ) (d : Deed) (told : List Event) (first_byte first_event place : ℕ) (rows_after : List Row) (bytes_after : List ℕ) (events_after : List Event)
-    → place ≡ length rows → first_byte ≡ length bytes → first_event ≡ length events
-    → rows_after ≡ rows ++ record { time = time; first_byte = first_byte; first_event = first_event; bytes = length bs; events = length told; deed = d } ∷ [] → bytes_after ≡ bytes ++ bs → events_after ≡ events ++ told
+pub says-kept : (rows : List Row) (bytes : List ℕ) (events : List Event) (time : ℕ) (bs : List ℕ) (d : Deed) (t : Trail) (told : List Event) (first_byte first_event place : ℕ) (rows_after : List Row) (bytes_after : List ℕ) (events_after : List Event)
+    → place ≡ length rows → IsKeptIn bytes bytes_after bs first_byte → first_event ≡ length events
+    → rows_after ≡ rows ++ record { time = time; first_byte = first_byte; first_event = first_event; bytes = length bs; events = length told; deed = d; trail = t } ∷ [] → events_after ≡ events ++ told
     → IsDeedLong (length bs) d → length bs ≤ MAX_FRAME → length told ≤ MAX_EVENTS
-    → Says rows bytes events time (draft_of bs d) told (line.Kept place) rows_after bytes_after events_after
-says-kept rows bytes events time bs d told first_byte first_event place rows_after bytes_after events_after at byte event rows_are bytes_are events_are fits short few =
-    let r : Row = record { time = time; first_byte = first_byte; first_event = first_event; bytes = length bs; events = length told; deed = d } in
+    → Says rows bytes events time (draft_of bs (trace_of t) d) told (line.Kept place) rows_after bytes_after events_after
+says-kept rows bytes events time bs d t told first_byte first_event place rows_after bytes_after events_after at kept event rows_are events_are fits short few =
+    let r : Row = record { time = time; first_byte = first_byte; first_event = first_event; bytes = length bs; events = length told; deed = d; trail = t } in
     record {
       rows_more = r ∷ [];
-      bytes_more = bs;
+      bytes_more = kept.more;
       events_more = told;
       rows_are = rows_are;
-      bytes_are = bytes_are;
+      bytes_are = kept.after_is;
       events_are = events_are;
       told_are = refl;
       few = omega arith;
       inside = All-push (IsRowIn (length bytes_after) (length events_after)) [] r (search rules) (record {
-        bytes_in = rw (byte, bytes_are) (grind (arith, common_steps));
+        bytes_in = kept.inside;
         fits = fits;
         short = short;
         events_in = rw (event, events_are) (grind (arith, common_steps));
         few = few;
       });
       said_in = rw (at, rows_are) (grind (arith, common_steps));
-      shows = rw (at, rows_are, bytes_are, events_are, slice_get-pushed rows r, byte, event, slice_range-appended bytes bs, slice_range-appended events told) refl;
+      shows = rw (at, rows_are, events_are, slice_get-pushed rows r, kept.there, event, slice_range-appended events told) refl;
     }
 
 -- the entries of these lines, whatever follows the lists

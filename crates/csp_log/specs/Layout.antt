@@ -8,12 +8,12 @@ use Rattle.csp_log.specs.declared.log.Log.TheInside.{Inside}
 
 -- each line and each row points into the lists, the events are those of the entries in their order, and each spare entry has its line, its row, MAX_FRAME bytes and MAX_EVENTS events
 pub record IsLaidOut (l : Inside) : Type 0 where
-  pub lines : All (IsLineIn (length l.rows.items)) l.lines.items
-  pub rows : All (IsRowIn (length l.bytes.items) (length l.events.items)) l.rows.items
-  pub told : all_events (map (entry_at l.rows.items l.bytes.items l.events.items) l.lines.items) ≡ l.events.items
+  pub lines : All (IsLineIn (length l.rows.rows)) l.lines.items
+  pub rows : All (IsRowIn (length l.bytes.items) (length l.events.items)) l.rows.rows
+  pub told : all_events (map (entry_at l.rows.rows l.bytes.items l.events.items) l.lines.items) ≡ l.events.items
   pub line_room : vec_len l.lines + l.spare ≤ vec_capacity l.lines
-  pub row_room : vec_len l.rows + l.spare ≤ vec_capacity l.rows
+  pub row_room : l.spare ≤ l.rows.room
   pub byte_room : vec_len l.bytes + l.spare * MAX_FRAME ≤ vec_capacity l.bytes
   pub event_room : vec_len l.events + l.spare * MAX_EVENTS ≤ vec_capacity l.events
   pub few : length l.lines.items + l.spare ≤ 2 ^ 32 - 2
-  pub fewer : length l.rows.items ≤ length l.lines.items
+  pub fewer : length l.rows.rows ≤ length l.lines.items

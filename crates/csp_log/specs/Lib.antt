@@ -1,5 +1,6 @@
 pub mod Bytes
 pub mod Drafting
+pub mod Idling
 pub mod Layout
 pub mod Moving
 pub mod Noting
@@ -8,3 +9,4 @@ pub mod PlainDraft
 pub mod PlainLog
 pub mod Remains
 pub mod Rows
+pub mod Slots

@@ -1,6 +1,8 @@
 -- how a log keeps its entries: a line each, and where there is more to it a row, which points into one list of bytes and one of events
 use Rattle.std.specs.Prelude.{◌≡◌, ℕ, Bool, true, false, ◌+◌, ◌<◌, ◌≤◌, List, [], ◌++◌, Option, Some, None, ⊤, All, length, slice_get, slice_range}
 use Rattle.csp_base.specs.declared.limits.TheConstants.{MAX_PAYLOAD, MAX_FRAME}
+use Rattle.csp_base.specs.Trace.{no_trace}
+use Rattle.csp_base.specs.declared.traces.Trace.{Trace}
 use Rattle.csp_buffer.specs.Content.{Content}
 use Rattle.csp_buffer.specs.Trails.{trace_of}
 use Rattle.csp_log.specs.PlainDraft.{PlainDraft}
@@ -10,7 +12,6 @@ use Rattle.csp_log.specs.declared.event.Event.{Event}
 use Rattle.csp_log.specs.declared.event.TheConstants.{MAX_EVENTS}
 use Rattle.csp_log.specs.declared.frame.Frame.{Frame}
 use Rattle.csp_log.specs.declared.row.PacketHead.{PacketHead}
-use Rattle.csp_log.specs.declared.row.FrameHead.{FrameHead}
 use Rattle.csp_log.specs.declared.row.ItemHead.{ItemHead}
 use Rattle.csp_log.specs.declared.row.ItemHead.TheVariants as head
 use Rattle.csp_log.specs.declared.row.Deed.{Deed}
@@ -25,46 +26,46 @@ use Rattle.csp_log.specs.declared.shown.OpShown.TheVariants as op_shown
 use Rattle.csp_log.specs.declared.shown.AnswerShown.{AnswerShown}
 use Rattle.csp_log.specs.declared.shown.AnswerShown.TheVariants as answer_shown
 
--- the packet and the frame with these bytes
-abbrev pub packet_of : List ℕ → PacketHead → Content
-packet_of bytes p = record { number = p.number; header = p.header; payload = bytes; trace = trace_of p.trail }
+-- the packet and the frame with these bytes and this trace
+abbrev pub packet_of : List ℕ → Trace → PacketHead → Content
+packet_of bytes trace p = record { number = p.number; header = p.header; payload = bytes; trace = trace }
 
-abbrev pub frame_of : List ℕ → FrameHead → Frame
-frame_of bytes f = record { can = f.can; bytes = record { items = bytes }; trace = trace_of f.trail }
+abbrev pub frame_of : List ℕ → Trace → Option ℕ → Frame
+frame_of bytes trace can = record { can = can; bytes = record { items = bytes }; trace = trace }
 
--- the item with these bytes
-abbrev pub item_of : List ℕ → ItemHead → ItemShown
-item_of bytes (head.Packet mark p) = item_shown.Packet mark (packet_of bytes p)
-item_of bytes (head.Frame f) = item_shown.Frame (frame_of bytes f)
-item_of bytes (head.Note n) = item_shown.Note n
+-- the item with these bytes and this trace
+abbrev pub item_of : List ℕ → Trace → ItemHead → ItemShown
+item_of bytes trace (head.Packet mark p) = item_shown.Packet mark (packet_of bytes trace p)
+item_of bytes trace (head.Frame can) = item_shown.Frame (frame_of bytes trace can)
+item_of bytes trace (head.Note n) = item_shown.Note n
 
--- the operation of a deed, with these bytes
-abbrev pub op_of : List ℕ → Deed → OpShown
-op_of bytes deed.Rested = op_shown.Nothing
-op_of bytes (deed.Took p) = op_shown.Take
-op_of bytes deed.FoundNoBuffer = op_shown.Take
-op_of bytes (deed.Gave p) = op_shown.Give (packet_of bytes p)
-op_of bytes (deed.FoundPoolFull p) = op_shown.Give (packet_of bytes p)
-op_of bytes (deed.Pushed q i) = op_shown.Push q (item_of bytes i)
-op_of bytes (deed.FoundFull q i) = op_shown.Push q (item_of bytes i)
-op_of bytes (deed.Popped q i) = op_shown.Pop q
-op_of bytes (deed.FoundEmpty q) = op_shown.Pop q
+-- the operation of a deed, with these bytes and this trace
+abbrev pub op_of : List ℕ → Trace → Deed → OpShown
+op_of bytes trace deed.Rested = op_shown.Nothing
+op_of bytes trace (deed.Took p) = op_shown.Take
+op_of bytes trace deed.FoundNoBuffer = op_shown.Take
+op_of bytes trace (deed.Gave p) = op_shown.Give (packet_of bytes trace p)
+op_of bytes trace (deed.FoundPoolFull p) = op_shown.Give (packet_of bytes trace p)
+op_of bytes trace (deed.Pushed q i) = op_shown.Push q (item_of bytes trace i)
+op_of bytes trace (deed.FoundFull q i) = op_shown.Push q (item_of bytes trace i)
+op_of bytes trace (deed.Popped q i) = op_shown.Pop q
+op_of bytes trace (deed.FoundEmpty q) = op_shown.Pop q
 
 -- and its answer
-abbrev pub answer_of : List ℕ → Deed → AnswerShown
-answer_of bytes deed.Rested = answer_shown.Nothing
-answer_of bytes (deed.Took p) = answer_shown.Taken (packet_of bytes p)
-answer_of bytes deed.FoundNoBuffer = answer_shown.NoBuffer
-answer_of bytes (deed.Gave p) = answer_shown.Given
-answer_of bytes (deed.FoundPoolFull p) = answer_shown.PoolFull (packet_of bytes p)
-answer_of bytes (deed.Pushed q i) = answer_shown.Pushed
-answer_of bytes (deed.FoundFull q i) = answer_shown.Full (item_of bytes i)
-answer_of bytes (deed.Popped q i) = answer_shown.Popped (item_of bytes i)
-answer_of bytes (deed.FoundEmpty q) = answer_shown.Empty
+abbrev pub answer_of : List ℕ → Trace → Deed → AnswerShown
+answer_of bytes trace deed.Rested = answer_shown.Nothing
+answer_of bytes trace (deed.Took p) = answer_shown.Taken (packet_of bytes trace p)
+answer_of bytes trace deed.FoundNoBuffer = answer_shown.NoBuffer
+answer_of bytes trace (deed.Gave p) = answer_shown.Given
+answer_of bytes trace (deed.FoundPoolFull p) = answer_shown.PoolFull (packet_of bytes trace p)
+answer_of bytes trace (deed.Pushed q i) = answer_shown.Pushed
+answer_of bytes trace (deed.FoundFull q i) = answer_shown.Full (item_of bytes trace i)
+answer_of bytes trace (deed.Popped q i) = answer_shown.Popped (item_of bytes trace i)
+answer_of bytes trace (deed.FoundEmpty q) = answer_shown.Empty
 
 -- both
-abbrev pub draft_of : List ℕ → Deed → PlainDraft
-draft_of bytes d = record { op = op_of bytes d; answer = answer_of bytes d }
+abbrev pub draft_of : List ℕ → Trace → Deed → PlainDraft
+draft_of bytes trace d = record { op = op_of bytes trace d; answer = answer_of bytes trace d }
 
 -- the deed of which what was handed in comes back
 abbrev pub turned_back : Deed → Deed
@@ -75,7 +76,7 @@ turned_back d = d
 -- so many bytes are no more than a payload has, or a frame, where the item is one
 abbrev pub IsItemLong : ℕ → ItemHead → Type 0
 IsItemLong n (head.Packet mark p) = n ≤ MAX_PAYLOAD
-IsItemLong n (head.Frame f) = n ≤ MAX_FRAME
+IsItemLong n (head.Frame can) = n ≤ MAX_FRAME
 IsItemLong n (head.Note _) = ⊤
 
 -- where the deed carries one
@@ -99,11 +100,11 @@ events_in events r = slice_range events r.first_event (r.first_event + r.events)
 
 -- the entry of a row
 abbrev pub row_entry : List ℕ → List Event → Row → Entry
-row_entry bytes events r = entry_with r.time (draft_of (bytes_in bytes r) r.deed) (events_in events r)
+row_entry bytes events r = entry_with r.time (draft_of (bytes_in bytes r) (trace_of r.trail) r.deed) (events_in events r)
 
 -- the entry of a turn that carried and reported nothing
 abbrev pub idle_entry : ℕ → Deed → Entry
-idle_entry time d = entry_with time (draft_of [] d) []
+idle_entry time d = entry_with time (draft_of [] no_trace d) []
 
 abbrev pub kept_entry : List ℕ → List Event → Option Row → Entry
 kept_entry bytes events None = idle_entry 0 deed.Rested
@@ -131,6 +132,13 @@ pub record IsRowIn (bytes events : ℕ) (r : Row) : Type 0 where
   pub short : r.bytes ≤ MAX_FRAME
   pub events_in : r.first_event + r.events ≤ events
   pub few : r.events ≤ MAX_EVENTS
+
+-- a list has these bytes from there on: those that it had before, and more only at its end
+pub record IsKeptIn (before after carried : List ℕ) (first : ℕ) : Type 0 where
+  pub more : List ℕ
+  pub after_is : after ≡ before ++ more
+  pub inside : first + length carried ≤ length after
+  pub there : slice_range after first (first + length carried) ≡ carried
 
 -- a line's row stands in the list
 abbrev pub IsLineIn : ℕ → Line → Type 0

@@ -1,12 +1,17 @@
 //! How what a log keeps of an entry is read again.
 
-ghost use Rattle.std.specs.Prelude.{◌≡◌, ◌+◌, ◌≤◌, ◌++◌, length, vec_len, vec_capacity};
-ghost use Rattle.csp_log.specs.Rows.{packet_of, item_of, op_of, answer_of, IsItemLong, IsDeedLong};
+ghost use Rattle.std.specs.Prelude.{◌≡◌, ◌+◌, ◌≤◌, [], ◌++◌, length, vec_len, vec_capacity, OnOk};
+ghost use Rattle.csp_buffer.specs.Trails.{trace_of};
+ghost use Rattle.csp_log.specs.Moving.{moved_by};
+ghost use Rattle.csp_log.specs.PlainLog.{entry_with};
+ghost use Rattle.csp_log.specs.Rows.{packet_of, item_of, op_of, answer_of, row_entry, bytes_in, events_in, IsItemLong, IsDeedLong, IsRowIn};
 
-use crate::row::{Deed, FrameHead, ItemHead, PacketHead};
-use crate::{AnswerShown, Frame, ItemShown, OpShown};
+use crate::moved::read_moved;
+use crate::row::{Deed, ItemHead, PacketHead, Row};
+use crate::{AnswerShown, Entry, Event, Events, Frame, ItemShown, MAX_EVENTS, Moved, OpShown};
 use csp_base::MAX_PAYLOAD;
-use csp_buffer::Shown;
+use csp_buffer::{Shown, Trail};
+use std::alloc::AllocError;
 
 /// Appends elements for which there is room, and tells where they begin.
 pub fn keep<T: Copy>(list: &mut Vec<T>, more: &[T]) -> usize
@@ -23,62 +28,127 @@ pub fn keep<T: Copy>(list: &mut Vec<T>, more: &[T]) -> usize
     start
 }
 
-/// The operation of a deed with these bytes.
-pub fn read_op(bytes: &[u8], deed: &Deed) -> OpShown
+/// Makes room in a list for so many elements more, and for `fewest` of them where it has too little. A refusal changes
+/// nothing.
+pub fn make_room<T: Copy>(list: &mut Vec<T>, room: usize, fewest: usize) -> Result<(), AllocError>
+    ensures items { list.new.items ≡ list.old.items }
+    ensures len { vec_len list.new ≡ vec_len list.old }
+    ensures room { OnOk result (vec_len list.new + room ≤ vec_capacity list.new) }
+    ensures more { vec_capacity list.old ≤ vec_capacity list.new }
+{
+    if list.capacity() - list.len() < room {
+        list.reserve(room.max(fewest))?;
+    }
+    Ok(())
+}
+
+/// The entry of a row, with these bytes and events.
+pub fn entry_of(bytes: &[u8], events: &[Event], row: &Row) -> Entry
+    requires { IsRowIn (length bytes.now) (length events.now) row.now }
+    ensures { result ≡ row_entry bytes.now events.now row.now }
+{
+    let carried = &bytes[row.first_byte..row.first_byte + row.bytes as usize];
+    Entry {
+        time: row.time,
+        op: read_op(carried, &row.trail, &row.deed),
+        answer: read_answer(carried, &row.trail, &row.deed),
+        events: events_of(events_at(events, row)),
+    }
+}
+
+/// What the turn of a row moved.
+pub fn moved_of<'a>(bytes: &'a [u8], row: &Row) -> Moved<'a>
+    requires { row.now.first_byte + row.now.bytes ≤ length bytes.now }
+    ensures { result ≡ moved_by (op_of (bytes_in bytes.now row.now) (trace_of row.now.trail) row.now.deed) (answer_of (bytes_in bytes.now row.now) (trace_of row.now.trail) row.now.deed) }
+{
+    let carried = &bytes[row.first_byte..row.first_byte + row.bytes as usize];
+    read_moved(carried, &row.trail, &row.deed)
+}
+
+/// The events of a row.
+pub fn events_at<'a>(events: &'a [Event], row: &Row) -> &'a [Event]
+    requires { row.now.first_event + row.now.events ≤ length events.now }
+    ensures { result.now ≡ events_in events.now row.now }
+{
+    &events[row.first_event..row.first_event + row.events as usize]
+}
+
+/// The entry of a turn that carried and told nothing.
+pub fn idle(time: u32, op: OpShown, answer: AnswerShown) -> Entry
+    ensures { result ≡ entry_with time (record { op = op; answer = answer }) [] }
+{
+    Entry {
+        time: u64::from(time),
+        op,
+        answer,
+        events: Events::new(),
+    }
+}
+
+/// These events as one turn's.
+fn events_of(events: &[Event]) -> Events
+    requires { length events.now ≤ MAX_EVENTS }
+    ensures { result.items ≡ events.now }
+{
+    let mut copy = Events::new();
+    copy.try_extend_from_slice(events).unwrap();
+    copy
+}
+
+/// The operation of a deed with these bytes and this trail.
+fn read_op(bytes: &[u8], trail: &Trail, deed: &Deed) -> OpShown
     requires { IsDeedLong (length bytes.now) deed.now }
-    ensures { result ≡ op_of bytes.now deed.now }
+    ensures { result ≡ op_of bytes.now (trace_of trail.now) deed.now }
 {
     match deed {
         Deed::Rested => OpShown::Nothing,
         Deed::Took(_) | Deed::FoundNoBuffer => OpShown::Take,
         Deed::Gave(packet) | Deed::FoundPoolFull(packet) => {
-            OpShown::Give(read_packet(bytes, packet))
+            OpShown::Give(read_packet(bytes, trail, packet))
         }
         Deed::Pushed(queue, item) | Deed::FoundFull(queue, item) => {
-            OpShown::Push(*queue, read_item(bytes, item))
+            OpShown::Push(*queue, read_item(bytes, trail, item))
         }
         Deed::Popped(queue, _) => OpShown::Pop(*queue),
         Deed::FoundEmpty(queue) => OpShown::Pop(*queue),
     }
 }
 
-/// The answer of a deed with these bytes.
-pub fn read_answer(bytes: &[u8], deed: &Deed) -> AnswerShown
+/// The answer of a deed with these bytes and this trail.
+fn read_answer(bytes: &[u8], trail: &Trail, deed: &Deed) -> AnswerShown
     requires { IsDeedLong (length bytes.now) deed.now }
-    ensures { result ≡ answer_of bytes.now deed.now }
+    ensures { result ≡ answer_of bytes.now (trace_of trail.now) deed.now }
 {
     match deed {
         Deed::Rested => AnswerShown::Nothing,
-        Deed::Took(packet) => AnswerShown::Taken(read_packet(bytes, packet)),
+        Deed::Took(packet) => AnswerShown::Taken(read_packet(bytes, trail, packet)),
         Deed::FoundNoBuffer => AnswerShown::NoBuffer,
         Deed::Gave(_) => AnswerShown::Given,
-        Deed::FoundPoolFull(packet) => AnswerShown::PoolFull(read_packet(bytes, packet)),
+        Deed::FoundPoolFull(packet) => AnswerShown::PoolFull(read_packet(bytes, trail, packet)),
         Deed::Pushed(_, _) => AnswerShown::Pushed,
-        Deed::FoundFull(_, item) => AnswerShown::Full(read_item(bytes, item)),
-        Deed::Popped(_, item) => AnswerShown::Popped(read_item(bytes, item)),
+        Deed::FoundFull(_, item) => AnswerShown::Full(read_item(bytes, trail, item)),
+        Deed::Popped(_, item) => AnswerShown::Popped(read_item(bytes, trail, item)),
         Deed::FoundEmpty(_) => AnswerShown::Empty,
     }
 }
 
-fn read_item(bytes: &[u8], item: &ItemHead) -> ItemShown
+fn read_item(bytes: &[u8], trail: &Trail, item: &ItemHead) -> ItemShown
     requires { IsItemLong (length bytes.now) item.now }
-    ensures { result ≡ item_of bytes.now item.now }
+    ensures { result ≡ item_of bytes.now (trace_of trail.now) item.now }
 {
     match item {
         ItemHead::Packet { mark, packet } => ItemShown::Packet {
             mark: *mark,
-            buffer: read_packet(bytes, packet),
+            buffer: read_packet(bytes, trail, packet),
         },
-        ItemHead::Frame(FrameHead { can, trail }) => {
-            ItemShown::Frame(Frame::of(*can, bytes, trail.trace()))
-        }
+        ItemHead::Frame { can } => { ItemShown::Frame(Frame::of(*can, bytes, trail.trace())) }
         ItemHead::Note(note) => ItemShown::Note(*note),
     }
 }
 
-fn read_packet(bytes: &[u8], packet: &PacketHead) -> Shown
+fn read_packet(bytes: &[u8], trail: &Trail, packet: &PacketHead) -> Shown
     requires { length bytes.now ≤ MAX_PAYLOAD }
-    ensures { result ≡ packet_of bytes.now packet.now }
+    ensures { result ≡ packet_of bytes.now (trace_of trail.now) packet.now }
 {
-    Shown::of(packet.number, packet.header, bytes, packet.trail.trace())
+    Shown::of(packet.number, packet.header, bytes, trail.trace())
 }

@@ -1,15 +1,18 @@
 //! The draft of an entry: what a turn asked and was answered, before it is logged.
 
 ghost use Rattle.std.specs.Prelude.{◌≡◌, ◌≤◌, [], length, vec_capacity, IfOk};
+ghost use Rattle.csp_base.specs.Trace.{no_trace};
+ghost use Rattle.csp_base.specs.declared.traces.Trace.{Trace};
+ghost use Rattle.csp_buffer.specs.Trails.{trace_of};
 ghost use Rattle.csp_log.specs.Pictures.{Fits, shown_op, shown_answer};
 ghost use Rattle.csp_log.specs.PlainDraft.{drafted};
 ghost use Rattle.csp_log.specs.Rows.{draft_of, item_of, packet_of, turned_back, IsDeedLong, IsItemLong};
 ghost use Rattle.csp_log.specs.Pictures.{shown_item};
 
 use crate::deeds::keep;
-use crate::row::{Deed, FrameHead, ItemHead, PacketHead};
+use crate::row::{Deed, ItemHead, PacketHead};
 use crate::{Answer, AnswerShown, Item, Op, OpShown, QueueId};
-use csp_base::{MAX_FRAME, MAX_PAYLOAD};
+use csp_base::{MAX_FRAME, MAX_PAYLOAD, Trace};
 use csp_buffer::{Buffer, Trail};
 use std::alloc::{AllocError, Global};
 use std::marker::Model;
@@ -21,6 +24,7 @@ use std::marker::Model;
 #[derive(Drop)]
 pub struct Draft {
     pub(crate) deed: Deed,
+    pub(crate) trail: Trail,
     pub(crate) bytes: Vec<u8>,
 }
 
@@ -29,10 +33,11 @@ impl Model for Draft {
 
     ghost Value = { PlainDraft };
 
+    ghost use Rattle.csp_buffer.specs.Trails.{trace_of};
     ghost use Rattle.csp_log.specs.Rows.{draft_of};
     ghost use Rattle.csp_log.specs.Drafting.{IsKept};
 
-    ghost view = { λ d. draft_of d.bytes.items d.deed };
+    ghost view = { λ d. draft_of d.bytes.items (trace_of d.trail) d.deed };
 
     ghost invariant = { IsKept };
 }
@@ -43,6 +48,7 @@ impl Draft {
         let bytes = Vec::with_capacity(alloc, MAX_FRAME)?;
         Ok(Draft {
             deed: Deed::Rested,
+            trail: Trail::of(Trace::empty()),
             bytes,
         })
     }
@@ -69,8 +75,9 @@ impl Draft {
 
     /// Notes an operation that carries nothing.
     fn note(&mut self, deed: Deed)
-        requires { IsDeedLong 0 deed }
-        ensures { self.new ≡ draft_of [] deed }
+        requires fits { IsDeedLong 0 deed }
+        requires bare { (trace : Trace) → draft_of [] trace deed ≡ draft_of [] no_trace deed }
+        ensures { self.new ≡ draft_of [] no_trace deed }
     {
         self.bytes.clear();
         self.deed = deed;
@@ -82,7 +89,7 @@ impl Draft {
         ensures { self.new ≡ drafted (OpShown.Give buffer.now.picture) }
     {
         self.bytes.clear();
-        self.deed = Deed::Gave(keep_packet(&mut self.bytes, buffer));
+        self.deed = Deed::Gave(keep_packet(&mut self.bytes, &mut self.trail, buffer));
     }
 
     /// Notes that this item is pushed.
@@ -91,7 +98,7 @@ impl Draft {
         ensures { self.new ≡ drafted (OpShown.Push queue (shown_item item.now)) }
     {
         self.bytes.clear();
-        self.deed = Deed::Pushed(queue, keep_item(&mut self.bytes, item));
+        self.deed = Deed::Pushed(queue, keep_item(&mut self.bytes, &mut self.trail, item));
     }
 
     /// Notes what that was answered. What comes back is what was handed in.
@@ -115,7 +122,7 @@ impl Draft {
         ensures { self.new ≡ record { op = OpShown.Take; answer = AnswerShown.Taken buffer.now.picture } }
     {
         self.bytes.clear();
-        self.deed = Deed::Took(keep_packet(&mut self.bytes, buffer));
+        self.deed = Deed::Took(keep_packet(&mut self.bytes, &mut self.trail, buffer));
     }
 
     /// Notes that this item was popped.
@@ -127,7 +134,7 @@ impl Draft {
     {
         if let Deed::FoundEmpty(queue) = self.deed {
             self.bytes.clear();
-            self.deed = Deed::Popped(queue, keep_item(&mut self.bytes, item));
+            self.deed = Deed::Popped(queue, keep_item(&mut self.bytes, &mut self.trail, item));
         }
     }
 }
@@ -144,29 +151,29 @@ fn turn_back(deed: &mut Deed)
     };
 }
 
-/// Takes in the payload of a packet, and tells what else it is.
+/// Takes in the payload and the trail of a packet, and tells what else it is.
 #[inline(always)]
-fn keep_packet(bytes: &mut Vec<u8>, buffer: &Buffer) -> PacketHead
+fn keep_packet(bytes: &mut Vec<u8>, trail: &mut Trail, buffer: &Buffer) -> PacketHead
     requires none { bytes.old.items ≡ [] }
     requires room { MAX_FRAME ≤ vec_capacity bytes.old }
-    ensures packet { packet_of bytes.new.items result ≡ buffer.now.picture }
+    ensures packet { packet_of bytes.new.items (trace_of trail.new) result ≡ buffer.now.picture }
     ensures fits { length bytes.new.items ≤ MAX_PAYLOAD }
     ensures capacity { vec_capacity bytes.old ≤ vec_capacity bytes.new }
 {
     keep(bytes, buffer.payload());
+    *trail = buffer.trail();
     PacketHead {
         header: buffer.header(),
         number: buffer.number(),
-        trail: buffer.trail(),
     }
 }
 
-/// Takes in the bytes of an item, and tells what else it is.
+/// Takes in the bytes and the trail of an item, and tells what else it is.
 #[inline(always)]
-fn keep_item(bytes: &mut Vec<u8>, item: &Item) -> ItemHead
+fn keep_item(bytes: &mut Vec<u8>, trail: &mut Trail, item: &Item) -> ItemHead
     requires none { bytes.old.items ≡ [] }
     requires room { MAX_FRAME ≤ vec_capacity bytes.old }
-    ensures item { item_of bytes.new.items result ≡ shown_item item.now }
+    ensures item { item_of bytes.new.items (trace_of trail.new) result ≡ shown_item item.now }
     ensures long { IsItemLong (length bytes.new.items) result }
     ensures short { length bytes.new.items ≤ MAX_FRAME }
     ensures capacity { vec_capacity bytes.old ≤ vec_capacity bytes.new }
@@ -174,15 +181,13 @@ fn keep_item(bytes: &mut Vec<u8>, item: &Item) -> ItemHead
     match item {
         Item::Packet { mark, buffer } => ItemHead::Packet {
             mark: *mark,
-            packet: keep_packet(bytes, buffer),
+            packet: keep_packet(bytes, trail, buffer),
         },
         Item::Frame(frame) => {
             let frame = frame.frame();
             keep(bytes, frame.bytes.as_slice());
-            ItemHead::Frame(FrameHead {
-                can: frame.can,
-                trail: Trail::of(frame.trace),
-            })
+            *trail = Trail::of(frame.trace);
+            ItemHead::Frame { can: frame.can }
         }
         Item::Note(note) => ItemHead::Note(*note),
     }

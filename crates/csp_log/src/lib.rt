@@ -16,6 +16,7 @@ mod operation;
 mod places;
 mod remains;
 mod row;
+mod rows;
 mod shown;
 mod spares;
 

@@ -1,28 +1,29 @@
 //! The log of a party's turns.
 
-ghost use Rattle.std.specs.Prelude.{◌≡◌, ℕ, ◌+◌, ◌-◌, ◌*◌, ◌^◌, ◌<◌, ◌≤◌, [], ◌++◌, ◌∷◌, length, max, nat_lt, slice_get, Some, ◌&&◌, OnOk, OnErr, vec_len, vec_capacity};
+ghost use Rattle.std.specs.Prelude.{◌≡◌, ℕ, ◌+◌, ◌-◌, ◌*◌, ◌^◌, ◌<◌, ◌≤◌, [], ◌++◌, ◌∷◌, length, max, nat_lt, slice_get, slice_range, All, Some, false, ◌&&◌, OnOk, OnErr, vec_len, vec_capacity};
 ghost use Rattle.std.specs.Option.{option_map};
-ghost use Rattle.csp_log.specs.Moving.{moved_in, moved_by};
+ghost use Rattle.csp_buffer.specs.Trails.{trace_of};
+ghost use Rattle.csp_log.specs.Idling.{IsIdle, is_idle};
+ghost use Rattle.csp_log.specs.Moving.{moved_in};
 ghost use Rattle.csp_log.specs.Noting.{noted_in};
 ghost use Rattle.csp_log.specs.PlainDraft.{drafted};
 ghost use Rattle.csp_log.specs.PlainLog.{with_entry, entry_with, all_events};
-ghost use Rattle.csp_log.specs.Rows.{draft_of, spoken_of, row_entry, op_of, answer_of, bytes_in, events_in, IsDeedLong, IsRowIn, Says};
+ghost use Rattle.csp_log.specs.Rows.{draft_of, spoken_of, IsDeedLong, IsKeptIn, Says};
 
-use crate::deeds::{keep, read_answer, read_op};
+use crate::deeds::{entry_of, events_at, idle, keep, make_room, moved_of};
 use crate::draft::Draft;
-use crate::moved::read_moved;
-use crate::noted::read_noted;
+use crate::noted::{is_still, read_noted};
 use crate::row::{Deed, Line, Row};
+use crate::rows::Rows;
 use crate::{AnswerShown, Entry, Event, Events, MAX_EVENTS, Moved, Noted, OpShown, QueueId};
-use csp_base::MAX_FRAME;
+use csp_base::{MAX_FRAME, Trace};
+use csp_buffer::Trail;
 use std::alloc::{AllocError, Global};
 use std::marker::Model;
 
-/// For how many lines, rows and bytes a log takes room at least, where it takes any: so many at a time that it is
+/// For how many lines and bytes a log takes room at least, where it takes any: so many at a time that it is
 /// seldom moved.
 const FEWEST_LINES: usize = 16_384;
-
-const FEWEST_ROWS: usize = 2_048;
 
 const FEWEST_BYTES: usize = 262_144;
 
@@ -30,12 +31,13 @@ const FEWEST_BYTES: usize = 262_144;
 /// how many more there is room.
 ///
 /// Only `reserve` takes memory. Inside, an entry is a line of 8 bytes; one that carried or reported
-/// something has besides a row of at most 96 bytes, which points into one list of bytes, for payloads
-/// and frames, and one list of events.
+/// something has besides a row of 56 bytes, or of 88 more where its numbers are large, which points into
+/// one list of bytes, for payloads and frames, and one list of events. Rows that carried the same one
+/// after the other share their bytes.
 #[derive(Drop)]
 pub struct Log {
     lines: Vec<Line>,
-    rows: Vec<Row>,
+    rows: Rows,
     bytes: Vec<u8>,
     events: Vec<Event>,
     spare: u32,
@@ -50,7 +52,7 @@ impl Model for Log {
     ghost use Rattle.csp_log.specs.Rows.{entry_at};
     ghost use Rattle.csp_log.specs.Layout.{IsLaidOut};
 
-    ghost view = { λ l. record { entries = map (entry_at l.rows.items l.bytes.items l.events.items) l.lines.items; spare = l.spare } };
+    ghost view = { λ l. record { entries = map (entry_at l.rows.rows l.bytes.items l.events.items) l.lines.items; spare = l.spare } };
 
     ghost invariant = { IsLaidOut };
 }
@@ -62,7 +64,7 @@ impl Log {
     {
         Log {
             lines: Vec::new(alloc),
-            rows: Vec::new(alloc),
+            rows: Rows::new(alloc),
             bytes: Vec::new(alloc),
             events: Vec::new(alloc),
             spare: 0,
@@ -95,7 +97,7 @@ impl Log {
         }
         let room = entries as usize;
         make_room(&mut self.lines, room, FEWEST_LINES)?;
-        make_room(&mut self.rows, room, FEWEST_ROWS)?;
+        self.rows.reserve(room)?;
         make_room(&mut self.bytes, room * MAX_FRAME, FEWEST_BYTES)?;
         self.events.reserve(room * MAX_EVENTS)?;
         self.spare = entries;
@@ -114,8 +116,8 @@ impl Log {
                 idle(time, OpShown::Pop(queue), AnswerShown::Empty)
             }
             Line::Kept { row } => {
-                let row = &self.rows[row as usize];
-                entry_of(self.bytes.as_slice(), self.events.as_slice(), row)
+                let row = self.rows.row(row as usize);
+                entry_of(self.bytes.as_slice(), self.events.as_slice(), &row)
             }
         }
     }
@@ -126,7 +128,7 @@ impl Log {
         ensures { option_map (λ e. e.events.items) (slice_get self.now.entries index) ≡ Some result.now }
     {
         match self.lines[index as usize] {
-            Line::Kept { row } => events_at(&self.events, &self.rows[row as usize]),
+            Line::Kept { row } => events_at(&self.events, &self.rows.row(row as usize)),
             Line::Rested { .. } | Line::FoundNoBuffer { .. } | Line::FoundEmpty { .. } => &[],
         }
     }
@@ -144,7 +146,7 @@ impl Log {
         ensures { option_map moved_in (slice_get self.now.entries index) ≡ Some result }
     {
         match self.lines[index as usize] {
-            Line::Kept { row } => moved_of(&self.bytes, &self.rows[row as usize]),
+            Line::Kept { row } => moved_of(&self.bytes, &self.rows.row(row as usize)),
             Line::Rested { .. } | Line::FoundNoBuffer { .. } | Line::FoundEmpty { .. } => {
                 Moved::NoPacket
             }
@@ -157,10 +159,42 @@ impl Log {
         ensures { option_map noted_in (slice_get self.now.entries index) ≡ Some result }
     {
         match self.lines[index as usize] {
-            Line::Kept { row } => read_noted(&self.rows[row as usize].deed),
+            Line::Kept { row } => read_noted(&self.rows.row(row as usize).deed),
             Line::Rested { .. } | Line::FoundNoBuffer { .. } | Line::FoundEmpty { .. } => {
                 Noted::NoNote
             }
+        }
+    }
+
+    /// The index of the first entry, from this one on, whose turn moved or reported something; the number
+    /// of entries where there is none.
+    pub fn next_deed(&self, from: u64) -> u64
+        requires { from ≤ length self.now.entries }
+        ensures range { (from ≤ result) × (result ≤ length self.now.entries) }
+        ensures idle { All IsIdle (slice_range self.now.entries from result) }
+        ensures first { result < length self.now.entries → option_map is_idle (slice_get self.now.entries result) ≡ Some false }
+    {
+        let mut at = from;
+        while at < self.len() && self.is_idle(at) {
+            at += 1;
+        }
+        at
+    }
+
+    /// Whether the turn of this entry, counted from 0, moved nothing and reported nothing.
+    #[inline(always)]
+    fn is_idle(&self, index: u64) -> bool
+        requires { index < length self.now.entries }
+        ensures { option_map is_idle (slice_get self.now.entries index) ≡ Some result }
+    {
+        match self.lines[index as usize] {
+            Line::Kept { row } => {
+                let row = self.rows.row(row as usize);
+                row.events == 0 && is_still(&row.deed)
+            }
+            Line::Rested { .. } => true,
+            Line::FoundNoBuffer { .. } => true,
+            Line::FoundEmpty { .. } => true,
         }
     }
 
@@ -171,7 +205,13 @@ impl Log {
         requires room { 0 < self.old.spare }
         ensures { self.new ≡ with_entry self.old (entry_with time draft.now told.now.items) }
     {
-        self.add(time, &draft.deed, draft.bytes.as_slice(), told.as_slice());
+        self.add(
+            time,
+            &draft.deed,
+            &draft.trail,
+            draft.bytes.as_slice(),
+            told.as_slice(),
+        );
     }
 
     /// Appends the entry of a turn at this time that looked into a queue, which was empty, and told
@@ -182,7 +222,10 @@ impl Log {
     {
         match u32::try_from(time) {
             Ok(time) => self.add_empty(time, queue),
-            Err(_) => self.add(time, &Deed::FoundEmpty(queue), &[], &[]),
+            Err(_) => {
+                let trail = Trail::of(Trace::empty());
+                self.add(time, &Deed::FoundEmpty(queue), &trail, &[], &[]);
+            }
         }
     }
 
@@ -196,14 +239,14 @@ impl Log {
         *spare -= 1;
     }
 
-    /// Appends the entry of a turn at this time, of a deed with its bytes, and what was told.
+    /// Appends the entry of a turn at this time, of a deed with its trail and its bytes, and what was told.
     #[inline(always)]
-    fn add(&mut self, time: u64, deed: &Deed, carried: &[u8], told: &[Event])
+    fn add(&mut self, time: u64, deed: &Deed, trail: &Trail, carried: &[u8], told: &[Event])
         requires room { 0 < self.old.spare }
         requires fits { IsDeedLong (length carried.now) deed.now }
         requires short { length carried.now ≤ MAX_FRAME }
         requires told { length told.now ≤ MAX_EVENTS }
-        ensures { self.new ≡ with_entry self.old (entry_with time (draft_of carried.now deed.now) told.now) }
+        ensures { self.new ≡ with_entry self.old (entry_with time (draft_of carried.now (trace_of trail.now) deed.now) told.now) }
     {
         let line = say(
             &mut self.rows,
@@ -211,6 +254,7 @@ impl Log {
             &mut self.events,
             time,
             deed,
+            trail,
             carried,
             told,
         );
@@ -219,46 +263,33 @@ impl Log {
     }
 }
 
-/// Makes room in a list for so many elements more, and for `fewest` of them where it has too little. A refusal changes
-/// nothing.
-fn make_room<T: Copy>(list: &mut Vec<T>, room: usize, fewest: usize) -> Result<(), AllocError>
-    ensures items { list.new.items ≡ list.old.items }
-    ensures len { vec_len list.new ≡ vec_len list.old }
-    ensures room { OnOk result (vec_len list.new + room ≤ vec_capacity list.new) }
-    ensures more { vec_capacity list.old ≤ vec_capacity list.new }
-{
-    if list.capacity() - list.len() < room {
-        list.reserve(room.max(fewest))?;
-    }
-    Ok(())
-}
-
 /// The line of a turn at this time, with this deed and its bytes. It keeps a row of what a line can't say.
 #[inline(always)]
 fn say(
-    rows: &mut Vec<Row>,
+    rows: &mut Rows,
     bytes: &mut Vec<u8>,
     events: &mut Vec<Event>,
     time: u64,
     deed: &Deed,
+    trail: &Trail,
     carried: &[u8],
     told: &[Event],
 ) -> Line
-    requires few { length rows.old.items < 2 ^ 32 }
-    requires row_room { vec_len rows.old < vec_capacity rows.old }
+    requires few { length rows.old.rows < 2 ^ 32 }
+    requires row_room { 0 < rows.old.room }
     requires byte_room { vec_len bytes.old + MAX_FRAME ≤ vec_capacity bytes.old }
     requires event_room { vec_len events.old + MAX_EVENTS ≤ vec_capacity events.old }
     requires fits { IsDeedLong (length carried.now) deed.now }
     requires short { length carried.now ≤ MAX_FRAME }
     requires told { length told.now ≤ MAX_EVENTS }
-    ensures says { Says rows.old.items bytes.old.items events.old.items time (draft_of carried.now deed.now) told.now result rows.new.items bytes.new.items events.new.items }
-    ensures rows_capacity { (vec_capacity rows.old ≤ vec_capacity rows.new) × (vec_len rows.new ≤ vec_len rows.old + 1) }
+    ensures says { Says rows.old.rows bytes.old.items events.old.items time (draft_of carried.now (trace_of trail.now) deed.now) told.now result rows.new.rows bytes.new.items events.new.items }
+    ensures rows_room { rows.old.room ≤ rows.new.room + 1 }
     ensures bytes_capacity { (vec_capacity bytes.old ≤ vec_capacity bytes.new) × (vec_len bytes.new ≤ vec_len bytes.old + MAX_FRAME) }
     ensures events_capacity { (vec_capacity events.old ≤ vec_capacity events.new) × (vec_len events.new ≤ vec_len events.old + MAX_EVENTS) }
 {
     match spoken(deed, time, told.is_empty()) {
         Some(line) => line,
-        None => keep_row(rows, bytes, events, time, deed, carried, told),
+        None => keep_row(rows, bytes, events, time, deed, trail, carried, told),
     }
 }
 
@@ -289,89 +320,53 @@ fn spoken(deed: &Deed, time: u64, quiet: bool) -> Option<Line>
 
 /// Keeps what a turn carried and what it told, and gives the line with the place of its row.
 fn keep_row(
-    rows: &mut Vec<Row>,
+    rows: &mut Rows,
     bytes: &mut Vec<u8>,
     events: &mut Vec<Event>,
     time: u64,
     deed: &Deed,
+    trail: &Trail,
     carried: &[u8],
     told: &[Event],
 ) -> Line
-    requires few { length rows.old.items < 2 ^ 32 }
-    requires row_room { vec_len rows.old < vec_capacity rows.old }
+    requires few { length rows.old.rows < 2 ^ 32 }
+    requires row_room { 0 < rows.old.room }
     requires byte_room { vec_len bytes.old + MAX_FRAME ≤ vec_capacity bytes.old }
     requires event_room { vec_len events.old + MAX_EVENTS ≤ vec_capacity events.old }
     requires fits { IsDeedLong (length carried.now) deed.now }
     requires short { length carried.now ≤ MAX_FRAME }
     requires told { length told.now ≤ MAX_EVENTS }
-    ensures says { Says rows.old.items bytes.old.items events.old.items time (draft_of carried.now deed.now) told.now result rows.new.items bytes.new.items events.new.items }
-    ensures rows_capacity { (vec_capacity rows.old ≤ vec_capacity rows.new) × (vec_len rows.new ≤ vec_len rows.old + 1) }
+    ensures says { Says rows.old.rows bytes.old.items events.old.items time (draft_of carried.now (trace_of trail.now) deed.now) told.now result rows.new.rows bytes.new.items events.new.items }
+    ensures rows_room { rows.old.room ≤ rows.new.room + 1 }
     ensures bytes_capacity { (vec_capacity bytes.old ≤ vec_capacity bytes.new) × (vec_len bytes.new ≤ vec_len bytes.old + MAX_FRAME) }
     ensures events_capacity { (vec_capacity events.old ≤ vec_capacity events.new) × (vec_len events.new ≤ vec_len events.old + MAX_EVENTS) }
 {
     let row = rows.len() as u32;
-    let first_byte = keep(bytes, carried);
+    let first_byte = keep_once(bytes, carried);
     let first_event = keep(events, told);
-    rows.push_reserved(Row {
+    rows.push(&Row {
         time,
         first_byte,
         first_event,
         bytes: carried.len() as u16,
         events: told.len() as u8,
         deed: *deed,
+        trail: *trail,
     });
     Line::Kept { row }
 }
 
-/// The entry of a row, with these bytes and events.
-fn entry_of(bytes: &[u8], events: &[Event], row: &Row) -> Entry
-    requires { IsRowIn (length bytes.now) (length events.now) row.now }
-    ensures { result ≡ row_entry bytes.now events.now row.now }
+/// Sees to it that a list has these bytes, for which there is room, and tells where they begin. Where they stand at its
+/// end already they are not kept twice: what comes to a party it mostly hands on.
+fn keep_once(bytes: &mut Vec<u8>, carried: &[u8]) -> usize
+    requires { vec_len bytes.old + length carried.now ≤ vec_capacity bytes.old }
+    ensures kept { IsKeptIn bytes.old.items bytes.new.items carried.now result }
+    ensures len { vec_len bytes.new ≤ vec_len bytes.old + length carried.now }
+    ensures capacity { vec_capacity bytes.old ≤ vec_capacity bytes.new }
 {
-    let carried = &bytes[row.first_byte..row.first_byte + row.bytes as usize];
-    Entry {
-        time: row.time,
-        op: read_op(carried, &row.deed),
-        answer: read_answer(carried, &row.deed),
-        events: events_of(events_at(events, row)),
+    if bytes.as_slice().ends_with(carried) {
+        bytes.len() - carried.len()
+    } else {
+        keep(bytes, carried)
     }
-}
-
-/// What the turn of a row moved.
-fn moved_of<'a>(bytes: &'a [u8], row: &'a Row) -> Moved<'a>
-    requires { row.now.first_byte + row.now.bytes ≤ length bytes.now }
-    ensures { result ≡ moved_by (op_of (bytes_in bytes.now row.now) row.now.deed) (answer_of (bytes_in bytes.now row.now) row.now.deed) }
-{
-    let carried = &bytes[row.first_byte..row.first_byte + row.bytes as usize];
-    read_moved(carried, &row.deed)
-}
-
-/// The events of a row.
-fn events_at<'a>(events: &'a [Event], row: &Row) -> &'a [Event]
-    requires { row.now.first_event + row.now.events ≤ length events.now }
-    ensures { result.now ≡ events_in events.now row.now }
-{
-    &events[row.first_event..row.first_event + row.events as usize]
-}
-
-/// The entry of a turn that carried and told nothing.
-fn idle(time: u32, op: OpShown, answer: AnswerShown) -> Entry
-    ensures { result ≡ entry_with time (record { op = op; answer = answer }) [] }
-{
-    Entry {
-        time: u64::from(time),
-        op,
-        answer,
-        events: Events::new(),
-    }
-}
-
-/// These events as one turn's.
-fn events_of(events: &[Event]) -> Events
-    requires { length events.now ≤ MAX_EVENTS }
-    ensures { result.items ≡ events.now }
-{
-    let mut copy = Events::new();
-    copy.try_extend_from_slice(events).unwrap();
-    copy
 }

@@ -42,9 +42,10 @@ pub struct End {
 }
 
 /// Names a queue. The number is the application's, the interface's, or for a link that of its end.
-#[derive(Clone, Copy, PartialEq, Eq, Debug)]
+#[derive(Clone, Copy, PartialEq, Eq, Debug, Default)]
 pub enum QueueId {
     /// From interfaces and the node itself to the router or bridge: four queues, one for each priority.
+    #[default]
     Inbox,
     /// From an application to the router.
     Up(u8),

@@ -1,43 +1,40 @@
 //! What a log keeps of an entry: a line, and a row where there is more to it than a line says.
 
 use crate::{Note, QueueId};
-use csp_buffer::Trail;
+use csp_buffer::{BriefTrail, Trail};
 
 /// The most bytes of a line.
 const MAX_LINE: usize = 8;
 
 /// The most bytes of a row.
-const MAX_ROW: usize = 96;
+const MAX_ROW: usize = 88;
+
+/// The most bytes of a slot.
+const MAX_SLOT: usize = 56;
 
 const _: () = prove!(size_of::<Line>() <= MAX_LINE);
 
 const _: () = prove!(size_of::<Row>() <= MAX_ROW);
 
-/// What a packet is besides its payload.
+const _: () = prove!(size_of::<Slot>() <= MAX_SLOT);
+
+/// What a packet is besides its payload and its trace.
 #[derive(Clone, Copy)]
 pub struct PacketHead {
     pub header: u32,
     pub number: u16,
-    pub trail: Trail,
 }
 
-/// What a frame is besides its bytes.
-#[derive(Clone, Copy)]
-pub struct FrameHead {
-    pub can: Option<u32>,
-    pub trail: Trail,
-}
-
-/// What an item is besides its bytes.
+/// What an item is besides its bytes and its trace.
 #[derive(Clone, Copy)]
 pub enum ItemHead {
     Packet { mark: u8, packet: PacketHead },
-    Frame(FrameHead),
+    Frame { can: Option<u32> },
     Note(Note),
 }
 
-/// An operation with its answer, but for the bytes of the one packet or frame in them. What comes back
-/// is what was handed in, so it is kept once.
+/// An operation with its answer, but for the bytes and the trace of the one packet or frame in them. What
+/// comes back is what was handed in, so it is kept once.
 #[derive(Clone, Copy)]
 pub enum Deed {
     Rested,
@@ -70,4 +67,22 @@ pub struct Row {
     pub bytes: u16,
     pub events: u8,
     pub deed: Deed,
+    pub trail: Trail,
+}
+
+/// What is kept of a row: all of it, where its numbers are of 32 bits, or its place in a list of rows.
+#[derive(Clone, Copy)]
+pub enum Slot {
+    Brief {
+        events: u8,
+        bytes: u16,
+        time: u32,
+        first_byte: u32,
+        first_event: u32,
+        deed: Deed,
+        trail: BriefTrail,
+    },
+    Wide {
+        place: usize,
+    },
 }

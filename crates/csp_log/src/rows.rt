@@ -1,0 +1,196 @@
+//! The rows of a log.
+
+ghost use Rattle.std.specs.Prelude.{◌≡◌, ◌+◌, ◌<◌, ◌≤◌, [], ◌∷◌, ◌++◌, length, slice_get, true, Some, IfSome, OnOk, OnErr, vec_len, vec_capacity};
+ghost use Rattle.std.specs.Option.{is_some};
+ghost use Rattle.csp_buffer.specs.Trails.{full_of};
+ghost use Rattle.csp_log.specs.Slots.{row_of, brief_slot, is_brief_row, IsSlotIn, IsRowKept};
+
+use crate::deeds::make_room;
+use crate::row::{Row, Slot};
+use csp_buffer::BriefTrail;
+use std::alloc::{AllocError, Global};
+use std::marker::Model;
+
+/// For how many rows it takes room at least, where it takes any, and for how many of large numbers.
+const FEWEST_ROWS: usize = 4_096;
+
+const FEWEST_WIDE: usize = 64;
+
+/// The rows of a log, the oldest first. Contracts see them as a list of rows and a number, for how many
+/// more there is room.
+///
+/// Only `reserve` takes memory. Almost all rows hold small numbers alone, and are kept in 56 bytes.
+#[derive(Drop)]
+pub struct Rows {
+    slots: Vec<Slot>,
+    wides: Vec<Row>,
+    room: usize,
+}
+
+impl Model for Rows {
+    ghost use Rattle.std.specs.Prelude.{map};
+    ghost use Rattle.csp_log.specs.Slots.{PlainRows, row_of, IsKept};
+
+    ghost Value = { PlainRows };
+
+    ghost view = { λ r. record { rows = map (row_of r.wides.items) r.slots.items; room = r.room } };
+
+    ghost invariant = { IsKept };
+}
+
+impl Rows {
+    /// No rows, and room for none.
+    pub fn new(alloc: Global) -> Rows
+        ensures { result ≡ record { rows = []; room = 0 } }
+    {
+        Rows {
+            slots: Vec::new(alloc),
+            wides: Vec::new(alloc),
+            room: 0,
+        }
+    }
+
+    /// The number of rows.
+    #[inline(always)]
+    pub fn len(&self) -> usize
+        ensures { result ≡ length self.now.rows }
+    {
+        self.slots.len()
+    }
+
+    /// Takes room, so that there is some for at least `room` rows more. A refusal changes nothing.
+    pub fn reserve(&mut self, room: usize) -> Result<(), AllocError>
+        ensures rows { self.new.rows ≡ self.old.rows }
+        ensures room { OnOk result (room ≤ self.new.room) }
+        ensures more { self.old.room ≤ self.new.room }
+        ensures err { OnErr result (self.new ≡ self.old) }
+    {
+        if room <= self.room {
+            return Ok(());
+        }
+        make_room(&mut self.slots, room, FEWEST_ROWS)?;
+        make_room(&mut self.wides, room, FEWEST_WIDE)?;
+        self.room = room;
+        Ok(())
+    }
+
+    /// Appends a row. It takes no memory.
+    #[inline(always)]
+    pub fn push(&mut self, row: &Row)
+        requires { 0 < self.old.room }
+        ensures rows { self.new.rows ≡ self.old.rows ++ row.now ∷ [] }
+        ensures room { self.old.room ≡ self.new.room + 1 }
+    {
+        keep_row(&mut self.slots, &mut self.wides, row);
+        self.room -= 1;
+    }
+
+    /// The row of this index, counted from 0.
+    #[inline(always)]
+    pub fn row(&self, index: usize) -> Row
+        requires { index < length self.now.rows }
+        ensures { slice_get self.now.rows index ≡ Some result }
+    {
+        full(self.wides.as_slice(), &self.slots[index])
+    }
+}
+
+/// Keeps a row: in a slot, or at the end of these where one of its numbers is of more than 32 bits.
+#[inline(always)]
+fn keep_row(slots: &mut Vec<Slot>, wides: &mut Vec<Row>, row: &Row)
+    requires slot_room { vec_len slots.old < vec_capacity slots.old }
+    requires wide_room { vec_len wides.old < vec_capacity wides.old }
+    ensures kept { IsRowKept slots.old.items wides.old.items row.now slots.new.items wides.new.items }
+    ensures slots_room { (vec_capacity slots.old ≤ vec_capacity slots.new) × (vec_len slots.new ≡ vec_len slots.old + 1) }
+    ensures wides_room { (vec_capacity wides.old ≤ vec_capacity wides.new) × (vec_len wides.new ≤ vec_len wides.old + 1) }
+{
+    match brief(row) {
+        Some(trail) => keep_brief(slots, row, &trail),
+        None => keep_wide(slots, wides, row),
+    }
+}
+
+/// The trail of a row in fewer bytes; `None` where one of the row's numbers is of more than 32 bits.
+#[inline(always)]
+fn brief(row: &Row) -> Option<BriefTrail>
+    ensures same { IfSome result (λ trail. full_of trail ≡ row.now.trail) }
+    ensures small { is_some result ≡ is_brief_row row.now }
+{
+    let most = u32::MAX as usize;
+    if row.time > u64::from(u32::MAX) || row.first_byte > most || row.first_event > most {
+        return None;
+    }
+    row.trail.brief()
+}
+
+/// Keeps a row whose numbers are of 32 bits, and whose trail is this one.
+#[inline(always)]
+fn keep_brief(slots: &mut Vec<Slot>, row: &Row, trail: &BriefTrail)
+    requires room { vec_len slots.old < vec_capacity slots.old }
+    requires small { is_brief_row row.now ≡ true }
+    requires same { full_of trail.now ≡ row.now.trail }
+    ensures items { slots.new.items ≡ slots.old.items ++ brief_slot row.now trail.now ∷ [] }
+    ensures capacity { vec_capacity slots.old ≤ vec_capacity slots.new }
+    ensures len { vec_len slots.new ≡ vec_len slots.old + 1 }
+{
+    slots.push_reserved(Slot::Brief {
+        events: row.events,
+        bytes: row.bytes,
+        time: row.time as u32,
+        first_byte: row.first_byte as u32,
+        first_event: row.first_event as u32,
+        deed: row.deed,
+        trail: *trail,
+    });
+}
+
+/// Keeps a row at the end of these others, and its place in a slot.
+#[inline(always)]
+fn keep_wide(slots: &mut Vec<Slot>, wides: &mut Vec<Row>, row: &Row)
+    requires slot_room { vec_len slots.old < vec_capacity slots.old }
+    requires wide_room { vec_len wides.old < vec_capacity wides.old }
+    ensures slots { slots.new.items ≡ slots.old.items ++ Slot.Wide (length wides.old.items) ∷ [] }
+    ensures wides { wides.new.items ≡ wides.old.items ++ row.now ∷ [] }
+    ensures slots_room { (vec_capacity slots.old ≤ vec_capacity slots.new) × (vec_len slots.new ≡ vec_len slots.old + 1) }
+    ensures wides_room { (vec_capacity wides.old ≤ vec_capacity wides.new) × (vec_len wides.new ≤ vec_len wides.old + 1) }
+{
+    let place = wides.len();
+    wides.push_reserved(Row {
+        time: row.time,
+        first_byte: row.first_byte,
+        first_event: row.first_event,
+        bytes: row.bytes,
+        events: row.events,
+        deed: row.deed,
+        trail: row.trail,
+    });
+    slots.push_reserved(Slot::Wide { place });
+}
+
+/// The row that a slot stands for.
+#[inline(always)]
+fn full(wides: &[Row], slot: &Slot) -> Row
+    requires { IsSlotIn (length wides.now) slot.now }
+    ensures { result ≡ row_of wides.now slot.now }
+{
+    match slot {
+        Slot::Brief {
+            events,
+            bytes,
+            time,
+            first_byte,
+            first_event,
+            deed,
+            trail,
+        } => Row {
+            time: u64::from(*time),
+            first_byte: *first_byte as usize,
+            first_event: *first_event as usize,
+            bytes: *bytes,
+            events: *events,
+            deed: *deed,
+            trail: trail.full(),
+        },
+        Slot::Wide { place } => wides[*place],
+    }
+}
