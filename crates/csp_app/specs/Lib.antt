@@ -8,3 +8,4 @@ pub mod Steps
 pub mod Telling
 pub mod Told
 pub mod Turn
+pub mod Waiting

@@ -11,8 +11,10 @@ ghost use Rattle.csp_deck.specs.Regions.{IsOpOf};
 ghost use Rattle.csp_log.specs.Pictures.{shown_op};
 
 use crate::plan::Plan;
+use crate::slot::Slot;
 use crate::{App, Step};
 use csp_buffer::Buffer;
+use csp_deck::Circle;
 use csp_log::{Item, ItemShown, Note, Op, QueueId, SLOTS};
 
 impl App {
@@ -21,6 +23,7 @@ impl App {
     ghost use Rattle.csp_app.specs.Slots.{slot_at};
     ghost use Rattle.csp_app.specs.Steps.{plan_of, give_plan, note_plan, packet_plan, recv_plan, is_enough};
     ghost use Rattle.csp_app.specs.Asking.{asks, asked, awaits};
+    ghost use Rattle.csp_app.specs.Waiting.{waits_on, receives_on, vain_looks};
 
     /// What this turn is.
     fn plan(&self) -> Plan
@@ -134,6 +137,51 @@ impl App {
         }
         self.doing = plan;
         Some(QueueId::Down(self.number))
+    }
+
+    /// The queues that it looks into until it is as it is now, where each is empty: its `Down` alone, while its step
+    /// waits and no time or slot ends that.
+    pub(crate) fn circle_now(&self, now: u64) -> Circle
+        requires goes_on { has_ended self.now.app ≡ false }
+        ensures { result.items ≡ vain_looks self.now.app now }
+    {
+        let mut circle = Circle::new();
+        if self.doing == Plan::Rest && self.waits_on(now) {
+            circle.push(QueueId::Down(self.number));
+        }
+        circle
+    }
+
+    /// Whether this turn looks into `Down`, and comes to nothing where that is empty.
+    fn waits_on(&self, now: u64) -> bool
+        requires goes_on { has_ended self.now.app ≡ false }
+        ensures { result ≡ waits_on self.now.app now (plan_of self.now.app) }
+    {
+        match self.plan() {
+            Plan::Await => true,
+            Plan::Receive {
+                slot,
+                count,
+                rounds,
+            } => self.receives_on(slot, count, rounds, now),
+            Plan::Wait { rounds } => {
+                self.progress.since.is_some() && !self.progress.has_passed(rounds, now)
+            }
+            Plan::Rest | Plan::Return | Plan::Look | Plan::Take | Plan::Give | Plan::Skip => false,
+            Plan::Ask(_) | Plan::Fill | Plan::Push | Plan::Use { .. } => false,
+        }
+    }
+
+    /// Whether a `recv` step that looked before goes on looking.
+    fn receives_on(&self, slot: u8, count: u32, rounds: Option<u32>, now: u64) -> bool
+        requires slot { slot < SLOTS }
+        ensures { result ≡ receives_on slot count rounds now self.now.app }
+    {
+        let Slot { unused, down, .. } = self.slots[slot as usize];
+        self.progress.since.is_some()
+            && unused < count
+            && !rounds.is_some_and(|rounds| self.progress.has_passed(rounds, now))
+            && !down
     }
 
     /// The operation of this turn, whose buffer leaves the application.

@@ -1,7 +1,7 @@
 //! An application takes turns.
 
 use crate::App;
-use csp_deck::{Party, Spares};
+use csp_deck::{Circle, Party, Spares};
 use csp_log::{Answer, Events, Op, QueueId};
 
 impl Party for App {
@@ -44,6 +44,10 @@ impl Party for App {
         // Read for the checker alone, which then knows what holds of the fields before the call below.
         let _doing = &self.doing;
         self.look_now(now)
+    }
+
+    fn circle(&self, now: u64) -> Circle {
+        self.circle_now(now)
     }
 
     fn told(&mut self, answer: Answer, now: u64, report: &mut Events, _spares: &mut Spares) {

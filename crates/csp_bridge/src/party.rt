@@ -1,7 +1,7 @@
 //! A bridge takes turns.
 
 use crate::Bridge;
-use csp_deck::{Party, Spares};
+use csp_deck::{Circle, Party, Spares};
 use csp_log::{Answer, Events, Op, QueueId};
 
 impl Party for Bridge {
@@ -38,6 +38,10 @@ impl Party for Bridge {
 
     fn look(&mut self, _now: u64) -> Option<QueueId> {
         self.look_now()
+    }
+
+    fn circle(&self, _now: u64) -> Circle {
+        self.circle_now()
     }
 
     fn told(&mut self, answer: Answer, _now: u64, report: &mut Events, _spares: &mut Spares) {

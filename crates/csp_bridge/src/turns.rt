@@ -10,10 +10,12 @@ ghost use Rattle.csp_log.specs.declared.shown.OpShown.{OpShown};
 use crate::Bridge;
 use crate::doing::Doing;
 use csp_buffer::Buffer;
+use csp_deck::Circle;
 use csp_log::{Answer, AnswerShown, Discard, Event, Events, Item, Op, QueueId, UNMARKED};
 
 impl Bridge {
     ghost use Rattle.csp_bridge.specs.Asking.{asks, asked, awaits};
+    ghost use Rattle.csp_bridge.specs.Circling.{circle};
     ghost use Rattle.csp_bridge.specs.PlainBridge.{holds, uses, with_bridge};
     ghost use Rattle.csp_bridge.specs.Telling.{tells, events};
 
@@ -29,6 +31,18 @@ impl Bridge {
         }
         self.doing = Doing::Hear;
         Some(QueueId::Inbox)
+    }
+
+    /// The queues that it looks into until it is as it is now, where each is empty: its inbox alone, unless it holds
+    /// a packet.
+    pub(crate) fn circle_now(&self) -> Circle
+        ensures { result.items ≡ circle self.now.bridge }
+    {
+        let mut circle = Circle::new();
+        if self.doing == Doing::Rest && self.trash.is_empty() && self.out.is_empty() {
+            circle.push(QueueId::Inbox);
+        }
+        circle
     }
 
     /// The operation of this turn, whose buffer leaves the bridge.

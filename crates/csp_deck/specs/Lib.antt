@@ -1,4 +1,5 @@
 pub mod Carried
+pub mod Circles
 pub mod Keeping
 pub mod Kept
 pub mod Regions

@@ -18,6 +18,6 @@ pub use csp_log::{
 pub use deck::Deck;
 pub use desk::Desk;
 pub use hand::Hand;
-pub use party::Party;
+pub use party::{Circle, MAX_CIRCLE, Party};
 pub use pile::Pile;
 pub use turns::turn;

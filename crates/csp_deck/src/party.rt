@@ -1,11 +1,19 @@
 //! What takes turns.
 
-ghost use Rattle.std.specs.Prelude.{◌≡◌, ℕ, ◌+◌, ◌-◌, ◌^◌, ◌<◌, ◌≤◌, Bool, false, List, [], Option, IfSome, MatchOption};
+ghost use Rattle.std.specs.Prelude.{◌≡◌, ℕ, ◌+◌, ◌-◌, ◌^◌, ◌<◌, ◌≤◌, Bool, false, List, [], Option, IsSome, IfSome, MatchOption, All};
+ghost use Rattle.csp_deck.specs.Circles.{LooksInto};
 ghost use Rattle.csp_deck.specs.Regions.{IsOpOf, IsAnswerFrom};
 ghost use Rattle.csp_deck.specs.Step.{Kind, kind_of, CanServe, IsAnswerOf, op_numbers, answer_numbers, times};
 ghost use Rattle.csp_log.specs.Pictures.{shown_op, shown_answer};
 
 use crate::{Answer, Events, Op, QueueId, Spares};
+use arrayvec::ArrayVec;
+
+/// The most queues of a circle.
+pub const MAX_CIRCLE: usize = 8;
+
+/// Queues that a party looks into one after the other.
+pub type Circle = ArrayVec<QueueId, MAX_CIRCLE>;
 
 /// A router, a bridge, an interface, an application or a link: it asks for one operation a turn, and
 /// is told its answer.
@@ -100,6 +108,20 @@ pub trait Party {
         ensures holds { (k : ℕ) → times k (holds self.new) ≡ times k (holds self.old) }
     {
         None
+    }
+
+    /// The queues that it looks into at this time, one after the other, until it is again as it is now, where
+    /// each of them is empty. None where it does anything else before, or where that is not at hand.
+    fn circle(&self, now: u64) -> Circle
+        requires ready { is_ready self.now now }
+        requires early { now < 2 ^ 62 }
+        requires countable { count self.now < 2 ^ 32 - 1 }
+        requires goes_on { has_ended self.now ≡ false }
+        ensures looks { LooksInto (record { has_ended = has_ended; asks = asks; asked = asked; tells = tells; events = events }) now self.now result.items self.now }
+        ensures served { All (λ q. IsSome (uses self.now q)) result.items }
+    {
+        let _now = now;
+        Circle::new()
     }
 
     /// Ends the turn with the operation's answer. What it reports goes into `report`, which is empty;

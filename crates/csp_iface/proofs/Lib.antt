@@ -1,3 +1,4 @@
+pub mod Circling
 pub mod Counting
 pub mod Frames
 pub mod Laws

@@ -1,4 +1,5 @@
 pub mod Asking
+pub mod Circling
 pub mod Drained
 pub mod Keeping
 pub mod Kept

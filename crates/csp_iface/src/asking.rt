@@ -1,6 +1,6 @@
 //! What an interface asks in a turn.
 
-ghost use Rattle.std.specs.Prelude.{◌≡◌, IfSome, MatchOption, slice_get};
+ghost use Rattle.std.specs.Prelude.{◌≡◌, [], IfSome, MatchOption, slice_get};
 ghost use Rattle.std.specs.Option.{option_map};
 ghost use Rattle.csp_arena.specs.Cells.{RegionName};
 ghost use Rattle.csp_deck.specs.Regions.{IsOpOf};
@@ -13,12 +13,14 @@ ghost use Rattle.csp_log.specs.declared.shown.OpShown.{OpShown};
 use crate::Iface;
 use crate::plan::{Plan, Side};
 use csp_buffer::Buffer;
+use csp_deck::Circle;
 use csp_log::{BoxedFrame, Item, Op, QueueId};
 
 impl Iface {
     ghost use Rattle.csp_iface.specs.PlainIface.{uses, holds, with_iface};
     ghost use Rattle.csp_iface.specs.Planning.{plan_of, side_plan};
     ghost use Rattle.csp_iface.specs.Asking.{asks, asked};
+    ghost use Rattle.csp_iface.specs.Circling.{circle, is_idle, sides};
 
     /// What this turn is.
     fn plan(&self) -> Plan
@@ -66,6 +68,50 @@ impl Iface {
         self.side = self.side.other();
         self.doing = plan;
         Some(queue)
+    }
+
+    /// The queues that it looks into until it is as it is now, where each is empty: those of its two sides, unless
+    /// there is something else to do.
+    pub(crate) fn circle_now(&self) -> Circle
+        requires rests { self.now.iface.doing ≡ Plan.Rest }
+        ensures { result.items ≡ circle self.now.iface }
+    {
+        let mut circle = Circle::new();
+        if self.is_idle() {
+            self.list_sides(&mut circle);
+        }
+        circle
+    }
+
+    /// Whether neither side has anything to do but look.
+    fn is_idle(&self) -> bool
+        requires { self.now.iface.doing ≡ Plan.Rest }
+        ensures { result ≡ is_idle self.now.iface }
+    {
+        self.back.is_empty()
+            && self.accepted.is_empty()
+            && self.whole.is_none()
+            && !self.sender.is_loaded()
+            && self.receiver.is_read()
+    }
+
+    /// Lists the queues of the two sides, that whose turn comes next first.
+    fn list_sides(&self, circle: &mut Circle)
+        requires { circle.old.items ≡ [] }
+        ensures { circle.new.items ≡ sides self.now.iface.number self.now.iface.side }
+    {
+        let out = QueueId::Out(self.number);
+        let rx = QueueId::Rx(self.number);
+        match self.side {
+            Side::Sending => {
+                circle.push(out);
+                circle.push(rx);
+            }
+            Side::Receiving => {
+                circle.push(rx);
+                circle.push(out);
+            }
+        }
     }
 
     /// The operation of this turn, whose buffer or frame leaves the interface.

@@ -1,7 +1,7 @@
 //! An interface takes turns.
 
 use crate::Iface;
-use csp_deck::{Party, Spares};
+use csp_deck::{Circle, Party, Spares};
 use csp_log::{Answer, Events, Op, QueueId};
 
 impl Party for Iface {
@@ -43,6 +43,10 @@ impl Party for Iface {
 
     fn look(&mut self, _now: u64) -> Option<QueueId> {
         self.look_now()
+    }
+
+    fn circle(&self, _now: u64) -> Circle {
+        self.circle_now()
     }
 
     fn told(&mut self, answer: Answer, now: u64, report: &mut Events, spares: &mut Spares) {

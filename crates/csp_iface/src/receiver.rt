@@ -26,6 +26,7 @@ pub enum Receiver {
 }
 
 impl Receiver {
+    ghost use Rattle.csp_iface.specs.Circling.{is_read};
     ghost use Rattle.csp_iface.specs.Links.{receiver_for, kind_of, IsFrameOn};
 
     /// What is kept on a link of this kind before anything came.
@@ -71,6 +72,16 @@ impl Receiver {
                 spares.keep(frame);
                 refused
             }
+        }
+    }
+
+    /// Whether no frame is in hand that is still to be read.
+    pub fn is_read(&self) -> bool
+        ensures { result ≡ is_read self.now }
+    {
+        match self {
+            Receiver::Kiss(stream) => stream.is_read(),
+            Receiver::Can(_) => true,
         }
     }
 

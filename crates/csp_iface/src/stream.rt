@@ -3,6 +3,7 @@
 ghost use Rattle.std.specs.Prelude.{◌≡◌, ◌≤◌, None, [], length, drop};
 ghost use Rattle.std.specs.Option.{option_map};
 ghost use Rattle.csp_base.specs.Trace.{no_trace};
+ghost use Rattle.csp_iface.specs.Circling.{all_read};
 ghost use Rattle.csp_iface.specs.Receiving.{traced};
 ghost use Rattle.csp_kiss.specs.GoingOn.{read_on};
 ghost use Rattle.csp_kiss.specs.Reading.{unread};
@@ -57,6 +58,17 @@ impl Stream {
         self.frame = Some(frame);
         self.at = 0;
         self.trace = trace;
+    }
+
+    /// Whether the frame in hand, where there is one, is read to its end.
+    #[tactic(auto, using(crate::proofs::Circling::none_left))]
+    pub fn is_read(&self) -> bool
+        ensures { result ≡ all_read self.now.rest }
+    {
+        match &self.frame {
+            Some(frame) => self.at >= frame.frame().bytes.len(),
+            None => true,
+        }
     }
 
     /// Reads on in the frame in hand until a packet is whole, which goes into `whole`, or the frame is

@@ -1,5 +1,6 @@
 pub mod Applied
 pub mod Asking
+pub mod Circling
 pub mod Copies
 pub mod Fates
 pub mod Holding

@@ -10,6 +10,7 @@ use crate::direction::Direction;
 use crate::doing::Doing;
 use crate::{Fault, MAX_REPEATS, Way};
 use csp_buffer::Buffer;
+use csp_deck::Circle;
 use csp_log::{Answer, AnswerShown, BoxedFrame, Item, LinkKind, Op, OpShown, QueueId, Spares};
 use std::alloc::{AllocError, Global};
 use std::marker::Model;
@@ -40,6 +41,7 @@ impl Model for Link {
 impl Link {
     ghost use Rattle.csp_link.specs.PlainLink.{opening, uses, count};
     ghost use Rattle.csp_link.specs.Asking.{asks, asked, awaits};
+    ghost use Rattle.csp_link.specs.Circling.{circle};
     ghost use Rattle.csp_link.specs.Telling.{tells, turned};
 
     /// A link of this kind that has carried nothing yet, with room for 64 held frames in each
@@ -89,6 +91,19 @@ impl Link {
         }
         self.doing = Doing::Pop;
         Some(self.way.from_queue())
+    }
+
+    /// The queues that it looks into until it is as it is now, where each is empty: those of its two directions,
+    /// unless one of them has something else to do.
+    pub(crate) fn circle_now(&self, now: u64) -> Circle
+        ensures { result.items ≡ circle self.now now }
+    {
+        let mut circle = Circle::new();
+        if self.doing == Doing::Rest && self.forth.looks(now) && self.back.looks(now) {
+            circle.push(self.way.from_queue());
+            circle.push(self.way.other().from_queue());
+        }
+        circle
     }
 
     /// Ends the turn with the operation's answer.

@@ -1,7 +1,7 @@
 //! A link takes turns.
 
 use crate::{Link, MAX_REPEATS};
-use csp_deck::{Party, Spares};
+use csp_deck::{Circle, Party, Spares};
 use csp_log::{Answer, Events, Op, QueueId};
 
 impl Party for Link {
@@ -44,6 +44,10 @@ impl Party for Link {
 
     fn look(&mut self, now: u64) -> Option<QueueId> {
         self.look_now(now)
+    }
+
+    fn circle(&self, now: u64) -> Circle {
+        self.circle_now(now)
     }
 
     fn told(&mut self, answer: Answer, now: u64, _report: &mut Events, spares: &mut Spares) {

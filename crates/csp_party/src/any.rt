@@ -7,7 +7,7 @@ ghost use Rattle.csp_party.specs.Any.{plain, region_of, holds, drained, present_
 use csp_app::App;
 use csp_bridge::Bridge;
 use csp_buffer::Buffer;
-use csp_deck::{Answer, Events, Op, Party, QueueId, Spares};
+use csp_deck::{Answer, Circle, Events, Op, Party, QueueId, Spares};
 use csp_iface::Iface;
 use csp_link::Link;
 use csp_stack::Stack;
@@ -74,6 +74,16 @@ impl Party for AnyParty {
             AnyParty::Iface(iface) => iface.look(now),
             AnyParty::App(app) => app.look(now),
             AnyParty::Link(link) => link.look(now),
+        }
+    }
+
+    fn circle(&self, now: u64) -> Circle {
+        match self {
+            AnyParty::Router(router) => router.circle(now),
+            AnyParty::Bridge(bridge) => bridge.circle(now),
+            AnyParty::Iface(iface) => iface.circle(now),
+            AnyParty::App(app) => app.circle(now),
+            AnyParty::Link(link) => link.circle(now),
         }
     }
 

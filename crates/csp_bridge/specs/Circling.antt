@@ -1,0 +1,16 @@
+-- the queues that a bridge looks into again and again
+use Rattle.std.specs.Prelude.{Option, None, List, [], ◌∷◌}
+use Rattle.csp_bridge.specs.PlainBridge.{PlainBridge}
+use Rattle.csp_bridge.specs.declared.doing.Doing.{Doing}
+use Rattle.csp_bridge.specs.declared.doing.Doing.TheVariants as doing
+use Rattle.csp_buffer.specs.Content.{Content}
+use Rattle.csp_log.specs.declared.places.QueueId.{QueueId}
+use Rattle.csp_log.specs.declared.places.QueueId.TheVariants as queue
+
+-- between two turns it looks into its inbox alone, unless it holds a packet
+abbrev pub circle_by : Doing → (trash out : Option Content) → List QueueId
+circle_by doing.Rest None None = queue.Inbox ∷ []
+circle_by _ _ _ = []
+
+abbrev pub circle : PlainBridge → List QueueId
+circle s = circle_by s.doing s.trash s.out
