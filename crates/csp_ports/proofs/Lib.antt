@@ -1,6 +1,7 @@
 pub mod Binding
 pub mod Conserving
 pub mod Counting
+pub mod Finding
 pub mod Flowing
 pub mod Following
 pub mod Holding

@@ -1,6 +1,7 @@
 //! What the reliable connections of a node owe, and what comes of it.
 
-ghost use Rattle.std.specs.Prelude.{◌≡◌, ◌≢◌, ◌+◌, ◌-◌, ◌*◌, ◌/◌, ◌%◌, ◌^◌, ◌<◌, ◌≤◌, ◌++◌, ℕ, false, [], ◌∷◌, length, None, Some, IfSome};
+ghost use Rattle.std.specs.Prelude.{◌≡◌, ◌≢◌, ◌+◌, ◌-◌, ◌*◌, ◌/◌, ◌%◌, ◌^◌, ◌<◌, ◌≤◌, ◌++◌, ℕ, false, [], ◌∷◌, find, length, None, Some, IfSome};
+ghost use Rattle.std.specs.List.{range_with_len};
 ghost use Rattle.std.specs.Option.{option_map};
 ghost use Rattle.csp_buffer.specs.PlainBuffer.{with_picture};
 ghost use Rattle.csp_conn.specs.PlainConns.{IsThere};
@@ -11,7 +12,7 @@ ghost use Rattle.csp_ports.specs.Came.{Comes, pictures};
 ghost use Rattle.csp_ports.specs.Counts.{IsCountable};
 ghost use Rattle.csp_ports.specs.Keeps.{IsOwedBy, Keeps};
 ghost use Rattle.csp_ports.specs.Kept.{IsHoused, IsRoomy};
-ghost use Rattle.csp_ports.specs.PlainPorts.{anywhere, machine_at, with_ports_at};
+ghost use Rattle.csp_ports.specs.PlainPorts.{anywhere, machine_at, terms_at, with_ports_at};
 ghost use Rattle.csp_ports.specs.Tasks.{delivered, has_task, kept_again, made_in, making, next_task, place_with_task, task_at, task_of, told_down, turned, without_packet};
 ghost use Rattle.csp_rdp.specs.Counts.{IsFar};
 ghost use Rattle.csp_rdp.specs.Changes.{change_between};
@@ -91,16 +92,50 @@ impl Ports {
         ensures inside { IfSome result (λ at. at < self.now.ports.conns.apps * SLOTS) }
     {
         let count = self.slot_count();
-        (self.next..count)
-            .chain(0..self.next)
-            .find(|at| self.has_task(*at, now))
+        match self.find_between(self.next, count, now) {
+            Some(at) => Some(at),
+            None => self.find_between(0, self.next.min(count), now),
+        }
     }
 
-    /// Whether the slot at a place has a task. Past the last there is none.
-    fn has_task(&self, at: usize, now: u64) -> bool
+    /// The first place with a task from one place on, before another.
+    fn find_between(&self, first: usize, end: usize, now: u64) -> Option<usize>
+        requires inside { end ≤ self.now.ports.conns.apps * SLOTS }
+        ensures place { result ≡ find (has_task now self.now.ports) (range_with_len first (end - first)) }
+        ensures inside { IfSome result (λ at. at < end) }
+    {
+        for at in first..end {
+            if self.owes(at, now) {
+                return Some(at);
+            }
+        }
+        None
+    }
+
+    /// Whether the slot at a place has a task.
+    fn owes(&self, at: usize, now: u64) -> bool
+        requires inside { at < self.now.ports.conns.apps * SLOTS }
         ensures { result ≡ has_task now self.now.ports at }
     {
-        at < self.slot_count() && self.task_of(at, now).is_some()
+        sees_no_region();
+        self.is_down_at(at) || self.machine_of(at).owes(now)
+    }
+
+    /// Whether a Down note is owed of the slot at a place.
+    fn is_down_at(&self, at: usize) -> bool
+        requires inside { at < self.now.ports.conns.apps * SLOTS }
+        ensures { result ≡ (terms_at self.now.ports (at / SLOTS) (at % SLOTS)).is_down }
+    {
+        let terms = &self.terms;
+        terms[at].is_down
+    }
+
+    /// The machine of the slot at a place.
+    fn machine_of(&self, at: usize) -> &Rdp
+        requires inside { at < self.now.ports.conns.apps * SLOTS }
+        ensures { placed nowhere result.now ≡ machine_at self.now.ports (at / SLOTS) (at % SLOTS) }
+    {
+        &self.machines[at]
     }
 
     /// A slot comes to its task: the next look begins past it.

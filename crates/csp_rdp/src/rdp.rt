@@ -1,10 +1,10 @@
 //! The machine.
 
-ghost use Rattle.std.specs.Prelude.{◌≡◌, ◌≢◌, ◌+◌, ◌-◌, ◌^◌, ◌<◌, ◌≤◌, ◌↔◌, ℕ, true, false, [], ◌∷◌, length, nat_lt, Some, None, IsTrue, IsErr, OnOk, OnErr, OnSome, IfErr};
+ghost use Rattle.std.specs.Prelude.{◌≡◌, ◌≢◌, ◌+◌, ◌-◌, ◌^◌, ◌<◌, ◌≤◌, ◌↔◌, ℕ, true, false, [], ◌∷◌, length, nat_lt, Some, None, is_some, IsTrue, IsErr, OnOk, OnErr, OnSome, IfErr};
 ghost use Rattle.std.specs.Option.{MatchOption, option_map};
 ghost use Rattle.csp_rdp.specs.Changes.{change_between, close_change};
 ghost use Rattle.csp_rdp.specs.Holding.{rdp_buffers, rdp_numbers, rested, taken_out, unneeded, unneeded_buffer, unneeded_in, without_kept, without_unneeded};
-ghost use Rattle.csp_rdp.specs.Jobs.{admitting, closing, delivering, delivery, filled, job_of, keeping_again, sent, ticked, without_delivery};
+ghost use Rattle.csp_rdp.specs.Jobs.{admitting, closing, delivering, delivery, filled, job_in, job_of, keeping_again, sent, ticked, without_delivery};
 ghost use Rattle.csp_rdp.specs.Machine.{accepting, connecting, flow_of, idle, made, una_of};
 ghost use Rattle.csp_rdp.specs.Sound.{IsUnopened};
 ghost use Rattle.csp_rdp.specs.Timer.{times_out, waits_in};
@@ -188,6 +188,30 @@ impl Rdp {
             State::SynSent | State::SynRcvd => self.opening_job(now),
             State::Open => self.open_job(now),
             State::CloseWait | State::Closed => None,
+        }
+    }
+
+    /// Whether any job is owed. A connection that is over answers at once.
+    #[inline(always)]
+    pub fn owes(&self, now: u64) -> bool
+        ensures { result ≡ is_some (job_of now self.now) }
+    {
+        self.owed.rst
+            || match self.state {
+                State::SynSent | State::SynRcvd | State::Open => self.owes_in_state(now),
+                State::CloseWait | State::Closed => false,
+            }
+    }
+
+    // Whether any job but a reset is owed.
+    #[inline(never)]
+    fn owes_in_state(&self, now: u64) -> bool
+        ensures { result ≡ is_some (job_in self.now.state now self.now) }
+    {
+        match self.state {
+            State::SynSent | State::SynRcvd => self.opening_job(now).is_some(),
+            State::Open => self.open_job(now).is_some(),
+            State::CloseWait | State::Closed => false,
         }
     }
 

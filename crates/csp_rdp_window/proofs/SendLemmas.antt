@@ -10,7 +10,7 @@ use Rattle.csp_base.specs.declared.sequence.Seq.{Seq}
 use Rattle.csp_buffer.specs.PlainBuffer.{PlainBuffer}
 use Rattle.csp_rdp_window.specs.Numbers.{times, number_in}
 use Rattle.csp_rdp_window.specs.Places.{ArePlaced, held_in}
-use Rattle.csp_rdp_window.specs.Sending.{PlainSend, admitted, fresh, is_loose, listed, listed_at, marked, needed_if, newest_of, send_numbers, with_mark, without_listed, without_loose}
+use Rattle.csp_rdp_window.specs.Sending.{PlainSend, admitted, fresh, is_due, is_loose, listed, listed_at, marked, needed_if, newest_of, send_numbers, with_mark, without_listed, without_loose}
 use Rattle.csp_rdp_window.specs.Shown.{shown}
 use Rattle.csp_rdp_window.specs.declared.pending.Mark.{Mark}
 use Rattle.csp_rdp_window.specs.declared.pending.Mark.TheVariants.{Acknowledged, Listed, Abandoned, Sent, Missed}
@@ -280,3 +280,15 @@ numbers-listed ts w = go w.packets
 
 pub times-admitted : (k : ℕ) (b : PlainBuffer) (w : PlainSend) → times k (send_numbers (admitted b w)) ≡ times k (send_numbers w) + times k (b.picture.number ∷ [])
 times-admitted k b w = ap (times k) (map-append (λ p. p.buffer.picture.number) w.packets (fresh w.nxt b ∷ [])) ∙ times-append k (send_numbers w) (b.picture.number ∷ [])
+
+-- ---- what is due
+
+-- with all packets acknowledged none is due
+pub none-due : (una nxt time timeout : ℕ) (places : List (Option Pending)) → ArePlaced una nxt places → nxt + length places ≤ una + 20 → find (is_due time timeout) (held_in places) ≡ None
+none-due una nxt time timeout [] placed few = refl
+none-due una nxt time timeout (None ∷ places) placed few = none-due una (nxt + 1) time timeout places placed (omega arith)
+none-due una nxt time timeout (Some p ∷ places) placed few = go p.needed refl (none-due una (nxt + 1) time timeout places placed.2 (omega arith))
+  where
+    go : (b : Bool) → p.needed ≡ b → find (is_due time timeout) (held_in places) ≡ None → find (is_due time timeout) (p ∷ held_in places) ≡ None
+    go true e rest = let low = placed.1 e in let at = placed.0 in absurd (omega arith)
+    go false e rest = rw e rest

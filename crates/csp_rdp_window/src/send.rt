@@ -107,7 +107,12 @@ impl SendWindow {
     pub fn due(&self, now: u64, packet_timeout: u32) -> Option<u64>
         ensures { result ≡ due_index now packet_timeout self.now }
     {
-        first_due(&self.places, now, packet_timeout)
+        let places: &[Option<Pending>] = &self.places;
+        // What is acknowledged is not needed.
+        if self.una == self.nxt {
+            return None;
+        }
+        first_due(places, now, packet_timeout)
     }
 
     /// Writes the payload of the packet of this index into a cleared buffer, and notes that it is sent.
