@@ -1,4 +1,5 @@
 pub mod Awaiting
+pub mod Circling
 pub mod Keeping
 pub mod Resting
 pub mod Sendable

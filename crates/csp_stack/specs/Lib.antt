@@ -1,3 +1,4 @@
+pub mod Circles
 pub mod Comes
 pub mod Keeps
 pub mod Config

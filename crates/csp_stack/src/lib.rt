@@ -3,6 +3,7 @@
 #![tactic(auto)]
 
 mod at_port;
+mod circle;
 mod config;
 mod counting;
 mod facts;

@@ -1,8 +1,9 @@
 //! The router takes turns.
 
 use crate::Stack;
+use crate::circle::circle;
 use crate::turn::{begin, finish, look, miss};
-use csp_deck::{Answer, Events, Op, Party, QueueId, Spares};
+use csp_deck::{Answer, Circle, Events, Op, Party, QueueId, Spares};
 use csp_ports::counts;
 
 impl Party for Stack {
@@ -42,6 +43,11 @@ impl Party for Stack {
     fn look(&mut self, now: u64) -> Option<QueueId> {
         counts();
         look(&self.facts, &mut self.state, now)
+    }
+
+    fn circle(&self, now: u64) -> Circle {
+        counts();
+        circle(&self.facts, &self.state, now)
     }
 
     fn told(&mut self, answer: Answer, now: u64, report: &mut Events, _spares: &mut Spares) {

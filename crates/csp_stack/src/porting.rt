@@ -37,7 +37,7 @@ impl State {
         self.ports.bounds();
     }
 
-    /// The timers are tried: what they report is kept for the turn's end.
+    /// The timers are tried, where they have anything to do: what they report is kept for the turn's end.
     pub fn try_timers(&mut self, now: u64)
         requires room { length self.old.state.trash + length (held self.old.state.ports) ≤ TRASH_ROOM }
         ensures state { self.new ≡ record self.old { state = timed self.old.state now } }
@@ -48,7 +48,9 @@ impl State {
         ensures apps { self.new.state.ports.conns.apps ≡ self.old.state.ports.conns.apps }
     {
         self.early.clear();
-        self.ports.tick(now, &mut self.trash, &mut self.early);
+        if !self.ports.is_quiet(now) {
+            self.ports.tick(now, &mut self.trash, &mut self.early);
+        }
     }
 
     /// Whether nothing is to be done before a source is looked at: there is no trash, no packet that is to go

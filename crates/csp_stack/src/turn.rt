@@ -99,7 +99,7 @@ fn look_for_work(facts: &Facts, state: &mut State, now: u64) -> Option<QueueId>
     ensures served { IfSome result (λ q. CanServe (rules_of facts.now) (OpShown.Pop q)) }
     ensures region { state.new.region ≡ state.old.region }
 {
-    match find_work(facts, state, now) {
+    match find_work(facts, state, state.cursor, now) {
         Some(Source::Inbox) => {
             state.cursor = past_inbox(facts);
             state.doing = Plan::Hear;
@@ -126,7 +126,7 @@ fn begin_work(facts: &Facts, state: &mut State, now: u64) -> Op
     ensures region { state.new.region ≡ state.old.region }
     ensures asks { Asks facts.now state.old.state state.new.state now (shown_op result) }
 {
-    match find_work(facts, state, now) {
+    match find_work(facts, state, state.cursor, now) {
         Some(Source::Inbox) => {
             state.cursor = past_inbox(facts);
             state.doing = Plan::Hear;
@@ -257,28 +257,28 @@ fn begin_packet(facts: &Facts, state: &mut State, app: u8, slot: u8, job: Job, _
     Op::Take
 }
 
-/// The first source with work, from the cursor on.
-fn find_work(facts: &Facts, state: &State, now: u64) -> Option<Source>
+/// The first source with work, from this cursor on.
+pub fn find_work(facts: &Facts, state: &State, cursor: usize, now: u64) -> Option<Source>
     requires apps { state.now.state.ports.conns.apps ≡ facts.now.apps }
     ensures there { (k : ℕ) → result ≡ Some (Source.App k) → k < facts.now.apps }
     ensures works { IfSome result (λ source. has_work state.now.state now source ≡ true) }
-    ensures source { result ≡ option_map (source_at facts.now) (place_with_work facts.now state.now.state now) }
+    ensures source { result ≡ option_map (source_at facts.now) (place_with_work facts.now (record state.now.state { cursor = cursor }) now) }
 {
-    match find_place(facts, state, now) {
+    match find_place(facts, state, cursor, now) {
         Some(place) => Some(source_in(facts, place)),
         None => None,
     }
 }
 
-/// The place of the first source with work, from the cursor on.
-fn find_place(facts: &Facts, state: &State, now: u64) -> Option<usize>
+/// The place of the first source with work, from this cursor on.
+fn find_place(facts: &Facts, state: &State, cursor: usize, now: u64) -> Option<usize>
     requires apps { state.now.state.ports.conns.apps ≡ facts.now.apps }
-    ensures place { result ≡ place_with_work facts.now state.now.state now }
+    ensures place { result ≡ place_with_work facts.now (record state.now.state { cursor = cursor }) now }
     ensures works { IfSome result (λ k. has_work state.now.state now (source_at facts.now k) ≡ true) }
 {
     let count = count_sources(facts);
-    (state.cursor..count)
-        .chain(0..state.cursor)
+    (cursor..count)
+        .chain(0..cursor)
         .find(|place| works(state, now, source_in(facts, *place)))
 }
 
