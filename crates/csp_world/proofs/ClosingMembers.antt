@@ -1,16 +1,15 @@
 -- What is taken back from the parties of each node.
-use Rattle.std.proofs.Common.{◌≡◌, ℕ, ◌+◌, ◌<◌, ◌≤◌, get_or, map, set, sym, ◌∙◌, Bool, true, false, Option, None, Some, List, [], ◌∷◌, ◌++◌, length, refl, ap, subst, arith}
-use Rattle.std.specs.Prelude.{slice_get, slice_set, if◌then◌else◌, ◌==◌}
+use Rattle.std.proofs.Common.{◌≡◌, ℕ, ◌+◌, ◌<◌, ◌≤◌, get_or, map, sym, ◌∙◌, Bool, true, false, Option, None, Some, List, [], ◌∷◌, ◌++◌, length, refl, ap, subst, arith}
+use Rattle.std.specs.Prelude.{slice_get, slice_set, ◌==◌}
 use Rattle.std.specs.List.{flat_map}
 use Rattle.std.specs.Option.{option_map}
 use Rattle.std.proofs.lemmas.Bool.Decides.{nat_tests}
 use Rattle.std.proofs.lemmas.List.{append_assoc, append-nil, length-append, length-map}
 use Rattle.std.proofs.lemmas.Option.{slice_get-map, slice_get_read, slice_get_within}
 use Rattle.csp_arena.specs.Cells.{RegionName}
-use Rattle.csp_log.specs.Remains.{PlainHeld}
 use Rattle.csp_log.specs.declared.places.Place.{Place}
 use Rattle.csp_nodes.specs.Emptied.{EmptiedAt, PlainEmptied, emptied_in, with_gathered}
-use Rattle.csp_party.specs.Any.{holds, region_of}
+use Rattle.csp_party.specs.Any.{holds}
 use Rattle.csp_record.specs.Who.{home_of, node_of}
 use Rattle.csp_world.specs.Holders.{is_at, is_home, holds_at}
 use Rattle.csp_world.specs.Record.{held_by, member_held}

@@ -1,5 +1,5 @@
 -- What is taken back of a node.
-use Rattle.std.proofs.Common.{◌≡◌, ℕ, suc, List, [], ◌∷◌, ◌++◌, length, refl, ap}
+use Rattle.std.proofs.Common.{◌≡◌, suc, List, [], ◌∷◌, ◌++◌, length, refl, ap}
 use Rattle.std.proofs.lemmas.List.{append_assoc}
 use Rattle.csp_buffer.specs.Content.{Content}
 use Rattle.csp_lists.specs.Gathered.{queued_numbers}

@@ -1,12 +1,12 @@
 -- The run of a scene with eleven parties ends below the entry limit, however the run goes: each turn is at most one entry.
-use Rattle.std.proofs.Common.{◌≡◌, ℕ, zero, suc, ◌+◌, ◌*◌, ◌<◌, ◌≤◌, Bool, true, false, cond, leb, Some, None, List, [], ◌∷◌, ◌++◌, length, refl, ap, ◌∙◌, length-append, arith}
+use Rattle.std.proofs.Common.{◌≡◌, ℕ, zero, suc, ◌+◌, ◌*◌, ◌<◌, ◌≤◌, Bool, true, false, cond, leb, Some, None, List, [], ◌∷◌, length, refl, ◌∙◌, length-append, arith}
 use Rattle.std.specs.Prelude.{replicate}
 use Rattle.std.specs.List.{range_with_len, flat_map}
 use Rattle.std.proofs.lemmas.Bool.{leb-true}
 use Rattle.csp_scene.specs.Scene.{in_rounds}
 use Rattle.csp_world.proofs.ScheduleLemmas.{steady_turn, still_turns}
 use Rattle.csp_world.specs.Schedule.{turns, round_places, round, rounds, run_rounds, run_by}
-use Rattle.csp_world.specs.World.{PlainWorld, turn, tick, finished, entries}
+use Rattle.csp_world.specs.World.{PlainWorld, turn, finished, entries}
 use Rattle.csp_world.specs.declared.limits.TheConstants.{TURNS_PER_ROUND, MAX_ENTRIES}
 use Rattle.csp_world.specs.declared.rounds.Order.TheVariants as order
 

@@ -19,6 +19,7 @@ pub mod LaneNames
 pub mod LaneRooms
 pub mod LinkLanes
 pub mod LocalLemmas
+pub mod LookingLemmas
 pub mod LoggedLemmas
 pub mod MoveLemmas
 pub mod MovedLemmas

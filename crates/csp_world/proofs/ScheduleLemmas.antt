@@ -3,7 +3,7 @@ use Rattle.std.proofs.Common.{◌≡◌, ℕ, zero, suc, ◌+◌, ◌-◌, ◌<�
 use Rattle.std.specs.Prelude.{slice_get, replicate, if◌then◌else◌}
 use Rattle.std.specs.List.{range_with_len, flat_map}
 use Rattle.std.proofs.Math.Seq.{map-set_same}
-use Rattle.std.proofs.lemmas.List.{length-set, length-append}
+use Rattle.std.proofs.lemmas.List.{length-set, length-append, replicate-append-replicate}
 use Rattle.std.proofs.lemmas.List.Sums.{sum_by-set, get_or-le-sum_by}
 use Rattle.std.proofs.lemmas.Option.{slice_get_within, get_or_from_slice_get}
 use Rattle.csp_log.specs.declared.shown.AnswerShown.{AnswerShown}
@@ -65,17 +65,17 @@ still_turns w (place ∷ places) =
     record { members = rest.members ∙ first.members; time = rest.time ∙ first.time }
 
 -- turns one after the other
-turns_both : (w : PlainWorld) (xs ys : List ℕ) → turns w (xs ++ ys) ≡ turns (turns w xs) ys
+pub turns_both : (w : PlainWorld) (xs ys : List ℕ) → turns w (xs ++ ys) ≡ turns (turns w xs) ys
 unfolding turns
 turns_both w [] ys = refl
 turns_both w (x ∷ xs) ys = turns_both (turn w x) xs ys
 
-first_turn : (w : PlainWorld) (place : ℕ) (places : List ℕ) → turns w (place ∷ places) ≡ turns (turn w place) places
+pub first_turn : (w : PlainWorld) (place : ℕ) (places : List ℕ) → turns w (place ∷ places) ≡ turns (turn w place) places
 unfolding turns
 first_turn w place places = refl
 
 -- no more turns
-none_left : (w : PlainWorld) → turns w [] ≡ w
+pub none_left : (w : PlainWorld) → turns w [] ≡ w
 unfolding turns
 none_left w = refl
 
@@ -161,3 +161,11 @@ log_within w place = by_case (slice_get w.members place) refl where
   by_case (Some party) e =
       let h = get_or-le-sum_by (λ (p : PlainMember). length p.entries) w.members place party (slice_get_within w.members place party e) in
       rw (get_or_from_slice_get w.members place party party e) at h
+
+-- of so many turns some are taken, and the others are left
+pub some_taken : (w v : PlainWorld) (place taken : ℕ) → taken ≤ TURNS_PER_ROUND → v ≡ turns w (replicate taken place) → turns v (replicate (TURNS_PER_ROUND - taken) place) ≡ turns w (replicate TURNS_PER_ROUND place)
+some_taken w v place taken few e =
+    let all : taken + (TURNS_PER_ROUND - taken) ≡ TURNS_PER_ROUND = omega arith in
+    ap (λ u. turns u (replicate (TURNS_PER_ROUND - taken) place)) e
+    ∙ sym (turns_both w (replicate taken place) (replicate (TURNS_PER_ROUND - taken) place))
+    ∙ ap (turns w) (replicate-append-replicate taken (TURNS_PER_ROUND - taken) place ∙ ap (λ n. replicate n place) all)

@@ -1,7 +1,7 @@
 -- Each party that a move of a scene names is one of its opening world.
 use Rattle.std.proofs.Common.{◌≡◌, ◌≢◌, ℕ, zero, suc, ◌+◌, ◌<◌, ◌≤◌, Bool, true, false, Option, None, Some, List, [], ◌∷◌, ◌++◌, length, map, refl, sym, ◌∙◌, ap, arith, subst}
 use Rattle.std.specs.Prelude.{◌||◌, ◌&&◌, ◌==◌, All, slice_get}
-use Rattle.std.specs.List.{AllByRecursion, list_any, position_or_len}
+use Rattle.std.specs.List.{AllByRecursion, list_any}
 use Rattle.std.proofs.lemmas.Bool.{false≢true, eqb-false}
 use Rattle.std.proofs.lemmas.List.Elements.{All-nil, All-cons}
 use Rattle.std.proofs.lemmas.List.Folds.{list_any-append}
@@ -12,7 +12,7 @@ use Rattle.csp_scene.specs.Ranges.{IsMove, IsSchedule, IsScene}
 use Rattle.csp_scene.specs.Scene.{PlainApp, PlainLink, PlainNode, PlainSchedule, PlainScene, in_rounds, shuffled, stepwise, moves_in}
 use Rattle.csp_scene.specs.declared.scenario.Move.{Move}
 use Rattle.csp_scene.specs.declared.scenario.Move.TheVariants as move
-use Rattle.csp_world.specs.Opening.{opening, hub_by, new_hub, ifaces_from, apps_from, links_from, members_from, members_of}
+use Rattle.csp_world.specs.Opening.{opening, hub_by, ifaces_from, apps_from, links_from, members_from, members_of}
 use Rattle.csp_world.specs.Schedule.{IsThere, is_named, names, place_named}
 use Rattle.csp_world.specs.World.{PlainMember}
 

@@ -1,5 +1,5 @@
 -- Lemmas on the numbers of an opening world: its entries, its time, its buffers, its parties.
-use Rattle.std.proofs.Common.{◌≡◌, ℕ, Option, None, Some, ◌+◌, ◌*◌, ◌≤◌, ◌<◌, List, [], ◌∷◌, ◌++◌, length, map, refl, ◌∙◌, ap, arith, sum_by}
+use Rattle.std.proofs.Common.{◌≡◌, ℕ, Option, None, Some, ◌+◌, ◌*◌, ◌≤◌, List, [], ◌∷◌, ◌++◌, length, map, refl, ◌∙◌, ap, arith, sum_by}
 use Rattle.std.specs.List.{AllByRecursion}
 use Rattle.std.proofs.lemmas.List.{length-append}
 use Rattle.std.proofs.lemmas.List.FromFn.{length-map-range_with_len}
@@ -9,10 +9,10 @@ use Rattle.csp_lists.specs.PlainDeck.{PlainDeck}
 use Rattle.csp_scene.specs.Links.{links_at, touches}
 use Rattle.csp_scene.specs.Ranges.{IsNode, IsScene}
 use Rattle.csp_scene.specs.Scene.{PlainApp, PlainLink, PlainNode, PlainScene}
-use Rattle.csp_scene.specs.declared.limits.TheConstants.{MAX_APPS, MAX_LINKS, MAX_NODES}
+use Rattle.csp_scene.specs.declared.limits.TheConstants.{MAX_APPS, MAX_LINKS}
 use Rattle.csp_world.specs.declared.limits.TheConstants.{MAX_PARTIES}
 use Rattle.csp_world.specs.Holders.{counts}
-use Rattle.csp_world.specs.Opening.{opening, opened_deck, decks_from, hub_by, new_hub, apps_from, ifaces_from, links_from, members_from, members_of}
+use Rattle.csp_world.specs.Opening.{opening, decks_from, hub_by, new_hub, apps_from, ifaces_from, links_from, members_from, members_of}
 use Rattle.csp_world.specs.World.{PlainMember, entries}
 
 -- how many entries a list of parties has

@@ -53,7 +53,7 @@ pub plain_got : (items : List Member) (place : ℕ) (old : Member) → place < l
 plain_got items place old h e = slice_get-map plain_member items place ∙ rw (member_got items place old h e) refl
 
 -- where the party is known, a turn goes by it
-turn_known : (w : PlainWorld) (place : ℕ) (party : PlainMember) → slice_get w.members place ≡ Some party → turn w place ≡ turn_at w place (Some party)
+pub turn_known : (w : PlainWorld) (place : ℕ) (party : PlainMember) → slice_get w.members place ≡ Some party → turn w place ≡ turn_at w place (Some party)
 unfolding turn
 turn_known w place party p = ap (turn_at w place) p
 

@@ -1,6 +1,7 @@
 pub mod Grown
 pub mod Holders
 pub mod Inside
+pub mod Looking
 pub mod Opening
 pub mod Reached
 pub mod Record

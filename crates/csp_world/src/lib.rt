@@ -3,6 +3,7 @@
 
 mod laws;
 mod limits;
+mod looking;
 mod member;
 mod moves;
 mod room;

@@ -34,6 +34,8 @@ pub struct Member {
     pub(crate) spares: Spares,
     /// Room for the numbers of the buffers that it holds at the end.
     pub(crate) numbers: Vec<u16>,
+    /// Whether its last turn was idle, as the next ones may then be too.
+    pub(crate) idle: bool,
 }
 
 /// Takes one turn of a party over the lists of all nodes, and logs it.
@@ -69,14 +71,16 @@ pub(crate) fn take_turn(member: &mut Member, decks: &mut Decks, desk: &mut Desk,
         return Turn::Ended;
     }
     decks.serve(member.who);
-    turn(
+    let came = turn(
         &mut member.party,
         decks,
         &mut member.log,
         &mut member.spares,
         desk,
         time,
-    )
+    );
+    member.idle = came == Turn::Idle;
+    came
 }
 
 impl Member {
@@ -143,6 +147,7 @@ impl Member {
             log,
             spares: _,
             mut numbers,
+            idle: _,
         } = self;
         let step = party.step();
         drain(party, emptied, &mut numbers);
@@ -168,6 +173,7 @@ impl Member {
             log,
             spares: _,
             numbers: _,
+            idle: _,
         } = self;
         let step = party.step();
         party.end();

@@ -89,7 +89,8 @@ fn party_turns(world: &mut World, place: usize)
     ensures counts { counts world.new.plain ≡ counts world.old.plain }
     ensures others { (k : ℕ) → k ≢ place → slice_index world.new.spares k ≡ slice_index world.old.spares k }
 {
-    for _ in 0..TURNS_PER_ROUND {
+    let taken = world.look_round(place, TURNS_PER_ROUND);
+    for _ in taken..TURNS_PER_ROUND {
         world.step(place);
     }
 }

@@ -1,6 +1,6 @@
 //! The world: the lists of each node, every party with its log, and the time.
 
-ghost use Rattle.std.specs.Prelude.{◌≡◌, ◌≢◌, ◌+◌, ◌-◌, ◌<◌, ◌≤◌, ◌^◌, ℕ, None, Some, max, List, [], ◌∷◌, length, OnOk, OnErr, slice_index, slice_get, sum_by, find};
+ghost use Rattle.std.specs.Prelude.{◌≡◌, ◌≢◌, ◌+◌, ◌-◌, ◌<◌, ◌≤◌, ◌^◌, ℕ, None, Some, max, List, [], ◌∷◌, length, OnOk, OnErr, replicate, slice_index, slice_get, sum_by, find};
 ghost use Rattle.std.specs.List.{list_all};
 ghost use Rattle.std.specs.Option.{option_map};
 ghost use Rattle.csp_buffer.specs.Content.{Content};
@@ -10,13 +10,14 @@ ghost use Rattle.csp_record.specs.Who.{home_of, node_of};
 ghost use Rattle.csp_scene.specs.Scene.{PlainScene};
 ghost use Rattle.csp_world.specs.Holders.{holders, deck_holders, counts, HasOneHolder};
 ghost use Rattle.csp_world.specs.Reached.{IsReached};
-ghost use Rattle.csp_world.specs.Schedule.{names, place_named};
+ghost use Rattle.csp_world.specs.Schedule.{names, place_named, turns};
 ghost use Rattle.csp_world.specs.Seen.{has_number, answer_at_place, turn_by, log_len};
 ghost use Rattle.csp_world.specs.World.{turn, tick, finished, entries, is_done};
 
 mod closing;
 mod opening;
 
+use crate::looking::look_round;
 use crate::member::{Member, take_turn};
 use crate::moves::place_among;
 use crate::room::Room;
@@ -127,6 +128,24 @@ impl World {
             &mut self.desk,
             self.time,
         )
+    }
+
+    /// Takes turns of the party at this place, whose log has room for so many, where it looks into queues which are
+    /// all empty until it is as it was: as many whole circles of them as so many turns have. Answers how many turns it
+    /// took, and takes none where the party does anything else.
+    #[inline(always)]
+    pub(crate) fn look_round(&mut self, party: usize, most: usize) -> usize
+        requires party { party < length self.old.plain.members }
+        requires some { 0 < most }
+        requires room { most ≤ slice_index self.old.spares party }
+        ensures plain { self.new.plain ≡ turns self.old.plain (replicate result party) }
+        ensures most { result ≤ most }
+        ensures spares { slice_index self.new.spares party + result ≡ slice_index self.old.spares party }
+        ensures others { (k : ℕ) → k ≢ party → slice_index self.new.spares k ≡ slice_index self.old.spares k }
+        ensures counts { counts self.new.plain ≡ counts self.old.plain }
+    {
+        let member = &mut self.members[party];
+        look_round(member, &mut self.decks, self.time, most)
     }
 
     /// One more round is complete.

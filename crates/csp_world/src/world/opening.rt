@@ -445,6 +445,7 @@ impl World {
                     log: Log::new(alloc),
                     spares: Spares::new(alloc),
                     numbers,
+                    idle: true,
                 });
                 Ok(())
             }

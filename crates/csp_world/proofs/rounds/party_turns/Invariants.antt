@@ -5,10 +5,10 @@ use Rattle.csp_world.specs.Holders.{counts}
 use Rattle.csp_world.specs.Schedule.{turns}
 use Rattle.csp_world.proofs.rounds.party_turns.Given as goal
 
--- what is left from here is what was to do at the start
+-- what is left from here is what was to do once some turns were taken
 abbrev pub invariant-loop : goal.invariant-loop
 invariant-loop l = record {
-  left : turns l.world.plain (replicate (TURNS_PER_ROUND - l.counter) l.place) ≡ turns l.initial.world.plain (replicate TURNS_PER_ROUND l.place);
+  left : turns l.world.plain (replicate (TURNS_PER_ROUND - l.counter) l.place) ≡ turns l.initial.world.plain (replicate (TURNS_PER_ROUND - l.taken) l.place);
   parties : length l.world.plain.members ≡ length l.initial.world.plain.members;
   room : TURNS_PER_ROUND ≤ slice_index l.world.spares l.place + l.counter;
   counts : counts l.world.plain ≡ counts l.initial.world.plain;

@@ -1,7 +1,5 @@
-use Rattle.std.proofs.Common.{◌≡◌, ◌<◌, None, Some, Option, [], ◌∷◌, length, refl, sym, ◌∙◌, ap, subst}
-use Rattle.std.specs.Prelude.{slice_get, slice_index, IsSomeAnd}
-use Rattle.csp_lists.specs.PlainDeck.{PlainDeck, holders_of}
-use Rattle.csp_log.specs.declared.places.Place.{Place}
+use Rattle.std.proofs.Common.{◌≡◌, ◌<◌, [], ◌∷◌, length, refl, sym, ap, subst}
+use Rattle.std.specs.Prelude.{slice_get, slice_index}
 use Rattle.csp_world.specs.Holders.{counts, holders, deck_holders}
 use Rattle.csp_world.specs.Inside.{world_of}
 use Rattle.csp_world.specs.SeenWorld.{SeenWorld}

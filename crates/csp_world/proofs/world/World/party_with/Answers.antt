@@ -1,8 +1,7 @@
-use Rattle.std.proofs.Common.{◌≡◌, ◌≢◌, ◌++◌, refl, None, Some, Option, ℕ, List, [], ◌∷◌, length, map, find, sym, ◌∙◌, ap, arith}
+use Rattle.std.proofs.Common.{◌≡◌, ◌++◌, refl, None, Some, List, [], length, map, find, sym, ◌∙◌, ap, arith}
 use Rattle.std.specs.List.{flat_map}
 use Rattle.std.specs.Option.{option_map}
 use Rattle.csp_log.specs.declared.places.Place.{Place}
-use Rattle.csp_record.specs.Who.{node_of}
 use Rattle.csp_world.specs.Holders.{holder_at, holders}
 use Rattle.csp_world.specs.Seen.{plain_member, has_number}
 use Rattle.csp_world.specs.SeenWorld.{SeenWorld}

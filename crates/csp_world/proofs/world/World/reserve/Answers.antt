@@ -1,15 +1,14 @@
-use Rattle.std.proofs.Common.{◌≡◌, ◌<◌, List, ap, ◌∙◌, sym, refl, subst, length, map, set}
+use Rattle.std.proofs.Common.{◌≡◌, ◌<◌, List, ap, ◌∙◌, sym, subst, length, map, set}
 use Rattle.std.specs.Prelude.{slice_index}
 use Rattle.std.proofs.lemmas.List.{length-map, length-set}
 use Rattle.csp_log.specs.declared.entry.Entry.{Entry}
-use Rattle.csp_party.specs.Any.{PlainParty, plain}
+use Rattle.csp_party.specs.Any.{plain}
 use Rattle.csp_party.specs.declared.any.AnyParty.{AnyParty}
 use Rattle.csp_record.specs.declared.who.Who.{Who}
 use Rattle.csp_world.specs.Holders.{IsConserved}
 use Rattle.csp_world.specs.Inside.{world_of}
 use Rattle.csp_world.specs.Seen.{plain_member}
 use Rattle.csp_world.specs.SeenWorld.{SeenWorld}
-use Rattle.csp_world.specs.declared.member.Member.{Member}
 use Rattle.csp_world.proofs.FitLemmas.{all_set, fit_logged}
 use Rattle.csp_world.proofs.StepLemmas.{member_got, plain_same, unchanged, room_made, spare_other}
 use Rattle.csp_world.proofs.world.World.reserve.Goals as goal

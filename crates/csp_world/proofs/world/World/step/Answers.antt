@@ -1,12 +1,11 @@
-use Rattle.std.proofs.Common.{◌≡◌, ◌≢◌, ◌<◌, ◌+◌, ◌≤◌, Some, List, length, map, set, ap, subst, sym, ◌∙◌, refl, arith}
+use Rattle.std.proofs.Common.{◌≡◌, ◌≢◌, ◌<◌, ◌+◌, ◌≤◌, Some, List, length, map, set, ap, subst, sym, ◌∙◌, refl}
 use Rattle.std.specs.Prelude.{slice_index}
 use Rattle.std.proofs.lemmas.List.{length-map, length-set, map-set}
 use Rattle.csp_buffer.specs.Content.{Content}
 use Rattle.csp_log.specs.declared.shown.AnswerShown.TheVariants as answer
-use Rattle.csp_nodes.specs.DecksAt.{DecksAt}
 use Rattle.csp_party.specs.Any.{has_ended, plain}
-use Rattle.csp_world.specs.Holders.{HasOneHolder, IsConserved, counts}
-use Rattle.csp_world.specs.Inside.{rooms, world_of}
+use Rattle.csp_world.specs.Holders.{IsConserved, counts}
+use Rattle.csp_world.specs.Inside.{world_of}
 use Rattle.csp_world.specs.Reached.{IsReached}
 use Rattle.csp_world.specs.Seen.{plain_member, answer_at_place, turn_by}
 use Rattle.csp_world.specs.SeenWorld.{SeenWorld}

@@ -1,12 +1,12 @@
-use Rattle.std.proofs.Common.{ℕ, List, Some, Option, ◌≡◌, ◌<◌, ◌+◌, ◌≤◌, length, map, set, get_or, sym, ap, ◌∙◌, arith}
+use Rattle.std.proofs.Common.{ℕ, List, Some, ◌≡◌, length, set, sym, ap, ◌∙◌, arith}
 use Rattle.std.specs.Option.{option_map}
 use Rattle.std.specs.Prelude.{slice_get}
 use Rattle.std.proofs.lemmas.List.{map-set}
 use Rattle.std.proofs.Math.Seq.{map-set_same}
 use Rattle.csp_log.specs.declared.places.Place.{Place}
 use Rattle.csp_nodes.specs.Emptied.{EmptiedAt, PlainEmptied, emptied_in}
-use Rattle.csp_party.specs.Any.{holds, plain, region_of}
-use Rattle.csp_record.specs.Who.{home_of, node_of}
+use Rattle.csp_party.specs.Any.{region_of}
+use Rattle.csp_record.specs.Who.{node_of}
 use Rattle.csp_world.specs.Seen.{plain_member}
 use Rattle.csp_world.proofs.ClosingMembers.{home_read, home_within, member_back, own_held}
 use Rattle.csp_world.proofs.world.closing.empty_member.Goals as goal

@@ -1,13 +1,10 @@
-use Rattle.std.proofs.Common.{List, ◌≡◌, ◌+◌, ◌≤◌, ◌++◌, ◌∷◌, length, map, vec_len, vec_capacity, sym, ap, ◌∙◌, arith, subst}
-use Rattle.std.specs.List.{flat_map}
-use Rattle.std.specs.Prelude.{Option, Some, slice_get}
+use Rattle.std.proofs.Common.{List, ◌∷◌, map, sym, ap, ◌∙◌, arith, subst}
+use Rattle.std.specs.Prelude.{slice_get}
 use Rattle.std.proofs.lemmas.List.Elements.{All-head, All-rest}
 use Rattle.csp_arena.specs.Cells.{RegionName}
 use Rattle.csp_nodes.specs.Emptied.{EmptiedAt, emptied_in}
-use Rattle.csp_world.specs.Record.{member_held}
 use Rattle.csp_world.specs.Seen.{plain_member}
 use Rattle.csp_world.specs.Taking.{IsTakeable}
-use Rattle.csp_world.specs.declared.member.Member.{Member}
 use Rattle.csp_world.proofs.ClosingMembers.{with_members, member_next, still_fits, first_fits}
 use Rattle.csp_world.proofs.ClosingParts.{moved}
 use Rattle.csp_world.proofs.world.closing.empty_members.Goals as goal
