@@ -1,3 +1,4 @@
 mod Counting
 mod Gaining
+pub mod Passing
 mod Tables

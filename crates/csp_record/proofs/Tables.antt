@@ -1,10 +1,11 @@
 -- What a table of transmissions has after each step.
-use Rattle.std.proofs.Common.{◌≡◌, ℕ, zero, suc, ◌+◌, ◌<◌, Bool, true, false, cond, ◌&&◌, eqb, Option, None, Some, List, [], ◌∷◌, ◌++◌, refl, sym, ap, ◌∙◌, take, get_or, length, add-one, append-nil, arith}
+use Rattle.std.proofs.Common.{◌≡◌, ℕ, zero, suc, ◌+◌, ◌<◌, ◌≤◌, Bool, true, false, cond, ◌&&◌, eqb, Option, None, Some, List, [], ◌∷◌, ◌++◌, refl, sym, ap, ◌∙◌, take, get_or, length, add-one, append-nil, arith}
 use Rattle.std.proofs.lemmas.Bool.{eqb-true}
 use Rattle.std.proofs.lemmas.Bool.Decides.{nat_tests}
 use Rattle.std.specs.BTreeMap as tree
 use Rattle.std.specs.BTreeMap.{BTreeMap}
 use Rattle.std.specs.List.{slice_get, filter_map, cons_option}
+use Rattle.std.specs.Prelude.{All, slice_range}
 use Rattle.std.specs.Option.{is_some, option_or, option_and_then}
 use Rattle.std.specs.Ordering.{nat_cmp, ordering_then, is_eq}
 use Rattle.std.specs.declared.cmp.Ordering.{Ordering}
@@ -12,7 +13,9 @@ use Rattle.std.specs.declared.cmp.Ordering.TheVariants.{Less, Equal, Greater}
 use Rattle.std.proofs.lemmas.Grind.{take_at_read}
 use Rattle.std.proofs.lemmas.List.Concat.{flat_map-append}
 use Rattle.csp_buffer.specs.Content.{Content}
+use Rattle.csp_log.specs.Idling.{IsIdle}
 use Rattle.csp_log.specs.declared.entry.Entry.{Entry}
+use Rattle.csp_record.proofs.Passing.{chosen-over, shown-nothing}
 use Rattle.csp_record.specs.Record.{PlainPartyLog}
 use Rattle.csp_record.specs.Table.{key_cmp, kept_packet, Adds}
 use Rattle.csp_record.specs.Transmissions.{shown_in, iface_entries}
@@ -140,6 +143,22 @@ Adds-entry a b c node iface entries k before here = Adds-same a c _ _ same (Adds
         by (eqb n node && eqb i iface) (slice_get (filter_map (shown_in s) (take k entries)) 0) (option_and_then (shown_in s) (slice_get entries k))
         ∙ ap (λ o. cond (eqb n node && eqb i iface) o None) (first-next (shown_in s) entries k)
         ∙ ap (λ m. cond (eqb n node && eqb i iface) (slice_get (filter_map (shown_in s) (take m entries)) 0) None) (sym (add-one k))
+
+-- what the entries so far show is the same where idle ones are passed over
+pub Adds-over : (a b : Table) (node iface : ℕ) (entries : List Entry) (k m : ℕ) → k ≤ m → All IsIdle (slice_range entries k m)
+    → Adds a b (λ n i s. cond (eqb n node && eqb i iface) (slice_get (filter_map (shown_in s) (take k entries)) 0) None)
+    → Adds a b (λ n i s. cond (eqb n node && eqb i iface) (slice_get (filter_map (shown_in s) (take m entries)) 0) None)
+Adds-over a b node iface entries k m le idle before =
+    Adds-same a b _ _ (λ n i s. ap (λ shown. cond (eqb n node && eqb i iface) (slice_get shown 0) None) (sym (chosen-over (shown_in s) (shown-nothing s) entries k m le idle))) before
+
+-- before the first entry that is not idle nothing is added
+pub Adds-idle : (t : Table) (node iface : ℕ) (entries : List Entry) (m : ℕ) → All IsIdle (slice_range entries 0 m)
+    → Adds t t (λ n i s. cond (eqb n node && eqb i iface) (slice_get (filter_map (shown_in s) (take m entries)) 0) None)
+Adds-idle t node iface entries m idle = Adds-over t t node iface entries 0 m (omega arith) idle (Adds-same t t _ _ (λ n i s. by (eqb n node && eqb i iface) None refl) (Adds-none t))
+  where
+    by : (b : Bool) (o : Option Content) → o ≡ None → None ≡ cond b o None
+    by true o none = sym none
+    by false o none = refl
 
 -- what is shown is added for one party more
 pub Adds-party : (a b c : Table) (parties : List PlainPartyLog) (k : ℕ) (p : PlainPartyLog) → k < length parties → p ≡ get_or parties k p

@@ -74,9 +74,11 @@ pub fn openings(alloc: Global, log: &Log, app: usize) -> Result<Vec<Opening>, Al
 {
     let mut list = Vec::new(alloc);
     let mut ends = Ends::none();
-    for index in 0..log.len() {
+    let mut index = log.next_deed(0);
+    while index < log.len() {
         add_openings(&mut list, app, &ends, log.events(index))?;
         ends.note(Way::Sent, app, log.noted(index));
+        index = log.next_deed(index + 1);
     }
     Ok(list)
 }

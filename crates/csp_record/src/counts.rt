@@ -48,10 +48,12 @@ fn count_in_log(table: &Table, log: &Log) -> u64
     ensures { result ≡ count_by (is_unlike table.now) (filter_map (λ e. put_in (moved_in e)) log.now.entries) }
 {
     let mut count = 0;
-    for index in 0..log.len() {
+    let mut index = log.next_deed(0);
+    while index < log.len() {
         if has_put(table, log, index) {
             count += 1;
         }
+        index = log.next_deed(index + 1);
     }
     count
 }

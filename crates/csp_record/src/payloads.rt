@@ -219,9 +219,11 @@ fn traffic_of<'a>(
 {
     let mut table = BTreeMap::new(alloc);
     let mut ends = Ends::none();
-    for index in 0..log.len() {
+    let mut index = log.next_deed(0);
+    while index < log.len() {
         add_entry(alloc, &mut table, &ends, way, app, log, index)?;
         ends.note(way, app, log.noted(index));
+        index = log.next_deed(index + 1);
     }
     Ok(Traffic { table })
 }

@@ -88,8 +88,10 @@ fn add_entry<'a>(
 fn add_log<'a>(table: &mut Table<'a>, node: u8, iface: u8, log: &'a Log) -> Result<(), AllocError>
     ensures { OnOk result (Adds table.old table.new (λ n i s. if n == node && i == iface then slice_get (filter_map (shown_in s) log.now.entries) 0 else None)) }
 {
-    for index in 0..log.len() {
+    let mut index = log.next_deed(0);
+    while index < log.len() {
         add_entry(table, node, iface, log, index)?;
+        index = log.next_deed(index + 1);
     }
     Ok(())
 }

@@ -1,9 +1,12 @@
 -- The counts of an interface's log, entry by entry, and its lines, link by link.
-use Rattle.std.proofs.Common.{◌≡◌, ℕ, zero, suc, ◌+◌, ◌<◌, Bool, true, false, cond, List, [], ◌∷◌, ◌++◌, map, take, drop, get_or, length, count_by, refl, sym, ap, ◌∙◌, add-one, drop-cons, append_assoc, arith}
-use Rattle.std.proofs.lemmas.List.Sums.{sum_by-cons}
-use Rattle.std.specs.Prelude.{slice_get}
+use Rattle.std.proofs.Common.{◌≡◌, ℕ, zero, suc, ◌+◌, ◌<◌, ◌≤◌, Bool, true, false, cond, List, [], ◌∷◌, ◌++◌, map, take, drop, get_or, length, count_by, refl, sym, ap, ◌∙◌, add-one, drop-cons, append_assoc, arith}
+use Rattle.std.proofs.lemmas.List.Sums.{sum_by-append, sum_by-cons}
+use Rattle.std.specs.Prelude.{All, slice_get, slice_range}
 use Rattle.std.specs.List.{enumerate_from}
 use Rattle.std.specs.Option.{option_map_or}
+use Rattle.csp_log.specs.Idling.{IsIdle}
+use Rattle.csp_log.specs.declared.entry.Entry.{Entry}
+use Rattle.csp_record.proofs.Passing.{taken-over}
 use Rattle.csp_scene.specs.Links.{touches, links_at}
 use Rattle.csp_scene.specs.Scene.{PlainLink}
 use Rattle.csp_report.specs.Lines.{Line, ended_line, text_of}
@@ -18,6 +21,13 @@ one-more {X} p (x ∷ xs) (suc k) =
 -- the count with the next entry
 pub count-next : {X : Type 0} (p : X → Bool) (xs : List X) (k : ℕ) (b : Bool) → b ≡ option_map_or p (slice_get xs k) false → count_by p (take (k + 1) xs) ≡ count_by p (take k xs) + cond b 1 0
 count-next p xs k b is = rw (add-one k, is) (one-more p xs k)
+
+-- the count is the same where idle entries are passed over that fail the test
+pub count-over : (p : Entry → Bool) → ((e : Entry) → IsIdle e → p e ≡ false) → (entries : List Entry) (i j : ℕ) → i ≤ j → All IsIdle (slice_range entries i j)
+    → count_by p (take j entries) ≡ count_by p (take i entries)
+count-over p fails = taken-over IsIdle (count_by p) (λ e entries idle.
+    sum_by-append (λ (x : Entry). cond (p x) 1 0) entries (e ∷ [])
+    ∙ omega (arith, sum_by-cons (λ (x : Entry). cond (p x) 1 0) e [], ap {B = ℕ} (λ b. cond b 1 0) (fails e idle)))
 
 -- the lines of the links from one on
 abbrev pub later_lines : (ℕ → PlainLink → Line) → ℕ → ℕ → List PlainLink → List ℕ

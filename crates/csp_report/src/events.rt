@@ -101,8 +101,10 @@ fn push_entry(out: &mut String, node: &str, log: &Log, index: u64) -> Result<(),
 fn push_log(out: &mut String, node: &str, log: &Log) -> Result<(), AllocError>
     ensures { OnOk result (string_bytes out.new ≡ string_bytes out.old ++ text_of (flat_map (entry_lines node.now) log.now.entries)) }
 {
-    for index in 0..log.len() {
+    let mut index = log.next_deed(0);
+    while index < log.len() {
         push_entry(out, node, log, index)?;
+        index = log.next_deed(index + 1);
     }
     Ok(())
 }

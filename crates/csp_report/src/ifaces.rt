@@ -100,10 +100,12 @@ fn count_accepted(log: &Log) -> u64
     ensures { result ≡ count_by (λ entry. is_some (put_in (moved_in entry))) log.now.entries }
 {
     let mut count = 0;
-    for index in 0..log.len() {
+    let mut index = log.next_deed(0);
+    while index < log.len() {
         if has_accepted(log, index) {
             count += 1;
         }
+        index = log.next_deed(index + 1);
     }
     count
 }

@@ -1,4 +1,4 @@
-use Rattle.std.proofs.Common.{◌≡◌, ℕ, ◌≤◌, ◌++◌, drop}
+use Rattle.std.proofs.Common.{◌≡◌, ℕ, ◌-◌, ◌≤◌, ◌++◌, length, drop}
 use Rattle.csp_record.specs.Connections.{openings, openings_after}
 use Rattle.csp_record.specs.Ends.{counted}
 use Rattle.csp_record.proofs.connections.openings.Given as goal
@@ -8,3 +8,7 @@ abbrev pub invariant-loop-index : goal.invariant-loop-index
 invariant-loop-index l =
     (l.list.items ++ openings_after l.app (counted l.ends) (drop l.index l.log.entries) ≡ openings l.app l.log.entries)
     × ((slot : ℕ) → counted l.ends slot ≤ l.index)
+    × (l.index ≤ length l.log.entries)
+
+abbrev pub decreases-loop-index : goal.decreases-loop-index
+decreases-loop-index l = length l.log.entries - l.index
