@@ -13,18 +13,20 @@ work=$(mktemp -d) || exit 70
 trap 'rm -rf "$work"' EXIT
 failed=0
 
-# packets FILE: a scenario in which four applications send 450 packets each of 256 bytes to a port of their own node
-# that nobody listens at, so that the router discards each of them.
+# packets FILE: a scenario in which four applications send 450 packets each of 256 bytes, no two the same, to a port of
+# their own node that nobody listens at, so that the router discards each of them.
 packets() {
-  local bytes app
-  bytes=$(printf '5a%.0s' {1..256})
-  {
-    printf 'until 100000\nnode n1 1 buffers 64 inbox 64\n'
-    for app in a b c d; do
-      printf 'app n1 %s\n' "$app"
-      for _ in {1..450}; do printf 'raw 8212b000 %s\n' "$bytes"; done
-    done
-  } > "$1"
+  awk 'BEGIN {
+    print "until 100000\nnode n1 1 buffers 64 inbox 64"
+    for (app = 0; app < 4; app++) {
+      print "app n1 " substr("abcd", app + 1, 1)
+      for (i = 0; i < 450; i++) {
+        bytes = ""
+        for (k = 0; k < 128; k++) bytes = bytes sprintf("%04x", app * 450 + i)
+        print "raw 8212b000 " bytes
+      }
+    }
+  }' > "$1"
 }
 
 # least PROGRAM SCENARIO REPORT TIMES: the least processor seconds of so many runs, and the most memory in KiB.
