@@ -1,5 +1,6 @@
 pub mod CutLemmas
 pub mod Places
+pub mod Growing
 pub mod Counted
 pub mod Sound
 pub mod Feeding

@@ -1,4 +1,4 @@
-use Rattle.std.proofs.Common.{◌≡◌, ℕ, suc, ◌+◌, ◌<◌, Bool, true, false, not, cond, Some, None, List, [], ◌∷◌, length, get_or, refl, ap, subst, arith}
+use Rattle.std.proofs.Common.{◌≡◌, ℕ, zero, suc, ◌+◌, ◌<◌, Bool, true, false, not, cond, Some, None, List, [], ◌∷◌, ◌++◌, length, get_or, set, refl, ap, subst, arith}
 use Rattle.std.specs.Prelude.{nat_lt, find, position, remove}
 use Rattle.std.specs.List.{prefix_len}
 use Rattle.std.proofs.lemmas.Bool.Decides.{nat_tests}
@@ -7,6 +7,13 @@ use Rattle.csp_can.specs.Open.{remove_first}
 passed : (b : Bool) (n i : ℕ) → cond b (Some n) None ≡ Some i → (b ≡ true) × (n ≡ i)
 passed true n i e = (refl, cc)
 passed false n i e = cc
+
+-- a list whose last element is another
+pub last_replaced : {K : Type 0} (ks : List K) (i : ℕ) (k : K) → suc i ≡ length ks → set ks i k ≡ remove ks i ++ k ∷ []
+last_replaced [] i k h = absurd (omega arith)
+last_replaced (x ∷ []) zero k h = refl
+last_replaced (x ∷ y ∷ ks) zero k h = absurd (omega arith)
+last_replaced (x ∷ ks) (suc i) k h = ap (λ (xs : List _). x ∷ xs) (last_replaced ks i k (omega arith))
 
 module _ {K : Type 0} (p : K → Bool) where
   -- how many come before the first that passes

@@ -177,8 +177,43 @@ impl Reassembly {
         })
     }
 
-    /// A MORE frame, after what is too old was given up.
+    /// Extends the last partial packet in place, where it is of this key and goes on after the frame. Whether it did.
+    fn extend(&mut self, head: &Identifier, bytes: &[u8], now: u64) -> bool
+        ensures part { result ≡ true → (trace : Trace) → let a = arrival head.now bytes.now trace now in
+            (more_said self.old a).event ≡ CanEvent.Part }
+        ensures state { result ≡ true → (trace : Trace) → let a = arrival head.now bytes.now trace now in
+            self.new ≡ after (more_said self.old a) self.old a }
+        ensures left { result ≡ false → self.new ≡ self.old }
+    {
+        match self.place(&head.key()) {
+            Some(index) if index + 1 == self.partials.len() => {
+                self.partials[index].go_on(head, bytes, now)
+            }
+            _ => false,
+        }
+    }
+
+    /// A MORE frame, after what is too old was given up: in place where it can be.
     fn more(&mut self, head: &Identifier, bytes: &[u8], trace: Trace, now: u64) -> CanEvent
+        ensures event { let a = arrival head.now bytes.now trace now in
+            result ≡ (more_said self.old a).event }
+        ensures state { let a = arrival head.now bytes.now trace now in
+            self.new ≡ after (more_said self.old a) self.old a }
+    {
+        if self.extend(head, bytes, now) {
+            return CanEvent::Part;
+        }
+        self.take_and_settle(head, bytes, trace, now)
+    }
+
+    /// The same, with the partial packet taken out, and put at the end where it goes on.
+    fn take_and_settle(
+        &mut self,
+        head: &Identifier,
+        bytes: &[u8],
+        trace: Trace,
+        now: u64,
+    ) -> CanEvent
         ensures event { let a = arrival head.now bytes.now trace now in
             result ≡ (more_said self.old a).event }
         ensures state { let a = arrival head.now bytes.now trace now in

@@ -3,7 +3,7 @@
 ghost use Rattle.std.specs.Prelude.{◌≡◌, ◌≤◌, ◌↔◌, IsSome, IfSome, length};
 ghost use Rattle.csp_can.specs.Begins.{begin_header, begin_length, begin_payload};
 
-use crate::identifiers::Key;
+use crate::identifiers::{Identifier, Key};
 use arrayvec::ArrayVec;
 use csp_base::{Addr, MAX_PAYLOAD, Trace};
 
@@ -28,6 +28,32 @@ pub struct Partial {
     pub time: u64,
     /// The trace of the BEGIN frame.
     pub trace: Trace,
+}
+
+impl Partial {
+    ghost use Rattle.std.specs.Prelude.{◌+◌, ◌<◌, ◌++◌, true, false};
+    ghost use Rattle.csp_base.specs.declared.traces.Trace.{Trace};
+    ghost use Rattle.csp_can.specs.Rules.{arrival};
+    ghost use Rattle.csp_can.specs.Open.{grown_partial};
+
+    /// Goes on with a frame's bytes, where the frame is the next one and the packet isn't whole with them.
+    /// Whether it did.
+    pub(crate) fn go_on(&mut self, head: &Identifier, bytes: &[u8], now: u64) -> bool
+        ensures next { result ≡ true → head.now.remain + 1 ≡ self.old.remain }
+        ensures short { result ≡ true → length (self.old.payload.items ++ bytes.now) < self.old.length }
+        ensures grown { result ≡ true → (trace : Trace) → self.new ≡ grown_partial self.old (arrival head.now bytes.now trace now) }
+        ensures left { result ≡ false → self.new ≡ self.old }
+        ensures length { self.new.length ≡ self.old.length }
+    {
+        let is_next = head.remain as u16 + 1 == self.remain as u16;
+        let is_short = self.payload.len() + bytes.len() < self.length as usize;
+        if is_next && is_short && self.payload.try_extend_from_slice(bytes).is_ok() {
+            self.remain = head.remain;
+            self.time = now;
+            return true;
+        }
+        false
+    }
 }
 
 impl Default for Partial {

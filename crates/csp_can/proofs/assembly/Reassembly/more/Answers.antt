@@ -1,0 +1,5 @@
+use Rattle.std.proofs.Common.{sym}
+use Rattle.csp_can.proofs.assembly.Reassembly.more.Goals as goal
+
+pub returns-then-extend-clause-event : goal.returns-then-extend-clause-event
+returns-then-extend-clause-event c = sym (c.extend.ensures.part c.if-extend.true c.args.trace)
