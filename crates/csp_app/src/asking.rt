@@ -228,7 +228,7 @@ fn given(buffer: Option<Buffer>) -> Op
 }
 
 /// A packet with its mark goes to the `Up` of this application.
-#[inline(never)]
+#[inline(always)]
 fn pushed(number: u8, mark: u8, packet: Option<Buffer>) -> Op
     ensures op { shown_op result ≡ pushing_op number (option_map (λ b. ItemShown.Packet mark b.picture) packet) }
     ensures of_it { (r : RegionName) → IfSome packet (λ b. b.region ≡ r) → IsOpOf r result }

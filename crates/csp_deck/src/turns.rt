@@ -81,9 +81,8 @@ pub fn turn<P: Party, D: Deck>(
     }
 }
 
-/// One turn of a party that goes on: it is asked. It has the room for an operation, which a look that finds
-/// nothing needn't pay for.
-#[inline(never)]
+/// One turn of a party that goes on: it is asked.
+#[inline(always)]
 fn act<P: Party, D: Deck>(
     party: &mut P,
     deck: &mut D,

@@ -319,6 +319,7 @@ fn spoken(deed: &Deed, time: u64, quiet: bool) -> Option<Line>
 }
 
 /// Keeps what a turn carried and what it told, and gives the line with the place of its row.
+#[inline(always)]
 fn keep_row(
     rows: &mut Rows,
     bytes: &mut Vec<u8>,

@@ -14,7 +14,7 @@ use std::marker::Model;
 /// For how many rows it takes room at least, where it takes any, and for how many of large numbers.
 const FEWEST_ROWS: usize = 4_096;
 
-const FEWEST_WIDE: usize = 64;
+const FEWEST_WIDE: usize = 8;
 
 /// The rows of a log, the oldest first. Contracts see them as a list of rows and a number, for how many
 /// more there is room.

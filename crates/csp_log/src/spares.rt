@@ -1,6 +1,6 @@
 //! Frames behind a pointer, and the stock of boxes that they are made from.
 
-ghost use Rattle.std.specs.Prelude.{◌≡◌, ◌+◌, ◌<◌, ◌≤◌, None, length, OnOk};
+ghost use Rattle.std.specs.Prelude.{◌≡◌, ◌+◌, ◌-◌, ◌<◌, ◌≤◌, None, length, min, OnOk};
 ghost use Rattle.csp_log.specs.Bytes.{with_byte};
 
 use crate::Frame;
@@ -91,6 +91,58 @@ impl Spares {
             self.boxes.push(frame)?;
         }
         Ok(())
+    }
+
+    /// Makes the stock `count` boxes: those that it wants come from the others, and then from memory, and those that it has
+    /// besides go to the others. A refusal leaves it as many as it had, or `count` of them. Then it has room for as many
+    /// again, which come back.
+    pub fn level(&mut self, count: usize, others: &mut Spares) -> Result<(), AllocError>
+        ensures level { OnOk result (self.new ≡ count) }
+        ensures others { OnOk result (others.new ≡ self.old + others.old - count) }
+        ensures kept { min self.old count ≤ self.new }
+    {
+        self.fill_up(count, others)?;
+        self.hand_over(count, others)?;
+        if self.boxes.capacity() - self.boxes.len() < count {
+            self.boxes.reserve(count)?;
+        }
+        Ok(())
+    }
+
+    /// Makes the stock at least `count` boxes, of the others while there are some. A refusal takes none away.
+    fn fill_up(&mut self, count: usize, others: &mut Spares) -> Result<(), AllocError>
+        ensures enough { OnOk result (self.new ≡ self.old + (count - self.old)) }
+        ensures others { OnOk result (others.new ≡ others.old - (count - self.old)) }
+        ensures kept { self.old ≤ self.new }
+    {
+        for _ in self.boxes.len()..count {
+            let frame = others.give()?;
+            self.boxes.push(frame)?;
+        }
+        Ok(())
+    }
+
+    /// Gives the others what the stock has besides `count` boxes. A refusal leaves it at least `count`.
+    fn hand_over(&mut self, count: usize, others: &mut Spares) -> Result<(), AllocError>
+        ensures rest { OnOk result (self.new ≡ min self.old count) }
+        ensures others { OnOk result (others.new ≡ others.old + (self.old - count)) }
+        ensures kept { min self.old count ≤ self.new }
+    {
+        for _ in count..self.boxes.len() {
+            let frame = self.boxes.pop().unwrap();
+            others.boxes.push(frame)?;
+        }
+        Ok(())
+    }
+
+    /// A box of the stock, or a new one where it has none.
+    fn give(&mut self) -> Result<BoxedFrame, AllocError>
+        ensures { self.new ≡ self.old - 1 }
+    {
+        match self.boxes.pop() {
+            Some(frame) => Ok(frame),
+            None => BoxedFrame::blank(self.alloc),
+        }
     }
 
     /// The frame with these parts, in a box of the stock.

@@ -242,6 +242,7 @@ impl Decks {
         }
     }
 
+    #[inline(always)]
     fn is_empty_at(&self, queue: QueueId) -> bool
         requires { IsSome (rule_at self.now queue) }
         ensures { IsTrue result → PopsSo self.now queue None self.now }
@@ -285,6 +286,7 @@ impl Deck for Decks {
         self.pop_from(queue)
     }
 
+    #[inline(always)]
     fn misses(&mut self, queue: QueueId) -> bool {
         self.is_empty_at(queue)
     }

@@ -258,6 +258,7 @@ fn begin_packet(facts: &Facts, state: &mut State, app: u8, slot: u8, job: Job, _
 }
 
 /// The first source with work, from this cursor on.
+#[inline(always)]
 pub fn find_work(facts: &Facts, state: &State, cursor: usize, now: u64) -> Option<Source>
     requires apps { state.now.state.ports.conns.apps ≡ facts.now.apps }
     ensures there { (k : ℕ) → result ≡ Some (Source.App k) → k < facts.now.apps }

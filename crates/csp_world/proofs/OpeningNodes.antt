@@ -101,7 +101,7 @@ queue_count-push decks d more e = sum_by-append (λ (x : PlainDeck). length x.qu
 pub world-deck : (w : Inside) (decks : DecksAt) (room : Room) (deck : PlainDeck) → IsWorld w → IsGrown w.decks decks
     → decks.decks ≡ w.decks.decks ++ deck ∷ [] → ((k : ℕ) → times k (numbers_in deck) ≡ times k (range_with_len 0 deck.pool.room))
     → length w.decks.decks < 255 → HasRoom decks.decks (length w.members.items) room
-    → IsWorld (record { decks = decks; members = w.members; time = w.time; room = room; desk = w.desk })
+    → IsWorld (record { decks = decks; members = w.members; time = w.time; room = room; desk = w.desk; boxes = w.boxes })
 world-deck w decks room deck h grown e numbers few more = record {
   fit = all_fit-grown w.decks decks w.time w.members.items grown h.fit;
   conserved = subst (AreWhole w.members.items) (sym e)
@@ -119,7 +119,7 @@ pub world-same_decks : (w : Inside) (decks : DecksAt) (room : Room) → IsWorld 
     → room.held.items ≡ w.room.held.items → vec_capacity w.room.held ≤ vec_capacity room.held
     → room.emptied.items ≡ w.room.emptied.items → vec_capacity w.room.emptied ≤ vec_capacity room.emptied
     → room.queues ≡ w.room.queues
-    → IsWorld (record { decks = decks; members = w.members; time = w.time; room = room; desk = w.desk })
+    → IsWorld (record { decks = decks; members = w.members; time = w.time; room = room; desk = w.desk; boxes = w.boxes })
 world-same_decks w decks room h e logs left left_more held held_more emptied emptied_more queues =
     let r : HasRoom w.decks.decks (length w.members.items) w.room = h.room in
     let kept : HasRoom w.decks.decks (length w.members.items) room = record {
@@ -144,7 +144,7 @@ world-same_decks w decks room h e logs left left_more held held_more emptied emp
 
 -- a world with one link more
 pub world-link : (w : Inside) (decks : DecksAt) (ends : List End) → IsWorld w → decks ≡ record w.decks { links = w.decks.links ++ ends ∷ [] }
-    → IsWorld (record { decks = decks; members = w.members; time = w.time; room = w.room; desk = w.desk })
+    → IsWorld (record { decks = decks; members = w.members; time = w.time; room = w.room; desk = w.desk; boxes = w.boxes })
 world-link w decks ends h e =
     let same : decks.decks ≡ w.decks.decks = ap (λ (d : DecksAt). d.decks) e in
     record {

@@ -102,9 +102,10 @@ impl Member {
         }
     }
 
-    /// Makes room in its log for this many turns, and boxes for them in its stock. A refusal changes
-    /// nothing but the stock.
-    pub(crate) fn reserve(&mut self, turns: u32) -> Result<(), AllocError>
+    /// Makes room in its log for this many turns, and boxes for them in its stock, of those that no party
+    /// has while there are some; what its stock has besides goes there. A refusal changes nothing but the
+    /// stocks.
+    pub(crate) fn reserve(&mut self, turns: u32, boxes: &mut Spares) -> Result<(), AllocError>
         requires fits { length self.old.log.entries + turns ≤ 2 ^ 32 - 2 }
         requires stock { needs (plain self.old.party) * self.old.log.spare ≤ self.old.spares }
         ensures party { (self.new.who ≡ self.old.who) × (self.new.party ≡ self.old.party) × (self.new.numbers ≡ self.old.numbers) × (self.new.log.entries ≡ self.old.log.entries) }
@@ -114,7 +115,7 @@ impl Member {
     {
         let spare = self.log.spare().max(turns);
         self.spares
-            .reserve(usize::from(self.party.boxes()) * spare as usize)?;
+            .level(usize::from(self.party.boxes()) * spare as usize, boxes)?;
         self.log.reserve(turns)
     }
 

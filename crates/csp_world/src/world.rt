@@ -22,7 +22,7 @@ use crate::member::{Member, take_turn};
 use crate::moves::place_among;
 use crate::room::Room;
 use csp_base::Turn;
-use csp_deck::{Desk, Place};
+use csp_deck::{Desk, Place, Spares};
 use csp_lists::{counts_holders, gathers, weighs};
 use csp_nodes::Decks;
 use csp_record::Who;
@@ -40,6 +40,8 @@ pub struct World {
     pub(crate) time: u64,
     pub(crate) room: Room,
     pub(crate) desk: Desk,
+    /// The boxes that no party has in its stock: those that one uses up another takes.
+    pub(crate) boxes: Spares,
 }
 
 impl Model for World {
@@ -96,7 +98,7 @@ impl World {
         ensures others { (k : ℕ) → k ≢ party → slice_index self.new.spares k ≡ slice_index self.old.spares k }
         ensures refused { OnErr result (self.new ≡ self.old) }
     {
-        self.members[party].reserve(turns)
+        self.members[party].reserve(turns, &mut self.boxes)
     }
 
     /// Takes one turn of the party at this place, whose log has room for it: it asks one operation, which

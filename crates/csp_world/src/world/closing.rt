@@ -42,6 +42,7 @@ impl World {
             time,
             room,
             desk: _,
+            boxes: _,
         } = self;
         let finished = all_done(&members);
         let Room {

@@ -85,6 +85,7 @@ impl World {
                 queues: 0,
             },
             desk,
+            boxes: Spares::new(alloc),
         })
     }
 
