@@ -1,20 +1,24 @@
 -- What a log's entries tell of connections, one entry after the other.
 use Rattle.std.proofs.Common.{◌≡◌, ℕ, zero, suc, ◌+◌, ◌≤◌, Bool, true, false, cond, ◌&&◌, eqb, Option, None, Some, List, [], ◌∷◌, ◌++◌, refl, sym, ap, ◌∙◌, drop, add-one, append-nil, append_assoc, unwrap_or, replicate, arith}
-use Rattle.std.proofs.lemmas.Bool.{eqb-true}
+use Rattle.std.proofs.lemmas.Bool.{eqb-true, or_parts}
 use Rattle.std.proofs.lemmas.Bool.Decides.{nat_tests}
+use Rattle.std.proofs.lemmas.List.Folds.{list_any-append}
 use Rattle.std.specs.BTreeMap as tree
 use Rattle.std.specs.BTreeMap.{BTreeMap}
-use Rattle.std.specs.List.{slice_get, flat_map}
+use Rattle.std.specs.List.{slice_get, flat_map, list_any}
 use Rattle.std.specs.Option.{option_map, option_map_or}
 use Rattle.std.specs.Ordering.{nat_cmp, ordering_then, is_eq}
 use Rattle.std.specs.declared.cmp.Ordering.{Ordering}
 use Rattle.std.specs.declared.cmp.Ordering.TheVariants.{Less, Equal, Greater}
 use Rattle.csp_log.specs.Noting.{noted_in}
+use Rattle.csp_log.specs.PlainLog.{all_events}
 use Rattle.csp_log.specs.declared.entry.Entry.{Entry}
 use Rattle.csp_log.specs.declared.event.Event.{Event}
+use Rattle.csp_log.specs.declared.event.Event.TheVariants as event
 use Rattle.csp_log.specs.declared.noted.Noted.{Noted}
 use Rattle.csp_log.specs.declared.noted.Noted.TheVariants as noted
-use Rattle.csp_record.specs.Ends.{Ends, no_ends, ended, counted, freed_by}
+use Rattle.csp_record.specs.Connections.{is_opened, opened_by, openings_after}
+use Rattle.csp_record.specs.Ends.{Ends, no_ends, ended, counted, freed_by, told_free}
 use Rattle.csp_record.specs.declared.payloads.Way.{Way}
 use Rattle.csp_record.specs.Traffic.{pair_cmp, payloads_on, Gains}
 
@@ -105,3 +109,15 @@ pub told-events : {Y : Type 0} (f : Event → List Y) (o : Option Entry) (events
     → flat_map f events ≡ option_map_or (λ e. flat_map f e.events.items) o []
 told-events f None events is = cc
 told-events f (Some e) events is = ap (λ (o : Option (List Event)). flat_map f (unwrap_or o [])) (sym is)
+
+-- where no event tells that a connection became open, none did
+none_told : (app : ℕ) (ends : Ends) (events : List Event) → list_any is_opened events ≡ false → flat_map (opened_by app ends) events ≡ []
+none_told app ends [] none = refl
+none_told app ends (event.Opened number slot nth peer ∷ events) none = cc
+none_told app ends (_ ∷ events) none = none_told app ends events none
+
+pub none-opened : (app : ℕ) (ends : Ends) (entries : List Entry) → list_any is_opened (all_events entries) ≡ false → openings_after app ends entries ≡ []
+none-opened app ends [] none = refl
+none-opened app ends (e ∷ entries) none =
+    let parts = or_parts (list_any is_opened e.events.items) (list_any is_opened (all_events entries)) (sym (list_any-append is_opened e.events.items (all_events entries)) ∙ none) in
+    rw (none_told app ends e.events.items parts.0) (none-opened app (ended (told_free app (noted_in e)) ends) entries parts.1)

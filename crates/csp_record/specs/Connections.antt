@@ -1,5 +1,5 @@
 -- what the log of a router tells of the connections of an application that became open
-use Rattle.std.specs.Prelude.{ℕ, ◌==◌, if◌then◌else◌, List, [], ◌∷◌, ◌++◌}
+use Rattle.std.specs.Prelude.{ℕ, Bool, true, false, ◌==◌, if◌then◌else◌, List, [], ◌∷◌, ◌++◌}
 use Rattle.std.specs.List.{flat_map}
 use Rattle.csp_log.specs.Noting.{noted_in}
 use Rattle.csp_log.specs.declared.entry.Entry.{Entry}
@@ -7,6 +7,11 @@ use Rattle.csp_log.specs.declared.event.Event.{Event}
 use Rattle.csp_log.specs.declared.event.Event.TheVariants as event
 use Rattle.csp_record.specs.declared.connections.Opening.{Opening}
 use Rattle.csp_record.specs.Ends.{Ends, no_ends, ended, told_free}
+
+-- whether an event tells that a connection became open, of whichever application
+abbrev pub is_opened : Event → Bool
+is_opened (event.Opened number slot nth peer) = true
+is_opened _ = false
 
 -- the connection of this application that an event tells to be open, where its slots had these ends before
 abbrev pub opened_by : ℕ → Ends → Event → List Opening

@@ -1,10 +1,11 @@
 //! The connections of an application that became open, as its router's log tells of them.
 
 ghost use Rattle.std.specs.Prelude.{◌≡◌, ◌++◌, ◌<◌, [], length, slice_get, OnOk, IfOk};
-ghost use Rattle.std.specs.List.{flat_map};
+ghost use Rattle.std.specs.List.{flat_map, list_any};
 ghost use Rattle.std.specs.Option.{option_map_or};
 ghost use Rattle.csp_log.specs.Noting.{noted_in};
-ghost use Rattle.csp_record.specs.Connections.{opened_by, openings};
+ghost use Rattle.csp_log.specs.PlainLog.{all_events};
+ghost use Rattle.csp_record.specs.Connections.{is_opened, opened_by, openings};
 ghost use Rattle.csp_record.specs.Ends.{counted};
 
 use crate::ends::Ends;
@@ -23,6 +24,20 @@ pub struct Opening {
     pub nth: Option<u32>,
     /// The place of its peer's node among the nodes, and the number of the peer's flow there.
     pub peer: Option<(u8, u32)>,
+}
+
+/// Whether an event tells that a connection became open.
+fn is_opened(event: &Event) -> bool
+    ensures { result ≡ is_opened event.now }
+{
+    matches!(event, Event::Opened { .. })
+}
+
+/// Whether an event of a router's log tells that a connection became open, of whichever application.
+fn any_opened(log: &Log) -> bool
+    ensures { result ≡ list_any is_opened (all_events log.now.entries) }
+{
+    log.all_events().iter().any(is_opened)
 }
 
 /// Appends the connection of this application that an event tells to be open.
@@ -73,6 +88,10 @@ pub fn openings(alloc: Global, log: &Log, app: usize) -> Result<Vec<Opening>, Al
     ensures { IfOk result (λ list. list.items ≡ openings app log.now.entries) }
 {
     let mut list = Vec::new(alloc);
+    // Where no event tells of an opening there is none, and no entry need be looked at.
+    if !any_opened(log) {
+        return Ok(list);
+    }
     let mut ends = Ends::none();
     let mut index = log.next_deed(0);
     while index < log.len() {

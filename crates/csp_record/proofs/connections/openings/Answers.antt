@@ -4,9 +4,12 @@ use Rattle.csp_log.specs.declared.entry.Entry.{Entry}
 use Rattle.csp_record.specs.Connections.{opened_by, openings, openings_after}
 use Rattle.csp_record.specs.Ends.{Ends, no_ends, counted, freed_by}
 use Rattle.csp_record.specs.declared.payloads.Way.TheVariants as way
-use Rattle.csp_record.proofs.Gaining.{ended-few, told-events, told-next}
+use Rattle.csp_record.proofs.Gaining.{ended-few, none-opened, told-events, told-next}
 use Rattle.csp_record.proofs.Passing.{openings-over}
 use Rattle.csp_record.proofs.connections.openings.Goals as goal
+
+pub returns-then-not-any_opened : goal.returns-then-not-any_opened
+returns-then-not-any_opened c = c.new-list.ensures.items ∙ sym (none-opened c.args.app no_ends c.args.log.now.entries (sym c.any_opened.ensures ∙ c.if-not-any_opened.true))
 
 pub loop-index-init : goal.loop-index-init
 loop-index-init c =
