@@ -11,6 +11,7 @@ work=$(mktemp -d) || exit 70
 trap 'rm -rf "$work"' EXIT
 passes=5 # so often each is measured, by turns
 times=20 # so many runs of the program are one measurement
+others=5 # and so many of the other
 scenario=$here/../scenarios/mission.scn
 failed=0
 
@@ -29,10 +30,10 @@ least() { awk -v a="$1" -v b="$2" 'BEGIN { print (a == "" || b < a) ? b : a }'; 
 
 for _ in $(seq $passes); do
   own=$(least "$own" "$(seconds $times "$program" sim)")
-  [ $# -eq 0 ] || other=$(least "$other" "$(seconds 1 "$@")")
+  [ $# -eq 0 ] || other=$(least "$other" "$(seconds $others "$@")")
 done
 awk -v t="$own" -v n=$times 'BEGIN { printf "mission: %.1f ms a run\n", 1000 * t / n }'
-[ $# -eq 0 ] || awk -v t="$own" -v n=$times -v o="$other" 'BEGIN { printf "the other: %.1f ms, %.1f times as much\n", 1000 * o, o * n / t }'
+[ $# -eq 0 ] || awk -v t="$own" -v n=$times -v o="$other" -v k=$others 'BEGIN { printf "the other: %.1f ms, %.1f times as much\n", 1000 * o / k, o / k * n / t }'
 /usr/bin/time -f 'gen 500: %U s, %M KiB' "$program" gen 500 > "$work/summary" || failed=1
 [ "$(wc -l < "$work/summary")" -eq 8 ] || { echo "mission: another summary" >&2; failed=1; }
 exit $failed

@@ -1,8 +1,9 @@
 #!/usr/bin/env bash
 # Compares two programs: `measure/turns.sh EARLIER [PROGRAM]`, where PROGRAM is ./cspsim unless it is given. Both run,
-# by turns and several times, a scenario of four applications that wait for packets, just under the limit of entries,
-# and one of four applications whose turns carry packets of the greatest payload. It prints the least processor time
-# and the most memory of each, and by how much PROGRAM needs less than EARLIER. It fails where an answer is wrong, or
+# by turns and many times, a scenario of four applications that wait for packets, just under the limit of entries, and
+# one of four applications whose turns carry packets of the greatest payload. It prints the least time of each, the
+# memory that it takes, and by how much PROGRAM needs less than EARLIER. Of the packets' turns that is the time without
+# that of a run which stops after one round: what reading the scenario takes. It fails where an answer is wrong, or
 # where the two programs print different reports; times and memory it only prints.
 here=$(cd "$(dirname "${BASH_SOURCE[0]}")" && pwd) || exit 70
 [ $# -ge 1 ] || { echo "usage: measure/turns.sh EARLIER [PROGRAM]" >&2; exit 64; }
@@ -29,49 +30,50 @@ packets() {
   }' > "$1"
 }
 
-# least PROGRAM SCENARIO REPORT TIMES: the least processor seconds of so many runs, and the most memory in KiB.
-least() {
-  local best= most=0 user system memory
-  for _ in $(seq "$4"); do
-    /usr/bin/time -q -f '%U %S %M' -o "$work/cost" "$1" sim < "$2" > "$3" 2> "$work/said" || { cat "$work/said" >&2; return 1; }
-    read -r user system memory < "$work/cost"
-    best=$(awk -v a="$user" -v b="$system" -v best="$best" 'BEGIN { t = a + b; if (best == "" || t < best) best = t; print best }')
-    [ "$memory" -gt "$most" ] && most=$memory
+# once PROGRAM SCENARIO REPORT: the microseconds of one run.
+once() {
+  local start=${EPOCHREALTIME/./}
+  "$1" sim < "$2" > "$3" 2> /dev/null || return 1
+  echo $((${EPOCHREALTIME/./} - start))
+}
+
+# least A B: the lesser of two numbers, of which the first may be missing.
+least() { [ -z "$1" ] || [ "$2" -lt "$1" ] && echo "$2" || echo "$1"; }
+
+# measure SCENARIO RUNS: the least microseconds of so many runs of both programs, by turns, in `before` and `after`, and
+# those of as many runs of it that stop after one round, in `before_first` and `after_first`.
+measure() {
+  local took
+  before= after= before_first= after_first=
+  sed 's/^until .*/until 1/' "$1" > "$work/first.scn"
+  for _ in $(seq "$2"); do
+    took=$(once "$earlier" "$work/first.scn" "$work/before") || return 1
+    before_first=$(least "$before_first" "$took")
+    took=$(once "$program" "$work/first.scn" "$work/after") || return 1
+    after_first=$(least "$after_first" "$took")
+    took=$(once "$earlier" "$1" "$work/before") || return 1
+    before=$(least "$before" "$took")
+    took=$(once "$program" "$1" "$work/after") || return 1
+    after=$(least "$after" "$took")
   done
-  echo "$best $most"
 }
 
-# runs PROGRAM SCENARIO REPORT RUNS: the processor seconds of so many runs together, and the most memory in KiB.
-runs() {
-  local user system memory
-  /usr/bin/time -q -f '%U %S %M' -o "$work/cost" bash -c 'for _ in $(seq "$4"); do "$1" sim < "$2" > "$3" 2> /dev/null || exit 1; done' - "$@" || return 1
-  read -r user system memory < "$work/cost"
-  awk -v a="$user" -v b="$system" -v m="$memory" 'BEGIN { print a + b, m }'
-}
+# memory PROGRAM SCENARIO: the KiB that a run takes at most.
+memory() { /usr/bin/time -q -f %M -o "$work/cost" "$1" sim < "$2" > /dev/null 2>&1 && cat "$work/cost"; }
 
-# many PROGRAM SCENARIO REPORT RUNS: the same, less the time that as many runs take which stop after one round: the
-# time of the turns alone, without that of reading the scenario.
-many() {
-  local whole first
-  sed 's/^until .*/until 1/' "$2" > "$work/first.scn"
-  first=$(runs "$1" "$work/first.scn" "$work/first" "$4") || return 1
-  whole=$(runs "$@") || return 1
-  awk -v a="$whole" -v b="$first" 'BEGIN { split(a, x); split(b, y); print x[1] - y[1], x[2] }'
-}
-
-# compare WHAT HOW SCENARIO RUNS: both programs, and the two ratios.
-compare() {
-  local what=$1 how=$2 scenario=$3 runs=$4 before after
-  before=$($how "$earlier" "$scenario" "$work/before" "$runs") || { failed=1; return; }
-  after=$($how "$program" "$scenario" "$work/after" "$runs") || { failed=1; return; }
-  cmp -s "$work/before" "$work/after" || { echo "$what: the reports differ" >&2; failed=1; }
-  awk -v what="$what" -v b="$before" -v a="$after" 'BEGIN {
-    split(b, x); split(a, y)
-    printf "%s: %s s and %s KiB, was %s s and %s KiB: %.1f times less time, %.1f times less memory\n", what, y[1], y[2], x[1], x[2], x[1] / y[1], x[2] / y[2]
+# tell WHAT SCENARIO: the two ratios of what was measured, and whether the reports are the same.
+tell() {
+  cmp -s "$work/before" "$work/after" || { echo "$1: the reports differ" >&2; failed=1; }
+  awk -v what="$1" -v b="$before" -v a="$after" -v bm="$(memory "$earlier" "$2")" -v am="$(memory "$program" "$2")" 'BEGIN {
+    printf "%s: %.2f ms and %s KiB, was %.2f ms and %s KiB: %.1f times less time, %.1f times less memory\n", what, a / 1000, am, b / 1000, bm, b / a, bm / am
   }'
 }
 
+if measure "$here/under_the_limit.scn" 5; then tell 'waiting, up to the limit' "$here/under_the_limit.scn"; else failed=1; fi
+
 packets "$work/packets.scn"
-compare 'waiting, up to the limit' least "$here/under_the_limit.scn" 3
-compare 'turns that carry packets' many "$work/packets.scn" 100
+if measure "$work/packets.scn" 40; then
+  before=$((before - before_first)) after=$((after - after_first))
+  tell 'turns that carry packets' "$work/packets.scn"
+else failed=1; fi
 exit "$failed"
