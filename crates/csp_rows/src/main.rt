@@ -1,17 +1,24 @@
 //! Whole runs that are data: each scenario of the folder that the program is run in, `NAME.scn`, is run over
 //! memory, and what the program prints for it is compared with `NAME.report`: the report, or the line on standard
 //! error where there is none. One line a scenario says whether they agree.
+//!
+//! Runs with faults of reading and writing, and those on other words, are cases of its tables, `NAME.table`: one line a
+//! table says how many cases it has, and after it stands each case that differs.
 #![tactic(auto)]
 
 mod folder;
+mod program;
 mod row;
 
-use folder::scenario_names;
+use csp_cases::judged;
+use folder::names_of;
+use program::Program;
 use row::{Outcome, outcome_of};
+use std::fs::Files;
 use std::{fs, io};
 
 fn main(rt: HostRuntime) -> io::Result<()> {
-    let names = scenario_names(&rt)?;
+    let names = names_of(&rt, ".scn")?;
     for name in names.as_slice() {
         let text = fs::read(&rt, format!(in rt.alloc(); "{name}.scn")?)?;
         let wanted = fs::read(&rt, format!(in rt.alloc(); "{name}.report")?)?;
@@ -20,14 +27,20 @@ fn main(rt: HostRuntime) -> io::Result<()> {
             Outcome::Differs(line) => println!(rt; "{name} differs in line {line}")?,
         }
     }
-    Ok(())
+    tables(&rt)
 }
 
-#[cfg(test)]
-mod faults;
-#[cfg(test)]
-mod records;
-#[cfg(test)]
-mod runs;
-#[cfg(test)]
-mod sizes;
+/// Goes through the tables.
+fn tables<R: Files + Print + AllocGlobal + Clone + Drop>(rt: &R) -> io::Result<()> {
+    let names = names_of(rt, ".table")?;
+    for name in names.as_slice() {
+        let text = fs::read_to_string(rt, format!(in rt.alloc(); "{name}.table")?)?;
+        let table = judged(rt.alloc(), &Program, text.as_str())?;
+        let cases = table.cases;
+        println!(rt; "table {name}: {cases} cases")?;
+        for line in table.differing.as_slice() {
+            println!(rt; "  {line}")?;
+        }
+    }
+    Ok(())
+}

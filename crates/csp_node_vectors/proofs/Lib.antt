@@ -1,2 +1,0 @@
-pub mod Backs
-pub mod Scripts

@@ -1,0 +1,25 @@
+//! The words of the command line: `command WORDS`, where `''` is a word without letters.
+
+use csp_cases::{CaseError, Words};
+use csp_words::{Command, command};
+use std::alloc::Global;
+
+/// The command that words are.
+pub(super) fn answer(alloc: Global, what: &str) -> Result<String, CaseError> {
+    let told = strings(alloc, what)?;
+    match command(told.as_slice()) {
+        Ok(Command::Sim) => Ok(String::from_str(alloc, "sim")?),
+        Ok(Command::Gen { packets }) => Ok(format!(in alloc; "gen of {packets} packets")?),
+        Err(_) => Ok(String::from_str(alloc, "bad words")?),
+    }
+}
+
+/// Words as strings of their own.
+fn strings(alloc: Global, text: &str) -> Result<Vec<String>, CaseError> {
+    let mut strings = Vec::new(alloc);
+    for word in Words::of(alloc, text)?.all() {
+        let word = if *word == "''" { "" } else { *word };
+        strings.push(String::from_str(alloc, word)?)?;
+    }
+    Ok(strings)
+}

@@ -1,0 +1,43 @@
+//! Text as every reader cuts it: `text lines TEXT`, `text words TEXT`, `text number WORD`, `text name WORD`,
+//! `text bytes WORD`, `text word WORD`.
+
+use super::rdp::hex;
+use csp_cases::CaseError::Unread;
+use csp_cases::{CaseError, unescaped, yes_or_no};
+use csp_text::{
+    byte_digits, hex_bytes, hex_word, is_bytes, is_hex_word, lines, name, number, words,
+};
+use std::alloc::Global;
+
+/// How many lines or words a text has, or what a word stands for.
+pub(super) fn answer(alloc: Global, what: &str) -> Result<String, CaseError> {
+    let (how, rest) = what.split_once(" ").unwrap_or((what, ""));
+    let text = unescaped(alloc, rest)?;
+    let word = text.as_slice();
+    match how {
+        "lines" => Ok(format!(in alloc; "{}", lines(alloc, word)?.len())?),
+        "words" => Ok(format!(in alloc; "{}", words(alloc, word)?.len())?),
+        "number" => match number(word) {
+            Some(value) => Ok(format!(in alloc; "{value}")?),
+            None => Ok(String::from_str(alloc, "none")?),
+        },
+        "name" => yes_or_no(alloc, name(word).is_some()),
+        "bytes" => bytes(alloc, word),
+        "word" if is_hex_word(word) => Ok(format!(in alloc; "{}", hex_word(word))?),
+        "word" => Ok(String::from_str(alloc, "none")?),
+        _ => Err(Unread),
+    }
+}
+
+/// The bytes that hexadecimal digits stand for.
+fn bytes(alloc: Global, word: &[u8]) -> Result<String, CaseError> {
+    if !is_bytes(word) {
+        return Ok(String::from_str(alloc, "none")?);
+    }
+    let digits = byte_digits(word);
+    if digits.len() > 8 {
+        return Err(Unread);
+    }
+    let bytes = hex(alloc, hex_bytes::<4>(digits).as_slice())?;
+    Ok(format!(in alloc; "bytes {bytes}")?)
+}

@@ -1,3 +1,0 @@
-pub mod IfaceServing
-pub mod LinkServing
-pub mod Serving
