@@ -31,7 +31,7 @@ run() {
     echo "  WRONG:$wrong"
     sed 's/^/  | /' "$work/said"
   elif grep -q '^(no proved program' "$work/said"; then
-    echo "  (a quick build without proofs: time and memory are those of making it, too)"
+    echo "  (a quick build without proofs: its time is not that of the proved program)"
   else
     each[$name]=$(awk -v seconds="$user $system" -v entries="$entries" \
       'BEGIN { split(seconds, of); print (of[1] + of[2]) / entries }')

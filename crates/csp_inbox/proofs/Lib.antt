@@ -1,0 +1,4 @@
+pub mod Closing
+pub mod Drawing
+pub mod Keeps
+pub mod Marks

@@ -1,0 +1,4 @@
+pub mod Marks
+pub mod Passes
+pub mod Seen
+pub mod Sorts

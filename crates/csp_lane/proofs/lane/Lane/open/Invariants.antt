@@ -1,0 +1,4 @@
+use Rattle.csp_lane.proofs.lane.Lane.open.Given as goal
+
+abbrev pub ghosts-part : goal.ghosts-part
+ghosts-part a = record { terms = record { region = a.region.now.name; carries = a.carries; room = a.room } }

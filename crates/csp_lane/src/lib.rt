@@ -1,0 +1,11 @@
+//! A lane: a queue from one party to another that both use at the same time, over a queue without locks
+//! whose rule proves the order of the items and why a call found nothing or no room.
+#![tactic(auto)]
+
+mod ends;
+mod hand;
+mod lane;
+mod rule;
+
+pub use ends::{Consumer, Producer};
+pub use lane::Lane;

@@ -1,0 +1,171 @@
+//! The rule of a lane's queue, and what each step tells.
+
+ghost use Rattle.std.specs.Prelude.{◌≡◌, []};
+ghost use Rattle.crossbeam_queue.specs.Passes.{view, IsSamePass, IsPassOf};
+ghost use Rattle.csp_lane.specs.Relays.{newcomer, writer, reader};
+
+use crate::hand::Hand;
+use crossbeam_queue::protocol::{Join, Lesson, Outcome, Protocol, Split};
+use crossbeam_queue::{Pass, RuledArrayQueue};
+use csp_arena::RegionToken;
+use csp_deck::{Carries, Item};
+use std::marker::{Brand, PhantomData};
+
+/// What was got and then what the queue holds is what was put.
+pub(crate) struct Order;
+
+impl Protocol<Item, Hand> for Order {
+    ghost use Rattle.csp_lane.specs.Relays.{Relays, newcomer};
+
+    ghost holds = { Relays };
+
+    ghost first = { newcomer };
+}
+
+/// The queue of a lane.
+pub(crate) type Queue = RuledArrayQueue<Item, Hand, Order>;
+
+/// A pass of it.
+pub(crate) type Port = Pass<Item, Hand>;
+
+/// A put.
+pub(crate) struct Puts;
+
+impl Outcome<Item, Hand> for Puts {
+    ghost use Rattle.csp_lane.specs.Relays.{with_put};
+    ghost use Rattle.csp_log.specs.Pictures.{shown_item};
+
+    ghost then = { λ v x w. w ≡ with_put v (shown_item x) };
+}
+
+impl Lesson<Item, Hand> for Puts {
+    ghost use Rattle.csp_lane.specs.Relays.{Crammed};
+
+    ghost fact = { Crammed };
+}
+
+/// A get.
+pub(crate) struct Gets;
+
+impl Outcome<Item, Hand> for Gets {
+    ghost use Rattle.csp_lane.specs.Relays as relays;
+
+    ghost then = { relays.Gets };
+}
+
+impl Lesson<Item, Hand> for Gets {
+    ghost use Rattle.csp_lane.specs.Relays.{Drained};
+
+    ghost fact = { Drained };
+}
+
+/// A get by the pass that knows all.
+pub(crate) struct Empties;
+
+impl Outcome<Item, Hand> for Empties {
+    ghost use Rattle.csp_lane.specs.Relays as relays;
+
+    ghost then = { relays.Gets };
+}
+
+impl Lesson<Item, Hand> for Empties {
+    ghost use Rattle.csp_lane.specs.Relays.{Accounts};
+
+    ghost fact = { Accounts };
+}
+
+/// The terms of a lane that is being opened.
+pub(crate) trait Opening {
+    ghost terms: { Terms };
+
+    ghost use Rattle.csp_lane.specs.Relays.{Terms};
+}
+
+impl Opening for Brand {
+    ghost use Rattle.csp_lane.specs.Relays.{no_terms};
+
+    ghost terms = { no_terms };
+}
+
+/// The first pass is parted into the ends.
+pub(crate) struct Parts<K> {
+    terms: PhantomData<K>,
+}
+
+impl<K: Opening> Split<Hand> for Parts<K> {
+    ghost use Rattle.std.specs.Prelude.{[]};
+    ghost use Rattle.csp_lane.specs.Relays.{writer, reader};
+
+    ghost left = { λ _. writer K.terms [] 0 };
+
+    ghost right = { λ _. reader K.terms [] 0 };
+}
+
+/// The producer writes a note.
+pub(crate) struct PutNote;
+
+impl Split<Hand> for PutNote {
+    ghost use Rattle.std.specs.Prelude.{length};
+    ghost use Rattle.csp_lane.specs.Relays.{note};
+
+    ghost left = { λ v. v };
+
+    ghost right = { λ v. note (length v.put) 0 };
+}
+
+/// The consumer reads it.
+impl Join<Hand> for PutNote {
+    ghost use Rattle.csp_lane.specs.Relays.{told, note};
+
+    ghost both = { λ v w. told v w.known_puts v.known_gets };
+
+    ghost spent = { note 0 0 };
+}
+
+/// The consumer writes a note.
+pub(crate) struct GetNote;
+
+impl Split<Hand> for GetNote {
+    ghost use Rattle.std.specs.Prelude.{length};
+    ghost use Rattle.csp_lane.specs.Relays.{note};
+
+    ghost left = { λ v. v };
+
+    ghost right = { λ v. note 0 (length v.got) };
+}
+
+/// The producer reads it.
+impl Join<Hand> for GetNote {
+    ghost use Rattle.csp_lane.specs.Relays.{told, note};
+
+    ghost both = { λ v w. told v v.known_puts w.known_gets };
+
+    ghost spent = { note 0 0 };
+}
+
+/// One pass for both ends.
+pub(crate) struct Rejoins;
+
+impl Join<Hand> for Rejoins {
+    ghost use Rattle.csp_lane.specs.Relays.{both_hands, note};
+
+    ghost both = { both_hands };
+
+    ghost spent = { note 0 0 };
+}
+
+/// Parts the first pass into the ends of a lane on these terms.
+pub(crate) fn part<K: Opening>(
+    queue: &Queue,
+    pass: &mut Port,
+    region: &RegionToken,
+    carries: Carries,
+    room: u16,
+) -> Port
+    requires terms { K.terms ≡ record { region = region.now.name; carries = carries; room = room } }
+    requires first { IsPassOf queue.now pass.old × (view pass.old ≡ newcomer) }
+    ensures producer { IsSamePass pass.old pass.new × (view pass.new ≡ writer (record { region = region.now.name; carries = carries; room = room }) [] 0) }
+    ensures consumer { IsPassOf queue.now result × (view result ≡ reader (record { region = region.now.name; carries = carries; room = room }) [] 0) }
+{
+    queue.another::<Parts<K>>(pass)
+}

@@ -1,0 +1,4 @@
+pub mod Fairness
+pub mod Hands
+pub mod PlainPool
+pub mod Tallies

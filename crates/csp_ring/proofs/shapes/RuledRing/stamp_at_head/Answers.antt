@@ -1,0 +1,6 @@
+use Rattle.std.proofs.Common.{rules}
+use Rattle.crossbeam_queue.proofs.Looks.{sees_full}
+use Rattle.csp_ring.proofs.shapes.RuledRing.stamp_at_head.Goals as goal
+
+pub load-requires : goal.load-requires
+load-requires g c = (search rules, search rules, sees_full _ _ _ _ _ (search rules) (search rules))
