@@ -15,7 +15,7 @@ asks s now = op_of s.number (turn_of s now (plan_of s))
 abbrev pub handed : PlainApp → ℕ → Plan → PlainApp
 handed s now p = until_told s (turn_of s now p)
 
--- it knows which turn it is
+-- the application from its question until the answer
 abbrev pub asked : PlainApp → ℕ → PlainApp
 asked s now = record (handed s now (plan_of s)) { doing = plan_of s }
 

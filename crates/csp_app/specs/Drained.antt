@@ -10,5 +10,6 @@ drained_by None (Some _) held s = record s { made = None }
 drained_by None None (_ ∷ held) s = record s { held = held }
 drained_by None None [] s = s
 
+-- the application without the first buffer that it holds, at the end of a run
 abbrev pub drained : PlainApp → PlainApp
 drained s = drained_by s.taken s.made s.held s

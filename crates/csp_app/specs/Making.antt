@@ -61,11 +61,13 @@ packet_in (item.Packet _ b) = Some b
 packet_in (item.Frame _) = None
 packet_in (item.Note _) = None
 
+-- the mark of the packet in an item, and none in a frame or a note
 abbrev pub mark_in : ItemShown → ℕ
 mark_in (item.Packet mark _) = mark
 mark_in (item.Frame _) = UNMARKED
 mark_in (item.Note _) = UNMARKED
 
+-- the note in an item, if it is one
 abbrev pub note_in : ItemShown → Option Note
 note_in (item.Packet _ _) = None
 note_in (item.Frame _) = None

@@ -16,6 +16,7 @@ use Rattle.csp_log.specs.declared.places.Rule.{Rule}
 use Rattle.csp_log.specs.declared.places.Rule.TheVariants as rule
 use Rattle.csp_log.specs.declared.places.TheConstants.{SLOTS, UNMARKED}
 
+-- an application: what it keeps from turn to turn, and from question to answer
 pub record PlainApp : Type 0 where
   -- its number in its node
   pub number : ℕ
@@ -81,7 +82,7 @@ present_step s = (if has_ended s then 0 else s.done + 1)
 abbrev pub buffers : PlainApp → List Content
 buffers s = option_to_list s.taken ++ (option_to_list s.made ++ s.held)
 
--- and their numbers
+-- the numbers of the buffers that an application holds
 abbrev pub holds : PlainApp → List ℕ
 holds s = numbers_of (buffers s)
 

@@ -115,6 +115,7 @@ CanLook s (plan.Use _ _) = ⊥
 CanLook s (plan.Receive slot _ _) = GoesOn s × (slot < SLOTS)
 CanLook s (plan.Wait _) = GoesOn s
 
+-- what an application's fields keep at every time
 pub record IsReady (a : Inside) : Type 0 where
   -- steps are numbered in 32 bits, and name slots that there are
   pub few : length a.steps.items + 1 < 2 ^ 32

@@ -20,7 +20,7 @@ slot_at slots k = slice_index_or slots k fresh
 abbrev pub taken_on : ℕ → List Slot → List Slot
 taken_on k slots = slice_set slots k (record (slot_at slots k) { unused = (slot_at slots k).unused + 1 })
 
--- so many of the packets taken on this slot were used
+-- a slot of which so many packets that were taken are used
 abbrev pub used_on : ℕ → ℕ → List Slot → List Slot
 used_on k count slots = slice_set slots k (record (slot_at slots k) { unused = (slot_at slots k).unused - count })
 

@@ -64,6 +64,7 @@ step_plan s (Some (step.Close slot)) = note_plan s.asked (note.Close slot)
 step_plan s (Some (step.Wait rounds)) = plan.Wait rounds
 step_plan s None = plan.Rest
 
+-- what the next turn is
 abbrev pub plan_of : PlainApp → Plan
 plan_of s = first_rule s.taken s.refused (step_plan s (slice_get s.steps s.done))
 
@@ -97,6 +98,7 @@ answered_by s (note.Bind _ _) = not_an_answer s
 answered_by s (note.Connect _ _ _ _ _ _) = not_an_answer s
 answered_by s (note.Close _) = not_an_answer s
 
+-- an answer is awaited, and this note came, if it is one
 abbrev pub answered : Option Note → PlainApp → Told
 answered None s = still s
 answered (Some n) s = answered_by s n
@@ -125,6 +127,7 @@ recv_end slot packets false true _ s = over_with (event.GaveUp (s.done + 1)) s
 recv_end slot packets false false true s = over_with (event.SlotDown (s.done + 1)) s
 recv_end slot packets false false false s = still s
 
+-- a `recv` step after a pop, as the packets, rounds and slot now stand
 abbrev pub received : ℕ → ℕ → Option ℕ → ℕ → PlainApp → Told
 received slot packets rounds now s = recv_end slot packets (is_enough slot packets s) (gives_up rounds now s) (slot_at s.slots slot).down s
 
@@ -133,15 +136,18 @@ abbrev pub wait_end : (passed : Bool) → PlainApp → Told
 wait_end true s = over s
 wait_end false s = still s
 
+-- a `wait` step after a pop
 abbrev pub waited : ℕ → ℕ → PlainApp → Told
 waited rounds now s = wait_end (has_passed rounds now s) s
 
 -- ---- the table: what each turn asks, and what each answer comes to
 
+-- the table of the steps: each plan's turn, with what each answer comes to
 abbrev pub turn_of : PlainApp → ℕ → Plan → Turn
 turn_of s now plan.Rest = rests (still s)
--- (1) a packet that was popped is given back; from a full pool it comes back, and is still to be given
-turn_of s now plan.Return = gives s.taken (record s { taken = None }) (still s) (λ b. still (record s { taken = Some b }))
+-- (1) a packet that was popped is given back; from a full pool, which no run meets, it comes back, is still to be given, and `Down` is popped
+-- once after it is
+turn_of s now plan.Return = gives s.taken (record s { taken = None }) (still s) (λ b. put_off (record s { taken = Some b }))
 -- (2) `Down` is popped once
 turn_of s now plan.Look = pops (record s { refused = false }) (λ _ s. still s)
 -- (3) take: the buffer is held; an empty pool is reported, and the script goes on

@@ -21,8 +21,10 @@ told_by s now p a = told_of s (turn_of s now p) a
 abbrev pub told : PlainApp → ℕ → AnswerShown → Told
 told s now a = told_by (at_rest s) now s.doing a
 
+-- the application after an answer
 abbrev pub tells : PlainApp → ℕ → AnswerShown → PlainApp
 tells s now a = (told s now a).state
 
+-- what the application reports of an answer
 abbrev pub events : PlainApp → ℕ → AnswerShown → List Event
 events s now a = (told s now a).events

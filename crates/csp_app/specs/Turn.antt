@@ -14,6 +14,7 @@ use Rattle.csp_log.specs.declared.shown.ItemShown.{ItemShown}
 use Rattle.csp_log.specs.declared.shown.OpShown.{OpShown}
 use Rattle.csp_log.specs.declared.shown.OpShown.TheVariants as op
 
+-- the five forms of a turn, each with what every answer comes to
 pub data Turn : Type 0 where
   -- it does nothing
   rests : (told : Told) → Turn

@@ -168,12 +168,10 @@ impl App {
     {
         match self.doing {
             Plan::Return => self.taken.put(buffer),
-            Plan::Give => {
-                self.held.put_back(buffer);
-                self.refused = true;
-            }
+            Plan::Give => self.held.put_back(buffer),
             _ => unreachable!(),
         }
+        self.refused = true;
         self.doing = Plan::Rest;
     }
 

@@ -17,6 +17,7 @@ op_of (give b) = op.Give b
 op_of (send to b) = op.Push (queue.Out to) (item.Packet UNMARKED b)
 op_of hear = op.Pop queue.Inbox
 
+-- what a bridge asks in its turn
 abbrev pub asks : PlainBridge → OpShown
 asks s = op_of (plan_of s)
 
@@ -32,6 +33,7 @@ doing_of (give _) = doing.Give
 doing_of (send _ _) = doing.Send
 doing_of hear = doing.Hear
 
+-- the bridge from its question until the answer
 abbrev pub asked : PlainBridge → PlainBridge
 asked s = record (handed (plan_of s) s) { doing = doing_of (plan_of s) }
 
@@ -42,5 +44,6 @@ kind_of_doing to doing.Give = giving
 kind_of_doing to doing.Send = pushing (queue.Out to)
 kind_of_doing to doing.Hear = popping queue.Inbox
 
+-- what a bridge waits for
 abbrev pub awaits : PlainBridge → Kind
 awaits s = kind_of_doing s.to s.doing

@@ -12,5 +12,6 @@ abbrev pub circle_by : Doing → (trash out : Option Content) → List QueueId
 circle_by doing.Rest None None = queue.Inbox ∷ []
 circle_by _ _ _ = []
 
+-- the queues that a bridge looks into until it is as it was
 abbrev pub circle : PlainBridge → List QueueId
 circle s = circle_by s.doing s.trash s.out

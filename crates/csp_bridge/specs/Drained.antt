@@ -9,5 +9,6 @@ drained_by (Some _) out s = record s { trash = None }
 drained_by None (Some _) s = record s { out = None }
 drained_by None None s = s
 
+-- the bridge without the first buffer that it holds, at the end of a run
 abbrev pub drained : PlainBridge → PlainBridge
 drained s = drained_by s.trash s.out s

@@ -12,6 +12,7 @@ use Rattle.csp_log.specs.declared.places.QueueId.TheVariants as queue
 use Rattle.csp_log.specs.declared.places.Rule.{Rule}
 use Rattle.csp_log.specs.declared.places.Rule.TheVariants as rule
 
+-- a bridge: the buffers that it holds, and what its turn is
 pub record PlainBridge : Type 0 where
   -- a packet that was discarded: its buffer is to be given back
   pub trash : Option Content
@@ -38,7 +39,7 @@ opening = record { trash = None; out = None; to = 0; doing = doing.Rest }
 abbrev pub buffers : PlainBridge → List Content
 buffers s = option_to_list s.trash ++ option_to_list s.out
 
--- and their numbers
+-- the numbers of the buffers that a bridge holds
 abbrev pub holds : PlainBridge → List ℕ
 holds s = numbers_of (buffers s)
 

@@ -3,6 +3,7 @@ use Rattle.std.specs.Prelude.{ℕ, Option, Some, None}
 use Rattle.csp_bridge.specs.PlainBridge.{PlainBridge}
 use Rattle.csp_buffer.specs.Content.{Content}
 
+-- what a turn of a bridge is
 pub data Plan : Type 0 where
   -- this buffer is given back
   give : Content → Plan
@@ -17,5 +18,6 @@ first_rule (Some b) _ to = give b
 first_rule None (Some b) to = send to b
 first_rule None None to = hear
 
+-- the first rule that fits a bridge
 abbrev pub plan_of : PlainBridge → Plan
 plan_of s = first_rule s.trash s.out s.to

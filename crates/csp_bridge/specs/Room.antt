@@ -20,6 +20,7 @@ CanHear doing.Give s = s.trash ≡ None
 CanHear doing.Send s = s.trash ≡ None
 CanHear doing.Hear s = s.out ≡ None
 
+-- what a bridge's fields keep at every time
 pub record IsBridge (b : Inside) : Type 0 where
   -- there are two interfaces
   pub sides : b.to < 2

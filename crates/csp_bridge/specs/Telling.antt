@@ -38,6 +38,7 @@ told_by doing.Hear answer.Empty s = s
 -- no other answer comes
 told_by _ _ s = s
 
+-- the bridge after an answer
 abbrev pub tells : PlainBridge → AnswerShown → PlainBridge
 tells s a = record (told_by s.doing a s) { doing = doing.Rest }
 
@@ -46,5 +47,6 @@ abbrev pub reports : Doing → AnswerShown → List Event
 reports doing.Send (answer.Full _) = event.Discarded discard.Full ∷ []
 reports _ _ = []
 
+-- what the bridge reports of an answer
 abbrev pub events : PlainBridge → AnswerShown → List Event
 events s a = reports s.doing a

@@ -49,3 +49,9 @@ module _ {K : Type 0} (p : K → Bool) where
       let got = one_passes ks d said.0 in
       let inside : before ks < length ks = grind (arith, nat_tests) in
       subst (λ (j : ℕ). (find p ks ≡ Some (get_or ks j d)) × (remove_first p ks ≡ remove ks j) × (j < length ks)) said.1 (got.0, got.1, inside)
+
+  pub position_inside : (ks : List K) (i : ℕ) → position p ks ≡ Some i → i < length ks
+  position_inside ks i h =
+      let said = passed _ _ _ h in
+      let inside : before ks < length ks = grind (arith, nat_tests) in
+      subst (λ (j : ℕ). j < length ks) said.1 inside

@@ -9,6 +9,6 @@ begin_header bytes = from_be_bytes w32 (take 4 bytes)
 abbrev pub begin_length : List ℕ → ℕ
 begin_length bytes = from_be_bytes w16 (take 2 (drop 4 bytes))
 
--- its payload bytes: all after those 6
+-- the payload bytes in a BEGIN frame: all after its first 6
 abbrev pub begin_payload : List ℕ → List ℕ
 begin_payload bytes = drop 2 (drop 4 bytes)

@@ -25,7 +25,7 @@ pub record IsChain (begin : Frame) (more : List Frame) (header : ℕ) (payload :
   pub payload_is : joined begin more ≡ payload
   pub no_shorter : (n : ℕ) → n < length more → length (joined begin (take n more)) < length payload
 
--- these frames are one whole packet
+-- these frames are one whole packet, of this header and payload
 abbrev pub Chain : List Frame → ℕ → List ℕ → Type 0
 Chain [] header payload = ⊥
 Chain (begin ∷ more) header payload = IsChain begin more header payload

@@ -117,6 +117,7 @@ shown_frames k =
       trace = k.begin.trace;
     }
 
+-- a partial packet kept as the frames that came: the first, and those after it in order
 abbrev pub whole_frames : Keeping Kept
 whole_frames =
     record {

@@ -1,14 +1,24 @@
-use Rattle.std.specs.Prelude.{◌≤◌, nat_le, is_some, List, length, All}
+use Rattle.std.specs.Prelude.{◌≡◌, ◌+◌, ◌-◌, ◌<◌, ◌≤◌, nat_le, is_some, Some, List, ◌++◌, length, position, All}
 use Rattle.csp_base.specs.declared.limits.TheConstants.{MAX_PAYLOAD}
 use Rattle.csp_can.specs.declared.partials.Partial.{Partial}
 use Rattle.csp_can.specs.declared.partials.TheConstants.{MAX_PARTIALS}
-use Rattle.csp_can.specs.Identifiers.{key_of}
+use Rattle.csp_can.specs.Frames.{Frame}
+use Rattle.csp_can.specs.Identifiers.{key_of, same_key}
+use Rattle.csp_can.specs.declared.identifiers.Key.{Key}
 use Rattle.csp_can.specs.Rules.{Arrival, Ruling, opening_ruling, begin_ruling, more_ruling}
 use Rattle.csp_can.specs.Open.{counters, standing, done, gone_on}
 
 -- no partial packet is longer than a packet may be
 abbrev pub AllFit : List Partial → Type 0
 AllFit ps = All (λ p. p.length ≤ MAX_PAYLOAD) ps
+
+-- a frame is the next one of a partial packet, which isn't whole with it
+abbrev pub IsPartWith : Partial → Frame → Type 0
+IsPartWith p f = (f.head.remain + 1 ≡ p.remain) × (length (p.payload.items ++ f.bytes) < p.length)
+
+-- the partial packet of this key stands last
+abbrev pub StandsLast : Key → List Partial → Type 0
+StandsLast key ps = position (λ p. same_key p.key key) ps ≡ Some (length ps - 1)
 
 -- the ruling on a packet that opens where these partial packets stand
 abbrev pub opened : List Partial → Partial → Ruling

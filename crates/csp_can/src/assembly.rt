@@ -1,12 +1,12 @@
 //! Packets put together from their frames.
 
 ghost use Rattle.std.specs.Prelude.{◌≡◌, ◌↔◌, ℕ, ◌<◌, ◌≤◌, ◌^◌, ◌∷◌, [], ◌++◌, length, nat_lt, nat_le, if◌then◌else◌, OnSome, IfSome, IfNone, true, false, position, List};
-ghost use Rattle.csp_can.specs.Identifiers.{identifier_of, same_key};
+ghost use Rattle.csp_can.specs.Identifiers.{identifier_of, key_of, same_key};
 ghost use Rattle.csp_can.specs.Rules.{Arrival, arrival, measured, leaves};
 ghost use Rattle.csp_can.specs.Chains.{Completes};
 ghost use Rattle.csp_can.specs.Maps.{IsMap};
 ghost use Rattle.csp_base.specs.declared.traces.Trace.{Trace};
-ghost use Rattle.csp_can.specs.Steps.{opened, begin_said, more_said, after};
+ghost use Rattle.csp_can.specs.Steps.{opened, begin_said, more_said, after, StandsLast};
 ghost use Rattle.csp_can.specs.declared.partials.Partial.{Partial};
 ghost use Rattle.csp_can.specs.Open.{counters, fresh, standing, without, done, answer_of, answer, next, whole_frames, open_after, counted};
 
@@ -179,8 +179,8 @@ impl Reassembly {
 
     /// Extends the last partial packet in place, where it is of this key and goes on after the frame. Whether it did.
     fn extend(&mut self, head: &Identifier, bytes: &[u8], now: u64) -> bool
-        ensures part { result ≡ true → (trace : Trace) → let a = arrival head.now bytes.now trace now in
-            (more_said self.old a).event ≡ CanEvent.Part }
+        ensures when { (trace : Trace) → let a = arrival head.now bytes.now trace now in
+            (result ≡ true) ↔ (((more_said self.old a).event ≡ CanEvent.Part) × StandsLast (key_of head.now) self.old) }
         ensures state { result ≡ true → (trace : Trace) → let a = arrival head.now bytes.now trace now in
             self.new ≡ after (more_said self.old a) self.old a }
         ensures left { result ≡ false → self.new ≡ self.old }

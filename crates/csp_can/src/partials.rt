@@ -35,12 +35,13 @@ impl Partial {
     ghost use Rattle.csp_base.specs.declared.traces.Trace.{Trace};
     ghost use Rattle.csp_can.specs.Rules.{arrival};
     ghost use Rattle.csp_can.specs.Open.{grown_partial};
+    ghost use Rattle.csp_can.specs.Steps.{IsPartWith};
 
     /// Goes on with a frame's bytes, where the frame is the next one and the packet isn't whole with them.
     /// Whether it did.
     pub(crate) fn go_on(&mut self, head: &Identifier, bytes: &[u8], now: u64) -> bool
-        ensures next { result ≡ true → head.now.remain + 1 ≡ self.old.remain }
-        ensures short { result ≡ true → length (self.old.payload.items ++ bytes.now) < self.old.length }
+        requires fits { self.old.length ≤ MAX_PAYLOAD }
+        ensures when { (result ≡ true) ↔ IsPartWith self.old (record { head = head.now; bytes = bytes.now }) }
         ensures grown { result ≡ true → (trace : Trace) → self.new ≡ grown_partial self.old (arrival head.now bytes.now trace now) }
         ensures left { result ≡ false → self.new ≡ self.old }
         ensures length { self.new.length ≡ self.old.length }

@@ -6,9 +6,11 @@ use Rattle.csp_deck.specs.Keeping.{PlainHand, PlainPile}
 use Rattle.csp_deck.specs.declared.hand.Hand.TheInside as hand
 use Rattle.csp_deck.specs.declared.pile.Pile.TheInside as pile
 
+-- a hand's fields as contracts see them
 abbrev pub plain_hand : hand.Inside → PlainHand
 plain_hand h = record { region = h.token.name; content = option_map (λ b. b.picture) h.buffer }
 
+-- a pile's fields as contracts see them
 abbrev pub plain_pile : pile.Inside → PlainPile
 plain_pile p = record { region = p.token.name; room = p.room; contents = map (λ b. b.picture) p.buffers.items }
 

@@ -14,7 +14,7 @@ IsItemOf r (item.Packet _ b) = b.region ≡ r
 IsItemOf r (item.Frame _) = ⊤
 IsItemOf r (item.Note _) = ⊤
 
--- and that in an operation
+-- the buffer in an operation, if there is one, is of this region
 abbrev pub IsOpOf : RegionName → Op → Type 0
 IsOpOf r op.Nothing = ⊤
 IsOpOf r op.Take = ⊤
@@ -22,7 +22,7 @@ IsOpOf r (op.Give b) = b.region ≡ r
 IsOpOf r (op.Push _ i) = IsItemOf r i
 IsOpOf r (op.Pop _) = ⊤
 
--- and that in an answer
+-- the buffer in an answer, if there is one, is of this region
 abbrev pub IsAnswerFrom : RegionName → Answer → Type 0
 IsAnswerFrom r answer.Nothing = ⊤
 IsAnswerFrom r (answer.Taken b) = b.region ≡ r

@@ -46,6 +46,7 @@ last_time time (e ∷ es) = last_time e.time es
 abbrev pub handed_over : List Entry → List ℕ
 handed_over es = flat_map (λ e. op_numbers e.op) es
 
+-- the numbers of the buffers that the answers of entries brought
 abbrev pub received : List Entry → List ℕ
 received es = flat_map (λ e. answer_numbers e.answer) es
 

@@ -1,6 +1,9 @@
 //! What a turn writes on.
 
-use crate::{Draft, Events};
+ghost use Rattle.std.specs.Prelude.{◌≡◌, [], IfOk};
+ghost use Rattle.csp_log.specs.PlainDraft.{drafted};
+
+use crate::{Draft, Events, OpShown};
 use std::alloc::{AllocError, Global};
 
 /// The draft of an entry and a list of events: one desk serves all turns of a world, or of a thread.
@@ -13,11 +16,13 @@ pub struct Desk {
 }
 
 impl Desk {
-    /// A desk with its room.
+    /// A desk with its room, on which nothing is written.
     ///
     /// # Errors
     /// Want of memory.
-    pub fn open(alloc: Global) -> Result<Desk, AllocError> {
+    pub fn open(alloc: Global) -> Result<Desk, AllocError>
+        ensures { IfOk result (λ d. (d.draft ≡ drafted OpShown.Nothing) × (d.report.items ≡ [])) }
+    {
         Ok(Desk {
             draft: Draft::open(alloc)?,
             report: Events::new(),

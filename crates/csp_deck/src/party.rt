@@ -22,6 +22,7 @@ pub type Circle = ArrayVec<QueueId, MAX_CIRCLE>;
 /// functions of that state and of pictures, so a party has just one behaviour.
 pub trait Party {
     ghost use Rattle.csp_arena.specs.Cells.{RegionName};
+    ghost use Rattle.csp_log.specs.PlainSpares.{PlainSpares};
     ghost use Rattle.csp_log.specs.declared.event.Event.{Event};
     ghost use Rattle.csp_log.specs.declared.places.QueueId.{QueueId};
     ghost use Rattle.csp_log.specs.declared.places.Rule.{Rule};
@@ -51,6 +52,9 @@ pub trait Party {
 
     /// How many frames a turn of it makes at most, each in a box of the stock that it is handed.
     ghost needs: { Self → ℕ } = { λ _. 0 };
+
+    /// What is left of the stock of boxes once it was told this answer.
+    ghost stocks: { Self → ℕ → AnswerShown → PlainSpares → PlainSpares } = { λ _ _ _ spares. spares };
 
     /// What it asks at this time.
     ghost asks: { Self → ℕ → OpShown };
@@ -133,7 +137,7 @@ pub trait Party {
         requires early { now < 2 ^ 62 }
         requires countable { count self.old < 2 ^ 32 - 1 }
         requires unwritten { report.old.items ≡ [] }
-        requires stock { needs self.old ≤ spares.old }
+        requires stock { needs self.old ≤ spares.old.boxes }
         ensures events { report.new.items ≡ events self.old now (shown_answer answer) }
         ensures state { self.new ≡ tells self.old now (shown_answer answer) }
         ensures ready { (later : ℕ) → now ≤ later → later < 2 ^ 62 → has_ended self.new ≡ false → is_ready self.new later }
@@ -141,7 +145,12 @@ pub trait Party {
         ensures region { region self.new ≡ region self.old }
         ensures count { count self.new ≤ count self.old + 1 }
         ensures needs { needs self.new ≡ needs self.old }
-        ensures stock { spares.old ≤ spares.new + needs self.old }
+
+        // It takes the boxes of the frames that it makes, at most so many, and puts back those of the frames that it uses
+        // up: one that came, and one in hand.
+        ensures stock { spares.new ≡ stocks self.old now (shown_answer answer) spares.old }
+        ensures least { spares.old.boxes ≤ spares.new.boxes + needs self.old }
+        ensures most { spares.new.boxes ≤ spares.old.boxes + 2 }
 
         // It holds besides what it was given.
         ensures holds { (k : ℕ) → times k (holds self.new) ≡ times k (holds self.old) + times k (answer_numbers (shown_answer answer)) };
@@ -153,7 +162,7 @@ pub trait Party {
         requires early { now < 2 ^ 62 }
         requires countable { count self.old < 2 ^ 32 - 1 }
         requires unwritten { report.old.items ≡ [] }
-        requires stock { needs self.old ≤ spares.old }
+        requires stock { needs self.old ≤ spares.old.boxes }
         ensures events { report.new.items ≡ events self.old now AnswerShown.Empty }
         ensures state { self.new ≡ tells self.old now AnswerShown.Empty }
         ensures ready { (later : ℕ) → now ≤ later → later < 2 ^ 62 → has_ended self.new ≡ false → is_ready self.new later }
@@ -161,7 +170,9 @@ pub trait Party {
         ensures region { region self.new ≡ region self.old }
         ensures count { count self.new ≤ count self.old + 1 }
         ensures needs { needs self.new ≡ needs self.old }
-        ensures stock { spares.old ≤ spares.new + needs self.old }
+        ensures stock { spares.new ≡ stocks self.old now AnswerShown.Empty spares.old }
+        ensures least { spares.old.boxes ≤ spares.new.boxes + needs self.old }
+        ensures most { spares.new.boxes ≤ spares.old.boxes + 2 }
         ensures holds { (k : ℕ) → times k (holds self.new) ≡ times k (holds self.old) }
     {
         self.told(Answer::Empty, now, report, spares)

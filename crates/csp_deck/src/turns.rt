@@ -36,7 +36,7 @@ pub fn turn<P: Party, D: Deck>(
     requires counted { P.count party.old ≤ length log.old.entries }
     requires served { (q : QueueId) (r : Rule) → P.uses party.old q ≡ Some r → D.rule deck.old q ≡ Some r }
     requires region { P.region party.old ≡ D.region deck.old }
-    requires stock { P.has_ended party.old ≡ false → P.needs party.old ≤ spares.old }
+    requires stock { P.has_ended party.old ≡ false → P.needs party.old ≤ spares.old.boxes }
 
     ensures ended { P.has_ended party.old ≡ true → (result ≡ Turn.Ended) × (party.new ≡ party.old) × (deck.new ≡ deck.old) × (log.new ≡ log.old) × (spares.new ≡ spares.old) }
 
@@ -68,7 +68,8 @@ pub fn turn<P: Party, D: Deck>(
     ensures rules { (q : QueueId) → D.rule deck.new q ≡ D.rule deck.old q }
     ensures region { (P.region party.new ≡ P.region party.old) × (D.region deck.new ≡ D.region deck.old) }
     ensures needs { P.needs party.new ≡ P.needs party.old }
-    ensures stock { spares.old ≤ spares.new + P.needs party.old }
+    ensures least { spares.old.boxes ≤ spares.new.boxes + P.needs party.old }
+    ensures most { spares.new.boxes ≤ spares.old.boxes + 2 }
 {
     if party.ended() {
         return Turn::Ended;
@@ -98,7 +99,7 @@ fn act<P: Party, D: Deck>(
     requires countable { P.count party.old < 2 ^ 32 - 1 }
     requires served { (q : QueueId) (r : Rule) → P.uses party.old q ≡ Some r → D.rule deck.old q ≡ Some r }
     requires region { P.region party.old ≡ D.region deck.old }
-    requires stock { P.needs party.old ≤ spares.old }
+    requires stock { P.needs party.old ≤ spares.old.boxes }
     ensures went { (answer : AnswerShown)
         × D.answers deck.old (P.asks party.old now) answer deck.new
         × Fits (P.asks party.old now) answer
@@ -115,7 +116,8 @@ fn act<P: Party, D: Deck>(
     ensures rules { (q : QueueId) → D.rule deck.new q ≡ D.rule deck.old q }
     ensures region { (P.region party.new ≡ P.region party.old) × (D.region deck.new ≡ D.region deck.old) }
     ensures needs { P.needs party.new ≡ P.needs party.old }
-    ensures stock { spares.old ≤ spares.new + P.needs party.old }
+    ensures least { spares.old.boxes ≤ spares.new.boxes + P.needs party.old }
+    ensures most { spares.new.boxes ≤ spares.old.boxes + 2 }
 {
     let op = party.ask(now);
     carry(party, deck, log, spares, desk, now, op)
@@ -141,7 +143,7 @@ fn carry<P: Party, D: Deck>(
     requires served { (q : QueueId) (r : Rule) → P.uses party.old q ≡ Some r → D.rule deck.old q ≡ Some r }
     requires of_it { IsOpOf (D.region deck.old) op }
     requires region { P.region party.old ≡ D.region deck.old }
-    requires stock { P.needs party.old ≤ spares.old }
+    requires stock { P.needs party.old ≤ spares.old.boxes }
     ensures went { (answer : AnswerShown)
         × D.answers deck.old (shown_op op) answer deck.new
         × Fits (shown_op op) answer
@@ -156,7 +158,8 @@ fn carry<P: Party, D: Deck>(
     ensures rules { (q : QueueId) → D.rule deck.new q ≡ D.rule deck.old q }
     ensures region { (P.region party.new ≡ P.region party.old) × (D.region deck.new ≡ D.region deck.old) }
     ensures needs { P.needs party.new ≡ P.needs party.old }
-    ensures stock { spares.old ≤ spares.new + P.needs party.old }
+    ensures least { spares.old.boxes ≤ spares.new.boxes + P.needs party.old }
+    ensures most { spares.new.boxes ≤ spares.old.boxes + 2 }
 {
     let Desk { draft, report } = desk;
     draft.ask(&op);
@@ -187,7 +190,7 @@ fn look<P: Party, D: Deck>(
     requires asked { CanServe (P.uses party.old) (OpShown.Pop queue) }
     requires served { (q : QueueId) (r : Rule) → P.uses party.old q ≡ Some r → D.rule deck.old q ≡ Some r }
     requires region { P.region party.old ≡ D.region deck.old }
-    requires stock { P.needs party.old ≤ spares.old }
+    requires stock { P.needs party.old ≤ spares.old.boxes }
     ensures went { (answer : AnswerShown)
         × D.answers deck.old (OpShown.Pop queue) answer deck.new
         × Fits (OpShown.Pop queue) answer
@@ -202,7 +205,8 @@ fn look<P: Party, D: Deck>(
     ensures rules { (q : QueueId) → D.rule deck.new q ≡ D.rule deck.old q }
     ensures region { (P.region party.new ≡ P.region party.old) × (D.region deck.new ≡ D.region deck.old) }
     ensures needs { P.needs party.new ≡ P.needs party.old }
-    ensures stock { spares.old ≤ spares.new + P.needs party.old }
+    ensures least { spares.old.boxes ≤ spares.new.boxes + P.needs party.old }
+    ensures most { spares.new.boxes ≤ spares.old.boxes + 2 }
 {
     if deck.misses(queue) {
         miss(party, log, spares, desk, now, queue);
@@ -226,7 +230,7 @@ fn miss<P: Party>(
     requires early { now < 2 ^ 62 }
     requires room { 0 < log.old.spare }
     requires countable { P.count party.old < 2 ^ 32 - 1 }
-    requires stock { P.needs party.old ≤ spares.old }
+    requires stock { P.needs party.old ≤ spares.old.boxes }
     ensures party { party.new ≡ P.tells party.old now AnswerShown.Empty }
     ensures log { log.new ≡ with_entry log.old (entry_of now (OpShown.Pop queue) AnswerShown.Empty (P.events party.old now AnswerShown.Empty)) }
     ensures holds { (k : ℕ) → times k (P.holds party.new) ≡ times k (P.holds party.old) }
@@ -235,7 +239,8 @@ fn miss<P: Party>(
     ensures uses { (q : QueueId) → P.uses party.new q ≡ P.uses party.old q }
     ensures region { P.region party.new ≡ P.region party.old }
     ensures needs { P.needs party.new ≡ P.needs party.old }
-    ensures stock { spares.old ≤ spares.new + P.needs party.old }
+    ensures least { spares.old.boxes ≤ spares.new.boxes + P.needs party.old }
+    ensures most { spares.new.boxes ≤ spares.old.boxes + 2 }
 {
     empty(&mut desk.report);
     party.miss(now, &mut desk.report, spares);

@@ -1,5 +1,5 @@
 -- an interface that is idle looks into the queues of its two sides, and is then as it was
-use Rattle.std.proofs.Common.{◌≡◌, ℕ, zero, suc, false, drop, length, Option, Some, None, List, [], ◌∷◌, refl, sym, subst, ◌∙◌}
+use Rattle.std.proofs.Common.{◌≡◌, ◌<◌, ℕ, zero, suc, false, arith, drop, length, Option, Some, None, List, [], ◌∷◌, refl, sym, subst, ◌∙◌}
 use Rattle.std.proofs.Math.Dec.{leb-zero, leb-suc-zero, leb-suc-suc}
 use Rattle.std.specs.Prelude.{nat_le}
 use Rattle.csp_base.specs.declared.traces.Trace.{Trace}
@@ -27,6 +27,13 @@ none_left zero [] = leb-zero zero
 none_left zero (_ ∷ bytes) = leb-suc-zero (length bytes)
 none_left (suc at) [] = leb-zero (suc at)
 none_left (suc at) (_ ∷ bytes) = leb-suc-suc (length bytes) at ∙ none_left at bytes
+
+-- a byte is left from a place on that is before their end
+pub some_left : (at : ℕ) (bytes : List ℕ) → at < length bytes → all_read (drop at bytes) ≡ false
+some_left zero [] h = absurd (omega arith)
+some_left zero (_ ∷ bytes) h = refl
+some_left (suc at) [] h = absurd (omega arith)
+some_left (suc at) (_ ∷ bytes) h = some_left at bytes (omega arith)
 
 -- an interface's step
 abbrev steps : Steps IfaceAt

@@ -39,10 +39,11 @@ op_of s plan.Transmit = transmitted s.number (slice_get s.frames 0)
 op_of s plan.Fetch = op.Pop (queue.Out s.number)
 op_of s plan.Receive = op.Pop (queue.Rx s.number)
 
+-- what an interface asks in its turn
 abbrev pub asks : PlainIface → ℕ → OpShown
 asks s now = op_of s (plan_of s)
 
--- the other side
+-- the side of an interface whose turn comes after this one's
 abbrev pub other : Side → Side
 other side.Sending = side.Receiving
 other side.Receiving = side.Sending
@@ -61,6 +62,7 @@ handed s plan.Transmit = turned (record s { frames = drop 1 s.frames })
 handed s plan.Fetch = turned s
 handed s plan.Receive = turned s
 
+-- the interface from its question until the answer
 abbrev pub asked : PlainIface → ℕ → PlainIface
 asked s now = record (handed s (plan_of s)) { doing = plan_of s }
 
@@ -74,5 +76,6 @@ kind_of_plan number plan.Transmit = pushing (queue.Tx number)
 kind_of_plan number plan.Fetch = popping (queue.Out number)
 kind_of_plan number plan.Receive = popping (queue.Rx number)
 
+-- what an interface waits for
 abbrev pub awaits : PlainIface → Kind
 awaits s = kind_of_plan s.number s.doing

@@ -11,7 +11,7 @@ use Rattle.csp_log.specs.declared.frame.Frame.{Frame}
 use Rattle.csp_log.specs.declared.places.QueueId.{QueueId}
 use Rattle.csp_log.specs.declared.places.QueueId.TheVariants as queue
 
--- no byte is left
+-- no byte of the frame in hand is left
 abbrev pub all_read : List ℕ → Bool
 all_read [] = true
 all_read (_ ∷ _) = false
@@ -31,6 +31,7 @@ abbrev pub idle_by : (back accepted : Option Content) → Option Packet → (spe
 idle_by None None None spent = spent
 idle_by _ _ _ _ = false
 
+-- an interface has nothing in hand, neither to send nor to read
 abbrev pub is_idle : PlainIface → Bool
 is_idle s = idle_by s.back s.accepted s.whole (is_spent s.frames (is_read s.receiver))
 
@@ -44,5 +45,6 @@ abbrev pub circle_by : (idle : Bool) → ℕ → Side → List QueueId
 circle_by true number next = sides number next
 circle_by false number next = []
 
+-- the queues that an interface looks into until it is as it was
 abbrev pub circle : PlainIface → List QueueId
 circle s = circle_by (is_idle s) s.number s.side

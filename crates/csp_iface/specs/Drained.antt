@@ -10,5 +10,6 @@ drained_by None (Some _) accepted s = record s { sending = None }
 drained_by None None (Some _) s = record s { accepted = None }
 drained_by None None None s = s
 
+-- the interface without the first buffer that it holds, at the end of a run
 abbrev pub drained : PlainIface → PlainIface
 drained s = drained_by s.back s.sending s.accepted s

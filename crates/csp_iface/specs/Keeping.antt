@@ -6,6 +6,7 @@ use Rattle.csp_buffer.specs.Content.{Content}
 use Rattle.csp_kiss.specs.Reading.{Reading}
 use Rattle.csp_log.specs.declared.frame.Frame.{Frame}
 
+-- what an interface keeps of the packet whose transmission has begun
 pub record PlainSender : Type 0 where
   -- the region of its buffer
   pub region : RegionName
@@ -16,6 +17,7 @@ pub record PlainSender : Type 0 where
   -- whether the next one is made and here
   pub loaded : Bool
 
+-- what an interface keeps of a KISS stream, and of the frame in hand
 pub record PlainStream : Type 0 where
   -- what is kept of the stream so far
   pub reading : Reading

@@ -9,4 +9,5 @@ pub mod Planning
 pub mod Receiving
 pub mod Room
 pub mod Sending
+pub mod Stocking
 pub mod Telling

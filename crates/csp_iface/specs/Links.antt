@@ -18,7 +18,7 @@ abbrev pub carried_on : LinkKind → Carries
 carried_on link.Kiss = lane.Kiss
 carried_on link.Can = lane.Can
 
--- it carries this frame
+-- a link of this kind carries this frame
 abbrev pub IsFrameOn : LinkKind → Frame → Type 0
 IsFrameOn kind f = IsCarried (rule.Lane (carried_on kind)) (item.Frame f)
 

@@ -19,6 +19,7 @@ use Rattle.csp_log.specs.declared.places.QueueId.TheVariants as queue
 use Rattle.csp_log.specs.declared.places.Rule.{Rule}
 use Rattle.csp_log.specs.declared.places.Rule.TheVariants as rule
 
+-- an interface: its place, what it sends, what it receives, and what its turn is
 pub record PlainIface : Type 0 where
   -- its node, and its number there
   pub node : ℕ
@@ -73,7 +74,7 @@ opening node number kind = record {
 abbrev pub buffers : PlainIface → List Content
 buffers s = option_to_list s.back ++ (option_to_list s.sending ++ option_to_list s.accepted)
 
--- and their numbers
+-- the numbers of the buffers that an interface holds
 abbrev pub holds : PlainIface → List ℕ
 holds s = numbers_of (buffers s)
 

@@ -22,5 +22,6 @@ first_rule None (Some _) whole own = plan.Deliver
 first_rule None None (Some _) own = plan.Take
 first_rule None None None own = own
 
+-- the first rule that fits an interface
 abbrev pub plan_of : PlainIface → Plan
 plan_of s = first_rule s.back s.accepted s.whole (side_plan s.side s.frames)

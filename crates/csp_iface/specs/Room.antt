@@ -46,6 +46,7 @@ CanHear a plan.Transmit = (a.sender.loaded ≡ false) × (a.back.content ≡ Non
 CanHear a plan.Fetch = IsSettled a.sender.packet a.sender.frames a.sender.loaded × (a.sender.frames ≡ [])
 CanHear a plan.Receive = IsSettled a.sender.packet a.sender.frames a.sender.loaded × (a.whole ≡ None)
 
+-- what an interface's fields keep at every time
 pub record IsIface (a : Inside) : Type 0 where
   pub number : a.number < IFACES
   -- what it receives is that of its link, and the link carries its frames

@@ -108,6 +108,7 @@ abbrev pub going_on : Bool → PlainIface → Heard
 going_on true s = record { receiver = s.receiver; whole = s.whole; refused = 0 }
 going_on false s = read_further s.receiver
 
+-- the interface once it has read on, to the next packet or the frame's end
 abbrev pub read_after : PlainIface → Heard
 read_after s = going_on (has_packet s) s
 
@@ -119,12 +120,15 @@ adding h o = record { iface = record o.iface { receiver = h.receiver; whole = h.
 abbrev pub resting : PlainIface → PlainIface
 resting s = record s { doing = plan.Rest }
 
+-- what an answer comes to, before any reading
 abbrev pub answered : PlainIface → ℕ → AnswerShown → Outcome
 answered s now a = told_by (resting s) now s.doing a
 
+-- what it comes to with the reading after it
 abbrev pub concluded : PlainIface → ℕ → AnswerShown → Outcome
 concluded s now a = adding (read_after (answered s now a).iface) (answered s now a)
 
+-- the interface after an answer
 abbrev pub tells : PlainIface → ℕ → AnswerShown → PlainIface
 tells s now a = (concluded s now a).iface
 
@@ -132,5 +136,6 @@ tells s now a = (concluded s now a).iface
 abbrev pub bad : ℕ → List Event
 bad n = if n == 0 then [] else event.Bad n ∷ []
 
+-- what an interface reports of an answer: its events, and how much it refused
 abbrev pub events : PlainIface → ℕ → AnswerShown → List Event
 events s now a = (concluded s now a).events ++ bad (concluded s now a).refused

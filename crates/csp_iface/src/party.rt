@@ -8,6 +8,7 @@ impl Party for Iface {
     ghost use Rattle.std.specs.Prelude.{◌≡◌, ⊤, false};
     ghost use Rattle.csp_iface.specs.PlainIface.{uses, holds, with_iface};
     ghost use Rattle.csp_iface.specs.Asking.{asks, asked, awaits};
+    ghost use Rattle.csp_iface.specs.Stocking.{stocks};
     ghost use Rattle.csp_iface.specs.Telling.{tells, events};
     ghost use Rattle.csp_iface.specs.declared.plan.Plan.TheVariants as plan;
 
@@ -26,6 +27,8 @@ impl Party for Iface {
     ghost region = { λ a. a.region };
 
     ghost needs = { λ _. 1 };
+
+    ghost stocks = { λ a now answer spares. stocks a.iface now answer spares };
 
     ghost asks = { λ a now. asks a.iface now };
 

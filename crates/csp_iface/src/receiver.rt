@@ -1,10 +1,11 @@
 //! What an interface keeps of what came, by the kind of its link.
 
-ghost use Rattle.std.specs.Prelude.{◌≡◌, ◌-◌, ◌^◌, ◌<◌, ◌≤◌, None, unwrap_or};
+ghost use Rattle.std.specs.Prelude.{◌≡◌, ◌+◌, ◌-◌, ◌^◌, ◌<◌, ◌≤◌, None, unwrap_or};
 ghost use Rattle.csp_can.specs.Identifiers.{identifier_of};
 ghost use Rattle.csp_can.specs.Rules.{arrival};
 ghost use Rattle.csp_deck.specs.Carried.{IsCanItem};
 ghost use Rattle.csp_iface.specs.Receiving.{arrived, heard, read_further, reassembled};
+ghost use Rattle.csp_iface.specs.Stocking.{further_stock, heard_stock};
 
 use crate::packet::Packet;
 use crate::stream::Stream;
@@ -55,7 +56,9 @@ impl Receiver {
         ensures refused { result ≡ (heard now self.old frame).refused }
         ensures few { result ≤ 1 }
         ensures kind { kind_of self.new ≡ kind_of self.old }
-        ensures stock { spares.old ≤ spares.new }
+        ensures stock { spares.new ≡ heard_stock self.old frame spares.old }
+        ensures least { spares.old.boxes ≤ spares.new.boxes }
+        ensures most { spares.new.boxes ≤ spares.old.boxes + 1 }
     {
         if frame.frame().trace.hops == MAX_HOPS {
             spares.keep(frame);
@@ -64,7 +67,7 @@ impl Receiver {
         match self {
             Receiver::Kiss(stream) => {
                 let trace = arrived(&frame.frame().trace);
-                stream.take(frame, trace);
+                stream.take(frame, trace, spares);
                 0
             }
             Receiver::Can(partials) => {
@@ -95,7 +98,9 @@ impl Receiver {
         ensures refused { result ≡ (read_further self.old).refused }
         ensures few { result ≤ MAX_FRAME }
         ensures kind { kind_of self.new ≡ kind_of self.old }
-        ensures stock { spares.old ≤ spares.new }
+        ensures stock { spares.new ≡ further_stock self.old spares.old }
+        ensures least { spares.old.boxes ≤ spares.new.boxes }
+        ensures most { spares.new.boxes ≤ spares.old.boxes + 1 }
     {
         match self {
             Receiver::Kiss(stream) => stream.read_on(whole, spares),

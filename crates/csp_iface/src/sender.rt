@@ -7,6 +7,8 @@ ghost use Rattle.csp_deck.specs.Keeping.{number_in};
 ghost use Rattle.csp_deck.specs.Step.{times};
 ghost use Rattle.csp_iface.specs.Links.{IsFrameOn};
 ghost use Rattle.csp_iface.specs.Sending.{kiss_frame, can_frame, frames_of, sent_trace};
+ghost use Rattle.csp_iface.specs.Stocking.{made_stock};
+ghost use Rattle.csp_log.specs.PlainSpares.{without_box};
 
 use arrayvec::ArrayVec;
 use csp_arena::RegionToken;
@@ -77,7 +79,7 @@ impl Sender {
     )
         requires free { self.old.packet ≡ None }
         requires of_it { buffer.region ≡ self.old.region }
-        requires stock { 0 < spares.old }
+        requires stock { 0 < spares.old.boxes }
         ensures state { self.new ≡ record {
           region = self.old.region;
           packet = Some buffer.picture;
@@ -85,7 +87,9 @@ impl Sender {
           loaded = true;
         } }
         ensures carried { AllByRecursion (IsFrameOn kind) self.new.frames }
-        ensures stock { spares.old ≤ spares.new + 1 }
+        ensures stock { spares.new ≡ made_stock self.new.frames spares.old }
+        ensures least { spares.old.boxes ≤ spares.new.boxes + 1 }
+        ensures most { spares.new.boxes ≤ spares.old.boxes }
     {
         let trace = Trace {
             origin: Some(origin),
@@ -105,7 +109,7 @@ impl Sender {
         trace: Trace,
         spares: &mut Spares,
     )
-        requires { 0 < spares.old }
+        requires { 0 < spares.old.boxes }
         ensures state { self.new ≡ record {
           region = self.old.region;
           packet = self.old.packet;
@@ -113,7 +117,9 @@ impl Sender {
           loaded = true;
         } }
         ensures carried { AllByRecursion (IsFrameOn kind) self.new.frames }
-        ensures stock { spares.old ≤ spares.new + 1 }
+        ensures stock { spares.new ≡ made_stock self.new.frames spares.old }
+        ensures least { spares.old.boxes ≤ spares.new.boxes + 1 }
+        ensures most { spares.new.boxes ≤ spares.old.boxes }
     {
         self.trace = trace;
         match kind {
@@ -151,10 +157,12 @@ impl Sender {
     /// Makes the next frame, where one is left.
     pub fn load(&mut self, spares: &mut Spares)
         requires empty { self.old.loaded ≡ false }
-        requires stock { 0 < spares.old }
+        requires stock { 0 < spares.old.boxes }
         ensures state { self.new ≡ record { region = self.old.region; packet = self.old.packet; frames = self.old.frames; loaded = self.new.loaded } }
         ensures made { self.new.loaded ≡ false → self.old.frames ≡ [] }
-        ensures stock { spares.old ≤ spares.new + 1 }
+        ensures stock { spares.new ≡ made_stock self.old.frames spares.old }
+        ensures least { spares.old.boxes ≤ spares.new.boxes + 1 }
+        ensures most { spares.new.boxes ≤ spares.old.boxes }
     {
         if let Some(rest) = &mut self.rest {
             self.first = can_frame(rest, self.trace, spares);
@@ -193,9 +201,9 @@ impl Sender {
 
 /// The one frame of a packet on a KISS link.
 fn kiss_frame(buffer: &Buffer, trace: Trace, spares: &mut Spares) -> BoxedFrame
-    requires { 0 < spares.old }
+    requires { 0 < spares.old.boxes }
     ensures frame { result ≡ kiss_frame buffer.now.picture trace }
-    ensures stock { spares.old ≡ spares.new + 1 }
+    ensures stock { spares.new ≡ without_box spares.old }
 {
     let mut bytes = ArrayVec::new();
     encode(buffer.header(), buffer.payload(), &mut bytes);
@@ -204,10 +212,12 @@ fn kiss_frame(buffer: &Buffer, trace: Trace, spares: &mut Spares) -> BoxedFrame
 
 /// The next frame of a packet on a CAN bus, where one is left.
 fn can_frame(rest: &mut Fragments, trace: Trace, spares: &mut Spares) -> Option<BoxedFrame>
-    requires { 0 < spares.old }
+    requires { 0 < spares.old.boxes }
     ensures frame { map (can_frame trace) rest.old ≡ option_to_list result ++ map (can_frame trace) rest.new }
     ensures none { MatchOption result (rest.old ≡ []) (λ _. ⊤) }
-    ensures stock { spares.old ≤ spares.new + 1 }
+    ensures stock { spares.new ≡ made_stock (map (can_frame trace) rest.old) spares.old }
+    ensures least { spares.old.boxes ≤ spares.new.boxes + 1 }
+    ensures most { spares.new.boxes ≤ spares.old.boxes }
 {
     let frame = rest.next()?;
     Some(spares.fill(Some(frame.id), frame.bytes.as_slice(), trace))

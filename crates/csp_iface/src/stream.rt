@@ -1,10 +1,11 @@
 //! The stream of a KISS link.
 
-ghost use Rattle.std.specs.Prelude.{◌≡◌, ◌≤◌, None, [], length, drop};
+ghost use Rattle.std.specs.Prelude.{◌≡◌, ◌+◌, ◌≤◌, None, [], length, drop};
 ghost use Rattle.std.specs.Option.{option_map};
 ghost use Rattle.csp_base.specs.Trace.{no_trace};
 ghost use Rattle.csp_iface.specs.Circling.{all_read};
 ghost use Rattle.csp_iface.specs.Receiving.{traced};
+ghost use Rattle.csp_iface.specs.Stocking.{in_hand_stock, read_stock};
 ghost use Rattle.csp_kiss.specs.GoingOn.{read_on};
 ghost use Rattle.csp_kiss.specs.Reading.{unread};
 
@@ -52,12 +53,14 @@ impl Stream {
     }
 
     /// Takes a frame in hand, of which nothing is read yet. What is read in it has this trace.
-    pub fn take(&mut self, frame: BoxedFrame, trace: Trace)
-        ensures { self.new ≡ record { reading = self.old.reading; rest = frame.bytes.items; trace = trace } }
+    pub fn take(&mut self, frame: BoxedFrame, trace: Trace, spares: &mut Spares)
+        ensures state { self.new ≡ record { reading = self.old.reading; rest = frame.bytes.items; trace = trace } }
+        ensures stock { spares.new ≡ in_hand_stock frame.bytes.items spares.old }
+        ensures least { spares.old.boxes ≤ spares.new.boxes }
+        ensures most { spares.new.boxes ≤ spares.old.boxes + 1 }
     {
-        self.frame = Some(frame);
-        self.at = 0;
         self.trace = trace;
+        self.keep(frame, 0, spares);
     }
 
     /// Whether the frame in hand, where there is one, is read to its end.
@@ -82,7 +85,9 @@ impl Stream {
         ensures whole { whole.new ≡ option_map (traced self.old.trace) (read_on self.old.reading self.old.rest).packet }
         ensures refused { result ≡ (read_on self.old.reading self.old.rest).refused }
         ensures few { result ≤ MAX_FRAME }
-        ensures stock { spares.old ≤ spares.new }
+        ensures stock { spares.new ≡ read_stock self.old.rest (read_on self.old.reading self.old.rest).left spares.old }
+        ensures least { spares.old.boxes ≤ spares.new.boxes }
+        ensures most { spares.new.boxes ≤ spares.old.boxes + 1 }
     {
         let at = self.at;
         match self.frame.take() {
@@ -106,7 +111,9 @@ impl Stream {
         ensures whole { whole.new ≡ option_map (traced self.old.trace) (read_on self.old.reading (drop at frame.bytes.items)).packet }
         ensures refused { result ≡ (read_on self.old.reading (drop at frame.bytes.items)).refused }
         ensures few { result ≤ MAX_FRAME }
-        ensures stock { spares.old ≤ spares.new }
+        ensures stock { spares.new ≡ in_hand_stock (read_on self.old.reading (drop at frame.bytes.items)).left spares.old }
+        ensures least { spares.old.boxes ≤ spares.new.boxes }
+        ensures most { spares.new.boxes ≤ spares.old.boxes + 1 }
     {
         let bytes = frame.frame().bytes.as_slice();
         let KissProgress {
@@ -120,10 +127,13 @@ impl Stream {
     }
 
     /// Keeps a frame in hand whose bytes are read up to this place. Where all are read, its box goes back.
+    #[tactic(auto, using(crate::proofs::Circling::none_left))]
     fn keep(&mut self, frame: BoxedFrame, at: usize, spares: &mut Spares)
         requires { at ≤ length frame.bytes.items }
         ensures state { self.new ≡ record { reading = self.old.reading; rest = drop at frame.bytes.items; trace = self.old.trace } }
-        ensures stock { spares.old ≤ spares.new }
+        ensures stock { spares.new ≡ in_hand_stock (drop at frame.bytes.items) spares.old }
+        ensures least { spares.old.boxes ≤ spares.new.boxes }
+        ensures most { spares.new.boxes ≤ spares.old.boxes + 1 }
     {
         if at < frame.frame().bytes.len() {
             self.frame = Some(frame);

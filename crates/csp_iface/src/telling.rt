@@ -20,6 +20,7 @@ use csp_log::{Answer, AnswerShown, Event, Events, Item, UNMARKED};
 impl Iface {
     ghost use Rattle.csp_iface.specs.PlainIface.{uses, with_iface};
     ghost use Rattle.csp_iface.specs.Asking.{awaits};
+    ghost use Rattle.csp_iface.specs.Stocking.{answered_stock, made_stock, read_after_stock, stocks};
     ghost use Rattle.csp_iface.specs.Telling.{tells, events, answered, read_after, begun, resting, pushed};
 
     /// Ends the turn with its answer: what the answer makes of the interface, and what it reads on then.
@@ -34,10 +35,12 @@ impl Iface {
         requires of_it { IsAnswerFrom self.old.region answer }
         requires countable { self.old.iface.serial < 2 ^ 32 - 1 }
         requires unwritten { report.old.items ≡ [] }
-        requires stock { 0 < spares.old }
+        requires stock { 0 < spares.old.boxes }
         ensures events { report.new.items ≡ events self.old.iface now (shown_answer answer) }
         ensures state { self.new ≡ with_iface self.old (tells self.old.iface now (shown_answer answer)) }
-        ensures stock { spares.old ≤ spares.new + 1 }
+        ensures stock { spares.new ≡ stocks self.old.iface now (shown_answer answer) spares.old }
+        ensures least { spares.old.boxes ≤ spares.new.boxes + 1 }
+        ensures most { spares.new.boxes ≤ spares.old.boxes + 2 }
     {
         let refused = self.take_answer(answer, now, report, spares);
         let count = refused + self.read_on(spares);
@@ -52,7 +55,9 @@ impl Iface {
         requires unwritten { report.old.items ≡ [] }
         ensures events { report.new.items ≡ events self.old.iface now AnswerShown.Empty }
         ensures state { self.new ≡ with_iface self.old (tells self.old.iface now AnswerShown.Empty) }
-        ensures stock { spares.old ≤ spares.new }
+        ensures stock { spares.new ≡ stocks self.old.iface now AnswerShown.Empty spares.old }
+        ensures least { spares.old.boxes ≤ spares.new.boxes }
+        ensures most { spares.new.boxes ≤ spares.old.boxes + 1 }
     {
         self.told_empty(now);
         let count = self.read_on(spares);
@@ -69,7 +74,9 @@ impl Iface {
         ensures state { self.new ≡ with_iface self.old (record self.old.iface { receiver = (read_after self.old.iface).receiver; whole = (read_after self.old.iface).whole }) }
         ensures refused { result ≡ (read_after self.old.iface).refused }
         ensures few { result ≤ MAX_FRAME }
-        ensures stock { spares.old ≤ spares.new }
+        ensures stock { spares.new ≡ read_after_stock self.old.iface spares.old }
+        ensures least { spares.old.boxes ≤ spares.new.boxes }
+        ensures most { spares.new.boxes ≤ spares.old.boxes + 1 }
     {
         if self.whole.is_some() || !self.accepted.is_empty() {
             return 0;
@@ -89,13 +96,15 @@ impl Iface {
         requires of_it { IsAnswerFrom self.old.region answer }
         requires countable { self.old.iface.serial < 2 ^ 32 - 1 }
         requires unwritten { report.old.items ≡ [] }
-        requires stock { 0 < spares.old }
+        requires stock { 0 < spares.old.boxes }
         ensures events { report.new.items ≡ (answered self.old.iface now (shown_answer answer)).events }
         ensures state { self.new ≡ with_iface self.old (answered self.old.iface now (shown_answer answer)).iface }
         ensures refused { result ≡ (answered self.old.iface now (shown_answer answer)).refused }
         ensures few { result ≤ 1 }
         ensures room { length report.new.items ≤ 1 }
-        ensures stock { spares.old ≤ spares.new + 1 }
+        ensures stock { spares.new ≡ answered_stock self.old.iface self.old.iface.doing (shown_answer answer) spares.old }
+        ensures least { spares.old.boxes ≤ spares.new.boxes + 1 }
+        ensures most { spares.new.boxes ≤ spares.old.boxes + 1 }
     {
         match answer {
             Answer::Nothing => self.told_nothing(now),
@@ -184,11 +193,13 @@ impl Iface {
     /// The packet is in the inbox, or the frame is on the link.
     fn told_pushed(&mut self, now: u64, spares: &mut Spares)
         requires fits { IsAnswerOf (uses self.old.iface) (awaits self.old.iface) AnswerShown.Pushed }
-        requires stock { 0 < spares.old }
+        requires stock { 0 < spares.old.boxes }
         ensures events { (answered self.old.iface now AnswerShown.Pushed).events ≡ [] }
         ensures refused { (answered self.old.iface now AnswerShown.Pushed).refused ≡ 0 }
         ensures state { self.new ≡ with_iface self.old (answered self.old.iface now AnswerShown.Pushed).iface }
-        ensures stock { spares.old ≤ spares.new + 1 }
+        ensures stock { spares.new ≡ answered_stock self.old.iface self.old.iface.doing AnswerShown.Pushed spares.old }
+        ensures least { spares.old.boxes ≤ spares.new.boxes + 1 }
+        ensures most { spares.new.boxes ≤ spares.old.boxes }
     {
         match self.doing {
             Plan::Transmit => self.go_on(spares),
@@ -199,9 +210,11 @@ impl Iface {
     /// A frame was pushed: the next is made, or after the last the buffer is to be given back.
     fn go_on(&mut self, spares: &mut Spares)
         requires doing { self.old.iface.doing ≡ Plan.Transmit }
-        requires stock { 0 < spares.old }
+        requires stock { 0 < spares.old.boxes }
         ensures state { self.new ≡ with_iface self.old (pushed self.old.iface.frames (resting self.old.iface)) }
-        ensures stock { spares.old ≤ spares.new + 1 }
+        ensures stock { spares.new ≡ made_stock self.old.iface.frames spares.old }
+        ensures least { spares.old.boxes ≤ spares.new.boxes + 1 }
+        ensures most { spares.new.boxes ≤ spares.old.boxes }
     {
         self.sender.load(spares);
         if !self.sender.is_loaded()
@@ -242,13 +255,15 @@ impl Iface {
         requires of_it { IsItemOf self.old.region item }
         requires countable { self.old.iface.serial < 2 ^ 32 - 1 }
         requires unwritten { report.old.items ≡ [] }
-        requires stock { 0 < spares.old }
+        requires stock { 0 < spares.old.boxes }
         ensures events { report.new.items ≡ (answered self.old.iface now (AnswerShown.Popped (shown_item item))).events }
         ensures refused { result ≡ (answered self.old.iface now (AnswerShown.Popped (shown_item item))).refused }
         ensures state { self.new ≡ with_iface self.old (answered self.old.iface now (AnswerShown.Popped (shown_item item))).iface }
         ensures few { result ≤ 1 }
         ensures room { length report.new.items ≤ 1 }
-        ensures stock { spares.old ≤ spares.new + 1 }
+        ensures stock { spares.new ≡ answered_stock self.old.iface self.old.iface.doing (AnswerShown.Popped (shown_item item)) spares.old }
+        ensures least { spares.old.boxes ≤ spares.new.boxes + 1 }
+        ensures most { spares.new.boxes ≤ spares.old.boxes + 1 }
     {
         match item {
             Item::Packet { mark, buffer } => {
@@ -273,10 +288,12 @@ impl Iface {
         requires mark { mark ≢ UNMARKED → mark < 32 }
         requires of_it { buffer.region ≡ self.old.region }
         requires countable { self.old.iface.serial < 2 ^ 32 - 1 }
-        requires stock { 0 < spares.old }
+        requires stock { 0 < spares.old.boxes }
         ensures serial { result ≡ self.old.iface.serial }
         ensures state { self.new ≡ with_iface self.old (begun mark buffer.picture (resting self.old.iface)) }
-        ensures stock { spares.old ≤ spares.new + 1 }
+        ensures stock { spares.new ≡ made_stock (begun mark buffer.picture self.old.iface).frames spares.old }
+        ensures least { spares.old.boxes ≤ spares.new.boxes + 1 }
+        ensures most { spares.new.boxes ≤ spares.old.boxes }
     {
         let serial = self.serial;
         let origin = Origin {

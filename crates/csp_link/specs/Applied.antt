@@ -39,6 +39,7 @@ pushed_by way _ _ = []
 abbrev pub frames_popped : Way → List Entry → List Frame
 frames_popped way es = flat_map (λ e. popped_by way e.op e.answer) es
 
+-- the frames that entries pushed in one direction
 abbrev pub frames_pushed : Way → List Entry → List Frame
 frames_pushed way es = flat_map (λ e. pushed_by way e.op e.answer) es
 

@@ -18,6 +18,7 @@ op_of way (push _ h) = op.Push (to_queue way) (item.Frame h.frame)
 op_of way pop = op.Pop (from_queue way)
 op_of way wait = op.Nothing
 
+-- what a link asks in its turn
 abbrev pub asks : PlainLink → ℕ → OpShown
 asks s now = op_of s.way (plan_of s now)
 
@@ -33,6 +34,7 @@ doing_of (push place h) = doing.Push place h.due
 doing_of pop = doing.Pop
 doing_of wait = doing.Wait
 
+-- the link from its question until the answer
 abbrev pub asked : PlainLink → ℕ → PlainLink
 asked s now = record (with_direction s s.way (handed (plan_of s now) (in_turn s))) { doing = doing_of (plan_of s now) }
 
@@ -43,5 +45,6 @@ kind_of_doing way (doing.Push _ _) = pushing (to_queue way)
 kind_of_doing way doing.Pop = popping (from_queue way)
 kind_of_doing way doing.Wait = nothing
 
+-- what a link waits for
 abbrev pub awaits : PlainLink → Kind
 awaits s = kind_of_doing s.way s.doing

@@ -13,5 +13,6 @@ abbrev pub circle_by : Doing → (forth back : Bool) → Way → List QueueId
 circle_by doing.Rest true true way = from_queue way ∷ from_queue (other way) ∷ []
 circle_by _ _ _ _ = []
 
+-- the queues that a link looks into until it is as it was
 abbrev pub circle : PlainLink → ℕ → List QueueId
 circle s now = circle_by s.doing (looks (plan_in s.forth now)) (looks (plan_in s.back now)) s.way

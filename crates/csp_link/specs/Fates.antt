@@ -48,5 +48,6 @@ IsKind (fault.Repeat copies) = copies ≤ MAX_REPEATS
 IsKind (fault.Delay _) = ⊤
 IsKind (fault.Flip _) = ⊤
 
+-- a fault's kind has its number in range
 abbrev pub IsFault : Fault → Type 0
 IsFault f = IsKind f.kind

@@ -7,5 +7,6 @@ pub mod Holding
 pub mod PlainLink
 pub mod Planning
 pub mod Room
+pub mod Stocking
 pub mod Telling
 pub mod Ways

@@ -17,6 +17,7 @@ use Rattle.csp_log.specs.declared.places.QueueId.TheVariants as queue
 use Rattle.csp_log.specs.declared.places.Rule.{Rule}
 use Rattle.csp_log.specs.declared.places.Rule.TheVariants as rule
 
+-- one direction of a link: its fates, how many frames were popped, which are held
 pub record PlainDirection : Type 0 where
   -- what the plan says of its frames
   pub fates : Fates
@@ -25,6 +26,7 @@ pub record PlainDirection : Type 0 where
   -- the frames that it holds, in the order of holding
   pub held : List Held
 
+-- a link: its kind, its two directions, and whose turn it is
 pub record PlainLink : Type 0 where
   pub kind : LinkKind
   pub forth : PlainDirection
@@ -52,6 +54,7 @@ in_turn s = direction s s.way
 abbrev pub opening_direction : List Fault → Way → PlainDirection
 opening_direction plan way = record { fates = fates_of (number way) plan; popped = 0; held = [] }
 
+-- a link of this kind and plan as it opens: nothing popped, nothing held
 abbrev pub opening : LinkKind → List Fault → PlainLink
 opening kind plan = record {
   kind = kind;

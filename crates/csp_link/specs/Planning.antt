@@ -5,6 +5,7 @@ use Rattle.csp_link.specs.PlainLink.{PlainDirection, PlainLink, in_turn}
 use Rattle.csp_link.specs.declared.held.Held.{Held}
 use Rattle.csp_link.specs.declared.held.TheConstants.{MOST_HELD}
 
+-- what a turn of a link is
 pub data Plan : Type 0 where
   -- this held frame, with so many before it, goes on
   push : ℕ → Held → Plan
@@ -19,9 +20,11 @@ first_rule (Some p) _ = push p.0 p.1
 first_rule None true = pop
 first_rule None false = wait
 
+-- what the turn of a direction is at this time
 abbrev pub plan_in : PlainDirection → ℕ → Plan
 plan_in d now = first_rule (first_due now d.held) (nat_le (length d.held) MOST_HELD)
 
+-- what the next turn is
 abbrev pub plan_of : PlainLink → ℕ → Plan
 plan_of s now = plan_in (in_turn s) now
 

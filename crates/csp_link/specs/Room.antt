@@ -22,6 +22,7 @@ CanHear (doing.Push place _) held = (place ≤ length held) × (length held < LI
 CanHear doing.Pop held = length held ≤ MOST_HELD
 CanHear doing.Wait held = ⊤
 
+-- what a link's fields keep at every time
 pub record IsLink (s : PlainLink) : Type 0 where
   pub forth : AreCarried s.kind s.forth.held
   pub back : AreCarried s.kind s.back.held

@@ -25,7 +25,7 @@ abbrev pub kept : ℕ → ℕ → Option Frame → PlainDirection → PlainDirec
 kept place due (Some frame) d = record d { held = insert d.held place (held_until due frame) }
 kept place due None d = d
 
--- of a frame that is popped, the next in number, what the plan makes is held
+-- a direction that popped a frame, the next in number: what the plan makes of it is held
 abbrev pub taken : ℕ → Option Frame → PlainDirection → PlainDirection
 taken now (Some frame) d = record d { popped = d.popped + 1; held = d.held ++ held_copies (fate_at d.fates (d.popped + 1)) now frame }
 taken now None d = d
@@ -44,6 +44,7 @@ told_by now _ _ d = d
 abbrev pub turned : PlainLink → PlainLink
 turned s = record s { way = other s.way; doing = doing.Rest }
 
+-- the link after an answer, with the other direction's turn next
 abbrev pub tells : PlainLink → ℕ → AnswerShown → PlainLink
 tells s now a = turned (with_direction s s.way (told_by now s.doing a (in_turn s)))
 

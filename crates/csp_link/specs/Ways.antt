@@ -19,6 +19,6 @@ other Back = Forth
 abbrev pub from_queue : Way → QueueId
 from_queue way = queue.Tx (number way)
 
--- and the one that they go to
+-- the lane that the frames of a direction go to
 abbrev pub to_queue : Way → QueueId
 to_queue way = queue.Rx (number (other way))

@@ -6,6 +6,7 @@ ghost use Rattle.csp_link.specs.Fates.{IsFault};
 ghost use Rattle.csp_link.specs.Planning.{plan_in, looks};
 ghost use Rattle.csp_link.specs.PlainLink.{opening_direction};
 ghost use Rattle.csp_link.specs.Room.{CanHear};
+ghost use Rattle.csp_link.specs.Stocking.{taken_stock};
 ghost use Rattle.csp_link.specs.Telling.{kept, taken};
 ghost use Rattle.csp_log.specs.Pictures.{shown_op};
 
@@ -95,9 +96,11 @@ impl Direction {
         requires room { length self.old.held ≤ MOST_HELD }
         requires few { self.old.popped < 2 ^ 32 }
         requires early { now < 2 ^ 62 }
-        requires stock { MAX_REPEATS ≤ spares.old }
+        requires stock { MAX_REPEATS ≤ spares.old.boxes }
         ensures state { self.new ≡ taken now (Some frame) self.old }
-        ensures stock { spares.old ≤ spares.new + MAX_REPEATS }
+        ensures stock { spares.new ≡ taken_stock (Some frame) self.old spares.old }
+        ensures least { spares.old.boxes ≤ spares.new.boxes + MAX_REPEATS }
+        ensures most { spares.new.boxes ≤ spares.old.boxes + 1 }
     {
         self.popped += 1;
         let fate = self.fates.of(self.popped);

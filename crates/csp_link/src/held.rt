@@ -5,6 +5,7 @@ ghost use Rattle.std.specs.List.{insert, remove};
 ghost use Rattle.std.specs.Option.{option_map};
 ghost use Rattle.csp_link.specs.Copies.{flipped, damaged, held_copies};
 ghost use Rattle.csp_link.specs.Holding.{first_due};
+ghost use Rattle.csp_link.specs.Stocking.{stock_after};
 
 use crate::MAX_REPEATS;
 use crate::fates::Fate;
@@ -110,9 +111,11 @@ impl HeldFrames {
         requires few { fate.repeats ≤ MAX_REPEATS }
         requires room { length self.old ≤ MOST_HELD }
         requires early { now < 2 ^ 62 }
-        requires stock { MAX_REPEATS ≤ spares.old }
+        requires stock { MAX_REPEATS ≤ spares.old.boxes }
         ensures held { self.new ≡ self.old ++ held_copies fate now frame }
-        ensures stock { spares.old ≤ spares.new + MAX_REPEATS }
+        ensures stock { spares.new ≡ stock_after fate spares.old }
+        ensures least { spares.old.boxes ≤ spares.new.boxes + MAX_REPEATS }
+        ensures most { spares.new.boxes ≤ spares.old.boxes + 1 }
     {
         if fate.lost {
             spares.keep(frame);

@@ -42,6 +42,7 @@ impl Link {
     ghost use Rattle.csp_link.specs.PlainLink.{opening, uses, count};
     ghost use Rattle.csp_link.specs.Asking.{asks, asked, awaits};
     ghost use Rattle.csp_link.specs.Circling.{circle};
+    ghost use Rattle.csp_link.specs.Stocking.{stocks};
     ghost use Rattle.csp_link.specs.Telling.{tells, turned};
 
     /// A link of this kind that has carried nothing yet, with room for 64 held frames in each
@@ -111,9 +112,11 @@ impl Link {
         requires fits { IsAnswerOf (uses self.old) (awaits self.old) (shown_answer answer) }
         requires early { now < 2 ^ 62 }
         requires countable { count self.old < 2 ^ 32 - 1 }
-        requires stock { MAX_REPEATS ≤ spares.old }
+        requires stock { MAX_REPEATS ≤ spares.old.boxes }
         ensures state { self.new ≡ tells self.old now (shown_answer answer) }
-        ensures stock { spares.old ≤ spares.new + MAX_REPEATS }
+        ensures stock { spares.new ≡ stocks self.old now (shown_answer answer) spares.old }
+        ensures least { spares.old.boxes ≤ spares.new.boxes + MAX_REPEATS }
+        ensures most { spares.new.boxes ≤ spares.old.boxes + 1 }
     {
         match answer {
             Answer::Full(item) => self.told_full(item, now),
@@ -146,9 +149,11 @@ impl Link {
         requires fits { IsAnswerOf (uses self.old) (awaits self.old) (AnswerShown.Popped (shown_item item)) }
         requires early { now < 2 ^ 62 }
         requires countable { count self.old < 2 ^ 32 - 1 }
-        requires stock { MAX_REPEATS ≤ spares.old }
+        requires stock { MAX_REPEATS ≤ spares.old.boxes }
         ensures state { self.new ≡ tells self.old now (AnswerShown.Popped (shown_item item)) }
-        ensures stock { spares.old ≤ spares.new + MAX_REPEATS }
+        ensures stock { spares.new ≡ stocks self.old now (AnswerShown.Popped (shown_item item)) spares.old }
+        ensures least { spares.old.boxes ≤ spares.new.boxes + MAX_REPEATS }
+        ensures most { spares.new.boxes ≤ spares.old.boxes + 1 }
     {
         let frame = frame_of(item);
         match self.way {

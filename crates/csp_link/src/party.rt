@@ -9,6 +9,7 @@ impl Party for Link {
     ghost use Rattle.csp_deck.specs.Regions.{nowhere};
     ghost use Rattle.csp_link.specs.PlainLink.{uses, count};
     ghost use Rattle.csp_link.specs.Asking.{asks, asked, awaits};
+    ghost use Rattle.csp_link.specs.Stocking.{stocks};
     ghost use Rattle.csp_link.specs.Telling.{tells, events};
     ghost use Rattle.csp_link.specs.declared.fault.TheConstants.{MAX_REPEATS};
 
@@ -25,6 +26,8 @@ impl Party for Link {
     ghost count = { count };
 
     ghost needs = { λ _. MAX_REPEATS };
+
+    ghost stocks = { stocks };
 
     ghost region = { λ _. nowhere };
 

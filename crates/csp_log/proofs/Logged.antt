@@ -48,7 +48,7 @@ slice_get-pushed (y ∷ xs) x = slice_get-pushed xs x
 
 -- what a line says by itself, it says only where nothing was told
 pub says-alone : (rows : List Row) (bytes : List ℕ) (events : List Event) (time : ℕ) (bs : List ℕ) (trace : Trace) (quiet : Bool) (d : Deed) (l : Line) (told : List Event) → spoken_of quiet time d ≡ Some l → (quiet ≡ true → told ≡ [])
-    → Says rows bytes events time (draft_of bs trace d) told l rows bytes events
+    → Says rows bytes events time bs (draft_of bs trace d) told l rows bytes events
 says-alone rows bytes events time bs trace quiet d l told e none =
     let shown = spoken-shows quiet d l e in
     record {
@@ -59,6 +59,7 @@ says-alone rows bytes events time bs trace quiet d l told e none =
       bytes_are = search rules;
       events_are = search rules;
       told_are = sym (none shown.0);
+      once = λ front split. refl;
       few = omega arith;
       inside = search rules;
       said_in = shown.1;
@@ -86,6 +87,7 @@ ended front bytes carried n split at = record {
   after_is = search rules;
   inside = rw (at, split) (grind (arith, common_steps));
   there = rw (at, split) (slice_range-appended front carried);
+  once = λ front split. refl;
 }
 
 pub kept_again : (bytes carried : List ℕ) (n : ℕ) (r : Bool) → r ≡ ends_with eqb bytes carried → r ≡ true → n ≡ length bytes - length carried → IsKeptIn bytes bytes carried n
@@ -95,12 +97,13 @@ kept_again bytes carried n r is ends at =
     let parts : length bytes ≡ length front + length carried = ap length split ∙ length-append front carried in
     ended front bytes carried n split (omega arith)
 
-pub kept_anew : (bytes after carried : List ℕ) (first : ℕ) → after ≡ bytes ++ carried → first ≡ length bytes → IsKeptIn bytes after carried first
-kept_anew bytes after carried first more at = record {
+pub kept_anew : (bytes after carried : List ℕ) (first : ℕ) (r : Bool) → r ≡ ends_with eqb bytes carried → r ≡ false → after ≡ bytes ++ carried → first ≡ length bytes → IsKeptIn bytes after carried first
+kept_anew bytes after carried first r is differs more at = record {
   more = carried;
   after_is = more;
   inside = rw (at, more) (grind (arith, common_steps));
   there = rw (at, more) (slice_range-appended bytes carried);
+  once = λ front split. let ends = (ends_is Decides-eqb bytes carried r is).1 front split in absurd cc;
 }
 
 -- and of what it can't say there is a row
@@ -108,7 +111,7 @@ pub says-kept : (rows : List Row) (bytes : List ℕ) (events : List Event) (time
     → place ≡ length rows → IsKeptIn bytes bytes_after bs first_byte → first_event ≡ length events
     → rows_after ≡ rows ++ record { time = time; first_byte = first_byte; first_event = first_event; bytes = length bs; events = length told; deed = d; trail = t } ∷ [] → events_after ≡ events ++ told
     → IsDeedLong (length bs) d → length bs ≤ MAX_FRAME → length told ≤ MAX_EVENTS
-    → Says rows bytes events time (draft_of bs (trace_of t) d) told (line.Kept place) rows_after bytes_after events_after
+    → Says rows bytes events time bs (draft_of bs (trace_of t) d) told (line.Kept place) rows_after bytes_after events_after
 says-kept rows bytes events time bs d t told first_byte first_event place rows_after bytes_after events_after at kept event rows_are events_are fits short few =
     let r : Row = record { time = time; first_byte = first_byte; first_event = first_event; bytes = length bs; events = length told; deed = d; trail = t } in
     record {
@@ -119,6 +122,7 @@ says-kept rows bytes events time bs d t told first_byte first_event place rows_a
       bytes_are = kept.after_is;
       events_are = events_are;
       told_are = refl;
+      once = kept.once;
       few = omega arith;
       inside = All-push (IsRowIn (length bytes_after) (length events_after)) [] r (search rules) (record {
         bytes_in = kept.inside;
@@ -157,23 +161,23 @@ entries-more rows others bytes more events told (l ∷ lines) all within =
     rw (entry_at-more rows others bytes more events told l all (All-head P l lines within), entries-more rows others bytes more events told lines all (All-tail P l lines within)) refl
 
 -- the entries with one more
-pub entries-push : (rows : List Row) (bytes : List ℕ) (events : List Event) (time : ℕ) (draft : PlainDraft) (told : List Event) (said : Line) (rows_after : List Row) (bytes_after : List ℕ) (events_after : List Event) (lines : List Line)
-    → Says rows bytes events time draft told said rows_after bytes_after events_after → All (IsRowIn (length bytes) (length events)) rows → All (IsLineIn (length rows)) lines
+pub entries-push : (rows : List Row) (bytes : List ℕ) (events : List Event) (time : ℕ) (carried : List ℕ) (draft : PlainDraft) (told : List Event) (said : Line) (rows_after : List Row) (bytes_after : List ℕ) (events_after : List Event) (lines : List Line)
+    → Says rows bytes events time carried draft told said rows_after bytes_after events_after → All (IsRowIn (length bytes) (length events)) rows → All (IsLineIn (length rows)) lines
     → map (entry_at rows_after bytes_after events_after) (lines ++ said ∷ []) ≡ map (entry_at rows bytes events) lines ++ entry_with time draft told ∷ []
-entries-push rows bytes events time draft told said rows_after bytes_after events_after lines s all within =
+entries-push rows bytes events time carried draft told said rows_after bytes_after events_after lines s all within =
     let more = entries-more rows s.rows_more bytes s.bytes_more events s.events_more lines all within in
     map-append (entry_at rows_after bytes_after events_after) lines (said ∷ [])
     ∙ rw (s.rows_are, s.bytes_are, s.events_are) (ap (λ es. es ++ entry_at (rows ++ s.rows_more) (bytes ++ s.bytes_more) (events ++ s.events_more) said ∷ []) more)
     ∙ ap (λ e. map (entry_at rows bytes events) lines ++ e ∷ []) (rw (s.rows_are, s.bytes_are, s.events_are) at s.shows)
 
 -- the events, where they were those of the entries, are those of the entries with one more
-pub told-push : (rows : List Row) (bytes : List ℕ) (events : List Event) (time : ℕ) (draft : PlainDraft) (told : List Event) (said : Line) (rows_after : List Row) (bytes_after : List ℕ) (events_after : List Event) (lines : List Line)
-    → Says rows bytes events time draft told said rows_after bytes_after events_after → All (IsRowIn (length bytes) (length events)) rows → All (IsLineIn (length rows)) lines
+pub told-push : (rows : List Row) (bytes : List ℕ) (events : List Event) (time : ℕ) (carried : List ℕ) (draft : PlainDraft) (told : List Event) (said : Line) (rows_after : List Row) (bytes_after : List ℕ) (events_after : List Event) (lines : List Line)
+    → Says rows bytes events time carried draft told said rows_after bytes_after events_after → All (IsRowIn (length bytes) (length events)) rows → All (IsLineIn (length rows)) lines
     → all_events (map (entry_at rows bytes events) lines) ≡ events
     → all_events (map (entry_at rows_after bytes_after events_after) (lines ++ said ∷ [])) ≡ events_after
-told-push rows bytes events time draft told said rows_after bytes_after events_after lines s all within same =
+told-push rows bytes events time carried draft told said rows_after bytes_after events_after lines s all within same =
     let before : List Entry = map (entry_at rows bytes events) lines in
-    ap all_events (entries-push rows bytes events time draft told said rows_after bytes_after events_after lines s all within)
+    ap all_events (entries-push rows bytes events time carried draft told said rows_after bytes_after events_after lines s all within)
     ∙ flat_map-append (λ (e : Entry). e.events.items) before (entry_with time draft told ∷ [])
     ∙ ap (λ (es : List Event). es ++ (told ++ [])) same
     ∙ ap (λ (es : List Event). events ++ es) (append-nil told ∙ sym s.told_are)
@@ -189,18 +193,18 @@ IsLineIn-more n m (line.FoundNoBuffer _) le h = tt
 IsLineIn-more n m (line.FoundEmpty _ _) le h = tt
 IsLineIn-more n m (line.Kept k) le h = omega arith
 
-pub rows-push : (rows : List Row) (bytes : List ℕ) (events : List Event) (time : ℕ) (draft : PlainDraft) (told : List Event) (said : Line) (rows_after : List Row) (bytes_after : List ℕ) (events_after : List Event)
-    → Says rows bytes events time draft told said rows_after bytes_after events_after → All (IsRowIn (length bytes) (length events)) rows → All (IsRowIn (length bytes_after) (length events_after)) rows_after
-rows-push rows bytes events time draft told said rows_after bytes_after events_after s all =
+pub rows-push : (rows : List Row) (bytes : List ℕ) (events : List Event) (time : ℕ) (carried : List ℕ) (draft : PlainDraft) (told : List Event) (said : Line) (rows_after : List Row) (bytes_after : List ℕ) (events_after : List Event)
+    → Says rows bytes events time carried draft told said rows_after bytes_after events_after → All (IsRowIn (length bytes) (length events)) rows → All (IsRowIn (length bytes_after) (length events_after)) rows_after
+rows-push rows bytes events time carried draft told said rows_after bytes_after events_after s all =
     let P = IsRowIn (length bytes_after) (length events_after) in
     let longer : length bytes ≤ length bytes_after = rw s.bytes_are (grind (arith, common_steps)) in
     let later : length events ≤ length events_after = rw s.events_are (grind (arith, common_steps)) in
     let old : All P rows = All-weaker (IsRowIn (length bytes) (length events)) P (λ r h. IsRowIn-more (length bytes) (length bytes_after) (length events) (length events_after) r longer later h) rows all in
     rw (← s.rows_are) at (All-append P rows s.rows_more old s.inside)
 
-pub lines-push : (rows : List Row) (bytes : List ℕ) (events : List Event) (time : ℕ) (draft : PlainDraft) (told : List Event) (said : Line) (rows_after : List Row) (bytes_after : List ℕ) (events_after : List Event) (lines : List Line)
-    → Says rows bytes events time draft told said rows_after bytes_after events_after → All (IsLineIn (length rows)) lines → All (IsLineIn (length rows_after)) (lines ++ said ∷ [])
-lines-push rows bytes events time draft told said rows_after bytes_after events_after lines s within =
+pub lines-push : (rows : List Row) (bytes : List ℕ) (events : List Event) (time : ℕ) (carried : List ℕ) (draft : PlainDraft) (told : List Event) (said : Line) (rows_after : List Row) (bytes_after : List ℕ) (events_after : List Event) (lines : List Line)
+    → Says rows bytes events time carried draft told said rows_after bytes_after events_after → All (IsLineIn (length rows)) lines → All (IsLineIn (length rows_after)) (lines ++ said ∷ [])
+lines-push rows bytes events time carried draft told said rows_after bytes_after events_after lines s within =
     let P = IsLineIn (length rows_after) in
     let more : length rows ≤ length rows_after = rw s.rows_are (grind (arith, common_steps)) in
     All-push P lines said (All-weaker (IsLineIn (length rows)) P (λ l h. IsLineIn-more (length rows) (length rows_after) l more h) lines within) s.said_in

@@ -22,13 +22,16 @@ is_no_packet moved.NoPacket = true
 is_no_packet (moved.Pushed _ _) = false
 is_no_packet (moved.Popped _ _) = false
 
+-- no note was moved
 abbrev pub is_no_note : Noted → Bool
 is_no_note noted.NoNote = true
 is_no_note (noted.Pushed _ _) = false
 is_no_note (noted.Popped _ _) = false
 
+-- a turn moved neither a packet nor a note
 abbrev pub is_still : OpShown → AnswerShown → Bool
 is_still o a = is_no_packet (moved_by o a) && is_no_note (noted_by o a)
 
+-- a turn moved nothing and reported nothing
 abbrev pub is_idle : Entry → Bool
 is_idle e = nat_eq (length e.events.items) 0 && is_still e.op e.answer

@@ -7,6 +7,7 @@ pub mod Noting
 pub mod Pictures
 pub mod PlainDraft
 pub mod PlainLog
+pub mod PlainSpares
 pub mod Remains
 pub mod Rows
 pub mod Slots

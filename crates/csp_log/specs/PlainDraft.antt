@@ -4,6 +4,7 @@ use Rattle.csp_log.specs.declared.shown.OpShown.TheVariants as op
 use Rattle.csp_log.specs.declared.shown.AnswerShown.{AnswerShown}
 use Rattle.csp_log.specs.declared.shown.AnswerShown.TheVariants as answer
 
+-- what a turn asked, and what it was answered
 pub record PlainDraft : Type 0 where
   pub op : OpShown
   pub answer : AnswerShown

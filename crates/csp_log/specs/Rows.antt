@@ -30,6 +30,7 @@ use Rattle.csp_log.specs.declared.shown.AnswerShown.TheVariants as answer_shown
 abbrev pub packet_of : List ℕ → Trace → PacketHead → Content
 packet_of bytes trace p = record { number = p.number; header = p.header; payload = bytes; trace = trace }
 
+-- the frame with these bytes, this trace and this CAN identifier, if it has one
 abbrev pub frame_of : List ℕ → Trace → Option ℕ → Frame
 frame_of bytes trace can = record { can = can; bytes = record { items = bytes }; trace = trace }
 
@@ -51,7 +52,7 @@ op_of bytes trace (deed.FoundFull q i) = op_shown.Push q (item_of bytes trace i)
 op_of bytes trace (deed.Popped q i) = op_shown.Pop q
 op_of bytes trace (deed.FoundEmpty q) = op_shown.Pop q
 
--- and its answer
+-- the answer of a deed with these bytes
 abbrev pub answer_of : List ℕ → Trace → Deed → AnswerShown
 answer_of bytes trace deed.Rested = answer_shown.Nothing
 answer_of bytes trace (deed.Took p) = answer_shown.Taken (packet_of bytes trace p)
@@ -63,7 +64,7 @@ answer_of bytes trace (deed.FoundFull q i) = answer_shown.Full (item_of bytes tr
 answer_of bytes trace (deed.Popped q i) = answer_shown.Popped (item_of bytes trace i)
 answer_of bytes trace (deed.FoundEmpty q) = answer_shown.Empty
 
--- both
+-- a deed's operation and answer
 abbrev pub draft_of : List ℕ → Trace → Deed → PlainDraft
 draft_of bytes trace d = record { op = op_of bytes trace d; answer = answer_of bytes trace d }
 
@@ -95,6 +96,7 @@ IsDeedLong n (deed.FoundEmpty q) = ⊤
 abbrev pub bytes_in : List ℕ → Row → List ℕ
 bytes_in bytes r = slice_range bytes r.first_byte (r.first_byte + r.bytes)
 
+-- the events of a row, in the list that it points into
 abbrev pub events_in : List Event → Row → List Event
 events_in events r = slice_range events r.first_event (r.first_event + r.events)
 
@@ -106,6 +108,7 @@ row_entry bytes events r = entry_with r.time (draft_of (bytes_in bytes r) (trace
 abbrev pub idle_entry : ℕ → Deed → Entry
 idle_entry time d = entry_with time (draft_of [] no_trace d) []
 
+-- the entry of a row, and an idle one where there is none
 abbrev pub kept_entry : List ℕ → List Event → Option Row → Entry
 kept_entry bytes events None = idle_entry 0 deed.Rested
 kept_entry bytes events (Some r) = row_entry bytes events r
@@ -133,12 +136,13 @@ pub record IsRowIn (bytes events : ℕ) (r : Row) : Type 0 where
   pub events_in : r.first_event + r.events ≤ events
   pub few : r.events ≤ MAX_EVENTS
 
--- a list has these bytes from there on: those that it had before, and more only at its end
+-- a list has these bytes from there on: those that it had before, and more only at its end, none where it ended with them
 pub record IsKeptIn (before after carried : List ℕ) (first : ℕ) : Type 0 where
   pub more : List ℕ
   pub after_is : after ≡ before ++ more
   pub inside : first + length carried ≤ length after
   pub there : slice_range after first (first + length carried) ≡ carried
+  pub once : (front : List ℕ) → before ≡ front ++ carried → after ≡ before
 
 -- a line's row stands in the list
 abbrev pub IsLineIn : ℕ → Line → Type 0
@@ -147,8 +151,9 @@ IsLineIn rows (line.FoundNoBuffer _) = ⊤
 IsLineIn rows (line.FoundEmpty _ _) = ⊤
 IsLineIn rows (line.Kept k) = k < rows
 
--- the line of a turn shows it, with the rows, bytes and events that were kept for it at the ends of the lists
-pub record Says (rows : List Row) (bytes : List ℕ) (events : List Event) (time : ℕ) (draft : PlainDraft) (told : List Event) (said : Line) (rows_after : List Row) (bytes_after : List ℕ) (events_after : List Event) : Type 0 where
+-- the line of a turn shows it, with the rows, bytes and events that were kept for it at the ends of the lists; bytes with which the
+-- list ended are not kept again
+pub record Says (rows : List Row) (bytes : List ℕ) (events : List Event) (time : ℕ) (carried : List ℕ) (draft : PlainDraft) (told : List Event) (said : Line) (rows_after : List Row) (bytes_after : List ℕ) (events_after : List Event) : Type 0 where
   pub rows_more : List Row
   pub bytes_more : List ℕ
   pub events_more : List Event
@@ -156,6 +161,7 @@ pub record Says (rows : List Row) (bytes : List ℕ) (events : List Event) (time
   pub bytes_are : bytes_after ≡ bytes ++ bytes_more
   pub events_are : events_after ≡ events ++ events_more
   pub told_are : events_more ≡ told
+  pub once : (front : List ℕ) → bytes ≡ front ++ carried → bytes_after ≡ bytes
   pub few : length rows_more ≤ 1
   pub inside : All (IsRowIn (length bytes_after) (length events_after)) rows_more
   pub said_in : IsLineIn (length rows_after) said

@@ -44,7 +44,12 @@ impl Model for Draft {
 
 impl Draft {
     /// A draft of a turn that asks nothing.
-    pub fn open(alloc: Global) -> Result<Draft, AllocError> {
+    ///
+    /// # Errors
+    /// Want of memory.
+    pub fn open(alloc: Global) -> Result<Draft, AllocError>
+        ensures { IfOk result (λ d. d ≡ drafted OpShown.Nothing) }
+    {
         let bytes = Vec::with_capacity(alloc, MAX_FRAME)?;
         Ok(Draft {
             deed: Deed::Rested,

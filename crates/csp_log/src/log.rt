@@ -282,7 +282,7 @@ fn say(
     requires fits { IsDeedLong (length carried.now) deed.now }
     requires short { length carried.now ≤ MAX_FRAME }
     requires told { length told.now ≤ MAX_EVENTS }
-    ensures says { Says rows.old.rows bytes.old.items events.old.items time (draft_of carried.now (trace_of trail.now) deed.now) told.now result rows.new.rows bytes.new.items events.new.items }
+    ensures says { Says rows.old.rows bytes.old.items events.old.items time carried.now (draft_of carried.now (trace_of trail.now) deed.now) told.now result rows.new.rows bytes.new.items events.new.items }
     ensures rows_room { rows.old.room ≤ rows.new.room + 1 }
     ensures bytes_capacity { (vec_capacity bytes.old ≤ vec_capacity bytes.new) × (vec_len bytes.new ≤ vec_len bytes.old + MAX_FRAME) }
     ensures events_capacity { (vec_capacity events.old ≤ vec_capacity events.new) × (vec_len events.new ≤ vec_len events.old + MAX_EVENTS) }
@@ -337,7 +337,7 @@ fn keep_row(
     requires fits { IsDeedLong (length carried.now) deed.now }
     requires short { length carried.now ≤ MAX_FRAME }
     requires told { length told.now ≤ MAX_EVENTS }
-    ensures says { Says rows.old.rows bytes.old.items events.old.items time (draft_of carried.now (trace_of trail.now) deed.now) told.now result rows.new.rows bytes.new.items events.new.items }
+    ensures says { Says rows.old.rows bytes.old.items events.old.items time carried.now (draft_of carried.now (trace_of trail.now) deed.now) told.now result rows.new.rows bytes.new.items events.new.items }
     ensures rows_room { rows.old.room ≤ rows.new.room + 1 }
     ensures bytes_capacity { (vec_capacity bytes.old ≤ vec_capacity bytes.new) × (vec_len bytes.new ≤ vec_len bytes.old + MAX_FRAME) }
     ensures events_capacity { (vec_capacity events.old ≤ vec_capacity events.new) × (vec_len events.new ≤ vec_len events.old + MAX_EVENTS) }

@@ -1,7 +1,8 @@
 //! Frames behind a pointer, and the stock of boxes that they are made from.
 
-ghost use Rattle.std.specs.Prelude.{◌≡◌, ◌+◌, ◌-◌, ◌<◌, ◌≤◌, None, length, min, OnOk};
+ghost use Rattle.std.specs.Prelude.{◌≡◌, ◌+◌, ◌-◌, ◌<◌, ◌≤◌, None, length, max, min, OnOk};
 ghost use Rattle.csp_log.specs.Bytes.{with_byte};
+ghost use Rattle.csp_log.specs.PlainSpares.{no_spares, with_box, without_box};
 
 use crate::Frame;
 use csp_base::{MAX_FRAME, Trace};
@@ -55,7 +56,7 @@ impl BoxedFrame {
 }
 
 /// A stock of boxes. Who makes frames takes their boxes from it, so that a turn takes no memory, and who
-/// uses a frame up may put its box back. Contracts see it as the number of boxes.
+/// uses a frame up puts its box back. Contracts see it as the number of its boxes, and for how many it has room.
 #[derive(Drop)]
 pub struct Spares {
     boxes: Vec<BoxedFrame>,
@@ -63,17 +64,18 @@ pub struct Spares {
 }
 
 impl Model for Spares {
-    ghost use Rattle.std.specs.Prelude.{ℕ, length};
+    ghost use Rattle.std.specs.Prelude.{vec_len, vec_capacity};
+    ghost use Rattle.csp_log.specs.PlainSpares.{PlainSpares};
 
-    ghost Value = { ℕ };
+    ghost Value = { PlainSpares };
 
-    ghost view = { λ s. length s.boxes.items };
+    ghost view = { λ s. record { boxes = vec_len s.boxes; room = vec_capacity s.boxes } };
 }
 
 impl Spares {
-    /// A stock without a box. It takes no memory.
+    /// A stock without a box and without room. It takes no memory.
     pub fn new(alloc: Global) -> Spares
-        ensures { result ≡ 0 }
+        ensures { result ≡ no_spares }
     {
         Spares {
             boxes: Vec::new(alloc),
@@ -81,14 +83,25 @@ impl Spares {
         }
     }
 
-    /// Makes the stock at least `count` boxes. A refusal takes none away.
+    /// Makes the stock at least `count` boxes, with no more room than for these. A refusal takes none away.
     pub fn reserve(&mut self, count: usize) -> Result<(), AllocError>
-        ensures enough { OnOk result (count ≤ self.new) }
-        ensures kept { self.old ≤ self.new }
+        ensures exact { OnOk result (self.new ≡ record { boxes = max self.old.boxes count; room = max self.old.room count }) }
+        ensures kept { self.old.boxes ≤ self.new.boxes }
     {
-        for _ in self.boxes.len()..count {
+        let wanted = count.saturating_sub(self.boxes.len());
+        self.boxes.reserve_exact(wanted)?;
+        self.make(wanted)
+    }
+
+    /// Makes so many boxes more, for which there is room.
+    fn make(&mut self, count: usize) -> Result<(), AllocError>
+        requires { self.old.boxes + count ≤ self.old.room }
+        ensures exact { OnOk result (self.new ≡ record { boxes = self.old.boxes + count; room = self.old.room }) }
+        ensures kept { self.old.boxes ≤ self.new.boxes }
+    {
+        for _ in 0..count {
             let frame = BoxedFrame::blank(self.alloc)?;
-            self.boxes.push(frame)?;
+            self.boxes.push_reserved(frame);
         }
         Ok(())
     }
@@ -97,60 +110,58 @@ impl Spares {
     /// besides go to the others. A refusal leaves it as many as it had, or `count` of them. Then it has room for as many
     /// again, which come back.
     pub fn level(&mut self, count: usize, others: &mut Spares) -> Result<(), AllocError>
-        ensures level { OnOk result (self.new ≡ count) }
-        ensures others { OnOk result (others.new ≡ self.old + others.old - count) }
-        ensures kept { min self.old count ≤ self.new }
+        ensures level { OnOk result (self.new ≡ record { boxes = count; room = max self.old.room (count + count) }) }
+        ensures others { OnOk result (others.new ≡ record { boxes = self.old.boxes + others.old.boxes - count; room = max others.old.room (self.old.boxes + others.old.boxes - count) }) }
+        ensures kept { min self.old.boxes count ≤ self.new.boxes }
     {
         self.fill_up(count, others)?;
         self.hand_over(count, others)?;
-        if self.boxes.capacity() - self.boxes.len() < count {
-            self.boxes.reserve(count)?;
-        }
-        Ok(())
+        self.boxes.reserve_exact(count)
     }
 
     /// Makes the stock at least `count` boxes, of the others while there are some. A refusal takes none away.
     fn fill_up(&mut self, count: usize, others: &mut Spares) -> Result<(), AllocError>
-        ensures enough { OnOk result (self.new ≡ self.old + (count - self.old)) }
-        ensures others { OnOk result (others.new ≡ others.old - (count - self.old)) }
-        ensures kept { self.old ≤ self.new }
+        ensures enough { OnOk result (self.new ≡ record { boxes = max self.old.boxes count; room = max self.old.room count }) }
+        ensures others { OnOk result (others.new ≡ record { boxes = others.old.boxes - (count - self.old.boxes); room = others.old.room }) }
+        ensures kept { self.old.boxes ≤ self.new.boxes }
     {
-        for _ in self.boxes.len()..count {
-            let frame = others.give()?;
-            self.boxes.push(frame)?;
-        }
-        Ok(())
+        let wanted = count.saturating_sub(self.boxes.len());
+        self.boxes.reserve_exact(wanted)?;
+        self.take_over(wanted.min(others.boxes.len()), others);
+        self.reserve(count)
     }
 
     /// Gives the others what the stock has besides `count` boxes. A refusal leaves it at least `count`.
     fn hand_over(&mut self, count: usize, others: &mut Spares) -> Result<(), AllocError>
-        ensures rest { OnOk result (self.new ≡ min self.old count) }
-        ensures others { OnOk result (others.new ≡ others.old + (self.old - count)) }
-        ensures kept { min self.old count ≤ self.new }
+        ensures rest { OnOk result (self.new ≡ record { boxes = min self.old.boxes count; room = self.old.room }) }
+        ensures others { OnOk result (others.new ≡ record { boxes = others.old.boxes + (self.old.boxes - count); room = max others.old.room (others.old.boxes + (self.old.boxes - count)) }) }
+        ensures kept { min self.old.boxes count ≤ self.new.boxes }
     {
-        for _ in count..self.boxes.len() {
-            let frame = self.boxes.pop().unwrap();
-            others.boxes.push(frame)?;
-        }
+        let surplus = self.boxes.len().saturating_sub(count);
+        others.boxes.reserve_exact(surplus)?;
+        others.take_over(surplus, self);
         Ok(())
     }
 
-    /// A box of the stock, or a new one where it has none.
-    fn give(&mut self) -> Result<BoxedFrame, AllocError>
-        ensures { self.new ≡ self.old - 1 }
+    /// Moves so many boxes of the others, which have them, into the stock, which has room for them.
+    fn take_over(&mut self, count: usize, others: &mut Spares)
+        requires there { count ≤ others.old.boxes }
+        requires room { self.old.boxes + count ≤ self.old.room }
+        ensures stock { self.new ≡ record { boxes = self.old.boxes + count; room = self.old.room } }
+        ensures others { others.new ≡ record { boxes = others.old.boxes - count; room = others.old.room } }
     {
-        match self.boxes.pop() {
-            Some(frame) => Ok(frame),
-            None => BoxedFrame::blank(self.alloc),
+        for _ in 0..count {
+            let frame = others.boxes.pop().unwrap();
+            self.boxes.push_reserved(frame);
         }
     }
 
     /// The frame with these parts, in a box of the stock.
     pub fn fill(&mut self, can: Option<u32>, bytes: &[u8], trace: Trace) -> BoxedFrame
-        requires stock { 0 < self.old }
+        requires stock { 0 < self.old.boxes }
         requires fits { length bytes.now ≤ MAX_FRAME }
         ensures frame { result ≡ record { can = can; bytes = record { items = bytes.now }; trace = trace } }
-        ensures stock { self.old ≡ self.new + 1 }
+        ensures stock { self.new ≡ without_box self.old }
     {
         let mut frame = self.boxes.pop().unwrap();
         frame.set(can, bytes, trace);
@@ -159,9 +170,9 @@ impl Spares {
 
     /// A copy of a frame, in a box of the stock.
     pub fn copy(&mut self, frame: &BoxedFrame) -> BoxedFrame
-        requires stock { 0 < self.old }
+        requires stock { 0 < self.old.boxes }
         ensures frame { result ≡ frame.now }
-        ensures stock { self.old ≡ self.new + 1 }
+        ensures stock { self.new ≡ without_box self.old }
     {
         let Frame { can, bytes, trace } = frame.frame();
         self.fill(*can, bytes.as_slice(), *trace)
@@ -169,7 +180,9 @@ impl Spares {
 
     /// Puts the box of a frame that is used up back, where there is room for it.
     pub fn keep(&mut self, frame: BoxedFrame)
-        ensures { self.old ≤ self.new }
+        ensures stock { self.new ≡ with_box self.old }
+        ensures least { self.old.boxes ≤ self.new.boxes }
+        ensures most { self.new.boxes ≤ self.old.boxes + 1 }
     {
         if self.boxes.len() < self.boxes.capacity() {
             self.boxes.push_reserved(frame);

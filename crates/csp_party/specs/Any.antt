@@ -17,13 +17,16 @@ use Rattle.csp_iface.specs.Asking as iface_asking
 use Rattle.csp_iface.specs.PlainIface as plain_iface
 use Rattle.csp_iface.specs.PlainIface.{PlainIface, IfaceAt}
 use Rattle.csp_iface.specs.Drained as iface_drained
+use Rattle.csp_iface.specs.Stocking as iface_stocking
 use Rattle.csp_iface.specs.Telling as iface_telling
 use Rattle.csp_iface.specs.declared.plan.Plan.TheVariants as iface_plan
 use Rattle.csp_link.specs.Asking as link_asking
 use Rattle.csp_link.specs.PlainLink as plain_link
 use Rattle.csp_link.specs.PlainLink.{PlainLink}
+use Rattle.csp_link.specs.Stocking as link_stocking
 use Rattle.csp_link.specs.Telling as link_telling
 use Rattle.csp_link.specs.declared.fault.TheConstants.{MAX_REPEATS}
+use Rattle.csp_log.specs.PlainSpares.{PlainSpares}
 use Rattle.csp_log.specs.declared.event.Event.{Event}
 use Rattle.csp_log.specs.declared.places.QueueId.{QueueId}
 use Rattle.csp_log.specs.declared.places.Rule.{Rule}
@@ -59,7 +62,7 @@ region_of (party.Iface i) = i.region
 region_of (party.App a) = a.region
 region_of (party.Link l) = nowhere
 
--- it can be asked at this time, and told once it was: an interface between two turns, any other always
+-- a party can be asked at this time, and told once it was: an interface between two turns, any other always
 abbrev pub is_ready : PlainParty → ℕ → Type 0
 is_ready (a_router r) time = ⊤
 is_ready (a_bridge b) time = ⊤
@@ -67,7 +70,7 @@ is_ready (an_iface i) time = i.doing ≡ iface_plan.Rest
 is_ready (an_app a) time = ⊤
 is_ready (a_link l) time = ⊤
 
--- it was asked at this time, and can be told: a router as it says, any other always
+-- a party was asked at this time, and can be told: a router as it says, any other always
 abbrev pub is_waiting : PlainParty → ℕ → Type 0
 is_waiting (a_router r) time = router.waits_of r time
 is_waiting (a_bridge b) time = ⊤
@@ -83,7 +86,7 @@ awaits (an_iface i) = iface_asking.awaits i
 awaits (an_app a) = app_asking.awaits a
 awaits (a_link l) = link_asking.awaits l
 
--- it takes no turn any more: none but an application ever ends
+-- a party takes no turn any more: none but an application ever ends
 abbrev pub has_ended : PlainParty → Bool
 has_ended (a_router r) = false
 has_ended (a_bridge b) = false
@@ -115,7 +118,15 @@ needs (an_iface i) = 1
 needs (an_app a) = 0
 needs (a_link l) = MAX_REPEATS
 
--- what it asks at this time
+-- what is left of its stock of boxes once it was told this answer
+abbrev pub stocks : PlainParty → ℕ → AnswerShown → PlainSpares → PlainSpares
+stocks (a_router r) time answer s = s
+stocks (a_bridge b) time answer s = s
+stocks (an_iface i) time answer s = iface_stocking.stocks i time answer s
+stocks (an_app a) time answer s = s
+stocks (a_link l) time answer s = link_stocking.stocks l time answer s
+
+-- what a party asks at this time
 abbrev pub asks : PlainParty → ℕ → OpShown
 asks (a_router r) time = router.asks_of r time
 asks (a_bridge b) time = bridge_asking.asks b
@@ -123,7 +134,7 @@ asks (an_iface i) time = iface_asking.asks i time
 asks (an_app a) time = app_asking.asks a time
 asks (a_link l) time = link_asking.asks l time
 
--- what it is once it has asked
+-- what a party is once it has asked
 abbrev pub asked : PlainParty → ℕ → PlainParty
 asked (a_router r) time = a_router (router.asked_of r time)
 asked (a_bridge b) time = a_bridge (bridge_asking.asked b)
@@ -131,7 +142,7 @@ asked (an_iface i) time = an_iface (iface_asking.asked i time)
 asked (an_app a) time = an_app (app_asking.asked a time)
 asked (a_link l) time = a_link (link_asking.asked l time)
 
--- what it is once it was told this answer
+-- what a party is once it was told this answer
 abbrev pub tells : PlainParty → ℕ → AnswerShown → PlainParty
 tells (a_router r) time a = a_router (router.told_of r time a)
 tells (a_bridge b) time a = a_bridge (bridge_telling.tells b a)
@@ -139,7 +150,7 @@ tells (an_iface i) time a = an_iface (iface_telling.tells i time a)
 tells (an_app p) time a = an_app (app_telling.tells p time a)
 tells (a_link l) time a = a_link (link_telling.tells l time a)
 
--- what it reports when it is told this answer
+-- what a party reports when it is told this answer
 abbrev pub events : PlainParty → ℕ → AnswerShown → List Event
 events (a_router r) time a = router.events_of r time a
 events (a_bridge b) time a = bridge_telling.events b a

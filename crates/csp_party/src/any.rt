@@ -29,7 +29,7 @@ pub enum AnyParty {
 
 impl Party for AnyParty {
     ghost use Rattle.std.specs.Prelude.{⊤};
-    ghost use Rattle.csp_party.specs.Any.{plain, region_of, is_ready, is_waiting, awaits, has_ended, uses, count, needs, asks, asked, tells, events, holds, with_plain};
+    ghost use Rattle.csp_party.specs.Any.{plain, region_of, is_ready, is_waiting, awaits, has_ended, uses, count, needs, stocks, asks, asked, tells, events, holds, with_plain};
 
     ghost is_ready = { λ p now. is_ready (plain p) now };
 
@@ -46,6 +46,8 @@ impl Party for AnyParty {
     ghost count = { λ p. count (plain p) };
 
     ghost needs = { λ p. needs (plain p) };
+
+    ghost stocks = { λ p now a spares. stocks (plain p) now a spares };
 
     ghost asks = { λ p now. asks (plain p) now };
 

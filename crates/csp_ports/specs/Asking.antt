@@ -34,6 +34,7 @@ bind_by false owner p app port need = owing p app (note.Refused why.NotBindable)
 bind_by true (Some owner) p app port need = owing p app (note.Refused why.InUse)
 bind_by true None p app port need = owing (record p { bound = with_owner p.bound port app need }) app note.Bound
 
+-- an application asks for a port
 abbrev pub bind : PlainPorts → ℕ → ℕ → ℕ → PlainPorts
 bind p app port need = bind_by (nat_lt port BINDABLE_PORTS) (owner_of p.bound port) p app port need
 
@@ -63,6 +64,7 @@ connect_by Free false None o p app r time = come p
 connect_by Held refused own o p app r time = come (owing p app (note.Refused why.Busy))
 connect_by (Open _) refused own o p app r time = come (owing p app (note.Refused why.Busy))
 
+-- an application asks for a connection
 abbrev pub connect : Origin → PlainPorts → ℕ → Request → ℕ → Came
 connect o p app r time = connect_by (slot_at p.conns app r.slot) (is_refused p.conns r.dest r.from) (own_port_of p.conns r.dest r.from) o p app r time
 
@@ -92,6 +94,7 @@ close_by false p app slot time =
     let r = closing time (machine_at p app slot) in
     then (stepped app slot r (held_by (is_free (slot_at p.conns app slot)) p app slot)) (λ p. come (ending_in r.state app slot p))
 
+-- an application asks for the end of a slot's connection
 abbrev pub close : PlainPorts → ℕ → ℕ → ℕ → Came
 close p app slot time = close_by (is_closing (terms_at p app slot).wish) p app slot time
 
@@ -113,5 +116,6 @@ abbrev pub answered_by : List Owed → PlainPorts → Came
 answered_by [] p = come p
 answered_by (o ∷ os) p = ended_by o.note o.app (record p { owed = os })
 
+-- the answer that is owed first was pushed
 abbrev pub answered : PlainPorts → Came
 answered p = answered_by p.owed p

@@ -14,7 +14,7 @@ pub record Came : Type 0 where
   pub loose : List Content
   pub events : List Event
 
--- these ports, and nothing besides
+-- a step that leaves these ports, and of which nothing else comes
 abbrev pub come : PlainPorts → Came
 come p = record { ports = p; loose = []; events = [] }
 

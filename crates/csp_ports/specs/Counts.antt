@@ -25,6 +25,6 @@ went_through r = (r.send.nxt - 1) ∷ r.recv.cur ∷ []
 abbrev pub raised : PlainPorts → List ℕ
 raised p = p.made ∷ flat_map went_through p.machines ++ map (λ t. t.ordinal) p.terms
 
--- and the greatest of them
+-- the greatest of the numbers that steps raise
 abbrev pub greatest : PlainPorts → ℕ
 greatest p = fold max 0 (raised p)

@@ -17,6 +17,7 @@ stalled_buffers (Some s) = s.buffer ∷ []
 abbrev pub held_buffers : PlainPorts → List PlainBuffer
 held_buffers p = flat_map stalled_buffers p.stalled ++ flat_map rdp_buffers p.machines
 
+-- the buffers that a node's ports hold, in order
 abbrev pub held : PlainPorts → List Content
 held p = pictures (held_buffers p)
 
@@ -33,6 +34,7 @@ abbrev pub first_out : List PlainBuffer → PlainRdp → List PlainRdp → (rest
 first_out [] r rs rest = r ∷ rest
 first_out (_ ∷ _) r rs rest = taken_out r ∷ rs
 
+-- the machines without the first buffer that any holds
 abbrev pub without_held : List PlainRdp → List PlainRdp
 without_held [] = []
 without_held (r ∷ rs) = first_out (rdp_buffers r) r rs (without_held rs)
@@ -42,5 +44,6 @@ abbrev pub emptied_by : (waiting : List PlainBuffer) → PlainPorts → PlainPor
 emptied_by (_ ∷ _) p = record p { stalled = without_stalled p.stalled }
 emptied_by [] p = record p { machines = without_held p.machines }
 
+-- the ports without the first buffer that they hold, at the end of a run
 abbrev pub emptied : PlainPorts → PlainPorts
 emptied p = emptied_by (flat_map stalled_buffers p.stalled) p

@@ -32,6 +32,7 @@ use Rattle.csp_rdp.specs.Placed.{placed}
 use Rattle.csp_rdp.specs.Regions.{AreAllIn}
 use Rattle.csp_socket.specs.Bound.{owner_of}
 
+-- a packet that waits for room, as contracts see it
 abbrev pub stalled_of : Stalled → PlainStalled
 stalled_of s = record { slot = s.slot; buffer = anywhere s.buffer.picture }
 
@@ -48,6 +49,7 @@ plain_ports p = record {
   made = p.made;
 }
 
+-- the fields of a node's ports as contracts see them
 abbrev pub ports_at : Inside → PortsAt
 ports_at p = record { region = p.token.name; ports = plain_ports p }
 
@@ -63,7 +65,7 @@ wished wish.Connection = 1
 wished wish.End = 1
 wished wish.Ended = 0
 
--- and at the slots of an application
+-- how many answers are still to come for the slots of an application
 abbrev pub wishes : ℕ → List Terms → ℕ
 wishes app terms = sum_by (λ t. wished t.wish) (take SLOTS (drop (place_of app 0) terms))
 
@@ -95,6 +97,7 @@ pub record IsWaiting (name : RegionName) (s : Stalled) : Type 0 where
   pub region : s.buffer.region ≡ name
   pub short : length s.buffer.picture.payload ≤ MAX_PAYLOAD - 9
 
+-- what the fields of a node's ports keep at every time
 pub record ArePorts (p : Inside) : Type 0 where
   -- there are no more applications than may be, and there is room for all answers that may be owed
   pub few : p.conns.apps ≤ MAX_APPS

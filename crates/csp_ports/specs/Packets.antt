@@ -48,6 +48,7 @@ stray_events None stray = []
 stray_events (Some b) true = event.Discarded why.Stray ∷ []
 stray_events (Some b) false = []
 
+-- what comes of a buffer that a machine handed back: it joins the trash, and is reported where it was stray
 abbrev pub back_by : (back : Option PlainBuffer) → (is_stray : Bool) → PlainPorts → Came
 back_by back stray p = record { ports = p; loose = pictures (option_to_list back); events = stray_events back stray }
 
@@ -80,5 +81,6 @@ submitting_in state.SynRcvd p app slot b time = discarding why.NoConn b p
 submitting_in state.CloseWait p app slot b time = discarding why.NoConn b p
 submitting_in state.Closed p app slot b time = discarding why.NoConn b p
 
+-- an application's packet goes on a slot's reliable connection
 abbrev pub submitting : PlainPorts → ℕ → ℕ → Content → ℕ → Came
 submitting p app slot b time = submitting_in (machine_at p app slot).state p app slot b time

@@ -42,7 +42,7 @@ pub record PortsAt : Type 0 where
   pub region : RegionName
   pub ports : PlainPorts
 
--- these ports in place of what they were; their region stays
+-- other ports in place of those that were, of the same region
 abbrev pub with_ports_at : PortsAt → PlainPorts → PortsAt
 with_ports_at p ports = record { region = p.region; ports = ports }
 
@@ -54,7 +54,7 @@ anywhere b = record { picture = b; region = nowhere }
 abbrev pub fresh : Terms
 fresh = record { prio = Normal; flags = 0; wish = wish.Nothing; is_down = false; ordinal = 0 }
 
--- so many applications before any of them has asked for something
+-- the ports of so many applications before any of them has asked for something
 abbrev pub ports_of : ℕ → PlainPorts
 ports_of apps = record {
   conns = conns_of apps;
@@ -83,6 +83,7 @@ waiting app owed = count_by (λ o. o.app == app) owed
 abbrev pub terms_at : PlainPorts → ℕ → ℕ → Terms
 terms_at p app slot = get_or p.terms (place_of app slot) fresh
 
+-- the ports with other terms of a slot
 abbrev pub with_terms : PlainPorts → ℕ → ℕ → Terms → PlainPorts
 with_terms p app slot terms = record p { terms = slice_set p.terms (place_of app slot) terms }
 
@@ -101,6 +102,7 @@ is_closing wish.Ended = true
 abbrev pub machine_at : PlainPorts → ℕ → ℕ → PlainRdp
 machine_at p app slot = get_or p.machines (place_of app slot) idle
 
+-- the ports with another machine of a slot
 abbrev pub with_machine : PlainPorts → ℕ → ℕ → PlainRdp → PlainPorts
 with_machine p app slot r = record p { machines = slice_set p.machines (place_of app slot) r }
 
@@ -108,6 +110,7 @@ with_machine p app slot r = record p { machines = slice_set p.machines (place_of
 abbrev pub stalled_at : PlainPorts → ℕ → Option PlainStalled
 stalled_at p app = get_or p.stalled app None
 
+-- the ports with another packet of an application that waits for room, or none
 abbrev pub with_stalled : PlainPorts → ℕ → Option PlainStalled → PlainPorts
 with_stalled p app what = record p { stalled = slice_set p.stalled app what }
 

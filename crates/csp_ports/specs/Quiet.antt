@@ -23,13 +23,16 @@ is_stranded_in SynRcvd = true
 is_stranded_in CloseWait = true
 is_stranded_in Closed = true
 
+-- this packet, if there is one, waits for a connection that is not open
 abbrev pub is_stranded_on : Option PlainStalled → PlainPorts → ℕ → Bool
 is_stranded_on None p app = false
 is_stranded_on (Some s) p app = is_stranded_in (machine_at p app s.slot).state
 
+-- an application's packet waits for a connection that is not open
 abbrev pub is_stranded : PlainPorts → ℕ → Bool
 is_stranded p app = is_stranded_on (stalled_at p app) p app
 
+-- some application's does
 abbrev pub any_stranded : PlainPorts → Bool
 any_stranded p = list_any (is_stranded p) (range_with_len 0 p.conns.apps)
 

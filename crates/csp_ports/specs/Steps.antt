@@ -55,6 +55,7 @@ connected_by wish.Nothing app slot p = p
 connected_by wish.End app slot p = p
 connected_by wish.Ended app slot p = p
 
+-- a slot's connection is open: the application that waits for it is owed its answer
 abbrev pub connected : ℕ → ℕ → PlainPorts → PlainPorts
 connected app slot p = connected_by (terms_at p app slot).wish app slot p
 
@@ -66,10 +67,12 @@ reason_of machine_why.Reset = reason.Reset
 -- a connection that was asked for is refused: its slot is free, and the application that waited is told so
 abbrev pub refused_by : Wish → MachineWhy → ℕ → ℕ → PlainPorts → Came
 refused_by wish.Connection why app slot p = then (given_up app slot p) (λ p. come (owing p app (note.Refused (reason_of why))))
+-- the others never come: only an opening that an application asked for and waits for is refused
 refused_by wish.Nothing why app slot p = given_up app slot p
 refused_by wish.End why app slot p = given_up app slot p
 refused_by wish.Ended why app slot p = given_up app slot p
 
+-- a slot's connection is refused: the application that waits is owed the reason, and the slot is free
 abbrev pub refused : MachineWhy → ℕ → ℕ → PlainPorts → Came
 refused why app slot p = refused_by (terms_at p app slot).wish why app slot p
 
@@ -83,9 +86,11 @@ abbrev pub closed_by : Wish → (was_open : Bool) → ℕ → ℕ → PlainPorts
 closed_by wish.End was_open app slot p = come (owing (wishing p app slot wish.Ended) app (note.Closed slot))
 closed_by wish.Nothing true app slot p = come p
 closed_by wish.Nothing false app slot p = given_up app slot p
+-- these two never come: what ends while its opening is waited for is refused, and what was told closed is not closed again
 closed_by wish.Connection was_open app slot p = come p
 closed_by wish.Ended was_open app slot p = come p
 
+-- a slot's connection is closed: what the application is owed, and whether the slot is free
 abbrev pub closed : ℕ → ℕ → PlainPorts → Came
 closed app slot p = closed_by (terms_at p app slot).wish (machine_at p app slot).was_open app slot p
 
@@ -114,6 +119,7 @@ has_room_in SynRcvd r = false
 has_room_in CloseWait r = false
 has_room_in Closed r = false
 
+-- a machine takes one more packet
 abbrev pub has_room : PlainRdp → Bool
 has_room r = has_room_in r.state r
 
@@ -126,10 +132,12 @@ abbrev pub settled_by : (room : Bool) → ℕ → ℕ → PlainStalled → Plain
 settled_by true time app s p = admitted time app s.slot s.buffer (with_stalled p app None)
 settled_by false time app s p = p
 
+-- this packet, if there is one, is admitted where there is room now
 abbrev pub settled_on : Option PlainStalled → ℕ → ℕ → PlainPorts → PlainPorts
 settled_on None time app p = p
 settled_on (Some s) time app p = settled_by (has_room (machine_at p app s.slot)) time app s p
 
+-- an application's waiting packet is admitted where there is room now
 abbrev pub settled : ℕ → ℕ → PlainPorts → PlainPorts
 settled time app p = settled_on (stalled_at p app) time app p
 
@@ -141,10 +149,12 @@ dropped_in SynRcvd app s p = discarding why.NoConn s.buffer.picture (with_stalle
 dropped_in CloseWait app s p = discarding why.NoConn s.buffer.picture (with_stalled p app None)
 dropped_in Closed app s p = discarding why.NoConn s.buffer.picture (with_stalled p app None)
 
+-- this packet, if there is one, is discarded where its connection is not open any more
 abbrev pub dropped_on : Option PlainStalled → ℕ → PlainPorts → Came
 dropped_on None app p = come p
 dropped_on (Some s) app p = dropped_in (machine_at p app s.slot).state app s p
 
+-- an application's waiting packet is discarded where its connection is not open any more
 abbrev pub dropped : ℕ → PlainPorts → Came
 dropped app p = dropped_on (stalled_at p app) app p
 

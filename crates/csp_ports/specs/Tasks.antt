@@ -17,7 +17,7 @@ use Rattle.csp_rdp.specs.declared.jobs.Job.TheVariants as job
 
 -- ---- which task is first
 
--- of a slot: a reset and the opening packet come before the Down note, all others after it
+-- the first task of a slot: a reset and the opening packet come before the Down note, all others after it
 abbrev pub task_by : (is_down : Bool) → Option Job → Option Task
 task_by is_down (Some job.Rst) = Some (task.Make job.Rst)
 task_by is_down (Some job.Syn) = Some (task.Make job.Syn)
@@ -32,6 +32,7 @@ task_by false (Some job.Data) = Some (task.Make job.Data)
 task_by false (Some job.Ack) = Some (task.Make job.Ack)
 task_by false None = None
 
+-- the first task of a slot
 abbrev pub task_at : ℕ → PlainPorts → ℕ → ℕ → Option Task
 task_at time p app slot = task_by (terms_at p app slot).is_down (job_of time (machine_at p app slot))
 
@@ -56,6 +57,7 @@ abbrev pub task_with : ℕ → PlainPorts → Option ℕ → Option (ℕ × ℕ 
 task_with time p None = None
 task_with time p (Some k) = option_map (λ t. (k / SLOTS, k % SLOTS, t)) (task_of time p k)
 
+-- the first slot with a task in the circle, and its task
 abbrev pub next_task : ℕ → PlainPorts → Option (ℕ × ℕ × Task)
 next_task time p = task_with time p (place_with_task time p)
 
@@ -77,13 +79,13 @@ told_down app slot p = with_terms p app slot (record (terms_at p app slot) { is_
 abbrev pub without_packet : ℕ → ℕ → PlainPorts → PlainPorts
 without_packet app slot p = with_machine p app slot (without_delivery (machine_at p app slot))
 
--- it is delivered
+-- what comes of it that a slot's packet was delivered
 abbrev pub delivered : ℕ → ℕ → ℕ → PlainPorts → Came
 delivered time app slot p =
     let r = machine_at p app slot in
     then (went r.state machine_why.Reset app slot (delivering time r) p) (dropped app)
 
--- its lane had no room: it is kept again
+-- a slot's packet, whose lane had no room, is kept again
 abbrev pub kept_again : ℕ → ℕ → Content → PlainPorts → PlainPorts
 kept_again app slot b p = with_machine p app slot (keeping_again (anywhere b) (machine_at p app slot))
 
@@ -91,5 +93,6 @@ kept_again app slot b p = with_machine p app slot (keeping_again (anywhere b) (m
 abbrev pub made_in : Job → ℕ → ℕ → ℕ → Content → PlainPorts → Content
 made_in j time app slot b p = (filled j time (machine_at p app slot) (anywhere b)).picture
 
+-- the ports once a slot's machine has made what it owed
 abbrev pub making : Job → ℕ → ℕ → ℕ → PlainPorts → PlainPorts
 making j time app slot p = with_machine p app slot (sent j time (machine_at p app slot))

@@ -18,11 +18,11 @@ place_of SentBytes = 7
 place_of ReceivedBytes = 8
 place_of Interrupts = 9
 
--- nothing counted
+-- the counts of an interface before anything was counted
 abbrev pub no_stats : Stats
 no_stats = record { counts = replicate COUNTS 0 }
 
--- so many more are counted; a count stops at the greatest number of 32 bits
+-- the counts with so many more of one; a count stops at the greatest number of 32 bits
 abbrev pub raised : Stats → Count → ℕ → Stats
 raised s count by = record { counts = slice_set s.counts (place_of count) (min (slice_index s.counts (place_of count) + by) (2 ^ 32 - 1)) }
 

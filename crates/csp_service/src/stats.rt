@@ -77,6 +77,8 @@ impl Stats {
 }
 
 impl Default for Stats {
+    ghost is_default = { λ s. s ≡ no_stats };
+
     fn default() -> Stats {
         Stats::new()
     }

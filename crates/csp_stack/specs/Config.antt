@@ -26,5 +26,6 @@ pub record IsConfig (c : PlainConfig) : Type 0 where
 abbrev pub opening_state : ℕ → Routes → State
 opening_state apps routes = record { routes = routes; ports = ports_of apps; services = new_services; trash = []; out = None; early = []; cursor = 0; doing = Rest }
 
+-- a router of this region and configuration as it opens
 abbrev pub opening : RegionName → PlainConfig → RouterAt
 opening region c = record { region = region; router = record { facts = c.facts; state = opening_state c.facts.apps c.routes } }

@@ -30,6 +30,7 @@ sent_to (queue.Down app) bytes stats = stats
 sent_to (queue.Tx iface) bytes stats = stats
 sent_to (queue.Rx iface) bytes stats = stats
 
+-- a packet of so many bytes went out by this queue: it is counted
 abbrev pub went_out : State → QueueId → ℕ → State
 went_out s queue bytes = with_stats s (sent_to queue bytes s.services.stats)
 
@@ -42,5 +43,6 @@ refused_by (queue.Down app) stats = stats
 refused_by (queue.Tx iface) stats = stats
 refused_by (queue.Rx iface) stats = stats
 
+-- a packet found this queue full: it is counted
 abbrev pub was_full : State → QueueId → State
 was_full s queue = with_stats s (refused_by queue s.services.stats)

@@ -38,10 +38,11 @@ rules_of f (queue.Out k) = cond (nat_lt k (length f.ifaces)) (Some (rule.Lane la
 rules_of f (queue.Tx _) = None
 rules_of f (queue.Rx _) = None
 
--- what it asks, and what it is then
+-- what a router asks in its turn
 abbrev pub asks_of : Router → ℕ → OpShown
 asks_of r time = asks_at r.facts r.state time
 
+-- the router from its question until the answer
 abbrev pub asked_of : Router → ℕ → Router
 asked_of r time = record r { state = asked_at r.facts r.state time }
 
@@ -57,6 +58,7 @@ kind_of_plan (plan.Tell k _) = pushing (queue.Down k)
 kind_of_plan (plan.Deliver k _) = pushing (queue.Down k)
 kind_of_plan (plan.Make _ _ _) = taking
 
+-- what a router waits for
 abbrev pub awaits_of : Router → Kind
 awaits_of r = kind_of_plan r.state.doing
 
@@ -64,10 +66,11 @@ awaits_of r = kind_of_plan r.state.doing
 abbrev pub count_of : Router → ℕ
 count_of r = greatest r.state.ports
 
--- what it is once it was told an answer, and what it reports
+-- what a router is once it was told an answer
 abbrev pub told_of : Router → ℕ → AnswerShown → Router
 told_of r time a = record r { state = (told_at r.facts r.state time a).state }
 
+-- what a router reports of an answer
 abbrev pub events_of : Router → ℕ → AnswerShown → List Event
 events_of r time a = (told_at r.facts r.state time a).events
 
@@ -112,6 +115,7 @@ IsWaiting (plan.Tell _ _) s time = ⊤
 IsWaiting (plan.Deliver _ _) s time = ⊤
 IsWaiting (plan.Make k slot j) s time = (job_of time (machine_at s.ports k slot) ≡ Some j) × (j ≢ Deliver)
 
+-- the times at which it may be told
 abbrev pub waits_of : Router → ℕ → Type 0
 waits_of r time = IsWaiting r.state.doing r.state time
 

@@ -20,19 +20,19 @@ is_here addr h = (h.dst == addr) || (h.dst == broadcast)
 abbrev pub has_flag : ℕ → Header → Bool
 has_flag flag h = bit_and h.flags.0 flag == flag
 
--- it is authenticated (HMAC) or encrypted (XTEA)
+-- a packet is authenticated (HMAC) or encrypted (XTEA)
 abbrev pub is_secured : Header → Bool
 is_secured h = has_flag 0x08 h || has_flag 0x04 h
 
--- it has a checksum (CRC32)
+-- a packet has a checksum (CRC32)
 abbrev pub is_checked : Header → Bool
 is_checked h = has_flag 0x01 h
 
--- it is of the reliable transport (RDP)
+-- a packet is of the reliable transport (RDP)
 abbrev pub is_reliable : Header → Bool
 is_reliable h = has_flag 0x02 h
 
--- it lacks a flag of those that its port needs, where an application has bound the port
+-- a packet lacks a flag of those that its port needs, where an application has bound the port
 abbrev pub lacks : Option (ℕ × ℕ) → Header → Bool
 lacks None h = false
 lacks (Some owner) h = not (has_flag owner.1 h)

@@ -58,6 +58,7 @@ pub record StateAt : Type 0 where
   pub region : RegionName
   pub state : State
 
+-- a router with the region of its buffers
 pub record RouterAt : Type 0 where
   pub region : RegionName
   pub router : Router
@@ -75,7 +76,7 @@ out_buffers (Some o) = o.buffer ∷ []
 abbrev pub buffers : State → List Content
 buffers s = s.trash ++ out_buffers s.out ++ held s.ports
 
--- and their numbers
+-- the numbers of the buffers that a router holds
 abbrev pub holds : State → List ℕ
 holds s = numbers_of (buffers s)
 
@@ -91,5 +92,6 @@ drained_by [] (Some o) kept s = at_rest (record s { out = None })
 drained_by [] None (_ ∷ _) s = at_rest (record s { ports = emptied s.ports })
 drained_by [] None [] s = s
 
+-- the router's state without the first buffer that it holds, at the end of a run
 abbrev pub drained : State → State
 drained s = drained_by s.trash s.out (held s.ports) s

@@ -66,6 +66,7 @@ sent_by true row s b = leaving s (to_itself b)
 sent_by false None s b = discarded s why.NoRoute b
 sent_by false (Some row) s b = leaving s (by_row row b)
 
+-- a packet of the node goes out: to its own inbox, or by the row of the table for its destination, or it is NoRoute
 abbrev pub sent : Facts → State → Content → Told
 sent f s b = let to = (header_at b.header).dst in sent_by (to == f.addr) (route_of s.routes to) s b
 
@@ -81,6 +82,7 @@ pub record Arrival : Type 0 where
   pub head : Header
   pub buffer : Content
 
+-- a packet that was popped, with its header read
 abbrev pub arrival : ℕ → Content → Arrival
 arrival mark b = record { mark = mark; head = header_at b.header; buffer = b }
 
@@ -100,6 +102,7 @@ abbrev pub by_way : (is_back : Bool) → Row → State → Arrival → Told
 by_way true row s p = discarded s why.BackOut p.buffer
 by_way false row s p = leaving s (by_row row p.buffer)
 
+-- a packet for another node is forwarded, or discarded where no route leads; one for this node goes on
 abbrev pub by_destination : (is_here : Bool) → Option Row → State → Arrival → Ruling
 by_destination false None s p = Err (discarded s why.NoRoute p.buffer)
 by_destination false (Some row) s p = Err (by_way (row.iface == p.mark) row s p)
@@ -125,6 +128,7 @@ abbrev pub to_machine : Option (List ℕ × RdpHead) → State → ℕ → ℕ �
 to_machine None s app slot time p = discarded s why.Malformed p.buffer
 to_machine (Some read) s app slot time p = ported s (handing s.ports app slot read.1 (record p.buffer { payload = read.0 }) time)
 
+-- a packet of a slot: to the application, or to the machine of a reliable connection
 abbrev pub to_connection : (is_reliable : Bool) → State → ℕ → ℕ → ℕ → Arrival → Told
 to_connection false s app slot time p = leaving s (to_slot app slot p.buffer)
 to_connection true s app slot time p = to_machine (parted p.buffer.payload) s app slot time p
@@ -134,6 +138,7 @@ abbrev pub differs : (is_reliable : Bool) → (flags : ℕ) → Bool
 differs true flags = not (are_reliable flags)
 differs false flags = are_reliable flags
 
+-- a packet does not fit the kind of its connection
 abbrev pub is_mixed : PlainPorts → Option (ℕ × ℕ) → Header → Bool
 is_mixed ports None h = false
 is_mixed ports (Some at) h = differs (is_reliable h) (terms_at ports at.0 at.1).flags
@@ -176,15 +181,18 @@ abbrev pub asked_with : Result Options OptionError → RdpHead → Option Tag �
 asked_with (Err _) h tag = Err why.Malformed
 asked_with (Ok options) h tag = Ok (record { head = h; tag = tag; options = options })
 
+-- what a packet with the flag RDP asks for: only one with SYN, and neither ACK nor RST, asks for a connection
 abbrev pub asked_by : (is_syn other : Bool) → List ℕ → RdpHead → Option Tag → Result Invitation Discard
 asked_by false other options h tag = Err why.NoConn
 asked_by true true options h tag = Err why.NoConn
 asked_by true false options h tag = asked_with (judged options) h tag
 
+-- the same of a payload that was read, or could not be
 abbrev pub invitation_in : Option (List ℕ × RdpHead) → Option Tag → Result Invitation Discard
 invitation_in None tag = Err why.Malformed
 invitation_in (Some read) tag = asked_by (has_flag read.1 SYN) (has_flag read.1 ACK || has_flag read.1 RST) read.0 read.1 tag
 
+-- what a packet with the flag RDP asks for at a bound port: a connection, with its options, or nothing, and why
 abbrev pub invitation_of : Content → Result Invitation Discard
 invitation_of b = invitation_in (parted b.payload) b.trace.tag
 
@@ -195,6 +203,7 @@ inviting (Ok i) None f s app time p = discarded s why.NoSlot p.buffer
 inviting (Ok i) (Some slot) f s app time p =
     absorbed p.buffer (ported s (invited (origin_of f) s.ports app slot (connection_of p.head) p.head.prio (answer_flags p.head) i time))
 
+-- a packet comes to a bound port: it opens a plain connection, or asks for a reliable one
 abbrev pub at_socket : (is_reliable : Bool) → (slot : Option ℕ) → Facts → State → ℕ → ℕ → Arrival → Told
 at_socket false slot f s app time p = accepting slot s app p
 at_socket true slot f s app time p = inviting (invitation_of p.buffer) slot f s app time p
@@ -217,10 +226,11 @@ by_answer (Silent e) reply f s p = spent s e p.buffer
 by_answer (Refused error) reply f s p = discarded s why.Malformed p.buffer
 by_answer NoService reply f s p = discarded s why.NoSocket p.buffer
 
+-- what a service answered is done: its reply, and the facts afterwards
 abbrev pub by_outcome : Outcome → Facts → State → Arrival → Told
 by_outcome o f s p = by_answer o.served o.reply f (with_facts s o.facts) p
 
--- and a packet to the port of a service is the service's request
+-- a packet to the port of a service is the service's request
 abbrev pub by_service : Facts → State → ℕ → Arrival → Told
 by_service f s time p = by_outcome (answered p.head.dport p.buffer.payload (facts_of f s) time) f s p
 
@@ -237,25 +247,30 @@ owner_for s p = owner_of s.ports.bound p.head.dport
 abbrev pub heard_elsewhere : Facts → State → ℕ → Arrival → Told
 heard_elsewhere f s time p = onward (by_transport (is_reliable p.head) s p) (λ p. by_service f s time p)
 
+-- a packet of no connection: to a bound port, and else elsewhere
 abbrev pub heard_at_socket : Facts → State → ℕ → Arrival → Told
 heard_at_socket f s time p =
     onward (by_socket (owner_for s p) (lacks (owner_for s p) p.head) (slot_for s.ports (owner_for s p)) f s time p) (λ p.
     heard_elsewhere f s time p)
 
+-- the slot whose connection a packet is of
 abbrev pub slot_of : State → Arrival → Option (ℕ × ℕ)
 slot_of s p = found s.ports.conns (connection_of p.head)
 
+-- a packet of this node: to its connection, and else to a bound port
 abbrev pub heard_at_port : Facts → State → ℕ → Arrival → Told
 heard_at_port f s time p =
     onward (by_connection (slot_of s p) (is_mixed s.ports (slot_of s p) p.head) (lacks (owner_for s p) p.head) s time p) (λ p.
     heard_at_socket f s time p)
 
+-- a packet for this node: its security, then its checksum, then its port
 abbrev pub heard_here : Facts → State → ℕ → Arrival → Told
 heard_here f s time p =
     onward (by_security (is_secured p.head) s p) (λ p.
     onward (by_checksum (is_checked p.head) (payload_of p.buffer.payload) s p) (λ p.
     heard_at_port f s time p))
 
+-- a packet of the inbox: its destination first
 abbrev pub heard : Facts → State → ℕ → Arrival → Told
 heard f s time p = onward (by_destination (is_here f.addr p.head) (route_of s.routes p.head.dst) s p) (λ p. heard_here f s time p)
 
@@ -265,6 +280,7 @@ heard f s time p = onward (by_destination (is_here f.addr p.head) (route_of s.ro
 abbrev pub header_for : Facts → Connection → Terms → Header
 header_for f c t = record { prio = t.prio; src = f.addr; dst = c.peer; dport = c.peer_port; sport = c.own_port; flags = record { 0 = t.flags } }
 
+-- an application's packet with its connection's header
 abbrev pub addressed : Facts → Connection → Terms → Content → Content
 addressed f c t b = headed (header_for f c t) b
 
@@ -274,6 +290,7 @@ on_connection false c f s app number time b =
     reporting (event.Sent number (terms_at s.ports app number).ordinal) (sent f s (addressed f c (terms_at s.ports app number) b))
 on_connection true c f s app number time b = ported s (submitting s.ports app number b time)
 
+-- an application's packet goes on the connection in its slot, and is discarded where there is none
 abbrev pub by_slot : Slot → Facts → State → ℕ → ℕ → ℕ → Content → Told
 by_slot slot.Free f s app number time b = discarded s why.NoConn b
 by_slot slot.Held f s app number time b = discarded s why.NoConn b

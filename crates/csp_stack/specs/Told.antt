@@ -13,7 +13,7 @@ pub record Told : Type 0 where
   pub state : State
   pub events : List Event
 
--- nothing comes of it
+-- nothing comes of an answer: the state as it was, and no report
 abbrev pub unchanged : State → Told
 unchanged s = record { state = s; events = [] }
 

@@ -61,6 +61,7 @@ plan_by (_ ∷ _) out work = plan.Give
 plan_by [] (Some o) work = plan.Push o.queue (length o.buffer.payload)
 plan_by [] None work = work
 
+-- what the next turn is: trash, then what is to go out, then the first work of the circle
 abbrev pub plan_of : Facts → State → ℕ → Plan
 plan_of f s time = plan_by s.trash s.out (work_found f s time (place_with_work f s time))
 
@@ -69,6 +70,7 @@ plan_of f s time = plan_by s.trash s.out (work_found f s time (place_with_work f
 abbrev pub timed_to : State → Came → State
 timed_to s c = record s { ports = c.ports; trash = s.trash ++ c.loose; early = c.events }
 
+-- the state once all timers were tried
 abbrev pub timed : State → ℕ → State
 timed s time = timed_to s (ports_timed time s.ports)
 
@@ -77,6 +79,7 @@ abbrev pub giving : List Content → OpShown
 giving [] = op.Nothing
 giving (b ∷ _) = op.Give b
 
+-- the push of what is to go out
 abbrev pub pushing : Option Leaving → OpShown
 pushing None = op.Nothing
 pushing (Some o) = op.Push o.queue (item.Packet o.mark o.buffer)
@@ -107,6 +110,7 @@ op_of s (plan.Make app slot _) = op.Take
 abbrev pub at_jobs : Facts → State → State
 at_jobs f s = record s { cursor = place_past f (f.apps + 1) }
 
+-- the state once the circle has come past a slot with a task
 abbrev pub at_task : Facts → State → ℕ → ℕ → State
 at_task f s app slot = with_ports (at_jobs f s) (turned app slot s.ports)
 
@@ -130,6 +134,7 @@ asked_by f s p = record (handed f s p) { doing = p }
 abbrev pub asks_at : Facts → State → ℕ → OpShown
 asks_at f s time = op_of (timed s time) (plan_of f (timed s time) time)
 
+-- the state from the question until the answer
 abbrev pub asked_at : Facts → State → ℕ → State
 asked_at f s time = asked_by f (timed s time) (plan_of f (timed s time) time)
 
@@ -158,12 +163,13 @@ abbrev pub told_serving : Facts → State → ℕ → ℕ → Option ItemShown �
 told_serving f s time k None = unchanged s
 told_serving f s time k (Some i) = served f s time k i
 
--- an answer to an application was pushed; where its lane has no room it stays owed
+-- an answer to an application was pushed; where its lane has no room it stays owed (a note has no buffer: a packet never comes back
+-- in its place, and would be given back)
 abbrev pub told_replying : (is_pushed : Bool) → State → Option Arrival → Told
 told_replying true s p = ported s (answered s.ports)
 told_replying false s p = told_pushing s p
 
--- a Down note was pushed; where its lane has no room it stays owed
+-- a Down note was pushed; where its lane has no room it stays owed (nor does a packet come back here)
 abbrev pub told_noting : (is_pushed : Bool) → State → ℕ → ℕ → Option Arrival → Told
 told_noting true s app slot p = unchanged (with_ports s (told_down app slot s.ports))
 told_noting false s app slot p = told_pushing s p
@@ -173,6 +179,7 @@ abbrev pub told_keeping : State → ℕ → ℕ → Option Arrival → Told
 told_keeping s app slot None = unchanged s
 told_keeping s app slot (Some p) = unchanged (with_ports s (kept_again app slot p.buffer s.ports))
 
+-- what a delivery came to: it was pushed, or its packet is kept again
 abbrev pub told_delivering : (is_pushed : Bool) → State → ℕ → ℕ → ℕ → Option Arrival → Told
 told_delivering true s app slot time p = ported s (delivered time app slot s.ports)
 told_delivering false s app slot time p = told_keeping s app slot p

@@ -11,4 +11,5 @@ returns-then-ends_with-clause-kept c =
 
 pub returns-else-ends_with-clause-kept : goal.returns-else-ends_with-clause-kept
 returns-else-ends_with-clause-kept c =
-    kept_anew c.args.bytes.now.items c.keep.new.list.items c.args.carried.now c.keep.result c.keep.ensures.items c.keep.ensures.start
+    kept_anew c.args.bytes.now.items c.keep.new.list.items c.args.carried.now c.keep.result c.ends_with.result (c.ends_with.ensures.value ∙ ap (λ xs. ends_with eqb xs c.args.carried.now) c.as_slice.ensures.value) c.if-ends_with.false
+    c.keep.ensures.items c.keep.ensures.start

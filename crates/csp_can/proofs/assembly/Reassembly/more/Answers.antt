@@ -2,4 +2,4 @@ use Rattle.std.proofs.Common.{sym}
 use Rattle.csp_can.proofs.assembly.Reassembly.more.Goals as goal
 
 pub returns-then-extend-clause-event : goal.returns-then-extend-clause-event
-returns-then-extend-clause-event c = sym (c.extend.ensures.part c.if-extend.true c.args.trace)
+returns-then-extend-clause-event c = sym (((c.extend.ensures.when c.args.trace).0 c.if-extend.true).0)

@@ -2,6 +2,7 @@ use Rattle.std.proofs.Common.{◌+◌, ◌++◌, [], ◌∷◌, List, length, ap
 use Rattle.std.specs.Prelude.{replicate}
 use Rattle.csp_link.specs.Copies.{held_until}
 use Rattle.csp_link.specs.declared.held.Held.{Held}
+use Rattle.csp_log.specs.PlainSpares.{PlainSpares}
 use Rattle.csp_log.specs.declared.frame.Frame.{Frame}
 use Rattle.csp_link.proofs.Copied.{one_more, all_held}
 use Rattle.csp_link.proofs.held.HeldFrames.hold.Goals as goal
@@ -15,7 +16,8 @@ loop-preserved c =
           ∙ ap (λ (f : Frame). (c.args.self.now ++ replicate c.loop.counter one) ++ held_until due f ∷ []) c.copy-copy.ensures.frame
           ∙ one_more c.args.self.now c.loop.counter one,
       omega (arith, h.1, ap length c.add.ensures, length-append c.loop.self (held_until due c.copy-copy.result ∷ [])),
-      omega (arith, h.2, c.copy-copy.ensures.stock),
+      (let taken = ap (λ (s : PlainSpares). s.boxes) c.copy-copy.ensures.stock in omega (arith, h.2, taken, c.requires.stock, c.requires.few, c.loop-test.true)),
+      ap (λ (s : PlainSpares). s.room) c.copy-copy.ensures.stock ∙ h.3,
     )
 
 pub returns-clause-held : goal.returns-clause-held

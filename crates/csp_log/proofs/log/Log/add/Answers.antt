@@ -17,9 +17,9 @@ invariant_of-self c =
     let says = c.say-line.ensures.says in
     let some : 0 < old.spare = rw (← c.self.view_is) at c.requires.room in
     record {
-      lines = rw c.push_reserved.ensures.items (lines-push old.rows.rows old.bytes.items old.events.items c.args.time _ _ _ _ _ _ old.lines.items says kept.lines);
-      rows = rows-push old.rows.rows old.bytes.items old.events.items c.args.time _ _ _ _ _ _ says kept.rows;
-      told = rw c.push_reserved.ensures.items (told-push old.rows.rows old.bytes.items old.events.items c.args.time _ _ _ _ _ _ old.lines.items says kept.rows kept.lines kept.told);
+      lines = rw c.push_reserved.ensures.items (lines-push old.rows.rows old.bytes.items old.events.items c.args.time _ _ _ _ _ _ _ old.lines.items says kept.lines);
+      rows = rows-push old.rows.rows old.bytes.items old.events.items c.args.time _ _ _ _ _ _ _ says kept.rows;
+      told = rw c.push_reserved.ensures.items (told-push old.rows.rows old.bytes.items old.events.items c.args.time _ _ _ _ _ _ _ old.lines.items says kept.rows kept.lines kept.told);
       line_room = let len = c.push_reserved.ensures.len in let capacity = c.push_reserved.ensures.capacity in let room = kept.line_room in omega (arith, some);
       row_room = let used = c.say-line.ensures.rows_room in let room = kept.row_room in omega (arith, some);
       byte_room = let grown = c.say-line.ensures.bytes_capacity in roomy _ _ old.spare _ _ MAX_FRAME some grown.1 kept.byte_room grown.0;
@@ -35,4 +35,4 @@ returns c =
     rw (← c.self.view_is)
     (ap (λ es. let l : PlainLog = record { entries = es; spare = old.spare - 1 } in l)
     (rw c.push_reserved.ensures.items
-    (entries-push old.rows.rows old.bytes.items old.events.items c.args.time _ c.args.told.now _ _ _ _ old.lines.items c.say-line.ensures.says kept.rows kept.lines)))
+    (entries-push old.rows.rows old.bytes.items old.events.items c.args.time _ _ c.args.told.now _ _ _ _ old.lines.items c.say-line.ensures.says kept.rows kept.lines)))

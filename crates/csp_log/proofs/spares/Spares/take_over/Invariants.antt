@@ -1,0 +1,5 @@
+use Rattle.std.proofs.Common.{◌≡◌, ◌+◌, ◌≤◌}
+use Rattle.csp_log.proofs.spares.Spares.take_over.Given as goal
+
+abbrev pub invariant-loop : goal.invariant-loop
+invariant-loop l = (l.self-inside.boxes.len ≡ l.initial.self-inside.boxes.len + l.counter) × (l.self-inside.boxes.cap ≡ l.initial.self-inside.boxes.cap) × (l.others-inside.boxes.len + l.counter ≡ l.initial.others-inside.boxes.len) × (l.others-inside.boxes.cap ≡ l.initial.others-inside.boxes.cap) × (l.counter ≤ l.count)
