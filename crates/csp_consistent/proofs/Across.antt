@@ -26,7 +26,8 @@ use Rattle.csp_log.specs.declared.shown.AnswerShown.TheVariants as answer
 use Rattle.csp_record.specs.Record.{PlainRecord}
 use Rattle.csp_scene.proofs.Lists.{AllByRecursion-append}
 use Rattle.csp_scene.specs.Scene.{PlainScene, PlainLink}
-use Rattle.csp_consistent.specs.Lanes.{PlainLane, IsInOrder, AreInOrder, end_lanes, lanes_on, link_lanes, lanes_from, lanes_of}
+use Rattle.csp_consistent.specs.Lanes.{IsInOrder, AreInOrder}
+use Rattle.csp_topology.specs.Lanes.{PlainLane, end_lanes, lanes_on, link_lanes, lanes_from, lanes_of}
 use Rattle.csp_consistent.specs.Links.{IsPlanned}
 use Rattle.csp_consistent.specs.Reading.{entries_of, is_queue, put_by, got_by, puts, gets, left_in}
 use Rattle.csp_consistent.proofs.Each.{each_first, each_last, each_if, each_permuted}

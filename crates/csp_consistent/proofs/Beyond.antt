@@ -25,7 +25,7 @@ use Rattle.csp_scene.specs.Links.{links_at, touches}
 use Rattle.csp_scene.specs.Scene.{PlainScene, PlainLink}
 use Rattle.csp_consistent.specs.Lanes.{AreInOrder}
 use Rattle.csp_consistent.specs.Origins.{IsSent, HaveOrigins}
-use Rattle.csp_consistent.specs.Parties.{parties_of, party_steps}
+use Rattle.csp_topology.specs.Parties.{parties_of, party_steps}
 use Rattle.csp_consistent.specs.Reading.{entries_of, is_who, puts, gets}
 use Rattle.csp_consistent.specs.Runs.{AreLogsOf}
 use Rattle.csp_consistent.proofs.Across.{AreLanes, across, link_lanes_of, through}

@@ -7,7 +7,7 @@ use Rattle.csp_bridge.specs.Planning as bridge_plan
 use Rattle.csp_consistent.proofs.AppQueues.{app_asks, app_number}
 use Rattle.csp_consistent.proofs.IfaceQueues.{iface_asks, iface_number}
 use Rattle.csp_consistent.proofs.RouterQueues.{IsOutward, router_asks, router_outward}
-use Rattle.csp_consistent.specs.Parties.{PlainOpening, apps_from, hub_by, ifaces_from, links_from, parties_at, parties_from, parties_of, party_steps}
+use Rattle.csp_topology.specs.Parties.{PlainOpening, apps_from, hub_by, ifaces_from, links_from, parties_at, parties_from, parties_of, party_steps}
 use Rattle.csp_consistent.specs.Queues.{MayAsk, UseTheirQueues, UsesItsQueues}
 use Rattle.csp_consistent.specs.Runs.{AreLogsOf, IsLogOf}
 use Rattle.csp_deck.specs.Runs.{IsRun}

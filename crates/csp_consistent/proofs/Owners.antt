@@ -11,7 +11,7 @@ use Rattle.csp_record.specs.declared.who.Who.TheVariants as who
 use Rattle.csp_scene.proofs.Lists.{AllByRecursion-append}
 use Rattle.csp_scene.specs.Links.{links_at}
 use Rattle.csp_scene.specs.Scene.{PlainScene, PlainNode, PlainLink, PlainApp}
-use Rattle.csp_consistent.specs.Parties.{PlainOpening, parties_of, parties_from, parties_at, links_from, ifaces_from, apps_from, hub_by, router_for, config_of}
+use Rattle.csp_topology.specs.Parties.{PlainOpening, parties_of, parties_from, parties_at, links_from, ifaces_from, apps_from, hub_by, router_for, config_of}
 
 -- the router of a node with an address
 pub record IsRouterAt (nodes : List PlainNode) (links : List PlainLink) (place : ℕ) (p : PlainParty) : Type 0 where

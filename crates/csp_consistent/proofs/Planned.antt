@@ -14,7 +14,7 @@ use Rattle.csp_record.specs.declared.who.Who.{Who}
 use Rattle.csp_record.specs.declared.who.Who.TheVariants as who
 use Rattle.csp_scene.specs.Scene.{PlainScene, PlainLink}
 use Rattle.csp_consistent.specs.Links.{IsPlanned, ArePlanned}
-use Rattle.csp_consistent.specs.Parties.{parties_of, party_steps}
+use Rattle.csp_topology.specs.Parties.{parties_of, party_steps}
 use Rattle.csp_consistent.specs.Reading.{entries_of}
 use Rattle.csp_consistent.specs.Runs.{AreLogsOf}
 use Rattle.csp_consistent.proofs.Names.{HasNone, Logged, found, none_there, are_apart}

@@ -28,7 +28,7 @@ use Rattle.csp_log.specs.declared.shown.AnswerShown.{AnswerShown}
 use Rattle.csp_log.specs.declared.shown.AnswerShown.TheVariants as answer
 use Rattle.csp_party.specs.Any.{an_iface}
 use Rattle.csp_scene.proofs.Lists.{AllByRecursion-append}
-use Rattle.csp_consistent.specs.Parties.{party_steps}
+use Rattle.csp_topology.specs.Parties.{party_steps}
 use Rattle.csp_consistent.specs.Reading.{put_by, got_by, puts, gets}
 use Rattle.csp_consistent.proofs.Each.{each_first, each_last}
 use Rattle.csp_consistent.proofs.Heard.{IsWholeOf, IsKeptOf, IsHeardOf, heard_of, further_of}

@@ -35,7 +35,7 @@ use Rattle.csp_log.specs.declared.shown.AnswerShown.TheVariants as answer
 use Rattle.csp_party.specs.Any.{an_iface}
 use Rattle.csp_record.specs.Transmissions.{fetched, is_beginning, shown_in}
 use Rattle.csp_scene.proofs.Lists.{AllByRecursion-append}
-use Rattle.csp_consistent.specs.Parties.{party_steps}
+use Rattle.csp_topology.specs.Parties.{party_steps}
 use Rattle.csp_consistent.specs.Reading.{put_by, puts}
 use Rattle.csp_consistent.proofs.Each.{each_drop_first, each_if}
 use Rattle.csp_consistent.proofs.Received.{IsFrameOf, IsNamed, waiting, told, step_named}

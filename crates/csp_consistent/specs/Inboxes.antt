@@ -1,6 +1,6 @@
 -- Consistent, part 3: of each priority of an inbox, what the one party that pops it got, followed by what was left, has each producer's
 -- puts in that producer's order, and nothing else.
-use Rattle.std.specs.Prelude.{◌≡◌, ℕ, ◌≤◌, ◌==◌, if◌then◌else◌, Some, List, [], ◌++◌, slice_get}
+use Rattle.std.specs.Prelude.{◌≡◌, ℕ, ◌==◌, if◌then◌else◌, Some, List, ◌++◌, slice_get}
 use Rattle.std.specs.List.{AllByRecursion}
 use Rattle.csp_base.specs.declared.priority.Prio.{Prio}
 use Rattle.csp_base.specs.Priority.{prio_number}
@@ -13,7 +13,7 @@ use Rattle.csp_record.specs.Record.{PlainRecord}
 use Rattle.csp_record.specs.declared.who.Who.{Who}
 use Rattle.csp_record.specs.declared.who.Who.TheVariants as who
 use Rattle.csp_scene.specs.Scene.{PlainScene, PlainNode}
-use Rattle.csp_consistent.specs.Lanes.{hub_of}
+use Rattle.csp_topology.specs.Lanes.{hub_of}
 use Rattle.csp_consistent.specs.Reading.{entries_of, gets, left_in, puts, with_mark, with_priority}
 
 -- who puts packets with this mark into an inbox: the interface of that number, and the node's own router without one
@@ -30,13 +30,13 @@ pub record IsPriorityInOrder (r : PlainRecord) (node : ℕ) (hub : Who) (p : Pri
   pub order : (mark : ℕ) → with_mark mark (came_through r node hub p) ≡ with_priority p (puts queue.Inbox (entries_of r (writer_of node hub mark)))
   pub carried : AllByRecursion (IsCarried (rule.Priority p)) (came_through r node hub p)
 
+-- an inbox at one node: each priority in order, and nothing but packets
 pub record IsInboxInOrder (r : PlainRecord) (node : ℕ) (hub : Who) : Type 0 where
   -- each priority is in order
   pub priorities : (p : Prio) → IsPriorityInOrder r node hub p
   -- all that was got is what an inbox carries: packets alone, and so each of a priority
   pub got : AllByRecursion (IsCarried rule.Inbox) (gets queue.Inbox (entries_of r hub))
-  -- nothing was left under a number that is no priority's
-  pub left : (prio : ℕ) → 4 ≤ prio → left_in r node queue.Inbox prio ≡ []
 
+-- the inbox of each node of a scene is in order
 abbrev pub AreInboxesInOrder : PlainScene → PlainRecord → Type 0
 AreInboxesInOrder scene r = (node : ℕ) (n : PlainNode) → slice_get scene.nodes node ≡ Some n → IsInboxInOrder r node (hub_of node n.addr)

@@ -3,8 +3,8 @@ pub mod Inboxes
 pub mod Lanes
 pub mod Links
 pub mod Origins
-pub mod Parties
 pub mod Pools
 pub mod Queues
 pub mod Reading
 pub mod Runs
+pub mod Whole

@@ -16,5 +16,6 @@ pub record IsPlanned (plan : List Fault) (es : List Entry) (way : Way) : Type 0 
   pub rest : List Frame
   pub copies : IsPermutation (made plan way (frames_popped way es)) (frames_pushed way es ++ rest)
 
+-- each direction of each link passed on only what its plan makes of its frames
 abbrev pub ArePlanned : PlainScene → PlainRecord → Type 0
 ArePlanned scene r = (number : ℕ) (l : PlainLink) (way : Way) → slice_get scene.links number ≡ Some l → IsPlanned l.plan (entries_of r (who.Link number)) way

@@ -31,10 +31,12 @@ pub record IsSentFromBeyond (scene : PlainScene) (r : PlainRecord) (end : End) (
   pub tag : b.trace.tag ≡ sent.trace.tag
   pub hops : b.trace.hops ≡ sent.trace.hops + 1
 
+-- what an interface put into an inbox is a packet that was sent by the other end of its link
 abbrev pub IsSent : PlainScene → PlainRecord → End → ItemShown → Type 0
 IsSent scene r end (item.Packet mark b) = IsSentFromBeyond scene r end b
 IsSent scene r end (item.Frame _) = ⊥
 IsSent scene r end (item.Note _) = ⊥
 
+-- all that the interfaces put into inboxes was sent at the other ends of their links
 abbrev pub HaveOrigins : PlainScene → PlainRecord → Type 0
 HaveOrigins scene r = (end : End) → AllByRecursion (IsSent scene r end) (puts queue.Inbox (entries_of r (who.Iface end.node end.iface)))

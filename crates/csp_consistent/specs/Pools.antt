@@ -1,15 +1,17 @@
 -- Consistent, part 4: of each pool, the numbers at its opening together with those given are those taken together with those left; and
 -- which place held which numbers at the end.
-use Rattle.std.specs.Prelude.{◌≡◌, ℕ, ◌+◌, ◌==◌, ◌&&◌, Bool, true, false, if◌then◌else◌, Option, None, Some, List, [], ◌∷◌, ◌++◌, slice_get}
+use Rattle.std.specs.Prelude.{◌≡◌, ℕ, ◌+◌, ◌==◌, Bool, false, if◌then◌else◌, Option, None, Some, List, [], ◌∷◌, ◌++◌, length, map, slice_get, slice_index_or}
 use Rattle.std.specs.List.{flat_map, range_with_len}
-use Rattle.csp_base.specs.Priority.{prio_number}
+use Rattle.std.specs.Option.{option_map, option_to_list}
+use Rattle.csp_base.specs.Priority.{prio_of}
 use Rattle.csp_deck.specs.Runs.{state_after}
 use Rattle.csp_deck.specs.Step.{times}
 use Rattle.csp_lists.specs.PlainDeck.{numbers_of}
-use Rattle.csp_log.specs.Remains.{PlainHeld}
+use Rattle.csp_log.specs.Remains.{PlainLeft, PlainHeld}
 use Rattle.csp_log.specs.declared.entry.Entry.{Entry}
 use Rattle.csp_log.specs.declared.places.Place.{Place}
 use Rattle.csp_log.specs.declared.places.Place.TheVariants as place
+use Rattle.csp_log.specs.declared.places.QueueId.{QueueId}
 use Rattle.csp_log.specs.declared.places.QueueId.TheVariants as queue
 use Rattle.csp_log.specs.declared.shown.AnswerShown.{AnswerShown}
 use Rattle.csp_log.specs.declared.shown.AnswerShown.TheVariants as answer
@@ -19,14 +21,15 @@ use Rattle.csp_party.specs.Any.{holds}
 use Rattle.csp_record.specs.Record.{PlainPartyLog, PlainRecord}
 use Rattle.csp_record.specs.Who.{home_of, node_of}
 use Rattle.csp_scene.specs.Scene.{PlainScene, PlainNode}
-use Rattle.csp_consistent.specs.Parties.{PlainOpening, parties_of, party_steps}
-use Rattle.csp_consistent.specs.Reading.{is_queue, left_in}
+use Rattle.csp_topology.specs.Parties.{PlainOpening, parties_of, party_steps}
+use Rattle.csp_consistent.specs.Whole.{AreQueuesLeft}
 
 -- the number of a buffer that a turn gave to its pool, if it did, and of one that it took
 abbrev pub given_by : OpShown → AnswerShown → List ℕ
 given_by (op.Give b) answer.Given = b.number ∷ []
 given_by _ _ = []
 
+-- the number of the buffer that an answer brings from a pool
 abbrev pub taken_by : AnswerShown → List ℕ
 taken_by (answer.Taken b) = b.number ∷ []
 taken_by _ = []
@@ -35,6 +38,7 @@ taken_by _ = []
 abbrev pub given : List Entry → List ℕ
 given es = flat_map (λ e. given_by e.op e.answer) es
 
+-- the numbers that entries took from a pool
 abbrev pub taken : List Entry → List ℕ
 taken es = flat_map (λ e. taken_by e.answer) es
 
@@ -47,57 +51,54 @@ is_node node (Some other) = other == node
 abbrev pub given_at : ℕ → PlainPartyLog → List ℕ
 given_at node log = (if is_node node (node_of log.who) then given log.entries else [])
 
+-- those of a log, where its party is of this node
 abbrev pub taken_at : ℕ → PlainPartyLog → List ℕ
 taken_at node log = (if is_node node (node_of log.who) then taken log.entries else [])
 
--- whether a place is this one
-abbrev pub is_place : Place → Place → Bool
-is_place place.Pool place.Pool = true
-is_place (place.Inbox p) (place.Inbox other) = prio_number other == prio_number p
-is_place (place.Lane q) (place.Lane other) = is_queue q other
-is_place place.Router place.Router = true
-is_place (place.Iface number) (place.Iface k) = k == number
-is_place (place.App number) (place.App k) = k == number
-is_place _ _ = false
-
--- the numbers that a place of a node held
-abbrev pub held_here : ℕ → Place → PlainHeld → List ℕ
-held_here node p h = (if h.node == node && is_place p h.place then h.numbers else [])
-
-abbrev pub held_at : PlainRecord → ℕ → Place → List ℕ
-held_at r node p = flat_map (held_here node p) r.held
-
--- the pool of a node with so many buffers
-abbrev pub IsPoolWhole : PlainRecord → ℕ → ℕ → Type 0
-IsPoolWhole r node count =
+-- the pool of a node with so many buffers, in which these were left
+abbrev pub IsPoolWhole : PlainRecord → (node count : ℕ) → List ℕ → Type 0
+IsPoolWhole r node count left =
     (k : ℕ) → times k (range_with_len 0 count) + times k (flat_map (given_at node) r.parties)
-    ≡ times k (flat_map (taken_at node) r.parties) + times k (held_at r node place.Pool)
+    ≡ times k (flat_map (taken_at node) r.parties) + times k left
 
--- whether it is the home of a party
-abbrev pub is_home : ℕ → Place → Option (ℕ × Place) → Bool
-is_home node p None = false
-is_home node p (Some home) = home.0 == node && is_place p home.1
+-- a queue held the numbers of what was left in it: of the inbox that of a priority
+abbrev pub place_named : QueueId → ℕ → Place
+place_named queue.Inbox prio = place.Inbox (prio_of prio)
+place_named q prio = place.Lane q
 
--- what the parties held in their states after their last entries, where this place is theirs
+-- what the record says that a queue held, where it says that this was left in it
+abbrev pub left_held : PlainLeft → PlainHeld
+left_held l = record { node = l.node; place = place_named l.queue l.prio; numbers = numbers_of l.items }
+
+-- a party held those of its state after its last entry: a link has no place, and holds none
 abbrev pub held_after : PlainOpening → PlainPartyLog → List ℕ
 held_after o log = holds (state_after party_steps o.party log.entries)
 
-abbrev pub parties_held : ℕ → Place → List PlainOpening → List PlainPartyLog → List ℕ
-parties_held node p (o ∷ os) (log ∷ logs) = (if is_home node p (home_of log.who) then held_after o log else []) ++ parties_held node p os logs
-parties_held node p _ _ = []
+-- what a place held that has these numbers
+abbrev pub held_by : List ℕ → ℕ × Place → PlainHeld
+held_by numbers home = record { node = home.0; place = home.1; numbers = numbers }
 
--- what was left in the queue of a place: there is no lane that is called an inbox
-abbrev pub left_at : PlainRecord → ℕ → Place → List ℕ
-left_at r node (place.Inbox p) = numbers_of (left_in r node queue.Inbox (prio_number p))
-left_at r node (place.Lane queue.Inbox) = []
-left_at r node (place.Lane q) = numbers_of (left_in r node q 0)
-left_at r node _ = []
+-- what the record says that a party held, if it has a place
+abbrev pub party_held : PlainOpening → PlainPartyLog → List PlainHeld
+party_held o log = option_to_list (option_map (held_by (held_after o log)) (home_of log.who))
 
--- each place but the pools held just the numbers of what was left there, or of what its party held
-abbrev pub IsHeldSo : PlainScene → PlainRecord → ℕ → Place → Type 0
-IsHeldSo scene r node place.Pool = Unit {0}
-IsHeldSo scene r node p = (k : ℕ) → times k (held_at r node p) ≡ times k (left_at r node p ++ parties_held node p (parties_of scene) r.parties)
+-- what it says that the parties held, in their order
+abbrev pub parties_held : List PlainOpening → List PlainPartyLog → List PlainHeld
+parties_held (o ∷ os) (log ∷ logs) = party_held o log ++ parties_held os logs
+parties_held _ _ = []
 
+-- the pools held these, node by node
+abbrev pub pools_held : ℕ → List (List ℕ) → List PlainHeld
+pools_held node [] = []
+pools_held node (numbers ∷ pools) = record { node = node; place = place.Pool; numbers = numbers } ∷ pools_held (node + 1) pools
+
+-- each pool is whole, and each place held at the end what the record says
 pub record AreNumbersKept (scene : PlainScene) (r : PlainRecord) : Type 0 where
-  pub pools : (node : ℕ) (n : PlainNode) → slice_get scene.nodes node ≡ Some n → IsPoolWhole r node n.buffers
-  pub places : (node : ℕ) (p : Place) → IsHeldSo scene r node p
+  -- the numbers left in the pool of each node
+  pub in_pools : List (List ℕ)
+  pub nodes : length in_pools ≡ length scene.nodes
+  -- none of them was lost or made
+  pub pools : (node : ℕ) (n : PlainNode) → slice_get scene.nodes node ≡ Some n → IsPoolWhole r node n.buffers (slice_index_or in_pools node [])
+  -- the record says of each queue what was left there, and of each place what it held: the queues, the parties, the pools; and nothing else
+  pub left : AreQueuesLeft scene r
+  pub held : r.held ≡ map left_held r.left ++ (parties_held (parties_of scene) r.parties ++ pools_held 0 in_pools)

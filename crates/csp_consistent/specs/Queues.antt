@@ -37,6 +37,7 @@ MayPop (who.App node number) (queue.Down k) = k ≡ number
 MayPop (who.Link number) (queue.Tx k) = ⊤
 MayPop _ _ = ⊥
 
+-- an operation is on queues that the party may use
 abbrev pub MayAsk : Who → OpShown → Type 0
 MayAsk w (op.Push q i) = MayPush w q i
 MayAsk w (op.Pop q) = MayPop w q
@@ -48,5 +49,6 @@ MayAsk w (op.Give _) = ⊤
 abbrev pub UsesItsQueues : PlainPartyLog → Type 0
 UsesItsQueues log = AllByRecursion (λ e. MayAsk log.who e.op) log.entries
 
+-- each log is of a party that used its own queues alone
 abbrev pub UseTheirQueues : List PlainPartyLog → Type 0
 UseTheirQueues logs = AllByRecursion UsesItsQueues logs

@@ -46,6 +46,7 @@ abbrev pub put_by : QueueId → OpShown → AnswerShown → List ItemShown
 put_by q (op.Push other i) answer.Pushed = (if is_queue q other then i ∷ [] else [])
 put_by q _ _ = []
 
+-- what an operation and its answer got from a queue
 abbrev pub got_by : QueueId → OpShown → AnswerShown → List ItemShown
 got_by q (op.Pop other) (answer.Popped i) = (if is_queue q other then i ∷ [] else [])
 got_by q _ _ = []
@@ -54,6 +55,7 @@ got_by q _ _ = []
 abbrev pub puts : QueueId → List Entry → List ItemShown
 puts q es = flat_map (λ e. put_by q e.op e.answer) es
 
+-- what entries got from a queue, in order
 abbrev pub gets : QueueId → List Entry → List ItemShown
 gets q es = flat_map (λ e. got_by q e.op e.answer) es
 
@@ -61,6 +63,7 @@ gets q es = flat_map (λ e. got_by q e.op e.answer) es
 abbrev pub left_here : ℕ → QueueId → ℕ → PlainLeft → List ItemShown
 left_here node q prio l = (if l.node == node && is_queue q l.queue && l.prio == prio then l.items else [])
 
+-- what a record says was left in a queue of a node
 abbrev pub left_in : PlainRecord → ℕ → QueueId → ℕ → List ItemShown
 left_in r node q prio = flat_map (left_here node q prio) r.left
 
@@ -70,6 +73,7 @@ of_priority p (item.Packet mark b) = (if prio_number (priority_of b) == prio_num
 of_priority p (item.Frame _) = []
 of_priority p (item.Note _) = []
 
+-- the packets of one priority among items
 abbrev pub with_priority : Prio → List ItemShown → List ItemShown
 with_priority p is = flat_map (of_priority p) is
 
@@ -79,5 +83,6 @@ of_mark mark (item.Packet m b) = (if m == mark then item.Packet m b ∷ [] else 
 of_mark mark (item.Frame _) = []
 of_mark mark (item.Note _) = []
 
+-- the packets with one mark among items
 abbrev pub with_mark : ℕ → List ItemShown → List ItemShown
 with_mark mark is = flat_map (of_mark mark) is

@@ -1,26 +1,15 @@
 -- Consistent, part 1: each party's entries are a run of its turns from its opening in the scene.
 use Rattle.std.specs.Prelude.{◌≡◌, List, [], ◌∷◌, ⊤}
-use Rattle.std.specs.List.{AllByRecursion}
 use Rattle.csp_deck.specs.Runs.{IsRun, state_after}
-use Rattle.csp_deck.specs.Step.{IsCleared}
-use Rattle.csp_log.specs.declared.entry.Entry.{Entry}
-use Rattle.csp_log.specs.declared.shown.AnswerShown.{AnswerShown}
-use Rattle.csp_log.specs.declared.shown.AnswerShown.TheVariants as answer
 use Rattle.csp_party.specs.Any.{present_step}
 use Rattle.csp_record.specs.Record.{PlainPartyLog}
-use Rattle.csp_consistent.specs.Parties.{PlainOpening, party_steps}
+use Rattle.csp_topology.specs.Parties.{PlainOpening, party_steps}
 
--- a buffer that an answer brings from the pool is cleared
-abbrev pub IsClearedIn : AnswerShown → Type 0
-IsClearedIn (answer.Taken b) = IsCleared b
-IsClearedIn _ = ⊤
-
--- the log is that of this party: its entries are a run of its turns from its opening, in which time never falls; each buffer that it took
--- was cleared; and its step is that of its state after its last entry
+-- the log is that of this party: its entries are a run of its turns from its opening, in which time never falls; and its step is that of its
+-- state after its last entry
 pub record IsLogOf (o : PlainOpening) (log : PlainPartyLog) : Type 0 where
   pub who : log.who ≡ o.who
   pub run : IsRun party_steps 0 o.party log.entries
-  pub cleared : AllByRecursion (λ e. IsClearedIn e.answer) log.entries
   pub step : log.step ≡ present_step (state_after party_steps o.party log.entries)
 
 -- the logs are those of these parties, one for each, in their order

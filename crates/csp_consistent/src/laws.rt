@@ -3,7 +3,7 @@
 ghost use Rattle.csp_consistent.specs.Lanes.{AreInOrder};
 ghost use Rattle.csp_consistent.specs.Links.{ArePlanned};
 ghost use Rattle.csp_consistent.specs.Origins.{HaveOrigins};
-ghost use Rattle.csp_consistent.specs.Parties.{parties_of};
+ghost use Rattle.csp_topology.specs.Parties.{parties_of};
 ghost use Rattle.csp_consistent.specs.Runs.{AreLogsOf};
 ghost use Rattle.csp_record.specs.Record.{PlainRecord};
 ghost use Rattle.csp_scene.specs.Kept.{AreLinksAfter};

@@ -1,6 +1,6 @@
 //! Who uses which queue.
 
-ghost use Rattle.csp_consistent.specs.Parties.{parties_of};
+ghost use Rattle.csp_topology.specs.Parties.{parties_of};
 ghost use Rattle.csp_consistent.specs.Queues.{UseTheirQueues};
 ghost use Rattle.csp_consistent.specs.Runs.{AreLogsOf};
 ghost use Rattle.csp_record.specs.Record.{PlainPartyLog};

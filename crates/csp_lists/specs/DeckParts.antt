@@ -8,6 +8,7 @@ use Rattle.csp_log.specs.declared.places.Carries.{Carries}
 abbrev pub plain_deck : Inside → PlainDeck
 plain_deck d = record { pool = d.pool.pool; shape = d.shape; queues = d.queues.queues }
 
+-- a deck's fields as contracts see them, with its region
 abbrev pub deck_at : Inside → DeckAt
 deck_at d = record { region = d.queues.region; deck = plain_deck d }
 

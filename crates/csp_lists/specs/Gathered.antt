@@ -24,7 +24,7 @@ prio_named _ = 0
 abbrev pub left_at : ℕ → PlainQueue → PlainLeft
 left_at node q = record { node = node; queue = queue_named q.place; prio = prio_named q.place; items = q.items }
 
--- and which buffers it held
+-- which buffers a queue of a node held
 abbrev pub held_at : ℕ → PlainQueue → PlainHeld
 held_at node q = record { node = node; place = q.place; numbers = numbers_of q.items }
 
@@ -36,5 +36,6 @@ queued_numbers d = numbers_among d.queues
 abbrev pub pictures : List PlainBuffer → List Content
 pictures bs = map (λ b. b.picture) bs
 
+-- the numbers of buffers that came back
 abbrev pub numbers_back : List PlainBuffer → List ℕ
 numbers_back bs = buffer_numbers (pictures bs)

@@ -20,7 +20,7 @@ places_in s =
     ++ (lanes queue.Tx s.ifaces
     ++ (lanes queue.Out s.ifaces ++ (lanes queue.Down s.apps ++ (lanes queue.Up s.apps ++ places_of queue.Inbox))))
 
--- how many they are
+-- how many queues a deck of this shape has
 abbrev pub queue_count : Shape → ℕ
 queue_count s = 3 * s.ifaces + 2 * s.apps + 4
 

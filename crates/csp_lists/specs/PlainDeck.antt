@@ -97,6 +97,7 @@ has_packet d p = has_items (queue_at d (place.Inbox p))
 abbrev pub first_with : Bool → Bool → Bool → Prio
 first_with critical high normal = cond critical Critical (cond high High (cond normal Normal Low))
 
+-- the most urgent priority of which the inbox has a packet; Low where it has none of the others
 abbrev pub most_urgent : PlainDeck → Prio
 most_urgent d = first_with (has_packet d Critical) (has_packet d High) (has_packet d Normal)
 
@@ -110,6 +111,7 @@ abbrev pub front_of : PlainDeck → Place → PlainQueue → List ItemShown → 
 front_of d p q [] = (answer.Empty, d)
 front_of d p q (i ∷ items) = (answer.Popped i, with_queue d p (refilled q items))
 
+-- the pop of a queue, if there is one, and the deck afterwards
 abbrev pub popped : PlainDeck → Place → Option PlainQueue → AnswerShown × PlainDeck
 popped d p None = (answer.Empty, d)
 popped d p (Some q) = front_of d p q q.items
@@ -127,6 +129,7 @@ abbrev pub IsEmptyAt : PlainDeck → Place → Type 0
 IsEmptyAt d place.Pool = d.pool.items ≡ []
 IsEmptyAt d p = IsSomeAnd (queue_at d p) (λ q. q.items ≡ [])
 
+-- a place has no room
 abbrev pub IsFullAt : PlainDeck → Place → Type 0
 IsFullAt d place.Pool = d.pool.room ≤ length d.pool.items
 IsFullAt d p = IsSomeAnd (queue_at d p) (λ q. q.room ≤ length q.items)
@@ -140,6 +143,7 @@ lane_rule links (queue.Tx k) = rule.Lane (slice_index_or links k lane.Kiss)
 lane_rule links (queue.Rx k) = rule.Lane (slice_index_or links k lane.Kiss)
 lane_rule links queue.Inbox = rule.Inbox
 
+-- the room of a lane by its kind
 abbrev pub lane_room : QueueId → ℕ
 lane_room (queue.Up _) = UP_ROOM
 lane_room (queue.Down _) = DOWN_ROOM
@@ -154,6 +158,7 @@ rule_at links (place.Inbox p) = rule.Priority p
 rule_at links (place.Lane l) = lane_rule links l
 rule_at links _ = rule.Inbox
 
+-- the room of a place, where this is the inbox's room for each priority
 abbrev pub room_at : ℕ → Place → ℕ
 room_at inbox (place.Inbox _) = inbox
 room_at inbox (place.Lane l) = lane_room l
@@ -232,7 +237,7 @@ pub record PushesSo (d : PlainDeck) (q : QueueId) (i : ItemShown) (r : Result (U
   pub back : IfErr r (λ j. j ≡ i)
   pub rules : (x : QueueId) → rule_of e x ≡ rule_of d x
 
--- and so was the pop of a queue
+-- the pop of a queue of the first deck brings this, with its cause, and leaves the second
 pub record PopsSo (d : PlainDeck) (q : QueueId) (r : Option ItemShown) (e : PlainDeck) : Type 0 where
   pub answer : MatchOption r (answer_of d (op.Pop q) ≡ (answer.Empty, e)) (λ i. answer_of d (op.Pop q) ≡ (answer.Popped i, e))
   pub empty : MatchOption r (AllByRecursion (IsEmptyAt d) (places_of q)) (λ i. AllByRecursion (IsEmptyAt d) (passed_over q i))

@@ -6,7 +6,7 @@ pub record PlainFifo (T : Type 0) : Type 0 where
   pub room : ℕ
   pub items : List T
 
--- it is stored as the pair of its fields
+-- how a proof tells bounded lists apart: by the pair of their fields
 abbrev pub fifo_code : {T : Type 0} → Coded T → Coded (PlainFifo T)
 fifo_code {T} code = code_by (ℕ × List T) (coded× coded_ℕ (coded_list code)) (λ f. (f.room, f.items)) (λ p. record { room = p.0; items = p.1 }) (λ _. refl)
 

@@ -10,8 +10,7 @@ use Rattle.csp_log.specs.Pictures.{shown_item}
 abbrev pub queue_seen : Inside → QueueAt
 queue_seen q = record { region = q.token.name; queue = record { place = q.place; rule = q.rule; room = q.fifo.room; items = map shown_item q.fifo.items } }
 
--- its items are such as it carries and of its region, no more than it has room for, and it has room for their pictures
--- and numbers
+-- a queue's items are such as it carries and of its region, no more than it has room for, and it has room for their pictures and numbers
 pub record HasRoom (q : Inside) : Type 0 where
   pub carried : All (λ i. IsCarried q.rule (shown_item i)) q.fifo.items
   pub of_it : All (IsItemOf q.token.name) q.fifo.items

@@ -29,6 +29,6 @@ abbrev pub shown_push : Result (Unit {0}) Item → Result (Unit {0}) ItemShown
 shown_push (Ok u) = Ok u
 shown_push (Err i) = Err (shown_item i)
 
--- and what a pop gave
+-- what a pop gave, as pictures
 abbrev pub shown_pop : Option Item → Option ItemShown
 shown_pop i = option_map shown_item i

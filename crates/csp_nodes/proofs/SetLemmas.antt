@@ -1,5 +1,5 @@
 -- Lists one of whose elements is changed.
-use Rattle.std.proofs.Common.{◌≡◌, ℕ, zero, suc, ◌+◌, ◌==◌, false, List, [], ◌∷◌, set, Some, refl, ap, arith, sum_by}
+use Rattle.std.proofs.Common.{◌≡◌, ℕ, zero, suc, ◌+◌, ◌==◌, false, List, [], ◌∷◌, set, Some, refl, sym, ap, arith, sum_by}
 use Rattle.std.specs.Prelude.{slice_get}
 use Rattle.std.proofs.lemmas.Bool.Decides.{nat_tests}
 use Rattle.std.proofs.lemmas.List.Sums.{sum_by-cons}
@@ -34,9 +34,15 @@ sum_set f (z ∷ xs) (suc i) x y e =
       later : (a b z s t u v : ℕ) → a ≡ z + s → b ≡ z + t → s + u ≡ t + v → a + u ≡ b + v
       later a b z s t u v e f g = omega arith
 
--- an element set to what it was
+-- an element set to what it was, and set again
 pub set_same : {X : Type 0} (xs : List X) (i : ℕ) (x : X) → slice_get xs i ≡ Some x → set xs i x ≡ xs
 set_same [] zero x e = cc
 set_same [] (suc i) x e = cc
-set_same (z ∷ xs) zero x e = cc
+set_same (z ∷ xs) zero x e = let same : z ≡ x = cc in ap (λ y. y ∷ xs) (sym same)
 set_same (z ∷ xs) (suc i) x e = ap (λ ys. z ∷ ys) (set_same xs i x e)
+
+pub set_twice : {X : Type 0} (xs : List X) (i : ℕ) (x y : X) → set (set xs i x) i y ≡ set xs i y
+set_twice [] zero x y = refl
+set_twice [] (suc i) x y = refl
+set_twice (z ∷ xs) zero x y = refl
+set_twice (z ∷ xs) (suc i) x y = ap (λ ys. z ∷ ys) (set_twice xs i x y)

@@ -32,10 +32,12 @@ abbrev pub region_or : Option RegionName → RegionName
 region_or None = nowhere
 region_or (Some r) = r
 
+-- the region of a node's buffers, and none where there is no node
 abbrev pub region_there : List RegionName → Option ℕ → RegionName
 region_there regions None = nowhere
 region_there regions (Some node) = region_or (slice_get regions node)
 
+-- the region of a party's buffers
 abbrev pub region_in : List RegionName → Who → RegionName
 region_in regions w = region_there regions (node_of w)
 
@@ -51,16 +53,19 @@ abbrev pub home_among : List PlainDeck → Option ℕ → Option ℕ
 home_among decks None = None
 home_among decks (Some node) = (if nat_lt node (length decks) then Some node else None)
 
--- what it sees of its lists
+-- what a queue of the party whose turn it is carries, as it sees it
 abbrev pub rule_at : DecksAt → QueueId → Option Rule
 rule_at d q = rule_in d.decks d.links d.whose q
 
+-- the region of the party whose turn it is
 abbrev pub region_at : DecksAt → RegionName
 region_at d = region_in d.regions d.whose
 
+-- a place is empty, for the party whose turn it is
 abbrev pub IsEmpty : DecksAt → Place → Type 0
 IsEmpty d p = IsEmptyIn d.decks d.links d.whose p
 
+-- a place is full, for the party whose turn it is
 abbrev pub IsFull : DecksAt → Place → Type 0
 IsFull d p = IsFullIn d.decks d.links d.whose p
 

@@ -5,7 +5,7 @@ use Rattle.csp_lists.specs.Gathered.{numbers_back}
 use Rattle.csp_nodes.specs.Emptied.{EmptiedAt}
 use Rattle.csp_nodes.specs.declared.emptied.Emptied.TheInside.{Inside}
 
--- its pool, and the numbers of the buffers that were taken back so far
+-- what is left of a node: its pool, and the numbers of the buffers that were taken back so far
 abbrev pub emptied_at : Inside → EmptiedAt
 emptied_at e = record { region = e.pool.region; emptied = record { pool = e.pool.pool; gathered = numbers_back e.gathered.items } }
 

@@ -16,6 +16,7 @@ abbrev pub all_left : ℕ → List PlainDeck → List PlainLeft
 all_left node [] = []
 all_left node (d ∷ decks) = map (left_at node) d.queues ++ all_left (node + 1) decks
 
+-- which buffers each queue of these nodes holds, from this place on
 abbrev pub queues_held : ℕ → List PlainDeck → List PlainHeld
 queues_held node [] = []
 queues_held node (d ∷ decks) = map (held_at node) d.queues ++ queues_held (node + 1) decks

@@ -9,8 +9,10 @@ use Rattle.csp_nodes.specs.declared.decks.Decks.TheInside.{Inside}
 abbrev pub decks_of : List DeckAt → List PlainDeck
 decks_of nodes = map (λ d. d.deck) nodes
 
+-- the regions of these nodes, in their order
 abbrev pub regions_of : List DeckAt → List RegionName
 regions_of nodes = map (λ d. d.region) nodes
 
+-- the fields of all nodes' lists as contracts see them
 abbrev pub decks_at : Inside → DecksAt
 decks_at d = record { decks = decks_of d.nodes.items; regions = regions_of d.nodes.items; links = map (λ ends. ends.items) d.links.items; whose = d.whose }

@@ -56,6 +56,7 @@ abbrev pub answer_at : List PlainDeck → OpShown → ℕ × OpShown → Option 
 answer_at decks o there None = ((answer_of no_lists o).0, decks)
 answer_at decks o there (Some d) = ((answer_of d there.1).0, slice_set decks there.0 (answer_of d there.1).1)
 
+-- what the lists answer where an operation goes, if it goes anywhere, and all lists afterwards
 abbrev pub answer_there : List PlainDeck → OpShown → Option (ℕ × OpShown) → AnswerShown × List PlainDeck
 answer_there decks o None = ((answer_of no_lists o).0, decks)
 answer_there decks o (Some there) = answer_at decks o there (slice_get decks there.0)
@@ -69,6 +70,7 @@ abbrev pub is_there : ℕ → Option (ℕ × OpShown) → Bool
 is_there node None = false
 is_there node (Some there) = there.0 == node
 
+-- an operation of a party goes to the lists of this node
 abbrev pub is_served_at : List (List End) → Who → OpShown → ℕ → Bool
 is_served_at links w o node = is_there node (served links w o)
 
@@ -82,6 +84,7 @@ of_frames (rule.Lane lane.Out) = None
 of_frames rule.Inbox = None
 of_frames (rule.Priority _) = None
 
+-- what a queue carries as a party sees it: a link sees frames alone
 abbrev pub seen_by : Who → Option Rule → Option Rule
 seen_by (who.Link _) r = option_and_then of_frames r
 seen_by (who.Router _) r = r
@@ -94,6 +97,7 @@ abbrev pub rule_there : List PlainDeck → Option (ℕ × QueueId) → Option Ru
 rule_there decks None = None
 rule_there decks (Some there) = option_and_then (λ d. rule_of d there.1) (slice_get decks there.0)
 
+-- what a queue of a party carries, if there is such a queue
 abbrev pub rule_in : List PlainDeck → List (List End) → Who → QueueId → Option Rule
 rule_in decks links w q = seen_by w (rule_there decks (goes links w q))
 
@@ -120,5 +124,6 @@ IsThere Is decks p (Some there) = Is (or_none (slice_get decks there.0)) there.1
 abbrev pub IsEmptyIn : List PlainDeck → List (List End) → Who → Place → Type 0
 IsEmptyIn decks links w p = IsThere IsEmptyAt decks p (place_in links w p)
 
+-- a place that a party names has no room
 abbrev pub IsFullIn : List PlainDeck → List (List End) → Who → Place → Type 0
 IsFullIn decks links w p = IsThere IsFullAt decks p (place_in links w p)

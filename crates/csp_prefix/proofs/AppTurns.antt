@@ -261,6 +261,6 @@ run_tells (e ∷ es) time s run = (
 
 pub true_apps : AreTrueApps
 true_apps number steps es log = record {
-  untraced = run_bare (queue.Up number) es 0 (opening number steps) log.run tt;
-  takes = λ slot ordinal. took_is number slot ordinal es (run_tells es 0 (opening number steps) log.run);
+  untraced = run_bare (queue.Up number) es 0 (opening number steps) log tt;
+  takes = λ slot ordinal. took_is number slot ordinal es (run_tells es 0 (opening number steps) log);
 }

@@ -34,9 +34,10 @@ use Rattle.csp_stack.specs.Readings.{is_checked}
 use Rattle.csp_consistent.specs.Consistent.{IsConsistent}
 use Rattle.csp_prefix.specs.Flows.{Flows, IsFilledFor, IsGenuine, with_checksum}
 use Rattle.csp_consistent.specs.Inboxes.{came_through, writer_of}
-use Rattle.csp_consistent.specs.Lanes.{IsInOrder, hub_of, out_lane}
+use Rattle.csp_consistent.specs.Lanes.{IsInOrder}
+use Rattle.csp_topology.specs.Lanes.{hub_of, out_lane}
 use Rattle.csp_consistent.specs.Origins.{IsSent}
-use Rattle.csp_consistent.specs.Parties.{config_of}
+use Rattle.csp_topology.specs.Parties.{config_of}
 use Rattle.csp_consistent.specs.Reading.{entries_of, gets, left_in, puts, with_priority}
 use Rattle.csp_prefix.specs.Routers.{AreShown, AreTrueRouters, HearsGenuine, IsGenuineItem, IsTrueRouter}
 use Rattle.csp_consistent.proofs.Across.{through}

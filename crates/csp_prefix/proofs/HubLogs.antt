@@ -49,10 +49,9 @@ use Rattle.csp_stack.specs.declared.plan.Plan.TheVariants as plan
 use Rattle.csp_stack.specs.declared.sources.Source.TheVariants as source
 use Rattle.csp_prefix.specs.Apps.{app_steps}
 use Rattle.csp_prefix.specs.Flows.{Flows, IsGenuine}
-use Rattle.csp_consistent.specs.Parties.{party_steps}
+use Rattle.csp_topology.specs.Parties.{party_steps}
 use Rattle.csp_consistent.specs.Reading.{got_by, gets, is_queue, put_by, puts}
 use Rattle.csp_prefix.specs.Routers.{ComesSo, IsHeard, IsUntraced, PushesSo, router_steps}
-use Rattle.csp_consistent.specs.Runs.{IsClearedIn}
 use Rattle.csp_consistent.proofs.Each.{each_first, each_if, each_last}
 use Rattle.csp_prefix.proofs.PacketLists.{IsOfKind}
 use Rattle.csp_consistent.proofs.Received.{IsNamed, step_named}
@@ -142,20 +141,19 @@ serves_own [] time s run = tt
 serves_own (e ∷ es) time s run = (subst (ServesOwn s.facts.apps) (sym run.1.op) (own_asks s.facts (timed s.state e.time) e.time), serves_own es e.time (step_after router_steps s e) run.2)
 
 -- so what it popped from them is what they put there
-comes_one : (apps : ℕ) (o : OpShown) (a : AnswerShown) → IsClearedIn a → ServesOwn apps o
+comes_one : (apps : ℕ) (o : OpShown) (a : AnswerShown) → ServesOwn apps o
     → ((k : ℕ) → k < apps → AllByRecursion (λ i. IsUpItem i × IsUntraced i) (got_by (queue.Up k) o a)) → ComesSo o a
-comes_one apps (op.Pop (queue.Up k)) (answer.Popped i) clear own got =
+comes_one apps (op.Pop (queue.Up k)) (answer.Popped i) own got =
     (subst (λ c. AllByRecursion (λ i. IsUpItem i × IsUntraced i) (if c then i ∷ [] else [])) (eq-eqb k k refl) (got k own)).0
-comes_one apps o (answer.Taken b) clear own got = clear
-comes_one apps _ _ clear own got = tt
+comes_one apps _ _ own got = tt
 
-pub comes_so : (apps : ℕ) (es : List Entry) → AllByRecursion (λ e. IsClearedIn e.answer) es → AllByRecursion (λ e. ServesOwn apps e.op) es
+pub comes_so : (apps : ℕ) (es : List Entry) → AllByRecursion (λ e. ServesOwn apps e.op) es
     → ((k : ℕ) → k < apps → AllByRecursion (λ i. IsUpItem i × IsUntraced i) (gets (queue.Up k) es)) → AllByRecursion (λ e. ComesSo e.op e.answer) es
-comes_so apps [] clear own got = tt
-comes_so apps (e ∷ es) clear own got =
+comes_so apps [] own got = tt
+comes_so apps (e ∷ es) own got =
     let U : ItemShown → Type 0 = λ i. IsUpItem i × IsUntraced i in (
-      comes_one apps e.op e.answer clear.0 own.0 (λ k low. each_first U (got_by (queue.Up k) e.op e.answer) (gets (queue.Up k) es) (got k low)),
-      comes_so apps es clear.1 own.1 (λ k low. each_last U (got_by (queue.Up k) e.op e.answer) (gets (queue.Up k) es) (got k low)),
+      comes_one apps e.op e.answer own.0 (λ k low. each_first U (got_by (queue.Up k) e.op e.answer) (gets (queue.Up k) es) (got k low)),
+      comes_so apps es own.1 (λ k low. each_last U (got_by (queue.Up k) e.op e.answer) (gets (queue.Up k) es) (got k low)),
     )
 
 -- ---- what a router puts

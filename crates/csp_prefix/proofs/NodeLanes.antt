@@ -15,11 +15,12 @@ use Rattle.csp_scene.specs.Ranges.{IsApp, IsNode, IsScene}
 use Rattle.csp_scene.specs.Scene.{PlainLink, PlainNode, PlainScene}
 use Rattle.csp_stack.specs.Router.{Router}
 use Rattle.csp_prefix.specs.Apps.{IsTrueApp}
-use Rattle.csp_consistent.specs.Lanes.{AreInOrder, IsInOrder, PlainLane, app_lanes, hub_of, lanes_from, lanes_of, lanes_within, link_lanes, out_lane}
-use Rattle.csp_consistent.specs.Parties.{config_of, parties_of, party_steps, router_for}
+use Rattle.csp_consistent.specs.Lanes.{AreInOrder, IsInOrder}
+use Rattle.csp_topology.specs.Lanes.{PlainLane, app_lanes, hub_of, lanes_from, lanes_of, lanes_within, link_lanes, out_lane}
+use Rattle.csp_topology.specs.Parties.{config_of, parties_of, party_steps, router_for}
 use Rattle.csp_consistent.specs.Reading.{entries_of, gets, puts}
 use Rattle.csp_prefix.specs.Routers.{IsRouterLog, IsUntraced, opening_router, router_steps}
-use Rattle.csp_consistent.specs.Runs.{AreLogsOf, IsClearedIn}
+use Rattle.csp_consistent.specs.Runs.{AreLogsOf}
 use Rattle.csp_consistent.proofs.Across.{through}
 use Rattle.csp_prefix.proofs.AppItems.{puts_up_items}
 use Rattle.csp_prefix.proofs.AppTurns.{true_apps}
@@ -84,9 +85,6 @@ owner_of scene r w l = subst (λ v. IsOwner scene.nodes scene.links v l.opening.
 pub run_of : (scene : PlainScene) (r : PlainRecord) (w : Who) (p : PlainParty) (l : Logged (IsOf scene) w r.parties) → l.opening.party ≡ p → IsRun party_steps 0 p (entries_of r w)
 run_of scene r w p l is = subst (λ es. IsRun party_steps 0 p es) (sym l.entries) (subst (λ q. IsRun party_steps 0 q l.log.entries) is l.logged.run)
 
-pub cleared_of : (scene : PlainScene) (r : PlainRecord) (w : Who) (l : Logged (IsOf scene) w r.parties) → AllByRecursion (λ e. IsClearedIn e.answer) (entries_of r w)
-cleared_of scene r w l = subst (AllByRecursion (λ (e : Entry). IsClearedIn e.answer)) (sym l.entries) l.logged.cleared
-
 same_node : (scene : PlainScene) (place : ℕ) (n m : PlainNode) → slice_get scene.nodes place ≡ Some n → slice_get scene.nodes place ≡ Some m → n ≡ m
 same_node scene place n m one other = ap (λ o. unwrap_or o n) (sym one ∙ other)
 
@@ -104,10 +102,8 @@ app_true scene r place number are =
     told (inl none) = subst (IsTrueApp number) (sym none) (empty_true number)
     told (inr l) =
         let at : IsAppAt scene.nodes place number l.opening.party = owner_of scene r (who.App place number) l in
-        true_apps number at.app.steps (entries_of r (who.App place number)) (record {
-          run = app_run (entries_of r (who.App place number)) 0 (plain_app.opening number at.app.steps) (run_of scene r (who.App place number) (an_app (plain_app.opening number at.app.steps)) l at.party);
-          cleared = cleared_of scene r (who.App place number) l;
-        })
+        true_apps number at.app.steps (entries_of r (who.App place number))
+        (app_run (entries_of r (who.App place number)) 0 (plain_app.opening number at.app.steps) (run_of scene r (who.App place number) (an_app (plain_app.opening number at.app.steps)) l at.party))
 
 -- what an application of a node put into its `Up` is what an `Up` carries
 app_items : (scene : PlainScene) (r : PlainRecord) (place number : ℕ) → IsScene scene → AreLogsOf (parties_of scene) r.parties → AllByRecursion IsUpItem (puts (queue.Up number) (entries_of r (who.App place number)))
@@ -155,6 +151,6 @@ router_there scene r place is are order l =
       log = record {
         few = (each_at IsNode scene.nodes place at.node is.nodes at.there).few;
         run = run;
-        comes = comes_so (length at.node.apps) es (cleared_of scene r (who.Router place) l) (serves_own es 0 s run) ups;
+        comes = comes_so (length at.node.apps) es (serves_own es 0 s run) ups;
       };
     }

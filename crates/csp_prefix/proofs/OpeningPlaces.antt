@@ -10,7 +10,7 @@ use Rattle.csp_scene.specs.Links.{links_at, no_node, node_at}
 use Rattle.csp_scene.specs.Ranges.{IsScene}
 use Rattle.csp_scene.specs.Scene.{PlainNode, PlainScene}
 use Rattle.csp_consistent.specs.Consistent.{IsConsistent}
-use Rattle.csp_consistent.specs.Parties.{config_of}
+use Rattle.csp_topology.specs.Parties.{config_of}
 use Rattle.csp_consistent.specs.Reading.{entries_of}
 use Rattle.csp_consistent.proofs.Names.{Logged}
 use Rattle.csp_consistent.proofs.Owners.{IsOf}

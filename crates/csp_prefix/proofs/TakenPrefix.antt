@@ -18,7 +18,8 @@ use Rattle.csp_scene.specs.Scene.{PlainNode, PlainScene}
 use Rattle.csp_consistent.specs.Consistent.{IsConsistent}
 use Rattle.csp_prefix.specs.Delivered.{delivered}
 use Rattle.csp_prefix.specs.Items.{payloads_in}
-use Rattle.csp_consistent.specs.Lanes.{IsInOrder, app_lanes, hub_of}
+use Rattle.csp_consistent.specs.Lanes.{IsInOrder}
+use Rattle.csp_topology.specs.Lanes.{app_lanes, hub_of}
 use Rattle.csp_prefix.specs.Prefix.{IsBeginning, IsOfFlow, IsOpened, IsReliablePrefix, sent_on, took_on}
 use Rattle.csp_consistent.specs.Reading.{entries_of, gets, left_in, puts}
 use Rattle.csp_prefix.specs.Routers.{AreTrueRouters, HasNoStale}

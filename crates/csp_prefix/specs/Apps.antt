@@ -12,21 +12,20 @@ use Rattle.csp_record.specs.Payloads.{took}
 use Rattle.csp_prefix.specs.Items.{payloads_in}
 use Rattle.csp_consistent.specs.Reading.{gets, puts}
 use Rattle.csp_prefix.specs.Routers.{IsUntraced}
-use Rattle.csp_consistent.specs.Runs.{IsClearedIn}
 
 -- an application's step
 abbrev pub app_steps : Steps PlainApp
 app_steps = record { has_ended = has_ended; asks = asks; asked = asked; tells = tells; events = events }
 
--- the log of an application with this number and script: a run of its turns from its opening, in which each buffer that it took was cleared
-pub record IsAppLog (number : ℕ) (steps : List Step) (es : List Entry) : Type 0 where
-  pub run : IsRun app_steps 0 (opening number steps) es
-  pub cleared : AllByRecursion (λ e. IsClearedIn e.answer) es
+-- the log of an application with this number and script: a run of its turns from its opening
+abbrev pub IsAppLog : ℕ → List Step → List Entry → Type 0
+IsAppLog number steps es = IsRun app_steps 0 (opening number steps) es
 
 -- its packets have no trace; and it took the payloads of what it got
 pub record IsTrueApp (number : ℕ) (es : List Entry) : Type 0 where
   pub untraced : AllByRecursion IsUntraced (puts (queue.Up number) es)
   pub takes : (slot ordinal : ℕ) → took number slot ordinal es ≡ payloads_in slot ordinal (gets (queue.Down number) es)
 
+-- the claim of applications: each log of one is true
 abbrev pub AreTrueApps : Type 0
 AreTrueApps = (number : ℕ) (steps : List Step) (es : List Entry) → IsAppLog number steps es → IsTrueApp number es

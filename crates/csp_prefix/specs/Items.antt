@@ -15,9 +15,11 @@ abbrev pub ends_by : ℕ → ℕ → ItemShown → ℕ
 ends_by slot ends (item.Note (note.Closed freed)) = (if slot == freed then ends + 1 else ends)
 ends_by slot ends _ = ends
 
+-- the payloads of a slot and an ordinal among items, after so many ends of the slot
 abbrev pub payloads_from : ℕ → ℕ → ℕ → List ItemShown → List (List ℕ)
 payloads_from slot ordinal ends [] = []
 payloads_from slot ordinal ends (i ∷ is) = payload_by slot ordinal ends i ++ payloads_from slot ordinal (ends_by slot ends i) is
 
+-- the payloads of a slot and an ordinal among items
 abbrev pub payloads_in : ℕ → ℕ → List ItemShown → List (List ℕ)
 payloads_in slot ordinal is = payloads_from slot ordinal 0 is

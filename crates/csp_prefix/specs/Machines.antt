@@ -24,10 +24,12 @@ pub record IsFed (flows : Flows) (r : PlainRdp) (h : RdpHead) (tag : Option Tag)
   pub genuine : (t : Tag) → tag ≡ Some t → IsTrueOf flows t h bytes
   pub peer : (flow : ℕ × ℕ) → r.peer ≡ Some flow → (t : Tag) × (tag ≡ Some t) × (flow_of t ≡ flow) × (is_far t.index r.recv.cur ≡ false)
 
+-- a packet that opens a connection shows the start of the flow in its tag
 abbrev pub IsInvited : Flows → RdpHead → Option Tag → Type 0
 IsInvited flows h tag = (t : Tag) → tag ≡ Some t → h.seq.0 ≡ flows.start (flow_of t)
 
 -- ---- numbers of a connection that is open or to be opened: its own start, and the place at which it was made
+-- a machine has its own number, with the start and the slot that belong to it
 pub record IsNumbered (o : Origin) (m : Numbering) (app slot : ℕ) (n : Now) : Type 0 where
   pub node : n.machine.node ≡ o.node
   pub start : n.machine.send.start ≡ start_of o.seed n.machine.nth
@@ -73,6 +75,7 @@ SendsIn Open o m app slot n = IsNumbered o m app slot n × WasOpened m app slot 
 SendsIn CloseWait o m app slot n = IsOver m app slot n
 SendsIn Closed o m app slot n = IsOver m app slot n
 
+-- what is known of a reliable connection as a sender
 abbrev pub IsSender : Origin → Numbering → ℕ → ℕ → Now → Type 0
 IsSender o m app slot n = SendsIn n.machine.state o m app slot n
 
@@ -87,6 +90,7 @@ pub record SaysTrue (o : Origin) (m : Numbering) (app slot : ℕ) (n : Now) (tim
       × IsSaid n.book.sent (says j time n.machine).index (says j time n.machine).bytes
       × WasOpened m app slot n
 
+-- what a connection makes while that is known is filled as it says
 abbrev pub MakesTrue : (Numbering → ℕ → ℕ → Now → Type 0) → Origin → Type 0
 MakesTrue Is o = (m : Numbering) (app slot : ℕ) (n : Now) (time : ℕ) (j : Job) → Is m app slot n → job_of time n.machine ≡ Some j → SaysTrue o m app slot n time j
 
@@ -116,6 +120,7 @@ pub record IsReceiving (flows : Flows) (n : Now) (flow : ℕ × ℕ) : Type 0 wh
 abbrev pub IsToldSo : Now → Type 0
 IsToldSo n = (n.machine.was_open ≡ true → n.book.opened ≡ Some (Some n.machine.nth, n.machine.peer)) × (n.machine.was_open ≡ false → IsUntold n)
 
+-- what was delivered is a beginning of what the peer's flow said
 abbrev pub HasDelivered : Flows → Now → Type 0
 HasDelivered flows n = (flow : ℕ × ℕ) → n.machine.peer ≡ Some flow → IsBeginning n.book.down (flows.said flow)
 
@@ -127,6 +132,7 @@ ReceivesIn Open flows n = IsToldSo n × (n.machine.was_open ≡ true) × HasPeer
 ReceivesIn CloseWait flows n = IsToldSo n × (n.machine.was_open ≡ true → HasDelivered flows n)
 ReceivesIn Closed flows n = IsToldSo n × (n.machine.was_open ≡ true → HasDelivered flows n)
 
+-- what is known of a reliable connection as a receiver
 abbrev pub IsReceiver : Flows → Numbering → ℕ → ℕ → Now → Type 0
 IsReceiver flows m app slot n = ReceivesIn n.machine.state flows n
 

@@ -47,6 +47,7 @@ use Rattle.csp_prefix.specs.Slots.{Book, GoesOn, Now, Numbering, blank}
 abbrev pub Books : Type 0
 Books = ℕ → ℕ → Book
 
+-- the ordinal of each slot's connection
 abbrev pub Ordinals : Type 0
 Ordinals = ℕ → ℕ → ℕ
 
@@ -54,6 +55,7 @@ Ordinals = ℕ → ℕ → ℕ
 abbrev pub with_book : ℕ → ℕ → Book → Books → Books
 with_book app slot b books = λ a s. if a == app && s == slot then b else books a s
 
+-- with another ordinal of one slot
 abbrev pub with_ordinal : ℕ → ℕ → ℕ → Ordinals → Ordinals
 with_ordinal app slot ordinal ordinals = λ a s. if a == app && s == slot then ordinal else ordinals a s
 
@@ -61,9 +63,11 @@ with_ordinal app slot ordinal ordinals = λ a s. if a == app && s == slot then o
 abbrev pub with_opened : ℕ → ℕ → Option ℕ × Option (ℕ × ℕ) → Books → Books
 with_opened app slot how books = with_book app slot (record (books app slot) { opened = Some how }) books
 
+-- the books with one more payload sent on a slot
 abbrev pub with_sent : ℕ → ℕ → List ℕ → Books → Books
 with_sent app slot payload books = with_book app slot (record (books app slot) { sent = (books app slot).sent ++ payload ∷ [] }) books
 
+-- the books with one more payload delivered on a slot
 abbrev pub with_down : ℕ → ℕ → List ℕ → Books → Books
 with_down app slot payload books = with_book app slot (record (books app slot) { down = (books app slot).down ++ payload ∷ [] }) books
 
@@ -72,6 +76,7 @@ abbrev pub noted_by : Event → Books → Books
 noted_by (event.Opened app slot nth peer) books = with_opened app slot (nth, peer) books
 noted_by _ books = books
 
+-- the books after these events
 abbrev pub noted : List Event → Books → Books
 noted [] books = books
 noted (e ∷ es) books = noted es (noted_by e books)
@@ -82,6 +87,7 @@ IsNew apps (event.Opened app slot nth peer) books = (app < apps) × (slot < SLOT
 IsNew apps (event.Sent slot ordinal) books = ⊥
 IsNew apps _ books = ⊤
 
+-- each of these events is new to the books at its time
 abbrev pub AreNew : ℕ → List Event → Books → Type 0
 AreNew apps [] books = ⊤
 AreNew apps (e ∷ es) books = IsNew apps e books × AreNew apps es (noted_by e books)
@@ -114,6 +120,7 @@ abbrev pub IsInUse : (Numbering → ℕ → ℕ → Now → Type 0) → (are_rel
 IsInUse Is true m app slot n = Is m app slot n
 IsInUse Is false m app slot n = IsPlain n
 
+-- what is known of a slot: vacant, or with a machine of which that is known
 abbrev pub IsSlot : (Numbering → ℕ → ℕ → Now → Type 0) → Slot → Terms → Numbering → ℕ → ℕ → Now → Type 0
 IsSlot Is has.Free t m app slot n = IsVacant n × (t.wish ≡ wish.Nothing)
 IsSlot Is has.Held t m app slot n = IsVacant n
@@ -124,6 +131,7 @@ abbrev pub is_end : ℕ → Note → Bool
 is_end slot (note.Closed s) = s == slot
 is_end slot _ = false
 
+-- an answer owed to an application is the end of this slot
 abbrev pub is_end_of : ℕ → ℕ → Owed → Bool
 is_end_of app slot o = o.app == app && is_end slot o.note
 
@@ -179,10 +187,12 @@ abbrev pub ordinals_after : ℕ → Note → Ordinals → Ordinals
 ordinals_after app (note.Closed slot) ordinals = with_ordinal app slot (ordinals app slot + 1) ordinals
 ordinals_after app _ ordinals = ordinals
 
+-- the books once a note was pushed: those of a closed slot are blank
 abbrev pub books_after : ℕ → Note → Books → Books
 books_after app (note.Closed slot) books = with_book app slot blank books
 books_after app _ books = books
 
+-- what an owed answer leaves good, once it is pushed
 pub record Answers (Is : Numbering → ℕ → ℕ → Now → Type 0) (m : Numbering) (ordinals : Ordinals) (books : Books) (apps : ℕ) (o : Owed) (c : Came) : Type 0 where
   pub same : c.ports.conns.apps ≡ apps
   pub quiet : c.events ≡ []
@@ -190,6 +200,7 @@ pub record Answers (Is : Numbering → ℕ → ℕ → Now → Type 0) (m : Numb
 
 -- ---- every step of the ports keeps it
 
+-- each step of a node's ports keeps what is known of its machines
 pub record ArePortsKept (o : Origin) (Fed : PlainRdp → RdpHead → Option Tag → List ℕ → Type 0) (Invites : RdpHead → Option Tag → Type 0)
     (Is : Numbering → ℕ → ℕ → Now → Type 0) : Type 0 where
   pub opens : (apps : ℕ) (home : ℕ → ℕ × ℕ × ℕ) → apps ≤ MAX_APPS → AreGood Is (record { made = 0; home = home }) (λ _ _. 0) (λ _ _. blank) (ports_of apps)

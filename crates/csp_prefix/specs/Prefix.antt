@@ -21,9 +21,11 @@ pub record IsOpened (r : PlainRecord) (node app : ℕ) (x : Opening) : Type 0 wh
 abbrev pub IsOfFlow : PlainRecord → ℕ × ℕ → ℕ → Opening → Type 0
 IsOfFlow r flow app x = IsOpened r flow.0 app x × (x.nth ≡ Some flow.1)
 
+-- what was taken on an opened connection, by its application's log
 abbrev pub took_on : PlainRecord → ℕ → ℕ → Opening → List (List ℕ)
 took_on r node app x = took app x.slot x.ordinal (entries_of r (who.App node app))
 
+-- what was sent on it, by its router's log
 abbrev pub sent_on : PlainRecord → ℕ → ℕ → Opening → List (List ℕ)
 sent_on r node app x = sent app x.slot x.ordinal (entries_of r (who.Router node))
 
@@ -33,5 +35,6 @@ pub record HasPeersPrefix (r : PlainRecord) (node app : ℕ) (x : Opening) (peer
   pub prefix : (other : ℕ) (y : Opening) → IsOfFlow r peer other y → IsBeginning (took_on r node app x) (sent_on r peer.0 other y)
   pub never : ((other : ℕ) (y : Opening) → IsOfFlow r peer other y → ⊥) → took_on r node app x ≡ []
 
+-- what was taken on each reliable connection with a peer is a beginning of what its peer sent
 abbrev pub IsReliablePrefix : PlainRecord → Type 0
 IsReliablePrefix r = (node app nth : ℕ) (x : Opening) (peer : ℕ × ℕ) → IsOpened r node app x → x.nth ≡ Some nth → x.peer ≡ Some peer → HasPeersPrefix r node app x peer

@@ -28,7 +28,6 @@ use Rattle.csp_prefix.specs.Delivered.{delivered}
 use Rattle.csp_prefix.specs.Flows.{Flows, IsGenuine}
 use Rattle.csp_prefix.specs.Prefix.{IsBeginning}
 use Rattle.csp_consistent.specs.Reading.{gets}
-use Rattle.csp_consistent.specs.Runs.{IsClearedIn}
 
 -- a router's step
 abbrev pub router_steps : Steps Router
@@ -44,9 +43,9 @@ IsUntraced (item.Packet mark b) = b.trace ≡ no_trace
 IsUntraced (item.Frame _) = ⊤
 IsUntraced (item.Note _) = ⊤
 
+-- what applications push has no trace, and what the pool gives is cleared
 abbrev pub ComesSo : OpShown → AnswerShown → Type 0
 ComesSo (op.Pop (queue.Up k)) (answer.Popped i) = IsUpItem i × IsUntraced i
-ComesSo _ (answer.Taken b) = IsClearedIn (answer.Taken b)
 ComesSo _ _ = ⊤
 
 -- a log of a router of a node that has no more applications than a node may have: a run of its turns from its opening, to which such
@@ -97,6 +96,7 @@ IsGenuineItem flows (item.Packet mark b) = IsGenuine flows b
 IsGenuineItem flows (item.Frame _) = ⊤
 IsGenuineItem flows (item.Note _) = ⊤
 
+-- all that came from the inbox is genuine
 abbrev pub HearsGenuine : Flows → List Entry → Type 0
 HearsGenuine flows es = AllByRecursion (IsGenuineItem flows) (gets queue.Inbox es)
 
@@ -116,5 +116,6 @@ pub record IsTrueRouter (f : Facts) (es : List Entry) : Type 0 where
   pub sends : (flows : Flows) → AreShown f es flows → SendsGenuine flows es
   pub delivers : (flows : Flows) → AreShown f es flows → HearsGenuine flows es → HasNoStale es → DeliversPrefix flows es
 
+-- the claim of routers: each log of one is true
 abbrev pub AreTrueRouters : Type 0
 AreTrueRouters = (f : Facts) (routes : Routes) (es : List Entry) → IsRouterLog f routes es → IsTrueRouter f es

@@ -24,6 +24,7 @@ pub record Book : Type 0 where
   pub sent : List (List ℕ)
   pub down : List (List ℕ)
 
+-- a slot's book before anything was opened, sent or delivered
 abbrev pub blank : Book
 blank = record { opened = None; sent = []; down = [] }
 
@@ -34,18 +35,23 @@ pub record Now : Type 0 where
   pub waits : Option (List ℕ)
   pub book : Book
 
+-- with another machine
 abbrev pub with_machine : PlainRdp → Now → Now
 with_machine r n = record n { machine = r }
 
+-- with this payload waiting for room, or none
 abbrev pub waiting_for : Option (List ℕ) → Now → Now
 waiting_for payload n = record n { waits = payload }
 
+-- once the connection is open: its number and its peer are in the book
 abbrev pub after_opening : Now → Now
 after_opening n = record n { book = record n.book { opened = Some (Some n.machine.nth, n.machine.peer) } }
 
+-- once this payload was sent
 abbrev pub after_sending : List ℕ → Now → Now
 after_sending payload n = record n { book = record n.book { sent = n.book.sent ++ payload ∷ [] } }
 
+-- once this payload was delivered
 abbrev pub after_delivering : List ℕ → Now → Now
 after_delivering payload n = record n { book = record n.book { down = n.book.down ++ payload ∷ [] } }
 

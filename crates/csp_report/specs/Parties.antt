@@ -21,6 +21,7 @@ is_at _ _ = false
 abbrev pub is_router : ℕ → Who → Bool
 is_router place w = is_at (seat.Router place) w
 
+-- a party is this application of this node
 abbrev pub is_app : ℕ → ℕ → Who → Bool
 is_app place number w = is_at (seat.App place number) w
 

@@ -51,6 +51,7 @@ abbrev pub router_words : PlainRecord → ℕ → List ℕ → Option ℕ → Li
 router_words record' place name (Some addr) = codes "router" ∷ name ∷ discard_words (events_at record'.parties (seat.Router place)) all_discards
 router_words record' place name None = codes "relay" ∷ name ∷ discard_words (events_at record'.parties (seat.Bridge place)) (discard.Full ∷ [])
 
+-- the line of a router or a bridge
 abbrev pub router_line : PlainRecord → ℕ → PlainNode → Line
 router_line record' place node = router_words record' place node.name node.addr
 

@@ -26,6 +26,7 @@ pub record IsNumbered (x : Opening) : Type 0 where
   pub own : IfSome x.nth (λ nth. nth < 2 ^ 64)
   pub peers : IfSome x.peer (λ flow. flow.1 < 2 ^ 64)
 
+-- each connection that is shown has numbers of at most 64 bits
 abbrev pub AreNumbered : List PlainNode → List PlainPartyLog → Type 0
 AreNumbered nodes parties = (place number : ℕ) (x : Opening) → IsShown nodes parties place number x → IsNumbered x
 
@@ -33,6 +34,7 @@ AreNumbered nodes parties = (place number : ℕ) (x : Opening) → IsShown nodes
 abbrev pub sent_there : List PlainPartyLog → ℕ → ℕ → Opening → List (List ℕ)
 sent_there parties place number x = sent number x.slot x.ordinal (entries_at parties (seat.Router place))
 
+-- what was taken on a connection, by its application's log
 abbrev pub took_there : List PlainPartyLog → ℕ → ℕ → Opening → List (List ℕ)
 took_there parties place number x = took number x.slot x.ordinal (entries_at parties (seat.App place number))
 
@@ -50,7 +52,7 @@ pub record HasPeersFirst (nodes : List PlainNode) (parties : List PlainPartyLog)
   pub prefix : (other : ℕ) (y : Opening) → IsShownOf nodes parties flow other y → AreFirstOf (took_there parties place number x) (sent_there parties flow.0 other y)
   pub never : ((other : ℕ) (y : Opening) → IsShownOf nodes parties flow other y → ⊥) → took_there parties place number x ≡ []
 
--- so it is for each reliable connection with a peer
+-- each reliable connection with a peer that is shown took the first of what its peer sent
 abbrev pub HavePeersFirst : List PlainNode → List PlainPartyLog → Type 0
 HavePeersFirst nodes parties =
     (place number nth : ℕ) (x : Opening) (flow : ℕ × ℕ) → IsShown nodes parties place number x → x.nth ≡ Some nth → x.peer ≡ Some flow → HasPeersFirst nodes parties place number x flow

@@ -7,7 +7,6 @@ ghost use Rattle.std.specs.Fmt.{decimal};
 ghost use Rattle.std.specs.List.{flat_map, enumerate_from};
 ghost use Rattle.csp_log.specs.Moving.{moved_in};
 ghost use Rattle.csp_record.specs.Passed.{put_in};
-ghost use Rattle.csp_scene.specs.Links.{touches};
 ghost use Rattle.csp_report.specs.Lines.{ended_line, text_of};
 ghost use Rattle.csp_report.specs.Parties.{entries_at};
 ghost use Rattle.csp_report.specs.Ifaces.{weight, counted, count_word, iface_line};
@@ -165,16 +164,6 @@ fn push_iface(
     Ok(())
 }
 
-/// Whether a link touches the node at this place.
-fn touches(link: &SceneLink, place: usize) -> bool
-    ensures { result ≡ touches place link.now }
-{
-    link.ends
-        .as_slice()
-        .iter()
-        .any(|end| usize::from(end.node) == place)
-}
-
 /// Appends the lines of the interfaces of the node at this place, in the order of these links.
 fn push_node_ifaces(
     out: &mut String,
@@ -187,7 +176,7 @@ fn push_node_ifaces(
 {
     let mut number = 0;
     for link in links {
-        if touches(link, place) {
+        if link.touches(place) {
             push_iface(
                 out,
                 parties,

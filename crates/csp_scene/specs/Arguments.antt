@@ -12,6 +12,7 @@ use Rattle.csp_scene.specs.declared.table.Part.TheVariants as part
 abbrev pub word_at : List (List ℕ) → ℕ → List ℕ
 word_at args place = slice_index_or args place []
 
+-- the number that an argument writes
 abbrev pub number_at : List (List ℕ) → ℕ → ℕ
 number_at args place = number_of (word_at args place)
 
@@ -26,6 +27,7 @@ is_keyword keyword (part.Bytes least most) = false
 is_keyword keyword part.Moves = false
 is_keyword keyword part.Text = false
 
+-- the place of a fixed word in a shape, or the shape's length
 abbrev pub keyword_place : Keyword → List Part → ℕ
 keyword_place keyword shape = position_or_len (is_keyword keyword) shape
 
@@ -42,5 +44,6 @@ setting keyword shape args =
 abbrev pub spaced : List ℕ → List ℕ
 spaced word = 32 ∷ word
 
+-- the text of a line from an argument on, a space before each word
 abbrev pub text_from : List (List ℕ) → ℕ → List ℕ
 text_from args place = flat_map spaced (drop place args)

@@ -53,6 +53,7 @@ is_numbered (part.Bytes least most) word = has_bytes least most word
 is_numbered part.Moves word = true
 is_numbered part.Text word = true
 
+-- a word is such as its place asks, in this check
 abbrev pub passes : Check → Part → List ℕ → Bool
 passes check.Fixed part word = is_fixed part word
 passes check.Name part word = is_named part word
@@ -68,6 +69,7 @@ all_pass check (part ∷ parts) (word ∷ words) = passes check part word && all
 abbrev pub last_part : List Part → Part
 last_part shape = slice_index_or shape (length shape - 1) part.Name
 
+-- a place takes all words to the line's end
 abbrev pub is_tail : Part → Bool
 is_tail (part.Fixed keyword) = false
 is_tail (part.Either one other) = false

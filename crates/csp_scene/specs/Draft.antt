@@ -31,5 +31,6 @@ and_then (Err kind) next = Err kind
 abbrev pub with_node : PlainNode → PlainDraft → PlainDraft
 with_node node d = record d { nodes = d.nodes ++ node ∷ [] }
 
+-- with a link more
 abbrev pub with_link : PlainLink → PlainDraft → PlainDraft
 with_link link d = record d { links = d.links ++ link ∷ [] }

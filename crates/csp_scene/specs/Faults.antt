@@ -54,6 +54,7 @@ has_fault fault plan = list_any (λ other. is_same_fault other fault) plan
 abbrev pub no_link : PlainLink
 no_link = record { name = []; kind = carried.Kiss; ends = []; plan = [] }
 
+-- the link at a place
 abbrev pub link_at : List PlainLink → ℕ → PlainLink
 link_at links place = slice_index_or links place no_link
 
@@ -61,6 +62,7 @@ link_at links place = slice_index_or links place no_link
 abbrev pub with_fault : Fault → PlainLink → PlainLink
 with_fault fault link = record link { plan = link.plan ++ fault ∷ [] }
 
+-- with a fault more of the link at a place
 abbrev pub with_fault_at : ℕ → Fault → PlainDraft → PlainDraft
 with_fault_at place fault d = record d { links = slice_set d.links place (with_fault fault (link_at d.links place)) }
 
@@ -76,5 +78,6 @@ abbrev pub state_fault_at : PlainDraft → Fault → Option ℕ → Result Plain
 state_fault_at d fault None = Err kind.Unknown
 state_fault_at d fault (Some place) = and_then (may_add_fault d.links place fault) (λ _. Ok (with_fault_at place fault d))
 
+-- what a `fault` line adds
 abbrev pub state_fault : PlainDraft → List (List ℕ) → FaultKind → Result PlainDraft SceneKind
 state_fault d args what = state_fault_at d (planned args what) (link_named (word_at args 0) d.links)

@@ -35,7 +35,7 @@ end_at links place = record { node = place; iface = length (links_at place links
 abbrev pub new_link : List PlainLink → List ℕ → LinkKind → ℕ → ℕ → PlainLink
 new_link links word kind one other = record { name = word; kind = kind; ends = end_at links one ∷ end_at links other ∷ []; plan = [] }
 
--- a link's name is that of no node, bridge or other link, and of no application of the node
+-- an application of this node has this name
 abbrev pub has_app : List ℕ → PlainNode → Bool
 has_app word node = list_any (is_called word) node.apps
 
@@ -57,6 +57,7 @@ state_link_between d word carries (Some one) None = Err kind.Unknown
 state_link_between d word carries (Some one) (Some other) =
     and_then (may_add_link d word one other) (λ _. Ok (with_link (new_link d.links word carries one other) d))
 
+-- what a `link` line adds
 abbrev pub state_link : PlainDraft → List (List ℕ) → Result PlainDraft SceneKind
 state_link d args =
     state_link_between d (word_at args 0) (link_kind (word_at args 1)) (node_named (word_at args 2) d.nodes) (node_named (word_at args 3) d.nodes)
@@ -94,5 +95,6 @@ routed d place (Err error) = Err (kind_of error.kind)
 abbrev pub state_route_at : PlainDraft → List ℕ → Option ℕ → Result PlainDraft SceneKind
 state_route_at d text place = routed d place (parsed (known_ifaces d place) text)
 
+-- what a `route` line adds
 abbrev pub state_route : PlainDraft → List (List ℕ) → Result PlainDraft SceneKind
 state_route d args = state_route_at d (text_from args 1) (router_named (word_at args 0) d.nodes)

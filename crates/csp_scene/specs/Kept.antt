@@ -79,10 +79,12 @@ abbrev pub IsNamePart : Part → Type 0
 IsNamePart part.Name = ⊤
 IsNamePart _ = ⊥
 
+-- a place is a number's, of at most 32 bits
 abbrev pub IsNumberPart : Part → Type 0
 IsNumberPart (part.Number low high) = high < 2 ^ 32
 IsNumberPart _ = ⊥
 
+-- a number is in the range of its place
 abbrev pub IsInPart : Part → ℕ → Type 0
 IsInPart (part.Number low high) number = (low ≤ number) × (number ≤ high)
 IsInPart _ number = ⊤
@@ -93,6 +95,7 @@ range_in keyword [] = (0, 0)
 range_in keyword (group.Flag other ∷ groups) = range_in keyword groups
 range_in keyword (group.Setting other low high ∷ groups) = if bytes_eq (keyword_text other) (keyword_text keyword) then (low, high) else range_in keyword groups
 
+-- the range of the number after an optional word of a form
 abbrev pub range_of : Form → Keyword → ℕ × ℕ
 range_of form keyword = range_in keyword (optional_of form)
 
@@ -106,6 +109,7 @@ abbrev pub is_followed : Keyword → ℕ × ℕ → List Part → Bool
 is_followed keyword range shape =
     not (nat_lt (keyword_place keyword shape) (length shape)) || (nat_lt (keyword_place keyword shape + 1) (length shape) && is_number_part range (slice_index_or shape (keyword_place keyword shape + 1) part.Text))
 
+-- in each shape of a form that has this optional word, its number stands after it
 abbrev pub has_setting : Form → Keyword → Bool
 has_setting form keyword = list_all (is_followed keyword (range_of form keyword)) (shapes_of form)
 

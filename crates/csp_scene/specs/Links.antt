@@ -17,6 +17,7 @@ links_at place links = filter (touches place) links
 abbrev pub no_node : PlainNode
 no_node = record { name = []; addr = None; buffers = 0; seed = 0; inbox = 0; options = usual_options; routes = finite.empty; apps = [] }
 
+-- the node at a place
 abbrev pub node_at : List PlainNode → ℕ → PlainNode
 node_at nodes place = slice_index_or nodes place no_node
 

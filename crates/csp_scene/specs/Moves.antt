@@ -13,6 +13,7 @@ use Rattle.csp_scene.specs.Naming.{node_named, link_named, iface_named, app_name
 abbrev pub dot_place : List ℕ → ℕ
 dot_place word = position_or_len (λ byte. byte == 46) word
 
+-- a step word has a dot
 abbrev pub has_dot : List ℕ → Bool
 has_dot word = nat_lt (dot_place word) (length word)
 
@@ -20,6 +21,7 @@ has_dot word = nat_lt (dot_place word) (length word)
 abbrev pub owner_of : List ℕ → List ℕ
 owner_of word = take (dot_place word) word
 
+-- what stands behind the first dot of a step word
 abbrev pub owned_of : List ℕ → List ℕ
 owned_of word = drop (dot_place word + 1) word
 

@@ -9,9 +9,11 @@ use Rattle.csp_scene.specs.Links.{links_at}
 abbrev pub has_name : List ℕ → PlainNode → Bool
 has_name word node = bytes_eq node.name word
 
+-- a link has this name
 abbrev pub is_link_called : List ℕ → PlainLink → Bool
 is_link_called word link = bytes_eq link.name word
 
+-- an application has this name
 abbrev pub is_called : List ℕ → PlainApp → Bool
 is_called word app = bytes_eq app.name word
 
@@ -23,12 +25,15 @@ is_router word node = has_name word node && is_some node.addr
 abbrev pub node_named : List ℕ → List PlainNode → Option ℕ
 node_named word nodes = position (has_name word) nodes
 
+-- the place of the node, and not bridge, of this name
 abbrev pub router_named : List ℕ → List PlainNode → Option ℕ
 router_named word nodes = position (is_router word) nodes
 
+-- the number of the link of this name
 abbrev pub link_named : List ℕ → List PlainLink → Option ℕ
 link_named word links = position (is_link_called word) links
 
+-- the number of the application of this name
 abbrev pub app_named : List ℕ → List PlainApp → Option ℕ
 app_named word apps = position (is_called word) apps
 
@@ -36,6 +41,7 @@ app_named word apps = position (is_called word) apps
 abbrev pub iface_names : ℕ → List PlainLink → List (List ℕ)
 iface_names place links = map (λ link. link.name) (links_at place links)
 
+-- the number of a node's interface on the link of this name
 abbrev pub iface_named : List ℕ → ℕ → List PlainLink → Option ℕ
 iface_named word place links = position (λ name. bytes_eq name word) (iface_names place links)
 
@@ -48,6 +54,7 @@ abbrev pub has_addr : ℕ → Option ℕ → Bool
 has_addr addr None = false
 has_addr addr (Some other) = other == addr
 
+-- some node has this address
 abbrev pub is_addr_taken : Option ℕ → List PlainNode → Bool
 is_addr_taken None nodes = false
 is_addr_taken (Some addr) nodes = list_any (λ node. has_addr addr node.addr) nodes

@@ -72,6 +72,7 @@ may_add_app apps links word =
 abbrev pub with_app : PlainApp → PlainNode → PlainNode
 with_app app node = record node { apps = node.apps ++ app ∷ [] }
 
+-- with an application more of the node at a place, whose steps may follow
 abbrev pub with_app_at : ℕ → PlainApp → PlainDraft → PlainDraft
 with_app_at place app d = record d { nodes = slice_set d.nodes place (with_app app (node_at d.nodes place)); host = Some place }
 
@@ -80,6 +81,7 @@ abbrev pub state_app_at : PlainDraft → List ℕ → Option ℕ → Result Plai
 state_app_at d word None = Err kind.Unknown
 state_app_at d word (Some place) = and_then (may_add_app (node_at d.nodes place).apps d.links word) (λ _. Ok (with_app_at place (new_app word) d))
 
+-- what an `app` line adds
 abbrev pub state_app : PlainDraft → List (List ℕ) → Result PlainDraft SceneKind
 state_app d args = state_app_at d (word_at args 1) (router_named (word_at args 0) d.nodes)
 
@@ -91,9 +93,11 @@ last_app node = slice_index_or node.apps (length node.apps - 1) (new_app [])
 abbrev pub with_step : Step → PlainApp → PlainApp
 with_step step app = record app { steps = app.steps ++ step ∷ [] }
 
+-- a node with a step more of its last application
 abbrev pub with_last_step : Step → PlainNode → PlainNode
 with_last_step step node = record node { apps = slice_set node.apps (length node.apps - 1) (with_step step (last_app node)) }
 
+-- with a step more of the last application of the node at a place
 abbrev pub with_step_at : ℕ → Step → PlainDraft → PlainDraft
 with_step_at place step d = record d { nodes = slice_set d.nodes place (with_last_step step (node_at d.nodes place)) }
 
@@ -104,5 +108,6 @@ state_step_at d step (Some place) =
     demand (nat_lt (length (last_app (node_at d.nodes place)).steps) MAX_STEPS) kind.Full
     (Ok (with_step_at place step d))
 
+-- what a step line adds
 abbrev pub state_step : PlainDraft → Step → Result PlainDraft SceneKind
 state_step d step = state_step_at d step d.host

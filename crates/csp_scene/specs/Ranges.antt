@@ -30,6 +30,7 @@ IsWait rounds = (1 ≤ rounds) × (rounds ≤ MAX_ROUNDS)
 abbrev pub AreFlags : ℕ → Type 0
 AreFlags flags = flags ≤ CRC_FLAG + RDP_FLAG
 
+-- a port is one of those that connections are given
 abbrev pub IsOwnPort : ℕ → Type 0
 IsOwnPort port = (FIRST_OWN_PORT ≤ port) × (port ≤ MAX_PORT)
 

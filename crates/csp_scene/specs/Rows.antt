@@ -13,6 +13,7 @@ pub record PlainRow : Type 0 where
   pub form : Form
   pub shape : List Part
 
+-- the row of a form and one of its shapes
 abbrev pub row_of : Form → List Part → PlainRow
 row_of form shape = record { form = form; shape = shape }
 

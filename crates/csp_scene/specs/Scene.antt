@@ -40,6 +40,7 @@ pub data PlainSchedule : Type 0 where
   shuffled : ℕ → PlainSchedule
   stepwise : List Move → PlainSchedule
 
+-- a schedule as contracts see it
 abbrev pub plain_schedule : Schedule → PlainSchedule
 plain_schedule schedule.Rounds = in_rounds
 plain_schedule (schedule.Shuffle seed) = shuffled seed

@@ -19,6 +19,7 @@ add_moves d moves (Some in_rounds) = Err kind.Twice
 add_moves d moves (Some (shuffled seed)) = Err kind.Twice
 add_moves d moves (Some (stepwise earlier)) = Ok (record d { schedule = Some (stepwise (earlier ++ moves)) })
 
+-- what a `schedule steps` line adds: each word must name a move
 abbrev pub state_moves : PlainDraft → List (List ℕ) → Result PlainDraft SceneKind
 state_moves d words =
     demand (list_all (λ word. is_some (move_of d.nodes d.links word)) words) kind.Unknown

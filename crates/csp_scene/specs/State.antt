@@ -20,7 +20,7 @@ use Rattle.csp_scene.specs.Joining.{state_link, state_route}
 use Rattle.csp_scene.specs.Faults.{state_fault}
 use Rattle.csp_scene.specs.Schedule.{state_schedule, state_moves}
 
--- what a line of a form and of one of its shapes adds, judged against the lines before it: Unknown, then Twice, then Full
+-- what a line of a form and of one of its shapes adds, judged against the lines before it: Unknown, then Twice, then Full; the text of a `route` line may besides be Number, as its rows come
 abbrev pub state : Form → List Part → PlainDraft → List (List ℕ) → Result PlainDraft SceneKind
 state form.Until shape d args = state_until d args
 state form.Rounds shape d args = state_schedule d in_rounds
@@ -51,6 +51,7 @@ state form.Wait shape d args = state_step d (wait_step args)
 abbrev pub is_joined : List PlainLink → ℕ → PlainNode → Bool
 is_joined links place node = is_some node.addr || length (links_at place links) == BRIDGE_LINKS
 
+-- each of these nodes, from this place on, has the links that it must have
 abbrev pub are_joined : List PlainLink → ℕ → List PlainNode → Bool
 are_joined links place [] = true
 are_joined links place (node ∷ nodes) = is_joined links place node && are_joined links (place + 1) nodes
@@ -62,5 +63,6 @@ finish_with d (Some until) =
     demand (are_joined d.links 0 d.nodes) kind.Missing
     (Ok (record { until = until; schedule = unwrap_or d.schedule in_rounds; nodes = d.nodes; links = d.links }))
 
+-- the scene once all lines are read: `until` must be there, and each bridge's two links
 abbrev pub finish : PlainDraft → Result PlainScene SceneKind
 finish d = finish_with d d.until

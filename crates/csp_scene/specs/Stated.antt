@@ -12,6 +12,7 @@ use Rattle.csp_scene.specs.Faults.{harm_of, has_fault}
 abbrev pub stated_of : Fault → Stated
 stated_of fault = record { frame = fault.frame; dir = fault.dir; harm = harm_of fault.kind }
 
+-- the order in which faults are kept: by frame, then direction, then kind
 abbrev pub stated_cmp : Stated → Stated → Ordering
 stated_cmp one other = ordering_then (nat_cmp one.frame other.frame) (ordering_then (nat_cmp one.dir other.dir) (ghosts.cmp one.harm other.harm))
 

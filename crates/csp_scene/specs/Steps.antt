@@ -23,6 +23,7 @@ flags_of shape = flag_of keyword.Crc CRC_FLAG shape + flag_of keyword.Rdp RDP_FL
 abbrev pub bind_step : List Part → List (List ℕ) → Step
 bind_step shape args = step.Bind (number_at args 0) (flags_of shape)
 
+-- the step of a `connect` line
 abbrev pub connect_step : List Part → List (List ℕ) → Step
 connect_step shape args =
     step.Connect (number_at args 0) (number_at args 1) (number_at args 2) (prio_of (unwrap_or (setting keyword.Prio shape args) DEFAULT_PRIO)) (flags_of shape) (setting keyword.From shape args)
@@ -31,9 +32,11 @@ connect_step shape args =
 abbrev pub send_step : List (List ℕ) → Step
 send_step args = step.Send (number_at args 0) (record { items = bytes_of (word_at args 1) })
 
+-- the step of a `burst` line
 abbrev pub burst_step : List (List ℕ) → Step
 burst_step args = step.Burst (number_at args 0) (number_at args 1) (number_at args 2)
 
+-- the step of a `close` line
 abbrev pub close_step : List (List ℕ) → Step
 close_step args = step.Close (number_at args 0)
 
@@ -41,8 +44,10 @@ close_step args = step.Close (number_at args 0)
 abbrev pub raw_step : List (List ℕ) → Step
 raw_step args = step.Raw (hex_number (word_at args 0)) (record { items = bytes_of (word_at args 1) })
 
+-- the step of a `recv` line
 abbrev pub recv_step : List Part → List (List ℕ) → Step
 recv_step shape args = step.Recv (number_at args 0) (number_at args 1) (setting keyword.For shape args)
 
+-- the step of a `wait` line
 abbrev pub wait_step : List (List ℕ) → Step
 wait_step args = step.Wait (number_at args 0)

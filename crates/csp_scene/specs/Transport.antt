@@ -29,6 +29,7 @@ is_tuned d place = list_any (λ other. other == place) d.tuned
 abbrev pub with_rdp : Options → PlainNode → PlainNode
 with_rdp options node = record node { options = options }
 
+-- with these options of the node at a place, which has had its `rdp` line
 abbrev pub with_rdp_at : ℕ → Options → PlainDraft → PlainDraft
 with_rdp_at place options d = record d { nodes = slice_set d.nodes place (with_rdp options (node_at d.nodes place)); tuned = d.tuned ++ place ∷ [] }
 
@@ -37,5 +38,6 @@ abbrev pub state_rdp_at : PlainDraft → Options → Option ℕ → Result Plain
 state_rdp_at d options None = Err kind.Unknown
 state_rdp_at d options (Some place) = demand (not (is_tuned d place)) kind.Twice (Ok (with_rdp_at place options d))
 
+-- what an `rdp` line adds
 abbrev pub state_rdp : PlainDraft → List (List ℕ) → Result PlainDraft SceneKind
 state_rdp d args = state_rdp_at d (given_options args) (router_named (word_at args 0) d.nodes)

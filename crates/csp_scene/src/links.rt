@@ -77,10 +77,7 @@ impl LinkDraft {
     pub(crate) fn touches(&self, place: usize) -> bool
         ensures { result ≡ touches place self.now }
     {
-        self.link
-            .ends
-            .iter()
-            .any(|end| usize::from(end.node) == place)
+        self.link.touches(place)
     }
 
     /// How many faults it has.

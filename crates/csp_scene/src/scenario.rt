@@ -1,5 +1,8 @@
 //! A scene: what the lines of a scenario state.
 
+ghost use Rattle.std.specs.Prelude.{◌≡◌};
+ghost use Rattle.csp_scene.specs.Links.{touches};
+
 use arrayvec::ArrayVec;
 use csp_app::Step;
 use csp_base::{Addr, Name};
@@ -88,6 +91,15 @@ impl Model for SceneLink {
     ghost Value = { PlainLink };
 
     ghost view = { λ link. record { name = link.name.bytes; kind = link.kind; ends = link.ends.items; plan = link.plan.items } };
+}
+
+impl SceneLink {
+    /// Whether it ends at the node at this place among the nodes.
+    pub fn touches(&self, place: usize) -> bool
+        ensures { result ≡ touches place self.now }
+    {
+        self.ends.iter().any(|end| usize::from(end.node) == place)
+    }
 }
 
 /// One entry of a schedule that is stated step by step.

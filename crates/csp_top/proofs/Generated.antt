@@ -8,6 +8,7 @@ use Rattle.csp_record.specs.Record.{PlainRecord}
 use Rattle.csp_scene.specs.Judge.{scene_of}
 use Rattle.csp_scene.specs.Scene.{PlainScene}
 use Rattle.csp_scene.specs.declared.refusal.SceneKind.{SceneKind}
+use Rattle.csp_topology.specs.Parties.{parties_of}
 use Rattle.csp_world.proofs.FewRounds.{run_end}
 use Rattle.csp_world.proofs.ScheduleOpening.{opening_empty}
 use Rattle.csp_world.specs.Opening.{opening}
@@ -19,7 +20,7 @@ use Rattle.csp_top.specs.declared.simulation.Refusal.{Refusal}
 use Rattle.csp_top.specs.declared.simulation.Refusal.TheVariants as refusal
 
 eleven : (packets : ℕ) (plan : List Fault) → length (opening (gen_scene packets plan)).members ≡ 11
-unfolding opening
+unfolding opening parties_of
 eleven packets plan = refl
 
 mapped : {A B : Type 0} (f : A → B) (o : Option A) → option_map f o ≡ None → o ≡ None

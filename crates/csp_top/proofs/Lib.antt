@@ -1,3 +1,4 @@
 pub mod Generated
 mod OpeningNumbers
 mod Prefix
+mod Untaken

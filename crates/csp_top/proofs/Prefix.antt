@@ -3,7 +3,7 @@ use Rattle.std.proofs.Common.{◌≡◌, ℕ, zero, suc, ◌+◌, ◌<◌, Bool,
 use Rattle.std.specs.Prelude.{find}
 use Rattle.std.specs.List.{AllByRecursion}
 use Rattle.csp_consistent.proofs.Names.{HasNone, AreApart, entries_in, none_there, who_same, who_is, are_apart}
-use Rattle.csp_consistent.specs.Parties.{PlainOpening, parties_of, parties_from, parties_at, links_from, ifaces_from, apps_from}
+use Rattle.csp_topology.specs.Parties.{PlainOpening, parties_of, parties_from, parties_at, links_from, ifaces_from, apps_from}
 use Rattle.csp_prefix.specs.Prefix.{IsBeginning, IsOpened, took_on, sent_on, HasPeersPrefix, IsReliablePrefix}
 use Rattle.csp_consistent.specs.Reading.{is_who, entries_of}
 use Rattle.csp_consistent.specs.Runs.{AreLogsOf}

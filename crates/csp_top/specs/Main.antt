@@ -21,7 +21,7 @@ use Rattle.csp_top.specs.declared.status.TheConstants.{MAX_SCENARIO}
 abbrev pub IsSim : List (List ℕ) → Type 0
 IsSim words = command_of words ≡ Ok command.Sim
 
--- they name `gen N` for this N
+-- the words name `gen N` for this N
 abbrev pub IsGen : ℕ → List (List ℕ) → Type 0
 IsGen packets words = command_of words ≡ Ok (command.Gen packets)
 

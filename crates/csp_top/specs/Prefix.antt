@@ -16,7 +16,7 @@ pub record IsReadable (nodes : List PlainNode) (node number : ℕ) (x : Opening)
   pub app : number < length (node_at nodes node).apps
   pub slot : x.slot < SLOTS
 
--- so is each of a record
+-- each connection that a record opened is on a slot of an application that its node has
 abbrev pub AreReadable : PlainScene → PlainRecord → Type 0
 AreReadable scene r = (node app : ℕ) (x : Opening) → IsOpened r node app x → IsReadable scene.nodes node app x
 
@@ -25,6 +25,6 @@ abbrev pub OpensNumbered : Event → Type 0
 OpensNumbered (event.Opened app slot nth peer) = IfSome nth (λ number. number < 2 ^ 32) × IfSome peer (λ flow. flow.1 < 2 ^ 32)
 OpensNumbered _ = ⊤
 
--- so it is in each event of a party
+-- each event of a party that tells an opening has numbers of 32 bits
 abbrev pub TellsNumbered : PlainPartyLog → Type 0
 TellsNumbered party = AllByRecursion OpensNumbered (all_events party.entries)

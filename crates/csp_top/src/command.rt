@@ -3,7 +3,7 @@
 ghost use Rattle.std.specs.Prelude.{◌≡◌, ◌≢◌, ◌+◌, ◌↔◌, ℕ, Err, IfSome, map};
 ghost use Rattle.std.specs.String.{string_bytes};
 ghost use Rattle.csp_base.specs.Faults.{Rose};
-ghost use Rattle.csp_base.specs.Transfer.{TookExactly};
+ghost use Rattle.csp_base.specs.Transfer.{TookAtMost, TookExactly};
 ghost use Rattle.csp_scene.specs.Judge.{scene_of};
 ghost use Rattle.csp_scene.specs.declared.refusal.SceneKind.{SceneKind};
 ghost use Rattle.csp_top.specs.Main.{WroteReport, WrotePart, WasRead, WroteReliably, WroteWhole, IsPastEntries, IsUnhindered, IsDoneOrNoMemory, IsSim, IsGen};
@@ -21,6 +21,7 @@ use std::alloc::Global;
 
 /// Runs the command that the words name, over the source and the sink; `gen` reads nothing from the source.
 /// `words` doesn't hold the program's name. Words outside the grammar are refused, and then nothing is read.
+#[tactic(auto, using(crate::proofs::Untaken::took_none))]
 pub fn csp_main<S: Source, K: Sink>(
     alloc: Global,
     words: &[String],
@@ -37,6 +38,9 @@ pub fn csp_main<S: Source, K: Sink>(
     ensures read { IsSim (map string_bytes words.now) → result ≡ Status.Done → WasRead (S.left source.old) (S.left source.new) }
     ensures read_fault { result ≡ Status.ReadFault → Rose (S.faults source.old) (S.faults source.new) }
     ensures no_read_fault { result ≢ Status.ReadFault → S.faults source.new ≡ S.faults source.old }
+
+    // However it ends, no more was taken from the source than shows that the text is too long.
+    ensures stops { TookAtMost (S.left source.old) (S.left source.new) (MAX_SCENARIO + 1) }
     ensures write_fault { result ≡ Status.WriteFault → Rose (K.faults sink.old) (K.faults sink.new) }
     ensures no_write_fault { result ≢ Status.WriteFault → K.faults sink.new ≡ K.faults sink.old }
     ensures part { IsSim (map string_bytes words.now) → result ≡ Status.WriteFault → IfSome (S.left source.old) (λ text. WrotePart text (K.written sink.old) (K.written sink.new)) }

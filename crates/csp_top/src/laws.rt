@@ -1,7 +1,7 @@
 //! What the text of a report says of the record that it is made of.
 
 ghost use Rattle.std.specs.Prelude.{◌≡◌, [], length, map};
-ghost use Rattle.csp_consistent.specs.Parties.{parties_of};
+ghost use Rattle.csp_topology.specs.Parties.{parties_of};
 ghost use Rattle.csp_prefix.specs.Prefix.{IsReliablePrefix};
 ghost use Rattle.csp_consistent.specs.Runs.{AreLogsOf};
 ghost use Rattle.csp_record.specs.Passed.{passed};

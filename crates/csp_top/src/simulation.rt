@@ -3,7 +3,7 @@
 
 ghost use Rattle.std.specs.Prelude.{◌≡◌, ◌≢◌, ◌≤◌, ◌+◌, ℕ, Err, IfSome, IfOk, length};
 ghost use Rattle.csp_base.specs.Faults.{Rose};
-ghost use Rattle.csp_base.specs.Transfer.{TookExactly};
+ghost use Rattle.csp_base.specs.Transfer.{TookAtMost, TookExactly};
 ghost use Rattle.csp_scene.specs.Judge.{scene_of};
 ghost use Rattle.csp_scene.specs.declared.refusal.SceneKind.{SceneKind};
 ghost use Rattle.csp_top.specs.Main.{WroteReport, WrotePart, WasRead, WroteReliably, WroteWhole, IsReportOf, IsPastEntries, IsUnhindered, IsDoneOrNoMemory};
@@ -29,6 +29,9 @@ pub fn sim_main<S: Source, K: Sink>(alloc: Global, source: &mut S, sink: &mut K)
     ensures read { result ≡ Status.Done → WasRead (S.left source.old) (S.left source.new) }
     ensures read_fault { result ≡ Status.ReadFault → Rose (S.faults source.old) (S.faults source.new) }
     ensures no_read_fault { result ≢ Status.ReadFault → S.faults source.new ≡ S.faults source.old }
+
+    // However it ends, no more was taken from the source than shows that the text is too long.
+    ensures stops { TookAtMost (S.left source.old) (S.left source.new) (MAX_SCENARIO + 1) }
     ensures write_fault { result ≡ Status.WriteFault → Rose (K.faults sink.old) (K.faults sink.new) }
     ensures no_write_fault { result ≢ Status.WriteFault → K.faults sink.new ≡ K.faults sink.old }
     ensures part { result ≡ Status.WriteFault → IfSome (S.left source.old) (λ text. WrotePart text (K.written sink.old) (K.written sink.new)) }

@@ -12,9 +12,10 @@ use Rattle.csp_nodes.specs.Emptied.{EmptiedAt, PlainEmptied, emptied_in, with_ga
 use Rattle.csp_party.specs.Any.{holds}
 use Rattle.csp_record.specs.Who.{home_of, node_of}
 use Rattle.csp_world.specs.Holders.{is_at, is_home, holds_at}
-use Rattle.csp_world.specs.Record.{held_by, member_held}
+use Rattle.csp_consistent.specs.Pools.{held_by}
+use Rattle.csp_world.specs.Record.{member_held}
 use Rattle.csp_world.specs.World.{PlainMember}
-use Rattle.csp_world.proofs.SetLemmas.{set_here, set_there}
+use Rattle.csp_nodes.proofs.SetLemmas.{set_here, set_there}
 
 -- what is left of a node, with all that these parties of it hold
 abbrev pub with_members : List PlainMember → ℕ → Option PlainEmptied → Option PlainEmptied

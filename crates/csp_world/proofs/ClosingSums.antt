@@ -19,9 +19,10 @@ use Rattle.csp_record.specs.Who.{home_of}
 use Rattle.csp_record.specs.Whole.{weight_at, IsWhole}
 use Rattle.csp_nodes.specs.Gathering.{queues_held, pools_held}
 use Rattle.csp_world.specs.Holders.{is_home, holds_at, counts, IsConserved}
-use Rattle.csp_world.specs.Record.{held_by, member_held, record_of}
+use Rattle.csp_consistent.specs.Pools.{held_by}
+use Rattle.csp_world.specs.Record.{member_held, record_of}
 use Rattle.csp_world.specs.World.{PlainMember, PlainWorld}
-use Rattle.csp_world.proofs.CountLaws.{Gathers, Weighs, times_joined}
+use Rattle.csp_nodes.proofs.CountLaws.{Gathers, Weighs, times_joined}
 
 -- all numbers of a node: those in its queues, those of its parties and those in its pool
 abbrev pub all_numbers : List PlainMember → ℕ → PlainDeck → List ℕ

@@ -25,8 +25,8 @@ use Rattle.csp_log.specs.declared.shown.AnswerShown.TheVariants as answer
 use Rattle.csp_log.specs.declared.shown.ItemShown.{ItemShown}
 use Rattle.csp_log.specs.declared.shown.OpShown.TheVariants as op
 use Rattle.csp_world.proofs.OpeningRules.{Stands}
-use Rattle.csp_world.proofs.PlaceHeldLemmas.{AreQueued, IsQueued}
-use Rattle.csp_world.proofs.SetLemmas.{set_here}
+use Rattle.csp_world.proofs.QueuedLemmas.{AreQueued, IsQueued}
+use Rattle.csp_nodes.proofs.SetLemmas.{set_here}
 
 -- ---- where each place stands
 

@@ -8,7 +8,7 @@ use Rattle.csp_lists.specs.PlainDeck.{PlainDeck}
 use Rattle.csp_nodes.specs.DecksAt.{DecksAt}
 use Rattle.csp_nodes.specs.Gathering.{queue_count}
 use Rattle.csp_party.specs.Any.{plain, needs}
-use Rattle.csp_world.proofs.SetLemmas.{set_here, set_there}
+use Rattle.csp_nodes.proofs.SetLemmas.{set_here, set_there}
 use Rattle.csp_world.specs.Grown.{IsGrown}
 use Rattle.csp_world.specs.Inside.{IsFit, AllFit, HasRoom, rooms}
 use Rattle.csp_world.specs.declared.member.Member.{Member}
@@ -63,7 +63,7 @@ all_set d time members place old new got all fit k m s = by (place == k) refl wh
   by false h = all k m (sym (set_there members place k new h) ∙ s)
 
 -- a party whose log and stock are given room is as fit as before
-pub fit_logged : (d : DecksAt) (time : ℕ) (old new : Member) → (new.who ≡ old.who) × (new.party ≡ old.party) × (new.numbers ≡ old.numbers) × (new.log.entries ≡ old.log.entries) → needs (plain new.party) * new.log.spare ≤ new.spares → IsFit d time old → IsFit d time new
+pub fit_logged : (d : DecksAt) (time : ℕ) (old new : Member) → (new.who ≡ old.who) × (new.party ≡ old.party) × (new.numbers ≡ old.numbers) × (new.log.entries ≡ old.log.entries) → needs (plain new.party) * new.log.spare ≤ new.spares.boxes → IsFit d time old → IsFit d time new
 fit_logged d time old new (w, p, n, l) stock f = record {
   ready = rw p f.ready;
   counted = rw (p, l) f.counted;

@@ -2,26 +2,24 @@
 use Rattle.std.proofs.Common.{◌≡◌, ℕ, zero, suc, ◌+◌, ◌<◌, ◌≤◌, ◌==◌, Bool, true, false, Option, None, Some, List, [], ◌∷◌, ◌++◌, length, map, set, refl, sym, subst, ap, ◌∙◌, arith}
 use Rattle.std.specs.Prelude.{slice_get, if◌then◌else◌}
 use Rattle.std.specs.List.{AllByRecursion, flat_map}
-use Rattle.std.proofs.Math.Bool.{and-false}
 use Rattle.std.proofs.lemmas.Bool.Decides.{nat_tests}
 use Rattle.std.proofs.lemmas.Grind.{flat_map-append}
 use Rattle.std.proofs.lemmas.List.{append-nil, append_assoc}
 use Rattle.std.proofs.lemmas.Option.{same_Some}
-use Rattle.csp_base.proofs.PriorityLaws.{prio_number_small}
 use Rattle.csp_base.specs.Priority.{prio_number}
 use Rattle.csp_base.specs.declared.priority.Prio.{Prio}
 use Rattle.csp_consistent.proofs.Names.{AreApart, entries_in, none_there, who_is}
 use Rattle.csp_consistent.proofs.Owners.{IsOf, IsOwner}
 use Rattle.csp_consistent.proofs.OwnQueues.{IsOwn, own_asks, own_told}
 use Rattle.csp_consistent.specs.Inboxes.{IsInboxInOrder, writer_of}
-use Rattle.csp_consistent.specs.Lanes.{hub_of}
-use Rattle.csp_consistent.specs.Parties.{PlainOpening, party_steps}
+use Rattle.csp_topology.specs.Lanes.{hub_of}
+use Rattle.csp_topology.specs.Parties.{PlainOpening, party_steps}
 use Rattle.csp_consistent.specs.Queues.{MayAsk}
-use Rattle.csp_consistent.specs.Reading.{got_by, gets, is_queue, is_who, left_here, left_in, of_mark, of_priority, put_by, puts, with_mark, with_priority}
+use Rattle.csp_consistent.specs.Reading.{got_by, gets, is_who, left_here, left_in, of_mark, of_priority, put_by, puts, with_mark, with_priority}
 use Rattle.csp_deck.specs.Carried.{IsInboxItem, IsOfPriority}
 use Rattle.csp_deck.specs.Runs.{state_after, step_after}
 use Rattle.csp_deck.specs.Step.{entry_of}
-use Rattle.csp_lists.specs.Gathered.{left_at, prio_named, queue_named}
+use Rattle.csp_lists.specs.Gathered.{left_at}
 use Rattle.csp_lists.specs.Order.{places_in}
 use Rattle.csp_lists.specs.PlainDeck.{PlainDeck, PlainQueue, most_urgent, opening_deck, opening_queue, shape_of}
 use Rattle.csp_log.specs.declared.entry.Entry.{Entry}
@@ -46,10 +44,11 @@ use Rattle.csp_world.proofs.InboxNames.{IsParty, prio_is}
 use Rattle.csp_world.proofs.InboxTurns.{AllOf, IsUrgent, got_same, got_urgent, in_inbox, put_carried, put_same, urgent_alone}
 use Rattle.csp_world.proofs.KeptLemmas.{flat-push}
 use Rattle.csp_world.proofs.LocalLemmas.{IsLocal, Keeps, local}
-use Rattle.csp_world.proofs.LoggedLemmas.{AreLogged, logged_logs, opened}
+use Rattle.csp_world.proofs.LoggedLemmas.{AreLogged, logged_logs}
 use Rattle.csp_world.proofs.MovedLemmas.{KeepsShape, got_there, moved, put_there, right_after}
 use Rattle.csp_world.proofs.OpeningRules.{Stands}
-use Rattle.csp_world.proofs.PlaceHeldLemmas.{KeepsQueues, IsQueued, queued-opening}
+use Rattle.csp_world.proofs.QueuedLemmas.{KeepsQueues, IsQueued, queued-opening}
+use Rattle.csp_world.specs.Opening.{new_member}
 use Rattle.csp_world.specs.Record.{member_log, record_of}
 use Rattle.csp_world.specs.World.{PlainMember, PlainWorld, answered, told, turn, turn_at, turned}
 
@@ -292,7 +291,7 @@ if_empty : {X : Type 0} (so : Bool) (rest : List X) → rest ≡ [] → (if so t
 if_empty true rest e = e
 if_empty false rest e = e
 
-pub no_entries : (v : Who) (os : List PlainOpening) → entries_in v (map member_log (map opened os)) ≡ []
+pub no_entries : (v : Who) (os : List PlainOpening) → entries_in v (map member_log (map new_member os)) ≡ []
 no_entries v [] = refl
 no_entries v (o ∷ os) = if_empty (is_who v o.who) _ (no_entries v os)
 
@@ -308,7 +307,7 @@ pub right_opening : (buffers : List Content) (inbox apps : ℕ) (links : List Ca
 right_opening buffers inbox apps links = record { queued = queued-opening buffers inbox apps links; right = places_stand inbox links (places_in (shape_of apps links)) }
 
 pub inbox_opened : (node : ℕ) (x : PlainNode) (buffers : List Content) (inbox apps : ℕ) (links : List Carries) (decks : List PlainDeck) (os : List PlainOpening) → slice_get decks node ≡ Some (opening_deck buffers inbox apps links)
-    → IsInboxKept node x decks (map opened os)
+    → IsInboxKept node x decks (map new_member os)
 inbox_opened node x buffers inbox apps links decks os at = record {
   deck = opening_deck buffers inbox apps links;
   there = at;
@@ -317,23 +316,8 @@ inbox_opened node x buffers inbox apps links decks os at = record {
   carried = λ p. subst (AllOf p) (sym (nothing p)) tt;
   got = subst (λ es. AllByRecursion IsInboxItem (gets queue.Inbox es)) (sym (no_entries (hub_of node x.addr) os)) tt;
 } where
-  nothing : (p : Prio) → through node x p (opening_deck buffers inbox apps links) (map opened os) ≡ []
+  nothing : (p : Prio) → through node x p (opening_deck buffers inbox apps links) (map new_member os) ≡ []
   nothing p = rw (no_entries (hub_of node x.addr) os) (no_content queue.Inbox (prio_number p) inbox links (places_in (shape_of apps links)))
-
--- no queue has a number that is no priority's
-none_above : (prio : ℕ) → 4 ≤ prio → (qs : List PlainQueue) → flat_map (in_queue queue.Inbox prio) qs ≡ []
-none_above prio high [] = refl
-none_above prio high (x ∷ qs) =
-    let away : (prio_named x.place == prio) ≡ false = by x.place in
-    rw (away, and-false (is_queue queue.Inbox (queue_named x.place)), none_above prio high qs) refl
-  where
-    by : (y : Place) → (prio_named y == prio) ≡ false
-    by (place.Inbox p) = let low = prio_number_small p in grind (arith, nat_tests, low, high)
-    by (place.Lane q) = grind (arith, nat_tests, high)
-    by place.Pool = grind (arith, nat_tests, high)
-    by place.Router = grind (arith, nat_tests, high)
-    by (place.Iface k) = grind (arith, nat_tests, high)
-    by (place.App k) = grind (arith, nat_tests, high)
 
 -- so the record says
 pub inbox_in_order : (w : PlainWorld) (node : ℕ) (x : PlainNode) → IsInboxKept node x w.decks w.members → IsInboxInOrder (record_of w) node (hub_of node x.addr)
@@ -343,7 +327,6 @@ inbox_in_order w node x h = record {
     carried = subst (λ is. AllOf p (came p ++ is)) (sym (left p)) (h.carried p);
   };
   got = h.got;
-  left = λ prio high. left_is w node queue.Inbox prio h.deck h.there ∙ none_above prio high h.deck.queues;
 } where
   came : Prio → List ItemShown
   came p = with_priority p (gets queue.Inbox (entries_in (hub_of node x.addr) (map member_log w.members)))

@@ -11,7 +11,7 @@ use Rattle.csp_base.specs.declared.priority.Prio.TheVariants.{Critical, High, No
 use Rattle.csp_buffer.specs.Content.{Content}
 use Rattle.csp_consistent.proofs.Owners.{IsOwner}
 use Rattle.csp_consistent.specs.Inboxes.{writer_of}
-use Rattle.csp_consistent.specs.Lanes.{hub_of}
+use Rattle.csp_topology.specs.Lanes.{hub_of}
 use Rattle.csp_consistent.specs.Reading.{is_queue, is_who, put_by, with_mark, with_priority}
 use Rattle.csp_deck.specs.Carried.{place_for, priority_of}
 use Rattle.csp_lists.specs.PlainDeck.{PlainDeck, pops_at}
@@ -29,11 +29,11 @@ use Rattle.csp_nodes.specs.Serving.{at_end, at_queue, goes, served}
 use Rattle.csp_party.specs.Any.{PlainParty}
 use Rattle.csp_record.specs.declared.who.Who.{Who}
 use Rattle.csp_record.specs.declared.who.Who.TheVariants as who
-use Rattle.csp_scene.specs.Links.{links_at}
+use Rattle.csp_scene.specs.Links.{links_at, touches}
 use Rattle.csp_scene.specs.Scene.{PlainLink, PlainNode}
 use Rattle.csp_world.proofs.ContentLemmas.{if_named, is_named, popped_out, pushed_in}
 use Rattle.csp_world.proofs.MovedLemmas.{got_at, got_there, put_at, put_there}
-use Rattle.csp_world.proofs.OpeningScene.{links_few}
+use Rattle.csp_world.proofs.OpeningLists.{filter_long}
 
 -- priorities are known by their numbers
 pub prio_is : (p q : Prio) → (prio_number q == prio_number p) ≡ true → q ≡ p
@@ -173,7 +173,7 @@ hub_iface (Some addr) node n k = refl
 pub iface_few : (nodes : List PlainNode) (links : List PlainLink) (n k : ℕ) → IsParty nodes links (who.Iface n k) → k < IFACES
 iface_few nodes links n k is =
     let within = slice_get_within (links_at n links) k is.owner.link is.owner.on in
-    let most = links_few n links in
+    let most = filter_long (touches n) links in
     let few = is.few in
     omega (arith, within, most, few)
 

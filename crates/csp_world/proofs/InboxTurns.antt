@@ -9,7 +9,7 @@ use Rattle.csp_base.specs.Priority.{prio_number}
 use Rattle.csp_base.specs.declared.priority.Prio.{Prio}
 use Rattle.csp_buffer.specs.Content.{Content}
 use Rattle.csp_consistent.specs.Inboxes.{writer_of}
-use Rattle.csp_consistent.specs.Lanes.{hub_of}
+use Rattle.csp_topology.specs.Lanes.{hub_of}
 use Rattle.csp_consistent.specs.Queues.{MayAsk}
 use Rattle.csp_consistent.specs.Reading.{got_by, is_queue, is_who, put_by, with_mark, with_priority}
 use Rattle.csp_deck.specs.Carried.{IsInboxItem, IsOfPriority, priority_of}

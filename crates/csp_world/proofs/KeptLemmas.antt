@@ -6,7 +6,7 @@ use Rattle.std.proofs.lemmas.Grind.{flat_map-append}
 use Rattle.std.proofs.lemmas.List.{append-nil}
 use Rattle.std.proofs.lemmas.List.Folds.{flat_map-map}
 use Rattle.std.proofs.lemmas.List.Sums.{sum_by-cons}
-use Rattle.csp_consistent.specs.Parties.{PlainOpening}
+use Rattle.csp_topology.specs.Parties.{PlainOpening}
 use Rattle.csp_consistent.specs.Pools.{given, given_at, given_by, is_node, taken, taken_at, taken_by}
 use Rattle.csp_deck.specs.Step.{entry_of, times}
 use Rattle.csp_lists.specs.PlainDeck.{PlainDeck, buffer_numbers}
@@ -14,11 +14,11 @@ use Rattle.csp_log.specs.declared.entry.Entry.{Entry}
 use Rattle.csp_log.specs.declared.shown.AnswerShown.{AnswerShown}
 use Rattle.csp_party.specs.Any.{asked, asks, events, has_ended}
 use Rattle.csp_record.specs.Who.{node_of}
-use Rattle.csp_world.proofs.CountLaws.{times_joined}
+use Rattle.csp_nodes.proofs.CountLaws.{times_joined}
 use Rattle.csp_world.proofs.LocalLemmas.{local}
-use Rattle.csp_world.proofs.LoggedLemmas.{opened}
 use Rattle.csp_world.proofs.PoolLemmas.{at_home, pooled}
-use Rattle.csp_world.proofs.SetLemmas.{sum_set}
+use Rattle.csp_nodes.proofs.SetLemmas.{sum_set}
+use Rattle.csp_world.specs.Opening.{new_member}
 use Rattle.csp_world.specs.Record.{member_log}
 use Rattle.csp_world.specs.World.{PlainMember, PlainWorld, answered, told, turn, turn_at, turned}
 
@@ -104,16 +104,16 @@ none_at : (here : Bool) → at_home here [] ≡ []
 none_at true = refl
 none_at false = refl
 
-none_given : (node : ℕ) (os : List PlainOpening) → flat_map (gave node) (map opened os) ≡ []
+none_given : (node : ℕ) (os : List PlainOpening) → flat_map (gave node) (map new_member os) ≡ []
 none_given node [] = refl
 none_given node (o ∷ os) = rw (none_at (is_node node (node_of o.who)), none_given node os) refl
 
-none_taken : (node : ℕ) (os : List PlainOpening) → flat_map (took node) (map opened os) ≡ []
+none_taken : (node : ℕ) (os : List PlainOpening) → flat_map (took node) (map new_member os) ≡ []
 none_taken node [] = refl
 none_taken node (o ∷ os) = rw (none_at (is_node node (node_of o.who)), none_taken node os) refl
 
 pub kept_opened : (node count : ℕ) (decks : List PlainDeck) (d : PlainDeck) (os : List PlainOpening) → slice_get decks node ≡ Some d → buffer_numbers d.pool.items ≡ range_with_len 0 count
-    → IsPoolKept node count decks (map opened os)
+    → IsPoolKept node count decks (map new_member os)
 kept_opened node count decks d os at all = record {
   deck = d;
   there = at;

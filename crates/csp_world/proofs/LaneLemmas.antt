@@ -6,8 +6,9 @@ use Rattle.std.proofs.lemmas.Bool.{eq-eqb, lt-ltb}
 use Rattle.std.proofs.lemmas.List.{append_assoc, length-append, length-map}
 use Rattle.csp_base.specs.Priority.{prio_number}
 use Rattle.csp_consistent.proofs.Names.{entries_in}
-use Rattle.csp_consistent.specs.Lanes.{IsFullAfter, IsInOrder, IsRefused, PlainLane, app_lanes, hub_of, lanes_from, lanes_within, out_lane}
-use Rattle.csp_consistent.specs.Parties.{PlainOpening}
+use Rattle.csp_consistent.specs.Lanes.{IsFullAfter, IsInOrder, IsRefused}
+use Rattle.csp_topology.specs.Lanes.{PlainLane, app_lanes, hub_of, lanes_from, lanes_within, out_lane}
+use Rattle.csp_topology.specs.Parties.{PlainOpening}
 use Rattle.csp_consistent.specs.Queues.{MayAsk, MayPop, MayPush}
 use Rattle.csp_consistent.specs.Reading.{got_by, gets, is_queue, is_who, put_by, puts}
 use Rattle.csp_consistent.proofs.OwnQueues.{own_asks}
@@ -40,10 +41,10 @@ use Rattle.csp_world.proofs.InboxNames.{IsParty, hub_bridge, hub_router}
 use Rattle.csp_world.proofs.LaneNames.{IsPushedTo, IsUser, gets_within, puts_within, queue_is, refused_there}
 use Rattle.csp_world.proofs.LaneRooms.{IsFull, IsRoomy, as_full, full-push, full_none, left_few, refused_full, roomy_kept, roomy_opened}
 use Rattle.csp_world.proofs.LocalLemmas.{IsLocal, local}
-use Rattle.csp_world.proofs.LoggedLemmas.{AreLogged, opened}
+use Rattle.csp_world.proofs.LoggedLemmas.{AreLogged}
 use Rattle.csp_world.proofs.MovedLemmas.{got_there, kept_after, moved, put_there}
-use Rattle.csp_world.proofs.PlaceHeldLemmas.{IsQueued}
-use Rattle.csp_world.specs.Opening.{opened_deck}
+use Rattle.csp_world.proofs.QueuedLemmas.{IsQueued}
+use Rattle.csp_world.specs.Opening.{new_member, opened_deck}
 use Rattle.csp_world.specs.Record.{member_log, record_of}
 use Rattle.csp_world.specs.World.{PlainMember, PlainWorld, answered, told, turn, turn_at, turned}
 
@@ -306,7 +307,7 @@ unfolding turn
 lane_turn scene os known l w is logged k h = lane_turn_at scene os known l w is logged k (slice_get w.members k) refl h
 
 pub lane_opened : (scene : PlainScene) (os : List PlainOpening) → IsKnown scene os → (links : List (List End)) (l : PlainLane) (is : IsLaneOf scene links l) (decks : List PlainDeck) → slice_get decks l.node ≡ Some (opened_deck is.node (links_at l.node scene.links))
-    → IsLaneKept l decks (map opened os)
+    → IsLaneKept l decks (map new_member os)
 lane_opened scene os known links l is decks at = record {
   deck = opened_deck n (links_at l.node scene.links);
   there = at;

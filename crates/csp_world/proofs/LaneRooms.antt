@@ -28,7 +28,7 @@ use Rattle.csp_world.proofs.LaneNames.{IsLane, lane_named, lane_place}
 use Rattle.csp_world.proofs.LocalLemmas.{Keeps}
 use Rattle.csp_world.proofs.MovedLemmas.{KeepsShape}
 use Rattle.csp_world.proofs.OpeningRules.{Stands}
-use Rattle.csp_world.proofs.PlaceHeldLemmas.{KeepsQueues}
+use Rattle.csp_world.proofs.QueuedLemmas.{KeepsQueues}
 
 -- ---- no queue has more items than it has room for
 

@@ -4,7 +4,6 @@ pub mod ClosingMembers
 pub mod ClosingSums
 pub mod ClosingParts
 pub mod ContentLemmas
-pub mod CountLaws
 pub mod EndsApart
 pub mod FewRounds
 pub mod FitLemmas
@@ -31,8 +30,7 @@ pub mod OpeningParties
 pub mod OpeningRules
 pub mod OpeningScene
 pub mod PlaceLemmas
-pub mod PlacesLemmas
-pub mod PlaceHeldLemmas
+pub mod QueuedLemmas
 pub mod PoolLemmas
 pub mod ReachedLemmas
 pub mod ReachingLemmas
@@ -40,6 +38,6 @@ pub mod RunLemmas
 pub mod ScheduleLemmas
 pub mod ScheduleNames
 pub mod ScheduleOpening
-pub mod SetLemmas
 pub mod StepLemmas
 pub mod TurnLemmas
+pub mod WholeLemmas

@@ -5,7 +5,8 @@ use Rattle.std.specs.List.{AllByRecursion}
 use Rattle.std.specs.Option.{option_and_then, option_map}
 use Rattle.std.proofs.lemmas.Bool.{eq-eqb, eqb-true, lt-ltb}
 use Rattle.std.proofs.lemmas.Option.{same_Some, slice_get-map, slice_get_within}
-use Rattle.csp_consistent.specs.Lanes.{IsRefused, end_lanes, lanes_from, lanes_of, lanes_on, link_lanes}
+use Rattle.csp_consistent.specs.Lanes.{IsRefused}
+use Rattle.csp_topology.specs.Lanes.{end_lanes, lanes_from, lanes_of, lanes_on, link_lanes}
 use Rattle.csp_consistent.specs.Queues.{MayAsk, MayPop, MayPush}
 use Rattle.csp_consistent.specs.Reading.{got_by, is_queue, is_who, put_by}
 use Rattle.csp_link.specs.PlainLink.{lane_of}

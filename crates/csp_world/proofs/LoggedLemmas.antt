@@ -1,16 +1,16 @@
 -- The log of each party is that of a run of its turns from its opening.
 use Rattle.std.proofs.Common.{◌≡◌, ℕ, zero, suc, ◌+◌, ◌≤◌, Bool, true, false, Option, None, Some, List, [], ◌∷◌, ◌++◌, map, set, refl, sym, subst, ap, ◌∙◌, arith}
 use Rattle.std.specs.Prelude.{slice_get, if◌then◌else◌}
-use Rattle.std.specs.List.{AllByRecursion}
 use Rattle.std.proofs.lemmas.Option.{same_Some}
-use Rattle.csp_consistent.specs.Parties.{PlainOpening, party_steps}
-use Rattle.csp_consistent.specs.Runs.{AreLogsOf, IsClearedIn}
+use Rattle.csp_topology.specs.Parties.{PlainOpening, party_steps}
+use Rattle.csp_consistent.specs.Runs.{AreLogsOf}
 use Rattle.csp_deck.specs.Runs.{Steps, IsRun, IsStep, last_time, state_after, step_after}
 use Rattle.csp_deck.specs.Step.{entry_of}
+use Rattle.csp_log.specs.Pictures.{Fits}
 use Rattle.csp_log.specs.declared.entry.Entry.{Entry}
 use Rattle.csp_log.specs.declared.shown.AnswerShown.{AnswerShown}
 use Rattle.csp_party.specs.Any.{PlainParty, asked, asks, events, has_ended, present_step}
-use Rattle.csp_world.proofs.AnsweredLemmas.{IsGood, good_answer}
+use Rattle.csp_world.proofs.AnsweredLemmas.{fits_answer}
 use Rattle.csp_world.specs.Opening.{new_member}
 use Rattle.csp_world.specs.Record.{member_log}
 use Rattle.csp_world.specs.World.{PlainMember, PlainWorld, answered, told, turn, turn_at, turned}
@@ -19,7 +19,6 @@ use Rattle.csp_world.specs.World.{PlainMember, PlainWorld, answered, told, turn,
 pub record IsLogged (time : ℕ) (o : PlainOpening) (m : PlainMember) : Type 0 where
   pub who : m.who ≡ o.who
   pub run : IsRun party_steps 0 o.party m.entries
-  pub cleared : AllByRecursion (λ e. IsClearedIn e.answer) m.entries
   pub reached : state_after party_steps o.party m.entries ≡ m.party
   pub late : last_time 0 m.entries ≤ time
 
@@ -42,19 +41,14 @@ last-push : (time : ℕ) (es : List Entry) (e : Entry) → last_time time (es ++
 last-push time [] e = refl
 last-push time (x ∷ es) e = last-push x.time es e
 
-all-push : (P : Entry → Type 0) (es : List Entry) (e : Entry) → AllByRecursion P es → P e → AllByRecursion P (es ++ e ∷ [])
-all-push P [] e all it = (it, tt)
-all-push P (x ∷ es) e all it = (all.0, all-push P es e all.1 it)
-
 -- it takes one more
-logged_told : (time : ℕ) (o : PlainOpening) (m : PlainMember) (a : AnswerShown) → has_ended m.party ≡ false → IsGood (asks m.party time) a → IsLogged time o m → IsLogged time o (told m time a)
-logged_told time o m a goes good l =
+logged_told : (time : ℕ) (o : PlainOpening) (m : PlainMember) (a : AnswerShown) → has_ended m.party ≡ false → Fits (asks m.party time) a → IsLogged time o m → IsLogged time o (told m time a)
+logged_told time o m a goes fits l =
     let e : Entry = entry_of time (asks m.party time) a (events (asked m.party time) time a) in
-    let step : IsStep party_steps m.party e = record { goes_on = goes; op = refl; fits = good.fits; events = refl } in
+    let step : IsStep party_steps m.party e = record { goes_on = goes; op = refl; fits = fits; events = refl } in
     record {
       who = l.who;
       run = run-push party_steps 0 o.party m.entries e l.run l.late (subst (λ (p : PlainParty). IsStep party_steps p e) (sym l.reached) step);
-      cleared = all-push (λ x. IsClearedIn x.answer) m.entries e l.cleared good.cleared;
       reached = state-push party_steps o.party m.entries e ∙ ap (λ (p : PlainParty). step_after party_steps p e) l.reached;
       late = omega (arith, last-push 0 m.entries e);
     }
@@ -79,7 +73,7 @@ logged_turn_at w os place (Some m) at h = by (has_ended m.party) refl where
   by false e =
       let a = answered w.decks w.links w.time m in
       logged_set w.time os w.members place m (told m w.time a.0) at
-      (λ o l. logged_told w.time o m a.0 e (good_answer w.decks w.links m.who (asks m.party w.time)) l) h
+      (λ o l. logged_told w.time o m a.0 e (fits_answer w.decks w.links m.who (asks m.party w.time)) l) h
 
 pub logged_turn : (w : PlainWorld) (os : List PlainOpening) (place : ℕ) → AreLogged w.time os w.members → AreLogged (turn w place).time os (turn w place).members
 unfolding turn
@@ -94,7 +88,6 @@ logged_tick time (o ∷ os) (m ∷ ms) h = (
   record {
     who = h.0.who;
     run = h.0.run;
-    cleared = h.0.cleared;
     reached = h.0.reached;
     late = let late = h.0.late in omega (arith, late);
   },
@@ -102,12 +95,9 @@ logged_tick time (o ∷ os) (m ∷ ms) h = (
 )
 
 -- at the opening each log is empty
-abbrev pub opened : PlainOpening → PlainMember
-opened o = new_member o.who o.party
-
-pub logged_opened : (os : List PlainOpening) → AreLogged 0 os (map opened os)
+pub logged_opened : (os : List PlainOpening) → AreLogged 0 os (map new_member os)
 logged_opened [] = tt
-logged_opened (o ∷ os) = (record { who = refl; run = tt; cleared = tt; reached = refl; late = omega arith }, logged_opened os)
+logged_opened (o ∷ os) = (record { who = refl; run = tt; reached = refl; late = omega arith }, logged_opened os)
 
 -- the logs of the record are those
 pub logged_logs : (time : ℕ) (os : List PlainOpening) (ms : List PlainMember) → AreLogged time os ms → AreLogsOf os (map member_log ms)
@@ -115,6 +105,6 @@ logged_logs time [] [] h = tt
 logged_logs time [] (m ∷ ms) h = absurd h
 logged_logs time (o ∷ os) [] h = absurd h
 logged_logs time (o ∷ os) (m ∷ ms) h = (
-  record { who = h.0.who; run = h.0.run; cleared = h.0.cleared; step = ap present_step (sym h.0.reached) },
+  record { who = h.0.who; run = h.0.run; step = ap present_step (sym h.0.reached) },
   logged_logs time os ms h.1,
 )

@@ -19,7 +19,7 @@ use Rattle.csp_log.specs.declared.shown.OpShown.TheVariants as op
 use Rattle.csp_world.proofs.ContentLemmas.{IsRight, PicksOne, content, if_named, is_named, pop_moves, popped_out, push_moves, pushed_in}
 use Rattle.csp_world.proofs.LocalLemmas.{IsLocal, Keeps}
 use Rattle.csp_world.proofs.OpeningRules.{Stands}
-use Rattle.csp_world.proofs.PlaceHeldLemmas.{KeepsQueues, queued-kept}
+use Rattle.csp_world.proofs.QueuedLemmas.{KeepsQueues, queued-kept}
 
 -- queues stand right after each operation too
 abbrev pub KeepsShape : Type 0

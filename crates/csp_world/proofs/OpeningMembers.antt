@@ -7,6 +7,7 @@ use Rattle.csp_lists.specs.PlainDeck.{PlainDeck, numbers_in}
 use Rattle.csp_nodes.specs.DecksAt.{DecksAt}
 use Rattle.csp_party.specs.Any.{holds, plain, region_of}
 use Rattle.csp_record.specs.Who.{node_of}
+use Rattle.csp_topology.specs.Parties.{opens}
 use Rattle.csp_world.proofs.OpeningLists.{each-push, flat_map-push_none}
 use Rattle.csp_world.specs.Holders.{holds_at, is_home, IsConserved}
 use Rattle.csp_world.specs.Inside.{world_of, rooms, IsFit, IsNew, AllFit, HasRoom, IsWorld}
@@ -24,7 +25,7 @@ enough count more None le h = h
 enough count more (Some room) le h = omega (arith, le, h)
 
 -- a party that is new, with an empty log and room for the numbers of its node, is fit
-pub new_fit : (d : DecksAt) (time buffers : ℕ) (ms : List Member) (m : Member) → IsNew (world_of d ms time) m.who m.party → HasNumbers d.decks (node_of m.who) buffers
+pub new_fit : (d : DecksAt) (time buffers : ℕ) (ms : List Member) (m : Member) → IsNew d.decks d.links (opens m.who (plain m.party)) → HasNumbers d.decks (node_of m.who) buffers
     → ((node : ℕ) → node_of m.who ≡ Some node → slice_get d.regions node ≡ Some (region_of m.party))
     → m.numbers.items ≡ [] → buffers ≤ vec_capacity m.numbers → m.log.spare ≡ 0 → IsFit d time m
 new_fit d time buffers ms m new room home none fits spare = record {
@@ -88,7 +89,7 @@ has_room-kept decks count r s h no_logs logs no_held held left emptied queues = 
 
 -- a world with one party more
 pub world-push : (w : Inside) (members : Vec Member Global) (room : Room) (buffers : ℕ) (m : Member) → IsWorld w
-    → members.items ≡ w.members.items ++ m ∷ [] → IsNew (world_of w.decks w.members.items w.time) m.who m.party → HasNumbers w.decks.decks (node_of m.who) buffers
+    → members.items ≡ w.members.items ++ m ∷ [] → IsNew w.decks.decks w.decks.links (opens m.who (plain m.party)) → HasNumbers w.decks.decks (node_of m.who) buffers
     → ((node : ℕ) → node_of m.who ≡ Some node → slice_get w.decks.regions node ≡ Some (region_of m.party))
     → m.numbers.items ≡ [] → buffers ≤ vec_capacity m.numbers → m.log.spare ≡ 0
     → length w.members.items + 1 < 2 ^ 31 → HasRoom w.decks.decks (length w.members.items + 1) room

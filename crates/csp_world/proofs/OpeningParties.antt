@@ -1,5 +1,6 @@
 -- A router, a bridge, an interface, an application and a link at their opening are new over the lists of their nodes.
-use Rattle.std.proofs.Common.{◌≡◌, ℕ, ◌<◌, ◌≤◌, Bool, true, false, ◌==◌, cond, nat_lt, List, [], ◌∷◌, ◌++◌, Option, Some, None, length, map, option_map, refl, sym, subst, ap, ◌∙◌, arith, slice_get, IsSomeAnd, if◌then◌else◌}
+use Rattle.std.proofs.Common.{◌≡◌, ℕ, suc, ◌+◌, ◌<◌, ◌≤◌, Bool, true, false, ◌==◌, cond, nat_lt, List, [], ◌∷◌, ◌++◌, Option, Some, None, length, map, option_map, refl, subst, ap, ◌∙◌, arith, slice_get, IsSomeAnd, if◌then◌else◌}
+use Rattle.std.specs.List.{AllByRecursion}
 use Rattle.std.specs.Option.{option_and_then}
 use Rattle.std.proofs.lemmas.Bool.{eqb-true, ltb-true}
 use Rattle.std.proofs.lemmas.List.{length-map}
@@ -7,12 +8,9 @@ use Rattle.std.proofs.lemmas.Option.{same_Some, slice_get-map, slice_get_within}
 use Rattle.csp_app.specs.PlainApp as app
 use Rattle.csp_app.specs.declared.step.Step.{Step}
 use Rattle.csp_bridge.specs.PlainBridge as bridge
-use Rattle.csp_consistent.specs.Parties.{config_of, router_for}
 use Rattle.csp_iface.specs.Links.{carried_on}
 use Rattle.csp_iface.specs.PlainIface as iface
-use Rattle.csp_link.specs.PlainLink as link
 use Rattle.csp_link.specs.PlainLink.{lane_of}
-use Rattle.csp_link.specs.declared.fault.Fault.{Fault}
 use Rattle.csp_lists.specs.PlainDeck.{PlainDeck, rule_of}
 use Rattle.csp_log.specs.declared.places.Carries.TheVariants as lane
 use Rattle.csp_log.specs.declared.places.End.{End}
@@ -22,23 +20,24 @@ use Rattle.csp_log.specs.declared.places.QueueId.{QueueId}
 use Rattle.csp_log.specs.declared.places.QueueId.TheVariants as queue
 use Rattle.csp_log.specs.declared.places.Rule.{Rule}
 use Rattle.csp_log.specs.declared.places.Rule.TheVariants as rule
-use Rattle.csp_nodes.specs.DecksAt.{DecksAt}
 use Rattle.csp_nodes.specs.Fresh.{fresh_buffers}
 use Rattle.csp_nodes.specs.Serving.{at_end, of_frames, rule_there}
-use Rattle.csp_party.specs.Any.{plain, uses, holds, PlainParty, a_bridge, an_iface, an_app, count}
-use Rattle.csp_party.specs.declared.any.AnyParty.TheVariants as party
+use Rattle.csp_party.specs.Any.{uses, PlainParty, a_bridge, an_iface, an_app}
+use Rattle.csp_record.specs.declared.who.Who.{Who}
 use Rattle.csp_record.specs.declared.who.Who.TheVariants as who
-use Rattle.csp_route.specs.Routes.{Routes}
-use Rattle.csp_scene.specs.Scene.{PlainNode, PlainLink}
+use Rattle.csp_scene.proofs.Lists.{AllByRecursion-append}
+use Rattle.csp_scene.specs.Links.{links_at}
+use Rattle.csp_scene.specs.Ranges.{IsScene}
+use Rattle.csp_scene.specs.Scene.{PlainApp, PlainNode, PlainLink, PlainScene}
 use Rattle.csp_scene.specs.declared.limits.TheConstants.{BRIDGE_LINKS}
-use Rattle.csp_stack.specs.Router.{RouterAt}
-use Rattle.csp_world.proofs.OpeningLists.{get-push}
+use Rattle.csp_topology.specs.Parties.{PlainOpening, app_with, apps_from, bridge_at, config_of, hub_by, iface_on, ifaces_from, link_at, links_from, opens, parties_at, parties_from, parties_of, router_for}
+use Rattle.csp_topology.specs.Plan.{PlainNodePlan, plans_from}
 use Rattle.csp_world.proofs.OpeningNodes.{fresh_long}
 use Rattle.csp_world.proofs.OpeningRules.{Stands, up_rule, down_rule, out_rule, tx_rule, rx_rule}
-use Rattle.csp_world.specs.Inside.{IsNew, rooms, world_of}
-use Rattle.csp_world.specs.Opening.{CanJoin, opened_deck}
+use Rattle.csp_world.proofs.OpeningScene.{all_join, deck_there}
+use Rattle.csp_world.specs.Inside.{IsNew, rooms}
+use Rattle.csp_world.specs.Opening.{CanJoin, deck_of, opened_deck}
 use Rattle.csp_world.specs.World.{PlainWorld}
-use Rattle.csp_world.specs.declared.member.Member.{Member}
 
 -- the lists of a node have the queues that a party uses
 abbrev AreThere : PlainNode → List PlainLink → PlainParty → Type 0
@@ -79,10 +78,7 @@ same_lane : (k : LinkKind) → lane_of k ≡ carried_on k
 same_lane kind.Kiss = refl
 same_lane kind.Can = refl
 
--- of an interface on one of its links, which is of this kind
-abbrev pub KindAt : List PlainLink → ℕ → LinkKind → Type 0
-KindAt links number kind = IsSomeAnd (slice_get links number) (λ l. l.kind ≡ kind)
-
+-- of an interface on one of its links
 iface_there : Stands → (place number : ℕ) (kind : LinkKind) (n : PlainNode) (links : List PlainLink) (l : PlainLink) → slice_get links number ≡ Some l → l.kind ≡ kind → AreThere n links (an_iface (iface.opening place number kind))
 iface_there stands place number kind n links l at same_kind queue.Inbox r e = e
 iface_there stands place number kind n links l at same_kind (queue.Out k) r e =
@@ -95,12 +91,6 @@ iface_there stands place number kind n links l at same_kind (queue.Rx k) r e =
     (λ same. rx_rule stands n links k l (ap (slice_get links) same ∙ at) ∙ ap (λ c. Some (rule.Lane c)) (ap lane_of same_kind ∙ same_lane kind)) refl e
 iface_there stands place number kind n links l at same_kind (queue.Up k) r e = absurd cc
 iface_there stands place number kind n links l at same_kind (queue.Down k) r e = absurd cc
-
-iface_on_link : Stands → (place number : ℕ) (kind : LinkKind) (n : PlainNode) (links : List PlainLink) → KindAt links number kind → AreThere n links (an_iface (iface.opening place number kind))
-iface_on_link stands place number kind n links on = by (slice_get links number) refl on where
-  by : (o : Option PlainLink) → slice_get links number ≡ o → IsSomeAnd o (λ l. l.kind ≡ kind) → AreThere n links (an_iface (iface.opening place number kind))
-  by None at h = absurd h
-  by (Some l) at h = iface_there stands place number kind n links l at h
 
 -- of an application
 app_there : Stands → (number : ℕ) (steps : List Step) (n : PlainNode) (links : List PlainLink) → number < length n.apps → AreThere n links (an_app (app.opening number steps))
@@ -118,74 +108,143 @@ there_at : (decks : List PlainDeck) (place : ℕ) (n : PlainNode) (links : List 
     → rule_there decks (Some (place, q)) ≡ Some r
 there_at decks place n links q r at e = ap (option_and_then (λ (d : PlainDeck). rule_of d q)) at ∙ e
 
+-- and its place is one of theirs
+within_at : (decks : List PlainDeck) (place : ℕ) (d : PlainDeck) → slice_get decks place ≡ Some d → (node : ℕ) → Some place ≡ Some node → node < length decks
+within_at decks place d at node e = omega (arith, slice_get_within decks place d at, same_Some place node e)
+
 -- so each of them is new there
-pub router_new : Stands → (w : PlainWorld) (place addr : ℕ) (n : PlainNode) (links : List PlainLink) (r : RouterAt) → slice_get w.decks place ≡ Some (opened_deck n links)
-    → plain (party.Router r) ≡ router_for (config_of place addr n links) → IsNew w (who.Router place) (party.Router r)
-router_new stands w place addr n links r at e = record {
-  ready = λ later until goes. tt;
-  counted = ap count e;
-  served = λ q s u. there_at w.decks place n links q s at (router_there stands place addr n links q s (subst (λ (p : PlainParty). uses p q ≡ Some s) e u));
-  called = tt;
-  holds = ap holds e;
-}
-
-pub router_is : (place addr count : ℕ) (n seen : PlainNode) (links : List PlainLink) (routes : Routes) (ifaces : List (List ℕ)) → seen ≡ n → count ≡ length seen.apps → routes ≡ seen.routes → ifaces ≡ map (λ l. l.name) links
-    → router_for (record { facts = record { node = place; addr = addr; name = seen.name; seed = seen.seed; options = seen.options; apps = count; ifaces = ifaces }; routes = routes }) ≡ router_for (config_of place addr n links)
-router_is place addr count n seen links routes ifaces same counted copied named = rw (counted, copied, named, same) refl
-
-pub bridge_new : Stands → (w : PlainWorld) (place : ℕ) (n : PlainNode) (links : List PlainLink) (b : bridge.BridgeAt) → slice_get w.decks place ≡ Some (opened_deck n links) → length links ≡ BRIDGE_LINKS
-    → b.bridge ≡ bridge.opening → IsNew w (who.Bridge place) (party.Bridge b)
-bridge_new stands w place n links b at two e = record {
+router_new : Stands → (w : PlainWorld) (place addr : ℕ) (n : PlainNode) (links : List PlainLink) → slice_get w.decks place ≡ Some (opened_deck n links) → IsNew w.decks w.links (opens (who.Router place) (router_for (config_of place addr n links)))
+router_new stands w place addr n links at = record {
   ready = λ later until goes. tt;
   counted = refl;
-  served = λ q s u. there_at w.decks place n links q s at (bridge_there stands n links two q s (subst (λ (p : bridge.PlainBridge). uses (a_bridge p) q ≡ Some s) e u));
+  served = λ q s u. there_at w.decks place n links q s at (router_there stands place addr n links q s u);
   called = tt;
-  holds = ap bridge.holds e;
+  holds = refl;
+  home = λ node e. within_at w.decks place (opened_deck n links) at node e;
 }
 
-pub iface_new : Stands → (w : PlainWorld) (place number : ℕ) (kind : LinkKind) (n : PlainNode) (links : List PlainLink) (i : iface.IfaceAt) → slice_get w.decks place ≡ Some (opened_deck n links) → KindAt links number kind
-    → i.iface ≡ iface.opening place number kind → IsNew w (who.Iface place number) (party.Iface i)
-iface_new stands w place number kind n links i at on e = record {
-  ready = λ later until goes. ap (λ (p : iface.PlainIface). p.doing) e;
-  counted = ap (λ (p : iface.PlainIface). p.serial) e;
-  served = λ q s u. there_at w.decks place n links q s at (iface_on_link stands place number kind n links on q s (subst (λ (p : iface.PlainIface). uses (an_iface p) q ≡ Some s) e u));
-  called = tt;
-  holds = ap iface.holds e;
-}
-
-pub app_new : Stands → (w : PlainWorld) (place number : ℕ) (steps : List Step) (n : PlainNode) (links : List PlainLink) (a : app.AppAt) → slice_get w.decks place ≡ Some (opened_deck n links) → number < length n.apps
-    → a.app ≡ app.opening number steps → IsNew w (who.App place number) (party.App a)
-app_new stands w place number steps n links a at few e = record {
+bridge_new : Stands → (w : PlainWorld) (place : ℕ) (n : PlainNode) (links : List PlainLink) → slice_get w.decks place ≡ Some (opened_deck n links) → length links ≡ BRIDGE_LINKS → IsNew w.decks w.links (bridge_at place)
+bridge_new stands w place n links at two = record {
   ready = λ later until goes. tt;
-  counted = ap app.count e;
-  served = λ q s u. there_at w.decks place n links q s at (app_there stands number steps n links few q s (subst (λ (p : app.PlainApp). uses (an_app p) q ≡ Some s) e u));
+  counted = refl;
+  served = λ q s u. there_at w.decks place n links q s at (bridge_there stands n links two q s u);
   called = tt;
-  holds = ap app.holds e;
+  holds = refl;
+  home = λ node e. within_at w.decks place (opened_deck n links) at node e;
+}
+
+hub_new : Stands → (w : PlainWorld) (addr : Option ℕ) (place : ℕ) (n : PlainNode) (links : List PlainLink) → slice_get w.decks place ≡ Some (opened_deck n links) → (addr ≡ None → length links ≡ BRIDGE_LINKS) → IsNew w.decks w.links (hub_by addr place n links)
+hub_new stands w (Some addr) place n links at two = router_new stands w place addr n links at
+hub_new stands w None place n links at two = bridge_new stands w place n links at (two refl)
+
+iface_new : Stands → (w : PlainWorld) (place number : ℕ) (n : PlainNode) (links : List PlainLink) (l : PlainLink) → slice_get w.decks place ≡ Some (opened_deck n links) → slice_get links number ≡ Some l → IsNew w.decks w.links (iface_on place number l.kind)
+iface_new stands w place number n links l at on = record {
+  ready = λ later until goes. refl;
+  counted = refl;
+  served = λ q s u. there_at w.decks place n links q s at (iface_there stands place number l.kind n links l on refl q s u);
+  called = tt;
+  holds = refl;
+  home = λ node e. within_at w.decks place (opened_deck n links) at node e;
+}
+
+app_new : Stands → (w : PlainWorld) (place number : ℕ) (steps : List Step) (n : PlainNode) (links : List PlainLink) → slice_get w.decks place ≡ Some (opened_deck n links) → number < length n.apps → IsNew w.decks w.links (app_with place number steps)
+app_new stands w place number steps n links at few = record {
+  ready = λ later until goes. tt;
+  counted = refl;
+  served = λ q s u. there_at w.decks place n links q s at (app_there stands number steps n links few q s u);
+  called = tt;
+  holds = refl;
+  home = λ node e. within_at w.decks place (opened_deck n links) at node e;
 }
 
 -- a link is new where the nodes at its ends have its lanes
-pub link_new : (w : PlainWorld) (number : ℕ) (l : PlainLink) (p : link.PlainLink) → CanJoin w.decks l → slice_get w.links number ≡ Some l.ends
-    → p ≡ link.opening l.kind l.plan → IsNew w (who.Link number) (party.Link p)
-link_new w number l p can at e = record {
+link_new : (w : PlainWorld) (number : ℕ) (l : PlainLink) → CanJoin w.decks l → slice_get w.links number ≡ Some l.ends → IsNew w.decks w.links (link_at number l)
+link_new w number l can at = record {
   ready = λ later until goes. tt;
-  counted = ap link.count e;
+  counted = refl;
   served = λ q s u.
       ap (λ (o : Option (List End)). option_and_then of_frames (rule_there w.decks (option_and_then (λ ends. at_end ends q) o))) at
-      ∙ can.lanes q s (subst (λ (p : link.PlainLink). link.uses p q ≡ Some s) e u);
+      ∙ can.lanes q s u;
   called = tt;
   holds = refl;
+  home = λ node e. absurd cc;
 }
 
-pub link_added : (old new : DecksAt) (time : ℕ) (ms : List Member) (number : ℕ) (l : PlainLink) (ends : List End) (carried : LinkKind) (plan : List Fault) (p : link.PlainLink) → CanJoin old.decks l → length old.links ≡ number
-    → new ≡ record old { links = old.links ++ ends ∷ [] } → ends ≡ l.ends → carried ≡ l.kind → plan ≡ l.plan → p ≡ link.opening carried plan → IsNew (world_of new ms time) (who.Link number) (party.Link p)
-link_added old new time ms number l ends carried plan p can count e same_ends same_kind same_plan is =
-    link_new (world_of new ms time) number l p (subst (λ (ds : List PlainDeck). CanJoin ds l) (sym (ap (λ (d : DecksAt). d.decks) e)) can)
-    (ap (λ (d : DecksAt). slice_get d.links number) e ∙ ap (slice_get (old.links ++ ends ∷ [])) (sym count) ∙ get-push old.links ends ∙ ap Some same_ends)
-    (is ∙ (rw (same_kind, same_plan) refl))
+-- each of these parties is new
+abbrev AreNew : PlainWorld → List PlainOpening → Type 0
+AreNew w os = AllByRecursion (IsNew w.decks w.links) os
+
+ifaces_new : Stands → (w : PlainWorld) (place number : ℕ) (n : PlainNode) (all links : List PlainLink) → slice_get w.decks place ≡ Some (opened_deck n all)
+    → ((k j : ℕ) (l : PlainLink) → slice_get links k ≡ Some l → j ≡ number + k → slice_get all j ≡ Some l) → AreNew w (ifaces_from place number links)
+ifaces_new stands w place number n all [] at there = tt
+ifaces_new stands w place number n all (l ∷ links) at there = (
+  iface_new stands w place number n all l at (there 0 number l refl (omega arith)),
+  ifaces_new stands w place (number + 1) n all links at (λ k j x e same. there (suc k) j x e (omega (arith, same))),
+)
+
+apps_new : Stands → (w : PlainWorld) (place number : ℕ) (n : PlainNode) (links : List PlainLink) (apps : List PlainApp) → slice_get w.decks place ≡ Some (opened_deck n links)
+    → number + length apps ≤ length n.apps → AreNew w (apps_from place number apps)
+apps_new stands w place number n links [] at few = tt
+apps_new stands w place number n links (a ∷ apps) at few =
+    (app_new stands w place number a.steps n links at (omega (arith, few)), apps_new stands w place (number + 1) n links apps at (omega (arith, few)))
+
+node_new : Stands → (w : PlainWorld) (place : ℕ) (n : PlainNode) (links : List PlainLink) → slice_get w.decks place ≡ Some (opened_deck n links) → (n.addr ≡ None → length links ≡ BRIDGE_LINKS) → AreNew w (parties_at place n links)
+node_new stands w place n links at two = (
+  hub_new stands w n.addr place n links at two,
+  AllByRecursion-append (IsNew w.decks w.links) (ifaces_from place 0 links) (apps_from place 0 n.apps)
+      (ifaces_new stands w place 0 n links links at (λ k j l e same. let to : j ≡ k = omega (arith, same) in ap (slice_get links) to ∙ e)) (apps_new stands w place 0 n links n.apps at (omega arith)),
+)
+
+-- the lists of the nodes from this place on are there, and a bridge has two links
+abbrev AreOpened : PlainWorld → ℕ → List PlainNode → List PlainLink → Type 0
+AreOpened w place nodes links = (k j : ℕ) (n : PlainNode) → slice_get nodes k ≡ Some n → j ≡ place + k → (slice_get w.decks j ≡ Some (opened_deck n (links_at j links))) × (n.addr ≡ None → length (links_at j links) ≡ BRIDGE_LINKS)
+
+nodes_new : Stands → (w : PlainWorld) (place : ℕ) (nodes : List PlainNode) (links : List PlainLink) → AreOpened w place nodes links → AreNew w (parties_from place nodes links)
+nodes_new stands w place [] links there = tt
+nodes_new stands w place (n ∷ nodes) links there =
+    let here = there 0 place n refl (omega arith) in
+    AllByRecursion-append (IsNew w.decks w.links) (parties_at place n (links_at place links)) (parties_from (place + 1) nodes links)
+    (node_new stands w place n (links_at place links) here.0 here.1)
+    (nodes_new stands w (place + 1) nodes links (λ k j x e same. there (suc k) j x e (omega (arith, same))))
+
+links_new : (w : PlainWorld) (number : ℕ) (links : List PlainLink) → AllByRecursion (CanJoin w.decks) links → ((k j : ℕ) (l : PlainLink) → slice_get links k ≡ Some l → j ≡ number + k → slice_get w.links j ≡ Some l.ends)
+    → AreNew w (links_from number links)
+links_new w number [] can there = tt
+links_new w number (l ∷ links) can there =
+    (link_new w number l can.0 (there 0 number l refl (omega arith)), links_new w (number + 1) links can.1 (λ k j x e same. there (suc k) j x e (omega (arith, same))))
+
+-- so all parties of a scene are new over its lists
+parties_new : Stands → (w : PlainWorld) (nodes : List PlainNode) (links : List PlainLink) → AreOpened w 0 nodes links → AllByRecursion (CanJoin w.decks) links → w.links ≡ map (λ l. l.ends) links
+    → AreNew w (parties_from 0 nodes links ++ links_from 0 links)
+parties_new stands w nodes links there can ends =
+    AllByRecursion-append (IsNew w.decks w.links) (parties_from 0 nodes links) (links_from 0 links) (nodes_new stands w 0 nodes links there)
+    (links_new w 0 links can (λ k j l e same.
+    let to : j ≡ k = omega (arith, same) in
+    ap (λ (all : List (List End)). slice_get all j) ends ∙ slice_get-map (λ (x : PlainLink). x.ends) links j ∙ ap (option_map (λ (x : PlainLink). x.ends)) (ap (slice_get links) to ∙ e)))
+
+-- a scene's parties are new over its lists
+pub scene_new : Stands → (scene : PlainScene) → IsScene scene → (decks : List PlainDeck) (links : List (List End)) (os : List PlainOpening) → decks ≡ map deck_of (plans_from 0 scene.nodes scene.links)
+    → links ≡ map (λ l. l.ends) scene.links → os ≡ parties_of scene → AllByRecursion (IsNew decks links) os
+unfolding parties_of
+scene_new stands scene is decks links os same_decks same_links same_parties = rw (same_decks, same_links, same_parties) (parties_new stands w scene.nodes scene.links there (all_join stands scene.nodes scene.links scene.links is.links) refl) where
+  w : PlainWorld
+  w = record { decks = map deck_of (plans_from 0 scene.nodes scene.links); links = map (λ l. l.ends) scene.links; members = []; time = 0 }
+
+  there : AreOpened w 0 scene.nodes scene.links
+  there k j n e same =
+      let to : j ≡ k = omega (arith, same) in
+      let at : slice_get scene.nodes j ≡ Some n = ap (slice_get scene.nodes) to ∙ e in
+      (deck_there scene.nodes scene.links j n at, (is.joined j n at).bridge)
+
+-- a party is new by who it is and what it is
+pub new_as : (decks : List PlainDeck) (links : List (List End)) (o : PlainOpening) (w : Who) (p : PlainParty) → w ≡ o.who → p ≡ o.party → IsNew decks links o → IsNew decks links (opens w p)
+new_as decks links o w p same_who same_party h = rw (same_who, same_party) h
 
 -- the pool of a node has no more room than it has buffers
-pub room_at : (decks : List PlainDeck) (place buffers : ℕ) (n : PlainNode) (links : List PlainLink) → slice_get decks place ≡ Some (opened_deck n links) → n.buffers ≡ buffers
-    → (node : ℕ) → Some place ≡ Some node → IsSomeAnd (slice_get (rooms decks) node) (λ room. room ≤ buffers)
-room_at decks place buffers n links at same node e =
-    let there : slice_get (rooms decks) place ≡ Some (length (fresh_buffers n.buffers)) = slice_get-map (λ (d : PlainDeck). d.pool.room) decks place ∙ ap (option_map (λ (d : PlainDeck). d.pool.room)) at in
-    subst (λ (k : ℕ). IsSomeAnd (slice_get (rooms decks) k) (λ room. room ≤ buffers)) (same_Some place node e) (rw there (omega (arith, fresh_long n.buffers, same)))
+pub room_at : (nodes : List PlainNodePlan) (place : ℕ) (n : PlainNodePlan) (buffers : ℕ) → slice_get nodes place ≡ Some n → n.buffers ≡ buffers
+    → (node : ℕ) → Some place ≡ Some node → IsSomeAnd (slice_get (rooms (map deck_of nodes)) node) (λ room. room ≤ buffers)
+room_at nodes place n buffers at same node e =
+    let there : slice_get (rooms (map deck_of nodes)) place ≡ Some (length (fresh_buffers n.buffers)) =
+    slice_get-map (λ (d : PlainDeck). d.pool.room) (map deck_of nodes) place
+    ∙ ap (option_map (λ (d : PlainDeck). d.pool.room)) (slice_get-map deck_of nodes place ∙ ap (option_map deck_of) at) in
+    subst (λ (k : ℕ). IsSomeAnd (slice_get (rooms (map deck_of nodes)) k) (λ room. room ≤ buffers)) (same_Some place node e) (rw there (omega (arith, fresh_long n.buffers, same)))

@@ -1,14 +1,12 @@
 -- The nodes and the links of a scene, one by one.
-use Rattle.std.proofs.Common.{◌≡◌, ℕ, zero, suc, ◌+◌, ◌<◌, ◌≤◌, Bool, true, false, nat_lt, List, [], ◌∷◌, ◌++◌, Option, Some, None, length, map, refl, sym, subst, ap, ◌∙◌, arith, slice_get, if◌then◌else◌}
-use Rattle.std.specs.List.{All, AllByRecursion}
+use Rattle.std.proofs.Common.{◌≡◌, ℕ, zero, suc, ◌+◌, ◌<◌, Bool, true, false, nat_lt, List, [], ◌∷◌, Option, Some, None, length, map, option_map, refl, ap, ◌∙◌, arith, slice_get, if◌then◌else◌}
+use Rattle.std.specs.List.{AllByRecursion}
 use Rattle.std.specs.Option.{option_and_then}
 use Rattle.std.proofs.lemmas.Bool.{ltb-true}
-use Rattle.std.proofs.lemmas.List.{append_assoc, length-map}
-use Rattle.std.proofs.lemmas.List.Elements.{All-from_recursion, All-map}
+use Rattle.std.proofs.lemmas.Option.{slice_get-map}
 use Rattle.csp_link.specs.PlainLink as link
 use Rattle.csp_link.specs.PlainLink.{lane_of}
-use Rattle.csp_lists.specs.PlainDeck.{PlainDeck, IsLinkRule, rule_of}
-use Rattle.csp_log.specs.declared.places.Carries.{Carries}
+use Rattle.csp_lists.specs.PlainDeck.{PlainDeck, rule_of}
 use Rattle.csp_log.specs.declared.places.End.{End}
 use Rattle.csp_log.specs.declared.places.LinkKind.{LinkKind}
 use Rattle.csp_log.specs.declared.places.LinkKind.TheVariants as kind
@@ -17,66 +15,21 @@ use Rattle.csp_log.specs.declared.places.QueueId.TheVariants as queue
 use Rattle.csp_log.specs.declared.places.Rule.{Rule}
 use Rattle.csp_log.specs.declared.places.Rule.TheVariants as rule
 use Rattle.csp_nodes.specs.Serving.{at_end, of_frames, rule_there}
-use Rattle.csp_scene.specs.Links.{links_at, touches}
+use Rattle.csp_scene.specs.Links.{links_at}
 use Rattle.csp_scene.specs.Ranges.{IsEnd, IsLink, AreEnds}
-use Rattle.csp_scene.specs.Scene.{PlainApp, PlainNode, PlainLink}
-use Rattle.csp_world.proofs.OpeningLists.{filter_long}
+use Rattle.csp_scene.specs.Scene.{PlainNode, PlainLink}
+use Rattle.csp_topology.specs.Plan.{plan_of, plans_from}
 use Rattle.csp_world.proofs.OpeningRules.{Stands, tx_rule, rx_rule}
-use Rattle.csp_world.specs.Opening.{CanJoin, opened_deck, decks_from, iface_on, new_iface, ifaces_from, apps_from}
-use Rattle.csp_world.specs.World.{PlainMember}
-
--- a node has no more links than there are
-pub links_few : (place : ℕ) (links : List PlainLink) → length (links_at place links) ≤ length links
-links_few place links = filter_long (touches place) links
-
--- its lanes carry what links carry, and are no more
-link_rule : (k : LinkKind) → IsLinkRule (lane_of k)
-link_rule kind.Kiss = tt
-link_rule kind.Can = tt
-
-pub lanes_rule : (place : ℕ) (links : List PlainLink) (lanes : List Carries) → lanes ≡ map (λ l. lane_of l.kind) (links_at place links) → All IsLinkRule lanes
-lanes_rule place links lanes e = subst (All IsLinkRule) (sym e) (All-map IsLinkRule (λ (l : PlainLink). lane_of l.kind) (links_at place links) (λ k l low. link_rule _))
-
-pub lanes_few : (place : ℕ) (links : List PlainLink) (lanes : List Carries) → lanes ≡ map (λ l. lane_of l.kind) (links_at place links) → length lanes ≤ length links
-lanes_few place links lanes e =
-    omega (arith, ap (λ (ls : List Carries). length ls) e, length-map (links_at place links) (λ (l : PlainLink). lane_of l.kind), links_few place links)
-
--- a node has a router or bridge, an interface for each of its links, and its applications
-pub ifaces_long : (place number : ℕ) (links : List PlainLink) → length (ifaces_from place number links) ≡ length links
-ifaces_long place number [] = refl
-ifaces_long place number (l ∷ links) = ap suc (ifaces_long place (number + 1) links)
-
-pub apps_long : (place number : ℕ) (apps : List PlainApp) → length (apps_from place number apps) ≡ length apps
-apps_long place number [] = refl
-apps_long place number (a ∷ apps) = ap suc (apps_long place (number + 1) apps)
-
--- the interfaces with one more
-pub ifaces-more : (place number : ℕ) (links : List PlainLink) (l : PlainLink) → ifaces_from place number (links ++ l ∷ []) ≡ ifaces_from place number links ++ new_iface place (number + length links) l ∷ []
-ifaces-more place number [] l = ap (λ (k : ℕ). new_iface place k l ∷ []) (omega arith)
-ifaces-more place number (x ∷ links) l =
-    ap (λ ms. new_iface place number x ∷ ms) (ifaces-more place (number + 1) links l ∙ ap (λ (k : ℕ). ifaces_from place (number + 1) links ++ new_iface place k l ∷ []) (omega arith))
-
-pub ifaces-push : (ms : List PlainMember) (place number : ℕ) (carried : LinkKind) (links : List PlainLink) (l : PlainLink) → number ≡ length links → carried ≡ l.kind
-    → (ms ++ ifaces_from place 0 links) ++ iface_on place number carried ∷ [] ≡ ms ++ ifaces_from place 0 (links ++ l ∷ [])
-ifaces-push ms place number carried links l count same =
-    append_assoc ms (ifaces_from place 0 links) (iface_on place number carried ∷ [])
-    ∙ ap (λ (k : LinkKind). ms ++ (ifaces_from place 0 links ++ iface_on place number k ∷ [])) same
-    ∙ ap (λ (k : ℕ). ms ++ (ifaces_from place 0 links ++ new_iface place k l ∷ [])) (omega (arith, count))
-    ∙ ap (λ (is : List PlainMember). ms ++ is) (sym (ifaces-more place 0 links l))
+use Rattle.csp_world.specs.Opening.{CanJoin, deck_of, opened_deck}
 
 -- the lists of the node at a place
-pub deck_from : (place : ℕ) (nodes : List PlainNode) (links : List PlainLink) (k : ℕ) (n : PlainNode) → slice_get nodes k ≡ Some n
-    → slice_get (decks_from place nodes links) k ≡ Some (opened_deck n (links_at (place + k) links))
-deck_from place [] links k n e = absurd cc
-deck_from place (x ∷ nodes) links zero n e =
-    ap (λ (k : ℕ). Some (opened_deck x (links_at k links))) (omega arith) ∙ ap (λ (o : Option PlainNode). opened_by o) e where
-      opened_by : Option PlainNode → Option PlainDeck
-      opened_by None = None
-      opened_by (Some x) = Some (opened_deck x (links_at (place + 0) links))
-deck_from place (x ∷ nodes) links (suc k) n e = deck_from (place + 1) nodes links k n e ∙ ap (λ (j : ℕ). Some (opened_deck n (links_at j links))) (omega arith)
+plan_from : (place : ℕ) (nodes : List PlainNode) (links : List PlainLink) (k j : ℕ) (n : PlainNode) → slice_get nodes k ≡ Some n → j ≡ place + k → slice_get (plans_from place nodes links) k ≡ Some (plan_of n (links_at j links))
+plan_from place [] links k j n e same = absurd cc
+plan_from place (x ∷ nodes) links zero j n e same = ap (λ (i : ℕ). Some (plan_of x (links_at i links))) (omega (arith, same)) ∙ ap (option_map (λ (y : PlainNode). plan_of y (links_at j links))) e
+plan_from place (x ∷ nodes) links (suc k) j n e same = plan_from (place + 1) nodes links k j n e (omega (arith, same))
 
-pub deck_there : (nodes : List PlainNode) (links : List PlainLink) (k : ℕ) (n : PlainNode) → slice_get nodes k ≡ Some n → slice_get (decks_from 0 nodes links) k ≡ Some (opened_deck n (links_at k links))
-deck_there nodes links k n e = deck_from 0 nodes links k n e ∙ ap (λ (j : ℕ). Some (opened_deck n (links_at j links))) (omega arith)
+pub deck_there : (nodes : List PlainNode) (links : List PlainLink) (k : ℕ) (n : PlainNode) → slice_get nodes k ≡ Some n → slice_get (map deck_of (plans_from 0 nodes links)) k ≡ Some (opened_deck n (links_at k links))
+deck_there nodes links k n e = slice_get-map deck_of (plans_from 0 nodes links) k ∙ ap (option_map deck_of) (plan_from 0 nodes links k k n e (omega arith))
 
 -- a node that is there
 pub node_there : (nodes : List PlainNode) (k : ℕ) → k < length nodes → (n : PlainNode) × (slice_get nodes k ≡ Some n)
@@ -91,7 +44,7 @@ frames kind.Can = refl
 
 -- at each end of a link the node there has its lanes
 tx_there : Stands → (nodes : List PlainNode) (links : List PlainLink) (l : PlainLink) (end : End) → IsEnd nodes links l end
-    → option_and_then of_frames (rule_there (decks_from 0 nodes links) (Some (end.node, queue.Tx end.iface))) ≡ Some (rule.Lane (lane_of l.kind))
+    → option_and_then of_frames (rule_there (map deck_of (plans_from 0 nodes links)) (Some (end.node, queue.Tx end.iface))) ≡ Some (rule.Lane (lane_of l.kind))
 tx_there stands nodes links l end is =
     let there = node_there nodes end.node is.node in
     ap (λ (o : Option PlainDeck). option_and_then of_frames (option_and_then (λ (d : PlainDeck). rule_of d (queue.Tx end.iface)) o)) (deck_there nodes links end.node there.0 there.1)
@@ -99,7 +52,7 @@ tx_there stands nodes links l end is =
     ∙ frames l.kind
 
 rx_there : Stands → (nodes : List PlainNode) (links : List PlainLink) (l : PlainLink) (end : End) → IsEnd nodes links l end
-    → option_and_then of_frames (rule_there (decks_from 0 nodes links) (Some (end.node, queue.Rx end.iface))) ≡ Some (rule.Lane (lane_of l.kind))
+    → option_and_then of_frames (rule_there (map deck_of (plans_from 0 nodes links)) (Some (end.node, queue.Rx end.iface))) ≡ Some (rule.Lane (lane_of l.kind))
 rx_there stands nodes links l end is =
     let there = node_there nodes end.node is.node in
     ap (λ (o : Option PlainDeck). option_and_then of_frames (option_and_then (λ (d : PlainDeck). rule_of d (queue.Rx end.iface)) o)) (deck_there nodes links end.node there.0 there.1)
@@ -123,7 +76,7 @@ of_two l r (suc (suc k)) first second here one other at_first at_second within h
   no false h e = cc
 
 -- so each link of a scene can be opened over the lists of its nodes
-can_join : Stands → (nodes : List PlainNode) (links : List PlainLink) (l : PlainLink) → IsLink nodes links l → CanJoin (decks_from 0 nodes links) l
+can_join : Stands → (nodes : List PlainNode) (links : List PlainLink) (l : PlainLink) → IsLink nodes links l → CanJoin (map deck_of (plans_from 0 nodes links)) l
 can_join stands nodes links l is = record {
   plan = λ k f low. (is.plan k f low).fault;
   lanes = lanes;
@@ -132,7 +85,7 @@ can_join stands nodes links l is = record {
   e = is.ends
 
   seen : List End → QueueId → Option Rule
-  seen ends q = option_and_then of_frames (rule_there (decks_from 0 nodes links) (at_end ends q))
+  seen ends q = option_and_then of_frames (rule_there (map deck_of (plans_from 0 nodes links)) (at_end ends q))
 
   lanes : (q : QueueId) (r : Rule) → link.uses (link.opening l.kind l.plan) q ≡ Some r → seen l.ends q ≡ Some r
   lanes queue.Inbox r u = absurd cc
@@ -146,5 +99,11 @@ can_join stands nodes links l is = record {
       (λ same. ap (λ (ends : List End). seen ends (queue.Rx k)) e.two ∙ ap (λ (j : ℕ). seen (e.first ∷ e.second ∷ []) (queue.Rx j)) same)
       (λ same. ap (λ (ends : List End). seen ends (queue.Rx k)) e.two ∙ ap (λ (j : ℕ). seen (e.first ∷ e.second ∷ []) (queue.Rx j)) same) _ refl u
 
-pub all_join : Stands → (nodes : List PlainNode) (links : List PlainLink) → AllByRecursion (IsLink nodes links) links → All (CanJoin (decks_from 0 nodes links)) links
-all_join stands nodes links is k l low = can_join stands nodes links _ (All-from_recursion (IsLink nodes links) links is k l low)
+pub all_join : Stands → (nodes : List PlainNode) (links all : List PlainLink) → AllByRecursion (IsLink nodes links) all → AllByRecursion (CanJoin (map deck_of (plans_from 0 nodes links))) all
+all_join stands nodes links [] is = tt
+all_join stands nodes links (l ∷ all) is = (can_join stands nodes links l is.0, all_join stands nodes links all is.1)
+
+-- there is a plan for each node
+pub plans_count : (place : ℕ) (nodes : List PlainNode) (links : List PlainLink) → length (plans_from place nodes links) ≡ length nodes
+plans_count place [] links = refl
+plans_count place (n ∷ nodes) links = ap suc (plans_count (place + 1) nodes links)

@@ -22,8 +22,8 @@ use Rattle.csp_log.specs.declared.shown.OpShown.TheVariants as op
 use Rattle.csp_nodes.specs.Serving.{answer_in, at_queue, goes}
 use Rattle.csp_record.specs.Who.{node_of}
 use Rattle.csp_record.specs.declared.who.Who.{Who}
-use Rattle.csp_world.proofs.AnsweredLemmas.{good_answer}
-use Rattle.csp_world.proofs.CountLaws.{times_joined}
+use Rattle.csp_world.proofs.AnsweredLemmas.{fits_answer}
+use Rattle.csp_nodes.proofs.CountLaws.{times_joined}
 use Rattle.csp_world.proofs.LocalLemmas.{IsLocal, local}
 
 -- the pool has what it had, less what was taken, with what was given
@@ -127,7 +127,7 @@ pooled decks links w op.Take node d at = pooled_own op.Take (λ x. pooled_taken 
 pooled decks links w (op.Give b) node d at = pooled_own (op.Give b) (λ x. pooled_given x b) (node_of w) _ node d (local decks links w (op.Give b) node d at)
 pooled decks links w (op.Push q i) node d at =
     same_pool d (local decks links w (op.Push q i) node d at).after (is_node node (node_of w)) _ _ (pool_kept _ (kept_push q i (goes links w q)) _ node d (local decks links w (op.Push q i) node d at))
-    (none_pushed q i _ (good_answer decks links w (op.Push q i)).fits) refl
+    (none_pushed q i _ (fits_answer decks links w (op.Push q i))) refl
 pooled decks links w (op.Pop q) node d at =
     same_pool d (local decks links w (op.Pop q) node d at).after (is_node node (node_of w)) _ _ (pool_kept _ (kept_pop q (goes links w q)) _ node d (local decks links w (op.Pop q) node d at))
-    (none_popped q _ (good_answer decks links w (op.Pop q)).fits) refl
+    (none_popped q _ (fits_answer decks links w (op.Pop q))) refl

@@ -1,35 +1,27 @@
 -- What is true of each world that turns and ticks make of a scene's opening.
-use Rattle.std.proofs.Common.{◌≡◌, ℕ, ◌+◌, ◌==◌, Bool, true, false, Option, None, Some, List, [], ◌∷◌, ◌++◌, length, map, refl, sym, subst, ap, ◌∙◌, arith}
-use Rattle.std.specs.Prelude.{slice_get, if◌then◌else◌}
-use Rattle.std.specs.List.{AllByRecursion, flat_map}
-use Rattle.std.specs.Option.{option_map, option_to_list}
-use Rattle.std.proofs.Math.Bool.{and-false}
-use Rattle.std.proofs.lemmas.Grind.{flat_map-append}
-use Rattle.std.proofs.lemmas.Option.{slice_get-map}
+use Rattle.std.proofs.Common.{◌≡◌, ℕ, ◌+◌, Bool, true, false, Option, None, Some, List, [], ◌∷◌, length, map, refl, sym, subst, ap, ◌∙◌, arith}
+use Rattle.std.specs.Prelude.{slice_get, slice_index_or, if◌then◌else◌}
+use Rattle.std.specs.List.{AllByRecursion}
 use Rattle.csp_consistent.proofs.Names.{are_apart}
 use Rattle.csp_consistent.proofs.OwnQueues.{scene_own}
 use Rattle.csp_consistent.proofs.Owners.{are_owners}
 use Rattle.csp_consistent.specs.Inboxes.{AreInboxesInOrder, IsInboxInOrder}
-use Rattle.csp_consistent.specs.Lanes.{AreInOrder, IsInOrder, PlainLane, hub_of, lanes_of}
-use Rattle.csp_consistent.specs.Parties.{parties_of}
-use Rattle.csp_consistent.specs.Pools.{AreNumbersKept, IsPoolWhole, held_at, held_here}
+use Rattle.csp_consistent.specs.Lanes.{AreInOrder, IsInOrder}
+use Rattle.csp_topology.specs.Lanes.{PlainLane, hub_of, lanes_of}
+use Rattle.csp_topology.specs.Parties.{parties_of}
+use Rattle.csp_consistent.specs.Pools.{AreNumbersKept, IsPoolWhole}
 use Rattle.csp_consistent.specs.Runs.{AreLogsOf}
 use Rattle.csp_deck.specs.Step.{times}
 use Rattle.csp_link.specs.PlainLink.{lane_of}
-use Rattle.csp_lists.specs.PlainDeck.{PlainDeck, buffer_numbers}
+use Rattle.csp_lists.specs.PlainDeck.{PlainDeck}
 use Rattle.csp_log.specs.declared.places.End.{End}
-use Rattle.csp_log.specs.declared.places.Place.TheVariants as place
 use Rattle.csp_nodes.specs.Fresh.{fresh_buffers}
-use Rattle.csp_nodes.specs.Gathering.{pools_held, queues_held}
-use Rattle.csp_record.specs.Who.{home_of}
-use Rattle.csp_record.specs.declared.who.Who.{Who}
-use Rattle.csp_record.specs.declared.who.Who.TheVariants as who
 use Rattle.csp_scene.proofs.Lists.{AllByRecursion-map}
 use Rattle.csp_scene.specs.Kept.{AreLinksAfter}
 use Rattle.csp_scene.specs.Links.{links_at}
 use Rattle.csp_scene.specs.Ranges.{IsScene}
 use Rattle.csp_scene.specs.Scene.{PlainLink, PlainNode, PlainScene}
-use Rattle.csp_party.specs.Any.{asks, has_ended, holds}
+use Rattle.csp_party.specs.Any.{asks, has_ended}
 use Rattle.csp_world.proofs.EndsApart.{ends_in}
 use Rattle.csp_world.proofs.InboxLemmas.{IsInboxKept, IsKnown, inbox_in_order, inbox_opened, inbox_turn}
 use Rattle.csp_world.proofs.KeptLemmas.{IsPoolKept, gave_logs, kept_opened, kept_turn, took_logs}
@@ -42,11 +34,12 @@ use Rattle.csp_world.proofs.OpenedLemmas.{members_opened, opening_logged}
 use Rattle.csp_world.proofs.OpeningNodes.{fresh_numbers}
 use Rattle.csp_world.proofs.OpeningRules.{Stands}
 use Rattle.csp_world.proofs.OpeningScene.{deck_there}
-use Rattle.csp_world.proofs.PlaceHeldLemmas.{AreQueued, KeepsQueues, no_pool, none_in_queues, pool_held, queued-kept, queued-opening}
-use Rattle.csp_world.proofs.PlacesLemmas.{places_kept}
-use Rattle.csp_world.specs.Opening.{decks_from, opened_deck, opening}
+use Rattle.csp_world.proofs.QueuedLemmas.{AreQueued, KeepsQueues, queued-kept, queued-opening}
+use Rattle.csp_world.proofs.WholeLemmas.{held_each, in_pool, in_pool_at, left_each, many_pools, rows_after}
+use Rattle.csp_topology.specs.Plan.{plans_from}
+use Rattle.csp_world.specs.Opening.{deck_of, opened_deck, opening}
 use Rattle.csp_world.specs.Reached.{Happening, IsReached, a_tick, a_turn, world_after}
-use Rattle.csp_world.specs.Record.{held_by, member_held, record_of}
+use Rattle.csp_world.specs.Record.{record_of}
 use Rattle.csp_world.specs.World.{PlainMember, PlainWorld, turn, turn_at, turned}
 
 -- each party has taken the turns of its log
@@ -76,7 +69,7 @@ all_after P keeps scene all (a_turn place ∷ hs) = all_turn P keeps (world_afte
 all_after P keeps scene all (a_tick ∷ hs) = all_after P keeps scene all hs
 
 -- each queue stands where a queue does
-decks_queued : (place : ℕ) (nodes : List PlainNode) (links : List PlainLink) → AllByRecursion AreQueued (decks_from place nodes links)
+decks_queued : (place : ℕ) (nodes : List PlainNode) (links : List PlainLink) → AllByRecursion AreQueued (map deck_of (plans_from place nodes links))
 decks_queued place [] links = tt
 decks_queued place (n ∷ nodes) links = (queued-opening (fresh_buffers n.buffers) n.inbox (length n.apps) (map (λ l. lane_of l.kind) (links_at place links)), decks_queued (place + 1) nodes links)
 
@@ -97,35 +90,12 @@ all_pooled scene node n at [] = opening_kept scene node n at
 all_pooled scene node n at (a_turn place ∷ hs) = kept_turn node n.buffers (world_after scene hs) place (all_pooled scene node n at hs)
 all_pooled scene node n at (a_tick ∷ hs) = all_pooled scene node n at hs
 
--- no party holds anything there
-none_by : (node : ℕ) (numbers : List ℕ) (w : Who) → flat_map (held_here node place.Pool) (option_to_list (option_map (held_by numbers) (home_of w))) ≡ []
-none_by node numbers (who.Router n) = rw (and-false (n == node)) refl
-none_by node numbers (who.Bridge n) = rw (and-false (n == node)) refl
-none_by node numbers (who.Iface n k) = rw (and-false (n == node)) refl
-none_by node numbers (who.App n k) = rw (and-false (n == node)) refl
-none_by node numbers (who.Link k) = refl
-
-none_at_parties : (node : ℕ) (ms : List PlainMember) → flat_map (held_here node place.Pool) (flat_map member_held ms) ≡ []
-none_at_parties node [] = refl
-none_at_parties node (m ∷ ms) = rw (flat_map-append (held_here node place.Pool) (member_held m) (flat_map member_held ms), none_by node (holds m.party) m.who, none_at_parties node ms) refl
-
--- so what the record says that a pool held is what is in it
-recorded_pool : (w : PlainWorld) (node : ℕ) (d : PlainDeck) → AllByRecursion AreQueued w.decks → slice_get w.decks node ≡ Some d → held_at (record_of w) node place.Pool ≡ buffer_numbers d.pool.items
-recorded_pool w node d apart at =
-    let pools = map (λ (x : PlainDeck). x.pool) w.decks in
-    let here = held_here node place.Pool in
-    let there : slice_get pools node ≡ Some d.pool = slice_get-map (λ (x : PlainDeck). x.pool) w.decks node ∙ ap (option_map (λ (x : PlainDeck). x.pool)) at in
-    flat_map-append here (queues_held 0 w.decks) (flat_map member_held w.members ++ pools_held 0 pools)
-    ∙ ap (λ (ns : List ℕ). ns ++ flat_map here (flat_map member_held w.members ++ pools_held 0 pools)) (none_in_queues node 0 place.Pool no_pool w.decks apart)
-    ∙ flat_map-append here (flat_map member_held w.members) (pools_held 0 pools)
-    ∙ ap (λ (ns : List ℕ). ns ++ flat_map here (pools_held 0 pools)) (none_at_parties node w.members)
-    ∙ pool_held node pools d.pool there
-
-pool_whole : (w : PlainWorld) (node count : ℕ) → AllByRecursion AreQueued w.decks → IsPoolKept node count w.decks w.members → IsPoolWhole (record_of w) node count
-pool_whole w node count apart h k =
+-- so each pool is whole, with what is in it
+pool_whole : (w : PlainWorld) (node count : ℕ) → IsPoolKept node count w.decks w.members → IsPoolWhole (record_of w) node count (slice_index_or (map in_pool w.decks) node [])
+pool_whole w node count h k =
     let gives = ap (times k) (gave_logs node w.members) in
     let takes = ap (times k) (took_logs node w.members) in
-    let left = ap (times k) (recorded_pool w node h.deck apart h.there) in
+    let left = ap (times k) (in_pool_at w.decks node h.deck h.there) in
     let kept = h.kept k in
     omega (arith, gives, takes, left, kept)
 
@@ -133,10 +103,13 @@ pool_whole w node count apart h k =
 pub reached_numbers : KeepsQueues → (scene : PlainScene) (w : PlainWorld) → IsReached scene w → AreNumbersKept scene (record_of w)
 reached_numbers law scene w r =
     let v = world_after scene r.happenings in
-    let queued = all_after AreQueued (queued-kept law) scene (opening_queued scene) r.happenings in
+    let same = rows_after law scene r.happenings in
     let kept : AreNumbersKept scene (record_of v) = record {
-      pools = λ node n at. pool_whole v node n.buffers queued (all_pooled scene node n at r.happenings);
-      places = places_kept scene v (all_logged scene r.happenings) queued;
+      in_pools = map in_pool v.decks;
+      nodes = many_pools scene v same;
+      pools = λ node n at. pool_whole v node n.buffers (all_pooled scene node n at r.happenings);
+      left = left_each scene v same;
+      held = held_each scene v (all_after AreQueued (queued-kept law) scene (opening_queued scene) r.happenings) (all_logged scene r.happenings);
     } in
     subst (λ (x : PlainWorld). AreNumbersKept scene (record_of x)) (sym r.there) kept
 

@@ -13,7 +13,8 @@ use Rattle.csp_world.specs.declared.limits.TheConstants.{TURNS_PER_ROUND}
 use Rattle.csp_world.specs.declared.rounds.Order.{Order}
 use Rattle.csp_world.specs.Seen.{log_len}
 use Rattle.csp_world.specs.World.{PlainMember, PlainWorld, answered, told, turned, turned_by, turn_at, turn, tick, entries}
-use Rattle.csp_world.specs.Schedule.{names, turns, round, next_draw, drawn, drawn_places, draws, places_in}
+use Rattle.csp_draw.specs.Draws.{next_draw, drawn}
+use Rattle.csp_world.specs.Schedule.{names, turns, round, drawn_places, draws, places_in}
 
 -- a turn keeps the parties' names and the time, and adds at most one entry
 pub record Steady (w v : PlainWorld) : Type 0 where

@@ -12,9 +12,9 @@ use Rattle.csp_scene.specs.Ranges.{IsMove, IsSchedule, IsScene}
 use Rattle.csp_scene.specs.Scene.{PlainApp, PlainLink, PlainNode, PlainSchedule, PlainScene, in_rounds, shuffled, stepwise, moves_in}
 use Rattle.csp_scene.specs.declared.scenario.Move.{Move}
 use Rattle.csp_scene.specs.declared.scenario.Move.TheVariants as move
-use Rattle.csp_world.specs.Opening.{opening, hub_by, ifaces_from, apps_from, links_from, members_from, members_of}
+use Rattle.csp_topology.specs.Parties.{PlainOpening, hub_by, ifaces_from, apps_from, links_from, parties_at, parties_from, parties_of}
+use Rattle.csp_world.specs.Opening.{new_member, opening}
 use Rattle.csp_world.specs.Schedule.{IsThere, is_named, names, place_named}
-use Rattle.csp_world.specs.World.{PlainMember}
 
 -- the first of two tests, or the second, passes
 or_right : (a b : Bool) → b ≡ true → (a || b) ≡ true
@@ -41,13 +41,13 @@ and_found : (place n k : ℕ) (rest : Bool) → (n ≢ k → rest ≡ true) → 
 and_found place n k rest h = rw (itself place) (or_found n k rest h)
 
 -- a move names one of these parties
-abbrev among : Move → List PlainMember → Bool
+abbrev among : Move → List PlainOpening → Bool
 among m ps = list_any (λ p. is_named m p.who) ps
 
-among_left : (m : Move) (ps qs : List PlainMember) → among m ps ≡ true → among m (ps ++ qs) ≡ true
+among_left : (m : Move) (ps qs : List PlainOpening) → among m ps ≡ true → among m (ps ++ qs) ≡ true
 among_left m ps qs h = list_any-append (λ p. is_named m p.who) ps qs ∙ or_left _ _ h
 
-among_right : (m : Move) (ps qs : List PlainMember) → among m qs ≡ true → among m (ps ++ qs) ≡ true
+among_right : (m : Move) (ps qs : List PlainOpening) → among m qs ≡ true → among m (ps ++ qs) ≡ true
 among_right m ps qs h = list_any-append (λ p. is_named m p.who) ps qs ∙ or_right _ _ h
 
 link_among : (links : List PlainLink) (number k : ℕ) → number ≤ k → k < number + length links → among (move.Link k) (links_from number links) ≡ true
@@ -67,28 +67,28 @@ hub_named None place n links = itself place
 hub_named (Some addr) place n links = itself place
 
 -- the parties of a node
-hub_of_node : (place : ℕ) (n : PlainNode) (links : List PlainLink) → among (move.Router place) (members_of place n links) ≡ true
+hub_of_node : (place : ℕ) (n : PlainNode) (links : List PlainLink) → among (move.Router place) (parties_at place n links) ≡ true
 hub_of_node place n links = or_left _ _ (hub_named n.addr place n links)
 
-iface_of_node : (place k : ℕ) (n : PlainNode) (links : List PlainLink) → k < length links → among (move.Iface place k) (members_of place n links) ≡ true
+iface_of_node : (place k : ℕ) (n : PlainNode) (links : List PlainLink) → k < length links → among (move.Iface place k) (parties_at place n links) ≡ true
 iface_of_node place k n links h =
     or_right _ _ (among_left (move.Iface place k) (ifaces_from place 0 links) (apps_from place 0 n.apps) (iface_among place links 0 k (omega arith) (omega arith)))
 
-app_of_node : (place k : ℕ) (n : PlainNode) (links : List PlainLink) → k < length n.apps → among (move.App place k) (members_of place n links) ≡ true
+app_of_node : (place k : ℕ) (n : PlainNode) (links : List PlainLink) → k < length n.apps → among (move.App place k) (parties_at place n links) ≡ true
 app_of_node place k n links h =
     or_right _ _ (among_right (move.App place k) (ifaces_from place 0 links) (apps_from place 0 n.apps) (app_among place n.apps 0 k (omega arith) (omega arith)))
 
 -- a party of a node is among those of all nodes
 node_among : (m : Move) (nodes : List PlainNode) (links : List PlainLink) (first i place : ℕ) (n : PlainNode) → slice_get nodes i ≡ Some n → place ≡ first + i
-    → among m (members_of place n (links_at place links)) ≡ true → among m (members_from first nodes links) ≡ true
+    → among m (parties_at place n (links_at place links)) ≡ true → among m (parties_from first nodes links) ≡ true
 node_among m [] links first i place n e at h = absurd cc
 node_among m (x ∷ nodes) links first zero place n e at h =
     let here : place ≡ first = omega arith in
     let same : x ≡ n = cc in
-    among_left m (members_of first x (links_at first links)) (members_from (first + 1) nodes links)
-    (subst (λ (k : ℕ). among m (members_of k x (links_at k links)) ≡ true) here (subst (λ (y : PlainNode). among m (members_of place y (links_at place links)) ≡ true) (sym same) h))
+    among_left m (parties_at first x (links_at first links)) (parties_from (first + 1) nodes links)
+    (subst (λ (k : ℕ). among m (parties_at k x (links_at k links)) ≡ true) here (subst (λ (y : PlainNode). among m (parties_at place y (links_at place links)) ≡ true) (sym same) h))
 node_among m (x ∷ nodes) links first (suc i) place n e at h =
-    among_right m (members_of first x (links_at first links)) (members_from (first + 1) nodes links)
+    among_right m (parties_at first x (links_at first links)) (parties_from (first + 1) nodes links)
     (node_among m nodes links (first + 1) i place n e (omega arith) h)
 
 -- so the move's place is one of theirs
@@ -103,20 +103,20 @@ first_within : (m : Move) (ws : List Who) → list_any (is_named m) ws ≡ true 
 first_within m [] h = absurd (false≢true h)
 first_within m (w ∷ ws) h = first_step m w ws (is_named m w) refl (λ r. first_within m ws r) h
 
-of_names : (m : Move) (ps : List PlainMember) → list_any (is_named m) (map (λ p. p.who) ps) ≡ among m ps
+of_names : (m : Move) (ps : List PlainOpening) → list_any (is_named m) (map (λ p. p.who) (map new_member ps)) ≡ among m ps
 of_names m [] = refl
 of_names m (p ∷ ps) = ap (λ b. is_named m p.who || b) (of_names m ps)
 
 abbrev IsIn : PlainScene → Move → Type 0
-IsIn scene m = among m (members_from 0 scene.nodes scene.links ++ links_from 0 scene.links) ≡ true
+IsIn scene m = among m (parties_from 0 scene.nodes scene.links ++ links_from 0 scene.links) ≡ true
 
 in_place : (scene : PlainScene) (m : Move) → IsIn scene m → place_named (names (opening scene)) m < length (names (opening scene))
-unfolding opening
+unfolding opening parties_of
 in_place scene m h = first_within m _ (of_names m _ ∙ h)
 
-node_in : (scene : PlainScene) (m : Move) (place : ℕ) → place < length scene.nodes → among m (members_of place (node_at scene.nodes place) (links_at place scene.links)) ≡ true → IsIn scene m
+node_in : (scene : PlainScene) (m : Move) (place : ℕ) → place < length scene.nodes → among m (parties_at place (node_at scene.nodes place) (links_at place scene.links)) ≡ true → IsIn scene m
 node_in scene m place within h =
-    among_left m (members_from 0 scene.nodes scene.links) (links_from 0 scene.links)
+    among_left m (parties_from 0 scene.nodes scene.links) (links_from 0 scene.links)
     (node_among m scene.nodes scene.links 0 place place (node_at scene.nodes place) (slice_get-get_or scene.nodes place no_node within) (omega arith) h)
 
 move_there : (scene : PlainScene) (m : Move) → IsMove scene.nodes scene.links m → IsThere (names (opening scene)) m
@@ -128,7 +128,7 @@ move_there scene (move.Iface node k) h =
 move_there scene (move.App node k) h =
     in_place scene (move.App node k) (node_in scene (move.App node k) node h.0 (app_of_node node k (node_at scene.nodes node) (links_at node scene.links) h.1))
 move_there scene (move.Link k) h =
-    in_place scene (move.Link k) (among_right (move.Link k) (members_from 0 scene.nodes scene.links) (links_from 0 scene.links) (link_among scene.links 0 k (omega arith) (omega arith)))
+    in_place scene (move.Link k) (among_right (move.Link k) (parties_from 0 scene.nodes scene.links) (links_from 0 scene.links) (link_among scene.links 0 k (omega arith) (omega arith)))
 
 moves_there : (scene : PlainScene) (ms : List Move) → AllByRecursion (IsMove scene.nodes scene.links) ms → All (IsThere (names (opening scene))) ms
 moves_there scene [] h = All-nil (IsThere (names (opening scene)))

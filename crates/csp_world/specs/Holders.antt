@@ -14,6 +14,7 @@ abbrev pub is_home : ℕ → Option ℕ → Bool
 is_home node None = false
 is_home node (Some home) = home == node
 
+-- a party is of this node
 abbrev pub is_at : ℕ → Who → Bool
 is_at node w = is_home node (node_of w)
 
@@ -26,6 +27,7 @@ abbrev pub places_held : ℕ → Option (ℕ × Place) → List Place
 places_held count None = []
 places_held count (Some home) = replicate count home.1
 
+-- the place of a party of a node, as often as it holds a number
 abbrev pub holder_at : ℕ → ℕ → PlainMember → List Place
 holder_at node k m = places_held (times k (holds_at node m)) (home_of m.who)
 

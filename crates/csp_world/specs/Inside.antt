@@ -1,16 +1,17 @@
 -- The world that the fields of the program's world are, and what is true of them.
 use Rattle.std.specs.Prelude.{ℕ, ◌≡◌, ◌+◌, ◌*◌, ◌<◌, ◌≤◌, ◌^◌, ⊤, List, [], Some, false, length, map, slice_get, IsSomeAnd, vec_capacity}
 use Rattle.csp_lists.specs.PlainDeck.{PlainDeck}
+use Rattle.csp_log.specs.declared.places.End.{End}
 use Rattle.csp_log.specs.declared.places.QueueId.{QueueId}
 use Rattle.csp_log.specs.declared.places.Rule.{Rule}
 use Rattle.csp_nodes.specs.DecksAt.{DecksAt}
 use Rattle.csp_nodes.specs.Gathering.{queue_count}
 use Rattle.csp_nodes.specs.Serving.{rule_in}
 use Rattle.csp_party.specs.Any.{PlainParty, a_router, a_bridge, an_iface, an_app, a_link, plain, region_of, is_ready, count, needs, uses, has_ended, holds}
-use Rattle.csp_party.specs.declared.any.AnyParty.{AnyParty}
 use Rattle.csp_record.specs.Who.{node_of}
 use Rattle.csp_record.specs.declared.who.Who.{Who}
 use Rattle.csp_record.specs.declared.who.Who.TheVariants as who
+use Rattle.csp_topology.specs.Parties.{PlainOpening}
 use Rattle.csp_world.specs.Holders.{IsConserved}
 use Rattle.csp_world.specs.Seen.{plain_member}
 use Rattle.csp_world.specs.SeenWorld.{SeenWorld}
@@ -39,6 +40,7 @@ IsLink (an_iface _) = ⊥
 IsLink (an_app _) = ⊥
 IsLink (a_link _) = ⊤
 
+-- who is called a link is one
 abbrev pub IsCalled : Who → PlainParty → Type 0
 IsCalled (who.Link _) p = IsLink p
 IsCalled (who.Router _) p = ⊤
@@ -57,15 +59,16 @@ pub record IsFit (d : DecksAt) (time : ℕ) (m : Member) : Type 0 where
   pub home : (node : ℕ) → node_of m.who ≡ Some node → slice_get d.regions node ≡ Some (region_of m.party)
   pub unnoted : m.numbers.items ≡ []
   pub room : (node : ℕ) → node_of m.who ≡ Some node → IsSomeAnd (slice_get (rooms d.decks) node) (λ room. room ≤ vec_capacity m.numbers)
-  pub stock : needs (plain m.party) * m.log.spare ≤ m.spares
+  pub stock : needs (plain m.party) * m.log.spare ≤ m.spares.boxes
 
--- a party of this name can take its first turn over these lists at any time, and holds nothing
-pub record IsNew (d : PlainWorld) (w : Who) (p : AnyParty) : Type 0 where
-  pub ready : (later : ℕ) → later < 2 ^ 62 → has_ended (plain p) ≡ false → is_ready (plain p) later
-  pub counted : count (plain p) ≡ 0
-  pub served : (q : QueueId) (r : Rule) → uses (plain p) q ≡ Some r → rule_in d.decks d.links w q ≡ Some r
-  pub called : IsCalled w (plain p)
-  pub holds : holds (plain p) ≡ []
+-- a party can take its first turn over these lists at any time, and holds nothing
+pub record IsNew (decks : List PlainDeck) (links : List (List End)) (o : PlainOpening) : Type 0 where
+  pub ready : (later : ℕ) → later < 2 ^ 62 → has_ended o.party ≡ false → is_ready o.party later
+  pub counted : count o.party ≡ 0
+  pub served : (q : QueueId) (r : Rule) → uses o.party q ≡ Some r → rule_in decks links o.who q ≡ Some r
+  pub called : IsCalled o.who o.party
+  pub holds : holds o.party ≡ []
+  pub home : (node : ℕ) → node_of o.who ≡ Some node → node < length decks
 
 -- each party is fit for its turns
 abbrev pub AllFit : DecksAt → ℕ → List Member → Type 0

@@ -9,6 +9,7 @@ pub data Happening : Type 0 where
   a_turn : ℕ → Happening
   a_tick : Happening
 
+-- the world after a turn or a tick
 abbrev pub happened : PlainWorld → Happening → PlainWorld
 happened w (a_turn place) = turn w place
 happened w a_tick = tick w

@@ -1,9 +1,9 @@
 -- The record of a run: what each party did, what was left where, and how the run ended.
-use Rattle.std.specs.Prelude.{ℕ, Option, List, ◌++◌, map}
+use Rattle.std.specs.Prelude.{Option, List, ◌++◌, map}
 use Rattle.std.specs.List.{flat_map}
 use Rattle.std.specs.Option.{option_map, option_to_list}
+use Rattle.csp_consistent.specs.Pools.{held_by}
 use Rattle.csp_log.specs.Remains.{PlainHeld}
-use Rattle.csp_log.specs.declared.places.Place.{Place}
 use Rattle.csp_nodes.specs.Gathering.{all_left, queues_held, pools_held}
 use Rattle.csp_party.specs.Any.{holds, present_step}
 use Rattle.csp_record.specs.Record.{PlainPartyLog, PlainRecord}
@@ -13,9 +13,6 @@ use Rattle.csp_world.specs.Schedule.{run}
 use Rattle.csp_world.specs.World.{PlainMember, PlainWorld, finished}
 
 -- which buffers a party held, where it has a place: a link has none, and holds none
-abbrev pub held_by : List ℕ → ℕ × Place → PlainHeld
-held_by numbers home = record { node = home.0; place = home.1; numbers = numbers }
-
 abbrev pub member_held : PlainMember → List PlainHeld
 member_held m = option_to_list (option_map (held_by (holds m.party)) (home_of m.who))
 

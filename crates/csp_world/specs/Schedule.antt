@@ -1,6 +1,7 @@
 -- The schedules, as lists of turns and ticks, and the checks after each round.
-use Rattle.std.specs.Prelude.{ℕ, zero, suc, ◌+◌, ◌*◌, ◌/◌, ◌%◌, ◌^◌, ◌==◌, ◌&&◌, ◌<◌, ⊤, Bool, false, Option, None, Some, List, [], ◌∷◌, length, map, replicate, nat_le, if◌then◌else◌}
+use Rattle.std.specs.Prelude.{ℕ, zero, suc, ◌+◌, ◌*◌, ◌==◌, ◌&&◌, ◌<◌, ⊤, Bool, false, Option, None, Some, List, [], ◌∷◌, length, map, replicate, nat_le, if◌then◌else◌}
 use Rattle.std.specs.List.{range_with_len, flat_map, position_or_len}
+use Rattle.csp_draw.specs.Draws.{next_draw, drawn}
 use Rattle.csp_record.specs.declared.who.Who.TheVariants as who
 use Rattle.csp_record.specs.declared.who.Who.{Who}
 use Rattle.csp_scene.specs.Scene.{PlainScene, PlainSchedule, in_rounds, shuffled, stepwise}
@@ -8,7 +9,7 @@ use Rattle.csp_scene.specs.declared.scenario.Move.{Move}
 use Rattle.csp_scene.specs.declared.scenario.Move.TheVariants as move
 use Rattle.csp_world.specs.Opening.{opening}
 use Rattle.csp_world.specs.World.{PlainWorld, turn, tick, finished, entries}
-use Rattle.csp_world.specs.declared.limits.TheConstants.{TURNS_PER_ROUND, MAX_ENTRIES, DRAW_FACTOR, DRAW_STEP, DRAW_SHIFT}
+use Rattle.csp_world.specs.declared.limits.TheConstants.{TURNS_PER_ROUND, MAX_ENTRIES}
 use Rattle.csp_world.specs.declared.rounds.Order.{Order}
 use Rattle.csp_world.specs.declared.rounds.Order.TheVariants as order
 
@@ -21,19 +22,12 @@ turns w (place ∷ places) = turns (turn w place) places
 abbrev pub round_places : ℕ → List ℕ
 round_places parties = flat_map (λ place. replicate TURNS_PER_ROUND place) (range_with_len 0 parties)
 
--- `shuffle`: what the draws go by, from turn to turn
-abbrev pub next_draw : ℕ → ℕ
-next_draw x = (x * DRAW_FACTOR + DRAW_STEP) % 2 ^ 64
-
--- the party that a number draws: its low bits are left out
-abbrev pub drawn : ℕ → ℕ → ℕ
-drawn parties x = (x / 2 ^ DRAW_SHIFT) % parties
-
--- the parties that so many turns draw, and the last turn's number, which the next draw goes on from
+-- `shuffle`: the parties that so many turns draw, and the last turn's number, which the next draw goes on from
 unfoldable pub drawn_places : ℕ → ℕ → ℕ → List ℕ
 drawn_places parties zero x = []
 drawn_places parties (suc n) x = drawn parties (next_draw x) ∷ drawn_places parties n (next_draw x)
 
+-- the number after so many draws
 unfoldable pub draws : ℕ → ℕ → ℕ
 draws zero x = x
 draws (suc n) x = draws n (next_draw x)
@@ -43,6 +37,7 @@ abbrev pub places_in : ℕ → Order → List ℕ
 places_in parties order.ByParty = round_places parties
 places_in parties (order.ByDraw x) = drawn_places parties (TURNS_PER_ROUND * parties) x
 
+-- the order of the next round
 abbrev pub next_order : ℕ → Order → Order
 next_order parties order.ByParty = order.ByParty
 next_order parties (order.ByDraw x) = order.ByDraw (draws (TURNS_PER_ROUND * parties) x)
@@ -91,6 +86,7 @@ abbrev pub moved : PlainWorld → Move → PlainWorld
 moved w move.Tick = tick w
 moved w m = turn w (place_named (names w) m)
 
+-- the world after these turns and ticks
 unfoldable pub moves : PlainWorld → List Move → PlainWorld
 moves w [] = w
 moves w (m ∷ ms) = moves (moved w m) ms

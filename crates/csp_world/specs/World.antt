@@ -37,6 +37,7 @@ told_for m time o a = record m {
   entries = m.entries ++ entry_of time o a (events (asked m.party time) time a) ∷ [];
 }
 
+-- a party once it was told, with its entry
 abbrev pub told : PlainMember → ℕ → AnswerShown → PlainMember
 told m time a = told_for m time (asks m.party time) a
 
@@ -44,9 +45,11 @@ told m time a = told_for m time (asks m.party time) a
 abbrev pub turned_by : PlainWorld → ℕ → PlainMember → AnswerShown × List PlainDeck → PlainWorld
 turned_by w place m answer = record w { decks = answer.1; members = slice_set w.members place (told m w.time answer.0) }
 
+-- the world after the turn of a party that has not ended
 abbrev pub turned : PlainWorld → ℕ → PlainMember → PlainWorld
 turned w place m = turned_by w place m (answered w.decks w.links w.time m)
 
+-- the world after the turn of the party at a place, if there is one
 abbrev pub turn_at : PlainWorld → ℕ → Option PlainMember → PlainWorld
 turn_at w place None = w
 turn_at w place (Some m) = (if has_ended m.party then w else turned w place m)

@@ -4,7 +4,7 @@ ghost use Rattle.std.specs.Prelude.{◌≡◌, ℕ, Some, [], length};
 ghost use Rattle.csp_consistent.specs.Consistent.{IsConsistent};
 ghost use Rattle.csp_consistent.specs.Inboxes.{AreInboxesInOrder};
 ghost use Rattle.csp_consistent.specs.Lanes.{AreInOrder};
-ghost use Rattle.csp_consistent.specs.Parties.{parties_of};
+ghost use Rattle.csp_topology.specs.Parties.{parties_of};
 ghost use Rattle.csp_consistent.specs.Pools.{AreNumbersKept};
 ghost use Rattle.csp_consistent.specs.Runs.{AreLogsOf};
 ghost use Rattle.csp_scene.specs.Kept.{AreLinksAfter};

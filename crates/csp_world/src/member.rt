@@ -11,7 +11,8 @@ ghost use Rattle.csp_party.specs.Any.{plain, region_of, needs, has_ended, holds}
 ghost use Rattle.csp_world.specs.Holders.{holds_at};
 ghost use Rattle.csp_world.specs.Grown.{IsGrown, IsFullFor};
 ghost use Rattle.csp_world.specs.Inside.{IsFit, rooms};
-ghost use Rattle.csp_world.specs.Record.{held_by, member_log};
+ghost use Rattle.csp_consistent.specs.Pools.{held_by};
+ghost use Rattle.csp_world.specs.Record.{member_log};
 ghost use Rattle.csp_world.specs.Seen.{plain_member, has_number};
 ghost use Rattle.csp_world.specs.World.{answered, is_done, told};
 
@@ -107,11 +108,11 @@ impl Member {
     /// stocks.
     pub(crate) fn reserve(&mut self, turns: u32, boxes: &mut Spares) -> Result<(), AllocError>
         requires fits { length self.old.log.entries + turns ≤ 2 ^ 32 - 2 }
-        requires stock { needs (plain self.old.party) * self.old.log.spare ≤ self.old.spares }
+        requires stock { needs (plain self.old.party) * self.old.log.spare ≤ self.old.spares.boxes }
         ensures party { (self.new.who ≡ self.old.who) × (self.new.party ≡ self.old.party) × (self.new.numbers ≡ self.old.numbers) × (self.new.log.entries ≡ self.old.log.entries) }
         ensures room { OnOk result (self.new.log.spare ≡ max self.old.log.spare turns) }
         ensures refused { OnErr result (self.new.log ≡ self.old.log) }
-        ensures stock { needs (plain self.new.party) * self.new.log.spare ≤ self.new.spares }
+        ensures stock { needs (plain self.new.party) * self.new.log.spare ≤ self.new.spares.boxes }
     {
         let spare = self.log.spare().max(turns);
         self.spares

@@ -3,12 +3,12 @@
 ghost use Rattle.std.specs.Prelude.{◌≡◌, ◌≢◌, ◌+◌, ◌-◌, ◌*◌, ◌<◌, ◌≤◌, ◌^◌, ℕ, length, replicate, slice_index, OnOk, IfOk};
 ghost use Rattle.csp_world.specs.Holders.{counts};
 ghost use Rattle.csp_world.specs.World.{turn, entries};
-ghost use Rattle.csp_world.specs.Schedule.{turns, round, round_places, next_draw, drawn, drawn_places, draws, places_in, next_order};
+ghost use Rattle.csp_world.specs.Schedule.{turns, round, round_places, drawn_places, draws, places_in, next_order};
 
-use crate::limits::{
-    DRAW_FACTOR, DRAW_SHIFT, DRAW_STEP, MAX_ENTRIES, MAX_PARTIES, TURNS_PER_ROUND,
-};
+use crate::limits::{MAX_ENTRIES, TURNS_PER_ROUND};
 use crate::world::World;
+use csp_draw::{drawn, next_draw};
+use csp_topology::MAX_PARTIES;
 use std::alloc::AllocError;
 
 /// How the rounds of a run go.
@@ -109,25 +109,9 @@ fn turns_by_draw(world: &mut World, last: u64) -> Result<u64, AllocError>
     let mut number = last;
     for _ in 0..TURNS_PER_ROUND * parties {
         number = next_draw(number);
-        one_turn(world, drawn(parties, number))?;
+        one_turn(world, drawn(parties as u64, number) as usize)?;
     }
     Ok(number)
-}
-
-/// The number after this one in a shuffled schedule.
-fn next_draw(number: u64) -> u64
-    ensures { result ≡ next_draw number }
-{
-    number.wrapping_mul(DRAW_FACTOR).wrapping_add(DRAW_STEP)
-}
-
-/// The party that this number draws among so many.
-fn drawn(parties: usize, number: u64) -> usize
-    requires { 0 < parties }
-    ensures place { result ≡ drawn parties number }
-    ensures there { result < parties }
-{
-    (number >> DRAW_SHIFT) as usize % parties
 }
 
 /// Takes one turn of the party at this place, once its log has room for it.

@@ -12,12 +12,13 @@ ghost use Rattle.csp_world.specs.Schedule.{IsThere, names, run_by, run_moves, ru
 ghost use Rattle.csp_world.specs.Schedule as schedule;
 ghost use Rattle.csp_world.specs.World.{entries};
 
-use crate::limits::{MAX_ENTRIES, MAX_PARTIES};
+use crate::limits::MAX_ENTRIES;
 use crate::moves::make_moves;
 use crate::rounds::{Order, make_round};
 use crate::world::World;
 use csp_record::Record;
 use csp_scene::{Move, Scene, Schedule};
+use csp_topology::{MAX_PARTIES, counts_parties};
 use std::alloc::{AllocError, Global};
 
 /// Why a scene has no record.
@@ -51,6 +52,7 @@ pub fn simulate(alloc: Global, scene: &Scene) -> Result<Record, SimError>
     ensures conserved { IfOk result (IsWhole (map (λ n. n.buffers) scene.now.nodes)) }
     ensures consistent { AreLinksAfter (length scene.now.nodes) [] scene.now.links → IfOk result (IsConsistent scene.now) }
 {
+    counts_parties();
     let mut world = World::open(alloc, scene)?;
     let ran = run(&mut world, scene);
     let record = world.close();

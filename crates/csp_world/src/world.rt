@@ -145,7 +145,9 @@ impl World {
         ensures spares { slice_index self.new.spares party + result ≡ slice_index self.old.spares party }
         ensures others { (k : ℕ) → k ≢ party → slice_index self.new.spares k ≡ slice_index self.old.spares k }
         ensures counts { counts self.new.plain ≡ counts self.old.plain }
+        ensures one_holder { HasOneHolder self.new.plain }
     {
+        counts_holders();
         let member = &mut self.members[party];
         look_round(member, &mut self.decks, self.time, most)
     }

@@ -52,7 +52,7 @@ returns-clause-fit c =
       home = λ node h. ap (λ l. slice_get l node) regions ∙ c.requires.fit.home node h ∙ ap Some (sym c.turn-came.ensures.region.0);
       unnoted = c.requires.fit.unnoted;
       room = λ node h. subst (λ l. IsSomeAnd (slice_get l node) (λ room. room ≤ vec_capacity c.args.member.now.numbers)) (sym (rooms_kept c)) (c.requires.fit.room node h);
-      stock = rw (spare, c.turn-came.ensures.needs) (stock_left (needs (plain c.args.member.now.party)) c.args.member.now.log.spare c.args.member.now.spares c.turn-came.new.spares c.requires.room c.requires.fit.stock c.turn-came.ensures.stock);
+      stock = rw (spare, c.turn-came.ensures.needs) (stock_left (needs (plain c.args.member.now.party)) c.args.member.now.log.spare c.args.member.now.spares.boxes c.turn-came.new.spares.boxes c.requires.room c.requires.fit.stock c.turn-came.ensures.least);
     }
 
 pub returns-clause-conserved : goal.returns-clause-conserved

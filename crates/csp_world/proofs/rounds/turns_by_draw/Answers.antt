@@ -1,6 +1,7 @@
 use Rattle.std.proofs.Common.{◌-◌, ◌*◌, length, ap, sym, ◌∙◌, arith}
 use Rattle.csp_world.specs.declared.limits.TheConstants.{TURNS_PER_ROUND}
-use Rattle.csp_world.specs.Schedule.{drawn, turns, drawn_places, draws}
+use Rattle.csp_draw.specs.Draws.{drawn}
+use Rattle.csp_world.specs.Schedule.{turns, drawn_places, draws}
 use Rattle.csp_world.specs.World.{turn, entries}
 use Rattle.csp_world.proofs.ScheduleLemmas.{steady_turn, draw_made, draws_done, number_made, number_done}
 use Rattle.csp_world.proofs.rounds.turns_by_draw.Goals as goal
@@ -11,7 +12,7 @@ loop-preserved c =
     let parties = c.parties-parties.result in
     let number = c.next_draw-number.result in
     let all = TURNS_PER_ROUND * parties in
-    let went = c.in_ok-one_turn.ensures.turn ∙ ap (turn w) c.drawn.ensures.place in
+    let went = c.in_ok-one_turn.ensures.turn ∙ ap (turn w) c.drawn.ensures.choice in
     let steady = steady_turn w (drawn parties number) in
     record {
       left = draw_made w _ parties all c.loop.counter c.loop.number number c.loop-test.true c.next_draw-number.ensures went ∙ c.loop.invariant.left;

@@ -9,13 +9,13 @@ use Rattle.csp_world.specs.World.{PlainWorld, entries}
 use Rattle.csp_world.proofs.ReachingLemmas.{reached_run}
 use Rattle.csp_world.proofs.RunLemmas.{run_from, recorded, not_recorded}
 use Rattle.csp_world.proofs.ScheduleNames.{all_there}
-use Rattle.csp_world.proofs.ScheduleOpening.{opening_few, opening_empty, opening_time, opening_counts}
+use Rattle.csp_world.proofs.ScheduleOpening.{opening_parties, opening_empty, opening_time, opening_counts}
 use Rattle.csp_world.proofs.schedule.simulate.Goals as goal
 
 pub run-ran-requires-clause-parties : goal.run-ran-requires-clause-parties
 run-ran-requires-clause-parties c =
     let same = ap (λ (w : PlainWorld). length w.members) c.in_ok-world.ensures.plain in
-    omega (arith, same, opening_few c.args.scene.now c.requires.scene)
+    omega (arith, same, opening_parties c.args.scene.now, c.counts_parties.ensures c.args.scene.now c.requires.scene)
 
 pub run-ran-requires-clause-there : goal.run-ran-requires-clause-there
 run-ran-requires-clause-there c =

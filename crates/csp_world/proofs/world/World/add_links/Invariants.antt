@@ -1,14 +1,14 @@
-use Rattle.std.proofs.Common.{◌≡◌, ◌+◌, ◌++◌, drop, take, map, length}
+use Rattle.std.proofs.Common.{◌≡◌, ◌++◌, length, map}
 use Rattle.csp_world.proofs.world.World.add_links.Given as goal
-use Rattle.csp_world.specs.Opening.{links_from}
 
--- the parties so far, then the links that are still to come, are those of the whole scene
-abbrev pub invariant-loop-number : goal.invariant-loop-number
-invariant-loop-number l = record {
+-- the links so far, then those that are still to come, are all
+abbrev pub invariant-loop-ends : goal.invariant-loop-ends
+invariant-loop-ends l = record {
   decks : l.self.plain.decks ≡ l.initial.self.plain.decks;
-  links : l.self.plain.links ≡ map (λ x. x.ends) (take l.number l.links);
-  place : length l.self.plain.links ≡ l.number;
-  members : l.self.plain.members ++ links_from l.number (drop l.number l.links) ≡ l.initial.self.plain.members ++ links_from 0 l.links;
-  count : length l.self.plain.members ≡ length l.initial.self.plain.members + l.number;
+  links : l.self.plain.links ++ map (λ ends. ends.items) l.links.items ≡ map (λ ends. ends.items) l.fn.links.items;
+  members : l.self.plain.members ≡ l.initial.self.plain.members;
   time : l.self.plain.time ≡ l.initial.self.plain.time;
 }
+
+abbrev pub decreases-loop-ends : goal.decreases-loop-ends
+decreases-loop-ends l = length l.links.items

@@ -1,7 +1,8 @@
 use Rattle.std.proofs.Common.{ℕ, ◌≡◌, ◌≤◌, ◌<◌, ◌+◌, ◌^◌, Some, length, vec_capacity, arith, refl, subst, sym, slice_get}
 use Rattle.std.proofs.lemmas.List.{length-map}
-use Rattle.csp_party.specs.Any.{region_of}
+use Rattle.csp_party.specs.Any.{plain, region_of}
 use Rattle.csp_record.specs.Who.{node_of}
+use Rattle.csp_topology.specs.Parties.{opens}
 use Rattle.csp_world.proofs.OpeningMembers.{HasNumbers, has_room-push, has_room-kept, world-push, world-kept}
 use Rattle.csp_world.specs.Inside.{IsNew}
 use Rattle.csp_world.specs.Seen.{plain_member}
@@ -15,7 +16,7 @@ pub invariant_of-self : goal.invariant_of-self
 invariant_of-self c =
     let w = c.self.inside in
     let e = c.in-Ok.ensures in
-    let new = subst (λ (v : SeenWorld). IsNew v.plain c.args.who c.args.party) (sym c.self.view_is) c.requires.new in
+    let new = subst (λ (v : SeenWorld). IsNew v.plain.decks v.plain.links (opens c.args.who (plain c.args.party))) (sym c.self.view_is) c.requires.new in
     let numbers = subst (λ (v : SeenWorld). HasNumbers v.plain.decks (node_of c.args.who) c.args.buffers) (sym c.self.view_is) c.requires.room in
     let home = subst (λ (v : SeenWorld). (node : ℕ) → node_of c.args.who ≡ Some node → slice_get v.regions node ≡ Some (region_of c.args.party)) (sym c.self.view_is) c.requires.home in
     let few : length w.members.items + 1 < 2 ^ 31 = omega (arith, subst (λ (v : SeenWorld). length v.plain.members + 1 < 2 ^ 31) (sym c.self.view_is) c.requires.few, length-map w.members.items plain_member) in

@@ -1,37 +1,42 @@
-use Rattle.std.proofs.Common.{List, [], ◌∷◌, length, ap, ◌∙◌, arith, length-append}
-use Rattle.std.proofs.lemmas.Result.{on_ok_weaker}
-use Rattle.csp_scene.specs.Links.{links_at}
-use Rattle.csp_world.proofs.OpeningScene.{apps_long, ifaces_long, links_few}
+use Rattle.std.proofs.Common.{◌≡◌, ◌+◌, ◌*◌, ◌<◌, List, [], ◌∷◌, ◌++◌, length, ◌∙◌, ap, refl, arith, sym, subst, length-append}
+use Rattle.csp_lists.specs.PlainDeck.{PlainDeck, opening_deck}
+use Rattle.csp_nodes.specs.Fresh.{fresh_buffers}
+use Rattle.csp_nodes.specs.Gathering.{queue_count}
+use Rattle.csp_world.proofs.OpeningNodes.{opened_once, queue_count-push, world-deck, world-same_decks}
+use Rattle.csp_world.proofs.OpeningRules.{deck_grown}
 use Rattle.csp_world.proofs.world.World.add_node.Goals as goal
-use Rattle.csp_world.specs.Opening.{apps_from, ifaces_from, new_hub}
-use Rattle.csp_world.specs.World.{PlainMember}
+use Rattle.csp_world.specs.SeenWorld.{SeenWorld}
 
-pub add_apps-requires-clause-few : goal.add_apps-requires-clause-few
-add_apps-requires-clause-few c =
-    let links = links_at c.args.place c.args.links.now in
-    let hub = ap (λ (ms : List PlainMember). length ms) c.in_ok-add_hub.ensures.members ∙ length-append c.add_deck.new.self.plain.members (new_hub c.args.place c.args.node.now links ∷ []) in
-    let ifaces = ap (λ (ms : List PlainMember). length ms) c.in_ok-add_ifaces.ensures.members ∙ length-append c.add_hub.new.self.plain.members (ifaces_from c.args.place 0 links) in
-    let deck = ap (λ (ms : List PlainMember). length ms) c.in_ok-add_deck.ensures.members in
-    omega (arith, deck, hub, ifaces, ifaces_long c.args.place 0 links, links_few c.args.place c.args.links.now, c.requires.few_links, c.requires.few, c.requires.low)
+pub invariant_of-self-in_err-add_node : goal.invariant_of-self-in_err-add_node
+invariant_of-self-in_err-add_node c =
+    world-same_decks c.self.inside c.add_node.new.self _ c.self.invariant c.in_err-add_node.ensures.refused refl
+    c.reserve.ensures.items c.reserve.ensures.capacity c.reserve-2.ensures.items c.reserve-2.ensures.capacity c.reserve-3.ensures.items c.reserve-3.ensures.capacity refl
 
-pub returns-clause-few : goal.returns-clause-few
-returns-clause-few c =
-    let links = links_at c.args.place c.args.links.now in
-    let hub = ap (λ (ms : List PlainMember). length ms) c.in_ok-add_hub.ensures.members ∙ length-append c.add_deck.new.self.plain.members (new_hub c.args.place c.args.node.now links ∷ []) in
-    let ifaces = ap (λ (ms : List PlainMember). length ms) c.in_ok-add_ifaces.ensures.members ∙ length-append c.add_hub.new.self.plain.members (ifaces_from c.args.place 0 links) in
-    let deck = ap (λ (ms : List PlainMember). length ms) c.in_ok-add_deck.ensures.members in
-    on_ok_weaker c.add_apps.result (λ is.
-    omega (
-      arith,
-      deck,
-      hub,
-      ifaces,
-      ap (λ (ms : List PlainMember). length ms) is,
-      length-append c.add_ifaces.new.self.plain.members (apps_from c.args.place 0 c.args.node.now.apps),
-      apps_long c.args.place 0 c.args.node.now.apps,
-      c.requires.node.few,
-      ifaces_long c.args.place 0 links,
-      links_few c.args.place c.args.links.now,
-      c.requires.few_links,
-    ))
-    c.add_apps.ensures.members
+pub invariant_of-self-2 : goal.invariant_of-self-2
+invariant_of-self-2 c =
+    let w = c.self.inside in
+    let r = c.self.invariant.room in
+    let count = c.node.inside.buffers in
+    let inbox = c.node.inside.inbox in
+    let apps = c.node.inside.apps in
+    let ifaces = c.as_slice.result.now in
+    let deck : PlainDeck = opening_deck (fresh_buffers count) inbox apps ifaces in
+    let e : c.add_node.new.self.decks ≡ w.decks.decks ++ deck ∷ [] = c.in_ok-add_node.ensures.decks in
+    let queues : length deck.queues ≡ 4 + 2 * apps + 3 * length ifaces = c.opens.ensures.queues (fresh_buffers count) inbox apps ifaces in
+    let all : queue_count c.add_node.new.self.decks ≡ queue_count w.decks.decks + (4 + 2 * apps + 3 * length ifaces) = ap queue_count e ∙ queue_count-push w.decks.decks deck _ queues in
+    let long : length c.add_node.new.self.decks ≡ length w.decks.decks + 1 = ap (λ (ds : List PlainDeck). length ds) e ∙ length-append w.decks.decks (deck ∷ []) in
+    let lanes : c.len.result ≡ length ifaces = c.len.ensures ∙ c.node.inside.lanes.ok.0 ∙ ap (λ ls. length ls) (sym c.as_slice.ensures.value) in
+    let few : length w.decks.decks < 255 = subst (λ (v : SeenWorld). length v.plain.decks < 255) (sym c.self.view_is) c.requires.few in
+    world-deck w c.add_node.new.self _ deck c.self.invariant
+    (deck_grown w.decks c.add_node.new.self deck e c.in_ok-add_node.ensures.links c.len-3.ensures.regions c.in_ok-add_node.ensures.regions)
+    e (opened_once count inbox apps ifaces (c.opens.ensures.numbers (fresh_buffers count) inbox apps ifaces)) few (record {
+      no_logs = r.no_logs;
+      logs = r.logs;
+      no_left = c.reserve.ensures.items ∙ r.no_left;
+      left = omega (arith, c.in_ok-reserve.ensures.ok, r.counted, c.from.ensures, lanes, all);
+      no_held = c.reserve-2.ensures.items ∙ r.no_held;
+      held = omega (arith, c.in_ok-reserve-2.ensures.ok, r.counted, c.from.ensures, lanes, all, long, c.len-2.ensures, c.len-3.ensures.count, w.members.ok.0);
+      no_emptied = c.reserve-3.ensures.items ∙ r.no_emptied;
+      emptied = omega (arith, c.in_ok-reserve-3.ensures.ok, long, c.len-4.ensures.count);
+      counted = omega (arith, r.counted, c.from.ensures, lanes, all);
+    })

@@ -4,7 +4,7 @@ use Rattle.std.proofs.lemmas.List.{length-map, length-set, map-set}
 use Rattle.csp_nodes.specs.DecksAt.{DecksAt}
 use Rattle.csp_party.specs.Any.{plain}
 use Rattle.csp_world.specs.Grown.{IsGrown}
-use Rattle.csp_world.specs.Holders.{IsConserved, counts}
+use Rattle.csp_world.specs.Holders.{HasOneHolder, IsConserved, counts}
 use Rattle.csp_world.specs.Inside.{HasRoom, world_of}
 use Rattle.csp_world.specs.Schedule.{turns}
 use Rattle.csp_world.specs.Seen.{plain_member}
@@ -12,7 +12,7 @@ use Rattle.csp_world.specs.SeenWorld.{SeenWorld}
 use Rattle.csp_world.specs.World.{PlainMember, PlainWorld}
 use Rattle.csp_world.specs.declared.member.Member.{Member}
 use Rattle.csp_world.proofs.FitLemmas.{all_grown, all_set}
-use Rattle.csp_world.proofs.HolderLemmas.{moves_conserve}
+use Rattle.csp_world.proofs.HolderLemmas.{moves_conserve, one_holder}
 use Rattle.csp_world.proofs.LookingLemmas.{looked_moves}
 use Rattle.csp_world.proofs.StepLemmas.{member_got, plain_got, spare_at, spare_new, spare_other}
 use Rattle.csp_world.proofs.world.World.look_round.Goals as goal
@@ -100,3 +100,6 @@ returns-clause-others c = λ k ne. spare_other c.self.inside.members.items c.arg
 
 pub returns-clause-counts : goal.returns-clause-counts
 returns-clause-counts c = ap (λ (d : DecksAt). counts (world_of d (set c.self.inside.members.items c.args.party c.look_round.new.member) c.self.inside.time)) c.look_round.ensures.lists ∙ ap (λ (v : SeenWorld). counts v.plain) c.self.view_is
+
+pub returns-clause-one_holder : goal.returns-clause-one_holder
+returns-clause-one_holder c = subst HasOneHolder (sym (lists c)) (one_holder c.counts_holders.ensures (after c) (conserved c))

@@ -1,0 +1,3 @@
+mod PartyLemmas
+mod PlanLemmas
+mod TopologyLemmas

@@ -1,0 +1,57 @@
+-- Lemmas on the parties of a scene.
+use Rattle.std.proofs.Common.{◌≡◌, ℕ, ◌+◌, ◌*◌, ◌≤◌, List, [], ◌∷◌, ◌++◌, length, refl, sym, ap, ◌∙◌, arith}
+use Rattle.std.specs.List.{AllByRecursion}
+use Rattle.std.proofs.lemmas.List.{append_assoc, length-append}
+use Rattle.csp_log.specs.declared.places.LinkKind.{LinkKind}
+use Rattle.csp_scene.specs.Links.{links_at}
+use Rattle.csp_scene.specs.Ranges.{IsNode, IsScene}
+use Rattle.csp_scene.specs.Scene.{PlainApp, PlainLink, PlainNode, PlainScene}
+use Rattle.csp_scene.specs.declared.limits.TheConstants.{MAX_APPS, MAX_LINKS}
+use Rattle.csp_topology.proofs.PlanLemmas.{links_few}
+use Rattle.csp_topology.specs.Parties.{PlainOpening, apps_from, iface_on, ifaces_from, links_from, parties_at, parties_from, parties_of}
+use Rattle.csp_topology.specs.declared.topology.TheConstants.{MAX_PARTIES}
+
+-- how many parties there are
+pub ifaces_count : (place number : ℕ) (links : List PlainLink) → length (ifaces_from place number links) ≡ length links
+ifaces_count place number [] = refl
+ifaces_count place number (l ∷ links) = let h = ifaces_count place (number + 1) links in omega (arith, h)
+
+apps_count : (place number : ℕ) (apps : List PlainApp) → length (apps_from place number apps) ≡ length apps
+apps_count place number [] = refl
+apps_count place number (a ∷ apps) = let h = apps_count place (number + 1) apps in omega (arith, h)
+
+links_count : (number : ℕ) (links : List PlainLink) → length (links_from number links) ≡ length links
+links_count number [] = refl
+links_count number (l ∷ links) = let h = links_count (number + 1) links in omega (arith, h)
+
+node_count : (place : ℕ) (n : PlainNode) (links : List PlainLink) → length (parties_at place n links) ≡ 1 + length links + length n.apps
+node_count place n links =
+    let both = length-append (ifaces_from place 0 links) (apps_from place 0 n.apps) in
+    omega (arith, both, ifaces_count place 0 links, apps_count place 0 n.apps)
+
+nodes_count : (place : ℕ) (nodes : List PlainNode) (links : List PlainLink) → length links ≤ MAX_LINKS → AllByRecursion IsNode nodes → length (parties_from place nodes links) ≤ length nodes * (1 + MAX_LINKS + MAX_APPS)
+nodes_count place [] links few h = omega arith
+nodes_count place (n ∷ nodes) links few h =
+    let both = length-append (parties_at place n (links_at place links)) (parties_from (place + 1) nodes links) in
+    let here = node_count place n (links_at place links) in
+    omega (arith, both, here, links_few place links, h.0.few, nodes_count (place + 1) nodes links few h.1)
+
+pub parties_few : (scene : PlainScene) → IsScene scene → length (parties_of scene) ≤ MAX_PARTIES
+unfolding parties_of
+parties_few scene h =
+    let both = length-append (parties_from 0 scene.nodes scene.links) (links_from 0 scene.links) in
+    omega (arith, both, nodes_count 0 scene.nodes scene.links h.few_links h.nodes, links_count 0 scene.links, h.few, h.few_links)
+
+-- the interfaces with one more
+ifaces-more : (place number : ℕ) (links : List PlainLink) (l : PlainLink) → ifaces_from place number (links ++ l ∷ []) ≡ ifaces_from place number links ++ iface_on place (number + length links) l.kind ∷ []
+ifaces-more place number [] l = ap (λ (k : ℕ). iface_on place k l.kind ∷ []) (omega arith)
+ifaces-more place number (x ∷ links) l =
+    ap (λ os. iface_on place number x.kind ∷ os) (ifaces-more place (number + 1) links l ∙ ap (λ (k : ℕ). ifaces_from place (number + 1) links ++ iface_on place k l.kind ∷ []) (omega arith))
+
+pub ifaces-push : (os : List PlainOpening) (place number : ℕ) (carried : LinkKind) (links : List PlainLink) (l : PlainLink) → number ≡ length links → carried ≡ l.kind
+    → (os ++ ifaces_from place 0 links) ++ iface_on place number carried ∷ [] ≡ os ++ ifaces_from place 0 (links ++ l ∷ [])
+ifaces-push os place number carried links l count same =
+    append_assoc os (ifaces_from place 0 links) (iface_on place number carried ∷ [])
+    ∙ ap (λ (k : LinkKind). os ++ (ifaces_from place 0 links ++ iface_on place number k ∷ [])) same
+    ∙ ap (λ (k : ℕ). os ++ (ifaces_from place 0 links ++ iface_on place k l.kind ∷ [])) (omega (arith, count))
+    ∙ ap (λ (is : List PlainOpening). os ++ is) (sym (ifaces-more place 0 links l))

@@ -1,0 +1,43 @@
+use Rattle.std.proofs.Common.{◌≡◌, ◌++◌, [], List, All, map, ap, sym, subst, ◌∙◌}
+use Rattle.std.specs.List.{AllByRecursion}
+use Rattle.csp_scene.specs.Ranges.{IsPlanned}
+use Rattle.csp_scene.specs.Scene.{PlainLink, PlainNode, PlainScene}
+use Rattle.csp_topology.proofs.PlanLemmas.{links_planned, plans_fit}
+use Rattle.csp_topology.proofs.TopologyLemmas.{topology_is}
+use Rattle.csp_topology.proofs.topology.Topology.of.Goals as goal
+use Rattle.csp_topology.specs.Opening.{opening_of}
+use Rattle.csp_topology.specs.Parties.{PlainOpening, links_from, parties_from}
+use Rattle.csp_topology.specs.Plan.{IsPlan, PlainNodePlan, plans_from}
+
+pub push_links-requires-clause-planned : goal.push_links-requires-clause-planned
+push_links-requires-clause-planned c =
+    let scene : PlainScene = c.args.scene.now in
+    let links : c.deref-3.result.now ≡ scene.links = c.deref-3.ensures.value ∙ ap (λ (s : PlainScene). s.links) c.scene.view_is in
+    subst (λ (ls : List PlainLink). AllByRecursion (λ l. All IsPlanned l.plan) ls) (sym links) (links_planned scene.nodes scene.links scene.links c.requires.links)
+
+pub returns-clause-whole : goal.returns-clause-whole
+returns-clause-whole c =
+    let scene : PlainScene = c.args.scene.now in
+    let nodes_are : c.scene.inside.nodes.items ≡ scene.nodes = ap (λ (s : PlainScene). s.nodes) c.scene.view_is in
+    let links_are : c.scene.inside.links.items ≡ scene.links = ap (λ (s : PlainScene). s.links) c.scene.view_is in
+    topology_is c.in_ok-plans_of.field-0.items (map (λ ends. ends.items) c.in_ok-ends_of.field-0.items) (map opening_of c.push_links.new.openings.items) scene
+    (c.in_ok-plans_of.ensures
+    ∙ ap (λ (ns : List PlainNode). plans_from 0 ns c.deref-5.result.now) (c.deref-4.ensures.value ∙ nodes_are)
+    ∙ ap (λ (ls : List PlainLink). plans_from 0 scene.nodes ls) (c.deref-5.ensures.value ∙ links_are))
+    (c.in_ok-ends_of.ensures ∙ ap (λ (ls : List PlainLink). map (λ l. l.ends) ls) (c.deref-6.ensures.value ∙ links_are))
+    (c.in_ok-push_links.ensures.parties
+    ∙ ap (λ (os : List PlainOpening). os ++ links_from 0 c.deref-3.result.now)
+    (c.in_ok-push_nodes.ensures.parties
+    ∙ ap (λ os. map opening_of os ++ parties_from 0 c.deref.result.now c.deref-2.result.now) c.new-parties.ensures.items
+    ∙ ap (λ (ns : List PlainNode). parties_from 0 ns c.deref-2.result.now) (c.deref.ensures.value ∙ nodes_are)
+    ∙ ap (λ (ls : List PlainLink). parties_from 0 scene.nodes ls) (c.deref-2.ensures.value ∙ links_are))
+    ∙ ap (λ (ls : List PlainLink). parties_from 0 scene.nodes scene.links ++ links_from 0 ls) (c.deref-3.ensures.value ∙ links_are))
+
+pub returns-clause-nodes : goal.returns-clause-nodes
+returns-clause-nodes c =
+    let scene : PlainScene = c.args.scene.now in
+    let nodes : c.deref-4.result.now ≡ scene.nodes = c.deref-4.ensures.value ∙ ap (λ (s : PlainScene). s.nodes) c.scene.view_is in
+    let links : c.deref-5.result.now ≡ scene.links = c.deref-5.ensures.value ∙ ap (λ (s : PlainScene). s.links) c.scene.view_is in
+    subst (λ (ns : List PlainNodePlan). AllByRecursion IsPlan ns)
+    (sym (c.in_ok-plans_of.ensures ∙ ap (λ (ns : List PlainNode). plans_from 0 ns c.deref-5.result.now) nodes ∙ ap (λ (ls : List PlainLink). plans_from 0 scene.nodes ls) links))
+    (plans_fit 0 scene.nodes scene.links c.requires.nodes c.requires.few_links)

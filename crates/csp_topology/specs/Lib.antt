@@ -1,0 +1,5 @@
+pub mod Lanes
+pub mod Opening
+pub mod Parties
+pub mod Plan
+pub mod Topology

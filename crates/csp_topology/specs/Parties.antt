@@ -1,0 +1,97 @@
+-- The parties of a scene before their first turns, in the order of their logs.
+use Rattle.std.specs.Prelude.{ℕ, ◌+◌, Option, None, Some, List, [], ◌∷◌, ◌++◌, length, map}
+use Rattle.csp_app.specs.PlainApp as app
+use Rattle.csp_app.specs.declared.step.Step.{Step}
+use Rattle.csp_bridge.specs.PlainBridge as bridge
+use Rattle.csp_deck.specs.Runs.{Steps}
+use Rattle.csp_iface.specs.PlainIface as iface
+use Rattle.csp_link.specs.PlainLink as link
+use Rattle.csp_link.specs.declared.fault.Fault.{Fault}
+use Rattle.csp_log.specs.declared.places.LinkKind.{LinkKind}
+use Rattle.csp_party.specs.Any.{PlainParty, a_router, a_bridge, an_iface, an_app, a_link, has_ended, asks, asked, tells, events}
+use Rattle.csp_record.specs.declared.who.Who.{Who}
+use Rattle.csp_record.specs.declared.who.Who.TheVariants as who
+use Rattle.csp_scene.specs.Links.{links_at}
+use Rattle.csp_scene.specs.Scene.{PlainScene, PlainNode, PlainLink, PlainApp}
+use Rattle.csp_stack.specs.Config.{PlainConfig, opening_state}
+
+-- a party's step, whatever party it is
+abbrev pub party_steps : Steps PlainParty
+party_steps = record { has_ended = has_ended; asks = asks; asked = asked; tells = tells; events = events }
+
+-- a party before its first turn
+pub record PlainOpening : Type 0 where
+  pub who : Who
+  pub party : PlainParty
+
+-- a party as it opens, with who it is
+abbrev pub opens : Who → PlainParty → PlainOpening
+opens w p = record { who = w; party = p }
+
+-- what the router of the node at this place is given, with its address and the links that it is on
+abbrev pub config_of : ℕ → ℕ → PlainNode → List PlainLink → PlainConfig
+config_of place addr n links = record {
+  facts = record { node = place; addr = addr; name = n.name; seed = n.seed; options = n.options; apps = length n.apps; ifaces = map (λ l. l.name) links };
+  routes = n.routes;
+}
+
+-- the router of a configuration, as it opens
+abbrev pub router_for : PlainConfig → PlainParty
+router_for c = a_router (record { facts = c.facts; state = opening_state c.facts.apps c.routes })
+
+-- the bridge at this place before its first turn
+abbrev pub bridge_at : ℕ → PlainOpening
+bridge_at place = opens (who.Bridge place) (a_bridge bridge.opening)
+
+-- the router of a node, or the bridge that stands in its place: a bridge has no address
+abbrev pub hub_by : Option ℕ → ℕ → PlainNode → List PlainLink → PlainOpening
+hub_by (Some addr) place n links = opens (who.Router place) (router_for (config_of place addr n links))
+hub_by None place n links = bridge_at place
+
+-- the interfaces of a node, one for each of these links, from this number on
+abbrev pub iface_on : ℕ → ℕ → LinkKind → PlainOpening
+iface_on place number kind = opens (who.Iface place number) (an_iface (iface.opening place number kind))
+
+-- a node's interfaces on these links, from this number on
+abbrev pub ifaces_from : ℕ → ℕ → List PlainLink → List PlainOpening
+ifaces_from place number [] = []
+ifaces_from place number (l ∷ links) = iface_on place number l.kind ∷ ifaces_from place (number + 1) links
+
+-- the applications of a node, from this number on
+abbrev pub app_with : ℕ → ℕ → List Step → PlainOpening
+app_with place number steps = opens (who.App place number) (an_app (app.opening number steps))
+
+-- an application of a node before its first turn, with its steps
+abbrev pub app_at : ℕ → ℕ → PlainApp → PlainOpening
+app_at place number a = app_with place number a.steps
+
+-- a node's applications, from this number on
+abbrev pub apps_from : ℕ → ℕ → List PlainApp → List PlainOpening
+apps_from place number [] = []
+apps_from place number (a ∷ apps) = app_at place number a ∷ apps_from place (number + 1) apps
+
+-- the parties of a node on these links: its router or bridge, its interfaces in the order of the links, its applications
+abbrev pub parties_at : ℕ → PlainNode → List PlainLink → List PlainOpening
+parties_at place n links = hub_by n.addr place n links ∷ (ifaces_from place 0 links ++ apps_from place 0 n.apps)
+
+-- the parties of these nodes, from this place on
+abbrev pub parties_from : ℕ → List PlainNode → List PlainLink → List PlainOpening
+parties_from place [] links = []
+parties_from place (n ∷ nodes) links = parties_at place n (links_at place links) ++ parties_from (place + 1) nodes links
+
+-- the links, from this number on
+abbrev pub link_with : ℕ → LinkKind → List Fault → PlainOpening
+link_with number kind plan = opens (who.Link number) (a_link (link.opening kind plan))
+
+-- a link before its first turn
+abbrev pub link_at : ℕ → PlainLink → PlainOpening
+link_at number l = link_with number l.kind l.plan
+
+-- the links as parties, from this number on
+abbrev pub links_from : ℕ → List PlainLink → List PlainOpening
+links_from number [] = []
+links_from number (l ∷ links) = link_at number l ∷ links_from (number + 1) links
+
+-- all: those of each node in order, then the links
+unfoldable pub parties_of : PlainScene → List PlainOpening
+parties_of scene = parties_from 0 scene.nodes scene.links ++ links_from 0 scene.links

@@ -1,0 +1,107 @@
+//! A party with all that its opening needs.
+
+ghost use Rattle.std.specs.Prelude.{◌≡◌, IfOk, IsSome};
+ghost use Rattle.csp_party.specs.Any.{plain};
+ghost use Rattle.csp_record.specs.Who.{node_of};
+ghost use Rattle.csp_topology.specs.Opening.{CanOpen, IsOfRegion, opening_of};
+
+use csp_app::{App, Step};
+use csp_arena::RegionToken;
+use csp_bridge::Bridge;
+use csp_iface::Iface;
+use csp_link::{Fault, Link};
+use csp_log::LinkKind;
+use csp_party::AnyParty;
+use csp_record::Who;
+use csp_stack::{Stack, StackConfig};
+use std::alloc::{AllocError, Global};
+
+/// A party that is yet to be opened: who it is, and all that its opening needs but the region of its node's buffers.
+/// Contracts see by `opening_of` who it is, and its state before its first turn.
+#[derive(Drop)]
+pub enum Opening {
+    /// The router of a node.
+    Router(StackConfig),
+    /// The bridge at this place among the nodes.
+    Bridge(u8),
+    /// An interface.
+    Iface {
+        /// The place of its node among the nodes.
+        node: u8,
+        /// Its number there.
+        number: u8,
+        /// What its link carries.
+        kind: LinkKind,
+    },
+    /// An application.
+    App {
+        /// The place of its node among the nodes.
+        node: u8,
+        /// Its number there.
+        number: u8,
+        /// What it does.
+        steps: Vec<Step>,
+    },
+    /// A link.
+    Link {
+        /// Its place among the links.
+        number: u8,
+        /// What it carries.
+        kind: LinkKind,
+        /// What goes wrong on it.
+        plan: Vec<Fault>,
+    },
+}
+
+impl Opening {
+    /// Who the party is.
+    pub fn who(&self) -> Who
+        ensures { result ≡ (opening_of self.now).who }
+    {
+        match self {
+            Opening::Router(config) => Who::Router(config.node),
+            Opening::Bridge(node) => Who::Bridge(*node),
+            Opening::Iface { node, number, .. } => Who::Iface(*node, *number),
+            Opening::App { node, number, .. } => Who::App(*node, *number),
+            Opening::Link { number, .. } => Who::Link(*number),
+        }
+    }
+
+    /// Opens the party. Its buffers are to be of this region, that of its node; a link has none.
+    ///
+    /// # Errors
+    /// Want of memory.
+    pub fn open(self, alloc: Global, region: Option<RegionToken>) -> Result<AnyParty, AllocError>
+        requires ready { CanOpen self }
+        requires region { IsSome (node_of (opening_of self).who) → IsSome region }
+        ensures party { IfOk result (λ p. plain p ≡ (opening_of self).party) }
+        ensures region { IfOk result (λ p. IsOfRegion (node_of (opening_of self).who) region p) }
+    {
+        match (self, region) {
+            (Opening::Router(config), Some(region)) => Ok(AnyParty::Router(Stack::open(
+                alloc, config, region,
+            )?)),
+            (Opening::Bridge(_), Some(region)) => Ok(AnyParty::Bridge(Bridge::new(region))),
+            (Opening::Iface { node, number, kind }, Some(region)) => Ok(AnyParty::Iface(Iface::new(
+                node, number, kind, region,
+            ))),
+            (
+                Opening::App {
+                    node: _,
+                    number,
+                    steps,
+                },
+                Some(region),
+            ) => Ok(AnyParty::App(App::open(alloc, number, steps, region)?)),
+            (
+                Opening::Link {
+                    number: _,
+                    kind,
+                    plan,
+                },
+                _,
+            ) => Ok(AnyParty::Link(Link::open(alloc, kind, plan)?)),
+            _ => unreachable!(),
+        }
+    }
+}

@@ -1,0 +1,26 @@
+use Rattle.std.proofs.Common.{◌≡◌, List, length, map, ap, sym, ◌∙◌, arith}
+use Rattle.csp_scene.specs.Scene.{PlainScene}
+use Rattle.csp_topology.specs.Parties.{PlainOpening}
+use Rattle.csp_topology.specs.Plan.{PlainNodePlan, plans_from}
+use Rattle.csp_topology.specs.Topology.{PlainTopology}
+use Rattle.csp_world.proofs.OpeningParties.{scene_new}
+use Rattle.csp_world.proofs.OpeningScene.{plans_count}
+use Rattle.csp_world.proofs.world.World.add_scene.Goals as goal
+use Rattle.csp_world.specs.Opening.{deck_of}
+use Rattle.csp_world.specs.World.{PlainWorld}
+
+pub add_nodes-requires-clause-few : goal.add_nodes-requires-clause-few
+add_nodes-requires-clause-few c =
+    let scene : PlainScene = c.args.scene.now in
+    let nodes : c.deref.result.now ≡ plans_from 0 scene.nodes scene.links = c.deref.ensures.value ∙ ap (λ (t : PlainTopology). t.nodes) c.in_ok-nodes.ensures.whole in
+    omega (arith, ap (λ (ns : List PlainNodePlan). length ns) nodes, plans_count 0 scene.nodes scene.links, c.requires.scene.few)
+
+pub add_parties-requires-clause-new : goal.add_parties-requires-clause-new
+add_parties-requires-clause-new c =
+    let scene : PlainScene = c.args.scene.now in
+    let whole = c.in_ok-nodes.ensures.whole in
+    let nodes : c.deref.result.now ≡ plans_from 0 scene.nodes scene.links = c.deref.ensures.value ∙ ap (λ (t : PlainTopology). t.nodes) whole in
+    scene_new c.opens.ensures.stands scene c.requires.scene c.add_links.new.self.plain.decks c.add_links.new.self.plain.links _
+    (ap (λ (w : PlainWorld). w.decks) c.in_ok-add_links.ensures ∙ ap (λ (w : PlainWorld). w.decks) c.in_ok-add_nodes.ensures ∙ ap (λ (ns : List PlainNodePlan). map deck_of ns) nodes)
+    (ap (λ (w : PlainWorld). w.links) c.in_ok-add_links.ensures ∙ ap (λ (t : PlainTopology). t.links) whole)
+    (ap (λ (t : PlainTopology). t.parties) whole)
