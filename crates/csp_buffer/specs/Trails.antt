@@ -26,7 +26,7 @@ parts_of (Some origin) None = part.Origin
 parts_of None (Some tag) = part.Tag
 parts_of (Some origin) (Some tag) = part.Both
 
--- its numbers are all of 32 bits
+-- the numbers of a trail are all of 32 bits
 abbrev pub is_brief : Trail → Bool
 is_brief t = nat_lt t.serial (2 ^ 32) && nat_lt t.hops (2 ^ 32) && nat_lt t.index (2 ^ 32) && nat_lt t.ack (2 ^ 32)
 

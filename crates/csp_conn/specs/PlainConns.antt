@@ -40,6 +40,6 @@ slots_of c app = slice_range c.slots (place_of app 0) (place_of app 0 + SLOTS)
 abbrev pub with_slot : PlainConns → ℕ → ℕ → Slot → PlainConns
 with_slot c app slot what = record c { slots = slice_set c.slots (place_of app slot) what }
 
--- so many applications before any connection: the circle of own ports begins with its first
+-- the slots of so many applications before any connection: the circle of own ports begins with its first
 abbrev pub conns_of : ℕ → PlainConns
 conns_of apps = record { apps = apps; slots = replicate (apps * SLOTS) Free; last = FIRST_OWN_PORT + (OWN_PORTS - 1) }

@@ -14,13 +14,13 @@ is_free Free = true
 is_free Held = false
 is_free (Open _) = false
 
--- it has a connection to this node, with this own port
+-- a slot has a connection to this node, with this own port
 abbrev pub has_port : ℕ → ℕ → Slot → Bool
 has_port dest port Free = false
 has_port dest port Held = false
 has_port dest port (Open c) = c.peer == dest && c.own_port == port
 
--- it has this connection
+-- a slot has this connection
 abbrev pub is_between : Connection → Slot → Bool
 is_between c Free = false
 is_between c Held = false

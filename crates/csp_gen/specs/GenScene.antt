@@ -17,12 +17,15 @@ use Rattle.csp_gen.specs.GenText.{gen_text}
 abbrev pub row : ℕ → ℕ → ℕ → Row
 row addr mask iface = record { addr = addr; mask = mask; iface = iface; via = None }
 
+-- a table without rows
 abbrev pub no_rows : Routes
 no_rows = finite.empty
 
+-- a table whose one row sends every address to an interface
 abbrev pub all_to : ℕ → Routes
 all_to iface = with_row no_rows (row 0 0 iface)
 
+-- the relay's table: node 1 by its first link, node 3 by its second
 abbrev pub relay_table : Routes
 relay_table = with_row (with_row no_rows (row 1 5 0)) (row 3 5 1)
 
@@ -30,6 +33,7 @@ relay_table = with_row (with_row no_rows (row 1 5 0)) (row 3 5 1)
 abbrev pub node : List ℕ → ℕ → ℕ → Routes → List PlainApp → PlainNode
 node name addr seed routes apps = record { name = name; addr = Some addr; buffers = 32; seed = seed; inbox = 16; options = usual_options; routes = routes; apps = apps }
 
+-- the three nodes, with these tables and applications
 abbrev pub nodes : Routes → Routes → Routes → List PlainApp → List PlainApp → List PlainNode
 nodes station relay payload ops cam = node (codes "ground") 1 65400 station ops ∷ node (codes "relay") 2 0 relay [] ∷ node (codes "payload") 3 0 payload cam ∷ []
 
@@ -43,6 +47,7 @@ links plan =
 abbrev pub ops : List Step → List PlainApp
 ops steps = record { name = codes "ops"; steps = steps } ∷ []
 
+-- the payload's application, with these steps
 abbrev pub cam : List Step → List PlainApp
 cam steps = record { name = codes "cam"; steps = steps } ∷ []
 
@@ -50,6 +55,7 @@ cam steps = record { name = codes "cam"; steps = steps } ∷ []
 abbrev pub connecting : Step
 connecting = step.Connect 0 3 10 (prio_of 2) 3 None
 
+-- the step that binds port 10 for reliable connections
 abbrev pub binding : Step
 binding = step.Bind 10 2
 

@@ -46,6 +46,7 @@ fault_lines packets = map (fault_line packets) (range_with_len 1 (packets / PACK
 abbrev pub sender_lines : ℕ → List (List ℕ)
 sender_lines packets = codes "app ground ops" ∷ codes "connect 0 3 10 crc rdp" ∷ (codes "burst 0 " ++ decimal packets ++ codes " 100") ∷ []
 
+-- the lines of the payload's application, which takes so many packets
 abbrev pub taker_lines : ℕ → List (List ℕ)
 taker_lines packets = codes "app payload cam" ∷ codes "bind 10 rdp" ∷ (codes "recv 0 " ++ decimal packets) ∷ []
 

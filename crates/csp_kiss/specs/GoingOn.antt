@@ -6,6 +6,7 @@ use Rattle.csp_kiss.specs.declared.event.KissEvent.TheVariants.{Packet, TooLong,
 use Rattle.csp_kiss.specs.declared.progress.KissPacket.{KissPacket}
 use Rattle.csp_kiss.specs.Reading.{Reading, answer, after}
 
+-- how far some bytes were read: what was refused, the packet, what is kept, what is left
 pub record Progress : Type 0 where
   -- how many pieces are refused on the way
   pub refused : ℕ

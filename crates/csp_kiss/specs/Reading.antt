@@ -13,7 +13,7 @@ pub record Reading : Type 0 where
   pub stage : Stage
   pub plain : List ℕ
 
--- before the first FEND
+-- a KISS reader before the first FEND
 abbrev pub unread : Reading
 unread = record { stage = Outside; plain = [] }
 

@@ -92,9 +92,11 @@ tag_for s r = record { node = r.node; nth = r.nth; index = s.index; ack = s.ack 
 abbrev pub headed : Says → RdpHead → PlainRdp → PlainBuffer → PlainBuffer
 headed s h r b = with_picture b (record b.picture { payload = s.bytes ++ head_bytes h; trace = record { origin = None; hops = 0; tag = Some (tag_for s r) } })
 
+-- a buffer filled with a packet that says this
 abbrev pub filled_with : Says → PlainRdp → PlainBuffer → PlainBuffer
 filled_with s r b = headed s (head_for s r) r b
 
+-- a buffer filled with the packet of a job
 abbrev pub filled : Job → ℕ → PlainRdp → PlainBuffer → PlainBuffer
 filled j time r b = filled_with (says j time r) r b
 
@@ -104,10 +106,12 @@ filled j time r b = filled_with (says j time r) r b
 abbrev pub without_ack : Owed → Owed
 without_ack o = record o { ack = false; delivered = 0 }
 
+-- what is owed once the opening packet was made
 abbrev pub syn_owed_after : State → ℕ → Owed → Owed
 syn_owed_after SynSent time o = record o { syn = false; syn_sent = Some time }
 syn_owed_after _ time o = without_ack (record o { syn = false; syn_sent = Some time })
 
+-- the connection once a job's packet was made
 abbrev pub sent : Job → ℕ → PlainRdp → PlainRdp
 sent job.Rst time r = record r { owed = without_ack (record r.owed { rst = false }) }
 sent job.Syn time r = record r { owed = syn_owed_after r.state time r.owed }
@@ -127,17 +131,20 @@ abbrev pub delivery_in : State → PlainRdp → Option PlainBuffer
 delivery_in Open r = next_buffer r.recv
 delivery_in _ r = None
 
+-- the packet that is delivered next, in Open, where it is kept
 abbrev pub delivery : PlainRdp → Option PlainBuffer
 delivery r = delivery_in r.state r
 
+-- in Open, the receive window without the packet to be delivered
 abbrev pub taken_in : State → PlainRdp → PlainRdp
 taken_in Open r = record r { recv = without_next r.recv }
 taken_in _ r = r
 
+-- the connection while a packet is being delivered
 abbrev pub without_delivery : PlainRdp → PlainRdp
 without_delivery r = taken_in r.state r
 
--- its queue refused it: it is kept again
+-- a packet that its queue refused is kept again
 abbrev pub keeping_again : PlainBuffer → PlainRdp → PlainRdp
 keeping_again b r = record r { recv = with_kept (r.recv.cur + 1) b r.recv }
 
@@ -150,6 +157,7 @@ abbrev pub reset_after : Option ℕ → ℕ → PlainRdp → PlainRdp
 reset_after None time r = r
 reset_after (Some t) time r = if nat_le t (r.recv.cur + 1) then owes_rst (left Closed time r) else r
 
+-- the connection once a packet was delivered
 abbrev pub delivering : ℕ → PlainRdp → PlainRdp
 delivering time r = reset_after r.reset_at time (record r { recv = confirmed r.recv; owed = counted time r.owed })
 
@@ -173,5 +181,6 @@ closed_in Open time r = broken time r
 closed_in CloseWait time r = r
 closed_in Closed time r = r
 
+-- the application's close
 abbrev pub closing : ℕ → PlainRdp → PlainRdp
 closing time r = closed_in r.state time r

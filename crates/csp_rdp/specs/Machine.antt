@@ -42,6 +42,7 @@ nothing_owed = record { rst = false; syn = false; syn_sent = None; eak = false; 
 abbrev pub opening_owed : Owed
 opening_owed = record { rst = false; syn = true; syn_sent = None; eak = false; ack = false; delivered = 0; first = 0 }
 
+-- a connection as it begins, on either side
 abbrev pub made : State → ℕ → Options → ℕ → Option (ℕ × ℕ) → ℕ → ℕ → ℕ → PlainRdp
 made state start options other peer node nth time = record {
   state = state;
@@ -87,12 +88,15 @@ left state time r = record r { state = state; since = time; send = with_mark Aba
 abbrev pub owes_rst : PlainRdp → PlainRdp
 owes_rst r = record r { owed = record r.owed { rst = true } }
 
+-- the opening packet, or the answer to it, is owed
 abbrev pub owes_syn : PlainRdp → PlainRdp
 owes_syn r = record r { owed = record r.owed { syn = true } }
 
+-- an extended acknowledgement is owed
 abbrev pub owes_eak : PlainRdp → PlainRdp
 owes_eak r = record r { owed = record r.owed { eak = true } }
 
+-- an acknowledgement is owed at once
 abbrev pub owes_ack : PlainRdp → PlainRdp
 owes_ack r = record r { owed = record r.owed { ack = true } }
 

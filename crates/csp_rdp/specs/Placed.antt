@@ -14,6 +14,7 @@ placed_buffer n b = record { picture = b.picture; region = n }
 abbrev pub placed_pending : RegionName → Pending → Pending
 placed_pending n p = record p { buffer = placed_buffer n p.buffer }
 
+-- a kept packet in a buffer of another region
 abbrev pub placed_kept : RegionName → Kept → Kept
 placed_kept n k = record k { buffer = placed_buffer n k.buffer }
 

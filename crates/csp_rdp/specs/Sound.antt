@@ -36,6 +36,7 @@ ArePacketsIn Open ps = ⊤
 ArePacketsIn CloseWait ps = AreLoose ps
 ArePacketsIn Closed ps = AreLoose ps
 
+-- what a connection's fields keep: its window's range, no packet too long, nothing kept or to be sent before it is open, nothing needed once it is over
 pub record IsSound (state : State) (options : Options) (send : PlainSend) (recv : PlainRecv) (owed : Owed) : Type 0 where
   pub low : 1 ≤ options.window
   pub high : options.window ≤ MAX_WINDOW

@@ -81,6 +81,7 @@ row_in Open r h bytes = open_row r h bytes
 row_in CloseWait r h bytes = close_wait_row h
 row_in Closed r h bytes = row.Stray
 
+-- the row of the table of states that a packet comes to
 abbrev pub row_of : PlainRdp → RdpHead → List ℕ → Row
 row_of r h bytes = row_in r.state r h bytes
 
@@ -91,6 +92,7 @@ abbrev pub entered_from : State → ℕ → PlainRdp → PlainRdp
 entered_from SynRcvd time r = opened time r
 entered_from _ time r = r
 
+-- a connection that was waiting for its opening is open; another stays as it is
 abbrev pub entered : ℕ → PlainRdp → PlainRdp
 entered time r = entered_from r.state time r
 

@@ -13,6 +13,6 @@ waits_in Open una nxt = not (una == nxt)
 waits_in CloseWait una nxt = true
 waits_in Closed una nxt = false
 
--- it waits, and the connection timeout has passed
+-- a connection waits for its timer, and the connection timeout has passed
 abbrev pub times_out : ℕ → PlainRdp → Bool
 times_out time r = waits_in r.state r.send.una r.send.nxt && has_passed (Some r.since) r.options.conn_timeout time

@@ -40,7 +40,7 @@ ArePlaced una t (Some p ∷ places) = (p.index + 20 ≡ t) × (p.needed ≡ true
 abbrev pub send_view : Seq → ℕ → ℕ → ℕ → List (Option Pending) → PlainSend
 send_view start window una nxt places = record { start = start.0; window = window; una = una; nxt = nxt; packets = held_in places }
 
--- and what its fields keep
+-- what the fields of a send window keep
 pub record IsSendSound (window una nxt : ℕ) (places : List (Option Pending)) : Type 0 where
   pub low : 1 ≤ una
   pub ordered : una ≤ nxt
@@ -52,7 +52,7 @@ pub record IsSendSound (window una nxt : ℕ) (places : List (Option Pending)) :
 abbrev pub recv_view : Seq → ℕ → ℕ → List (Option PlainBuffer) → PlainRecv
 recv_view start window cur places = record { start = start.0; window = window; cur = cur; kept = kept_in (cur + 1) places }
 
--- and what its fields keep
+-- what the fields of a receive window keep
 pub record IsRecvSound (window cur : ℕ) : Type 0 where
   pub range : cur < 2 ^ 32
   pub narrow : 2 * window ≤ 40

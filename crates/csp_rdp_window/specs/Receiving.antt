@@ -49,6 +49,7 @@ abbrev pub kept_with : ℕ → PlainBuffer → List Kept → List Kept
 kept_with t b [] = record { index = t; buffer = b } ∷ []
 kept_with t b (k ∷ ks) = if nat_lt t k.index then record { index = t; buffer = b } ∷ k ∷ ks else k ∷ kept_with t b ks
 
+-- the window with a packet more, in the order of indices
 abbrev pub with_kept : ℕ → PlainBuffer → PlainRecv → PlainRecv
 with_kept t b w = record w { kept = kept_with t b w.kept }
 
@@ -60,6 +61,7 @@ offered_at (Some t) b w =
     else if is_kept w t then (offer.Duplicate b, w)
     else (offer.Kept, with_kept t b w)
 
+-- what becomes of a packet with this number, and the window then
 abbrev pub offered : ℕ → PlainBuffer → PlainRecv → Offer × PlainRecv
 offered number b w = offered_at (index_in w number) b w
 
@@ -69,17 +71,17 @@ offered number b w = offered_at (index_in w number) b w
 abbrev pub next_buffer : PlainRecv → Option PlainBuffer
 next_buffer w = option_map (λ k. k.buffer) (find (λ k. k.index == w.cur + 1) w.kept)
 
--- it is taken out
+-- the window without the packet that is delivered next
 abbrev pub without_next : PlainRecv → PlainRecv
 without_next w = record w { kept = filter (λ k. not (k.index == w.cur + 1)) w.kept }
 
--- it is delivered
+-- the window once that packet is delivered
 abbrev pub confirmed : PlainRecv → PlainRecv
 confirmed w = record w { cur = w.cur + 1 }
 
 -- ---- what is kept
 
--- its numbers, in order
+-- the numbers of the packets kept, in order
 abbrev pub kept_numbers : PlainRecv → List Seq
 kept_numbers w = map (λ k. record { 0 = number_of w.start (pos k.index) }) w.kept
 
@@ -97,6 +99,7 @@ abbrev pub first_buffer : List Kept → Option PlainBuffer
 first_buffer [] = None
 first_buffer (k ∷ ks) = Some k.buffer
 
+-- what is kept without its first packet
 abbrev pub without_first : List Kept → List Kept
 without_first [] = []
 without_first (k ∷ ks) = ks

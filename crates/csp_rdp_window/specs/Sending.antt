@@ -49,7 +49,7 @@ marked Abandoned p = record p { needed = false }
 marked (Sent index time) p = if p.index == index then sent_at time p else p
 marked (Missed newest time timeout) p = if p.needed && nat_lt p.index newest && has_passed p.asked timeout time then missed_at time p else p
 
--- it befalls each packet of a window
+-- a window once this befell each of its packets
 abbrev pub with_mark : Mark → PlainSend → PlainSend
 with_mark m w = record w { packets = map (marked m) w.packets }
 
@@ -82,6 +82,7 @@ abbrev pub acked_at : Option ℕ → PlainSend → PlainSend
 acked_at None w = w
 acked_at (Some t) w = if is_inside w t then record (with_mark (Acknowledged t) w) { una = t + 1 } else w
 
+-- the window once a number was acknowledged
 abbrev pub acked : ℕ → PlainSend → PlainSend
 acked number w = acked_at (shown number w.start w.una) w
 
@@ -91,6 +92,7 @@ acked number w = acked_at (shown number w.start w.una) w
 abbrev pub among : PlainSend → ℕ → Option ℕ
 among w t = if nat_le w.una t && nat_lt t w.nxt then Some t else None
 
+-- the index that a listed number shows, if the window has it
 abbrev pub listed_at : PlainSend → Option ℕ → Option ℕ
 listed_at w None = None
 listed_at w (Some t) = among w t
@@ -107,7 +109,7 @@ newest_of ts = fold max 0 ts
 abbrev pub without_listed : List ℕ → PlainSend → PlainSend
 without_listed ts w = record w { packets = map (λ p. needed_if (not (list_any (λ t. t == p.index) ts)) p) w.packets }
 
--- and those that are still needed and older than the newest listed one are due again
+-- an extended acknowledgement: listed packets are not needed any more, and those that are still needed and older than the newest listed one are due again
 abbrev pub heard : List Seq → ℕ → ℕ → PlainSend → PlainSend
 heard numbers time timeout w = let ts = listed w numbers in with_mark (Missed (newest_of ts) time timeout) (without_listed ts w)
 
@@ -125,12 +127,13 @@ due_index time timeout w = option_map (λ p. p.index) (find (is_due time timeout
 abbrev pub packet_at : PlainSend → ℕ → Option Pending
 packet_at w index = find (λ p. p.index == index) w.packets
 
--- its payload
+-- the payload of the packet of an index
 abbrev pub payload_at : PlainSend → ℕ → List ℕ
 payload_at w index = option_map_or (λ p. p.buffer.picture.payload) (packet_at w index) []
 
 -- ---- what is no longer needed
 
+-- a packet is not needed any more
 abbrev pub is_loose : Pending → Bool
 is_loose p = not p.needed
 
@@ -143,6 +146,7 @@ abbrev pub without_loose : List Pending → List Pending
 without_loose [] = []
 without_loose (p ∷ ps) = if p.needed then p ∷ without_loose ps else ps
 
+-- the window without the first packet that is not needed
 abbrev pub drained : PlainSend → PlainSend
 drained w = record w { packets = without_loose w.packets }
 

@@ -1,7 +1,7 @@
 -- timeouts
 use Rattle.std.specs.Prelude.{ℕ, ◌-◌, Bool, true, nat_le, Option, Some, None}
 
--- so long a time has passed since then, or there was no such moment; a timeout has passed at exactly its number of rounds
+-- so long a time has passed since that moment, or there was none; a timeout has passed at exactly its number of rounds
 abbrev pub has_passed : Option ℕ → ℕ → ℕ → Bool
 has_passed None timeout time = true
 has_passed (Some since) timeout time = nat_le timeout (time - since)

@@ -13,6 +13,6 @@ weight_at node weight held = (if held.node == node then sum_by weight held.numbe
 abbrev pub IsWholeNode : PlainRecord → ℕ → ℕ → Type 0
 IsWholeNode r node count = (weight : ℕ → ℕ) → sum_by (weight_at node weight) r.held ≡ sum_by weight (range_with_len 0 count)
 
--- and so for each node, with the counts of buffers of the nodes in their order
+-- by every weight, the places of each node hold together just its numbers, the nodes having so many buffers in their order
 abbrev pub IsWhole : List ℕ → PlainRecord → Type 0
 IsWhole counts r = (node count : ℕ) → slice_get counts node ≡ Some count → IsWholeNode r node count

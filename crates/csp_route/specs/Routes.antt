@@ -22,6 +22,7 @@ Routes = finite.FinMap prefix_cmp Hop
 abbrev pub prefix_code : Coded Prefix
 prefix_code = code_by (ℕ × ℕ) (coded× coded_ℕ coded_ℕ) (λ p. (p.addr, p.mask)) (λ p. record { addr = p.0; mask = p.1 }) (λ _. refl)
 
+-- how a proof tells hops apart: by their fields
 abbrev pub hop_code : Coded Hop
 hop_code = code_by (ℕ × Option ℕ) (coded× coded_ℕ (coded_option coded_ℕ)) (λ h. (h.iface, h.via)) (λ h. record { iface = h.0; via = h.1 }) (λ _. refl)
 
@@ -29,6 +30,7 @@ hop_code = code_by (ℕ × Option ℕ) (coded× coded_ℕ (coded_option coded_�
 abbrev pub key_of : Row → Prefix
 key_of row = prefix_of row.addr row.mask
 
+-- where a kept row leads
 abbrev pub hop_of : Row → Hop
 hop_of row = record { iface = row.iface; via = row.via }
 
@@ -73,6 +75,7 @@ IsWithin count table = All (λ hop. hop.iface < count) (finite.values table)
 abbrev pub kept_key : Row → Prefix
 kept_key row = record { addr = row.addr; mask = row.mask }
 
+-- a kept row as an entry of the map: its prefix, and where it leads
 abbrev pub entry_of : Row → Prefix × Hop
 entry_of row = (kept_key row, hop_of row)
 

@@ -21,6 +21,7 @@ sim_row = (codes "sim" ∷ [], Sim)
 abbrev pub gen_words : ℕ → List (List ℕ)
 gen_words packets = codes "gen" ∷ decimal packets ∷ []
 
+-- the row of `gen N`
 abbrev pub gen_row : ℕ → Row
 gen_row packets = (gen_words packets, Gen packets)
 
