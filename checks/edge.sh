@@ -1,7 +1,8 @@
 #!/usr/bin/env bash
 # Runs the program from its edge: for each exit status it compares the status, what is written on standard output and
 # what is said on standard error, and it compares each scenario of scenarios/ with its report. Prints what differs.
-# The program is the proved one that `rt ci` leaves, or the one whose path is given.
+# The program is the proved one that `rt ci` leaves, or the one whose path is given. Then it runs the script ./cspsim in a
+# copy of the clone without out/, which takes one quick build: what it keeps, when it builds anew, and how long calls take.
 here=$(cd "$(dirname "${BASH_SOURCE[0]}")/.." && pwd) || exit 70
 program=$(realpath -e -- "${1:-$here/crates/cspsim/out/cspsim}") || exit 70
 work=$(mktemp -d) || exit 70
@@ -168,6 +169,98 @@ times 1048577 '#' | tr -d '\n' > "$work/in"
 fed 'a text of 1,048,577 bytes' 6 'cspsim: limit Bytes 1048576'
 cp "$here/measure/limit.scn" "$work/in"
 fed 'a run up to the limit of entries' 6 'cspsim: limit Entries 4000000'
+
+# The script, in a copy without a program. What it says in brackets on standard error is left out.
+copy=$work/copy
+mkdir "$copy" "$work/stub" || exit 70
+(cd "$here" && tar -cf - --exclude=out --exclude=.git .) | tar -C "$copy" -xf - || exit 70
+printf '#!/bin/sh\necho "rt is called" >&2\nexit 1\n' > "$work/stub/rt"
+printf '#!/bin/sh\necho proved\n' > "$work/proved"
+chmod +x "$work/stub/rt" "$work/proved"
+
+# script NAME STATUS WORD..: the copy's script is given the words and $work/in. What it must write and say stands in
+# $work/wanted_out and $work/wanted_said, as for a program.
+script() {
+  local name=$1 status=$2
+  shift 2
+  "$copy/cspsim" "$@" < "$work/in" > "$work/out" 2> "$work/all_said"
+  got=$?
+  grep -v '^(' "$work/all_said" > "$work/said"
+  compare "./cspsim, $name" "$status"
+}
+
+# unbuilt NAME: the script has no program for the sources as they are, and so asks rt for one, which here refuses.
+unbuilt() {
+  cp "$work/nothing" "$work/wanted_out"
+  echo 'rt is called' > "$work/wanted_said"
+  PATH=$work/stub:$PATH script "$1" 70 sim
+}
+
+# within NAME MILLISECONDS WORD..: a call of the script takes less than that, the first or, on a busy machine, one of more.
+within() {
+  local name=$1 most=$2 least= start took
+  shift 2
+  for _ in {1..40}; do
+    start=${EPOCHREALTIME/./}
+    "$copy/cspsim" "$@" < "$work/in" > /dev/null 2>&1
+    took=$((${EPOCHREALTIME/./} - start))
+    [ -n "$least" ] && [ "$least" -le "$took" ] || least=$took
+    [ "$least" -ge $((most * 1000)) ] || break
+  done
+  runs=$((runs + 1))
+  if [ "$least" -ge $((most * 1000)) ]; then
+    failed=1
+    echo "edge: ./cspsim, $name: the shortest call takes $least microseconds, and $most milliseconds are wanted"
+  fi
+}
+
+cp "$work/nothing" "$work/in"
+cp "$work/nothing" "$work/wanted_out"
+echo 'cspsim: bad words' > "$work/wanted_said"
+script 'a wrong word before any build' 2 help
+script 'two hyphens' 2 --
+within 'a wrong word' 100 gen 501
+unbuilt 'before any build'
+
+cp "$here/scenarios/mission.scn" "$work/in"
+cp "$here/scenarios/mission.report" "$work/wanted_out"
+cp "$work/nothing" "$work/wanted_said"
+script 'a quick build' 0 sim
+PATH=$work/stub:$PATH script 'the program that was kept' 0 sim
+ln -s "$copy/cspsim" "$work/link"
+PATH=$work/stub:$PATH "$work/link" sim < "$work/in" > "$work/out" 2> /dev/null
+got=$?
+cp "$work/nothing" "$work/said"
+compare './cspsim by a link' 0
+within 'the mission, once a program was kept' 200 sim
+"$copy/cspsim" sim < "$here/measure/under_the_limit.scn" 2> /dev/null | sed -n 2p > "$work/out"
+echo 'end unfinished 99999' > "$work/wanted_out"
+compare './cspsim, a run just under the limit' 0
+
+cp "$work/nothing" "$work/wanted_out"
+echo 'cspsim: read fault' > "$work/wanted_said"
+"$copy/cspsim" sim <&- > "$work/out" 2> "$work/all_said"
+got=$?
+grep -v '^(' "$work/all_said" > "$work/said"
+compare './cspsim, a closed standard input' 3
+(ulimit -f 1 && "$copy/cspsim" sim < "$work/in" > "$work/short" 2> "$work/all_said")
+got=$?
+cp "$work/nothing" "$work/out"
+echo 'cspsim: write fault' > "$work/wanted_said"
+grep -v '^(' "$work/all_said" > "$work/said"
+compare './cspsim, a file that may not grow' 4
+
+echo '// one line more' >> "$copy/crates/csp_draw/src/lib.rt"
+unbuilt 'a changed source'
+cp "$here/crates/csp_draw/src/lib.rt" "$copy/crates/csp_draw/src/lib.rt"
+cp "$here/scenarios/mission.report" "$work/wanted_out"
+cp "$work/nothing" "$work/wanted_said"
+PATH=$work/stub:$PATH script 'the source as it was' 0 sim
+cp "$work/proved" "$copy/crates/cspsim/out/cspsim"
+echo proved > "$work/wanted_out"
+script 'a proved program' 0 sim
+rm "$copy/crates/csp_draw/src/lib.rt"
+unbuilt 'a deleted source'
 
 [ "$failed" -ne 0 ] || echo "edge: $runs runs ended, wrote and said what they should"
 exit "$failed"
