@@ -41,8 +41,8 @@ impl Pile {
         let buffers = VecDeque::with_capacity(alloc, room)?;
         Ok(Pile {
             token: region,
+            room: buffers.capacity(),
             buffers,
-            room,
         })
     }
 

@@ -29,14 +29,14 @@ pub struct Held {
     pub frame: BoxedFrame,
 }
 
-/// The frames that a link holds for one end, in the order of holding, with room for 64.
+/// The frames that a link holds for one end, in the order of holding, with room for 64 and no more.
 #[derive(Drop)]
 pub struct HeldFrames {
     frames: VecDeque<Held>,
 }
 
 impl Model for HeldFrames {
-    ghost use Rattle.std.specs.Prelude.{List, ◌≤◌, length};
+    ghost use Rattle.std.specs.Prelude.{List, ◌≡◌, ◌≤◌, length};
     ghost use Rattle.std.specs.VecDeque.{deque_capacity};
     ghost use Rattle.csp_link.specs.declared.held.Held.{Held};
     ghost use Rattle.csp_link.specs.declared.held.TheConstants.{LINK_HOLDS};
@@ -45,7 +45,7 @@ impl Model for HeldFrames {
 
     ghost view = { λ h. h.frames.items };
 
-    ghost invariant = { λ h. (length h.frames.items ≤ LINK_HOLDS) × (LINK_HOLDS ≤ deque_capacity h.frames) };
+    ghost invariant = { λ h. (length h.frames.items ≤ LINK_HOLDS) × (deque_capacity h.frames ≡ LINK_HOLDS) };
 }
 
 impl HeldFrames {
@@ -92,10 +92,9 @@ impl HeldFrames {
         requires room { length self.old < LINK_HOLDS }
         ensures { self.new ≡ insert self.old place held }
     {
-        match self.frames.insert(place, held) {
-            Ok(()) => {}
-            Err(_) => unreachable!(),
-        }
+        self.frames.rotate_left(place);
+        self.frames.push_front_reserved(held);
+        self.frames.rotate_right(place);
     }
 
     /// Holds a frame besides.

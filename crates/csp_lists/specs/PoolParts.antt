@@ -1,5 +1,5 @@
 -- how a pool keeps its buffers
-use Rattle.std.specs.Prelude.{◌≡◌, ◌+◌, ◌≤◌, [], length, vec_len, vec_capacity}
+use Rattle.std.specs.Prelude.{◌≡◌, ◌≤◌, [], length, vec_capacity}
 use Rattle.csp_buffer.specs.Memory.{AreAllOf}
 use Rattle.csp_lists.specs.Gathered.{pictures}
 use Rattle.csp_lists.specs.Regioned.{PoolAt}
@@ -14,4 +14,4 @@ pub record IsPool (p : Inside) : Type 0 where
   pub of_it : AreAllOf p.token.name p.buffers.items
   pub fits : length p.buffers.items ≤ p.buffers.room
   pub numbers : p.numbers.items ≡ []
-  pub numbers_room : vec_len p.numbers + p.buffers.room ≤ vec_capacity p.numbers
+  pub numbers_room : vec_capacity p.numbers ≡ p.buffers.room

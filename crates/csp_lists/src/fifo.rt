@@ -35,7 +35,10 @@ impl<T> Fifo<T> {
         ensures { IfOk result (λ f. f ≡ record { room = room; items = [] }) }
     {
         let items = VecDeque::with_capacity(alloc, room)?;
-        Ok(Fifo { items, room })
+        Ok(Fifo {
+            room: items.capacity(),
+            items,
+        })
     }
 
     /// A full list of these elements, the first first. It takes no memory.

@@ -35,12 +35,12 @@ impl Model for Pool {
 }
 
 impl Pool {
-    /// A full pool of these buffers of a region, whose numbers an empty list has room for. It takes no
+    /// A full pool of these buffers of a region, whose numbers an empty list has just the room for. It takes no
     /// memory.
     pub(crate) fn full_of(region: RegionToken, buffers: Vec<Buffer>, numbers: Vec<u16>) -> Pool
         requires of_it { AreAllOf region.name buffers.items }
         requires empty { numbers.items ≡ [] }
-        requires room { vec_len buffers ≤ vec_capacity numbers }
+        requires room { vec_capacity numbers ≡ vec_len buffers }
         ensures { result ≡ record { region = region.name; pool = record { room = length buffers.items; items = pictures buffers.items } } }
     {
         Pool {

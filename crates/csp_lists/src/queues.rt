@@ -58,7 +58,7 @@ impl Queues {
         ensures err { OnErr result (self.new.queues ≡ self.old.queues) }
         ensures region { self.new.region ≡ self.old.region }
     {
-        self.list.reserve(1)?;
+        self.list.reserve_exact(1)?;
         let queue = Queue::open(alloc, self.token.copy(), place, rule, room)?;
         self.list.push_reserved(queue);
         Ok(())

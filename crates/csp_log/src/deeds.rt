@@ -3,6 +3,7 @@
 ghost use Rattle.std.specs.Prelude.{◌≡◌, ◌+◌, ◌≤◌, [], ◌++◌, length, vec_len, vec_capacity, OnOk};
 ghost use Rattle.csp_buffer.specs.Trails.{trace_of};
 ghost use Rattle.csp_log.specs.Moving.{moved_by};
+ghost use Rattle.csp_log.specs.Layout.{IsRoomier, HasTaken};
 ghost use Rattle.csp_log.specs.PlainLog.{entry_with};
 ghost use Rattle.csp_log.specs.Rows.{packet_of, item_of, op_of, answer_of, row_entry, bytes_in, events_in, IsItemLong, IsDeedLong, IsRowIn};
 
@@ -28,16 +29,17 @@ pub fn keep<T: Copy>(list: &mut Vec<T>, more: &[T]) -> usize
     start
 }
 
-/// Makes room in a list for so many elements more, and for `fewest` of them where it has too little. A refusal changes
-/// nothing.
+/// Makes room in a list for so many elements more, and for `fewest` of them where it has too little, or for twice as
+/// many as it had room for. A refusal changes nothing.
 pub fn make_room<T: Copy>(list: &mut Vec<T>, room: usize, fewest: usize) -> Result<(), AllocError>
-    ensures items { list.new.items ≡ list.old.items }
-    ensures len { vec_len list.new ≡ vec_len list.old }
-    ensures room { OnOk result (vec_len list.new + room ≤ vec_capacity list.new) }
-    ensures more { vec_capacity list.old ≤ vec_capacity list.new }
+    ensures same { IsRoomier list.old list.new }
+    ensures room { OnOk result (HasTaken list.old list.new room fewest) }
 {
-    if list.capacity() - list.len() < room {
-        list.reserve(room.max(fewest))?;
+    let capacity = list.capacity();
+    let free = capacity - list.len();
+    if free < room {
+        let twice = capacity.saturating_add(free);
+        list.reserve_exact(room.max(fewest).max(twice))?;
     }
     Ok(())
 }

@@ -1,6 +1,6 @@
 //! The draft of an entry: what a turn asked and was answered, before it is logged.
 
-ghost use Rattle.std.specs.Prelude.{◌≡◌, ◌≤◌, [], length, vec_capacity, IfOk};
+ghost use Rattle.std.specs.Prelude.{◌≡◌, ◌+◌, ◌≤◌, [], ◌++◌, length, IfOk};
 ghost use Rattle.csp_base.specs.Trace.{no_trace};
 ghost use Rattle.csp_base.specs.declared.traces.Trace.{Trace};
 ghost use Rattle.csp_buffer.specs.Trails.{trace_of};
@@ -9,9 +9,9 @@ ghost use Rattle.csp_log.specs.PlainDraft.{drafted};
 ghost use Rattle.csp_log.specs.Rows.{draft_of, item_of, packet_of, turned_back, IsDeedLong, IsItemLong};
 ghost use Rattle.csp_log.specs.Pictures.{shown_item};
 
-use crate::deeds::keep;
 use crate::row::{Deed, ItemHead, PacketHead};
 use crate::{Answer, AnswerShown, Item, Op, OpShown, QueueId};
+use arrayvec::ArrayVec;
 use csp_base::{MAX_FRAME, MAX_PAYLOAD, Trace};
 use csp_buffer::{Buffer, Trail};
 use std::alloc::{AllocError, Global};
@@ -20,12 +20,12 @@ use std::marker::Model;
 /// What a turn asks and what it is answered, on the way into a log. Contracts see it as a pair of
 /// pictures.
 ///
-/// It took its room when it was opened, and serves one turn after the other.
+/// It took its room when it was opened, for the longest frame and no more, and serves one turn after the other.
 #[derive(Drop)]
 pub struct Draft {
     pub(crate) deed: Deed,
     pub(crate) trail: Trail,
-    pub(crate) bytes: Vec<u8>,
+    pub(crate) bytes: Box<ArrayVec<u8, MAX_FRAME>>,
 }
 
 impl Model for Draft {
@@ -37,7 +37,7 @@ impl Model for Draft {
     ghost use Rattle.csp_log.specs.Rows.{draft_of};
     ghost use Rattle.csp_log.specs.Drafting.{IsKept};
 
-    ghost view = { λ d. draft_of d.bytes.items (trace_of d.trail) d.deed };
+    ghost view = { λ d. draft_of d.bytes.value.items (trace_of d.trail) d.deed };
 
     ghost invariant = { IsKept };
 }
@@ -50,7 +50,7 @@ impl Draft {
     pub fn open(alloc: Global) -> Result<Draft, AllocError>
         ensures { IfOk result (λ d. d ≡ drafted OpShown.Nothing) }
     {
-        let bytes = Vec::with_capacity(alloc, MAX_FRAME)?;
+        let bytes = Box::new(alloc, ArrayVec::new())?;
         Ok(Draft {
             deed: Deed::Rested,
             trail: Trail::of(Trace::empty()),
@@ -158,12 +158,14 @@ fn turn_back(deed: &mut Deed)
 
 /// Takes in the payload and the trail of a packet, and tells what else it is.
 #[inline(always)]
-fn keep_packet(bytes: &mut Vec<u8>, trail: &mut Trail, buffer: &Buffer) -> PacketHead
+fn keep_packet(
+    bytes: &mut ArrayVec<u8, MAX_FRAME>,
+    trail: &mut Trail,
+    buffer: &Buffer,
+) -> PacketHead
     requires none { bytes.old.items ≡ [] }
-    requires room { MAX_FRAME ≤ vec_capacity bytes.old }
     ensures packet { packet_of bytes.new.items (trace_of trail.new) result ≡ buffer.now.picture }
     ensures fits { length bytes.new.items ≤ MAX_PAYLOAD }
-    ensures capacity { vec_capacity bytes.old ≤ vec_capacity bytes.new }
 {
     keep(bytes, buffer.payload());
     *trail = buffer.trail();
@@ -175,13 +177,11 @@ fn keep_packet(bytes: &mut Vec<u8>, trail: &mut Trail, buffer: &Buffer) -> Packe
 
 /// Takes in the bytes and the trail of an item, and tells what else it is.
 #[inline(always)]
-fn keep_item(bytes: &mut Vec<u8>, trail: &mut Trail, item: &Item) -> ItemHead
+fn keep_item(bytes: &mut ArrayVec<u8, MAX_FRAME>, trail: &mut Trail, item: &Item) -> ItemHead
     requires none { bytes.old.items ≡ [] }
-    requires room { MAX_FRAME ≤ vec_capacity bytes.old }
     ensures item { item_of bytes.new.items (trace_of trail.new) result ≡ shown_item item.now }
     ensures long { IsItemLong (length bytes.new.items) result }
     ensures short { length bytes.new.items ≤ MAX_FRAME }
-    ensures capacity { vec_capacity bytes.old ≤ vec_capacity bytes.new }
 {
     match item {
         Item::Packet { mark, buffer } => ItemHead::Packet {
@@ -196,4 +196,13 @@ fn keep_item(bytes: &mut Vec<u8>, trail: &mut Trail, item: &Item) -> ItemHead
         }
         Item::Note(note) => ItemHead::Note(*note),
     }
+}
+
+/// Takes in these bytes besides.
+#[inline(always)]
+fn keep(bytes: &mut ArrayVec<u8, MAX_FRAME>, more: &[u8])
+    requires { length bytes.old.items + length more.now ≤ MAX_FRAME }
+    ensures { bytes.new.items ≡ bytes.old.items ++ more.now }
+{
+    bytes.try_extend_from_slice(more).unwrap();
 }

@@ -1,9 +1,10 @@
 //! The log of a party's turns.
 
-ghost use Rattle.std.specs.Prelude.{◌≡◌, ℕ, ◌+◌, ◌-◌, ◌*◌, ◌^◌, ◌<◌, ◌≤◌, [], ◌++◌, ◌∷◌, length, max, nat_lt, slice_get, slice_range, All, Some, false, ◌&&◌, OnOk, OnErr, vec_len, vec_capacity};
+ghost use Rattle.std.specs.Prelude.{◌≡◌, ℕ, ◌+◌, ◌-◌, ◌*◌, ◌^◌, ◌<◌, ◌≤◌, [], ◌++◌, ◌∷◌, length, max, nat_lt, slice_get, slice_range, All, Some, false, ◌&&◌, IfOk, OnOk, OnErr, vec_len, vec_capacity};
 ghost use Rattle.std.specs.Option.{option_map};
 ghost use Rattle.csp_buffer.specs.Trails.{trace_of};
 ghost use Rattle.csp_log.specs.Idling.{IsIdle, is_idle};
+ghost use Rattle.csp_log.specs.Layout.{IsRoomier, HasTaken};
 ghost use Rattle.csp_log.specs.Moving.{moved_in};
 ghost use Rattle.csp_log.specs.Noting.{noted_in};
 ghost use Rattle.csp_log.specs.PlainDraft.{drafted};
@@ -95,12 +96,13 @@ impl Log {
         if entries <= self.spare {
             return Ok(());
         }
-        let room = entries as usize;
-        make_room(&mut self.lines, room, FEWEST_LINES)?;
-        self.rows.reserve(room)?;
-        make_room(&mut self.bytes, room * MAX_FRAME, FEWEST_BYTES)?;
-        self.events.reserve(room * MAX_EVENTS)?;
-        self.spare = entries;
+        self.spare = take_room(
+            &mut self.lines,
+            &mut self.rows,
+            &mut self.bytes,
+            &mut self.events,
+            entries,
+        )?;
         Ok(())
     }
 
@@ -261,6 +263,32 @@ impl Log {
         self.lines.push_reserved(line);
         self.spare -= 1;
     }
+}
+
+/// Takes room for what so many entries more may need, and tells for how many. A refusal changes nothing else.
+fn take_room(
+    lines: &mut Vec<Line>,
+    rows: &mut Rows,
+    bytes: &mut Vec<u8>,
+    events: &mut Vec<Event>,
+    entries: u32,
+) -> Result<u32, AllocError>
+    ensures told { IfOk result (λ room. room ≡ entries) }
+    ensures lines { IsRoomier lines.old lines.new }
+    ensures lines_room { OnOk result (HasTaken lines.old lines.new entries 16384) }
+    ensures rows { (rows.new.rows ≡ rows.old.rows) × (rows.old.room ≤ rows.new.room) }
+    ensures rows_room { OnOk result (rows.new.room ≡ max rows.old.room entries) }
+    ensures bytes { IsRoomier bytes.old bytes.new }
+    ensures bytes_room { OnOk result (HasTaken bytes.old bytes.new (entries * MAX_FRAME) 262144) }
+    ensures events { IsRoomier events.old events.new }
+    ensures events_room { OnOk result (HasTaken events.old events.new (entries * MAX_EVENTS) 0) }
+{
+    let room = entries as usize;
+    make_room(lines, room, FEWEST_LINES)?;
+    rows.reserve(room)?;
+    make_room(bytes, room * MAX_FRAME, FEWEST_BYTES)?;
+    make_room(events, room * MAX_EVENTS, 0)?;
+    Ok(entries)
 }
 
 /// The line of a turn at this time, with this deed and its bytes. It keeps a row of what a line can't say.

@@ -1,8 +1,9 @@
 //! The rows of a log.
 
-ghost use Rattle.std.specs.Prelude.{◌≡◌, ◌+◌, ◌<◌, ◌≤◌, [], ◌∷◌, ◌++◌, length, slice_get, true, Some, IfSome, OnOk, OnErr, vec_len, vec_capacity};
+ghost use Rattle.std.specs.Prelude.{◌≡◌, ◌+◌, ◌<◌, ◌≤◌, [], ◌∷◌, ◌++◌, length, slice_get, max, true, Some, IfOk, IfSome, OnOk, OnErr, vec_len, vec_capacity};
 ghost use Rattle.std.specs.Option.{is_some};
 ghost use Rattle.csp_buffer.specs.Trails.{full_of};
+ghost use Rattle.csp_log.specs.Layout.{IsRoomier, HasTaken};
 ghost use Rattle.csp_log.specs.Slots.{row_of, brief_slot, is_brief_row, IsSlotIn, IsRowKept};
 
 use crate::deeds::make_room;
@@ -61,16 +62,13 @@ impl Rows {
     /// Takes room, so that there is some for at least `room` rows more. A refusal changes nothing.
     pub fn reserve(&mut self, room: usize) -> Result<(), AllocError>
         ensures rows { self.new.rows ≡ self.old.rows }
-        ensures room { OnOk result (room ≤ self.new.room) }
-        ensures more { self.old.room ≤ self.new.room }
+        ensures room { OnOk result (self.new.room ≡ max self.old.room room) }
         ensures err { OnErr result (self.new ≡ self.old) }
     {
         if room <= self.room {
             return Ok(());
         }
-        make_room(&mut self.slots, room, FEWEST_ROWS)?;
-        make_room(&mut self.wides, room, FEWEST_WIDE)?;
-        self.room = room;
+        self.room = take_room(&mut self.slots, &mut self.wides, room)?;
         Ok(())
     }
 
@@ -93,6 +91,19 @@ impl Rows {
     {
         full(self.wides.as_slice(), &self.slots[index])
     }
+}
+
+/// Takes room for so many rows more, whatever their numbers, and tells for how many. A refusal changes nothing else.
+fn take_room(slots: &mut Vec<Slot>, wides: &mut Vec<Row>, rows: usize) -> Result<usize, AllocError>
+    ensures told { IfOk result (λ room. room ≡ rows) }
+    ensures slots { IsRoomier slots.old slots.new }
+    ensures slots_room { OnOk result (HasTaken slots.old slots.new rows 4096) }
+    ensures wides { IsRoomier wides.old wides.new }
+    ensures wides_room { OnOk result (HasTaken wides.old wides.new rows 8) }
+{
+    make_room(slots, rows, FEWEST_ROWS)?;
+    make_room(wides, rows, FEWEST_WIDE)?;
+    Ok(rows)
 }
 
 /// Keeps a row: in a slot, or at the end of these where one of its numbers is of more than 32 bits.

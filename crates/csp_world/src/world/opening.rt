@@ -1,6 +1,6 @@
 //! The world of a scene before its first turn.
 
-ghost use Rattle.std.specs.Prelude.{◌≡◌, ◌+◌, ◌<◌, ◌≤◌, ◌^◌, ◌++◌, ◌∷◌, ℕ, [], Some, length, map, slice_get, vec_len, vec_capacity, OnOk, IfOk, IsSomeAnd};
+ghost use Rattle.std.specs.Prelude.{◌≡◌, ◌+◌, ◌<◌, ◌≤◌, ◌^◌, ◌++◌, ◌∷◌, ℕ, [], Some, length, map, max, slice_get, vec_len, vec_capacity, OnOk, IfOk, IsSomeAnd};
 ghost use Rattle.std.specs.List.{AllByRecursion};
 ghost use Rattle.csp_party.specs.Any.{plain, region_of};
 ghost use Rattle.csp_record.specs.Who.{node_of};
@@ -120,10 +120,12 @@ impl World {
             + INBOX_QUEUES
             + APP_QUEUES * usize::from(node.apps)
             + IFACE_QUEUES * node.lanes.len();
-        let rooms = queues + self.members.len() + self.decks.len() + 1;
-        self.room.left.reserve(queues)?;
-        self.room.held.reserve(rooms)?;
-        self.room.emptied.reserve(self.decks.len() + 1)?;
+        let queues = node_room(
+            &mut self.room,
+            queues,
+            self.members.len(),
+            self.decks.len() + 1,
+        )?;
         self.decks.add_node(
             alloc,
             node.buffers,
@@ -238,6 +240,36 @@ impl World {
     }
 }
 
+/// Takes room for what is left of so many queues and nodes at the end, and tells for how many queues.
+fn node_room(
+    room: &mut Room,
+    queues: usize,
+    members: usize,
+    nodes: usize,
+) -> Result<usize, AllocError>
+    requires few { queues + members + nodes < 2 ^ 64 }
+    requires no_left { room.old.left.items ≡ [] }
+    requires no_held { room.old.held.items ≡ [] }
+    requires no_emptied { room.old.emptied.items ≡ [] }
+    ensures told { IfOk result (λ n. n ≡ queues) }
+    ensures left { room.new.left.items ≡ [] }
+    ensures left_room { OnOk result (vec_capacity room.new.left ≡ max (vec_capacity room.old.left) queues) }
+    ensures left_capacity { vec_capacity room.old.left ≤ vec_capacity room.new.left }
+    ensures held { room.new.held.items ≡ [] }
+    ensures held_room { OnOk result (vec_capacity room.new.held ≡ max (vec_capacity room.old.held) (queues + members + nodes)) }
+    ensures held_capacity { vec_capacity room.old.held ≤ vec_capacity room.new.held }
+    ensures emptied { room.new.emptied.items ≡ [] }
+    ensures emptied_room { OnOk result (vec_capacity room.new.emptied ≡ max (vec_capacity room.old.emptied) nodes) }
+    ensures emptied_capacity { vec_capacity room.old.emptied ≤ vec_capacity room.new.emptied }
+    ensures logs { room.new.logs ≡ room.old.logs }
+    ensures queues { room.new.queues ≡ room.old.queues }
+{
+    room.left.reserve_exact(queues)?;
+    room.held.reserve_exact(queues + members + nodes)?;
+    room.emptied.reserve_exact(nodes)?;
+    Ok(queues)
+}
+
 /// Takes room for one more party, and for the numbers of so many buffers that it may hold at the end.
 fn member_room(
     alloc: Global,
@@ -249,21 +281,22 @@ fn member_room(
     requires few { room.old.queues + length members.old.items + 1 + nodes < 2 ^ 64 }
     requires no_logs { room.old.logs.items ≡ [] }
     requires no_held { room.old.held.items ≡ [] }
-    ensures numbers { IfOk result (λ numbers. (numbers.items ≡ []) × (buffers ≤ vec_capacity numbers)) }
+    ensures numbers { IfOk result (λ numbers. (numbers.items ≡ []) × (vec_capacity numbers ≡ buffers)) }
     ensures members { members.new.items ≡ members.old.items }
     ensures more { OnOk result (vec_len members.new + 1 ≤ vec_capacity members.new) }
     ensures logs { room.new.logs.items ≡ [] }
-    ensures logs_room { OnOk result (length members.old.items + 1 ≤ vec_capacity room.new.logs) }
+    ensures logs_room { OnOk result (vec_capacity room.new.logs ≡ max (vec_capacity room.old.logs) (length members.old.items + 1)) }
     ensures logs_capacity { vec_capacity room.old.logs ≤ vec_capacity room.new.logs }
     ensures held { room.new.held.items ≡ [] }
-    ensures held_room { OnOk result (room.old.queues + length members.old.items + 1 + nodes ≤ vec_capacity room.new.held) }
+    ensures held_room { OnOk result (vec_capacity room.new.held ≡ max (vec_capacity room.old.held) (room.old.queues + length members.old.items + 1 + nodes)) }
     ensures held_capacity { vec_capacity room.old.held ≤ vec_capacity room.new.held }
     ensures left { room.new.left ≡ room.old.left }
     ensures emptied { room.new.emptied ≡ room.old.emptied }
     ensures queues { room.new.queues ≡ room.old.queues }
 {
     members.reserve(1)?;
-    room.logs.reserve(members.len() + 1)?;
-    room.held.reserve(room.queues + members.len() + 1 + nodes)?;
+    room.logs.reserve_exact(members.len() + 1)?;
+    room.held
+        .reserve_exact(room.queues + members.len() + 1 + nodes)?;
     Vec::with_capacity(alloc, buffers as usize)
 }

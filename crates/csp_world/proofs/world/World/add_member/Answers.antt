@@ -23,8 +23,8 @@ invariant_of-self c =
     let held : w.room.queues + length w.members.items + 1 + length w.decks.decks ≤ vec_capacity c.member_room.new.room.held = omega (arith, e.held_room, c.len-nodes.ensures.count) in
     world-push w c.push_reserved.new.self c.member_room.new.room c.args.buffers _ c.self.invariant
     (rw e.members at c.push_reserved.ensures.items)
-    new numbers home e.numbers.0 e.numbers.1 (rw c.new.ensures refl) few
-    (has_room-push w.decks.decks _ w.room c.member_room.new.room c.self.invariant.room e.logs e.logs_room e.held held e.left e.emptied e.queues)
+    new numbers home e.numbers.0 (omega (arith, e.numbers.1)) (rw c.new.ensures refl) few
+    (has_room-push w.decks.decks _ w.room c.member_room.new.room c.self.invariant.room e.logs (omega (arith, e.logs_room)) e.held held e.left e.emptied e.queues)
 
 pub invariant_of-self-in-Err : goal.invariant_of-self-in-Err
 invariant_of-self-in-Err c =

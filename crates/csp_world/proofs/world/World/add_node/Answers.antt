@@ -9,13 +9,17 @@ use Rattle.csp_world.specs.SeenWorld.{SeenWorld}
 
 pub invariant_of-self-in_err-add_node : goal.invariant_of-self-in_err-add_node
 invariant_of-self-in_err-add_node c =
-    world-same_decks c.self.inside c.add_node.new.self _ c.self.invariant c.in_err-add_node.ensures.refused refl
-    c.reserve.ensures.items c.reserve.ensures.capacity c.reserve-2.ensures.items c.reserve-2.ensures.capacity c.reserve-3.ensures.items c.reserve-3.ensures.capacity refl
+    let r = c.self.invariant.room in
+    let e = c.node_room.ensures in
+    world-same_decks c.self.inside c.add_node.new.self _ c.self.invariant c.in_err-add_node.ensures.refused e.logs
+    (e.left ∙ sym r.no_left) e.left_capacity (e.held ∙ sym r.no_held) e.held_capacity (e.emptied ∙ sym r.no_emptied) e.emptied_capacity e.queues
 
 pub invariant_of-self-2 : goal.invariant_of-self-2
 invariant_of-self-2 c =
     let w = c.self.inside in
     let r = c.self.invariant.room in
+    let made = c.node_room.ensures in
+    let took = c.in_ok-queues.ensures in
     let count = c.node.inside.buffers in
     let inbox = c.node.inside.inbox in
     let apps = c.node.inside.apps in
@@ -30,13 +34,13 @@ invariant_of-self-2 c =
     world-deck w c.add_node.new.self _ deck c.self.invariant
     (deck_grown w.decks c.add_node.new.self deck e c.in_ok-add_node.ensures.links c.len-3.ensures.regions c.in_ok-add_node.ensures.regions)
     e (opened_once count inbox apps ifaces (c.opens.ensures.numbers (fresh_buffers count) inbox apps ifaces)) few (record {
-      no_logs = r.no_logs;
-      logs = r.logs;
-      no_left = c.reserve.ensures.items ∙ r.no_left;
-      left = omega (arith, c.in_ok-reserve.ensures.ok, r.counted, c.from.ensures, lanes, all);
-      no_held = c.reserve-2.ensures.items ∙ r.no_held;
-      held = omega (arith, c.in_ok-reserve-2.ensures.ok, r.counted, c.from.ensures, lanes, all, long, c.len-2.ensures, c.len-3.ensures.count, w.members.ok.0);
-      no_emptied = c.reserve-3.ensures.items ∙ r.no_emptied;
-      emptied = omega (arith, c.in_ok-reserve-3.ensures.ok, long, c.len-4.ensures.count);
-      counted = omega (arith, r.counted, c.from.ensures, lanes, all);
+      no_logs = rw made.logs r.no_logs;
+      logs = rw made.logs r.logs;
+      no_left = made.left;
+      left = omega (arith, took.left_room, r.counted, c.from.ensures, lanes, all);
+      no_held = made.held;
+      held = omega (arith, took.held_room, r.counted, c.from.ensures, lanes, all, long, c.len-2.ensures, c.len-3.ensures.count, w.members.ok.0);
+      no_emptied = made.emptied;
+      emptied = omega (arith, took.emptied_room, long, c.len-3.ensures.count);
+      counted = omega (arith, took.told, r.counted, c.from.ensures, lanes, all);
     })
