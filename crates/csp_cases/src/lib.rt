@@ -7,5 +7,5 @@ mod texts;
 mod words;
 
 pub use cases::{Answers, CaseError, Outcome, judged};
-pub use texts::{expanded, joined, unescaped, yes_or_no};
+pub use texts::{Steps, counted, expanded, joined, plain, shown, stepped, unescaped, yes_or_no};
 pub use words::{Words, bytes_of, long_of, small_of, word_of};

@@ -2,7 +2,9 @@
 
 use crate::cases::CaseError;
 use crate::cases::CaseError::Unread;
+use crate::words::Words;
 use std::alloc::Global;
+use std::fmt::Debug;
 
 /// The most times that a piece is repeated.
 const MOST: u64 = 2_000_000;
@@ -114,9 +116,24 @@ fn push_escaped(alloc: Global, bytes: &mut Vec<u8>, part: &str) -> Result<(), Ca
     Ok(())
 }
 
+/// A word or two as an answer.
+pub fn plain(alloc: Global, text: &str) -> Result<String, CaseError> {
+    Ok(String::from_str(alloc, text)?)
+}
+
 /// The word for an answer that is yes or no.
 pub fn yes_or_no(alloc: Global, holds: bool) -> Result<String, CaseError> {
-    Ok(String::from_str(alloc, if holds { "yes" } else { "no" })?)
+    plain(alloc, if holds { "yes" } else { "no" })
+}
+
+/// A number as an answer.
+pub fn counted(alloc: Global, number: u64) -> Result<String, CaseError> {
+    Ok(format!(in alloc; "{number}")?)
+}
+
+/// A value as an answer, with the names of its fields.
+pub fn shown<T: Debug>(alloc: Global, value: &T) -> Result<String, CaseError> {
+    Ok(format!(in alloc; "{value:?}")?)
 }
 
 /// Appends one more answer.
@@ -126,4 +143,23 @@ pub fn joined(told: &mut String, next: &str) -> Result<(), CaseError> {
     }
     told.push_str(next)?;
     Ok(())
+}
+
+/// Who takes steps.
+pub trait Steps {
+    /// What comes of a step.
+    fn step(&mut self, alloc: Global, words: &Words) -> Result<String, CaseError>;
+}
+
+/// What comes of each step of a text, in which a semicolon stands between two.
+pub fn stepped<S: Steps>(alloc: Global, who: &mut S, text: &str) -> Result<String, CaseError> {
+    let mut told = String::new(alloc);
+    for step in text.split(";") {
+        let words = Words::of(alloc, step)?;
+        let next = who.step(alloc, &words)?;
+        if !next.is_empty() {
+            joined(&mut told, next.as_str())?;
+        }
+    }
+    Ok(told)
 }

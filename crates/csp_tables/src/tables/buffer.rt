@@ -4,9 +4,15 @@
 use crate::supply::Supply;
 use csp_buffer::Buffer;
 use csp_cases::CaseError::{NoMemory, Unread};
-use csp_cases::{CaseError, Words, joined};
+use csp_cases::{CaseError, Steps, Words, plain, stepped};
 use std::alloc::Global;
 use std::mem::ManuallyDrop;
+
+/// A buffer that stays where it is.
+#[derive(Drop)]
+struct Kept {
+    buffer: ManuallyDrop<Buffer>,
+}
 
 /// What comes of each step.
 pub(super) fn answer(alloc: Global, what: &str) -> Result<String, CaseError> {
@@ -14,14 +20,8 @@ pub(super) fn answer(alloc: Global, what: &str) -> Result<String, CaseError> {
     let Some(buffer) = supply.take() else {
         return Err(NoMemory);
     };
-    let mut buffer = unsafe { ManuallyDrop::new_unchecked(sent(buffer)) };
-    let mut told = String::new(alloc);
-    for step in what.split(";") {
-        let words = Words::of(alloc, step)?;
-        let next = stepped(alloc, &mut buffer, &words)?;
-        joined(&mut told, next.as_str())?;
-    }
-    Ok(told)
+    let buffer = unsafe { ManuallyDrop::new_unchecked(sent(buffer)) };
+    stepped(alloc, &mut Kept { buffer }, what)
 }
 
 /// What may be handed to another thread, as buffers may.
@@ -29,33 +29,35 @@ fn sent<T: Send>(value: T) -> T {
     value
 }
 
-/// What comes of a step.
-fn stepped(alloc: Global, buffer: &mut Buffer, words: &Words) -> Result<String, CaseError> {
-    let what = match words.at(0)? {
-        "push" => match buffer.push_tail(words.bytes(1)?.as_slice()) {
-            Ok(()) => "ok",
-            Err(_) => "full",
-        },
-        "cut" => match buffer.cut_tail(usize::from(words.short(1)?)) {
-            Ok(()) => "ok",
-            Err(_) => "short",
-        },
-        "header" => {
-            buffer.set_header(words.word(1)?);
-            "ok"
-        }
-        "clear" => {
-            buffer.clear();
-            "ok"
-        }
-        "show" => return shown(alloc, buffer),
-        _ => return Err(Unread),
-    };
-    Ok(String::from_str(alloc, what)?)
+impl Steps for Kept {
+    fn step(&mut self, alloc: Global, words: &Words) -> Result<String, CaseError> {
+        let buffer = &mut self.buffer;
+        let what = match words.at(0)? {
+            "push" => match buffer.push_tail(words.bytes(1)?.as_slice()) {
+                Ok(()) => "ok",
+                Err(_) => "full",
+            },
+            "cut" => match buffer.cut_tail(usize::from(words.short(1)?)) {
+                Ok(()) => "ok",
+                Err(_) => "short",
+            },
+            "header" => {
+                buffer.set_header(words.word(1)?);
+                "ok"
+            }
+            "clear" => {
+                buffer.clear();
+                "ok"
+            }
+            "show" => return content(alloc, buffer),
+            _ => return Err(Unread),
+        };
+        plain(alloc, what)
+    }
 }
 
 /// The header word and the payload.
-fn shown(alloc: Global, buffer: &Buffer) -> Result<String, CaseError> {
+fn content(alloc: Global, buffer: &Buffer) -> Result<String, CaseError> {
     let shown = buffer.show();
     let header = shown.header;
     let bytes = super::rdp::hex(alloc, shown.payload.as_slice())?;

@@ -4,7 +4,7 @@
 use csp_base::{Addr, MAX_PAYLOAD, Trace};
 use csp_can::{CanAnswer, CanEvent, CanFrame, Fragments, MAX_DATA, Reassembly, fragments};
 use csp_cases::CaseError::Unread;
-use csp_cases::{CaseError, Words, bytes_of, long_of, word_of};
+use csp_cases::{CaseError, Words, bytes_of, counted, long_of, word_of};
 use csp_text::push_hex;
 use std::alloc::Global;
 
@@ -59,11 +59,11 @@ fn push_frame(alloc: Global, told: &mut String, frame: &CanFrame) -> Result<(), 
 fn count(alloc: Global, length: usize) -> Result<String, CaseError> {
     let bytes = vec![in alloc; 7u8; length]?;
     let next = Addr::new(2).ok_or(Unread)?;
-    let mut count = 0usize;
+    let mut count = 0u64;
     for _frame in fragments_of(0x8222_B000, bytes.as_slice(), next, 5)? {
         count = count.saturating_add(1);
     }
-    Ok(format!(in alloc; "{count}")?)
+    counted(alloc, count)
 }
 
 /// What a listener answers to each frame. A whole packet is told by its header, its payload and the place in the list

@@ -1,6 +1,6 @@
 //! The words of the command line: `command WORDS`, where `''` is a word without letters.
 
-use csp_cases::{CaseError, Words};
+use csp_cases::{CaseError, Words, plain};
 use csp_words::{Command, command};
 use std::alloc::Global;
 
@@ -8,9 +8,9 @@ use std::alloc::Global;
 pub(super) fn answer(alloc: Global, what: &str) -> Result<String, CaseError> {
     let told = strings(alloc, what)?;
     match command(told.as_slice()) {
-        Ok(Command::Sim) => Ok(String::from_str(alloc, "sim")?),
+        Ok(Command::Sim) => plain(alloc, "sim"),
         Ok(Command::Gen { packets }) => Ok(format!(in alloc; "gen of {packets} packets")?),
-        Err(_) => Ok(String::from_str(alloc, "bad words")?),
+        Err(_) => plain(alloc, "bad words"),
     }
 }
 

@@ -1,7 +1,7 @@
 //! CRC-32C and checked payloads: `crc of BYTES`, `crc check BYTES`.
 
 use super::rdp::hex;
-use csp_cases::{CaseError, Words};
+use csp_cases::{CaseError, Words, plain};
 use csp_crc::{CrcError, check, crc32c};
 use std::alloc::Global;
 
@@ -23,7 +23,7 @@ fn checked(alloc: Global, bytes: &[u8]) -> Result<String, CaseError> {
             let payload = hex(alloc, payload)?;
             Ok(format!(in alloc; "ok {payload}")?)
         }
-        Err(CrcError::Short) => Ok(String::from_str(alloc, "short")?),
+        Err(CrcError::Short) => plain(alloc, "short"),
         Err(CrcError::Wrong { found, wanted }) => {
             Ok(format!(in alloc; "wrong, found {found:08x} for {wanted:08x}")?)
         }

@@ -27,24 +27,25 @@ fn bit(flags: FlagSet, flag: FlagSet) -> u8 {
 /// The fields of a header, one after the other.
 fn fields(alloc: Global, header: Header) -> Result<String, CaseError> {
     let flags = header.flags;
-    let carried = flags.bits() >> 5;
-    let front = format!(in alloc;
-        "{} {} {} {} {} {carried}",
+    let all = [
         header.prio.number(),
         header.src.get(),
         header.dst.get(),
         header.dport.get(),
-        header.sport.get()
-    )?;
-    let security = format!(in alloc;
-        "{} {} {}",
+        header.sport.get(),
+        flags.bits() >> 5,
         bit(flags, FlagSet::FRAG),
         bit(flags, FlagSet::HMAC),
-        bit(flags, FlagSet::XTEA)
-    )?;
-    let rdp = bit(flags, FlagSet::RDP);
-    let crc = bit(flags, FlagSet::CRC32);
-    Ok(format!(in alloc; "{front} {security} {rdp} {crc}")?)
+        bit(flags, FlagSet::XTEA),
+        bit(flags, FlagSet::RDP),
+        bit(flags, FlagSet::CRC32),
+    ];
+    let mut told = String::new(alloc);
+    for field in all.iter() {
+        let before = if told.is_empty() { "" } else { " " };
+        told.push_str(format!(in alloc; "{before}{field}")?.as_str())?;
+    }
+    Ok(told)
 }
 
 /// The flags of a name, where the word at a place is 1.

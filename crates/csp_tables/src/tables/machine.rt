@@ -7,30 +7,29 @@ use super::rdp::{hex, options};
 use crate::supply::{Supply, leave};
 use csp_base::Seq;
 use csp_cases::CaseError::Unread;
-use csp_cases::{CaseError, Words, joined, long_of};
+use csp_cases::{CaseError, Steps, Words, long_of, plain, shown, stepped};
 use csp_rdp::{Job, Rdp, State};
 use csp_rdp_header::{Options, RdpHead, SYN};
 use std::alloc::Global;
 use std::mem::ManuallyDrop;
 
+/// A machine, the buffers that it is handed, and a time.
+#[derive(Drop)]
+struct Bench {
+    machine: ManuallyDrop<Rdp>,
+    supply: Supply,
+    time: u64,
+}
+
 /// What comes of each step.
 pub(super) fn answer(alloc: Global, what: &str) -> Result<String, CaseError> {
     let (first, rest) = what.split_once(";").ok_or(Unread)?;
-    let mut machine = opened(&Words::of(alloc, first)?)?;
-    let mut supply = Supply::open(alloc)?;
-    let mut told = String::new(alloc);
-    let mut time = 0;
-    for step in rest.split(";") {
-        let words = Words::of(alloc, step)?;
-        match words.at(0)?.strip_prefix("@") {
-            Some(later) => time = long_of(later)?,
-            None => {
-                let next = stepped(alloc, &mut machine, &mut supply, &words, time)?;
-                joined(&mut told, next.as_str())?;
-            }
-        }
-    }
-    Ok(told)
+    let mut bench = Bench {
+        machine: opened(&Words::of(alloc, first)?)?,
+        supply: Supply::open(alloc)?,
+        time: 0,
+    };
+    stepped(alloc, &mut bench, rest)
 }
 
 /// A machine that asks for a connection, or one that is asked for one.
@@ -65,31 +64,22 @@ fn accepting(start: Seq, peer: Seq, options: Options) -> Result<ManuallyDrop<Rdp
     Ok(unsafe { ManuallyDrop::new_unchecked(machine) })
 }
 
-/// What comes of a step.
-fn stepped(
-    alloc: Global,
-    machine: &mut Rdp,
-    supply: &mut Supply,
-    words: &Words,
-    time: u64,
-) -> Result<String, CaseError> {
-    match words.at(0)? {
-        "job" => made(alloc, machine, supply, time),
-        "hand" => handed(alloc, machine, supply, words, time),
-        "deliver" => delivered(alloc, machine, time),
-        "tick" => {
-            let change = machine.tick(time);
-            Ok(format!(in alloc; "{change:?}")?)
+impl Steps for Bench {
+    fn step(&mut self, alloc: Global, words: &Words) -> Result<String, CaseError> {
+        let first = words.at(0)?;
+        let (machine, supply) = (&mut self.machine, &mut self.supply);
+        match first {
+            "job" => made(alloc, machine, supply, self.time),
+            "hand" => handed(alloc, machine, supply, words, self.time),
+            "deliver" => delivered(alloc, machine, self.time),
+            "tick" => shown(alloc, &machine.tick(self.time)),
+            "close" => shown(alloc, &machine.close(self.time)),
+            "state" => shown(alloc, &machine.state()),
+            _ => {
+                self.time = long_of(first.strip_prefix("@").ok_or(Unread)?)?;
+                Ok(String::new(alloc))
+            }
         }
-        "close" => {
-            let change = machine.close(time);
-            Ok(format!(in alloc; "{change:?}")?)
-        }
-        "state" => {
-            let state = machine.state();
-            Ok(format!(in alloc; "{state:?}")?)
-        }
-        _ => Err(Unread),
     }
 }
 
@@ -101,8 +91,8 @@ fn made(
     time: u64,
 ) -> Result<String, CaseError> {
     match machine.job(time) {
-        None => Ok(String::from_str(alloc, "no job")?),
-        Some(Job::Deliver) => Ok(String::from_str(alloc, "Deliver")?),
+        None => plain(alloc, "no job"),
+        Some(Job::Deliver) => plain(alloc, "Deliver"),
         Some(job) => filled(alloc, machine, supply, job, time),
     }
 }
@@ -155,7 +145,7 @@ fn handed(
 /// The payload of the packet that is delivered next.
 fn delivered(alloc: Global, machine: &mut Rdp, time: u64) -> Result<String, CaseError> {
     let Some(packet) = machine.deliver() else {
-        return Ok(String::from_str(alloc, "nothing")?);
+        return plain(alloc, "nothing");
     };
     let bytes = hex(alloc, packet.payload());
     leave(packet);

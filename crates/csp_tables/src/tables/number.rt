@@ -3,7 +3,7 @@
 
 use csp_base::{Addr, Port, Prio, Seq, ahead, between};
 use csp_cases::CaseError::Unread;
-use csp_cases::{CaseError, Words, yes_or_no};
+use csp_cases::{CaseError, Words, counted, plain, yes_or_no};
 use std::alloc::Global;
 
 /// Whether a number is in a range, or what becomes of numbers of 16 bits.
@@ -15,11 +15,11 @@ pub(super) fn answer(alloc: Global, what: &str) -> Result<String, CaseError> {
         "prio" => yes_or_no(alloc, Prio::new(words.small(1)?).is_some()),
         "seq" => {
             let number = Seq(words.short(1)?).add(words.long(2)?).0;
-            Ok(format!(in alloc; "{number}")?)
+            counted(alloc, u64::from(number))
         }
         "ahead" => {
             let distance = ahead(Seq(words.short(1)?), Seq(words.short(2)?));
-            Ok(format!(in alloc; "{distance}")?)
+            counted(alloc, u64::from(distance))
         }
         "between" => {
             let (low, high) = (Seq(words.short(2)?), Seq(words.short(3)?));
@@ -34,7 +34,7 @@ pub(super) fn answer(alloc: Global, what: &str) -> Result<String, CaseError> {
 fn near(alloc: Global, words: &Words) -> Result<String, CaseError> {
     let around = u64::from(words.number(3)?);
     match Seq(words.short(1)?).index_near(Seq(words.short(2)?), around) {
-        Some(index) => Ok(format!(in alloc; "{index}")?),
-        None => Ok(String::from_str(alloc, "none")?),
+        Some(index) => counted(alloc, index),
+        None => plain(alloc, "none"),
     }
 }

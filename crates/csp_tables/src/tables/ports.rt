@@ -5,7 +5,7 @@
 ghost use Rattle.std.specs.Prelude.{◌≡◌, ◌<◌, IfOk};
 
 use csp_cases::CaseError::Unread;
-use csp_cases::{CaseError, Words, joined};
+use csp_cases::{CaseError, Steps, Words, counted, plain, stepped};
 use csp_conn::{Conns, OpenError};
 use csp_socket::{BindError, Sockets};
 use std::alloc::Global;
@@ -24,17 +24,10 @@ pub(super) fn answer(alloc: Global, what: &str) -> Result<String, CaseError> {
         conns: Conns::new(4),
         sockets: Sockets::new(),
     };
-    let mut told = String::new(alloc);
-    for step in what.split(";") {
-        let words = Words::of(alloc, step)?;
-        let next = ports.step(alloc, &words)?;
-        joined(&mut told, next.as_str())?;
-    }
-    Ok(told)
+    stepped(alloc, &mut ports, what)
 }
 
-impl Ports {
-    /// What comes of a step.
+impl Steps for Ports {
     fn step(&mut self, alloc: Global, words: &Words) -> Result<String, CaseError> {
         match words.at(0)? {
             "open" => self.open(alloc, words),
@@ -42,14 +35,13 @@ impl Ports {
             "find" => self.find(alloc, words),
             "free" => self.free(alloc, words),
             "bind" => self.bind(alloc, words),
-            "owner" => match self.sockets.owner(words.port(1)?) {
-                Some((app, flags)) => Ok(format!(in alloc; "{app} {flags}")?),
-                None => Ok(String::from_str(alloc, "none")?),
-            },
+            "owner" => self.owner(alloc, words),
             _ => Err(Unread),
         }
     }
+}
 
+impl Ports {
     /// The own port of a connection, or why there is none.
     fn open(&mut self, alloc: Global, words: &Words) -> Result<String, CaseError> {
         let (app, slot) = seat(words)?;
@@ -62,9 +54,9 @@ impl Ports {
             .conns
             .open(app, slot, words.addr(3)?, words.port(4)?, from)
         {
-            Ok(own) => Ok(format!(in alloc; "{}", own.get())?),
-            Err(OpenError::Busy) => Ok(String::from_str(alloc, "busy")?),
-            Err(OpenError::PortBusy) => Ok(String::from_str(alloc, "port busy")?),
+            Ok(own) => counted(alloc, u64::from(own.get())),
+            Err(OpenError::Busy) => plain(alloc, "busy"),
+            Err(OpenError::PortBusy) => plain(alloc, "port busy"),
         }
     }
 
@@ -78,8 +70,8 @@ impl Ports {
             .conns
             .incoming(app, words.addr(2)?, words.port(3)?, words.port(4)?)
         {
-            Ok(slot) => Ok(format!(in alloc; "{slot}")?),
-            Err(_) => Ok(String::from_str(alloc, "no slot")?),
+            Ok(slot) => counted(alloc, u64::from(slot)),
+            Err(_) => plain(alloc, "no slot"),
         }
     }
 
@@ -90,7 +82,7 @@ impl Ports {
             .find(words.addr(1)?, words.port(2)?, words.port(3)?)
         {
             Some((app, slot)) => Ok(format!(in alloc; "{app} {slot}")?),
-            None => Ok(String::from_str(alloc, "none")?),
+            None => plain(alloc, "none"),
         }
     }
 
@@ -98,7 +90,15 @@ impl Ports {
     fn free(&mut self, alloc: Global, words: &Words) -> Result<String, CaseError> {
         let (app, slot) = seat(words)?;
         self.conns.free(app, slot);
-        Ok(String::from_str(alloc, "ok")?)
+        plain(alloc, "ok")
+    }
+
+    /// Who has a bound port, and which flags it wants.
+    fn owner(&self, alloc: Global, words: &Words) -> Result<String, CaseError> {
+        match self.sockets.owner(words.port(1)?) {
+            Some((app, flags)) => Ok(format!(in alloc; "{app} {flags}")?),
+            None => plain(alloc, "none"),
+        }
     }
 
     /// Binds a port.
@@ -107,8 +107,8 @@ impl Ports {
             .sockets
             .bind(words.small(1)?, words.port(2)?, words.small(3)?)
         {
-            Ok(()) => Ok(String::from_str(alloc, "ok")?),
-            Err(BindError::NotBindable) => Ok(String::from_str(alloc, "not bindable")?),
+            Ok(()) => plain(alloc, "ok"),
+            Err(BindError::NotBindable) => plain(alloc, "not bindable"),
             Err(BindError::InUse { owner }) => Ok(format!(in alloc; "in use by {owner}")?),
         }
     }

@@ -4,7 +4,7 @@
 use arrayvec::ArrayVec;
 use csp_base::Seq;
 use csp_cases::CaseError::Unread;
-use csp_cases::{CaseError, Words};
+use csp_cases::{CaseError, Words, plain, shown};
 use csp_rdp_header::{MAX_KEPT, MAX_LISTED, Options, RdpHead, eak_decode, eak_encode};
 use csp_text::push_hex;
 use std::alloc::Global;
@@ -23,8 +23,8 @@ pub(super) fn answer(alloc: Global, what: &str) -> Result<String, CaseError> {
             hex(alloc, &head.encode())
         }
         "options" => match Options::decode(words.bytes(1)?.as_slice()) {
-            Ok(options) => Ok(format!(in alloc; "{options:?}")?),
-            Err(error) => Ok(format!(in alloc; "{error:?}")?),
+            Ok(options) => shown(alloc, &options),
+            Err(error) => shown(alloc, &error),
         },
         "offer" => hex(alloc, &options(&words, 1)?.encode()),
         "list" => list(alloc, words.bytes(1)?.as_slice()),
@@ -64,7 +64,7 @@ fn head(alloc: Global, bytes: &[u8]) -> Result<String, CaseError> {
             let before = hex(alloc, before)?;
             Ok(format!(in alloc; "{before} flags {flags} number {seq} acknowledges {ack}")?)
         }
-        Err(_) => Ok(String::from_str(alloc, "short")?),
+        Err(_) => plain(alloc, "short"),
     }
 }
 
@@ -80,7 +80,7 @@ fn list(alloc: Global, bytes: &[u8]) -> Result<String, CaseError> {
             }
             Ok(told)
         }
-        Err(_) => Ok(String::from_str(alloc, "bad length")?),
+        Err(_) => plain(alloc, "bad length"),
     }
 }
 

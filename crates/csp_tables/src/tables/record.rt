@@ -12,7 +12,7 @@ use crate::supply::{Supply, leave};
 use csp_base::{Origin, Tag, Trace};
 use csp_buffer::Buffer;
 use csp_cases::CaseError::{NoMemory, Unread};
-use csp_cases::{CaseError, Words, long_of, small_of};
+use csp_cases::{CaseError, Words, counted, long_of, small_of};
 use csp_log::{Answer, Draft, Event, Events, Item, Log, Op, QueueId, UNMARKED};
 use csp_record::{PartyLog, Record, Who};
 use std::alloc::Global;
@@ -39,7 +39,7 @@ pub(super) fn stale(alloc: Global, what: &str) -> Result<String, CaseError> {
         .ok()
         .ok_or(NoMemory)?;
     let count = csp_record::stale(&record(alloc, parties));
-    Ok(format!(in alloc; "{count}")?)
+    counted(alloc, count)
 }
 
 /// Appends an entry with these events.
@@ -121,7 +121,7 @@ pub(super) fn passed(alloc: Global, what: &str) -> Result<String, CaseError> {
         parties.push(party(who, log)).ok().ok_or(NoMemory)?;
     }
     let count = csp_record::passed(alloc, &record(alloc, parties))?;
-    Ok(format!(in alloc; "{count}")?)
+    counted(alloc, count)
 }
 
 /// Notes a deed.

@@ -3,7 +3,7 @@
 
 use csp_base::{Addr, Name};
 use csp_cases::CaseError::Unread;
-use csp_cases::{CaseError, small_of, unescaped};
+use csp_cases::{CaseError, plain, small_of, unescaped};
 use csp_route::{RouteError, Table};
 use std::alloc::Global;
 
@@ -58,7 +58,7 @@ fn found(alloc: Global, names: &[Name], text: &str, addr: Addr) -> Result<String
         .ok()
         .ok_or(Unread)?;
     let Some(row) = table.find(addr) else {
-        return Ok(String::from_str(alloc, "none")?);
+        return plain(alloc, "none");
     };
     let iface = names.get(usize::from(row.iface)).ok_or(Unread)?;
     let front = format!(in alloc; "{}/{} {}", row.addr.get(), row.mask, iface.as_str())?;
@@ -80,6 +80,6 @@ fn added(alloc: Global, names: &[Name], text: &str, more: &str) -> Result<String
     };
     match table.extend(&more) {
         Ok(()) => Ok(table.write(alloc, names)?),
-        Err(_) => Ok(String::from_str(alloc, "full")?),
+        Err(_) => plain(alloc, "full"),
     }
 }

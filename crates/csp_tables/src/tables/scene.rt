@@ -3,7 +3,7 @@
 //! `scene link TEXT`, `scene schedule TEXT`.
 
 use csp_cases::CaseError::{NoMemory, Unread};
-use csp_cases::{CaseError, unescaped};
+use csp_cases::{CaseError, plain, shown, unescaped};
 use csp_scene::{Scene, SceneError, SceneNode, parse};
 use std::alloc::Global;
 
@@ -17,15 +17,9 @@ pub(super) fn answer(alloc: Global, what: &str) -> Result<String, CaseError> {
             Ok(format!(in alloc; "line {line}: {kind:?}")?)
         }
         Ok(scene) => match how {
-            "judge" => Ok(String::from_str(alloc, "taken")?),
-            "schedule" => {
-                let schedule = &scene.schedule;
-                Ok(format!(in alloc; "{schedule:?}")?)
-            }
-            "link" => {
-                let link = scene.links.last().ok_or(Unread)?;
-                Ok(format!(in alloc; "{link:?}")?)
-            }
+            "judge" => plain(alloc, "taken"),
+            "schedule" => shown(alloc, &scene.schedule),
+            "link" => shown(alloc, scene.links.last().ok_or(Unread)?),
             _ => of_node(alloc, how, &scene),
         },
     }
@@ -36,19 +30,12 @@ fn of_node(alloc: Global, how: &str, scene: &Scene) -> Result<String, CaseError>
     let node = scene.nodes.last().ok_or(Unread)?;
     match how {
         "node" => numbers(alloc, node),
-        "options" => {
-            let options = node.options;
-            Ok(format!(in alloc; "{options:?}")?)
-        }
-        "routes" => {
-            let rows = node.routes.rows();
-            Ok(format!(in alloc; "{rows:?}")?)
-        }
+        "options" => shown(alloc, &node.options),
+        "routes" => shown(alloc, &node.routes.rows()),
         "step" => {
             let first = scene.nodes.first().ok_or(Unread)?;
             let app = first.apps.last().ok_or(Unread)?;
-            let step = app.steps.last().ok_or(Unread)?;
-            Ok(format!(in alloc; "{step:?}")?)
+            shown(alloc, app.steps.last().ok_or(Unread)?)
         }
         _ => Err(Unread),
     }

@@ -6,7 +6,7 @@ use super::rdp::hex;
 use arrayvec::ArrayVec;
 use csp_base::{Addr, Name, Port};
 use csp_cases::CaseError::Unread;
-use csp_cases::{CaseError, Words, joined, long_of, small_of};
+use csp_cases::{CaseError, Steps, Words, long_of, plain, shown, small_of, stepped};
 use csp_cmp::{CmpReply, MAX_REPLY, decode};
 use csp_route::{Row, Table};
 use csp_service::{Names, Served, ServiceError, Services};
@@ -16,8 +16,8 @@ use std::alloc::Global;
 pub(super) fn request(alloc: Global, what: &str) -> Result<String, CaseError> {
     let bytes = Words::of(alloc, what)?.bytes(0)?;
     match decode(bytes.as_slice()) {
-        Ok(request) => Ok(format!(in alloc; "{request:?}")?),
-        Err(error) => Ok(format!(in alloc; "{error:?}")?),
+        Ok(request) => shown(alloc, &request),
+        Err(error) => shown(alloc, &error),
     }
 }
 
@@ -44,13 +44,7 @@ pub(super) fn answer(alloc: Global, what: &str) -> Result<String, CaseError> {
         services: Services::open(alloc)?,
         time: 0,
     };
-    let mut told = String::new(alloc);
-    for step in what.split(";") {
-        let words = Words::of(alloc, step)?;
-        let next = node.step(alloc, &words)?;
-        joined(&mut told, next.as_str())?;
-    }
-    Ok(told)
+    stepped(alloc, &mut node, what)
 }
 
 /// A name.
@@ -58,13 +52,12 @@ fn name(text: &str) -> Result<Name, CaseError> {
     Name::from(text).ok().ok_or(Unread)
 }
 
-impl Node {
-    /// What comes of a step.
+impl Steps for Node {
     fn step(&mut self, alloc: Global, words: &Words) -> Result<String, CaseError> {
         let first = words.at(0)?;
         if let Some(time) = first.strip_prefix("@") {
             self.time = u32::try_from(long_of(time)?).ok().ok_or(Unread)?;
-            return Ok(String::from_str(alloc, "later")?);
+            return plain(alloc, "later");
         }
         if first == "route" {
             return self.set(alloc, words);
@@ -72,7 +65,9 @@ impl Node {
         let request = words.bytes(1)?;
         self.asked(alloc, words.port(0)?, request.as_slice())
     }
+}
 
+impl Node {
     /// Adds a row that leads to the first interface.
     fn set(&mut self, alloc: Global, words: &Words) -> Result<String, CaseError> {
         let (addr, mask) = words.at(1)?.split_once("/").ok_or(Unread)?;
@@ -88,8 +83,8 @@ impl Node {
             via: None,
         };
         match self.routes.set(row) {
-            Ok(()) => Ok(String::from_str(alloc, "set")?),
-            Err(_) => Ok(String::from_str(alloc, "full")?),
+            Ok(()) => plain(alloc, "set"),
+            Err(_) => plain(alloc, "full"),
         }
     }
 
@@ -122,6 +117,6 @@ fn served_text(alloc: Global, served: Served, reply: &[u8]) -> Result<String, Ca
         Served::Silent(event) => Ok(format!(in alloc; "silent {event:?}")?),
         Served::Refused(ServiceError::Cmp(error)) => Ok(format!(in alloc; "refused {error:?}")?),
         Served::Refused(error) => Ok(format!(in alloc; "refused {error:?}")?),
-        Served::NoService => Ok(String::from_str(alloc, "no service")?),
+        Served::NoService => plain(alloc, "no service"),
     }
 }

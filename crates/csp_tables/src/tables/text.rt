@@ -3,7 +3,7 @@
 
 use super::rdp::hex;
 use csp_cases::CaseError::Unread;
-use csp_cases::{CaseError, unescaped, yes_or_no};
+use csp_cases::{CaseError, counted, plain, unescaped, yes_or_no};
 use csp_text::{
     byte_digits, hex_bytes, hex_word, is_bytes, is_hex_word, lines, name, number, words,
 };
@@ -15,16 +15,16 @@ pub(super) fn answer(alloc: Global, what: &str) -> Result<String, CaseError> {
     let text = unescaped(alloc, rest)?;
     let word = text.as_slice();
     match how {
-        "lines" => Ok(format!(in alloc; "{}", lines(alloc, word)?.len())?),
-        "words" => Ok(format!(in alloc; "{}", words(alloc, word)?.len())?),
+        "lines" => counted(alloc, lines(alloc, word)?.len() as u64),
+        "words" => counted(alloc, words(alloc, word)?.len() as u64),
         "number" => match number(word) {
-            Some(value) => Ok(format!(in alloc; "{value}")?),
-            None => Ok(String::from_str(alloc, "none")?),
+            Some(value) => counted(alloc, u64::from(value)),
+            None => plain(alloc, "none"),
         },
         "name" => yes_or_no(alloc, name(word).is_some()),
         "bytes" => bytes(alloc, word),
-        "word" if is_hex_word(word) => Ok(format!(in alloc; "{}", hex_word(word))?),
-        "word" => Ok(String::from_str(alloc, "none")?),
+        "word" if is_hex_word(word) => counted(alloc, u64::from(hex_word(word))),
+        "word" => plain(alloc, "none"),
         _ => Err(Unread),
     }
 }
@@ -32,7 +32,7 @@ pub(super) fn answer(alloc: Global, what: &str) -> Result<String, CaseError> {
 /// The bytes that hexadecimal digits stand for.
 fn bytes(alloc: Global, word: &[u8]) -> Result<String, CaseError> {
     if !is_bytes(word) {
-        return Ok(String::from_str(alloc, "none")?);
+        return plain(alloc, "none");
     }
     let digits = byte_digits(word);
     if digits.len() > 8 {

@@ -5,7 +5,7 @@
 use crate::supply::{Supply, leave};
 use csp_base::Seq;
 use csp_cases::CaseError::Unread;
-use csp_cases::{CaseError, Words, joined};
+use csp_cases::{CaseError, Steps, Words, counted, plain, stepped};
 use csp_rdp_window::{Offer, RecvWindow, SendWindow};
 use std::alloc::Global;
 use std::mem::ManuallyDrop;
@@ -20,10 +20,30 @@ pub(super) fn answer(alloc: Global, what: &str) -> Result<String, CaseError> {
     }
     let supply = Supply::open(alloc)?;
     match words.at(0)? {
-        "send" => sending(alloc, opened_send(start, window)?, supply, rest),
-        "receive" => receiving(alloc, opened_receive(start, window)?, supply, rest),
+        "send" => {
+            let window = opened_send(start, window)?;
+            stepped(alloc, &mut Sender { window, supply }, rest)
+        }
+        "receive" => {
+            let window = opened_receive(start, window)?;
+            stepped(alloc, &mut Receiver { window, supply }, rest)
+        }
         _ => Err(Unread),
     }
+}
+
+/// A sender's window, and the buffers that it is handed.
+#[derive(Drop)]
+struct Sender {
+    window: ManuallyDrop<SendWindow>,
+    supply: Supply,
+}
+
+/// A receiver's window, and the buffers that it is handed.
+#[derive(Drop)]
+struct Receiver {
+    window: ManuallyDrop<RecvWindow>,
+    supply: Supply,
 }
 
 /// An empty window of a sender.
@@ -42,48 +62,29 @@ fn opened_receive(start: Seq, window: u32) -> Result<ManuallyDrop<RecvWindow>, C
     Ok(unsafe { ManuallyDrop::new_unchecked(RecvWindow::new(start, window)) })
 }
 
-/// What comes of each step of a sender.
-fn sending(
-    alloc: Global,
-    mut window: ManuallyDrop<SendWindow>,
-    mut supply: Supply,
-    steps: &str,
-) -> Result<String, CaseError> {
-    let mut told = String::new(alloc);
-    for step in steps.split(";") {
-        let words = Words::of(alloc, step)?;
-        let next = send_step(alloc, &mut window, &mut supply, &words)?;
-        joined(&mut told, next.as_str())?;
-    }
-    Ok(told)
-}
-
-/// What comes of a step of a sender.
-fn send_step(
-    alloc: Global,
-    window: &mut SendWindow,
-    supply: &mut Supply,
-    words: &Words,
-) -> Result<String, CaseError> {
-    match words.at(0)? {
-        "admit" => match admitted(window, supply) {
-            Some(number) => Ok(format!(in alloc; "{number}")?),
-            None => Ok(String::from_str(alloc, "full")?),
-        },
-        "ack" => {
-            let inside = window.acked(Seq(words.short(1)?));
-            let una = window.una();
-            let where_to = if inside { "inside" } else { "outside" };
-            Ok(format!(in alloc; "{where_to} una {una}")?)
-        }
-        "drain" => match window.drain() {
-            Some(loose) => {
-                leave(loose);
-                Ok(String::from_str(alloc, "one")?)
+impl Steps for Sender {
+    fn step(&mut self, alloc: Global, words: &Words) -> Result<String, CaseError> {
+        let window = &mut self.window;
+        match words.at(0)? {
+            "admit" => match admitted(window, &mut self.supply) {
+                Some(number) => counted(alloc, u64::from(number)),
+                None => plain(alloc, "full"),
+            },
+            "ack" => {
+                let inside = window.acked(Seq(words.short(1)?));
+                let una = window.una();
+                let where_to = if inside { "inside" } else { "outside" };
+                Ok(format!(in alloc; "{where_to} una {una}")?)
             }
-            None => Ok(String::from_str(alloc, "none")?),
-        },
-        _ => Err(Unread),
+            "drain" => match window.drain() {
+                Some(loose) => {
+                    leave(loose);
+                    plain(alloc, "one")
+                }
+                None => plain(alloc, "none"),
+            },
+            _ => Err(Unread),
+        }
     }
 }
 
@@ -109,39 +110,19 @@ fn admitted(window: &mut SendWindow, supply: &mut Supply) -> Option<u16> {
     }
 }
 
-/// What comes of each step of a receiver.
-fn receiving(
-    alloc: Global,
-    mut window: ManuallyDrop<RecvWindow>,
-    mut supply: Supply,
-    steps: &str,
-) -> Result<String, CaseError> {
-    let mut told = String::new(alloc);
-    for step in steps.split(";") {
-        let words = Words::of(alloc, step)?;
-        let next = receive_step(alloc, &mut window, &mut supply, &words)?;
-        joined(&mut told, next.as_str())?;
-    }
-    Ok(told)
-}
-
-/// What comes of a step of a receiver.
-fn receive_step(
-    alloc: Global,
-    window: &mut RecvWindow,
-    supply: &mut Supply,
-    words: &Words,
-) -> Result<String, CaseError> {
-    match words.at(0)? {
-        "offer" => {
-            let what = offered(window, supply, words.short(1)?);
-            Ok(String::from_str(alloc, what)?)
+impl Steps for Receiver {
+    fn step(&mut self, alloc: Global, words: &Words) -> Result<String, CaseError> {
+        match words.at(0)? {
+            "offer" => {
+                let what = offered(&mut self.window, &mut self.supply, words.short(1)?);
+                plain(alloc, what)
+            }
+            "next" => match delivered(&mut self.window) {
+                Some(number) => counted(alloc, u64::from(number)),
+                None => plain(alloc, "none"),
+            },
+            _ => Err(Unread),
         }
-        "next" => match delivered(window) {
-            Some(number) => Ok(format!(in alloc; "{number}")?),
-            None => Ok(String::from_str(alloc, "none")?),
-        },
-        _ => Err(Unread),
     }
 }
 
