@@ -11,8 +11,8 @@ use Rattle.csp_can.specs.declared.partials.TheConstants.{MAX_PARTIALS, GIVE_UP}
 use Rattle.csp_can.specs.Begins.{begin_payload}
 use Rattle.csp_can.specs.Identifiers.{key_of, same_key}
 use Rattle.csp_can.specs.Frames.{Frame}
-use Rattle.csp_can.specs.Rules.{Arrival, Deed, leaves, ends, opens, goes_on, ruling_of}
-use Rattle.csp_can.specs.Open.{fresh, standing, without, ruling, done, gone_on, answer, answer_of, next, opened_partial, grown_partial, counters, Kept, last_of, joined, shown_frames, whole_frames, open_after, counted}
+use Rattle.csp_can.specs.Rules.{Arrival, Deed, leaves, ends, opens, goes_on, opened_partial, grown_partial, ruling_of}
+use Rattle.csp_can.specs.Open.{fresh, standing, without, ruling, done, gone_on, answer, answer_of, next, counters, Kept, last_of, joined, shown_frames, whole_frames, open_after, counted}
 
 -- the last after one more
 pub last_of-push : (b : Arrival) (bs : List Arrival) (a : Arrival) → last_of b (bs ++ a ∷ []) ≡ a

@@ -11,10 +11,10 @@ use Rattle.csp_can.specs.declared.answers.CanEvent.TheVariants.{ShortBegin, TooL
 use Rattle.csp_can.specs.declared.identifiers.Key.{Key}
 use Rattle.csp_can.specs.declared.identifiers.Kind.TheVariants.{Begin, More}
 use Rattle.csp_can.specs.declared.partials.TheConstants.{MAX_PARTIALS, GIVE_UP}
-use Rattle.csp_can.specs.Begins.{begin_header, begin_length, begin_payload}
+use Rattle.csp_can.specs.Begins.{begin_length, begin_payload}
 use Rattle.csp_can.specs.Identifiers.{key_of, same_key}
 use Rattle.csp_can.specs.Frames.{Frame}
-use Rattle.csp_can.specs.Rules.{Arrival, refused, leaves, ends, opens, goes_on, Ruling, measured, ruling_of}
+use Rattle.csp_can.specs.Rules.{Arrival, refused, leaves, ends, opens, goes_on, Ruling, opened_partial, grown_partial, measured, ruling_of}
 use Rattle.csp_can.specs.Open.{fresh, standing, without, ruling, done, gone_on, answer, answer_of, next, Kept, joined, shown_frames, whole_frames}
 use Rattle.csp_can.specs.Chains.{CountsDown, IsChain, Chain}
 use Rattle.csp_can.specs.Alone.{answers, Prompt, part, whole, ReadsAs}
@@ -34,7 +34,7 @@ same_key-self key =
 module _ (k : Kept) (b : Arrival) (kind : b.frame.head.kind ≡ More) (key : key_of b.frame.head ≡ key_of k.begin.frame.head)
     (prompt : b.time - (shown_frames k).time < GIVE_UP) (next_one : b.frame.head.remain + 1 ≡ (shown_frames k).remain) where
   abbrev said : Ruling
-  said = measured false (begin_header k.begin.frame.bytes) (begin_length k.begin.frame.bytes) ((shown_frames k).payload.items ++ b.frame.bytes) k.begin.trace goes_on
+  said = measured false (grown_partial (shown_frames k) b) goes_on
 
   here : same_key (shown_frames k).key (key_of b.frame.head) ≡ true
   here = ap (λ (q : Key). same_key (shown_frames k).key q) key ∙ same_key-self (key_of k.begin.frame.head)
@@ -82,7 +82,7 @@ feed k b [] h p chain keys prompt =
     let mid = CountsDown-middle begin.head.remain more b.frame [] chain.counts_down in
     let payload : joined begin more ++ b.frame.bytes ≡ p = sym (joined-push begin more b.frame) ∙ chain.payload_is in
     let len : begin_length begin.bytes ≡ length (joined begin more ++ b.frame.bytes) = chain.length_is ∙ ap length (sym payload) in
-    let is = measured_same false (begin_header begin.bytes) (begin_length begin.bytes) (joined begin more ++ b.frame.bytes) k.begin.trace goes_on len in
+    let is = measured_same false (grown_partial (shown_frames k) b) goes_on len in
     let answered : answer whole_frames (k ∷ []) b ≡ whole h p k.begin.trace =
     answer_one k b mid.0 keys.0 prompt.0 (mid.1 ∙ sym (last_remain-arrivals k.begin k.more))
     ∙ ap answer_of is
@@ -101,7 +101,8 @@ feed k b (c ∷ later) h p chain keys prompt =
     let bytes : joined begin (take (length (more ++ b.frame ∷ [])) ((more ++ b.frame ∷ []) ++ back)) ≡ joined begin more ++ b.frame.bytes = ap (joined begin) taken ∙ joined-push begin more b.frame in
     let same = ap length bytes in
     let len = chain.length_is in
-    let is = measured_less false (begin_header begin.bytes) (begin_length begin.bytes) (joined begin more ++ b.frame.bytes) k.begin.trace goes_on (omega arith) in
+    let less : length (joined begin more ++ b.frame.bytes) < begin_length begin.bytes = omega arith in
+    let is = measured_less false (grown_partial (shown_frames k) b) goes_on less in
     let remain = mid.1 ∙ sym (last_remain-arrivals k.begin k.more) in
     let answered : answer whole_frames (k ∷ []) b ≡ part = answer_one k b mid.0 keys.0 prompt.0 remain ∙ ap answer_of is in
     let moved = after_one k b mid.0 keys.0 prompt.0 remain (ap (λ (r : Ruling). r.deed) is) in
@@ -114,9 +115,9 @@ feed k b (c ∷ later) h p chain keys prompt =
 
 -- the ruling on a BEGIN frame with a length that a packet may have, where nothing stands
 begin_alone : (a : Arrival) → a.frame.head.kind ≡ Begin → 6 ≤ length a.frame.bytes → begin_length a.frame.bytes ≤ MAX_PAYLOAD
-    → ruling whole_frames [] a ≡ measured false (begin_header a.frame.bytes) (begin_length a.frame.bytes) (begin_payload a.frame.bytes) a.trace opens
+    → ruling whole_frames [] a ≡ measured false (opened_partial a) opens
 begin_alone a kind enough fits =
-    let is = measured false (begin_header a.frame.bytes) (begin_length a.frame.bytes) (begin_payload a.frame.bytes) a.trace opens in
+    let is = measured false (opened_partial a) opens in
     (λ i. ruling_of (kind i) None (nat_le MAX_PARTIALS 0) a)
     ∙ ap (λ (t : Bool). cond t (refused ShortBegin leaves) (cond (nat_lt MAX_PAYLOAD (begin_length a.frame.bytes)) (refused TooLong leaves) is)) (le-ltb (length a.frame.bytes) 6 enough)
     ∙ ap (λ (t : Bool). cond t (refused TooLong leaves) is) (le-ltb MAX_PAYLOAD (begin_length a.frame.bytes) fits)
@@ -129,7 +130,7 @@ chain_reads a [] h p chain keys fits prompt =
     let payload : begin_payload bytes ≡ p = sym (append-nil (begin_payload bytes)) ∙ chain.payload_is in
     let len : begin_length bytes ≡ length (begin_payload bytes) = chain.length_is ∙ ap length (sym payload) in
     let small = chain.length_is in
-    let is = begin_alone a chain.kind chain.enough (omega arith) ∙ measured_same false (begin_header bytes) (begin_length bytes) (begin_payload bytes) a.trace opens len in
+    let is = begin_alone a chain.kind chain.enough (omega arith) ∙ measured_same false (opened_partial a) opens len in
     let answered : answer whole_frames [] a ≡ whole h p a.trace = ap answer_of is ∙ (λ i. whole (chain.header_is i) (payload i) a.trace) in
     ap (λ (x : CanAnswer). x ∷ []) answered
 chain_reads a (c ∷ later) h p chain keys fits prompt =
@@ -137,7 +138,8 @@ chain_reads a (c ∷ later) h p chain keys fits prompt =
     let small = chain.length_is in
     let front = chain.no_shorter 0 (omega arith) in
     let same = ap length (append-nil (begin_payload bytes)) in
-    let is = begin_alone a chain.kind chain.enough (omega arith) ∙ measured_less false (begin_header bytes) (begin_length bytes) (begin_payload bytes) a.trace opens (omega arith) in
+    let less : length (begin_payload bytes) < begin_length bytes = omega arith in
+    let is = begin_alone a chain.kind chain.enough (omega arith) ∙ measured_less false (opened_partial a) opens less in
     let answered : answer whole_frames [] a ≡ part = ap answer_of is in
     let moved : next whole_frames [] a ≡ whole_frames.opened a ∷ [] = (λ i. done whole_frames (is i).deed (key_of a.frame.head) (whole_frames.opened a) [] []) in
     let rest = feed (whole_frames.opened a) c later h p chain keys prompt in

@@ -7,10 +7,9 @@ use Rattle.csp_base.specs.declared.traces.Trace.{Trace}
 use Rattle.csp_can.specs.declared.answers.CanEvent.TheVariants.{Part, Whole, BadRemain, TooMuch}
 use Rattle.csp_can.specs.declared.identifiers.Key.{Key}
 use Rattle.csp_can.specs.declared.partials.Partial.{Partial}
-use Rattle.csp_can.specs.Frames.{Frame}
 use Rattle.csp_can.specs.Identifiers.{key_of, same_key}
-use Rattle.csp_can.specs.Open.{counters, standing, without, grown_partial}
-use Rattle.csp_can.specs.Rules.{Arrival, Ruling, more_ruling, refused, ends, goes_on}
+use Rattle.csp_can.specs.Open.{counters, standing, without}
+use Rattle.csp_can.specs.Rules.{Arrival, Ruling, grown_partial, more_ruling, refused, ends, goes_on}
 use Rattle.csp_can.specs.Steps.{more_said, after, IsPartWith, StandsLast}
 use Rattle.csp_can.proofs.Places.{present, position_inside, last_replaced}
 
@@ -18,8 +17,8 @@ use Rattle.csp_can.proofs.Places.{present, position_inside, last_replaced}
 abbrev going : Ruling
 going = record { restarted = false; event = Part; deed = goes_on }
 
-goes : (p : Partial) (f : Frame) → f.head.remain + 1 ≡ p.remain → length (p.payload.items ++ f.bytes) < p.length → more_ruling (Some p) f ≡ going
-goes p f next short = grind (arith, nat_tests)
+goes : (p : Partial) (a : Arrival) → a.frame.head.remain + 1 ≡ p.remain → length (p.payload.items ++ a.frame.bytes) < p.length → more_ruling (Some p) a ≡ going
+goes p a next short = grind (arith, nat_tests)
 
 -- the ruling by what is the case
 abbrev ruled : (next more same : Bool) (header : ℕ) (payload : List ℕ) (trace : Trace) → Ruling
@@ -32,8 +31,9 @@ picked true true same header payload trace e = cc
 picked true false true header payload trace e = cc
 picked true false false header payload trace e = (refl, refl, refl)
 
-only_part : (p : Partial) (f : Frame) → (more_ruling (Some p) f).event ≡ Part → IsPartWith p f
-only_part p f e =
+only_part : (p : Partial) (a : Arrival) → (more_ruling (Some p) a).event ≡ Part → IsPartWith p a.frame
+only_part p a e =
+    let f = a.frame in
     let tests = picked (f.head.remain + 1 == p.remain) (nat_lt p.length (length (p.payload.items ++ f.bytes))) (length (p.payload.items ++ f.bytes) == p.length) p.header (p.payload.items ++ f.bytes) p.trace e in
     let next = tests.0 in
     let more = tests.1 in
@@ -44,7 +44,7 @@ only_part p f e =
 pub part_there : (ps : List Partial) (a : Arrival) (i : ℕ) (d p : Partial) → position (λ (q : Partial). same_key q.key (key_of a.frame.head)) ps ≡ Some i → p ≡ get_or ps i d → (more_said ps a).event ≡ Part → IsPartWith p a.frame
 part_there ps a i d p first is e =
     let got = present (λ (q : Partial). same_key q.key (key_of a.frame.head)) ps i d first in
-    only_part p a.frame (ap (λ (o : Option Partial). (more_ruling o a.frame).event) (sym (got.0 ∙ ap (λ (q : Partial). Some q) (sym is))) ∙ e)
+    only_part p a (ap (λ (o : Option Partial). (more_ruling o a).event) (sym (got.0 ∙ ap (λ (q : Partial). Some q) (sym is))) ∙ e)
 
 -- a partial packet that stands last is at the last place
 pub at_end : (ps : List Partial) (key : Key) (i : ℕ) → position (λ (q : Partial). same_key q.key key) ps ≡ Some i → StandsLast key ps → suc i ≡ length ps
@@ -58,7 +58,7 @@ module _ (ps : List Partial) (a : Arrival) (i : ℕ) (d p : Partial) (first : po
   there = let got = present (λ (q : Partial). same_key q.key (key_of a.frame.head)) ps i d first in (got.0 ∙ ap (λ (q : Partial). Some q) (sym is), got.1)
 
   pub said_going : more_said ps a ≡ going
-  said_going = ap (λ (o : Option Partial). more_ruling o a.frame) there.0 ∙ goes p a.frame next short
+  said_going = ap (λ (o : Option Partial). more_ruling o a) there.0 ∙ goes p a next short
 
   pub last_grown : suc i ≡ length ps → set ps i (grown_partial p a) ≡ after (more_said ps a) ps a
   last_grown last =

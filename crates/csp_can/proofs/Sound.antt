@@ -18,62 +18,61 @@ use Rattle.csp_can.specs.declared.partials.TheConstants.{MAX_PARTIALS, GIVE_UP}
 use Rattle.csp_can.specs.Begins.{begin_header, begin_length, begin_payload}
 use Rattle.csp_can.specs.Identifiers.{key_of, same_key}
 use Rattle.csp_can.specs.Frames.{Frame}
-use Rattle.csp_can.specs.Rules.{Arrival, Deed, leaves, ends, opens, goes_on, Ruling, refused, measured, begin_ruling, more_ruling, ruling_of}
+use Rattle.csp_can.specs.Rules.{Arrival, Deed, leaves, ends, opens, goes_on, Ruling, refused, opened_partial, grown_partial, measured, begin_ruling, more_ruling, ruling_of}
 use Rattle.csp_can.specs.Open.{remove_first, fresh, standing, without, ruling, done, gone_on, answer, next, Kept, last_of, joined, shown_frames, whole_frames, open_after, counters, counted}
 use Rattle.csp_can.specs.Chains.{CountsDown, IsChain, Chain, list_by, trace_by, Completes}
 use Rattle.csp_can.proofs.Counted.{joined-push, answer_counted}
 
--- a fact of what a payload is measured as, by three cases
-pub measured_by : (stood : Bool) (header len : ℕ) (payload : List ℕ) (trace : Trace) (part : Deed) (P : Ruling → Type 0)
-    → (len < length payload → P (record { restarted = stood; event = TooMuch; deed = ends }))
-    → (len ≡ length payload → P (record { restarted = stood; event = Whole header (record { items = payload }) trace; deed = ends }))
-    → (length payload < len → P (record { restarted = stood; event = Part; deed = part }))
-    → P (measured stood header len payload trace part)
-measured_by stood header len payload trace part P much same less =
+-- a fact of what a partial packet is measured as, by three cases
+pub measured_by : (stood : Bool) (q : Partial) (part : Deed) (P : Ruling → Type 0)
+    → (q.length < length q.payload.items → P (record { restarted = stood; event = TooMuch; deed = ends }))
+    → (q.length ≡ length q.payload.items → P (record { restarted = stood; event = Whole q.header q.payload q.trace; deed = ends }))
+    → (length q.payload.items < q.length → P (record { restarted = stood; event = Part; deed = part }))
+    → P (measured stood q part)
+measured_by stood q part P much same less =
+    let len = q.length in
+    let payload = q.payload.items in
     cond_both (nat_lt len (length payload)) _ _ P (λ e. much (ltb-true len (length payload) e))
     (λ e.
     cond_both (nat_eq (length payload) len) _ _ P (λ f. same (sym (eqb-true (length payload) len f)))
     (λ f. less (let apart = eqb-false (length payload) len f in let le = ltb-false len (length payload) e in omega arith)))
 
 -- what is measured as whole
-measured_whole : (stood : Bool) (header len : ℕ) (payload : List ℕ) (trace : Trace) (part : Deed) (h : ℕ) (p : List ℕ) (t : Trace)
-    → (measured stood header len payload trace part).event ≡ Whole h (record { items = p }) t → (header ≡ h) × (len ≡ length payload) × (payload ≡ p) × (trace ≡ t)
-measured_whole stood header len payload trace part h p t =
-    measured_by stood header len payload trace part (λ r. r.event ≡ Whole h (record { items = p }) t → (header ≡ h) × (len ≡ length payload) × (payload ≡ p) × (trace ≡ t))
+measured_whole : (stood : Bool) (q : Partial) (part : Deed) (h : ℕ) (p : List ℕ) (t : Trace)
+    → (measured stood q part).event ≡ Whole h (record { items = p }) t → (q.header ≡ h) × (q.length ≡ length q.payload.items) × (q.payload.items ≡ p) × (q.trace ≡ t)
+measured_whole stood q part h p t =
+    measured_by stood q part (λ r. r.event ≡ Whole h (record { items = p }) t → (q.header ≡ h) × (q.length ≡ length q.payload.items) × (q.payload.items ≡ p) × (q.trace ≡ t))
     (λ _ e. cc)
     (λ same e.
-    let bytes : ◌≡◌ {A = ArrayVec ℕ} (record { items = payload }) (record { items = p }) = cc in
+    let bytes : ◌≡◌ {A = ArrayVec ℕ} q.payload (record { items = p }) = cc in
     (cc, same, ap (λ (v : ArrayVec ℕ). v.items) bytes, cc))
     (λ _ e. cc)
 
-pub measured_same : (stood : Bool) (header len : ℕ) (payload : List ℕ) (trace : Trace) (part : Deed)
-    → len ≡ length payload → measured stood header len payload trace part ≡ record { restarted = stood; event = Whole header (record { items = payload }) trace; deed = ends }
-measured_same stood header len payload trace part e =
-    measured_by stood header len payload trace part (λ r. r ≡ record { restarted = stood; event = Whole header (record { items = payload }) trace; deed = ends })
+pub measured_same : (stood : Bool) (q : Partial) (part : Deed)
+    → q.length ≡ length q.payload.items → measured stood q part ≡ record { restarted = stood; event = Whole q.header q.payload q.trace; deed = ends }
+measured_same stood q part e =
+    measured_by stood q part (λ r. r ≡ record { restarted = stood; event = Whole q.header q.payload q.trace; deed = ends })
     (λ h. absurd (omega arith)) (λ h. refl) (λ h. absurd (omega arith))
 
-pub measured_less : (stood : Bool) (header len : ℕ) (payload : List ℕ) (trace : Trace) (part : Deed)
-    → length payload < len → measured stood header len payload trace part ≡ record { restarted = stood; event = Part; deed = part }
-measured_less stood header len payload trace part e =
-    measured_by stood header len payload trace part (λ r. r ≡ record { restarted = stood; event = Part; deed = part })
+pub measured_less : (stood : Bool) (q : Partial) (part : Deed) → length q.payload.items < q.length → measured stood q part ≡ record { restarted = stood; event = Part; deed = part }
+measured_less stood q part e =
+    measured_by stood q part (λ r. r ≡ record { restarted = stood; event = Part; deed = part })
     (λ h. absurd (omega arith)) (λ h. absurd (omega arith)) (λ h. refl)
 
-whole_measured : (stood : Bool) (header len : ℕ) (payload : List ℕ) (trace : Trace) (part : Deed)
-    → len ≡ length payload → (measured stood header len payload trace part).event ≡ Whole header (record { items = payload }) trace
-whole_measured stood header len payload trace part e = ap (λ (r : Ruling). r.event) (measured_same stood header len payload trace part e)
+whole_measured : (stood : Bool) (q : Partial) (part : Deed) → q.length ≡ length q.payload.items → (measured stood q part).event ≡ Whole q.header q.payload q.trace
+whole_measured stood q part e = ap (λ (r : Ruling). r.event) (measured_same stood q part e)
 
 -- what is measured as a part
-measured_part : (stood : Bool) (header len : ℕ) (payload : List ℕ) (trace : Trace) (part : Deed)
-    → (part ≡ ends → ⊥) → (measured stood header len payload trace part).deed ≡ part → length payload < len
-measured_part stood header len payload trace part apart =
-    measured_by stood header len payload trace part (λ r. r.deed ≡ part → length payload < len)
+measured_part : (stood : Bool) (q : Partial) (part : Deed) → (part ≡ ends → ⊥) → (measured stood q part).deed ≡ part → length q.payload.items < q.length
+measured_part stood q part apart =
+    measured_by stood q part (λ r. r.deed ≡ part → length q.payload.items < q.length)
     (λ _ e. absurd (apart (sym e))) (λ _ e. absurd (apart (sym e))) (λ less _. less)
 
 -- a fact of the ruling on a BEGIN frame, by four cases
 pub begin_by : (stood full : Bool) (a : Arrival) (P : Ruling → Type 0)
     → P (refused ShortBegin leaves) → P (refused TooLong leaves) → P (refused NoRoom leaves)
     → (6 ≤ length a.frame.bytes → begin_length a.frame.bytes ≤ MAX_PAYLOAD → (not stood && full) ≡ false
-    → P (measured stood (begin_header a.frame.bytes) (begin_length a.frame.bytes) (begin_payload a.frame.bytes) a.trace opens))
+    → P (measured stood (opened_partial a) opens))
     → P (begin_ruling stood full a)
 begin_by stood full a P short long room opened =
     cond_both (nat_lt (length a.frame.bytes) 6) _ _ P (λ _. short)
@@ -84,12 +83,12 @@ begin_by stood full a P short long room opened =
     (λ g. opened (ltb-false (length a.frame.bytes) 6 e) (ltb-false MAX_PAYLOAD (begin_length a.frame.bytes) f) g)))
 
 -- a fact of the ruling on a MORE frame where a partial packet stands, by two cases
-pub more_by : (q : Partial) (f : Frame) (P : Ruling → Type 0)
+pub more_by : (q : Partial) (a : Arrival) (P : Ruling → Type 0)
     → P (refused BadRemain ends)
-    → (f.head.remain + 1 ≡ q.remain → P (measured false q.header q.length (q.payload.items ++ f.bytes) q.trace goes_on))
-    → P (more_ruling (Some q) f)
-more_by q f P bad good =
-    cond_both (nat_eq (f.head.remain + 1) q.remain) _ _ P (λ e. good (eqb-true (f.head.remain + 1) q.remain e)) (λ _. bad)
+    → (a.frame.head.remain + 1 ≡ q.remain → P (measured false (grown_partial q a) goes_on))
+    → P (more_ruling (Some q) a)
+more_by q a P bad good =
+    cond_both (nat_eq (a.frame.head.remain + 1) q.remain) _ _ P (λ e. good (eqb-true (a.frame.head.remain + 1) q.remain e)) (λ _. bad)
 
 -- the remain of the last frame
 abbrev pub last_remain : ℕ → List Frame → ℕ
@@ -156,7 +155,7 @@ begin_completes stood n a h p t kind =
     begin_by stood (nat_le MAX_PARTIALS n) a (λ r. r.event ≡ Whole h (record { items = p }) t → ((stood || nat_lt n MAX_PARTIALS) ≡ true) × IsChain a.frame [] h p × (t ≡ a.trace))
     (λ e. cc) (λ e. cc) (λ e. cc)
     (λ enough fits free e.
-    let w = measured_whole stood (begin_header a.frame.bytes) (begin_length a.frame.bytes) (begin_payload a.frame.bytes) a.trace opens h p t e in
+    let w = measured_whole stood (opened_partial a) opens h p t e in
     (room stood n free, one_chain a.frame h p kind enough w.0 w.1 w.2, sym w.3))
 
 -- the bytes of a BEGIN frame are few
@@ -178,21 +177,22 @@ begin_completed stood n a h p t few free chain trace =
     (λ _.
     cond_both (not stood && nat_le MAX_PARTIALS n) _ _ (λ (r : Ruling). r.event ≡ Whole h (record { items = p }) t) (λ e. absurd (no_room stood n free e))
     (λ _.
-    whole_measured stood (begin_header bytes) (begin_length bytes) (begin_payload bytes) a.trace opens len
+    whole_measured stood (opened_partial a) opens len
     ∙ (λ i. Whole (chain.header_is i) (record { items = payload i }) (sym trace i)))))
 
 -- ---- a chain that a MORE frame completes
 
-more_completes : (k : Kept) (f : Frame) (h : ℕ) (p : List ℕ) (t : Trace) → Sound k → f.head.kind ≡ More
-    → (more_ruling (Some (shown_frames k)) f).event ≡ Whole h (record { items = p }) t
-    → IsChain k.begin.frame (map (λ a. a.frame) k.more ++ f ∷ []) h p × (t ≡ k.begin.trace)
-more_completes k f h p t sound kind =
+more_completes : (k : Kept) (a : Arrival) (h : ℕ) (p : List ℕ) (t : Trace) → Sound k → a.frame.head.kind ≡ More
+    → (more_ruling (Some (shown_frames k)) a).event ≡ Whole h (record { items = p }) t
+    → IsChain k.begin.frame (map (λ a. a.frame) k.more ++ a.frame ∷ []) h p × (t ≡ k.begin.trace)
+more_completes k a h p t sound kind =
+    let f = a.frame in
     let begin = k.begin.frame in
     let more : List Frame = map (λ a. a.frame) k.more in
-    more_by (shown_frames k) f (λ r. r.event ≡ Whole h (record { items = p }) t → IsChain begin (more ++ f ∷ []) h p × (t ≡ k.begin.trace))
+    more_by (shown_frames k) a (λ r. r.event ≡ Whole h (record { items = p }) t → IsChain begin (more ++ f ∷ []) h p × (t ≡ k.begin.trace))
     (λ e. cc)
     (λ next e.
-    let w = measured_whole false (begin_header begin.bytes) (begin_length begin.bytes) (joined begin more ++ f.bytes) k.begin.trace goes_on h p t e in
+    let w = measured_whole false (grown_partial (shown_frames k) a) goes_on h p t e in
     let total : length p ≡ begin_length begin.bytes = ap length (sym w.2) ∙ sym w.1 in
     let short = sound.short in (
       record {
@@ -211,9 +211,10 @@ more_completes k f h p t sound kind =
       sym w.3,
     ))
 
-more_completed : (k : Kept) (f : Frame) (h : ℕ) (p : List ℕ) (t : Trace) → IsChain k.begin.frame (map (λ a. a.frame) k.more ++ f ∷ []) h p → t ≡ k.begin.trace
-    → (more_ruling (Some (shown_frames k)) f).event ≡ Whole h (record { items = p }) t
-more_completed k f h p t chain trace =
+more_completed : (k : Kept) (a : Arrival) (h : ℕ) (p : List ℕ) (t : Trace) → IsChain k.begin.frame (map (λ a. a.frame) k.more ++ a.frame ∷ []) h p → t ≡ k.begin.trace
+    → (more_ruling (Some (shown_frames k)) a).event ≡ Whole h (record { items = p }) t
+more_completed k a h p t chain trace =
+    let f = a.frame in
     let begin = k.begin.frame in
     let more : List Frame = map (λ a. a.frame) k.more in
     let next : f.head.remain + 1 ≡ (shown_frames k).remain = CountsDown-last begin.head.remain more f chain.counts_down ∙ sym (last_remain-arrivals k.begin k.more) in
@@ -221,7 +222,7 @@ more_completed k f h p t chain trace =
     let len : begin_length begin.bytes ≡ length (joined begin more ++ f.bytes) = chain.length_is ∙ ap length (sym payload) in
     cond_both (nat_eq (f.head.remain + 1) (shown_frames k).remain) _ _ (λ (r : Ruling). r.event ≡ Whole h (record { items = p }) t)
     (λ _.
-    whole_measured false (begin_header begin.bytes) (begin_length begin.bytes) (joined begin more ++ f.bytes) k.begin.trace goes_on len
+    whole_measured false (grown_partial (shown_frames k) a) goes_on len
     ∙ (λ i. Whole (chain.header_is i) (record { items = payload i }) (sym trace i)))
     (λ e. absurd (eqb-false (f.head.remain + 1) (shown_frames k).remain e next))
 
@@ -241,7 +242,7 @@ unfolding AllSound
 completes Begin None n a h p t is sound e = begin_completes false n a h p t is e
 completes Begin (Some k) n a h p t is sound e = begin_completes true n a h p t is e
 completes More None n a h p t is sound e = cc
-completes More (Some k) n a h p t is sound e = let w = more_completes k a.frame h p t sound is e in (refl, w.0, w.1)
+completes More (Some k) n a h p t is sound e = let w = more_completes k a h p t sound is e in (refl, w.0, w.1)
 
 completed : (kind : Kind) (kept : Option Kept) (n : ℕ) (a : Arrival) (h : ℕ) (p : List ℕ) (t : Trace) → a.frame.head.kind ≡ kind → length a.frame.bytes ≤ 8
     → ((is_some kept || nat_lt n MAX_PARTIALS) ≡ true) × Chain (list_by kind kept a.frame) h p × (t ≡ trace_by kind kept a.trace)
@@ -249,7 +250,7 @@ completed : (kind : Kind) (kept : Option Kept) (n : ℕ) (a : Arrival) (h : ℕ)
 completed Begin None n a h p t is few w = begin_completed false n a h p t few w.0 w.1 w.2
 completed Begin (Some k) n a h p t is few w = begin_completed true n a h p t few w.0 w.1 w.2
 completed More None n a h p t is few w = begin_not_more a.frame.head.kind w.1.kind is
-completed More (Some k) n a h p t is few w = more_completed k a.frame h p t w.1 w.2
+completed More (Some k) n a h p t is few w = more_completed k a h p t w.1 w.2
 
 -- ---- every partial packet that stands is sound
 
@@ -284,14 +285,14 @@ opens_sound Begin kept n a is =
     begin_by (is_some (option_map shown_frames kept)) (nat_le MAX_PARTIALS n) a (λ r. r.deed ≡ opens → Sound (whole_frames.opened a))
     (λ e. cc) (λ e. cc) (λ e. cc)
     (λ enough fits free e.
-    let less = measured_part (is_some (option_map shown_frames kept)) (begin_header a.frame.bytes) (begin_length a.frame.bytes) (begin_payload a.frame.bytes) a.trace opens (λ f. cc) e in
+    let less = measured_part (is_some (option_map shown_frames kept)) (opened_partial a) opens (λ f. cc) e in
     let none = ap length (append-nil (begin_payload a.frame.bytes)) in
     record { kind = is; enough = enough; counts_down = tt; short = omega arith })
 opens_sound More None n a is = λ e. cc
 opens_sound More (Some k) n a is =
-    more_by (shown_frames k) a.frame (λ r. r.deed ≡ opens → Sound (whole_frames.opened a)) (λ e. cc)
+    more_by (shown_frames k) a (λ r. r.deed ≡ opens → Sound (whole_frames.opened a)) (λ e. cc)
     (λ next.
-    measured_by false (shown_frames k).header (shown_frames k).length ((shown_frames k).payload.items ++ a.frame.bytes) (shown_frames k).trace goes_on (λ r. r.deed ≡ opens → Sound (whole_frames.opened a))
+    measured_by false (grown_partial (shown_frames k) a) goes_on (λ r. r.deed ≡ opens → Sound (whole_frames.opened a))
     (λ _ e. cc) (λ _ e. cc) (λ _ e. cc))
 
 -- one that goes on leaves a sound one
@@ -319,13 +320,13 @@ goes_on_sound Begin (Some k) n a is sound =
     begin_by true (nat_le MAX_PARTIALS n) a (λ r. r.deed ≡ goes_on → Sound (whole_frames.grown k a) × Unit {0})
     (λ e. cc) (λ e. cc) (λ e. cc)
     (λ enough fits free.
-    measured_by true (begin_header a.frame.bytes) (begin_length a.frame.bytes) (begin_payload a.frame.bytes) a.trace opens (λ r. r.deed ≡ goes_on → Sound (whole_frames.grown k a) × Unit {0})
+    measured_by true (opened_partial a) opens (λ r. r.deed ≡ goes_on → Sound (whole_frames.grown k a) × Unit {0})
     (λ _ e. cc) (λ _ e. cc) (λ _ e. cc))
 goes_on_sound More (Some k) n a is sound =
-    more_by (shown_frames k) a.frame (λ r. r.deed ≡ goes_on → Sound (whole_frames.grown k a) × Unit {0}) (λ e. cc)
+    more_by (shown_frames k) a (λ r. r.deed ≡ goes_on → Sound (whole_frames.grown k a) × Unit {0}) (λ e. cc)
     (λ next e. (
       grown_sound k a sound is next
-          (measured_part false (shown_frames k).header (shown_frames k).length ((shown_frames k).payload.items ++ a.frame.bytes) (shown_frames k).trace goes_on (λ f. cc) e),
+          (measured_part false (grown_partial (shown_frames k) a) goes_on (λ f. cc) e),
       tt,
     ))
 

@@ -8,7 +8,7 @@ use Rattle.csp_can.specs.declared.partials.TheConstants.{MAX_PARTIALS, GIVE_UP}
 use Rattle.csp_can.specs.Begins.{begin_header, begin_length, begin_payload}
 use Rattle.csp_can.specs.Identifiers.{key_of, same_key}
 use Rattle.csp_can.specs.Frames.{Frame}
-use Rattle.csp_can.specs.Rules.{Arrival, Deed, leaves, ends, opens, goes_on, Ruling, ruling_of}
+use Rattle.csp_can.specs.Rules.{Arrival, Deed, leaves, ends, opens, goes_on, Ruling, ruling_of, opened_partial, grown_partial}
 
 -- what is kept of a partial packet: what the rules see of it, what a BEGIN frame leaves, and what one more frame leaves
 pub record Keeping (K : Type 0) : Type 0 where
@@ -44,7 +44,7 @@ module _ {K : Type 0} (keeping : Keeping K) where
       ruling_of a.frame.head.kind (option_map keeping.shown (standing (key_of a.frame.head) ks)) (nat_le MAX_PARTIALS (length ks)) a
 
   -- the partial packets after a frame of this key: `one` is what it opens, and `grown` what it goes on with
-  abbrev pub done : Deed → Key → K → List K → List K → List K
+  abbrev pub done : Deed → (key : Key) → (one : K) → (grown ks : List K) → List K
   done leaves key one grown ks = ks
   done ends key one grown ks = without key ks
   done opens key one grown ks = without key ks ++ one ∷ []
@@ -63,28 +63,6 @@ module _ {K : Type 0} (keeping : Keeping K) where
   next ks a =
       let left = fresh a.time ks in
       done (ruling left a).deed (key_of a.frame.head) (keeping.opened a) (gone_on left a) left
-
--- counters and bytes: what a BEGIN frame leaves
-abbrev pub opened_partial : Arrival → Partial
-opened_partial a =
-    record {
-      key = key_of a.frame.head;
-      header = begin_header a.frame.bytes;
-      length = begin_length a.frame.bytes;
-      payload = record { items = begin_payload a.frame.bytes };
-      remain = a.frame.head.remain;
-      time = a.time;
-      trace = a.trace;
-    }
-
--- counters and bytes: what one more frame leaves
-abbrev pub grown_partial : Partial → Arrival → Partial
-grown_partial p a =
-    record p {
-      payload = record { items = p.payload.items ++ a.frame.bytes };
-      remain = a.frame.head.remain;
-      time = a.time;
-    }
 
 -- counters and bytes in the place of whole frames
 abbrev pub counters : Keeping Partial

@@ -9,6 +9,7 @@ use Rattle.csp_can.specs.declared.identifiers.Kind.TheVariants.{Begin, More}
 use Rattle.csp_can.specs.declared.partials.Partial.{Partial}
 use Rattle.csp_can.specs.Begins.{begin_header, begin_length, begin_payload}
 use Rattle.csp_can.specs.Frames.{Frame}
+use Rattle.csp_can.specs.Identifiers.{key_of}
 
 -- a frame that came, with its trace, at a time
 pub record Arrival : Type 0 where
@@ -37,33 +38,54 @@ pub record Ruling : Type 0 where
 abbrev pub refused : CanEvent → Deed → Ruling
 refused event deed = record { restarted = false; event = event; deed = deed }
 
--- the payload so far against the packet's length: more, the same, or less
-abbrev pub measured : Bool → ℕ → ℕ → List ℕ → Trace → Deed → Ruling
-measured restarted header len payload trace part =
-    if nat_lt len (length payload) then record { restarted = restarted; event = TooMuch; deed = ends }
-    else (if length payload == len then record { restarted = restarted; event = Whole header (record { items = payload }) trace; deed = ends }
+-- the partial packet that a BEGIN frame begins
+abbrev pub opened_partial : Arrival → Partial
+opened_partial a =
+    record {
+      key = key_of a.frame.head;
+      header = begin_header a.frame.bytes;
+      length = begin_length a.frame.bytes;
+      payload = record { items = begin_payload a.frame.bytes };
+      remain = a.frame.head.remain;
+      time = a.time;
+      trace = a.trace;
+    }
+
+-- a partial packet with the bytes of one more frame
+abbrev pub grown_partial : Partial → Arrival → Partial
+grown_partial p a =
+    record p {
+      payload = record { items = p.payload.items ++ a.frame.bytes };
+      remain = a.frame.head.remain;
+      time = a.time;
+    }
+
+-- the payload so far against the packet's length: more, the same, or less, where a part does `part`
+abbrev pub measured : (restarted : Bool) → Partial → (part : Deed) → Ruling
+measured restarted p part =
+    if nat_lt p.length (length p.payload.items) then record { restarted = restarted; event = TooMuch; deed = ends }
+    else (if length p.payload.items == p.length then record { restarted = restarted; event = Whole p.header p.payload p.trace; deed = ends }
     else record { restarted = restarted; event = Part; deed = part })
 
 -- a packet that opens: none where its key is new and no more may stand; else it is measured, and a partial packet of its key has ended
-abbrev pub opening_ruling : Bool → Bool → ℕ → ℕ → List ℕ → Trace → Ruling
-opening_ruling stood full header len payload trace =
-    if not stood && full then refused NoRoom leaves else measured stood header len payload trace opens
+abbrev pub opening_ruling : (stood full : Bool) → Partial → Ruling
+opening_ruling stood full p = if not stood && full then refused NoRoom leaves else measured stood p opens
 
 -- a BEGIN frame: too short; too long a packet; else a packet opens
-abbrev pub begin_ruling : Bool → Bool → Arrival → Ruling
+abbrev pub begin_ruling : (stood full : Bool) → Arrival → Ruling
 begin_ruling stood full a =
     if nat_lt (length a.frame.bytes) 6 then refused ShortBegin leaves
     else (if nat_lt MAX_PAYLOAD (begin_length a.frame.bytes) then refused TooLong leaves
-    else opening_ruling stood full (begin_header a.frame.bytes) (begin_length a.frame.bytes) (begin_payload a.frame.bytes) a.trace)
+    else opening_ruling stood full (opened_partial a))
 
 -- a MORE frame: without a partial packet of its key; not the next one; else measured with what came before
-abbrev pub more_ruling : Option Partial → Frame → Ruling
-more_ruling None f = refused NoBegin leaves
-more_ruling (Some p) f =
-    if f.head.remain + 1 == p.remain then measured false p.header p.length (p.payload.items ++ f.bytes) p.trace goes_on
+abbrev pub more_ruling : Option Partial → Arrival → Ruling
+more_ruling None a = refused NoBegin leaves
+more_ruling (Some p) a =
+    if a.frame.head.remain + 1 == p.remain then measured false (grown_partial p a) goes_on
     else refused BadRemain ends
 
 -- the ruling on a frame, by the partial packet of its key, and whether the most partial packets stand
-abbrev pub ruling_of : Kind → Option Partial → Bool → Arrival → Ruling
+abbrev pub ruling_of : Kind → (standing : Option Partial) → (full : Bool) → Arrival → Ruling
 ruling_of Begin standing full a = begin_ruling (is_some standing) full a
-ruling_of More standing full a = more_ruling standing a.frame
+ruling_of More standing full a = more_ruling standing a

@@ -23,7 +23,7 @@ StandsLast key ps = position (λ p. same_key p.key key) ps ≡ Some (length ps -
 -- the ruling on a packet that opens where these partial packets stand
 abbrev pub opened : List Partial → Partial → Ruling
 opened ps p =
-    opening_ruling (is_some (standing counters p.key ps)) (nat_le MAX_PARTIALS (length ps)) p.header p.length p.payload.items p.trace
+    opening_ruling (is_some (standing counters p.key ps)) (nat_le MAX_PARTIALS (length ps)) p
 
 -- the ruling on a BEGIN frame there
 abbrev pub begin_said : List Partial → Arrival → Ruling
@@ -31,7 +31,7 @@ begin_said ps a = begin_ruling (is_some (standing counters (key_of a.frame.head)
 
 -- the ruling on a MORE frame there
 abbrev pub more_said : List Partial → Arrival → Ruling
-more_said ps a = more_ruling (standing counters (key_of a.frame.head) ps) a.frame
+more_said ps a = more_ruling (standing counters (key_of a.frame.head) ps) a
 
 -- the partial packets after a ruling on a frame
 abbrev pub after : Ruling → List Partial → Arrival → List Partial

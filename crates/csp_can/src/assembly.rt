@@ -116,8 +116,7 @@ impl Reassembly {
     fn settle(&mut self, partial: Partial) -> CanEvent
         requires room { length self.old < MAX_PARTIALS }
         requires fits { partial.length ≤ MAX_PAYLOAD }
-        ensures event { result
-            ≡ (measured false partial.header partial.length partial.payload.items partial.trace leaves).event }
+        ensures event { result ≡ (measured false partial leaves).event }
         ensures state { self.new
             ≡ (if nat_lt (length partial.payload.items) partial.length then self.old ++ partial ∷ [] else self.old) }
     {

@@ -33,8 +33,7 @@ pub struct Partial {
 impl Partial {
     ghost use Rattle.std.specs.Prelude.{◌+◌, ◌<◌, ◌++◌, true, false};
     ghost use Rattle.csp_base.specs.declared.traces.Trace.{Trace};
-    ghost use Rattle.csp_can.specs.Rules.{arrival};
-    ghost use Rattle.csp_can.specs.Open.{grown_partial};
+    ghost use Rattle.csp_can.specs.Rules.{arrival, grown_partial};
     ghost use Rattle.csp_can.specs.Steps.{IsPartWith};
 
     /// Goes on with a frame's bytes, where the frame is the next one and the packet isn't whole with them.

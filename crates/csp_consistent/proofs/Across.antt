@@ -5,7 +5,7 @@ use Rattle.std.specs.List.{AllByRecursion}
 use Rattle.csp_base.specs.declared.traces.Trace.{Trace}
 use Rattle.csp_link.specs.Applied.{frames_popped, frames_pushed, made, made_from, popped_by, pushed_by}
 use Rattle.csp_link.specs.Copies.{copies_of, damaged}
-use Rattle.csp_link.specs.Fates.{Fates, fate_at, fates_of}
+use Rattle.csp_link.specs.Fates.{fate_of}
 use Rattle.csp_link.specs.PlainLink.{lane_of}
 use Rattle.csp_link.specs.Ways.{number, other, from_queue, to_queue}
 use Rattle.csp_link.specs.declared.fates.Fate.{Fate}
@@ -66,10 +66,10 @@ copies_have Q fate f here =
     chosen true = tt
     chosen false = alike Q (fate.repeats + 1) (damaged fate.flip f) (damaged_of Q fate.flip f here)
 
-all_made : (Q : Trace → Type 0) (fates : Fates) (n : ℕ) (fs : List Frame) → AllByRecursion (λ f. Q f.trace) fs → AllByRecursion (λ f. Q f.trace) (made_from fates n fs)
-all_made Q fates n [] all = tt
-all_made Q fates n (f ∷ fs) all =
-    AllByRecursion-append (λ (g : Frame). Q g.trace) (copies_of (fate_at fates n) f) (made_from fates (n + 1) fs) (copies_have Q (fate_at fates n) f all.0) (all_made Q fates (n + 1) fs all.1)
+all_made : (Q : Trace → Type 0) (fate : ℕ → Fate) (n : ℕ) (fs : List Frame) → AllByRecursion (λ f. Q f.trace) fs → AllByRecursion (λ f. Q f.trace) (made_from fate n fs)
+all_made Q fate n [] all = tt
+all_made Q fate n (f ∷ fs) all =
+    AllByRecursion-append (λ (g : Frame). Q g.trace) (copies_of (fate n) f) (made_from fate (n + 1) fs) (copies_have Q (fate n) f all.0) (all_made Q fate (n + 1) fs all.1)
 
 -- the frames that it pushed
 pushed_frame : (Q : Trace → Type 0) (b : Bool) (f : Frame) → AllByRecursion (λ g. Q g.trace) (if b then f ∷ [] else []) → AllByRecursion (IsFrameOf Q) (if b then item.Frame f ∷ [] else [])
@@ -102,7 +102,7 @@ all_pushed Q way (e ∷ es) all =
 -- what holds of the traces that a link popped in a direction holds of those that it pushed
 pub across : (Q : Trace → Type 0) (plan : List Fault) (way : Way) (es : List Entry) → IsPlanned plan es way → AllByRecursion (IsFrameOf Q) (gets (from_queue way) es) → AllByRecursion (IsFrameOf Q) (puts (to_queue way) es)
 across Q plan way es planned all =
-    let all_copies : AllByRecursion (λ (f : Frame). Q f.trace) (made plan way (frames_popped way es)) = all_made Q (fates_of (number way) plan) 1 (frames_popped way es) (all_popped Q way es all) in
+    let all_copies : AllByRecursion (λ (f : Frame). Q f.trace) (made plan way (frames_popped way es)) = all_made Q (λ n. fate_of (number way) n plan) 1 (frames_popped way es) (all_popped Q way es all) in
     all_pushed Q way es (each_first (λ (f : Frame). Q f.trace) (frames_pushed way es) planned.rest
     (each_permuted (λ (f : Frame). Q f.trace) (made plan way (frames_popped way es)) (frames_pushed way es ++ planned.rest) planned.copies all_copies))
 

@@ -1,27 +1,26 @@
 -- What is heard has the trace of a frame: of the one that is heard now, or of one that was kept.
-use Rattle.std.proofs.Common.{◌≡◌, ◌⊎◌, inl, inr, ℕ, ◌+◌, ◌==◌, Bool, true, false, cond, not, ◌&&◌, is_some, nat_lt, Option, Some, None, List, [], ◌∷◌, ◌++◌, length, find, option_map, option_to_list, unwrap_or, refl, sym, subst}
+use Rattle.std.proofs.Common.{◌≡◌, ◌⊎◌, inl, inr, ℕ, ◌+◌, ◌==◌, Bool, true, false, cond, not, ◌&&◌, is_some, nat_lt, Option, Some, None, List, [], ◌∷◌, length, find, option_map, option_to_list, unwrap_or, refl, sym, subst}
 use Rattle.std.specs.Prelude.{if◌then◌else◌, ⊤}
 use Rattle.std.specs.List.{AllByRecursion}
 use Rattle.csp_base.specs.declared.traces.Trace.{Trace}
 use Rattle.csp_base.specs.declared.limits.TheConstants.{MAX_PAYLOAD}
-use Rattle.csp_can.specs.Begins.{begin_header, begin_length, begin_payload}
+use Rattle.csp_can.specs.Begins.{begin_length}
 use Rattle.csp_can.specs.Identifiers.{identifier_of, key_of, same_key}
-use Rattle.csp_can.specs.Open.{counters, fresh, standing, without, ruling, done, gone_on, remove_first, opened_partial, grown_partial}
-use Rattle.csp_can.specs.Rules.{Arrival, arrival, Deed, leaves, ends, opens, goes_on, Ruling, refused, measured, begin_ruling, more_ruling, ruling_of}
+use Rattle.csp_can.specs.Open.{counters, fresh, standing, without, ruling, done, gone_on, remove_first}
+use Rattle.csp_can.specs.Rules.{Arrival, arrival, Deed, leaves, ends, opens, goes_on, Ruling, refused, opened_partial, grown_partial, measured, begin_ruling, more_ruling, ruling_of}
 use Rattle.csp_can.specs.declared.answers.CanEvent.{CanEvent}
 use Rattle.csp_can.specs.declared.answers.CanEvent.TheVariants as can
 use Rattle.csp_can.specs.declared.identifiers.Key.{Key}
 use Rattle.csp_can.specs.declared.identifiers.Kind.{Kind}
 use Rattle.csp_can.specs.declared.identifiers.Kind.TheVariants.{Begin, More}
 use Rattle.csp_can.specs.declared.partials.Partial.{Partial}
-use Rattle.csp_can.specs.Frames as frames
 use Rattle.csp_iface.specs.Receiving.{arrived, Heard, heard, heard_by, packet_of, reassembled, traced, followed, read_further}
 use Rattle.csp_iface.specs.declared.packet.Packet.{Packet}
 use Rattle.csp_iface.specs.declared.receiver.Receiver.{Receiver}
 use Rattle.csp_iface.specs.declared.receiver.Receiver.TheVariants as by
 use Rattle.csp_iface.specs.declared.receiver.TheConstants.{MAX_HOPS}
 use Rattle.csp_kiss.specs.GoingOn.{read_on}
-use Rattle.csp_kiss.specs.Reading.{Reading}
+use Rattle.csp_kiss.specs.Reading.{Reading, answers}
 use Rattle.csp_kiss.specs.declared.progress.KissPacket.{KissPacket}
 use Rattle.csp_log.specs.declared.frame.Frame.{Frame}
 use Rattle.csp_scene.proofs.Lists.{AllByRecursion-append}
@@ -87,12 +86,12 @@ done_of P ends key one grown ps here more all = without_of P (λ k. same_key k.k
 done_of P opens key one grown ps here more all = AllByRecursion-append (λ (p : Partial). P p.trace) (without counters key ps) (one ∷ []) (without_of P (λ k. same_key k.key key) ps all) (here, tt)
 done_of P goes_on key one grown ps here more all = AllByRecursion-append (λ (p : Partial). P p.trace) (without counters key ps) grown (without_of P (λ k. same_key k.key key) ps all) more
 
-measured_of : (P : Trace → Type 0) (restarted : Bool) (header len : ℕ) (payload : List ℕ) (trace : Trace) (part : Deed) → P trace → IsEventOf P (measured restarted header len payload trace part).event
-measured_of P restarted header len payload trace part here =
-    chosen (nat_lt len (length payload)) (length payload == len)
+measured_of : (P : Trace → Type 0) (restarted : Bool) (p : Partial) (part : Deed) → P p.trace → IsEventOf P (measured restarted p part).event
+measured_of P restarted p part here =
+    chosen (nat_lt p.length (length p.payload.items)) (length p.payload.items == p.length)
   where
     chosen : (long just : Bool) → IsRulingOf P (if long then record { restarted = restarted; event = can.TooMuch; deed = ends }
-        else (if just then record { restarted = restarted; event = can.Whole header (record { items = payload }) trace; deed = ends }
+        else (if just then record { restarted = restarted; event = can.Whole p.header p.payload p.trace; deed = ends }
         else record { restarted = restarted; event = can.Part; deed = part }))
     chosen true just = tt
     chosen false true = here
@@ -104,24 +103,24 @@ begun_of P stood full a here =
   where
     chosen : (short long none : Bool) → IsRulingOf P (if short then refused can.ShortBegin leaves
         else (if long then refused can.TooLong leaves
-        else (if none then refused can.NoRoom leaves else measured stood (begin_header a.frame.bytes) (begin_length a.frame.bytes) (begin_payload a.frame.bytes) a.trace opens)))
+        else (if none then refused can.NoRoom leaves else measured stood (opened_partial a) opens)))
     chosen true long none = tt
     chosen false true none = tt
     chosen false false true = tt
-    chosen false false false = measured_of P stood (begin_header a.frame.bytes) (begin_length a.frame.bytes) (begin_payload a.frame.bytes) a.trace opens here
+    chosen false false false = measured_of P stood (opened_partial a) opens here
 
-more_of : (P : Trace → Type 0) (o : Option Partial) (f : frames.Frame) → IsPartialOf P o → IsEventOf P (more_ruling o f).event
-more_of P None f one = tt
-more_of P (Some p) f one =
-    chosen (f.head.remain + 1 == p.remain)
+more_of : (P : Trace → Type 0) (o : Option Partial) (a : Arrival) → IsPartialOf P o → IsEventOf P (more_ruling o a).event
+more_of P None a one = tt
+more_of P (Some p) a one =
+    chosen (a.frame.head.remain + 1 == p.remain)
   where
-    chosen : (b : Bool) → IsRulingOf P (if b then measured false p.header p.length (p.payload.items ++ f.bytes) p.trace goes_on else refused can.BadRemain ends)
-    chosen true = measured_of P false p.header p.length (p.payload.items ++ f.bytes) p.trace goes_on one
+    chosen : (b : Bool) → IsRulingOf P (if b then measured false (grown_partial p a) goes_on else refused can.BadRemain ends)
+    chosen true = measured_of P false (grown_partial p a) goes_on one
     chosen false = tt
 
 ruling_is_of : (P : Trace → Type 0) (kind : Kind) (o : Option Partial) (full : Bool) (a : Arrival) → IsPartialOf P o → P a.trace → IsEventOf P (ruling_of kind o full a).event
 ruling_is_of P Begin o full a one here = begun_of P (is_some o) full a here
-ruling_is_of P More o full a one here = more_of P o a.frame one
+ruling_is_of P More o full a one here = more_of P o a one
 
 shown_of : (P : Trace → Type 0) (o : Option Partial) → IsPartialOf P o → IsPartialOf P (option_map (λ k. k) o)
 shown_of P None one = tt
@@ -166,7 +165,7 @@ traced_of P trace None here = tt
 traced_of P trace (Some p) here = here
 
 silent_of : (P : Trace → Type 0) (trace : Trace) (reading : Reading) → IsHeardOf P (followed trace (read_on reading []))
-unfolding read_on
+unfolding read_on answers
 silent_of P trace reading = (inl refl, tt)
 
 pub further_of : (P : Trace → Type 0) (r : Receiver) → IsKeptOf P r → IsHeardOf P (read_further r)

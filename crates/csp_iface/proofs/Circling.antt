@@ -18,7 +18,7 @@ use Rattle.csp_iface.specs.declared.plan.Side.TheVariants as side
 use Rattle.csp_iface.specs.declared.receiver.Receiver.{Receiver}
 use Rattle.csp_iface.specs.declared.receiver.Receiver.TheVariants as by
 use Rattle.csp_kiss.specs.GoingOn.{read_on}
-use Rattle.csp_kiss.specs.Reading.{Reading}
+use Rattle.csp_kiss.specs.Reading.{Reading, answers}
 use Rattle.csp_log.specs.declared.frame.Frame.{Frame}
 
 -- no byte is left from a place on exactly where it is past them all
@@ -55,7 +55,7 @@ at_rest a next back accepted whole frames receiver = with_iface a (record a.ifac
 
 -- on a KISS link: in a frame that is read to its end there is nothing to read on
 kiss_round : (a : IfaceAt) (now : ℕ) (next : Side) (reading : Reading) (rest : List ℕ) (trace : Trace) → GoesRound (at_rest a next None None None [] (by.Kiss (record { reading = reading; rest = rest; trace = trace }))) now
-unfolding read_on
+unfolding read_on answers
 kiss_round a now side.Sending reading [] trace = (record { goes_on = refl; asks = refl; events = refl }, (record { goes_on = refl; asks = refl; events = refl }, refl))
 kiss_round a now side.Receiving reading [] trace = (record { goes_on = refl; asks = refl; events = refl }, (record { goes_on = refl; asks = refl; events = refl }, refl))
 kiss_round a now next reading (_ ∷ _) trace = refl

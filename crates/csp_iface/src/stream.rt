@@ -76,7 +76,7 @@ impl Stream {
 
     /// Reads on in the frame in hand until a packet is whole, which goes into `whole`, or the frame is
     /// used up. Gives how many pieces were refused.
-    #[tactic(auto, unfolding(csp_kiss::specs::GoingOn::read_on))]
+    #[tactic(auto, unfolding(csp_kiss::specs::GoingOn::read_on, csp_kiss::specs::Reading::answers))]
     #[inline(always)]
     pub fn read_on(&mut self, whole: &mut Option<Packet>, spares: &mut Spares) -> u32
         requires { whole.old ≡ None }

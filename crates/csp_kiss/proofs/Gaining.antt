@@ -1,5 +1,5 @@
 -- What bytes that came together add to the events of the whole stream.
-use Rattle.std.proofs.Common.{◌≡◌, ℕ, List, [], ◌∷◌, ◌++◌, length, take, drop, Option, Some, None, refl, sym, ap, ◌∙◌, arith, append_assoc, append-nil}
+use Rattle.std.proofs.Common.{◌≡◌, ℕ, List, [], ◌∷◌, ◌++◌, length, take, drop, Option, Some, None, refl, sym, ap, ◌∙◌, arith, append_assoc, append-nil, subst}
 use Rattle.std.proofs.lemmas.List.{take-append-drop, append_cancel_right}
 use Rattle.std.specs.List.{AllByRecursion}
 use Rattle.std.specs.Option.{option_to_list}
@@ -8,7 +8,8 @@ use Rattle.csp_kiss.specs.declared.event.KissEvent.TheVariants.{Packet, TooLong,
 use Rattle.csp_kiss.specs.declared.progress.KissPacket.{KissPacket}
 use Rattle.csp_kiss.specs.Reading.{Reading, HasRead, after, answer, answers, reading_of}
 use Rattle.csp_kiss.specs.Stream.{events}
-use Rattle.csp_kiss.specs.GoingOn.{Progress, Gains, IsRefusal, event_for, with_refused, going_on, read_on}
+use Rattle.csp_kiss.specs.GoingOn.{Progress, Gains, IsRefusal, event_for, read_on}
+use Rattle.csp_kiss.proofs.GoingOn.{going_on, read_step, with_refused}
 use Rattle.csp_kiss.proofs.Steps.{events-append, reading_of-push}
 
 -- what is kept after some bytes
@@ -72,7 +73,7 @@ stepped r byte bytes (Some (BadCrc found wanted)) e h = refusing r byte bytes (B
 reads : (r : Reading) (bytes : List ℕ) → Read r bytes (read_on r bytes)
 unfolding read_on answers after_all
 reads r [] = record { used = []; cut = refl; kept = refl; refusals = []; counted = refl; are_refused = tt; said = refl }
-reads r (byte ∷ bytes) = stepped r byte bytes (answer r byte) refl (reads (after r byte) bytes)
+reads r (byte ∷ bytes) = subst (Read r (byte ∷ bytes)) (sym (read_step r byte bytes)) (stepped r byte bytes (answer r byte) refl (reads (after r byte) bytes))
 
 -- the bytes read are the first of them
 used_first : (bytes used left : List ℕ) (n : ℕ) → bytes ≡ used ++ left → drop n bytes ≡ left → take n bytes ≡ used

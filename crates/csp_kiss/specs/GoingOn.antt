@@ -1,12 +1,28 @@
 -- How far a reader goes on in bytes that came together: up to the first packet.
-use Rattle.std.specs.Prelude.{◌≡◌, ℕ, ◌+◌, ⊤, List, [], ◌∷◌, ◌++◌, length, Option, Some, None}
-use Rattle.std.specs.List.{AllByRecursion}
+use Rattle.std.specs.Prelude.{◌≡◌, ℕ, ⊤, List, [], ◌∷◌, ◌++◌, length, take, drop, slice_get, Option, Some, None}
+use Rattle.std.specs.List.{AllByRecursion, filter_map, fold, position_or_len, range_with_len}
+use Rattle.std.specs.Option.{is_some}
 use Rattle.csp_kiss.specs.declared.event.KissEvent.{KissEvent}
 use Rattle.csp_kiss.specs.declared.event.KissEvent.TheVariants.{Packet, TooLong, Short, BadCrc}
 use Rattle.csp_kiss.specs.declared.progress.KissPacket.{KissPacket}
-use Rattle.csp_kiss.specs.Reading.{Reading, answer, after}
+use Rattle.csp_kiss.specs.Reading.{Reading, after, answers}
 
--- how far some bytes were read: what was refused, the packet, what is kept, what is left
+-- the packet that an event brings: none where a piece is refused
+abbrev pub packet_of : KissEvent → Option KissPacket
+packet_of (Packet header payload) = Some (record { header = header; payload = payload })
+packet_of TooLong = None
+packet_of Short = None
+packet_of (BadCrc _ _) = None
+
+-- the packets among all that a reader answers to some bytes
+abbrev pub packets_in : Reading → List ℕ → List KissPacket
+packets_in reading bytes = filter_map packet_of (answers reading bytes)
+
+-- how many of some bytes come up to the first packet: the fewest that are answered with one, or all where none of fewer are
+abbrev pub bytes_to_packet : Reading → List ℕ → ℕ
+bytes_to_packet reading bytes = position_or_len (λ count. is_some (slice_get (packets_in reading (take count bytes)) 0)) (range_with_len 0 (length bytes))
+
+-- how far some bytes were read
 pub record Progress : Type 0 where
   -- how many pieces are refused on the way
   pub refused : ℕ
@@ -17,31 +33,16 @@ pub record Progress : Type 0 where
   -- the bytes after the packet, which are not read
   pub left : List ℕ
 
--- some pieces more were refused on the way
-abbrev pub with_refused : ℕ → Progress → Progress
-with_refused n p = record { refused = n + p.refused; packet = p.packet; reading = p.reading; left = p.left }
-
--- the packet that an event brings: none where a piece is refused
-abbrev pub packet_of : KissEvent → Option KissPacket
-packet_of (Packet header payload) = Some (record { header = header; payload = payload })
-packet_of TooLong = None
-packet_of Short = None
-packet_of (BadCrc _ _) = None
-
--- at the end of a piece: a packet ends the reading there; with a refused piece it goes on
-abbrev pub ended : Option KissPacket → Reading → List ℕ → Progress → Progress
-ended (Some packet) reading left later = record { refused = 0; packet = Some packet; reading = reading; left = left }
-ended None reading left later = with_refused 1 later
-
--- after the answer to a byte: at none it goes on
-abbrev pub going_on : Option KissEvent → Reading → List ℕ → Progress → Progress
-going_on None reading left later = later
-going_on (Some event) reading left later = ended (packet_of event) reading left later
-
--- some bytes are read until a packet is whole, or to their end
+-- some bytes are read up to the first packet, or to their end
 unfoldable pub read_on : Reading → List ℕ → Progress
-read_on reading [] = record { refused = 0; packet = None; reading = reading; left = [] }
-read_on reading (byte ∷ bytes) = going_on (answer reading byte) (after reading byte) bytes (read_on (after reading byte) bytes)
+read_on reading bytes =
+    let used = bytes_to_packet reading bytes in
+    record {
+      refused = position_or_len (λ event. is_some (packet_of event)) (answers reading bytes);
+      packet = slice_get (packets_in reading bytes) 0;
+      reading = fold after reading (take used bytes);
+      left = drop used bytes;
+    }
 
 -- a piece is refused
 abbrev pub IsRefusal : KissEvent → Type 0

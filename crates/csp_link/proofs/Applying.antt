@@ -6,15 +6,15 @@ use Rattle.std.specs.Prelude.{nat_le}
 use Rattle.std.proofs.lemmas.List.{append_assoc, append-nil, length-append, map-append}
 use Rattle.std.proofs.lemmas.List.Sorted.{IsPermutation-refl, IsPermutation-trans, IsPermutation-append_left, IsPermutation-append_right, IsPermutation-middle}
 use Rattle.csp_deck.specs.Runs.{IsRun, IsStep, Runs, state_after, step_after}
-use Rattle.csp_link.specs.Applied.{AppliesPlan, link_steps, popped_by, pushed_by, frames_popped, frames_pushed, frames_in, made_from}
+use Rattle.csp_link.specs.Applied.{AppliesPlan, link_steps, popped_by, pushed_by, frames_popped, frames_pushed, frames_in, made, made_from}
 use Rattle.csp_link.specs.Asking.{op_of, handed, doing_of}
 use Rattle.csp_link.specs.Copies.{copies_of, held_copies, held_until}
-use Rattle.csp_link.specs.Fates.{Fates, fate_at}
+use Rattle.csp_link.specs.Fates.{Fates, fate_at, fates_of}
 use Rattle.csp_link.specs.Holding.{first_due}
 use Rattle.csp_link.specs.PlainLink.{PlainDirection, PlainLink, direction, opening}
 use Rattle.csp_link.specs.Planning.{Plan, push, pop, wait, first_rule, plan_in}
 use Rattle.csp_link.specs.Telling.{frame_in, kept, taken, told_by}
-use Rattle.csp_link.specs.Ways.{other}
+use Rattle.csp_link.specs.Ways.{number, other}
 use Rattle.csp_link.specs.declared.doing.Doing.{Doing}
 use Rattle.csp_link.specs.declared.fates.Fate.{Fate}
 use Rattle.csp_link.specs.declared.fault.Fault.{Fault}
@@ -30,12 +30,13 @@ use Rattle.csp_log.specs.declared.shown.ItemShown.TheVariants as item
 use Rattle.csp_log.specs.declared.shown.AnswerShown.{AnswerShown}
 use Rattle.csp_log.specs.declared.shown.AnswerShown.TheVariants as answer
 use Rattle.csp_link.proofs.Kept.{Stands, stands}
+use Rattle.csp_link.proofs.Named.{fates_are}
 
 -- one direction led to the other: it popped the first frames, and pushed the others
 pub record Applied (a b : PlainDirection) (popped pushed : List Frame) : Type 0 where
   pub fates : b.fates ≡ a.fates
   pub count : b.popped ≡ a.popped + length popped
-  pub same : IsPermutation (frames_in a.held ++ made_from a.fates (a.popped + 1) popped) (pushed ++ frames_in b.held)
+  pub same : IsPermutation (frames_in a.held ++ made_from (fate_at a.fates) (a.popped + 1) popped) (pushed ++ frames_in b.held)
 
 pub applied_none : (d : PlainDirection) → Applied d d [] []
 applied_none d = record {
@@ -44,19 +45,19 @@ applied_none d = record {
   same = subst (λ fs. IsPermutation fs (frames_in d.held)) (sym (append-nil (frames_in d.held))) (IsPermutation-refl (frames_in d.held));
 }
 
-made_append : (fates : Fates) (n m : ℕ) (xs ys : List Frame) → m ≡ n + length xs → made_from fates n (xs ++ ys) ≡ made_from fates n xs ++ made_from fates m ys
-made_append fates n m [] ys e = let same : n ≡ m = omega (arith, e) in ap (λ k. made_from fates k ys) same
-made_append fates n m (x ∷ xs) ys e =
-    ap (λ fs. copies_of (fate_at fates n) x ++ fs) (made_append fates (n + 1) m xs ys (omega (arith, e)))
-    ∙ sym (append_assoc (copies_of (fate_at fates n) x) (made_from fates (n + 1) xs) (made_from fates m ys))
+made_append : (fate : ℕ → Fate) (n m : ℕ) (xs ys : List Frame) → m ≡ n + length xs → made_from fate n (xs ++ ys) ≡ made_from fate n xs ++ made_from fate m ys
+made_append fate n m [] ys e = let same : n ≡ m = omega (arith, e) in ap (λ k. made_from fate k ys) same
+made_append fate n m (x ∷ xs) ys e =
+    ap (λ fs. copies_of (fate n) x ++ fs) (made_append fate (n + 1) m xs ys (omega (arith, e)))
+    ∙ sym (append_assoc (copies_of (fate n) x) (made_from fate (n + 1) xs) (made_from fate m ys))
 
 -- one after the other
 pub applied_both : (a b d : PlainDirection) (xs ys us vs : List Frame) → Applied a b xs us → Applied b d ys vs → Applied a d (xs ++ ys) (us ++ vs)
 applied_both a b d xs ys us vs f g =
-    let first : List Frame = made_from a.fates (a.popped + 1) xs in
-    let rest : List Frame = made_from b.fates (b.popped + 1) ys in
-    let cut : frames_in a.held ++ made_from a.fates (a.popped + 1) (xs ++ ys) ≡ (frames_in a.held ++ first) ++ rest =
-    ap (λ fs. frames_in a.held ++ fs) (made_append a.fates (a.popped + 1) (b.popped + 1) xs ys (omega (arith, f.count)) ∙ ap (λ t. first ++ made_from t (b.popped + 1) ys) (sym f.fates))
+    let first : List Frame = made_from (fate_at a.fates) (a.popped + 1) xs in
+    let rest : List Frame = made_from (fate_at b.fates) (b.popped + 1) ys in
+    let cut : frames_in a.held ++ made_from (fate_at a.fates) (a.popped + 1) (xs ++ ys) ≡ (frames_in a.held ++ first) ++ rest =
+    ap (λ fs. frames_in a.held ++ fs) (made_append (fate_at a.fates) (a.popped + 1) (b.popped + 1) xs ys (omega (arith, f.count)) ∙ ap (λ (t : Fates). first ++ made_from (fate_at t) (b.popped + 1) ys) (sym f.fates))
     ∙ sym (append_assoc (frames_in a.held) first rest) in
     record {
       fates = g.fates ∙ f.fates;
@@ -159,7 +160,15 @@ run_applied (x ∷ es) time s z run e way =
     applied_both (direction s way) (direction next way) (direction z way) (popped_by way x.op x.answer) (frames_popped way es) (pushed_by way x.op x.answer) (frames_pushed way es)
     (step_applied s x way run.1) (run_applied es x.time next z run.2 e way)
 
+-- by the plan itself
+by_plan : (plan : List Fault) (es : List Entry) (s : PlainLink) (way : Way) → IsPermutation (made_from (fate_at (fates_of (number way) plan)) 1 (frames_popped way es)) (frames_pushed way es ++ frames_in (direction s way).held)
+    → IsPermutation (made plan way (frames_popped way es)) (frames_pushed way es ++ frames_in (direction s way).held)
+by_plan plan es s way = subst (λ (fate : ℕ → Fate). IsPermutation (made_from fate 1 (frames_popped way es)) (frames_pushed way es ++ frames_in (direction s way).held)) (λ i n. fates_are (number way) n plan i)
+
 -- from the opening on
 pub applies : (kind : LinkKind) (plan : List Fault) (es : List Entry) (s : PlainLink) → Runs link_steps (opening kind plan) es s → AppliesPlan plan es s
-applies kind plan es s runs Forth = (run_applied es 0 (opening kind plan) s runs.run runs.reached Forth).same
-applies kind plan es s runs Back = (run_applied es 0 (opening kind plan) s runs.run runs.reached Back).same
+applies kind plan es s runs way = by_plan plan es s way (same way)
+  where
+    same : (way : Way) → IsPermutation (made_from (fate_at (fates_of (number way) plan)) 1 (frames_popped way es)) (frames_pushed way es ++ frames_in (direction s way).held)
+    same Forth = (run_applied es 0 (opening kind plan) s runs.run runs.reached Forth).same
+    same Back = (run_applied es 0 (opening kind plan) s runs.run runs.reached Back).same

@@ -5,10 +5,11 @@ use Rattle.std.specs.List.Sorted.{IsPermutation}
 use Rattle.csp_deck.specs.Runs.{Steps}
 use Rattle.csp_link.specs.Asking.{asks, asked}
 use Rattle.csp_link.specs.Copies.{copies_of}
-use Rattle.csp_link.specs.Fates.{Fates, fate_at, fates_of}
+use Rattle.csp_link.specs.Fates.{fate_of}
 use Rattle.csp_link.specs.PlainLink.{PlainLink, direction}
 use Rattle.csp_link.specs.Telling.{tells, events}
 use Rattle.csp_link.specs.Ways.{number, other}
+use Rattle.csp_link.specs.declared.fates.Fate.{Fate}
 use Rattle.csp_link.specs.declared.fault.Fault.{Fault}
 use Rattle.csp_link.specs.declared.held.Held.{Held}
 use Rattle.csp_link.specs.declared.way.Way.{Way}
@@ -47,14 +48,14 @@ frames_pushed way es = flat_map (λ e. pushed_by way e.op e.answer) es
 abbrev pub frames_in : List Held → List Frame
 frames_in held = map (λ h. h.frame) held
 
--- what a plan makes of frames, of which the first has this number
-abbrev pub made_from : Fates → ℕ → List Frame → List Frame
-made_from fates n [] = []
-made_from fates n (frame ∷ frames) = copies_of (fate_at fates n) frame ++ made_from fates (n + 1) frames
+-- what is made of frames that have these fates, of which the first has this number
+abbrev pub made_from : (fate : ℕ → Fate) → (first : ℕ) → List Frame → List Frame
+made_from fate n [] = []
+made_from fate n (frame ∷ frames) = copies_of (fate n) frame ++ made_from fate (n + 1) frames
 
--- what it makes of the frames of a direction
+-- what a plan makes of the frames of a direction
 abbrev pub made : List Fault → Way → List Frame → List Frame
-made plan way frames = made_from (fates_of (number way) plan) 1 frames
+made plan way frames = made_from (λ n. fate_of (number way) n plan) 1 frames
 
 -- what each direction pushed, with what it still holds, is just what the plan makes of what it popped, in some order
 abbrev pub AppliesPlan : List Fault → List Entry → PlainLink → Type 0

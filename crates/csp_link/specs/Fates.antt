@@ -1,6 +1,6 @@
--- a plan of faults: a finite map from the frames of a direction, counted from 1, to what happens to them
-use Rattle.std.specs.Prelude.{ℕ, ◌==◌, ◌≤◌, true, false, Some, None, List, [], ⊤, unwrap_or, if◌then◌else◌}
-use Rattle.std.specs.List.{fold}
+-- what a plan of faults says of the frames of a direction, which are counted from 1
+use Rattle.std.specs.Prelude.{ℕ, ◌==◌, ◌&&◌, ◌≤◌, true, false, Some, None, List, [], ⊤, unwrap_or, if◌then◌else◌}
+use Rattle.std.specs.List.{filter, fold}
 use Rattle.std.specs.Ordering.{nat_cmp}
 use Rattle.std.specs.Map.{lookup}
 use Rattle.std.specs.BTreeMap.{insert_entry, is_at}
@@ -21,12 +21,16 @@ afflicted (fault.Repeat copies) fate = record fate { repeats = copies }
 afflicted (fault.Delay rounds) fate = record fate { delay = rounds }
 afflicted (fault.Flip bit) fate = record fate { flip = Some bit }
 
--- the finite map, as its entries in the order of the frames
+-- what a plan says of this frame of a direction: the faults of that frame, in the plan's order, applied to a frame that is unharmed
+abbrev pub fate_of : (dir frame : ℕ) → List Fault → Fate
+fate_of dir frame plan = fold (λ fate f. afflicted f.kind fate) unharmed (filter (λ f. f.dir == dir && f.frame == frame) plan)
+
+-- the finite map in which a link looks a frame up, as its entries in the order of the frames
 abbrev pub Fates : Type 0
 Fates = List (ℕ × Fate)
 
--- what happens to the frame of this number
-abbrev pub fate_at : Fates → ℕ → Fate
+-- what the map has of the frame of this number
+abbrev pub fate_at : Fates → (frame : ℕ) → Fate
 fate_at fates frame = unwrap_or (lookup (is_at (nat_cmp frame)) fates) unharmed
 
 -- the map with a fault more
@@ -34,11 +38,11 @@ abbrev pub with_fault : Fates → Fault → Fates
 with_fault fates f = insert_entry nat_cmp fates f.frame (afflicted f.kind (fate_at fates f.frame))
 
 -- where the fault is of this direction
-abbrev pub joined : ℕ → Fates → Fault → Fates
+abbrev pub joined : (dir : ℕ) → Fates → Fault → Fates
 joined dir fates f = (if f.dir == dir then with_fault fates f else fates)
 
--- what a plan says of a direction
-abbrev pub fates_of : ℕ → List Fault → Fates
+-- the map of a direction's faults: of each frame it has what the plan says of it
+abbrev pub fates_of : (dir : ℕ) → List Fault → Fates
 fates_of dir plan = fold (joined dir) [] plan
 
 -- a fault adds at most so many copies

@@ -6,10 +6,11 @@ use Rattle.csp_log.specs.Noting.{noted_in}
 use Rattle.csp_log.specs.declared.entry.Entry.{Entry}
 use Rattle.csp_log.specs.declared.event.Event.{Event}
 use Rattle.csp_log.specs.declared.event.Event.TheVariants as event
-use Rattle.csp_record.specs.Connections.{opened_by, openings, openings_after}
-use Rattle.csp_record.specs.Ends.{Ends, ended, no_ends, told_free}
+use Rattle.csp_record.specs.Connections.{opened_by, openings}
 use Rattle.csp_record.specs.Payloads.{sent}
 use Rattle.csp_record.specs.declared.connections.Opening.{Opening}
+use Rattle.csp_record.specs.declared.payloads.Way.TheVariants as way
+use Rattle.csp_record.proofs.Ordinals.{Ends, ended, no_ends, openings_after, openings_are}
 use Rattle.csp_prefix.specs.Routers.{AreNumbered, IsFlowOf}
 
 -- ---- the first opening with a number
@@ -114,10 +115,10 @@ event_among app ends (_ ∷ evs) rest k x e = event_among app ends evs rest k x 
 opening_among : (app : ℕ) (ends : Ends) (es : List Entry) (k : ℕ) (x : Opening) → slice_get (openings_after app ends es) k ≡ Some x → IsAmong app (apps_in es)
 opening_among app ends [] k x e = absurd cc
 opening_among app ends (d ∷ es) k x e =
-    by (event_among app ends d.events.items (openings_after app (ended (told_free app (noted_in d)) ends) es) k x e) (λ j f. opening_among app (ended (told_free app (noted_in d)) ends) es j x f)
+    by (event_among app ends d.events.items (openings_after app (ended way.Sent app (noted_in d) ends) es) k x e) (λ j f. opening_among app (ended way.Sent app (noted_in d) ends) es j x f)
   where
-    by : IsAmong app (flat_map app_in d.events.items) ⊎ ((j : ℕ) × (slice_get (openings_after app (ended (told_free app (noted_in d)) ends) es) j ≡ Some x))
-        → ((j : ℕ) → slice_get (openings_after app (ended (told_free app (noted_in d)) ends) es) j ≡ Some x → IsAmong app (apps_in es)) → IsAmong app (apps_in (d ∷ es))
+    by : IsAmong app (flat_map app_in d.events.items) ⊎ ((j : ℕ) × (slice_get (openings_after app (ended way.Sent app (noted_in d) ends) es) j ≡ Some x))
+        → ((j : ℕ) → slice_get (openings_after app (ended way.Sent app (noted_in d) ends) es) j ≡ Some x → IsAmong app (apps_in es)) → IsAmong app (apps_in (d ∷ es))
     by (inl a) rec = among_first app (flat_map app_in d.events.items) (apps_in es) a
     by (inr r) rec = among_last app (flat_map app_in d.events.items) (apps_in es) (rec r.0 r.1)
 
@@ -171,7 +172,7 @@ said_is es numbered app nth x flow =
     by (searched es nth (apps_in es))
   where
     by : IsSearched es nth (apps_in es) (said_of es nth) → said_of es nth ≡ sent app x.slot x.ordinal es
-    by (inl none) = absurd (none.1 app flow.at x (opening_among app no_ends es flow.at x flow.there) flow.there flow.numbered)
+    by (inl none) = absurd (none.1 app flow.at x (opening_among app no_ends es flow.at x (ap (λ xs. slice_get xs flow.at) (sym (openings_are app es)) ∙ flow.there)) flow.there flow.numbered)
     by (inr on) =
         let same : (on.app ≡ app) × (on.opening.slot ≡ x.slot) × (on.opening.ordinal ≡ x.ordinal) = numbered on.app app nth on.opening x on.flow flow in
         on.same ∙ λ i. sent (same.0 i) (same.1 i) (same.2 i) es

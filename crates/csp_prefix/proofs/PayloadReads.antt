@@ -1,5 +1,5 @@
 -- The payloads of a connection, read by entries and by items, are the same.
-use Rattle.std.proofs.Common.{◌≡◌, ℕ, ◌+◌, ◌==◌, ◌&&◌, Bool, true, false, Some, None, List, [], ◌∷◌, ◌++◌, flat_map, refl, sym, ap, ◌∙◌, append_assoc, append-nil, eqb-true}
+use Rattle.std.proofs.Common.{◌≡◌, ℕ, ◌+◌, ◌==◌, ◌&&◌, Bool, true, false, cond, Some, None, List, [], ◌∷◌, ◌++◌, flat_map, refl, sym, ap, ◌∙◌, append_assoc, append-nil}
 use Rattle.std.specs.Prelude.{if◌then◌else◌, ⊤}
 use Rattle.std.specs.List.{AllByRecursion}
 use Rattle.csp_log.specs.Moving.{moved_by}
@@ -16,10 +16,10 @@ use Rattle.csp_log.specs.declared.shown.OpShown.{OpShown}
 use Rattle.csp_log.specs.declared.shown.OpShown.TheVariants as op
 use Rattle.csp_log.specs.declared.shown.AnswerShown.{AnswerShown}
 use Rattle.csp_log.specs.declared.shown.AnswerShown.TheVariants as answer
-use Rattle.csp_record.specs.Ends.{Ends, no_ends, ended, freed_by, told_free}
-use Rattle.csp_record.specs.Payloads.{carried, is_on, payloads_after, told_on, took}
+use Rattle.csp_record.specs.Payloads.{carried, is_on, told_on, took}
 use Rattle.csp_record.specs.declared.payloads.Way.TheVariants as way
-use Rattle.csp_prefix.specs.Delivered.{delivered, delivered_after, delivered_by}
+use Rattle.csp_record.proofs.Ordinals.{Ends, ended, no_ends, on_are, payloads_after, payloads_are, told_after}
+use Rattle.csp_prefix.specs.Delivered.{delivered, delivered_by}
 use Rattle.csp_prefix.specs.Items.{ends_by, payload_by, payloads_from, payloads_in}
 use Rattle.csp_prefix.specs.Prefix.{IsBeginning}
 use Rattle.csp_consistent.specs.Reading.{got_by, gets, is_queue, put_by, puts}
@@ -53,14 +53,14 @@ no_end : (slot n : ℕ) (b : Bool) (i : ItemShown) → ends_by slot n i ≡ n �
 no_end slot n true i e = sym e
 no_end slot n false i e = refl
 
--- a test of slot and ordinal goes by the ends of the slot alone
-same_test : (ends : Ends) (mark slot ordinal n : ℕ) → ends slot ≡ n → (mark == slot && ends mark == ordinal) ≡ (mark == slot && n == ordinal)
-same_test ends mark slot ordinal n e =
-    by (mark == slot) refl
-  where
-    by : (b : Bool) → (mark == slot) ≡ b → (b && ends mark == ordinal) ≡ (b && n == ordinal)
-    by true same = ap (λ k. k == ordinal) (ap ends (eqb-true mark slot same) ∙ e)
-    by false same = refl
+-- a payload of this slot, where the slot has this ordinal now
+in_either : (b : Bool) → cond {A = List (List ℕ)} b [] [] ≡ []
+in_either true = refl
+in_either false = refl
+
+both_tests : (ordinal n : ℕ) (b : Bool) (payload : List ℕ) → (if n == ordinal then (if b then payload ∷ [] else []) else []) ≡ (if b && n == ordinal then payload ∷ [] else [])
+both_tests ordinal n true payload = refl
+both_tests ordinal n false payload = in_either (n == ordinal)
 
 -- ---- by the entries of an application
 
@@ -80,52 +80,53 @@ abbrev pub TellsTook : OpShown → AnswerShown → List Event → Type 0
 TellsTook (op.Pop q) (answer.Popped (item.Packet mark b)) es = IsTookOnce mark es
 TellsTook _ _ es = ⊤
 
-none_on : (slot ordinal : ℕ) (ends : Ends) (payload : List ℕ) (es : List Event) → AllByRecursion IsNoTook es → flat_map (λ e. if is_on way.Took slot ordinal ends e then payload ∷ [] else []) es ≡ []
-none_on slot ordinal ends payload [] all = refl
-none_on slot ordinal ends payload (event.Took s told ∷ es) all = absurd all.0
-none_on slot ordinal ends payload (_ ∷ es) all = none_on slot ordinal ends payload es all.1
+none_on : (slot : ℕ) (payload : List ℕ) (es : List Event) → AllByRecursion IsNoTook es → flat_map (λ e. if is_on way.Took slot e then payload ∷ [] else []) es ≡ []
+none_on slot payload [] all = refl
+none_on slot payload (event.Took s told ∷ es) all = absurd all.0
+none_on slot payload (_ ∷ es) all = none_on slot payload es all.1
 
-took_one : (slot ordinal n mark : ℕ) (ends : Ends) (payload : List ℕ) (es : List Event) → IsTookOnce mark es → ends slot ≡ n
-    → told_on way.Took slot ordinal ends es (Some payload) ≡ (if mark == slot && n == ordinal then payload ∷ [] else []) ++ []
-took_one slot ordinal n mark ends payload es t e =
-    ap (λ xs. told_on way.Took slot ordinal ends xs (Some payload)) t.events
-    ∙ ap (λ ps. (if mark == slot && ends mark == ordinal then payload ∷ [] else []) ++ ps) (none_on slot ordinal ends payload t.rest t.once)
-    ∙ ap (λ b. (if b then payload ∷ [] else []) ++ []) (same_test ends mark slot ordinal n e)
+took_one : (slot ordinal n mark : ℕ) (payload : List ℕ) (es : List Event) → IsTookOnce mark es
+    → (if n == ordinal then told_on way.Took slot es (Some payload) else []) ≡ (if mark == slot && n == ordinal then payload ∷ [] else []) ++ []
+took_one slot ordinal n mark payload es t =
+    ap (λ xs. if n == ordinal then told_on way.Took slot xs (Some payload) else []) t.events
+    ∙ ap (λ ps. if n == ordinal then (if mark == slot then payload ∷ [] else []) ++ ps else []) (none_on slot payload t.rest t.once)
+    ∙ ap (λ ps. if n == ordinal then ps else []) (append-nil (if mark == slot then payload ∷ [] else []))
+    ∙ both_tests ordinal n (mark == slot) payload ∙ sym (append-nil _)
 
 -- what a turn tells to be taken is what it got from its `Down`
-took_by : (app slot ordinal n : ℕ) (ends : Ends) (o : OpShown) (a : AnswerShown) (es : List Event) → TellsTook o a es → ends slot ≡ n
-    → told_on way.Took slot ordinal ends es (carried way.Took app (moved_by o a)) ≡ payloads_from slot ordinal n (got_by (queue.Down app) o a)
-took_by app slot ordinal n ends (op.Pop (queue.Down k)) (answer.Popped (item.Packet mark b)) es t e =
+took_by : (app slot ordinal n : ℕ) (o : OpShown) (a : AnswerShown) (es : List Event) → TellsTook o a es
+    → (if n == ordinal then told_on way.Took slot es (carried way.Took app (moved_by o a)) else []) ≡ payloads_from slot ordinal n (got_by (queue.Down app) o a)
+took_by app slot ordinal n (op.Pop (queue.Down k)) (answer.Popped (item.Packet mark b)) es t =
     by (k == app)
   where
-    by : (c : Bool) → told_on way.Took slot ordinal ends es (if c then Some b.payload else None) ≡ payloads_from slot ordinal n (if c then item.Packet mark b ∷ [] else [])
-    by true = took_one slot ordinal n mark ends b.payload es t e
-    by false = refl
-took_by app slot ordinal n ends (op.Pop queue.Inbox) (answer.Popped (item.Packet mark b)) es t e = refl
-took_by app slot ordinal n ends (op.Pop (queue.Up k)) (answer.Popped (item.Packet mark b)) es t e = refl
-took_by app slot ordinal n ends (op.Pop (queue.Out k)) (answer.Popped (item.Packet mark b)) es t e = refl
-took_by app slot ordinal n ends (op.Pop (queue.Tx k)) (answer.Popped (item.Packet mark b)) es t e = refl
-took_by app slot ordinal n ends (op.Pop (queue.Rx k)) (answer.Popped (item.Packet mark b)) es t e = refl
-took_by app slot ordinal n ends (op.Pop q) (answer.Popped (item.Frame f)) es t e = no_payload slot ordinal n (is_queue (queue.Down app) q) (item.Frame f) refl
-took_by app slot ordinal n ends (op.Pop q) (answer.Popped (item.Note m)) es t e = no_payload slot ordinal n (is_queue (queue.Down app) q) (item.Note m) refl
-took_by app slot ordinal n ends (op.Push q (item.Packet mark b)) answer.Pushed es t e = refl
-took_by app slot ordinal n ends (op.Push q (item.Frame f)) answer.Pushed es t e = refl
-took_by app slot ordinal n ends (op.Push q (item.Note m)) answer.Pushed es t e = refl
-took_by app slot ordinal n ends _ _ es t e = refl
+    by : (c : Bool) → (if n == ordinal then told_on way.Took slot es (if c then Some b.payload else None) else []) ≡ payloads_from slot ordinal n (if c then item.Packet mark b ∷ [] else [])
+    by true = took_one slot ordinal n mark b.payload es t
+    by false = in_either (n == ordinal)
+took_by app slot ordinal n (op.Pop queue.Inbox) (answer.Popped (item.Packet mark b)) es t = in_either (n == ordinal)
+took_by app slot ordinal n (op.Pop (queue.Up k)) (answer.Popped (item.Packet mark b)) es t = in_either (n == ordinal)
+took_by app slot ordinal n (op.Pop (queue.Out k)) (answer.Popped (item.Packet mark b)) es t = in_either (n == ordinal)
+took_by app slot ordinal n (op.Pop (queue.Tx k)) (answer.Popped (item.Packet mark b)) es t = in_either (n == ordinal)
+took_by app slot ordinal n (op.Pop (queue.Rx k)) (answer.Popped (item.Packet mark b)) es t = in_either (n == ordinal)
+took_by app slot ordinal n (op.Pop q) (answer.Popped (item.Frame f)) es t = in_either (n == ordinal) ∙ no_payload slot ordinal n (is_queue (queue.Down app) q) (item.Frame f) refl
+took_by app slot ordinal n (op.Pop q) (answer.Popped (item.Note m)) es t = in_either (n == ordinal) ∙ no_payload slot ordinal n (is_queue (queue.Down app) q) (item.Note m) refl
+took_by app slot ordinal n (op.Push q (item.Packet mark b)) answer.Pushed es t = in_either (n == ordinal)
+took_by app slot ordinal n (op.Push q (item.Frame f)) answer.Pushed es t = in_either (n == ordinal)
+took_by app slot ordinal n (op.Push q (item.Note m)) answer.Pushed es t = in_either (n == ordinal)
+took_by app slot ordinal n _ _ es t = in_either (n == ordinal)
 
 -- and it ends the slots that it got Closed answers for
 heard_end : (app slot n : ℕ) (ends : Ends) (k : ℕ) (m : Note) → ends slot ≡ n
-    → ended (freed_by way.Took app (noted_by (op.Pop (queue.Down k)) (answer.Popped (item.Note m)))) ends slot ≡ ends_in slot n (if k == app then item.Note m ∷ [] else [])
+    → ended way.Took app (noted_by (op.Pop (queue.Down k)) (answer.Popped (item.Note m))) ends slot ≡ ends_in slot n (if k == app then item.Note m ∷ [] else [])
 heard_end app slot n ends k (note.Closed freed) e =
     by (k == app)
   where
-    by : (c : Bool) → ended (if c then Some freed else None) ends slot ≡ ends_in slot n (if c then item.Note (note.Closed freed) ∷ [] else [])
-    by true = ap (λ x. if slot == freed then x + 1 else x) e
+    by : (c : Bool) → (if c && freed == slot then ends slot + 1 else ends slot) ≡ ends_in slot n (if c then item.Note (note.Closed freed) ∷ [] else [])
+    by true = ap (λ x. if freed == slot then x + 1 else x) e
     by false = e
 heard_end app slot n ends k m e = e ∙ no_end slot n (k == app) (item.Note m) refl
 
 took_end : (app slot n : ℕ) (ends : Ends) (o : OpShown) (a : AnswerShown) → ends slot ≡ n
-    → ended (freed_by way.Took app (noted_by o a)) ends slot ≡ ends_in slot n (got_by (queue.Down app) o a)
+    → ended way.Took app (noted_by o a) ends slot ≡ ends_in slot n (got_by (queue.Down app) o a)
 took_end app slot n ends (op.Pop (queue.Down k)) (answer.Popped (item.Note m)) e = heard_end app slot n ends k m e
 took_end app slot n ends (op.Pop queue.Inbox) (answer.Popped (item.Note m)) e = e
 took_end app slot n ends (op.Pop (queue.Up k)) (answer.Popped (item.Note m)) e = e
@@ -144,60 +145,61 @@ took_after : (app slot ordinal n : ℕ) (ends : Ends) (es : List Entry) → AllB
 took_after app slot ordinal n ends [] all e = refl
 took_after app slot ordinal n ends (x ∷ es) all e =
     let m : ℕ = ends_in slot n (got_by (queue.Down app) x.op x.answer) in
-    ap (λ ps. ps ++ payloads_after way.Took app slot ordinal (ended (freed_by way.Took app (noted_in x)) ends) es) (took_by app slot ordinal n ends x.op x.answer x.events.items all.0 e)
+    let rest : List (List ℕ) = payloads_after way.Took app slot ordinal (ended way.Took app (noted_in x) ends) es in
+    ap (λ k. (if k == ordinal then told_on way.Took slot x.events.items (carried way.Took app (moved_by x.op x.answer)) else []) ++ rest) e
+    ∙ ap (λ ps. ps ++ rest) (took_by app slot ordinal n x.op x.answer x.events.items all.0)
     ∙ ap (λ ps. payloads_from slot ordinal n (got_by (queue.Down app) x.op x.answer) ++ ps)
-    (took_after app slot ordinal m (ended (freed_by way.Took app (noted_in x)) ends) es all.1 (took_end app slot n ends x.op x.answer e))
+    (took_after app slot ordinal m (ended way.Took app (noted_in x) ends) es all.1 (took_end app slot n ends x.op x.answer e))
     ∙ sym (payloads_append slot ordinal n (got_by (queue.Down app) x.op x.answer) (gets (queue.Down app) es))
 
 -- what an application took are the payloads of what it got
 pub took_is : (app slot ordinal : ℕ) (es : List Entry) → AllByRecursion (λ e. TellsTook e.op e.answer e.events.items) es → took app slot ordinal es ≡ payloads_in slot ordinal (gets (queue.Down app) es)
-took_is app slot ordinal es all = took_after app slot ordinal 0 no_ends es all refl
+took_is app slot ordinal es all = payloads_are way.Took app slot ordinal es ∙ took_after app slot ordinal 0 no_ends es all refl
 
 -- ---- by the entries of a router
 
-one_delivered : (app slot ordinal n : ℕ) (ends : Ends) (k mark : ℕ) (payload : List ℕ) (i : ItemShown) → payload_by slot ordinal n i ≡ (if mark == slot && n == ordinal then payload ∷ [] else []) → ends slot ≡ n
-    → (if k == app && mark == slot && ends slot == ordinal then payload ∷ [] else []) ≡ payloads_from slot ordinal n (if k == app then i ∷ [] else [])
-one_delivered app slot ordinal n ends k mark payload i is e =
+one_delivered : (app slot ordinal n k mark : ℕ) (payload : List ℕ) (i : ItemShown) → payload_by slot ordinal n i ≡ (if mark == slot && n == ordinal then payload ∷ [] else [])
+    → (if n == ordinal then (if k == app && mark == slot then payload ∷ [] else []) else []) ≡ payloads_from slot ordinal n (if k == app then i ∷ [] else [])
+one_delivered app slot ordinal n k mark payload i is =
     by (k == app)
   where
-    by : (c : Bool) → (if c && mark == slot && ends slot == ordinal then payload ∷ [] else []) ≡ payloads_from slot ordinal n (if c then i ∷ [] else [])
-    by true = ap (λ x. if mark == slot && x == ordinal then payload ∷ [] else []) e ∙ sym is ∙ sym (append-nil (payload_by slot ordinal n i))
-    by false = refl
+    by : (c : Bool) → (if n == ordinal then (if c && mark == slot then payload ∷ [] else []) else []) ≡ payloads_from slot ordinal n (if c then i ∷ [] else [])
+    by true = both_tests ordinal n (mark == slot) payload ∙ sym is ∙ sym (append-nil (payload_by slot ordinal n i))
+    by false = in_either (n == ordinal)
 
-delivered_one : (app slot ordinal n : ℕ) (ends : Ends) (o : OpShown) (a : AnswerShown) → ends slot ≡ n
-    → delivered_by app slot ordinal ends o a ≡ payloads_from slot ordinal n (put_by (queue.Down app) o a)
-delivered_one app slot ordinal n ends (op.Push (queue.Down k) (item.Packet mark b)) answer.Pushed e = one_delivered app slot ordinal n ends k mark b.payload (item.Packet mark b) refl e
-delivered_one app slot ordinal n ends (op.Push queue.Inbox (item.Packet mark b)) answer.Pushed e = refl
-delivered_one app slot ordinal n ends (op.Push (queue.Up k) (item.Packet mark b)) answer.Pushed e = refl
-delivered_one app slot ordinal n ends (op.Push (queue.Out k) (item.Packet mark b)) answer.Pushed e = refl
-delivered_one app slot ordinal n ends (op.Push (queue.Tx k) (item.Packet mark b)) answer.Pushed e = refl
-delivered_one app slot ordinal n ends (op.Push (queue.Rx k) (item.Packet mark b)) answer.Pushed e = refl
-delivered_one app slot ordinal n ends (op.Push (queue.Down k) (item.Frame f)) answer.Pushed e = no_payload slot ordinal n (k == app) (item.Frame f) refl
-delivered_one app slot ordinal n ends (op.Push queue.Inbox (item.Frame f)) answer.Pushed e = refl
-delivered_one app slot ordinal n ends (op.Push (queue.Up k) (item.Frame f)) answer.Pushed e = refl
-delivered_one app slot ordinal n ends (op.Push (queue.Out k) (item.Frame f)) answer.Pushed e = refl
-delivered_one app slot ordinal n ends (op.Push (queue.Tx k) (item.Frame f)) answer.Pushed e = refl
-delivered_one app slot ordinal n ends (op.Push (queue.Rx k) (item.Frame f)) answer.Pushed e = refl
-delivered_one app slot ordinal n ends (op.Push (queue.Down k) (item.Note m)) answer.Pushed e = no_payload slot ordinal n (k == app) (item.Note m) refl
-delivered_one app slot ordinal n ends (op.Push queue.Inbox (item.Note m)) answer.Pushed e = refl
-delivered_one app slot ordinal n ends (op.Push (queue.Up k) (item.Note m)) answer.Pushed e = refl
-delivered_one app slot ordinal n ends (op.Push (queue.Out k) (item.Note m)) answer.Pushed e = refl
-delivered_one app slot ordinal n ends (op.Push (queue.Tx k) (item.Note m)) answer.Pushed e = refl
-delivered_one app slot ordinal n ends (op.Push (queue.Rx k) (item.Note m)) answer.Pushed e = refl
-delivered_one app slot ordinal n ends _ _ e = refl
+delivered_one : (app slot ordinal n : ℕ) (o : OpShown) (a : AnswerShown) → (if n == ordinal then delivered_by app slot o a else []) ≡ payloads_from slot ordinal n (put_by (queue.Down app) o a)
+delivered_one app slot ordinal n (op.Push (queue.Down k) (item.Packet mark b)) answer.Pushed = one_delivered app slot ordinal n k mark b.payload (item.Packet mark b) refl
+delivered_one app slot ordinal n (op.Push queue.Inbox (item.Packet mark b)) answer.Pushed = in_either (n == ordinal)
+delivered_one app slot ordinal n (op.Push (queue.Up k) (item.Packet mark b)) answer.Pushed = in_either (n == ordinal)
+delivered_one app slot ordinal n (op.Push (queue.Out k) (item.Packet mark b)) answer.Pushed = in_either (n == ordinal)
+delivered_one app slot ordinal n (op.Push (queue.Tx k) (item.Packet mark b)) answer.Pushed = in_either (n == ordinal)
+delivered_one app slot ordinal n (op.Push (queue.Rx k) (item.Packet mark b)) answer.Pushed = in_either (n == ordinal)
+delivered_one app slot ordinal n (op.Push (queue.Down k) (item.Frame f)) answer.Pushed = in_either (n == ordinal) ∙ no_payload slot ordinal n (k == app) (item.Frame f) refl
+delivered_one app slot ordinal n (op.Push queue.Inbox (item.Frame f)) answer.Pushed = in_either (n == ordinal)
+delivered_one app slot ordinal n (op.Push (queue.Up k) (item.Frame f)) answer.Pushed = in_either (n == ordinal)
+delivered_one app slot ordinal n (op.Push (queue.Out k) (item.Frame f)) answer.Pushed = in_either (n == ordinal)
+delivered_one app slot ordinal n (op.Push (queue.Tx k) (item.Frame f)) answer.Pushed = in_either (n == ordinal)
+delivered_one app slot ordinal n (op.Push (queue.Rx k) (item.Frame f)) answer.Pushed = in_either (n == ordinal)
+delivered_one app slot ordinal n (op.Push (queue.Down k) (item.Note m)) answer.Pushed = in_either (n == ordinal) ∙ no_payload slot ordinal n (k == app) (item.Note m) refl
+delivered_one app slot ordinal n (op.Push queue.Inbox (item.Note m)) answer.Pushed = in_either (n == ordinal)
+delivered_one app slot ordinal n (op.Push (queue.Up k) (item.Note m)) answer.Pushed = in_either (n == ordinal)
+delivered_one app slot ordinal n (op.Push (queue.Out k) (item.Note m)) answer.Pushed = in_either (n == ordinal)
+delivered_one app slot ordinal n (op.Push (queue.Tx k) (item.Note m)) answer.Pushed = in_either (n == ordinal)
+delivered_one app slot ordinal n (op.Push (queue.Rx k) (item.Note m)) answer.Pushed = in_either (n == ordinal)
+delivered_one app slot ordinal n _ _ = in_either (n == ordinal)
 
 told_end : (app slot n : ℕ) (ends : Ends) (k : ℕ) (m : Note) → ends slot ≡ n
-    → ended (told_free app (noted_by (op.Push (queue.Down k) (item.Note m)) answer.Pushed)) ends slot ≡ ends_in slot n (if k == app then item.Note m ∷ [] else [])
+    → ended way.Sent app (noted_by (op.Push (queue.Down k) (item.Note m)) answer.Pushed) ends slot ≡ ends_in slot n (if k == app then item.Note m ∷ [] else [])
 told_end app slot n ends k (note.Closed freed) e =
     by (k == app)
   where
-    by : (c : Bool) → ended (if c then Some freed else None) ends slot ≡ ends_in slot n (if c then item.Note (note.Closed freed) ∷ [] else [])
-    by true = ap (λ x. if slot == freed then x + 1 else x) e
+    by : (c : Bool) → (if c && freed == slot then ends slot + 1 else ends slot) ≡ ends_in slot n (if c then item.Note (note.Closed freed) ∷ [] else [])
+    by true = ap (λ x. if freed == slot then x + 1 else x) e
     by false = e
 told_end app slot n ends k m e = e ∙ no_end slot n (k == app) (item.Note m) refl
 
 delivered_end : (app slot n : ℕ) (ends : Ends) (o : OpShown) (a : AnswerShown) → ends slot ≡ n
-    → ended (told_free app (noted_by o a)) ends slot ≡ ends_in slot n (put_by (queue.Down app) o a)
+    → ended way.Sent app (noted_by o a) ends slot ≡ ends_in slot n (put_by (queue.Down app) o a)
 delivered_end app slot n ends (op.Push (queue.Down k) (item.Note m)) answer.Pushed e = told_end app slot n ends k m e
 delivered_end app slot n ends (op.Push queue.Inbox (item.Note m)) answer.Pushed e = e
 delivered_end app slot n ends (op.Push (queue.Up k) (item.Note m)) answer.Pushed e = e
@@ -211,15 +213,24 @@ delivered_end app slot n ends (op.Pop q) (answer.Popped (item.Packet mark b)) e 
 delivered_end app slot n ends (op.Pop q) (answer.Popped (item.Frame f)) e = e
 delivered_end app slot n ends _ _ e = e
 
+-- read one entry after the other
+abbrev pub delivered_after : (app slot ordinal : ℕ) → Ends → List Entry → List (List ℕ)
+delivered_after app slot ordinal = told_after way.Sent app (λ ends e. if ends slot == ordinal then delivered_by app slot e.op e.answer else [])
+
+pub delivered_are : (app slot ordinal : ℕ) (es : List Entry) → delivered app slot ordinal es ≡ delivered_after app slot ordinal no_ends es
+delivered_are app slot ordinal es = on_are way.Sent app slot ordinal (λ e. delivered_by app slot e.op e.answer) es
+
 delivered_from : (app slot ordinal n : ℕ) (ends : Ends) (es : List Entry) → ends slot ≡ n → delivered_after app slot ordinal ends es ≡ payloads_from slot ordinal n (puts (queue.Down app) es)
 delivered_from app slot ordinal n ends [] e = refl
 delivered_from app slot ordinal n ends (x ∷ es) e =
     let m : ℕ = ends_in slot n (put_by (queue.Down app) x.op x.answer) in
-    ap (λ ps. ps ++ delivered_after app slot ordinal (ended (told_free app (noted_in x)) ends) es) (delivered_one app slot ordinal n ends x.op x.answer e)
+    let rest : List (List ℕ) = delivered_after app slot ordinal (ended way.Sent app (noted_in x) ends) es in
+    ap (λ k. (if k == ordinal then delivered_by app slot x.op x.answer else []) ++ rest) e
+    ∙ ap (λ ps. ps ++ rest) (delivered_one app slot ordinal n x.op x.answer)
     ∙ ap (λ ps. payloads_from slot ordinal n (put_by (queue.Down app) x.op x.answer) ++ ps)
-    (delivered_from app slot ordinal m (ended (told_free app (noted_in x)) ends) es (delivered_end app slot n ends x.op x.answer e))
+    (delivered_from app slot ordinal m (ended way.Sent app (noted_in x) ends) es (delivered_end app slot n ends x.op x.answer e))
     ∙ sym (payloads_append slot ordinal n (put_by (queue.Down app) x.op x.answer) (puts (queue.Down app) es))
 
 -- what a router delivered are the payloads of what it put
 pub delivered_is : (app slot ordinal : ℕ) (es : List Entry) → delivered app slot ordinal es ≡ payloads_in slot ordinal (puts (queue.Down app) es)
-delivered_is app slot ordinal es = delivered_from app slot ordinal 0 no_ends es refl
+delivered_is app slot ordinal es = delivered_are app slot ordinal es ∙ delivered_from app slot ordinal 0 no_ends es refl

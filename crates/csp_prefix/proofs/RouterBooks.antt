@@ -13,10 +13,10 @@ use Rattle.csp_log.specs.declared.event.Event.TheVariants as event
 use Rattle.csp_log.specs.declared.shown.AnswerShown.{AnswerShown}
 use Rattle.csp_log.specs.declared.shown.OpShown.{OpShown}
 use Rattle.csp_record.specs.Connections.{opened_by}
-use Rattle.csp_record.specs.Ends.{Ends, ended, told_free}
 use Rattle.csp_record.specs.Payloads.{carried, told_on}
 use Rattle.csp_record.specs.declared.connections.Opening.{Opening}
 use Rattle.csp_record.specs.declared.payloads.Way.TheVariants as way
+use Rattle.csp_record.proofs.Ordinals.{Ends, ended}
 use Rattle.csp_scene.proofs.Lists.{AllByRecursion-append, AllByRecursion-map}
 use Rattle.csp_prefix.specs.Delivered.{delivered_by}
 use Rattle.csp_prefix.specs.Ports.{AreNew, Books, IsNew, Ordinals, noted, noted_by, with_book, with_down, with_opened, with_ordinal, with_sent}
@@ -32,9 +32,9 @@ pub record Past : Type 0 where
 abbrev pub past_after : OpShown → AnswerShown → List Event → Past → Past
 past_after o a events h = record {
   opened = λ app. h.opened app ++ flat_map (opened_by app (h.ends app)) events;
-  sent = λ app slot ordinal. h.sent app slot ordinal ++ told_on way.Sent slot ordinal (h.ends app) events (carried way.Sent app (moved_by o a));
-  down = λ app slot ordinal. h.down app slot ordinal ++ delivered_by app slot ordinal (h.ends app) o a;
-  ends = λ app. ended (told_free app (note_moved o a)) (h.ends app);
+  sent = λ app slot ordinal. h.sent app slot ordinal ++ (if h.ends app slot == ordinal then told_on way.Sent slot events (carried way.Sent app (moved_by o a)) else []);
+  down = λ app slot ordinal. h.down app slot ordinal ++ (if h.ends app slot == ordinal then delivered_by app slot o a else []);
+  ends = λ app. ended way.Sent app (note_moved o a) (h.ends app);
 }
 
 -- openings alone; a payload that was sent, one that was delivered; a slot that was freed
@@ -42,13 +42,13 @@ abbrev pub with_openings : List Event → Past → Past
 with_openings events h = record h { opened = λ app. h.opened app ++ flat_map (opened_by app (h.ends app)) events }
 
 abbrev pub sent_on : ℕ → ℕ → List ℕ → Past → Past
-sent_on app slot payload h = record h { sent = λ a s o. h.sent a s o ++ (if app == a && slot == s && h.ends a s == o then payload ∷ [] else []) }
+sent_on app slot payload h = record h { sent = λ a s o. h.sent a s o ++ (if h.ends a s == o then (if app == a && slot == s then payload ∷ [] else []) else []) }
 
 abbrev pub down_on : ℕ → ℕ → List ℕ → Past → Past
-down_on app slot payload h = record h { down = λ a s o. h.down a s o ++ (if app == a && slot == s && h.ends a s == o then payload ∷ [] else []) }
+down_on app slot payload h = record h { down = λ a s o. h.down a s o ++ (if h.ends a s == o then (if app == a && slot == s then payload ∷ [] else []) else []) }
 
 abbrev pub freed_on : ℕ → ℕ → Past → Past
-freed_on app slot h = record h { ends = λ a. ended (if app == a then Some slot else None) (h.ends a) }
+freed_on app slot h = record h { ends = λ a s. if app == a && slot == s then h.ends a s + 1 else h.ends a s }
 
 -- two that agree are one
 pub past_same : (h k : Past) → ((app : ℕ) → h.opened app ≡ k.opened app) → ((app slot ordinal : ℕ) → h.sent app slot ordinal ≡ k.sent app slot ordinal)
@@ -234,18 +234,16 @@ module _ (Over : Numbering → ℕ → Opening → List (List ℕ) → Type 0) (
       (tells_noted es (with_openings (e ∷ []) h) (noted_by e books) new.1 (tells_event h books e new.0 t))
 
   -- ---- a payload that was sent, and one that was delivered
-  here_on : (app slot ordinal : ℕ) (payload : List ℕ) → (if app == app && slot == slot && ordinal == ordinal then payload ∷ [] else []) ≡ payload ∷ []
+  here_on : (app slot ordinal : ℕ) (payload : List ℕ) → (if ordinal == ordinal then (if app == app && slot == slot then payload ∷ [] else []) else []) ≡ payload ∷ []
   here_on app slot ordinal payload = rw (eq-eqb app app refl, eq-eqb slot slot refl, eq-eqb ordinal ordinal refl) refl
 
-  not_on : (app slot a s n o : ℕ) (payload : List ℕ) → (a ≡ app → s ≡ slot → n ≡ o → ⊥) → (if app == a && slot == s && n == o then payload ∷ [] else []) ≡ []
-  not_on app slot a s n o payload differ = by_test (app == a && slot == s && n == o) refl
+  not_on : (app slot a s n o : ℕ) (payload : List ℕ) → (a ≡ app → s ≡ slot → n ≡ o → ⊥) → (if n == o then (if app == a && slot == s then payload ∷ [] else []) else []) ≡ []
+  not_on app slot a s n o payload differ = by_tests (n == o) (app == a && slot == s) refl refl
     where
-      by_test : (t : Bool) → (app == a && slot == s && n == o) ≡ t → (if t then payload ∷ [] else []) ≡ []
-      by_test false e = refl
-      by_test true e =
-          let outer = and_parts (app == a && slot == s) (n == o) e in
-          let inner = and_parts (app == a) (slot == s) outer.0 in
-          absurd (differ (sym (eqb-true app a inner.0)) (sym (eqb-true slot s inner.1)) (eqb-true n o outer.1))
+      by_tests : (t u : Bool) → (n == o) ≡ t → (app == a && slot == s) ≡ u → (if t then (if u then payload ∷ [] else []) else []) ≡ []
+      by_tests false u e f = refl
+      by_tests true false e f = refl
+      by_tests true true e f = let parts = and_parts (app == a) (slot == s) f in absurd (differ (sym (eqb-true app a parts.0)) (sym (eqb-true slot s parts.1)) (eqb-true n o e))
 
   pub tells_sent : (h : Past) (books : Books) (app slot : ℕ) (payload : List ℕ) → Tells Over apps m h books → Tells Over apps m (sent_on app slot payload h) (with_sent app slot payload books)
   tells_sent h books app slot payload t = record {
@@ -258,7 +256,7 @@ module _ (Over : Numbering → ℕ → Opening → List (List ℕ) → Type 0) (
           over = i.over;
         }) (t.told a);
     back = λ a s which. book_at (λ a s b. b.opened ≡ Some which → IsAmong (opening_on s (h.ends a s) which) (h.opened a)) app slot _ books a s (t.back app slot which) (λ differ. t.back a s which);
-    sent = λ a s. book_at (λ a s b. b.sent ≡ h.sent a s (h.ends a s) ++ (if app == a && slot == s && h.ends a s == h.ends a s then payload ∷ [] else [])) app slot _ books a s
+    sent = λ a s. book_at (λ a s b. b.sent ≡ h.sent a s (h.ends a s) ++ (if h.ends a s == h.ends a s then (if app == a && slot == s then payload ∷ [] else []) else [])) app slot _ books a s
         (rw (here_on app slot (h.ends app slot) payload) (ap (λ xs. xs ++ payload ∷ []) (t.sent app slot)))
         (λ differ. rw (not_on app slot a s (h.ends a s) (h.ends a s) payload (λ first second is. differ first second)) (t.sent a s ∙ sym (append-nil _)));
     down = λ a s. book_at (λ a s b. b.down ≡ h.down a s (h.ends a s)) app slot _ books a s (t.down app slot) (λ differ. t.down a s);
@@ -279,7 +277,7 @@ module _ (Over : Numbering → ℕ → Opening → List (List ℕ) → Type 0) (
         }) (t.told a);
     back = λ a s which. book_at (λ a s b. b.opened ≡ Some which → IsAmong (opening_on s (h.ends a s) which) (h.opened a)) app slot _ books a s (t.back app slot which) (λ differ. t.back a s which);
     sent = λ a s. book_at (λ a s b. b.sent ≡ h.sent a s (h.ends a s)) app slot _ books a s (t.sent app slot) (λ differ. t.sent a s);
-    down = λ a s. book_at (λ a s b. b.down ≡ h.down a s (h.ends a s) ++ (if app == a && slot == s && h.ends a s == h.ends a s then payload ∷ [] else [])) app slot _ books a s
+    down = λ a s. book_at (λ a s b. b.down ≡ h.down a s (h.ends a s) ++ (if h.ends a s == h.ends a s then (if app == a && slot == s then payload ∷ [] else []) else [])) app slot _ books a s
         (rw (here_on app slot (h.ends app slot) payload) (ap (λ xs. xs ++ payload ∷ []) (t.down app slot)))
         (λ differ. rw (not_on app slot a s (h.ends a s) (h.ends a s) payload (λ first second is. differ first second)) (t.down a s ∙ sym (append-nil _)));
     later_sent = t.later_sent;
@@ -302,20 +300,23 @@ module _ (Over : Numbering → ℕ → Opening → List (List ℕ) → Type 0) (
   abbrev freed_as : ℕ → ℕ → Past → Past
   freed_as app slot h = record h { ends = with_ordinal app slot (h.ends app slot + 1) h.ends }
 
-  pub freed_ends : (app slot : ℕ) (h : Past) (a s : ℕ) → with_ordinal app slot (h.ends app slot + 1) h.ends a s ≡ ended (if app == a then Some slot else None) (h.ends a) s
-  freed_ends app slot h a s = by_app (app == a) refl
+  pub freed_ends : (app slot : ℕ) (h : Past) (a s : ℕ) → with_ordinal app slot (h.ends app slot + 1) h.ends a s ≡ (if app == a && slot == s then h.ends a s + 1 else h.ends a s)
+  freed_ends app slot h a s = by_test (app == a && slot == s) refl
     where
-      by_slot : app ≡ a → (t : Bool) → (s == slot) ≡ t → with_ordinal app slot (h.ends app slot + 1) h.ends a s ≡ (if t then h.ends a s + 1 else h.ends a s)
-      by_slot first true e = rw (eq-eqb a app (sym first), e) (ap (λ x. h.ends x slot + 1) first ∙ ap (λ x. h.ends a x + 1) (sym (eqb-true s slot e)))
-      by_slot first false e = rw (eq-eqb a app (sym first), e) refl
+      by_other : (app == a && slot == s) ≡ false → (t : Bool) → (a == app && s == slot) ≡ t → (if t then h.ends app slot + 1 else h.ends a s) ≡ h.ends a s
+      by_other e false q = refl
+      by_other e true q =
+          let parts = and_parts (a == app) (s == slot) q in
+          let whole : (app == a && slot == s) ≡ true = rw (eq-eqb app a (sym (eqb-true a app parts.0)), eq-eqb slot s (sym (eqb-true s slot parts.1))) refl in
+          absurd (cc)
 
-      by_app : (t : Bool) → (app == a) ≡ t → with_ordinal app slot (h.ends app slot + 1) h.ends a s ≡ ended (if t then Some slot else None) (h.ends a) s
-      by_app true e = by_slot (eqb-true app a e) (s == slot) refl
-      by_app false e = by_test (a == app && s == slot) refl
-        where
-          by_test : (t : Bool) → (a == app && s == slot) ≡ t → (if t then h.ends app slot + 1 else h.ends a s) ≡ h.ends a s
-          by_test false q = refl
-          by_test true q = let parts = and_parts (a == app) (s == slot) q in let whole : (app == a) ≡ true = eq-eqb app a (sym (eqb-true a app parts.0)) in absurd (cc)
+      by_test : (t : Bool) → (app == a && slot == s) ≡ t → with_ordinal app slot (h.ends app slot + 1) h.ends a s ≡ (if t then h.ends a s + 1 else h.ends a s)
+      by_test true e =
+          let parts = and_parts (app == a) (slot == s) e in
+          let first : app ≡ a = eqb-true app a parts.0 in
+          let second : slot ≡ s = eqb-true slot s parts.1 in
+          rw (eq-eqb a app (sym first), eq-eqb s slot (sym second)) (ap (λ x. h.ends x slot + 1) first ∙ ap (λ x. h.ends a x + 1) second)
+      by_test false e = by_other e (a == app && s == slot) refl
 
   pub over_now : (h : Past) (books : Books) (app slot : ℕ) (x : Opening) → ((how : Option ℕ × Option (ℕ × ℕ)) → (books app slot).opened ≡ Some how → Over m app (opening_on slot (h.ends app slot) how) (books app slot).down)
       → (books app slot).down ≡ h.down app slot (h.ends app slot) → slot ≡ x.slot → x.ordinal ≤ h.ends app slot

@@ -34,7 +34,7 @@ use Rattle.csp_rdp_header.specs.declared.head.RdpHead.{RdpHead}
 use Rattle.csp_rdp_header.specs.declared.head.TheConstants.{ACK, RST, SYN}
 use Rattle.csp_rdp_header.specs.declared.options.Options.{Options}
 use Rattle.csp_record.specs.Connections.{opened_by}
-use Rattle.csp_record.specs.Ends.{Ends}
+use Rattle.csp_record.proofs.Ordinals.{Ends}
 use Rattle.csp_route.specs.declared.row.Row.{Row}
 use Rattle.csp_service.specs.Answers.{answered}
 use Rattle.csp_service.specs.declared.answers.Served.{Served}

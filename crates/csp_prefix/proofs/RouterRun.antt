@@ -6,13 +6,12 @@ use Rattle.csp_deck.specs.Runs.{IsRun, IsStep}
 use Rattle.csp_log.specs.declared.entry.Entry.{Entry}
 use Rattle.csp_log.specs.declared.event.Event.{Event}
 use Rattle.csp_ports.specs.PlainPorts.{PlainPorts}
-use Rattle.csp_record.specs.Connections.{openings_after}
-use Rattle.csp_record.specs.Payloads.{payloads_after}
 use Rattle.csp_record.specs.declared.payloads.Way.TheVariants as way
+use Rattle.csp_record.proofs.Ordinals.{openings_after, payloads_after}
 use Rattle.csp_stack.specs.Router.{Facts, Leaving, State}
 use Rattle.csp_stack.specs.Turn.{asked_at, asks_at, told_at}
-use Rattle.csp_prefix.specs.Delivered.{delivered_after}
 use Rattle.csp_prefix.specs.Routers.{ComesSo, router_steps}
+use Rattle.csp_prefix.proofs.PayloadReads.{delivered_after}
 use Rattle.csp_prefix.proofs.RouterBooks.{Past, past_after}
 use Rattle.csp_prefix.proofs.RouterStanding.{Aim, IsAim, IsPart, Stands}
 use Rattle.csp_prefix.proofs.RouterTurn.{HearsSo, PushedSo, part_before, turn_stands}

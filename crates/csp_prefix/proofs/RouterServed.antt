@@ -2,7 +2,7 @@
 use Rattle.std.proofs.Common.{◌≡◌, ◌≢◌, ◌⊎◌, inl, inr, ℕ, ◌<◌, ◌==◌, ◌&&◌, Bool, true, false, Option, None, Some, List, [], ◌∷◌, ◌++◌, refl, sym, ap, ◌∙◌, subst, arith}
 use Rattle.std.specs.Prelude.{if◌then◌else◌, nat_lt}
 use Rattle.std.specs.List.{AllByRecursion, flat_map}
-use Rattle.std.proofs.lemmas.Bool.{eq-eqb, eqb-true}
+use Rattle.std.proofs.lemmas.Bool.{eq-eqb}
 use Rattle.std.proofs.lemmas.List.{append-nil}
 use Rattle.csp_buffer.specs.Content.{Content}
 use Rattle.csp_conn.specs.PlainConns.{slot_at}
@@ -32,9 +32,9 @@ use Rattle.csp_ports.specs.declared.terms.Terms.{Terms}
 use Rattle.csp_rdp.specs.declared.answers.State.{State as MachineState}
 use Rattle.csp_rdp.specs.declared.answers.State.TheVariants as state
 use Rattle.csp_record.specs.Connections.{opened_by}
-use Rattle.csp_record.specs.Ends.{Ends}
 use Rattle.csp_record.specs.Payloads.{is_on, told_on}
 use Rattle.csp_record.specs.declared.payloads.Way.TheVariants as way
+use Rattle.csp_record.proofs.Ordinals.{Ends}
 use Rattle.csp_route.specs.Routes.{route_of}
 use Rattle.csp_route.specs.declared.row.Row.{Row}
 use Rattle.csp_header.specs.Word.{header_at}
@@ -48,39 +48,35 @@ use Rattle.csp_prefix.specs.Ports.{AreGood, IsInUse, IsSlot, Submits, now_at, wi
 use Rattle.csp_prefix.specs.Routers.{IsUntraced}
 use Rattle.csp_prefix.specs.Slots.{Book}
 use Rattle.csp_prefix.proofs.RouterBooks.{Past, Tells, no_openings_of, past_after, past_same, sent_on, tells_sent}
-use Rattle.csp_prefix.proofs.RouterEntry.{AreUnsent, quiet_entry}
+use Rattle.csp_prefix.proofs.RouterEntry.{AreUnsent, none_on, quiet_entry}
 use Rattle.csp_prefix.proofs.RouterHeard.{Quietly, protected_trace, stands_discarded, stands_sent, stands_unchanged}
 use Rattle.csp_prefix.proofs.RouterStanding.{Aim, IsAim, IsOut, Stands, good_plain, stands_comes}
 
 -- ---- events that tell nothing that was sent
 pub unsent_none : AreUnsent []
-unsent_none slot ordinal ends None = refl
-unsent_none slot ordinal ends (Some payload) = refl
+unsent_none slot None = refl
+unsent_none slot (Some payload) = refl
 
-pub unsent_one : (e : Event) → ((slot ordinal : ℕ) (ends : Ends) → is_on way.Sent slot ordinal ends e ≡ false) → AreUnsent (e ∷ [])
-unsent_one e none slot ordinal ends None = refl
-unsent_one e none slot ordinal ends (Some payload) = rw (none slot ordinal ends) refl
+pub unsent_one : (e : Event) → ((slot : ℕ) → is_on way.Sent slot e ≡ false) → AreUnsent (e ∷ [])
+unsent_one e none slot None = refl
+unsent_one e none slot (Some payload) = rw (none slot) refl
 
 -- ---- the entry of a packet that was sent on a connection
-sent_here : (k slot a s o : ℕ) (ends : Ends) (payload : List ℕ) (told : ℕ) (rest : List Event) → AreUnsent rest
-    → told_on way.Sent s o ends (event.Sent slot told ∷ rest) (if k == a then Some payload else None) ≡ (if k == a && slot == s && ends s == o then payload ∷ [] else [])
-sent_here k slot a s o ends payload told rest unsent = by_app (k == a)
+sent_here : (k slot a s : ℕ) (payload : List ℕ) (told : ℕ) (rest : List Event) → AreUnsent rest
+    → told_on way.Sent s (event.Sent slot told ∷ rest) (if k == a then Some payload else None) ≡ (if k == a && slot == s then payload ∷ [] else [])
+sent_here k slot a s payload told rest unsent = by_app (k == a)
   where
-    by_slot : (t : Bool) → (slot == s) ≡ t → (if t && ends slot == o then payload ∷ [] else []) ≡ (if t && ends s == o then payload ∷ [] else [])
-    by_slot true e = ap (λ n. if ends n == o then payload ∷ [] else []) (eqb-true slot s e)
-    by_slot false e = refl
-
-    by_app : (t : Bool) → told_on way.Sent s o ends (event.Sent slot told ∷ rest) (if t then Some payload else None) ≡ (if t && slot == s && ends s == o then payload ∷ [] else [])
+    by_app : (t : Bool) → told_on way.Sent s (event.Sent slot told ∷ rest) (if t then Some payload else None) ≡ (if t && slot == s then payload ∷ [] else [])
     by_app false = refl
-    by_app true = ap (λ xs. (if slot == s && ends slot == o then payload ∷ [] else []) ++ xs) (unsent s o ends (Some payload)) ∙ append-nil _ ∙ by_slot (slot == s) refl
+    by_app true = ap (λ xs. (if slot == s then payload ∷ [] else []) ++ xs) (unsent s (Some payload)) ∙ append-nil _
 
 pub sent_entry : (k slot told : ℕ) (b : Content) (rest : List Event) (h : Past) → AreUnsent rest → ((app : ℕ) (ends : Ends) → flat_map (opened_by app ends) rest ≡ [])
     → sent_on k slot b.payload h ≡ past_after (op.Pop (queue.Up k)) (answer.Popped (item.Packet slot b)) (event.Sent slot told ∷ rest) h
 sent_entry k slot told b rest h unsent none =
     past_same (sent_on k slot b.payload h) (past_after (op.Pop (queue.Up k)) (answer.Popped (item.Packet slot b)) (event.Sent slot told ∷ rest) h)
     (λ app. sym (append-nil (h.opened app)) ∙ ap (λ xs. h.opened app ++ xs) (sym (none app (h.ends app))))
-    (λ a s o. ap (λ xs. h.sent a s o ++ xs) (sym (sent_here k slot a s o (h.ends a) b.payload told rest unsent)))
-    (λ a s o. sym (append-nil _)) (λ a s. refl)
+    (λ a s o. ap (λ xs. h.sent a s o ++ (if h.ends a s == o then xs else [])) (sym (sent_here k slot a s b.payload told rest unsent)))
+    (λ a s o. sym (append-nil _) ∙ ap (λ xs. h.down a s o ++ xs) (none_on (h.ends a s == o) [] refl)) (λ a s. refl)
 
 -- a packet without a trace has none when it is addressed
 addressed_untraced : (f : Facts) (c : Connection) (t : Terms) (i : ℕ) (b : Content) → IsUntraced (item.Packet i b) → (addressed f c t b).trace.tag ≡ None
@@ -100,14 +96,14 @@ module _ (g : Aim) (f : Facts) (whole : Past) (k : IsAim g f whole) where
 
   quiet_packet : (h : Past) (app mark : ℕ) (b : Content) (t : Told) → AreUnsent t.events → Quietly g f whole k h t → Serves h app (item.Packet mark b) t
   quiet_packet h app mark b t unsent w fresh =
-      subst (λ x. Stands g f x t.state.ports t.state.out) (quiet_entry (op.Pop (queue.Up app)) (answer.Popped (item.Packet mark b)) t.events h (record { free = λ a. refl; sent = λ a s o ends. unsent s o ends _; down = λ a s o ends. refl })) (w fresh)
+      subst (λ x. Stands g f x t.state.ports t.state.out) (quiet_entry (op.Pop (queue.Up app)) (answer.Popped (item.Packet mark b)) t.events h (record { free = λ a s. refl; sent = λ a s. unsent s _; down = λ a s. refl })) (w fresh)
 
   quiet_note : (h : Past) (app : ℕ) (n : Note) (t : Told) → Quietly g f whole k h t → Serves h app (item.Note n) t
   quiet_note h app n t w fresh =
-      subst (λ x. Stands g f x t.state.ports t.state.out) (quiet_entry (op.Pop (queue.Up app)) (answer.Popped (item.Note n)) t.events h (record { free = λ a. refl; sent = λ a s o ends. refl; down = λ a s o ends. refl })) (w fresh)
+      subst (λ x. Stands g f x t.state.ports t.state.out) (quiet_entry (op.Pop (queue.Up app)) (answer.Popped (item.Note n)) t.events h (record { free = λ a s. refl; sent = λ a s. refl; down = λ a s. refl })) (w fresh)
 
   discarded_unsent : (reason : why.the_data) → AreUnsent (event.Discarded reason ∷ [])
-  discarded_unsent reason = unsent_one (event.Discarded reason) (λ s o ends. refl)
+  discarded_unsent reason = unsent_one (event.Discarded reason) (λ s. refl)
 
   -- ---- a good packet goes out
   record IsSentOff (s : State) (t : Told) : Type 0 where
@@ -167,7 +163,7 @@ module _ (g : Aim) (f : Facts) (whole : Past) (k : IsAim g f whole) where
           let now = done.not_sent is in
           subst (λ es. Stands g f (past_after (op.Pop (queue.Up app)) (answer.Popped (item.Packet slot b)) es h) came.ports s.out) (sym now.0)
           (subst (λ y. Stands g f y came.ports s.out)
-          (quiet_entry (op.Pop (queue.Up app)) (answer.Popped (item.Packet slot b)) (event.Discarded why.NoConn ∷ []) h (record { free = λ a. refl; sent = λ a s o ends. discarded_unsent why.NoConn s o ends _; down = λ a s o ends. refl }))
+          (quiet_entry (op.Pop (queue.Up app)) (answer.Popped (item.Packet slot b)) (event.Discarded why.NoConn ∷ []) h (record { free = λ a s. refl; sent = λ a s. discarded_unsent why.NoConn s _; down = λ a s. refl }))
           (record {
             numbering = w.numbering;
             books = w.books;

@@ -15,6 +15,8 @@ use Rattle.csp_log.specs.declared.shown.OpShown.TheVariants as op
 use Rattle.csp_record.specs.Connections.{openings}
 use Rattle.csp_record.specs.Payloads.{sent}
 use Rattle.csp_record.specs.declared.connections.Opening.{Opening}
+use Rattle.csp_record.specs.declared.payloads.Way.TheVariants as way
+use Rattle.csp_record.proofs.Ordinals.{openings_are, payloads_are}
 use Rattle.csp_route.specs.Routes.{Routes}
 use Rattle.csp_stack.specs.Config.{opening_state}
 use Rattle.csp_stack.specs.Router.{Facts}
@@ -22,6 +24,7 @@ use Rattle.csp_prefix.specs.Delivered.{delivered}
 use Rattle.csp_consistent.specs.Reading.{got_by, gets}
 use Rattle.csp_prefix.specs.Routers.{ComesSo, IsFlowOf, IsRouterLog}
 use Rattle.csp_prefix.specs.Slots.{blank}
+use Rattle.csp_prefix.proofs.PayloadReads.{delivered_are}
 use Rattle.csp_prefix.proofs.RouterBooks.{Past, all_at, no_past, over_now, tells_nothing}
 use Rattle.csp_prefix.proofs.RouterRun.{IsCome, IsRunSo, past_of, reads_down, reads_opened, reads_sent, run_stands}
 use Rattle.csp_prefix.proofs.RouterStanding.{Aim, IsAim, IsPart, Stands, over_present}
@@ -32,13 +35,13 @@ abbrev pub past : List Entry → Past
 past es = past_of es no_past
 
 pub past_opened : (es : List Entry) (app : ℕ) → (past es).opened app ≡ openings app es
-past_opened es app = reads_opened es no_past app
+past_opened es app = reads_opened es no_past app ∙ sym (openings_are app es)
 
 pub past_sent : (es : List Entry) (app slot ordinal : ℕ) → (past es).sent app slot ordinal ≡ sent app slot ordinal es
-past_sent es app slot ordinal = reads_sent es no_past app slot ordinal
+past_sent es app slot ordinal = reads_sent es no_past app slot ordinal ∙ sym (payloads_are way.Sent app slot ordinal es)
 
 pub past_down : (es : List Entry) (app slot ordinal : ℕ) → (past es).down app slot ordinal ≡ delivered app slot ordinal es
-past_down es app slot ordinal = reads_down es no_past app slot ordinal
+past_down es app slot ordinal = reads_down es no_past app slot ordinal ∙ sym (delivered_are app slot ordinal es)
 
 pub part_all : (h : Past) → IsPart h h
 part_all h = record { sent = λ app slot ordinal. record { rest = []; whole = append-nil (h.sent app slot ordinal) }; opened = λ app. record { rest = []; whole = append-nil (h.opened app) } }

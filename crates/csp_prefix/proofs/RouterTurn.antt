@@ -36,7 +36,7 @@ use Rattle.csp_ports.specs.declared.task.Task.{Task}
 use Rattle.csp_ports.specs.declared.task.Task.TheVariants as task
 use Rattle.csp_rdp.specs.Jobs.{delivery, job_of}
 use Rattle.csp_rdp.specs.declared.jobs.Job.{Job}
-use Rattle.csp_record.specs.Ends.{Ends, told_free}
+use Rattle.csp_record.specs.Ordinals.{frees}
 use Rattle.csp_record.specs.Payloads.{carried, told_on}
 use Rattle.csp_record.specs.declared.payloads.Way.TheVariants as way
 use Rattle.csp_stack.specs.Counting.{came_in, was_full}
@@ -55,7 +55,7 @@ use Rattle.csp_prefix.specs.Prefix.{IsBeginning}
 use Rattle.csp_prefix.specs.Routers.{ComesSo}
 use Rattle.csp_prefix.specs.Slots.{blank}
 use Rattle.csp_prefix.proofs.RouterBooks.{Past, down_on, freed_on, no_openings, no_openings_of, ordinals_freed, past_after, past_same, tells_down, tells_freed, with_openings}
-use Rattle.csp_prefix.proofs.RouterEntry.{IsQuiet, new_unsent, quiet_entry, split_entry}
+use Rattle.csp_prefix.proofs.RouterEntry.{IsQuiet, new_unsent, none_on, quiet_entry, split_entry}
 use Rattle.csp_prefix.proofs.RouterHeard.{Quietly, stands_heard, stands_sent}
 use Rattle.csp_prefix.proofs.RouterMute.{answered_mute}
 use Rattle.csp_prefix.proofs.RouterPlans.{IsTask, deliver_job, found_passes, make_job, serves_free, task_there}
@@ -81,55 +81,56 @@ part_before o a es h whole p = record { sent = λ app slot ordinal. beginning_be
 
 -- ---- entries of turns that push or are given
 quiet_giving : (trash : List Content) (a : AnswerShown) (es : List Event) → IsQuiet (giving trash) a es
-quiet_giving [] a es = record { free = λ app. refl; sent = λ app s o ends. refl; down = λ app s o ends. refl }
-quiet_giving (b ∷ bs) a es = record { free = λ app. refl; sent = λ app s o ends. refl; down = λ app s o ends. refl }
+quiet_giving [] a es = record { free = λ app s. refl; sent = λ app s. refl; down = λ app s. refl }
+quiet_giving (b ∷ bs) a es = record { free = λ app s. refl; sent = λ app s. refl; down = λ app s. refl }
 
 quiet_take : (a : AnswerShown) (es : List Event) → IsQuiet op.Take a es
-quiet_take a es = record { free = λ app. refl; sent = λ app s o ends. refl; down = λ app s o ends. refl }
+quiet_take a es = record { free = λ app s. refl; sent = λ app s. refl; down = λ app s. refl }
 
 quiet_nothing : (a : AnswerShown) (es : List Event) → IsQuiet op.Nothing a es
-quiet_nothing a es = record { free = λ app. refl; sent = λ app s o ends. refl; down = λ app s o ends. refl }
+quiet_nothing a es = record { free = λ app s. refl; sent = λ app s. refl; down = λ app s. refl }
 
-free_full : (q : QueueId) (i j : ItemShown) (app : ℕ) → told_free app (note_moved (op.Push q i) (answer.Full j)) ≡ None
-free_full q (item.Packet mark b) j app = refl
-free_full q (item.Frame frame) j app = refl
-free_full q (item.Note n) j app = refl
+free_full : (q : QueueId) (i j : ItemShown) (app slot : ℕ) → frees way.Sent app slot (note_moved (op.Push q i) (answer.Full j)) ≡ false
+free_full q (item.Packet mark b) j app slot = refl
+free_full q (item.Frame frame) j app slot = refl
+free_full q (item.Note n) j app slot = refl
 
-sent_full : (q : QueueId) (i j : ItemShown) (app slot ordinal : ℕ) (ends : Ends) (es : List Event) → told_on way.Sent slot ordinal ends es (carried way.Sent app (moved_by (op.Push q i) (answer.Full j))) ≡ []
-sent_full q (item.Packet mark b) j app slot ordinal ends es = refl
-sent_full q (item.Frame frame) j app slot ordinal ends es = refl
-sent_full q (item.Note n) j app slot ordinal ends es = refl
+sent_full : (q : QueueId) (i j : ItemShown) (app slot : ℕ) (es : List Event) → told_on way.Sent slot es (carried way.Sent app (moved_by (op.Push q i) (answer.Full j))) ≡ []
+sent_full q (item.Packet mark b) j app slot es = refl
+sent_full q (item.Frame frame) j app slot es = refl
+sent_full q (item.Note n) j app slot es = refl
 
-down_full : (q : QueueId) (i j : ItemShown) (app slot ordinal : ℕ) (ends : Ends) → delivered_by app slot ordinal ends (op.Push q i) (answer.Full j) ≡ []
-down_full queue.Inbox i j app slot ordinal ends = refl
-down_full (queue.Up k) i j app slot ordinal ends = refl
-down_full (queue.Down k) (item.Packet mark b) j app slot ordinal ends = refl
-down_full (queue.Down k) (item.Frame frame) j app slot ordinal ends = refl
-down_full (queue.Down k) (item.Note n) j app slot ordinal ends = refl
-down_full (queue.Out k) i j app slot ordinal ends = refl
-down_full (queue.Tx k) i j app slot ordinal ends = refl
-down_full (queue.Rx k) i j app slot ordinal ends = refl
+down_full : (q : QueueId) (i j : ItemShown) (app slot : ℕ) → delivered_by app slot (op.Push q i) (answer.Full j) ≡ []
+down_full queue.Inbox i j app slot = refl
+down_full (queue.Up k) i j app slot = refl
+down_full (queue.Down k) (item.Packet mark b) j app slot = refl
+down_full (queue.Down k) (item.Frame frame) j app slot = refl
+down_full (queue.Down k) (item.Note n) j app slot = refl
+down_full (queue.Out k) i j app slot = refl
+down_full (queue.Tx k) i j app slot = refl
+down_full (queue.Rx k) i j app slot = refl
 
 quiet_full : (q : QueueId) (i j : ItemShown) (es : List Event) → IsQuiet (op.Push q i) (answer.Full j) es
-quiet_full q i j es = record { free = free_full q i j; sent = λ app s o ends. sent_full q i j app s o ends es; down = down_full q i j }
+quiet_full q i j es = record { free = free_full q i j; sent = λ app s. sent_full q i j app s es; down = down_full q i j }
 
 -- the push of a packet
-quiet_pushed : (q : QueueId) (mark : ℕ) (b : Content) (es : List Event) → ((app slot ordinal : ℕ) (ends : Ends) → delivered_by app slot ordinal ends (op.Push q (item.Packet mark b)) answer.Pushed ≡ []) → IsQuiet (op.Push q (item.Packet mark b)) answer.Pushed es
-quiet_pushed q mark b es none = record { free = λ app. refl; sent = λ app s o ends. refl; down = none }
+quiet_pushed : (q : QueueId) (mark : ℕ) (b : Content) (es : List Event) → ((app slot : ℕ) → delivered_by app slot (op.Push q (item.Packet mark b)) answer.Pushed ≡ []) → IsQuiet (op.Push q (item.Packet mark b)) answer.Pushed es
+quiet_pushed q mark b es none = record { free = λ app s. refl; sent = λ app s. refl; down = none }
 
 down_entry : (app slot : ℕ) (b : Content) (es : List Event) (h : Past) → with_openings es (down_on app slot b.payload h) ≡ past_after (op.Push (queue.Down app) (item.Packet slot b)) answer.Pushed es h
 down_entry app slot b es h =
     past_same (with_openings es (down_on app slot b.payload h)) (past_after (op.Push (queue.Down app) (item.Packet slot b)) answer.Pushed es h)
-    (λ a. refl) (λ a s o. sym (append-nil _)) (λ a s o. refl) (λ a s. refl)
+    (λ a. refl) (λ a s o. sym (append-nil _) ∙ ap (λ xs. h.sent a s o ++ xs) (none_on (h.ends a s == o) [] refl)) (λ a s o. refl) (λ a s. refl)
 
 -- the push of an answer
-quiet_answer : (app : ℕ) (n : Note) → ((a : ℕ) → told_free a (noted.Pushed (queue.Down app) n) ≡ None) → IsQuiet (op.Push (queue.Down app) (item.Note n)) answer.Pushed []
-quiet_answer app n none = record { free = none; sent = λ a s o ends. refl; down = λ a s o ends. refl }
+quiet_answer : (app : ℕ) (n : Note) → ((a s : ℕ) → frees way.Sent a s (noted.Pushed (queue.Down app) n) ≡ false) → IsQuiet (op.Push (queue.Down app) (item.Note n)) answer.Pushed []
+quiet_answer app n none = record { free = none; sent = λ a s. refl; down = λ a s. refl }
 
 freed_entry : (app slot : ℕ) (h : Past) → freed_on app slot h ≡ past_after (op.Push (queue.Down app) (item.Note (note.Closed slot))) answer.Pushed [] h
 freed_entry app slot h =
     past_same (freed_on app slot h) (past_after (op.Push (queue.Down app) (item.Note (note.Closed slot))) answer.Pushed [] h)
-    (λ a. sym (append-nil _)) (λ a s o. sym (append-nil _)) (λ a s o. sym (append-nil _)) (λ a s. refl)
+    (λ a. sym (append-nil _)) (λ a s o. sym (append-nil _) ∙ ap (λ xs. h.sent a s o ++ xs) (none_on (h.ends a s == o) [] refl))
+    (λ a s o. sym (append-nil _) ∙ ap (λ xs. h.down a s o ++ xs) (none_on (h.ends a s == o) [] refl)) (λ a s. refl)
 
 module _ (g : Aim) (f : Facts) (whole : Past) (k : IsAim g f whole) where
   abbrev after_told : State → ℕ → Plan → AnswerShown → Told
@@ -168,11 +169,11 @@ module _ (g : Aim) (f : Facts) (whole : Past) (k : IsAim g f whole) where
 
   push_so : (q : QueueId) (mark : ℕ) (b : Content) (h : Past) (p : PlainPorts) (w : Stands g f h p (Some (record { queue = q; mark = mark; buffer = b })))
       → Stands g f (past_after (op.Push q (item.Packet mark b)) answer.Pushed [] h) p None × PushedSo g (op.Push q (item.Packet mark b)) answer.Pushed
-  push_so queue.Inbox mark b h p w = (unmoved (op.Push queue.Inbox (item.Packet mark b)) answer.Pushed h p None (quiet_pushed queue.Inbox mark b [] (λ a s o ends. refl)) (no_out h p _ w), w.out)
-  push_so (queue.Out x) mark b h p w = (unmoved (op.Push (queue.Out x) (item.Packet mark b)) answer.Pushed h p None (quiet_pushed (queue.Out x) mark b [] (λ a s o ends. refl)) (no_out h p _ w), w.out)
-  push_so (queue.Up x) mark b h p w = (unmoved (op.Push (queue.Up x) (item.Packet mark b)) answer.Pushed h p None (quiet_pushed (queue.Up x) mark b [] (λ a s o ends. refl)) (no_out h p _ w), tt)
-  push_so (queue.Tx x) mark b h p w = (unmoved (op.Push (queue.Tx x) (item.Packet mark b)) answer.Pushed h p None (quiet_pushed (queue.Tx x) mark b [] (λ a s o ends. refl)) (no_out h p _ w), tt)
-  push_so (queue.Rx x) mark b h p w = (unmoved (op.Push (queue.Rx x) (item.Packet mark b)) answer.Pushed h p None (quiet_pushed (queue.Rx x) mark b [] (λ a s o ends. refl)) (no_out h p _ w), tt)
+  push_so queue.Inbox mark b h p w = (unmoved (op.Push queue.Inbox (item.Packet mark b)) answer.Pushed h p None (quiet_pushed queue.Inbox mark b [] (λ a s. refl)) (no_out h p _ w), w.out)
+  push_so (queue.Out x) mark b h p w = (unmoved (op.Push (queue.Out x) (item.Packet mark b)) answer.Pushed h p None (quiet_pushed (queue.Out x) mark b [] (λ a s. refl)) (no_out h p _ w), w.out)
+  push_so (queue.Up x) mark b h p w = (unmoved (op.Push (queue.Up x) (item.Packet mark b)) answer.Pushed h p None (quiet_pushed (queue.Up x) mark b [] (λ a s. refl)) (no_out h p _ w), tt)
+  push_so (queue.Tx x) mark b h p w = (unmoved (op.Push (queue.Tx x) (item.Packet mark b)) answer.Pushed h p None (quiet_pushed (queue.Tx x) mark b [] (λ a s. refl)) (no_out h p _ w), tt)
+  push_so (queue.Rx x) mark b h p w = (unmoved (op.Push (queue.Rx x) (item.Packet mark b)) answer.Pushed h p None (quiet_pushed (queue.Rx x) mark b [] (λ a s. refl)) (no_out h p _ w), tt)
   push_so (queue.Down app) mark b h p w = (
     subst (λ x. Stands g f x p None) (no_openings (down_on app mark b.payload h) ∙ down_entry app mark b [] h) (record {
       numbering = w.numbering;
@@ -224,15 +225,15 @@ module _ (g : Aim) (f : Facts) (whole : Past) (k : IsAim g f whole) where
   turn_hear : (h : Past) (s : State) (time : ℕ) (a : AnswerShown) → Stands g f h s.ports s.out → Turns h s time plan.Hear a
   turn_hear h s time (answer.Popped (item.Packet mark b)) w = λ fits comes hears part fresh.
       let t = heard f (came_in (at_rest (asked_by f s plan.Hear)) mark b) time (arrival mark b) in (
-        quietly (op.Pop queue.Inbox) (answer.Popped (item.Packet mark b)) h t (record { free = λ app. refl; sent = λ app x o ends. refl; down = λ app x o ends. refl })
+        quietly (op.Pop queue.Inbox) (answer.Popped (item.Packet mark b)) h t (record { free = λ app s. refl; sent = λ app s. refl; down = λ app s. refl })
             (stands_heard g f whole k h (came_in (at_rest (asked_by f s plan.Hear)) mark b) time mark b answered_mute hears w) fresh,
         tt,
       )
   turn_hear h s time (answer.Popped (item.Frame frame)) w = λ fits comes hears part fresh.
-      (unmoved (op.Pop queue.Inbox) (answer.Popped (item.Frame frame)) h s.ports s.out (record { free = λ app. refl; sent = λ app x o ends. refl; down = λ app x o ends. refl }) w, tt)
+      (unmoved (op.Pop queue.Inbox) (answer.Popped (item.Frame frame)) h s.ports s.out (record { free = λ app s. refl; sent = λ app s. refl; down = λ app s. refl }) w, tt)
   turn_hear h s time (answer.Popped (item.Note n)) w = λ fits comes hears part fresh.
-      (unmoved (op.Pop queue.Inbox) (answer.Popped (item.Note n)) h s.ports s.out (record { free = λ app. refl; sent = λ app x o ends. refl; down = λ app x o ends. refl }) w, tt)
-  turn_hear h s time answer.Empty w = λ fits comes hears part fresh. (unmoved (op.Pop queue.Inbox) answer.Empty h s.ports s.out (record { free = λ app. refl; sent = λ app x o ends. refl; down = λ app x o ends. refl }) w, tt)
+      (unmoved (op.Pop queue.Inbox) (answer.Popped (item.Note n)) h s.ports s.out (record { free = λ app s. refl; sent = λ app s. refl; down = λ app s. refl }) w, tt)
+  turn_hear h s time answer.Empty w = λ fits comes hears part fresh. (unmoved (op.Pop queue.Inbox) answer.Empty h s.ports s.out (record { free = λ app s. refl; sent = λ app s. refl; down = λ app s. refl }) w, tt)
   turn_hear h s time a w = λ fits comes hears part fresh. absurd fits
 
   -- ---- an item of an application
@@ -240,11 +241,11 @@ module _ (g : Aim) (f : Facts) (whole : Past) (k : IsAim g f whole) where
   turn_serve app h s time (answer.Popped i) few free empty w = λ fits comes hears part fresh.
       (stands_served g f whole k i h (at_rest (asked_by f s (plan.Serve app))) app time (subst (λ n. app < n) (sym w.apps) few) comes.0 comes.1 free empty w fresh, tt)
   turn_serve app h s time answer.Empty few free empty w = λ fits comes hears part fresh.
-      (unmoved (op.Pop (queue.Up app)) answer.Empty h s.ports s.out (record { free = λ a. refl; sent = λ a x o ends. refl; down = λ a x o ends. refl }) w, tt)
+      (unmoved (op.Pop (queue.Up app)) answer.Empty h s.ports s.out (record { free = λ a s. refl; sent = λ a s. refl; down = λ a s. refl }) w, tt)
   turn_serve app h s time a few free empty w = λ fits comes hears part fresh. absurd fits
 
   -- ---- an answer that is owed
-  plain_answer : (app : ℕ) (n : Note) (c : Came) (h : Past) (p : PlainPorts) (o : Option Leaving) (w : Stands g f h p o) → ((a : ℕ) → told_free a (noted.Pushed (queue.Down app) n) ≡ None) → c.ports.conns.apps ≡ p.conns.apps
+  plain_answer : (app : ℕ) (n : Note) (c : Came) (h : Past) (p : PlainPorts) (o : Option Leaving) (w : Stands g f h p o) → ((a s : ℕ) → frees way.Sent a s (noted.Pushed (queue.Down app) n) ≡ false) → c.ports.conns.apps ≡ p.conns.apps
       → AreGood g.is w.numbering h.ends w.books c.ports → Stands g f (past_after (op.Push (queue.Down app) (item.Note n)) answer.Pushed [] h) c.ports o
   plain_answer app n c h p o w none same good =
       unmoved (op.Push (queue.Down app) (item.Note n)) answer.Pushed h c.ports o (quiet_answer app n none) (record { numbering = w.numbering; books = w.books; good = good; tells = w.tells; apps = same ∙ w.apps; out = w.out })
@@ -260,10 +261,10 @@ module _ (g : Aim) (f : Facts) (whole : Past) (k : IsAim g f whole) where
         apps = a.same ∙ w.apps;
         out = tt;
       })
-  answered_so note.Bound app c h p w few reply a = plain_answer app note.Bound c h p None w (λ x. refl) a.same a.good
-  answered_so (note.Connected slot) app c h p w few reply a = plain_answer app (note.Connected slot) c h p None w (λ x. refl) a.same a.good
-  answered_so (note.Refused reason) app c h p w few reply a = plain_answer app (note.Refused reason) c h p None w (λ x. refl) a.same a.good
-  answered_so (note.Down slot) app c h p w few reply a = plain_answer app (note.Down slot) c h p None w (λ x. refl) a.same a.good
+  answered_so note.Bound app c h p w few reply a = plain_answer app note.Bound c h p None w (λ x s. refl) a.same a.good
+  answered_so (note.Connected slot) app c h p w few reply a = plain_answer app (note.Connected slot) c h p None w (λ x s. refl) a.same a.good
+  answered_so (note.Refused reason) app c h p w few reply a = plain_answer app (note.Refused reason) c h p None w (λ x s. refl) a.same a.good
+  answered_so (note.Down slot) app c h p w few reply a = plain_answer app (note.Down slot) c h p None w (λ x s. refl) a.same a.good
   answered_so (note.Bind port need) app c h p w few reply a = absurd reply
   answered_so (note.Connect slot dest port prio flags from) app c h p w few reply a = absurd reply
   answered_so (note.Close slot) app c h p w few reply a = absurd reply
@@ -304,7 +305,7 @@ module _ (g : Aim) (f : Facts) (whole : Past) (k : IsAim g f whole) where
   turn_tell : (app slot : ℕ) (h : Past) (s : State) (time : ℕ) (a : AnswerShown) → Stands g f h s.ports s.out → Turns h s time (plan.Tell app slot) a
   turn_tell app slot h s time answer.Pushed w = λ fits comes hears part fresh.
       let v = turned_stands app slot h s.ports s.out w in (
-        unmoved (op.Push (queue.Down app) (item.Note (note.Down slot))) answer.Pushed h (told_down app slot (turned app slot s.ports)) s.out (quiet_answer app (note.Down slot) (λ x. refl))
+        unmoved (op.Push (queue.Down app) (item.Note (note.Down slot))) answer.Pushed h (told_down app slot (turned app slot s.ports)) s.out (quiet_answer app (note.Down slot) (λ x s. refl))
             (record { numbering = v.numbering; books = v.books; good = k.ports.tells v.numbering h.ends v.books (turned app slot s.ports) app slot v.good; tells = v.tells; apps = v.apps; out = v.out }),
         tt,
       )

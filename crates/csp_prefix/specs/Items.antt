@@ -12,7 +12,7 @@ payload_by slot ordinal ends (item.Note _) = []
 
 -- how many there are after it
 abbrev pub ends_by : ℕ → ℕ → ItemShown → ℕ
-ends_by slot ends (item.Note (note.Closed freed)) = (if slot == freed then ends + 1 else ends)
+ends_by slot ends (item.Note (note.Closed freed)) = (if freed == slot then ends + 1 else ends)
 ends_by slot ends _ = ends
 
 -- the payloads of a slot and an ordinal among items, after so many ends of the slot

@@ -1,5 +1,5 @@
 -- What a log's entries tell of connections, one entry after the other.
-use Rattle.std.proofs.Common.{◌≡◌, ℕ, zero, suc, ◌+◌, ◌≤◌, Bool, true, false, cond, ◌&&◌, eqb, Option, None, Some, List, [], ◌∷◌, ◌++◌, refl, sym, ap, ◌∙◌, drop, add-one, append-nil, append_assoc, unwrap_or, replicate, arith}
+use Rattle.std.proofs.Common.{◌≡◌, ℕ, zero, suc, ◌+◌, ◌≤◌, Bool, true, false, cond, ◌&&◌, eqb, Option, None, Some, List, [], ◌∷◌, ◌++◌, refl, sym, ap, ◌∙◌, drop, add-one, append-nil, append_assoc, unwrap_or, replicate, get_or, arith}
 use Rattle.std.proofs.lemmas.Bool.{eqb-true, or_parts}
 use Rattle.std.proofs.lemmas.Bool.Decides.{nat_tests}
 use Rattle.std.proofs.lemmas.List.Folds.{list_any-append}
@@ -10,17 +10,22 @@ use Rattle.std.specs.Option.{option_map, option_map_or}
 use Rattle.std.specs.Ordering.{nat_cmp, ordering_then, is_eq}
 use Rattle.std.specs.declared.cmp.Ordering.{Ordering}
 use Rattle.std.specs.declared.cmp.Ordering.TheVariants.{Less, Equal, Greater}
+use Rattle.csp_log.specs.Moving.{moved_in}
 use Rattle.csp_log.specs.Noting.{noted_in}
 use Rattle.csp_log.specs.PlainLog.{all_events}
 use Rattle.csp_log.specs.declared.entry.Entry.{Entry}
 use Rattle.csp_log.specs.declared.event.Event.{Event}
 use Rattle.csp_log.specs.declared.event.Event.TheVariants as event
+use Rattle.csp_log.specs.declared.moved.Moved.{Moved}
 use Rattle.csp_log.specs.declared.noted.Noted.{Noted}
 use Rattle.csp_log.specs.declared.noted.Noted.TheVariants as noted
-use Rattle.csp_record.specs.Connections.{is_opened, opened_by, openings_after}
-use Rattle.csp_record.specs.Ends.{Ends, no_ends, ended, counted, freed_by, told_free}
+use Rattle.csp_record.specs.Connections.{is_opened, opened_by}
+use Rattle.csp_record.specs.Ordinals.{frees}
+use Rattle.csp_record.specs.Payloads.{carried, is_on, payloads_in, told_on}
 use Rattle.csp_record.specs.declared.payloads.Way.{Way}
+use Rattle.csp_record.specs.declared.payloads.Way.TheVariants as way
 use Rattle.csp_record.specs.Traffic.{pair_cmp, payloads_on, Gains}
+use Rattle.csp_record.proofs.Ordinals.{Ends, ended, openings_after, told_after}
 
 abbrev Table : Type 0
 Table = BTreeMap (ℕ × ℕ) (List (List ℕ))
@@ -64,44 +69,63 @@ Gains-one old mid new slot ordinal payload list is out in' = λ s o. by s o (eqb
         ∙ out (s, o) ∙ ap (λ b. cond b None (tree.get pair_cmp old (s, o))) (key-is slot ordinal s o ∙ h))
         ∙ sym (append-nil (payloads_on old.entries s o))
 
--- counts of nothing are no ends
-pub counted-none : (n : ℕ) → counted (replicate n 0) ≡ no_ends
-counted-none n = λ i slot. zeros n slot i
+-- counts of nothing are none
+pub counted-none : (n slot : ℕ) → ◌≡◌ {A = ℕ} (get_or (replicate n 0) slot 0) 0
+counted-none zero slot = refl
+counted-none (suc n) zero = refl
+counted-none (suc n) (suc slot) = counted-none n slot
+
+-- events tell of a connection where its slot has its ordinal
+pub told-on : {X Y : Type 0} (test : X → Bool) (here : Bool) (y : Y) (xs : List X) → flat_map (λ x. cond (test x && here) (y ∷ []) []) xs ≡ cond here (flat_map (λ x. cond (test x) (y ∷ []) []) xs) []
+told-on test true y [] = refl
+told-on test false y [] = refl
+told-on {X} {Y} test here y (x ∷ xs) = by here (test x) (told-on test here y xs)
   where
-    zeros : (n slot : ℕ) → counted (replicate n 0) slot ≡ no_ends slot
-    zeros zero slot = refl
-    zeros (suc n) zero = refl
-    zeros (suc n) (suc slot) = zeros n slot
+    by : (here b : Bool) → flat_map (λ x. cond (test x && here) (y ∷ []) []) xs ≡ cond here (flat_map (λ x. cond (test x) (y ∷ []) []) xs) []
+        → cond (b && here) (y ∷ []) [] ++ flat_map (λ x. cond (test x && here) (y ∷ []) []) xs ≡ cond here (cond b (y ∷ []) [] ++ flat_map (λ x. cond (test x) (y ∷ []) []) xs) []
+    by true true rest = ap (λ (ys : List Y). y ∷ ys) rest
+    by true false rest = rest
+    by false true rest = rest
+    by false false rest = rest
+
+-- what an entry tells that popped this payload
+pub entry-told : (which : Way) (app s o : ℕ) (counts : List ℕ) (found : Option Entry) (moved : Moved) (events : List Event) (payload : List ℕ)
+    → option_map moved_in found ≡ Some moved → option_map (λ e. e.events.items) found ≡ Some events → Some payload ≡ carried which app moved
+    → flat_map (λ e. cond (is_on which s e && eqb (get_or counts s 0) o) (payload ∷ []) []) events ≡ option_map_or (λ e. cond (eqb (get_or counts s 0) o) (payloads_in which app s e) []) found []
+entry-told which app s o counts None moved events payload is tells brings = cc
+entry-told which app s o counts (Some e) moved events payload is tells brings =
+    let here : Bool = eqb (get_or counts s 0) o in
+    let same : e.events.items ≡ events = ap (λ (x : Option (List Event)). unwrap_or x events) tells in
+    let moves : moved_in e ≡ moved = ap (λ (x : Option Moved). unwrap_or x moved) is in
+    told-on (is_on which s) here payload events
+    ∙ ap (λ ps. cond here ps []) (ap (told_on which s events) brings ∙ (λ i. told_on which s (sym same i) (carried which app (sym moves i))))
 
 -- with one entry more, each slot has at most one end more
-pub ended-few : (freed : Option ℕ) (ends more : Ends) (most : ℕ) → more ≡ ended freed ends → ((slot : ℕ) → ends slot ≤ most) → (slot : ℕ) → more slot ≤ most + 1
-ended-few freed ends more most is few slot = rw (is) (by freed)
+pub ended-few : (which : Way) (app : ℕ) (note : Noted) (ends more : Ends) (most : ℕ) → ((slot : ℕ) → more slot ≡ ended which app note ends slot) → ((slot : ℕ) → ends slot ≤ most) → (slot : ℕ) → more slot ≤ most + 1
+ended-few which app note ends more most is few slot = rw (is slot) (one (frees which app slot note))
   where
     one : (b : Bool) → cond b (ends slot + 1) (ends slot) ≤ most + 1
     one true = omega (arith, few slot)
     one false = omega (arith, few slot)
 
-    by : (freed : Option ℕ) → ended freed ends slot ≤ most + 1
-    by None = omega (arith, few slot)
-    by (Some other) = one (eqb slot other)
-
 -- what is told entry by entry, where the ends before each entry decide
-module _ {Y : Type 0} (which : Way) (app : ℕ) (told : Ends → Entry → List Y) (after : Ends → List Entry → List Y)
-    (after-cons : (ends : Ends) (e : Entry) (entries : List Entry) → after ends (e ∷ entries) ≡ told ends e ++ after (ended (freed_by which app (noted_in e)) ends) entries) where
+module _ {Y : Type 0} (which : Way) (app : ℕ) (told : Ends → Entry → List Y) where
   from_next : (ends : Ends) (entries : List Entry) (k : ℕ) (note : Noted) → option_map noted_in (slice_get entries k) ≡ Some note
-      → after ends (drop k entries) ≡ option_map_or (told ends) (slice_get entries k) [] ++ after (ended (freed_by which app note) ends) (drop (suc k) entries)
+      → told_after which app told ends (drop k entries) ≡ option_map_or (told ends) (slice_get entries k) [] ++ told_after which app told (ended which app note ends) (drop (suc k) entries)
   from_next ends [] k note is = cc
-  from_next ends (e ∷ entries) zero note is =
-      after-cons ends e entries ∙ ap (λ n. told ends e ++ after (ended (freed_by which app n) ends) entries) (ap (λ o. unwrap_or o noted.NoNote) is)
+  from_next ends (e ∷ entries) zero note is = ap (λ n. told ends e ++ told_after which app told (ended which app n ends) entries) (ap (λ o. unwrap_or o noted.NoNote) is)
   from_next ends (e ∷ entries) (suc k) note is = from_next ends entries k note is
 
   -- what was told so far with what the next entry tells, and then what is still to come
-  pub told-next : (ends more_ends : Ends) (entries : List Entry) (k : ℕ) (note : Noted) (so_far here whole : List Y)
-      → option_map noted_in (slice_get entries k) ≡ Some note → more_ends ≡ ended (freed_by which app note) ends → here ≡ option_map_or (told ends) (slice_get entries k) []
-      → so_far ++ after ends (drop k entries) ≡ whole → (so_far ++ here) ++ after more_ends (drop (k + 1) entries) ≡ whole
-  told-next ends more_ends entries k note so_far here whole is more tells before =
-      rw (more, tells, add-one k)
-      (append_assoc so_far (option_map_or (told ends) (slice_get entries k) []) (after (ended (freed_by which app note) ends) (drop (suc k) entries))
+  pub told-next : (ends more : Ends) (entries : List Entry) (k : ℕ) (note : Noted) (so_far here whole : List Y)
+      → option_map noted_in (slice_get entries k) ≡ Some note → ((slot : ℕ) → more slot ≡ ended which app note ends slot) → here ≡ option_map_or (told ends) (slice_get entries k) []
+      → so_far ++ told_after which app told ends (drop k entries) ≡ whole → (so_far ++ here) ++ told_after which app told more (drop (k + 1) entries) ≡ whole
+  told-next ends more entries k note so_far here whole is freed tells before =
+      let later : told_after which app told more (drop (suc k) entries) ≡ told_after which app told (ended which app note ends) (drop (suc k) entries) =
+      λ i. told_after which app told (λ slot. freed slot i) (drop (suc k) entries) in
+      rw (tells, add-one k)
+      (append_assoc so_far (option_map_or (told ends) (slice_get entries k) []) (told_after which app told more (drop (suc k) entries))
+      ∙ ap (λ rest. so_far ++ (option_map_or (told ends) (slice_get entries k) [] ++ rest)) later
       ∙ ap (λ t. so_far ++ t) (sym (from_next ends entries k note is)) ∙ before)
 
 -- what the events of an entry tell
@@ -120,4 +144,4 @@ pub none-opened : (app : ℕ) (ends : Ends) (entries : List Entry) → list_any 
 none-opened app ends [] none = refl
 none-opened app ends (e ∷ entries) none =
     let parts = or_parts (list_any is_opened e.events.items) (list_any is_opened (all_events entries)) (sym (list_any-append is_opened e.events.items (all_events entries)) ∙ none) in
-    rw (none_told app ends e.events.items parts.0) (none-opened app (ended (told_free app (noted_in e)) ends) entries parts.1)
+    rw (none_told app ends e.events.items parts.0) (none-opened app (ended way.Sent app (noted_in e) ends) entries parts.1)

@@ -1,4 +1,5 @@
 mod Counting
 mod Gaining
+pub mod Ordinals
 pub mod Passing
 mod Tables

@@ -1,21 +1,22 @@
 -- What is read of a log where its reader passes over idle entries.
-use Rattle.std.proofs.Common.{◌≡◌, ℕ, zero, suc, ◌+◌, ◌-◌, ◌≤◌, cond, Option, None, List, [], ◌∷◌, ◌++◌, refl, sym, ap, ◌∙◌, drop, take, append-nil, append_assoc, arith}
+use Rattle.std.proofs.Common.{◌≡◌, ℕ, zero, suc, ◌+◌, ◌-◌, ◌≤◌, ◌==◌, Bool, true, false, cond, Option, None, List, [], ◌∷◌, ◌++◌, refl, sym, ap, ◌∙◌, drop, take, append-nil, append_assoc, arith}
 use Rattle.std.proofs.lemmas.List.Elements.{All-head, All-tail, filter_map-append}
 use Rattle.std.proofs.lemmas.List.Folds.{drop_split}
 use Rattle.std.specs.List.{flat_map, filter_map, cons_option, list_any}
-use Rattle.std.specs.Prelude.{All, slice_range}
+use Rattle.std.specs.Prelude.{All, slice_range, if◌then◌else◌}
 use Rattle.csp_log.specs.Idling.{IsIdle}
 use Rattle.csp_log.specs.Moving.{moved_in}
 use Rattle.csp_log.specs.Noting.{noted_in}
 use Rattle.csp_log.specs.declared.entry.Entry.{Entry}
 use Rattle.csp_log.specs.declared.noted.Noted.TheVariants as noted
-use Rattle.csp_record.specs.Connections.{opened_by, openings_after}
-use Rattle.csp_record.specs.Ends.{Ends, ended, freed_by}
+use Rattle.csp_record.specs.Connections.{opened_by}
+use Rattle.csp_record.specs.Ordinals.{frees}
 use Rattle.csp_record.specs.Passed.{put_in}
-use Rattle.csp_record.specs.Payloads.{carried, told_on, payloads_after}
+use Rattle.csp_record.specs.Payloads.{carried, told_on}
 use Rattle.csp_record.specs.Transmissions.{fetched, is_beginning, shown_in}
 use Rattle.csp_record.specs.declared.payloads.Way.{Way}
 use Rattle.csp_record.specs.declared.payloads.Way.TheVariants as way
+use Rattle.csp_record.proofs.Ordinals.{Ends, ended, openings_after, payloads_after, told_after}
 
 -- where elements that give nothing are passed over, what the rest gives stays
 pub dropped-over : {X A : Type 0} (P : X → Type 0) (f : List X → A) → ((x : X) (xs : List X) → P x → f (x ∷ xs) ≡ f xs)
@@ -59,23 +60,27 @@ put-nothing e idle = ap put_in idle.moved
 pub shown-nothing : (serial : ℕ) (e : Entry) → IsIdle e → shown_in serial e ≡ None
 shown-nothing serial e idle = ap (λ events. cond (list_any (is_beginning serial) events) (fetched (moved_in e)) None) idle.told
 
--- it frees no slot
-freed-nothing : (which : Way) (app : ℕ) → freed_by which app noted.NoNote ≡ None
-freed-nothing way.Sent app = refl
-freed-nothing way.Took app = refl
+-- it frees no slot, and tells of no payload and of no opening
+frees-nothing : (which : Way) (app slot : ℕ) → frees which app slot noted.NoNote ≡ false
+frees-nothing way.Sent app slot = refl
+frees-nothing way.Took app slot = refl
 
-ends-stay : (which : Way) (app : ℕ) (ends : Ends) (e : Entry) → IsIdle e → ended (freed_by which app (noted_in e)) ends ≡ ends
-ends-stay which app ends e idle = ap (λ n. ended (freed_by which app n) ends) idle.noted ∙ ap (λ o. ended o ends) (freed-nothing which app)
+ends-stay : (which : Way) (app : ℕ) (ends : Ends) (e : Entry) → IsIdle e → (slot : ℕ) → ended which app (noted_in e) ends slot ≡ ends slot
+ends-stay which app ends e idle slot = ap (λ n. ended which app n ends slot) idle.noted ∙ ap (λ b. cond b (ends slot + 1) (ends slot)) (frees-nothing which app slot)
 
--- it tells of no payload and of no opening
+told-over : {Y : Type 0} (which : Way) (app : ℕ) (told : Ends → Entry → List Y) → ((ends : Ends) (e : Entry) → IsIdle e → told ends e ≡ []) → (ends : Ends) (entries : List Entry) (i j : ℕ) → i ≤ j → All IsIdle (slice_range entries i j)
+    → told_after which app told ends (drop i entries) ≡ told_after which app told ends (drop j entries)
+told-over which app told none ends = dropped-over IsIdle (told_after which app told ends) (λ e entries idle.
+    ap (λ here. here ++ told_after which app told (ended which app (noted_in e) ends) entries) (none ends e idle) ∙ (λ i. told_after which app told (λ slot. ends-stay which app ends e idle slot i) entries))
+
 pub payloads-over : (which : Way) (app slot ordinal : ℕ) (ends : Ends) (entries : List Entry) (i j : ℕ) → i ≤ j → All IsIdle (slice_range entries i j)
     → payloads_after which app slot ordinal ends (drop i entries) ≡ payloads_after which app slot ordinal ends (drop j entries)
-payloads-over which app slot ordinal ends = dropped-over IsIdle (payloads_after which app slot ordinal ends) (λ e entries idle.
-    ap (λ moved. told_on which slot ordinal ends e.events.items (carried which app moved) ++ payloads_after which app slot ordinal (ended (freed_by which app (noted_in e)) ends) entries) idle.moved
-    ∙ ap (λ more. payloads_after which app slot ordinal more entries) (ends-stay which app ends e idle))
+payloads-over which app slot ordinal = told-over which app _ (λ ends e idle. ap (λ moved. if ends slot == ordinal then told_on which slot e.events.items (carried which app moved) else []) idle.moved ∙ in_either (ends slot == ordinal))
+  where
+    in_either : (b : Bool) → cond {A = List (List ℕ)} b [] [] ≡ []
+    in_either true = refl
+    in_either false = refl
 
 pub openings-over : (app : ℕ) (ends : Ends) (entries : List Entry) (i j : ℕ) → i ≤ j → All IsIdle (slice_range entries i j)
     → openings_after app ends (drop i entries) ≡ openings_after app ends (drop j entries)
-openings-over app ends = dropped-over IsIdle (openings_after app ends) (λ e entries idle.
-    ap (λ events. flat_map (opened_by app ends) events ++ openings_after app (ended (freed_by way.Sent app (noted_in e)) ends) entries) idle.told
-    ∙ ap (λ more. openings_after app more entries) (ends-stay way.Sent app ends e idle))
+openings-over app = told-over way.Sent app _ (λ ends e idle. ap (λ events. flat_map (opened_by app ends) events) idle.told)

@@ -1,5 +1,5 @@
 pub mod Connections
-pub mod Ends
+pub mod Ordinals
 pub mod Passed
 pub mod Payloads
 pub mod Record

@@ -1,12 +1,10 @@
 //! The connections of an application that became open, as its router's log tells of them.
 
-ghost use Rattle.std.specs.Prelude.{◌≡◌, ◌++◌, ◌<◌, [], length, slice_get, OnOk, IfOk};
+ghost use Rattle.std.specs.Prelude.{◌≡◌, ◌++◌, ◌<◌, [], get_or, length, slice_get, OnOk, IfOk};
 ghost use Rattle.std.specs.List.{flat_map, list_any};
 ghost use Rattle.std.specs.Option.{option_map_or};
-ghost use Rattle.csp_log.specs.Noting.{noted_in};
 ghost use Rattle.csp_log.specs.PlainLog.{all_events};
 ghost use Rattle.csp_record.specs.Connections.{is_opened, opened_by, openings};
-ghost use Rattle.csp_record.specs.Ends.{counted};
 
 use crate::ends::Ends;
 use crate::payloads::Way;
@@ -47,7 +45,7 @@ fn add_opening(
     ends: &Ends,
     event: Event,
 ) -> Result<(), AllocError>
-    ensures { OnOk result (list.new.items ≡ list.old.items ++ opened_by app (counted ends.now) event) }
+    ensures { OnOk result (list.new.items ≡ list.old.items ++ opened_by app (λ slot. get_or ends.now slot 0) event) }
 {
     match event {
         Event::Opened {
@@ -75,7 +73,7 @@ fn add_openings(
     ends: &Ends,
     events: &[Event],
 ) -> Result<(), AllocError>
-    ensures { OnOk result (list.new.items ≡ list.old.items ++ flat_map (opened_by app (counted ends.now)) events.now) }
+    ensures { OnOk result (list.new.items ≡ list.old.items ++ flat_map (opened_by app (λ slot. get_or ends.now slot 0)) events.now) }
 {
     for event in events {
         add_opening(list, app, ends, *event)?;

@@ -1,7 +1,8 @@
 //! How often each slot of an application was freed, counted along a log.
 
-ghost use Rattle.std.specs.Prelude.{◌≡◌, ℕ, ◌-◌, ◌^◌, ◌<◌};
-ghost use Rattle.csp_record.specs.Ends.{no_ends, ended, freed_by, counted};
+ghost use Rattle.std.specs.Prelude.{◌≡◌, ◌==◌, ℕ, ◌+◌, ◌-◌, ◌^◌, ◌<◌, false, get_or, if◌then◌else◌};
+ghost use Rattle.std.specs.Option.{option_map_or};
+ghost use Rattle.csp_record.specs.Ordinals.{frees};
 
 use crate::payloads::Way;
 use csp_log::{Note, Noted, QueueId};
@@ -11,6 +12,7 @@ use std::marker::Model;
 const SLOT_NUMBERS: usize = 256;
 
 /// The number of Closed answers so far for each slot, which is the ordinal of its present or next connection.
+/// Contracts see the numbers of slots in their order.
 #[derive(Drop)]
 pub(crate) struct Ends {
     counts: [u64; SLOT_NUMBERS],
@@ -27,7 +29,7 @@ impl Model for Ends {
 impl Ends {
     /// No slot was freed.
     pub(crate) fn none() -> Ends
-        ensures { counted result ≡ no_ends }
+        ensures { (slot : ℕ) → get_or result slot 0 ≡ 0 }
     {
         Ends {
             counts: [0; SLOT_NUMBERS],
@@ -36,7 +38,7 @@ impl Ends {
 
     /// How often this slot was freed.
     pub(crate) fn of(&self, slot: u8) -> u64
-        ensures { result ≡ counted self.now slot }
+        ensures { result ≡ get_or self.now slot 0 }
     {
         self.counts[usize::from(slot)]
     }
@@ -44,8 +46,8 @@ impl Ends {
     /// Counts the Closed answer to this application that was moved, if one was: pushed, in a router's log, or
     /// popped, in the application's own.
     pub(crate) fn note(&mut self, way: Way, app: usize, noted: Noted)
-        requires { (slot : ℕ) → counted self.old slot < 2 ^ 64 - 1 }
-        ensures { counted self.new ≡ ended (freed_by way app noted) (counted self.old) }
+        requires { (slot : ℕ) → get_or self.old slot 0 < 2 ^ 64 - 1 }
+        ensures { (slot : ℕ) → get_or self.new slot 0 ≡ (if frees way app slot noted then get_or self.old slot 0 + 1 else get_or self.old slot 0) }
     {
         if let Some(slot) = freed(way, app, noted) {
             self.counts[usize::from(slot)] += 1;
@@ -55,7 +57,7 @@ impl Ends {
 
 /// The slot of this application for which a Closed answer was moved.
 fn freed(way: Way, app: usize, noted: Noted) -> Option<u8>
-    ensures { result ≡ freed_by way app noted }
+    ensures { (slot : ℕ) → option_map_or (λ freed. freed == slot) result false ≡ frees way app slot noted }
 {
     match (way, noted) {
         (Way::Sent, Noted::Pushed(QueueId::Down(number), Note::Closed { slot }))

@@ -1,10 +1,9 @@
 //! What an application sent and took on its connections, borrowed from a log.
 
-ghost use Rattle.std.specs.Prelude.{◌≡◌, ◌==◌, ◌&&◌, ◌++◌, ◌∷◌, ◌<◌, if◌then◌else◌, ℕ, [], Some, length, slice_get, unwrap_or, OnOk, IfOk};
+ghost use Rattle.std.specs.Prelude.{◌≡◌, ◌==◌, ◌&&◌, ◌++◌, ◌∷◌, ◌<◌, if◌then◌else◌, ℕ, [], get_or, length, slice_get, unwrap_or, OnOk, IfOk};
 ghost use Rattle.std.specs.List.{flat_map};
 ghost use Rattle.std.specs.Option.{option_map, option_map_or};
-ghost use Rattle.csp_record.specs.Ends.{no_ends, counted};
-ghost use Rattle.csp_record.specs.Payloads.{leads, carried, is_on, told_on, payloads_in, payloads_after, sent, took};
+ghost use Rattle.csp_record.specs.Payloads.{leads, carried, is_on, payloads_in, payloads, sent, took};
 ghost use Rattle.csp_record.specs.Traffic.{payloads_on, Gains};
 
 use crate::ends::Ends;
@@ -162,7 +161,7 @@ fn add_event<'a>(
     payload: &'a [u8],
     event: Event,
 ) -> Result<(), AllocError>
-    ensures { OnOk result (Gains table.old.entries table.new.entries (λ s o. if is_on way s o (counted ends.now) event then payload.now ∷ [] else [])) }
+    ensures { OnOk result (Gains table.old.entries table.new.entries (λ s o. if is_on way s event && get_or ends.now s 0 == o then payload.now ∷ [] else [])) }
 {
     match (way, event) {
         (Way::Sent, Event::Sent { slot, .. }) | (Way::Took, Event::Took { slot, .. }) => {
@@ -181,7 +180,7 @@ fn add_told<'a>(
     payload: &'a [u8],
     events: &[Event],
 ) -> Result<(), AllocError>
-    ensures { OnOk result (Gains table.old.entries table.new.entries (λ s o. told_on way s o (counted ends.now) events.now (Some payload.now))) }
+    ensures { OnOk result (Gains table.old.entries table.new.entries (λ s o. flat_map (λ e. if is_on way s e && get_or ends.now s 0 == o then payload.now ∷ [] else []) events.now)) }
 {
     for event in events {
         add_event(alloc, table, ends, way, payload, *event)?;
@@ -200,7 +199,7 @@ fn add_entry<'a>(
     index: u64,
 ) -> Result<(), AllocError>
     requires { index < length log.now.entries }
-    ensures { OnOk result (Gains table.old.entries table.new.entries (λ s o. option_map_or (payloads_in way app s o (counted ends.now)) (slice_get log.now.entries index) [])) }
+    ensures { OnOk result (Gains table.old.entries table.new.entries (λ s o. option_map_or (λ e. if get_or ends.now s 0 == o then payloads_in way app s e else []) (slice_get log.now.entries index) [])) }
 {
     match carried(&log.moved(index), way, app) {
         Some(payload) => add_told(alloc, table, ends, way, payload, log.events(index)),
@@ -215,7 +214,7 @@ fn traffic_of<'a>(
     way: Way,
     app: usize,
 ) -> Result<Traffic<'a>, AllocError>
-    ensures { IfOk result (λ traffic. (slot ordinal : ℕ) → payloads_on traffic slot ordinal ≡ payloads_after way app slot ordinal no_ends log.now.entries) }
+    ensures { IfOk result (λ traffic. (slot ordinal : ℕ) → payloads_on traffic slot ordinal ≡ payloads way app slot ordinal log.now.entries) }
 {
     let mut table = BTreeMap::new(alloc);
     let mut ends = Ends::none();

@@ -17,6 +17,7 @@ use Rattle.csp_report.specs.Conns.{conn_lines}
 use Rattle.csp_report.specs.Events.{all_discards, discard_words, entry_lines, event_lines}
 use Rattle.csp_report.specs.Ifaces.{iface_line}
 use Rattle.csp_report.specs.declared.parties.Seat.TheVariants as seat
+use Rattle.csp_report.specs.declared.places.PlaceKind.{PlaceKind}
 use Rattle.csp_report.specs.declared.places.PlaceKind.TheVariants as kind
 
 -- `csp-report 1`
@@ -32,19 +33,16 @@ abbrev pub name_words : List ℕ → Option ℕ → Line
 name_words name (Some addr) = codes "node" ∷ name ∷ decimal addr ∷ []
 name_words name None = codes "bridge" ∷ name ∷ []
 
--- a node's or bridge's line with these numbers: its name, and then `buffers N free F inbox I lane L router R iface X app A`
-abbrev pub node_words : List ℕ → Option ℕ → ℕ → ℕ → ℕ → ℕ → ℕ → ℕ → ℕ → Line
-node_words name addr buffers free inbox lane router iface app =
+-- a node's or bridge's line, where its places held so many buffers: its name, and then `buffers N free F inbox I lane L router R iface X app A`
+abbrev pub node_words : (name : List ℕ) → (addr : Option ℕ) → (buffers : ℕ) → (held : PlaceKind → ℕ) → Line
+node_words name addr buffers held =
     name_words name addr ++ codes "buffers" ∷ decimal buffers
-    ∷ codes "free" ∷ decimal free ∷ codes "inbox" ∷ decimal inbox ∷ codes "lane" ∷ decimal lane
-    ∷ codes "router" ∷ decimal router ∷ codes "iface" ∷ decimal iface ∷ codes "app" ∷ decimal app ∷ []
+    ∷ codes "free" ∷ decimal (held kind.Pool) ∷ codes "inbox" ∷ decimal (held kind.Inbox) ∷ codes "lane" ∷ decimal (held kind.Lane)
+    ∷ codes "router" ∷ decimal (held kind.Router) ∷ codes "iface" ∷ decimal (held kind.Iface) ∷ codes "app" ∷ decimal (held kind.App) ∷ []
 
 -- the line of the node or bridge at this place: where its buffers were when the run ended
 abbrev pub node_line : PlainRecord → ℕ → PlainNode → Line
-node_line record' place node =
-    let held = held_in record' place in
-    node_words node.name node.addr node.buffers
-    (held kind.Pool) (held kind.Inbox) (held kind.Lane) (held kind.Router) (held kind.Iface) (held kind.App)
+node_line record' place node = node_words node.name node.addr node.buffers (held_in record' place)
 
 -- `router NAME` and its discards for each reason; or `relay NAME` and the bridge's discards at a full queue
 abbrev pub router_words : PlainRecord → ℕ → List ℕ → Option ℕ → Line

@@ -1,7 +1,8 @@
 -- What words that fit a form are.
-use Rattle.std.proofs.Common.{◌≡◌, ℕ, ◌+◌, ◌<◌, ◌≤◌, ◌^◌, Bool, true, false, not, ◌&&◌, ◌||◌, eqb, leb, ltb, List, [], ◌∷◌, length, get_or, IsTrue, zero, suc, inl, inr, arith}
+use Rattle.std.proofs.Common.{◌≡◌, ℕ, ◌+◌, ◌<◌, ◌≤◌, ◌^◌, Bool, true, ◌&&◌, eqb, leb, ltb, List, [], ◌∷◌, length, get_or, IsTrue, zero, suc, inl, inr, Some, sym, ap, ◌∙◌, arith}
 use Rattle.std.specs.List.{list_all}
-use Rattle.std.proofs.lemmas.Bool.{and_parts, leb-true, ltb-true, lt-ltb, eqb-true}
+use Rattle.std.specs.Option.{option_map_or}
+use Rattle.std.proofs.lemmas.Bool.{and_parts, leb-true, ltb-true, eqb-true}
 use Rattle.csp_text.specs.Names.{is_name}
 use Rattle.csp_text.specs.Numbers.{is_decimal, number_of}
 use Rattle.csp_scene.specs.declared.table.Form.{Form}
@@ -109,17 +110,12 @@ number_after low high (part.Bytes least most) word h e = absurd (cc)
 number_after low high part.Moves word h e = absurd (cc)
 number_after low high part.Text word h e = absurd (cc)
 
-followed_by : (there after : Bool) → there ≡ true → (not there || after) ≡ true → after ≡ true
-followed_by true after is h = h
-followed_by false after is h = absurd (cc)
-
-pub setting_fits : (form : Form) (keyword : Keyword) (shape : List Part) (args : List (List ℕ)) → FitsShape form shape args → IsTrue (has_setting form keyword) → keyword_place keyword shape < length shape → InRange (range_of form keyword).0 (range_of form keyword).1 (word_at args (keyword_place keyword shape + 1)) × ((range_of form keyword).1 < 2 ^ 32)
-setting_fits form keyword shape args fits has inside =
-    let place = keyword_place keyword shape in
+pub setting_fits : (form : Form) (keyword : Keyword) (shape : List Part) (args : List (List ℕ)) (place : ℕ) → FitsShape form shape args → IsTrue (has_setting form keyword) → keyword_place keyword shape ≡ Some place → InRange (range_of form keyword).0 (range_of form keyword).1 (word_at args (place + 1)) × ((range_of form keyword).1 < 2 ^ 32)
+setting_fits form keyword shape args place fits has found =
     let low = (range_of form keyword).0 in
     let high = (range_of form keyword).1 in
     let followed = one_of_all (is_followed keyword (low, high)) (shapes_of form) shape has fits.among in
-    let there = followed_by (ltb place (length shape)) _ (lt-ltb place (length shape) inside) followed in
+    let there = ap (λ found. option_map_or (λ place. ltb (place + 1) (length shape) && is_number_part (low, high) (get_or shape (place + 1) part.Text)) found true) (sym found) ∙ followed in
     let parts = and_parts (ltb (place + 1) (length shape)) (is_number_part (low, high) (get_or shape (place + 1) part.Text)) there in
     let next : place + 1 < length shape = ltb-true (place + 1) (length shape) parts.0 in
     number_after low high (get_or shape (place + 1) part.Text) (word_at args (place + 1)) parts.1 (passes_at check.Number shape args (place + 1) part.Text fits.numbers next (omega (arith, fits.count, next)))

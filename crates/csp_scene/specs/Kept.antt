@@ -1,6 +1,7 @@
 -- What holds of a scene in the making, and of words that fit a line form.
-use Rattle.std.specs.Prelude.{ℕ, ◌+◌, ◌≡◌, ◌≢◌, ◌≤◌, ◌<◌, ◌^◌, ◌⊎◌, ⊤, Bool, false, not, ◌&&◌, ◌||◌, ◌==◌, nat_lt, List, [], ◌∷◌, ◌++◌, length, slice_index_or, IsTrue, Result, Ok, Err, IfSome, if◌then◌else◌}
+use Rattle.std.specs.Prelude.{ℕ, ◌+◌, ◌≡◌, ◌≢◌, ◌≤◌, ◌<◌, ◌^◌, ◌⊎◌, ⊤, Bool, true, false, ◌&&◌, ◌==◌, nat_lt, List, [], ◌∷◌, ◌++◌, length, slice_index_or, IsTrue, Result, Ok, Err, IfSome, if◌then◌else◌}
 use Rattle.std.specs.List.{All, AllByRecursion, list_all}
+use Rattle.std.specs.Option.{option_map_or}
 use Rattle.std.specs.Str.{bytes_eq}
 use Rattle.csp_route.specs.Routes.{IsWithin}
 use Rattle.csp_text.specs.Names.{is_name}
@@ -107,7 +108,7 @@ is_number_part range _ = false
 -- where a shape has the optional word, that number stands after it
 abbrev pub is_followed : Keyword → ℕ × ℕ → List Part → Bool
 is_followed keyword range shape =
-    not (nat_lt (keyword_place keyword shape) (length shape)) || (nat_lt (keyword_place keyword shape + 1) (length shape) && is_number_part range (slice_index_or shape (keyword_place keyword shape + 1) part.Text))
+    option_map_or (λ place. nat_lt (place + 1) (length shape) && is_number_part range (slice_index_or shape (place + 1) part.Text)) (keyword_place keyword shape) true
 
 -- in each shape of a form that has this optional word, its number stands after it
 abbrev pub has_setting : Form → Keyword → Bool

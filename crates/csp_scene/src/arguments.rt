@@ -69,14 +69,11 @@ fn is_keyword(part: Part, keyword: Keyword) -> bool
     }
 }
 
-/// The place of a fixed word in a shape, or the number of places where it isn't there.
-fn keyword_place(keyword: Keyword, shape: &[Part]) -> usize
+/// The place of a fixed word in a shape, where the shape has it.
+fn keyword_place(keyword: Keyword, shape: &[Part]) -> Option<usize>
     ensures { result ≡ keyword_place keyword shape.now }
 {
-    shape
-        .iter()
-        .position(|part| is_keyword(*part, keyword))
-        .unwrap_or(shape.len())
+    shape.iter().position(|part| is_keyword(*part, keyword))
 }
 
 /// Whether a shape has a fixed word.
@@ -93,10 +90,7 @@ pub(crate) fn setting(form: Form, keyword: Keyword, shape: &[Part], args: &[&[u8
     ensures value { result ≡ setting keyword shape.now (map (λ word. word.now) args.now) }
     ensures range { IfSome result (λ number. ((range_of form keyword).0 ≤ number) × (number ≤ (range_of form keyword).1)) }
 {
-    let place = keyword_place(keyword, shape);
-    if place >= shape.len() {
-        return None;
-    }
+    let place = keyword_place(keyword, shape)?;
     match number(word_at(args, place + 1)) {
         Some(number) => Some(number as u32),
         None => unreachable!(),

@@ -1,5 +1,5 @@
 -- The numbers of a connection that a router's log tells to be open are of at most 64 bits, where its events tell of 32.
-use Rattle.std.proofs.Common.{◌≡◌, ◌==◌, ℕ, zero, suc, ◌<◌, ◌^◌, Bool, true, false, cond, Option, None, Some, List, [], ◌∷◌, ◌++◌, unwrap_or, slice_get, ap, subst, arith}
+use Rattle.std.proofs.Common.{◌≡◌, ◌==◌, ℕ, zero, suc, ◌<◌, ◌^◌, Bool, true, false, cond, Option, None, Some, List, [], ◌∷◌, ◌++◌, unwrap_or, slice_get, sym, ap, ◌∙◌, subst, arith}
 use Rattle.std.specs.Prelude.{find, IfSome}
 use Rattle.std.specs.List.{AllByRecursion, flat_map}
 use Rattle.csp_log.specs.Noting.{noted_in}
@@ -7,12 +7,13 @@ use Rattle.csp_log.specs.PlainLog.{all_events}
 use Rattle.csp_log.specs.declared.entry.Entry.{Entry}
 use Rattle.csp_log.specs.declared.event.Event.{Event}
 use Rattle.csp_log.specs.declared.event.Event.TheVariants as event
-use Rattle.csp_record.specs.Connections.{opened_by, openings_after, openings}
-use Rattle.csp_record.specs.Ends.{Ends, no_ends, ended, told_free}
+use Rattle.csp_record.specs.Connections.{opened_by, openings}
 use Rattle.csp_top.specs.Prefix.{OpensNumbered, TellsNumbered}
 use Rattle.csp_record.specs.Record.{PlainPartyLog}
 use Rattle.csp_record.specs.declared.connections.Opening.{Opening}
+use Rattle.csp_record.specs.declared.payloads.Way.TheVariants as way
 use Rattle.csp_record.specs.declared.who.Who.{Who}
+use Rattle.csp_record.proofs.Ordinals.{Ends, ended, no_ends, openings_after, openings_are}
 use Rattle.csp_report.specs.Parties.{entries_of}
 use Rattle.csp_report.specs.Shown.{IsNumbered}
 
@@ -75,9 +76,9 @@ module _ (app : ℕ) (ends : Ends) where
 opened_after : (app : ℕ) (ends : Ends) (entries : List Entry) → AllByRecursion OpensNumbered (all_events entries) → AllByRecursion IsNumbered (openings_after app ends entries)
 opened_after app ends [] all = tt
 opened_after app ends (e ∷ entries) all =
-    joined IsNumbered (flat_map (opened_by app ends) e.events.items) (openings_after app (ended (told_free app (noted_in e)) ends) entries)
+    joined IsNumbered (flat_map (opened_by app ends) e.events.items) (openings_after app (ended way.Sent app (noted_in e) ends) entries)
     (all_opened app ends e.events.items (front_of OpensNumbered e.events.items (all_events entries) all))
-    (opened_after app (ended (told_free app (noted_in e)) ends) entries (rest_of OpensNumbered e.events.items (all_events entries) all))
+    (opened_after app (ended way.Sent app (noted_in e) ends) entries (rest_of OpensNumbered e.events.items (all_events entries) all))
 
 found : (p : Who → Bool) (logs : List PlainPartyLog) → AllByRecursion TellsNumbered logs → AllByRecursion OpensNumbered (all_events (entries_of (find (λ party. p party.who) logs)))
 found p [] all = tt
@@ -91,4 +92,4 @@ found p (log ∷ logs) all = by_test (p log.who) (found p logs all.1)
 pub opened_numbered : (p : Who → Bool) (logs : List PlainPartyLog) (app at : ℕ) (x : Opening) → AllByRecursion TellsNumbered logs → slice_get (openings app (entries_of (find (λ party. p party.who) logs))) at ≡ Some x → IsNumbered x
 opened_numbered p logs app at x all e =
     let entries : List Entry = entries_of (find (λ party. p party.who) logs) in
-    at_place IsNumbered (openings app entries) at x (opened_after app no_ends entries (found p logs all)) e
+    at_place IsNumbered (openings_after app no_ends entries) at x (opened_after app no_ends entries (found p logs all)) (ap (λ xs. slice_get xs at) (sym (openings_are app entries)) ∙ e)

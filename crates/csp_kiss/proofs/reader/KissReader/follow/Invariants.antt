@@ -1,5 +1,6 @@
 use Rattle.std.proofs.Common.{◌≡◌, ◌≤◌, drop}
-use Rattle.csp_kiss.specs.GoingOn.{read_on, with_refused}
+use Rattle.csp_kiss.specs.GoingOn.{read_on}
+use Rattle.csp_kiss.proofs.GoingOn.{with_refused}
 use Rattle.csp_kiss.proofs.reader.KissReader.follow.Given as goal
 
 abbrev pub invariant-loop-index : goal.invariant-loop-index
