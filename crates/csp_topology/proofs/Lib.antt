@@ -1,3 +1,12 @@
+mod Ends
+mod Joints
 mod PartyLemmas
+mod PartyPlaces
+mod Places
 mod PlanLemmas
+mod Serving
 mod TopologyLemmas
+mod WireOrder
+mod WirePlaces
+pub mod WireSteps
+mod WiringLemmas

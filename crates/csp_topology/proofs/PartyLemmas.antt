@@ -20,11 +20,11 @@ apps_count : (place number : ℕ) (apps : List PlainApp) → length (apps_from p
 apps_count place number [] = refl
 apps_count place number (a ∷ apps) = let h = apps_count place (number + 1) apps in omega (arith, h)
 
-links_count : (number : ℕ) (links : List PlainLink) → length (links_from number links) ≡ length links
+pub links_count : (number : ℕ) (links : List PlainLink) → length (links_from number links) ≡ length links
 links_count number [] = refl
 links_count number (l ∷ links) = let h = links_count (number + 1) links in omega (arith, h)
 
-node_count : (place : ℕ) (n : PlainNode) (links : List PlainLink) → length (parties_at place n links) ≡ 1 + length links + length n.apps
+pub node_count : (place : ℕ) (n : PlainNode) (links : List PlainLink) → length (parties_at place n links) ≡ 1 + length links + length n.apps
 node_count place n links =
     let both = length-append (ifaces_from place 0 links) (apps_from place 0 n.apps) in
     omega (arith, both, ifaces_count place 0 links, apps_count place 0 n.apps)
@@ -41,6 +41,10 @@ unfolding parties_of
 parties_few scene h =
     let both = length-append (parties_from 0 scene.nodes scene.links) (links_from 0 scene.links) in
     omega (arith, both, nodes_count 0 scene.nodes scene.links h.few_links h.nodes, links_count 0 scene.links, h.few, h.few_links)
+
+-- and where the links begin among them
+pub nodes_few : (scene : PlainScene) → IsScene scene → length (parties_from 0 scene.nodes scene.links) ≤ MAX_PARTIES
+nodes_few scene h = omega (arith, nodes_count 0 scene.nodes scene.links h.few_links h.nodes, h.few)
 
 -- the interfaces with one more
 ifaces-more : (place number : ℕ) (links : List PlainLink) (l : PlainLink) → ifaces_from place number (links ++ l ∷ []) ≡ ifaces_from place number links ++ iface_on place (number + length links) l.kind ∷ []

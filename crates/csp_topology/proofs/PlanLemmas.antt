@@ -19,7 +19,7 @@ pub links_few : (place : ℕ) (links : List PlainLink) → length (links_at plac
 links_few place links = omega (arith, length-filter (touches place) links, count_by-le-length (touches place) links)
 
 -- its lanes carry what links carry
-link_rule : (k : LinkKind) → IsLinkRule (lane_of k)
+pub link_rule : (k : LinkKind) → IsLinkRule (lane_of k)
 link_rule kind.Kiss = tt
 link_rule kind.Can = tt
 

@@ -1,15 +1,22 @@
 //! A scene's network, worked out once: its parties in order, each with all that its opening needs, the pool and the
-//! queues of each node, and the ends of each link.
+//! queues of each node, its lanes with who puts into each and who gets, and the ends of each link.
 #![tactic(auto)]
 
+mod joint;
 mod laws;
 mod links;
 mod opening;
 mod parties;
 mod plan;
 mod topology;
+mod wire;
+mod wiring;
 
-pub use laws::counts_parties;
+pub use laws::{
+    counts_parties, joins_parties, leads_with_hubs, names_ends_apart, names_parties_apart,
+    orders_wires, serves_parties, stays_home, wires_lanes,
+};
 pub use opening::Opening;
 pub use plan::NodePlan;
 pub use topology::{MAX_PARTIES, Topology};
+pub use wire::{Wire, WireEnd};

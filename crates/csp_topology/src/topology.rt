@@ -1,15 +1,19 @@
 //! A scene's network.
 
-ghost use Rattle.std.specs.Prelude.{◌≡◌, IfOk, length, map};
+ghost use Rattle.std.specs.Prelude.{◌≡◌, [], IfOk, length, map};
 ghost use Rattle.std.specs.List.{AllByRecursion};
+ghost use Rattle.csp_scene.specs.Kept.{AreLinksAfter};
 ghost use Rattle.csp_scene.specs.Ranges.{IsScene};
 ghost use Rattle.csp_topology.specs.Opening.{CanOpen};
 ghost use Rattle.csp_topology.specs.Plan.{IsPlan};
 ghost use Rattle.csp_topology.specs.Topology.{seen_topology, topology_of};
+ghost use Rattle.csp_topology.specs.Wiring.{AreWires};
 
 use crate::opening::Opening;
 use crate::parties::{push_links, push_nodes};
 use crate::plan::{NodePlan, plans_of};
+use crate::wire::Wire;
+use crate::wiring::wires_of;
 use arrayvec::ArrayVec;
 use csp_log::{End, LINK_ENDS};
 use csp_scene::{MAX_APPS, MAX_LINKS, MAX_NODES, Scene, SceneLink};
@@ -50,6 +54,21 @@ impl Topology {
             links: ends_of(alloc, &scene.links)?,
             parties,
         })
+    }
+
+    /// The lanes of each node of the scene whose network this is, in the order in which a record tells of them: those
+    /// from the node's links, to its links, to its interfaces, to its applications, and from its applications.
+    ///
+    /// # Errors
+    /// Want of memory.
+    pub fn wires(&self, alloc: Global, scene: &Scene) -> Result<Vec<Vec<Wire>>, AllocError>
+        requires scene { IsScene scene.now }
+        requires whole { seen_topology self.now ≡ topology_of scene.now }
+        ensures { AreLinksAfter (length scene.now.nodes) [] scene.now.links → IfOk result (λ wires. AreWires scene.now (map (λ ws. ws.items) wires.items)) }
+    {
+        let parties = self.parties.len();
+        let links = self.links.len();
+        wires_of(alloc, &scene.nodes, &scene.links, (parties - links) as u16)
     }
 }
 

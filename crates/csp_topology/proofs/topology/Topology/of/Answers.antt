@@ -1,4 +1,4 @@
-use Rattle.std.proofs.Common.{◌≡◌, ◌++◌, [], List, All, map, ap, sym, subst, ◌∙◌}
+use Rattle.std.proofs.Common.{◌≡◌, ◌++◌, List, All, map, ap, sym, subst, ◌∙◌}
 use Rattle.std.specs.List.{AllByRecursion}
 use Rattle.csp_scene.specs.Ranges.{IsPlanned}
 use Rattle.csp_scene.specs.Scene.{PlainLink, PlainNode, PlainScene}

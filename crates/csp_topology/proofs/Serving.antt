@@ -1,0 +1,316 @@
+-- Each queue that a party uses is its inbox, or a lane with an end that it calls so.
+use Rattle.std.proofs.Common.{◌≡◌, ℕ, zero, suc, ◌+◌, ◌<◌, ◌==◌, Bool, true, false, cond, nat_lt, Option, Some, None, List, [], ◌∷◌, length, map, slice_get, ap, refl, sym, subst, ◌∙◌, arith, inl, inr, if◌then◌else◌}
+use Rattle.std.specs.List.{AllByRecursion}
+use Rattle.std.proofs.lemmas.Bool.{eqb-true, ltb-true}
+use Rattle.std.proofs.lemmas.List.{length-map}
+use Rattle.std.proofs.lemmas.Option.{same_Some, slice_get_within}
+use Rattle.csp_iface.specs.Links.{carried_on}
+use Rattle.csp_link.specs.PlainLink.{lane_of}
+use Rattle.csp_log.specs.declared.places.Carries.{Carries}
+use Rattle.csp_log.specs.declared.places.Carries.TheVariants as lane
+use Rattle.csp_log.specs.declared.places.End.{End}
+use Rattle.csp_log.specs.declared.places.LinkKind.{LinkKind}
+use Rattle.csp_log.specs.declared.places.LinkKind.TheVariants as kind
+use Rattle.csp_log.specs.declared.places.QueueId.{QueueId}
+use Rattle.csp_log.specs.declared.places.QueueId.TheVariants as queue
+use Rattle.csp_log.specs.declared.places.Rule.{Rule}
+use Rattle.csp_log.specs.declared.places.Rule.TheVariants as rule
+use Rattle.csp_party.specs.Any.{uses}
+use Rattle.csp_record.specs.declared.who.Who.{Who}
+use Rattle.csp_record.specs.declared.who.Who.TheVariants as who
+use Rattle.csp_scene.specs.Links.{links_at}
+use Rattle.csp_scene.specs.Ranges.{AreEnds, IsLink, IsScene}
+use Rattle.csp_scene.specs.Scene.{PlainApp, PlainLink, PlainNode, PlainScene}
+use Rattle.csp_scene.specs.declared.limits.TheConstants.{BRIDGE_LINKS}
+use Rattle.csp_topology.proofs.Joints.{ArePlaced, end_joint, joint_is, joint_of, joints_count, joints_of, link_joint}
+use Rattle.csp_topology.proofs.PartyPlaces.{IsParty, party_at}
+use Rattle.csp_topology.proofs.PartyPlaces as party
+use Rattle.csp_topology.proofs.Places.{get-within}
+use Rattle.csp_topology.proofs.WirePlaces.{down_there, ifaces_of, out_there, rx_there, tx_there, up_there}
+use Rattle.csp_topology.specs.Lanes.{PlainEnd, hub_of, out_lane}
+use Rattle.csp_topology.specs.Parties.{PlainOpening, app_at, hub_by, iface_on, link_at, parties_of}
+use Rattle.csp_topology.specs.Wired.{IsServed, getting, inbox_rule, putting}
+use Rattle.csp_topology.specs.Wires.{PlainJoint, down_lane, rx_lane, tx_lane, up_lane}
+
+-- what a party uses among so many, and under one number
+within : (r s : Rule) (k count : ℕ) (low : Bool) → nat_lt k count ≡ low → cond low (Some s) None ≡ Some r → (k < count) × (r ≡ s)
+within r s k count true h e = (ltb-true k count h, sym (same_Some s r e))
+within r s k count false h e = absurd cc
+
+if_within : (r s : Rule) (k count : ℕ) (low : Bool) → nat_lt k count ≡ low → (if low then Some s else None) ≡ Some r → (k < count) × (r ≡ s)
+if_within r s k count true h e = (ltb-true k count h, sym (same_Some s r e))
+if_within r s k count false h e = absurd cc
+
+own : (r s : Rule) (k number : ℕ) (here : Bool) → (k == number) ≡ here → (if here then Some s else None) ≡ Some r → (k ≡ number) × (r ≡ s)
+own r s k number true h e = (eqb-true k number h, sym (same_Some s r e))
+own r s k number false h e = absurd cc
+
+an_inbox : (scene : PlainScene) (w : Who) (r : Rule) → inbox_rule w ≡ Some rule.Inbox → Some rule.Inbox ≡ Some r → IsServed scene w queue.Inbox r
+an_inbox scene w r used e = inl (record { inbox = refl; takes = sym (same_Some rule.Inbox r e); used = used })
+
+abbrev end_named : Who → QueueId → PlainEnd
+end_named w q = record { who = w; queue = q }
+
+-- ---- the router or bridge of a node
+
+hub_inbox : (addr : Option ℕ) (node : ℕ) → inbox_rule (hub_of node addr) ≡ Some rule.Inbox
+hub_inbox (Some addr) node = refl
+hub_inbox None node = refl
+
+module _ (scene : PlainScene) (are : ArePlaced scene) (node : ℕ) (n : PlainNode) (there : slice_get scene.nodes node ≡ Some n) where
+  hub_up : (k : ℕ) (r : Rule) → k < length n.apps → r ≡ rule.Lane lane.Up → IsServed scene (hub_of node n.addr) (queue.Up k) r
+  hub_up k r low is = inr (record {
+    node = node;
+    place = ifaces_of scene node + (ifaces_of scene node + (ifaces_of scene node + (length n.apps + k)));
+    wire = up_lane node (hub_of node n.addr) k;
+    at = up_there scene node n there k low;
+    side = getting;
+    called = refl;
+    carries = is;
+  })
+
+  hub_down : (k : ℕ) (r : Rule) → k < length n.apps → r ≡ rule.Lane lane.Down → IsServed scene (hub_of node n.addr) (queue.Down k) r
+  hub_down k r low is = inr (record {
+    node = node;
+    place = ifaces_of scene node + (ifaces_of scene node + (ifaces_of scene node + k));
+    wire = down_lane node (hub_of node n.addr) k;
+    at = down_there scene node n there k low;
+    side = putting;
+    called = refl;
+    carries = is;
+  })
+
+  hub_out : (k : ℕ) (r : Rule) → k < length (links_at node scene.links) → r ≡ rule.Lane lane.Out → IsServed scene (hub_of node n.addr) (queue.Out k) r
+  hub_out k r low is =
+      let count = joints_count scene are node in
+      let (j, at) = get-within (joints_of scene node) k (omega (arith, low, count)) in
+      inr (record {
+        node = node;
+        place = ifaces_of scene node + (ifaces_of scene node + k);
+        wire = out_lane node (hub_of node n.addr) j.end.iface;
+        at = out_there scene node n there k j at;
+        side = putting;
+        called = ap (λ (i : ℕ). end_named (hub_of node n.addr) (queue.Out i)) (joint_is scene are node k j at).iface_is;
+        carries = is;
+      })
+
+  router_served : (addr : ℕ) (q : QueueId) (r : Rule) → uses (hub_by (Some addr) node n (links_at node scene.links)).party q ≡ Some r → IsServed scene (hub_of node n.addr) q r
+  router_served addr queue.Inbox r e = an_inbox scene (hub_of node n.addr) r (hub_inbox n.addr node) e
+  router_served addr (queue.Up k) r e = let (low, is) = within r (rule.Lane lane.Up) k (length n.apps) _ refl e in hub_up k r low is
+  router_served addr (queue.Down k) r e = let (low, is) = within r (rule.Lane lane.Down) k (length n.apps) _ refl e in hub_down k r low is
+  router_served addr (queue.Out k) r e =
+      let (low, is) = within r (rule.Lane lane.Out) k (length (map (λ (l : PlainLink). l.name) (links_at node scene.links))) _ refl e in
+      let long = length-map (links_at node scene.links) (λ (l : PlainLink). l.name) in
+      hub_out k r (omega (arith, low, long)) is
+  router_served addr (queue.Tx k) r e = absurd cc
+  router_served addr (queue.Rx k) r e = absurd cc
+
+  bridge_served : length (links_at node scene.links) ≡ BRIDGE_LINKS → (q : QueueId) (r : Rule) → uses (hub_by None node n (links_at node scene.links)).party q ≡ Some r → IsServed scene (hub_of node n.addr) q r
+  bridge_served two queue.Inbox r e = an_inbox scene (hub_of node n.addr) r (hub_inbox n.addr node) e
+  bridge_served two (queue.Out k) r e =
+      let (low, is) = if_within r (rule.Lane lane.Out) k 2 _ refl e in
+      hub_out k r (omega (arith, low, two)) is
+  bridge_served two (queue.Up k) r e = absurd cc
+  bridge_served two (queue.Down k) r e = absurd cc
+  bridge_served two (queue.Tx k) r e = absurd cc
+  bridge_served two (queue.Rx k) r e = absurd cc
+
+  hub_served : (addr : Option ℕ) → (addr ≡ None → length (links_at node scene.links) ≡ BRIDGE_LINKS) → (q : QueueId) (r : Rule) → uses (hub_by addr node n (links_at node scene.links)).party q ≡ Some r → IsServed scene (hub_of node n.addr) q r
+  hub_served (Some addr) two q r e = router_served addr q r e
+  hub_served None two q r e = bridge_served (two refl) q r e
+
+  -- ---- an interface
+
+  same_lane : (k : LinkKind) → carried_on k ≡ lane_of k
+  same_lane kind.Kiss = refl
+  same_lane kind.Can = refl
+
+  iface_called : (k : ℕ) (j : PlainJoint) (name : ℕ → QueueId) → j.end.node ≡ node → j.end.iface ≡ k → end_named (who.Iface j.end.node j.end.iface) (name j.end.iface) ≡ end_named (who.Iface node k) (name k)
+  iface_called k j name at number = ap (λ (m : ℕ). end_named (who.Iface m j.end.iface) (name j.end.iface)) at ∙ ap (λ (i : ℕ). end_named (who.Iface node i) (name i)) number
+
+  iface_out : (k : ℕ) (l : PlainLink) (r : Rule) → slice_get (links_at node scene.links) k ≡ Some l → r ≡ rule.Lane lane.Out → IsServed scene (who.Iface node k) (queue.Out k) r
+  iface_out k l r on is =
+      let (j, at, carries) = link_joint scene are node k l on in
+      let h = joint_is scene are node k j at in
+      inr (record {
+        node = node;
+        place = ifaces_of scene node + (ifaces_of scene node + k);
+        wire = out_lane node (hub_of node n.addr) j.end.iface;
+        at = out_there scene node n there k j at;
+        side = getting;
+        called = ap (λ (i : ℕ). end_named (who.Iface node i) (queue.Out i)) h.iface_is;
+        carries = is;
+      })
+
+  iface_tx : (k : ℕ) (l : PlainLink) (r : Rule) → slice_get (links_at node scene.links) k ≡ Some l → r ≡ rule.Lane (carried_on l.kind) → IsServed scene (who.Iface node k) (queue.Tx k) r
+  iface_tx k l r on is =
+      let (j, at, carries) = link_joint scene are node k l on in
+      let h = joint_is scene are node k j at in
+      inr (record {
+        node = node;
+        place = ifaces_of scene node + k;
+        wire = tx_lane j;
+        at = tx_there scene node n there k j at;
+        side = putting;
+        called = iface_called k j queue.Tx h.node_is h.iface_is;
+        carries = is ∙ ap (λ (c : Carries). rule.Lane c) (same_lane l.kind ∙ sym carries);
+      })
+
+  iface_rx : (k : ℕ) (l : PlainLink) (r : Rule) → slice_get (links_at node scene.links) k ≡ Some l → r ≡ rule.Lane (carried_on l.kind) → IsServed scene (who.Iface node k) (queue.Rx k) r
+  iface_rx k l r on is =
+      let (j, at, carries) = link_joint scene are node k l on in
+      let h = joint_is scene are node k j at in
+      inr (record {
+        node = node;
+        place = k;
+        wire = rx_lane j;
+        at = rx_there scene node n there k j at;
+        side = getting;
+        called = iface_called k j queue.Rx h.node_is h.iface_is;
+        carries = is ∙ ap (λ (c : Carries). rule.Lane c) (same_lane l.kind ∙ sym carries);
+      })
+
+  iface_served : (k : ℕ) (l : PlainLink) → slice_get (links_at node scene.links) k ≡ Some l → (q : QueueId) (r : Rule) → uses (iface_on node k l.kind).party q ≡ Some r → IsServed scene (who.Iface node k) q r
+  iface_served k l on queue.Inbox r e = an_inbox scene (who.Iface node k) r refl e
+  iface_served k l on (queue.Out m) r e =
+      let (same, is) = own r (rule.Lane lane.Out) m k _ refl e in
+      subst (λ (i : ℕ). IsServed scene (who.Iface node k) (queue.Out i) r) (sym same) (iface_out k l r on is)
+  iface_served k l on (queue.Tx m) r e =
+      let (same, is) = own r (rule.Lane (carried_on l.kind)) m k _ refl e in
+      subst (λ (i : ℕ). IsServed scene (who.Iface node k) (queue.Tx i) r) (sym same) (iface_tx k l r on is)
+  iface_served k l on (queue.Rx m) r e =
+      let (same, is) = own r (rule.Lane (carried_on l.kind)) m k _ refl e in
+      subst (λ (i : ℕ). IsServed scene (who.Iface node k) (queue.Rx i) r) (sym same) (iface_rx k l r on is)
+  iface_served k l on (queue.Up m) r e = absurd cc
+  iface_served k l on (queue.Down m) r e = absurd cc
+
+  -- ---- an application
+
+  app_up : (k : ℕ) (r : Rule) → k < length n.apps → r ≡ rule.Lane lane.Up → IsServed scene (who.App node k) (queue.Up k) r
+  app_up k r low is = inr (record {
+    node = node;
+    place = ifaces_of scene node + (ifaces_of scene node + (ifaces_of scene node + (length n.apps + k)));
+    wire = up_lane node (hub_of node n.addr) k;
+    at = up_there scene node n there k low;
+    side = putting;
+    called = refl;
+    carries = is;
+  })
+
+  app_down : (k : ℕ) (r : Rule) → k < length n.apps → r ≡ rule.Lane lane.Down → IsServed scene (who.App node k) (queue.Down k) r
+  app_down k r low is = inr (record {
+    node = node;
+    place = ifaces_of scene node + (ifaces_of scene node + (ifaces_of scene node + k));
+    wire = down_lane node (hub_of node n.addr) k;
+    at = down_there scene node n there k low;
+    side = getting;
+    called = refl;
+    carries = is;
+  })
+
+  app_served : (k : ℕ) (a : PlainApp) → slice_get n.apps k ≡ Some a → (q : QueueId) (r : Rule) → uses (app_at node k a).party q ≡ Some r → IsServed scene (who.App node k) q r
+  app_served k a of_it (queue.Up m) r e =
+      let (same, is) = own r (rule.Lane lane.Up) m k _ refl e in
+      subst (λ (i : ℕ). IsServed scene (who.App node k) (queue.Up i) r) (sym same) (app_up k r (slice_get_within n.apps k a of_it) is)
+  app_served k a of_it (queue.Down m) r e =
+      let (same, is) = own r (rule.Lane lane.Down) m k _ refl e in
+      subst (λ (i : ℕ). IsServed scene (who.App node k) (queue.Down i) r) (sym same) (app_down k r (slice_get_within n.apps k a of_it) is)
+  app_served k a of_it queue.Inbox r e = absurd cc
+  app_served k a of_it (queue.Out m) r e = absurd cc
+  app_served k a of_it (queue.Tx m) r e = absurd cc
+  app_served k a of_it (queue.Rx m) r e = absurd cc
+
+-- ---- a link
+
+-- a link has an end at a place, at a node that is there
+record HasEnd (scene : PlainScene) (l : PlainLink) (place : ℕ) : Type 0 where
+  pub end : End
+  pub n : PlainNode
+  pub at : slice_get l.ends place ≡ Some end
+  pub there : slice_get scene.nodes end.node ≡ Some n
+
+pub each_link : (nodes : List PlainNode) (all links : List PlainLink) → AllByRecursion (IsLink nodes all) links → (k : ℕ) (l : PlainLink) → slice_get links k ≡ Some l → IsLink nodes all l
+each_link nodes all [] is k l e = absurd cc
+each_link nodes all (x ∷ links) is zero l e = subst (IsLink nodes all) (same_Some x l e) is.0
+each_link nodes all (x ∷ links) is (suc k) l e = each_link nodes all links is.1 k l e
+
+has_end : (scene : PlainScene) (l : PlainLink) → AreEnds scene.nodes scene.links l → (place : ℕ) → place < 2 → HasEnd scene l place
+has_end scene l is zero low =
+    let (n, there) = get-within scene.nodes is.first.node is.one_end.node in
+    record { end = is.first; n = n; at = ap (λ (es : List End). slice_get es 0) is.two; there = there }
+has_end scene l is (suc zero) low =
+    let (n, there) = get-within scene.nodes is.second.node is.other_end.node in
+    record { end = is.second; n = n; at = ap (λ (es : List End). slice_get es 1) is.two; there = there }
+has_end scene l is (suc (suc k)) low = absurd (omega (arith, low))
+
+module _ (scene : PlainScene) (are : ArePlaced scene) (i : ℕ) (l : PlainLink) (there : slice_get scene.links i ≡ Some l) (is : AreEnds scene.nodes scene.links l) where
+  link_tx : (place : ℕ) (r : Rule) → place < 2 → r ≡ rule.Lane (lane_of l.kind) → IsServed scene (who.Link i) (queue.Tx place) r
+  link_tx place r low same =
+      let h = has_end scene l is place low in
+      let x = h.end in
+      inr (record {
+        node = x.node;
+        place = ifaces_of scene x.node + x.iface;
+        wire = tx_lane (joint_of i (lane_of l.kind) place x);
+        at = tx_there scene x.node h.n h.there x.iface (joint_of i (lane_of l.kind) place x) (end_joint scene are i place l x there h.at);
+        side = getting;
+        called = refl;
+        carries = same;
+      })
+
+  link_rx : (place : ℕ) (r : Rule) → place < 2 → r ≡ rule.Lane (lane_of l.kind) → IsServed scene (who.Link i) (queue.Rx place) r
+  link_rx place r low same =
+      let h = has_end scene l is place low in
+      let x = h.end in
+      inr (record {
+        node = x.node;
+        place = x.iface;
+        wire = rx_lane (joint_of i (lane_of l.kind) place x);
+        at = rx_there scene x.node h.n h.there x.iface (joint_of i (lane_of l.kind) place x) (end_joint scene are i place l x there h.at);
+        side = putting;
+        called = refl;
+        carries = same;
+      })
+
+  link_served : (q : QueueId) (r : Rule) → uses (link_at i l).party q ≡ Some r → IsServed scene (who.Link i) q r
+  link_served (queue.Tx k) r e = let (low, same) = if_within r (rule.Lane (lane_of l.kind)) k 2 _ refl e in link_tx k r low same
+  link_served (queue.Rx k) r e = let (low, same) = if_within r (rule.Lane (lane_of l.kind)) k 2 _ refl e in link_rx k r low same
+  link_served queue.Inbox r e = absurd cc
+  link_served (queue.Up k) r e = absurd cc
+  link_served (queue.Down k) r e = absurd cc
+  link_served (queue.Out k) r e = absurd cc
+
+-- ---- each party
+
+abbrev AreServed : PlainScene → PlainOpening → Type 0
+AreServed scene o = (q : QueueId) (r : Rule) → uses o.party q ≡ Some r → IsServed scene o.who q r
+
+served : (scene : PlainScene) → IsScene scene → ArePlaced scene → (i : ℕ) (o : PlainOpening) → IsParty scene i o → AreServed scene o
+served scene is are i o (party.hub node n there at so) =
+    subst (AreServed scene) (sym so)
+    (λ q r e. subst (λ (w : Who). IsServed scene w q r) (sym (party.hub_named n.addr node n (links_at node scene.links)))
+    (hub_served scene are node n there n.addr (is.joined node n there).bridge q r e))
+served scene is are i o (party.iface node k n l there on at so) = subst (AreServed scene) (sym so) (iface_served scene are node n there k l on)
+served scene is are i o (party.app node k n a there of_it at so) = subst (AreServed scene) (sym so) (app_served scene are node n there k a of_it)
+served scene is are i o (party.link k l there at so) = subst (AreServed scene) (sym so) (link_served scene are k l there (each_link scene.nodes scene.links scene.links is.links k l there).ends)
+
+pub all_served : (scene : PlainScene) → IsScene scene → ArePlaced scene → (i : ℕ) (o : PlainOpening) → slice_get (parties_of scene) i ≡ Some o → AreServed scene o
+all_served scene is are i o at = served scene is are i o (party_at scene i o at)
+
+-- who uses an inbox
+
+abbrev UsesInbox : PlainOpening → Type 0
+UsesInbox o = uses o.party queue.Inbox ≡ inbox_rule o.who
+
+hub_uses : (addr : Option ℕ) (node : ℕ) (n : PlainNode) (links : List PlainLink) → UsesInbox (hub_by addr node n links)
+hub_uses (Some addr) node n links = refl
+hub_uses None node n links = refl
+
+inbox_used : (scene : PlainScene) (i : ℕ) (o : PlainOpening) → IsParty scene i o → UsesInbox o
+inbox_used scene i o (party.hub node n there at so) = subst UsesInbox (sym so) (hub_uses n.addr node n (links_at node scene.links))
+inbox_used scene i o (party.iface node k n l there on at so) = subst UsesInbox (sym so) refl
+inbox_used scene i o (party.app node k n a there of_it at so) = subst UsesInbox (sym so) refl
+inbox_used scene i o (party.link k l there at so) = subst UsesInbox (sym so) refl
+
+pub inboxes_used : (scene : PlainScene) (i : ℕ) (o : PlainOpening) → slice_get (parties_of scene) i ≡ Some o → UsesInbox o
+inboxes_used scene i o at = inbox_used scene i o (party_at scene i o at)

@@ -1,0 +1,124 @@
+-- Steps of the loops that list the lanes of a node.
+use Rattle.std.proofs.Common.{◌≡◌, ℕ, zero, suc, ◌+◌, ◌<◌, ◌≤◌, List, [], ◌∷◌, ◌++◌, drop, length, map, slice_index_or, ap, sym, subst, ◌∙◌, arith}
+use Rattle.std.specs.List.{AllByRecursion, range_with_len}
+use Rattle.std.proofs.lemmas.List.{append_assoc, map-append}
+use Rattle.std.proofs.lemmas.Simd.{map-map}
+use Rattle.std.proofs.lemmas.List.FromFn.{map-range_with_len_more}
+use Rattle.csp_link.specs.PlainLink.{lane_of}
+use Rattle.csp_log.specs.declared.places.End.{End}
+use Rattle.csp_record.specs.declared.who.Who.{Who}
+use Rattle.csp_scene.specs.Ranges.{IsLink, IsNode}
+use Rattle.csp_scene.specs.Scene.{PlainLink, PlainNode}
+use Rattle.csp_topology.proofs.Joints.{Touch, at_first, at_none, at_second, joined, touch, two_joints}
+use Rattle.csp_topology.specs.Lanes.{PlainLane, out_lane}
+use Rattle.csp_topology.specs.Wires.{PlainJoint, down_lane, joints_at, joints_from, rx_lane, tx_lane, up_lane, wires_at, wires_with}
+use Rattle.csp_topology.specs.Wiring.{wire_by, wired_from}
+use Rattle.csp_topology.specs.declared.wire.Spots.{Spots}
+use Rattle.csp_topology.specs.declared.wire.Wire.{Wire}
+
+-- one more of those that are numbered
+pub one_more : (f : ℕ → Wire) (old : List Wire) (k : ℕ) → (old ++ map f (range_with_len 0 k)) ++ f k ∷ [] ≡ old ++ map f (range_with_len 0 (k + 1))
+one_more f old k =
+    append_assoc old (map f (range_with_len 0 k)) (f k ∷ [])
+    ∙ ap (λ (ws : List Wire). old ++ ws) (sym (map-range_with_len_more f 0 k k (omega arith)))
+
+-- five kinds of lanes, one after the other
+module _ (s : Spots) (node : ℕ) (hub : Who) (js : List PlainJoint) (apps : ℕ) where
+  abbrev ks : List ℕ
+  ks = range_with_len 0 apps
+
+  abbrev rx : List Wire
+  rx = map (wire_by s) (map rx_lane js)
+
+  abbrev tx : List Wire
+  tx = map (wire_by s) (map tx_lane js)
+
+  abbrev out : List Wire
+  out = map (wire_by s) (map (λ j. out_lane node hub j.end.iface) js)
+
+  abbrev down : List Wire
+  down = map (wire_by s) (map (down_lane node hub) ks)
+
+  abbrev up : List Wire
+  up = map (wire_by s) (map (up_lane node hub) ks)
+
+  pub all_five : (((rx ++ tx) ++ out) ++ map (λ k. wire_by s (down_lane node hub k)) (range_with_len 0 apps)) ++ map (λ k. wire_by s (up_lane node hub k)) (range_with_len 0 apps) ≡ map (wire_by s) (wires_with node hub js apps)
+  all_five =
+      ap (λ (ws : List Wire). (((rx ++ tx) ++ out) ++ map (λ k. wire_by s (down_lane node hub k)) ks) ++ ws) (sym (map-map (wire_by s) (up_lane node hub) ks))
+      ∙ ap (λ (ws : List Wire). (((rx ++ tx) ++ out) ++ ws) ++ up) (sym (map-map (wire_by s) (down_lane node hub) ks))
+      ∙ append_assoc ((rx ++ tx) ++ out) down up
+      ∙ append_assoc (rx ++ tx) out (down ++ up)
+      ∙ append_assoc rx tx (out ++ (down ++ up))
+      ∙ sym all_apart where
+        outs : List PlainLane
+        outs = map (λ (j : PlainJoint). out_lane node hub j.end.iface) js
+
+        downs : List PlainLane
+        downs = map (down_lane node hub) ks
+
+        ups : List PlainLane
+        ups = map (up_lane node hub) ks
+
+        all_apart : map (wire_by s) (wires_with node hub js apps) ≡ rx ++ (tx ++ (out ++ (down ++ up)))
+        all_apart =
+            map-append (wire_by s) (map rx_lane js) (map tx_lane js ++ (outs ++ (downs ++ ups)))
+            ∙ ap (λ (ws : List Wire). rx ++ ws) (map-append (wire_by s) (map tx_lane js) (outs ++ (downs ++ ups)))
+            ∙ ap (λ (ws : List Wire). rx ++ (tx ++ ws)) (map-append (wire_by s) outs (downs ++ ups))
+            ∙ ap (λ (ws : List Wire). rx ++ (tx ++ (out ++ ws))) (map-append (wire_by s) downs ups)
+
+pub listed : (s : Spots) (node : ℕ) (hub : Who) (js : List PlainJoint) (apps : ℕ) (v w x y z u : List Wire) → v ≡ [] → w ≡ v ++ map (wire_by s) (map rx_lane js) → x ≡ w ++ map (wire_by s) (map tx_lane js)
+    → y ≡ x ++ map (wire_by s) (map (λ j. out_lane node hub j.end.iface) js) → z ≡ y ++ map (λ k. wire_by s (down_lane node hub k)) (range_with_len 0 apps)
+    → u ≡ z ++ map (λ k. wire_by s (up_lane node hub k)) (range_with_len 0 apps) → u ≡ map (wire_by s) (wires_with node hub js apps)
+listed s node hub js apps v w x y z u none rx tx out down up =
+    up
+    ∙ ap (λ (ws : List Wire). ws ++ map (λ k. wire_by s (up_lane node hub k)) (range_with_len 0 apps)) (down
+    ∙ ap (λ (ws : List Wire). ws ++ map (λ k. wire_by s (down_lane node hub k)) (range_with_len 0 apps)) (out
+    ∙ ap (λ (ws : List Wire). ws ++ map (wire_by s) (map (λ j. out_lane node hub j.end.iface) js)) (tx
+    ∙ ap (λ (ws : List Wire). ws ++ map (wire_by s) (map tx_lane js)) (rx ∙ ap (λ (ws : List Wire). ws ++ map (wire_by s) (map rx_lane js)) none))))
+    ∙ all_five s node hub js apps
+
+-- the lanes of one more node
+abbrev pub spots_at : ℕ → ℕ → ℕ → Spots
+spots_at first ifaces links = record { first = first; ifaces = ifaces; links = links }
+
+node_there : (nodes : List PlainNode) (k : ℕ) (x : PlainNode) → k < length nodes → x ≡ slice_index_or nodes k x → drop k nodes ≡ x ∷ drop (k + 1) nodes
+node_there [] k x low is = absurd (omega (arith, low))
+node_there (y ∷ nodes) zero x low is = ap (λ (z : PlainNode). z ∷ nodes) (sym is)
+node_there (y ∷ nodes) (suc k) x low is =
+    let more : suc (k + 1) ≡ suc k + 1 = omega arith in
+    node_there nodes k x (omega (arith, low)) is ∙ ap (λ (j : ℕ). x ∷ drop j (y ∷ nodes)) more
+
+pub one_node : (ls all : List (List Wire)) (v : List Wire) (place first next links : ℕ) (nodes : List PlainNode) (js : List PlainJoint) (x : PlainNode) → place < length nodes → x ≡ slice_index_or nodes place x
+    → ls ++ wired_from place first links (drop place nodes) js ≡ all → v ≡ map (wire_by (spots_at first (length (joints_at place js)) links)) (wires_at place x js)
+    → next ≡ first + 1 + length (joints_at place js) + length x.apps → (ls ++ v ∷ []) ++ wired_from (place + 1) next links (drop (place + 1) nodes) js ≡ all
+one_node ls all v place first next links nodes js x low is before made count =
+    append_assoc ls (v ∷ []) (wired_from (place + 1) next links (drop (place + 1) nodes) js)
+    ∙ ap (λ (w : List Wire). ls ++ w ∷ wired_from (place + 1) next links (drop (place + 1) nodes) js) made
+    ∙ ap (λ (m : ℕ). ls ++ map (wire_by (spots_at first (length (joints_at place js)) links)) (wires_at place x js) ∷ wired_from (place + 1) m links (drop (place + 1) nodes) js) count
+    ∙ ap (λ (ns : List PlainNode). ls ++ wired_from place first links ns js) (sym (node_there nodes place x low is))
+    ∙ before
+
+-- a node among others is one of a scene
+pub each_node : (nodes : List PlainNode) → AllByRecursion IsNode nodes → (k : ℕ) (x : PlainNode) → k < length nodes → x ≡ slice_index_or nodes k x → IsNode x
+each_node [] are k x low is = absurd (omega (arith, low))
+each_node (y ∷ nodes) are zero x low is = subst IsNode (sym is) are.0
+each_node (y ∷ nodes) are (suc k) x low is = each_node nodes are.1 k x (omega (arith, low)) is
+
+-- a node has no more ends of links than there are links
+few_more : (node number n : ℕ) (l : PlainLink) (f s : End) (js : List PlainJoint) → Touch node l f s → length (joints_at node js) ≤ n → length (joints_at node (two_joints number (lane_of l.kind) f s js)) ≤ suc n
+few_more node number n l f s js (at_first e g t) h =
+    let low : suc (length (joints_at node js)) ≤ suc n = omega (arith, h) in
+    rw (e, g) low
+few_more node number n l f s js (at_second e g t) h =
+    let low : suc (length (joints_at node js)) ≤ suc n = omega (arith, h) in
+    rw (e, g) low
+few_more node number n l f s js (at_none e g t) h =
+    let low : length (joints_at node js) ≤ suc n = omega (arith, h) in
+    rw (e, g) low
+
+pub joints_few : (nodes : List PlainNode) (all : List PlainLink) (node number : ℕ) (links : List PlainLink) → AllByRecursion (IsLink nodes all) links → length (joints_at node (joints_from number links)) ≤ length links
+joints_few nodes all node number [] is = omega arith
+joints_few nodes all node number (l ∷ links) is =
+    let ends = is.0.ends in
+    subst (λ (js : List PlainJoint). length (joints_at node js) ≤ suc (length links)) (sym (joined number l links ends.first ends.second ends.two))
+    (few_more node number (length links) l ends.first ends.second (joints_from (number + 1) links) (touch node l ends.first ends.second ends.two ends.apart) (joints_few nodes all node (number + 1) links is.1))

@@ -1,0 +1,8 @@
+use Rattle.csp_topology.proofs.PartyPlaces.{are_led, hub_stands}
+use Rattle.csp_topology.proofs.laws.leads_with_hubs.Goals as goal
+
+pub returns-clause-led : goal.returns-clause-led
+returns-clause-led c = are_led
+
+pub returns-clause-hubs : goal.returns-clause-hubs
+returns-clause-hubs c = hub_stands

@@ -1,0 +1,10 @@
+use Rattle.std.proofs.Common.{◌≡◌, ◌++◌, map}
+use Rattle.std.specs.List.{range_with_len}
+use Rattle.csp_topology.proofs.wiring.push_up.Given as goal
+use Rattle.csp_topology.specs.Wires.{up_lane}
+use Rattle.csp_topology.specs.Wiring.{wire_by}
+
+abbrev pub invariant-loop-number : goal.invariant-loop-number
+invariant-loop-number l = record {
+  wires : l.wires.items ≡ l.fn.wires.items ++ map (λ k. wire_by l.spots (up_lane l.node l.hub k)) (range_with_len 0 l.number);
+}

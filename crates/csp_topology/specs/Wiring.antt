@@ -1,0 +1,61 @@
+-- The lanes of the nodes of a scene, with the places of the parties that use them.
+use Rattle.std.specs.Prelude.{◌≡◌, ℕ, ◌+◌, Option, Some, IsSomeAnd, List, [], ◌∷◌, length, map, slice_get}
+use Rattle.std.specs.Option.{option_and_then}
+use Rattle.csp_lists.specs.PlainDeck.{lane_room}
+use Rattle.csp_record.specs.declared.who.Who.{Who}
+use Rattle.csp_record.specs.declared.who.Who.TheVariants as who
+use Rattle.csp_scene.specs.Scene.{PlainScene, PlainNode}
+use Rattle.csp_topology.specs.Lanes.{PlainEnd, PlainLane}
+use Rattle.csp_topology.specs.Parties.{parties_of}
+use Rattle.csp_topology.specs.Wires.{PlainJoint, joints_at, wire_at, wires_at}
+use Rattle.csp_topology.specs.declared.wire.Spots.{Spots}
+use Rattle.csp_topology.specs.declared.wire.Wire.{Wire}
+use Rattle.csp_topology.specs.declared.wire.WireEnd.{WireEnd}
+
+-- where a party of a node stands, or a link
+abbrev pub place_by : Spots → Who → ℕ
+place_by s (who.Router _) = s.first
+place_by s (who.Bridge _) = s.first
+place_by s (who.Iface _ k) = s.first + 1 + k
+place_by s (who.App _ k) = s.first + 1 + s.ifaces + k
+place_by s (who.Link k) = s.links + k
+
+-- a lane with the places of the parties at its ends
+abbrev pub wire_by : Spots → PlainLane → Wire
+wire_by s l = record {
+  queue = l.queue;
+  carries = l.carries;
+  room = lane_room l.queue;
+  from = record { party = place_by s l.from.who; queue = l.from.queue };
+  to = record { party = place_by s l.to.who; queue = l.to.queue };
+}
+
+-- an end of a lane names the party at that place of the list of parties
+pub record IsEndOf (scene : PlainScene) (e : PlainEnd) (w : WireEnd) : Type 0 where
+  pub party : slice_get (map (λ o. o.who) (parties_of scene)) w.party ≡ Some e.who
+  pub called : w.queue ≡ e.queue
+
+-- a lane with its room and its ends
+pub record IsWireOf (scene : PlainScene) (l : PlainLane) (w : Wire) : Type 0 where
+  pub named : w.queue ≡ l.queue
+  pub carries : w.carries ≡ l.carries
+  pub room : w.room ≡ lane_room l.queue
+  pub from : IsEndOf scene l.from w.from
+  pub to : IsEndOf scene l.to w.to
+
+-- the lane at a place of a node among these
+abbrev pub wired_at : List (List Wire) → ℕ → ℕ → Option Wire
+wired_at ws node k = option_and_then (λ wires. slice_get wires k) (slice_get ws node)
+
+-- these are the lanes of all nodes of a scene, and no others
+pub record AreWires (scene : PlainScene) (ws : List (List Wire)) : Type 0 where
+  pub count : length ws ≡ length scene.nodes
+  pub each : (node k : ℕ) (l : PlainLane) → wire_at scene node k ≡ Some l → IsSomeAnd (wired_at ws node k) (IsWireOf scene l)
+  pub only : (node k : ℕ) (w : Wire) → wired_at ws node k ≡ Some w → IsSomeAnd (wire_at scene node k) (λ l. IsWireOf scene l w)
+
+-- the lanes of the nodes from this place on, whose parties stand from this place on, before links from the other
+abbrev pub wired_from : ℕ → ℕ → ℕ → List PlainNode → List PlainJoint → List (List Wire)
+wired_from place first links [] joints = []
+wired_from place first links (n ∷ nodes) joints =
+    map (wire_by (record { first = first; ifaces = length (joints_at place joints); links = links })) (wires_at place n joints)
+    ∷ wired_from (place + 1) (first + 1 + length (joints_at place joints) + length n.apps) links nodes joints

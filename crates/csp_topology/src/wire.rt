@@ -1,0 +1,162 @@
+//! A lane of a node, with the parties at its ends.
+
+ghost use Rattle.std.specs.Prelude.{◌≡◌, ◌≤◌};
+ghost use Rattle.csp_lists.specs.PlainDeck.{lane_room};
+ghost use Rattle.csp_topology.specs.Lanes.{out_lane};
+ghost use Rattle.csp_topology.specs.Wires.{down_lane, rx_lane, tx_lane, up_lane};
+ghost use Rattle.csp_topology.specs.Wiring.{place_by, wire_by};
+
+use crate::joint::Joint;
+use crate::topology::MAX_PARTIES;
+use csp_log::{Carries, DOWN_ROOM, LINK_ROOM, OUT_ROOM, QueueId, UP_ROOM};
+use csp_record::Who;
+
+/// An end of a lane.
+#[derive(Clone, Copy, PartialEq, Eq, Debug)]
+pub struct WireEnd {
+    /// The place of the party that uses it, among the parties of the topology.
+    pub party: u16,
+    /// What that party calls the lane: a link names its lanes by its ends.
+    pub queue: QueueId,
+}
+
+/// A lane of a node.
+#[derive(Clone, Copy, PartialEq, Eq, Debug)]
+pub struct Wire {
+    /// Its name at its node.
+    pub queue: QueueId,
+    /// What it carries.
+    pub carries: Carries,
+    /// For how many items it has room.
+    pub room: u16,
+    /// Who puts into it.
+    pub from: WireEnd,
+    /// Who gets from it.
+    pub to: WireEnd,
+}
+
+/// Where parties stand among those of a scene: those of one node, and the links.
+#[derive(Clone, Copy)]
+pub(crate) struct Spots {
+    /// The place of the node's router or bridge, before its interfaces and its applications.
+    pub first: u16,
+    /// How many interfaces it has.
+    pub ifaces: u16,
+    /// The place of the first link.
+    pub links: u16,
+}
+
+impl Spots {
+    /// Where this party stands, where it is one of the node's or a link.
+    fn place(self, who: Who) -> u16
+        requires first { self.first ≤ MAX_PARTIES }
+        requires ifaces { self.ifaces ≤ MAX_PARTIES }
+        requires links { self.links ≤ MAX_PARTIES }
+        ensures { result ≡ place_by self who }
+    {
+        match who {
+            Who::Router(_) | Who::Bridge(_) => self.first,
+            Who::Iface(_, number) => self.first + 1 + u16::from(number),
+            Who::App(_, number) => self.first + 1 + self.ifaces + u16::from(number),
+            Who::Link(number) => self.links + u16::from(number),
+        }
+    }
+
+    /// The end of this party, which calls the lane so.
+    fn end(self, who: Who, queue: QueueId) -> WireEnd
+        requires first { self.first ≤ MAX_PARTIES }
+        requires ifaces { self.ifaces ≤ MAX_PARTIES }
+        requires links { self.links ≤ MAX_PARTIES }
+        ensures { result ≡ record { party = place_by self who; queue = queue } }
+    {
+        WireEnd {
+            party: self.place(who),
+            queue,
+        }
+    }
+
+    /// The lane from a link to the interface at its end.
+    pub(crate) fn rx(self, joint: &Joint) -> Wire
+        requires first { self.first ≤ MAX_PARTIES }
+        requires ifaces { self.ifaces ≤ MAX_PARTIES }
+        requires links { self.links ≤ MAX_PARTIES }
+        ensures { result ≡ wire_by self (rx_lane joint.now) }
+    {
+        let queue = QueueId::Rx(joint.end.iface);
+        Wire {
+            queue,
+            carries: joint.carries,
+            room: LINK_ROOM,
+            from: self.end(Who::Link(joint.link), QueueId::Rx(joint.place)),
+            to: self.end(Who::Iface(joint.end.node, joint.end.iface), queue),
+        }
+    }
+
+    /// The lane from the interface to the link.
+    pub(crate) fn tx(self, joint: &Joint) -> Wire
+        requires first { self.first ≤ MAX_PARTIES }
+        requires ifaces { self.ifaces ≤ MAX_PARTIES }
+        requires links { self.links ≤ MAX_PARTIES }
+        ensures { result ≡ wire_by self (tx_lane joint.now) }
+    {
+        let queue = QueueId::Tx(joint.end.iface);
+        Wire {
+            queue,
+            carries: joint.carries,
+            room: LINK_ROOM,
+            from: self.end(Who::Iface(joint.end.node, joint.end.iface), queue),
+            to: self.end(Who::Link(joint.link), QueueId::Tx(joint.place)),
+        }
+    }
+
+    /// The lane to the interface from the router or bridge of this node.
+    pub(crate) fn out(self, node: u8, hub: Who, number: u8) -> Wire
+        requires first { self.first ≤ MAX_PARTIES }
+        requires ifaces { self.ifaces ≤ MAX_PARTIES }
+        requires links { self.links ≤ MAX_PARTIES }
+        ensures { result ≡ wire_by self (out_lane node hub number) }
+    {
+        let queue = QueueId::Out(number);
+        Wire {
+            queue,
+            carries: Carries::Out,
+            room: OUT_ROOM,
+            from: self.end(hub, queue),
+            to: self.end(Who::Iface(node, number), queue),
+        }
+    }
+
+    /// The lane to the application from the router of this node.
+    pub(crate) fn down(self, node: u8, hub: Who, number: u8) -> Wire
+        requires first { self.first ≤ MAX_PARTIES }
+        requires ifaces { self.ifaces ≤ MAX_PARTIES }
+        requires links { self.links ≤ MAX_PARTIES }
+        ensures { result ≡ wire_by self (down_lane node hub number) }
+    {
+        let queue = QueueId::Down(number);
+        Wire {
+            queue,
+            carries: Carries::Down,
+            room: DOWN_ROOM,
+            from: self.end(hub, queue),
+            to: self.end(Who::App(node, number), queue),
+        }
+    }
+
+    /// The lane from the application to the router of this node.
+    pub(crate) fn up(self, node: u8, hub: Who, number: u8) -> Wire
+        requires first { self.first ≤ MAX_PARTIES }
+        requires ifaces { self.ifaces ≤ MAX_PARTIES }
+        requires links { self.links ≤ MAX_PARTIES }
+        ensures { result ≡ wire_by self (up_lane node hub number) }
+    {
+        let queue = QueueId::Up(number);
+        Wire {
+            queue,
+            carries: Carries::Up,
+            room: UP_ROOM,
+            from: self.end(Who::App(node, number), queue),
+            to: self.end(hub, queue),
+        }
+    }
+}

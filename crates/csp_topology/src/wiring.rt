@@ -1,0 +1,164 @@
+//! The lanes of all nodes.
+
+ghost use Rattle.std.specs.Prelude.{◌≡◌, ◌≤◌, ◌+◌, ◌++◌, ◌*◌, length, map, IfOk, OnOk};
+ghost use Rattle.std.specs.List.{AllByRecursion, range_with_len};
+ghost use Rattle.csp_scene.specs.Ranges.{IsLink, IsNode};
+ghost use Rattle.csp_topology.specs.Lanes.{hub_of, out_lane};
+ghost use Rattle.csp_topology.specs.Wires.{down_lane, joints_from, rx_lane, tx_lane, up_lane, wires_with};
+ghost use Rattle.csp_topology.specs.Wiring.{wire_by, wired_from};
+
+use crate::joint::{Joint, joints_at, joints_of};
+use crate::topology::MAX_PARTIES;
+use crate::wire::{Spots, Wire};
+use csp_record::Who;
+use csp_scene::{MAX_APPS, MAX_LINKS, MAX_NODES, SceneLink, SceneNode};
+use std::alloc::{AllocError, Global};
+
+/// The lanes of all nodes, in their order, where the links are the last parties, from this place on.
+#[tactic(auto, using(crate::proofs::WireSteps::joints_few))]
+pub(crate) fn wires_of(
+    alloc: Global,
+    nodes: &[SceneNode],
+    links: &[SceneLink],
+    first_link: u16,
+) -> Result<Vec<Vec<Wire>>, AllocError>
+    requires nodes { AllByRecursion IsNode nodes.now }
+    requires few { length nodes.now ≤ MAX_NODES }
+    requires few_links { length links.now ≤ MAX_LINKS }
+    requires ends { AllByRecursion (IsLink nodes.now links.now) links.now }
+    requires links { first_link ≤ MAX_PARTIES }
+    ensures { IfOk result (λ wires. map (λ ws. ws.items) wires.items ≡ wired_from 0 0 first_link nodes.now (joints_from 0 links.now)) }
+{
+    let joints = joints_of(alloc, links)?;
+    let mut first = 0;
+    let mut all = Vec::with_capacity(alloc, nodes.len())?;
+    for (place, node) in nodes.iter().enumerate() {
+        let here = joints_at(alloc, place as u8, &joints)?;
+        let spots = Spots {
+            first,
+            ifaces: here.len() as u16,
+            links: first_link,
+        };
+        all.push(wires_at(alloc, place as u8, node, &here, spots)?)?;
+        first += 1 + here.len() as u16 + node.apps.len() as u16;
+    }
+    Ok(all)
+}
+
+/// The lanes of the node at this place, where these are the ends of links there.
+fn wires_at(
+    alloc: Global,
+    place: u8,
+    node: &SceneNode,
+    joints: &[Joint],
+    spots: Spots,
+) -> Result<Vec<Wire>, AllocError>
+    requires node { IsNode node.now }
+    requires first { spots.first ≤ MAX_PARTIES }
+    requires ifaces { spots.ifaces ≤ MAX_PARTIES }
+    requires links { spots.links ≤ MAX_PARTIES }
+    ensures { IfOk result (λ wires. wires.items ≡ map (wire_by spots) (wires_with place (hub_of place node.now.addr) joints.now (length node.now.apps))) }
+{
+    let hub = hub_of(place, node);
+    let apps = node.apps.len() as u8;
+    let mut wires = Vec::new(alloc);
+    push_rx(&mut wires, joints, spots)?;
+    push_tx(&mut wires, joints, spots)?;
+    push_out(&mut wires, place, hub, joints, spots)?;
+    push_down(&mut wires, place, hub, apps, spots)?;
+    push_up(&mut wires, place, hub, apps, spots)?;
+    Ok(wires)
+}
+
+/// The router of the node at this place, or the bridge that stands in its place.
+fn hub_of(place: u8, node: &SceneNode) -> Who
+    ensures { result ≡ hub_of place node.now.addr }
+{
+    match node.addr {
+        Some(_) => Who::Router(place),
+        None => Who::Bridge(place),
+    }
+}
+
+/// Appends the lanes from links to the interfaces at these ends.
+fn push_rx(wires: &mut Vec<Wire>, joints: &[Joint], spots: Spots) -> Result<(), AllocError>
+    requires first { spots.first ≤ MAX_PARTIES }
+    requires ifaces { spots.ifaces ≤ MAX_PARTIES }
+    requires links { spots.links ≤ MAX_PARTIES }
+    ensures { OnOk result (wires.new.items ≡ wires.old.items ++ map (wire_by spots) (map rx_lane joints.now)) }
+{
+    for joint in joints {
+        wires.push(spots.rx(joint))?;
+    }
+    Ok(())
+}
+
+/// Appends the lanes from the interfaces at these ends to links.
+fn push_tx(wires: &mut Vec<Wire>, joints: &[Joint], spots: Spots) -> Result<(), AllocError>
+    requires first { spots.first ≤ MAX_PARTIES }
+    requires ifaces { spots.ifaces ≤ MAX_PARTIES }
+    requires links { spots.links ≤ MAX_PARTIES }
+    ensures { OnOk result (wires.new.items ≡ wires.old.items ++ map (wire_by spots) (map tx_lane joints.now)) }
+{
+    for joint in joints {
+        wires.push(spots.tx(joint))?;
+    }
+    Ok(())
+}
+
+/// Appends the lanes from the router or bridge of this node to the interfaces at these ends.
+fn push_out(
+    wires: &mut Vec<Wire>,
+    node: u8,
+    hub: Who,
+    joints: &[Joint],
+    spots: Spots,
+) -> Result<(), AllocError>
+    requires first { spots.first ≤ MAX_PARTIES }
+    requires ifaces { spots.ifaces ≤ MAX_PARTIES }
+    requires links { spots.links ≤ MAX_PARTIES }
+    ensures { OnOk result (wires.new.items ≡ wires.old.items ++ map (wire_by spots) (map (λ j. out_lane node hub j.end.iface) joints.now)) }
+{
+    for joint in joints {
+        wires.push(spots.out(node, hub, joint.end.iface))?;
+    }
+    Ok(())
+}
+
+/// Appends the lanes from the router of this node to so many applications.
+fn push_down(
+    wires: &mut Vec<Wire>,
+    node: u8,
+    hub: Who,
+    apps: u8,
+    spots: Spots,
+) -> Result<(), AllocError>
+    requires first { spots.first ≤ MAX_PARTIES }
+    requires ifaces { spots.ifaces ≤ MAX_PARTIES }
+    requires links { spots.links ≤ MAX_PARTIES }
+    ensures { OnOk result (wires.new.items ≡ wires.old.items ++ map (λ k. wire_by spots (down_lane node hub k)) (range_with_len 0 apps)) }
+{
+    for number in 0..apps {
+        wires.push(spots.down(node, hub, number))?;
+    }
+    Ok(())
+}
+
+/// Appends the lanes from so many applications to the router of this node.
+fn push_up(
+    wires: &mut Vec<Wire>,
+    node: u8,
+    hub: Who,
+    apps: u8,
+    spots: Spots,
+) -> Result<(), AllocError>
+    requires first { spots.first ≤ MAX_PARTIES }
+    requires ifaces { spots.ifaces ≤ MAX_PARTIES }
+    requires links { spots.links ≤ MAX_PARTIES }
+    ensures { OnOk result (wires.new.items ≡ wires.old.items ++ map (λ k. wire_by spots (up_lane node hub k)) (range_with_len 0 apps)) }
+{
+    for number in 0..apps {
+        wires.push(spots.up(node, hub, number))?;
+    }
+    Ok(())
+}
