@@ -1,5 +1,6 @@
 -- Each step keeps the rule of a lane.
-use Rattle.std.proofs.Common.{◌≡◌, ◌≢◌, ℕ, zero, suc, ◌+◌, ◌≤◌, true, false, true≢false, List, [], ◌∷◌, ◌++◌, length, map, All, set, sym, refl, ap, ◌∙◌, subst, ⊎_elim, arith, append_assoc, length-append}
+use Rattle.std.proofs.Math.Nat.{max-le}
+use Rattle.std.proofs.Common.{◌≡◌, ◌≢◌, ℕ, zero, suc, ◌+◌, ◌≤◌, true, false, true≢false, List, [], ◌∷◌, ◌++◌, length, map, All, set, sym, refl, ap, ◌∙◌, subst, ⊎_elim, arith, append_assoc, length-append, max}
 use Rattle.std.proofs.lemmas.List.{map-append}
 use lib.ListN.{length-map}
 use Rattle.std.proofs.lemmas.List.Elements.{All-nil, All-head, All-tail, All-push}
@@ -162,19 +163,19 @@ joined items views h port other a fits =
     (all_set F (set views port a) other (note 0 0) (idle_fits h.region h.carries h.writer h.reader h.put h.got other 0 0 (omega arith) (omega arith))
     (λ j u _ e. all_set F views port a fits (λ i y _ at. h.fits i y at) j u e))
 
-pub reads_puts : (port : ℕ) (v : Hand) (other : ℕ) (w : Hand) → Merges Relays port v other w (told v w.known_puts v.known_gets) (note 0 0)
+pub reads_puts : (port : ℕ) (v : Hand) (other : ℕ) (w : Hand) → Merges Relays port v other w (told v (max v.known_puts w.known_puts) v.known_gets) (note 0 0)
 reads_puts port v other w items views h at two at' =
-    let a : Hand = told v w.known_puts v.known_gets in
+    let a : Hand = told v (max v.known_puts w.known_puts) v.known_gets in
     let mine = h.fits port v at in
     let theirs = h.fits other w (was_there views port other a w two at') in
-    joined items views h port other a (record { writes = mine.writes; reads = mine.reads; puts_known = theirs.puts_known; gets_known = mine.gets_known })
+    joined items views h port other a (record { writes = mine.writes; reads = mine.reads; puts_known = max-le mine.puts_known theirs.puts_known; gets_known = mine.gets_known })
 
-pub reads_gets : (port : ℕ) (v : Hand) (other : ℕ) (w : Hand) → Merges Relays port v other w (told v v.known_puts w.known_gets) (note 0 0)
+pub reads_gets : (port : ℕ) (v : Hand) (other : ℕ) (w : Hand) → Merges Relays port v other w (told v v.known_puts (max v.known_gets w.known_gets)) (note 0 0)
 reads_gets port v other w items views h at two at' =
-    let a : Hand = told v v.known_puts w.known_gets in
+    let a : Hand = told v v.known_puts (max v.known_gets w.known_gets) in
     let mine = h.fits port v at in
     let theirs = h.fits other w (was_there views port other a w two at') in
-    joined items views h port other a (record { writes = mine.writes; reads = mine.reads; puts_known = mine.puts_known; gets_known = theirs.gets_known })
+    joined items views h port other a (record { writes = mine.writes; reads = mine.reads; puts_known = mine.puts_known; gets_known = max-le mine.gets_known theirs.gets_known })
 
 no_items : (items : List Item) (put got : List ItemShown) → put ≡ got ++ map shown_item items → [] ≡ put → [] ≡ got → items ≡ []
 no_items [] put got whole a b = refl

@@ -1,6 +1,6 @@
 //! A lane.
 
-ghost use Rattle.std.specs.Prelude.{◌≡◌, ◌+◌, ◌<◌, ◌≤◌, List, ◌++◌, ⊤, length, IfOk, IfErr, IfSome, MatchOption, MatchResult, vec_len, vec_capacity};
+ghost use Rattle.std.specs.Prelude.{◌≡◌, ◌+◌, ◌<◌, ◌≤◌, List, ◌++◌, ⊤, length, max, IfOk, IfErr, IfSome, MatchOption, MatchResult, vec_len, vec_capacity};
 ghost use Rattle.crossbeam_queue.specs.Passes.{view, IsPassOf, ruled_capacity};
 ghost use Rattle.csp_lane.specs.Ends.{PlainLane, IsEndOf, IsFor, Closes, HadNoRoom, HadNothing, fresh_end, knowing, with_item};
 ghost use Rattle.csp_lane.specs.Relays.{HasBoth, Takes};
@@ -85,11 +85,11 @@ impl Lane {
         self.queue.pop_as::<Gets, R>(rt, &mut consumer.pass)
     }
 
-    /// Lets each end know how many items went through the other.
+    /// Lets each end know how many items went through the other, or more where it knew of more.
     pub fn meet(&self, producer: &mut Producer, consumer: &mut Consumer)
         requires { IsEndOf self.now producer.old × IsEndOf self.now consumer.old }
-        ensures producer { producer.new ≡ knowing producer.old (length consumer.old.items) }
-        ensures consumer { consumer.new ≡ knowing consumer.old (length producer.old.items) }
+        ensures producer { producer.new ≡ knowing producer.old (max producer.old.known (length consumer.old.items)) }
+        ensures consumer { consumer.new ≡ knowing consumer.old (max consumer.old.known (length producer.old.items)) }
     {
         self.tell_puts(producer, consumer);
         self.tell_gets(producer, consumer);
@@ -99,7 +99,7 @@ impl Lane {
     fn tell_puts(&self, producer: &mut Producer, consumer: &mut Consumer)
         requires { IsEndOf self.now producer.old × IsEndOf self.now consumer.old }
         ensures producer { producer.new ≡ producer.old }
-        ensures consumer { consumer.new ≡ knowing consumer.old (length producer.old.items) }
+        ensures consumer { consumer.new ≡ knowing consumer.old (max consumer.old.known (length producer.old.items)) }
     {
         let note = self.queue.another::<PutNote>(&mut producer.pass);
         self.queue.absorb::<PutNote>(&mut consumer.pass, note);
@@ -108,7 +108,7 @@ impl Lane {
     /// Lets the producer know what was got.
     fn tell_gets(&self, producer: &mut Producer, consumer: &mut Consumer)
         requires { IsEndOf self.now producer.old × IsEndOf self.now consumer.old }
-        ensures producer { producer.new ≡ knowing producer.old (length consumer.old.items) }
+        ensures producer { producer.new ≡ knowing producer.old (max producer.old.known (length consumer.old.items)) }
         ensures consumer { consumer.new ≡ consumer.old }
     {
         let note = self.queue.another::<GetNote>(&mut consumer.pass);

@@ -115,9 +115,10 @@ impl Split<Hand> for PutNote {
 
 /// The consumer reads it.
 impl Join<Hand> for PutNote {
+    ghost use Rattle.std.specs.Prelude.{max};
     ghost use Rattle.csp_lane.specs.Relays.{told, note};
 
-    ghost both = { λ v w. told v w.known_puts v.known_gets };
+    ghost both = { λ v w. told v (max v.known_puts w.known_puts) v.known_gets };
 
     ghost spent = { note 0 0 };
 }
@@ -136,9 +137,10 @@ impl Split<Hand> for GetNote {
 
 /// The producer reads it.
 impl Join<Hand> for GetNote {
+    ghost use Rattle.std.specs.Prelude.{max};
     ghost use Rattle.csp_lane.specs.Relays.{told, note};
 
-    ghost both = { λ v w. told v v.known_puts w.known_gets };
+    ghost both = { λ v w. told v v.known_puts (max v.known_gets w.known_gets) };
 
     ghost spent = { note 0 0 };
 }
