@@ -1,5 +1,5 @@
-//! Threads that use one pool, one lane, or one inbox, at the same time, and one thread alone. Each test ends by itself,
-//! and says the same whatever the schedule.
+//! Threads that use one pool, one lane, or one inbox, at the same time, and one thread alone; and rounds of workers that
+//! threads share out. Each test ends by itself, and says the same whatever the schedule.
 #![tactic(auto)]
 
 #[cfg(test)]
@@ -8,3 +8,5 @@ mod inboxes;
 mod lanes;
 #[cfg(test)]
 mod pools;
+#[cfg(test)]
+mod workers;
