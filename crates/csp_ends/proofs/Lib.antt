@@ -1,0 +1,6 @@
+mod AtHome
+mod Inboxes
+pub mod Kept
+mod Names
+pub mod Still
+mod Ways

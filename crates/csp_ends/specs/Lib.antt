@@ -1,0 +1,6 @@
+pub mod Causes
+pub mod Ends
+pub mod Moves
+pub mod Seen
+pub mod Serving
+pub mod Traced
