@@ -4,7 +4,10 @@ pub mod Lanes
 pub mod Links
 pub mod Origins
 pub mod Pools
+pub mod Prompt
 pub mod Queues
 pub mod Reading
+pub mod Rounds
 pub mod Runs
+pub mod Threaded
 pub mod Whole

@@ -1,0 +1,9 @@
+pub mod Books
+pub mod Flowing
+pub mod Parties
+pub mod Running
+pub mod Staying
+pub mod Sweeping
+pub mod Tracing
+pub mod Turning
+pub mod TurnsBooks

@@ -1,0 +1,12 @@
+pub mod Early
+pub mod Heard
+pub mod InboxRounds
+pub mod LaneRounds
+pub mod Logged
+pub mod MetLogs
+pub mod Onward
+pub mod Places
+pub mod PoolRounds
+pub mod RoundsMade
+pub mod ShownQueues
+pub mod Turns
