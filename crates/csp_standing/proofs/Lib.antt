@@ -1,0 +1,9 @@
+pub mod InScene
+pub mod Leaders
+pub mod MetPosts
+pub mod Opening
+pub mod Places
+pub mod Running
+pub mod Sides
+pub mod Tracing
+pub mod Turned
