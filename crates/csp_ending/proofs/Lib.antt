@@ -1,0 +1,3 @@
+mod Pouring
+mod Sorting
+mod Stores

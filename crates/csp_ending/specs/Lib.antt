@@ -1,0 +1,5 @@
+pub mod Ends
+pub mod Notes
+pub mod Parts
+pub mod Slates
+pub mod Stores
