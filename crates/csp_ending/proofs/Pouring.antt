@@ -30,13 +30,9 @@ one_number (item.Packet mark b) = omega arith
 one_number (item.Frame f) = omega arith
 one_number (item.Note n) = omega arith
 
--- the numbers of the first item and of the others
-pub numbers_first : (i : ItemShown) (is : List ItemShown) → length (numbers_of (i ∷ is)) ≡ length (item_numbers i) + length (numbers_of is)
-numbers_first i is = length-append (item_numbers i) (numbers_of is)
-
--- so the room goes down
-pub spared : (first before after own rest all n : ℕ) → n ≡ own + rest → first + n ≡ before + all → before ≡ after + own → first + rest ≡ after + all
-spared first before after own rest all n a b c = omega arith
+-- as many more are back
+pub longer : {s t : PlainStore} {ns : List ℕ} → TakesBack s ns t → length t.numbers ≡ length s.numbers + length ns
+longer {s} {t} {ns} h = ap (λ (xs : List ℕ). length xs) h.numbers ∙ length-append s.numbers ns
 
 -- what a lane carried is what it carries
 carried : (r : RegionName) (carries : Carries) (xs : List Item) → All (IsFor r carries) xs → AllByRecursion (IsCarried (rule.Lane carries)) (map shown_item xs)

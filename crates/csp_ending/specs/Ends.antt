@@ -4,7 +4,7 @@ use Rattle.std.specs.List.{AllByRecursion}
 use Rattle.csp_base.specs.declared.priority.Prio.{Prio}
 use Rattle.csp_base.specs.declared.priority.Prio.TheVariants.{Critical, High, Normal, Low}
 use Rattle.csp_deck.specs.Carried.{IsCarried}
-use Rattle.csp_ending.specs.Notes.{PlainNotes, left_note, held_note, with_queue, with_place}
+use Rattle.csp_ending.specs.Notes.{PlainNotes, left_note, held_note, with_queue}
 use Rattle.csp_ending.specs.Stores.{PlainStore, TakesBack}
 use Rattle.csp_inbox.specs.Marks.{with_mark}
 use Rattle.csp_inbox.specs.Passes as inbox
@@ -59,9 +59,10 @@ pub record InboxEnds (x : inbox.PlainInbox) (p : inbox.PlainPass) (node : ℕ) (
   pub noted : n ≡ with_inbox m node left n.queues
   pub back : TakesBack s (numbers_of (left Critical ++ left High ++ left Normal ++ left Low)) t
 
--- the end of a pool of a node: what was left in it is noted
-pub record PoolEnds (v : Hand) (node : ℕ) (m n : PlainNotes) : Type 0 where
+-- the end of a pool of a node: all that was left in it is back, and stands from this place on before the other
+pub record PoolEnds (v : Hand) (first last : ℕ) (s t : PlainStore) : Type 0 where
   pub left : List ℕ
   pub whole : Closes v left
-  pub rooms : m.others ≡ n.others + 1
-  pub noted : n ≡ with_place m node place.Pool left n.others
+  pub back : TakesBack s left t
+  pub from : first ≡ length s.numbers
+  pub to : last ≡ length t.numbers

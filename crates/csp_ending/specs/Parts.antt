@@ -10,14 +10,13 @@ use Rattle.csp_ending.specs.declared.store.Store.TheInside as store
 use Rattle.csp_lists.specs.PlainDeck.{numbers_of}
 use Rattle.csp_pool.specs.PlainPool.{numbers}
 
--- a store is seen as its memory, the numbers of the buffers that are back, and the room that is left
+-- a store is seen as its memory, the numbers of the buffers that are back, and its room
 abbrev pub plain_store : store.Inside → PlainStore
-plain_store s = record { region = s.memory.region; count = s.memory.count; numbers = numbers s.back.items; spare = s.spare }
+plain_store s = record { region = s.memory.region; count = s.memory.count; numbers = numbers s.back.items; room = vec_capacity s.back }
 
--- all its buffers are of its region, and there is room for as many more as it says
-pub record IsStore (s : store.Inside) : Type 0 where
-  pub of_it : AreAllOf s.memory.region s.back.items
-  pub room : vec_len s.back + s.spare ≤ vec_capacity s.back
+-- all its buffers are of its region
+abbrev pub IsStore : store.Inside → Type 0
+IsStore s = AreAllOf s.memory.region s.back.items
 
 -- a slate is seen as what was noted, and the room that is left
 abbrev pub plain_slate : slate.Inside → PlainSlate

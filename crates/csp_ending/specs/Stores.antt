@@ -1,25 +1,31 @@
 -- A node's memory, and the buffers that came back to it at the end of a run.
-use Rattle.std.specs.Prelude.{◌≡◌, ℕ, ◌+◌, List, ◌++◌, length}
+use Rattle.std.specs.Prelude.{◌≡◌, ℕ, ◌+◌, ◌≤◌, List, ◌++◌, length, slice_range}
 use Rattle.std.specs.List.{range_with_len}
 use Rattle.csp_arena.specs.Cells.{RegionName}
 use Rattle.csp_deck.specs.Step.{times}
-use Rattle.csp_pool.specs.Fairness.{Closes}
-use Rattle.csp_pool.specs.declared.hand.Hand.{Hand}
 
--- the region of the buffers, how many there are, the numbers of those that came back so far, and for how many more there is room
+-- the region of the buffers, how many there are, the numbers of those that came back so far, and for how many there is room in all
 pub record PlainStore : Type 0 where
   pub region : RegionName
   pub count : ℕ
   pub numbers : List ℕ
-  pub spare : ℕ
+  pub room : ℕ
 
 -- a store once buffers of these numbers came back
 pub record TakesBack (s : PlainStore) (ns : List ℕ) (t : PlainStore) : Type 0 where
   pub region : t.region ≡ s.region
   pub count : t.count ≡ s.count
   pub numbers : t.numbers ≡ s.numbers ++ ns
-  pub room : s.spare ≡ t.spare + length ns
+  pub room : t.room ≡ s.room
 
--- with what is left in the pool of this hand, whatever that is, each buffer is back once
-abbrev pub IsWholeWith : Hand → PlainStore → Type 0
-IsWholeWith v s = (left : List ℕ) → Closes v left → (k : ℕ) → times k (s.numbers ++ left) ≡ times k (range_with_len 0 s.count)
+-- there is room for so many more
+abbrev pub HasRoom : PlainStore → ℕ → Type 0
+HasRoom s n = length s.numbers + n ≤ s.room
+
+-- each of the buffers is back once
+abbrev pub IsWhole : PlainStore → Type 0
+IsWhole s = (k : ℕ) → times k s.numbers ≡ times k (range_with_len 0 s.count)
+
+-- the numbers of those that came back from this place on, before the other
+abbrev pub part : ℕ → ℕ → List ℕ → List ℕ
+part first last ns = slice_range ns first last

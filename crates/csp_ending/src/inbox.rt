@@ -7,7 +7,7 @@ ghost use Rattle.csp_deck.specs.Regions.{IsItemOf};
 ghost use Rattle.csp_deck.specs.Step.{item_numbers};
 ghost use Rattle.csp_ending.specs.Ends.{InboxEnds, with_inbox};
 ghost use Rattle.csp_ending.specs.Slates.{HaveRoom, slate_of, of_priority, is_of};
-ghost use Rattle.csp_ending.specs.Stores.{TakesBack};
+ghost use Rattle.csp_ending.specs.Stores.{TakesBack, HasRoom};
 ghost use Rattle.csp_inbox.specs.Passes.{IsPassOf, AllIn};
 ghost use Rattle.csp_lists.specs.PlainDeck.{numbers_of};
 ghost use Rattle.csp_log.specs.Pictures.{shown_item};
@@ -109,7 +109,7 @@ pub fn end_inbox<R: Wait>(
     requires all_in { AllIn pass }
     requires region { pass.role.token.name ≡ store.old.region }
     requires room { inbox.room ≤ room }
-    requires store_room { 4 * inbox.room ≤ store.old.spare }
+    requires store_room { HasRoom store.old (4 * inbox.room) }
     requires notes_room { 4 ≤ notes.old.queues }
     ensures { InboxEnds inbox pass node notes.old notes.new store.old store.new }
 {
@@ -126,7 +126,7 @@ pub fn end_inbox<R: Wait>(
 /// Notes these packets by priority, and takes their buffers back.
 fn sort(items: Vec<Item>, slates: &mut Slates, store: &mut Store)
     requires room { HaveRoom (length items.items) slates.old }
-    requires store_room { length items.items ≤ store.old.spare }
+    requires store_room { HasRoom store.old (length items.items) }
     requires packets { All (λ i. IsInboxItem (shown_item i)) items.items }
     requires of_it { All (IsItemOf store.old.region) items.items }
     ensures slates { (p : Prio) → (slate_of slates.new p).items ≡ (slate_of slates.old p).items ++ of_priority p (map shown_item items.items) }
@@ -143,7 +143,7 @@ impl Slates {
     /// Notes a packet by its priority, and takes its buffer back.
     fn put(&mut self, item: Item, store: &mut Store)
         requires room { HaveRoom 1 self.old }
-        requires store_room { 0 < store.old.spare }
+        requires store_room { HasRoom store.old 1 }
         requires packet { IsInboxItem (shown_item item) }
         requires of_it { IsItemOf store.old.region item }
         ensures slates { (p : Prio) → (slate_of self.new p).items ≡ (slate_of self.old p).items ++ of_priority p (shown_item item ∷ []) }

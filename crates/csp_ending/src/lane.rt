@@ -3,7 +3,7 @@
 ghost use Rattle.std.specs.Prelude.{◌≡◌, ◌<◌, ◌≤◌, ◌++◌, All, IfOk, length, map};
 ghost use Rattle.csp_deck.specs.Regions.{IsItemOf};
 ghost use Rattle.csp_ending.specs.Ends.{LaneEnds};
-ghost use Rattle.csp_ending.specs.Stores.{TakesBack};
+ghost use Rattle.csp_ending.specs.Stores.{TakesBack, HasRoom};
 ghost use Rattle.csp_lane.specs.Ends.{IsEndOf};
 ghost use Rattle.csp_lists.specs.PlainDeck.{numbers_of};
 ghost use Rattle.csp_log.specs.Pictures.{shown_item};
@@ -76,7 +76,7 @@ pub fn end_lane<R: Wait>(
     requires of_it { IsEndOf lane producer × IsEndOf lane consumer }
     requires region { producer.region ≡ store.old.region }
     requires room { lane.room ≤ room }
-    requires store_room { lane.room ≤ store.old.spare }
+    requires store_room { HasRoom store.old lane.room }
     requires notes_room { 0 < notes.old.queues }
     ensures { LaneEnds lane producer consumer node queue notes.old notes.new store.old store.new }
 {
@@ -93,7 +93,7 @@ pub fn end_lane<R: Wait>(
 /// Notes these items, and takes the buffers in them back.
 fn pour(items: Vec<Item>, slate: &mut Slate, store: &mut Store)
     requires room { length items.items ≤ slate.old.spare }
-    requires store_room { length items.items ≤ store.old.spare }
+    requires store_room { HasRoom store.old (length items.items) }
     requires of_it { All (IsItemOf store.old.region) items.items }
     ensures slate { slate.new.items ≡ slate.old.items ++ map shown_item items.items }
     ensures back { TakesBack store.old (numbers_of (map shown_item items.items)) store.new }

@@ -4,7 +4,7 @@ ghost use Rattle.std.specs.Prelude.{◌≡◌, ◌+◌, ◌<◌, ◌≤◌, ◌+
 ghost use Rattle.csp_deck.specs.Regions.{IsItemOf};
 ghost use Rattle.csp_deck.specs.Step.{item_numbers};
 ghost use Rattle.csp_ending.specs.Notes.{with_queue};
-ghost use Rattle.csp_ending.specs.Stores.{TakesBack};
+ghost use Rattle.csp_ending.specs.Stores.{TakesBack, HasRoom};
 ghost use Rattle.csp_log.specs.Pictures.{shown_item};
 
 use crate::notes::Notes;
@@ -54,7 +54,7 @@ impl Slate {
     /// Notes an item, and takes the buffer in it back, where it has one.
     pub(crate) fn put(&mut self, item: Item, store: &mut Store)
         requires room { 0 < self.old.spare }
-        requires store_room { 0 < store.old.spare }
+        requires store_room { HasRoom store.old 1 }
         requires of_it { IsItemOf store.old.region item }
         ensures items { self.new.items ≡ self.old.items ++ shown_item item ∷ [] }
         ensures spare { self.old.spare ≡ self.new.spare + 1 }
@@ -83,7 +83,7 @@ impl Slate {
 /// Notes the number of the buffer in an item and takes the buffer back, where it has one.
 fn take_back(item: Item, numbers: &mut Vec<u16>, store: &mut Store)
     requires numbers_room { vec_len numbers.old < vec_capacity numbers.old }
-    requires store_room { 0 < store.old.spare }
+    requires store_room { HasRoom store.old 1 }
     requires of_it { IsItemOf store.old.region item }
     ensures numbers { numbers.new.items ≡ numbers.old.items ++ item_numbers (shown_item item) }
     ensures few { vec_len numbers.new ≤ vec_len numbers.old + 1 }

@@ -1,9 +1,11 @@
 //! A node's memory, and the buffers that came back.
 
-ghost use Rattle.std.specs.Prelude.{◌≡◌, ◌+◌, ◌<◌, ◌≤◌, ◌∷◌, [], IfOk, drop, length, vec_capacity};
+ghost use Rattle.std.specs.Prelude.{◌≡◌, ◌+◌, ◌<◌, ◌≤◌, ◌∷◌, [], IfOk, length, slice_range, vec_capacity};
 ghost use Rattle.csp_buffer.specs.Memory.{fresh_all};
 ghost use Rattle.csp_ending.specs.Ends.{PoolEnds};
-ghost use Rattle.csp_ending.specs.Stores.{TakesBack, IsWholeWith};
+ghost use Rattle.csp_ending.specs.Stores.{TakesBack, HasRoom, IsWhole, part};
+ghost use Rattle.csp_ending.specs.Notes.{with_place};
+ghost use Rattle.csp_log.specs.declared.places.Place.TheVariants as place;
 ghost use Rattle.csp_pool.specs.PlainPool.{IsPassOf, numbers};
 
 use crate::notes::Notes;
@@ -21,8 +23,6 @@ use std::sync::Wait;
 pub struct Store {
     pub(crate) memory: Memory,
     pub(crate) back: Vec<Buffer>,
-    /// For how many more buffers there is room.
-    pub(crate) spare: usize,
 }
 
 impl Model for Store {
@@ -43,19 +43,12 @@ impl Store {
     /// Want of memory.
     pub fn open(alloc: Global, count: u16, room: usize) -> Result<(Store, Vec<Buffer>), AllocError>
         requires { 0 < count }
-        ensures store { IfOk result (λ p. p.0 ≡ record { region = p.0.region; count = count; numbers = []; spare = room }) }
+        ensures store { IfOk result (λ p. (p.0.count ≡ count) × (p.0.numbers ≡ []) × (room ≤ p.0.room)) }
         ensures buffers { IfOk result (λ p. p.1.items ≡ fresh_all (record { region = p.0.region; count = count })) }
     {
         let back = Vec::with_capacity(alloc, room)?;
         match Memory::open(alloc, count) {
-            Ok((memory, buffers)) => Ok((
-                Store {
-                    memory,
-                    back,
-                    spare: room,
-                },
-                buffers,
-            )),
+            Ok((memory, buffers)) => Ok((Store { memory, back }, buffers)),
             Err(error) => {
                 back.destroy_empty();
                 Err(error)
@@ -72,45 +65,42 @@ impl Store {
 
     /// Takes one buffer back.
     pub fn take(&mut self, buffer: Buffer)
-        requires room { 0 < self.old.spare }
+        requires room { HasRoom self.old 1 }
         requires of_it { buffer.region ≡ self.old.region }
         ensures { TakesBack self.old (buffer.picture.number ∷ []) self.new }
     {
-        self.spare -= 1;
         self.back.push_reserved(buffer);
     }
 
-    /// Ends the pool of the node with its opening pass, into which all others were joined, notes which buffers were left in
-    /// it, and gives the memory back, with each of its buffers once.
-    pub fn end<R: Wait>(
-        self,
-        rt: &R,
-        pool: Pool,
-        pass: PoolPass,
-        numbers: Vec<u16>,
-        node: u8,
-        notes: &mut Notes,
-    )
+    /// Ends the pool of the node with its opening pass, into which all others were joined, and takes back what was left in
+    /// it. Answers from which place on these buffers stand among those that are back, and before which.
+    pub fn end_pool<R: Wait>(&mut self, rt: &R, pool: Pool, pass: PoolPass) -> (usize, usize)
         requires of_it { IsPassOf pool pass }
         requires opening { pass.hand.opens ≡ 1 }
         requires joined { pass.hand.out ≡ 0 }
-        requires region { pass.hand.region ≡ self.region }
-        requires room { pool.capacity ≤ self.spare }
-        requires numbers { (numbers.items ≡ []) }
+        requires region { pass.hand.region ≡ self.old.region }
+        requires room { HasRoom self.old pool.capacity }
+        ensures { PoolEnds pass.hand result.0 result.1 self.old self.new }
+    {
+        let first = self.back.len();
+        pool.close(rt, pass, &mut self.back);
+        (first, self.back.len())
+    }
+
+    /// Notes that the pool held the buffers that stand from this place on, before the other, and gives the memory back, with
+    /// each of its buffers once.
+    pub fn end(self, first: usize, last: usize, numbers: Vec<u16>, node: u8, notes: &mut Notes)
+        requires part { (first ≤ last) × (last ≤ length self.numbers) }
+        requires numbers { numbers.items ≡ [] }
         requires numbers_room { self.count ≤ vec_capacity numbers }
         requires notes_room { 0 < notes.old.others }
-        requires whole { IsWholeWith pass.hand self }
-        ensures { PoolEnds pass.hand node notes.old notes.new }
+        requires whole { IsWhole self }
+        ensures notes { notes.new ≡ with_place notes.old node place.Pool (part first last self.numbers) notes.new.others }
+        ensures rooms { notes.old.others ≡ notes.new.others + 1 }
     {
         weighs();
-        let Store {
-            memory,
-            mut back,
-            spare: _,
-        } = self;
-        let first = back.len();
-        pool.close(rt, pass, &mut back);
-        let numbers = numbers_from(back.as_slice(), first, numbers);
+        let Store { memory, back } = self;
+        let numbers = numbers_between(back.as_slice(), first, last, numbers);
         notes.add_place(node, Place::Pool, numbers);
         memory.close(back);
     }
@@ -120,24 +110,20 @@ impl Store {
         requires none { self.numbers ≡ [] }
         requires all { buffers.items ≡ fresh_all (record { region = self.region; count = self.count }) }
     {
-        let Store {
-            memory,
-            back,
-            spare: _,
-        } = self;
+        let Store { memory, back } = self;
         back.destroy_empty();
         memory.close(buffers);
     }
 }
 
-/// The numbers of the buffers from this place on.
-fn numbers_from(buffers: &[Buffer], first: usize, mut into: Vec<u16>) -> Vec<u16>
-    requires first { first ≤ length buffers.now }
+/// The numbers of the buffers from this place on, before the other.
+fn numbers_between(buffers: &[Buffer], first: usize, last: usize, mut into: Vec<u16>) -> Vec<u16>
+    requires part { (first ≤ last) × (last ≤ length buffers.now) }
     requires none { into.items ≡ [] }
-    requires room { length buffers.now ≤ vec_capacity into + first }
-    ensures { result.items ≡ numbers (drop first buffers.now) }
+    requires room { length buffers.now ≤ vec_capacity into }
+    ensures { result.items ≡ numbers (slice_range buffers.now first last) }
 {
-    let rest = &buffers[first..];
+    let rest = &buffers[first..last];
     for buffer in rest {
         into.push_reserved(buffer.number());
     }

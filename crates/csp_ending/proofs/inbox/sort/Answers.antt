@@ -6,7 +6,7 @@ use Rattle.csp_deck.specs.Regions.{IsItemOf}
 use Rattle.csp_ending.specs.Slates.{HaveRoom}
 use Rattle.csp_log.specs.Pictures.{shown_item}
 use Rattle.csp_log.specs.declared.item.Item.{Item}
-use Rattle.csp_ending.proofs.Pouring.{moved, numbers_first, one_number, spared}
+use Rattle.csp_ending.proofs.Pouring.{longer, moved, one_number}
 use Rattle.csp_ending.proofs.Sorting.{less_room, room_one, sorted}
 use Rattle.csp_ending.proofs.inbox.sort.Goals as goal
 
@@ -30,15 +30,15 @@ loop-item-preserved c =
     let back = c.put.ensures.back in
     let store_room = rw first at before.store_room in
     let one = one_number x in
-    let used = back.room in
+    let used = longer back in
     record {
       slates = λ p. sorted _ _ p x rest _ (c.put.ensures.slates p) (rw first at (before.slates p));
       room = c.put.ensures.room (length c.pop_front.new.self.items) (less_room (length c.pop_front.new.self.items) _ (rw first at before.room));
-      store_room = omega (arith, store_room, used, one);
+      store_room = omega (arith, store_room, used, one, back.room);
+      total = back.room ∙ before.total;
       packets = All-rest (λ (i : Item). IsInboxItem (shown_item i)) c.in-Some.item _ _ first before.packets;
       of_it = All-rest (IsItemOf c.args.store.now.region) c.in-Some.item _ _ first before.of_it;
       region = back.region ∙ before.region;
       count = back.count ∙ before.count;
       numbers = moved _ _ _ _ _ back.numbers (rw first at before.numbers);
-      spare = spared _ _ _ _ _ _ _ (numbers_first x rest) (rw first at before.spare) used;
     }

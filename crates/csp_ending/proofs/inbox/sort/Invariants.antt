@@ -12,13 +12,13 @@ abbrev pub invariant-loop-item : goal.invariant-loop-item
 invariant-loop-item l = record {
   slates : (p : Prio) → (slate_of l.slates p).items ++ of_priority p (map shown_item l.items.items) ≡ (slate_of l.fn.slates p).items ++ of_priority p (map shown_item l.fn.items.items);
   room : HaveRoom (length l.items.items) l.slates;
-  store_room : length l.items.items ≤ l.store.spare;
+  store_room : length l.store.numbers + length l.items.items ≤ l.store.room;
+  total : l.store.room ≡ l.fn.store.room;
   packets : All (λ i. IsInboxItem (shown_item i)) l.items.items;
   of_it : All (IsItemOf l.fn.store.region) l.items.items;
   region : l.store.region ≡ l.fn.store.region;
   count : l.store.count ≡ l.fn.store.count;
   numbers : l.store.numbers ++ numbers_of (map shown_item l.items.items) ≡ l.fn.store.numbers ++ numbers_of (map shown_item l.fn.items.items);
-  spare : l.fn.store.spare + length (numbers_of (map shown_item l.items.items)) ≡ l.store.spare + length (numbers_of (map shown_item l.fn.items.items));
 }
 
 abbrev pub decreases-loop-item : goal.decreases-loop-item

@@ -5,7 +5,7 @@ use Rattle.csp_deck.specs.Regions.{IsItemOf}
 use Rattle.csp_deck.specs.Step.{item_numbers}
 use Rattle.csp_lists.specs.PlainDeck.{numbers_of}
 use Rattle.csp_log.specs.Pictures.{shown_item}
-use Rattle.csp_ending.proofs.Pouring.{moved, numbers_first, one_number, spared}
+use Rattle.csp_ending.proofs.Pouring.{longer, moved, one_number}
 use Rattle.csp_ending.proofs.lane.pour.Goals as goal
 
 pub put-requires-clause-of_it : goal.put-requires-clause-of_it
@@ -23,14 +23,14 @@ loop-item-preserved c =
     let room = rw first at before.room in
     let store_room = rw first at before.store_room in
     let one = one_number x in
-    let used = back.room in
+    let used = longer back in
     record {
       slate = moved _ _ _ _ _ c.put.ensures.items (rw first at before.slate);
       room = omega (arith, room, c.put.ensures.spare);
-      store_room = omega (arith, store_room, used, one);
+      store_room = omega (arith, store_room, used, one, back.room);
+      total = back.room ∙ before.total;
       of_it = All-rest (IsItemOf c.args.store.now.region) c.in-Some.item _ _ first before.of_it;
       region = back.region ∙ before.region;
       count = back.count ∙ before.count;
       numbers = moved _ _ _ _ _ back.numbers (rw first at before.numbers);
-      spare = spared _ _ _ _ _ _ _ (numbers_first x rest) (rw first at before.spare) used;
     }

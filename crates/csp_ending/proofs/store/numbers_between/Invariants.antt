@@ -1,6 +1,6 @@
 use Rattle.std.proofs.Common.{◌≡◌, take, vec_len, vec_capacity}
 use Rattle.csp_pool.specs.PlainPool.{numbers}
-use Rattle.csp_ending.proofs.store.numbers_from.Given as goal
+use Rattle.csp_ending.proofs.store.numbers_between.Given as goal
 
 abbrev pub invariant-loop-buffer : goal.invariant-loop-buffer
 invariant-loop-buffer l = record {
