@@ -1,21 +1,19 @@
 -- After a meeting of all parties, twice over, each knows what the others did.
-use Rattle.std.proofs.Common.{◌≡◌, ◌⊎◌, inl, inr, ◌≤◌, ◌<◌, ◌+◌, ◌==◌, ℕ, zero, suc, Bool, true, false, true≢false, List, [], ◌∷◌, Option, None, Some, length, map, max, refl, sym, ap, ◌∙◌, subst, le_trans, le_refl, arith}
+use Rattle.std.proofs.Common.{◌≡◌, ◌≤◌, ◌<◌, ◌+◌, ◌==◌, ℕ, zero, suc, Bool, true, false, true≢false, List, [], ◌∷◌, Option, None, Some, length, map, refl, sym, ap, ◌∙◌, subst, arith}
 use Rattle.std.specs.Prelude.{◌≢◌, IfSome, slice_get, if◌then◌else◌}
-use Rattle.std.specs.List.{AllByRecursion, AllZip, sum_by}
+use Rattle.std.specs.List.{AllByRecursion, AllZip}
 use Rattle.std.proofs.Math.Logic.{⊎_elim}
 use Rattle.std.proofs.Math.Nat.{eq-or-lt_of_le, le-max_right}
 use Rattle.std.proofs.lemmas.Bool.{cases_order, eq-eqb, eqb-true}
 use Rattle.std.proofs.lemmas.Option.{same_Some}
 use Rattle.csp_base.specs.declared.priority.Prio.{Prio}
-use Rattle.csp_ends.specs.Ends.{PlainSide, PlainHome, PlainEnds}
+use Rattle.csp_ends.specs.Ends.{PlainSide, PlainHome}
 use Rattle.csp_inbox.specs.Marks.{with_mark}
-use Rattle.csp_inbox.specs.Passes.{PlainPass as Post, mail_at, known_puts, known_gets, known_of}
-use Rattle.csp_lane.specs.Ends.{PlainEnd}
-use Rattle.csp_log.specs.declared.shown.ItemShown.{ItemShown}
-use Rattle.csp_meeting.specs.Meeting.{HasToldAll, HaveMetAtHome, HaveMetHomes, HaveMetInboxes, HaveMetLanes, HaveMetMail, HaveMetSides, KnowsMoreHome, KnowsMoreHomes, KnowsMoreInbox, leads, reads_inbox}
+use Rattle.csp_inbox.specs.Passes.{PlainPass as Post, mail_at, known_of}
+use Rattle.csp_meeting.specs.Meeting.{HasToldAll, HaveMetHomes, HaveMetInboxes, HaveMetLanes, HaveMetSides, KnowsMoreHome, KnowsMoreHomes, KnowsMoreInbox, leads, reads_inbox}
 use Rattle.csp_pool.specs.Tallies.{Tally, accounted, known_total}
-use Rattle.csp_posts.specs.Between.{AreJoined, HaveMet, HaveMetAt, HaveMetInbox, HasMetPool, ShareInbox, all_put, all_taken, is_home, over_home, pool_puts, pool_takes}
-use Rattle.csp_posts.specs.Books.{AnswersForItself, AreInBooks, HasBooks, IsLed, IsMarked}
+use Rattle.csp_posts.specs.Between.{AreJoined, HaveMet, HaveMetAt, HaveMetInbox, ShareInbox, all_put, all_taken, is_home, over_home, pool_puts, pool_takes}
+use Rattle.csp_posts.specs.Books.{AnswersForItself, AreInBooks, HasBooks, IsMarked}
 use Rattle.csp_posts.specs.Meetings.{AllPairs, HasMet, HaveMetPosts, Informs, IsInformed, KnowsOf, LeaderKnows, all_puts_for, all_takes_for, puts_for, takes_for}
 use Rattle.csp_posts.specs.Posts.{PlainPost}
 use Rattle.csp_posts.specs.Seen.{SeenPost}

@@ -1,7 +1,7 @@
 -- What comes to a party and what it hands over goes through what it has in hand, once.
-use Rattle.std.proofs.Common.{◌≡◌, ◌⊎◌, inl, inr, ℕ, zero, suc, ◌+◌, ◌==◌, Bool, true, false, Option, None, Some, List, [], ◌∷◌, ◌++◌, map, sum_by, refl, sym, ap, ◌∙◌, subst, arith}
+use Rattle.std.proofs.Common.{◌≡◌, ◌⊎◌, inl, inr, ℕ, zero, suc, ◌+◌, ◌==◌, Bool, true, false, Option, None, Some, List, [], ◌∷◌, ◌++◌, map, sum_by, refl, sym, ap, ◌∙◌, arith}
 use Rattle.std.specs.Prelude.{slice_get, if◌then◌else◌, IsSome, IsSomeAnd}
-use Rattle.std.specs.List.{AllByRecursion, flat_map}
+use Rattle.std.specs.List.{AllByRecursion}
 use Rattle.std.specs.Option.{option_map}
 use Rattle.std.proofs.lemmas.Bool.{eqb-true}
 use Rattle.std.proofs.lemmas.Grind.{flat_map-append}
@@ -21,7 +21,7 @@ use Rattle.csp_deck.specs.Step.{times, op_numbers, answer_numbers, item_numbers}
 use Rattle.csp_ends.proofs.Kept.{whole_kept}
 use Rattle.csp_ends.specs.Causes.{CauseOf, HaveCauses, HasEnd}
 use Rattle.csp_ends.specs.Ends.{PlainSide, PlainHome, PlainEnds, inbox_of, AreApart, AreEnds}
-use Rattle.csp_ends.specs.Moves.{moved_by, side_after, hand_after, home_after, post_after, ends_after, ends_after_all}
+use Rattle.csp_ends.specs.Moves.{moved_by, side_after, home_after, post_after, ends_after, ends_after_all}
 use Rattle.csp_inbox.specs.Passes as inbox
 use Rattle.csp_lists.specs.PlainDeck.{numbers_of}
 use Rattle.csp_log.specs.Pictures.{Fits}
@@ -34,7 +34,6 @@ use Rattle.csp_log.specs.declared.shown.ItemShown.{ItemShown}
 use Rattle.csp_log.specs.declared.shown.ItemShown.TheVariants as item
 use Rattle.csp_log.specs.declared.shown.OpShown.{OpShown}
 use Rattle.csp_log.specs.declared.shown.OpShown.TheVariants as op
-use Rattle.csp_pool.specs.declared.hand.Hand.{Hand}
 use Rattle.csp_posts.proofs.Tracing.{put_more, taken_more}
 use Rattle.csp_posts.specs.Balance.{times_put, times_got, times_kept, times_taken_out, times_into, times_from, times_out, times_in}
 

@@ -1,9 +1,9 @@
 -- A run of a party's steps, and more of it.
 use Rattle.std.proofs.Common.{◌≡◌, ℕ, ◌+◌, ◌≤◌, List, [], ◌∷◌, ◌++◌, refl, sym, ap, ◌∙◌, subst, arith}
-use Rattle.std.specs.List.{AllByRecursion, flat_map}
+use Rattle.std.specs.List.{AllByRecursion}
 use Rattle.std.proofs.lemmas.Grind.{flat_map-append}
 use Rattle.csp_deck.proofs.Keeping.{times-append}
-use Rattle.csp_deck.specs.Runs.{Steps, IsStep, IsRun, step_after, state_after, last_time, handed_over, received}
+use Rattle.csp_deck.specs.Runs.{Steps, IsRun, step_after, state_after, last_time, handed_over, received}
 use Rattle.csp_deck.specs.Step.{times, op_numbers, answer_numbers}
 use Rattle.csp_log.specs.Pictures.{Fits}
 use Rattle.csp_log.specs.declared.entry.Entry.{Entry}

@@ -1,10 +1,9 @@
 -- What parties keep while others meet.
-use Rattle.std.proofs.Common.{◌≡◌, ◌≤◌, ◌+◌, ◌==◌, ℕ, Bool, true, false, List, [], ◌∷◌, Option, None, Some, length, map, refl, sym, ap, ◌∙◌, subst, le_trans, arith}
-use Rattle.std.specs.Prelude.{◌≢◌, IfSome, if◌then◌else◌}
-use Rattle.std.specs.List.{AllByRecursion, AllZip, sum_by}
+use Rattle.std.proofs.Common.{◌≡◌, ◌≤◌, ◌+◌, ◌==◌, ℕ, Bool, true, false, List, [], ◌∷◌, Option, None, Some, length, refl, sym, ap, ◌∙◌, subst, le_trans, arith}
+use Rattle.std.specs.Prelude.{IfSome, if◌then◌else◌}
+use Rattle.std.specs.List.{AllByRecursion, AllZip}
 use Rattle.std.proofs.lemmas.Bool.{eqb-true}
 use Rattle.std.proofs.lemmas.List.Sums.{sum_by-cons}
-use Rattle.csp_base.specs.declared.priority.Prio.{Prio}
 use Rattle.csp_ends.specs.Ends.{PlainNodeQueues, PlainSide, PlainHome, PlainEnds, AreOf}
 use Rattle.csp_inbox.specs.Marks.{with_mark}
 use Rattle.csp_inbox.specs.Passes.{PlainPass as Post, mail_at, known_gets, known_puts}
@@ -12,9 +11,9 @@ use Rattle.csp_lane.specs.Ends.{PlainEnd}
 use Rattle.csp_log.specs.declared.shown.ItemShown.{ItemShown}
 use Rattle.csp_meeting.specs.Meeting.{HaveMetAtHome, HaveMetEnds, HaveMetHomes, HaveMetInboxes, HaveMetLanes, HaveMetMail, HaveMetSides, KeepCounts, KeepCountsAt, KeepCountsBy, KnowsMore, KnowsMoreAt, KnowsMoreHome, KnowsMoreHomes, KnowsMoreInbox, leads, reads_inbox}
 use Rattle.csp_meeting.specs.Meeting as ends
-use Rattle.csp_pool.specs.Tallies.{accounted, known_total}
+use Rattle.csp_pool.specs.Tallies.{known_total}
 use Rattle.csp_posts.specs.Between.{is_home, over_home}
-use Rattle.csp_posts.specs.Meetings.{AllPairs, HasMet, HaveMetPosts, Informs, IsInformed, KnowsOf, LeaderKnows, all_puts_for, all_takes_for, puts_for, takes_for}
+use Rattle.csp_posts.specs.Meetings.{HasMet, HaveMetPosts, Informs, IsInformed, KnowsOf, LeaderKnows, puts_for, takes_for}
 use Rattle.csp_posts.specs.Posts.{PlainPost}
 use Rattle.csp_posts.specs.Seen.{SeenPost}
 

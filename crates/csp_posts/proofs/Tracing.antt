@@ -7,10 +7,10 @@ use Rattle.std.proofs.lemmas.Grind.{flat_map-append}
 use Rattle.std.proofs.lemmas.List.{append-nil}
 use Rattle.csp_base.specs.declared.priority.Prio.{Prio}
 use Rattle.csp_base.specs.declared.priority.Prio.TheVariants.{Critical, High, Normal, Low}
-use Rattle.csp_consistent.specs.Pools.{given, given_by, taken, taken_by}
+use Rattle.csp_consistent.specs.Pools.{given, given_by, taken_by}
 use Rattle.csp_consistent.specs.Reading.{put_by, got_by, puts, gets, of_priority, with_priority}
 use Rattle.csp_ends.specs.Ends.{PlainSide, PlainHome, PlainEnds}
-use Rattle.csp_ends.specs.Moves.{moved_by, side_after, hand_after, home_after, mail_after, post_after, ends_after, ends_after_all}
+use Rattle.csp_ends.specs.Moves.{moved_by, side_after, hand_after, home_after, post_after, ends_after, ends_after_all}
 use Rattle.csp_ends.specs.Traced.{moved, IsSideTraced, IsMailTraced, IsHomeTraced, AreTraced}
 use Rattle.csp_inbox.specs.Passes as inbox
 use Rattle.csp_log.specs.Pictures.{Fits}

@@ -6,15 +6,13 @@ use Rattle.std.proofs.lemmas.Grind.{flat_map-append}
 use Rattle.std.proofs.lemmas.List.{append-nil}
 use Rattle.csp_consistent.specs.Reading.{got_by, gets}
 use Rattle.csp_deck.specs.Carried.{IsCarried}
-use Rattle.csp_deck.specs.Runs.{Runs, IsRun, state_after, last_time, handed_over, received}
-use Rattle.csp_deck.specs.Step as step
+use Rattle.csp_deck.specs.Runs.{Runs, IsRun, state_after, last_time}
 use Rattle.csp_ends.specs.Causes.{CauseOf, HaveCauses, HasPassedOver}
 use Rattle.csp_ends.specs.Ends.{PlainNodeQueues, PlainEnds, AreOf, AreEnds, inbox_of}
 use Rattle.csp_ends.specs.Moves.{ends_after, ends_after_all, room_for}
 use Rattle.csp_ends.specs.Traced.{AreTraced}
 use Rattle.csp_inbox.specs.Passes as inbox
 use Rattle.csp_log.specs.declared.entry.Entry.{Entry}
-use Rattle.csp_log.specs.declared.places.QueueId.{QueueId}
 use Rattle.csp_log.specs.declared.places.QueueId.TheVariants as queue
 use Rattle.csp_log.specs.declared.places.Rule.TheVariants as rule
 use Rattle.csp_log.specs.declared.shown.AnswerShown.{AnswerShown}
@@ -23,7 +21,7 @@ use Rattle.csp_log.specs.declared.shown.ItemShown.{ItemShown}
 use Rattle.csp_log.specs.declared.shown.ItemShown.TheVariants as item
 use Rattle.csp_log.specs.declared.shown.OpShown.{OpShown}
 use Rattle.csp_log.specs.declared.shown.OpShown.TheVariants as op
-use Rattle.csp_party.specs.Any.{PlainParty, has_ended, holds}
+use Rattle.csp_party.specs.Any.{PlainParty, has_ended}
 use Rattle.csp_posts.specs.Balance.{IsBalanced, times_out, times_in}
 use Rattle.csp_posts.specs.Posts.{PlainPost, AreTurns}
 use Rattle.csp_posts.specs.Still.{still, IsPostFrom}

@@ -1,7 +1,7 @@
 -- Turns keep the books of the pools.
-use Rattle.std.proofs.Common.{◌≡◌, ◌≤◌, ◌+◌, ◌==◌, ℕ, zero, suc, Bool, true, false, List, [], ◌∷◌, ◌++◌, Option, None, Some, length, map, cond, refl, sym, ap, ◌∙◌, subst, arith, length-append}
-use Rattle.std.specs.Prelude.{IfSome, IsSomeAnd, slice_get, if◌then◌else◌}
-use Rattle.std.specs.List.{AllByRecursion, AllZip, filter}
+use Rattle.std.proofs.Common.{◌≡◌, ◌+◌, ◌==◌, ℕ, Bool, true, false, List, [], ◌∷◌, ◌++◌, Option, None, Some, length, refl, sym, ap, ◌∙◌, subst, arith, length-append}
+use Rattle.std.specs.Prelude.{IfSome, IsSomeAnd, if◌then◌else◌}
+use Rattle.std.specs.List.{AllByRecursion, AllZip}
 use Rattle.std.specs.Option.{option_map}
 use Rattle.std.proofs.lemmas.Bool.{eq-eqb}
 use Rattle.std.proofs.lemmas.List.Elements.{filter-append}
@@ -13,11 +13,10 @@ use Rattle.csp_consistent.specs.Reading.{put_by, with_priority}
 use Rattle.csp_deck.specs.Carried.{priority_of}
 use Rattle.csp_ends.specs.Causes.{CauseOf, HaveCauses}
 use Rattle.csp_ends.specs.Ends.{PlainNodeQueues, PlainHome, PlainEnds, inbox_of}
-use Rattle.csp_ends.specs.Moves.{ends_after, ends_after_all, hand_after, home_after, mail_after, post_after, room_for}
+use Rattle.csp_ends.specs.Moves.{ends_after, ends_after_all, hand_after, home_after, post_after, room_for}
 use Rattle.csp_inbox.specs.Marks.{mark_of, with_mark}
 use Rattle.csp_inbox.specs.Passes.{PlainPass as Post, mail_at}
 use Rattle.csp_log.specs.declared.entry.Entry.{Entry}
-use Rattle.csp_log.specs.declared.places.QueueId.{QueueId}
 use Rattle.csp_log.specs.declared.places.QueueId.TheVariants as queue
 use Rattle.csp_log.specs.declared.shown.AnswerShown.{AnswerShown}
 use Rattle.csp_log.specs.declared.shown.AnswerShown.TheVariants as answer
@@ -28,9 +27,9 @@ use Rattle.csp_log.specs.declared.shown.OpShown.TheVariants as op
 use Rattle.csp_meeting.specs.Meeting.{leads, reads_inbox}
 use Rattle.csp_pool.specs.Tallies.{accounted}
 use Rattle.csp_pool.specs.declared.hand.Hand.{Hand}
-use Rattle.csp_posts.specs.Between.{all_put, all_taken, is_home, over_home, pool_puts, pool_takes}
-use Rattle.csp_posts.specs.Books.{AnswersForItself, AreInBooks, HasBooks, IsLed, IsMarked}
-use Rattle.csp_posts.specs.Meetings.{all_puts_for, all_takes_for, puts_for, takes_for}
+use Rattle.csp_posts.specs.Between.{is_home, over_home, pool_puts, pool_takes}
+use Rattle.csp_posts.specs.Books.{AreInBooks, HasBooks, IsMarked}
+use Rattle.csp_posts.specs.Meetings.{puts_for, takes_for}
 use Rattle.csp_posts.specs.Posts.{AreTurns, PlainPost}
 use Rattle.csp_posts.proofs.Books.{zip_at, zip_from}
 use Rattle.csp_posts.proofs.Sweeping.{over_cons}

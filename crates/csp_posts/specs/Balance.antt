@@ -1,5 +1,5 @@
 -- That no buffer is lost or made in a party's hands.
-use Rattle.std.specs.Prelude.{◌≡◌, ◌+◌, ℕ, Bool, true, false, Option, None, Some, List, if◌then◌else◌}
+use Rattle.std.specs.Prelude.{◌≡◌, ◌+◌, ℕ, Option, None, Some, List, if◌then◌else◌}
 use Rattle.std.specs.List.{sum_by}
 use Rattle.csp_deck.specs.Step.{times}
 use Rattle.csp_ends.specs.Ends.{PlainSide, PlainHome, PlainEnds}

@@ -1,5 +1,5 @@
 -- What a meeting of all parties of a threaded run leaves, and lets each know.
-use Rattle.std.specs.Prelude.{◌≡◌, ◌≤◌, ◌+◌, ⊤, ℕ, true, List, [], ◌∷◌, IfSome, Option, None, Some}
+use Rattle.std.specs.Prelude.{◌≡◌, ◌≤◌, ⊤, ℕ, true, List, [], ◌∷◌, IfSome, Option, None, Some}
 use Rattle.std.specs.List.{AllByRecursion}
 use Rattle.csp_ends.specs.Ends.{PlainHome}
 use Rattle.csp_meeting.specs.Meeting.{HaveMetEnds, KnowsMore, leads}

@@ -1,5 +1,5 @@
 -- When a party of a threaded run can take turns, and what turns leave of it.
-use Rattle.std.specs.Prelude.{◌≡◌, ◌+◌, ◌^◌, ◌<◌, ◌≤◌, ℕ, Bool, false, true, List, not}
+use Rattle.std.specs.Prelude.{◌≡◌, ◌+◌, ◌^◌, ◌<◌, ◌≤◌, ℕ, Bool, false, List, not}
 use Rattle.csp_deck.specs.Runs.{last_time}
 use Rattle.csp_ends.specs.Ends.{PlainNodeQueues, AreOf}
 use Rattle.csp_party.specs.Any.{PlainParty, a_router, a_bridge, an_iface, an_app, a_link, has_ended}

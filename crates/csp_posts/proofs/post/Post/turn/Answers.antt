@@ -1,4 +1,4 @@
-use Rattle.std.proofs.Common.{◌≡◌, ℕ, ◌+◌, ◌*◌, ◌-◌, ◌<◌, ◌≤◌, Bool, true, false, List, [], ◌∷◌, ◌++◌, vec_capacity, refl, sym, ap, ◌∙◌, subst, arith}
+use Rattle.std.proofs.Common.{◌≡◌, ℕ, ◌+◌, ◌*◌, ◌≤◌, Bool, true, false, List, [], ◌∷◌, ◌++◌, vec_capacity, refl, sym, ap, ◌∙◌, subst, arith}
 use Rattle.csp_deck.specs.Step.{entry_of}
 use Rattle.csp_ends.specs.Ends.{PlainNodeQueues, PlainEnds, rule_of}
 use Rattle.csp_ends.specs.Ends as hands

@@ -1,4 +1,4 @@
-use Rattle.std.proofs.Common.{◌≡◌, ◌+◌, ◌≤◌, ◌∙◌, arith}
+use Rattle.std.proofs.Common.{◌∙◌, arith}
 use Rattle.csp_posts.proofs.Turning.{turns_joined, turns_last, turns_of_it}
 use Rattle.csp_posts.proofs.post.PostWorker.round.Goals as goal
 
