@@ -1,10 +1,9 @@
 -- The buffers of a memory.
-use Rattle.std.proofs.Common.{◌≡◌, ◌≤◌, ℕ, ◌+◌, ◌-◌, List, [], ◌∷◌, ◌++◌, drop, take, length, map, refl, sym, ap, ◌∙◌}
+use Rattle.std.proofs.Common.{◌≡◌, ℕ, ◌-◌, List, ◌++◌, drop, take, length, refl, sym, ap, ◌∙◌}
 use Rattle.std.specs.List.{drop-map, range_with_len, slice_range}
 use Rattle.std.proofs.lemmas.List.{length-map, map-append, take-map}
 use Rattle.std.proofs.lemmas.List.Elements.{All-map}
 use Rattle.std.proofs.lemmas.List.FromFn.{length-range_with_len}
-use Rattle.csp_arena.specs.Cells.{RegionName}
 use Rattle.csp_buffer.specs.Memory.{PlainMemory, AreAllOf, HaveEachOnce, fresh, fresh_all}
 use Rattle.csp_buffer.specs.PlainBuffer.{PlainBuffer}
 use Rattle.csp_deck.specs.Step.{times}

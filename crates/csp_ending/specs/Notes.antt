@@ -1,5 +1,5 @@
 -- What is noted at the end of a run: what was left in each queue, and which buffers each place held.
-use Rattle.std.specs.Prelude.{◌≡◌, ℕ, ◌+◌, List, [], ◌∷◌, ◌++◌}
+use Rattle.std.specs.Prelude.{ℕ, List, [], ◌∷◌, ◌++◌}
 use Rattle.csp_lists.specs.PlainDeck.{numbers_of}
 use Rattle.csp_log.specs.Remains.{PlainLeft, PlainHeld}
 use Rattle.csp_log.specs.declared.places.Place.{Place}

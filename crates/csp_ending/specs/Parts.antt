@@ -1,5 +1,5 @@
 -- How the program keeps these, and what is true of it.
-use Rattle.std.specs.Prelude.{◌≡◌, ◌+◌, ◌≤◌, [], map, vec_len, vec_capacity}
+use Rattle.std.specs.Prelude.{◌≡◌, ◌+◌, ◌≤◌, vec_len, vec_capacity}
 use Rattle.csp_buffer.specs.Memory.{AreAllOf}
 use Rattle.csp_ending.specs.Notes.{PlainNotes}
 use Rattle.csp_ending.specs.Slates.{PlainSlate}

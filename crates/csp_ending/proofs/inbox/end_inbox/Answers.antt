@@ -1,5 +1,3 @@
-use Rattle.std.proofs.Common.{◌≡◌, ◌++◌, List}
-use Rattle.csp_base.specs.declared.priority.Prio.TheVariants.{Critical, High, Normal, Low}
 use Rattle.csp_deck.specs.Carried.{IsInboxItem}
 use Rattle.csp_deck.specs.Regions.{IsItemOf}
 use Rattle.csp_log.specs.Pictures.{shown_item}

@@ -1,9 +1,8 @@
-use Rattle.std.proofs.Common.{ap, arith, subst, sym, ◌+◌, ◌∷◌, ◌∙◌, ℕ, List, length, map}
+use Rattle.std.proofs.Common.{arith, subst, sym, ◌∙◌, length, map}
 use Rattle.std.proofs.lemmas.List.Elements.{All-head, All-rest}
 use Rattle.csp_arena.specs.Cells.{RegionName}
 use Rattle.csp_deck.specs.Carried.{IsInboxItem}
 use Rattle.csp_deck.specs.Regions.{IsItemOf}
-use Rattle.csp_ending.specs.Slates.{HaveRoom}
 use Rattle.csp_log.specs.Pictures.{shown_item}
 use Rattle.csp_log.specs.declared.item.Item.{Item}
 use Rattle.csp_ending.proofs.Pouring.{longer, moved, one_number}

@@ -1,9 +1,7 @@
-use Rattle.std.proofs.Common.{ap, arith, subst, sym, ◌∷◌, ◌∙◌, List, length, map}
+use Rattle.std.proofs.Common.{arith, subst, sym, ◌∙◌, map}
 use Rattle.std.proofs.lemmas.List.Elements.{All-head, All-rest}
 use Rattle.csp_arena.specs.Cells.{RegionName}
 use Rattle.csp_deck.specs.Regions.{IsItemOf}
-use Rattle.csp_deck.specs.Step.{item_numbers}
-use Rattle.csp_lists.specs.PlainDeck.{numbers_of}
 use Rattle.csp_log.specs.Pictures.{shown_item}
 use Rattle.csp_ending.proofs.Pouring.{longer, moved, one_number}
 use Rattle.csp_ending.proofs.lane.pour.Goals as goal

@@ -1,6 +1,6 @@
 use Rattle.std.proofs.Common.{◌≡◌, ℕ, List, length, sym, subst, ap, ◌∙◌, arith}
 use Rattle.std.specs.List.{slice_range}
-use Rattle.csp_buffer.specs.Memory.{AreAllOf, HaveEachOnce}
+use Rattle.csp_buffer.specs.Memory.{HaveEachOnce}
 use Rattle.csp_buffer.specs.PlainBuffer.{PlainBuffer}
 use Rattle.csp_ending.specs.Notes.{with_place}
 use Rattle.csp_ending.specs.Stores.{PlainStore, part}
