@@ -4,7 +4,7 @@ use Rattle.std.specs.List.{AllByRecursion}
 use Rattle.csp_base.specs.declared.priority.Prio.{Prio}
 use Rattle.csp_base.specs.declared.priority.Prio.TheVariants.{Critical, High, Normal, Low}
 use Rattle.csp_consistent.specs.Reading.{is_queue}
-use Rattle.csp_deck.specs.Carried.{IsInboxItem, priority_of}
+use Rattle.csp_deck.specs.Carried.{IsCarried, IsInboxItem, priority_of}
 use Rattle.csp_ends.specs.Ends.{PlainSide, PlainEnds, inbox_of}
 use Rattle.csp_ends.specs.Moves.{ends_after}
 use Rattle.csp_inbox.specs.Marks.{mark_of}
@@ -13,6 +13,7 @@ use Rattle.csp_lane.specs.Ends.{HadNothing, HadNoRoom}
 use Rattle.csp_log.specs.declared.entry.Entry.{Entry}
 use Rattle.csp_log.specs.declared.places.QueueId.{QueueId}
 use Rattle.csp_log.specs.declared.places.QueueId.TheVariants as queue
+use Rattle.csp_log.specs.declared.places.Rule.TheVariants as rule
 use Rattle.csp_log.specs.declared.shown.AnswerShown.{AnswerShown}
 use Rattle.csp_log.specs.declared.shown.AnswerShown.TheVariants as answer
 use Rattle.csp_log.specs.declared.shown.ItemShown.{ItemShown}
@@ -54,27 +55,28 @@ HasPassedOver (item.Packet mark b) x = IsInboxItem (item.Packet mark b) × HasGo
 HasPassedOver (item.Frame _) x = ⊥
 HasPassedOver (item.Note _) x = ⊥
 
--- a party has an end of this way with this name
-pub record HasEnd (way : Bool) (q : QueueId) (e : PlainEnds) : Type 0 where
+-- a party has an end of this way with this name, and its lane carries this
+pub record HasEnd (way : Bool) (q : QueueId) (i : ItemShown) (e : PlainEnds) : Type 0 where
   pub at : ℕ
   pub side : PlainSide
   pub there : slice_get e.sides at ≡ Some side
   pub named : is_queue q side.queue ≡ true
   pub puts : side.puts ≡ way
+  pub carried : IsCarried (rule.Lane side.end.carries) i
 
--- why this answer came, by what the party had in hand before the turn. What was moved went through a pass that the party has, into an inbox under
--- its own mark; a lane was empty, or full; an inbox was empty, or its more urgent priorities were. That a pool was empty or full, or an
+-- why this answer came, by what the party had in hand before the turn. What was moved went through a pass that the party has and is what the queue carries, into an
+-- inbox under its own mark; a lane was empty, or full; an inbox was empty, or its more urgent priorities were. That a pool was empty or full, or an
 -- inbox full, the pass itself keeps, as a floor
 abbrev pub CauseOf : PlainEnds → OpShown → AnswerShown → Type 0
 CauseOf e op.Take (answer.Taken _) = IsSome e.home
 CauseOf e (op.Give _) answer.Given = IsSome e.home
 CauseOf e (op.Push queue.Inbox i) answer.Pushed = IsSomeAnd (inbox_of e.home) (λ x. mark_of i ≡ x.role.mark)
-CauseOf e (op.Push q i) answer.Pushed = HasEnd true q e
+CauseOf e (op.Push q i) answer.Pushed = HasEnd true q i e
 CauseOf e (op.Push q i) (answer.Full _) = AllByRecursion (HasNoRoomAt q) e.sides
 CauseOf e (op.Pop queue.Inbox) answer.Empty = OfPass HasGotEach (inbox_of e.home)
 CauseOf e (op.Pop queue.Inbox) (answer.Popped i) = IsSomeAnd (inbox_of e.home) (λ x. (x.role.reads ≡ true) × HasPassedOver i x)
 CauseOf e (op.Pop q) answer.Empty = AllByRecursion (HasNothingAt q) e.sides
-CauseOf e (op.Pop q) (answer.Popped _) = HasEnd false q e
+CauseOf e (op.Pop q) (answer.Popped i) = HasEnd false q i e
 CauseOf e _ _ = ⊤
 
 -- each of these turns, one after the other, had its cause

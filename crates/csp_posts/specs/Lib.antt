@@ -6,3 +6,4 @@ pub mod Posts
 pub mod Ready
 pub mod Seen
 pub mod Still
+pub mod Through

@@ -17,6 +17,7 @@ use Rattle.csp_log.specs.declared.places.TheConstants.{UNMARKED}
 use Rattle.csp_posts.specs.Between.{is_home}
 use Rattle.csp_posts.specs.Posts.{PlainPost}
 use Rattle.csp_posts.specs.Still.{IsPostFrom}
+use Rattle.csp_posts.specs.Through.{IsThrough, WasCrammed}
 use Rattle.csp_record.specs.Who.{node_of}
 use Rattle.csp_record.specs.declared.who.Who.{Who}
 use Rattle.csp_record.specs.declared.who.Who.TheVariants as who
@@ -110,7 +111,8 @@ abbrev pub IsSideAmong : List RegionName → PlainSide → Type 0
 IsSideAmong regions x = slice_get regions x.node ≡ Some x.end.region
 
 -- a post is one of a scene: it is of the party that opens so, and its log is a run of that party; what it has in hand are the passes of its node
--- and the ends that the party uses, which tell what the log says; all that it got from an inbox is what an inbox carries; its turns were early; and no buffer was lost or made
+-- and the ends that the party uses, which tell what the log says; all that it got from an inbox is what an inbox carries, and all that went through an end what its
+-- lane does; a push was refused only where there was no room; its turns were early; and no buffer was lost or made
 pub record IsPostOf (scene : PlainScene) (n : PlainNetwork) (o : PlainOpening) (s : PlainPost) : Type 0 where
   pub who : s.who ≡ o.who
   pub from : IsPostFrom n.nodes o.party (opened_in scene o.who) s
@@ -118,6 +120,8 @@ pub record IsPostOf (scene : PlainScene) (n : PlainNetwork) (o : PlainOpening) (
   pub sides : map name_of s.ends.sides ≡ sides_of scene o.who
   pub regions : AllByRecursion (IsSideAmong n.regions) s.ends.sides
   pub got : AllByRecursion (IsCarried rule.Inbox) (gets queue.Inbox s.entries)
+  pub through : AllByRecursion IsThrough s.ends.sides
+  pub full : AllByRecursion (WasCrammed s.entries) s.ends.sides
   pub early : AllByRecursion (λ e. e.time < 2 ^ 62) s.entries
 
 -- the posts are those of these parties, one for each, in their order
