@@ -1,17 +1,16 @@
 -- What came through each inbox, and what was left there.
-use Rattle.std.proofs.Common.{◌≡◌, ◌≤◌, ◌==◌, ℕ, length, Bool, true, false, Option, Some, List, [], ◌∷◌, ◌++◌, map, flat_map, refl, sym, ap, ◌∙◌, subst, slice_get}
-use Rattle.std.specs.Prelude.{IfSome, if◌then◌else◌}
+use Rattle.std.proofs.Common.{◌≡◌, ◌≤◌, ◌==◌, ℕ, length, Bool, true, false, Some, List, [], ◌∷◌, ◌++◌, map, flat_map, refl, sym, ap, ◌∙◌, subst, slice_get}
 use Rattle.std.specs.List.{AllByRecursion}
+use Rattle.std.specs.Prelude.{IfSome, if◌then◌else◌}
 use Rattle.std.proofs.lemmas.Grind.{flat_map-append}
 use Rattle.std.proofs.lemmas.List.Elements.{filter-append}
 use Rattle.csp_base.specs.Priority.{prio_number}
 use Rattle.csp_base.specs.declared.priority.Prio.{Prio}
 use Rattle.csp_consistent.proofs.Owners.{IsOf, are_owners}
-use Rattle.csp_consistent.specs.Inboxes.{AreInboxesInOrder, IsInboxInOrder, IsPriorityInOrder, came_through, writer_of}
-use Rattle.csp_consistent.specs.Queues.{MayAsk, UsesItsQueues}
+use Rattle.csp_consistent.specs.Inboxes.{AreInboxesInOrder, came_through, writer_of}
+use Rattle.csp_consistent.specs.Queues.{UsesItsQueues}
 use Rattle.csp_consistent.specs.Reading.{entries_of, gets, is_who, left_in, of_priority, put_by, puts, with_mark, with_priority}
 use Rattle.csp_deck.specs.Carried.{IsCarried}
-use Rattle.csp_ends.specs.Ends.{PlainHome}
 use Rattle.csp_ends.specs.Traced.{IsHomeTraced, IsMailTraced}
 use Rattle.csp_flow.specs.Closed.{log_of}
 use Rattle.csp_flow.specs.Remains.{kept_at, kept_from}
@@ -23,14 +22,13 @@ use Rattle.csp_log.specs.declared.places.Rule.TheVariants as rule
 use Rattle.csp_log.specs.declared.shown.ItemShown.{ItemShown}
 use Rattle.csp_posts.specs.Between.{is_home}
 use Rattle.csp_posts.specs.Posts.{PlainPost}
-use Rattle.csp_prompt.proofs.Places.{each_at}
 use Rattle.csp_record.specs.Record.{PlainPartyLog, PlainRecord}
 use Rattle.csp_record.specs.declared.who.Who.{Who}
 use Rattle.csp_scene.proofs.Lists.{AllByRecursion-append}
 use Rattle.csp_scene.specs.Scene.{PlainNode, PlainScene}
+use Rattle.csp_scene.specs.declared.limits.TheConstants.{MAX_LINKS}
 use Rattle.csp_standing.proofs.Leaders.{HasHub, hub_at}
 use Rattle.csp_standing.proofs.Places.{IsAt, post_at}
-use Rattle.csp_scene.specs.declared.limits.TheConstants.{MAX_LINKS}
 use Rattle.csp_standing.specs.Network.{ArePostsOf, PlainNetwork, opened_in}
 use Rattle.csp_telling.proofs.LaneNotes.{inbox_left}
 use Rattle.csp_telling.proofs.LanesLeft.{own_entries}
@@ -77,10 +75,10 @@ module _ (node : ℕ) (c : PlainNode) (mark : ℕ) (p : Prio) where
 -- ---- what came through
 
 module _ (scene : PlainScene) (n : PlainNetwork) (posts : List PlainPost) (r : PlainRecord) (ended : IsEnded scene n posts r) (known : IsKnown scene r) (node : ℕ) (c : PlainNode) (there : slice_get scene.nodes node ≡ Some c) where
-  here : IsAtNode scene posts ended.closed.all node
+  abbrev here : IsAtNode scene posts ended.closed.all node
   here = at_scene scene n posts r ended node c there
 
-  hub : HasHub posts (hub_of node c.addr) node
+  abbrev hub : HasHub posts (hub_of node c.addr) node
   hub = hub_at scene n posts ended.net node c.addr (known.hubs node c there)
 
   its : IsAt scene n (parties_of scene) hub.at hub.post
@@ -112,7 +110,7 @@ module _ (scene : PlainScene) (n : PlainNetwork) (posts : List PlainPost) (r : P
       ∙ ap (marks.with_mark mark) (came p)
       ∙ sym ((here.has.left.inbox p).sorted hub.at hub.post hub.home hub.pass hub.there hub.its hub.node hub.inbox hub.reads mark)
       ∙ all_kept node c mark p posts
-          (all_written node c mark p scene n known.few there (parties_of scene) posts ended.net.parties (are_owners scene) (subst (AllByRecursion UsesItsQueues) ended.closed.told.parties known.uses))
+      (all_written node c mark p scene n known.few there (parties_of scene) posts ended.net.parties (are_owners scene) (subst (AllByRecursion UsesItsQueues) ended.closed.told.parties known.uses))
       ∙ ap (λ (logs : List PlainPartyLog). with_priority p (puts queue.Inbox (flat_map (λ (party : PlainPartyLog). if is_who (writer_of node (hub_of node c.addr) mark) party.who then party.entries else []) logs))) (sym ended.closed.told.parties)
 
 pub inboxes_in_order : (scene : PlainScene) (n : PlainNetwork) (posts : List PlainPost) (r : PlainRecord) → IsEnded scene n posts r → IsKnown scene r → AreInboxesInOrder scene r

@@ -1,16 +1,16 @@
 -- What the notes of a run say of a queue is what was left in it.
-use Rattle.std.proofs.Common.{◌≡◌, ℕ, zero, suc, ◌+◌, ◌<◌, ◌==◌, Bool, true, false, true≢false, Option, Some, None, List, [], ◌∷◌, ◌++◌, flat_map, refl, sym, ap, ◌∙◌, arith, slice_get}
+use Rattle.std.proofs.Common.{◌≡◌, ℕ, zero, suc, true, false, Some, List, [], ◌∷◌, ◌++◌, flat_map, refl, sym, ap, ◌∙◌, arith, slice_get}
 use Rattle.std.proofs.lemmas.Bool.{eq-eqb, false_from_ne_true}
 use Rattle.std.proofs.lemmas.List.{append-nil}
 use Rattle.std.proofs.lemmas.Option.{same_Some}
 use Rattle.csp_base.specs.Priority.{prio_number}
-use Rattle.csp_base.specs.declared.priority.Prio.{Prio}
 use Rattle.csp_base.specs.declared.priority.Prio.TheVariants.{Critical, High, Normal, Low}
+use Rattle.csp_base.specs.declared.priority.Prio.{Prio}
 use Rattle.csp_consistent.specs.Reading.{is_queue, left_here, left_in}
-use Rattle.csp_flow.specs.Closed.{all_notes, inbox_notes, lane_notes, node_notes}
+use Rattle.csp_flow.specs.Closed.{all_notes, inbox_notes, lane_notes}
 use Rattle.csp_flow.specs.Remains.{PlainRemains}
-use Rattle.csp_log.specs.declared.places.QueueId.{QueueId}
 use Rattle.csp_log.specs.declared.places.QueueId.TheVariants as queue
+use Rattle.csp_log.specs.declared.places.QueueId.{QueueId}
 use Rattle.csp_log.specs.declared.shown.ItemShown.{ItemShown}
 use Rattle.csp_record.specs.Record.{PlainRecord}
 use Rattle.csp_telling.proofs.NodeNotes.{of_node}

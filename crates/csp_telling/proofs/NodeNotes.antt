@@ -4,8 +4,8 @@ use Rattle.std.proofs.lemmas.Bool.{ne_eqb}
 use Rattle.std.proofs.lemmas.Grind.{flat_map-append}
 use Rattle.std.proofs.lemmas.List.{append-nil}
 use Rattle.std.proofs.lemmas.Option.{same_Some}
-use Rattle.csp_base.specs.declared.priority.Prio.{Prio}
 use Rattle.csp_base.specs.declared.priority.Prio.TheVariants.{Critical, High, Normal, Low}
+use Rattle.csp_base.specs.declared.priority.Prio.{Prio}
 use Rattle.csp_ending.specs.Notes.{left_note}
 use Rattle.csp_flow.specs.Closed.{all_notes, inbox_notes, lane_notes, node_notes}
 use Rattle.csp_flow.specs.Remains.{PlainRemains}

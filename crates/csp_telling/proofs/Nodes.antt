@@ -1,4 +1,8 @@
 -- What was left at each node of a scene.
+use Rattle.std.proofs.Common.{◌≡◌, ◌≤◌, ℕ, zero, suc, List, [], ◌∷◌, ◌++◌, Some, length, map, refl, sym, ap, ◌∙◌, arith, slice_get}
+use Rattle.std.specs.List.{AllByRecursion}
+use Rattle.std.specs.Option.{option_map}
+use Rattle.std.proofs.lemmas.Option.{same_Some, slice_get-map}
 use Rattle.csp_consistent.specs.Queues.{UseTheirQueues}
 use Rattle.csp_deck.specs.Carried.{places_of}
 use Rattle.csp_flow.specs.Closed.{IsClosed}
@@ -17,10 +21,6 @@ use Rattle.csp_topology.specs.Lanes.{PlainLane, hub_of, lanes_of}
 use Rattle.csp_topology.specs.Parties.{PlainOpening, parties_of}
 use Rattle.csp_topology.specs.Wired.{IsWire, Stands}
 use Rattle.csp_topology.specs.Wires.{wires_of}
-use Rattle.std.proofs.Common.{◌≡◌, ◌≤◌, ℕ, zero, suc, List, [], ◌∷◌, ◌++◌, Option, None, Some, length, map, refl, sym, ap, ◌∙◌, subst, arith, slice_get}
-use Rattle.std.proofs.lemmas.Option.{same_Some, slice_get-map}
-use Rattle.std.specs.List.{AllByRecursion}
-use Rattle.std.specs.Option.{option_map}
 
 -- what stands in one of two lists of one length stands in the other
 pub there_too : {X Y : Type 0} (xs : List X) (ys : List Y) (k : ℕ) (x : X) → length xs ≡ length ys → slice_get xs k ≡ Some x → (y : Y) × (slice_get ys k ≡ Some y)

@@ -1,5 +1,5 @@
 -- No number of a pool was lost or made, and each was where the record says.
-use Rattle.std.proofs.Common.{◌≡◌, Some, List, [], ◌∷◌, ◌++◌, map, flat_map, refl, sym, ap, ◌∙◌}
+use Rattle.std.proofs.Common.{◌≡◌, List, [], ◌∷◌, ◌++◌, map, flat_map, refl, sym, ap, ◌∙◌}
 use Rattle.std.specs.Option.{option_map, option_to_list}
 use Rattle.csp_consistent.specs.Pools.{AreNumbersKept, held_by, left_held, parties_held, party_held, pools_held}
 use Rattle.csp_flow.specs.Closed.{log_of, post_held}

@@ -1,11 +1,11 @@
 -- The numbers of each pool: none was lost or made.
-use Rattle.std.proofs.Common.{◌≡◌, ◌+◌, ◌==◌, ℕ, zero, suc, Bool, true, false, true≢false, cond, Option, None, Some, List, [], ◌∷◌, ◌++◌, length, map, flat_map, refl, sym, ap, ◌∙◌, subst, arith, slice_get}
-use Rattle.std.specs.Prelude.{IfSome, if◌then◌else◌, slice_index_or}
-use Rattle.std.specs.List.{AllByRecursion, range_with_len}
+use Rattle.std.proofs.Common.{◌≡◌, ◌+◌, ◌==◌, ℕ, zero, suc, Bool, true, false, cond, Option, None, Some, List, [], ◌∷◌, ◌++◌, length, map, flat_map, refl, sym, ap, ◌∙◌, arith, slice_get}
+use Rattle.std.specs.List.{range_with_len}
 use Rattle.std.specs.Option.{option_map}
-use Rattle.std.proofs.lemmas.Bool.{eq-eqb, eqb-true}
-use Rattle.std.proofs.lemmas.List.{append-nil, length-map}
+use Rattle.std.specs.Prelude.{IfSome, if◌then◌else◌, slice_index_or}
+use Rattle.std.proofs.lemmas.Bool.{eq-eqb}
 use Rattle.std.proofs.lemmas.List.Sums.{sum_by-append}
+use Rattle.std.proofs.lemmas.List.{append-nil, length-map}
 use Rattle.std.proofs.lemmas.Option.{get_or_from_slice_get, same_Some, slice_get-map}
 use Rattle.csp_consistent.proofs.Owners.{IsOf, are_owners}
 use Rattle.csp_consistent.specs.Pools.{IsPoolWhole, given, given_at, is_node, taken, taken_at}
@@ -20,16 +20,16 @@ use Rattle.csp_posts.specs.Between.{is_home}
 use Rattle.csp_posts.specs.Posts.{PlainPost}
 use Rattle.csp_prompt.proofs.Logged.{at_home}
 use Rattle.csp_prompt.proofs.Places.{each_at}
-use Rattle.csp_record.specs.Record.{PlainPartyLog, PlainRecord}
+use Rattle.csp_record.specs.Record.{PlainRecord}
 use Rattle.csp_record.specs.Who.{node_of}
 use Rattle.csp_record.specs.declared.who.Who.{Who}
 use Rattle.csp_scene.specs.Links.{no_node, node_at}
 use Rattle.csp_scene.specs.Scene.{PlainNode, PlainScene}
 use Rattle.csp_standing.proofs.Leaders.{HasHub, hub_at, hub_leads, hub_node, hub_place_of}
 use Rattle.csp_standing.proofs.Places.{IsAt, post_at}
-use Rattle.csp_standing.specs.Network.{ArePostsOf, IsPostOf, PlainNetwork, leads, opened_at, opened_by, opened_in}
+use Rattle.csp_standing.specs.Network.{ArePostsOf, IsPostOf, PlainNetwork, leads, opened_at, opened_in}
 use Rattle.csp_telling.proofs.Nodes.{IsAtNode, IsEnded, IsKnown, at_scene}
-use Rattle.csp_telling.proofs.Writers.{hub_is}
+use Rattle.csp_telling.proofs.Writers.{hub_is, node_is}
 use Rattle.csp_topology.specs.Lanes.{hub_of}
 use Rattle.csp_topology.specs.Parties.{PlainOpening, parties_of}
 use Rattle.csp_topology.specs.Wired.{Stands}
@@ -63,10 +63,6 @@ opened_all scene w node c lead at there =
     ap (opened_at scene w) at
     ∙ ap (λ b. if b then range_with_len 0 (node_at scene.nodes node).buffers else []) lead
     ∙ ap (λ (x : PlainNode). range_with_len 0 x.buffers) (get_or_from_slice_get scene.nodes node c no_node there)
-
-node_is : (node : ℕ) (o : Option ℕ) → is_node node o ≡ true → o ≡ Some node
-node_is node None e = absurd (true≢false (sym e))
-node_is node (Some k) e = ap Some (eqb-true k node e)
 
 -- ---- what the parties of a node put and took, by their passes and by their logs
 
@@ -132,10 +128,10 @@ module _ (scene : PlainScene) (n : PlainNetwork) (posts : List PlainPost) (r : P
   many_pools = length-map ended.closed.all (λ (m : PlainRemains). m.pool) ∙ ended.closed.remains.nodes
 
   module _ (known : IsKnown scene r) (node : ℕ) (c : PlainNode) (there : slice_get scene.nodes node ≡ Some c) where
-    stands : Stands scene (hub_of node c.addr)
+    abbrev stands : Stands scene (hub_of node c.addr)
     stands = known.hubs node c there
 
-    hub : HasHub posts (hub_of node c.addr) node
+    abbrev hub : HasHub posts (hub_of node c.addr) node
     hub = hub_at scene n posts ended.net node c.addr stands
 
     others_none : (b : ℕ) (z : PlainPost) → slice_get posts b ≡ Some z → (b ≡ hub.at → ⊥) → opened_here scene node z ≡ []
@@ -158,7 +154,7 @@ module _ (scene : PlainScene) (n : PlainNetwork) (posts : List PlainPost) (r : P
         ∙ ap (λ t. if t then opened_in scene (hub_of node c.addr) else []) (eq-eqb node node refl)
         ∙ opened_all scene (hub_of node c.addr) node c (hub_leads node c.addr) (hub_node node c.addr) there
 
-    here : IsAtNode scene posts ended.closed.all node
+    abbrev here : IsAtNode scene posts ended.closed.all node
     here = at_scene scene n posts r ended node c there
 
     pool_there : slice_index_or (in_pools ended.closed.all) node [] ≡ here.has.remains.pool

@@ -1,9 +1,9 @@
 -- A queue is the one of its own name, and of no other.
-use Rattle.std.proofs.Common.{◌≡◌, Bool, true, false, refl, sym, ap}
+use Rattle.std.proofs.Common.{◌≡◌, true, false, refl, sym, ap}
 use Rattle.std.proofs.lemmas.Bool.{eq-eqb, eqb-true}
 use Rattle.csp_consistent.specs.Reading.{is_queue}
-use Rattle.csp_log.specs.declared.places.QueueId.{QueueId}
 use Rattle.csp_log.specs.declared.places.QueueId.TheVariants as queue
+use Rattle.csp_log.specs.declared.places.QueueId.{QueueId}
 
 pub queue_same : (q : QueueId) → is_queue q q ≡ true
 queue_same queue.Inbox = refl

@@ -1,16 +1,15 @@
 -- The notes of a run speak of each queue of the scene once, in their order.
-use Rattle.std.proofs.Common.{◌≡◌, ◌+◌, ℕ, zero, suc, Some, List, [], ◌∷◌, ◌++◌, length, map, refl, sym, ap, ◌∙◌, subst, arith, slice_get}
+use Rattle.std.proofs.Common.{◌≡◌, ◌+◌, ℕ, suc, Some, List, [], ◌∷◌, ◌++◌, length, map, refl, sym, ap, ◌∙◌, subst, arith, slice_get}
 use Rattle.std.proofs.lemmas.List.{map-append}
-use Rattle.csp_base.specs.declared.priority.Prio.{Prio}
 use Rattle.csp_consistent.specs.Whole.{AreQueuesLeft, at_node, left_name, queue_name, queues_from}
 use Rattle.csp_deck.specs.Carried.{places_of}
 use Rattle.csp_flow.specs.Closed.{all_notes, inbox_notes, lane_notes, node_notes}
 use Rattle.csp_flow.specs.Remains.{PlainRemains}
 use Rattle.csp_lists.specs.Order.{places_in}
-use Rattle.csp_log.specs.declared.places.Place.{Place}
 use Rattle.csp_log.specs.declared.places.Place.TheVariants as place
-use Rattle.csp_log.specs.declared.places.QueueId.{QueueId}
+use Rattle.csp_log.specs.declared.places.Place.{Place}
 use Rattle.csp_log.specs.declared.places.QueueId.TheVariants as queue
+use Rattle.csp_log.specs.declared.places.QueueId.{QueueId}
 use Rattle.csp_log.specs.declared.shown.ItemShown.{ItemShown}
 use Rattle.csp_posts.specs.Posts.{PlainPost}
 use Rattle.csp_record.specs.Record.{PlainRecord}
@@ -60,11 +59,11 @@ many all = map (λ (m : PlainRemains). length m.lanes) all
 abbrev pub counts : List (List PlainLane) → List ℕ
 counts wires = map (λ (ls : List PlainLane). length ls) wires
 
-pub first_same : (a b : ℕ) (as bs : List ℕ) → a ∷ as ≡ b ∷ bs → a ≡ b
-first_same a b as bs e = cc
+pub first_same : (a b : ℕ) (xs ys : List ℕ) → a ∷ xs ≡ b ∷ ys → a ≡ b
+first_same a b xs ys e = cc
 
-pub rest_same : (a b : ℕ) (as bs : List ℕ) → a ∷ as ≡ b ∷ bs → as ≡ bs
-rest_same a b as bs e = cc
+pub rest_same : (a b : ℕ) (xs ys : List ℕ) → a ∷ xs ≡ b ∷ ys → xs ≡ ys
+rest_same a b xs ys e = cc
 
 all_named : (base : ℕ) (links : List PlainLink) (nodes : List PlainNode) (wires : List (List PlainLane)) (all : List PlainRemains) → length wires ≡ length nodes → many all ≡ counts wires → AreOrdered base links nodes wires
     → map left_name (all_notes base wires all) ≡ map queue_name (queues_from base nodes links)

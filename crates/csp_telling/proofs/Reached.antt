@@ -1,5 +1,5 @@
 -- All takes and puts have come to what each pass was told.
-use Rattle.std.proofs.Common.{◌≡◌, ℕ, List, [], ◌∷◌, Option, None, Some, length, refl, sym, ap, ◌∙◌, subst, slice_get, arith}
+use Rattle.std.proofs.Common.{◌≡◌, ℕ, List, [], ◌∷◌, Option, None, Some, length, refl, sym, ◌∙◌, subst, slice_get, arith}
 use Rattle.std.specs.Prelude.{IfSome, IsSomeAnd}
 use Rattle.csp_ends.specs.Ends.{IsHomeOf, PlainHome, PlainNodeQueues}
 use Rattle.csp_flow.specs.Closed.{IsClosed}
@@ -24,9 +24,9 @@ same_count [] [] (q ∷ qs) h = absurd h
 same_count (m ∷ ms) [] qs h = absurd h
 same_count (m ∷ ms) (w ∷ wires) [] h = absurd h
 
-some_there : {X : Type 0} {P : X → Type 0} (o : Option X) → IsSomeAnd o P → (x : X) × (o ≡ Some x)
-some_there (Some x) h = (x, refl)
-some_there None h = absurd h
+some_there : {X : Type 0} (P : X → Type 0) (o : Option X) → IsSomeAnd o P → (x : X) × (o ≡ Some x)
+some_there P (Some x) h = (x, refl)
+some_there P None h = absurd h
 
 -- what was left where a post is
 left_there : (scene : PlainScene) (n : PlainNetwork) (posts : List PlainPost) (r : PlainRecord) → IsNetworkOf scene n posts → IsClosed scene posts r
@@ -34,7 +34,7 @@ left_there : (scene : PlainScene) (n : PlainNetwork) (posts : List PlainPost) (r
 left_there scene n posts r net closed i s h at its =
     let x = post_at scene n (parties_of scene) posts i s net.parties at in
     let home : IsHomeOf n.nodes h = subst (λ o. IfSome o (IsHomeOf n.nodes)) its x.post.from.of_it.home in
-    let q : (z : PlainNodeQueues) × (slice_get n.nodes h.node ≡ Some z) = some_there (slice_get n.nodes h.node) home in
+    let q : (z : PlainNodeQueues) × (slice_get n.nodes h.node ≡ Some z) = some_there _ (slice_get n.nodes h.node) home in
     let m : (z : PlainRemains) × (slice_get closed.all h.node ≡ Some z) = there_too n.nodes closed.all h.node q.0 (same_count scene.nodes (wires_of scene) n.nodes net.nodes ∙ sym closed.remains.nodes) q.1 in
     (m.0, closed.remains.each h.node m.0 m.1)
 

@@ -1,14 +1,13 @@
 -- What the places of a node hold together at the end are all its buffers, each once.
-use Rattle.std.proofs.Common.{◌≡◌, ◌+◌, ◌<◌, ◌==◌, ℕ, zero, suc, Bool, true, false, Option, None, Some, List, [], ◌∷◌, ◌++◌, length, map, flat_map, sum_by, refl, sym, ap, ◌∙◌, subst, arith, slice_get}
-use Rattle.std.specs.Prelude.{if◌then◌else◌}
+use Rattle.std.proofs.Common.{◌≡◌, ◌+◌, ◌<◌, ◌==◌, ℕ, zero, suc, Bool, true, false, Option, None, Some, List, [], ◌∷◌, ◌++◌, length, map, flat_map, sum_by, refl, sym, ap, ◌∙◌, arith, slice_get}
 use Rattle.std.specs.List.{range_with_len}
 use Rattle.std.specs.Option.{option_map, option_to_list}
+use Rattle.std.specs.Prelude.{if◌then◌else◌}
 use Rattle.std.proofs.lemmas.Bool.{eq-eqb, ne_eqb}
 use Rattle.std.proofs.lemmas.Grind.{flat_map-append}
-use Rattle.std.proofs.lemmas.List.{append-nil}
 use Rattle.std.proofs.lemmas.List.Sums.{sum_by-append, sum_by-cons}
+use Rattle.std.proofs.lemmas.List.{append-nil, append_assoc}
 use Rattle.std.proofs.lemmas.Option.{same_Some, slice_get-map}
-use Rattle.csp_base.specs.declared.priority.Prio.{Prio}
 use Rattle.csp_base.specs.declared.priority.Prio.TheVariants.{Critical, High, Normal, Low}
 use Rattle.csp_consistent.specs.Pools.{held_by, is_node, left_held, pools_held}
 use Rattle.csp_deck.specs.Step.{item_numbers, times}
@@ -16,8 +15,8 @@ use Rattle.csp_flow.specs.Closed.{all_notes, inbox_notes, lane_notes, post_held}
 use Rattle.csp_flow.specs.Remains.{AreRemains, PlainRemains, held_at, inbox_numbers, returned}
 use Rattle.csp_lists.specs.PlainDeck.{numbers_of}
 use Rattle.csp_log.specs.Remains.{PlainHeld, PlainLeft}
-use Rattle.csp_log.specs.declared.places.Place.{Place}
 use Rattle.csp_log.specs.declared.places.Place.TheVariants as place
+use Rattle.csp_log.specs.declared.places.Place.{Place}
 use Rattle.csp_log.specs.declared.shown.ItemShown.{ItemShown}
 use Rattle.csp_party.specs.Any.{holds}
 use Rattle.csp_posts.specs.Between.{is_home}
@@ -71,9 +70,11 @@ lane_numbers node (l ∷ ls) (is ∷ lefts) e = λ i. ap (λ t. if t then number
 four_numbers : (a b c d : List ItemShown) → numbers_of a ++ (numbers_of b ++ (numbers_of c ++ (numbers_of d ++ []))) ≡ numbers_of (a ++ b ++ c ++ d)
 four_numbers a b c d =
     ap (λ ns. numbers_of a ++ (numbers_of b ++ (numbers_of c ++ ns))) (append-nil (numbers_of d))
-    ∙ ap (λ ns. numbers_of a ++ (numbers_of b ++ ns)) (sym (flat_map-append item_numbers c d))
-    ∙ ap (λ ns. numbers_of a ++ ns) (sym (flat_map-append item_numbers b (c ++ d)))
-    ∙ sym (flat_map-append item_numbers a (b ++ c ++ d))
+    ∙ sym (append_assoc (numbers_of a) (numbers_of b) (numbers_of c ++ numbers_of d))
+    ∙ sym (append_assoc (numbers_of a ++ numbers_of b) (numbers_of c) (numbers_of d))
+    ∙ ap (λ ns. ns ++ numbers_of c ++ numbers_of d) (sym (flat_map-append item_numbers a b))
+    ∙ ap (λ ns. ns ++ numbers_of d) (sym (flat_map-append item_numbers (a ++ b) c))
+    ∙ sym (flat_map-append item_numbers (a ++ b ++ c) d)
 
 inbox_noted : (node : ℕ) (m : PlainRemains) → flat_map (numbers_there node) (inbox_notes node m.inbox) ≡ inbox_numbers m
 inbox_noted node m = rw (eq-eqb node node refl) (four_numbers (m.inbox Critical) (m.inbox High) (m.inbox Normal) (m.inbox Low))
@@ -134,10 +135,10 @@ pools_weigh node weight first (suc k) (xs ∷ pools) ns at e =
 -- ---- together
 
 module _ (scene : PlainScene) (n : PlainNetwork) (posts : List PlainPost) (r : PlainRecord) (ended : IsEnded scene n posts r) (node : ℕ) (c : PlainNode) (there : slice_get scene.nodes node ≡ Some c) (weight : ℕ → ℕ) where
-  here : IsAtNode scene posts ended.closed.all node
+  abbrev here : IsAtNode scene posts ended.closed.all node
   here = at_scene scene n posts r ended node c there
 
-  m : PlainRemains
+  abbrev m : PlainRemains
   m = here.has.remains
 
   summed : (held queues rest parties pools lanes inbox : ℕ) → held ≡ queues + rest → rest ≡ parties + pools → queues ≡ lanes + inbox → held ≡ pools + (lanes + (inbox + parties))

@@ -1,8 +1,8 @@
 -- Which party writes to the inbox of a node under a mark, and what it put there.
-use Rattle.std.proofs.Common.{◌≡◌, ◌≤◌, ◌<◌, ℕ, ◌==◌, ◌&&◌, Bool, true, false, true≢false, Option, None, Some, List, [], ◌∷◌, ◌++◌, length, not, refl, sym, ap, ◌∙◌, subst, arith, slice_get}
-use Rattle.std.specs.Prelude.{IfSome, if◌then◌else◌}
-use Rattle.std.specs.List.{AllByRecursion, filter}
+use Rattle.std.proofs.Common.{◌≡◌, ◌≤◌, ◌<◌, ℕ, ◌==◌, ◌&&◌, Bool, true, false, true≢false, Option, None, Some, List, [], length, not, refl, sym, ap, ◌∙◌, arith, slice_get}
+use Rattle.std.specs.List.{AllByRecursion}
 use Rattle.std.specs.Option.{option_map}
+use Rattle.std.specs.Prelude.{IfSome, if◌then◌else◌}
 use Rattle.std.proofs.lemmas.Bool.{eq-eqb, eqb-false, eqb-true, ne_eqb}
 use Rattle.std.proofs.lemmas.List.Filters.{length-filter_both}
 use Rattle.std.proofs.lemmas.Option.{same_Some, slice_get_within}
@@ -27,8 +27,8 @@ use Rattle.csp_posts.specs.Between.{is_home}
 use Rattle.csp_posts.specs.Posts.{PlainPost}
 use Rattle.csp_prompt.proofs.Logged.{at_home}
 use Rattle.csp_record.specs.Who.{node_of}
-use Rattle.csp_record.specs.declared.who.Who.{Who}
 use Rattle.csp_record.specs.declared.who.Who.TheVariants as who
+use Rattle.csp_record.specs.declared.who.Who.{Who}
 use Rattle.csp_scene.specs.Links.{links_at, touches}
 use Rattle.csp_scene.specs.Scene.{PlainLink, PlainNode, PlainScene}
 use Rattle.csp_scene.specs.declared.limits.TheConstants.{MAX_LINKS}
@@ -97,7 +97,7 @@ iface_writes node addr mark a k marked true false e f = iface_no_hub node addr a
 iface_writes node addr mark a k marked false true e f = ap (λ t. t && (k == mark)) f
 iface_writes node addr mark a k marked false false e f = ap (λ t. t && (k == mark)) f
 
-node_is : (node : ℕ) (o : Option ℕ) → is_node node o ≡ true → o ≡ Some node
+pub node_is : (node : ℕ) (o : Option ℕ) → is_node node o ≡ true → o ≡ Some node
 node_is node None e = absurd (true≢false (sym e))
 node_is node (Some k) e = ap Some (eqb-true k node e)
 
