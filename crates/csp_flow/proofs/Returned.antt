@@ -1,5 +1,5 @@
 -- All buffers of a node are in one place at the end of a run.
-use Rattle.std.proofs.Common.{◌≡◌, ◌≢◌, ◌+◌, ℕ, Bool, true, false, List, [], ◌∷◌, ◌++◌, Option, None, Some, length, refl, sym, ap, ◌∙◌, subst, arith}
+use Rattle.std.proofs.Common.{◌≡◌, ◌≢◌, ◌+◌, ℕ, Bool, true, false, List, [], ◌++◌, Option, None, Some, refl, sym, ap, ◌∙◌, arith}
 use Rattle.std.specs.Prelude.{IfSome, if◌then◌else◌, slice_get}
 use Rattle.std.specs.List.{flat_map, range_with_len, sum_by}
 use Rattle.std.proofs.lemmas.Option.{get_or_from_slice_get, same_Some}
@@ -17,21 +17,20 @@ use Rattle.csp_flow.proofs.Marks.{among, among-append, same_numbers}
 use Rattle.csp_flow.specs.Remains.{AreLeftAt, AreRemains, PlainRemains, held_at, inbox_numbers, kept_at, kept_from, put_at, put_from, returned, taken_at, taken_from}
 use Rattle.csp_inbox.specs.Passes as inbox
 use Rattle.csp_lists.specs.PlainDeck.{numbers_of}
-use Rattle.csp_log.specs.declared.shown.ItemShown.{ItemShown}
 use Rattle.csp_party.specs.Any.{holds}
-use Rattle.csp_posts.specs.Balance.{times_from, times_got, times_in, times_into, times_kept, times_out, times_put, times_taken_out}
+use Rattle.csp_posts.specs.Balance.{times_from, times_got, times_in, times_into, times_out, times_put, times_taken_out}
 use Rattle.csp_posts.specs.Between.{is_home, over_home}
 use Rattle.csp_posts.specs.Posts.{PlainPost}
 use Rattle.csp_record.specs.Who.{node_of}
 use Rattle.csp_record.specs.declared.who.Who.{Who}
 use Rattle.csp_scene.specs.Links.{no_node, node_at}
 use Rattle.csp_scene.specs.Scene.{PlainNode, PlainScene}
-use Rattle.csp_standing.proofs.Leaders.{Apart, HasHub, Hubs, Led, hub_at, hub_leads, hub_node, hub_place_of, leads_hub, node_in}
-use Rattle.csp_standing.proofs.Places.{IsAt, post_at}
+use Rattle.csp_standing.proofs.Leaders.{Apart, Hubs, Led, hub_at, hub_leads, hub_node, hub_place_of, leads_hub, node_in}
+use Rattle.csp_standing.proofs.Places.{post_at}
 use Rattle.csp_standing.specs.Network.{IsNetworkOf, PlainNetwork, leads, opened_at, opened_in}
 use Rattle.csp_topology.specs.Lanes.{hub_of}
 use Rattle.csp_topology.specs.Parties.{parties_of}
-use Rattle.csp_topology.specs.Wired.{IsLed, Stands}
+use Rattle.csp_topology.specs.Wired.{Stands}
 
 -- how often a number is among what the parties of a node hold; what they put through ends, and got; what they put into the pool and the inbox, and
 -- took; and what they had put at the opening
@@ -178,8 +177,8 @@ led_so led hubs apart use_own scene n posts net k node m there =
       got =
           home_one node (λ s. times_taken_out k (inbox_of s.ends.home)) posts h.at h.post h.there here
           (λ i s at is other.
-              let traced = home_traced scene n posts net i s at in
-              home_none_out k traced.0 s.entries s.ends.home traced.1 (followers_get_none use_own scene n posts net i s at (others i s at is other)))
+          let traced = home_traced scene n posts net i s at in
+          home_none_out k traced.0 s.entries s.ends.home traced.1 (followers_get_none use_own scene n posts net i s at (others i s at is other)))
           ∙ ap (λ o. times_taken_out k (inbox_of o)) h.its
           ∙ ap (times_taken_out k) h.inbox;
     }
