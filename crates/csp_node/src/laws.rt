@@ -1,18 +1,19 @@
 //! What rounds keep of a network, and what its record shows at the end.
 
-ghost use Rattle.std.specs.Prelude.{◌≡◌, ◌+◌, ◌^◌, ◌<◌, ℕ, [], false, IfSome, List, length, map};
+ghost use Rattle.std.specs.Prelude.{◌≡◌, ◌+◌, ◌^◌, ◌<◌, ◌≤◌, ℕ, [], false, IfSome, List, length, map};
 ghost use Rattle.std.specs.List.{AllByRecursion, AllZip};
 ghost use Rattle.csp_consistent.specs.Threaded.{IsThreaded};
 ghost use Rattle.csp_fabric.specs.Fabrics.{IsFabricOf};
 ghost use Rattle.csp_fabric.specs.declared.fabric.Fabric.{Fabric};
 ghost use Rattle.csp_flow.specs.Closed.{IsClosed};
-ghost use Rattle.csp_node.specs.Rounds.{HasRun, IsBetween, are_done, entries_of, plains};
+ghost use Rattle.csp_node.specs.Rounds.{HasRun, IsBetween, entries_of, plains};
 ghost use Rattle.csp_node.specs.Runs.{HasStopped};
 ghost use Rattle.csp_posts.specs.Between.{HaveMet};
 ghost use Rattle.csp_posts.specs.Books.{AreInBooks, IsFresh};
 ghost use Rattle.csp_posts.specs.Meetings.{HasMet};
-ghost use Rattle.csp_posts.specs.Ready.{HasTurned};
+ghost use Rattle.csp_posts.specs.Ready.{CanTurn, HasTurned};
 ghost use Rattle.csp_posts.specs.Seen.{SeenPost};
+ghost use Rattle.csp_prompt.specs.Played.{are_done};
 ghost use Rattle.csp_record.specs.Record.{PlainRecord};
 ghost use Rattle.csp_record.specs.Whole.{IsWhole};
 ghost use Rattle.csp_scene.specs.Kept.{AreLinksAfter};
@@ -41,9 +42,16 @@ pub(crate) fn starts_rounds()
     makes_no_round();
 }
 
+/// Once all posts have met, each that has the room can take its turns.
+pub(crate) fn meets_ready()
+    ensures { (scene : PlainScene) (f : Fabric) (limit now : ℕ) (posts met : List SeenPost) → IsBetween scene f limit now posts → now < 2 ^ 62 → AllByRecursion (λ s. 8 ≤ s.spare) posts → AllZip HasMet posts met → AllByRecursion (CanTurn f.queues now 8) met }
+{
+    meetings_keep_network();
+}
+
 /// A meeting of all posts, and then a round of all, begun before every application has ended and before the logs reach the limit, is one round more.
 pub(crate) fn makes_rounds()
-    ensures { (scene : PlainScene) (f : Fabric) (limit now : ℕ) (posts met after : List SeenPost) → IsBetween scene f limit now posts → are_done posts ≡ false → entries_of posts < limit → now < 2 ^ 62 → AllZip HasMet posts met → AreInBooks (plains met) → HaveMet (plains met) → AllZip (HasTurned f.queues now 8) met after → IsBetween scene f limit (now + 1) after }
+    ensures { (scene : PlainScene) (f : Fabric) (limit now : ℕ) (posts met after : List SeenPost) → IsBetween scene f limit now posts → are_done (plains posts) ≡ false → entries_of (plains posts) < limit → now < 2 ^ 62 → AllZip HasMet posts met → AreInBooks (plains met) → HaveMet (plains met) → AllZip (HasTurned f.queues now 8) met after → IsBetween scene f limit (now + 1) after }
 {
     meetings_keep_network();
     turns_keep_network();

@@ -2,22 +2,23 @@
 
 ghost use Rattle.std.specs.Prelude.{◌≡◌, ◌+◌, ◌-◌, ◌^◌, ◌<◌, ◌≤◌, OnOk, length};
 ghost use Rattle.std.specs.List.{AllByRecursion, AllZip};
-ghost use Rattle.csp_node.specs.Rounds.{IsStill, are_done, entries_of};
+ghost use Rattle.csp_node.specs.Rounds.{IsStill, entries_of, plains};
+ghost use Rattle.csp_prompt.specs.Played.{are_done};
 
 use csp_posts::{Post, ROUND_TURNS};
 use std::alloc::AllocError;
 
 /// Whether each application has ended.
 pub(crate) fn are_finished(posts: &[Post]) -> bool
-    ensures { result ≡ are_done posts.now }
+    ensures { result ≡ are_done (plains posts.now) }
 {
     posts.iter().all(|post| !post.unfinished())
 }
 
 /// How many entries all logs have together.
 pub(crate) fn entries(posts: &[Post]) -> u64
-    requires { entries_of posts.now < 2 ^ 64 }
-    ensures { result ≡ entries_of posts.now }
+    requires { entries_of (plains posts.now) < 2 ^ 64 }
+    ensures { result ≡ entries_of (plains posts.now) }
 {
     let mut total = 0;
     for post in posts {
@@ -32,7 +33,7 @@ pub(crate) fn entries(posts: &[Post]) -> u64
 /// Want of memory.
 pub(crate) fn make_room(posts: &mut [Post]) -> Result<(), AllocError>
     requires { AllByRecursion (λ s. length s.plain.entries + ROUND_TURNS ≤ 2 ^ 32 - 2) posts.old }
-    ensures kept { AllZip IsStill posts.old posts.new }
+    ensures still { AllZip IsStill posts.old posts.new }
     ensures room { OnOk result (AllByRecursion (λ s. ROUND_TURNS ≤ s.spare) posts.new) }
 {
     if let Some((post, rest)) = posts.split_first_mut() {

@@ -4,15 +4,16 @@ ghost use Rattle.std.specs.Prelude.{◌≡◌, ◌+◌, ◌^◌, ◌<◌, ◌≤
 ghost use Rattle.std.specs.List.{AllByRecursion};
 ghost use Rattle.csp_consistent.specs.Threaded.{IsThreaded};
 ghost use Rattle.csp_fabric.specs.Fabrics.{IsFabricOf};
-ghost use Rattle.csp_node.specs.Rounds.{HasRun, IsBetween, are_done, entries_of};
+ghost use Rattle.csp_node.specs.Rounds.{HasRun, IsBetween, entries_of, plains};
 ghost use Rattle.csp_node.specs.Runs.{HasStopped};
+ghost use Rattle.csp_prompt.specs.Played.{are_done};
 ghost use Rattle.csp_record.specs.Whole.{IsWhole};
 ghost use Rattle.csp_scene.specs.Kept.{AreLinksAfter};
 ghost use Rattle.csp_scene.specs.Ranges.{IsScene};
 ghost use Rattle.csp_scene.specs.Scene.{PlainScene};
 
 use crate::Network;
-use crate::laws::{makes_rounds, starts_rounds, tells_run};
+use crate::laws::{makes_rounds, meets_ready, starts_rounds, tells_run};
 use crate::logs::{are_finished, entries, make_room};
 use csp_posts::{Post, ROUND_TURNS};
 use csp_record::Record;
@@ -88,7 +89,10 @@ fn make_rounds<R: Threads + Wait + Sync, G: Gate>(
 {
     counts_parties();
     for round in 0..u64::from(scene.until) {
-        if are_finished(posts) || entries(posts) >= limit {
+        if are_finished(posts) {
+            return Ok(());
+        }
+        if entries(posts) >= limit {
             return Ok(());
         }
         make_room(posts)?;
@@ -107,12 +111,13 @@ fn make_round<R: Threads + Wait + Sync, G: Gate>(
     now: u64,
 )
     requires between { (scene : PlainScene) × (limit : ℕ) × IsBetween scene network.now.fabric limit now posts.old }
-    requires unfinished { are_done posts.old ≡ false }
+    requires unfinished { are_done (plains posts.old) ≡ false }
     requires room { AllByRecursion (λ s. ROUND_TURNS ≤ s.spare) posts.old }
     requires workers { 1 ≤ workers }
     requires early { now < MAX_UNTIL }
-    ensures { (scene : PlainScene) (limit : ℕ) → IsBetween scene network.now.fabric limit now posts.old → entries_of posts.old < limit → IsBetween scene network.now.fabric limit (now + 1) posts.new }
+    ensures { (scene : PlainScene) (limit : ℕ) → IsBetween scene network.now.fabric limit now posts.old → entries_of (plains posts.old) < limit → IsBetween scene network.now.fabric limit (now + 1) posts.new }
 {
+    meets_ready();
     makes_rounds();
     network.meet(posts);
     rounds(rt, &network.fabric.queues, posts, workers, gate, now);

@@ -1,0 +1,5 @@
+mod Closing
+mod Logs
+mod Met
+mod Rounds
+mod Staying
