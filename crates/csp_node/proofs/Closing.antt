@@ -3,7 +3,7 @@ use Rattle.std.proofs.Common.{◌≡◌, ◌⊎◌, inl, inr, ℕ, ◌-◌, ◌<
 use Rattle.csp_consistent.specs.Rounds.{HaveMadeRounds, early}
 use Rattle.csp_fabric.specs.declared.fabric.Fabric.{Fabric}
 use Rattle.csp_flow.specs.Closed.{IsClosed, log_of}
-use Rattle.csp_node.proofs.Logs.{sum_mapped}
+use Rattle.csp_node.proofs.Entries.{sum_mapped}
 use Rattle.csp_node.proofs.Rounds.{finished_done, rounds_made}
 use Rattle.csp_node.specs.Rounds.{HasRun, entries_early, entries_of, plains}
 use Rattle.csp_node.specs.Runs.{HasStopped, entries_before, entries_in}

@@ -1,5 +1,5 @@
 mod Closing
-mod Logs
+mod Entries
 mod Met
 mod Rounds
 mod Staying

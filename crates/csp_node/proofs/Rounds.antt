@@ -5,9 +5,11 @@ use Rattle.std.specs.List.{AllByRecursion, list_all}
 use Rattle.csp_consistent.specs.Rounds.{HaveMadeRounds, app_turns, is_app, is_done, turns_in}
 use Rattle.csp_flow.specs.Closed.{are_finished, rounds_in, rounds_of}
 use Rattle.csp_log.specs.declared.entry.Entry.{Entry}
+use Rattle.csp_node.specs.Rounds.{plains}
 use Rattle.csp_party.specs.Any.{PlainParty, a_router, a_bridge, an_iface, an_app, a_link, has_ended}
 use Rattle.csp_posts.specs.Posts.{PlainPost}
 use Rattle.csp_posts.specs.Ready.{is_unfinished}
+use Rattle.csp_posts.specs.Seen.{SeenPost}
 use Rattle.csp_prompt.specs.Played.{are_done, logs_of}
 use Rattle.csp_topology.specs.Parties.{PlainOpening}
 
@@ -32,11 +34,11 @@ within_all rounds (s ∷ posts) all = max_least (rounds_in s.entries) (rounds_of
 -- one is of a round in which a turn was made
 turned_in : (round : ℕ) (es : List Entry) → 0 < turns_in round es → round < rounds_in es
 turned_in round [] h = absurd (omega (arith, h))
-turned_in round (e ∷ es) h = told (e.time == round) refl h
+turned_in round (e ∷ es) h = told (turned_in round es) (e.time == round) refl h
   where
-    told : (b : Bool) → (e.time == round) ≡ b → 0 < length (cond b (e ∷ filter (λ (x : Entry). x.time == round) es) (filter (λ (x : Entry). x.time == round) es)) → round < max (e.time + 1) (rounds_in es)
-    told true same more = left_below round (e.time + 1) (rounds_in es) (omega (arith, eqb-true e.time round same))
-    told false other more = right_below round (e.time + 1) (rounds_in es) (turned_in round es more)
+    told : (0 < turns_in round es → round < rounds_in es) → (b : Bool) → (e.time == round) ≡ b → 0 < length (cond b (e ∷ filter (λ (x : Entry). x.time == round) es) (filter (λ (x : Entry). x.time == round) es)) → round < max (e.time + 1) (rounds_in es)
+    told later true same more = left_below round (e.time + 1) (rounds_in es) (omega (arith, eqb-true e.time round same))
+    told later false other more = right_below round (e.time + 1) (rounds_in es) (later more)
 
 if_turns : (b : Bool) (n : ℕ) → 0 < (if b then n else 0) → 0 < n
 if_turns true n h = h
@@ -75,3 +77,7 @@ done_or_not (a_link l) = refl
 pub finished_done : (posts : List PlainPost) → are_finished posts ≡ are_done posts
 finished_done [] = refl
 finished_done (s ∷ posts) = ap (λ b. b && are_finished posts) (done_or_not s.party) ∙ ap (λ b. is_done s.party && b) (finished_done posts)
+
+pub finished_plain : (posts : List SeenPost) → list_all (λ s. not (is_unfinished s.plain.party)) posts ≡ are_done (plains posts)
+finished_plain [] = refl
+finished_plain (s ∷ posts) = ap (λ b. b && list_all (λ (t : SeenPost). not (is_unfinished t.plain.party)) posts) (done_or_not s.plain.party) ∙ ap (λ b. is_done s.plain.party && b) (finished_plain posts)

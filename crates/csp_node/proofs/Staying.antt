@@ -1,14 +1,15 @@
 -- What meetings, turns and more room leave as it is of a network's posts.
-use Rattle.std.proofs.Common.{◌≡◌, ℕ, ◌+◌, ◌-◌, ◌<◌, ◌≤◌, ◌^◌, List, [], ◌∷◌, length, refl, sym, ap, ◌∙◌, subst, arith}
+use Rattle.std.proofs.Common.{◌≡◌, ℕ, ◌+◌, ◌-◌, ◌<◌, ◌≤◌, ◌^◌, false, List, [], ◌∷◌, length, refl, sym, ap, ◌∙◌, subst, arith}
 use Rattle.std.specs.Prelude.{vec_capacity}
-use Rattle.std.specs.List.{AllByRecursion, AllZip}
+use Rattle.std.specs.List.{All, AllByRecursion, AllZip}
+use Rattle.std.proofs.lemmas.List.Elements.{All-cons, All-nil}
 use Rattle.std.proofs.lemmas.Slice.Zip.{AllZip-long}
 use Rattle.csp_consistent.specs.Rounds.{HaveMadeRounds}
 use Rattle.csp_ends.specs.Ends.{AreOf, PlainNodeQueues}
 use Rattle.csp_fabric.specs.Fabrics.{CanNote, IsFabricOf, buffers_at, network_of}
 use Rattle.csp_fabric.specs.declared.fabric.Fabric.{Fabric}
 use Rattle.csp_log.specs.declared.entry.Entry.{Entry}
-use Rattle.csp_node.proofs.Logs.{last_within}
+use Rattle.csp_node.proofs.Entries.{last_within}
 use Rattle.csp_node.specs.Rounds.{IsBetween, IsShort, IsStill, entries_early, plains}
 use Rattle.csp_posts.specs.Between.{AreInRounds}
 use Rattle.csp_posts.specs.Books.{AreInBooks}
@@ -16,7 +17,7 @@ use Rattle.csp_posts.specs.Meetings.{HasMet}
 use Rattle.csp_posts.specs.Posts.{PlainPost}
 use Rattle.csp_posts.specs.Ready.{CanTurn, HasTurned}
 use Rattle.csp_posts.specs.Seen.{SeenPost}
-use Rattle.csp_prompt.specs.Played.{logs_of}
+use Rattle.csp_prompt.specs.Played.{are_done, logs_of}
 use Rattle.csp_record.specs.Who.{node_of}
 use Rattle.csp_scene.specs.Scene.{PlainScene}
 use Rattle.csp_standing.specs.Network.{ArePostsOf, IsNetworkOf, PlainNetwork}
@@ -62,6 +63,10 @@ plains_still [] [] still = refl
 plains_still (s ∷ posts) (t ∷ after) still = ap (λ (p : PlainPost). p ∷ plains after) still.0.plain ∙ ap (λ (ps : List PlainPost). s.plain ∷ ps) (plains_still posts after still.1)
 plains_still [] (t ∷ after) still = absurd still
 plains_still (s ∷ posts) [] still = absurd still
+
+pub still_all : (posts : List SeenPost) → AllZip IsStill posts posts
+still_all [] = tt
+still_all (s ∷ posts) = (record { plain = refl; room = refl }, still_all posts)
 
 still_stays : (posts after : List SeenPost) → AllZip IsStill posts after → AllZip Stays posts after
 still_stays [] [] still = tt
@@ -120,3 +125,21 @@ each_ready n now (s ∷ posts) [] early of times room m = absurd m
 pub all_ready : (scene : PlainScene) (f : Fabric) (limit now : ℕ) (posts met : List SeenPost) → IsBetween scene f limit now posts → now < 2 ^ 62 → AllByRecursion (λ s. 8 ≤ s.spare) posts → AllZip HasMet posts met
     → IsNetworkOf scene (network_of f) (plains met) → AllByRecursion (CanTurn f.queues now 8) met
 all_ready scene f limit now posts met h early room m net = each_ready (network_of f) now posts met early (all_of_it scene (network_of f) (parties_of scene) met net.parties) h.between.times room m
+
+-- as many meet, and there are some where an application has not ended
+pub some_met : (posts met : List SeenPost) → AllZip HasMet posts met → are_done (plains posts) ≡ false → 0 < length met
+some_met [] met m undone = cc
+some_met (s ∷ posts) [] m undone = absurd m
+some_met (s ∷ posts) (t ∷ met) m undone = omega arith
+
+-- what is true of each
+pub all_each : {X : Type 0} (P : X → Type 0) (xs : List X) → AllByRecursion P xs → All P xs
+all_each P [] all = All-nil P
+all_each P (x ∷ xs) all = All-cons P x xs all.0 (all_each P xs all.1)
+
+-- a scene has as many posts as parties
+pub as_many : (scene : PlainScene) (n : PlainNetwork) (os : List PlainOpening) (posts : List SeenPost) → ArePostsOf scene n os (plains posts) → length posts ≡ length os
+as_many scene n [] [] are = refl
+as_many scene n (o ∷ os) (s ∷ posts) are = omega (arith, as_many scene n os posts are.1)
+as_many scene n [] (s ∷ posts) are = absurd are
+as_many scene n (o ∷ os) [] are = absurd are

@@ -1,16 +1,16 @@
 //! The logs of posts: how many entries they have, and room for those of a round.
 
-ghost use Rattle.std.specs.Prelude.{◌≡◌, ◌+◌, ◌-◌, ◌^◌, ◌<◌, ◌≤◌, OnOk, length};
-ghost use Rattle.std.specs.List.{AllByRecursion, AllZip};
+ghost use Rattle.std.specs.Prelude.{◌≡◌, ◌+◌, ◌-◌, ◌^◌, ◌<◌, ◌≤◌, OnOk, length, not};
+ghost use Rattle.std.specs.List.{AllByRecursion, AllZip, list_all};
 ghost use Rattle.csp_node.specs.Rounds.{IsStill, entries_of, plains};
-ghost use Rattle.csp_prompt.specs.Played.{are_done};
+ghost use Rattle.csp_posts.specs.Ready.{is_unfinished};
 
 use csp_posts::{Post, ROUND_TURNS};
 use std::alloc::AllocError;
 
 /// Whether each application has ended.
 pub(crate) fn are_finished(posts: &[Post]) -> bool
-    ensures { result ≡ are_done (plains posts.now) }
+    ensures { result ≡ list_all (λ s. not (is_unfinished s.plain.party)) posts.now }
 {
     posts.iter().all(|post| !post.unfinished())
 }

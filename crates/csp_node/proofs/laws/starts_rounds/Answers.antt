@@ -2,7 +2,7 @@ use Rattle.std.proofs.Common.{◌≡◌, ℕ, List, [], ◌∷◌, length, arith
 use Rattle.std.specs.Prelude.{IfSome}
 use Rattle.std.specs.List.{AllByRecursion}
 use Rattle.csp_fabric.specs.Fabrics.{network_of}
-use Rattle.csp_node.proofs.Logs.{each_plain, none_long}
+use Rattle.csp_node.proofs.Entries.{each_plain, none_long}
 use Rattle.csp_node.specs.Rounds.{plains}
 use Rattle.csp_posts.specs.Books.{IsFresh}
 use Rattle.csp_posts.specs.Posts.{PlainPost}

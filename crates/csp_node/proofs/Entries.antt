@@ -1,7 +1,8 @@
 -- How many entries logs have.
-use Rattle.std.proofs.Common.{◌≡◌, ◌⊎◌, inl, inr, ℕ, ◌+◌, ◌-◌, ◌*◌, ◌<◌, ◌≤◌, ◌^◌, List, [], ◌∷◌, ◌++◌, length, map, sum_by, refl, sym, ap, ◌∙◌, subst, arith, length-append, le_of_eq}
+use Rattle.std.proofs.Common.{◌≡◌, ◌⊎◌, inl, inr, ℕ, suc, true, ◌+◌, ◌-◌, ◌*◌, ◌<◌, ◌≤◌, ◌^◌, List, [], ◌∷◌, ◌++◌, length, map, sum_by, refl, sym, ap, ◌∙◌, subst, arith, length-append, le_of_eq}
 use Rattle.std.specs.List.{AllByRecursion, AllZip}
 use Rattle.std.proofs.lemmas.List.Sums.{sum_by-cons}
+use Rattle.std.proofs.lemmas.List.{length-map}
 use Rattle.csp_consistent.specs.Rounds.{early}
 use Rattle.csp_deck.specs.Runs.{last_time}
 use Rattle.csp_ends.specs.Ends.{PlainNodeQueues}
@@ -25,17 +26,17 @@ sum_short most (s ∷ posts) all =
     let rest : entries_of posts ≤ length posts * most = sum_short most posts all.1 in
     subst (λ (n : ℕ). n ≤ length (s ∷ posts) * most) (sym (sum_by-cons (λ (t : PlainPost). length t.entries) s posts)) (added (length s.entries) (entries_of posts) (length posts) most first rest)
   where
-    added : (a b n m : ℕ) → a ≤ m → b ≤ n * m → a + b ≤ (n + 1) * m
+    added : (a b n m : ℕ) → a ≤ m → b ≤ n * m → a + b ≤ suc n * m
     added a b n m h k = omega (arith, h, k)
 
 -- so many entries can be counted
-pub few_entries : (rounds : ℕ) (posts : List PlainPost) → AllByRecursion (IsShort rounds) posts → rounds ≤ 2 ^ 20 → length posts ≤ 2 ^ 20 → entries_of posts < 2 ^ 64
+pub few_entries : (rounds : ℕ) (posts : List SeenPost) → AllByRecursion (IsShort rounds) (plains posts) → rounds ≤ 2 ^ 20 → length posts ≤ 2 ^ 20 → entries_of (plains posts) < 2 ^ 64
 few_entries rounds posts short few parties =
-    bound (entries_of posts) (length posts) (sum_short (2 ^ 23) posts (all_short posts short)) parties
+    bound (entries_of (plains posts)) (length (plains posts)) (sum_short (2 ^ 23) (plains posts) (each_short (plains posts) short)) (omega (arith, parties, length-map posts (λ (s : SeenPost). s.plain)))
   where
-    all_short : (posts : List PlainPost) → AllByRecursion (IsShort rounds) posts → AllByRecursion (λ s. length s.entries ≤ 2 ^ 23) posts
-    all_short [] all = tt
-    all_short (s ∷ posts) all = (omega (arith, all.0, few), all_short posts all.1)
+    each_short : (posts : List PlainPost) → AllByRecursion (IsShort rounds) posts → AllByRecursion (λ s. length s.entries ≤ 2 ^ 23) posts
+    each_short [] all = tt
+    each_short (s ∷ posts) all = (omega (arith, all.0, few), each_short posts all.1)
     bound : (n k : ℕ) → n ≤ k * 2 ^ 23 → k ≤ 2 ^ 20 → n < 2 ^ 64
     bound n k h g = omega (arith, h, g)
 
@@ -51,7 +52,7 @@ more_of a b c now h k e = omega (arith, h, k, e)
 few_more : (nodes : List PlainNodeQueues) (now : ℕ) (s t : PlainPost) (turns : AreTurns nodes now 8 s t) → length turns.more ≤ 8
 few_more nodes now s t turns = told turns.all
   where
-    told : (length turns.more ≡ 8) ⊎ ((has_ended t.party ≡ _) × (length turns.more ≤ 8)) → length turns.more ≤ 8
+    told : (length turns.more ≡ 8) ⊎ ((has_ended t.party ≡ true) × (length turns.more ≤ 8)) → length turns.more ≤ 8
     told (inl e) = omega (arith, e)
     told (inr h) = h.1
 
