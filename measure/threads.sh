@@ -35,8 +35,8 @@ text() {
   printf '%s\n' 'app ground ops' 'connect 0 3 10 crc rdp' "burst 0 $1 100" 'app payload cam' 'bind 10 rdp' "recv 0 $1"
 }
 
-# words WAY: the words of the program for it.
-words() { [ "$1" = sim ] && echo sim || echo "run --workers $1"; }
+# choose WAY: the words of the program for it, in `words`.
+choose() { if [ "$1" = sim ]; then words=(sim); else words=(run --workers "$1"); fi; }
 
 # note NAME NUMBER: keeps it as the least of this name, where it is.
 note() { [ -n "${least[$1]}" ] && [ "${least[$1]}" -le "$2" ] || least[$1]=$2; }
@@ -44,8 +44,10 @@ note() { [ -n "${least[$1]}" ] && [ "${least[$1]}" -le "$2" ] || least[$1]=$2; }
 # once WAY FILE: a run of FILE.scn, whose report stands in FILE.WAY then. It notes the microseconds that it took, and those
 # of its threads.
 once() {
-  local start=${EPOCHREALTIME/./} user system
-  { time "$program" $(words "$1") < "$2.scn" > "$2.$1" 2> "$work/said"; } 2> "$work/cost" || { cat "$work/said" >&2; return 1; }
+  local start user system
+  choose "$1"
+  start=${EPOCHREALTIME/./}
+  { time "$program" "${words[@]}" < "$2.scn" > "$2.$1" 2> "$work/said"; } 2> "$work/cost" || { cat "$work/said" >&2; return 1; }
   note "$2 $1" $((${EPOCHREALTIME/./} - start))
   read -r user system < "$work/cost"
   note "$2 $1 cost" $((10#${user/./} * 1000 + 10#${system/./} * 1000))
@@ -56,17 +58,18 @@ judge() {
   local way
   cmp -s "$1.sim" "$1.1" || wrong "$1: the report by one worker is not that of a simulation"
   for way in "${ways[@]}"; do
+    choose "$way"
     rounds[$1 $way]=$(sed -n 's/^end finished //p' "$1.$way")
-    [ -n "${rounds[$1 $way]}" ] || wrong "$1: $(words "$way") did not finish"
-    [ "$(tail -n 2 "$1.$way")" = $'stale 0\npassed 0' ] || wrong "$1: $(words "$way") has stale or changed packets"
-    cmp -s <(grep '^took ' "$1.sim" | sort) <(grep '^took ' "$1.$way" | sort) || wrong "$1: $(words "$way") took other packets"
+    [ -n "${rounds[$1 $way]}" ] || wrong "$1: ${words[*]} did not finish"
+    [ "$(tail -n 2 "$1.$way")" = $'stale 0\npassed 0' ] || wrong "$1: ${words[*]} has stale or changed packets"
+    cmp -s <(grep '^took ' "$1.sim" | sort) <(grep '^took ' "$1.$way" | sort) || wrong "$1: ${words[*]} took other packets"
   done
 }
 
 wrong() { echo "threads: ${1#"$work"/}" >&2; failed=1; }
 
-# memory WAY FILE: the KiB that a run of it takes at most.
-memory() { /usr/bin/time -q -f %M -o "$work/cost" "$program" $(words "$1") < "$2.scn" > /dev/null 2>&1 && cat "$work/cost"; }
+# memory FILE: the KiB that a run of it with the chosen words takes at most.
+memory() { /usr/bin/time -q -f %M -o "$work/cost" "$program" "${words[@]}" < "$1.scn" > /dev/null 2>&1 && cat "$work/cost"; }
 
 # measure FILE: runs it in each way, by turns, and as it is with one round.
 measure() {
@@ -93,7 +96,8 @@ tell() {
     printf "%s, %d rounds: sim %.1f ms, run by one worker %.1f ms, %.2f times\n", what, rounds, sim / 1000, one / 1000, one / sim
   }'
   for way in "${ways[@]}"; do
-    echo "  $(words "$way"): $(per_round "$2" "$way") us a round, $(per_round "$2" "$way" cost) us of processors, $(memory "$way" "$2") KiB"
+    choose "$way"
+    echo "  ${words[*]}: $(per_round "$2" "$way") us a round, $(per_round "$2" "$way" cost) us of processors, $(memory "$2") KiB"
   done
 }
 
