@@ -146,12 +146,12 @@ pub(crate) fn read_scene(alloc: Global, text: &[u8]) -> Result<Scene, Refusal>
 }
 
 /// The report of a record that is consistent with its scene, and whose places hold together just the buffers of each node.
-pub(crate) fn told(alloc: Global, record: &Record, scene: &Scene) -> Result<Vec<u8>, Refusal>
+pub(crate) fn told(alloc: Global, run: &Record, scene: &Scene) -> Result<Vec<u8>, Refusal>
     requires ranges { IsScene scene.now }
     requires apart { AreNamedApart scene.now.nodes }
-    requires consistent { IsConsistent scene.now record.now }
-    requires whole { IsWhole (map (λ n. n.buffers) scene.now.nodes) record.now }
-    ensures bytes { IfOk result (λ bytes. bytes.items ≡ report scene.now record.now) }
+    requires consistent { IsConsistent scene.now run.now }
+    requires whole { IsWhole (map (λ n. n.buffers) scene.now.nodes) run.now }
+    ensures bytes { IfOk result (λ bytes. bytes.items ≡ report scene.now run.now) }
     ensures places { IfOk result (λ bytes. PlacesAddUp bytes.items) }
     ensures reliable { IfOk result (λ bytes. HasReliablePrefix bytes.items) }
     ensures refused { IfErr result (λ why. why ≡ Refusal.NoMemory) }
@@ -159,8 +159,8 @@ pub(crate) fn told(alloc: Global, record: &Record, scene: &Scene) -> Result<Vec<
     takes_a_prefix();
     opens_on_slots();
     tells_reliable_prefix();
-    hold_numbers(record);
-    match report(alloc, record, scene) {
+    hold_numbers(run);
+    match report(alloc, run, scene) {
         Ok(bytes) => Ok(bytes),
         Err(_) => Err(Refusal::NoMemory),
     }
