@@ -1,5 +1,5 @@
 mod Closing
 mod Entries
-mod Met
+mod Hearing
 mod Rounds
 mod Staying

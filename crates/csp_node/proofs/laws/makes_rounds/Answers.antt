@@ -5,7 +5,7 @@ use Rattle.csp_deck.specs.Runs.{last_time}
 use Rattle.csp_fabric.specs.Fabrics.{network_of}
 use Rattle.csp_log.specs.declared.entry.Entry.{Entry}
 use Rattle.csp_node.proofs.Entries.{all_late, all_short, all_turned, early_after}
-use Rattle.csp_node.proofs.Met.{all_heard}
+use Rattle.csp_node.proofs.Hearing.{all_heard}
 use Rattle.csp_node.proofs.Staying.{fabric_stays, round_stays}
 use Rattle.csp_node.specs.Rounds.{entries_early, entries_of, plains}
 use Rattle.csp_posts.specs.Between.{AreInRounds, HasHeard}
