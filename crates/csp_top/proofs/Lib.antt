@@ -1,4 +1,5 @@
 pub mod Generated
 mod OpeningNumbers
+mod Owing
 mod Prefix
 mod Untaken

@@ -1,0 +1,14 @@
+use Rattle.std.proofs.Common.{◌≡◌, sym, subst}
+use Rattle.csp_report.specs.ReliablePrefix.{HasReliablePrefix}
+use Rattle.csp_top.proofs.simulation.told.Goals as goal
+
+pub returns-in-Ok-clause-reliable : goal.returns-in-Ok-clause-reliable
+returns-in-Ok-clause-reliable c =
+    let scene = c.args.scene.now in
+    let run = c.args.run.now in
+    let ranges = c.requires.ranges in
+    let consistent = c.requires.consistent in
+    subst HasReliablePrefix (sym c.in-Ok.ensures.bytes)
+    (c.tells_reliable_prefix.ensures scene run ranges c.requires.apart consistent.runs c.requires.whole c.hold_numbers.ensures
+    (λ node app x opened. (let placed = c.opens_on_slots.ensures scene run ranges consistent node app x opened in record { app = placed.0; slot = placed.1 }))
+    (c.takes_a_prefix.ensures scene run ranges consistent))
