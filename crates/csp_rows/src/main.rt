@@ -2,7 +2,7 @@
 //! memory, and what the program prints for it is compared with `NAME.report`: the report, or the line on standard
 //! error where there is none. One line a scenario says whether they agree.
 //!
-//! Runs with faults of reading and writing, and those on other words, are cases of its tables, `NAME.table`: one line a
+//! Runs with faults of reading and writing are cases of its tables, `NAME.table`: one line a
 //! table says how many cases it has, and after it stands each case that differs.
 #![tactic(auto)]
 
@@ -60,13 +60,11 @@ fn runs<R: Files + Print + AllocGlobal + Clone + Drop + Threads + Wait + Sync>(
 }
 
 /// Goes through the tables.
-fn tables<R: Files + Print + AllocGlobal + Clone + Drop + Threads + Wait + Sync>(
-    rt: &R,
-) -> io::Result<()> {
+fn tables<R: Files + Print + AllocGlobal + Clone + Drop>(rt: &R) -> io::Result<()> {
     let names = names_of(rt, ".table")?;
     for name in names.as_slice() {
         let text = fs::read_to_string(rt, format!(in rt.alloc(); "{name}.table")?)?;
-        let table = judged(rt.alloc(), &Program { rt }, text.as_str())?;
+        let table = judged(rt.alloc(), &Program, text.as_str())?;
         let cases = table.cases;
         println!(rt; "table {name}: {cases} cases")?;
         for line in table.differing.as_slice() {

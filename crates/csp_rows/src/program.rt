@@ -1,32 +1,26 @@
-//! Runs of the program over memory: `run WORDS | reads N .. | writes N .. | piece N | TEXT`, where the numbers say
+//! Runs by the schedule over memory: `sim | reads N .. | writes N .. | piece N | TEXT`, where the numbers say
 //! which calls of the source and of the sink fail, counted from 0, and a piece is what the sink takes in a call. The
 //! line on standard error: `say scene LINE`, `say bytes N`, .. And the words behind the program's name: `own WORDS`.
 
 use csp_base::{MemSink, MemSource};
 use csp_cases::CaseError::{NoMemory, Unread};
 use csp_cases::{Answers, CaseError, Words, joined, unescaped};
-use csp_rounds::OpenGate;
 use csp_scene::SceneKind;
-use csp_top::{LimitKind, Status, csp_main, own_words, say};
+use csp_top::{LimitKind, Status, own_words, say, sim_main};
 use std::alloc::Global;
-use std::sync::Wait;
-use std::thread::Threads;
 
 /// The room of the sink.
 const ROOM: usize = 65_536;
 
 /// The program over memory.
-pub(crate) struct Program<'a, R: Threads + Wait + Sync> {
-    /// The runtime that its threads are of.
-    pub(crate) rt: &'a R,
-}
+pub(crate) struct Program;
 
-impl<R: Threads + Wait + Sync> Answers for Program<'_, R> {
+impl Answers for Program {
     /// The answer to what a case asks. Its first word says of what.
     fn answer(&self, alloc: Global, asked: &str) -> Result<String, CaseError> {
         let (which, what) = asked.split_once(" ").unwrap_or((asked, ""));
         match which {
-            "run" => run(self.rt, alloc, what),
+            "sim" => sim(alloc, what),
             "say" => said(alloc, status(&Words::of(alloc, what)?)?),
             "own" => own(alloc, what),
             _ => Err(Unread),
@@ -55,23 +49,15 @@ fn own(alloc: Global, text: &str) -> Result<String, CaseError> {
 }
 
 /// How a run ends, how often it read and wrote, how many bytes it wrote, and what is said of it.
-fn run<R: Threads + Wait + Sync>(rt: &R, alloc: Global, what: &str) -> Result<String, CaseError> {
-    let (words, rest) = what.split_once(" | ").ok_or(Unread)?;
+fn sim(alloc: Global, what: &str) -> Result<String, CaseError> {
+    let rest = what.strip_prefix("| ").ok_or(Unread)?;
     let (reads, rest) = rest.split_once(" | ").ok_or(Unread)?;
     let (writes, rest) = rest.split_once(" | ").ok_or(Unread)?;
     let (piece, text) = rest.split_once(" | ").ok_or(Unread)?;
-    let words = strings(alloc, words)?;
     let piece = usize::from(Words::of(alloc, piece)?.short(1)?);
     let mut source = MemSource::new(unescaped(alloc, text)?, numbers(alloc, reads)?);
     let mut sink = opened(alloc, piece, numbers(alloc, writes)?)?;
-    let status = csp_main(
-        rt,
-        alloc,
-        words.as_slice(),
-        &mut source,
-        &mut sink,
-        &OpenGate,
-    );
+    let status = sim_main(alloc, &mut source, &mut sink);
     let written = sink.written().len();
     let (reads, writes) = (source.calls(), sink.calls());
     let said = said(alloc, status)?;
