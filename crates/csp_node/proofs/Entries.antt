@@ -37,6 +37,7 @@ few_entries rounds posts short few parties =
     each_short : (posts : List PlainPost) → AllByRecursion (IsShort rounds) posts → AllByRecursion (λ s. length s.entries ≤ 2 ^ 23) posts
     each_short [] all = tt
     each_short (s ∷ posts) all = (omega (arith, all.0, few), each_short posts all.1)
+
     bound : (n k : ℕ) → n ≤ k * 2 ^ 23 → k ≤ 2 ^ 20 → n < 2 ^ 64
     bound n k h g = omega (arith, h, g)
 

@@ -22,8 +22,7 @@ ghost use Rattle.csp_scene.specs.Scene.{PlainScene};
 
 use csp_posts::turns_keep_books;
 use csp_prompt::{
-    goes_on, keeps_logs, keeps_when_met, makes_a_round, makes_no_round, shows, shows_rounds,
-    starts,
+    goes_on, keeps_logs, keeps_when_met, makes_a_round, makes_no_round, shows, shows_rounds, starts,
 };
 use csp_standing::{
     leads_nodes, meetings_keep_network, opens_books, runs_parties, stands_in_scene, traces_posts,

@@ -91,6 +91,7 @@ found row more a (suc n) words command e = by_test (found row more (a + 1) n wor
     next : Found row (a + 1) n words command ⊎ (found_in more words ≡ Ok command) → Found row a (suc n) words command ⊎ (found_in more words ≡ Ok command)
     next (inl f) = inl (record { at = f.at; low = omega (arith, f.low); high = omega (arith, f.high); words_are = f.words_are; command_is = f.command_is })
     next (inr later) = inr later
+
     by_test : (found_in (map row (range_with_len (a + 1) n) ++ more) words ≡ Ok command → Found row (a + 1) n words command ⊎ (found_in more words ≡ Ok command)) → (t : Bool) → are_words words (row a).0 ≡ t
         → Found row a (suc n) words command ⊎ (found_in more words ≡ Ok command)
     by_test later true same = inl (record {
@@ -145,15 +146,19 @@ which words command e = first (found_first sim_row (run_row ∷ (apart_rows ++ (
     last : Found gen_row 1 MAX_PACKETS words command ⊎ (Err Grammar ≡ Ok command) → Which words command
     last (inl f) = gens f.at (record { least = omega (arith, f.low); most = omega (arith, f.high); words_are = f.words_are }) f.command_is
     last (inr never) = cc
+
     fourth : Found joined_row 1 MAX_WORKERS words command ⊎ (found_in gen_rows words ≡ Ok command) → Which words command
     fourth (inl f) = runs f.at (record { least = omega (arith, f.low); most = omega (arith, f.high); words_are = inr (inl f.words_are) }) f.command_is
     fourth (inr later) = last (found gen_row [] 1 MAX_PACKETS words command (ap (λ rows. found_in rows words) (append-nil gen_rows) ∙ later))
+
     third : Found apart_row 1 MAX_WORKERS words command ⊎ (found_in (joined_rows ++ gen_rows) words ≡ Ok command) → Which words command
     third (inl f) = runs f.at (record { least = omega (arith, f.low); most = omega (arith, f.high); words_are = inl f.words_are }) f.command_is
     third (inr later) = fourth (found joined_row gen_rows 1 MAX_WORKERS words command later)
+
     second : ((words ≡ run_words) × (command ≡ Run DEFAULT_WORKERS)) ⊎ (found_in (apart_rows ++ (joined_rows ++ gen_rows)) words ≡ Ok command) → Which words command
     second (inl f) = runs DEFAULT_WORKERS (record { least = omega arith; most = omega arith; words_are = inr (inr (f.0, refl)) }) f.1
     second (inr later) = third (found apart_row (joined_rows ++ gen_rows) 1 MAX_WORKERS words command later)
+
     first : ((words ≡ codes "sim" ∷ []) × (command ≡ Sim)) ⊎ (found_in (run_row ∷ (apart_rows ++ (joined_rows ++ gen_rows))) words ≡ Ok command) → Which words command
     first (inl f) = sims f.0 f.1
     first (inr later) = second (found_first run_row (apart_rows ++ (joined_rows ++ gen_rows)) words command later)
@@ -177,12 +182,15 @@ to_run workers words are = told are.words_are
   where
     apart : found_in (apart_rows ++ (joined_rows ++ gen_rows)) (apart_words workers) ≡ Ok (Run workers)
     apart = hit apart_row apart_apart (joined_rows ++ gen_rows) 1 MAX_WORKERS workers are.least (omega (arith, are.most)) (omega arith)
+
     joined : found_in (apart_rows ++ (joined_rows ++ gen_rows)) (joined_words workers) ≡ Ok (Run workers)
     joined =
         miss apart_row (joined_rows ++ gen_rows) 1 MAX_WORKERS (joined_words workers) (λ p low high e. let no : joined_words workers ≡ apart_words p = e in cc)
         ∙ hit joined_row joined_apart gen_rows 1 MAX_WORKERS workers are.least (omega (arith, are.most)) (omega arith)
+
     after : (more : List (List ℕ)) → words ≡ codes "run" ∷ more → words ≢ codes "sim" ∷ []
     after more is e = let same : codes "run" ∷ more ≡ codes "sim" ∷ [] = sym is ∙ e in run_not_sim (let heads : codes "run" ≡ codes "sim" = cc in heads)
+
     told : (words ≡ apart_words workers) ⊎ ((words ≡ joined_words workers) ⊎ ((words ≡ run_words) × (workers ≡ DEFAULT_WORKERS))) → command_of words ≡ Ok (Run workers)
     told (inl is) =
         later_row sim_row (run_row ∷ (apart_rows ++ (joined_rows ++ gen_rows))) words (after _ is)

@@ -13,11 +13,11 @@ pub returns-then-are_finished-clause-run : goal.returns-then-are_finished-clause
 returns-then-are_finished-clause-run g c =
     let until : c.scene.inside.until ≡ c.args.scene.now.until = ap (λ (p : PlainScene). p.until) c.scene.view_is in
     record {
-  rounds = c.loop-round.round;
-  between = c.loop-round.invariant;
-  most = omega (arith, c.loop-round.auto.round-end, c.from-round-end.ensures, until);
-  unfinished = λ undone. let done : are_done (plains c.loop-round.posts) ≡ true = sym (finished_plain c.loop-round.posts) ∙ sym c.are_finished.ensures ∙ c.if-are_finished.true in cc;
-}
+      rounds = c.loop-round.round;
+      between = c.loop-round.invariant;
+      most = omega (arith, c.loop-round.auto.round-end, c.from-round-end.ensures, until);
+      unfinished = λ undone. let done : are_done (plains c.loop-round.posts) ≡ true = sym (finished_plain c.loop-round.posts) ∙ sym c.are_finished.ensures ∙ c.if-are_finished.true in cc;
+    }
 
 pub entries-requires : goal.entries-requires
 entries-requires g c =
