@@ -1,12 +1,11 @@
 -- A generated scenario has a report: its text states a scene, and the run of that scene stays below the entry limit.
-use Rattle.std.proofs.Common.{◌≡◌, ℕ, zero, suc, ◌+◌, ◌*◌, ◌<◌, ◌≤◌, Bool, true, false, cond, leb, Option, None, Some, Result, Ok, Err, List, [], ◌∷◌, ◌++◌, length, refl, sym, ap, ◌∙◌, length-append, arith}
+use Rattle.std.proofs.Common.{◌≡◌, ℕ, Option, None, Some, Result, Ok, Err, List, length, refl, sym, ap, ◌∙◌}
 use Rattle.std.specs.Option.{option_map}
 use Rattle.csp_gen.specs.GenScene.{gen_scene, StatesScene}
 use Rattle.csp_gen.specs.GenText.{gen_text}
 use Rattle.csp_link.specs.declared.fault.Fault.{Fault}
 use Rattle.csp_record.specs.Record.{PlainRecord}
 use Rattle.csp_scene.specs.Judge.{scene_of}
-use Rattle.csp_scene.specs.Scene.{PlainScene}
 use Rattle.csp_scene.specs.declared.refusal.SceneKind.{SceneKind}
 use Rattle.csp_topology.specs.Parties.{parties_of}
 use Rattle.csp_world.proofs.FewRounds.{run_end}

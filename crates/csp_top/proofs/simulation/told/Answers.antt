@@ -1,4 +1,4 @@
-use Rattle.std.proofs.Common.{◌≡◌, sym, subst}
+use Rattle.std.proofs.Common.{sym, subst}
 use Rattle.csp_report.specs.ReliablePrefix.{HasReliablePrefix}
 use Rattle.csp_top.proofs.simulation.told.Goals as goal
 

@@ -1,4 +1,4 @@
-use Rattle.std.proofs.Common.{◌≡◌, ◌<◌, ◌≤◌, ◌^◌, ◌∙◌, arith}
+use Rattle.std.proofs.Common.{◌≡◌, ◌<◌, ◌^◌, ◌∙◌, arith}
 use Rattle.csp_words.proofs.Rows.{digits_are, written}
 use Rattle.csp_words.proofs.words.workers.Goals as goal
 use Rattle.csp_words.proofs.words.workers.Goals.{then-workers-lt1-via-then-workers-lt1, then-workers-lt1-via-else-workers-lt1+then-workers-from}
