@@ -2,5 +2,11 @@
 #![tactic(auto)]
 
 mod closing;
+mod hands;
+mod lanes;
+mod parties;
+mod queues;
+mod retiring;
+mod times;
 
 pub use closing::close_fabric;
