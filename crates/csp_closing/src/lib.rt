@@ -5,6 +5,7 @@ mod closing;
 mod hands;
 mod lanes;
 mod parties;
+mod passes;
 mod queues;
 mod retiring;
 mod times;

@@ -1,7 +1,14 @@
 //! The end of the queues of all nodes.
 
-use crate::hands::{Passes, take_passes};
+ghost use Rattle.std.specs.Prelude.{◌≡◌, ◌+◌, ◌<◌, ◌≤◌, ◌∷◌, [], length, map};
+ghost use Rattle.csp_closing.specs.Hands.{without_home};
+ghost use Rattle.csp_closing.specs.Nodes.{CanAllEnd, CanEnd, NodeEnds, NodesEnd, queue_count};
+ghost use Rattle.csp_closing.specs.Retired.{all_homes, all_rest, all_sides};
+ghost use Rattle.csp_closing.specs.Wires.{without_all};
+
+use crate::hands::take_passes;
 use crate::lanes::end_lanes;
+use crate::passes::Passes;
 use csp_ending::{Notes, end_inbox};
 use csp_ends::{NodeQueues, Queues};
 use csp_fabric::{NodeRooms, NodeStore};
@@ -19,13 +26,17 @@ pub(crate) fn end_queues<R: Wait>(
     parties: &mut [Retired],
     stores: &mut [NodeStore],
     notes: &mut Notes,
-) {
+)
+    requires can { CanAllEnd 0 queues rooms.items (map (λ ws. ws.items) wires.now) stores.old (all_homes parties.old) (all_sides parties.old) }
+    requires few { length stores.old ≤ 255 }
+    requires notes_room { queue_count (map (λ ws. ws.items) wires.now) ≤ notes.old.queues }
+    ensures ends { NodesEnd 0 queues (map (λ ws. ws.items) wires.now) (all_homes parties.old) (all_sides parties.old) notes.old notes.new stores.old stores.new }
+    ensures rest { all_rest parties.new ≡ all_rest parties.old }
+{
     let Queues { nodes } = queues;
     let mut nodes = VecDeque::from_vec(nodes);
     let mut rooms = VecDeque::from_vec(rooms);
-    end_nodes(
-        rt, &mut nodes, &mut rooms, wires, 0, parties, stores, notes,
-    );
+    end_nodes(rt, &mut nodes, &mut rooms, wires, 0, parties, stores, notes);
     nodes.destroy_empty();
     rooms.destroy_empty();
 }
@@ -40,25 +51,29 @@ fn end_nodes<R: Wait>(
     parties: &mut [Retired],
     stores: &mut [NodeStore],
     notes: &mut Notes,
-) {
+)
+    requires can { CanAllEnd node nodes.old.items rooms.old.items (map (λ ws. ws.items) wires.now) stores.old (all_homes parties.old) (all_sides parties.old) }
+    requires few { node + length stores.old ≤ 255 }
+    requires notes_room { queue_count (map (λ ws. ws.items) wires.now) ≤ notes.old.queues }
+    ensures ends { NodesEnd node nodes.old.items (map (λ ws. ws.items) wires.now) (all_homes parties.old) (all_sides parties.old) notes.old notes.new stores.old stores.new }
+    ensures nodes { nodes.new.items ≡ [] }
+    ensures rooms { rooms.new.items ≡ [] }
+    ensures rest { all_rest parties.new ≡ all_rest parties.old }
+{
     if let Some((store, later)) = stores.split_first_mut() {
         let queues = next_queues(nodes);
         let room = next_rooms(rooms);
-        end_node(
-            rt, queues, room, &wires[0], node, parties, store, notes,
+        end_node(rt, queues, room, &wires[0], node, parties, store, notes);
+        end_nodes(
+            rt,
+            nodes,
+            rooms,
+            &wires[1..],
+            node + 1,
+            parties,
+            later,
+            notes,
         );
-        if !later.is_empty() {
-            end_nodes(
-                rt,
-                nodes,
-                rooms,
-                &wires[1..],
-                node + 1,
-                parties,
-                later,
-                notes,
-            );
-        }
     }
 }
 
@@ -72,18 +87,21 @@ fn end_node<R: Wait>(
     parties: &mut [Retired],
     store: &mut NodeStore,
     notes: &mut Notes,
-) {
+)
+    requires can { CanEnd node queues rooms wires.now store.old (all_homes parties.old) (all_sides parties.old) }
+    requires notes_room { length wires.now + 4 ≤ notes.old.queues }
+    ensures ends { NodeEnds node queues.inbox.room wires.now (all_homes parties.old) (all_sides parties.old) notes.old notes.new store.old store.new }
+    ensures homes { all_homes parties.new ≡ map (without_home node) (all_homes parties.old) }
+    ensures sides { all_sides parties.new ≡ without_all wires.now (all_sides parties.old) }
+    ensures rest { all_rest parties.new ≡ all_rest parties.old }
+{
     let passes = take_passes(&queues, node, parties);
-    let Passes {
-        pool: pool_pass,
-        inbox: inbox_pass,
-    } = passes;
     let NodeQueues { pool, inbox, lanes } = queues;
     let NodeRooms {
         inbox: inbox_room,
         lanes: lane_rooms,
     } = rooms;
-    let (first, last) = store.store.end_pool(rt, pool, pool_pass);
+    let (first, last) = store.store.end_pool(rt, pool, passes.pool);
     store.first = first;
     store.last = last;
     end_lanes(
@@ -99,7 +117,7 @@ fn end_node<R: Wait>(
     end_inbox(
         rt,
         inbox,
-        inbox_pass,
+        passes.inbox,
         inbox_room,
         node,
         notes,
@@ -108,7 +126,10 @@ fn end_node<R: Wait>(
 }
 
 /// The first of these.
-fn next_queues(nodes: &mut VecDeque<NodeQueues>) -> NodeQueues {
+fn next_queues(nodes: &mut VecDeque<NodeQueues>) -> NodeQueues
+    requires { 0 < length nodes.old.items }
+    ensures { nodes.old.items ≡ result ∷ nodes.new.items }
+{
     match nodes.pop_front() {
         Some(queues) => queues,
         None => unreachable!(),
@@ -116,7 +137,10 @@ fn next_queues(nodes: &mut VecDeque<NodeQueues>) -> NodeQueues {
 }
 
 /// The first of these rooms.
-fn next_rooms(rooms: &mut VecDeque<NodeRooms>) -> NodeRooms {
+fn next_rooms(rooms: &mut VecDeque<NodeRooms>) -> NodeRooms
+    requires { 0 < length rooms.old.items }
+    ensures { rooms.old.items ≡ result ∷ rooms.new.items }
+{
     match rooms.pop_front() {
         Some(room) => room,
         None => unreachable!(),
