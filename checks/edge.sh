@@ -94,6 +94,31 @@ got=$?
 grep -qx 'took 500' "$work/out" || echo 'took 500 is wanted' > "$work/said"
 compare 'gen 500, a second time' 0
 
+# 0: runs in threads. A scenario of one application has one report, by however many workers; the mission ends with each
+# buffer in one place, all taken, and both counts 0, in whatever order the threads took their turns.
+cp "$here/scenarios/one_node.report" "$work/wanted_out"
+cp "$work/nothing" "$work/wanted_said"
+for workers in --workers=1 --workers=8; do
+  "$program" run "$workers" < "$here/scenarios/one_node.scn" > "$work/out" 2> "$work/said"
+  got=$?
+  compare "one_node, run $workers" 0
+done
+{ printf 'node %s adds up\n' ground relay payload; printf '%s\n' 'took 200' 'stale 0' 'passed 0'; } > "$work/wanted_out"
+for workers in 1 3 4; do
+  "$program" run --workers "$workers" < "$here/scenarios/mission.scn" > "$work/report" 2> "$work/said"
+  got=$?
+  awk '$1 == "node" { print "node", $2, $5 == $7 + $9 + $11 + $13 + $15 + $17 ? "adds up" : "does not" }
+    $1 == "took" && $2 == "payload" { took++ }
+    $1 == "stale" { print "took", took; print }
+    $1 == "passed"' "$work/report" > "$work/out"
+  compare "the mission, run --workers $workers" 0
+done
+sed 's/^until .*/until 3/' "$here/scenarios/mission.scn" | "$program" run > "$work/report" 2> "$work/said"
+got=$?
+sed -n 2p "$work/report" > "$work/out"
+echo 'end unfinished 3' > "$work/wanted_out"
+compare 'the mission until round 3, run' 0
+
 # 0 and 5: the longest texts, of a line feed for each byte.
 printf 'csp-report 1\nend finished 0\nstale 0\npassed 0\n' > "$work/wanted_out"
 cp "$work/nothing" "$work/wanted_said"
@@ -119,6 +144,10 @@ refused 'gen alone' 2 'cspsim: bad words' gen
 refused 'gen 0' 2 'cspsim: bad words' gen 0
 refused 'gen 501' 2 'cspsim: bad words' gen 501
 refused 'gen 020' 2 'cspsim: bad words' gen 020
+refused 'run without a number' 2 'cspsim: bad words' run --workers
+refused 'run without workers' 2 'cspsim: bad words' run --workers 0
+refused 'run with nine workers' 2 'cspsim: bad words' run --workers=9
+refused 'run with workers twice' 2 'cspsim: bad words' run --workers 1 --workers 1
 refused '--help' 2 'cspsim: bad words' --help
 refused 'sim and an empty word' 2 'cspsim: bad words' sim ''
 refused 'a word that is not UTF-8' 2 'cspsim: bad words' $'\xff'
@@ -163,10 +192,12 @@ printf 'until 10\nnode n1 1 buffers 4\napp n1 a\ntale\n' > "$work/in"
 fed 'a misspelt step' 5 'cspsim: line 4: Word'
 cp "$work/nothing" "$work/in"
 fed 'an empty text' 5 'cspsim: line 1: Missing'
+refused 'an empty text, run' 5 'cspsim: line 1: Missing' run
 
 # 6: a byte more than a text may have, and more entries than the logs may have.
 times 1048577 '#' | tr -d '\n' > "$work/in"
 fed 'a text of 1,048,577 bytes' 6 'cspsim: limit Bytes 1048576'
+refused 'a text of 1,048,577 bytes, run' 6 'cspsim: limit Bytes 1048576' run
 cp "$here/measure/limit.scn" "$work/in"
 fed 'a run up to the limit of entries' 6 'cspsim: limit Entries 4000000'
 

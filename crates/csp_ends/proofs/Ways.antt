@@ -90,7 +90,7 @@ rests nodes d = record {
 }
 
 -- the causes
-cause_put : (e : PlainEnds) (q : QueueId) (i : ItemShown) → is_queue queue.Inbox q ≡ false → HasEnd true q e → CauseOf e (op.Push q i) answer.Pushed
+cause_put : (e : PlainEnds) (q : QueueId) (i : ItemShown) → is_queue queue.Inbox q ≡ false → HasEnd true q i e → CauseOf e (op.Push q i) answer.Pushed
 cause_put e queue.Inbox i out h = absurd (true≢false out)
 cause_put e _ i out h = h
 
@@ -98,7 +98,7 @@ cause_full : (e : PlainEnds) (q : QueueId) (i j : ItemShown) → is_queue queue.
 cause_full e queue.Inbox i j out h = absurd (true≢false out)
 cause_full e _ i j out h = h
 
-cause_got : (e : PlainEnds) (q : QueueId) (i : ItemShown) → is_queue queue.Inbox q ≡ false → HasEnd false q e → CauseOf e (op.Pop q) (answer.Popped i)
+cause_got : (e : PlainEnds) (q : QueueId) (i : ItemShown) → is_queue queue.Inbox q ≡ false → HasEnd false q i e → CauseOf e (op.Pop q) (answer.Popped i)
 cause_got e queue.Inbox i out h = absurd (true≢false out)
 cause_got e _ i out h = h
 
@@ -144,9 +144,9 @@ set_same (x ∷ xs) zero s there = ap (λ y. y ∷ xs) (sym (some_head x s there
 set_same (x ∷ xs) (suc at) s there = ap (λ ys. x ∷ ys) (set_same xs at s there)
 
 -- a push that went through
-served_put : (nodes : List PlainNodeQueues) (d : PlainEnds) (q : QueueId) (at : ℕ) (s : PlainSide) (i : ItemShown) → AreEnds d → is_queue queue.Inbox q ≡ false → Stands d q at s → s.puts ≡ true
+served_put : (nodes : List PlainNodeQueues) (d : PlainEnds) (q : QueueId) (at : ℕ) (s : PlainSide) (i : ItemShown) → AreEnds d → is_queue queue.Inbox q ≡ false → Stands d q at s → s.puts ≡ true → IsCarried (rule.Lane s.end.carries) i
     → Serves nodes d (op.Push q i) answer.Pushed (with_side d at (side_through s i))
-served_put nodes d q at s i whole out stands puts =
+served_put nodes d q at s i whole out stands puts carried =
     let room = room_for nodes d.home in
     let home : option_map (home_after room (op.Push q i) answer.Pushed) d.home ≡ d.home = home_still room (op.Push q i) answer.Pushed d.home (put_elsewhere q i out) (λ v. refl) in
     let sides : slice_set d.sides at (side_through s i) ≡ map (side_after (op.Push q i) answer.Pushed) d.sides =
@@ -155,7 +155,7 @@ served_put nodes d q at s i whole out stands puts =
     (λ k x here apart. put_else x.puts x.queue q i (others_apart d q at s whole stands k x here apart)) in
     record {
       ends = λ j. record { home = sym home j; sides = sides j };
-      cause = cause_put d q i out (record { at = at; side = s; there = stands.there; named = stands.named; puts = puts });
+      cause = cause_put d q i out (record { at = at; side = s; there = stands.there; named = stands.named; puts = puts; carried = carried });
     }
 
 pub served_full : (nodes : List PlainNodeQueues) (d : PlainEnds) (q : QueueId) (i j : ItemShown) → is_queue queue.Inbox q ≡ false → AllByRecursion (HasNoRoomAt q) d.sides → Serves nodes d (op.Push q i) (answer.Full j) d
@@ -172,18 +172,18 @@ pub puts_full : (d : PlainEnds) (q : QueueId) (at : ℕ) (s t : PlainSide) (i : 
 puts_full d q at s t i (Ok u) whole stands puts = tt
 puts_full d q at s t i (Err j) whole stands puts = the_only d q at s (λ (x : PlainSide). x.puts ≡ true → HadNoRoom x.end) whole stands puts.1
 
-pub puts_served : (nodes : List PlainNodeQueues) (d : PlainEnds) (q : QueueId) (at : ℕ) (s t : PlainSide) (i : Item) (r : Result (Unit {0}) Item) → AreEnds d → is_queue queue.Inbox q ≡ false → Stands d q at s → Puts s i r t
+pub puts_served : (nodes : List PlainNodeQueues) (d : PlainEnds) (q : QueueId) (at : ℕ) (s t : PlainSide) (i : Item) (r : Result (Unit {0}) Item) → AreEnds d → is_queue queue.Inbox q ≡ false → Stands d q at s → Puts s i r t → IsFor s.end.region s.end.carries i
     → MatchResult r (λ _. Serves nodes d (op.Push q (shown_item i)) answer.Pushed (with_side d at t)) (λ j. Serves nodes d (op.Push q (shown_item i)) (answer.Full (shown_item j)) (with_side d at t))
-puts_served nodes d q at s t i (Ok u) whole out stands puts =
-    subst (λ x. Serves nodes d (op.Push q (shown_item i)) answer.Pushed (with_side d at x)) (sym puts.1) (served_put nodes d q at s (shown_item i) whole out stands puts.0)
-puts_served nodes d q at s t i (Err j) whole out stands puts =
+puts_served nodes d q at s t i (Ok u) whole out stands puts fits =
+    subst (λ x. Serves nodes d (op.Push q (shown_item i)) answer.Pushed (with_side d at x)) (sym puts.1) (served_put nodes d q at s (shown_item i) whole out stands puts.0 fits.carried)
+puts_served nodes d q at s t i (Err j) whole out stands puts fits =
     let same : d ≡ with_side d at t = λ k. record { home = d.home; sides = (sym (set_same d.sides at s stands.there) ∙ ap (slice_set d.sides at) (sym puts.0)) k } in
     subst (Serves nodes d (op.Push q (shown_item i)) (answer.Full (shown_item j))) same (served_full nodes d q (shown_item i) (shown_item j) out (puts_full d q at s t i (Err j) whole stands puts))
 
 -- a pop that brought something
-served_got : (nodes : List PlainNodeQueues) (d : PlainEnds) (q : QueueId) (at : ℕ) (s : PlainSide) (i : ItemShown) → AreEnds d → is_queue queue.Inbox q ≡ false → Stands d q at s → s.puts ≡ false
+served_got : (nodes : List PlainNodeQueues) (d : PlainEnds) (q : QueueId) (at : ℕ) (s : PlainSide) (i : ItemShown) → AreEnds d → is_queue queue.Inbox q ≡ false → Stands d q at s → s.puts ≡ false → IsCarried (rule.Lane s.end.carries) i
     → Serves nodes d (op.Pop q) (answer.Popped i) (with_side d at (side_through s i))
-served_got nodes d q at s i whole out stands gets =
+served_got nodes d q at s i whole out stands gets carried =
     let room = room_for nodes d.home in
     let home : option_map (home_after room (op.Pop q) (answer.Popped i)) d.home ≡ d.home = home_still room (op.Pop q) (answer.Popped i) d.home (got_elsewhere q i out) (λ v. refl) in
     let sides : slice_set d.sides at (side_through s i) ≡ map (side_after (op.Pop q) (answer.Popped i)) d.sides =
@@ -192,7 +192,7 @@ served_got nodes d q at s i whole out stands gets =
     (λ k x here apart. got_else x.puts x.queue q i (others_apart d q at s whole stands k x here apart)) in
     record {
       ends = λ j. record { home = sym home j; sides = sides j };
-      cause = cause_got d q i out (record { at = at; side = s; there = stands.there; named = stands.named; puts = gets });
+      cause = cause_got d q i out (record { at = at; side = s; there = stands.there; named = stands.named; puts = gets; carried = carried });
     }
 
 pub served_empty : (nodes : List PlainNodeQueues) (d : PlainEnds) (q : QueueId) → is_queue queue.Inbox q ≡ false → AllByRecursion (HasNothingAt q) d.sides → Serves nodes d (op.Pop q) answer.Empty d
@@ -209,13 +209,13 @@ pub gets_empty : (d : PlainEnds) (q : QueueId) (at : ℕ) (s t : PlainSide) (r :
 gets_empty d q at s t None whole stands gets = the_only d q at s (λ (x : PlainSide). x.puts ≡ false → HadNothing x.end) whole stands gets.1
 gets_empty d q at s t (Some i) whole stands gets = tt
 
-pub gets_served : (nodes : List PlainNodeQueues) (d : PlainEnds) (q : QueueId) (at : ℕ) (s t : PlainSide) (r : Option Item) → AreEnds d → is_queue queue.Inbox q ≡ false → Stands d q at s → Gets s r t
+pub gets_served : (nodes : List PlainNodeQueues) (d : PlainEnds) (q : QueueId) (at : ℕ) (s t : PlainSide) (r : Option Item) → AreEnds d → is_queue queue.Inbox q ≡ false → Stands d q at s → Gets s r t → IfSome r (λ i. IsFor s.end.region s.end.carries i)
     → MatchOption r (Serves nodes d (op.Pop q) answer.Empty (with_side d at t)) (λ i. Serves nodes d (op.Pop q) (answer.Popped (shown_item i)) (with_side d at t))
-gets_served nodes d q at s t None whole out stands gets =
+gets_served nodes d q at s t None whole out stands gets fits =
     let same : d ≡ with_side d at t = λ k. record { home = d.home; sides = (sym (set_same d.sides at s stands.there) ∙ ap (slice_set d.sides at) (sym gets.0)) k } in
     subst (Serves nodes d (op.Pop q) answer.Empty) same (served_empty nodes d q out (gets_empty d q at s t None whole stands gets))
-gets_served nodes d q at s t (Some i) whole out stands gets =
-    subst (λ x. Serves nodes d (op.Pop q) (answer.Popped (shown_item i)) (with_side d at x)) (sym gets.1) (served_got nodes d q at s (shown_item i) whole out stands gets.0)
+gets_served nodes d q at s t (Some i) whole out stands gets fits =
+    subst (λ x. Serves nodes d (op.Pop q) (answer.Popped (shown_item i)) (with_side d at x)) (sym gets.1) (served_got nodes d q at s (shown_item i) whole out stands gets.0 fits.carried)
 
 -- what a lane carries, by its end
 pub rule_there : (d : PlainEnds) (q : QueueId) (s : PlainSide) → is_queue queue.Inbox q ≡ false → side_named q d.sides ≡ Some s → rule_of d q ≡ Some (rule.Lane s.end.carries)

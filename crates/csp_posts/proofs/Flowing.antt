@@ -160,7 +160,7 @@ no_lane way k o a (s ∷ ss) none =
 
 -- what a turn moves through the lane of a name goes through the one end of that name
 one_lane : (way : Bool) (k : ℕ) (o : OpShown) (a : AnswerShown) (q : QueueId) (i : ItemShown) (e : PlainEnds) → ((r : QueueId) → moved_by way r o a ≡ (if is_queue r q then i ∷ [] else []))
-    → AreApart e.sides → HasEnd way q e → sum_by (through way k o a) e.sides ≡ count k (i ∷ [])
+    → AreApart e.sides → HasEnd way q i e → sum_by (through way k o a) e.sides ≡ count k (i ∷ [])
 one_lane way k o a q i e moved apart h =
     sum_one (through way k o a) e.sides h.at h.side h.there others
     ∙ ap (λ (puts : Bool). part way puts (count k (moved_by way h.side.queue o a))) h.puts
@@ -338,7 +338,7 @@ giving k (Some h) b there =
     omega (arith, none)
 
 -- a push into a lane, and a pop from one
-lane_pushed : (k : ℕ) (e : PlainEnds) (q : QueueId) (i : ItemShown) → AreEnds e → is_queue queue.Inbox q ≡ false → HasEnd true q e → Flows k (op.Push q i) answer.Pushed e
+lane_pushed : (k : ℕ) (e : PlainEnds) (q : QueueId) (i : ItemShown) → AreEnds e → is_queue queue.Inbox q ≡ false → HasEnd true q i e → Flows k (op.Push q i) answer.Pushed e
 lane_pushed k e q i ends lane h =
     let lanes = one_lane true k (op.Push q i) answer.Pushed q i e (λ r. refl) ends.apart h in
     let home = into_none k (op.Push q i) answer.Pushed e.home refl (if_false i (is_queue queue.Inbox q) lane) in
@@ -346,7 +346,7 @@ lane_pushed k e q i ends lane h =
     let one = count_one k i in
     omega (arith, lanes, home, none, one)
 
-lane_popped : (k : ℕ) (e : PlainEnds) (q : QueueId) (i : ItemShown) → AreEnds e → is_queue queue.Inbox q ≡ false → HasEnd false q e → Flows k (op.Pop q) (answer.Popped i) e
+lane_popped : (k : ℕ) (e : PlainEnds) (q : QueueId) (i : ItemShown) → AreEnds e → is_queue queue.Inbox q ≡ false → HasEnd false q i e → Flows k (op.Pop q) (answer.Popped i) e
 lane_popped k e q i ends lane h =
     let lanes = one_lane false k (op.Pop q) (answer.Popped i) q i e (λ r. refl) ends.apart h in
     let home = from_none k (op.Pop q) (answer.Popped i) e.home refl (if_false i (is_queue queue.Inbox q) lane) in

@@ -1,4 +1,5 @@
 pub mod Books
+pub mod Crossing
 pub mod Flowing
 pub mod Parties
 pub mod Running

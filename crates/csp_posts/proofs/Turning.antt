@@ -164,7 +164,7 @@ got_one e (op.Pop (queue.Rx n)) (answer.Popped i) h = tt
 got_one e (op.Pop q) answer.Empty h = tt
 got_one e _ _ h = tt
 
-items_joined : (P : ItemShown → Type 0) (xs ys : List ItemShown) → AllByRecursion P xs → AllByRecursion P ys → AllByRecursion P (xs ++ ys)
+pub items_joined : (P : ItemShown → Type 0) (xs ys : List ItemShown) → AllByRecursion P xs → AllByRecursion P ys → AllByRecursion P (xs ++ ys)
 items_joined P [] ys h g = g
 items_joined P (x ∷ xs) ys h g = (h.0, items_joined P xs ys h.1 g)
 

@@ -13,6 +13,7 @@ ghost use Rattle.csp_party.specs.Any.{PlainParty};
 ghost use Rattle.csp_posts.specs.Balance.{IsBalanced};
 ghost use Rattle.csp_posts.specs.Posts.{PlainPost, AreTurns};
 ghost use Rattle.csp_posts.specs.Still.{still, IsPostFrom};
+ghost use Rattle.csp_posts.specs.Through.{IsThrough, WasCrammed};
 ghost use Rattle.csp_topology.specs.Parties.{party_steps};
 
 /// Turns at one time, and then more at that time, are as many turns as both.
@@ -30,13 +31,16 @@ pub fn turns_leave_ends()
 
 /// Where what a party has in hand told what its log says, it still does after turns; where no buffer was lost or made in its hands, none is by turns;
 /// and where its log was a run from an opening, it is one with turns that come no earlier. Where all that came from the inbox was what an inbox
-/// carries, it still is; and what is said of all times, it keeps at one of which it is true.
+/// carries, it still is, and all that went through an end is what its lane carries; a push is refused only where there is no room; and what is said
+/// of all times, it keeps at one of which it is true.
 pub fn turns_keep_post()
     ensures traced { (nodes : List PlainNodeQueues) (time count : ℕ) (opened : List ℕ) (s t : PlainPost) → AreTurns nodes time count s t → AreTraced opened s.entries s.ends → AreTraced opened t.entries t.ends }
     ensures balanced { (nodes : List PlainNodeQueues) (time count : ℕ) (opened : List ℕ) (s t : PlainPost) → AreTurns nodes time count s t → AreEnds s.ends → IsBalanced opened s → IsBalanced opened t }
     ensures runs { (nodes : List PlainNodeQueues) (time count : ℕ) (opening : PlainParty) (s t : PlainPost) → AreTurns nodes time count s t → last_time 0 s.entries ≤ time → Runs party_steps opening s.entries s.party → Runs party_steps opening t.entries t.party }
     ensures all { (nodes : List PlainNodeQueues) (time count : ℕ) (opening : PlainParty) (opened : List ℕ) (s t : PlainPost) → AreTurns nodes time count s t → last_time 0 s.entries ≤ time → IsPostFrom nodes opening opened s → IsPostFrom nodes opening opened t }
     ensures got { (nodes : List PlainNodeQueues) (time count : ℕ) (s t : PlainPost) → AreTurns nodes time count s t → AllByRecursion (IsCarried rule.Inbox) (gets queue.Inbox s.entries) → AllByRecursion (IsCarried rule.Inbox) (gets queue.Inbox t.entries) }
+    ensures through { (nodes : List PlainNodeQueues) (time count : ℕ) (s t : PlainPost) → AreTurns nodes time count s t → AreEnds s.ends → AllByRecursion IsThrough s.ends.sides → AllByRecursion IsThrough t.ends.sides }
+    ensures full { (nodes : List PlainNodeQueues) (time count : ℕ) (opened : List ℕ) (s t : PlainPost) → AreTurns nodes time count s t → AreTraced opened s.entries s.ends → AllByRecursion (WasCrammed s.entries) s.ends.sides → AllByRecursion (WasCrammed t.entries) t.ends.sides }
     ensures early { (nodes : List PlainNodeQueues) (time count limit : ℕ) (s t : PlainPost) → AreTurns nodes time count s t → time < limit → AllByRecursion (λ e. e.time < limit) s.entries → AllByRecursion (λ e. e.time < limit) t.entries }
     ensures last { (nodes : List PlainNodeQueues) (time count : ℕ) (s t : PlainPost) → AreTurns nodes time count s t → last_time 0 s.entries ≤ time → last_time 0 t.entries ≤ time }
 {}

@@ -5,6 +5,7 @@ use Rattle.std.specs.List.{AllByRecursion}
 use Rattle.csp_consistent.specs.Prompt.{AllAfter}
 use Rattle.csp_consistent.specs.Rounds.{early}
 use Rattle.csp_log.specs.declared.entry.Entry.{Entry}
+use Rattle.csp_posts.proofs.Crossing.{after_append}
 use Rattle.csp_scene.proofs.Lists.{AllByRecursion-map}
 
 none_early : (t : ℕ) (es : List Entry) → AllByRecursion (λ e. t ≤ e.time) es → early t es ≡ []
@@ -34,11 +35,6 @@ pub after_map : (F G : List Entry → Entry → Type 0) (P : Entry → Type 0) (
     → AllByRecursion P es → AllAfter F before es → AllAfter G before es
 after_map F G P before [] each ps all = tt
 after_map F G P before (e ∷ es) each ps all = (each before e ps.0 all.0, after_map F G P (before ++ e ∷ []) es each ps.1 all.1)
-
-after_append : (F : List Entry → Entry → Type 0) (before es more : List Entry) → AllAfter F before es → AllAfter F (before ++ es) more → AllAfter F before (es ++ more)
-after_append F before [] more all rest = subst (λ bs. AllAfter F bs more) (append-nil before) rest
-after_append F before (e ∷ es) more all rest =
-    (all.0, after_append F (before ++ e ∷ []) es more all.1 (subst (λ bs. AllAfter F bs more) (sym (append_assoc before (e ∷ []) es)) rest))
 
 -- what held of earlier entries holds still, and what holds of those of a round holds of each with all before it: A speaks of what was early at a time
 pub after_round : (A : List Entry → List Entry → Entry → Type 0) (now : ℕ) (others theirs es more : List Entry)

@@ -5,7 +5,7 @@ use Rattle.std.proofs.lemmas.Option.{slice_get-map}
 use Rattle.std.specs.List.{AllByRecursion}
 use Rattle.csp_consistent.specs.Prompt.{AllAfter, HadNoRoom, IsLanePrompt, MissedNone}
 use Rattle.csp_consistent.specs.Reading.{gets, got_by, is_queue, put_by, puts}
-use Rattle.csp_ends.specs.Causes.{CauseOf, HasNoRoomAt, HasNothingAt, HaveCauses}
+use Rattle.csp_ends.specs.Causes.{CauseOf, HasNothingAt, HaveCauses}
 use Rattle.csp_ends.specs.Ends.{PlainSide, PlainEnds}
 use Rattle.csp_ends.specs.Moves.{ends_after, moved_by, side_after}
 use Rattle.csp_ends.specs.Traced.{IsSideTraced, moved}
@@ -16,6 +16,7 @@ use Rattle.csp_log.specs.declared.shown.AnswerShown.{AnswerShown}
 use Rattle.csp_log.specs.declared.shown.AnswerShown.TheVariants as answer
 use Rattle.csp_log.specs.declared.shown.OpShown.{OpShown}
 use Rattle.csp_log.specs.declared.shown.OpShown.TheVariants as op
+use Rattle.csp_posts.proofs.Crossing.{pushes}
 use Rattle.csp_posts.specs.Between.{HaveMetAt}
 use Rattle.csp_prompt.proofs.Early.{after_round}
 use Rattle.csp_prompt.proofs.Places.{each_at}
@@ -34,9 +35,6 @@ queue_swapped (queue.Rx a) (queue.Rx b) e = number_swapped b a e
 queue_swapped _ _ e = absurd cc
 
 -- with one turn more
-pub puts_push : (q : QueueId) (es : List Entry) (m : Entry) → puts q (es ++ m ∷ []) ≡ puts q es ++ put_by q m.op m.answer
-puts_push q es m = flat_map-append (λ (e : Entry). put_by q e.op e.answer) es (m ∷ []) ∙ ap (λ is. puts q es ++ is) (append-nil (put_by q m.op m.answer))
-
 pub gets_push : (q : QueueId) (es : List Entry) (m : Entry) → gets q (es ++ m ∷ []) ≡ gets q es ++ got_by q m.op m.answer
 gets_push q es m = flat_map-append (λ (e : Entry). got_by q e.op e.answer) es (m ∷ []) ∙ ap (λ is. gets q es ++ is) (append-nil (got_by q m.op m.answer))
 
@@ -62,31 +60,6 @@ looks room earlier (m ∷ more) e b y before at way items knows causes = (
   looks room earlier more (ends_after room m.op m.answer e) b (side_after m.op m.answer y) (before ++ m ∷ [])
       (slice_get-map (side_after m.op m.answer) e.sides b ∙ ap (option_map (side_after m.op m.answer)) at) way
       (ap (λ p. y.end.items ++ moved_by p y.queue m.op m.answer) way ∙ ap (λ is. is ++ got_by y.queue m.op m.answer) items ∙ sym (gets_push y.queue before m))
-      knows causes.1,
-)
-
-no_room_there : (least : ℕ) (r : QueueId) (e : PlainEnds) (b : ℕ) (x : PlainSide) (before : List Entry)
-    → slice_get e.sides b ≡ Some x → x.puts ≡ true → x.end.items ≡ puts x.queue before → least ≤ x.end.room + x.end.known → AllByRecursion (HasNoRoomAt r) e.sides
-    → is_queue x.queue r ≡ true → least ≤ length (puts x.queue before)
-no_room_there least r e b x before at way items knows all same =
-    le_trans knows (subst (λ is. x.end.room + x.end.known ≤ length is) items (each_at (HasNoRoomAt r) e.sides b x all at (queue_swapped x.queue r same) way))
-
-refused_here : (least : ℕ) (o : OpShown) (a : AnswerShown) (e : PlainEnds) (b : ℕ) (x : PlainSide) (before : List Entry)
-    → slice_get e.sides b ≡ Some x → x.puts ≡ true → x.end.items ≡ puts x.queue before → least ≤ x.end.room + x.end.known → CauseOf e o a → HadNoRoom x.queue least before o a
-refused_here least (op.Push queue.Inbox i) (answer.Full j) e b x before at way items knows cause = no_room_there least queue.Inbox e b x before at way items knows cause
-refused_here least (op.Push r i) (answer.Full j) e b x before at way items knows cause = no_room_there least r e b x before at way items knows cause
-refused_here least _ _ e b x before at way items knows cause = tt
-
--- the pushes of these turns to a lane
-pushes : (room least : ℕ) (more : List Entry) (e : PlainEnds) (b : ℕ) (x : PlainSide) (before : List Entry)
-    → slice_get e.sides b ≡ Some x → x.puts ≡ true → x.end.items ≡ puts x.queue before → least ≤ x.end.room + x.end.known → HaveCauses room e more
-    → AllAfter (λ bs m. HadNoRoom x.queue least bs m.op m.answer) before more
-pushes room least [] e b x before at way items knows causes = tt
-pushes room least (m ∷ more) e b x before at way items knows causes = (
-  refused_here least m.op m.answer e b x before at way items knows causes.0,
-  pushes room least more (ends_after room m.op m.answer e) b (side_after m.op m.answer x) (before ++ m ∷ [])
-      (slice_get-map (side_after m.op m.answer) e.sides b ∙ ap (option_map (side_after m.op m.answer)) at) way
-      (ap (λ p. x.end.items ++ moved_by p x.queue m.op m.answer) way ∙ ap (λ is. is ++ put_by x.queue m.op m.answer) items ∙ sym (puts_push x.queue before m))
       knows causes.1,
 )
 

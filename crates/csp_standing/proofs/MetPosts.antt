@@ -14,6 +14,7 @@ use Rattle.csp_ends.specs.Ends.{PlainNodeQueues, PlainSide, PlainHome, PlainEnds
 use Rattle.csp_ends.specs.Traced.{AreTraced}
 use Rattle.csp_inbox.specs.Passes as inbox
 use Rattle.csp_inbox.specs.declared.hand.Mail.{Mail}
+use Rattle.csp_lane.specs.Ends.{PlainEnd}
 use Rattle.csp_lists.specs.PlainDeck.{numbers_of}
 use Rattle.csp_log.specs.declared.entry.Entry.{Entry}
 use Rattle.csp_log.specs.declared.places.QueueId.TheVariants as queue
@@ -28,6 +29,7 @@ use Rattle.csp_posts.specs.Meetings.{HasMet}
 use Rattle.csp_posts.specs.Posts.{PlainPost}
 use Rattle.csp_posts.specs.Seen.{SeenPost}
 use Rattle.csp_posts.specs.Still.{still_side, still_inbox, still_home, still, IsPostFrom}
+use Rattle.csp_posts.specs.Through.{IsThrough, WasCrammed}
 use Rattle.csp_scene.specs.Scene.{PlainScene}
 use Rattle.csp_standing.proofs.Turned.{Stays, post_kept, network_kept}
 use Rattle.csp_standing.specs.Network.{PlainNetwork, opened_in, IsPostOf, ArePostsOf, IsNetworkOf}
@@ -120,6 +122,25 @@ balanced_met opened s t m h = λ k.
     let before = h k in
     omega (arith, held, put, got, into, from, before)
 
+-- what went through its ends, and what did not
+through_met : (x y : PlainSide) → KnowsMoreAt x y → IsThrough x → IsThrough y
+through_met x y m h = subst (λ (e : PlainEnd). AllByRecursion (IsCarried (rule.Lane e.carries)) e.items) (sym m.end) h
+
+through_all : (xs ys : List PlainSide) → AllZip KnowsMoreAt xs ys → AllByRecursion IsThrough xs → AllByRecursion IsThrough ys
+through_all [] [] m h = tt
+through_all (x ∷ xs) (y ∷ ys) m h = (through_met x y m.0 h.0, through_all xs ys m.1 h.1)
+through_all [] (y ∷ ys) m h = absurd m
+through_all (x ∷ xs) [] m h = absurd m
+
+full_met : (es : List Entry) (x y : PlainSide) → KnowsMoreAt x y → WasCrammed es x → WasCrammed es y
+full_met es x y m h = subst (WasCrammed es) (sym (side_stays x y m)) h
+
+full_all : (es : List Entry) (xs ys : List PlainSide) → AllZip KnowsMoreAt xs ys → AllByRecursion (WasCrammed es) xs → AllByRecursion (WasCrammed es) ys
+full_all es [] [] m h = tt
+full_all es (x ∷ xs) (y ∷ ys) m h = (full_met es x y m.0 h.0, full_all es xs ys m.1 h.1)
+full_all es [] (y ∷ ys) m h = absurd m
+full_all es (x ∷ xs) [] m h = absurd m
+
 -- a post
 from_met : (nodes : List PlainNodeQueues) (opening : PlainParty) (opened : List ℕ) (s t : SeenPost) → HasMet s t → IsPostFrom nodes opening opened s.plain → IsPostFrom nodes opening opened t.plain
 from_met nodes opening opened s t m h = record {
@@ -137,6 +158,8 @@ post_met : (scene : PlainScene) (n : PlainNetwork) (o : PlainOpening) (s t : See
 post_met scene n o s t m h =
     post_kept scene n o s.plain t.plain (met_stay s t m) (from_met n.nodes o.party (opened_in scene o.who) s t m h.from)
     (subst (λ (es : List Entry). AllByRecursion (IsCarried rule.Inbox) (gets queue.Inbox es)) (sym m.entries) h.got)
+    (through_all s.plain.ends.sides t.plain.ends.sides m.ends.sides h.through)
+    (subst (λ (es : List Entry). AllByRecursion (WasCrammed es) t.plain.ends.sides) (sym m.entries) (full_all s.plain.entries s.plain.ends.sides t.plain.ends.sides m.ends.sides h.full))
     (subst (λ (es : List Entry). AllByRecursion (λ e. e.time < 2 ^ 62) es) (sym m.entries) h.early) h
 
 posts_met : (scene : PlainScene) (n : PlainNetwork) (os : List PlainOpening) (posts after : List SeenPost) → AllZip HasMet posts after → ArePostsOf scene n os (map (λ s. s.plain) posts) → ArePostsOf scene n os (map (λ s. s.plain) after)

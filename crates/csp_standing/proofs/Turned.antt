@@ -16,10 +16,12 @@ use Rattle.csp_inbox.specs.declared.hand.Role.{Role}
 use Rattle.csp_log.specs.declared.places.QueueId.TheVariants as queue
 use Rattle.csp_log.specs.declared.places.Rule.TheVariants as rule
 use Rattle.csp_standing.specs.Network.{PlainNetwork, SideName, name_of, leads, opened_in, IsHomeAmong, IsSideAmong, IsPostOf, ArePostsOf, IsShared, IsNetworkOf}
+use Rattle.csp_posts.proofs.Crossing.{turns_through, turns_full}
 use Rattle.csp_posts.proofs.Turning.{turns_still, turns_post, turns_got, turns_early}
 use Rattle.csp_posts.specs.Between.{is_home}
 use Rattle.csp_posts.specs.Posts.{PlainPost, AreTurns}
 use Rattle.csp_posts.specs.Still.{still_side, still_inbox, still_home, still, IsPostFrom}
+use Rattle.csp_posts.specs.Through.{IsThrough, WasCrammed}
 use Rattle.csp_record.specs.declared.who.Who.{Who}
 use Rattle.csp_scene.specs.Links.{links_at}
 use Rattle.csp_scene.specs.Scene.{PlainScene}
@@ -74,14 +76,16 @@ pub record Stays (s t : PlainPost) : Type 0 where
   pub still : still t.ends ≡ still s.ends
 
 pub post_kept : (scene : PlainScene) (n : PlainNetwork) (o : PlainOpening) (s t : PlainPost) → Stays s t → IsPostFrom n.nodes o.party (opened_in scene o.who) t → AllByRecursion (IsCarried rule.Inbox) (gets queue.Inbox t.entries)
-    → AllByRecursion (λ e. e.time < 2 ^ 62) t.entries → IsPostOf scene n o s → IsPostOf scene n o t
-post_kept scene n o s t stays from got early h = record {
+    → AllByRecursion IsThrough t.ends.sides → AllByRecursion (WasCrammed t.entries) t.ends.sides → AllByRecursion (λ e. e.time < 2 ^ 62) t.entries → IsPostOf scene n o s → IsPostOf scene n o t
+post_kept scene n o s t stays from got through full early h = record {
   who = stays.who ∙ h.who;
   from = from;
   home = home_from n.regions o.who t.ends.home (subst (λ (e : PlainEnds). IsHomeAmong n.regions o.who e.home) (sym stays.still) (home_to n.regions o.who s.ends.home h.home));
   sides = sym (names t.ends.sides) ∙ ap (λ (e : PlainEnds). map name_of e.sides) stays.still ∙ names s.ends.sides ∙ h.sides;
   regions = regions_from n.regions t.ends.sides (subst (λ (e : PlainEnds). AllByRecursion (IsSideAmong n.regions) e.sides) (sym stays.still) (regions_to n.regions s.ends.sides h.regions));
   got = got;
+  through = through;
+  full = full;
   early = early;
 }
 
@@ -92,7 +96,8 @@ turns_stay nodes time count s t f = record { who = f.who; still = turns_still no
 pub post_turned : (scene : PlainScene) (n : PlainNetwork) (time count : ℕ) (o : PlainOpening) (s t : PlainPost) → AreTurns n.nodes time count s t → last_time 0 s.entries ≤ time → time < 2 ^ 62 → IsPostOf scene n o s → IsPostOf scene n o t
 post_turned scene n time count o s t f late early h =
     post_kept scene n o s t (turns_stay n.nodes time count s t f) (turns_post n.nodes time count o.party (opened_in scene o.who) s t f late h.from)
-    (turns_got n.nodes time count s t f h.got) (turns_early n.nodes time count (2 ^ 62) s t f early h.early) h
+    (turns_got n.nodes time count s t f h.got) (turns_through n.nodes time count s t f h.from.ends h.through) (turns_full n.nodes time count (opened_in scene o.who) s t f h.from.traced h.full)
+    (turns_early n.nodes time count (2 ^ 62) s t f early h.early) h
 
 pub posts_turned : (scene : PlainScene) (n : PlainNetwork) (time count : ℕ) (os : List PlainOpening) (posts after : List PlainPost) → AllZip (AreTurns n.nodes time count) posts after
     → AllByRecursion (λ s. last_time 0 s.entries ≤ time) posts → time < 2 ^ 62 → ArePostsOf scene n os posts → ArePostsOf scene n os after

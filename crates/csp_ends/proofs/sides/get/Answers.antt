@@ -15,7 +15,7 @@ pub returns-in-Some-clause-served : goal.returns-in-Some-clause-served
 returns-in-Some-clause-served g c =
     let d : PlainEnds = record { home = c.ends.inside.home; sides = c.ends.inside.sides.items } in
     let stands : Stands d c.args.queue c.in-Some.at c.index_mut.result.now = stands_by d c.args.queue c.in-Some.at c.index_mut.result.now (rw c.as_slice.ensures.value at c.in-Some.ensures.found) c.index_mut.ensures.value in
-    rw (← c.ends.view_is) (gets_served c.args.queues.now d c.args.queue c.in-Some.at c.index_mut.result.now c.get.new.self c.get.result (rw (← c.ends.view_is) at c.requires.whole) c.requires.lane stands c.get.ensures.got)
+    rw (← c.ends.view_is) (gets_served c.args.queues.now d c.args.queue c.in-Some.at c.index_mut.result.now c.get.new.self c.get.result (rw (← c.ends.view_is) at c.requires.whole) c.requires.lane stands c.get.ensures.got c.get.ensures.carried)
 
 pub returns-in-Some-clause-empty : goal.returns-in-Some-clause-empty
 returns-in-Some-clause-empty g c =

@@ -15,7 +15,8 @@ pub returns-in-Some-clause-served : goal.returns-in-Some-clause-served
 returns-in-Some-clause-served g c =
     let d : PlainEnds = record { home = c.ends.inside.home; sides = c.ends.inside.sides.items } in
     let stands : Stands d c.args.queue c.in-Some.at c.index_mut.result.now = stands_by d c.args.queue c.in-Some.at c.index_mut.result.now (rw c.as_slice.ensures.value at c.in-Some.ensures.found) c.index_mut.ensures.value in
-    rw (← c.ends.view_is) (puts_served c.args.queues.now d c.args.queue c.in-Some.at c.index_mut.result.now c.put.new.self c.args.item c.put.result (rw (← c.ends.view_is) at c.requires.whole) c.requires.lane stands c.put.ensures.put)
+    rw (← c.ends.view_is) (puts_served c.args.queues.now d c.args.queue c.in-Some.at c.index_mut.result.now c.put.new.self c.args.item c.put.result (rw (← c.ends.view_is) at c.requires.whole) c.requires.lane stands c.put.ensures.put
+    (for_lane d c.args.queue c.in-Some.at c.index_mut.result.now c.args.item (rw (← c.ends.view_is) at c.requires.whole) c.requires.lane stands (rw (← c.ends.view_is) at c.requires.carried) (rw (← c.ends.view_is) at c.requires.within)))
 
 pub returns-in-Some-clause-full : goal.returns-in-Some-clause-full
 returns-in-Some-clause-full g c =
