@@ -10,6 +10,7 @@ use Rattle.csp_closing.proofs.Lists.{differs, equal, equals}
 use Rattle.csp_closing.specs.Hands.{AreOpen, CanGather, CanJoin, CanLead, all_joined, gathered, home_at, homes_at, joined, joined_inbox, opening, without_home}
 use Rattle.csp_closing.specs.declared.passes.Passes.{Passes}
 use Rattle.csp_ends.specs.Ends.{PlainHome, PlainNodeQueues}
+use Rattle.csp_flow.specs.Remains.{kept_by}
 use Rattle.csp_inbox.specs.Marks.{is_in, without}
 use Rattle.csp_inbox.specs.Passes as inbox
 use Rattle.csp_log.specs.declared.shown.ItemShown.{ItemShown}
@@ -81,23 +82,19 @@ token_stays v [] = refl
 token_stays v (h ∷ hs) = token_stays (joined v h) hs ∙ token_one v.inbox h.inbox
 
 -- what all put into the inbox, of a priority
-abbrev pub kept_in : Prio → Option inbox.PlainPass → List ItemShown
-kept_in p None = []
-kept_in p (Some x) = (inbox.mail_at x p).kept
-
-kept_one : (p : Prio) (x : inbox.PlainPass) (o : Option inbox.PlainPass) → (inbox.mail_at (joined_inbox x o) p).kept ≡ (inbox.mail_at x p).kept ++ kept_in p o
+kept_one : (p : Prio) (x : inbox.PlainPass) (o : Option inbox.PlainPass) → (inbox.mail_at (joined_inbox x o) p).kept ≡ (inbox.mail_at x p).kept ++ kept_by p o
 kept_one Critical x (Some y) = refl
 kept_one High x (Some y) = refl
 kept_one Normal x (Some y) = refl
 kept_one Low x (Some y) = refl
 kept_one p x None = sym (append-nil (inbox.mail_at x p).kept)
 
-pub all_kept : (p : Prio) (v : Passes) (hs : List PlainHome) → (inbox.mail_at (all_joined v hs).inbox p).kept ≡ (inbox.mail_at v.inbox p).kept ++ flat_map (λ (h : PlainHome). kept_in p h.inbox) hs
+pub all_kept : (p : Prio) (v : Passes) (hs : List PlainHome) → (inbox.mail_at (all_joined v hs).inbox p).kept ≡ (inbox.mail_at v.inbox p).kept ++ flat_map (λ (h : PlainHome). kept_by p h.inbox) hs
 all_kept p v [] = sym (append-nil (inbox.mail_at v.inbox p).kept)
 all_kept p v (h ∷ hs) =
     all_kept p (joined v h) hs
-    ∙ ap (λ (is : List ItemShown). is ++ flat_map (λ (h : PlainHome). kept_in p h.inbox) hs) (kept_one p v.inbox h.inbox)
-    ∙ append_assoc (inbox.mail_at v.inbox p).kept (kept_in p h.inbox) (flat_map (λ (h : PlainHome). kept_in p h.inbox) hs)
+    ∙ ap (λ (is : List ItemShown). is ++ flat_map (λ (h : PlainHome). kept_by p h.inbox) hs) (kept_one p v.inbox h.inbox)
+    ∙ append_assoc (inbox.mail_at v.inbox p).kept (kept_by p h.inbox) (flat_map (λ (h : PlainHome). kept_by p h.inbox) hs)
 
 -- the first alone got
 got_one : (p : Prio) (x : inbox.PlainPass) (o : Option inbox.PlainPass) → (inbox.mail_at (joined_inbox x o) p).got ≡ (inbox.mail_at x p).got

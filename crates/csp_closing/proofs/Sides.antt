@@ -234,10 +234,10 @@ have_all_next whos distinct nodes regions q region node at here (l ∷ ls) (w �
 pub record IsLater (sides before : List (List PlainSide)) : Type 0 where
   pub each : (i : ℕ) (xs : List PlainSide) → slice_get sides i ≡ Some xs → (taken : ℕ) × (ys : List PlainSide) × (slice_get before i ≡ Some ys) × ((k : ℕ) → slice_get xs k ≡ slice_get ys (taken + k))
 
-same_later : (sides : List (List PlainSide)) → IsLater sides sides
+pub same_later : (sides : List (List PlainSide)) → IsLater sides sides
 same_later sides = record { each = λ i xs e. (0, xs, e, λ k. ap (slice_get xs) (omega arith)) }
 
-both_later : (a b c : List (List PlainSide)) → IsLater a b → IsLater b c → IsLater a c
+pub both_later : (a b c : List (List PlainSide)) → IsLater a b → IsLater b c → IsLater a c
 both_later a b c f g = record {
   each = λ i xs e.
       let (m, ys, there, same) = f.each i xs e in
