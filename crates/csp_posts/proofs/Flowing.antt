@@ -48,7 +48,7 @@ count_one : (k : ℕ) (i : ItemShown) → count k (i ∷ []) ≡ times k (item_n
 count_one k i = ap (times k) (append-nil (item_numbers i))
 
 -- names of queues
-queue_is : (q r : QueueId) → is_queue q r ≡ true → r ≡ q
+pub queue_is : (q r : QueueId) → is_queue q r ≡ true → r ≡ q
 queue_is queue.Inbox queue.Inbox e = refl
 queue_is (queue.Up n) (queue.Up k) e = ap queue.Up (eqb-true k n e)
 queue_is (queue.Down n) (queue.Down k) e = ap queue.Down (eqb-true k n e)
@@ -57,12 +57,12 @@ queue_is (queue.Tx n) (queue.Tx k) e = ap queue.Tx (eqb-true k n e)
 queue_is (queue.Rx n) (queue.Rx k) e = ap queue.Rx (eqb-true k n e)
 queue_is _ _ e = absurd cc
 
-queue_turned : (q r : QueueId) → is_queue q r ≡ true → is_queue r q ≡ true
+pub queue_turned : (q r : QueueId) → is_queue q r ≡ true → is_queue r q ≡ true
 queue_turned q r e =
     let same = queue_is q r e in
     ap (λ (x : QueueId). is_queue x q) same ∙ ap (is_queue q) (sym same) ∙ e
 
-inbox_apart : (q : QueueId) → is_queue queue.Inbox q ≡ false → is_queue q queue.Inbox ≡ false
+pub inbox_apart : (q : QueueId) → is_queue queue.Inbox q ≡ false → is_queue q queue.Inbox ≡ false
 inbox_apart queue.Inbox e = absurd cc
 inbox_apart (queue.Up n) e = refl
 inbox_apart (queue.Down n) e = refl

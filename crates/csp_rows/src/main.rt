@@ -9,13 +9,17 @@
 mod folder;
 mod program;
 mod row;
+mod threads;
 
 use csp_cases::judged;
 use folder::names_of;
 use program::Program;
 use row::{Outcome, outcome_of};
 use std::fs::Files;
+use std::sync::Wait;
+use std::thread::Threads;
 use std::{fs, io};
+use threads::{Case, Verdict};
 
 fn main(rt: HostRuntime) -> io::Result<()> {
     let names = names_of(&rt, ".scn")?;
@@ -27,15 +31,42 @@ fn main(rt: HostRuntime) -> io::Result<()> {
             Outcome::Differs(line) => println!(rt; "{name} differs in line {line}")?,
         }
     }
+    runs(&rt)?;
     tables(&rt)
 }
 
+/// Makes the runs in threads.
+fn runs<R: Files + Print + AllocGlobal + Clone + Drop + Threads + Wait + Sync>(
+    rt: &R,
+) -> io::Result<()> {
+    let names = names_of(rt, ".threads")?;
+    for name in names.as_slice() {
+        let stated = fs::read_to_string(rt, format!(in rt.alloc(); "{name}.threads")?)?;
+        match Case::read(stated.as_str()) {
+            None => println!(rt; "{name} states no run")?,
+            Some(case) => {
+                let scenario = case.scenario;
+                let text = fs::read(rt, format!(in rt.alloc(); "{scenario}.scn")?)?;
+                match case.run(rt, rt.alloc(), text)? {
+                    Verdict::AsWanted => println!(rt; "threads {name}: as it should be")?,
+                    Verdict::Lacks(line) => println!(rt; "threads {name}: without line {line}")?,
+                    Verdict::GoesOn => println!(rt; "threads {name}: more than it should")?,
+                    Verdict::GaveUp => println!(rt; "threads {name}: waited in vain")?,
+                }
+            }
+        }
+    }
+    Ok(())
+}
+
 /// Goes through the tables.
-fn tables<R: Files + Print + AllocGlobal + Clone + Drop>(rt: &R) -> io::Result<()> {
+fn tables<R: Files + Print + AllocGlobal + Clone + Drop + Threads + Wait + Sync>(
+    rt: &R,
+) -> io::Result<()> {
     let names = names_of(rt, ".table")?;
     for name in names.as_slice() {
         let text = fs::read_to_string(rt, format!(in rt.alloc(); "{name}.table")?)?;
-        let table = judged(rt.alloc(), &Program, text.as_str())?;
+        let table = judged(rt.alloc(), &Program { rt }, text.as_str())?;
         let cases = table.cases;
         println!(rt; "table {name}: {cases} cases")?;
         for line in table.differing.as_slice() {

@@ -5,22 +5,28 @@
 use csp_base::{MemSink, MemSource};
 use csp_cases::CaseError::{NoMemory, Unread};
 use csp_cases::{Answers, CaseError, Words, joined, unescaped};
+use csp_rounds::OpenGate;
 use csp_scene::SceneKind;
 use csp_top::{LimitKind, Status, csp_main, own_words, say};
 use std::alloc::Global;
+use std::sync::Wait;
+use std::thread::Threads;
 
 /// The room of the sink.
 const ROOM: usize = 65_536;
 
 /// The program over memory.
-pub(crate) struct Program;
+pub(crate) struct Program<'a, R: Threads + Wait + Sync> {
+    /// The runtime that its threads are of.
+    pub(crate) rt: &'a R,
+}
 
-impl Answers for Program {
+impl<R: Threads + Wait + Sync> Answers for Program<'_, R> {
     /// The answer to what a case asks. Its first word says of what.
     fn answer(&self, alloc: Global, asked: &str) -> Result<String, CaseError> {
         let (which, what) = asked.split_once(" ").unwrap_or((asked, ""));
         match which {
-            "run" => run(alloc, what),
+            "run" => run(self.rt, alloc, what),
             "say" => said(alloc, status(&Words::of(alloc, what)?)?),
             "own" => own(alloc, what),
             _ => Err(Unread),
@@ -49,7 +55,7 @@ fn own(alloc: Global, text: &str) -> Result<String, CaseError> {
 }
 
 /// How a run ends, how often it read and wrote, how many bytes it wrote, and what is said of it.
-fn run(alloc: Global, what: &str) -> Result<String, CaseError> {
+fn run<R: Threads + Wait + Sync>(rt: &R, alloc: Global, what: &str) -> Result<String, CaseError> {
     let (words, rest) = what.split_once(" | ").ok_or(Unread)?;
     let (reads, rest) = rest.split_once(" | ").ok_or(Unread)?;
     let (writes, rest) = rest.split_once(" | ").ok_or(Unread)?;
@@ -58,7 +64,14 @@ fn run(alloc: Global, what: &str) -> Result<String, CaseError> {
     let piece = usize::from(Words::of(alloc, piece)?.short(1)?);
     let mut source = MemSource::new(unescaped(alloc, text)?, numbers(alloc, reads)?);
     let mut sink = opened(alloc, piece, numbers(alloc, writes)?)?;
-    let status = csp_main(alloc, words.as_slice(), &mut source, &mut sink);
+    let status = csp_main(
+        rt,
+        alloc,
+        words.as_slice(),
+        &mut source,
+        &mut sink,
+        &OpenGate,
+    );
     let written = sink.written().len();
     let (reads, writes) = (source.calls(), sink.calls());
     let said = said(alloc, status)?;

@@ -12,10 +12,23 @@ ghost use Rattle.csp_scene.specs.Ranges.{IsScene};
 ghost use Rattle.csp_scene.specs.Scene.{PlainScene};
 ghost use Rattle.csp_standing.specs.Network.{IsNetworkOf, PlainNetwork};
 
+use csp_consistent::{applies_plans, names_origins, use_their_own};
+use csp_flow::returns_all;
+use csp_lists::weighs;
+use csp_topology::{leads_with_hubs, names_parties_apart, orders_wires, wires_lanes};
+
 /// The record of a network's run, whatever turns its posts took and whenever they met, is consistent with its scene.
 pub fn closes_consistent()
     ensures { (scene : PlainScene) (n : PlainNetwork) (posts : List PlainPost) (r : PlainRecord) → IsScene scene → AreLinksAfter (length scene.nodes) [] scene.links → IsNetworkOf scene n posts → IsClosed scene posts r → IsConsistent scene r }
-{}
+{
+    applies_plans();
+    names_origins();
+    use_their_own();
+    leads_with_hubs();
+    names_parties_apart();
+    orders_wires();
+    wires_lanes();
+}
 
 /// Its logs are those of the posts; and all takes and puts have come to what each pass was told.
 pub fn closes_reached()
@@ -26,4 +39,8 @@ pub fn closes_reached()
 /// The places of each node hold together just its buffers, each once.
 pub fn closes_whole()
     ensures { (scene : PlainScene) (n : PlainNetwork) (posts : List PlainPost) (r : PlainRecord) → IsScene scene → AreLinksAfter (length scene.nodes) [] scene.links → IsNetworkOf scene n posts → IsClosed scene posts r → IsWhole (map (λ c. c.buffers) scene.nodes) r }
-{}
+{
+    orders_wires();
+    weighs();
+    returns_all();
+}

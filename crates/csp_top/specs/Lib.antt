@@ -4,3 +4,5 @@ pub mod Said
 pub mod Words
 pub mod Gen
 pub mod Prefix
+pub mod Threads
+pub mod Owes

@@ -11,19 +11,9 @@ use Rattle.csp_report.specs.Report.{report}
 use Rattle.csp_consistent.specs.Consistent.{IsConsistent}
 use Rattle.csp_report.specs.PlacesAddUp.{PlacesAddUp}
 use Rattle.csp_report.specs.ReliablePrefix.{HasReliablePrefix}
-use Rattle.csp_words.specs.Grammar.{command_of}
-use Rattle.csp_words.specs.declared.grammar.Command.TheVariants as command
 use Rattle.csp_top.specs.declared.status.Status.{Status}
 use Rattle.csp_top.specs.declared.status.Status.TheVariants as status
 use Rattle.csp_top.specs.declared.status.TheConstants.{MAX_SCENARIO}
-
--- the words name the command `sim`
-abbrev pub IsSim : List (List ℕ) → Type 0
-IsSim words = command_of words ≡ Ok command.Sim
-
--- the words name `gen N` for this N
-abbrev pub IsGen : ℕ → List (List ℕ) → Type 0
-IsGen packets words = command_of words ≡ Ok (command.Gen packets)
 
 -- the text states a scene, whose run ends before its logs are full; its record is consistent with the scene, and these bytes are its report
 pub record IsReportOf (text bytes : List ℕ) : Type 0 where

@@ -9,6 +9,7 @@ mod numbers;
 mod saying;
 mod simulation;
 mod status;
+mod threads;
 mod words;
 
 pub use command::csp_main;

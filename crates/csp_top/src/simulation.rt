@@ -1,10 +1,17 @@
 //! The command `sim`: the source read to its end, the scenario judged, the run, the report built whole, the
 //! report written. The first refusal in this order is the answer.
 
-ghost use Rattle.std.specs.Prelude.{◌≡◌, ◌≢◌, ◌≤◌, ◌+◌, ℕ, Err, IfSome, IfOk, length};
+ghost use Rattle.std.specs.Prelude.{◌≡◌, ◌≢◌, ◌≤◌, ◌+◌, ℕ, [], Ok, Err, IfSome, IfOk, IfErr, length, map};
 ghost use Rattle.csp_base.specs.Faults.{Rose};
 ghost use Rattle.csp_base.specs.Transfer.{TookAtMost, TookExactly};
+ghost use Rattle.csp_consistent.specs.Consistent.{IsConsistent};
+ghost use Rattle.csp_record.specs.Whole.{IsWhole};
+ghost use Rattle.csp_report.specs.Report.{report};
 ghost use Rattle.csp_scene.specs.Judge.{scene_of};
+ghost use Rattle.csp_scene.specs.Kept.{AreLinksAfter};
+ghost use Rattle.csp_scene.specs.Naming.{AreNamedApart};
+ghost use Rattle.csp_scene.specs.Ranges.{IsScene};
+ghost use Rattle.csp_scene.specs.Scene.{moves_in};
 ghost use Rattle.csp_scene.specs.declared.refusal.SceneKind.{SceneKind};
 ghost use Rattle.csp_top.specs.Main.{WroteReport, WrotePart, WasRead, WroteReliably, WroteWhole, IsReportOf, IsPastEntries, IsUnhindered, IsDoneOrNoMemory};
 ghost use Rattle.csp_top.specs.Statuses.{status_of_read, status_of};
@@ -16,8 +23,9 @@ use crate::numbers::hold_numbers;
 use crate::status::{LimitKind, MAX_SCENARIO, Status};
 use csp_base::{ReadError, Sink, Source, read_up_to, write_whole};
 use csp_prefix::{opens_on_slots, takes_a_prefix};
+use csp_record::Record;
 use csp_report::report;
-use csp_scene::{SceneError, SceneKind, parse};
+use csp_scene::{Scene, SceneError, SceneKind, parse};
 use csp_world::{MAX_ENTRIES, SimError, simulate};
 use std::alloc::Global;
 
@@ -60,7 +68,7 @@ pub fn sim_main<S: Source, K: Sink>(alloc: Global, source: &mut S, sink: &mut K)
 }
 
 /// What the program answers where the source was not read to its end.
-fn read_status(error: ReadError) -> Status
+pub(crate) fn read_status(error: ReadError) -> Status
     ensures { result ≡ status_of_read error }
 {
     match error {
@@ -109,21 +117,50 @@ pub(crate) fn report_of(alloc: Global, text: &[u8]) -> Result<Vec<u8>, Refusal>
     ensures scene { (line : ℕ) (kind : SceneKind) → result ≡ Err (Refusal.Scene line kind) → scene_of text.now ≡ Err (record { line = line; kind = kind }) }
     ensures entries { result ≡ Err Refusal.Entries → IsPastEntries text.now }
 {
+    let scene = match read_scene(alloc, text) {
+        Ok(scene) => scene,
+        Err(refusal) => return Err(refusal),
+    };
+    match simulate(alloc, &scene) {
+        Ok(record) => told(alloc, &record, &scene),
+        Err(SimError::Entries) => Err(Refusal::Entries),
+        Err(SimError::NoMemory) => Err(Refusal::NoMemory),
+    }
+}
+
+/// The scene that a text states.
+pub(crate) fn read_scene(alloc: Global, text: &[u8]) -> Result<Scene, Refusal>
+    ensures scene { IfOk result (λ scene. scene_of text.now ≡ Ok scene) }
+    ensures refused { (line : ℕ) (kind : SceneKind) → result ≡ Err (Refusal.Scene line kind) → scene_of text.now ≡ Err (record { line = line; kind = kind }) }
+    ensures entries { result ≢ Err Refusal.Entries }
+    ensures ranges { IfOk result IsScene }
+    ensures ends { IfOk result (λ scene. AreLinksAfter (length scene.nodes) [] scene.links) }
+    ensures apart { IfOk result (λ scene. AreNamedApart scene.nodes) }
+    ensures moves { IfOk result (λ scene. length (moves_in scene.schedule) ≤ length text.now) }
+{
+    match parse(alloc, text) {
+        Ok(scene) => Ok(scene),
+        Err(SceneError::Refused { line, kind }) => Err(Refusal::Scene { line, kind }),
+        Err(SceneError::NoMemory) => Err(Refusal::NoMemory),
+    }
+}
+
+/// The report of a record that is consistent with its scene, and whose places hold together just the buffers of each node.
+pub(crate) fn told(alloc: Global, record: &Record, scene: &Scene) -> Result<Vec<u8>, Refusal>
+    requires ranges { IsScene scene.now }
+    requires apart { AreNamedApart scene.now.nodes }
+    requires consistent { IsConsistent scene.now record.now }
+    requires whole { IsWhole (map (λ n. n.buffers) scene.now.nodes) record.now }
+    ensures bytes { IfOk result (λ bytes. bytes.items ≡ report scene.now record.now) }
+    ensures places { IfOk result (λ bytes. PlacesAddUp bytes.items) }
+    ensures reliable { IfOk result (λ bytes. HasReliablePrefix bytes.items) }
+    ensures refused { IfErr result (λ why. why ≡ Refusal.NoMemory) }
+{
     takes_a_prefix();
     opens_on_slots();
     tells_reliable_prefix();
-    let scene = match parse(alloc, text) {
-        Ok(scene) => scene,
-        Err(SceneError::Refused { line, kind }) => return Err(Refusal::Scene { line, kind }),
-        Err(SceneError::NoMemory) => return Err(Refusal::NoMemory),
-    };
-    let record = match simulate(alloc, &scene) {
-        Ok(record) => record,
-        Err(SimError::Entries) => return Err(Refusal::Entries),
-        Err(SimError::NoMemory) => return Err(Refusal::NoMemory),
-    };
-    hold_numbers(&record);
-    match report(alloc, &record, &scene) {
+    hold_numbers(record);
+    match report(alloc, record, scene) {
         Ok(bytes) => Ok(bytes),
         Err(_) => Err(Refusal::NoMemory),
     }

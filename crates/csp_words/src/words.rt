@@ -1,10 +1,11 @@
 //! Reads the words.
 
-ghost use Rattle.std.specs.Prelude.{◌≡◌, ◌≢◌, ◌↔◌, ℕ, Ok, Err, None, IfSome, [], ◌∷◌, map, codes};
+ghost use Rattle.std.specs.Prelude.{◌≡◌, ◌≢◌, ◌↔◌, ◌≤◌, ◌++◌, ℕ, Ok, Err, None, IfSome, [], ◌∷◌, map, codes};
+ghost use Rattle.std.specs.Fmt.{decimal};
 ghost use Rattle.std.specs.String.{string_bytes};
-ghost use Rattle.csp_words.specs.Grammar.{AreGen, command_of};
+ghost use Rattle.csp_words.specs.Grammar.{AreGen, AreRun, command_of};
 
-use crate::{Command, WordsError};
+use crate::grammar::{Command, DEFAULT_WORKERS, MAX_WORKERS, WordsError};
 use csp_gen::MAX_PACKETS;
 use csp_text::number;
 
@@ -13,8 +14,9 @@ use csp_text::number;
 pub fn command(words: &[String]) -> Result<Command, WordsError>
     ensures value { result ≡ command_of (map string_bytes words.now) }
     ensures sim { (result ≡ Ok Command.Sim) ↔ (map string_bytes words.now ≡ codes "sim" ∷ []) }
+    ensures run { (workers : ℕ) → (result ≡ Ok (Command.Run workers)) ↔ AreRun workers (map string_bytes words.now) }
     ensures generated { (packets : ℕ) → (result ≡ Ok (Command.Gen packets)) ↔ AreGen packets (map string_bytes words.now) }
-    ensures refused { (result ≡ Err WordsError.Grammar) ↔ ((map string_bytes words.now ≢ codes "sim" ∷ []) × ((packets : ℕ) → ¬ AreGen packets (map string_bytes words.now))) }
+    ensures refused { (result ≡ Err WordsError.Grammar) ↔ ((map string_bytes words.now ≢ codes "sim" ∷ []) × ((workers : ℕ) → ¬ AreRun workers (map string_bytes words.now)) × ((packets : ℕ) → ¬ AreGen packets (map string_bytes words.now))) }
 {
     named(words)
 }
@@ -25,7 +27,12 @@ fn named(words: &[String]) -> Result<Command, WordsError>
 {
     match words {
         [word] => of_one(word.as_str().as_bytes()),
-        [word, number] => of_two(word.as_str().as_bytes(), number.as_str().as_bytes()),
+        [word, second] => of_two(word.as_str().as_bytes(), second.as_str().as_bytes()),
+        [word, option, digits] => of_three(
+            word.as_str().as_bytes(),
+            option.as_str().as_bytes(),
+            digits.as_str().as_bytes(),
+        ),
         _ => Err(WordsError::Grammar),
     }
 }
@@ -36,17 +43,34 @@ fn of_one(word: &[u8]) -> Result<Command, WordsError>
 {
     if word == b"sim".as_slice() {
         Ok(Command::Sim)
+    } else if word == b"run".as_slice() {
+        Ok(Command::Run {
+            workers: DEFAULT_WORKERS,
+        })
     } else {
         Err(WordsError::Grammar)
     }
 }
 
-/// The command of a word and a number's word.
-fn of_two(word: &[u8], digits: &[u8]) -> Result<Command, WordsError>
-    ensures { result ≡ command_of (word.now ∷ digits.now ∷ []) }
+/// The command of two words.
+fn of_two(word: &[u8], second: &[u8]) -> Result<Command, WordsError>
+    ensures { result ≡ command_of (word.now ∷ second.now ∷ []) }
 {
     if word == b"gen".as_slice() {
-        generated(digits)
+        generated(second)
+    } else if word == b"run".as_slice() {
+        run_with(second)
+    } else {
+        Err(WordsError::Grammar)
+    }
+}
+
+/// The command of three words.
+fn of_three(word: &[u8], option: &[u8], digits: &[u8]) -> Result<Command, WordsError>
+    ensures { result ≡ command_of (word.now ∷ option.now ∷ digits.now ∷ []) }
+{
+    if word == b"run".as_slice() && option == b"--workers".as_slice() {
+        run_by(digits)
     } else {
         Err(WordsError::Grammar)
     }
@@ -62,6 +86,29 @@ fn generated(digits: &[u8]) -> Result<Command, WordsError>
     }
 }
 
+/// The command `run` with this word for its option.
+fn run_with(option: &[u8]) -> Result<Command, WordsError>
+    ensures { result ≡ command_of (codes "run" ∷ option.now ∷ []) }
+{
+    let Some(digits) = option.strip_prefix(b"--workers=".as_slice()) else {
+        return Err(WordsError::Grammar);
+    };
+    match workers(digits) {
+        Some(workers) => Ok(Command::Run { workers }),
+        None => Err(WordsError::Grammar),
+    }
+}
+
+/// The command `run --workers` with this word for the number.
+fn run_by(digits: &[u8]) -> Result<Command, WordsError>
+    ensures { result ≡ command_of (codes "run" ∷ codes "--workers" ∷ digits.now ∷ []) }
+{
+    match workers(digits) {
+        Some(workers) => Ok(Command::Run { workers }),
+        None => Err(WordsError::Grammar),
+    }
+}
+
 /// How many packets a word asks for, exactly where it is a decimal number in their range.
 fn packets(digits: &[u8]) -> Option<u32>
     ensures some { IfSome result (λ packets. AreGen packets (codes "gen" ∷ digits.now ∷ [])) }
@@ -72,4 +119,16 @@ fn packets(digits: &[u8]) -> Option<u32>
         return None;
     }
     Some(packets as u32)
+}
+
+/// How many workers a word asks for, exactly where it is a decimal number in their range.
+fn workers(digits: &[u8]) -> Option<u32>
+    ensures some { IfSome result (λ workers. (1 ≤ workers) × (workers ≤ MAX_WORKERS) × (digits.now ≡ decimal workers)) }
+    ensures none { result ≡ None → (workers : ℕ) → 1 ≤ workers → workers ≤ MAX_WORKERS → digits.now ≢ decimal workers }
+{
+    let workers = number(digits)?;
+    if workers < 1 || workers > u64::from(MAX_WORKERS) {
+        return None;
+    }
+    Some(workers as u32)
 }

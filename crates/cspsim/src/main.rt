@@ -2,6 +2,7 @@
 #![tactic(auto)]
 
 use csp_base::{ReadSource, WriteSink};
+use csp_rounds::OpenGate;
 use csp_top::{csp_main, own_words, say};
 use std::process::ExitCode;
 use std::{env, io};
@@ -10,7 +11,14 @@ fn main(rt: HostRuntime) -> ExitCode {
     let mut source = ReadSource::new(rt.reader());
     let mut sink = WriteSink::new(io::writer(&rt));
     let status = match own_words(rt.alloc(), env::args(&rt)) {
-        Ok(words) => csp_main(rt.alloc(), words.as_slice(), &mut source, &mut sink),
+        Ok(words) => csp_main(
+            &rt,
+            rt.alloc(),
+            words.as_slice(),
+            &mut source,
+            &mut sink,
+            &OpenGate,
+        ),
         Err(status) => status,
     };
     let errors = rt.stderr();

@@ -9,6 +9,7 @@ pub(super) fn answer(alloc: Global, what: &str) -> Result<String, CaseError> {
     let told = strings(alloc, what)?;
     match command(told.as_slice()) {
         Ok(Command::Sim) => plain(alloc, "sim"),
+        Ok(Command::Run { workers }) => Ok(format!(in alloc; "run by {workers} workers")?),
         Ok(Command::Gen { packets }) => Ok(format!(in alloc; "gen of {packets} packets")?),
         Err(_) => plain(alloc, "bad words"),
     }

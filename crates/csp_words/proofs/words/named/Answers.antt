@@ -4,7 +4,7 @@ use Rattle.csp_words.proofs.Rows.{other_count}
 use Rattle.csp_words.proofs.words.named.Goals as goal
 
 pub returns-in_default : goal.returns-in_default
-returns-in_default c = sym (other_count string_bytes c.args.words.now (λ e. omega arith) (λ e. omega arith))
+returns-in_default c = sym (other_count string_bytes c.args.words.now (λ e. omega arith) (λ e. omega arith) (λ e. omega arith))
 
 pub returns-in_default-2 : goal.returns-in_default-2
-returns-in_default-2 c = sym (other_count string_bytes c.args.words.now (λ e. omega arith) (λ e. omega arith))
+returns-in_default-2 c = sym (other_count string_bytes c.args.words.now (λ e. omega arith) (λ e. omega arith) (λ e. omega arith))

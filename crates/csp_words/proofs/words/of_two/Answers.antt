@@ -3,5 +3,8 @@ use Rattle.std.specs.Prelude.{codes}
 use Rattle.csp_words.proofs.Rows.{differs, other_first}
 use Rattle.csp_words.proofs.words.of_two.Goals as goal
 
-pub returns-else-eq : goal.returns-else-eq
-returns-else-eq c = sym (other_first c.args.word.now c.args.digits.now (differs c.args.word.now (codes "gen") c.as_slice.result.now c.eq.result c.eq.ensures c.as_slice.ensures c.if-eq.false))
+pub returns-else-eq-2 : goal.returns-else-eq-2
+returns-else-eq-2 c =
+    sym (other_first c.args.word.now c.args.second.now
+    (differs c.args.word.now (codes "gen") c.as_slice.result.now c.eq.result c.eq.ensures c.as_slice.ensures c.if-eq.false)
+    (differs c.args.word.now (codes "run") c.as_slice-else-eq.result.now c.eq-else-eq.result c.eq-else-eq.ensures c.as_slice-else-eq.ensures c.if-eq-2.false))

@@ -1,0 +1,5 @@
+mod Closing
+mod Entries
+mod Met
+mod Rounds
+mod Staying

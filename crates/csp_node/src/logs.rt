@@ -1,0 +1,44 @@
+//! The logs of posts: how many entries they have, and room for those of a round.
+
+ghost use Rattle.std.specs.Prelude.{◌≡◌, ◌+◌, ◌-◌, ◌^◌, ◌<◌, ◌≤◌, OnOk, length, not};
+ghost use Rattle.std.specs.List.{AllByRecursion, AllZip, list_all};
+ghost use Rattle.csp_node.specs.Rounds.{IsStill, entries_of, plains};
+ghost use Rattle.csp_posts.specs.Ready.{is_unfinished};
+
+use csp_posts::{Post, ROUND_TURNS};
+use std::alloc::AllocError;
+
+/// Whether each application has ended.
+pub(crate) fn are_finished(posts: &[Post]) -> bool
+    ensures { result ≡ list_all (λ s. not (is_unfinished s.plain.party)) posts.now }
+{
+    posts.iter().all(|post| !post.unfinished())
+}
+
+/// How many entries all logs have together.
+pub(crate) fn entries(posts: &[Post]) -> u64
+    requires { entries_of (plains posts.now) < 2 ^ 64 }
+    ensures { result ≡ entries_of (plains posts.now) }
+{
+    let mut total = 0;
+    for post in posts {
+        total += post.entries();
+    }
+    total
+}
+
+/// Makes room in each log for the turns of a round. A refusal leaves the posts as they were but for the room.
+///
+/// # Errors
+/// Want of memory.
+pub(crate) fn make_room(posts: &mut [Post]) -> Result<(), AllocError>
+    requires { AllByRecursion (λ s. length s.plain.entries + ROUND_TURNS ≤ 2 ^ 32 - 2) posts.old }
+    ensures still { AllZip IsStill posts.old posts.new }
+    ensures room { OnOk result (AllByRecursion (λ s. ROUND_TURNS ≤ s.spare) posts.new) }
+{
+    if let Some((post, rest)) = posts.split_first_mut() {
+        post.reserve(ROUND_TURNS)?;
+        make_room(rest)?;
+    }
+    Ok(())
+}

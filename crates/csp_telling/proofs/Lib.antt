@@ -1,0 +1,17 @@
+mod InboxesLeft
+mod LaneNotes
+mod LanesLeft
+mod Logs
+mod Marked
+mod NodeNotes
+mod Nodes
+mod NumbersKept
+mod PlacesApart
+mod PoolsLeft
+mod QueueNames
+mod QueuesNoted
+mod Reached
+mod Together
+mod WholeNotes
+mod WireNames
+mod Writers

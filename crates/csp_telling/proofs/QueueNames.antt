@@ -1,0 +1,32 @@
+-- A queue is the one of its own name, and of no other.
+use Rattle.std.proofs.Common.{◌≡◌, true, false, refl, sym, ap}
+use Rattle.std.proofs.lemmas.Bool.{eq-eqb, eqb-true}
+use Rattle.csp_consistent.specs.Reading.{is_queue}
+use Rattle.csp_log.specs.declared.places.QueueId.TheVariants as queue
+use Rattle.csp_log.specs.declared.places.QueueId.{QueueId}
+
+pub queue_same : (q : QueueId) → is_queue q q ≡ true
+queue_same queue.Inbox = refl
+queue_same (queue.Up k) = eq-eqb k k refl
+queue_same (queue.Down k) = eq-eqb k k refl
+queue_same (queue.Out k) = eq-eqb k k refl
+queue_same (queue.Tx k) = eq-eqb k k refl
+queue_same (queue.Rx k) = eq-eqb k k refl
+
+pub queue_is : (q r : QueueId) → is_queue q r ≡ true → q ≡ r
+queue_is queue.Inbox queue.Inbox e = refl
+queue_is (queue.Up number) (queue.Up k) e = ap queue.Up (sym (eqb-true k number e))
+queue_is (queue.Down number) (queue.Down k) e = ap queue.Down (sym (eqb-true k number e))
+queue_is (queue.Out number) (queue.Out k) e = ap queue.Out (sym (eqb-true k number e))
+queue_is (queue.Tx number) (queue.Tx k) e = ap queue.Tx (sym (eqb-true k number e))
+queue_is (queue.Rx number) (queue.Rx k) e = ap queue.Rx (sym (eqb-true k number e))
+queue_is _ _ e = absurd cc
+
+-- a lane is no inbox
+pub no_inbox_there : (q : QueueId) → is_queue queue.Inbox q ≡ false → is_queue q queue.Inbox ≡ false
+no_inbox_there queue.Inbox e = e
+no_inbox_there (queue.Up k) e = refl
+no_inbox_there (queue.Down k) e = refl
+no_inbox_there (queue.Out k) e = refl
+no_inbox_there (queue.Tx k) e = refl
+no_inbox_there (queue.Rx k) e = refl

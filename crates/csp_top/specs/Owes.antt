@@ -1,0 +1,66 @@
+-- What each command owes.
+use Rattle.std.specs.Prelude.{ℕ, ◌≡◌, ◌≢◌, List, Option, Err, IfSome}
+use Rattle.csp_scene.specs.Judge.{scene_of}
+use Rattle.csp_scene.specs.declared.refusal.SceneKind.{SceneKind}
+use Rattle.csp_top.specs.Gen.{HasReport, IsSummedUpOrNoMemory, WroteSummary, WroteSummaryPart}
+use Rattle.csp_top.specs.Main.{IsDoneOrNoMemory, IsPastEntries, IsUnhindered, WasRead, WroteReliably, WroteReport, WrotePart}
+use Rattle.csp_top.specs.Threads.{IsFree, IsRunOrNoMemory, WroteRun, WroteRunPart}
+use Rattle.csp_top.specs.declared.status.LimitKind.{LimitKind}
+use Rattle.csp_top.specs.declared.status.LimitKind.TheVariants as limit
+use Rattle.csp_top.specs.declared.status.Status.{Status}
+use Rattle.csp_top.specs.declared.status.Status.TheVariants as status
+use Rattle.csp_words.specs.declared.grammar.Command.{Command}
+use Rattle.csp_words.specs.declared.grammar.Command.TheVariants as command
+use Rattle.csp_base.specs.Faults.{Rose}
+use Rattle.csp_world.specs.declared.limits.TheConstants.{MAX_ENTRIES}
+
+-- what a call finds, and what it leaves: the bytes that the source has yet to give and how often it failed, and what was written and how often that failed
+pub record Edge : Type 0 where
+  pub left : Option (List ℕ)
+  pub reading : ℕ
+  pub written : Option (List ℕ)
+  pub writing : ℕ
+
+-- such an edge
+abbrev pub edge : Option (List ℕ) → ℕ → Option (List ℕ) → ℕ → Edge
+edge left reading written writing = record { left = left; reading = reading; written = written; writing = writing }
+
+-- what a command owes that writes a report of the text that it reads: the whole of it, which is reliable, or a prefix, and only of a text that was read to
+-- its end; or the refusal of the text. Which bytes are written for a text, whole or in part, differs with the command
+pub record OwesReport (Wrote WroteSome : List ℕ → Option (List ℕ) → Option (List ℕ) → Type 0) (old new : Edge) (answer : Status) : Type 0 where
+  pub done : answer ≡ status.Done → IfSome old.left (λ text. Wrote text old.written new.written)
+  pub reliable : answer ≡ status.Done → WroteReliably old.written new.written
+  pub read : answer ≡ status.Done → WasRead old.left new.left
+  pub part : answer ≡ status.WriteFault → IfSome old.left (λ text. WroteSome text old.written new.written)
+  pub part_read : answer ≡ status.WriteFault → WasRead old.left new.left
+  pub scene : (line : ℕ) (kind : SceneKind) → answer ≡ status.Scene line kind → IfSome old.left (λ text. scene_of text ≡ Err (record { line = line; kind = kind }))
+  pub scene_read : (line : ℕ) (kind : SceneKind) → answer ≡ status.Scene line kind → WasRead old.left new.left
+
+-- `sim`: the report of the run of the text's scene, by its schedule; or the answer that its logs reach the entry limit
+pub record OwesSim (old new : Edge) (answer : Status) : Type 0 where
+  pub report : OwesReport WroteReport WrotePart old new answer
+  pub entries : (number : ℕ) → answer ≡ status.Limit limit.Entries number → (number ≡ MAX_ENTRIES) × IfSome old.left IsPastEntries
+  pub entries_read : (number : ℕ) → answer ≡ status.Limit limit.Entries number → WasRead old.left new.left
+  pub complete : IfSome old.left (λ text. IsUnhindered text old.reading new.reading old.writing new.writing → IsDoneOrNoMemory text old.written new.written answer)
+
+-- `run`: the report of a run of the text's scene in threads; the entry limit is no answer
+pub record OwesRun (old new : Edge) (answer : Status) : Type 0 where
+  pub report : OwesReport WroteRun WroteRunPart old new answer
+  pub no_entries : (number : ℕ) → answer ≢ status.Limit limit.Entries number
+  pub complete : IfSome old.left (λ text. IsFree text old.reading new.reading old.writing new.writing → IsRunOrNoMemory text old.written new.written answer)
+
+-- `gen N`: the summary of the report of the scenario in which so many packets are sent; the source, the scene and the limits are no cause of an answer
+pub record OwesGen (packets : ℕ) (old new : Edge) (answer : Status) : Type 0 where
+  pub done : answer ≡ status.Done → WroteSummary packets old.written new.written
+  pub part : answer ≡ status.WriteFault → WroteSummaryPart packets old.written new.written
+  pub no_reading : answer ≢ status.ReadFault
+  pub no_scene : (line : ℕ) (kind : SceneKind) → answer ≢ status.Scene line kind
+  pub no_limit : (kind : LimitKind) (number : ℕ) → answer ≢ status.Limit kind number
+  pub report : HasReport packets
+  pub complete : (Rose old.writing new.writing → ⊥) → IsSummedUpOrNoMemory packets old.written new.written answer
+
+-- what a command owes
+abbrev pub Owes : Command → Edge → Edge → Status → Type 0
+Owes command.Sim = OwesSim
+Owes (command.Run workers) = OwesRun
+Owes (command.Gen packets) = OwesGen packets
