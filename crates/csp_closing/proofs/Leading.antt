@@ -91,7 +91,7 @@ other_of scene n o s h q post its at not =
     record { join = record { pool = passes.0; inbox = both_so h.inbox q.inbox (leads o.who) passes.1 home.roles not }; part = home.part ∙ ap (λ (b : Bool). if b then 0 else 1) not }
 
 -- the regions of what a post has in hand
-home_region : (scene : PlainScene) (n : PlainNetwork) (o : PlainOpening) (s : PlainPost) (h : PlainHome) → IsPostOf scene n o s → s.ends.home ≡ Some h → slice_get n.regions h.node ≡ Some h.pool.hand.region
+pub home_region : (scene : PlainScene) (n : PlainNetwork) (o : PlainOpening) (s : PlainPost) (h : PlainHome) → IsPostOf scene n o s → s.ends.home ≡ Some h → slice_get n.regions h.node ≡ Some h.pool.hand.region
 home_region scene n o s h post its = subst (λ x. IfSome x (λ h. slice_get n.regions h.node ≡ Some h.pool.hand.region)) its post.home.region
 
 inbox_region : (scene : PlainScene) (n : PlainNetwork) (o : PlainOpening) (s : PlainPost) (h : PlainHome) (x : inbox.PlainPass) → IsPostOf scene n o s → s.ends.home ≡ Some h → h.inbox ≡ Some x → x.role.token.name ≡ h.pool.hand.region
@@ -118,7 +118,7 @@ none_out q hs v others count =
     let out = all_out v hs (all_then (IsOther q) (λ (h : PlainHome). h.pool.hand.part ≡ 1) hs (λ h other. other.part) others) in
     omega (arith, out, count)
 
-opened_with : (h : PlainHome) (x : inbox.PlainPass) → h.inbox ≡ Some x → opening h ≡ Some (record { pool = h.pool; inbox = x })
+pub opened_with : (h : PlainHome) (x : inbox.PlainPass) → h.inbox ≡ Some x → opening h ≡ Some (record { pool = h.pool; inbox = x })
 opened_with h x e = ap (option_map (λ (x : inbox.PlainPass). record { pool = h.pool; inbox = x })) e
 
 -- no mark is out either: each that was is that of an interface, which is one of the others
@@ -131,14 +131,14 @@ no_mark scene n posts net q node m g x others there whole has reads k few none =
     let passes = home_in scene n found.one r.post home.0 r.its home.1 in
     let marked : option_map (λ (x : inbox.PlainPass). x.role.mark) home.0.inbox ≡ Some k = passes.mark ∙ ap mark_for found.so in
     let member = is_member node posts found.place r.post home.0 r.there home.1 home.2 in
-    by member.place home.0 passes marked found.so (ap (λ (hs : List PlainHome). slice_get hs member.place) (sym whole) ∙ member.at)
+    by member.place home.0 found.one passes marked found.so (ap (λ (hs : List PlainHome). slice_get hs member.place) (sym whole) ∙ member.at)
   where
-    by : (place : ℕ) (h : PlainHome) {o : PlainOpening} → IsHomeIn o.who h → option_map (λ (x : inbox.PlainPass). x.role.mark) h.inbox ≡ Some k → o.who ≡ who.Iface node k → slice_get (g ∷ others) place ≡ Some h → ⊥
-    by zero h {o} passes marked named at =
+    by : (place : ℕ) (h : PlainHome) (o : PlainOpening) → IsHomeIn o.who h → option_map (λ (x : inbox.PlainPass). x.role.mark) h.inbox ≡ Some k → o.who ≡ who.Iface node k → slice_get (g ∷ others) place ≡ Some h → ⊥
+    by zero h o passes marked named at =
         let same : h.inbox ≡ Some x = ap (λ (p : PlainHome). p.inbox) (sym (same_Some g h at)) ∙ has in
         let roles : (x.role.reads ≡ leads o.who) × (x.role.writes ≡ true) = subst (λ y. IfSome y (λ x. (x.role.reads ≡ leads o.who) × (x.role.writes ≡ true))) same passes.roles in
         true≢false (sym reads ∙ roles.0 ∙ ap leads named)
-    by (suc place) h {o} passes marked named at = all_at (HasNoMark k) others place h none at marked
+    by (suc place) h o passes marked named at = all_at (HasNoMark k) others place h none at marked
 
 pub has_met : Led → Hubs → Apart → (scene : PlainScene) (n : PlainNetwork) (posts : List PlainPost) → IsNetworkOf scene n posts → (node : ℕ) (m : PlainNode) (q : PlainNodeQueues) → slice_get scene.nodes node ≡ Some m → slice_get n.nodes node ≡ Some q
     → HasMet scene posts q node
@@ -155,7 +155,7 @@ has_met led hubs apart scene n posts net node m q there at =
     let cut = split (IsOther q) node posts hub.at hub.post hub.home hub.there hub.its hub.node (first stands place) (others stands place) in
     let start : Passes = record { pool = hub.home.pool; inbox = hub.pass } in
     let opened : opening hub.home ≡ Some start = opened_with hub.home hub.pass hub.inbox in
-    let open : AreOpen q start = record { pool = passes.0; opens = home.opens ∙ ap (λ (b : Bool). if b then 1 else 0) lead; inbox = pass; reads = hub.reads } in
+    let opens : AreOpen q start = record { pool = passes.0; opens = home.opens ∙ ap (λ (b : Bool). if b then 1 else 0) lead; inbox = pass; reads = hub.reads } in
     let shared = net.shared hub.at hub.post hub.home hub.there (ap leads hub.who ∙ hub_leads node m.addr) hub.its in
     let count : hub.home.pool.hand.out + 1 ≡ 1 + length cut.others = shared.pool ∙ ap (λ (k : ℕ). count_by (λ (s : PlainPost). is_home k s.ends.home) posts) hub.node ∙ members_count node posts ∙ ap (λ (hs : List PlainHome). length hs) cut.whole ∙ omega arith in
     let all : Passes = all_joined start cut.others in
@@ -163,7 +163,7 @@ has_met led hubs apart scene n posts net node m q there at =
       out = none_out q cut.others start cut.each count;
       pool = region_stays start cut.others;
       home = record {
-        reads = (all_open q start cut.others open).reads;
+        reads = (all_open q start cut.others opens).reads;
         home = no_marks all.inbox.role.out (λ k out.
             let was = out_all k start cut.others out in
             let few : k < length (links_at node scene.links) = subst (λ (p : ℕ). k < length (links_at p scene.links)) hub.node (shared.inbox hub.pass k hub.inbox was.0) in
@@ -182,7 +182,7 @@ has_met led hubs apart scene n posts net node m q there at =
       inbox = hub.inbox;
       split = cut;
       can = record {
-        gather = subst (CanGather q) (sym cut.whole) (subst (λ o. IsSomeAnd o (AreOpen q)) (sym opened) open, all_then (IsOther q) (CanJoin q) cut.others (λ h other. other.join) cut.each);
+        gather = subst (CanGather q) (sym cut.whole) (subst (λ o. IsSomeAnd o (AreOpen q)) (sym opened) opens, all_then (IsOther q) (CanJoin q) cut.others (λ h other. other.join) cut.each);
         close = subst (λ (hs : List PlainHome). IsSomeAnd (gathered hs) (CanClose hub.home.pool.hand.region)) (sym cut.whole)
             (subst (λ o. IsSomeAnd (option_map (λ (v : Passes). all_joined v cut.others) o) (CanClose hub.home.pool.hand.region)) (sym opened) close);
       };

@@ -1,6 +1,6 @@
 //! The end of the lanes of a node.
 
-ghost use Rattle.std.specs.Prelude.{◌≡◌, ◌+◌, ◌<◌, ◌≤◌, ◌∷◌, ℕ, [], length};
+ghost use Rattle.std.specs.Prelude.{◌≡◌, ◌+◌, ◌<◌, ◌≤◌, ◌∷◌, ℕ, [], true, false, length};
 ghost use Rattle.csp_closing.specs.Retired.{all_homes, all_rest, all_sides, rest_of};
 ghost use Rattle.csp_closing.specs.Wires.{AreAllNext, AreNext, HaveRooms, IsFirstAt, WireEnds, WiresEnd, rooms_in, without_all, without_ends, without_first};
 ghost use Rattle.csp_ending.specs.Stores.{HasRoom};

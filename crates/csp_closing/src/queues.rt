@@ -95,13 +95,16 @@ fn end_node<R: Wait>(
     ensures sides { all_sides parties.new ≡ without_all wires.now (all_sides parties.old) }
     ensures rest { all_rest parties.new ≡ all_rest parties.old }
 {
-    let passes = take_passes(&queues, node, parties);
+    let Passes {
+        pool: pool_pass,
+        inbox: inbox_pass,
+    } = take_passes(&queues, node, parties);
     let NodeQueues { pool, inbox, lanes } = queues;
     let NodeRooms {
         inbox: inbox_room,
         lanes: lane_rooms,
     } = rooms;
-    let (first, last) = store.store.end_pool(rt, pool, passes.pool);
+    let (first, last) = store.store.end_pool(rt, pool, pool_pass);
     store.first = first;
     store.last = last;
     end_lanes(
@@ -117,7 +120,7 @@ fn end_node<R: Wait>(
     end_inbox(
         rt,
         inbox,
-        passes.inbox,
+        inbox_pass,
         inbox_room,
         node,
         notes,

@@ -1,0 +1,4 @@
+use Rattle.csp_closing.proofs.lanes.take_consumer.Goals as goal
+
+pub returns-clause-sides : goal.returns-clause-sides
+returns-clause-sides c = ?
