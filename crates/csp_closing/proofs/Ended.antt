@@ -16,11 +16,11 @@ use Rattle.csp_closing.proofs.Noted.{IsBackAt, back_at_one, back_long}
 use Rattle.csp_closing.proofs.Piles.{HaveRoomFor, IsEndable, all_back, all_long, can_end, held_of, held_of_all}
 use Rattle.csp_closing.proofs.Remains.{sides_of}
 use Rattle.csp_closing.specs.Nodes.{HasBack, HaveBack, left_numbers}
-use Rattle.csp_closing.specs.Retired.{IsFresh, all_homes, all_rest, all_sides, post_of, rest_of, retired_of, to_retire}
+use Rattle.csp_closing.specs.Retired.{IsFresh, PlainRetired, all_homes, all_rest, all_sides, post_of, rest_of, retired_of, to_retire}
 use Rattle.csp_closing.specs.Stores.{CanEndParties, CanGiveBack, PlainPile, parties_back, pile_of, pool_part, rest_held, rest_log, with_back}
 use Rattle.csp_consistent.proofs.OwnQueues.{IsOwn, own_told, scene_own}
 use Rattle.csp_consistent.specs.Pools.{is_node}
-use Rattle.csp_deck.specs.Runs.{IsRun, state_after}
+use Rattle.csp_deck.specs.Runs.{Steps, state_after}
 use Rattle.csp_deck.specs.Step.{times}
 use Rattle.csp_ends.specs.Ends.{PlainHome, PlainSide, region_or}
 use Rattle.csp_fabric.specs.Fabrics.{AreStoresOf, CanNote, IsStoreOf, buffers_at, room_in}
@@ -28,6 +28,7 @@ use Rattle.csp_fabric.specs.declared.fabric.NodeStore.{NodeStore}
 use Rattle.csp_flow.specs.Remains.{AreRemains, PlainRemains, held_at, inbox_numbers, returned}
 use Rattle.csp_lists.specs.PlainDeck.{numbers_of}
 use Rattle.csp_log.specs.declared.entry.Entry.{Entry}
+use Rattle.csp_log.specs.declared.shown.AnswerShown.{AnswerShown}
 use Rattle.csp_party.specs.Any.{PlainParty, a_bridge, a_link, a_router, an_app, an_iface, holds, plain, region_of}
 use Rattle.csp_posts.specs.Between.{is_home}
 use Rattle.csp_posts.specs.Posts.{PlainPost}
@@ -55,9 +56,9 @@ sides_same (r ∷ rs) = ap (λ (ss : List (List PlainSide)). r.ends.sides ∷ ss
 pub posts_same : (rs : List Retired) (posts : List SeenPost) → map retired_of rs ≡ map to_retire posts → map post_of rs ≡ map (λ (s : SeenPost). s.plain) posts
 posts_same [] [] e = refl
 posts_same (r ∷ rs) (s ∷ posts) e =
-    let first : post_of r ≡ s.plain = cc in
+    let head : retired_of r ≡ to_retire s = cc in
     let later : map retired_of rs ≡ map to_retire posts = cc in
-    ap (λ (p : PlainPost). p ∷ map post_of rs) first ∙ ap (λ (ps : List PlainPost). s.plain ∷ ps) (posts_same rs posts later)
+    ap (λ (x : PlainRetired). x.post ∷ map post_of rs) head ∙ ap (λ (ps : List PlainPost). s.plain ∷ ps) (posts_same rs posts later)
 posts_same [] (s ∷ posts) e = absurd cc
 posts_same (r ∷ rs) [] e = absurd cc
 
@@ -65,19 +66,21 @@ posts_same (r ∷ rs) [] e = absurd cc
 pub room_same : (rs : List Retired) (posts : List SeenPost) (k : ℕ) (r : Retired) → map retired_of rs ≡ map to_retire posts → slice_get rs k ≡ Some r → (s : SeenPost) × (slice_get posts k ≡ Some s) × (s.plain ≡ post_of r) × (s.room ≡ vec_capacity r.numbers)
 room_same [] posts k r e at = absurd cc
 room_same (x ∷ rs) (s ∷ posts) zero r e at =
-    let first : post_of x ≡ s.plain = cc in
-    let room : vec_capacity x.numbers ≡ s.room = cc in
+    let head : retired_of x ≡ to_retire s = cc in
     let same : x ≡ r = same_Some x r at in
-    (s, refl, sym first ∙ ap post_of same, sym room ∙ ap (λ (y : Retired). vec_capacity y.numbers) same)
+    (s, refl, ap (λ (y : PlainRetired). y.post) (sym head) ∙ ap post_of same, ap (λ (y : PlainRetired). y.room) (sym head) ∙ ap (λ (y : Retired). vec_capacity y.numbers) same)
 room_same (x ∷ rs) (s ∷ posts) (suc k) r e at =
     let later : map retired_of rs ≡ map to_retire posts = cc in
     room_same rs posts k r later at
 room_same (x ∷ rs) [] k r e at = absurd cc
 
 -- a link holds nothing
-own_after : (w : Who) (p : PlainParty) (time : ℕ) (es : List Entry) → IsRun party_steps time p es → IsOwn w p → IsOwn w (state_after party_steps p es)
-own_after w p time [] run own = own
-own_after w p time (e ∷ es) run own = own_after w _ e.time es run.2 (own_told w p e.time e.answer own)
+state_so : {S : Type 0} (steps : Steps S) (P : S → Type 0) → ((p : S) (time : ℕ) (a : AnswerShown) → P p → P (steps.tells (steps.asked p time) time a)) → (p : S) (es : List Entry) → P p → P (state_after steps p es)
+state_so steps P told p [] own = own
+state_so steps P told p (e ∷ es) own = state_so steps P told _ es (told p e.time e.answer own)
+
+own_after : (w : Who) (p : PlainParty) (es : List Entry) → IsOwn w p → IsOwn w (state_after party_steps p es)
+own_after w p es own = state_so party_steps (IsOwn w) (own_told w) p es own
 
 no_home : (w : Who) (p : PlainParty) → node_of w ≡ None → IsOwn w p → holds p ≡ []
 no_home (who.Router k) p e own = absurd cc
@@ -93,7 +96,7 @@ no_home (who.Link k) (an_app l) e own = absurd own
 link_none : (scene : PlainScene) (n : PlainNetwork) (o : PlainOpening) (k : ℕ) (s : PlainPost) → slice_get (parties_of scene) k ≡ Some o → IsPostOf scene n o s → node_of s.who ≡ None → holds s.party ≡ []
 link_none scene n o k s at post none =
     let opened : IsOwn o.who o.party = all_at (λ (o : PlainOpening). IsOwn o.who o.party) (parties_of scene) k o (scene_own scene) at in
-    let own = own_after o.who o.party 0 s.entries post.from.runs.run opened in
+    let own = own_after o.who o.party s.entries opened in
     no_home o.who s.party (ap node_of (sym post.who) ∙ none) (subst (IsOwn o.who) post.from.runs.reached own)
 
 -- what a node's parties hold
