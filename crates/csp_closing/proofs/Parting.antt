@@ -3,17 +3,18 @@ use Rattle.std.proofs.Common.{◌≡◌, ◌≢◌, ◌+◌, ◌<◌, ◌≤◌,
 use Rattle.std.specs.Prelude.{IsSomeAnd, slice_get, vec_capacity}
 use Rattle.std.specs.List.{flat_map}
 use Rattle.std.specs.Option.{option_map, option_to_list}
-use Rattle.std.proofs.lemmas.Option.{same_Some}
+use Rattle.std.proofs.lemmas.List.{length-map}
+use Rattle.std.proofs.lemmas.Option.{same_Some, slice_get_within}
 use Rattle.csp_closing.proofs.Ending.{notes_are}
 use Rattle.csp_closing.specs.Retired.{PlainRest}
-use Rattle.csp_closing.specs.Stores.{PlainPile, back_at, back_to, party_back, pile_of, rest_held, with_back, with_held}
+use Rattle.csp_closing.specs.Stores.{HasPile, PlainPile, back_at, back_to, party_back, pile_of, rest_held, with_back, with_held}
 use Rattle.csp_consistent.specs.Pools.{held_by}
 use Rattle.csp_ending.specs.Notes.{PlainNotes, held_note, with_place}
-use Rattle.csp_ending.specs.Stores.{PlainStore, TakesBack}
+use Rattle.csp_ending.specs.Stores.{HasRoom, PlainStore, TakesBack}
 use Rattle.csp_fabric.specs.declared.fabric.NodeStore.{NodeStore}
 use Rattle.csp_log.specs.Remains.{PlainHeld}
 use Rattle.csp_log.specs.declared.places.Place.{Place}
-use Rattle.csp_party.specs.Any.{holds, plain}
+use Rattle.csp_party.specs.Any.{holds, plain, region_of}
 use Rattle.csp_record.specs.Who.{home_of, node_of}
 
 -- what was noted, then this, then the rest, is the whole
@@ -64,3 +65,13 @@ none_held m n more e f =
 
 pub held_noted : (m n : PlainNotes) (more : List PlainHeld) → n.left ≡ m.left → n.held ≡ m.held ++ more → n.queues ≡ m.queues → n ≡ with_held m more n.others
 held_noted m n more left held queues = notes_are n (with_held m more n.others) left held queues refl
+
+-- a party's node is there
+pub pile_there : (stores : List NodeStore) (r : PlainRest) (node : ℕ) → node_of r.who ≡ Some node → HasPile (node_of r.who) r (map pile_of stores) → node < length stores
+pile_there stores r node e h = by (slice_get (map pile_of stores) node) refl (subst (λ (o : Option ℕ). HasPile o r (map pile_of stores)) e h) where
+  by : (o : Option PlainPile) → slice_get (map pile_of stores) node ≡ o → IsSomeAnd o (λ s. (region_of r.party ≡ s.store.region) × HasRoom s.store (length (holds (plain r.party)))) → node < length stores
+  by None f k = absurd k
+  by (Some s) f k =
+      let within = slice_get_within (map pile_of stores) node s f in
+      let long = length-map stores pile_of in
+      omega (arith, within, long)
