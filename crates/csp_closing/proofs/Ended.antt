@@ -3,19 +3,19 @@ use Rattle.std.proofs.Common.{◌≡◌, ◌≢◌, ◌+◌, ◌-◌, ◌<◌, �
 use Rattle.std.specs.Prelude.{IfSome, IsSomeAnd, if◌then◌else◌, slice_get, slice_range, vec_capacity}
 use Rattle.std.specs.List.{AllByRecursion, flat_map, range_with_len}
 use Rattle.std.specs.Option.{option_map}
-use Rattle.std.proofs.lemmas.List.{length-map, take_at}
+use Rattle.std.proofs.lemmas.List.{drop_at, length-map, take_at}
 use Rattle.std.proofs.lemmas.List.Elements.{All-head, All-rest}
 use Rattle.std.proofs.lemmas.List.FromFn.{length-range_with_len}
 use Rattle.std.proofs.lemmas.List.Sums.{sum_by-append}
 use Rattle.std.proofs.lemmas.Option.{same_Some, slice_get-map, get_or_from_slice_get}
 use Rattle.csp_arena.specs.Cells.{RegionName}
 use Rattle.csp_closing.proofs.Fabric.{stores_long}
-use Rattle.csp_closing.proofs.Lists.{all_at, all_from, equals, made_at, made_from}
+use Rattle.csp_closing.proofs.Lists.{all_at, all_from, equals, made_at, made_from, times_two}
 use Rattle.csp_closing.proofs.Members.{homes_of}
 use Rattle.csp_closing.proofs.Noted.{IsBackAt, back_at_one, back_long}
 use Rattle.csp_closing.proofs.Piles.{HaveRoomFor, IsEndable, all_back, all_long, can_end, held_of, held_of_all}
 use Rattle.csp_closing.proofs.Remains.{sides_of}
-use Rattle.csp_closing.specs.Nodes.{HasBack, HaveBack, left_numbers}
+use Rattle.csp_closing.specs.Nodes.{HasBack, HaveBack, left_numbers, queue_numbers}
 use Rattle.csp_closing.specs.Retired.{IsFresh, PlainRetired, all_homes, all_rest, all_sides, post_of, rest_of, retired_of, to_retire}
 use Rattle.csp_closing.specs.Stores.{CanEndParties, CanGiveBack, PlainPile, parties_back, pile_of, pool_part, rest_held, rest_log, with_back}
 use Rattle.csp_consistent.proofs.OwnQueues.{IsOwn, own_told, scene_own}
@@ -138,10 +138,18 @@ ReturnsAll scene posts all = (node : ℕ) (c : PlainNode) (m : PlainRemains) →
 abbrev pub LongSame : Type 0
 LongSame = (xs ys : List ℕ) → ((k : ℕ) → times k xs ≡ times k ys) → length xs ≡ length ys
 
-all_returned : (node : ℕ) (m : PlainRemains) (posts : List PlainPost) → returned node m posts ≡ left_numbers m ++ held_at node posts
-all_returned node m posts =
-    ap (λ (ns : List ℕ). m.pool ++ ns) (sym (append_assoc (flat_map numbers_of m.lanes) (inbox_numbers m) (held_at node posts)))
-    ∙ sym (append_assoc m.pool (flat_map numbers_of m.lanes ++ inbox_numbers m) (held_at node posts))
+all_returned : (k node : ℕ) (m : PlainRemains) (posts : List PlainPost) → times k (left_numbers m ++ held_at node posts) ≡ times k (returned node m posts)
+all_returned k node m posts =
+    let lanes = flat_map numbers_of m.lanes in
+    let inbox = inbox_numbers m in
+    let held = held_at node posts in
+    let one = times_two k (left_numbers m) held in
+    let two = times_two k (queue_numbers m) m.pool in
+    let three = times_two k lanes inbox in
+    let four = times_two k m.pool (lanes ++ (inbox ++ held)) in
+    let five = times_two k lanes (inbox ++ held) in
+    let six = times_two k inbox held in
+    omega (arith, one, two, three, four, five, six)
 
 -- the memory of a node, with what is back there from its queues
 pub record IsPileOf (scene : PlainScene) (posts : List PlainPost) (all : List PlainRemains) (node : ℕ) (t : NodeStore) : Type 0 where
@@ -152,8 +160,8 @@ pub record IsPileOf (scene : PlainScene) (posts : List PlainPost) (all : List Pl
   pub numbers : t.store.numbers ≡ left_numbers m
   pub count : t.store.count ≡ c.buffers
   pub room : c.buffers ≤ t.store.room
-  pub first : t.first ≡ 0
-  pub last : t.last ≡ length m.pool
+  pub first : t.first ≡ length (queue_numbers m)
+  pub last : t.last ≡ t.first + length m.pool
   pub unnoted : t.numbers.items ≡ []
   pub spare : c.buffers ≤ vec_capacity t.numbers
   pub whole : (k : ℕ) → times k (left_numbers m ++ held_at node posts) ≡ times k (range_with_len 0 c.buffers)
@@ -176,7 +184,7 @@ piles_of long scene lanes posts stores all after are back returns k t at =
     let b = back_at_one stores all after k t back at in
     let (c, ls, there, store) = store_of scene.nodes lanes stores k b.s are b.before in
     let none : length b.s.store.numbers ≡ 0 = ap (λ (ns : List ℕ). length ns) store.none in
-    let whole : (j : ℕ) → times j (left_numbers b.left ++ held_at k posts) ≡ times j (range_with_len 0 c.buffers) = λ j. ap (times j) (sym (all_returned k b.left posts)) ∙ returns k c b.left there b.there j in
+    let whole : (j : ℕ) → times j (left_numbers b.left ++ held_at k posts) ≡ times j (range_with_len 0 c.buffers) = λ j. all_returned j k b.left posts ∙ returns k c b.left there b.there j in
     let same = long (left_numbers b.left ++ held_at k posts) (range_with_len 0 c.buffers) whole in
     let count = store.count in
     let counted = b.back.count in
@@ -196,8 +204,8 @@ piles_of long scene lanes posts stores all after are back returns k t at =
       numbers = b.back.numbers ∙ ap (λ (ns : List ℕ). ns ++ left_numbers b.left) store.none;
       count = counted ∙ count;
       room = omega (arith, room, its_room);
-      first = first ∙ none;
-      last = omega (arith, last, none);
+      first = omega (arith, first, none);
+      last = last;
       unnoted = b.back.unnoted ∙ store.unnoted;
       spare = omega (arith, spare, capacity);
       whole = whole;
@@ -294,17 +302,17 @@ pub record IsEnded (scene : PlainScene) (posts : List PlainPost) (all : List Pla
   pub can : CanGiveBack x
   pub part : pool_part x ≡ m.pool
 
-part_is : (first last : ℕ) (pool more : List ℕ) → first ≡ 0 → last ≡ length pool → slice_range (pool ++ more) first last ≡ pool
-part_is first last pool more f l =
-    let none : last - first ≡ length pool = omega (arith, f, l) in
-    ap (λ (k : ℕ). take (last - first) (drop k (pool ++ more))) f ∙ ap (λ (k : ℕ). take k (pool ++ more)) none ∙ take_at pool more (length pool) refl
+part_is : (first last : ℕ) (before pool more : List ℕ) → first ≡ length before → last ≡ first + length pool → slice_range (before ++ (pool ++ more)) first last ≡ pool
+part_is first last before pool more f l =
+    let count : last - first ≡ length pool = omega (arith, l) in
+    ap (λ (xs : List ℕ). take (last - first) xs) (drop_at before (pool ++ more) first (sym f)) ∙ take_at pool more (last - first) (sym count)
 
 pile_ended : (scene : PlainScene) (posts : List PlainPost) (all : List PlainRemains) (node : ℕ) (t : NodeStore) (held : List ℕ) → IsPileOf scene posts all node t → held ≡ held_at node posts → IsEnded scene posts all node (with_back held (pile_of t))
 pile_ended scene posts all node t held p same =
     let numbers : t.store.numbers ++ held ≡ left_numbers p.m ++ held_at node posts = ap (λ (ns : List ℕ). ns ++ held) p.numbers ∙ ap (λ (ns : List ℕ). left_numbers p.m ++ ns) same in
-    let more = flat_map numbers_of p.m.lanes ++ inbox_numbers p.m in
-    let apart : t.store.numbers ++ held ≡ p.m.pool ++ (more ++ held_at node posts) = numbers ∙ append_assoc p.m.pool more (held_at node posts) in
-    let long : length (t.store.numbers ++ held) ≡ length p.m.pool + length (more ++ held_at node posts) = ap (λ (ns : List ℕ). length ns) apart ∙ length-append p.m.pool (more ++ held_at node posts) in
+    let apart : t.store.numbers ++ held ≡ queue_numbers p.m ++ (p.m.pool ++ held_at node posts) = numbers ∙ append_assoc (queue_numbers p.m) p.m.pool (held_at node posts) in
+    let long : length (t.store.numbers ++ held) ≡ length (queue_numbers p.m) + length (p.m.pool ++ held_at node posts) = ap (λ (ns : List ℕ). length ns) apart ∙ length-append (queue_numbers p.m) (p.m.pool ++ held_at node posts) in
+    let more = length-append p.m.pool (held_at node posts) in
     let first = p.first in
     let last = p.last in
     let count = p.count in
@@ -313,13 +321,13 @@ pile_ended scene posts all node t held p same =
       m = p.m;
       there = p.left_there;
       can = record {
-        from = omega (arith, first, last);
-        to = omega (arith, last, long);
+        from = omega (arith, last);
+        to = omega (arith, first, last, long, more);
         unnoted = p.unnoted;
         room = omega (arith, count, spare);
         whole = λ k. ap (times k) numbers ∙ p.whole k ∙ ap (λ (c : ℕ). times k (range_with_len 0 c)) (sym p.count);
       };
-      part = ap (λ (ns : List ℕ). slice_range ns t.first t.last) apart ∙ part_is t.first t.last p.m.pool (more ++ held_at node posts) p.first p.last;
+      part = ap (λ (ns : List ℕ). slice_range ns t.first t.last) apart ∙ part_is t.first t.last (queue_numbers p.m) p.m.pool (held_at node posts) p.first p.last;
     }
 
 pub ended_at : (scene : PlainScene) (n : PlainNetwork) (rs : List Retired) (all : List PlainRemains) (after : List NodeStore) → IsNetworkOf scene n (map post_of rs) → ((k : ℕ) (t : NodeStore) → slice_get after k ≡ Some t → IsPileOf scene (map post_of rs) all k t)

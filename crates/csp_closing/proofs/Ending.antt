@@ -8,7 +8,7 @@ use Rattle.csp_base.specs.declared.priority.Prio.{Prio}
 use Rattle.csp_base.specs.declared.priority.Prio.TheVariants.{Critical, High, Normal, Low}
 use Rattle.csp_closing.proofs.Sides.{all_before, ends_later}
 use Rattle.csp_closing.specs.Hands.{gathered, homes_at, without_home}
-use Rattle.csp_closing.specs.Nodes.{AreLeftIn, HasBack, HaveBack, IsLeftBy, IsLeftIn, NodeEnds, NodesEnd, all_queue_notes, left_numbers, queue_notes}
+use Rattle.csp_closing.specs.Nodes.{AreLeftIn, HasBack, HaveBack, IsLeftBy, IsLeftIn, NodeEnds, NodesEnd, all_queue_notes, left_numbers, queue_notes, queue_numbers}
 use Rattle.csp_closing.specs.Wires.{AreLeftAmong, AreNext, IsFirstAt, IsLeftAmong, WireEnds, WiresEnd, wire_notes, with_notes, without_all, without_ends}
 use Rattle.csp_closing.specs.declared.passes.Passes.{Passes}
 use Rattle.csp_consistent.specs.Pools.{left_held}
@@ -151,14 +151,14 @@ inbox_noted m n node left e = e
 
 -- the end of the queues of a node
 pub node_ended : (node : ℕ) (q : PlainNodeQueues) (wires : List Wire) (homes : List (Option PlainHome)) (sides : List (List PlainSide)) (v : Passes) (m n o : PlainNotes) (s t : NodeStore) (a b c : PlainStore)
-    → gathered (homes_at node homes) ≡ Some v → (pool : PoolEnds v.pool.hand t.first t.last s.store a) → WiresEnd sides wires node 0 m n a b → InboxEnds q.inbox v.inbox node n o b c → t.store ≡ c → t.numbers ≡ s.numbers
+    → gathered (homes_at node homes) ≡ Some v → WiresEnd sides wires node 0 m n s.store a → InboxEnds q.inbox v.inbox node n o a b → (pool : PoolEnds v.pool.hand t.first t.last b c) → t.store ≡ c → t.numbers ≡ s.numbers
     → NodeEnds node q.inbox.room wires homes sides m o s t
-node_ended node q wires homes sides v m n o s t a b c got pool lanes mail is numbers =
+node_ended node q wires homes sides v m n o s t a b c got lanes mail pool is numbers =
     let all : PlainRemains = record { lanes = lanes.lefts; inbox = mail.left; pool = pool.left } in
-    let queues = both_back a b c (flat_map numbers_of lanes.lefts) (inbox_numbers all) lanes.back mail.back in
-    let whole = both_back s.store a c pool.left (flat_map numbers_of lanes.lefts ++ inbox_numbers all) pool.back queues in
-    let long : length a.numbers ≡ length s.store.numbers + length pool.left = ap (λ (ns : List ℕ). length ns) pool.back.numbers ∙ length-append s.store.numbers pool.left in
-    let to = pool.to in
+    let queues = both_back s.store a b (flat_map numbers_of lanes.lefts) (inbox_numbers all) lanes.back mail.back in
+    let whole = both_back s.store b c (queue_numbers all) pool.left queues pool.back in
+    let before : length b.numbers ≡ length s.store.numbers + length (queue_numbers all) = ap (λ (ns : List ℕ). length ns) queues.numbers ∙ length-append s.store.numbers (queue_numbers all) in
+    let after : length c.numbers ≡ length b.numbers + length pool.left = ap (λ (ns : List ℕ). length ns) pool.back.numbers ∙ length-append b.numbers pool.left in
     record {
       remains = all;
       left = record {
@@ -173,12 +173,27 @@ node_ended node q wires homes sides v m n o s t a b c got pool lanes mail is num
         count = ap (λ (x : PlainStore). x.count) is ∙ whole.count;
         room = ap (λ (x : PlainStore). x.room) is ∙ whole.room;
         numbers = ap (λ (x : PlainStore). x.numbers) is ∙ whole.numbers;
-        first = pool.from;
-        last = to ∙ long;
+        first = pool.from ∙ before;
+        last = pool.to ∙ after ∙ ap (λ (k : ℕ). k + length pool.left) (sym pool.from);
         unnoted = ap (λ v. v.items) numbers;
         capacity = ap (λ v. vec_capacity v) numbers;
       };
     }
+
+-- what was left in an inbox is no more than it has room for
+pub inbox_few : (x : inbox.PlainInbox) (p : inbox.PlainPass) (node : ℕ) (m n : PlainNotes) (s t : PlainStore) → InboxEnds x p node m n s t → length t.numbers ≤ length s.numbers + 4 * x.room
+inbox_few x p node m n s t h =
+    let all = h.left Critical ++ h.left High ++ h.left Normal ++ h.left Low in
+    let long : length t.numbers ≡ length s.numbers + length (numbers_of all) = ap (λ (ns : List ℕ). length ns) h.back.numbers ∙ length-append s.numbers (numbers_of all) in
+    let fewer = numbers_few all in
+    let three = length-append (h.left Critical ++ h.left High ++ h.left Normal) (h.left Low) in
+    let two = length-append (h.left Critical ++ h.left High) (h.left Normal) in
+    let one = length-append (h.left Critical) (h.left High) in
+    let a = (h.whole Critical).few in
+    let b = (h.whole High).few in
+    let c = (h.whole Normal).few in
+    let d = (h.whole Low).few in
+    omega (arith, long, fewer, one, two, three, a, b, c, d)
 
 -- the end of those of no node, and of one more
 pub no_nodes : (node : ℕ) (homes : List (Option PlainHome)) (sides : List (List PlainSide)) (m n : PlainNotes) → n ≡ m → NodesEnd node [] [] homes sides m n [] []

@@ -170,3 +170,11 @@ out_all m v (h ∷ hs) e =
     let later = out_all m (joined v h) hs e in
     let one = out_one m v.inbox h.inbox later.0 in
     (one.0, (one.1, later.1))
+
+-- gathered passes are the opening ones
+pub gathered_open : (q : PlainNodeQueues) (hs : List PlainHome) (v : Passes) → CanGather q hs → gathered hs ≡ Some v → AreOpen q v
+gathered_open q [] v can e = absurd can
+gathered_open q (h ∷ hs) v can e = by (opening h) can.0 e where
+  by : (o : Option Passes) → IsSomeAnd o (AreOpen q) → option_map (λ (w : Passes). all_joined w hs) o ≡ Some v → AreOpen q v
+  by None is f = absurd is
+  by (Some w) is f = subst (AreOpen q) (same_Some (all_joined w hs) v f) (all_open q w hs is)

@@ -82,9 +82,13 @@ abbrev pub queue_count : List (List Wire) → ℕ
 queue_count [] = 0
 queue_count (ws ∷ wires) = length ws + 4 + queue_count wires
 
--- the numbers of the buffers that were left in the queues of a node
+-- the numbers of the buffers that were left in the lanes and the inbox of a node
+abbrev pub queue_numbers : PlainRemains → List ℕ
+queue_numbers m = flat_map numbers_of m.lanes ++ inbox_numbers m
+
+-- and in its pool, after these
 abbrev pub left_numbers : PlainRemains → List ℕ
-left_numbers m = m.pool ++ (flat_map numbers_of m.lanes ++ inbox_numbers m)
+left_numbers m = queue_numbers m ++ m.pool
 
 -- the memory of a node once what was left in its queues is back: it is noted which of that was in the pool
 pub record HasBack (s : NodeStore) (m : PlainRemains) (t : NodeStore) : Type 0 where
@@ -92,8 +96,8 @@ pub record HasBack (s : NodeStore) (m : PlainRemains) (t : NodeStore) : Type 0 w
   pub count : t.store.count ≡ s.store.count
   pub room : t.store.room ≡ s.store.room
   pub numbers : t.store.numbers ≡ s.store.numbers ++ left_numbers m
-  pub first : t.first ≡ length s.store.numbers
-  pub last : t.last ≡ length s.store.numbers + length m.pool
+  pub first : t.first ≡ length s.store.numbers + length (queue_numbers m)
+  pub last : t.last ≡ t.first + length m.pool
   pub unnoted : t.numbers.items ≡ s.numbers.items
   pub capacity : vec_capacity t.numbers ≡ vec_capacity s.numbers
 

@@ -30,6 +30,7 @@ pub(crate) fn end_lanes<R: Wait>(
     requires store_room { HasRoom store.old (rooms_in lanes.items) }
     requires notes_room { length wires.now ≤ notes.old.queues }
     ensures ends { WiresEnd (all_sides parties.old) wires.now node 0 notes.old notes.new store.old store.new }
+    ensures few { length store.new.numbers ≤ length store.old.numbers + rooms_in lanes.items }
     ensures sides { all_sides parties.new ≡ without_all wires.now (all_sides parties.old) }
     ensures homes { all_homes parties.new ≡ all_homes parties.old }
     ensures rest { all_rest parties.new ≡ all_rest parties.old }
@@ -59,6 +60,7 @@ fn end_each<R: Wait>(
     requires store_room { HasRoom store.old (rooms_in lanes.old.items) }
     requires notes_room { length wires.now ≤ notes.old.queues }
     ensures ends { (lane : ℕ) → AreAllNext node lane store.old.region wires.now lanes.old.items (all_sides parties.old) → WiresEnd (all_sides parties.old) wires.now node lane notes.old notes.new store.old store.new }
+    ensures few { length store.new.numbers ≤ length store.old.numbers + rooms_in lanes.old.items }
     ensures lanes { lanes.new.items ≡ [] }
     ensures rooms { rooms.new.items ≡ [] }
     ensures sides { all_sides parties.new ≡ without_all wires.now (all_sides parties.old) }

@@ -77,7 +77,7 @@ fn end_nodes<R: Wait>(
     }
 }
 
-/// Ends the queues of a node: its pool, then its lanes, then its inbox.
+/// Ends the queues of a node: its lanes, then its inbox, then its pool.
 fn end_node<R: Wait>(
     rt: &R,
     queues: NodeQueues,
@@ -104,9 +104,6 @@ fn end_node<R: Wait>(
         inbox: inbox_room,
         lanes: lane_rooms,
     } = rooms;
-    let (first, last) = store.store.end_pool(rt, pool, pool_pass);
-    store.first = first;
-    store.last = last;
     end_lanes(
         rt,
         lanes,
@@ -126,6 +123,9 @@ fn end_node<R: Wait>(
         notes,
         &mut store.store,
     );
+    let (first, last) = store.store.end_pool(rt, pool, pool_pass);
+    store.first = first;
+    store.last = last;
 }
 
 /// The first of these.

@@ -54,3 +54,10 @@ returns-in-Some-clause-ends t g c = λ number next.
     subst (λ (xs : List Wire). WiresEnd sides xs c.args.node number c.args.notes.now c.end_each.new.notes c.args.store.now c.end_each.new.store) (sym first)
     (more_wires sides w ws c.args.node number c.args.notes.now c.end_wire.new.notes c.end_each.new.notes c.args.store.now c.end_wire.new.store c.end_each.new.store ended
     (subst (λ (ss : List (List PlainSide)). WiresEnd ss ws c.args.node (number + 1) c.end_wire.new.notes c.end_each.new.notes c.end_wire.new.store c.end_each.new.store) c.end_wire.ensures.sides later))
+
+pub returns-in-Some-clause-few : goal.returns-in-Some-clause-few
+returns-in-Some-clause-few t g c =
+    let wide : rooms_in c.args.lanes.now.items ≡ rooms_in (c.next_lane-lane.result ∷ c.next_lane-lane.new.lanes.items) = ap rooms_in c.next_lane-lane.ensures in
+    let few = c.end_wire.ensures.few in
+    let later = c.end_each.ensures.few in
+    omega (arith, wide, few, later)
