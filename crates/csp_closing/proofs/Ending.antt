@@ -1,14 +1,15 @@
 -- The end of a lane, of the queues of a node, and of those of all nodes.
-use Rattle.std.proofs.Common.{◌≡◌, ◌≢◌, ◌+◌, ◌*◌, ◌<◌, ◌≤◌, ℕ, zero, suc, true, false, Option, None, Some, List, [], ◌∷◌, ◌++◌, length, map, refl, sym, ap, ◌∙◌, subst, arith, append_assoc, append-nil, length-append}
+use Rattle.std.proofs.Common.{◌≡◌, ◌≢◌, ◌+◌, ◌-◌, ◌*◌, ◌<◌, ◌≤◌, ℕ, zero, suc, true, false, Option, None, Some, List, [], ◌∷◌, ◌++◌, length, map, take, drop, get_or, refl, sym, ap, ◌∙◌, subst, arith, append_assoc, append-nil, length-append}
 use Rattle.std.specs.Prelude.{IsSomeAnd, slice_get, vec_capacity}
+use Rattle.std.specs.Global.{Vec}
 use Rattle.std.specs.List.{AllByRecursion, flat_map}
-use Rattle.std.proofs.lemmas.List.{map-append}
+use Rattle.std.proofs.lemmas.List.{map-append, take_rest}
 use Rattle.csp_arena.specs.Cells.{RegionName}
 use Rattle.csp_base.specs.declared.priority.Prio.{Prio}
 use Rattle.csp_base.specs.declared.priority.Prio.TheVariants.{Critical, High, Normal, Low}
 use Rattle.csp_closing.proofs.Sides.{all_before, ends_later}
 use Rattle.csp_closing.specs.Hands.{gathered, homes_at, without_home}
-use Rattle.csp_closing.specs.Nodes.{AreLeftIn, HasBack, HaveBack, IsLeftBy, IsLeftIn, NodeEnds, NodesEnd, all_queue_notes, left_numbers, queue_notes, queue_numbers}
+use Rattle.csp_closing.specs.Nodes.{AreLeftIn, CanAllEnd, CanEnd, HasBack, HaveBack, IsLeftBy, IsLeftIn, NodeEnds, NodesEnd, all_queue_notes, left_numbers, queue_notes, queue_numbers}
 use Rattle.csp_closing.specs.Wires.{AreLeftAmong, AreNext, IsFirstAt, IsLeftAmong, WireEnds, WiresEnd, wire_notes, with_notes, without_all, without_ends}
 use Rattle.csp_closing.specs.declared.passes.Passes.{Passes}
 use Rattle.csp_consistent.specs.Pools.{left_held}
@@ -18,6 +19,7 @@ use Rattle.csp_ending.specs.Ends.{InboxEnds, IsLeftAt, LaneEnds, PoolEnds, with_
 use Rattle.csp_ending.specs.Notes.{PlainNotes, left_note, held_note, with_queue}
 use Rattle.csp_ending.specs.Stores.{PlainStore, TakesBack}
 use Rattle.csp_ends.specs.Ends.{PlainHome, PlainNodeQueues, PlainSide}
+use Rattle.csp_fabric.specs.declared.fabric.NodeRooms.{NodeRooms}
 use Rattle.csp_fabric.specs.declared.fabric.NodeStore.{NodeStore}
 use Rattle.csp_flow.specs.Closed.{inbox_notes}
 use Rattle.csp_flow.specs.Remains.{PlainRemains, inbox_numbers}
@@ -207,3 +209,66 @@ more_nodes node q queues ws wires homes sides m n o s t stores after f g = recor
   noted = both_noted m n o (queue_notes node ws f.remains) (all_queue_notes (node + 1) wires g.all) f.noted g.noted;
   back = (f.back, g.back);
 }
+
+-- the first of several nodes, and the others
+pub record NodesSplit (node : ℕ) (queues : List PlainNodeQueues) (rooms : List NodeRooms) (wires : List (Vec Wire)) (stores : List NodeStore) (homes : List (Option PlainHome)) (sides : List (List PlainSide)) (q : PlainNodeQueues) (r : NodeRooms) (ws : List Wire) (s : NodeStore) : Type 0 where
+  pub first : CanEnd node q r ws s homes sides
+  pub rest : CanAllEnd (node + 1) queues rooms (map (λ (v : Vec Wire). v.items) (drop 1 wires)) stores (map (without_home node) homes) (without_all ws sides)
+  pub wires_are : map (λ (v : Vec Wire). v.items) wires ≡ ws ∷ map (λ (v : Vec Wire). v.items) (drop 1 wires)
+
+pub nodes_split : (node : ℕ) (queues : List PlainNodeQueues) (rooms : List NodeRooms) (wires : List (Vec Wire)) (stores : List NodeStore) (homes : List (Option PlainHome)) (sides : List (List PlainSide)) (q : PlainNodeQueues) (qs : List PlainNodeQueues)
+    (r : NodeRooms) (rs : List NodeRooms) (s : NodeStore) (later : List NodeStore) (x : Vec Wire) (ws : List Wire) → CanAllEnd node queues rooms (map (λ (v : Vec Wire). v.items) wires) stores homes sides → queues ≡ q ∷ qs → rooms ≡ r ∷ rs → stores ≡ s ∷ later
+    → x ≡ get_or wires 0 x → ws ≡ x.items → NodesSplit node qs rs wires later homes sides q r ws s
+nodes_split node queues rooms wires stores homes sides q qs r rs s later x ws can e f g read is = by wires can read where
+  by : (wires : List (Vec Wire)) → CanAllEnd node queues rooms (map (λ (v : Vec Wire). v.items) wires) stores homes sides → x ≡ get_or wires 0 x → NodesSplit node qs rs wires later homes sides q r ws s
+  by [] can read =
+      absurd (subst (λ (l : List NodeStore). CanAllEnd node (q ∷ qs) (r ∷ rs) [] l homes sides) g (subst (λ (l : List NodeRooms). CanAllEnd node (q ∷ qs) l [] stores homes sides) f (subst (λ (l : List PlainNodeQueues). CanAllEnd node l rooms [] stores homes sides) e can)))
+  by (y ∷ wires) can read =
+      let tail = map (λ (v : Vec Wire). v.items) wires in
+      let same : y.items ≡ ws = ap (λ (v : Vec Wire). v.items) (sym read) ∙ sym is in
+      let all : CanEnd node q r y.items s homes sides × CanAllEnd (node + 1) qs rs tail later (map (without_home node) homes) (without_all y.items sides) =
+          subst (λ (l : List NodeStore). CanAllEnd node (q ∷ qs) (r ∷ rs) (y.items ∷ tail) l homes sides) g
+          (subst (λ (l : List NodeRooms). CanAllEnd node (q ∷ qs) l (y.items ∷ tail) stores homes sides) f (subst (λ (l : List PlainNodeQueues). CanAllEnd node l rooms (y.items ∷ tail) stores homes sides) e can)) in
+      record {
+        first = subst (λ (l : List Wire). CanEnd node q r l s homes sides) same all.0;
+        rest = subst (λ (l : List Wire). CanAllEnd (node + 1) qs rs tail later (map (without_home node) homes) (without_all l sides)) same all.1;
+        wires_are = ap (λ (l : List Wire). l ∷ tail) same;
+      }
+
+pub nodes_joined : (node : ℕ) (queues : List PlainNodeQueues) (wires : List (List Wire)) (stores : List NodeStore) (homes laters : List (Option PlainHome)) (sides rest : List (List PlainSide)) (q : PlainNodeQueues) (qs : List PlainNodeQueues) (ws : List Wire) (more : List (List Wire))
+    (m n o : PlainNotes) (s t : NodeStore) (later after : List NodeStore) → queues ≡ q ∷ qs → wires ≡ ws ∷ more → stores ≡ s ∷ later → laters ≡ map (without_home node) homes → rest ≡ without_all ws sides → NodeEnds node q.inbox.room ws homes sides m n s t
+    → NodesEnd (node + 1) qs more laters rest n o later after → NodesEnd node queues wires homes sides m o stores (t ∷ after)
+nodes_joined node queues wires stores homes laters sides rest q qs ws more m n o s t later after e f g left gone one others =
+    let those = subst (λ (ss : List (List PlainSide)). NodesEnd (node + 1) qs more (map (without_home node) homes) ss n o later after) gone (subst (λ (hs : List (Option PlainHome)). NodesEnd (node + 1) qs more hs rest n o later after) left others) in
+    let whole = more_nodes node q qs ws more homes sides m n o s t later after one those in
+    subst (λ (l : List NodeStore). NodesEnd node queues wires homes sides m o l (t ∷ after)) (sym g)
+    (subst (λ (l : List (List Wire)). NodesEnd node queues l homes sides m o (s ∷ later) (t ∷ after)) (sym f) (subst (λ (l : List PlainNodeQueues). NodesEnd node l (ws ∷ more) homes sides m o (s ∷ later) (t ∷ after)) (sym e) whole))
+
+-- where no node is left nothing is
+pub none_left : (node : ℕ) (queues : List PlainNodeQueues) (rooms : List NodeRooms) (wires : List (List Wire)) (stores : List NodeStore) (homes : List (Option PlainHome)) (sides : List (List PlainSide)) → CanAllEnd node queues rooms wires stores homes sides → length stores ≡ 0
+    → (queues ≡ []) × (rooms ≡ []) × (wires ≡ []) × (stores ≡ [])
+none_left node [] [] [] [] homes sides can e = (refl, refl, refl, refl)
+none_left node queues rooms wires (s ∷ stores) homes sides can e = absurd (omega (arith, e))
+none_left node (q ∷ queues) [] wires [] homes sides can e = absurd can
+none_left node (q ∷ queues) (r ∷ rooms) [] [] homes sides can e = absurd can
+none_left node (q ∷ queues) (r ∷ rooms) (ws ∷ wires) [] homes sides can e = absurd can
+none_left node [] (r ∷ rooms) wires [] homes sides can e = absurd can
+none_left node [] [] (ws ∷ wires) [] homes sides can e = absurd can
+
+pub nodes_none : (node : ℕ) (queues : List PlainNodeQueues) (wires : List (List Wire)) (stores : List NodeStore) (homes : List (Option PlainHome)) (sides : List (List PlainSide)) (m : PlainNotes) → queues ≡ [] → wires ≡ [] → stores ≡ []
+    → NodesEnd node queues wires homes sides m m stores stores
+nodes_none node queues wires stores homes sides m e f g =
+    subst (λ (l : List NodeStore). NodesEnd node queues wires homes sides m m l l) (sym g)
+    (subst (λ (l : List (List Wire)). NodesEnd node queues l homes sides m m [] []) (sym f) (subst (λ (l : List PlainNodeQueues). NodesEnd node l [] homes sides m m [] []) (sym e) (no_nodes node homes sides m m refl)))
+
+-- those of the others can end
+pub rest_can : (node : ℕ) (qs : List PlainNodeQueues) (rs : List NodeRooms) (wires : List (Vec Wire)) (later : List NodeStore) (homes laters : List (Option PlainHome)) (sides rest : List (List PlainSide)) (q : PlainNodeQueues) (r : NodeRooms) (ws : List Wire) (s : NodeStore)
+    → NodesSplit node qs rs wires later homes sides q r ws s → laters ≡ map (without_home node) homes → rest ≡ without_all ws sides
+    → CanAllEnd (node + 1) qs rs (map (λ (v : Vec Wire). v.items) (take (length wires - 1) (drop 1 wires))) later laters rest
+rest_can node qs rs wires later homes laters sides rest q r ws s cut left gone =
+    subst (λ (l : List (Vec Wire)). CanAllEnd (node + 1) qs rs (map (λ (v : Vec Wire). v.items) l) later laters rest) (sym (take_rest wires 1))
+    (subst (λ (hs : List (Option PlainHome)). CanAllEnd (node + 1) qs rs (map (λ (v : Vec Wire). v.items) (drop 1 wires)) later hs rest) (sym left)
+    (subst (λ (ss : List (List PlainSide)). CanAllEnd (node + 1) qs rs (map (λ (v : Vec Wire). v.items) (drop 1 wires)) later (map (without_home node) homes) ss) (sym gone) cut.rest))
+
+pub rest_wires : (wires : List (Vec Wire)) → map (λ (v : Vec Wire). v.items) (take (length wires - 1) (drop 1 wires)) ≡ map (λ (v : Vec Wire). v.items) (drop 1 wires)
+rest_wires wires = ap (map (λ (v : Vec Wire). v.items)) (take_rest wires 1)
