@@ -12,8 +12,11 @@ use crate::queues::end_queues;
 use crate::retiring::{are_finished, retire};
 use crate::times::rounds_of;
 use csp_fabric::Fabric;
+use csp_flow::returns_all;
+use csp_lists::weighs;
 use csp_posts::Post;
 use csp_record::Record;
+use csp_topology::{joins_parties, leads_with_hubs, names_parties_apart, stays_home};
 use std::sync::Wait;
 
 /// Ends the run of a network with all its posts: what was left in each queue and what each place held is noted, every buffer is
@@ -22,6 +25,12 @@ pub fn close_fabric<R: Wait>(rt: &R, fabric: Fabric, posts: Vec<Post>) -> Record
     requires { (scene : PlainScene) × IsScene scene × AreLinksAfter (length scene.nodes) [] scene.links × IsFabricOf scene fabric posts.items }
     ensures { (scene : PlainScene) → IsScene scene → AreLinksAfter (length scene.nodes) [] scene.links → IsFabricOf scene fabric posts.items → IsClosed scene (map (λ s. s.plain) posts.items) result }
 {
+    joins_parties();
+    leads_with_hubs();
+    names_parties_apart();
+    returns_all();
+    stays_home();
+    weighs();
     let finished = are_finished(&posts);
     let Fabric {
         queues,
