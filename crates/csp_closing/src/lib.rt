@@ -2,5 +2,12 @@
 #![tactic(auto)]
 
 mod closing;
+mod hands;
+mod lanes;
+mod parties;
+mod passes;
+mod queues;
+mod retiring;
+mod times;
 
 pub use closing::close_fabric;

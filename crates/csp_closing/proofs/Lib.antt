@@ -1,0 +1,16 @@
+pub mod Closed
+pub mod Ended
+pub mod Ending
+pub mod Fabric
+pub mod Gathering
+pub mod Handing
+pub mod Leading
+pub mod Lists
+pub mod Members
+pub mod Nodes
+pub mod Noted
+pub mod Parting
+pub mod Piles
+pub mod Remains
+pub mod Sides
+pub mod Timing
