@@ -1,5 +1,5 @@
 -- What the record of a network that has been run says of its logs.
-use Rattle.std.proofs.Common.{◌≡◌, ◌⊎◌, inl, inr, ℕ, ◌-◌, ◌<◌, ◌≤◌, false, List, length, map, sum_by, sym, ap, ◌∙◌, subst}
+use Rattle.std.proofs.Common.{◌≡◌, inl, inr, ℕ, ◌-◌, ◌<◌, ◌≤◌, List, length, sum_by, sym, ap, ◌∙◌, subst}
 use Rattle.csp_consistent.specs.Rounds.{HaveMadeRounds, early}
 use Rattle.csp_fabric.specs.declared.fabric.Fabric.{Fabric}
 use Rattle.csp_flow.specs.Closed.{IsClosed, log_of}
@@ -7,7 +7,6 @@ use Rattle.csp_node.proofs.Entries.{sum_mapped}
 use Rattle.csp_node.proofs.Rounds.{finished_done, rounds_made}
 use Rattle.csp_node.specs.Rounds.{HasRun, entries_early, entries_of, plains}
 use Rattle.csp_node.specs.Runs.{HasStopped, entries_before, entries_in}
-use Rattle.csp_posts.specs.Posts.{PlainPost}
 use Rattle.csp_posts.specs.Seen.{SeenPost}
 use Rattle.csp_prompt.specs.Played.{are_done, logs_of}
 use Rattle.csp_record.specs.Record.{PlainPartyLog, PlainRecord}
