@@ -1,9 +1,10 @@
 -- The end of a network's run.
-use Rattle.std.proofs.Common.{◌≡◌, ◌≢◌, ◌+◌, ◌<◌, ◌≤◌, ℕ, zero, suc, Bool, true, false, Option, None, Some, List, [], ◌∷◌, ◌++◌, All, not, ◌&&◌, length, map, get_or, refl, sym, ap, ◌∙◌, subst, arith, append_assoc, append-nil}
+use Rattle.std.proofs.Common.{◌≡◌, ◌≢◌, ◌+◌, ◌<◌, ◌≤◌, ℕ, zero, suc, Bool, true, false, Option, None, Some, List, [], ◌∷◌, ◌++◌, All, not, ◌&&◌, length, map, take, drop, get_or, refl, sym, ap, ◌∙◌, subst, arith, append_assoc, append-nil}
 use Rattle.std.specs.Prelude.{slice_get, vec_capacity}
-use Rattle.std.specs.List.{AllByRecursion, flat_map, list_all, range_with_len}
+use Rattle.std.specs.Global.{Vec}
+use Rattle.std.specs.List.{AllByRecursion, flat_map, list_all}
 use Rattle.std.specs.Option.{option_map, option_to_list}
-use Rattle.std.proofs.lemmas.List.{length-map, map-append}
+use Rattle.std.proofs.lemmas.List.{drop_all, length-map, take_all}
 use Rattle.std.proofs.lemmas.Option.{slice_get-get_or}
 use Rattle.csp_closing.proofs.Ended.{IsEnded, IsPileOf, LongSame, ReturnsAll, can_end_all, ended_at, homes_same, piles_of, pools_are, posts_same, sides_same}
 use Rattle.csp_closing.proofs.Fabric.{StaysAll, all_remains, can_all_end, queues_noted, stores_long, wired_all, nodes_long, whos_of}
@@ -181,3 +182,24 @@ closed laws scene f posts rs run m n o after ends piles r back parties pools log
       finished = finished ∙ finished_same posts ∙ ap are_finished (sym e);
     } in
     subst (λ (l : List PlainPost). IsClosed scene l r) e (record { all = ends.all; remains = left_all laws scene f posts rs run m after ends; told = told })
+
+-- a list that was lent, once it came back
+pub lent : {X : Type 0} (len : ℕ) (new old : List X) → len ≡ length old → length new ≡ length old → take len (new ++ drop (length new) old) ≡ new
+lent len new old e f =
+    let all : drop (length new) old ≡ [] = drop_all (length new) old (omega (arith, f)) in
+    ap (λ xs. take len (new ++ xs)) all ∙ ap (take len) (append-nil new) ∙ take_all len new (omega (arith, e, f))
+
+-- the end of the queues, where the lists were lent
+pub ends_as : (f : Fabric) (rs parties : List Retired) (wires : List (Vec Wire)) (stores : List NodeStore) (m : PlainNotes) (after : List NodeStore) → wires ≡ f.wires.items → parties ≡ rs → stores ≡ f.stores.items
+    → NodesEnd 0 f.queues (map (λ (v : Vec Wire). v.items) wires) (all_homes parties) (all_sides parties) f.notes m stores after → NodesEnd 0 f.queues (wires_in f) (all_homes rs) (all_sides rs) f.notes m f.stores.items after
+ends_as f rs parties wires stores m after e g h ends =
+    subst (λ (l : List NodeStore). NodesEnd 0 f.queues (wires_in f) (all_homes rs) (all_sides rs) f.notes m l after) h
+    (subst (λ (l : List Retired). NodesEnd 0 f.queues (wires_in f) (all_homes l) (all_sides l) f.notes m stores after) g
+    (subst (λ (l : List (Vec Wire)). NodesEnd 0 f.queues (map (λ (v : Vec Wire). v.items) l) (all_homes parties) (all_sides parties) f.notes m stores after) e ends))
+
+pub can_as : (f : Fabric) (rs parties : List Retired) (wires : List (Vec Wire)) (stores : List NodeStore) → wires ≡ f.wires.items → parties ≡ rs → stores ≡ f.stores.items → CanAllEnd 0 f.queues f.rooms.items (wires_in f) f.stores.items (all_homes rs) (all_sides rs)
+    → CanAllEnd 0 f.queues f.rooms.items (map (λ (v : Vec Wire). v.items) wires) stores (all_homes parties) (all_sides parties)
+can_as f rs parties wires stores e g h can =
+    subst (λ (l : List NodeStore). CanAllEnd 0 f.queues f.rooms.items (map (λ (v : Vec Wire). v.items) wires) l (all_homes parties) (all_sides parties)) (sym h)
+    (subst (λ (l : List Retired). CanAllEnd 0 f.queues f.rooms.items (map (λ (v : Vec Wire). v.items) wires) f.stores.items (all_homes l) (all_sides l)) (sym g)
+    (subst (λ (l : List (Vec Wire)). CanAllEnd 0 f.queues f.rooms.items (map (λ (v : Vec Wire). v.items) l) f.stores.items (all_homes rs) (all_sides rs)) (sym e) can))
