@@ -8,7 +8,7 @@ ghost use Rattle.csp_deck.specs.Step.{item_numbers};
 ghost use Rattle.csp_ending.specs.Ends.{InboxEnds, with_inbox};
 ghost use Rattle.csp_ending.specs.Slates.{HaveRoom, slate_of, of_priority, is_of};
 ghost use Rattle.csp_ending.specs.Stores.{TakesBack, HasRoom};
-ghost use Rattle.csp_inbox.specs.Passes.{IsPassOf, AllIn};
+ghost use Rattle.csp_inbox.specs.Passes.{IsPassOf, AllIn, mail_at};
 ghost use Rattle.csp_lists.specs.PlainDeck.{numbers_of};
 ghost use Rattle.csp_log.specs.Pictures.{shown_item};
 
@@ -90,6 +90,22 @@ impl InboxRoom {
             slates: _,
             room: _,
         } = self;
+        items.destroy_empty();
+    }
+
+    /// Closes an inbox into which nothing was put, with its opening pass, and notes nothing.
+    pub fn close<R: Wait>(self, rt: &R, inbox: Inbox, pass: InboxPass)
+        requires of_it { IsPassOf inbox pass }
+        requires all_in { AllIn pass }
+        requires room { inbox.room ≤ self }
+        requires unused { (p : Prio) → (mail_at pass p).kept ≡ [] }
+    {
+        let InboxRoom {
+            mut items,
+            slates: _,
+            room: _,
+        } = self;
+        inbox.close(rt, pass, &mut items);
         items.destroy_empty();
     }
 }

@@ -1,6 +1,6 @@
 //! The end of a lane.
 
-ghost use Rattle.std.specs.Prelude.{◌≡◌, ◌<◌, ◌≤◌, ◌++◌, All, IfOk, length, map};
+ghost use Rattle.std.specs.Prelude.{◌≡◌, ◌<◌, ◌≤◌, ◌++◌, [], All, IfOk, length, map};
 ghost use Rattle.csp_deck.specs.Regions.{IsItemOf};
 ghost use Rattle.csp_ending.specs.Ends.{LaneEnds};
 ghost use Rattle.csp_ending.specs.Stores.{TakesBack, HasRoom};
@@ -56,6 +56,21 @@ impl LaneRoom {
             slate: _,
             room: _,
         } = self;
+        items.destroy_empty();
+    }
+
+    /// Closes a lane through which nothing went, and notes nothing.
+    pub fn close<R: Wait>(self, rt: &R, lane: Lane, producer: Producer, consumer: Consumer)
+        requires of_it { IsEndOf lane producer × IsEndOf lane consumer }
+        requires room { lane.room ≤ self }
+        requires unused { producer.items ≡ [] }
+    {
+        let LaneRoom {
+            mut items,
+            slate: _,
+            room: _,
+        } = self;
+        lane.close(rt, producer, consumer, &mut items);
         items.destroy_empty();
     }
 }

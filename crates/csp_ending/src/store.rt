@@ -105,6 +105,15 @@ impl Store {
         memory.close(back);
     }
 
+    /// Gives the memory back, with each of its buffers once, and notes nothing.
+    pub fn leave(self)
+        requires { IsWhole self }
+    {
+        weighs();
+        let Store { memory, back } = self;
+        memory.close(back);
+    }
+
     /// Gives the memory back with all its buffers, which are these.
     pub fn close(self, buffers: Vec<Buffer>)
         requires none { self.numbers ≡ [] }

@@ -7,9 +7,18 @@ ghost use Rattle.csp_posts.specs.Books.{IsFresh};
 ghost use Rattle.csp_scene.specs.Kept.{AreLinksAfter};
 ghost use Rattle.csp_scene.specs.Ranges.{IsScene};
 
+use crate::homes::{lead_homes, part_passes};
+use crate::lists::{Blanks, Lists};
+use crate::nodes::{Node, leave_nodes, open_nodes};
+use crate::parting::Parts;
+use crate::posts::post_all;
+use crate::seats::{Seat, open_seats};
+use crate::sides::hand_out;
+use csp_ends::Queues;
 use csp_fabric::Fabric;
 use csp_posts::Post;
-use csp_scene::Scene;
+use csp_scene::{Scene, SceneNode};
+use csp_topology::{Opening, Topology, Wire};
 use std::alloc::{AllocError, Global};
 use std::sync::Wait;
 
@@ -29,5 +38,101 @@ pub fn open_fabric<R: Wait>(
     ensures new { IfOk result (λ r. AllByRecursion (λ s. s.plain.entries ≡ []) r.1.items) }
     ensures fresh { IfOk result (λ r. AllByRecursion (λ s. IfSome s.plain.ends.home IsFresh) r.1.items) }
 {
-    unreachable!()
+    let topology = Topology::of(alloc, scene)?;
+    let wires = topology.wires(alloc, scene)?;
+    let blanks = Blanks::open(alloc, topology.parties.len() as u16, &wires)?;
+    let (lists, nodes, seats) = open_all(rt, alloc, &scene.nodes, &wires, topology.parties)?;
+    Ok(assemble(alloc, wires, blanks, lists, nodes, seats))
+}
+
+/// Opens the nodes of a scene with the lanes of these wires, and these parties.
+fn open_all<R: Wait>(
+    rt: &R,
+    alloc: Global,
+    nodes: &[SceneNode],
+    wires: &[Vec<Wire>],
+    parties: Vec<Opening>,
+) -> Result<(Lists, Vec<Node>, Vec<Seat>), AllocError> {
+    let lists = Lists::open(alloc, parties.len(), nodes.len())?;
+    match open_members(rt, alloc, nodes, wires, parties) {
+        Ok((nodes, seats)) => Ok((lists, nodes, seats)),
+        Err(error) => {
+            lists.leave();
+            Err(error)
+        }
+    }
+}
+
+/// Opens the nodes of a scene, and then these parties.
+fn open_members<R: Wait>(
+    rt: &R,
+    alloc: Global,
+    nodes: &[SceneNode],
+    wires: &[Vec<Wire>],
+    parties: Vec<Opening>,
+) -> Result<(Vec<Node>, Vec<Seat>), AllocError> {
+    let nodes = open_nodes(rt, alloc, nodes, wires)?;
+    match open_seats(alloc, parties, &nodes) {
+        Ok(seats) => Ok((nodes, seats)),
+        Err(error) => {
+            leave_nodes(rt, nodes);
+            Err(error)
+        }
+    }
+}
+
+/// Hands out what the parties have in hand. It takes no memory.
+fn assemble(
+    alloc: Global,
+    wires: Vec<Vec<Wire>>,
+    blanks: Blanks,
+    lists: Lists,
+    nodes: Vec<Node>,
+    seats: Vec<Seat>,
+) -> (Fabric, Vec<Post>) {
+    let Blanks {
+        mut sides,
+        mut homes,
+        leads,
+        ends,
+        notes,
+        logs,
+    } = blanks;
+    let Lists {
+        mut posts,
+        retired,
+        queues,
+        stores,
+        rooms,
+    } = lists;
+    let mut parts = Parts {
+        queues,
+        stores,
+        rooms,
+        leads,
+        ends,
+    };
+    parts.add_all(nodes);
+    let Parts {
+        queues,
+        stores,
+        rooms,
+        mut leads,
+        ends,
+    } = parts;
+    let queues = Queues { nodes: queues };
+    hand_out(ends, &mut sides);
+    part_passes(&queues, &seats, &mut leads, &mut homes);
+    lead_homes(&seats, leads, &mut homes);
+    post_all(alloc, seats, homes, sides, &mut posts);
+    let fabric = Fabric {
+        queues,
+        stores,
+        rooms,
+        wires,
+        notes,
+        logs,
+        retired,
+    };
+    (fabric, posts)
 }
