@@ -1,5 +1,8 @@
 //! The memory of a node and its pool.
 
+ghost use Rattle.std.specs.Prelude.{◌≡◌, ◌<◌, ◌≤◌, IfOk};
+ghost use Rattle.csp_opening.specs.Opened.{IsBase};
+
 use csp_ending::Store;
 use csp_pool::{Pool, PoolPass};
 use std::alloc::{AllocError, Global};
@@ -22,7 +25,13 @@ impl Base {
         alloc: Global,
         count: u16,
         room: usize,
-    ) -> Result<Base, AllocError> {
+    ) -> Result<Base, AllocError>
+        requires some { 0 < count }
+        requires room { count ≤ room }
+        ensures whole { IfOk result IsBase }
+        ensures count { IfOk result (λ b. b.store.count ≡ count) }
+        ensures room { IfOk result (λ b. room ≤ b.store.room) }
+    {
         let (store, buffers) = Store::open(alloc, count, room)?;
         match Pool::open(rt, alloc, store.token(), buffers) {
             Ok((pool, pass)) => Ok(Base { store, pool, pass }),
@@ -34,7 +43,9 @@ impl Base {
     }
 
     /// Closes both.
-    pub(crate) fn leave<R: Wait>(self, rt: &R) {
+    pub(crate) fn leave<R: Wait>(self, rt: &R)
+        requires { IsBase self }
+    {
         let Base {
             mut store,
             pool,

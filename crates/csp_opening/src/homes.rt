@@ -1,5 +1,10 @@
 //! The passes of the pools and the inboxes, and who has them.
 
+ghost use Rattle.std.specs.Prelude.{◌≡◌, ◌+◌, ◌≤◌, ◌++◌, length, map, vec_len, vec_capacity};
+ghost use Rattle.std.specs.List.{AllByRecursion};
+ghost use Rattle.csp_inbox.specs.Passes.{IsFree};
+ghost use Rattle.csp_opening.specs.Parted.{AreLeadsOf, CanPart, CanPartAll, IsLeadOf, IsOpening, after_app, after_iface, app_home, home_with, iface_home, lead_home, leads_past, part_home, part_homes, part_left, parts_left};
+
 use crate::seats::Seat;
 use csp_deck::UNMARKED;
 use csp_ends::{Home, InboxEnd, NodeQueues, Queues};
@@ -19,7 +24,10 @@ pub(crate) struct Lead {
 
 impl Lead {
     /// The home of the router or bridge of the node at this place.
-    fn home(self, node: u8) -> Home {
+    fn home(self, node: u8) -> Home
+        requires { IsOpening self }
+        ensures { result ≡ lead_home node self }
+    {
         let Lead { pool, inbox } = self;
         Home {
             node,
@@ -33,7 +41,12 @@ impl Lead {
     }
 
     /// That of an interface.
-    fn iface(&mut self, queues: &NodeQueues, node: u8, number: u8) -> Home {
+    fn iface(&mut self, queues: &NodeQueues, node: u8, number: u8) -> Home
+        requires of_it { IsLeadOf queues.now self.old }
+        requires free { IsFree self.old.inbox number }
+        ensures home { result ≡ iface_home node number self.old }
+        ensures left { self.new ≡ after_iface number self.old }
+    {
         Home {
             node,
             pool: queues.pool.split(&mut self.pool),
@@ -46,7 +59,11 @@ impl Lead {
     }
 
     /// That of an application.
-    fn app(&mut self, queues: &NodeQueues, node: u8) -> Home {
+    fn app(&mut self, queues: &NodeQueues, node: u8) -> Home
+        requires of_it { IsLeadOf queues.now self.old }
+        ensures home { result ≡ app_home node self.old }
+        ensures left { self.new ≡ after_app self.old }
+    {
         Home {
             node,
             pool: queues.pool.split(&mut self.pool),
@@ -61,14 +78,26 @@ pub(crate) fn part_passes(
     seats: &[Seat],
     leads: &mut Vec<Lead>,
     homes: &mut Vec<Option<Home>>,
-) {
+)
+    requires of_it { AreLeadsOf queues.now leads.old.items }
+    requires can { CanPartAll leads.old.items (map (λ s. s.who) seats.now) }
+    requires room { vec_len homes.old + length seats.now ≤ vec_capacity homes.old }
+    ensures homes { homes.new.items ≡ homes.old.items ++ part_homes leads.old.items (map (λ s. s.who) seats.now) }
+    ensures leads { leads.new.items ≡ parts_left leads.old.items (map (λ s. s.who) seats.now) }
+{
     for seat in seats {
         homes.push_reserved(part_pass(queues, seat.who, leads));
     }
 }
 
 /// Splits off those of one party. A link has none.
-fn part_pass(queues: &Queues, who: Who, leads: &mut Vec<Lead>) -> Option<Home> {
+fn part_pass(queues: &Queues, who: Who, leads: &mut Vec<Lead>) -> Option<Home>
+    requires of_it { AreLeadsOf queues.now leads.old.items }
+    requires can { CanPart leads.old.items who }
+    ensures home { result ≡ part_home leads.old.items who }
+    ensures leads { leads.new.items ≡ part_left leads.old.items who }
+    ensures of_it { AreLeadsOf queues.now leads.new.items }
+{
     match who {
         Who::Iface(node, number) => {
             let place = usize::from(node);
@@ -82,23 +111,17 @@ fn part_pass(queues: &Queues, who: Who, leads: &mut Vec<Lead>) -> Option<Home> {
     }
 }
 
-/// Puts the passes that are left in the hands of routers and bridges, in their order.
-pub(crate) fn lead_homes(seats: &[Seat], leads: Vec<Lead>, homes: &mut Vec<Option<Home>>) {
-    let mut leads = VecDeque::from_vec(leads);
-    for (place, seat) in seats.iter().enumerate() {
-        if let Some(home) = lead_home(seat.who, &mut leads) {
-            homes[place] = Some(home);
-        }
-    }
-}
-
-/// The home of a router or a bridge, with the passes that come next. `None` for any other party.
-fn lead_home(who: Who, leads: &mut VecDeque<Lead>) -> Option<Home> {
+/// The home of a party: of a router or a bridge the passes that come next, of any other what was split off for it.
+pub(crate) fn home_of(who: Who, leads: &mut VecDeque<Lead>, parted: Option<Home>) -> Option<Home>
+    requires { AllByRecursion IsOpening leads.old.items }
+    ensures home { result ≡ home_with leads.old.items who parted }
+    ensures leads { leads.new.items ≡ leads_past leads.old.items who }
+{
     match who {
         Who::Router(node) | Who::Bridge(node) => match leads.pop_front() {
             Some(lead) => Some(lead.home(node)),
             None => None,
         },
-        Who::Iface(_, _) | Who::App(_, _) | Who::Link(_) => None,
+        Who::Iface(_, _) | Who::App(_, _) | Who::Link(_) => parted,
     }
 }

@@ -1,5 +1,10 @@
 //! The lanes of a node.
 
+ghost use Rattle.std.specs.Prelude.{◌≡◌, ◌+◌, ◌<◌, ◌≤◌, ◌++◌, ◌∷◌, [], length, IfOk, OnErr, OnOk, vec_len, vec_capacity};
+ghost use Rattle.std.specs.List.{AllByRecursion};
+ghost use Rattle.csp_lane.specs.Ends.{PlainLane};
+ghost use Rattle.csp_opening.specs.Opened.{AreLanes, AreUnused, pair_of};
+
 use crate::next::next;
 use csp_arena::RegionToken;
 use csp_ending::LaneRoom;
@@ -38,7 +43,10 @@ impl Lanes {
         alloc: Global,
         region: &RegionToken,
         wires: &[Wire],
-    ) -> Result<Lanes, AllocError> {
+    ) -> Result<Lanes, AllocError>
+        requires { AllByRecursion (λ w. 0 < w.room) wires.now }
+        ensures { IfOk result (AreLanes region.now.name wires.now) }
+    {
         let mut lanes = Lanes::blank(alloc, wires.len())?;
         for wire in wires {
             if let Err(error) = lanes.add(alloc, region, wire) {
@@ -50,7 +58,12 @@ impl Lanes {
     }
 
     /// No lane yet, and room for so many.
-    fn blank(alloc: Global, count: usize) -> Result<Lanes, AllocError> {
+    fn blank(alloc: Global, count: usize) -> Result<Lanes, AllocError>
+        ensures none { IfOk result (λ l. (l.lanes.items ≡ []) × (l.rooms.items ≡ []) × (l.ends.items ≡ [])) }
+        ensures lanes_room { IfOk result (λ l. count ≤ vec_capacity l.lanes) }
+        ensures rooms_room { IfOk result (λ l. count ≤ vec_capacity l.rooms) }
+        ensures ends_room { IfOk result (λ l. count ≤ vec_capacity l.ends) }
+    {
         let ends = Vec::with_capacity(alloc, count)?;
         let lanes = Vec::with_capacity(alloc, count)?;
         match Vec::with_capacity(alloc, count) {
@@ -63,7 +76,17 @@ impl Lanes {
     }
 
     /// Adds the lane of a wire.
-    fn add(&mut self, alloc: Global, region: &RegionToken, wire: &Wire) -> Result<(), AllocError> {
+    fn add(&mut self, alloc: Global, region: &RegionToken, wire: &Wire) -> Result<(), AllocError>
+        requires wire { 0 < wire.now.room }
+        requires lanes_room { vec_len self.old.lanes < vec_capacity self.old.lanes }
+        requires rooms_room { vec_len self.old.rooms < vec_capacity self.old.rooms }
+        requires ends_room { vec_len self.old.ends < vec_capacity self.old.ends }
+        ensures added { OnOk result ((lane : PlainLane) × (lane.room ≡ wire.now.room) × (self.new.lanes.items ≡ self.old.lanes.items ++ lane ∷ []) × (self.new.rooms.items ≡ self.old.rooms.items ++ wire.now.room ∷ []) × (self.new.ends.items ≡ self.old.ends.items ++ pair_of region.now.name wire.now lane ∷ [])) }
+        ensures refused { OnErr result (self.new ≡ self.old) }
+        ensures lanes_capacity { vec_capacity self.new.lanes ≡ vec_capacity self.old.lanes }
+        ensures rooms_capacity { vec_capacity self.new.rooms ≡ vec_capacity self.old.rooms }
+        ensures ends_capacity { vec_capacity self.new.ends ≡ vec_capacity self.old.ends }
+    {
         let room = LaneRoom::open(alloc, usize::from(wire.room))?;
         match Lane::open(alloc, region, wire.room, wire.carries) {
             Ok((lane, producer, consumer)) => {
@@ -84,7 +107,9 @@ impl Lanes {
     }
 
     /// Closes them.
-    pub(crate) fn leave<R: Wait>(self, rt: &R) {
+    pub(crate) fn leave<R: Wait>(self, rt: &R)
+        requires { AreUnused self.lanes.items self.rooms.items self.ends.items }
+    {
         let Lanes { lanes, rooms, ends } = self;
         let mut rooms = VecDeque::from_vec(rooms);
         let mut ends = VecDeque::from_vec(ends);

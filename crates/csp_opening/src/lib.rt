@@ -2,6 +2,7 @@
 #![tactic(auto)]
 
 mod bases;
+mod hands;
 mod homes;
 mod lanes;
 mod lists;

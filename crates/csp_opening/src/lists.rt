@@ -1,5 +1,9 @@
 //! Room for the lists that a fabric is made of.
 
+ghost use Rattle.std.specs.Prelude.{◌≡◌, ◌<◌, [], length, IfOk};
+ghost use Rattle.std.specs.List.{AllByRecursion};
+ghost use Rattle.csp_opening.specs.Whole.{AreBlanks, AreLists, queue_count};
+
 use crate::homes::Lead;
 use crate::lanes::Pair;
 use crate::sides::blank_sides;
@@ -37,7 +41,11 @@ impl Blanks {
         alloc: Global,
         parties: u16,
         wires: &[Vec<Wire>],
-    ) -> Result<Blanks, AllocError> {
+    ) -> Result<Blanks, AllocError>
+        requires nodes { length wires.now < 256 }
+        requires few { AllByRecursion (λ ws. length ws.items < 256) wires.now }
+        ensures { IfOk result (AreBlanks parties (length wires.now) wires.now) }
+    {
         let count = usize::from(parties);
         let nodes = wires.len();
         Ok(Blanks {
@@ -52,7 +60,11 @@ impl Blanks {
 }
 
 /// How many queues a record speaks of, where nodes have the lanes of these wires.
-fn queues_in(wires: &[Vec<Wire>]) -> usize {
+fn queues_in(wires: &[Vec<Wire>]) -> usize
+    requires nodes { length wires.now < 256 }
+    requires few { AllByRecursion (λ ws. length ws.items < 256) wires.now }
+    ensures { result ≡ queue_count wires.now }
+{
     let mut count = 0;
     for here in wires {
         count += here.len() + INBOX_QUEUES;
@@ -76,7 +88,9 @@ pub(crate) struct Lists {
 
 impl Lists {
     /// The lists for so many parties and nodes.
-    pub(crate) fn open(alloc: Global, parties: usize, nodes: usize) -> Result<Lists, AllocError> {
+    pub(crate) fn open(alloc: Global, parties: usize, nodes: usize) -> Result<Lists, AllocError>
+        ensures { IfOk result (AreLists parties nodes) }
+    {
         let posts = Vec::with_capacity(alloc, parties);
         let retired = Vec::with_capacity(alloc, parties);
         let queues = Vec::with_capacity(alloc, nodes);
@@ -102,7 +116,13 @@ impl Lists {
     }
 
     /// Lets them go.
-    pub(crate) fn leave(self) {
+    pub(crate) fn leave(self)
+        requires posts { self.posts.items ≡ [] }
+        requires retired { self.retired.items ≡ [] }
+        requires queues { self.queues.items ≡ [] }
+        requires stores { self.stores.items ≡ [] }
+        requires rooms { self.rooms.items ≡ [] }
+    {
         let Lists {
             posts,
             retired,
@@ -119,7 +139,9 @@ impl Lists {
 }
 
 /// Lets an empty list go, where there is one.
-fn leave<T>(list: Result<Vec<T>, AllocError>) {
+fn leave<T>(list: Result<Vec<T>, AllocError>)
+    requires { IfOk list (λ l. l.items ≡ []) }
+{
     if let Ok(list) = list {
         list.destroy_empty();
     }

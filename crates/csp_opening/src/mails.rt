@@ -1,5 +1,9 @@
 //! The inbox of a node.
 
+ghost use Rattle.std.specs.Prelude.{◌≡◌, ◌<◌, IfOk};
+ghost use Rattle.csp_inbox.specs.Passes.{opening_pass};
+ghost use Rattle.csp_opening.specs.Opened.{IsMail};
+
 use csp_arena::RegionToken;
 use csp_ending::InboxRoom;
 use csp_inbox::{Inbox, InboxPass};
@@ -22,7 +26,12 @@ impl Mail {
         alloc: Global,
         region: &RegionToken,
         count: u16,
-    ) -> Result<Mail, AllocError> {
+    ) -> Result<Mail, AllocError>
+        requires { 0 < count }
+        ensures inbox { IfOk result (λ m. m.inbox.room ≡ count) }
+        ensures pass { IfOk result (λ m. m.pass ≡ opening_pass m.inbox region.now.name) }
+        ensures room { IfOk result (λ m. m.room ≡ count) }
+    {
         let room = InboxRoom::open(alloc, count)?;
         match Inbox::open(alloc, region, count) {
             Ok((inbox, pass)) => Ok(Mail { inbox, pass, room }),
@@ -34,7 +43,9 @@ impl Mail {
     }
 
     /// Closes it.
-    pub(crate) fn leave<R: Wait>(self, rt: &R) {
+    pub(crate) fn leave<R: Wait>(self, rt: &R)
+        requires { IsMail self }
+    {
         let Mail { inbox, pass, room } = self;
         room.close(rt, inbox, pass);
     }

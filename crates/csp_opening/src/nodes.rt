@@ -1,5 +1,11 @@
 //! The memory and the queues of each node.
 
+ghost use Rattle.std.specs.Prelude.{◌≡◌, ◌<◌, ◌≤◌, IfOk, length, map};
+ghost use Rattle.std.specs.List.{AllByRecursion};
+ghost use Rattle.csp_inbox.specs.Passes.{opening_pass};
+ghost use Rattle.csp_opening.specs.Opened.{AreLanes, AreNodesWith, AreWired, CanLeave, IsNodeOf, room_with};
+ghost use Rattle.csp_scene.specs.Ranges.{IsNode};
+
 use crate::bases::Base;
 use crate::lanes::Lanes;
 use crate::mails::Mail;
@@ -32,7 +38,12 @@ impl Node {
         alloc: Global,
         node: &SceneNode,
         wires: &[Wire],
-    ) -> Result<Node, AllocError> {
+    ) -> Result<Node, AllocError>
+        requires node { IsNode node.now }
+        requires few { length wires.now < 256 }
+        requires rooms { AllByRecursion (λ w. 0 < w.room) wires.now }
+        ensures { IfOk result (IsNodeOf node.now wires.now) }
+    {
         let numbers = Vec::with_capacity(alloc, usize::from(node.buffers))?;
         let base = Base::open(rt, alloc, node.buffers, room_in(node, wires))?;
         let region = base.store.token();
@@ -51,7 +62,9 @@ impl Node {
     }
 
     /// Closes it.
-    fn leave<R: Wait>(self, rt: &R) {
+    fn leave<R: Wait>(self, rt: &R)
+        requires { CanLeave self }
+    {
         let Node {
             base,
             numbers: _,
@@ -71,7 +84,14 @@ fn open_queues<R: Wait>(
     region: &RegionToken,
     room: u16,
     wires: &[Wire],
-) -> Result<(Mail, Lanes), AllocError> {
+) -> Result<(Mail, Lanes), AllocError>
+    requires some { 0 < room }
+    requires rooms { AllByRecursion (λ w. 0 < w.room) wires.now }
+    ensures inbox { IfOk result (λ r. r.0.inbox.room ≡ room) }
+    ensures pass { IfOk result (λ r. r.0.pass ≡ opening_pass r.0.inbox region.now.name) }
+    ensures left { IfOk result (λ r. r.0.room ≡ room) }
+    ensures lanes { IfOk result (λ r. AreLanes region.now.name wires.now r.1) }
+{
     let mail = Mail::open(alloc, region, room)?;
     match Lanes::open(rt, alloc, region, wires) {
         Ok(lanes) => Ok((mail, lanes)),
@@ -83,7 +103,10 @@ fn open_queues<R: Wait>(
 }
 
 /// For how many buffers there is room in all queues of a node.
-fn room_in(node: &SceneNode, wires: &[Wire]) -> usize {
+fn room_in(node: &SceneNode, wires: &[Wire]) -> usize
+    requires { length wires.now < 256 }
+    ensures { result ≡ room_with node.now wires.now }
+{
     let mut room = usize::from(node.buffers) + INBOX_QUEUES * usize::from(node.inbox);
     for wire in wires {
         room += usize::from(wire.room);
@@ -97,7 +120,10 @@ pub(crate) fn open_nodes<R: Wait>(
     alloc: Global,
     nodes: &[SceneNode],
     wires: &[Vec<Wire>],
-) -> Result<Vec<Node>, AllocError> {
+) -> Result<Vec<Node>, AllocError>
+    requires { AreWired nodes.now wires.now }
+    ensures { IfOk result (λ r. AreNodesWith nodes.now (map (λ ws. ws.items) wires.now) r.items) }
+{
     let mut opened = Vec::with_capacity(alloc, nodes.len())?;
     for (place, node) in nodes.iter().enumerate() {
         match Node::open(rt, alloc, node, &wires[place]) {
@@ -112,7 +138,9 @@ pub(crate) fn open_nodes<R: Wait>(
 }
 
 /// Closes nodes.
-pub(crate) fn leave_nodes<R: Wait>(rt: &R, nodes: Vec<Node>) {
+pub(crate) fn leave_nodes<R: Wait>(rt: &R, nodes: Vec<Node>)
+    requires { AllByRecursion CanLeave nodes.items }
+{
     let mut nodes = VecDeque::from_vec(nodes);
     while let Some(node) = nodes.pop_front() {
         node.leave(rt);

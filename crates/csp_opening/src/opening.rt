@@ -1,19 +1,21 @@
 //! The opening of a network.
 
-ghost use Rattle.std.specs.Prelude.{◌≡◌, [], IfOk, IfSome, length};
+ghost use Rattle.std.specs.Prelude.{◌≡◌, [], IfOk, IfSome, length, map};
 ghost use Rattle.std.specs.List.{AllByRecursion};
 ghost use Rattle.csp_fabric.specs.Fabrics.{IsFabricOf};
+ghost use Rattle.csp_opening.specs.Opened.{AreNodesWith, AreWired, queues_in};
+ghost use Rattle.csp_opening.specs.Seated.{AreParties, IsSeated, seat_name};
+ghost use Rattle.csp_opening.specs.Whole.{AreBlanks, AreLists, CanAssemble, posts_of, rooms_in, store_in};
 ghost use Rattle.csp_posts.specs.Books.{IsFresh};
 ghost use Rattle.csp_scene.specs.Kept.{AreLinksAfter};
 ghost use Rattle.csp_scene.specs.Ranges.{IsScene};
+ghost use Rattle.csp_topology.specs.Opening.{opening_of};
 
-use crate::homes::{lead_homes, part_passes};
+use crate::hands::Hands;
 use crate::lists::{Blanks, Lists};
 use crate::nodes::{Node, leave_nodes, open_nodes};
 use crate::parting::Parts;
-use crate::posts::post_all;
 use crate::seats::{Seat, open_seats};
-use crate::sides::hand_out;
 use csp_ends::Queues;
 use csp_fabric::Fabric;
 use csp_posts::Post;
@@ -52,7 +54,14 @@ fn open_all<R: Wait>(
     nodes: &[SceneNode],
     wires: &[Vec<Wire>],
     parties: Vec<Opening>,
-) -> Result<(Lists, Vec<Node>, Vec<Seat>), AllocError> {
+) -> Result<(Lists, Vec<Node>, Vec<Seat>), AllocError>
+    requires wired { AreWired nodes.now wires.now }
+    requires parties { AreParties (length nodes.now) parties.items }
+    ensures lists { IfOk result (λ r. AreLists (length parties.items) (length nodes.now) r.0) }
+    ensures nodes { IfOk result (λ r. AreNodesWith nodes.now (map (λ ws. ws.items) wires.now) r.1.items) }
+    ensures names { IfOk result (λ r. map seat_name r.2.items ≡ map opening_of parties.items) }
+    ensures seated { IfOk result (λ r. AllByRecursion (IsSeated r.1.items) r.2.items) }
+{
     let lists = Lists::open(alloc, parties.len(), nodes.len())?;
     match open_members(rt, alloc, nodes, wires, parties) {
         Ok((nodes, seats)) => Ok((lists, nodes, seats)),
@@ -70,7 +79,13 @@ fn open_members<R: Wait>(
     nodes: &[SceneNode],
     wires: &[Vec<Wire>],
     parties: Vec<Opening>,
-) -> Result<(Vec<Node>, Vec<Seat>), AllocError> {
+) -> Result<(Vec<Node>, Vec<Seat>), AllocError>
+    requires wired { AreWired nodes.now wires.now }
+    requires parties { AreParties (length nodes.now) parties.items }
+    ensures nodes { IfOk result (λ r. AreNodesWith nodes.now (map (λ ws. ws.items) wires.now) r.0.items) }
+    ensures names { IfOk result (λ r. map seat_name r.1.items ≡ map opening_of parties.items) }
+    ensures seated { IfOk result (λ r. AllByRecursion (IsSeated r.0.items) r.1.items) }
+{
     let nodes = open_nodes(rt, alloc, nodes, wires)?;
     match open_seats(alloc, parties, &nodes) {
         Ok(seats) => Ok((nodes, seats)),
@@ -89,15 +104,19 @@ fn assemble(
     lists: Lists,
     nodes: Vec<Node>,
     seats: Vec<Seat>,
-) -> (Fabric, Vec<Post>) {
-    let Blanks {
-        mut sides,
-        mut homes,
-        leads,
-        ends,
-        notes,
-        logs,
-    } = blanks;
+) -> (Fabric, Vec<Post>)
+    requires blanks { AreBlanks (length seats.items) (length nodes.items) wires.items blanks }
+    requires lists { AreLists (length seats.items) (length nodes.items) lists }
+    requires can { CanAssemble blanks.sides.items nodes.items seats.items }
+    ensures queues { result.0.queues ≡ map queues_in nodes.items }
+    ensures stores { result.0.stores.items ≡ map store_in nodes.items }
+    ensures rooms { result.0.rooms.items ≡ map rooms_in nodes.items }
+    ensures wires { result.0.wires ≡ wires }
+    ensures notes { result.0.notes ≡ blanks.notes }
+    ensures logs { result.0.logs ≡ blanks.logs }
+    ensures retired { result.0.retired ≡ lists.retired }
+    ensures posts { result.1.items ≡ posts_of nodes.items seats.items }
+{
     let Lists {
         mut posts,
         retired,
@@ -109,29 +128,32 @@ fn assemble(
         queues,
         stores,
         rooms,
-        leads,
-        ends,
+        leads: blanks.leads,
+        ends: blanks.ends,
     };
     parts.add_all(nodes);
     let Parts {
         queues,
         stores,
         rooms,
-        mut leads,
+        leads,
         ends,
     } = parts;
     let queues = Queues { nodes: queues };
-    hand_out(ends, &mut sides);
-    part_passes(&queues, &seats, &mut leads, &mut homes);
-    lead_homes(&seats, leads, &mut homes);
-    post_all(alloc, seats, homes, sides, &mut posts);
+    let hands = Hands {
+        leads,
+        ends,
+        sides: blanks.sides,
+        homes: blanks.homes,
+    };
+    hands.post(alloc, &queues, seats, &mut posts);
     let fabric = Fabric {
         queues,
         stores,
         rooms,
         wires,
-        notes,
-        logs,
+        notes: blanks.notes,
+        logs: blanks.logs,
         retired,
     };
     (fabric, posts)

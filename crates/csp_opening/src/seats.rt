@@ -1,11 +1,16 @@
 //! The parties, before they have anything of the queues in hand.
 
+ghost use Rattle.std.specs.Prelude.{◌≡◌, ◌<◌, ◌≤◌, [], length, map, IfOk, IfSome, IsSome, vec_capacity};
+ghost use Rattle.std.specs.List.{AllByRecursion};
+ghost use Rattle.csp_opening.specs.Seated.{AreParties, IsNewParty, IsSeated, seat_name};
+ghost use Rattle.csp_party.specs.Any.{plain};
+ghost use Rattle.csp_record.specs.Who.{node_of};
+ghost use Rattle.csp_topology.specs.Opening.{CanOpen, IsOfRegion, opening_of};
+
 use crate::nodes::Node;
 use csp_arena::RegionToken;
 use csp_deck::Desk;
-use csp_ends::Ends;
 use csp_party::AnyParty;
-use csp_posts::Post;
 use csp_record::Who;
 use csp_topology::Opening;
 use std::alloc::{AllocError, Global};
@@ -30,7 +35,14 @@ impl Seat {
         opening: Opening,
         region: Option<RegionToken>,
         buffers: usize,
-    ) -> Result<Seat, AllocError> {
+    ) -> Result<Seat, AllocError>
+        requires ready { CanOpen opening }
+        requires region { IsSome (node_of (opening_of opening).who) → IsSome region }
+        ensures name { IfOk result (λ s. seat_name s ≡ opening_of opening) }
+        ensures region { IfOk result (λ s. IsOfRegion (node_of (opening_of opening).who) region s.party) }
+        ensures unnoted { IfOk result (λ s. s.numbers.items ≡ []) }
+        ensures numbers { IfOk result (λ s. buffers ≤ vec_capacity s.numbers) }
+    {
         let desk = Desk::open(alloc)?;
         let numbers = Vec::with_capacity(alloc, buffers)?;
         let who = opening.who();
@@ -44,7 +56,12 @@ impl Seat {
     }
 
     /// Opens a party of one of these nodes, or a link.
-    fn open_at(alloc: Global, opening: Opening, nodes: &[Node]) -> Result<Seat, AllocError> {
+    fn open_at(alloc: Global, opening: Opening, nodes: &[Node]) -> Result<Seat, AllocError>
+        requires ready { CanOpen opening }
+        requires there { IfSome (node_of (opening_of opening).who) (λ node. node < length nodes.now) }
+        ensures name { IfOk result (λ s. seat_name s ≡ opening_of opening) }
+        ensures seated { IfOk result (IsSeated nodes.now) }
+    {
         match opening.who().node() {
             Some(place) => {
                 let base = &nodes[usize::from(place)].base;
@@ -55,7 +72,9 @@ impl Seat {
     }
 
     /// Ends the party.
-    fn leave(self) {
+    fn leave(self)
+        requires { IsNewParty (plain self.party) }
+    {
         let Seat {
             who: _,
             party,
@@ -64,17 +83,6 @@ impl Seat {
         } = self;
         party.end();
     }
-
-    /// The party with these ends of queues in hand.
-    pub(crate) fn post(self, alloc: Global, ends: Ends) -> Post {
-        let Seat {
-            who,
-            party,
-            desk,
-            numbers,
-        } = self;
-        Post::new(alloc, who, party, desk, ends, numbers)
-    }
 }
 
 /// Opens parties of these nodes, and links.
@@ -82,7 +90,11 @@ pub(crate) fn open_seats(
     alloc: Global,
     openings: Vec<Opening>,
     nodes: &[Node],
-) -> Result<Vec<Seat>, AllocError> {
+) -> Result<Vec<Seat>, AllocError>
+    requires { AreParties (length nodes.now) openings.items }
+    ensures names { IfOk result (λ r. map seat_name r.items ≡ map opening_of openings.items) }
+    ensures seated { IfOk result (λ r. AllByRecursion (IsSeated nodes.now) r.items) }
+{
     let mut seats = Vec::with_capacity(alloc, openings.len())?;
     let mut openings = VecDeque::from_vec(openings);
     while let Some(opening) = openings.pop_front() {
@@ -98,7 +110,9 @@ pub(crate) fn open_seats(
 }
 
 /// Ends parties.
-pub(crate) fn leave_seats(seats: Vec<Seat>) {
+fn leave_seats(seats: Vec<Seat>)
+    requires { AllByRecursion (λ s. IsNewParty (plain s.party)) seats.items }
+{
     let mut seats = VecDeque::from_vec(seats);
     while let Some(seat) = seats.pop_front() {
         seat.leave();

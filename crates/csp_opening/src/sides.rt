@@ -1,5 +1,9 @@
 //! The ends of lanes, and who has them.
 
+ghost use Rattle.std.specs.Prelude.{◌≡◌, ◌<◌, ◌≤◌, ℕ, [], length, map, IfOk};
+ghost use Rattle.std.specs.List.{AllByRecursion, sum_by};
+ghost use Rattle.csp_opening.specs.Handed.{AreHanded, HaveRoom, IsAmong, ends_among, ends_of, handed_among, handed_from, handed_of, list_at, room_at};
+
 use crate::lanes::Pair;
 use csp_ends::{LaneEnd, Side};
 use csp_topology::Wire;
@@ -10,7 +14,13 @@ pub(crate) fn blank_sides(
     alloc: Global,
     parties: u16,
     wires: &[Vec<Wire>],
-) -> Result<Vec<Vec<Side>>, AllocError> {
+) -> Result<Vec<Vec<Side>>, AllocError>
+    requires nodes { length wires.now < 256 }
+    requires few { AllByRecursion (λ ws. length ws.items < 256) wires.now }
+    ensures count { IfOk result (λ r. length r.items ≡ parties) }
+    ensures none { IfOk result (λ r. (p : ℕ) → list_at r.items p ≡ []) }
+    ensures rooms { IfOk result (λ r. (p : ℕ) → p < parties → sum_by (λ ws. ends_among p ws.items) wires.now ≤ room_at r.items p) }
+{
     let mut sides = Vec::with_capacity(alloc, usize::from(parties))?;
     for place in 0..parties {
         sides.push_reserved(Vec::with_capacity(alloc, ends_at(place, wires))?);
@@ -19,7 +29,11 @@ pub(crate) fn blank_sides(
 }
 
 /// How many ends of the lanes of these wires the party at this place has.
-fn ends_at(place: u16, wires: &[Vec<Wire>]) -> usize {
+fn ends_at(place: u16, wires: &[Vec<Wire>]) -> usize
+    requires nodes { length wires.now < 256 }
+    requires few { AllByRecursion (λ ws. length ws.items < 256) wires.now }
+    ensures { result ≡ sum_by (λ ws. ends_among place ws.items) wires.now }
+{
     let mut count = 0;
     for here in wires {
         count += ends_among(place, here);
@@ -28,7 +42,10 @@ fn ends_at(place: u16, wires: &[Vec<Wire>]) -> usize {
 }
 
 /// How many of one node.
-fn ends_among(place: u16, wires: &[Wire]) -> usize {
+fn ends_among(place: u16, wires: &[Wire]) -> usize
+    requires { length wires.now < 256 }
+    ensures { result ≡ ends_among place wires.now }
+{
     let mut count = 0;
     for wire in wires {
         count += ends_of(place, wire);
@@ -37,26 +54,43 @@ fn ends_among(place: u16, wires: &[Wire]) -> usize {
 }
 
 /// How many of one lane.
-fn ends_of(place: u16, wire: &Wire) -> usize {
+fn ends_of(place: u16, wire: &Wire) -> usize
+    ensures { result ≡ ends_of place wire.now }
+{
     usize::from(wire.from.party == place) + usize::from(wire.to.party == place)
 }
 
 /// Hands the ends of the lanes of all nodes to their parties.
-pub(crate) fn hand_out(nodes: Vec<Vec<Pair>>, sides: &mut Vec<Vec<Side>>) {
+pub(crate) fn hand_out(nodes: Vec<Vec<Pair>>, sides: &mut Vec<Vec<Side>>)
+    requires nodes { length nodes.items < 256 }
+    requires few { AllByRecursion (λ pairs. length pairs.items < 256) nodes.items }
+    requires among { AllByRecursion (λ pairs. AllByRecursion (IsAmong (length sides.old.items)) pairs.items) nodes.items }
+    requires room { HaveRoom sides.old.items (λ p. length (handed_from p 0 (map (λ pairs. pairs.items) nodes.items))) }
+    ensures { AreHanded sides.old.items (λ p. handed_from p 0 (map (λ pairs. pairs.items) nodes.items)) sides.new.items }
+{
     for (node, pairs) in nodes.into_iter().enumerate() {
         hand_out_at(node as u8, pairs, sides);
     }
 }
 
 /// Hands the ends of the lanes of the node at this place to their parties.
-fn hand_out_at(node: u8, pairs: Vec<Pair>, sides: &mut Vec<Vec<Side>>) {
+fn hand_out_at(node: u8, pairs: Vec<Pair>, sides: &mut Vec<Vec<Side>>)
+    requires few { length pairs.items < 256 }
+    requires among { AllByRecursion (IsAmong (length sides.old.items)) pairs.items }
+    requires room { HaveRoom sides.old.items (λ p. length (handed_among p node 0 pairs.items)) }
+    ensures { AreHanded sides.old.items (λ p. handed_among p node 0 pairs.items) sides.new.items }
+{
     for (lane, pair) in pairs.into_iter().enumerate() {
         hand_pair(node, lane as u8, pair, sides);
     }
 }
 
 /// Hands the two ends of a lane to their parties.
-fn hand_pair(node: u8, lane: u8, pair: Pair, sides: &mut Vec<Vec<Side>>) {
+fn hand_pair(node: u8, lane: u8, pair: Pair, sides: &mut Vec<Vec<Side>>)
+    requires among { IsAmong (length sides.old.items) pair }
+    requires room { HaveRoom sides.old.items (λ p. length (handed_of p node lane pair)) }
+    ensures { AreHanded sides.old.items (λ p. handed_of p node lane pair) sides.new.items }
+{
     let Pair {
         wire,
         producer,
