@@ -14,9 +14,9 @@ use Rattle.csp_log.specs.declared.places.QueueId.{QueueId}
 use Rattle.csp_log.specs.declared.places.QueueId.TheVariants as queue
 use Rattle.csp_log.specs.declared.places.Rule.{Rule}
 use Rattle.csp_log.specs.declared.places.Rule.TheVariants as rule
-use Rattle.csp_opening.proofs.Homes.{IsHomeNew}
+use Rattle.csp_opening.proofs.NewHomes.{IsHomeNew}
 use Rattle.csp_opening.proofs.Named.{same_who}
-use Rattle.csp_opening.proofs.Sides.{IsSideNew, side_by}
+use Rattle.csp_opening.proofs.NewSides.{IsSideNew, side_by}
 use Rattle.csp_opening.proofs.Spread.{SameSpot}
 use Rattle.csp_opening.proofs.Zipped.{placed_at}
 use Rattle.csp_record.specs.Who.{node_of}

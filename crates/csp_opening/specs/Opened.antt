@@ -5,7 +5,7 @@ use Rattle.std.specs.List.{AllByRecursion, range_with_len, sum_by}
 use Rattle.csp_arena.specs.Cells.{RegionName}
 use Rattle.csp_base.specs.declared.priority.Prio.{Prio}
 use Rattle.csp_ends.specs.Ends.{PlainNodeQueues}
-use Rattle.csp_inbox.specs.Passes as inbox
+use Rattle.csp_inbox.specs.Passes as mails
 use Rattle.csp_lane.specs.Ends as lane
 use Rattle.csp_opening.specs.declared.bases.Base.{Base}
 use Rattle.csp_opening.specs.declared.homes.Lead.{Lead}
@@ -28,9 +28,9 @@ pub record IsBase (b : Base) : Type 0 where
 
 -- nothing was put into an inbox, whose opening pass this is, and there is room for what it might have
 pub record IsMail (m : Mail) : Type 0 where
-  pub of_it : inbox.IsPassOf m.inbox m.pass
-  pub all_in : inbox.AllIn m.pass
-  pub unused : (p : Prio) → (inbox.mail_at m.pass p).kept ≡ []
+  pub of_it : mails.IsPassOf m.inbox m.pass
+  pub all_in : mails.AllIn m.pass
+  pub unused : (p : Prio) → (mails.mail_at m.pass p).kept ≡ []
   pub room : m.inbox.room ≤ m.room
 
 -- the ends of a lane that was just opened, for a wire
@@ -50,11 +50,11 @@ pub record AreLanes (region : RegionName) (wires : List Wire) (l : Lanes) : Type
   pub ends : l.ends.items ≡ pairs_on region wires l.lanes.items
 
 -- these are ends of the lane, nothing was put into it, and there is room for what might have been
-pub record IsUnused (l : lane.PlainLane) (room : ℕ) (x : Pair) : Type 0 where
+pub record IsUnused (l : lane.PlainLane) (space : ℕ) (x : Pair) : Type 0 where
   pub producer : lane.IsEndOf l x.producer
   pub consumer : lane.IsEndOf l x.consumer
   pub none : x.producer.items ≡ []
-  pub room : l.room ≤ room
+  pub room : l.room ≤ space
 
 -- so are those of each
 abbrev pub AreUnused : List lane.PlainLane → List ℕ → List Pair → Type 0
@@ -80,7 +80,7 @@ pub record IsNodeOf (n : PlainNode) (wires : List Wire) (x : Node) : Type 0 wher
   pub unnoted : x.numbers.items ≡ []
   pub numbers : n.buffers ≤ vec_capacity x.numbers
   pub inbox : x.mail.inbox.room ≡ n.inbox
-  pub pass : x.mail.pass ≡ inbox.opening_pass x.mail.inbox x.base.store.region
+  pub pass : x.mail.pass ≡ mails.opening_pass x.mail.inbox x.base.store.region
   pub left : x.mail.room ≡ n.inbox
   pub lanes : AreLanes x.base.store.region wires x.lanes
 
@@ -107,9 +107,9 @@ abbrev pub ends_in : Node → List Pair
 ends_in x = x.lanes.ends.items
 
 -- nodes of a scene, each with its wires, which have room
-pub record AreWired (nodes : List PlainNode) (wires : List (Vec Wire)) : Type 0 where
-  pub nodes : AllByRecursion IsNode nodes
-  pub count : length wires ≡ length nodes
+pub record AreWired (ns : List PlainNode) (wires : List (Vec Wire)) : Type 0 where
+  pub nodes : AllByRecursion IsNode ns
+  pub count : length wires ≡ length ns
   pub low : length wires < 256
   pub few : AllByRecursion (λ (ws : Vec Wire). length ws.items < 256) wires
   pub rooms : AllByRecursion (λ (ws : Vec Wire). AllByRecursion (λ (w : Wire). 0 < w.room) ws.items) wires

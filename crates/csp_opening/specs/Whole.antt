@@ -89,7 +89,7 @@ pub record CanShare (sides : List (Vec PlainSide)) (ends : List (List Pair)) (no
   pub few : AllByRecursion (λ (pairs : List Pair). length pairs < 256) ends
   pub among : AllByRecursion (λ (pairs : List Pair). AllByRecursion (IsAmong (length sides)) pairs) ends
   pub room : HaveRoom sides (λ p. length (handed_from p 0 ends))
-  pub leads : AreLeadsOf nodes leads
+  pub lead : AreLeadsOf nodes leads
   pub part : CanPartAll leads (whos seats)
   pub opening : AllByRecursion IsOpening (parts_left leads (whos seats))
   pub post : CanPostFrom 0 ends (parts_left leads (whos seats)) seats (part_homes leads (whos seats))

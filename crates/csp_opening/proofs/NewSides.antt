@@ -7,7 +7,7 @@ use Rattle.std.proofs.lemmas.Bool.{eqb-true}
 use Rattle.std.proofs.lemmas.Option.{same_Some, slice_get-map}
 use Rattle.csp_arena.specs.Cells.{RegionName}
 use Rattle.csp_ends.specs.Ends.{IsSideOf, PlainNodeQueues, PlainSide}
-use Rattle.csp_lane.specs.Ends as lane
+use Rattle.csp_lane.specs.Ends as ways
 use Rattle.csp_opening.proofs.Zipped.{placed_at}
 use Rattle.csp_opening.specs.Handed.{getting, handed_among, handed_from, handed_of, putting}
 use Rattle.csp_opening.specs.Opened.{AreNodesWith, ends_in, pair_of, pairs_on, queues_in, region_in}
@@ -28,7 +28,7 @@ use Rattle.csp_topology.specs.declared.wire.Wire.{Wire}
 pub record IsPairAt (R : PlainLane → Wire → Type 0) (rows : List (List PlainLane)) (xs : List Node) (node k : ℕ) (x : Pair) : Type 0 where
   pub opened : Node
   pub there : slice_get xs node ≡ Some opened
-  pub lane : lane.PlainLane
+  pub lane : ways.PlainLane
   pub lane_at : slice_get opened.lanes.lanes.items k ≡ Some lane
   pub is : x ≡ pair_of (region_in opened) x.wire lane
   pub wire : PlainLane
@@ -36,15 +36,15 @@ pub record IsPairAt (R : PlainLane → Wire → Type 0) (rows : List (List Plain
   pub of : R wire x.wire
 
 -- one of a row
-record IsPairIn (R : PlainLane → Wire → Type 0) (row : List PlainLane) (region : RegionName) (lanes : List lane.PlainLane) (k : ℕ) (x : Pair) : Type 0 where
-  lane : lane.PlainLane
+record IsPairIn (R : PlainLane → Wire → Type 0) (row : List PlainLane) (region : RegionName) (lanes : List ways.PlainLane) (k : ℕ) (x : Pair) : Type 0 where
+  lane : ways.PlainLane
   lane_at : slice_get lanes k ≡ Some lane
   is : x ≡ pair_of region x.wire lane
   wire : PlainLane
   at : slice_get row k ≡ Some wire
   of : R wire x.wire
 
-pair_in : (R : PlainLane → Wire → Type 0) (row : List PlainLane) (ws : List Wire) (region : RegionName) (lanes : List lane.PlainLane) (k : ℕ) (x : Pair) → AllZip R row ws → slice_get (pairs_on region ws lanes) k ≡ Some x
+pair_in : (R : PlainLane → Wire → Type 0) (row : List PlainLane) (ws : List Wire) (region : RegionName) (lanes : List ways.PlainLane) (k : ℕ) (x : Pair) → AllZip R row ws → slice_get (pairs_on region ws lanes) k ≡ Some x
     → IsPairIn R row region lanes k x
 pair_in R (l ∷ row) (w ∷ ws) region (y ∷ lanes) zero x h e =
     let same : pair_of region w y ≡ x = same_Some (pair_of region w y) x e in
@@ -118,11 +118,11 @@ pub record IsSideNew (scene : PlainScene) (nodes : List PlainNodeQueues) (region
   pub carries : s.end.carries ≡ wire.carries
 
 -- the lane of an end is there
-lane_there : (xs : List Node) (node k : ℕ) (x : Node) (l : lane.PlainLane) (e : lane.PlainEnd) → slice_get xs node ≡ Some x → slice_get x.lanes.lanes.items k ≡ Some l → lane.IsEndOf l e
-    → IsSomeAnd (slice_get (map queues_in xs) node) (λ q. IsSomeAnd (slice_get q.lanes k) (λ z. lane.IsEndOf z e))
+lane_there : (xs : List Node) (node k : ℕ) (x : Node) (l : ways.PlainLane) (e : ways.PlainEnd) → slice_get xs node ≡ Some x → slice_get x.lanes.lanes.items k ≡ Some l → ways.IsEndOf l e
+    → IsSomeAnd (slice_get (map queues_in xs) node) (λ q. IsSomeAnd (slice_get q.lanes k) (λ z. ways.IsEndOf z e))
 lane_there xs node k x l e there at is =
-    subst (λ o. IsSomeAnd o (λ (q : PlainNodeQueues). IsSomeAnd (slice_get q.lanes k) (λ z. lane.IsEndOf z e))) (sym (slice_get-map queues_in xs node ∙ ap (option_map queues_in) there))
-    (subst (λ o. IsSomeAnd o (λ z. lane.IsEndOf z e)) (sym at) is)
+    subst (λ o. IsSomeAnd o (λ (q : PlainNodeQueues). IsSomeAnd (slice_get q.lanes k) (λ z. ways.IsEndOf z e))) (sym (slice_get-map queues_in xs node ∙ ap (option_map queues_in) there))
+    (subst (λ o. IsSomeAnd o (λ z. ways.IsEndOf z e)) (sym at) is)
 
 -- the party at a place
 party_is : (ws : List Who) (p k : ℕ) (v w : Who) → slice_get ws p ≡ Some v → slice_get ws k ≡ Some w → (k == p) ≡ true → w ≡ v
@@ -133,26 +133,26 @@ both_ends : (scene : PlainScene) (wires : List (List Wire)) (xs : List Node) (p 
 both_ends scene wires xs p v at nodes rows node k x e =
     let r = pair_at (IsWireOf scene) scene.nodes wires xs (wires_of scene) node k x nodes rows e in
     let region = slice_get-map region_in xs node ∙ ap (option_map region_in) r.there in
-    let producer : x.producer ≡ lane.fresh_end r.lane (region_in r.opened) x.wire.carries = ap (λ (q : Pair). q.producer) r.is in
-    let consumer : x.consumer ≡ lane.fresh_end r.lane (region_in r.opened) x.wire.carries = ap (λ (q : Pair). q.consumer) r.is in
+    let producer : x.producer ≡ ways.fresh_end r.lane (region_in r.opened) x.wire.carries = ap (λ (q : Pair). q.producer) r.is in
+    let consumer : x.consumer ≡ ways.fresh_end r.lane (region_in r.opened) x.wire.carries = ap (λ (q : Pair). q.consumer) r.is in
     record {
       from = λ its. record {
-        of_it = lane_there xs node k r.opened r.lane x.producer r.there r.lane_at (record { lane = ap (λ (z : lane.PlainEnd). z.lane) producer; room = ap (λ (z : lane.PlainEnd). z.room) producer });
-        among = region ∙ ap (λ (z : lane.PlainEnd). Some z.region) (sym producer);
-        none = ap (λ (z : lane.PlainEnd). z.items) producer;
+        of_it = lane_there xs node k r.opened r.lane x.producer r.there r.lane_at (record { lane = ap (λ (z : ways.PlainEnd). z.lane) producer; room = ap (λ (z : ways.PlainEnd). z.room) producer });
+        among = region ∙ ap (λ (z : ways.PlainEnd). Some z.region) (sym producer);
+        none = ap (λ (z : ways.PlainEnd). z.items) producer;
         wire = r.wire;
         at = r.at;
         called = (let name = party_is (map (λ o. o.who) (parties_of scene)) p x.wire.from.party v r.wire.from.who at r.of.from.party its in λ i. record { who = name i; queue = sym r.of.from.called i });
-        carries = ap (λ (z : lane.PlainEnd). z.carries) producer ∙ r.of.carries;
+        carries = ap (λ (z : ways.PlainEnd). z.carries) producer ∙ r.of.carries;
       };
       to = λ its. record {
-        of_it = lane_there xs node k r.opened r.lane x.consumer r.there r.lane_at (record { lane = ap (λ (z : lane.PlainEnd). z.lane) consumer; room = ap (λ (z : lane.PlainEnd). z.room) consumer });
-        among = region ∙ ap (λ (z : lane.PlainEnd). Some z.region) (sym consumer);
-        none = ap (λ (z : lane.PlainEnd). z.items) consumer;
+        of_it = lane_there xs node k r.opened r.lane x.consumer r.there r.lane_at (record { lane = ap (λ (z : ways.PlainEnd). z.lane) consumer; room = ap (λ (z : ways.PlainEnd). z.room) consumer });
+        among = region ∙ ap (λ (z : ways.PlainEnd). Some z.region) (sym consumer);
+        none = ap (λ (z : ways.PlainEnd). z.items) consumer;
         wire = r.wire;
         at = r.at;
         called = (let name = party_is (map (λ o. o.who) (parties_of scene)) p x.wire.to.party v r.wire.to.who at r.of.to.party its in λ i. record { who = name i; queue = sym r.of.to.called i });
-        carries = ap (λ (z : lane.PlainEnd). z.carries) consumer ∙ r.of.carries;
+        carries = ap (λ (z : ways.PlainEnd). z.carries) consumer ∙ r.of.carries;
       };
     }
 

@@ -1,0 +1,15 @@
+mod Assembly
+mod Counts
+mod Fabrics
+mod Named
+mod NewHomes
+mod NewSides
+mod Ordered
+mod Parties
+mod Passing
+mod Rows
+mod Serving
+mod Spread
+mod Stores
+mod Whos
+mod Zipped
