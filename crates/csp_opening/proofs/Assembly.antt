@@ -1,7 +1,7 @@
 -- What was opened for a scene can be put together.
-use Rattle.std.proofs.Common.{◌≡◌, ◌≢◌, ◌+◌, ◌==◌, ◌<◌, ◌≤◌, ⊤, ℕ, zero, suc, Bool, true, false, true≢false, List, [], ◌∷◌, ◌++◌, Option, None, Some, cond, length, map, refl, sym, ap, ◌∙◌, subst, arith}
+use Rattle.std.proofs.Common.{◌≡◌, ◌≢◌, ◌+◌, ◌==◌, ◌<◌, ◌≤◌, ℕ, zero, suc, Bool, true, false, true≢false, List, [], ◌∷◌, ◌++◌, Option, None, Some, cond, length, map, refl, sym, ap, ◌∙◌, subst, arith}
 use Rattle.std.specs.Global.{Vec}
-use Rattle.std.specs.Prelude.{IfSome, slice_get, if◌then◌else◌}
+use Rattle.std.specs.Prelude.{⊤, IfSome, slice_get, if◌then◌else◌}
 use Rattle.std.specs.List.{AllByRecursion, AllZip, range_with_len, sum_by}
 use Rattle.std.specs.Option.{option_map}
 use Rattle.std.proofs.lemmas.List.{length-append, length-map}
@@ -80,7 +80,8 @@ ready_for (n ∷ nodes) (ws ∷ wires) (x ∷ xs) names h zero m l e = subst (Is
 })
 ready_for (n ∷ nodes) (ws ∷ wires) (x ∷ xs) names h (suc k) m l e = ready_for nodes wires xs names h.1 k m l e
 ready_for nodes wires [] names h k m l e = absurd cc
-ready_for [] wires (x ∷ xs) names h k m l e = absurd h
+ready_for [] [] (x ∷ xs) names h k m l e = absurd h
+ready_for [] (ws ∷ wires) (x ∷ xs) names h k m l e = absurd h
 ready_for (n ∷ nodes) [] (x ∷ xs) names h k m l e = absurd h
 
 nodes_long : (nodes : List PlainNode) (wires : List (List Wire)) (xs : List Node) → AreNodesWith nodes wires xs → length xs ≡ length nodes

@@ -15,10 +15,10 @@ use Rattle.csp_record.specs.declared.who.Who.{Who}
 use Rattle.csp_record.specs.declared.who.Who.TheVariants as who
 use Rattle.csp_scene.specs.Links.{links_at}
 use Rattle.csp_scene.specs.Scene.{PlainApp, PlainLink, PlainNode}
-use Rattle.csp_topology.specs.Parties.{PlainOpening, apps_from, hub_by, ifaces_from, links_from, parties_from}
+use Rattle.csp_topology.specs.Parties.{PlainOpening, app_at, apps_from, bridge_at, hub_by, iface_on, ifaces_from, link_at, links_from, parties_from}
 
 -- whether a party is the router or the bridge of a node
-pub hub_at : ℕ → Who → Bool
+abbrev pub hub_at : ℕ → Who → Bool
 hub_at m (who.Router n) = n == m
 hub_at m (who.Bridge n) = n == m
 hub_at m (who.Iface n k) = false
@@ -26,7 +26,7 @@ hub_at m (who.App n k) = false
 hub_at m (who.Link k) = false
 
 -- whether this is the node of a party
-pub is_node : ℕ → Option ℕ → Bool
+abbrev pub is_node : ℕ → Option ℕ → Bool
 is_node m None = false
 is_node m (Some n) = n == m
 
@@ -39,19 +39,19 @@ step m o os = sum_by-cons (λ w. cond (hub_at m w) 1 0) o.who (names os)
 
 hubs_links : (m number : ℕ) (links : List PlainLink) → hubs m (links_from number links) ≡ 0
 hubs_links m number [] = refl
-hubs_links m number (l ∷ links) = let s = step m _ (links_from (number + 1) links) in let r = hubs_links m (number + 1) links in omega (arith, s, r)
+hubs_links m number (l ∷ links) = let s = step m (link_at number l) (links_from (number + 1) links) in let r = hubs_links m (number + 1) links in omega (arith, s, r)
 
 hubs_apps : (m place number : ℕ) (apps : List PlainApp) (rest : List PlainOpening) → hubs m (apps_from place number apps ++ rest) ≡ hubs m rest
 hubs_apps m place number [] rest = refl
-hubs_apps m place number (a ∷ apps) rest = let s = step m _ (apps_from place (number + 1) apps ++ rest) in let r = hubs_apps m place (number + 1) apps rest in omega (arith, s, r)
+hubs_apps m place number (a ∷ apps) rest = let s = step m (app_at place number a) (apps_from place (number + 1) apps ++ rest) in let r = hubs_apps m place (number + 1) apps rest in omega (arith, s, r)
 
 hubs_ifaces : (m place number : ℕ) (links : List PlainLink) (rest : List PlainOpening) → hubs m (ifaces_from place number links ++ rest) ≡ hubs m rest
 hubs_ifaces m place number [] rest = refl
-hubs_ifaces m place number (l ∷ links) rest = let s = step m _ (ifaces_from place (number + 1) links ++ rest) in let r = hubs_ifaces m place (number + 1) links rest in omega (arith, s, r)
+hubs_ifaces m place number (l ∷ links) rest = let s = step m (iface_on place number l.kind) (ifaces_from place (number + 1) links ++ rest) in let r = hubs_ifaces m place (number + 1) links rest in omega (arith, s, r)
 
 hubs_hub : (m : ℕ) (addr : Option ℕ) (place : ℕ) (n : PlainNode) (links : List PlainLink) (rest : List PlainOpening) → hubs m (hub_by addr place n links ∷ rest) ≡ cond (place == m) 1 0 + hubs m rest
-hubs_hub m (Some a) place n links rest = step m _ rest
-hubs_hub m None place n links rest = step m _ rest
+hubs_hub m (Some a) place n links rest = step m (hub_by (Some a) place n links) rest
+hubs_hub m None place n links rest = step m (bridge_at place) rest
 
 -- the parties of one node, before others
 hubs_node : (m place : ℕ) (n : PlainNode) (nodes : List PlainNode) (links : List PlainLink) (rest : List PlainOpening)
@@ -65,9 +65,9 @@ hubs_node m place n nodes links rest =
       three : (x : PlainOpening) (a b c d : List PlainOpening) → ((x ∷ (a ++ b)) ++ c) ++ d ≡ x ∷ (a ++ (b ++ (c ++ d)))
       three x a b c d = ap (λ xs. x ∷ xs) (append_assoc (a ++ b) c d ∙ append_assoc a b (c ++ d))
 
-unlike : (k m : ℕ) (b : Bool) → (k == m) ≡ b → (k ≡ m → ⊥) → cond b 1 0 ≡ 0
-unlike k m true e no = absurd (no (eqb-true k m e))
-unlike k m false e no = refl
+unlike : (k m : ℕ) (b : Bool) → (k == m) ≡ b → (k ≡ m → ⊥) → cond {A = ℕ} b 1 0 ≡ 0
+unlike k m true e apart = absurd (apart (eqb-true k m e))
+unlike k m false e apart = refl
 
 -- none before its place
 hubs_past : (m place : ℕ) (nodes : List PlainNode) (links : List PlainLink) (rest : List PlainOpening) → m < place → hubs m (parties_from place nodes links ++ rest) ≡ hubs m rest
@@ -78,27 +78,23 @@ hubs_past m place (n ∷ nodes) links rest low =
     let r = hubs_past m (place + 1) nodes links rest (omega (arith, low)) in
     omega (arith, s, z, r)
 
+at_least : (k j : ℕ) → k ≤ j → (k ≡ j → ⊥) → k + 1 ≤ j
+at_least zero zero l apart = absurd (apart refl)
+at_least zero (suc j) l apart = omega arith
+at_least (suc k) zero l apart = absurd (omega (arith, l))
+at_least (suc k) (suc j) l apart = let r = at_least k j (omega (arith, l)) (λ e. apart (ap suc e)) in omega (arith, r)
+
+-- one step of what follows
+one_or : (m place : ℕ) (b : Bool) (all more rest : ℕ) → (place == m) ≡ b → all ≡ cond (place == m) 1 0 + more → (place ≡ m → more ≡ rest) → ((place ≡ m → ⊥) → more ≡ 1 + rest) → all ≡ 1 + rest
+one_or m place true all more rest e s here on = let one = ap (λ c. cond {A = ℕ} c 1 0) e in let r = here (eqb-true place m e) in omega (arith, s, one, r)
+one_or m place false all more rest e s here on = let none = ap (λ c. cond {A = ℕ} c 1 0) e in let r = on (λ same. true≢false (sym (eq-eqb place m same) ∙ e)) in omega (arith, s, none, r)
+
 hubs_from : (m place : ℕ) (nodes : List PlainNode) (links : List PlainLink) (rest : List PlainOpening) → place ≤ m → m < place + length nodes → hubs m (parties_from place nodes links ++ rest) ≡ 1 + hubs m rest
 hubs_from m place [] links rest low high = absurd (omega (arith, low, high))
-hubs_from m place (n ∷ nodes) links rest low high = by (place == m) refl where
-  by : (b : Bool) → (place == m) ≡ b → hubs m (parties_from place (n ∷ nodes) links ++ rest) ≡ 1 + hubs m rest
-  by true e =
-      let s = hubs_node m place n nodes links rest in
-      let one = ap (λ c. cond c 1 0) e in
-      let r = hubs_past m (place + 1) nodes links rest (let same = eqb-true place m e in omega (arith, same)) in
-      omega (arith, s, one, r)
-  by false e =
-      let s = hubs_node m place n nodes links rest in
-      let none = ap (λ c. cond c 1 0) e in
-      let r = hubs_from m (place + 1) nodes links rest (apart e) (omega (arith, high)) in
-      omega (arith, s, none, r)
-  apart : (place == m) ≡ false → place + 1 ≤ m
-  apart e = at_least place m low (λ same. (let t = eq-eqb place m same in absurd (true≢false (sym t ∙ e)))) where
-    at_least : (k j : ℕ) → k ≤ j → (k ≡ j → ⊥) → k + 1 ≤ j
-    at_least zero zero l no = absurd (no refl)
-    at_least zero (suc j) l no = omega arith
-    at_least (suc k) zero l no = absurd (omega (arith, l))
-    at_least (suc k) (suc j) l no = let r = at_least k j (omega (arith, l)) (λ e. no (ap suc e)) in omega (arith, r)
+hubs_from m place (n ∷ nodes) links rest low high =
+    one_or m place (place == m) (hubs m (parties_from place (n ∷ nodes) links ++ rest)) (hubs m (parties_from (place + 1) nodes links ++ rest)) (hubs m rest) refl (hubs_node m place n nodes links rest)
+    (λ same. hubs_past m (place + 1) nodes links rest (omega (arith, same)))
+    (λ apart. (let past = at_least place m low apart in hubs_from m (place + 1) nodes links rest past (omega (arith, high))))
 
 -- each node has one router or bridge
 pub one_hub : (m : ℕ) (nodes : List PlainNode) (links : List PlainLink) → m < length nodes → count_by (hub_at m) (names (parties_from 0 nodes links ++ links_from 0 links)) ≡ 1

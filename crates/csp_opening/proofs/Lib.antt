@@ -1,6 +1,7 @@
 mod Assembly
 mod Counts
 mod Fabrics
+mod Given
 mod Named
 mod NewHomes
 mod NewSides

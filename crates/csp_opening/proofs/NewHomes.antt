@@ -1,6 +1,6 @@
 -- The passes that the parties of nodes have before their first turn.
-use Rattle.std.proofs.Common.{◌≡◌, ◌+◌, ◌==◌, ◌<◌, ⊤, ℕ, zero, suc, Bool, true, false, List, [], ◌∷◌, Option, None, Some, length, map, refl, sym, ap, ◌∙◌, subst, arith}
-use Rattle.std.specs.Prelude.{IfSome, IsSomeAnd, slice_get, if◌then◌else◌}
+use Rattle.std.proofs.Common.{◌≡◌, ◌+◌, ◌==◌, ◌<◌, ℕ, zero, suc, Bool, true, false, List, [], ◌∷◌, Option, None, Some, length, map, refl, sym, ap, ◌∙◌, subst, arith}
+use Rattle.std.specs.Prelude.{⊤, IfSome, IsSomeAnd, slice_get, if◌then◌else◌}
 use Rattle.std.specs.List.{range_with_len}
 use Rattle.std.specs.Option.{option_map}
 use Rattle.std.proofs.lemmas.List.{append-nil}
@@ -208,7 +208,7 @@ lead_there : (xs : List Node) (m : ℕ) (x : Node) → slice_get xs m ≡ Some x
 lead_there xs m x at = slice_get-map lead_in xs m ∙ ap (option_map lead_in) at
 
 -- the node of a scene at a place
-node_is : (nodes : List PlainNode) (m : ℕ) (n : PlainNode) → slice_get nodes m ≡ Some n → node_at nodes m ≡ n
+pub node_is : (nodes : List PlainNode) (m : ℕ) (n : PlainNode) → slice_get nodes m ≡ Some n → node_at nodes m ≡ n
 node_is [] m n e = absurd cc
 node_is (x ∷ nodes) zero n e = same_Some x n e
 node_is (x ∷ nodes) (suc m) n e = node_is nodes m n e

@@ -1,6 +1,6 @@
 -- The ends of lanes that a party has before its first turn.
-use Rattle.std.proofs.Common.{◌≡◌, ◌+◌, ◌<◌, ◌==◌, ◌⊎◌, inl, inr, ⊤, ℕ, zero, suc, Bool, true, false, List, [], ◌∷◌, ◌++◌, Option, None, Some, length, map, refl, sym, ap, ◌∙◌, subst, arith}
-use Rattle.std.specs.Prelude.{IsSomeAnd, slice_get, if◌then◌else◌}
+use Rattle.std.proofs.Common.{◌≡◌, ◌+◌, ◌<◌, ◌==◌, ◌⊎◌, inl, inr, ℕ, zero, suc, Bool, true, false, List, [], ◌∷◌, ◌++◌, Option, None, Some, length, map, refl, sym, ap, ◌∙◌, subst, arith}
+use Rattle.std.specs.Prelude.{⊤, IsSomeAnd, slice_get, if◌then◌else◌}
 use Rattle.std.specs.List.{AllByRecursion, AllZip}
 use Rattle.std.specs.Option.{option_map}
 use Rattle.std.proofs.lemmas.Bool.{eqb-true}
@@ -72,7 +72,8 @@ pair_at R (n ∷ nodes) (ws ∷ wires) (y ∷ xs) (row ∷ rows) (suc node) k x 
     let r = pair_at R nodes wires xs rows node k x h.1 z.1 e in
     record { opened = r.opened; there = r.there; lane = r.lane; lane_at = r.lane_at; is = r.is; wire = r.wire; at = r.at; of = r.of }
 pair_at R nodes wires [] rows node k x h z e = absurd cc
-pair_at R [] wires (y ∷ xs) rows node k x h z e = absurd h
+pair_at R [] [] (y ∷ xs) rows node k x h z e = absurd h
+pair_at R [] (ws ∷ wires) (y ∷ xs) rows node k x h z e = absurd h
 pair_at R (n ∷ nodes) [] (y ∷ xs) rows node k x h z e = absurd h
 pair_at R (n ∷ nodes) (ws ∷ wires) (y ∷ xs) [] node k x h z e = absurd z
 
@@ -84,7 +85,7 @@ record AreSo (P : PlainSide → Type 0) (p node k : ℕ) (x : Pair) : Type 0 whe
 so_one : (P : PlainSide → Type 0) (p node k : ℕ) (x : Pair) → AreSo P p node k x → AllByRecursion P (handed_of p node k x)
 so_one P p node k x h = by (x.wire.from.party == p) (x.wire.to.party == p) refl refl where
   by : (c d : Bool) → (x.wire.from.party == p) ≡ c → (x.wire.to.party == p) ≡ d → AllByRecursion P ((if c then putting node k x ∷ [] else []) ++ (if d then getting node k x ∷ [] else []))
-  by true true a b = (h.from a, h.to b, tt)
+  by true true a b = (h.from a, (h.to b, tt))
   by true false a b = (h.from a, tt)
   by false true a b = (h.to b, tt)
   by false false a b = tt
@@ -103,7 +104,7 @@ so_from P p first (xs ∷ pairs) h =
     (so_from P p (first + 1) pairs (λ node j k x e same. h (suc node) j k x e (omega (arith, same))))
 
 -- which side of a lane an end is of
-pub side_by : Bool → wired.Side
+abbrev pub side_by : Bool → wired.Side
 side_by true = wired.putting
 side_by false = wired.getting
 

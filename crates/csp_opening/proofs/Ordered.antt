@@ -1,6 +1,6 @@
 -- The routers and bridges among the parties come in the order of their nodes.
-use Rattle.std.proofs.Common.{◌≡◌, ◌+◌, ◌<◌, ◌≤◌, ⊤, ℕ, zero, suc, List, [], ◌∷◌, ◌++◌, Option, None, Some, drop, length, map, refl, sym, ap, ◌∙◌, subst, arith}
-use Rattle.std.specs.Prelude.{slice_get}
+use Rattle.std.proofs.Common.{◌≡◌, ◌+◌, ◌<◌, ◌≤◌, ℕ, zero, suc, List, [], ◌∷◌, ◌++◌, Option, None, Some, drop, length, map, refl, sym, ap, ◌∙◌, subst, arith}
+use Rattle.std.specs.Prelude.{⊤, slice_get}
 use Rattle.std.specs.Option.{option_map}
 use Rattle.std.proofs.lemmas.List.{append_assoc}
 use Rattle.csp_ends.specs.Ends.{PlainHome}
@@ -77,7 +77,7 @@ first_is leads n m same = ap (λ k. first_home m (drop k leads)) (sym same) ∙ 
   by (x ∷ xs) (suc k) j = by xs k j
 
 others_are : (leads : List Lead) (n : ℕ) → others (drop n leads) ≡ drop (n + 1) leads
-others_are leads n = by leads n ∙ ap (λ k. drop k leads) (omega arith) where
+others_are leads n = (let same : suc n ≡ n + 1 = omega arith in by leads n ∙ ap (λ k. drop k leads) same) where
   by : (xs : List Lead) (k : ℕ) → others (drop k xs) ≡ drop (suc k) xs
   by [] zero = refl
   by [] (suc k) = refl

@@ -1,6 +1,6 @@
 -- How passes are parted among the parties of nodes.
-use Rattle.std.proofs.Common.{◌≡◌, ◌≢◌, ◌⊎◌, inl, inr, ◌+◌, ◌==◌, ◌<◌, ⊤, ℕ, zero, suc, Bool, true, false, true≢false, List, [], ◌∷◌, Option, None, Some, cond, length, map, refl, sym, ap, ◌∙◌, subst, arith}
-use Rattle.std.specs.Prelude.{IsSomeAnd, slice_get, if◌then◌else◌}
+use Rattle.std.proofs.Common.{◌≡◌, ◌≢◌, ◌⊎◌, inl, inr, ◌+◌, ◌==◌, ◌<◌, ℕ, zero, suc, Bool, true, false, true≢false, List, [], ◌∷◌, Option, None, Some, cond, length, map, refl, sym, ap, ◌∙◌, subst, arith}
+use Rattle.std.specs.Prelude.{⊤, IsSome, IsSomeAnd, slice_get, if◌then◌else◌}
 use Rattle.std.specs.List.{AllByRecursion, count_by}
 use Rattle.std.specs.Option.{option_map}
 use Rattle.std.proofs.lemmas.Bool.{eq-eqb, eqb-true}
@@ -16,7 +16,7 @@ use Rattle.csp_record.specs.declared.who.Who.{Who}
 use Rattle.csp_record.specs.declared.who.Who.TheVariants as who
 
 -- what no parting changes of the passes
-pub fixed : Lead → Lead
+abbrev pub fixed : Lead → Lead
 fixed l = record {
   pool = record { pool = l.pool.pool; hand = record l.pool.hand { out = 0 } };
   inbox = record l.inbox { role = inbox.role l.inbox.role.token.name l.inbox.role.room l.inbox.role.mark l.inbox.role.writes l.inbox.role.reads [] };
@@ -72,7 +72,7 @@ opening_stays [] (x ∷ others) e h = absurd cc
 opening_stays (l ∷ leads) [] e h = absurd cc
 
 -- whether a party's passes are split off from those of a node
-pub parts_at : ℕ → Who → Bool
+abbrev pub parts_at : ℕ → Who → Bool
 parts_at m (who.Iface n k) = n == m
 parts_at m (who.App n k) = n == m
 parts_at m (who.Router n) = false
@@ -97,42 +97,69 @@ pub record IsPast (m : ℕ) (w : Who) (l x : Lead) : Type 0 where
   pub marks : (j : ℕ) → is_in x.inbox.role.out j ≡ true → (is_in l.inbox.role.out j ≡ true) ⊎ (w ≡ who.Iface m j)
 
 -- a change at a place
-changed_at : (f : Lead → Lead) (k m : ℕ) (leads : List Lead) (l : Lead) → slice_get leads m ≡ Some l → slice_get (changed k f leads) m ≡ Some (if k == m then f l else l)
-changed_at f k m [] l e = absurd cc
-changed_at f zero zero (y ∷ leads) l e = ap (λ z. Some (f z)) (same_Some y l e)
-changed_at f zero (suc m) (y ∷ leads) l e = e
-changed_at f (suc k) zero (y ∷ leads) l e = e
-changed_at f (suc k) (suc m) (y ∷ leads) l e = changed_at f k m leads l e
+changed_same : (f : Lead → Lead) (k : ℕ) (leads : List Lead) (l : Lead) → slice_get leads k ≡ Some l → slice_get (changed k f leads) k ≡ Some (f l)
+changed_same f k [] l e = absurd cc
+changed_same f zero (y ∷ leads) l e = ap (λ z. Some (f z)) (same_Some y l e)
+changed_same f (suc k) (y ∷ leads) l e = changed_same f k leads l e
+
+changed_other : (f : Lead → Lead) (k m : ℕ) (leads : List Lead) → (k ≡ m → ⊥) → slice_get (changed k f leads) m ≡ slice_get leads m
+changed_other f k m [] apart = refl
+changed_other f zero zero (y ∷ leads) apart = absurd (apart refl)
+changed_other f zero (suc m) (y ∷ leads) apart = refl
+changed_other f (suc k) zero (y ∷ leads) apart = refl
+changed_other f (suc k) (suc m) (y ∷ leads) apart = changed_other f k m leads (λ e. apart (ap suc e))
+
+unlike : (k m : ℕ) → (k == m) ≡ false → k ≡ m → ⊥
+unlike k m e same = true≢false (sym (eq-eqb k m same) ∙ e)
 
 marked : (b : Bool) (k j : ℕ) (rest : Bool) → (k == j) ≡ b → cond b true rest ≡ true → (rest ≡ true) ⊎ (k ≡ j)
 marked true k j rest at e = inr (eqb-true k j at)
 marked false k j rest at e = inl e
 
+same_mark : (n m k j : ℕ) {b : Bool} → n ≡ m → (b ≡ true) ⊎ (k ≡ j) → (b ≡ true) ⊎ (who.Iface n k ≡ who.Iface m j)
+same_mark n m k j node (inl x) = inl x
+same_mark n m k j node (inr same) = inr (λ i. who.Iface (node i) (same i))
+
 left_at : (leads : List Lead) (w : Who) (m : ℕ) (l : Lead) → slice_get leads m ≡ Some l → (x : Lead) × (slice_get (part_left leads w) m ≡ Some x) × IsPast m w l x
-left_at leads (who.Iface n k) m l e = ((if n == m then after_iface k l else l), changed_at (after_iface k) n m leads l e, by (n == m) refl) where
-  by : (b : Bool) → (n == m) ≡ b → IsPast m (who.Iface n k) l (if b then after_iface k l else l)
-  by true at = record {
-    fixed = refl;
-    out = ap (λ c. l.pool.hand.out + cond c 1 0) (sym at);
-    marks = λ j is. ⊎_map j (marked (k == j) k j (is_in l.inbox.role.out j) refl is);
-  } where
-    ⊎_map : (j : ℕ) → (is_in l.inbox.role.out j ≡ true) ⊎ (k ≡ j) → (is_in l.inbox.role.out j ≡ true) ⊎ (who.Iface n k ≡ who.Iface m j)
-    ⊎_map j (inl x) = inl x
-    ⊎_map j (inr same) = inr (λ i. who.Iface (eqb-true n m at i) (same i))
-  by false at = record { fixed = refl; out = ap (λ c. l.pool.hand.out + cond c 1 0) (sym at); marks = λ j is. inl is }
-left_at leads (who.App n k) m l e = ((if n == m then after_app l else l), changed_at after_app n m leads l e, by (n == m) refl) where
-  by : (b : Bool) → (n == m) ≡ b → IsPast m (who.App n k) l (if b then after_app l else l)
-  by true at = record { fixed = refl; out = ap (λ c. l.pool.hand.out + cond c 1 0) (sym at); marks = λ j is. inl is }
-  by false at = record { fixed = refl; out = ap (λ c. l.pool.hand.out + cond c 1 0) (sym at); marks = λ j is. inl is }
-left_at leads (who.Router n) m l e = (l, e, record { fixed = refl; out = omega arith; marks = λ j is. inl is })
-left_at leads (who.Bridge n) m l e = (l, e, record { fixed = refl; out = omega arith; marks = λ j is. inl is })
-left_at leads (who.Link k) m l e = (l, e, record { fixed = refl; out = omega arith; marks = λ j is. inl is })
+left_at leads (who.Iface n k) m l e = by (n == m) refl where
+  by : (b : Bool) → (n == m) ≡ b → (x : Lead) × (slice_get (changed n (after_iface k) leads) m ≡ Some x) × IsPast m (who.Iface n k) l x
+  by true at =
+      let node : n ≡ m = eqb-true n m at in
+      (
+        after_iface k l,
+        ap (λ j. slice_get (changed j (after_iface k) leads) m) node ∙ changed_same (after_iface k) m leads l e,
+        record {
+          fixed = refl;
+          out = ap (λ c. l.pool.hand.out + cond c 1 0) (sym at);
+          marks = λ j is. same_mark n m k j node (marked (k == j) k j (is_in l.inbox.role.out j) refl is);
+        },
+      )
+  by false at = (
+    l,
+    changed_other (after_iface k) n m leads (unlike n m at) ∙ e,
+    record { fixed = refl; out = (let z : cond {A = ℕ} (parts_at m (who.Iface n k)) 1 0 ≡ 0 = ap (λ c. cond c 1 0) at in omega (arith, z)); marks = λ j is. inl is },
+  )
+left_at leads (who.App n k) m l e = by (n == m) refl where
+  by : (b : Bool) → (n == m) ≡ b → (x : Lead) × (slice_get (changed n after_app leads) m ≡ Some x) × IsPast m (who.App n k) l x
+  by true at = (
+    after_app l,
+    ap (λ j. slice_get (changed j after_app leads) m) (eqb-true n m at) ∙ changed_same after_app m leads l e,
+    record { fixed = refl; out = ap (λ c. l.pool.hand.out + cond c 1 0) (sym at); marks = λ j is. inl is },
+  )
+  by false at = (
+    l,
+    changed_other after_app n m leads (unlike n m at) ∙ e,
+    record { fixed = refl; out = (let z : cond {A = ℕ} (parts_at m (who.App n k)) 1 0 ≡ 0 = ap (λ c. cond c 1 0) at in omega (arith, z)); marks = λ j is. inl is },
+  )
+left_at leads (who.Router n) m l e = (l, e, record { fixed = refl; out = (let z : cond {A = ℕ} (parts_at m (who.Router n)) 1 0 ≡ 0 = refl in omega (arith, z)); marks = λ j is. inl is })
+left_at leads (who.Bridge n) m l e = (l, e, record { fixed = refl; out = (let z : cond {A = ℕ} (parts_at m (who.Bridge n)) 1 0 ≡ 0 = refl in omega (arith, z)); marks = λ j is. inl is })
+left_at leads (who.Link k) m l e = (l, e, record { fixed = refl; out = (let z : cond {A = ℕ} (parts_at m (who.Link k)) 1 0 ≡ 0 = refl in omega (arith, z)); marks = λ j is. inl is })
 
 later : (m j : ℕ) (w : Who) (ws : List Who) → HasMark m j ws → HasMark m j (w ∷ ws)
 later m j w ws h = record { place = suc h.place; at = h.at }
 
 pub parts_at_node : (leads : List Lead) (ws : List Who) (m : ℕ) (l : Lead) → slice_get leads m ≡ Some l → (x : Lead) × (slice_get (parts_left leads ws) m ≡ Some x) × IsLeft m ws l x
-parts_at_node leads [] m l e = (l, e, record { fixed = refl; out = omega arith; marks = λ j is. inl is })
+parts_at_node leads [] m l e = (l, e, record { fixed = refl; out = (let z : count_by (parts_at m) [] ≡ 0 = refl in omega (arith, z)); marks = λ j is. inl is })
 parts_at_node leads (w ∷ ws) m l e =
     let one = left_at leads w m l e in
     let all = parts_at_node (part_left leads w) ws m one.0 one.1 in
@@ -208,7 +235,7 @@ can_part nodes leads (who.Iface n k) ws long ok ready =
     })
 can_part nodes leads (who.App n k) ws long ok ready =
     let l = there leads n (omega (arith, ok, long)) in
-    subst (λ o. IsSomeAnd o (λ x. ⊤)) (sym l.1) tt
+    subst (λ (o : Option Lead). IsSome o) (sym l.1) refl
 can_part nodes leads (who.Router n) ws long ok ready = tt
 can_part nodes leads (who.Bridge n) ws long ok ready = tt
 can_part nodes leads (who.Link k) ws long ok ready = tt

@@ -1,6 +1,6 @@
 -- What a party has in hand before its first turn is what it uses.
-use Rattle.std.proofs.Common.{◌≡◌, ◌≢◌, ◌+◌, ◌⊎◌, inl, inr, ⊤, ℕ, zero, suc, Bool, true, false, true≢false, List, [], ◌∷◌, ◌++◌, Option, None, Some, cond, length, map, refl, sym, ap, ◌∙◌, subst, arith}
-use Rattle.std.specs.Prelude.{IfSome, slice_get, if◌then◌else◌}
+use Rattle.std.proofs.Common.{◌≡◌, ◌≢◌, ◌+◌, ◌⊎◌, inl, inr, ℕ, zero, suc, Bool, true, false, true≢false, List, [], ◌∷◌, ◌++◌, Option, None, Some, cond, length, map, refl, sym, ap, ◌∙◌, subst, arith}
+use Rattle.std.specs.Prelude.{⊤, IfSome, slice_get, if◌then◌else◌}
 use Rattle.std.specs.List.{AllByRecursion, find}
 use Rattle.std.specs.Option.{option_and_then, option_map}
 use Rattle.std.proofs.lemmas.Bool.{eq-eqb, eqb-true}
@@ -141,7 +141,7 @@ one_spot scene nodes regions w s t apart a b e =
 -- what goes through an end is of the region of the party's home, where it is of any
 within_home : (scene : PlainScene) (nodes : List PlainNodeQueues) (regions : List RegionName) (w : Who) (opened : List ℕ) (home : Option PlainHome) (s : PlainSide) → AllHome scene → IsHomeNew nodes regions w opened home
     → IsSideNew scene nodes regions w s → IsWithin (region_or home) s
-within_home scene nodes regions w opened home s stays new is = λ no. by no (own (side_by s.puts) is.called (stays s.node s.lane is.wire is.at)) where
+within_home scene nodes regions w opened home s stays new is = λ plain. by plain (own (side_by s.puts) is.called (stays s.node s.lane is.wire is.at)) where
   own : (d : wired.Side) → wired.end_on d is.wire ≡ record { who = w; queue = s.queue } → wired.StaysHome scene s.node is.wire → (node_of w ≡ Some s.node) ⊎ IsLinkRule is.wire.carries
   own wired.putting named h = end named h.from where
     end : is.wire.from ≡ record { who = w; queue = s.queue } → wired.IsEndOf s.node is.wire is.wire.from → (node_of w ≡ Some s.node) ⊎ IsLinkRule is.wire.carries
@@ -152,8 +152,8 @@ within_home scene nodes regions w opened home s stays new is = λ no. by no (own
     end name (inl o) = inl (ap (λ (e : PlainEnd). node_of e.who) (sym name) ∙ o.home)
     end name (inr l) = inr l.frames
   by : (IsLinkRule s.end.carries → ⊥) → (node_of w ≡ Some s.node) ⊎ IsLinkRule is.wire.carries → s.end.region ≡ region_or home
-  by no (inr frames) = absurd (no (subst IsLinkRule (sym is.carries) frames))
-  by no (inl at) =
+  by plain (inr frames) = absurd (plain (subst IsLinkRule (sym is.carries) frames))
+  by plain (inl at) =
       let h = home_named home s.node (new.among.node ∙ at) in
       let its : slice_get regions h.0.node ≡ Some h.0.pool.hand.region = subst (λ o. IfSome o (λ x. slice_get regions x.node ≡ Some x.pool.hand.region)) h.1 new.among.region in
       same_Some s.end.region h.0.pool.hand.region (sym is.among ∙ ap (slice_get regions) (sym h.2) ∙ its) ∙ ap region_or (sym h.1)
@@ -172,15 +172,17 @@ are_ends scene nodes regions w opened home sides apart stays called new all spot
       spots a b s t e f (one_spot scene nodes regions w s t apart (all_at (IsSideNew scene nodes regions w) sides a s all e) (all_at (IsSideNew scene nodes regions w) sides b t all f) same);
 }
 
+never : (b : Bool) → (b ≡ true → ⊥) → b ≡ false
+never false wrong = refl
+never true wrong = absurd (wrong refl)
+
 -- the end that a party calls so is the first of that name
 found : (q : QueueId) (sides : List PlainSide) (k : ℕ) (s : PlainSide) → slice_get sides k ≡ Some s → is_queue q s.queue ≡ true → ((j : ℕ) (t : PlainSide) → slice_get sides j ≡ Some t → is_queue q t.queue ≡ true → j ≡ k) → side_named q sides ≡ Some s
 found q [] k s e is one = absurd cc
-found q (x ∷ sides) k s e is one = by k (is_queue q x.queue) refl e one where
-  by : (m : ℕ) (b : Bool) → is_queue q x.queue ≡ b → slice_get (x ∷ sides) m ≡ Some s → ((j : ℕ) (t : PlainSide) → slice_get (x ∷ sides) j ≡ Some t → is_queue q t.queue ≡ true → j ≡ m) → cond b (Some x) (side_named q sides) ≡ Some s
-  by zero true at f only = f
-  by zero false at f only = absurd (true≢false (sym is ∙ ap (λ (z : PlainSide). is_queue q z.queue) (sym (same_Some x s f)) ∙ at))
-  by (suc m) true at f only = absurd (let wrong = only 0 x refl at in omega (arith, wrong))
-  by (suc m) false at f only = found q sides m s f is (λ j t g same. (let e = only (suc j) t g same in omega (arith, e)))
+found q (x ∷ sides) zero s e is one = ap (λ b. cond b (Some x) (side_named q sides)) (ap (λ (z : PlainSide). is_queue q z.queue) (same_Some x s e) ∙ is) ∙ e
+found q (x ∷ sides) (suc k) s e is one =
+    ap (λ b. cond b (Some x) (side_named q sides)) (never (is_queue q x.queue) (λ t. (let wrong = one 0 x refl t in omega (arith, wrong))))
+    ∙ found q sides k s e is (λ j t g same. (let late = one (suc j) t g same in omega (arith, late)))
 
 -- a lane of this name carries what the party takes it to carry
 lane_served : (scene : PlainScene) (w : Who) (e : PlainEnds) (q : QueueId) (r : Rule) → map name_of e.sides ≡ sides_of scene w → AreEnds e → wired.HasLane scene w q r → rule_of e q ≡ Some r
@@ -196,12 +198,12 @@ lane_served scene w e q r names ends h =
     let rule_is : rule.Lane x.side.end.carries ≡ r = ap (λ (n : SideName). rule.Lane n.carries) x.named ∙ sym h.carries in
     by q (all_at (λ (s : PlainSide). is_queue queue.Inbox s.queue ≡ false) e.sides x.place x.side ends.lanes x.at) queue_at there rule_is where
       by : (p : QueueId) → {s : PlainSide} → is_queue queue.Inbox s.queue ≡ false → s.queue ≡ p → side_named p e.sides ≡ Some s → rule.Lane s.end.carries ≡ r → rule_of e p ≡ Some r
-      by queue.Inbox no at there same = absurd (true≢false (sym (ap (is_queue queue.Inbox) at) ∙ no))
-      by (queue.Up k) no at there same = ap (option_map (λ z. rule.Lane z.end.carries)) there ∙ ap Some same
-      by (queue.Down k) no at there same = ap (option_map (λ z. rule.Lane z.end.carries)) there ∙ ap Some same
-      by (queue.Out k) no at there same = ap (option_map (λ z. rule.Lane z.end.carries)) there ∙ ap Some same
-      by (queue.Tx k) no at there same = ap (option_map (λ z. rule.Lane z.end.carries)) there ∙ ap Some same
-      by (queue.Rx k) no at there same = ap (option_map (λ z. rule.Lane z.end.carries)) there ∙ ap Some same
+      by queue.Inbox lane at there same = absurd (true≢false (sym (ap (is_queue queue.Inbox) at) ∙ lane))
+      by (queue.Up k) lane at there same = ap (option_map (λ z. rule.Lane z.end.carries)) there ∙ ap Some same
+      by (queue.Down k) lane at there same = ap (option_map (λ z. rule.Lane z.end.carries)) there ∙ ap Some same
+      by (queue.Out k) lane at there same = ap (option_map (λ z. rule.Lane z.end.carries)) there ∙ ap Some same
+      by (queue.Tx k) lane at there same = ap (option_map (λ z. rule.Lane z.end.carries)) there ∙ ap Some same
+      by (queue.Rx k) lane at there same = ap (option_map (λ z. rule.Lane z.end.carries)) there ∙ ap Some same
 
 -- a party has what it uses
 pub is_served : (scene : PlainScene) (nodes : List PlainNodeQueues) (regions : List RegionName) (w : Who) (opened : List ℕ) (e : PlainEnds) (q : QueueId) (r : Rule) → map name_of e.sides ≡ sides_of scene w → AreEnds e

@@ -1,6 +1,6 @@
 -- No two ends that a party is handed are of one lane and one way.
-use Rattle.std.proofs.Common.{◌≡◌, ◌+◌, ◌≤◌, ◌==◌, ⊤, ℕ, zero, suc, Bool, true, false, true≢false, List, [], ◌∷◌, ◌++◌, Option, None, Some, refl, sym, ap, ◌∙◌, subst, arith}
-use Rattle.std.specs.Prelude.{slice_get, if◌then◌else◌}
+use Rattle.std.proofs.Common.{◌≡◌, ◌+◌, ◌≤◌, ◌==◌, ℕ, zero, suc, Bool, true, false, true≢false, List, [], ◌∷◌, ◌++◌, Option, None, Some, refl, sym, ap, ◌∙◌, subst, arith}
+use Rattle.std.specs.Prelude.{⊤, slice_get, if◌then◌else◌}
 use Rattle.std.specs.List.{AllByRecursion}
 use Rattle.std.proofs.lemmas.Option.{same_Some}
 use Rattle.csp_ends.specs.Ends.{PlainSide}
@@ -29,17 +29,17 @@ spread_append [] ys a b cross = b
 spread_append (x ∷ xs) ys a b cross = (AllByRecursion-append (λ (t : PlainSide). SameSpot x t → ⊥) xs ys a.0 cross.0, spread_append xs ys a.1 b cross.1)
 
 crossing : (A B : PlainSide → Type 0) → ((s t : PlainSide) → A s → B t → SameSpot s t → ⊥) → (xs ys : List PlainSide) → AllByRecursion A xs → AllByRecursion B ys → AllByRecursion (Unlike ys) xs
-crossing A B no [] ys a b = tt
-crossing A B no (x ∷ xs) ys a b = (one ys b, crossing A B no xs ys a.1 b) where
+crossing A B clash [] ys a b = tt
+crossing A B clash (x ∷ xs) ys a b = (one ys b, crossing A B clash xs ys a.1 b) where
   one : (zs : List PlainSide) → AllByRecursion B zs → Unlike zs x
   one [] h = tt
-  one (z ∷ zs) h = (no x z a.0 h.0, one zs h.1)
+  one (z ∷ zs) h = (clash x z a.0 h.0, one zs h.1)
 
 -- what holds of both ends of a pair holds of those that are handed
 of_one : (P : PlainSide → Type 0) (p node lane : ℕ) (x : Pair) → P (putting node lane x) → P (getting node lane x) → AllByRecursion P (handed_of p node lane x)
 of_one P p node lane x a b = by (x.wire.from.party == p) (x.wire.to.party == p) where
   by : (c d : Bool) → AllByRecursion P ((if c then putting node lane x ∷ [] else []) ++ (if d then getting node lane x ∷ [] else []))
-  by true true = (a, b, tt)
+  by true true = (a, (b, tt))
   by true false = (a, tt)
   by false true = (b, tt)
   by false false = tt
@@ -75,7 +75,7 @@ nodes_low p node (xs ∷ pairs) =
 spread_of : (p node lane : ℕ) (x : Pair) → Spread (handed_of p node lane x)
 spread_of p node lane x = by (x.wire.from.party == p) (x.wire.to.party == p) where
   by : (c d : Bool) → Spread ((if c then putting node lane x ∷ [] else []) ++ (if d then getting node lane x ∷ [] else []))
-  by true true = ((λ same. true≢false same.puts, tt), tt, tt)
+  by true true = ((λ same. true≢false same.puts, tt), (tt, tt))
   by true false = (tt, tt)
   by false true = (tt, tt)
   by false false = tt

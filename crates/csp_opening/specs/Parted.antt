@@ -1,5 +1,5 @@
 -- How the passes of nodes are parted among parties.
-use Rattle.std.specs.Prelude.{◌≡◌, ⊤, ℕ, zero, suc, true, Option, None, Some, List, [], ◌∷◌, IsSomeAnd, slice_get}
+use Rattle.std.specs.Prelude.{◌≡◌, ⊤, ℕ, zero, suc, true, Option, None, Some, List, [], ◌∷◌, IsSome, IsSomeAnd, slice_get}
 use Rattle.std.specs.Option.{option_map}
 use Rattle.csp_ends.specs.Ends.{PlainHome, PlainNodeQueues}
 use Rattle.csp_inbox.specs.Passes as inbox
@@ -87,7 +87,7 @@ AreLeadsOf _ _ = ⊥
 -- the passes of a party can be split off: it is of one of these nodes, and no other has its mark
 abbrev pub CanPart : List Lead → Who → Type 0
 CanPart leads (who.Iface node number) = IsSomeAnd (slice_get leads node) (λ l. inbox.IsFree l.inbox number)
-CanPart leads (who.App node _) = IsSomeAnd (slice_get leads node) (λ l. ⊤)
+CanPart leads (who.App node _) = IsSome (slice_get leads node)
 CanPart leads (who.Router _) = ⊤
 CanPart leads (who.Bridge _) = ⊤
 CanPart leads (who.Link _) = ⊤

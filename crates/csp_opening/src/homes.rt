@@ -1,9 +1,10 @@
 //! The passes of the pools and the inboxes, and who has them.
 
-ghost use Rattle.std.specs.Prelude.{◌≡◌, ◌+◌, ◌≤◌, ◌++◌, length, map, vec_len, vec_capacity};
+ghost use Rattle.std.specs.Prelude.{◌≡◌, ◌+◌, ◌≤◌, ◌++◌, Some, IsSome, IsSomeAnd, length, map, slice_get, vec_len, vec_capacity};
 ghost use Rattle.std.specs.List.{AllByRecursion};
+ghost use Rattle.std.specs.Option.{option_map};
 ghost use Rattle.csp_inbox.specs.Passes.{IsFree};
-ghost use Rattle.csp_opening.specs.Parted.{AreLeadsOf, CanPart, CanPartAll, IsLeadOf, IsOpening, after_app, after_iface, app_home, home_with, iface_home, lead_home, leads_past, part_home, part_homes, part_left, parts_left};
+ghost use Rattle.csp_opening.specs.Parted.{AreLeadsOf, CanPart, CanPartAll, IsLeadOf, IsOpening, after_app, after_iface, app_home, changed, home_with, iface_home, lead_home, leads_past, part_home, part_homes, part_left, parts_left};
 
 use crate::seats::Seat;
 use csp_deck::UNMARKED;
@@ -99,16 +100,34 @@ fn part_pass(queues: &Queues, who: Who, leads: &mut Vec<Lead>) -> Option<Home>
     ensures of_it { AreLeadsOf queues.now leads.new.items }
 {
     match who {
-        Who::Iface(node, number) => {
-            let place = usize::from(node);
-            Some(leads[place].iface(&queues.nodes[place], node, number))
-        }
-        Who::App(node, _) => {
-            let place = usize::from(node);
-            Some(leads[place].app(&queues.nodes[place], node))
-        }
+        Who::Iface(node, number) => Some(part_iface(queues, node, number, leads)),
+        Who::App(node, _) => Some(part_app(queues, node, leads)),
         Who::Router(_) | Who::Bridge(_) | Who::Link(_) => None,
     }
+}
+
+/// Splits off those of an interface.
+fn part_iface(queues: &Queues, node: u8, number: u8, leads: &mut Vec<Lead>) -> Home
+    requires of_it { AreLeadsOf queues.now leads.old.items }
+    requires can { IsSomeAnd (slice_get leads.old.items node) (λ l. IsFree l.inbox number) }
+    ensures home { option_map (iface_home node number) (slice_get leads.old.items node) ≡ Some result }
+    ensures leads { leads.new.items ≡ changed node (after_iface number) leads.old.items }
+    ensures of_it { AreLeadsOf queues.now leads.new.items }
+{
+    let place = usize::from(node);
+    leads[place].iface(&queues.nodes[place], node, number)
+}
+
+/// Splits off that of an application.
+fn part_app(queues: &Queues, node: u8, leads: &mut Vec<Lead>) -> Home
+    requires of_it { AreLeadsOf queues.now leads.old.items }
+    requires can { IsSome (slice_get leads.old.items node) }
+    ensures home { option_map (app_home node) (slice_get leads.old.items node) ≡ Some result }
+    ensures leads { leads.new.items ≡ changed node after_app leads.old.items }
+    ensures of_it { AreLeadsOf queues.now leads.new.items }
+{
+    let place = usize::from(node);
+    leads[place].app(&queues.nodes[place], node)
 }
 
 /// The home of a party: of a router or a bridge the passes that come next, of any other what was split off for it.

@@ -8,6 +8,7 @@ use crate::lanes::Pair;
 use csp_ends::{LaneEnd, Side};
 use csp_topology::Wire;
 use std::alloc::{AllocError, Global};
+use std::collections::VecDeque;
 
 /// A list for each of so many parties, with room for its ends of the lanes of these wires.
 pub(crate) fn blank_sides(
@@ -44,7 +45,8 @@ fn ends_at(place: u16, wires: &[Vec<Wire>]) -> usize
 /// How many of one node.
 fn ends_among(place: u16, wires: &[Wire]) -> usize
     requires { length wires.now < 256 }
-    ensures { result ≡ ends_among place wires.now }
+    ensures count { result ≡ ends_among place wires.now }
+    ensures few { result ≤ 512 }
 {
     let mut count = 0;
     for wire in wires {
@@ -55,7 +57,8 @@ fn ends_among(place: u16, wires: &[Wire]) -> usize
 
 /// How many of one lane.
 fn ends_of(place: u16, wire: &Wire) -> usize
-    ensures { result ≡ ends_of place wire.now }
+    ensures count { result ≡ ends_of place wire.now }
+    ensures few { result ≤ 2 }
 {
     usize::from(wire.from.party == place) + usize::from(wire.to.party == place)
 }
@@ -68,8 +71,11 @@ pub(crate) fn hand_out(nodes: Vec<Vec<Pair>>, sides: &mut Vec<Vec<Side>>)
     requires room { HaveRoom sides.old.items (λ p. length (handed_from p 0 (map (λ pairs. pairs.items) nodes.items))) }
     ensures { AreHanded sides.old.items (λ p. handed_from p 0 (map (λ pairs. pairs.items) nodes.items)) sides.new.items }
 {
-    for (node, pairs) in nodes.into_iter().enumerate() {
-        hand_out_at(node as u8, pairs, sides);
+    let mut nodes = VecDeque::from_vec(nodes);
+    let mut node = 0;
+    while let Some(pairs) = nodes.pop_front() {
+        hand_out_at(node, pairs, sides);
+        node += 1;
     }
 }
 
@@ -80,8 +86,11 @@ fn hand_out_at(node: u8, pairs: Vec<Pair>, sides: &mut Vec<Vec<Side>>)
     requires room { HaveRoom sides.old.items (λ p. length (handed_among p node 0 pairs.items)) }
     ensures { AreHanded sides.old.items (λ p. handed_among p node 0 pairs.items) sides.new.items }
 {
-    for (lane, pair) in pairs.into_iter().enumerate() {
-        hand_pair(node, lane as u8, pair, sides);
+    let mut pairs = VecDeque::from_vec(pairs);
+    let mut lane = 0;
+    while let Some(pair) = pairs.pop_front() {
+        hand_pair(node, lane, pair, sides);
+        lane += 1;
     }
 }
 
