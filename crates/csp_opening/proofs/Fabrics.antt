@@ -192,7 +192,7 @@ all_posts : (P : SeenPost → Type 0) (xs : List Node) (ws : List Who) (p : ℕ)
 all_posts P xs ws p [] h = tt
 all_posts P xs ws p (s ∷ seats) h = (h 0 p s refl (omega arith), all_posts P xs ws (p + 1) seats (λ k j t e same. h (suc k) j t e (omega (arith, same))))
 
-tail : {A : Type 0} → List A → List A
+abbrev tail : {A : Type 0} → List A → List A
 tail [] = []
 tail (x ∷ xs) = xs
 

@@ -2,6 +2,7 @@ mod Assembly
 mod Counts
 mod Fabrics
 mod Given
+mod Leaving
 mod Named
 mod NewHomes
 mod NewSides

@@ -1,12 +1,12 @@
 -- The memory and the queues of nodes, of which nothing was handed out yet.
-use Rattle.std.specs.Prelude.{◌≡◌, ◌+◌, ◌*◌, ◌<◌, ◌≤◌, ⊤, ℕ, List, [], ◌∷◌, length, map, vec_capacity}
+use Rattle.std.specs.Prelude.{◌≡◌, ◌+◌, ◌*◌, ◌<◌, ◌≤◌, ⊤, ℕ, List, [], ◌∷◌, ◌++◌, length, map, vec_capacity}
 use Rattle.std.specs.Global.{Vec}
 use Rattle.std.specs.List.{AllByRecursion, range_with_len, sum_by}
 use Rattle.csp_arena.specs.Cells.{RegionName}
 use Rattle.csp_base.specs.declared.priority.Prio.{Prio}
 use Rattle.csp_ends.specs.Ends.{PlainNodeQueues}
 use Rattle.csp_inbox.specs.Passes as mails
-use Rattle.csp_lane.specs.Ends as lane
+use Rattle.csp_lane.specs.Ends as ways
 use Rattle.csp_opening.specs.declared.bases.Base.{Base}
 use Rattle.csp_opening.specs.declared.homes.Lead.{Lead}
 use Rattle.csp_opening.specs.declared.lanes.Lanes.{Lanes}
@@ -34,30 +34,38 @@ pub record IsMail (m : Mail) : Type 0 where
   pub room : m.inbox.room ≤ m.room
 
 -- the ends of a lane that was just opened, for a wire
-abbrev pub pair_of : RegionName → Wire → lane.PlainLane → Pair
-pair_of region w l = record { wire = w; producer = lane.fresh_end l region w.carries; consumer = lane.fresh_end l region w.carries }
+abbrev pub pair_of : RegionName → Wire → ways.PlainLane → Pair
+pair_of region w l = record { wire = w; producer = ways.fresh_end l region w.carries; consumer = ways.fresh_end l region w.carries }
 
 -- those of the lanes of these wires
-abbrev pub pairs_on : RegionName → List Wire → List lane.PlainLane → List Pair
+abbrev pub pairs_on : RegionName → List Wire → List ways.PlainLane → List Pair
 pairs_on region [] lanes = []
 pairs_on region (w ∷ wires) [] = []
 pairs_on region (w ∷ wires) (l ∷ lanes) = pair_of region w l ∷ pairs_on region wires lanes
 
 -- the lanes of these wires, as they were opened: each has its room, and so has its end
 pub record AreLanes (region : RegionName) (wires : List Wire) (l : Lanes) : Type 0 where
-  pub rooms : map (λ (x : lane.PlainLane). x.room) l.lanes.items ≡ map (λ (w : Wire). w.room) wires
+  pub rooms : map (λ (x : ways.PlainLane). x.room) l.lanes.items ≡ map (λ (w : Wire). w.room) wires
   pub spare : l.rooms.items ≡ map (λ (w : Wire). w.room) wires
   pub ends : l.ends.items ≡ pairs_on region wires l.lanes.items
 
+-- the lanes with that of one wire more
+pub record HasLaneMore (region : RegionName) (w : Wire) (a b : Lanes) : Type 0 where
+  pub lane : ways.PlainLane
+  pub room : lane.room ≡ w.room
+  pub lanes : b.lanes.items ≡ a.lanes.items ++ lane ∷ []
+  pub rooms : b.rooms.items ≡ a.rooms.items ++ w.room ∷ []
+  pub ends : b.ends.items ≡ a.ends.items ++ pair_of region w lane ∷ []
+
 -- these are ends of the lane, nothing was put into it, and there is room for what might have been
-pub record IsUnused (l : lane.PlainLane) (space : ℕ) (x : Pair) : Type 0 where
-  pub producer : lane.IsEndOf l x.producer
-  pub consumer : lane.IsEndOf l x.consumer
+pub record IsUnused (l : ways.PlainLane) (space : ℕ) (x : Pair) : Type 0 where
+  pub producer : ways.IsEndOf l x.producer
+  pub consumer : ways.IsEndOf l x.consumer
   pub none : x.producer.items ≡ []
   pub room : l.room ≤ space
 
 -- so are those of each
-abbrev pub AreUnused : List lane.PlainLane → List ℕ → List Pair → Type 0
+abbrev pub AreUnused : List ways.PlainLane → List ℕ → List Pair → Type 0
 AreUnused [] [] [] = ⊤
 AreUnused (l ∷ lanes) (room ∷ rooms) (x ∷ ends) = IsUnused l room x × AreUnused lanes rooms ends
 AreUnused _ _ _ = ⊥

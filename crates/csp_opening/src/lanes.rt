@@ -1,9 +1,8 @@
 //! The lanes of a node.
 
-ghost use Rattle.std.specs.Prelude.{◌≡◌, ◌+◌, ◌<◌, ◌≤◌, ◌++◌, ◌∷◌, [], length, IfOk, OnErr, OnOk, vec_len, vec_capacity};
+ghost use Rattle.std.specs.Prelude.{◌≡◌, ◌<◌, ◌≤◌, [], IfOk, OnErr, OnOk, vec_len, vec_capacity};
 ghost use Rattle.std.specs.List.{AllByRecursion};
-ghost use Rattle.csp_lane.specs.Ends.{PlainLane};
-ghost use Rattle.csp_opening.specs.Opened.{AreLanes, AreUnused, pair_of};
+ghost use Rattle.csp_opening.specs.Opened.{AreLanes, AreUnused, HasLaneMore};
 
 use crate::next::next;
 use csp_arena::RegionToken;
@@ -49,9 +48,12 @@ impl Lanes {
     {
         let mut lanes = Lanes::blank(alloc, wires.len())?;
         for wire in wires {
-            if let Err(error) = lanes.add(alloc, region, wire) {
-                lanes.leave(rt);
-                return Err(error);
+            match lanes.add(alloc, region, wire) {
+                Ok(()) => {}
+                Err(error) => {
+                    lanes.leave(rt);
+                    return Err(error);
+                }
             }
         }
         Ok(lanes)
@@ -81,7 +83,7 @@ impl Lanes {
         requires lanes_room { vec_len self.old.lanes < vec_capacity self.old.lanes }
         requires rooms_room { vec_len self.old.rooms < vec_capacity self.old.rooms }
         requires ends_room { vec_len self.old.ends < vec_capacity self.old.ends }
-        ensures added { OnOk result ((lane : PlainLane) × (lane.room ≡ wire.now.room) × (self.new.lanes.items ≡ self.old.lanes.items ++ lane ∷ []) × (self.new.rooms.items ≡ self.old.rooms.items ++ wire.now.room ∷ []) × (self.new.ends.items ≡ self.old.ends.items ++ pair_of region.now.name wire.now lane ∷ [])) }
+        ensures added { OnOk result (HasLaneMore region.now.name wire.now self.old self.new) }
         ensures refused { OnErr result (self.new ≡ self.old) }
         ensures lanes_capacity { vec_capacity self.new.lanes ≡ vec_capacity self.old.lanes }
         ensures rooms_capacity { vec_capacity self.new.rooms ≡ vec_capacity self.old.rooms }

@@ -20,7 +20,10 @@ use csp_ends::Queues;
 use csp_fabric::Fabric;
 use csp_posts::Post;
 use csp_scene::{Scene, SceneNode};
-use csp_topology::{Opening, Topology, Wire};
+use csp_topology::{
+    Opening, Topology, Wire, counts_parties, names_ends_apart, names_parties_apart, orders_wires,
+    serves_parties, stays_home,
+};
 use std::alloc::{AllocError, Global};
 use std::sync::Wait;
 
@@ -40,6 +43,12 @@ pub fn open_fabric<R: Wait>(
     ensures new { IfOk result (λ r. AllByRecursion (λ s. s.plain.entries ≡ []) r.1.items) }
     ensures fresh { IfOk result (λ r. AllByRecursion (λ s. IfSome s.plain.ends.home IsFresh) r.1.items) }
 {
+    counts_parties();
+    names_ends_apart();
+    names_parties_apart();
+    orders_wires();
+    serves_parties();
+    stays_home();
     let topology = Topology::of(alloc, scene)?;
     let wires = topology.wires(alloc, scene)?;
     let blanks = Blanks::open(alloc, topology.parties.len() as u16, &wires)?;

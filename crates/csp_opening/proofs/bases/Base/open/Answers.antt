@@ -1,6 +1,6 @@
 use Rattle.std.proofs.Common.{◌≡◌, ◌<◌, ◌≤◌, List, length, sym, subst, ap, ◌∙◌, arith}
 use Rattle.std.specs.List.{range_with_len}
-use Rattle.csp_buffer.specs.Memory.{AreAllOf, PlainMemory}
+use Rattle.csp_buffer.specs.Memory.{AreAllOf, PlainMemory, fresh_all}
 use Rattle.csp_buffer.specs.PlainBuffer.{PlainBuffer}
 use Rattle.csp_opening.proofs.Stores.{all_fresh, fresh_long, fresh_numbers}
 use Rattle.csp_pool.specs.Hands.{opening_hand}
@@ -17,7 +17,7 @@ open-requires-2-clause-some g c =
 pub open-requires-2-clause-of_it : goal.open-requires-2-clause-of_it
 open-requires-2-clause-of_it g c =
     let m : PlainMemory = record { region = c.in_ok-store.store.region; count = c.args.count } in
-    subst (AreAllOf c.token.result.name) (sym c.in_ok-store.ensures.buffers) (subst (λ r. AreAllOf r _) (sym c.token.ensures) (all_fresh m))
+    subst (AreAllOf c.token.result.name) (sym c.in_ok-store.ensures.buffers) (subst (λ r. AreAllOf r (fresh_all m)) (sym c.token.ensures) (all_fresh m))
 
 pub returns-in-Ok-clause-whole : goal.returns-in-Ok-clause-whole
 returns-in-Ok-clause-whole g c =
