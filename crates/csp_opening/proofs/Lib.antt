@@ -1,6 +1,7 @@
 mod Assembly
 mod Counts
 mod Fabrics
+mod Finish
 mod Given
 mod Leaving
 mod Named

@@ -93,3 +93,9 @@ named_apart os apart i j w e f = by (slice_get os i) (slice_get os j) refl refl 
   by (Some o) (Some p) at there x y = apart i j o p at there (same_Some o.who w x ∙ sym (same_Some p.who w y))
   by None b at there x y = absurd cc
   by (Some o) None at there x y = absurd cc
+
+pub parties_low : (scene : PlainScene) → AllByRecursion (λ (o : PlainOpening). IfSome (node_of o.who) (λ m. m < length scene.nodes)) (parties_of scene)
+parties_low scene = by (parties_of scene) (parties_there scene) where
+  by : (os : List PlainOpening) → AllByRecursion (λ (o : PlainOpening). IsThere (length scene.nodes) scene.links o.who) os → AllByRecursion (λ (o : PlainOpening). IfSome (node_of o.who) (λ m. m < length scene.nodes)) os
+  by [] h = tt
+  by (o ∷ os) h = (node_low (length scene.nodes) scene.links o.who h.0, by os h.1)

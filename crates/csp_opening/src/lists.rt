@@ -1,6 +1,6 @@
 //! Room for the lists that a fabric is made of.
 
-ghost use Rattle.std.specs.Prelude.{◌≡◌, ◌<◌, [], length, IfOk};
+ghost use Rattle.std.specs.Prelude.{◌≡◌, ◌<◌, ◌≤◌, [], length, IfOk};
 ghost use Rattle.std.specs.List.{AllByRecursion};
 ghost use Rattle.csp_opening.specs.Whole.{AreBlanks, AreLists, queue_count};
 
@@ -63,7 +63,8 @@ impl Blanks {
 fn queues_in(wires: &[Vec<Wire>]) -> usize
     requires nodes { length wires.now < 256 }
     requires few { AllByRecursion (λ ws. length ws.items < 256) wires.now }
-    ensures { result ≡ queue_count wires.now }
+    ensures count { result ≡ queue_count wires.now }
+    ensures few { result ≤ 66560 }
 {
     let mut count = 0;
     for here in wires {
