@@ -1,0 +1,351 @@
+-- The nodes and the parties that were opened are the network of their scene.
+use Rattle.std.proofs.Common.{◌≡◌, ◌+◌, ◌*◌, ◌<◌, ◌≤◌, ◌⊎◌, inl, inr, ℕ, zero, suc, Bool, true, false, true≢false, List, [], ◌∷◌, ◌++◌, Option, None, Some, cond, length, map, refl, sym, ap, ◌∙◌, subst, arith}
+use Rattle.std.specs.Global.{Vec}
+use Rattle.std.specs.Prelude.{⊤, IfSome, slice_get, vec_capacity}
+use Rattle.std.specs.List.{AllByRecursion, AllZip, count_by, sum_by}
+use Rattle.std.specs.Option.{option_map}
+use Rattle.std.proofs.lemmas.List.{length-map}
+use Rattle.std.proofs.lemmas.List.Sums.{sum-map, sum_by-cons}
+use Rattle.std.proofs.lemmas.Option.{same_Some, slice_get-map, slice_get_within}
+use Rattle.std.proofs.lemmas.Slice.Zip.{AllZip-long}
+use Rattle.csp_arena.specs.Cells.{RegionName}
+use Rattle.csp_ends.specs.Ends.{PlainHome, PlainSide}
+use Rattle.csp_fabric.specs.Fabrics.{AreRoomsOf, AreStoresOf, CanNote, IsFabricOf, IsRoomOf, IsStoreOf, buffers_at, network_of, queues_in as record_queues}
+use Rattle.csp_fabric.specs.declared.fabric.Fabric.{Fabric}
+use Rattle.csp_fabric.specs.declared.fabric.NodeStore.{NodeStore}
+use Rattle.csp_inbox.specs.Marks.{is_in}
+use Rattle.csp_inbox.specs.Passes.{PlainPass}
+use Rattle.csp_lane.specs.Ends as lane
+use Rattle.csp_lists.specs.PlainDeck.{lane_room}
+use Rattle.csp_opening.proofs.Counts.{at_home, hub_at, of_node, one_hub}
+use Rattle.csp_opening.proofs.Named.{IsNamedIn, IsPairRow}
+use Rattle.csp_opening.proofs.NewHomes.{node_is, node_there}
+use Rattle.csp_opening.proofs.Ordered.{InOrder, home_in, parties_in_order, plain_posts, posts_plain}
+use Rattle.csp_opening.proofs.Parties.{IsPartyNew, Laws, is_post, its_ends, its_home, network, party_new}
+use Rattle.csp_opening.proofs.Passing.{HasMark, NamedApart, homes_same, parts_at_node}
+use Rattle.csp_opening.proofs.Whos.{IsThere, node_low, parties_there}
+use Rattle.csp_opening.proofs.Zipped.{row_rooms}
+use Rattle.csp_opening.specs.Handed.{handed_from}
+use Rattle.csp_opening.specs.Opened.{AreNodesWith, IsNodeOf, ends_in, lead_in, queues_in, region_in, room_with}
+use Rattle.csp_opening.specs.Parted.{lead_home, part_home, part_homes, parts_left}
+use Rattle.csp_opening.specs.Posted.{ends_with, post_with}
+use Rattle.csp_opening.specs.Seated.{IsSeated, count_at, count_or, seat_name}
+use Rattle.csp_opening.specs.Whole.{posts_of, queue_count, rooms_in, store_in, whos}
+use Rattle.csp_opening.specs.declared.homes.Lead.{Lead}
+use Rattle.csp_opening.specs.declared.lanes.Pair.{Pair}
+use Rattle.csp_opening.specs.declared.nodes.Node.{Node}
+use Rattle.csp_opening.specs.declared.seats.Seat.{Seat}
+use Rattle.csp_ending.specs.Notes.{PlainNotes}
+use Rattle.csp_pool.specs.declared.hand.Hand.{Hand}
+use Rattle.csp_posts.specs.Between.{is_home}
+use Rattle.csp_posts.specs.Books.{IsFresh}
+use Rattle.csp_posts.specs.Posts.{PlainPost}
+use Rattle.csp_posts.specs.Seen.{SeenPost}
+use Rattle.csp_record.specs.Who.{node_of}
+use Rattle.csp_record.specs.declared.who.Who.{Who}
+use Rattle.csp_record.specs.declared.who.Who.TheVariants as who
+use Rattle.csp_scene.specs.Links.{links_at, node_at}
+use Rattle.csp_scene.specs.Scene.{PlainNode, PlainScene}
+use Rattle.csp_standing.proofs.Places.{all_at, all_from}
+use Rattle.csp_standing.specs.Network.{AreNodesOf, ArePostsOf, IsNetworkOf, IsPostOf, IsShared, PlainNetwork, leads}
+use Rattle.csp_topology.specs.Lanes.{PlainLane}
+use Rattle.csp_topology.specs.Parties.{PlainOpening, links_from, parties_from, parties_of}
+use Rattle.csp_topology.specs.Wires.{wires_of}
+use Rattle.csp_topology.specs.Wiring.{AreWires, IsWireOf}
+use Rattle.csp_topology.specs.declared.wire.Wire.{Wire}
+
+-- the queues of the nodes are those of the scene
+nodes_of : (scene : PlainScene) (nodes : List PlainNode) (rows : List (List PlainLane)) (wires : List (List Wire)) (xs : List Node) → AreNodesWith nodes wires xs → AllZip (AllZip (IsWireOf scene)) rows wires
+    → AreNodesOf nodes rows (map queues_in xs)
+nodes_of scene [] [] [] [] h z = tt
+nodes_of scene (n ∷ nodes) (row ∷ rows) (ws ∷ wires) (x ∷ xs) h z = (
+  record { pool = h.0.base.capacity ∙ h.0.count; inbox = h.0.inbox; lanes = h.0.lanes.rooms ∙ sym (row_rooms scene row ws z.0) },
+  nodes_of scene nodes rows wires xs h.1 z.1,
+)
+nodes_of scene [] (row ∷ rows) [] xs h z = absurd z
+nodes_of scene [] rows (ws ∷ wires) xs h z = absurd h
+nodes_of scene [] [] [] (x ∷ xs) h z = absurd h
+nodes_of scene (n ∷ nodes) rows [] xs h z = absurd h
+nodes_of scene (n ∷ nodes) rows (ws ∷ wires) [] h z = absurd h
+nodes_of scene (n ∷ nodes) [] (ws ∷ wires) (x ∷ xs) h z = absurd z
+
+-- the room in the lanes of a row
+row_sum : (scene : PlainScene) (row : List PlainLane) (ws : List Wire) → AllZip (IsWireOf scene) row ws → sum_by (λ (l : PlainLane). lane_room l.queue) row ≡ sum_by (λ (w : Wire). w.room) ws
+row_sum scene row ws z = sym (sum-map (λ (l : PlainLane). lane_room l.queue) row) ∙ ap (sum_by (λ (k : ℕ). k)) (row_rooms scene row ws z) ∙ sum-map (λ (w : Wire). w.room) ws
+
+stores_of : (scene : PlainScene) (nodes : List PlainNode) (rows : List (List PlainLane)) (wires : List (List Wire)) (xs : List Node) → AreNodesWith nodes wires xs → AllZip (AllZip (IsWireOf scene)) rows wires
+    → AreStoresOf nodes rows (map store_in xs)
+stores_of scene [] [] [] [] h z = tt
+stores_of scene (n ∷ nodes) (row ∷ rows) (ws ∷ wires) (x ∷ xs) h z = (
+  record {
+    count = h.0.count;
+    none = h.0.base.none;
+    room = (let room = h.0.room in let same = row_sum scene row ws z.0 in omega (arith, room, same));
+    unnoted = h.0.unnoted;
+    numbers = h.0.numbers;
+  },
+  stores_of scene nodes rows wires xs h.1 z.1,
+)
+stores_of scene [] (row ∷ rows) [] xs h z = absurd z
+stores_of scene [] rows (ws ∷ wires) xs h z = absurd h
+stores_of scene [] [] [] (x ∷ xs) h z = absurd h
+stores_of scene (n ∷ nodes) rows [] xs h z = absurd h
+stores_of scene (n ∷ nodes) rows (ws ∷ wires) [] h z = absurd h
+stores_of scene (n ∷ nodes) [] (ws ∷ wires) (x ∷ xs) h z = absurd z
+
+rooms_of : (scene : PlainScene) (nodes : List PlainNode) (rows : List (List PlainLane)) (wires : List (List Wire)) (xs : List Node) → AreNodesWith nodes wires xs → AllZip (AllZip (IsWireOf scene)) rows wires
+    → AreRoomsOf nodes rows (map rooms_in xs)
+rooms_of scene [] [] [] [] h z = tt
+rooms_of scene (n ∷ nodes) (row ∷ rows) (ws ∷ wires) (x ∷ xs) h z = (
+  record { inbox = h.0.left; lanes = h.0.lanes.spare ∙ sym (row_rooms scene row ws z.0) },
+  rooms_of scene nodes rows wires xs h.1 z.1,
+)
+rooms_of scene [] (row ∷ rows) [] xs h z = absurd z
+rooms_of scene [] rows (ws ∷ wires) xs h z = absurd h
+rooms_of scene [] [] [] (x ∷ xs) h z = absurd h
+rooms_of scene (n ∷ nodes) rows [] xs h z = absurd h
+rooms_of scene (n ∷ nodes) rows (ws ∷ wires) [] h z = absurd h
+rooms_of scene (n ∷ nodes) [] (ws ∷ wires) (x ∷ xs) h z = absurd z
+
+-- as many queues as a record speaks of
+queues_counted : (scene : PlainScene) (rows : List (List PlainLane)) (wires : List (Vec Wire)) → AllZip (AllZip (IsWireOf scene)) rows (map (λ (ws : Vec Wire). ws.items) wires)
+    → sum_by (λ (lanes : List PlainLane). length lanes + 4) rows ≡ queue_count wires
+queues_counted scene [] [] z = refl
+queues_counted scene (row ∷ rows) (ws ∷ wires) z =
+    let a = sum_by-cons (λ (lanes : List PlainLane). length lanes + 4) row rows in
+    let b = sum_by-cons (λ (v : Vec Wire). length v.items + 4) ws wires in
+    let c = AllZip-long (IsWireOf scene) row ws.items z.0 in
+    let d = queues_counted scene rows wires z.1 in
+    omega (arith, a, b, c, d)
+queues_counted scene [] (ws ∷ wires) z = absurd z
+queues_counted scene (row ∷ rows) [] z = absurd z
+
+-- the pairs of each node are of the lanes of its row
+lanes_long : (n : PlainNode) (ws : List Wire) (x : Node) → IsNodeOf n ws x → length x.lanes.lanes.items ≡ length ws
+lanes_long n ws x is = sym (length-map x.lanes.lanes.items (λ (l : lane.PlainLane). l.room)) ∙ ap (λ (ks : List ℕ). length ks) is.lanes.rooms ∙ length-map ws (λ (w : Wire). w.room)
+
+row_named : (scene : PlainScene) (row : List PlainLane) (ws : List Wire) → AllZip (IsWireOf scene) row ws → AllZip (IsNamedIn (map (λ (o : PlainOpening). o.who) (parties_of scene))) row ws
+row_named scene [] [] z = tt
+row_named scene (l ∷ row) (w ∷ ws) z =
+    (record { carries = z.0.carries; from = z.0.from.party; from_queue = z.0.from.called; to = z.0.to.party; to_queue = z.0.to.called }, row_named scene row ws z.1)
+row_named scene [] (w ∷ ws) z = absurd z
+row_named scene (l ∷ row) [] z = absurd z
+
+pub pair_rows : (scene : PlainScene) (nodes : List PlainNode) (rows : List (List PlainLane)) (wires : List (List Wire)) (xs : List Node) → AreNodesWith nodes wires xs → AllZip (AllZip (IsWireOf scene)) rows wires
+    → AllZip (IsPairRow (map (λ (o : PlainOpening). o.who) (parties_of scene))) rows (map ends_in xs)
+pair_rows scene [] [] [] [] h z = tt
+pair_rows scene (n ∷ nodes) (row ∷ rows) (ws ∷ wires) (x ∷ xs) h z = (
+  record { region = region_in x; wires = ws; lanes = x.lanes.lanes.items; is = h.0.lanes.ends; named = row_named scene row ws z.0; long = lanes_long n ws x h.0 },
+  pair_rows scene nodes rows wires xs h.1 z.1,
+)
+pair_rows scene [] (row ∷ rows) [] xs h z = absurd z
+pair_rows scene [] rows (ws ∷ wires) xs h z = absurd h
+pair_rows scene [] [] [] (x ∷ xs) h z = absurd h
+pair_rows scene (n ∷ nodes) rows [] xs h z = absurd h
+pair_rows scene (n ∷ nodes) rows (ws ∷ wires) [] h z = absurd h
+pair_rows scene (n ∷ nodes) [] (ws ∷ wires) (x ∷ xs) h z = absurd z
+
+-- parties as posts, from this place on, with what each has in hand
+abbrev pub new_posts : List Node → List Who → ℕ → List Seat → List SeenPost
+new_posts xs ws p [] = []
+new_posts xs ws p (s ∷ seats) = post_with s (its_ends xs ws p s.who) ∷ new_posts xs ws (p + 1) seats
+
+are_new : (xs : List Node) (ws : List Who) (p : ℕ) (seats : List Seat) → plain_posts p (map ends_in xs) (parts_left (map lead_in xs) ws) seats (map (part_home (map lead_in xs)) (whos seats)) ≡ new_posts xs ws p seats
+are_new xs ws p [] = refl
+are_new xs ws p (s ∷ seats) = ap (λ ps. post_with s (its_ends xs ws p s.who) ∷ ps) (are_new xs ws (p + 1) seats)
+
+pub posts_are : (xs : List Node) (seats : List Seat) → InOrder 0 (whos seats) → posts_of xs seats ≡ new_posts xs (whos seats) 0 seats
+posts_are xs seats order =
+    posts_plain (map ends_in xs) (parts_left (map lead_in xs) (whos seats)) seats (part_homes (map lead_in xs) (whos seats)) order
+    ∙ ap (plain_posts 0 (map ends_in xs) (parts_left (map lead_in xs) (whos seats)) seats) (homes_same (map lead_in xs) (map lead_in xs) (whos seats) refl)
+    ∙ are_new xs (whos seats) 0 seats
+
+-- nodes and parties that were opened for a scene
+pub record AreOpened (scene : PlainScene) (wires : List (List Wire)) (xs : List Node) (seats : List Seat) : Type 0 where
+  pub laws : Laws scene
+  pub nodes : AreNodesWith scene.nodes wires xs
+  pub rows : AllZip (AllZip (IsWireOf scene)) (wires_of scene) wires
+  pub names : map seat_name seats ≡ parties_of scene
+  pub seated : AllByRecursion (IsSeated xs) seats
+  pub apart : NamedApart (map (λ (o : PlainOpening). o.who) (parties_of scene))
+
+whos_named : (seats : List Seat) → whos seats ≡ map (λ (o : PlainOpening). o.who) (map seat_name seats)
+whos_named [] = refl
+whos_named (s ∷ seats) = ap (λ ws. s.who ∷ ws) (whos_named seats)
+
+pub whos_are : (scene : PlainScene) (seats : List Seat) → map seat_name seats ≡ parties_of scene → whos seats ≡ map (λ (o : PlainOpening). o.who) (parties_of scene)
+whos_are scene seats e = whos_named seats ∙ ap (map (λ (o : PlainOpening). o.who)) e
+
+opening_at : (scene : PlainScene) (seats : List Seat) (k : ℕ) (t : Seat) → map seat_name seats ≡ parties_of scene → slice_get seats k ≡ Some t → slice_get (parties_of scene) k ≡ Some (seat_name t)
+opening_at scene seats k t e at = ap (λ os. slice_get os k) (sym e) ∙ slice_get-map seat_name seats k ∙ ap (option_map seat_name) at
+
+pub its_new : (scene : PlainScene) (wires : List (List Wire)) (xs : List Node) (seats : List Seat) (k : ℕ) (t : Seat) → AreOpened scene wires xs seats → slice_get seats k ≡ Some t → IsPartyNew scene xs (whos seats) k t.who
+its_new scene wires xs seats k t is at =
+    let o = opening_at scene seats k t is.names at in
+    party_new scene wires xs (whos seats) k t.who is.laws is.nodes is.rows (pair_rows scene scene.nodes (wires_of scene) wires xs is.nodes is.rows) is.apart
+    (slice_get-map (λ (z : PlainOpening). z.who) (parties_of scene) k ∙ ap (option_map (λ (z : PlainOpening). z.who)) o)
+    (node_low (length scene.nodes) scene.links t.who (all_at (λ (z : PlainOpening). IsThere (length scene.nodes) scene.links z.who) (parties_of scene) k (seat_name t) (parties_there scene) o))
+
+-- what holds of each party as a post
+all_posts : (P : SeenPost → Type 0) (xs : List Node) (ws : List Who) (p : ℕ) (seats : List Seat) → ((k j : ℕ) (t : Seat) → slice_get seats k ≡ Some t → j ≡ p + k → P (post_with t (its_ends xs ws j t.who)))
+    → AllByRecursion P (new_posts xs ws p seats)
+all_posts P xs ws p [] h = tt
+all_posts P xs ws p (s ∷ seats) h = (h 0 p s refl (omega arith), all_posts P xs ws (p + 1) seats (λ k j t e same. h (suc k) j t e (omega (arith, same))))
+
+abbrev tail : {A : Type 0} → List A → List A
+tail [] = []
+tail (x ∷ xs) = xs
+
+posts_from_here : (scene : PlainScene) (xs : List Node) (ws : List Who) (p : ℕ) (os : List PlainOpening) (seats : List Seat) → map seat_name seats ≡ os
+    → ((k j : ℕ) (t : Seat) → slice_get seats k ≡ Some t → j ≡ p + k → IsPostOf scene (network xs) (seat_name t) (post_with t (its_ends xs ws j t.who)).plain)
+    → ArePostsOf scene (network xs) os (map (λ (s : SeenPost). s.plain) (new_posts xs ws p seats))
+posts_from_here scene xs ws p [] [] e h = tt
+posts_from_here scene xs ws p (o ∷ os) (s ∷ seats) e h = (
+  subst (λ z. IsPostOf scene (network xs) z (post_with s (its_ends xs ws p s.who)).plain) (same_Some (seat_name s) o (ap (λ zs. slice_get zs 0) e)) (h 0 p s refl (omega arith)),
+  posts_from_here scene xs ws (p + 1) os seats (ap tail e) (λ k j t at same. h (suc k) j t at (omega (arith, same))),
+)
+posts_from_here scene xs ws p [] (s ∷ seats) e h = absurd cc
+posts_from_here scene xs ws p (o ∷ os) [] e h = absurd cc
+
+-- the node of each post's home is its party's
+homes_at : (xs : List Node) (ws : List Who) (p : ℕ) (seats : List Seat) → ((k j : ℕ) (t : Seat) → slice_get seats k ≡ Some t → j ≡ p + k → option_map (λ (h : PlainHome). h.node) (its_home xs ws t.who) ≡ node_of t.who)
+    → AllZip (λ (w : Who) (s : PlainPost). option_map (λ (h : PlainHome). h.node) s.ends.home ≡ node_of w) (whos seats) (map (λ (s : SeenPost). s.plain) (new_posts xs ws p seats))
+homes_at xs ws p [] h = tt
+homes_at xs ws p (s ∷ seats) h = (h 0 p s refl (omega arith), homes_at xs ws (p + 1) seats (λ k j t e same. h (suc k) j t e (omega (arith, same))))
+
+-- the posts of a place
+record IsPostAt (xs : List Node) (ws : List Who) (p : ℕ) (seats : List Seat) (k : ℕ) (s : PlainPost) : Type 0 where
+  seat : Seat
+  at : slice_get seats k ≡ Some seat
+  is : s ≡ (post_with seat (its_ends xs ws (p + k) seat.who)).plain
+
+post_at : (xs : List Node) (ws : List Who) (p : ℕ) (seats : List Seat) (k : ℕ) (s : PlainPost) → slice_get (map (λ (z : SeenPost). z.plain) (new_posts xs ws p seats)) k ≡ Some s → IsPostAt xs ws p seats k s
+post_at xs ws p [] k s e = absurd cc
+post_at xs ws p (t ∷ seats) zero s e = record { seat = t; at = refl; is = sym (same_Some _ s e) ∙ ap (λ j. (post_with t (its_ends xs ws j t.who)).plain) (omega arith) }
+post_at xs ws p (t ∷ seats) (suc k) s e =
+    let r = post_at xs ws (p + 1) seats k s e in
+    record { seat = r.seat; at = r.at; is = r.is ∙ ap (λ j. (post_with r.seat (its_ends xs ws j r.seat.who)).plain) (omega arith) }
+
+-- how the passes of a node are shared
+hub_shared : (scene : PlainScene) (wires : List (List Wire)) (xs : List Node) (seats : List Seat) (m : ℕ) (h : PlainHome) → AreOpened scene wires xs seats → m < length scene.nodes
+    → option_map (lead_home m) (slice_get (parts_left (map lead_in xs) (whos seats)) m) ≡ Some h → IsShared scene (map (λ (s : SeenPost). s.plain) (new_posts xs (whos seats) 0 seats)) h
+unfolding parties_of
+hub_shared scene wires xs seats m h is low its =
+    let t = node_there scene.nodes wires xs is.nodes m low in
+    let l = parts_at_node (map lead_in xs) (whos seats) m (lead_in t.node) (slice_get-map lead_in xs m ∙ ap (option_map lead_in) t.at) in
+    subst (IsShared scene (map (λ (s : SeenPost). s.plain) (new_posts xs (whos seats) 0 seats))) (same_Some (lead_home m l.0) h (ap (option_map (lead_home m)) (sym l.1) ∙ its)) (record {
+      pool =
+          let out = l.2.out in
+          let none = ap (λ (v : Hand). v.out) t.is.base.hand in
+          let homes = at_home m (whos seats) (map (λ (s : SeenPost). s.plain) (new_posts xs (whos seats) 0 seats)) (homes_at xs (whos seats) 0 seats (λ k j s e same. (its_new scene wires xs seats k s is e).home.among.node)) in
+          let split = of_node m (whos seats) in
+          let hubs = ap (count_by (hub_at m)) (whos_are scene seats is.names) ∙ one_hub m scene.nodes scene.links low in
+          omega (arith, out, none, homes, split, hubs);
+      inbox = λ x j e out. by j (l.2.marks j (ap (λ (p : PlainPass). is_in p.role.out j) (same_Some l.0.inbox x e) ∙ out)) (ap (λ (p : PlainPass). is_in p.role.out j) t.is.pass);
+    }) where
+      by : (j : ℕ) {b : Bool} → (b ≡ true) ⊎ HasMark m j (whos seats) → b ≡ false → j < length (links_at m scene.links)
+      by j (inl wrong) none = absurd (true≢false (sym wrong ∙ none))
+      by j (inr mark) none =
+          let o = there (parties_of scene) mark.place (who.Iface m j) (ap (λ ws. slice_get ws mark.place) (sym (whos_are scene seats is.names)) ∙ mark.at) in
+          (subst (IsThere (length scene.nodes) scene.links) o.2 (all_at (λ (z : PlainOpening). IsThere (length scene.nodes) scene.links z.who) (parties_of scene) mark.place o.0 (parties_there scene) o.1)).1 where
+            there : (os : List PlainOpening) (k : ℕ) (w : Who) → slice_get (map (λ (z : PlainOpening). z.who) os) k ≡ Some w → (z : PlainOpening) × (slice_get os k ≡ Some z) × (z.who ≡ w)
+            there [] k w e = absurd cc
+            there (z ∷ os) zero w e = (z, refl, same_Some z.who w e)
+            there (z ∷ os) (suc k) w e = there os k w e
+
+all_shared : (scene : PlainScene) (wires : List (List Wire)) (xs : List Node) (seats : List Seat) → AreOpened scene wires xs seats → (k : ℕ) (s : PlainPost) (h : PlainHome)
+    → slice_get (map (λ (z : SeenPost). z.plain) (new_posts xs (whos seats) 0 seats)) k ≡ Some s → leads s.who ≡ true → s.ends.home ≡ Some h → IsShared scene (map (λ (z : SeenPost). z.plain) (new_posts xs (whos seats) 0 seats)) h
+all_shared scene wires xs seats is k s h at lead its =
+    let r = post_at xs (whos seats) 0 seats k s at in
+    by r.seat.who
+    (node_low (length scene.nodes) scene.links r.seat.who
+    (all_at (λ (z : PlainOpening). IsThere (length scene.nodes) scene.links z.who) (parties_of scene) k (seat_name r.seat) (parties_there scene) (opening_at scene seats k r.seat is.names r.at)))
+    (ap (λ (z : PlainPost). leads z.who) (sym r.is) ∙ lead) (ap (λ (z : PlainPost). z.ends.home) (sym r.is) ∙ its) where
+      by : (w : Who) → IfSome (node_of w) (λ m. m < length scene.nodes) → leads w ≡ true → its_home xs (whos seats) w ≡ Some h → IsShared scene (map (λ (z : SeenPost). z.plain) (new_posts xs (whos seats) 0 seats)) h
+      by (who.Router m) low e f = hub_shared scene wires xs seats m h is low f
+      by (who.Bridge m) low e f = hub_shared scene wires xs seats m h is low f
+      by (who.Iface m j) low e f = absurd cc
+      by (who.App m j) low e f = absurd cc
+      by (who.Link j) low e f = absurd cc
+
+-- a party can note the numbers of all buffers of its node
+can_note : (scene : PlainScene) (wires : List (List Wire)) (xs : List Node) (t : Seat) → AreNodesWith scene.nodes wires xs → IsSeated xs t → IfSome (node_of t.who) (λ m. m < length scene.nodes) → buffers_at scene (node_of t.who) ≤ vec_capacity t.numbers
+can_note scene wires xs t nodes seated low = by (node_of t.who) low seated.numbers where
+  by : (o : Option ℕ) → IfSome o (λ m. m < length scene.nodes) → count_at xs o ≤ vec_capacity t.numbers → buffers_at scene o ≤ vec_capacity t.numbers
+  by None low few = few
+  by (Some m) low few =
+      let x = node_there scene.nodes wires xs nodes m low in
+      let has = ap count_or x.at in
+      let same = ap (λ (n : PlainNode). n.buffers) (node_is scene.nodes m x.plain x.plain_at) in
+      let many = x.is.base.capacity ∙ x.is.count in
+      omega (arith, few, has, same, many)
+
+-- the regions of stores
+regions_are : (xs : List Node) → map (λ (s : NodeStore). s.store.region) (map store_in xs) ≡ map region_in xs
+regions_are [] = refl
+regions_are (x ∷ xs) = ap (λ rs. region_in x ∷ rs) (regions_are xs)
+
+new_long : (xs : List Node) (ws : List Who) (p : ℕ) (seats : List Seat) → length (new_posts xs ws p seats) ≡ length seats
+new_long xs ws p [] = refl
+new_long xs ws p (s ∷ seats) = ap suc (new_long xs ws (p + 1) seats)
+
+-- what the fabric of these nodes and parties is made of
+pub record IsMadeOf (ws : List (Vec Wire)) (xs : List Node) (seats : List Seat) (f : Fabric) : Type 0 where
+  pub queues : f.queues ≡ map queues_in xs
+  pub stores : f.stores.items ≡ map store_in xs
+  pub rooms : f.rooms.items ≡ map rooms_in xs
+  pub wires : f.wires.items ≡ ws
+  pub notes : f.notes ≡ record { left = []; held = []; queues = queue_count ws; others = length seats + length xs }
+  pub logs : f.logs.items ≡ []
+  pub logs_room : length seats ≤ vec_capacity f.logs
+  pub retired : f.retired.items ≡ []
+  pub retired_room : length seats ≤ vec_capacity f.retired
+
+nodes_long : (nodes : List PlainNode) (wires : List (List Wire)) (xs : List Node) → AreNodesWith nodes wires xs → length xs ≡ length nodes
+nodes_long [] [] [] h = refl
+nodes_long (n ∷ nodes) (ws ∷ wires) (x ∷ xs) h = ap suc (nodes_long nodes wires xs h.1)
+nodes_long [] (ws ∷ wires) xs h = absurd h
+nodes_long [] [] (x ∷ xs) h = absurd h
+nodes_long (n ∷ nodes) [] xs h = absurd h
+nodes_long (n ∷ nodes) (ws ∷ wires) [] h = absurd h
+
+-- it is that of the scene, with these posts
+pub is_fabric : (scene : PlainScene) (wires : List (Vec Wire)) (xs : List Node) (seats : List Seat) (f : Fabric) → AreWires scene (map (λ (ws : Vec Wire). ws.items) wires)
+    → AreOpened scene (map (λ (ws : Vec Wire). ws.items) wires) xs seats → IsMadeOf wires xs seats f → IsFabricOf scene f (new_posts xs (whos seats) 0 seats)
+is_fabric scene wires xs seats f are is made =
+    let rows = map (λ (ws : Vec Wire). ws.items) wires in
+    let posts = new_posts xs (whos seats) 0 seats in
+    let net : network_of f ≡ network xs = λ i. record { nodes = made.queues i; regions = (ap (map (λ (s : NodeStore). s.store.region)) made.stores ∙ regions_are xs) i } in
+    let long = new_long xs (whos seats) 0 seats in
+    record {
+      network = subst (λ n. IsNetworkOf scene n (map (λ (s : SeenPost). s.plain) posts)) (sym net) (record {
+        nodes = nodes_of scene scene.nodes (wires_of scene) rows xs is.nodes is.rows;
+        regions = length-map xs region_in ∙ sym (length-map xs queues_in);
+        parties = posts_from_here scene xs (whos seats) 0 (parties_of scene) seats is.names (λ k j t e same.
+            is_post scene xs (whos seats) j t (seat_name t) refl (all_at (IsSeated xs) seats k t is.seated e)
+            (subst (λ p. IsPartyNew scene xs (whos seats) p t.who) (omega (arith, same)) (its_new scene rows xs seats k t is e)));
+        shared = all_shared scene rows xs seats is;
+      });
+      wires = subst (λ ws. AreWires scene (map (λ (v : Vec Wire). v.items) ws)) (sym made.wires) are;
+      stores = subst (AreStoresOf scene.nodes (wires_of scene)) (sym made.stores) (stores_of scene scene.nodes (wires_of scene) rows xs is.nodes is.rows);
+      rooms = subst (AreRoomsOf scene.nodes (wires_of scene)) (sym made.rooms) (rooms_of scene scene.nodes (wires_of scene) rows xs is.nodes is.rows);
+      unleft = ap (λ (n : PlainNotes). n.left) made.notes;
+      unheld = ap (λ (n : PlainNotes). n.held) made.notes;
+      queues = (let a = queues_counted scene (wires_of scene) wires is.rows in let b = ap (λ (n : PlainNotes). n.queues) made.notes in omega (arith, a, b));
+      others = (let b = ap (λ (n : PlainNotes). n.others) made.notes in let c = nodes_long scene.nodes rows xs is.nodes in omega (arith, long, b, c));
+      unlogged = made.logs;
+      logs = (let room = made.logs_room in omega (arith, long, room));
+      none = made.retired;
+      retired = (let room = made.retired_room in omega (arith, long, room));
+      numbers = all_posts (CanNote scene) xs (whos seats) 0 seats (λ k j t e same.
+          can_note scene rows xs t is.nodes (all_at (IsSeated xs) seats k t is.seated e)
+          (node_low (length scene.nodes) scene.links t.who
+          (all_at (λ (z : PlainOpening). IsThere (length scene.nodes) scene.links z.who) (parties_of scene) k (seat_name t) (parties_there scene) (opening_at scene seats k t is.names e))));
+    }
+
+-- nothing has happened
+pub none_happened : (xs : List Node) (ws : List Who) (p : ℕ) (seats : List Seat) → AllByRecursion (λ (s : SeenPost). s.plain.entries ≡ []) (new_posts xs ws p seats)
+none_happened xs ws p seats = all_posts (λ (s : SeenPost). s.plain.entries ≡ []) xs ws p seats (λ k j t e same. refl)
+
+pub all_fresh : (scene : PlainScene) (wires : List (List Wire)) (xs : List Node) (seats : List Seat) → AreOpened scene wires xs seats → AllByRecursion (λ (s : SeenPost). IfSome s.plain.ends.home IsFresh) (new_posts xs (whos seats) 0 seats)
+all_fresh scene wires xs seats is = all_posts (λ (s : SeenPost). IfSome s.plain.ends.home IsFresh) xs (whos seats) 0 seats (λ k j t e same. (its_new scene wires xs seats k t is e).home.fresh)

@@ -1,0 +1,213 @@
+-- What a party has in hand before its first turn is what it uses.
+use Rattle.std.proofs.Common.{◌≡◌, ◌≢◌, ◌+◌, ◌⊎◌, inl, inr, ℕ, zero, suc, Bool, true, false, true≢false, List, [], ◌∷◌, ◌++◌, Option, None, Some, cond, length, map, refl, sym, ap, ◌∙◌, subst, arith}
+use Rattle.std.specs.Prelude.{⊤, IfSome, slice_get, if◌then◌else◌}
+use Rattle.std.specs.List.{AllByRecursion, find}
+use Rattle.std.specs.Option.{option_and_then, option_map}
+use Rattle.std.proofs.lemmas.Bool.{eq-eqb, eqb-true}
+use Rattle.std.proofs.lemmas.Option.{same_Some, slice_get-map}
+use Rattle.csp_arena.specs.Cells.{RegionName}
+use Rattle.csp_consistent.specs.Reading.{is_queue, is_who}
+use Rattle.csp_ends.specs.Ends.{AreEnds, IsWithin, PlainEnds, PlainHome, PlainNodeQueues, PlainSide, inbox_of, region_of, region_or, rule_of, side_named}
+use Rattle.csp_lists.specs.PlainDeck.{IsLinkRule}
+use Rattle.csp_log.specs.declared.places.Carries.{Carries}
+use Rattle.csp_log.specs.declared.places.QueueId.{QueueId}
+use Rattle.csp_log.specs.declared.places.QueueId.TheVariants as queue
+use Rattle.csp_log.specs.declared.places.Rule.{Rule}
+use Rattle.csp_log.specs.declared.places.Rule.TheVariants as rule
+use Rattle.csp_opening.proofs.NewHomes.{IsHomeNew}
+use Rattle.csp_opening.proofs.Named.{same_who}
+use Rattle.csp_opening.proofs.NewSides.{IsSideNew, side_by}
+use Rattle.csp_opening.proofs.Spread.{SameSpot}
+use Rattle.csp_opening.proofs.Zipped.{placed_at}
+use Rattle.csp_record.specs.Who.{node_of}
+use Rattle.csp_record.specs.declared.who.Who.{Who}
+use Rattle.csp_scene.specs.Scene.{PlainScene}
+use Rattle.csp_standing.proofs.Places.{all_at, all_from, home_named}
+use Rattle.csp_standing.specs.Network.{SideName, name_of, sides_among, sides_at, sides_from, sides_of}
+use Rattle.csp_topology.specs.Lanes.{PlainEnd, PlainLane}
+use Rattle.csp_topology.specs.Wired as wired
+use Rattle.csp_topology.specs.Wires.{wire_at, wires_of}
+
+-- a place of a list
+record IsIn {X : Type 0} (xs : List X) (x : X) : Type 0 where
+  place : ℕ
+  at : slice_get xs place ≡ Some x
+
+in_first : {X : Type 0} (xs ys : List X) (x : X) → IsIn xs x → IsIn (xs ++ ys) x
+in_first {X = X} xs ys x i = record { place = i.place; at = by xs i.place i.at } where
+  by : (zs : List X) (k : ℕ) → slice_get zs k ≡ Some x → slice_get (zs ++ ys) k ≡ Some x
+  by [] k e = absurd cc
+  by (z ∷ zs) zero e = e
+  by (z ∷ zs) (suc k) e = by zs k e
+
+in_second : {X : Type 0} (xs ys : List X) (y : X) → IsIn ys y → IsIn (xs ++ ys) y
+in_second [] ys y i = i
+in_second (x ∷ xs) ys y i = let r = in_second xs ys y i in record { place = suc r.place; at = r.at }
+
+-- the end of a lane on a side, as a party calls it
+abbrev puts_on : wired.Side → Bool
+puts_on wired.putting = true
+puts_on wired.getting = false
+
+abbrev called_end : ℕ → ℕ → PlainLane → wired.Side → SideName
+called_end node place l s = record { queue = (wired.end_on s l).queue; node = node; lane = place; puts = puts_on s; carries = l.carries }
+
+-- a party that uses an end of a lane has it
+in_lane : (w : Who) (node place : ℕ) (l : PlainLane) (s : wired.Side) → (wired.end_on s l).who ≡ w → IsIn (sides_at w node place l) (called_end node place l s)
+in_lane w node place l wired.putting at =
+    let its : is_who w l.from.who ≡ true = ap (is_who w) at ∙ same_who w in
+    in_first (if is_who w l.from.who then called_end node place l wired.putting ∷ [] else []) (if is_who w l.to.who then called_end node place l wired.getting ∷ [] else []) (called_end node place l wired.putting)
+    (record { place = 0; at = ap (λ b. slice_get (if b then called_end node place l wired.putting ∷ [] else []) 0) its })
+in_lane w node place l wired.getting at =
+    let its : is_who w l.to.who ≡ true = ap (is_who w) at ∙ same_who w in
+    in_second (if is_who w l.from.who then called_end node place l wired.putting ∷ [] else []) (if is_who w l.to.who then called_end node place l wired.getting ∷ [] else []) (called_end node place l wired.getting)
+    (record { place = 0; at = ap (λ b. slice_get (if b then called_end node place l wired.getting ∷ [] else []) 0) its })
+
+in_lanes : (w : Who) (node base : ℕ) (ls : List PlainLane) (k : ℕ) (l : PlainLane) (name : SideName) → slice_get ls k ≡ Some l → IsIn (sides_at w node (base + k) l) name → IsIn (sides_among w node base ls) name
+in_lanes w node base [] k l name e i = absurd cc
+in_lanes w node base (x ∷ ls) zero l name e i =
+    in_first (sides_at w node base x) (sides_among w node (base + 1) ls) name
+    (subst (λ y. IsIn (sides_at w node base y) name) (sym (same_Some x l e)) (subst (λ m. IsIn (sides_at w node m l) name) (omega arith) i))
+in_lanes w node base (x ∷ ls) (suc k) l name e i =
+    in_second (sides_at w node base x) (sides_among w node (base + 1) ls) name
+    (in_lanes w node (base + 1) ls k l name e (subst (λ m. IsIn (sides_at w node m l) name) (omega arith) i))
+
+in_nodes : (w : Who) (base : ℕ) (wires : List (List PlainLane)) (node k : ℕ) (l : PlainLane) (name : SideName) → placed_at wires node k ≡ Some l → IsIn (sides_at w (base + node) k l) name → IsIn (sides_from w base wires) name
+in_nodes w base [] node k l name e i = absurd cc
+in_nodes w base (ls ∷ wires) zero k l name e i =
+    in_first (sides_among w base 0 ls) (sides_from w (base + 1) wires) name
+    (in_lanes w base 0 ls k l name e (subst (λ m. IsIn (sides_at w m (0 + k) l) name) (omega arith) (subst (λ m. IsIn (sides_at w (base + 0) m l) name) (omega arith) i)))
+in_nodes w base (ls ∷ wires) (suc node) k l name e i =
+    in_second (sides_among w base 0 ls) (sides_from w (base + 1) wires) name
+    (in_nodes w (base + 1) wires node k l name e (subst (λ m. IsIn (sides_at w m k l) name) (omega arith) i))
+
+-- the end that has a name
+record IsNamed (sides : List PlainSide) (name : SideName) : Type 0 where
+  place : ℕ
+  side : PlainSide
+  at : slice_get sides place ≡ Some side
+  named : name_of side ≡ name
+
+named_side : (sides : List PlainSide) (name : SideName) → IsIn (map name_of sides) name → IsNamed sides name
+named_side sides name i = by (slice_get sides i.place) refl (sym (slice_get-map name_of sides i.place) ∙ i.at) where
+  by : (o : Option PlainSide) → slice_get sides i.place ≡ o → option_map name_of o ≡ Some name → IsNamed sides name
+  by (Some x) at e = record { place = i.place; side = x; at = at; named = same_Some (name_of x) name e }
+  by None at e = absurd cc
+
+-- a queue is the one of its own name, and of no other
+queue_same : (q : QueueId) → is_queue q q ≡ true
+queue_same queue.Inbox = refl
+queue_same (queue.Up k) = eq-eqb k k refl
+queue_same (queue.Down k) = eq-eqb k k refl
+queue_same (queue.Out k) = eq-eqb k k refl
+queue_same (queue.Tx k) = eq-eqb k k refl
+queue_same (queue.Rx k) = eq-eqb k k refl
+
+queue_is : (q r : QueueId) → is_queue q r ≡ true → q ≡ r
+queue_is queue.Inbox queue.Inbox e = refl
+queue_is (queue.Up number) (queue.Up k) e = ap queue.Up (sym (eqb-true k number e))
+queue_is (queue.Down number) (queue.Down k) e = ap queue.Down (sym (eqb-true k number e))
+queue_is (queue.Out number) (queue.Out k) e = ap queue.Out (sym (eqb-true k number e))
+queue_is (queue.Tx number) (queue.Tx k) e = ap queue.Tx (sym (eqb-true k number e))
+queue_is (queue.Rx number) (queue.Rx k) e = ap queue.Rx (sym (eqb-true k number e))
+queue_is _ _ e = absurd cc
+
+-- what csp_topology says of names of ends
+abbrev pub EndsApart : PlainScene → Type 0
+EndsApart scene = (n m k j : ℕ) (l o : PlainLane) (s t : wired.Side) → wire_at scene n k ≡ Some l → wire_at scene m j ≡ Some o → wired.end_on s l ≡ wired.end_on t o → (n ≡ m) × (k ≡ j) × (s ≡ t)
+
+-- of where lanes are
+abbrev pub AllHome : PlainScene → Type 0
+AllHome scene = (node k : ℕ) (l : PlainLane) → wire_at scene node k ≡ Some l → wired.StaysHome scene node l
+
+-- and of what lanes are called
+abbrev pub AllCalled : PlainScene → Type 0
+AllCalled scene = (node k : ℕ) (l : PlainLane) (s : wired.Side) → wire_at scene node k ≡ Some l → is_queue queue.Inbox (wired.end_on s l).queue ≡ false
+
+puts_same : (a b : Bool) → side_by a ≡ side_by b → a ≡ b
+puts_same a b e = sym (back a) ∙ ap puts_on e ∙ back b where
+  back : (c : Bool) → puts_on (side_by c) ≡ c
+  back true = refl
+  back false = refl
+
+-- two ends of one name are of one spot
+one_spot : (scene : PlainScene) (nodes : List PlainNodeQueues) (regions : List RegionName) (w : Who) (s t : PlainSide) → EndsApart scene → IsSideNew scene nodes regions w s → IsSideNew scene nodes regions w t
+    → is_queue s.queue t.queue ≡ true → SameSpot s t
+one_spot scene nodes regions w s t apart a b e =
+    let same = queue_is s.queue t.queue e in
+    let ends = apart s.node t.node s.lane t.lane a.wire b.wire (side_by s.puts) (side_by t.puts) a.at b.at (a.called ∙ (λ i. record { who = w; queue = same i }) ∙ sym b.called) in
+    record { node = ends.0; lane = ends.1; puts = puts_same s.puts t.puts ends.2 }
+
+-- what goes through an end is of the region of the party's home, where it is of any
+within_home : (scene : PlainScene) (nodes : List PlainNodeQueues) (regions : List RegionName) (w : Who) (opened : List ℕ) (home : Option PlainHome) (s : PlainSide) → AllHome scene → IsHomeNew nodes regions w opened home
+    → IsSideNew scene nodes regions w s → IsWithin (region_or home) s
+within_home scene nodes regions w opened home s stays new is = λ plain. by plain (own (side_by s.puts) is.called (stays s.node s.lane is.wire is.at)) where
+  own : (d : wired.Side) → wired.end_on d is.wire ≡ record { who = w; queue = s.queue } → wired.StaysHome scene s.node is.wire → (node_of w ≡ Some s.node) ⊎ IsLinkRule is.wire.carries
+  own wired.putting named h = end named h.from where
+    end : is.wire.from ≡ record { who = w; queue = s.queue } → wired.IsEndOf s.node is.wire is.wire.from → (node_of w ≡ Some s.node) ⊎ IsLinkRule is.wire.carries
+    end name (inl o) = inl (ap (λ (e : PlainEnd). node_of e.who) (sym name) ∙ o.home)
+    end name (inr l) = inr l.frames
+  own wired.getting named h = end named h.to where
+    end : is.wire.to ≡ record { who = w; queue = s.queue } → wired.IsEndOf s.node is.wire is.wire.to → (node_of w ≡ Some s.node) ⊎ IsLinkRule is.wire.carries
+    end name (inl o) = inl (ap (λ (e : PlainEnd). node_of e.who) (sym name) ∙ o.home)
+    end name (inr l) = inr l.frames
+  by : (IsLinkRule s.end.carries → ⊥) → (node_of w ≡ Some s.node) ⊎ IsLinkRule is.wire.carries → s.end.region ≡ region_or home
+  by plain (inr frames) = absurd (plain (subst IsLinkRule (sym is.carries) frames))
+  by plain (inl at) =
+      let h = home_named home s.node (new.among.node ∙ at) in
+      let its : slice_get regions h.0.node ≡ Some h.0.pool.hand.region = subst (λ o. IfSome o (λ x. slice_get regions x.node ≡ Some x.pool.hand.region)) h.1 new.among.region in
+      same_Some s.end.region h.0.pool.hand.region (sym is.among ∙ ap (slice_get regions) (sym h.2) ∙ its) ∙ ap region_or (sym h.1)
+
+-- what a party has in hand is what a party may have
+pub are_ends : (scene : PlainScene) (nodes : List PlainNodeQueues) (regions : List RegionName) (w : Who) (opened : List ℕ) (home : Option PlainHome) (sides : List PlainSide) → EndsApart scene → AllHome scene → AllCalled scene
+    → IsHomeNew nodes regions w opened home → AllByRecursion (IsSideNew scene nodes regions w) sides
+    → ((a b : ℕ) (s t : PlainSide) → slice_get sides a ≡ Some s → slice_get sides b ≡ Some t → SameSpot s t → a ≡ b) → AreEnds (record { home = home; sides = sides })
+are_ends scene nodes regions w opened home sides apart stays called new all spots = record {
+  within = all_from (IsWithin (region_or home)) sides (λ k s e. within_home scene nodes regions w opened home s stays new (all_at (IsSideNew scene nodes regions w) sides k s all e));
+  inbox = new.token;
+  lanes = all_from (λ (s : PlainSide). is_queue queue.Inbox s.queue ≡ false) sides (λ k s e.
+      let is = all_at (IsSideNew scene nodes regions w) sides k s all e in
+      ap (is_queue queue.Inbox) (sym (ap (λ (x : PlainEnd). x.queue) is.called)) ∙ called s.node s.lane is.wire (side_by s.puts) is.at);
+  apart = λ a b s t e f same.
+      spots a b s t e f (one_spot scene nodes regions w s t apart (all_at (IsSideNew scene nodes regions w) sides a s all e) (all_at (IsSideNew scene nodes regions w) sides b t all f) same);
+}
+
+never : (b : Bool) → (b ≡ true → ⊥) → b ≡ false
+never false wrong = refl
+never true wrong = absurd (wrong refl)
+
+-- the end that a party calls so is the first of that name
+found : (q : QueueId) (sides : List PlainSide) (k : ℕ) (s : PlainSide) → slice_get sides k ≡ Some s → is_queue q s.queue ≡ true → ((j : ℕ) (t : PlainSide) → slice_get sides j ≡ Some t → is_queue q t.queue ≡ true → j ≡ k) → side_named q sides ≡ Some s
+found q [] k s e is one = absurd cc
+found q (x ∷ sides) zero s e is one = ap (λ b. cond b (Some x) (side_named q sides)) (ap (λ (z : PlainSide). is_queue q z.queue) (same_Some x s e) ∙ is) ∙ e
+found q (x ∷ sides) (suc k) s e is one =
+    ap (λ b. cond b (Some x) (side_named q sides)) (never (is_queue q x.queue) (λ t. (let wrong = one 0 x refl t in omega (arith, wrong))))
+    ∙ found q sides k s e is (λ j t g same. (let late = one (suc j) t g same in omega (arith, late)))
+
+-- a lane of this name carries what the party takes it to carry
+lane_served : (scene : PlainScene) (w : Who) (e : PlainEnds) (q : QueueId) (r : Rule) → map name_of e.sides ≡ sides_of scene w → AreEnds e → wired.HasLane scene w q r → rule_of e q ≡ Some r
+lane_served scene w e q r names ends h =
+    let name = called_end h.node h.place h.wire h.side in
+    let who : (wired.end_on h.side h.wire).who ≡ w = ap (λ (x : PlainEnd). x.who) h.called in
+    let its : (wired.end_on h.side h.wire).queue ≡ q = ap (λ (x : PlainEnd). x.queue) h.called in
+    let x = named_side e.sides name (subst (λ ns. IsIn ns name) (sym names) (in_nodes w 0 (wires_of scene) h.node h.place h.wire name h.at
+    (subst (λ m. IsIn (sides_at w m h.place h.wire) name) (omega arith) (in_lane w h.node h.place h.wire h.side who)))) in
+    let queue_at : x.side.queue ≡ q = ap (λ (n : SideName). n.queue) x.named ∙ its in
+    let is : is_queue q x.side.queue ≡ true = ap (is_queue q) queue_at ∙ queue_same q in
+    let there = found q e.sides x.place x.side x.at is (λ j t f same. ends.apart j x.place t x.side f x.at (ap (λ z. is_queue z x.side.queue) (sym (queue_is q t.queue same)) ∙ is)) in
+    let rule_is : rule.Lane x.side.end.carries ≡ r = ap (λ (n : SideName). rule.Lane n.carries) x.named ∙ sym h.carries in
+    by q (all_at (λ (s : PlainSide). is_queue queue.Inbox s.queue ≡ false) e.sides x.place x.side ends.lanes x.at) queue_at there rule_is where
+      by : (p : QueueId) → {s : PlainSide} → is_queue queue.Inbox s.queue ≡ false → s.queue ≡ p → side_named p e.sides ≡ Some s → rule.Lane s.end.carries ≡ r → rule_of e p ≡ Some r
+      by queue.Inbox lane at there same = absurd (true≢false (sym (ap (is_queue queue.Inbox) at) ∙ lane))
+      by (queue.Up k) lane at there same = ap (option_map (λ z. rule.Lane z.end.carries)) there ∙ ap Some same
+      by (queue.Down k) lane at there same = ap (option_map (λ z. rule.Lane z.end.carries)) there ∙ ap Some same
+      by (queue.Out k) lane at there same = ap (option_map (λ z. rule.Lane z.end.carries)) there ∙ ap Some same
+      by (queue.Tx k) lane at there same = ap (option_map (λ z. rule.Lane z.end.carries)) there ∙ ap Some same
+      by (queue.Rx k) lane at there same = ap (option_map (λ z. rule.Lane z.end.carries)) there ∙ ap Some same
+
+-- a party has what it uses
+pub is_served : (scene : PlainScene) (nodes : List PlainNodeQueues) (regions : List RegionName) (w : Who) (opened : List ℕ) (e : PlainEnds) (q : QueueId) (r : Rule) → map name_of e.sides ≡ sides_of scene w → AreEnds e
+    → IsHomeNew nodes regions w opened e.home → wired.IsServed scene w q r → rule_of e q ≡ Some r
+is_served scene nodes regions w opened e q r names ends new (inl h) =
+    subst (λ p. rule_of e p ≡ Some r) (sym h.inbox) (new.serves h.used ∙ ap Some (sym h.takes))
+is_served scene nodes regions w opened e q r names ends new (inr h) = lane_served scene w e q r names ends h

@@ -1,0 +1,55 @@
+-- Parties that have nothing of the queues in hand yet.
+use Rattle.std.specs.Prelude.{◌≡◌, ◌<◌, ◌≤◌, ℕ, false, Option, None, Some, List, [], map, IfSome, slice_get, vec_capacity}
+use Rattle.std.specs.List.{AllByRecursion}
+use Rattle.csp_arena.specs.Cells.{RegionName}
+use Rattle.csp_deck.specs.Regions.{nowhere}
+use Rattle.csp_opening.specs.Opened.{region_in}
+use Rattle.csp_opening.specs.declared.nodes.Node.{Node}
+use Rattle.csp_opening.specs.declared.seats.Seat.{Seat}
+use Rattle.csp_party.specs.Any.{PlainParty, plain, region_of, is_ready, count, has_ended, holds}
+use Rattle.csp_record.specs.Who.{node_of}
+use Rattle.csp_topology.specs.Opening.{CanOpen, opening_of}
+use Rattle.csp_topology.specs.Parties.{PlainOpening}
+use Rattle.csp_topology.specs.declared.opening.Opening.{Opening}
+
+-- who a party is, and its state
+abbrev pub seat_name : Seat → PlainOpening
+seat_name s = record { who = s.who; party = plain s.party }
+
+-- a party before its first turn can be asked, has counted nothing, and holds no buffer
+pub record IsNewParty (p : PlainParty) : Type 0 where
+  pub ready : has_ended p ≡ false → is_ready p 0
+  pub counted : count p ≡ 0
+  pub holds : holds p ≡ []
+
+-- the region of the buffers of a node
+abbrev pub region_or : Option Node → RegionName
+region_or None = nowhere
+region_or (Some x) = region_in x
+
+-- how many buffers a node has
+abbrev pub count_or : Option Node → ℕ
+count_or None = 0
+count_or (Some x) = x.base.pool.capacity
+
+-- the region of the buffers of the node at a place
+abbrev pub region_at : List Node → Option ℕ → RegionName
+region_at nodes None = nowhere
+region_at nodes (Some k) = region_or (slice_get nodes k)
+
+-- how many buffers it has
+abbrev pub count_at : List Node → Option ℕ → ℕ
+count_at nodes None = 0
+count_at nodes (Some k) = count_or (slice_get nodes k)
+
+-- a party of one of these nodes, or a link, as it was opened: its buffers are of its node's region, and it can note the numbers of them all
+pub record IsSeated (nodes : List Node) (s : Seat) : Type 0 where
+  pub party : IsNewParty (plain s.party)
+  pub region : region_of s.party ≡ region_at nodes (node_of s.who)
+  pub unnoted : s.numbers.items ≡ []
+  pub numbers : count_at nodes (node_of s.who) ≤ vec_capacity s.numbers
+
+-- parties of so many nodes that can be opened
+pub record AreParties (nodes : ℕ) (parties : List Opening) : Type 0 where
+  pub ready : AllByRecursion CanOpen parties
+  pub there : AllByRecursion (λ o. IfSome (node_of o.who) (λ node. node < nodes)) (map opening_of parties)
