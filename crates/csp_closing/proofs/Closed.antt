@@ -168,8 +168,8 @@ closed laws scene f posts rs run m n o after ends piles r back parties pools log
     let was : m.held ≡ map left_held notes = ap (λ (x : PlainNotes). x.held) ends.noted ∙ ap (λ (l : List PlainHeld). l ++ map left_held notes) run.fabric.unheld in
     let of_parties : flat_map rest_held (all_rest rs) ≡ flat_map post_held ps = held_same rs in
     let of_pools : map pool_part piles ≡ map (λ (x : PlainRemains). x.pool) ends.all =
-        pools_are scene ps ends.all piles (memories_long scene f posts rs run m after ends piles back).1
-        (λ k x at. ended_at scene (network_of f) rs ends.all after (net_of scene f posts rs run) (piles_all laws scene f posts rs run m after ends) k x (ap (λ (l : List PlainPile). slice_get l k) (sym back) ∙ at)) in
+    pools_are scene ps ends.all piles (memories_long scene f posts rs run m after ends piles back).1
+    (λ k x at. ended_at scene (network_of f) rs ends.all after (net_of scene f posts rs run) (piles_all laws scene f posts rs run m after ends) k x (ap (λ (l : List PlainPile). slice_get l k) (sym back) ∙ at)) in
     let told : IsRecordOf scene ps ends.all r = record {
       parties = logs ∙ logs_same rs;
       left = noted ∙ all_noted (whos_of scene) 0 (wires_of scene) (wires_in f) ends.all wired;

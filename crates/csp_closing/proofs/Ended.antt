@@ -291,8 +291,8 @@ pub can_end_all : (scene : PlainScene) (n : PlainNetwork) (rs : List Retired) (p
 can_end_all scene n rs posts stores all after net region_is same fresh notes back piles =
     can_end (map pile_of after) (all_rest rs)
     (all_from (IsEndable (map pile_of after)) (all_rest rs) (λ k x e.
-        let (r, at, is) = made_from rest_of rs k x e in
-        subst (IsEndable (map pile_of after)) is (one_endable scene n rs posts stores all after net region_is same fresh notes back piles k r at)))
+    let (r, at, is) = made_from rest_of rs k x e in
+    subst (IsEndable (map pile_of after)) is (one_endable scene n rs posts stores all after net region_is same fresh notes back piles k r at)))
     (have_room scene n rs all after net piles)
 
 -- the memory of a node once its parties have ended

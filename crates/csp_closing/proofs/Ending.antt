@@ -116,7 +116,7 @@ both_noted m n o xs ys f g =
     notes_are o (with_notes m (xs ++ ys) o.queues)
     (ap (λ (x : PlainNotes). x.left) g ∙ ap (λ (l : List PlainLeft). l ++ ys) (ap (λ (x : PlainNotes). x.left) f) ∙ append_assoc m.left xs ys)
     (ap (λ (x : PlainNotes). x.held) g ∙ ap (λ (l : List PlainHeld). l ++ map left_held ys) (ap (λ (x : PlainNotes). x.held) f) ∙ append_assoc m.held (map left_held xs) (map left_held ys)
-        ∙ ap (λ (l : List PlainHeld). m.held ++ l) (sym (map-append left_held xs ys)))
+    ∙ ap (λ (l : List PlainHeld). m.held ++ l) (sym (map-append left_held xs ys)))
     refl
     (ap (λ (x : PlainNotes). x.others) g ∙ ap (λ (x : PlainNotes). x.others) f)
 
@@ -227,8 +227,8 @@ nodes_split node queues rooms wires stores homes sides q qs r rs s later x ws ca
       let tail = map (λ (v : Vec Wire). v.items) wires in
       let same : y.items ≡ ws = ap (λ (v : Vec Wire). v.items) (sym read) ∙ sym is in
       let all : CanEnd node q r y.items s homes sides × CanAllEnd (node + 1) qs rs tail later (map (without_home node) homes) (without_all y.items sides) =
-          subst (λ (l : List NodeStore). CanAllEnd node (q ∷ qs) (r ∷ rs) (y.items ∷ tail) l homes sides) g
-          (subst (λ (l : List NodeRooms). CanAllEnd node (q ∷ qs) l (y.items ∷ tail) stores homes sides) f (subst (λ (l : List PlainNodeQueues). CanAllEnd node l rooms (y.items ∷ tail) stores homes sides) e can)) in
+      subst (λ (l : List NodeStore). CanAllEnd node (q ∷ qs) (r ∷ rs) (y.items ∷ tail) l homes sides) g
+      (subst (λ (l : List NodeRooms). CanAllEnd node (q ∷ qs) l (y.items ∷ tail) stores homes sides) f (subst (λ (l : List PlainNodeQueues). CanAllEnd node l rooms (y.items ∷ tail) stores homes sides) e can)) in
       record {
         first = subst (λ (l : List Wire). CanEnd node q r l s homes sides) same all.0;
         rest = subst (λ (l : List Wire). CanAllEnd (node + 1) qs rs tail later (map (without_home node) homes) (without_all l sides)) same all.1;

@@ -82,10 +82,6 @@ zip_one whos (l ∷ ls) (w ∷ ws) each only = (each 0 l refl, zip_one whos ls w
 zip_one whos [] (w ∷ ws) each only = absurd (only 0 w refl)
 zip_one whos (l ∷ ls) [] each only = absurd (each 0 l refl)
 
-
-
-
-
 zip_all : (whos : List Who) (lanes : List (List PlainLane)) (wires : List (List Wire)) → length wires ≡ length lanes
     → ((node k : ℕ) (l : PlainLane) → option_and_then (λ (ls : List PlainLane). slice_get ls k) (slice_get lanes node) ≡ Some l → IsSomeAnd (wired_at wires node k) (IsWired whos l))
     → ((node k : ℕ) (w : Wire) → wired_at wires node k ≡ Some w → IsSomeAnd (option_and_then (λ (ls : List PlainLane). slice_get ls k) (slice_get lanes node)) (λ l. Unit {0})) → AreAllWired whos lanes wires

@@ -78,9 +78,8 @@ all_end whos distinct nodes regions node (m ∷ ms) (ls ∷ lanes) (q ∷ queues
     let here : slice_get nodes node ≡ Some q = ap (slice_get nodes) (sym zero_more) ∙ sym (places 0) in
     let region : slice_get regions node ≡ Some s.store.region = ap (slice_get regions) (sym zero_more) ∙ where_ 0 s refl in
     let next : HaveAllNext whos (IsOfNetwork nodes regions) sides ws q.lanes s.store.region node 0 (λ v. sides_from v (node + 1) lanes) = have_all_next whos distinct nodes regions q s.store.region node here region ls ws q.lanes 0 sides (λ v. sides_from v (node + 1) lanes) wired.0 (lanes_count q.lanes ls of_it.lanes)
-        (λ j. ap (slice_get q.lanes) (omega arith)) names each in
-    let first : CanMeet q s.store.region (homes_at node homes) = subst (λ (n : ℕ). CanMeet q s.store.region (homes_at n homes)) zero_more (meet 0 q s refl refl) in
-    (
+    (λ j. ap (slice_get q.lanes) (omega arith)) names each in
+    let first : CanMeet q s.store.region (homes_at node homes) = subst (λ (n : ℕ). CanMeet q s.store.region (homes_at n homes)) zero_more (meet 0 q s refl refl) in (
       record {
         gather = first.gather;
         close = first.close;
@@ -90,13 +89,13 @@ all_end whos distinct nodes regions node (m ∷ ms) (ls ∷ lanes) (q ∷ queues
         store = store_room m ls q s of_it are_stores.0;
       },
       all_end whos distinct nodes regions (node + 1) ms lanes queues rooms wires stores (map (without_home node) homes) (without_all ws sides) are_nodes.1 are_stores.1 are_rooms.1 wired.1
-      (λ j. places (suc j) ∙ ap (slice_get nodes) (omega arith))
-      (λ j t at. ap (slice_get regions) (omega arith) ∙ where_ (suc j) t at)
-      (λ j p t at there.
+          (λ j. places (suc j) ∙ ap (slice_get nodes) (omega arith))
+          (λ j t at. ap (slice_get regions) (omega arith) ∙ where_ (suc j) t at)
+          (λ j p t at there.
           let other : node + 1 + j ≢ node = (λ e. omega (arith, e)) in
           let same : homes_at (node + suc j) homes ≡ homes_at (node + 1 + j) (map (without_home node) homes) = ap (λ (n : ℕ). homes_at n homes) (omega arith) ∙ sym (stay_at node (node + 1 + j) homes other) in
           subst (CanMeet p t.store.region) same (meet (suc j) p t at there))
-      next.later next.each,
+          next.later next.each,
     )
 all_end whos distinct nodes regions node [] (ls ∷ lanes) queues rooms wires stores homes sides are_nodes are_stores are_rooms wired places where_ meet names each = absurd are_nodes
 all_end whos distinct nodes regions node [] [] (q ∷ queues) rooms wires stores homes sides are_nodes are_stores are_rooms wired places where_ meet names each = absurd are_nodes

@@ -134,8 +134,8 @@ have_next whos distinct sides l w node lane names is h =
     let putter : SideName = record { queue = l.from.queue; node = node; lane = lane; puts = true; carries = l.carries } in
     let getter : SideName = record { queue = l.to.queue; node = node; lane = lane; puts = false; carries = l.carries } in
     let first = has_next whos distinct sides w.from.party l.from.who putter (λ v. one_name (is_who v l.to.who) getter ++ names v) is.from
-        (named_as whos sides (λ v. sides_at v node lane l ++ names v) (λ v. one_name (is_who v l.from.who) putter ++ (one_name (is_who v l.to.who) getter ++ names v))
-        (λ v. append_assoc (one_name (is_who v l.from.who) putter) (one_name (is_who v l.to.who) getter) (names v)) h) in
+    (named_as whos sides (λ v. sides_at v node lane l ++ names v) (λ v. one_name (is_who v l.from.who) putter ++ (one_name (is_who v l.to.who) getter ++ names v))
+    (λ v. append_assoc (one_name (is_who v l.from.who) putter) (one_name (is_who v l.to.who) getter) (names v)) h) in
     let second = has_next whos distinct (without_first w.from.party sides) w.to.party l.to.who getter names is.to first.later in
     record {
       x = first.x;
@@ -201,11 +201,11 @@ pub have_all_next : (whos : List Who) → AreDistinct whos → (nodes : List Pla
 have_all_next whos distinct nodes regions q region node at here [] [] [] number sides names wired count places h each = record { next = tt; later = h; each = each }
 have_all_next whos distinct nodes regions q region node at here (l ∷ ls) (w ∷ wires) (x ∷ lanes) number sides names wired count places h each =
     let one = have_next whos distinct sides l w node number (λ v. sides_among v node (number + 1) ls ++ names v) wired.0
-        (named_as whos sides (λ v. sides_among v node number (l ∷ ls) ++ names v) (λ v. sides_at v node number l ++ (sides_among v node (number + 1) ls ++ names v))
-        (λ v. append_assoc (sides_at v node number l) (sides_among v node (number + 1) ls) (names v)) h) in
+    (named_as whos sides (λ v. sides_among v node number (l ∷ ls) ++ names v) (λ v. sides_at v node number l ++ (sides_among v node (number + 1) ls ++ names v))
+    (λ v. append_assoc (sides_at v node number l) (sides_among v node (number + 1) ls) (names v)) h) in
     let which : slice_get q.lanes number ≡ Some x = ap (slice_get q.lanes) (omega arith) ∙ sym (places 0) in
     let rest = have_all_next whos distinct nodes regions q region node at here ls wires lanes (number + 1) (without_ends w sides) names wired.1 (omega (arith, count))
-        (λ j. places (suc j) ∙ ap (slice_get q.lanes) (omega arith)) one.later (ends_each (IsOfNetwork nodes regions) w sides each) in
+    (λ j. places (suc j) ∙ ap (slice_get q.lanes) (omega arith)) one.later (ends_each (IsOfNetwork nodes regions) w sides each) in
     record {
       next = (
         record {

@@ -198,7 +198,7 @@ can_assemble scene wires xs seats sides is opened few count blank roomy =
       post = can_plain (map ends_in xs) (parts_left (map lead_in xs) (whos seats)) seats (part_homes (map lead_in xs) (whos seats)) order
           (subst (CanPostPlain 0 (map ends_in xs) (parts_left (map lead_in xs) (whos seats)) seats) (sym (homes_same (map lead_in xs) (map lead_in xs) (whos seats) refl))
           (can_posts xs (whos seats) 0 seats (λ k j t e same.
-              let at : slice_get (parties_of scene) k ≡ Some (seat_name t) = ap (λ os. slice_get os k) (sym opened.names) ∙ slice_get-map seat_name seats k ∙ ap (option_map seat_name) e in
-              subst (λ p. CanPost t (its_ends xs (whos seats) p t.who)) (omega (arith, same))
-              (can_post scene xs (whos seats) k t (seat_name t) opened.laws at refl (all_at (IsSeated xs) seats k t opened.seated e) (its_new scene rows xs seats k t opened e)))));
+          let at : slice_get (parties_of scene) k ≡ Some (seat_name t) = ap (λ os. slice_get os k) (sym opened.names) ∙ slice_get-map seat_name seats k ∙ ap (option_map seat_name) e in
+          subst (λ p. CanPost t (its_ends xs (whos seats) p t.who)) (omega (arith, same))
+          (can_post scene xs (whos seats) k t (seat_name t) opened.laws at refl (all_at (IsSeated xs) seats k t opened.seated e) (its_new scene rows xs seats k t opened e)))));
     }

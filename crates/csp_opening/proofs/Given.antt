@@ -175,6 +175,7 @@ handed_one sides a v w x low at items cap = record {
   list p true e =
       ap (list_at (slice_set sides a w)) (sym (eqb-true a p e)) ∙ list_same sides a w low ∙ items ∙ ap (λ l. l ++ x ∷ []) (sym (list_there sides a v at)) ∙ ap (λ k. list_at sides k ++ x ∷ []) (eqb-true a p e)
   list p false e = list_other sides a p w (λ same. true≢false (sym (eq-eqb a p same) ∙ e)) ∙ sym (append-nil (list_at sides p))
+
   room : (p : ℕ) (b : Bool) → (a == p) ≡ b → room_at (slice_set sides a w) p ≡ room_at sides p
   room p true e = ap (room_at (slice_set sides a w)) (sym (eqb-true a p e)) ∙ room_same sides a w low ∙ cap ∙ sym (room_there sides a v at) ∙ ap (room_at sides) (eqb-true a p e)
   room p false e = room_other sides a p w (λ same. true≢false (sym (eq-eqb a p same) ∙ e))

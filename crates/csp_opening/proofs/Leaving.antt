@@ -4,7 +4,6 @@ use Rattle.std.specs.Prelude.{Option, Some, slice_get, vec_len}
 use Rattle.std.specs.List.{AllByRecursion}
 use Rattle.std.proofs.lemmas.Option.{same_Some}
 use Rattle.std.proofs.lemmas.List.{append_assoc, length-append, length-map, map-append}
-
 use Rattle.std.specs.Global.{Vec}
 use Rattle.csp_arena.specs.Cells.{RegionName}
 use Rattle.csp_base.specs.declared.priority.Prio.{Prio}
@@ -36,6 +35,7 @@ unused_on region (w ∷ ws) (l ∷ ls) e = (
   rest : List ℕ → List ℕ
   rest [] = []
   rest (k ∷ ks) = ks
+
   first : (a b : ℕ) {ks js : List ℕ} → a ∷ ks ≡ b ∷ js → a ≡ b
   first a b same = ap (head a) same where
     head : ℕ → List ℕ → ℕ
@@ -170,7 +170,7 @@ same_posts p ends leads [] homes sides long handed = refl
 same_posts p ends leads (s ∷ seats) [] sides long handed = refl
 same_posts p ends leads (s ∷ seats) (h ∷ homes) (v ∷ sides) long handed =
     λ i. post_with s (ends_with (home_with leads s.who h) (handed 0 p (omega arith) (omega arith) i))
-      ∷ same_posts (p + 1) ends (leads_past leads s.who) seats homes sides (omega (arith, long)) (λ k j low same. handed (suc k) j (omega (arith, low)) (omega (arith, same))) i
+    ∷ same_posts (p + 1) ends (leads_past leads s.who) seats homes sides (omega (arith, long)) (λ k j low same. handed (suc k) j (omega (arith, low)) (omega (arith, same))) i
 same_posts p ends leads (s ∷ seats) (h ∷ homes) [] long handed = absurd (omega (arith, long))
 
 -- the ends of lanes, as they are kept

@@ -99,13 +99,14 @@ named_of ws apart p v at node place l w region x is =
     map-append name_of (if w.from.party == p then putting node place (pair_of region w x) ∷ [] else []) (if w.to.party == p then getting node place (pair_of region w x) ∷ [] else [])
     ∙ (λ i. first (w.from.party == p) i ++ second (w.to.party == p) i)
     ∙ (λ i. (if end_is ws apart p v l.from.who w.from.party at is.from i then record { queue = is.from_queue i; node = node; lane = place; puts = true; carries = is.carries i } ∷ [] else [])
-        ++ (if end_is ws apart p v l.to.who w.to.party at is.to i then record { queue = is.to_queue i; node = node; lane = place; puts = false; carries = is.carries i } ∷ [] else [])) where
-          first : (b : Bool) → map name_of (if b then putting node place (pair_of region w x) ∷ [] else []) ≡ (if b then record { queue = w.from.queue; node = node; lane = place; puts = true; carries = w.carries } ∷ [] else [])
-          first true = refl
-          first false = refl
-          second : (b : Bool) → map name_of (if b then getting node place (pair_of region w x) ∷ [] else []) ≡ (if b then record { queue = w.to.queue; node = node; lane = place; puts = false; carries = w.carries } ∷ [] else [])
-          second true = refl
-          second false = refl
+    ++ (if end_is ws apart p v l.to.who w.to.party at is.to i then record { queue = is.to_queue i; node = node; lane = place; puts = false; carries = is.carries i } ∷ [] else [])) where
+      first : (b : Bool) → map name_of (if b then putting node place (pair_of region w x) ∷ [] else []) ≡ (if b then record { queue = w.from.queue; node = node; lane = place; puts = true; carries = w.carries } ∷ [] else [])
+      first true = refl
+      first false = refl
+
+      second : (b : Bool) → map name_of (if b then getting node place (pair_of region w x) ∷ [] else []) ≡ (if b then record { queue = w.to.queue; node = node; lane = place; puts = false; carries = w.carries } ∷ [] else [])
+      second true = refl
+      second false = refl
 
 named_among : (ws : List Who) → NamedApart ws → (p : ℕ) (v : Who) → slice_get ws p ≡ Some v → (node place : ℕ) (ls : List PlainLane) (wires : List Wire) (region : RegionName) (xs : List lane.PlainLane)
     → AllZip (IsNamedIn ws) ls wires → length xs ≡ length wires → map name_of (handed_among p node place (pairs_on region wires xs)) ≡ sides_among v node place ls

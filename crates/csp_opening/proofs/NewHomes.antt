@@ -150,6 +150,7 @@ iface_new xs m number x n ws at is =
       split_traced High = record { kept = refl; got = refl }
       split_traced Normal = record { kept = refl; got = refl }
       split_traced Low = record { kept = refl; got = refl }
+
       split_empty : (p : Prio) → (inbox.mail_at (inbox.split_pass x.mail.pass number) p).kept ≡ []
       split_empty Critical = refl
       split_empty High = refl

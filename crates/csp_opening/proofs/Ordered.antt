@@ -126,8 +126,7 @@ can_plain_at : (p n : ℕ) (ends : List (List Pair)) (leads : List Lead) (seats 
     → CanPostFrom p ends (drop n leads) seats homes
 can_plain_at p n ends leads [] [] h can = tt
 can_plain_at p n ends leads (s ∷ seats) (x ∷ homes) h can =
-    let t = in_turn leads n s.who (map (λ (r : Seat). r.who) seats) h in
-    (
+    let t = in_turn leads n s.who (map (λ (r : Seat). r.who) seats) h in (
       subst (λ o. CanPost s (ends_with o (handed_from p 0 ends))) (sym (t.home x)) can.0,
       subst (λ ls. CanPostFrom (p + 1) ends ls seats homes) (sym t.left) (can_plain_at (p + 1) t.next ends leads seats homes t.order can.1),
     )

@@ -143,12 +143,12 @@ is_post scene xs ws p s o same seated new = subst (λ (z : PlainOpening). IsPost
     ends = new.ends;
     traced = record { home = new.home.traced; sides = each (IsSideTraced []) (λ x h. traced x.puts x h.none) };
     balanced = λ k. (
-      let held = ap (times k) seated.party.holds in
-      let out = none_put k (handed_from p 0 (map ends_in xs)) empty in
-      let came = none_got k (handed_from p 0 (map ends_in xs)) empty in
-      let into = new.home.into k in
-      let from = new.home.from k in
-      omega (arith, held, out, came, into, from));
+        let held = ap (times k) seated.party.holds in
+        let out = none_put k (handed_from p 0 (map ends_in xs)) empty in
+        let came = none_got k (handed_from p 0 (map ends_in xs)) empty in
+        let into = new.home.into k in
+        let from = new.home.from k in
+        omega (arith, held, out, came, into, from));
   };
   home = new.home.among;
   sides = new.names;
@@ -160,10 +160,13 @@ is_post scene xs ws p s o same seated new = subst (λ (z : PlainOpening). IsPost
 }) where
   each : (P : PlainSide → Type 0) → ((x : PlainSide) → IsSideNew scene (map queues_in xs) (map region_in xs) s.who x → P x) → AllByRecursion P (handed_from p 0 (map ends_in xs))
   each P f = all_from P (handed_from p 0 (map ends_in xs)) (λ k x e. f x (all_at (IsSideNew scene (map queues_in xs) (map region_in xs) s.who) (handed_from p 0 (map ends_in xs)) k x new.sides e))
+
   empty : AllByRecursion (λ (x : PlainSide). x.end.items ≡ []) (handed_from p 0 (map ends_in xs))
   empty = each (λ (x : PlainSide). x.end.items ≡ []) (λ x h. h.none)
+
   traced : (b : Bool) (x : PlainSide) → x.end.items ≡ [] → x.end.items ≡ moved b x.queue []
   traced true x e = e
   traced false x e = e
+
   through : (x : PlainSide) → x.end.items ≡ [] → IsThrough x
   through x e = subst (λ is. AllByRecursion (IsCarried (rule.Lane x.end.carries)) is) (sym e) tt

@@ -124,8 +124,7 @@ left_at : (leads : List Lead) (w : Who) (m : ℕ) (l : Lead) → slice_get leads
 left_at leads (who.Iface n k) m l e = by (n == m) refl where
   by : (b : Bool) → (n == m) ≡ b → (x : Lead) × (slice_get (changed n (after_iface k) leads) m ≡ Some x) × IsPast m (who.Iface n k) l x
   by true at =
-      let node : n ≡ m = eqb-true n m at in
-      (
+      let node : n ≡ m = eqb-true n m at in (
         after_iface k l,
         ap (λ j. slice_get (changed j (after_iface k) leads) m) node ∙ changed_same (after_iface k) m leads l e,
         record {
@@ -162,12 +161,15 @@ pub parts_at_node : (leads : List Lead) (ws : List Who) (m : ℕ) (l : Lead) →
 parts_at_node leads [] m l e = (l, e, record { fixed = refl; out = (let z : count_by (parts_at m) [] ≡ 0 = refl in omega (arith, z)); marks = λ j is. inl is })
 parts_at_node leads (w ∷ ws) m l e =
     let one = left_at leads w m l e in
-    let all = parts_at_node (part_left leads w) ws m one.0 one.1 in
-    (all.0, all.1, record {
-      fixed = all.2.fixed ∙ one.2.fixed;
-      out = let first = one.2.out in let rest = all.2.out in let sum = sum_by-cons (λ v. cond (parts_at m v) 1 0) w ws in omega (arith, first, rest, sum);
-      marks = λ j is. back j (all.2.marks j is);
-    }) where
+    let all = parts_at_node (part_left leads w) ws m one.0 one.1 in (
+      all.0,
+      all.1,
+      record {
+        fixed = all.2.fixed ∙ one.2.fixed;
+        out = let first = one.2.out in let rest = all.2.out in let sum = sum_by-cons (λ v. cond (parts_at m v) 1 0) w ws in omega (arith, first, rest, sum);
+        marks = λ j is. back j (all.2.marks j is);
+      },
+    ) where
       back : (j : ℕ) → (is_in (left_at leads w m l e).0.inbox.role.out j ≡ true) ⊎ HasMark m j ws → (is_in l.inbox.role.out j ≡ true) ⊎ HasMark m j (w ∷ ws)
       back j (inr h) = inr (later m j w ws h)
       back j (inl is) = first ((left_at leads w m l e).2.marks j is) where

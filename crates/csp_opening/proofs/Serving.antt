@@ -151,6 +151,7 @@ within_home scene nodes regions w opened home s stays new is = λ plain. by plai
     end : is.wire.to ≡ record { who = w; queue = s.queue } → wired.IsEndOf s.node is.wire is.wire.to → (node_of w ≡ Some s.node) ⊎ IsLinkRule is.wire.carries
     end name (inl o) = inl (ap (λ (e : PlainEnd). node_of e.who) (sym name) ∙ o.home)
     end name (inr l) = inr l.frames
+
   by : (IsLinkRule s.end.carries → ⊥) → (node_of w ≡ Some s.node) ⊎ IsLinkRule is.wire.carries → s.end.region ≡ region_or home
   by plain (inr frames) = absurd (plain (subst IsLinkRule (sym is.carries) frames))
   by plain (inl at) =

@@ -68,6 +68,7 @@ nodes_low p node (xs ∷ pairs) =
       same : (ys : List PlainSide) → AllByRecursion (λ (t : PlainSide). t.node ≡ node) ys → AllByRecursion (λ (t : PlainSide). node ≤ t.node) ys
       same [] h = tt
       same (y ∷ ys) h = (let is = h.0 in omega (arith, is), same ys h.1)
+
       weaker : (ys : List PlainSide) → AllByRecursion (λ (t : PlainSide). node + 1 ≤ t.node) ys → AllByRecursion (λ (t : PlainSide). node ≤ t.node) ys
       weaker [] h = tt
       weaker (y ∷ ys) h = (let low = h.0 in omega (arith, low), weaker ys h.1)

@@ -45,8 +45,7 @@ nodes_there count all place [] few = tt
 nodes_there count all place (n ∷ nodes) few =
     let low : place < count = omega (arith, few) in
     let here = links_at place all in
-    AllByRecursion-append (λ (o : PlainOpening). IsThere count all o.who) (parties_at place n here) (parties_from (place + 1) nodes all)
-    (
+    AllByRecursion-append (λ (o : PlainOpening). IsThere count all o.who) (parties_at place n here) (parties_from (place + 1) nodes all) (
       hub_there count all n.addr place n here low,
       AllByRecursion-append (λ (o : PlainOpening). IsThere count all o.who) (ifaces_from place 0 here) (apps_from place 0 n.apps) (ifaces_there count all place 0 here low (omega arith)) (apps_there count all place 0 n.apps low),
     )

@@ -22,11 +22,7 @@ pub(crate) struct Mail {
 
 impl Mail {
     /// An inbox with room for so many packets of each priority, for buffers of this region.
-    pub(crate) fn open(
-        alloc: Global,
-        region: &RegionToken,
-        count: u16,
-    ) -> Result<Mail, AllocError>
+    pub(crate) fn open(alloc: Global, region: &RegionToken, count: u16) -> Result<Mail, AllocError>
         requires { 0 < count }
         ensures inbox { IfOk result (λ m. m.inbox.room ≡ count) }
         ensures pass { IfOk result (λ m. m.pass ≡ opening_pass m.inbox region.now.name) }

@@ -78,7 +78,10 @@ impl Parts {
             inbox: room,
             lanes: rooms,
         });
-        self.leads.push_reserved(Lead { pool: pass, inbox: mail });
+        self.leads.push_reserved(Lead {
+            pool: pass,
+            inbox: mail,
+        });
         self.ends.push_reserved(ends);
     }
 }

@@ -65,7 +65,12 @@ impl Seat {
         match opening.who().node() {
             Some(place) => {
                 let base = &nodes[usize::from(place)].base;
-                Seat::open(alloc, opening, Some(base.store.token()), base.pool.capacity())
+                Seat::open(
+                    alloc,
+                    opening,
+                    Some(base.store.token()),
+                    base.pool.capacity(),
+                )
             }
             None => Seat::open(alloc, opening, None, 0),
         }

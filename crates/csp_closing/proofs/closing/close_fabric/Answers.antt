@@ -191,7 +191,7 @@ rounds_of-rounds-requires g c =
     let last : take f.stores.len (c.end_parties.new.stores ++ drop (length c.end_parties.new.stores) inner) ≡ c.end_parties.new.stores = lent f.stores.len c.end_parties.new.stores inner (f.stores.ok.0 ∙ sym wider) widest in
     let piles : map pile_of c.end_parties.new.stores ≡ parties_back (all_rest rs) (map pile_of c.end_queues.new.stores) = c.end_parties.ensures.stores ∙ ap (λ (l : List PlainRest). parties_back l (map pile_of c.deref_mut-3.result.now)) rest ∙ ap (λ (l : List NodeStore). parties_back (all_rest rs) (map pile_of l)) back in
     let logs : c.deref-3.result.now ≡ map rest_log (all_rest rs) = c.deref-3.ensures.value ∙ c.end_parties.ensures.logs ∙ ap (λ (l : List PlainPartyLog). l ++ map rest_log (all_rest (take c.retire.new.retired.len (c.end_queues.new.parties ++ drop (length c.end_queues.new.parties) rs)))) run.fabric.unlogged
-        ∙ ap (map rest_log) rest in
+    ∙ ap (map rest_log) rest in
     subst AreOrdered (sym logs) (ordered scene f posts rs run)
 
 pub returns : goal.returns
@@ -214,7 +214,7 @@ returns g c = λ scene is after fabric.
     let last : take f.stores.len (c.end_parties.new.stores ++ drop (length c.end_parties.new.stores) inner) ≡ c.end_parties.new.stores = lent f.stores.len c.end_parties.new.stores inner (f.stores.ok.0 ∙ sym wider) widest in
     let piles : map pile_of c.end_parties.new.stores ≡ parties_back (all_rest rs) (map pile_of c.end_queues.new.stores) = c.end_parties.ensures.stores ∙ ap (λ (l : List PlainRest). parties_back l (map pile_of c.deref_mut-3.result.now)) rest ∙ ap (λ (l : List NodeStore). parties_back (all_rest rs) (map pile_of l)) back in
     let logs : c.end_parties.new.logs.items ≡ map rest_log (all_rest rs) = c.end_parties.ensures.logs ∙ ap (λ (l : List PlainPartyLog). l ++ map rest_log (all_rest (take c.retire.new.retired.len (c.end_queues.new.parties ++ drop (length c.end_queues.new.parties) rs)))) run.fabric.unlogged
-        ∙ ap (map rest_log) rest in
+    ∙ ap (map rest_log) rest in
     closed laws scene f posts rs run c.end_queues.new.notes c.end_parties.new.notes c.end_stores.new.notes c.end_queues.new.stores ends (map pile_of c.end_parties.new.stores) _ piles
     (c.end_parties.ensures.notes ∙ ap (λ (l : List PlainRest). with_held c.end_queues.new.notes (flat_map rest_held l) c.end_parties.new.notes.others) rest)
     (c.end_stores.ensures ∙ ap (λ (l : List NodeStore). with_held c.end_parties.new.notes (pools_held 0 (map pool_part (map pile_of l))) c.end_stores.new.notes.others) last)

@@ -50,7 +50,7 @@ returns-in-Some-clause-ends t g c = λ number next.
     let cut = next_split c.args.node number c.args.store.now.region c.args.wires.now c.args.lanes.now.items sides w ws l ls next first c.next_lane-lane.ensures in
     let ended = c.end_wire.ensures.ends number cut.0 in
     let later = c.end_each.ensures.ends (number + 1)
-        (next_at c.args.node (number + 1) c.args.store.now.region c.end_wire.new.store.region ws ls (without_ends w sides) (all_sides c.end_wire.new.parties) ended.back.region c.end_wire.ensures.sides cut.1) in
+    (next_at c.args.node (number + 1) c.args.store.now.region c.end_wire.new.store.region ws ls (without_ends w sides) (all_sides c.end_wire.new.parties) ended.back.region c.end_wire.ensures.sides cut.1) in
     subst (λ (xs : List Wire). WiresEnd sides xs c.args.node number c.args.notes.now c.end_each.new.notes c.args.store.now c.end_each.new.store) (sym first)
     (more_wires sides w ws c.args.node number c.args.notes.now c.end_wire.new.notes c.end_each.new.notes c.args.store.now c.end_wire.new.store c.end_each.new.store ended
     (subst (λ (ss : List (List PlainSide)). WiresEnd ss ws c.args.node (number + 1) c.end_wire.new.notes c.end_each.new.notes c.end_wire.new.store c.end_each.new.store) c.end_wire.ensures.sides later))

@@ -29,7 +29,7 @@ loop-seat-preserved c =
       posts = ap (λ ps. ps ++ posts_with c.home_of-home.new.leads.items c.pop_front.new.self.items c.next.new.list.items c.next-sides.new.list.items) c.push_reserved.ensures.items
           ∙ append_assoc c.loop-seat.posts.items (c.post.result ∷ []) (posts_with c.home_of-home.new.leads.items c.pop_front.new.self.items c.next.new.list.items c.next-sides.new.list.items)
           ∙ (λ i. c.loop-seat.posts.items ++ (c.post.ensures ∙ ap (λ (h : Option PlainHome). post_with c.in-Some.seat (ends_with h c.next-sides.result.items)) c.home_of-home.ensures.home) i
-              ∷ posts_with (c.home_of-home.ensures.leads i) c.pop_front.new.self.items c.next.new.list.items c.next-sides.new.list.items)
+          ∷ posts_with (c.home_of-home.ensures.leads i) c.pop_front.new.self.items c.next.new.list.items c.next-sides.new.list.items)
           ∙ (λ i. c.loop-seat.posts.items ++ posts_with c.loop-seat.leads.items (sym seats i) (sym homes i) (sym sides i))
           ∙ before.posts;
     }
