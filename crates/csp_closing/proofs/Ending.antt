@@ -1,6 +1,6 @@
 -- The end of a lane, of the queues of a node, and of those of all nodes.
-use Rattle.std.proofs.Common.{◌≡◌, ◌≢◌, ◌+◌, ◌-◌, ◌*◌, ◌<◌, ◌≤◌, ℕ, zero, suc, true, false, Option, None, Some, List, [], ◌∷◌, ◌++◌, length, map, take, drop, get_or, refl, sym, ap, ◌∙◌, subst, arith, append_assoc, append-nil, length-append}
-use Rattle.std.specs.Prelude.{IsSomeAnd, slice_get, vec_capacity}
+use Rattle.std.proofs.Common.{◌≡◌, ◌+◌, ◌-◌, ◌*◌, ◌≤◌, ℕ, suc, Option, Some, List, [], ◌∷◌, ◌++◌, length, map, take, drop, get_or, refl, sym, ap, ◌∙◌, subst, arith, append_assoc, append-nil, length-append}
+use Rattle.std.specs.Prelude.{IsSomeAnd, vec_capacity}
 use Rattle.std.specs.Global.{Vec}
 use Rattle.std.specs.List.{AllByRecursion, flat_map}
 use Rattle.std.proofs.lemmas.List.{map-append, take_rest}
@@ -9,14 +9,14 @@ use Rattle.csp_base.specs.declared.priority.Prio.{Prio}
 use Rattle.csp_base.specs.declared.priority.Prio.TheVariants.{Critical, High, Normal, Low}
 use Rattle.csp_closing.proofs.Sides.{all_before, ends_later}
 use Rattle.csp_closing.specs.Hands.{gathered, homes_at, without_home}
-use Rattle.csp_closing.specs.Nodes.{AreLeftIn, CanAllEnd, CanEnd, HasBack, HaveBack, IsLeftBy, IsLeftIn, NodeEnds, NodesEnd, all_queue_notes, left_numbers, queue_notes, queue_numbers}
-use Rattle.csp_closing.specs.Wires.{AreLeftAmong, AreNext, IsFirstAt, IsLeftAmong, WireEnds, WiresEnd, wire_notes, with_notes, without_all, without_ends}
+use Rattle.csp_closing.specs.Nodes.{CanAllEnd, CanEnd, IsLeftBy, NodeEnds, NodesEnd, all_queue_notes, queue_notes, queue_numbers}
+use Rattle.csp_closing.specs.Wires.{AreNext, WireEnds, WiresEnd, wire_notes, with_notes, without_all, without_ends}
 use Rattle.csp_closing.specs.declared.passes.Passes.{Passes}
 use Rattle.csp_consistent.specs.Pools.{left_held}
 use Rattle.csp_deck.specs.Carried.{IsCarried}
 use Rattle.csp_deck.specs.Step.{item_numbers}
-use Rattle.csp_ending.specs.Ends.{InboxEnds, IsLeftAt, LaneEnds, PoolEnds, with_inbox}
-use Rattle.csp_ending.specs.Notes.{PlainNotes, left_note, held_note, with_queue}
+use Rattle.csp_ending.specs.Ends.{InboxEnds, LaneEnds, PoolEnds, with_inbox}
+use Rattle.csp_ending.specs.Notes.{PlainNotes, left_note, with_queue}
 use Rattle.csp_ending.specs.Stores.{PlainStore, TakesBack}
 use Rattle.csp_ends.specs.Ends.{PlainHome, PlainNodeQueues, PlainSide}
 use Rattle.csp_fabric.specs.declared.fabric.NodeRooms.{NodeRooms}
@@ -28,7 +28,6 @@ use Rattle.csp_lane.specs.Ends.{PlainEnd, PlainLane}
 use Rattle.csp_lists.specs.PlainDeck.{numbers_of}
 use Rattle.csp_log.specs.Remains.{PlainHeld, PlainLeft}
 use Rattle.csp_log.specs.declared.places.Place.{Place}
-use Rattle.csp_log.specs.declared.places.Place.TheVariants as place
 use Rattle.csp_log.specs.declared.places.Rule.TheVariants as rule
 use Rattle.csp_log.specs.declared.shown.ItemShown.{ItemShown}
 use Rattle.csp_log.specs.declared.shown.ItemShown.TheVariants as item
@@ -116,7 +115,7 @@ both_noted m n o xs ys f g =
     notes_are o (with_notes m (xs ++ ys) o.queues)
     (ap (λ (x : PlainNotes). x.left) g ∙ ap (λ (l : List PlainLeft). l ++ ys) (ap (λ (x : PlainNotes). x.left) f) ∙ append_assoc m.left xs ys)
     (ap (λ (x : PlainNotes). x.held) g ∙ ap (λ (l : List PlainHeld). l ++ map left_held ys) (ap (λ (x : PlainNotes). x.held) f) ∙ append_assoc m.held (map left_held xs) (map left_held ys)
-        ∙ ap (λ (l : List PlainHeld). m.held ++ l) (sym (map-append left_held xs ys)))
+    ∙ ap (λ (l : List PlainHeld). m.held ++ l) (sym (map-append left_held xs ys)))
     refl
     (ap (λ (x : PlainNotes). x.others) g ∙ ap (λ (x : PlainNotes). x.others) f)
 
@@ -227,8 +226,8 @@ nodes_split node queues rooms wires stores homes sides q qs r rs s later x ws ca
       let tail = map (λ (v : Vec Wire). v.items) wires in
       let same : y.items ≡ ws = ap (λ (v : Vec Wire). v.items) (sym read) ∙ sym is in
       let all : CanEnd node q r y.items s homes sides × CanAllEnd (node + 1) qs rs tail later (map (without_home node) homes) (without_all y.items sides) =
-          subst (λ (l : List NodeStore). CanAllEnd node (q ∷ qs) (r ∷ rs) (y.items ∷ tail) l homes sides) g
-          (subst (λ (l : List NodeRooms). CanAllEnd node (q ∷ qs) l (y.items ∷ tail) stores homes sides) f (subst (λ (l : List PlainNodeQueues). CanAllEnd node l rooms (y.items ∷ tail) stores homes sides) e can)) in
+      subst (λ (l : List NodeStore). CanAllEnd node (q ∷ qs) (r ∷ rs) (y.items ∷ tail) l homes sides) g
+      (subst (λ (l : List NodeRooms). CanAllEnd node (q ∷ qs) l (y.items ∷ tail) stores homes sides) f (subst (λ (l : List PlainNodeQueues). CanAllEnd node l rooms (y.items ∷ tail) stores homes sides) e can)) in
       record {
         first = subst (λ (l : List Wire). CanEnd node q r l s homes sides) same all.0;
         rest = subst (λ (l : List Wire). CanAllEnd (node + 1) qs rs tail later (map (without_home node) homes) (without_all l sides)) same all.1;

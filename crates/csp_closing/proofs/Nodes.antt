@@ -1,25 +1,23 @@
 -- The queues of all nodes can end.
-use Rattle.std.proofs.Common.{◌≡◌, ◌≢◌, ◌+◌, ◌*◌, ◌<◌, ◌≤◌, ℕ, zero, suc, Option, None, Some, List, [], ◌∷◌, ◌++◌, length, map, refl, sym, ap, ◌∙◌, subst, arith, sum_by}
+use Rattle.std.proofs.Common.{◌≡◌, ◌≢◌, ◌+◌, ◌*◌, ◌≤◌, ℕ, suc, Option, Some, List, [], ◌∷◌, length, map, refl, sym, ap, ◌∙◌, subst, arith, sum_by}
 use Rattle.std.specs.Prelude.{slice_get, IsSomeAnd}
-use Rattle.std.specs.List.{AllByRecursion}
 use Rattle.std.proofs.lemmas.List.{length-map}
 use Rattle.std.proofs.lemmas.List.Sums.{sum_by-cons}
 use Rattle.csp_arena.specs.Cells.{RegionName}
-use Rattle.csp_closing.proofs.Lists.{made_at}
 use Rattle.csp_closing.proofs.Members.{stay_at}
 use Rattle.csp_closing.proofs.Sides.{AreDistinct, AreNamed, AreWired, EachSide, HaveAllNext, IsOfNetwork, have_all_next}
 use Rattle.csp_closing.specs.Hands.{CanGather, gathered, homes_at, without_home}
-use Rattle.csp_closing.specs.Nodes.{CanAllEnd, CanClose, CanEnd, queue_count}
+use Rattle.csp_closing.specs.Nodes.{CanAllEnd, CanClose, queue_count}
 use Rattle.csp_closing.specs.Wires.{HaveRooms, rooms_in, without_all}
 use Rattle.csp_ends.specs.Ends.{PlainHome, PlainNodeQueues, PlainSide}
-use Rattle.csp_fabric.specs.Fabrics.{AreRoomsOf, AreStoresOf, IsRoomOf, IsStoreOf, room_in}
+use Rattle.csp_fabric.specs.Fabrics.{AreRoomsOf, AreStoresOf, IsStoreOf}
 use Rattle.csp_fabric.specs.declared.fabric.NodeRooms.{NodeRooms}
 use Rattle.csp_fabric.specs.declared.fabric.NodeStore.{NodeStore}
 use Rattle.csp_lane.specs.Ends as lane
 use Rattle.csp_lists.specs.PlainDeck.{lane_room}
 use Rattle.csp_record.specs.declared.who.Who.{Who}
 use Rattle.csp_scene.specs.Scene.{PlainNode}
-use Rattle.csp_standing.specs.Network.{AreNodesOf, AreQueuesOf, sides_among, sides_from}
+use Rattle.csp_standing.specs.Network.{AreNodesOf, AreQueuesOf, sides_from}
 use Rattle.csp_topology.specs.Lanes.{PlainLane}
 use Rattle.csp_topology.specs.declared.wire.Wire.{Wire}
 
@@ -78,9 +76,8 @@ all_end whos distinct nodes regions node (m ∷ ms) (ls ∷ lanes) (q ∷ queues
     let here : slice_get nodes node ≡ Some q = ap (slice_get nodes) (sym zero_more) ∙ sym (places 0) in
     let region : slice_get regions node ≡ Some s.store.region = ap (slice_get regions) (sym zero_more) ∙ where_ 0 s refl in
     let next : HaveAllNext whos (IsOfNetwork nodes regions) sides ws q.lanes s.store.region node 0 (λ v. sides_from v (node + 1) lanes) = have_all_next whos distinct nodes regions q s.store.region node here region ls ws q.lanes 0 sides (λ v. sides_from v (node + 1) lanes) wired.0 (lanes_count q.lanes ls of_it.lanes)
-        (λ j. ap (slice_get q.lanes) (omega arith)) names each in
-    let first : CanMeet q s.store.region (homes_at node homes) = subst (λ (n : ℕ). CanMeet q s.store.region (homes_at n homes)) zero_more (meet 0 q s refl refl) in
-    (
+    (λ j. ap (slice_get q.lanes) (omega arith)) names each in
+    let first : CanMeet q s.store.region (homes_at node homes) = subst (λ (n : ℕ). CanMeet q s.store.region (homes_at n homes)) zero_more (meet 0 q s refl refl) in (
       record {
         gather = first.gather;
         close = first.close;
@@ -90,13 +87,13 @@ all_end whos distinct nodes regions node (m ∷ ms) (ls ∷ lanes) (q ∷ queues
         store = store_room m ls q s of_it are_stores.0;
       },
       all_end whos distinct nodes regions (node + 1) ms lanes queues rooms wires stores (map (without_home node) homes) (without_all ws sides) are_nodes.1 are_stores.1 are_rooms.1 wired.1
-      (λ j. places (suc j) ∙ ap (slice_get nodes) (omega arith))
-      (λ j t at. ap (slice_get regions) (omega arith) ∙ where_ (suc j) t at)
-      (λ j p t at there.
+          (λ j. places (suc j) ∙ ap (slice_get nodes) (omega arith))
+          (λ j t at. ap (slice_get regions) (omega arith) ∙ where_ (suc j) t at)
+          (λ j p t at there.
           let other : node + 1 + j ≢ node = (λ e. omega (arith, e)) in
           let same : homes_at (node + suc j) homes ≡ homes_at (node + 1 + j) (map (without_home node) homes) = ap (λ (n : ℕ). homes_at n homes) (omega arith) ∙ sym (stay_at node (node + 1 + j) homes other) in
           subst (CanMeet p t.store.region) same (meet (suc j) p t at there))
-      next.later next.each,
+          next.later next.each,
     )
 all_end whos distinct nodes regions node [] (ls ∷ lanes) queues rooms wires stores homes sides are_nodes are_stores are_rooms wired places where_ meet names each = absurd are_nodes
 all_end whos distinct nodes regions node [] [] (q ∷ queues) rooms wires stores homes sides are_nodes are_stores are_rooms wired places where_ meet names each = absurd are_nodes
@@ -110,7 +107,7 @@ all_end whos distinct nodes regions node (m ∷ ms) (ls ∷ lanes) (q ∷ queues
 all_end whos distinct nodes regions node (m ∷ ms) (ls ∷ lanes) (q ∷ queues) (r ∷ rooms) (ws ∷ wires) [] homes sides are_nodes are_stores are_rooms wired places where_ meet names each = absurd are_stores
 
 -- the notes have room for all queues
-one_count : (whos : List Who) (ls : List PlainLane) (ws : List Wire) → AreWired whos ls ws → length ws ≡ length ls
+pub one_count : (whos : List Who) (ls : List PlainLane) (ws : List Wire) → AreWired whos ls ws → length ws ≡ length ls
 one_count whos [] [] h = refl
 one_count whos (l ∷ ls) (w ∷ ws) h = ap suc (one_count whos ls ws h.1)
 one_count whos [] (w ∷ ws) h = absurd h

@@ -1,12 +1,11 @@
 -- The ends of lanes that come next in the hands of the parties.
-use Rattle.std.proofs.Common.{◌≡◌, ◌≢◌, ◌+◌, ◌<◌, ◌≤◌, ℕ, zero, suc, Bool, true, false, Option, None, Some, List, [], ◌∷◌, ◌++◌, ◌==◌, length, map, drop, refl, sym, ap, ◌∙◌, subst, arith, append_assoc}
+use Rattle.std.proofs.Common.{◌≡◌, ◌≢◌, ◌+◌, ℕ, zero, suc, Bool, true, false, Some, List, [], ◌∷◌, ◌++◌, ◌==◌, length, map, drop, refl, sym, ap, ◌∙◌, subst, arith, append_assoc}
 use Rattle.std.specs.Prelude.{if◌then◌else◌, slice_get, IsSomeAnd}
 use Rattle.std.specs.List.{AllByRecursion}
-use Rattle.std.specs.Option.{option_map}
 use Rattle.std.proofs.lemmas.Option.{same_Some}
 use Rattle.csp_arena.specs.Cells.{RegionName}
-use Rattle.csp_closing.proofs.Lists.{differs, equal, equals, all_at}
-use Rattle.csp_closing.specs.Wires.{AreAllNext, AreLeftAmong, AreNext, IsEndThere, IsFirstAt, IsLeftAmong, without_all, without_ends, without_first}
+use Rattle.csp_closing.proofs.Lists.{differs, equal, all_at}
+use Rattle.csp_closing.specs.Wires.{AreAllNext, AreLeftAmong, IsEndThere, IsFirstAt, IsLeftAmong, without_all, without_ends, without_first}
 use Rattle.csp_consistent.proofs.Names.{who_is, who_same}
 use Rattle.csp_consistent.specs.Pools.{place_named}
 use Rattle.csp_consistent.specs.Reading.{is_who}
@@ -15,7 +14,7 @@ use Rattle.csp_lane.specs.Ends as lane
 use Rattle.csp_log.specs.declared.places.Place.TheVariants as place
 use Rattle.csp_log.specs.declared.shown.ItemShown.{ItemShown}
 use Rattle.csp_record.specs.declared.who.Who.{Who}
-use Rattle.csp_standing.specs.Network.{IsSideAmong, SideName, name_of, sides_among, sides_at, sides_from}
+use Rattle.csp_standing.specs.Network.{IsSideAmong, SideName, name_of, sides_among, sides_at}
 use Rattle.csp_topology.specs.Lanes.{PlainLane}
 use Rattle.csp_topology.specs.declared.wire.Wire.{Wire}
 
@@ -134,8 +133,8 @@ have_next whos distinct sides l w node lane names is h =
     let putter : SideName = record { queue = l.from.queue; node = node; lane = lane; puts = true; carries = l.carries } in
     let getter : SideName = record { queue = l.to.queue; node = node; lane = lane; puts = false; carries = l.carries } in
     let first = has_next whos distinct sides w.from.party l.from.who putter (λ v. one_name (is_who v l.to.who) getter ++ names v) is.from
-        (named_as whos sides (λ v. sides_at v node lane l ++ names v) (λ v. one_name (is_who v l.from.who) putter ++ (one_name (is_who v l.to.who) getter ++ names v))
-        (λ v. append_assoc (one_name (is_who v l.from.who) putter) (one_name (is_who v l.to.who) getter) (names v)) h) in
+    (named_as whos sides (λ v. sides_at v node lane l ++ names v) (λ v. one_name (is_who v l.from.who) putter ++ (one_name (is_who v l.to.who) getter ++ names v))
+    (λ v. append_assoc (one_name (is_who v l.from.who) putter) (one_name (is_who v l.to.who) getter) (names v)) h) in
     let second = has_next whos distinct (without_first w.from.party sides) w.to.party l.to.who getter names is.to first.later in
     record {
       x = first.x;
@@ -201,11 +200,11 @@ pub have_all_next : (whos : List Who) → AreDistinct whos → (nodes : List Pla
 have_all_next whos distinct nodes regions q region node at here [] [] [] number sides names wired count places h each = record { next = tt; later = h; each = each }
 have_all_next whos distinct nodes regions q region node at here (l ∷ ls) (w ∷ wires) (x ∷ lanes) number sides names wired count places h each =
     let one = have_next whos distinct sides l w node number (λ v. sides_among v node (number + 1) ls ++ names v) wired.0
-        (named_as whos sides (λ v. sides_among v node number (l ∷ ls) ++ names v) (λ v. sides_at v node number l ++ (sides_among v node (number + 1) ls ++ names v))
-        (λ v. append_assoc (sides_at v node number l) (sides_among v node (number + 1) ls) (names v)) h) in
+    (named_as whos sides (λ v. sides_among v node number (l ∷ ls) ++ names v) (λ v. sides_at v node number l ++ (sides_among v node (number + 1) ls ++ names v))
+    (λ v. append_assoc (sides_at v node number l) (sides_among v node (number + 1) ls) (names v)) h) in
     let which : slice_get q.lanes number ≡ Some x = ap (slice_get q.lanes) (omega arith) ∙ sym (places 0) in
     let rest = have_all_next whos distinct nodes regions q region node at here ls wires lanes (number + 1) (without_ends w sides) names wired.1 (omega (arith, count))
-        (λ j. places (suc j) ∙ ap (slice_get q.lanes) (omega arith)) one.later (ends_each (IsOfNetwork nodes regions) w sides each) in
+    (λ j. places (suc j) ∙ ap (slice_get q.lanes) (omega arith)) one.later (ends_each (IsOfNetwork nodes regions) w sides each) in
     record {
       next = (
         record {

@@ -41,12 +41,7 @@ pub(crate) fn end_parties(
 }
 
 /// Ends a party: its log and what it holds are noted, and its buffers are taken back.
-fn end_party(
-    party: Retired,
-    stores: &mut [NodeStore],
-    logs: &mut Vec<PartyLog>,
-    notes: &mut Notes,
-)
+fn end_party(party: Retired, stores: &mut [NodeStore], logs: &mut Vec<PartyLog>, notes: &mut Notes)
     requires can { CanEndParty (map pile_of stores.old) (rest_of party) }
     requires logs_room { vec_len logs.old + 1 ≤ vec_capacity logs.old }
     requires notes_room { 1 ≤ notes.old.others }

@@ -1,15 +1,14 @@
-use Rattle.std.proofs.Common.{◌≡◌, ◌+◌, ◌≤◌, ℕ, List, ◌++◌, All, length, map, take, drop, arith, refl, sym, ap, ◌∙◌, subst}
+use Rattle.std.proofs.Common.{◌≡◌, List, ◌++◌, All, length, map, take, drop, arith, sym, ap, ◌∙◌, subst}
 use Rattle.std.specs.Global.{Vec}
 use Rattle.std.specs.List.{flat_map, list_all}
 use Rattle.std.specs.Prelude.{not}
-use Rattle.csp_closing.proofs.Closed.{IsRun, Laws, can_as, closed, ends_as, lent, memories_can, memories_long, nodes_few, ordered, parties_can, parties_long, queues_can, queues_room, rest_long, stores_few, wires_in}
-use Rattle.csp_closing.specs.Nodes.{NodesEnd, queue_count}
-use Rattle.csp_closing.specs.Retired.{PlainRest, all_homes, all_rest, all_sides}
-use Rattle.csp_closing.specs.Stores.{CanEndParties, CanGiveBack, PlainPile, parties_back, pile_of, pool_part, rest_held, rest_log, with_held}
+use Rattle.csp_closing.proofs.Closed.{IsRun, Laws, can_as, closed, ends_as, lent, memories_can, nodes_few, ordered, parties_can, parties_long, queues_can, queues_room, stores_few, wires_in}
+use Rattle.csp_closing.specs.Nodes.{queue_count}
+use Rattle.csp_closing.specs.Retired.{PlainRest, all_rest}
+use Rattle.csp_closing.specs.Stores.{CanEndParties, CanGiveBack, parties_back, pile_of, pool_part, rest_held, rest_log, with_held}
 use Rattle.csp_closing.specs.Times.{AreOrdered, rounds_among}
 use Rattle.csp_consistent.specs.Pools.{pools_held}
 use Rattle.csp_ending.specs.Notes.{PlainNotes}
-use Rattle.csp_fabric.specs.Fabrics.{IsFabricOf}
 use Rattle.csp_fabric.specs.declared.fabric.Fabric.{Fabric}
 use Rattle.csp_fabric.specs.declared.fabric.NodeStore.{NodeStore}
 use Rattle.csp_posts.specs.Ready.{is_unfinished}
@@ -191,7 +190,7 @@ rounds_of-rounds-requires g c =
     let last : take f.stores.len (c.end_parties.new.stores ++ drop (length c.end_parties.new.stores) inner) ≡ c.end_parties.new.stores = lent f.stores.len c.end_parties.new.stores inner (f.stores.ok.0 ∙ sym wider) widest in
     let piles : map pile_of c.end_parties.new.stores ≡ parties_back (all_rest rs) (map pile_of c.end_queues.new.stores) = c.end_parties.ensures.stores ∙ ap (λ (l : List PlainRest). parties_back l (map pile_of c.deref_mut-3.result.now)) rest ∙ ap (λ (l : List NodeStore). parties_back (all_rest rs) (map pile_of l)) back in
     let logs : c.deref-3.result.now ≡ map rest_log (all_rest rs) = c.deref-3.ensures.value ∙ c.end_parties.ensures.logs ∙ ap (λ (l : List PlainPartyLog). l ++ map rest_log (all_rest (take c.retire.new.retired.len (c.end_queues.new.parties ++ drop (length c.end_queues.new.parties) rs)))) run.fabric.unlogged
-        ∙ ap (map rest_log) rest in
+    ∙ ap (map rest_log) rest in
     subst AreOrdered (sym logs) (ordered scene f posts rs run)
 
 pub returns : goal.returns
@@ -214,7 +213,7 @@ returns g c = λ scene is after fabric.
     let last : take f.stores.len (c.end_parties.new.stores ++ drop (length c.end_parties.new.stores) inner) ≡ c.end_parties.new.stores = lent f.stores.len c.end_parties.new.stores inner (f.stores.ok.0 ∙ sym wider) widest in
     let piles : map pile_of c.end_parties.new.stores ≡ parties_back (all_rest rs) (map pile_of c.end_queues.new.stores) = c.end_parties.ensures.stores ∙ ap (λ (l : List PlainRest). parties_back l (map pile_of c.deref_mut-3.result.now)) rest ∙ ap (λ (l : List NodeStore). parties_back (all_rest rs) (map pile_of l)) back in
     let logs : c.end_parties.new.logs.items ≡ map rest_log (all_rest rs) = c.end_parties.ensures.logs ∙ ap (λ (l : List PlainPartyLog). l ++ map rest_log (all_rest (take c.retire.new.retired.len (c.end_queues.new.parties ++ drop (length c.end_queues.new.parties) rs)))) run.fabric.unlogged
-        ∙ ap (map rest_log) rest in
+    ∙ ap (map rest_log) rest in
     closed laws scene f posts rs run c.end_queues.new.notes c.end_parties.new.notes c.end_stores.new.notes c.end_queues.new.stores ends (map pile_of c.end_parties.new.stores) _ piles
     (c.end_parties.ensures.notes ∙ ap (λ (l : List PlainRest). with_held c.end_queues.new.notes (flat_map rest_held l) c.end_parties.new.notes.others) rest)
     (c.end_stores.ensures ∙ ap (λ (l : List NodeStore). with_held c.end_parties.new.notes (pools_held 0 (map pool_part (map pile_of l))) c.end_stores.new.notes.others) last)

@@ -1,10 +1,9 @@
-use Rattle.std.proofs.Common.{◌≡◌, ◌+◌, ◌≤◌, ◌∷◌, ℕ, List, length, rules, arith, ap, sym, subst}
+use Rattle.std.proofs.Common.{◌≡◌, ◌+◌, ◌∷◌, List, length, rules, arith, ap, sym, subst}
 use Rattle.csp_closing.proofs.Ending.{more_wires}
 use Rattle.csp_closing.proofs.Handing.{next_at, next_split, rooms_split}
 use Rattle.csp_closing.specs.Retired.{all_sides}
 use Rattle.csp_closing.specs.Wires.{WiresEnd, rooms_in, without_ends}
 use Rattle.csp_ends.specs.Ends.{PlainSide}
-use Rattle.csp_lane.specs.Ends.{PlainLane}
 use Rattle.csp_topology.specs.declared.wire.Wire.{Wire}
 use Rattle.csp_closing.proofs.lanes.+end_each.Goals as goal
 
@@ -50,7 +49,7 @@ returns-in-Some-clause-ends t g c = λ number next.
     let cut = next_split c.args.node number c.args.store.now.region c.args.wires.now c.args.lanes.now.items sides w ws l ls next first c.next_lane-lane.ensures in
     let ended = c.end_wire.ensures.ends number cut.0 in
     let later = c.end_each.ensures.ends (number + 1)
-        (next_at c.args.node (number + 1) c.args.store.now.region c.end_wire.new.store.region ws ls (without_ends w sides) (all_sides c.end_wire.new.parties) ended.back.region c.end_wire.ensures.sides cut.1) in
+    (next_at c.args.node (number + 1) c.args.store.now.region c.end_wire.new.store.region ws ls (without_ends w sides) (all_sides c.end_wire.new.parties) ended.back.region c.end_wire.ensures.sides cut.1) in
     subst (λ (xs : List Wire). WiresEnd sides xs c.args.node number c.args.notes.now c.end_each.new.notes c.args.store.now c.end_each.new.store) (sym first)
     (more_wires sides w ws c.args.node number c.args.notes.now c.end_wire.new.notes c.end_each.new.notes c.args.store.now c.end_wire.new.store c.end_each.new.store ended
     (subst (λ (ss : List (List PlainSide)). WiresEnd ss ws c.args.node (number + 1) c.end_wire.new.notes c.end_each.new.notes c.end_wire.new.store c.end_each.new.store) c.end_wire.ensures.sides later))

@@ -1,4 +1,4 @@
-use Rattle.std.proofs.Common.{◌≡◌, ◌+◌, ◌-◌, List, ◌∷◌, drop, take, length, map, rules, arith, ap, sym, subst}
+use Rattle.std.proofs.Common.{◌≡◌, ◌+◌, ◌-◌, List, ◌∷◌, drop, take, length, map, rules, arith, ap, subst}
 use Rattle.std.specs.Global.{Vec}
 use Rattle.csp_closing.proofs.Ending.{nodes_joined, nodes_none, nodes_split, none_left, rest_can, rest_wires}
 use Rattle.csp_closing.specs.Nodes.{NodesEnd, queue_count}
@@ -17,9 +17,9 @@ end_nodes-requires g t c =
     let homes = all_homes c.args.parties.now in
     let sides = all_sides c.args.parties.now in
     let cut = nodes_split c.args.node c.args.nodes.now.items c.args.rooms.now.items c.args.wires.now c.args.stores.now homes sides c.next_queues-queues.result c.next_queues-queues.new.nodes.items c.next_rooms-room.result c.next_rooms-room.new.rooms.items
-        c.in-Some.store.now c.in-Some.later.now c.index-wires-0.result c.deref.result.now c.requires.can c.next_queues-queues.ensures c.next_rooms-room.ensures c.in-Some.ensures.cases.0 c.index-wires-0.is c.deref.ensures.value in
+    c.in-Some.store.now c.in-Some.later.now c.index-wires-0.result c.deref.result.now c.requires.can c.next_queues-queues.ensures c.next_rooms-room.ensures c.in-Some.ensures.cases.0 c.index-wires-0.is c.deref.ensures.value in
     let can = rest_can c.args.node c.next_queues-queues.new.nodes.items c.next_rooms-room.new.rooms.items c.args.wires.now c.in-Some.later.now homes (all_homes c.end_node.new.parties) sides (all_sides c.end_node.new.parties) c.next_queues-queues.result
-        c.next_rooms-room.result c.deref.result.now c.in-Some.store.now cut c.end_node.ensures.homes c.end_node.ensures.sides in
+    c.next_rooms-room.result c.deref.result.now c.in-Some.store.now cut c.end_node.ensures.homes c.end_node.ensures.sides in
     let long : length c.args.stores.now ≡ length (c.in-Some.store.now ∷ c.in-Some.later.now) = ap (λ (l : List NodeStore). length l) c.in-Some.ensures.cases.0 in
     let few = c.requires.few in
     let whole : queue_count (map (λ (v : Vec Wire). v.items) c.args.wires.now) ≡ queue_count (c.deref.result.now ∷ map (λ (v : Vec Wire). v.items) (drop 1 c.args.wires.now)) = ap queue_count cut.wires_are in
@@ -31,8 +31,8 @@ end_nodes-requires g t c =
 pub returns-in-Some-clause-ends : goal.returns-in-Some-clause-ends
 returns-in-Some-clause-ends g t c =
     let cut = nodes_split c.args.node c.args.nodes.now.items c.args.rooms.now.items c.args.wires.now c.args.stores.now (all_homes c.args.parties.now) (all_sides c.args.parties.now) c.next_queues-queues.result c.next_queues-queues.new.nodes.items
-        c.next_rooms-room.result c.next_rooms-room.new.rooms.items c.in-Some.store.now c.in-Some.later.now c.index-wires-0.result c.deref.result.now c.requires.can c.next_queues-queues.ensures c.next_rooms-room.ensures c.in-Some.ensures.cases.0
-        c.index-wires-0.is c.deref.ensures.value in
+    c.next_rooms-room.result c.next_rooms-room.new.rooms.items c.in-Some.store.now c.in-Some.later.now c.index-wires-0.result c.deref.result.now c.requires.can c.next_queues-queues.ensures c.next_rooms-room.ensures c.in-Some.ensures.cases.0
+    c.index-wires-0.is c.deref.ensures.value in
     nodes_joined c.args.node c.args.nodes.now.items (map (λ (v : Vec Wire). v.items) c.args.wires.now) c.args.stores.now (all_homes c.args.parties.now) (all_homes c.end_node.new.parties) (all_sides c.args.parties.now) (all_sides c.end_node.new.parties)
     c.next_queues-queues.result c.next_queues-queues.new.nodes.items c.deref.result.now (map (λ (v : Vec Wire). v.items) (drop 1 c.args.wires.now)) c.args.notes.now c.end_node.new.notes c.end_nodes.new.notes c.in-Some.store.now c.end_node.new.store
     c.in-Some.later.now c.end_nodes.new.stores c.next_queues-queues.ensures cut.wires_are c.in-Some.ensures.cases.0 c.end_node.ensures.homes c.end_node.ensures.sides c.end_node.ensures.ends
