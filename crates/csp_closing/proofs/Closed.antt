@@ -1,12 +1,11 @@
 -- The end of a network's run.
-use Rattle.std.proofs.Common.{◌≡◌, ◌≢◌, ◌+◌, ◌<◌, ◌≤◌, ℕ, zero, suc, Bool, true, false, Option, None, Some, List, [], ◌∷◌, ◌++◌, All, not, ◌&&◌, length, map, take, drop, get_or, refl, sym, ap, ◌∙◌, subst, arith, append_assoc, append-nil}
-use Rattle.std.specs.Prelude.{slice_get, vec_capacity}
+use Rattle.std.proofs.Common.{◌≡◌, ◌≤◌, ℕ, Bool, Some, List, [], ◌∷◌, ◌++◌, All, not, ◌&&◌, length, map, take, drop, get_or, refl, sym, ap, ◌∙◌, subst, arith, append_assoc, append-nil}
+use Rattle.std.specs.Prelude.{slice_get}
 use Rattle.std.specs.Global.{Vec}
-use Rattle.std.specs.List.{AllByRecursion, flat_map, list_all}
-use Rattle.std.specs.Option.{option_map, option_to_list}
+use Rattle.std.specs.List.{flat_map, list_all}
 use Rattle.std.proofs.lemmas.List.{drop_all, length-map, take_all}
 use Rattle.std.proofs.lemmas.Option.{slice_get-get_or}
-use Rattle.csp_closing.proofs.Ended.{IsEnded, IsPileOf, LongSame, ReturnsAll, can_end_all, ended_at, homes_same, piles_of, pools_are, posts_same, sides_same}
+use Rattle.csp_closing.proofs.Ended.{IsPileOf, LongSame, ReturnsAll, can_end_all, ended_at, homes_same, piles_of, pools_are, posts_same, sides_same}
 use Rattle.csp_closing.proofs.Fabric.{StaysAll, all_remains, can_all_end, queues_noted, stores_long, wired_all, nodes_long, whos_of}
 use Rattle.csp_closing.proofs.Lists.{all_from, made_from}
 use Rattle.csp_closing.proofs.Members.{homes_of}
@@ -14,21 +13,18 @@ use Rattle.csp_closing.proofs.Noted.{all_noted, back_long}
 use Rattle.csp_closing.proofs.Piles.{all_long}
 use Rattle.csp_closing.proofs.Remains.{sides_of}
 use Rattle.csp_closing.proofs.Timing.{rounds_logged, run_ordered}
-use Rattle.csp_closing.specs.Nodes.{AreLeftIn, CanAllEnd, HaveBack, NodesEnd, all_queue_notes, queue_count}
+use Rattle.csp_closing.specs.Nodes.{AreLeftIn, CanAllEnd, NodesEnd, all_queue_notes, queue_count}
 use Rattle.csp_closing.specs.Retired.{IsFresh, PlainRest, all_homes, all_rest, all_sides, post_of, rest_of, retired_of, to_retire}
 use Rattle.csp_closing.specs.Stores.{CanEndParties, CanGiveBack, PlainPile, parties_back, pile_of, pool_part, rest_held, rest_log, with_held}
 use Rattle.csp_closing.specs.Times.{AreOrdered, IsOrdered, rounds_among}
-use Rattle.csp_closing.specs.Wires.{with_notes}
 use Rattle.csp_consistent.specs.Pools.{left_held, pools_held}
-use Rattle.csp_deck.specs.Step.{times}
 use Rattle.csp_ending.specs.Notes.{PlainNotes}
-use Rattle.csp_fabric.specs.Fabrics.{IsFabricOf, network_of, queues_in}
+use Rattle.csp_fabric.specs.Fabrics.{IsFabricOf, network_of}
 use Rattle.csp_fabric.specs.declared.fabric.Fabric.{Fabric}
 use Rattle.csp_fabric.specs.declared.fabric.NodeStore.{NodeStore}
-use Rattle.csp_flow.specs.Closed.{IsClosed, IsRecordOf, are_finished, log_of, post_held, rounds_of}
-use Rattle.csp_flow.specs.Remains.{AreRemains, PlainRemains, returned}
+use Rattle.csp_flow.specs.Closed.{IsClosed, IsRecordOf, are_finished, log_of, post_held}
+use Rattle.csp_flow.specs.Remains.{AreRemains, PlainRemains}
 use Rattle.csp_log.specs.Remains.{PlainHeld, PlainLeft}
-use Rattle.csp_party.specs.Any.{PlainParty}
 use Rattle.csp_posts.specs.Posts.{PlainPost}
 use Rattle.csp_posts.specs.Ready.{is_unfinished}
 use Rattle.csp_posts.specs.Seen.{SeenPost}
@@ -36,9 +32,9 @@ use Rattle.csp_posts.specs.declared.retired.Retired.{Retired}
 use Rattle.csp_record.specs.Record.{PlainPartyLog, PlainRecord}
 use Rattle.csp_scene.specs.Kept.{AreLinksAfter}
 use Rattle.csp_scene.specs.Ranges.{IsScene}
-use Rattle.csp_scene.specs.Scene.{PlainNode, PlainScene}
+use Rattle.csp_scene.specs.Scene.{PlainScene}
 use Rattle.csp_standing.proofs.Leaders.{Apart, Hubs, Led}
-use Rattle.csp_standing.proofs.Places.{IsAt, post_at}
+use Rattle.csp_standing.proofs.Places.{post_at}
 use Rattle.csp_standing.proofs.Sides.{JoinsAll}
 use Rattle.csp_standing.specs.Network.{IsNetworkOf, PlainNetwork}
 use Rattle.csp_topology.specs.Parties.{parties_of, party_steps}

@@ -1,31 +1,29 @@
 -- The parties and the memory of a network can end.
-use Rattle.std.proofs.Common.{◌≡◌, ◌≢◌, ◌+◌, ◌-◌, ◌<◌, ◌≤◌, ℕ, zero, suc, Bool, true, false, Option, None, Some, List, [], ◌∷◌, ◌++◌, ◌==◌, All, length, map, take, drop, refl, sym, ap, ◌∙◌, subst, arith, append_assoc, append-nil, length-append}
+use Rattle.std.proofs.Common.{◌≡◌, ◌+◌, ◌-◌, ◌≤◌, ℕ, zero, suc, Bool, true, Option, None, Some, List, [], ◌∷◌, ◌++◌, All, length, map, take, refl, sym, ap, ◌∙◌, subst, arith, append_assoc, length-append}
 use Rattle.std.specs.Prelude.{IfSome, IsSomeAnd, if◌then◌else◌, slice_get, slice_range, vec_capacity}
 use Rattle.std.specs.List.{AllByRecursion, flat_map, range_with_len}
 use Rattle.std.specs.Option.{option_map}
 use Rattle.std.proofs.lemmas.List.{drop_at, length-map, take_at}
 use Rattle.std.proofs.lemmas.List.Elements.{All-head, All-rest}
 use Rattle.std.proofs.lemmas.List.FromFn.{length-range_with_len}
-use Rattle.std.proofs.lemmas.List.Sums.{sum_by-append}
 use Rattle.std.proofs.lemmas.Option.{same_Some, slice_get-map, get_or_from_slice_get}
 use Rattle.csp_arena.specs.Cells.{RegionName}
-use Rattle.csp_closing.proofs.Fabric.{stores_long}
 use Rattle.csp_closing.proofs.Lists.{all_at, all_from, equals, made_at, made_from, times_two}
 use Rattle.csp_closing.proofs.Members.{homes_of}
-use Rattle.csp_closing.proofs.Noted.{IsBackAt, back_at_one, back_long}
-use Rattle.csp_closing.proofs.Piles.{HaveRoomFor, IsEndable, all_back, all_long, can_end, held_of, held_of_all}
+use Rattle.csp_closing.proofs.Noted.{back_at_one}
+use Rattle.csp_closing.proofs.Piles.{HaveRoomFor, IsEndable, all_back, can_end, held_of_all}
 use Rattle.csp_closing.proofs.Remains.{sides_of}
-use Rattle.csp_closing.specs.Nodes.{HasBack, HaveBack, left_numbers, queue_numbers}
+use Rattle.csp_closing.specs.Nodes.{HaveBack, left_numbers, queue_numbers}
 use Rattle.csp_closing.specs.Retired.{IsFresh, PlainRetired, all_homes, all_rest, all_sides, post_of, rest_of, retired_of, to_retire}
-use Rattle.csp_closing.specs.Stores.{CanEndParties, CanGiveBack, PlainPile, parties_back, pile_of, pool_part, rest_held, rest_log, with_back}
+use Rattle.csp_closing.specs.Stores.{CanEndParties, CanGiveBack, PlainPile, parties_back, pile_of, pool_part, with_back}
 use Rattle.csp_consistent.proofs.OwnQueues.{IsOwn, own_told, scene_own}
 use Rattle.csp_consistent.specs.Pools.{is_node}
 use Rattle.csp_deck.specs.Runs.{Steps, state_after}
 use Rattle.csp_deck.specs.Step.{times}
 use Rattle.csp_ends.specs.Ends.{PlainHome, PlainSide, region_or}
-use Rattle.csp_fabric.specs.Fabrics.{AreStoresOf, CanNote, IsStoreOf, buffers_at, room_in}
+use Rattle.csp_fabric.specs.Fabrics.{AreStoresOf, CanNote, IsStoreOf, buffers_at}
 use Rattle.csp_fabric.specs.declared.fabric.NodeStore.{NodeStore}
-use Rattle.csp_flow.specs.Remains.{AreRemains, PlainRemains, held_at, inbox_numbers, returned}
+use Rattle.csp_flow.specs.Remains.{PlainRemains, held_at, inbox_numbers, returned}
 use Rattle.csp_lists.specs.PlainDeck.{numbers_of}
 use Rattle.csp_log.specs.declared.entry.Entry.{Entry}
 use Rattle.csp_log.specs.declared.shown.AnswerShown.{AnswerShown}
@@ -37,9 +35,9 @@ use Rattle.csp_posts.specs.declared.retired.Retired.{Retired}
 use Rattle.csp_record.specs.Who.{node_of}
 use Rattle.csp_record.specs.declared.who.Who.{Who}
 use Rattle.csp_record.specs.declared.who.Who.TheVariants as who
-use Rattle.csp_scene.specs.Links.{no_node, node_at}
+use Rattle.csp_scene.specs.Links.{no_node}
 use Rattle.csp_scene.specs.Scene.{PlainNode, PlainScene}
-use Rattle.csp_standing.proofs.Places.{IsAt, home_named, post_at}
+use Rattle.csp_standing.proofs.Places.{home_named, post_at}
 use Rattle.csp_standing.specs.Network.{IsNetworkOf, IsPostOf, PlainNetwork}
 use Rattle.csp_topology.specs.Lanes.{PlainLane}
 use Rattle.csp_topology.specs.Parties.{PlainOpening, parties_of, party_steps}

@@ -1,6 +1,6 @@
 -- The end of a lane, of the queues of a node, and of those of all nodes.
-use Rattle.std.proofs.Common.{◌≡◌, ◌≢◌, ◌+◌, ◌-◌, ◌*◌, ◌<◌, ◌≤◌, ℕ, zero, suc, true, false, Option, None, Some, List, [], ◌∷◌, ◌++◌, length, map, take, drop, get_or, refl, sym, ap, ◌∙◌, subst, arith, append_assoc, append-nil, length-append}
-use Rattle.std.specs.Prelude.{IsSomeAnd, slice_get, vec_capacity}
+use Rattle.std.proofs.Common.{◌≡◌, ◌+◌, ◌-◌, ◌*◌, ◌≤◌, ℕ, suc, Option, Some, List, [], ◌∷◌, ◌++◌, length, map, take, drop, get_or, refl, sym, ap, ◌∙◌, subst, arith, append_assoc, append-nil, length-append}
+use Rattle.std.specs.Prelude.{IsSomeAnd, vec_capacity}
 use Rattle.std.specs.Global.{Vec}
 use Rattle.std.specs.List.{AllByRecursion, flat_map}
 use Rattle.std.proofs.lemmas.List.{map-append, take_rest}
@@ -9,14 +9,14 @@ use Rattle.csp_base.specs.declared.priority.Prio.{Prio}
 use Rattle.csp_base.specs.declared.priority.Prio.TheVariants.{Critical, High, Normal, Low}
 use Rattle.csp_closing.proofs.Sides.{all_before, ends_later}
 use Rattle.csp_closing.specs.Hands.{gathered, homes_at, without_home}
-use Rattle.csp_closing.specs.Nodes.{AreLeftIn, CanAllEnd, CanEnd, HasBack, HaveBack, IsLeftBy, IsLeftIn, NodeEnds, NodesEnd, all_queue_notes, left_numbers, queue_notes, queue_numbers}
-use Rattle.csp_closing.specs.Wires.{AreLeftAmong, AreNext, IsFirstAt, IsLeftAmong, WireEnds, WiresEnd, wire_notes, with_notes, without_all, without_ends}
+use Rattle.csp_closing.specs.Nodes.{CanAllEnd, CanEnd, IsLeftBy, NodeEnds, NodesEnd, all_queue_notes, queue_notes, queue_numbers}
+use Rattle.csp_closing.specs.Wires.{AreNext, WireEnds, WiresEnd, wire_notes, with_notes, without_all, without_ends}
 use Rattle.csp_closing.specs.declared.passes.Passes.{Passes}
 use Rattle.csp_consistent.specs.Pools.{left_held}
 use Rattle.csp_deck.specs.Carried.{IsCarried}
 use Rattle.csp_deck.specs.Step.{item_numbers}
-use Rattle.csp_ending.specs.Ends.{InboxEnds, IsLeftAt, LaneEnds, PoolEnds, with_inbox}
-use Rattle.csp_ending.specs.Notes.{PlainNotes, left_note, held_note, with_queue}
+use Rattle.csp_ending.specs.Ends.{InboxEnds, LaneEnds, PoolEnds, with_inbox}
+use Rattle.csp_ending.specs.Notes.{PlainNotes, left_note, with_queue}
 use Rattle.csp_ending.specs.Stores.{PlainStore, TakesBack}
 use Rattle.csp_ends.specs.Ends.{PlainHome, PlainNodeQueues, PlainSide}
 use Rattle.csp_fabric.specs.declared.fabric.NodeRooms.{NodeRooms}
@@ -28,7 +28,6 @@ use Rattle.csp_lane.specs.Ends.{PlainEnd, PlainLane}
 use Rattle.csp_lists.specs.PlainDeck.{numbers_of}
 use Rattle.csp_log.specs.Remains.{PlainHeld, PlainLeft}
 use Rattle.csp_log.specs.declared.places.Place.{Place}
-use Rattle.csp_log.specs.declared.places.Place.TheVariants as place
 use Rattle.csp_log.specs.declared.places.Rule.TheVariants as rule
 use Rattle.csp_log.specs.declared.shown.ItemShown.{ItemShown}
 use Rattle.csp_log.specs.declared.shown.ItemShown.TheVariants as item

@@ -1,8 +1,8 @@
 -- A network of a scene can end.
-use Rattle.std.proofs.Common.{◌≡◌, ◌≢◌, ◌+◌, ◌<◌, ◌≤◌, ℕ, zero, suc, Option, None, Some, List, [], ◌∷◌, ◌++◌, length, map, refl, sym, ap, ◌∙◌, subst, arith}
-use Rattle.std.specs.Prelude.{IfSome, IsSomeAnd, slice_get}
+use Rattle.std.proofs.Common.{◌≡◌, ◌+◌, ℕ, zero, suc, Option, None, Some, List, [], ◌∷◌, length, map, refl, sym, ap, ◌∙◌, subst, arith}
+use Rattle.std.specs.Prelude.{IsSomeAnd, slice_get}
 use Rattle.std.specs.List.{AllByRecursion}
-use Rattle.std.specs.Option.{option_and_then, option_map}
+use Rattle.std.specs.Option.{option_and_then}
 use Rattle.std.proofs.lemmas.Option.{same_Some}
 use Rattle.csp_arena.specs.Cells.{RegionName}
 use Rattle.csp_closing.proofs.Leading.{HasMet, has_met, home_region}
@@ -11,14 +11,13 @@ use Rattle.csp_closing.proofs.Members.{homes_of}
 use Rattle.csp_closing.proofs.Nodes.{AreAllWired, CanMeet, all_count, all_end}
 use Rattle.csp_closing.proofs.Remains.{nodes_left, sides_of}
 use Rattle.csp_closing.proofs.Noted.{back_long, lanes_long}
-use Rattle.csp_closing.proofs.Sides.{AreDistinct, AreNamed, AreWired, EachSide, HasNames, IsOfNetwork, IsWired, same_later}
+use Rattle.csp_closing.proofs.Sides.{AreDistinct, AreNamed, AreWired, EachSide, IsOfNetwork, IsWired, same_later}
 use Rattle.csp_closing.specs.Hands.{homes_at}
 use Rattle.csp_closing.specs.Nodes.{AreLeftIn, CanAllEnd, HaveBack, queue_count}
 use Rattle.csp_consistent.specs.Pools.{place_named}
 use Rattle.csp_ends.specs.Ends.{PlainNodeQueues, PlainSide, IsSideOf}
 use Rattle.csp_fabric.specs.Fabrics.{AreRoomsOf, AreStoresOf, network_of, queues_in}
 use Rattle.csp_fabric.specs.declared.fabric.Fabric.{Fabric}
-use Rattle.csp_fabric.specs.declared.fabric.NodeRooms.{NodeRooms}
 use Rattle.csp_fabric.specs.declared.fabric.NodeStore.{NodeStore}
 use Rattle.csp_flow.specs.Remains.{AreLeftAt, AreRemains, PlainRemains}
 use Rattle.csp_log.specs.declared.places.Carries.{Carries}
@@ -27,14 +26,11 @@ use Rattle.csp_log.specs.declared.places.QueueId.{QueueId}
 use Rattle.csp_log.specs.declared.places.QueueId.TheVariants as queue
 use Rattle.csp_posts.specs.Posts.{PlainPost}
 use Rattle.csp_record.specs.declared.who.Who.{Who}
-use Rattle.csp_scene.specs.Kept.{AreLinksAfter}
-use Rattle.csp_scene.specs.Ranges.{IsScene}
 use Rattle.csp_scene.specs.Scene.{PlainNode, PlainScene}
 use Rattle.csp_standing.proofs.Leaders.{Apart, Hubs, Led}
-use Rattle.csp_standing.proofs.Places.{HasPost, IsAt, post_at, post_of}
+use Rattle.csp_standing.proofs.Places.{HasPost, post_at, post_of}
 use Rattle.csp_standing.proofs.Sides.{JoinsAll}
-use Rattle.csp_standing.specs.Network.{AreNodesOf, IsNetworkOf, IsSideAmong, PlainNetwork, SideName, name_of, sides_from}
-use Rattle.csp_standing.specs.Network as network
+use Rattle.csp_standing.specs.Network.{AreNodesOf, IsNetworkOf, IsSideAmong, PlainNetwork, sides_from}
 use Rattle.csp_topology.specs.Lanes.{PlainLane}
 use Rattle.csp_topology.specs.Parties.{PlainOpening, parties_of}
 use Rattle.csp_topology.specs.Wired.{IsNamedFor, StaysHome}

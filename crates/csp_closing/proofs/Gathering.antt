@@ -1,20 +1,19 @@
 -- The passes of a node come together.
-use Rattle.std.proofs.Common.{◌≡◌, ◌≢◌, ◌+◌, ◌-◌, ◌<◌, ◌≤◌, ℕ, zero, suc, Bool, true, false, cond, Option, None, Some, List, [], ◌∷◌, ◌++◌, ◌==◌, length, map, max, refl, sym, ap, ◌∙◌, subst, arith, append_assoc, append-nil, rules}
-use Rattle.std.specs.Prelude.{⊤, IfSome, IsSomeAnd, slice_get}
+use Rattle.std.proofs.Common.{◌≡◌, ◌≢◌, ◌-◌, ◌≤◌, ℕ, Bool, true, false, cond, Option, None, Some, List, [], ◌∷◌, ◌++◌, ◌==◌, length, refl, sym, ap, ◌∙◌, subst, arith, append_assoc, append-nil}
+use Rattle.std.specs.Prelude.{IfSome, IsSomeAnd}
 use Rattle.std.specs.List.{AllByRecursion, flat_map}
-use Rattle.std.specs.Option.{option_map, option_to_list}
+use Rattle.std.specs.Option.{option_map}
 use Rattle.std.proofs.lemmas.Option.{same_Some}
 use Rattle.csp_base.specs.declared.priority.Prio.{Prio}
 use Rattle.csp_base.specs.declared.priority.Prio.TheVariants.{Critical, High, Normal, Low}
 use Rattle.csp_closing.proofs.Lists.{differs, equal, equals}
-use Rattle.csp_closing.specs.Hands.{AreOpen, CanGather, CanJoin, CanLead, all_joined, gathered, home_at, homes_at, joined, joined_inbox, opening, without_home}
+use Rattle.csp_closing.specs.Hands.{AreOpen, CanGather, all_joined, gathered, joined, joined_inbox, opening}
 use Rattle.csp_closing.specs.declared.passes.Passes.{Passes}
 use Rattle.csp_ends.specs.Ends.{PlainHome, PlainNodeQueues}
 use Rattle.csp_flow.specs.Remains.{kept_by}
 use Rattle.csp_inbox.specs.Marks.{is_in, without}
 use Rattle.csp_inbox.specs.Passes as inbox
 use Rattle.csp_log.specs.declared.shown.ItemShown.{ItemShown}
-use Rattle.csp_pool.specs.PlainPool as pool
 
 inbox_stays : (x : inbox.PlainInbox) (p : inbox.PlainPass) (o : Option inbox.PlainPass) → inbox.IsPassOf x p → inbox.IsPassOf x (joined_inbox p o)
 inbox_stays x p None h = h

@@ -1,12 +1,9 @@
 -- What is taken out of the hands of the parties.
-use Rattle.std.proofs.Common.{◌≡◌, ◌≢◌, ◌+◌, ◌<◌, ◌≤◌, ℕ, zero, suc, Bool, true, false, Option, None, Some, List, [], ◌∷◌, ◌++◌, length, map, set, drop, get_or, refl, sym, ap, ◌∙◌, subst, arith}
-use Rattle.std.specs.Prelude.{slice_get, slice_set}
-use Rattle.std.specs.List.{AllByRecursion, flat_map}
-use Rattle.std.specs.Option.{option_map, option_to_list}
-use Rattle.std.proofs.lemmas.Option.{same_Some, slice_get_read, slice_get_within}
+use Rattle.std.proofs.Common.{◌≡◌, ◌≢◌, ◌+◌, ◌≤◌, ℕ, zero, suc, Option, Some, List, [], ◌∷◌, set, drop, sym, ap, ◌∙◌, subst}
+use Rattle.std.specs.Prelude.{slice_get}
+use Rattle.std.proofs.lemmas.Option.{same_Some}
 use Rattle.csp_closing.proofs.Lists.{made_from}
 use Rattle.csp_closing.proofs.Sides.{without_there}
-use Rattle.csp_closing.specs.Hands.{home_at, homes_at, without_home}
 use Rattle.csp_closing.specs.Retired.{PlainRest, all_homes, all_rest, all_sides, rest_of}
 use Rattle.csp_closing.specs.Wires.{AreAllNext, AreNext, HaveRooms, IsFirstAt, without_ends, without_first}
 use Rattle.csp_ends.specs.Ends.{PlainHome, PlainSide}

@@ -1,19 +1,17 @@
 -- What the parties of a node have in hand comes together.
-use Rattle.std.proofs.Common.{◌≡◌, ◌≢◌, ◌+◌, ◌-◌, ◌<◌, ◌≤◌, ℕ, zero, suc, Bool, true, false, true≢false, Option, None, Some, List, [], ◌∷◌, ◌++◌, length, map, refl, sym, ap, ◌∙◌, subst, arith}
+use Rattle.std.proofs.Common.{◌≡◌, ◌≢◌, ◌+◌, ◌<◌, ◌≤◌, ℕ, zero, suc, Bool, true, false, true≢false, Option, None, Some, List, [], ◌∷◌, ◌++◌, length, refl, sym, ap, ◌∙◌, subst, arith}
 use Rattle.std.specs.Prelude.{IfSome, IsSomeAnd, slice_get, count_by, if◌then◌else◌}
 use Rattle.std.specs.List.{AllByRecursion}
 use Rattle.std.specs.Option.{option_map}
 use Rattle.std.proofs.lemmas.Option.{same_Some}
-use Rattle.csp_arena.specs.Cells.{RegionName}
 use Rattle.csp_closing.proofs.Gathering.{HasNoMark, all_open, all_out, no_marks, out_all, region_stays, token_stays}
 use Rattle.csp_closing.proofs.Lists.{Has, all_at, all_then, has_first, has_second}
-use Rattle.csp_closing.proofs.Members.{IsMember, IsSplit, homes_of, is_member, members_count, split}
+use Rattle.csp_closing.proofs.Members.{IsSplit, homes_of, is_member, members_count, same_member, split}
 use Rattle.csp_closing.proofs.Nodes.{CanMeet}
-use Rattle.csp_closing.specs.Hands.{AreOpen, CanGather, CanJoin, CanLead, all_joined, gathered, homes_at, opening}
+use Rattle.csp_closing.specs.Hands.{AreOpen, CanGather, CanJoin, all_joined, gathered, homes_at, opening}
 use Rattle.csp_closing.specs.Nodes.{CanClose}
 use Rattle.csp_closing.specs.declared.passes.Passes.{Passes}
-use Rattle.csp_ends.specs.Ends.{IsHomeOf, PlainEnds, PlainHome, PlainNodeQueues, inbox_of, region_of}
-use Rattle.csp_inbox.specs.Marks.{is_in}
+use Rattle.csp_ends.specs.Ends.{IsHomeOf, PlainHome, PlainNodeQueues, inbox_of, region_of}
 use Rattle.csp_inbox.specs.Passes as inbox
 use Rattle.csp_pool.specs.PlainPool as pool
 use Rattle.csp_posts.specs.Between.{is_home}
@@ -23,12 +21,12 @@ use Rattle.csp_record.specs.declared.who.Who.{Who}
 use Rattle.csp_record.specs.declared.who.Who.TheVariants as who
 use Rattle.csp_scene.specs.Links.{links_at}
 use Rattle.csp_scene.specs.Scene.{PlainLink, PlainNode, PlainScene}
-use Rattle.csp_standing.proofs.Leaders.{Apart, HasHub, Hubs, Led, home_in, hub_at, hub_leads, hub_place_of, leads_hub, node_in, pass_marked}
-use Rattle.csp_standing.proofs.Places.{HasPost, IsAt, home_named, post_at, post_of}
-use Rattle.csp_standing.specs.Network.{IsHomeIn, IsNetworkOf, IsPostOf, IsShared, PlainNetwork, leads, mark_for}
+use Rattle.csp_standing.proofs.Leaders.{Apart, Hubs, Led, home_in, hub_at, hub_leads, hub_place_of, leads_hub, node_in}
+use Rattle.csp_standing.proofs.Places.{IsAt, home_named, post_at, post_of}
+use Rattle.csp_standing.specs.Network.{IsHomeIn, IsNetworkOf, IsPostOf, PlainNetwork, leads, mark_for}
 use Rattle.csp_topology.specs.Lanes.{hub_of}
 use Rattle.csp_topology.specs.Parties.{PlainOpening, apps_from, hub_by, ifaces_from, links_from, parties_at, parties_from, parties_of}
-use Rattle.csp_topology.specs.Wired.{IsLed, Stands, is_hub}
+use Rattle.csp_topology.specs.Wired.{IsLed, Stands}
 
 -- a party of this name
 abbrev pub IsCalled : Who → PlainOpening → Type 0
@@ -130,8 +128,8 @@ no_mark scene n posts net q node m g x others there whole has reads k few none =
     let home = home_named r.post.ends.home node (r.its.home.node ∙ ap node_of found.so) in
     let passes = home_in scene n found.one r.post home.0 r.its home.1 in
     let marked : option_map (λ (x : inbox.PlainPass). x.role.mark) home.0.inbox ≡ Some k = passes.mark ∙ ap mark_for found.so in
-    let member = is_member node posts found.place r.post home.0 r.there home.1 home.2 in
-    by member.place home.0 found.one passes marked found.so (ap (λ (hs : List PlainHome). slice_get hs member.place) (sym whole) ∙ member.at)
+    let member = same_member (homes_at node (homes_of posts)) (g ∷ others) home.0 whole (is_member node posts found.place r.post home.0 r.there home.1 home.2) in
+    by member.place home.0 found.one passes marked found.so member.at
   where
     by : (place : ℕ) (h : PlainHome) (o : PlainOpening) → IsHomeIn o.who h → option_map (λ (x : inbox.PlainPass). x.role.mark) h.inbox ≡ Some k → o.who ≡ who.Iface node k → slice_get (g ∷ others) place ≡ Some h → ⊥
     by zero h o passes marked named at =

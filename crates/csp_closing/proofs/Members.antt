@@ -1,8 +1,7 @@
 -- The passes of the parties of a node, party by party.
-use Rattle.std.proofs.Common.{◌≡◌, ◌≢◌, ◌+◌, ◌<◌, ◌≤◌, ℕ, zero, suc, Bool, true, false, cond, Option, None, Some, List, [], ◌∷◌, ◌++◌, ◌==◌, length, map, refl, sym, ap, ◌∙◌, subst, arith, sum_by, length-append, append-nil}
+use Rattle.std.proofs.Common.{◌≡◌, ◌≢◌, ◌+◌, ◌≤◌, ℕ, zero, suc, Bool, true, false, cond, Option, None, Some, List, [], ◌∷◌, ◌++◌, ◌==◌, length, map, refl, sym, ap, ◌∙◌, subst, arith, length-append, append-nil}
 use Rattle.std.specs.Prelude.{count_by, if◌then◌else◌, slice_get}
 use Rattle.std.specs.List.{AllByRecursion, flat_map}
-use Rattle.std.specs.Option.{option_to_list}
 use Rattle.std.proofs.lemmas.List.Sums.{sum_by-cons}
 use Rattle.std.proofs.lemmas.Option.{same_Some}
 use Rattle.csp_closing.proofs.Lists.{all_append, equal, equals, flat_two}
@@ -76,6 +75,9 @@ is_member node (x ∷ posts) zero s h e f k =
     let its : x.ends.home ≡ Some h = ap (λ (y : PlainPost). y.ends.home) (same_Some x s e) ∙ f in
     record { place = 0; at = ap (λ (hs : List PlainHome). slice_get (hs ++ homes_at node (homes_of posts)) 0) (ap (home_at node) its ∙ home_is node h (equals h.node node k)) }
 is_member node (x ∷ posts) (suc i) s h e f k = later_member (home_at node x.ends.home) (homes_at node (homes_of posts)) h (is_member node posts i s h e f k)
+
+pub same_member : (hs xs : List PlainHome) (h : PlainHome) → hs ≡ xs → IsMember hs h → IsMember xs h
+same_member hs xs h e m = subst (λ (l : List PlainHome). IsMember l h) e m
 
 -- where the first of them stands, and the others
 pub record IsSplit (P : PlainHome → Type 0) (node : ℕ) (posts : List PlainPost) (g : PlainHome) : Type 0 where

@@ -1,25 +1,23 @@
 -- The queues of all nodes can end.
-use Rattle.std.proofs.Common.{◌≡◌, ◌≢◌, ◌+◌, ◌*◌, ◌<◌, ◌≤◌, ℕ, zero, suc, Option, None, Some, List, [], ◌∷◌, ◌++◌, length, map, refl, sym, ap, ◌∙◌, subst, arith, sum_by}
+use Rattle.std.proofs.Common.{◌≡◌, ◌≢◌, ◌+◌, ◌*◌, ◌≤◌, ℕ, suc, Option, Some, List, [], ◌∷◌, length, map, refl, sym, ap, ◌∙◌, subst, arith, sum_by}
 use Rattle.std.specs.Prelude.{slice_get, IsSomeAnd}
-use Rattle.std.specs.List.{AllByRecursion}
 use Rattle.std.proofs.lemmas.List.{length-map}
 use Rattle.std.proofs.lemmas.List.Sums.{sum_by-cons}
 use Rattle.csp_arena.specs.Cells.{RegionName}
-use Rattle.csp_closing.proofs.Lists.{made_at}
 use Rattle.csp_closing.proofs.Members.{stay_at}
 use Rattle.csp_closing.proofs.Sides.{AreDistinct, AreNamed, AreWired, EachSide, HaveAllNext, IsOfNetwork, have_all_next}
 use Rattle.csp_closing.specs.Hands.{CanGather, gathered, homes_at, without_home}
-use Rattle.csp_closing.specs.Nodes.{CanAllEnd, CanClose, CanEnd, queue_count}
+use Rattle.csp_closing.specs.Nodes.{CanAllEnd, CanClose, queue_count}
 use Rattle.csp_closing.specs.Wires.{HaveRooms, rooms_in, without_all}
 use Rattle.csp_ends.specs.Ends.{PlainHome, PlainNodeQueues, PlainSide}
-use Rattle.csp_fabric.specs.Fabrics.{AreRoomsOf, AreStoresOf, IsRoomOf, IsStoreOf, room_in}
+use Rattle.csp_fabric.specs.Fabrics.{AreRoomsOf, AreStoresOf, IsStoreOf}
 use Rattle.csp_fabric.specs.declared.fabric.NodeRooms.{NodeRooms}
 use Rattle.csp_fabric.specs.declared.fabric.NodeStore.{NodeStore}
 use Rattle.csp_lane.specs.Ends as lane
 use Rattle.csp_lists.specs.PlainDeck.{lane_room}
 use Rattle.csp_record.specs.declared.who.Who.{Who}
 use Rattle.csp_scene.specs.Scene.{PlainNode}
-use Rattle.csp_standing.specs.Network.{AreNodesOf, AreQueuesOf, sides_among, sides_from}
+use Rattle.csp_standing.specs.Network.{AreNodesOf, AreQueuesOf, sides_from}
 use Rattle.csp_topology.specs.Lanes.{PlainLane}
 use Rattle.csp_topology.specs.declared.wire.Wire.{Wire}
 
@@ -109,7 +107,7 @@ all_end whos distinct nodes regions node (m ∷ ms) (ls ∷ lanes) (q ∷ queues
 all_end whos distinct nodes regions node (m ∷ ms) (ls ∷ lanes) (q ∷ queues) (r ∷ rooms) (ws ∷ wires) [] homes sides are_nodes are_stores are_rooms wired places where_ meet names each = absurd are_stores
 
 -- the notes have room for all queues
-one_count : (whos : List Who) (ls : List PlainLane) (ws : List Wire) → AreWired whos ls ws → length ws ≡ length ls
+pub one_count : (whos : List Who) (ls : List PlainLane) (ws : List Wire) → AreWired whos ls ws → length ws ≡ length ls
 one_count whos [] [] h = refl
 one_count whos (l ∷ ls) (w ∷ ws) h = ap suc (one_count whos ls ws h.1)
 one_count whos [] (w ∷ ws) h = absurd h

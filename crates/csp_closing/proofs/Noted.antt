@@ -1,12 +1,10 @@
 -- What is noted of the queues is what the record says of them.
-use Rattle.std.proofs.Common.{◌≡◌, ◌+◌, ◌<◌, ◌≤◌, ℕ, zero, suc, List, [], ◌∷◌, ◌++◌, length, map, refl, sym, ap, ◌∙◌, subst, arith, append_assoc, length-append}
-use Rattle.std.specs.Prelude.{Option, None, Some, slice_get, slice_range, vec_capacity}
-use Rattle.std.specs.List.{flat_map}
+use Rattle.std.proofs.Common.{◌≡◌, ◌+◌, ℕ, zero, suc, List, [], ◌∷◌, ◌++◌, length, map, refl, ap, ◌∙◌, subst}
+use Rattle.std.specs.Prelude.{Option, Some, slice_get}
 use Rattle.std.proofs.lemmas.Option.{same_Some}
-use Rattle.csp_base.specs.declared.priority.Prio.{Prio}
-use Rattle.csp_closing.proofs.Nodes.{AreAllWired}
+use Rattle.csp_closing.proofs.Nodes.{AreAllWired, one_count}
 use Rattle.csp_closing.proofs.Sides.{AreWired}
-use Rattle.csp_closing.specs.Nodes.{AreLeftIn, HasBack, HaveBack, all_queue_notes, left_numbers, queue_notes}
+use Rattle.csp_closing.specs.Nodes.{AreLeftIn, HasBack, HaveBack, all_queue_notes}
 use Rattle.csp_closing.specs.Wires.{wire_notes, without_all}
 use Rattle.csp_closing.specs.Hands.{without_home}
 use Rattle.csp_ends.specs.Ends.{PlainHome, PlainNodeQueues, PlainSide}
@@ -39,17 +37,11 @@ all_noted whos node [] (ws ∷ wires) all h = absurd h
 all_noted whos node (ls ∷ lanes) [] all h = absurd h
 
 -- as many lanes as wires, at as many nodes
-one_long : (whos : List Who) (ls : List PlainLane) (ws : List Wire) → AreWired whos ls ws → length ws ≡ length ls
-one_long whos [] [] h = refl
-one_long whos (l ∷ ls) (w ∷ ws) h = ap suc (one_long whos ls ws h.1)
-one_long whos [] (w ∷ ws) h = absurd h
-one_long whos (l ∷ ls) [] h = absurd h
-
 pub lanes_long : (whos : List Who) (node : ℕ) (lanes : List (List PlainLane)) (queues : List PlainNodeQueues) (wires : List (List Wire)) (homes : List (Option PlainHome)) (sides : List (List PlainSide)) (all : List PlainRemains)
     → AreAllWired whos lanes wires → AreLeftIn node queues wires homes sides all → map (λ (m : PlainRemains). length m.lanes) all ≡ map (λ (ls : List PlainLane). length ls) lanes
 lanes_long whos node [] [] [] homes sides [] wired h = refl
 lanes_long whos node (ls ∷ lanes) (q ∷ queues) (ws ∷ wires) homes sides (m ∷ all) wired h =
-    ap (λ (n : ℕ). n ∷ map (λ (m : PlainRemains). length m.lanes) all) (h.0.count ∙ one_long whos ls ws wired.0)
+    ap (λ (n : ℕ). n ∷ map (λ (m : PlainRemains). length m.lanes) all) (h.0.count ∙ one_count whos ls ws wired.0)
     ∙ ap (λ (ns : List ℕ). length ls ∷ ns) (lanes_long whos (node + 1) lanes queues wires (map (without_home node) homes) (without_all ws sides) all wired.1 h.1)
 lanes_long whos node [] queues (ws ∷ wires) homes sides all wired h = absurd wired
 lanes_long whos node (ls ∷ lanes) queues [] homes sides all wired h = absurd wired

@@ -1,7 +1,6 @@
 -- The end of a party, and of all.
-use Rattle.std.proofs.Common.{◌≡◌, ◌≢◌, ◌+◌, ◌<◌, ◌≤◌, ℕ, zero, suc, Option, None, Some, List, [], ◌∷◌, ◌++◌, All, length, map, set, refl, sym, ap, ◌∙◌, subst, arith, append_assoc, append-nil, length-append}
+use Rattle.std.proofs.Common.{◌≡◌, ◌<◌, ℕ, zero, suc, Option, None, Some, List, [], ◌∷◌, ◌++◌, length, map, set, refl, sym, ap, ◌∙◌, subst, arith, append_assoc, append-nil}
 use Rattle.std.specs.Prelude.{IsSomeAnd, slice_get, vec_capacity}
-use Rattle.std.specs.List.{flat_map}
 use Rattle.std.specs.Option.{option_map, option_to_list}
 use Rattle.std.proofs.lemmas.List.{length-map}
 use Rattle.std.proofs.lemmas.Option.{same_Some, slice_get_within}
@@ -9,8 +8,8 @@ use Rattle.csp_closing.proofs.Ending.{notes_are}
 use Rattle.csp_closing.specs.Retired.{PlainRest}
 use Rattle.csp_closing.specs.Stores.{HasPile, PlainPile, back_at, back_to, party_back, pile_of, rest_held, with_back, with_held}
 use Rattle.csp_consistent.specs.Pools.{held_by}
-use Rattle.csp_ending.specs.Notes.{PlainNotes, held_note, with_place}
-use Rattle.csp_ending.specs.Stores.{HasRoom, PlainStore, TakesBack}
+use Rattle.csp_ending.specs.Notes.{PlainNotes}
+use Rattle.csp_ending.specs.Stores.{HasRoom, TakesBack}
 use Rattle.csp_fabric.specs.declared.fabric.NodeStore.{NodeStore}
 use Rattle.csp_log.specs.Remains.{PlainHeld}
 use Rattle.csp_log.specs.declared.places.Place.{Place}

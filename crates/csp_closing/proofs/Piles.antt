@@ -1,18 +1,16 @@
 -- What comes back to the memory of each node from its parties.
-use Rattle.std.proofs.Common.{◌≡◌, ◌≢◌, ◌+◌, ◌<◌, ◌≤◌, ℕ, zero, suc, Bool, true, false, Option, None, Some, List, [], ◌∷◌, ◌++◌, ◌==◌, length, map, refl, sym, ap, ◌∙◌, subst, arith, append_assoc, append-nil, length-append}
+use Rattle.std.proofs.Common.{◌≡◌, ◌≢◌, ◌≤◌, ℕ, zero, suc, Bool, true, false, Option, None, Some, List, [], ◌∷◌, ◌++◌, ◌==◌, length, refl, sym, ap, ◌∙◌, subst, arith, append_assoc, append-nil, length-append}
 use Rattle.std.specs.Prelude.{IsSomeAnd, if◌then◌else◌, slice_get}
 use Rattle.std.specs.List.{AllByRecursion, flat_map}
-use Rattle.std.specs.Option.{option_map, option_to_list}
+use Rattle.std.specs.Option.{option_map}
 use Rattle.std.proofs.lemmas.Option.{same_Some}
 use Rattle.csp_closing.proofs.Lists.{differs, equal, equals}
 use Rattle.csp_closing.specs.Retired.{PlainRest}
-use Rattle.csp_closing.specs.Stores.{CanEndParties, CanEndParty, HasPile, PlainPile, back_at, back_to, parties_back, party_back, rest_held, with_back}
-use Rattle.csp_consistent.specs.Pools.{held_by, is_node}
+use Rattle.csp_closing.specs.Stores.{CanEndParties, HasPile, PlainPile, back_at, back_to, parties_back, party_back, with_back}
+use Rattle.csp_consistent.specs.Pools.{is_node}
 use Rattle.csp_ending.specs.Stores.{HasRoom}
-use Rattle.csp_log.specs.Remains.{PlainHeld}
-use Rattle.csp_log.specs.declared.places.Place.{Place}
 use Rattle.csp_party.specs.Any.{holds, plain, region_of}
-use Rattle.csp_record.specs.Who.{home_of, node_of}
+use Rattle.csp_record.specs.Who.{node_of}
 
 -- what a party holds of the buffers of a node
 abbrev pub held_of : ℕ → PlainRest → List ℕ

@@ -1,5 +1,5 @@
 -- What was left in the queues of the nodes, and what that is to the posts.
-use Rattle.std.proofs.Common.{◌≡◌, ◌≢◌, ◌+◌, ◌<◌, ◌≤◌, ℕ, zero, suc, Bool, true, false, true≢false, Option, None, Some, List, [], ◌∷◌, ◌++◌, length, map, refl, sym, ap, ◌∙◌, subst, arith}
+use Rattle.std.proofs.Common.{◌≡◌, ◌+◌, ◌≤◌, ℕ, zero, suc, true, false, true≢false, Option, None, Some, List, [], ◌∷◌, ◌++◌, length, map, refl, sym, ap, ◌∙◌, subst, arith}
 use Rattle.std.specs.Prelude.{IfSome, IsSomeAnd, slice_get}
 use Rattle.std.specs.List.{AllByRecursion, flat_map}
 use Rattle.std.specs.Option.{option_map}
@@ -8,16 +8,15 @@ use Rattle.csp_base.specs.declared.priority.Prio.{Prio}
 use Rattle.csp_closing.proofs.Gathering.{IsBelow, IsMailBelow, all_got, all_kept, all_put, all_taken, floor_stays, floors, mail_floor_stays, mail_floors}
 use Rattle.csp_closing.proofs.Leading.{HasMet, IsOther, opened_with}
 use Rattle.csp_closing.proofs.Lists.{all_at, made_from}
-use Rattle.csp_closing.proofs.Members.{IsMember, counts_members, homes_of, is_member, over_members, stay_at}
+use Rattle.csp_closing.proofs.Members.{counts_members, homes_of, is_member, over_members, stay_at}
 use Rattle.csp_closing.proofs.Sides.{IsLater, all_before, all_later, both_later}
-use Rattle.csp_closing.specs.Hands.{all_joined, gathered, homes_at, opening, without_home}
+use Rattle.csp_closing.specs.Hands.{all_joined, gathered, homes_at, without_home}
 use Rattle.csp_closing.specs.Nodes.{AreLeftIn, IsLeftBy, IsLeftIn}
 use Rattle.csp_closing.specs.Wires.{AreLeftAmong, IsLeftAmong, without_all}
 use Rattle.csp_closing.specs.declared.passes.Passes.{Passes}
 use Rattle.csp_deck.specs.Step.{times}
 use Rattle.csp_ending.specs.Ends.{IsLeftAt}
 use Rattle.csp_ends.specs.Ends.{PlainHome, PlainNodeQueues, PlainSide}
-use Rattle.csp_flow.specs.Remains as remains
 use Rattle.csp_flow.specs.Remains.{AreLeftAt, IsInboxLeft, IsLaneLeft, IsPoolLeft, PlainRemains, kept_at, kept_by, kept_from, put_at, put_from, taken_at, taken_from}
 use Rattle.csp_inbox.specs.Marks.{with_mark}
 use Rattle.csp_inbox.specs.Passes as inbox

@@ -1,12 +1,11 @@
 -- The ends of lanes that come next in the hands of the parties.
-use Rattle.std.proofs.Common.{◌≡◌, ◌≢◌, ◌+◌, ◌<◌, ◌≤◌, ℕ, zero, suc, Bool, true, false, Option, None, Some, List, [], ◌∷◌, ◌++◌, ◌==◌, length, map, drop, refl, sym, ap, ◌∙◌, subst, arith, append_assoc}
+use Rattle.std.proofs.Common.{◌≡◌, ◌≢◌, ◌+◌, ℕ, zero, suc, Bool, true, false, Some, List, [], ◌∷◌, ◌++◌, ◌==◌, length, map, drop, refl, sym, ap, ◌∙◌, subst, arith, append_assoc}
 use Rattle.std.specs.Prelude.{if◌then◌else◌, slice_get, IsSomeAnd}
 use Rattle.std.specs.List.{AllByRecursion}
-use Rattle.std.specs.Option.{option_map}
 use Rattle.std.proofs.lemmas.Option.{same_Some}
 use Rattle.csp_arena.specs.Cells.{RegionName}
-use Rattle.csp_closing.proofs.Lists.{differs, equal, equals, all_at}
-use Rattle.csp_closing.specs.Wires.{AreAllNext, AreLeftAmong, AreNext, IsEndThere, IsFirstAt, IsLeftAmong, without_all, without_ends, without_first}
+use Rattle.csp_closing.proofs.Lists.{differs, equal, all_at}
+use Rattle.csp_closing.specs.Wires.{AreAllNext, AreLeftAmong, IsEndThere, IsFirstAt, IsLeftAmong, without_all, without_ends, without_first}
 use Rattle.csp_consistent.proofs.Names.{who_is, who_same}
 use Rattle.csp_consistent.specs.Pools.{place_named}
 use Rattle.csp_consistent.specs.Reading.{is_who}
@@ -15,7 +14,7 @@ use Rattle.csp_lane.specs.Ends as lane
 use Rattle.csp_log.specs.declared.places.Place.TheVariants as place
 use Rattle.csp_log.specs.declared.shown.ItemShown.{ItemShown}
 use Rattle.csp_record.specs.declared.who.Who.{Who}
-use Rattle.csp_standing.specs.Network.{IsSideAmong, SideName, name_of, sides_among, sides_at, sides_from}
+use Rattle.csp_standing.specs.Network.{IsSideAmong, SideName, name_of, sides_among, sides_at}
 use Rattle.csp_topology.specs.Lanes.{PlainLane}
 use Rattle.csp_topology.specs.declared.wire.Wire.{Wire}
 

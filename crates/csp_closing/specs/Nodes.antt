@@ -1,5 +1,5 @@
 -- The queues of the nodes at the end of a run.
-use Rattle.std.specs.Prelude.{◌≡◌, ◌≤◌, ◌+◌, ◌*◌, ℕ, ⊤, Some, List, [], ◌∷◌, ◌++◌, IsSomeAnd, length, map, vec_capacity}
+use Rattle.std.specs.Prelude.{◌≡◌, ◌≤◌, ◌+◌, ◌*◌, ℕ, ⊤, List, [], ◌∷◌, ◌++◌, IsSomeAnd, length, map, vec_capacity}
 use Rattle.std.specs.List.{flat_map}
 use Rattle.csp_arena.specs.Cells.{RegionName}
 use Rattle.csp_base.specs.declared.priority.Prio.{Prio}
@@ -8,7 +8,6 @@ use Rattle.csp_closing.specs.Wires.{AreAllNext, AreLeftAmong, HaveRooms, rooms_i
 use Rattle.csp_closing.specs.declared.passes.Passes.{Passes}
 use Rattle.csp_ending.specs.Ends.{IsLeftAt}
 use Rattle.csp_ending.specs.Notes.{PlainNotes}
-use Rattle.csp_ending.specs.Stores.{PlainStore}
 use Rattle.csp_ends.specs.Ends.{PlainHome, PlainNodeQueues, PlainSide}
 use Rattle.csp_fabric.specs.declared.fabric.NodeRooms.{NodeRooms}
 use Rattle.csp_fabric.specs.declared.fabric.NodeStore.{NodeStore}

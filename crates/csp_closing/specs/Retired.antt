@@ -1,7 +1,6 @@
 -- What contracts see of parties that take no turn any more.
 use Rattle.std.specs.Prelude.{◌≡◌, ℕ, List, [], map, vec_capacity}
-use Rattle.std.specs.List.{AllByRecursion}
-use Rattle.csp_ends.specs.Ends.{PlainHome, PlainSide, PlainEnds, region_of}
+use Rattle.csp_ends.specs.Ends.{PlainHome, PlainSide, region_of}
 use Rattle.csp_log.specs.declared.entry.Entry.{Entry}
 use Rattle.csp_party.specs.Any as party
 use Rattle.csp_party.specs.declared.any.AnyParty.{AnyParty}

@@ -1,6 +1,5 @@
 -- The parties and the memory of their nodes at the end of a run.
-use Rattle.std.specs.Prelude.{◌≡◌, ◌≤◌, ◌+◌, ℕ, zero, suc, ⊤, Option, None, Some, List, [], ◌∷◌, ◌++◌, IsSomeAnd, length, map, slice_get, vec_capacity}
-use Rattle.std.specs.List.{flat_map}
+use Rattle.std.specs.Prelude.{◌≡◌, ◌≤◌, ℕ, zero, suc, ⊤, Option, None, Some, List, [], ◌∷◌, ◌++◌, IsSomeAnd, length, slice_get, vec_capacity}
 use Rattle.std.specs.Option.{option_map, option_to_list}
 use Rattle.csp_closing.specs.Retired.{PlainRest}
 use Rattle.csp_consistent.specs.Pools.{held_by}

@@ -1,5 +1,5 @@
 -- The rounds of a run, by the logs of its parties.
-use Rattle.std.specs.Prelude.{◌≡◌, ◌+◌, ◌≤◌, ◌<◌, ◌^◌, ℕ, List, [], ◌∷◌, max}
+use Rattle.std.specs.Prelude.{◌≤◌, ◌<◌, ◌^◌, ℕ, List, [], ◌∷◌, max}
 use Rattle.std.specs.List.{AllByRecursion}
 use Rattle.csp_deck.specs.Runs.{last_time}
 use Rattle.csp_flow.specs.Closed.{rounds_in}

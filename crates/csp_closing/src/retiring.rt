@@ -1,6 +1,6 @@
 //! Parties that take no turn any more.
 
-ghost use Rattle.std.specs.Prelude.{◌≡◌, ◌+◌, ◌≤◌, ◌++◌, [], All, length, map, not, vec_capacity};
+ghost use Rattle.std.specs.Prelude.{◌≡◌, ◌≤◌, [], All, length, map, not, vec_capacity};
 ghost use Rattle.std.specs.List.{list_all};
 ghost use Rattle.csp_closing.specs.Retired.{IsFresh, retired_of, to_retire};
 ghost use Rattle.csp_posts.specs.Ready.{is_unfinished};

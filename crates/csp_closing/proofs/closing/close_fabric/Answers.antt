@@ -1,15 +1,14 @@
-use Rattle.std.proofs.Common.{◌≡◌, ◌+◌, ◌≤◌, ℕ, List, ◌++◌, All, length, map, take, drop, arith, refl, sym, ap, ◌∙◌, subst}
+use Rattle.std.proofs.Common.{◌≡◌, List, ◌++◌, All, length, map, take, drop, arith, sym, ap, ◌∙◌, subst}
 use Rattle.std.specs.Global.{Vec}
 use Rattle.std.specs.List.{flat_map, list_all}
 use Rattle.std.specs.Prelude.{not}
-use Rattle.csp_closing.proofs.Closed.{IsRun, Laws, can_as, closed, ends_as, lent, memories_can, memories_long, nodes_few, ordered, parties_can, parties_long, queues_can, queues_room, rest_long, stores_few, wires_in}
-use Rattle.csp_closing.specs.Nodes.{NodesEnd, queue_count}
-use Rattle.csp_closing.specs.Retired.{PlainRest, all_homes, all_rest, all_sides}
-use Rattle.csp_closing.specs.Stores.{CanEndParties, CanGiveBack, PlainPile, parties_back, pile_of, pool_part, rest_held, rest_log, with_held}
+use Rattle.csp_closing.proofs.Closed.{IsRun, Laws, can_as, closed, ends_as, lent, memories_can, nodes_few, ordered, parties_can, parties_long, queues_can, queues_room, stores_few, wires_in}
+use Rattle.csp_closing.specs.Nodes.{queue_count}
+use Rattle.csp_closing.specs.Retired.{PlainRest, all_rest}
+use Rattle.csp_closing.specs.Stores.{CanEndParties, CanGiveBack, parties_back, pile_of, pool_part, rest_held, rest_log, with_held}
 use Rattle.csp_closing.specs.Times.{AreOrdered, rounds_among}
 use Rattle.csp_consistent.specs.Pools.{pools_held}
 use Rattle.csp_ending.specs.Notes.{PlainNotes}
-use Rattle.csp_fabric.specs.Fabrics.{IsFabricOf}
 use Rattle.csp_fabric.specs.declared.fabric.Fabric.{Fabric}
 use Rattle.csp_fabric.specs.declared.fabric.NodeStore.{NodeStore}
 use Rattle.csp_posts.specs.Ready.{is_unfinished}

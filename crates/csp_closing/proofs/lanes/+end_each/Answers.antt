@@ -1,10 +1,9 @@
-use Rattle.std.proofs.Common.{◌≡◌, ◌+◌, ◌≤◌, ◌∷◌, ℕ, List, length, rules, arith, ap, sym, subst}
+use Rattle.std.proofs.Common.{◌≡◌, ◌+◌, ◌∷◌, List, length, rules, arith, ap, sym, subst}
 use Rattle.csp_closing.proofs.Ending.{more_wires}
 use Rattle.csp_closing.proofs.Handing.{next_at, next_split, rooms_split}
 use Rattle.csp_closing.specs.Retired.{all_sides}
 use Rattle.csp_closing.specs.Wires.{WiresEnd, rooms_in, without_ends}
 use Rattle.csp_ends.specs.Ends.{PlainSide}
-use Rattle.csp_lane.specs.Ends.{PlainLane}
 use Rattle.csp_topology.specs.declared.wire.Wire.{Wire}
 use Rattle.csp_closing.proofs.lanes.+end_each.Goals as goal
 

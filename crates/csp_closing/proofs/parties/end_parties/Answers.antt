@@ -1,7 +1,7 @@
-use Rattle.std.proofs.Common.{List, ◌∷◌, ◌≡◌, map, arith, ap, ◌∙◌, sym, subst}
+use Rattle.std.proofs.Common.{List, arith, ap, ◌∙◌, sym, subst}
 use Rattle.csp_closing.proofs.Parting.{moved}
-use Rattle.csp_closing.specs.Retired.{all_rest, rest_of}
-use Rattle.csp_closing.specs.Stores.{CanEndParties, PlainPile, parties_back, party_back, pile_of}
+use Rattle.csp_closing.specs.Retired.{all_rest}
+use Rattle.csp_closing.specs.Stores.{CanEndParties, PlainPile, parties_back}
 use Rattle.csp_ending.specs.Notes.{PlainNotes}
 use Rattle.csp_closing.proofs.parties.end_parties.Goals as goal
 

@@ -1,8 +1,8 @@
-use Rattle.std.proofs.Common.{◌≡◌, ◌<◌, ℕ, List, Some, get_or, length, map, refl, sym, ap, ◌∙◌, subst, arith}
+use Rattle.std.proofs.Common.{◌≡◌, ◌<◌, ℕ, Some, get_or, length, map, refl, sym, ap, ◌∙◌, arith}
 use Rattle.std.proofs.lemmas.Option.{slice_get-get_or}
 use Rattle.csp_closing.proofs.Parting.{node_some, party_there, pile_there, piles_back}
 use Rattle.csp_closing.specs.Retired.{rest_of}
-use Rattle.csp_closing.specs.Stores.{PlainPile, back_at, pile_of}
+use Rattle.csp_closing.specs.Stores.{back_at, pile_of}
 use Rattle.csp_party.specs.Any.{holds, plain}
 use Rattle.csp_record.specs.Who.{node_of}
 use Rattle.csp_closing.proofs.parties.end_party.Goals as goal

@@ -1,4 +1,4 @@
-use Rattle.std.proofs.Common.{List, ◌∷◌, map, arith, ap, ◌∙◌}
+use Rattle.std.proofs.Common.{List, map, arith, ap, ◌∙◌}
 use Rattle.std.proofs.lemmas.List.Elements.{All-head, All-rest}
 use Rattle.csp_closing.proofs.Parting.{moved}
 use Rattle.csp_closing.specs.Stores.{CanGiveBack, pile_of}

@@ -1,4 +1,4 @@
-use Rattle.std.proofs.Common.{◌≡◌, ◌+◌, ◌-◌, List, ◌∷◌, drop, take, length, map, rules, arith, ap, sym, subst}
+use Rattle.std.proofs.Common.{◌≡◌, ◌+◌, ◌-◌, List, ◌∷◌, drop, take, length, map, rules, arith, ap, subst}
 use Rattle.std.specs.Global.{Vec}
 use Rattle.csp_closing.proofs.Ending.{nodes_joined, nodes_none, nodes_split, none_left, rest_can, rest_wires}
 use Rattle.csp_closing.specs.Nodes.{NodesEnd, queue_count}

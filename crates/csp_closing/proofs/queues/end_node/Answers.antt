@@ -1,9 +1,7 @@
 use Rattle.std.proofs.Common.{◌≡◌, List, refl, sym, ap, ◌∙◌, subst, arith}
-use Rattle.std.specs.Prelude.{IsSomeAnd}
 use Rattle.csp_closing.proofs.Ending.{inbox_few, node_ended}
 use Rattle.csp_closing.proofs.Gathering.{gathered_open}
 use Rattle.csp_closing.specs.Hands.{homes_at}
-use Rattle.csp_closing.specs.Nodes.{CanClose}
 use Rattle.csp_closing.specs.Retired.{all_homes, all_sides}
 use Rattle.csp_closing.specs.Wires.{WiresEnd, rooms_in}
 use Rattle.csp_ending.specs.Ends.{InboxEnds}
