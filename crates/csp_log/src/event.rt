@@ -71,6 +71,8 @@ pub enum Event {
     Starved,
     /// A whole packet found the inbox full.
     InboxFull,
+    /// A packet that was to be sent has a payload longer than its link takes.
+    TooBig,
     /// The node was asked to start again.
     Reboot,
     /// The node was asked to stop.

@@ -62,8 +62,10 @@ pub enum QueueId {
 /// The kind of a link.
 #[derive(Clone, Copy, PartialEq, Eq, Debug)]
 pub enum LinkKind {
-    /// Bytes in KISS frames.
+    /// Bytes in KISS frames, whose CRC covers the payload.
     Kiss,
+    /// Bytes in KISS frames, whose CRC covers the header and the payload.
+    KissHeader,
     /// Frames of a CAN bus.
     Can,
 }
