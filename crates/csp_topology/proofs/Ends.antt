@@ -30,7 +30,7 @@ link_stands scene k l at = record { place = ends scene + k; party = link_at k l;
 iface_stands : (scene : PlainScene) (node k : ℕ) (n : PlainNode) → slice_get scene.nodes node ≡ Some n → k < length (links_at node scene.links) → Stands scene (who.Iface node k)
 iface_stands scene node k n there low =
     let (l, on) = get-within (links_at node scene.links) k low in
-    record { place = begins scene node + suc k; party = iface_on node k l.kind; at = iface_there scene node k n l there on; named = refl }
+    record { place = begins scene node + suc k; party = iface_on node k l.kind l.mtu; at = iface_there scene node k n l there on; named = refl }
 
 app_stands : (scene : PlainScene) (node k : ℕ) (n : PlainNode) → slice_get scene.nodes node ≡ Some n → k < length n.apps → Stands scene (who.App node k)
 app_stands scene node k n there low =

@@ -12,6 +12,7 @@ use Rattle.csp_scene.specs.Links.{links_at, touches}
 use Rattle.csp_scene.specs.Ranges.{IsLink, IsNode, IsPlanned}
 use Rattle.csp_scene.specs.Scene.{PlainNode, PlainLink}
 use Rattle.csp_scene.specs.declared.limits.TheConstants.{MAX_LINKS}
+use Rattle.csp_topology.specs.Opening.{FitsBuffers}
 use Rattle.csp_topology.specs.Plan.{IsPlan, plan_of, plans_from}
 
 -- a node has no more links than there are
@@ -41,3 +42,8 @@ plans_fit place (n ∷ nodes) links is few = (plan_fits place n links is.0 few, 
 pub links_planned : (nodes : List PlainNode) (all links : List PlainLink) → AllByRecursion (IsLink nodes all) links → AllByRecursion (λ l. All IsPlanned l.plan) links
 links_planned nodes all [] is = tt
 links_planned nodes all (l ∷ links) is = (is.0.plan, links_planned nodes all links is.1)
+
+-- and so are the payloads on them
+pub links_fit : (nodes : List PlainNode) (all links : List PlainLink) → AllByRecursion (IsLink nodes all) links → AllByRecursion FitsBuffers links
+links_fit nodes all [] is = tt
+links_fit nodes all (l ∷ links) is = (is.0.most_mtu, links_fit nodes all links is.1)

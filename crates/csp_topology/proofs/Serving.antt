@@ -170,7 +170,7 @@ module _ (scene : PlainScene) (are : ArePlaced scene) (node : ℕ) (n : PlainNod
         carries = is ∙ ap (λ (c : Carries). rule.Lane c) (same_lane l.kind ∙ sym carries);
       })
 
-  iface_served : (k : ℕ) (l : PlainLink) → slice_get (links_at node scene.links) k ≡ Some l → (q : QueueId) (r : Rule) → uses (iface_on node k l.kind).party q ≡ Some r → IsServed scene (who.Iface node k) q r
+  iface_served : (k : ℕ) (l : PlainLink) → slice_get (links_at node scene.links) k ≡ Some l → (q : QueueId) (r : Rule) → uses (iface_on node k l.kind l.mtu).party q ≡ Some r → IsServed scene (who.Iface node k) q r
   iface_served k l on queue.Inbox r e = an_inbox scene (who.Iface node k) r refl e
   iface_served k l on (queue.Out m) r e =
       let (same, is) = own r (rule.Lane lane.Out) m k _ refl e in
