@@ -7,7 +7,7 @@ use Rattle.csp_deck.specs.Runs.{IsRun}
 use Rattle.csp_iface.specs.PlainIface.{opening}
 use Rattle.csp_iface.specs.Receiving.{arrived}
 use Rattle.csp_iface.specs.Sending.{sent_trace}
-use Rattle.csp_link.specs.PlainLink.{lane_of}
+use Rattle.csp_log.specs.Kinds.{carried_on}
 use Rattle.csp_link.specs.declared.way.Way.TheVariants.{Forth, Back}
 use Rattle.csp_log.specs.declared.places.End.{End}
 use Rattle.csp_log.specs.declared.places.QueueId.TheVariants as queue
@@ -143,12 +143,12 @@ came_over scene r l end Q are order j all =
   where
     by_way : (l.ends ≡ end ∷ j.beyond ∷ []) ⊎ (l.ends ≡ j.beyond ∷ end ∷ []) → AllByRecursion (IsFrameOf Q) (gets (queue.Rx end.iface) (entries_of r (who.Iface end.node end.iface)))
     by_way (inl two) =
-        let lanes : AreLanes r j.number (lane_of l.kind) end j.beyond = link_lanes_of scene r j.number l end j.beyond order j.there two in
+        let lanes : AreLanes r j.number (carried_on l.kind) end j.beyond = link_lanes_of scene r j.number l end j.beyond order j.there two in
         through (IsFrameOf Q) r _ lanes.1.0
         (across Q l.plan Back (entries_of r (who.Link j.number)) (are_planned scene r are j.number l Back j.there)
         (through (IsFrameOf Q) r _ lanes.1.1.0 all))
     by_way (inr two) =
-        let lanes : AreLanes r j.number (lane_of l.kind) j.beyond end = link_lanes_of scene r j.number l j.beyond end order j.there two in
+        let lanes : AreLanes r j.number (carried_on l.kind) j.beyond end = link_lanes_of scene r j.number l j.beyond end order j.there two in
         through (IsFrameOf Q) r _ lanes.1.1.1.0
         (across Q l.plan Forth (entries_of r (who.Link j.number)) (are_planned scene r are j.number l Forth j.there)
         (through (IsFrameOf Q) r _ lanes.0 all))
