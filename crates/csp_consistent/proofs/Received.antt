@@ -11,7 +11,7 @@ use Rattle.csp_iface.specs.PlainIface.{PlainIface, opening}
 use Rattle.csp_iface.specs.Links.{receiver_for}
 use Rattle.csp_iface.specs.Planning.{plan_of, first_rule, side_plan}
 use Rattle.csp_iface.specs.Receiving.{arrived, heard, read_further}
-use Rattle.csp_iface.specs.Telling.{told_by, fetched, caught, pushed, kept, filled, going_on, has_packet, read_after, tells, resting}
+use Rattle.csp_iface.specs.Telling.{told_by, fetched, caught, pushed, kept, filled, going_on, has_packet, is_too_big, read_after, taken_up, tells, resting}
 use Rattle.csp_iface.specs.declared.packet.Packet.{Packet}
 use Rattle.csp_iface.specs.declared.plan.Plan.{Plan}
 use Rattle.csp_iface.specs.declared.plan.Plan.TheVariants as plan
@@ -91,7 +91,11 @@ kept_holding P (item.Note _) s h = h
 
 fetched_holding : (P : Trace → Type 0) (i : ItemShown) (s : PlainIface) → IsHolding P s → IsHolding P (fetched i s).iface
 fetched_holding P (item.Frame _) s h = h
-fetched_holding P (item.Packet _ _) s h = h
+fetched_holding P (item.Packet mark b) s h = taken (is_too_big s b)
+  where
+    taken : (big : Bool) → IsHolding P (taken_up big mark b s).iface
+    taken true = h
+    taken false = h
 fetched_holding P (item.Note _) s h = h
 
 caught_holding : (P : Trace → Type 0) (now : ℕ) (i : ItemShown) (s : PlainIface) → IsHolding P s → IsFrameOf (λ t. P (arrived t)) i → IsHolding P (caught now i s).iface
@@ -192,7 +196,11 @@ kept_named node number (item.Note _) s h = h
 
 fetched_named : (node number : ℕ) (i : ItemShown) (s : PlainIface) → IsNamed node number s → IsNamed node number (fetched i s).iface
 fetched_named node number (item.Frame _) s h = h
-fetched_named node number (item.Packet _ _) s h = h
+fetched_named node number (item.Packet mark b) s h = taken (is_too_big s b)
+  where
+    taken : (big : Bool) → IsNamed node number (taken_up big mark b s).iface
+    taken true = h
+    taken false = h
 fetched_named node number (item.Note _) s h = h
 
 caught_named : (node number now : ℕ) (i : ItemShown) (s : PlainIface) → IsNamed node number s → IsNamed node number (caught now i s).iface
