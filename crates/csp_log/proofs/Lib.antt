@@ -1,3 +1,4 @@
 mod Idle
 pub mod Logged
 mod Slots
+pub mod Weighing

@@ -4,8 +4,10 @@ use Rattle.std.specs.declared.alloc.Global.{Global}
 use Rattle.csp_base.specs.declared.limits.TheConstants.{MAX_FRAME}
 use Rattle.csp_log.specs.PlainLog.{all_events}
 use Rattle.csp_log.specs.Rows.{entry_at, IsRowIn, IsLineIn}
+use Rattle.csp_log.specs.Weights.{weight_of_all}
 use Rattle.csp_log.specs.declared.event.TheConstants.{MAX_EVENTS}
 use Rattle.csp_log.specs.declared.log.Log.TheInside.{Inside}
+use Rattle.csp_log.specs.declared.weights.TheConstants.{MAX_WEIGHT}
 
 -- a list has the same elements, and as much room as before at least
 pub record IsRoomier {T : Type 0} (old new : Vec T Global) : Type 0 where
@@ -18,7 +20,8 @@ pub record HasTaken {T : Type 0} (old new : Vec T Global) (more fewest : ℕ) : 
   pub enough : vec_len old + more ≤ vec_capacity new
   pub most : vec_capacity new ≤ max (vec_capacity old) (2 * (vec_len old + max more fewest))
 
--- each line and each row points into the lists, the events are those of the entries in their order, and each spare entry has its line, its row, MAX_FRAME bytes and MAX_EVENTS events
+-- each line and each row points into the lists, the events are those of the entries in their order, each spare entry has its line, its row, MAX_FRAME bytes and MAX_EVENTS events, and
+-- the surplus is what the entries weigh besides one each
 pub record IsLaidOut (l : Inside) : Type 0 where
   pub lines : All (IsLineIn (length l.rows.rows)) l.lines.items
   pub rows : All (IsRowIn (length l.bytes.items) (length l.events.items)) l.rows.rows
@@ -29,3 +32,5 @@ pub record IsLaidOut (l : Inside) : Type 0 where
   pub event_room : vec_len l.events + l.spare * MAX_EVENTS ≤ vec_capacity l.events
   pub few : length l.lines.items + l.spare ≤ 2 ^ 32 - 2
   pub fewer : length l.rows.rows ≤ length l.lines.items
+  pub weighed : length l.lines.items + l.surplus ≡ weight_of_all (map (entry_at l.rows.rows l.bytes.items l.events.items) l.lines.items)
+  pub light : length l.lines.items + l.surplus ≤ MAX_WEIGHT * length l.lines.items

@@ -1,6 +1,7 @@
 pub mod Bytes
 pub mod Drafting
 pub mod Idling
+pub mod Kinds
 pub mod Layout
 pub mod Moving
 pub mod Noting
@@ -11,3 +12,4 @@ pub mod PlainSpares
 pub mod Remains
 pub mod Rows
 pub mod Slots
+pub mod Weights

@@ -19,6 +19,7 @@ mod row;
 mod rows;
 mod shown;
 mod spares;
+mod weights;
 
 pub use draft::Draft;
 pub use entry::Entry;
@@ -37,3 +38,4 @@ pub use places::{
 pub use remains::{HeldBy, Left};
 pub use shown::{AnswerShown, ItemShown, OpShown};
 pub use spares::{BoxedFrame, Spares};
+pub use weights::{MAX_WEIGHT, WEIGHT_BYTES};

@@ -10,13 +10,17 @@ ghost use Rattle.csp_log.specs.Noting.{noted_in};
 ghost use Rattle.csp_log.specs.PlainDraft.{drafted};
 ghost use Rattle.csp_log.specs.PlainLog.{with_entry, entry_with, all_events};
 ghost use Rattle.csp_log.specs.Rows.{draft_of, spoken_of, IsDeedLong, IsKeptIn, Says};
+ghost use Rattle.csp_log.specs.Weights.{weight_of_all};
 
 use crate::deeds::{entry_of, events_at, idle, keep, make_room, moved_of};
 use crate::draft::Draft;
 use crate::noted::{is_still, read_noted};
 use crate::row::{Deed, Line, Row};
 use crate::rows::Rows;
-use crate::{AnswerShown, Entry, Event, Events, MAX_EVENTS, Moved, Noted, OpShown, QueueId};
+use crate::weights::surplus;
+use crate::{
+    AnswerShown, Entry, Event, Events, MAX_EVENTS, MAX_WEIGHT, Moved, Noted, OpShown, QueueId,
+};
 use csp_base::{MAX_FRAME, Trace};
 use csp_buffer::Trail;
 use std::alloc::{AllocError, Global};
@@ -42,6 +46,7 @@ pub struct Log {
     bytes: Vec<u8>,
     events: Vec<Event>,
     spare: u32,
+    surplus: u64,
 }
 
 impl Model for Log {
@@ -69,6 +74,7 @@ impl Log {
             bytes: Vec::new(alloc),
             events: Vec::new(alloc),
             spare: 0,
+            surplus: 0,
         }
     }
 
@@ -78,6 +84,17 @@ impl Log {
         ensures few { length self.now.entries + self.now.spare ≤ 2 ^ 32 - 2 }
     {
         self.lines.len() as u64
+    }
+
+    /// What the entries weigh together: each one, and one more for each `WEIGHT_BYTES` bytes of payloads and
+    /// frames that its operation and its answer show. It is kept as a number, and no entry is looked at.
+    pub fn weight(&self) -> u64
+        ensures value { result ≡ weight_of_all self.now.entries }
+        ensures least { length self.now.entries ≤ result }
+        ensures most { result ≤ MAX_WEIGHT * length self.now.entries }
+        ensures few { result < 2 ^ 35 }
+    {
+        self.lines.len() as u64 + self.surplus
     }
 
     /// For how many more entries there is room.
@@ -250,6 +267,7 @@ impl Log {
         requires told { length told.now ≤ MAX_EVENTS }
         ensures { self.new ≡ with_entry self.old (entry_with time (draft_of carried.now (trace_of trail.now) deed.now) told.now) }
     {
+        let surplus = surplus(deed, carried.len());
         let line = say(
             &mut self.rows,
             &mut self.bytes,
@@ -261,6 +279,7 @@ impl Log {
             told,
         );
         self.lines.push_reserved(line);
+        self.surplus += surplus;
         self.spare -= 1;
     }
 }

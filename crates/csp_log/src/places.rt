@@ -1,5 +1,8 @@
 //! The queues of a node, what each of them carries, and who holds a buffer.
 
+ghost use Rattle.std.specs.Prelude.{◌≡◌};
+ghost use Rattle.csp_log.specs.Kinds.{carried_on};
+
 use csp_base::{MAX_PAYLOAD, Prio};
 
 /// The mark of a packet that has none: in the inbox and in an `Up` it comes from the node itself, in
@@ -79,10 +82,22 @@ pub enum Carries {
     Down,
     /// Packets marked with the address of the next hop, or with none.
     Out,
-    /// Frames of a KISS link.
+    /// Frames of a KISS link of either kind.
     Kiss,
     /// Frames of a CAN link.
     Can,
+}
+
+impl LinkKind {
+    /// What the lanes of a link of this kind carry.
+    pub fn carries(self) -> Carries
+        ensures { result ≡ carried_on self }
+    {
+        match self {
+            LinkKind::Kiss | LinkKind::KissHeader => Carries::Kiss,
+            LinkKind::Can => Carries::Can,
+        }
+    }
 }
 
 /// What a queue carries.

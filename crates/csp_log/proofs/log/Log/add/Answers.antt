@@ -1,7 +1,10 @@
-use Rattle.std.proofs.Common.{ℕ, ◌+◌, ◌-◌, ◌*◌, ◌<◌, ◌≤◌, length, length-append, ap, ◌∙◌, arith}
+use Rattle.std.proofs.Common.{ℕ, ◌+◌, ◌-◌, ◌*◌, ◌<◌, ◌≤◌, length, length-append, map, ap, ◌∙◌, refl, arith}
 use Rattle.csp_base.specs.declared.limits.TheConstants.{MAX_FRAME}
 use Rattle.csp_log.specs.declared.event.TheConstants.{MAX_EVENTS}
-use Rattle.csp_log.specs.PlainLog.{PlainLog}
+use Rattle.csp_log.specs.PlainLog.{PlainLog, entry_with}
+use Rattle.csp_log.specs.Rows.{draft_of, entry_at}
+use Rattle.csp_buffer.specs.Trails.{trace_of}
+use Rattle.csp_log.proofs.Weighing.{surplus-push}
 use Rattle.csp_log.proofs.Logged.{rows-push, lines-push, entries-push, told-push, room_left}
 use Rattle.csp_log.proofs.log.Log.add.Goals as goal
 
@@ -25,6 +28,12 @@ invariant_of-self c =
       byte_room = let grown = c.say-line.ensures.bytes_capacity in roomy _ _ old.spare _ _ MAX_FRAME some grown.1 kept.byte_room grown.0;
       event_room = let grown = c.say-line.ensures.events_capacity in roomy _ _ old.spare _ _ MAX_EVENTS some grown.1 kept.event_room grown.0;
       few = let added = ap length c.push_reserved.ensures.items ∙ length-append old.lines.items _ in let before = kept.few in omega (arith, some, added);
+      weighed =
+          let after = entries-push old.rows.rows old.bytes.items old.events.items c.args.time _ _ c.args.told.now _ _ _ _ old.lines.items says kept.rows kept.lines in
+          let added = ap length c.push_reserved.ensures.items ∙ length-append old.lines.items _ in
+          let one = c.surplus-surplus.ensures.weight c.args.carried.now (trace_of c.args.trail.now) refl in
+          rw (added, c.push_reserved.ensures.items, after) (surplus-push (map (entry_at old.rows.rows old.bytes.items old.events.items) old.lines.items) (entry_with c.args.time (draft_of c.args.carried.now (trace_of c.args.trail.now) c.args.deed.now) c.args.told.now) (length old.lines.items) old.surplus c.surplus-surplus.result kept.weighed (ap (λ n. 1 + n) one));
+      light = let added = ap length c.push_reserved.ensures.items ∙ length-append old.lines.items _ in let before = kept.light in let most = c.surplus-surplus.ensures.most in omega (arith, added, before, most);
       fewer = let added = ap length c.push_reserved.ensures.items ∙ length-append old.lines.items _ in let more = ap length says.rows_are ∙ length-append old.rows.rows says.rows_more in let before = kept.fewer in omega (arith, added, more, says.few);
     }
 
