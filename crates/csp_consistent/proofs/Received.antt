@@ -231,11 +231,12 @@ run_received P node number (e ∷ es) time s run named h got =
     (subst (λ o. AllByRecursion (IsPacketOf P) (put_by queue.Inbox o e.answer)) (sym run.1.op) (put_of P s (plan_of s) e.answer h))
     (run_received P node number es e.time (tells (asked s e.time) e.time e.answer) run.2 (step_named node number s e.time e.answer named) (step_holding P s e.time e.answer h own_got) then_got)
 
-opening_kept : (P : Trace → Type 0) (kind : LinkKind) → IsKeptOf P (receiver_for kind)
-opening_kept P kind.Kiss = inl refl
-opening_kept P kind.Can = tt
+opening_kept : (P : Trace → Type 0) (kind : LinkKind) (mtu : ℕ) → IsKeptOf P (receiver_for kind mtu)
+opening_kept P kind.Kiss mtu = inl refl
+opening_kept P kind.KissHeader mtu = inl refl
+opening_kept P kind.Can mtu = tt
 
 -- where each frame that an interface popped has, one hop on, a trace of some kind, each packet that it handed to its inbox has one
-pub received : (P : Trace → Type 0) (node number : ℕ) (kind : LinkKind) (es : List Entry) → IsRun party_steps 0 (an_iface (opening node number kind)) es
+pub received : (P : Trace → Type 0) (node number : ℕ) (kind : LinkKind) (mtu : ℕ) (es : List Entry) → IsRun party_steps 0 (an_iface (opening node number kind mtu)) es
     → AllByRecursion (IsFrameOf (λ t. P (arrived t))) (gets (queue.Rx number) es) → AllByRecursion (IsPacketOf P) (puts queue.Inbox es)
-received P node number kind es run got = run_received P node number es 0 (opening node number kind) run (refl, refl) (tt, tt, opening_kept P kind) got
+received P node number kind mtu es run got = run_received P node number es 0 (opening node number kind mtu) run (refl, refl) (tt, tt, opening_kept P kind mtu) got

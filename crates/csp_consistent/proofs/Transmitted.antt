@@ -298,6 +298,6 @@ run_traces node number all (e ∷ es) time s run named alike h =
     (told_traces Q s e.time p e.answer h run.1.fits fresh))
 
 -- each frame that an interface pushed to its link has the trace of a transmission that its entries show
-pub transmitted_all : (node number : ℕ) (k : LinkKind) (es : List Entry) → IsRun party_steps 0 (an_iface (opening node number k)) es
+pub transmitted_all : (node number : ℕ) (k : LinkKind) (mtu : ℕ) (es : List Entry) → IsRun party_steps 0 (an_iface (opening node number k mtu)) es
     → AllByRecursion (IsFrameOf (IsBegun node number es)) (puts (queue.Tx number) es)
-transmitted_all node number k es run = run_traces node number es es 0 (opening node number k) run (refl, refl) (λ n le. refl) tt
+transmitted_all node number k mtu es run = run_traces node number es es 0 (opening node number k mtu) run (refl, refl) (λ n le. refl) tt

@@ -31,7 +31,7 @@ use Rattle.csp_topology.specs.declared.wire.Wire.{Wire}
 pub new_party : (o : Opening) → IsNewParty (opening_of o).party
 new_party (opening.Router c) = record { ready = λ e. tt; counted = refl; holds = refl }
 new_party (opening.Bridge n) = record { ready = λ e. tt; counted = refl; holds = refl }
-new_party (opening.Iface n k kind) = record { ready = λ e. refl; counted = refl; holds = refl }
+new_party (opening.Iface n k kind mtu) = record { ready = λ e. refl; counted = refl; holds = refl }
 new_party (opening.App n k steps) = record { ready = λ e. tt; counted = refl; holds = refl }
 new_party (opening.Link k kind plan) = record { ready = λ e. tt; counted = refl; holds = refl }
 

@@ -32,6 +32,8 @@ pub enum Opening {
         number: u8,
         /// What its link carries.
         kind: LinkKind,
+        /// The most bytes of a payload on its link.
+        mtu: u16,
     },
     /// An application.
     App {
@@ -82,9 +84,15 @@ impl Opening {
                 alloc, config, region,
             )?)),
             (Opening::Bridge(_), Some(region)) => Ok(AnyParty::Bridge(Bridge::new(region))),
-            (Opening::Iface { node, number, kind }, Some(region)) => Ok(AnyParty::Iface(Iface::new(
-                node, number, kind, region,
-            ))),
+            (
+                Opening::Iface {
+                    node,
+                    number,
+                    kind,
+                    mtu,
+                },
+                Some(region),
+            ) => Ok(AnyParty::Iface(Iface::new(node, number, kind, mtu, region))),
             (
                 Opening::App {
                     node: _,

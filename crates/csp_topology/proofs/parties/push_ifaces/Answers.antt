@@ -40,11 +40,11 @@ loop-link-preserved c =
             number = w.number-is ∙ omega (arith, old.number, ap (λ (ls : List PlainLink). length ls) with_it, length-append before (x ∷ []));
             parties = ap (λ (os : List Opening). map opening_of os) (ap (λ v. v.items) w.openings-is ∙ w.in_ok-push.ensures.items)
                 ∙ map-append opening_of c.loop-link.openings.items _
-                ∙ ap (λ (os : List PlainOpening). os ++ iface_on place c.loop-link.number c.link.inside.kind ∷ []) old.parties
-                ∙ ifaces-push (map opening_of c.args.openings.now.items) place c.loop-link.number c.link.inside.kind before x old.number (ap (λ (l : PlainLink). l.kind) c.link.view_is)
+                ∙ ap (λ (os : List PlainOpening). os ++ iface_on place c.loop-link.number c.link.inside.kind c.link.inside.mtu ∷ []) old.parties
+                ∙ ifaces-push (map opening_of c.args.openings.now.items) place c.loop-link.number c.link.inside.kind c.link.inside.mtu before x old.number (ap (λ (l : PlainLink). l.kind) c.link.view_is) (ap (λ (l : PlainLink). l.mtu) c.link.view_is)
                 ∙ ap (λ (ls : List PlainLink). map opening_of c.args.openings.now.items ++ ifaces_from place 0 ls) (sym with_it);
             ready = subst (λ (os : List Opening). AllByRecursion CanOpen os) (sym (ap (λ v. v.items) w.openings-is ∙ w.in_ok-push.ensures.items))
-                (AllByRecursion-append CanOpen c.loop-link.openings.items (opening.Iface place c.loop-link.number c.link.inside.kind ∷ []) old.ready (within, tt));
+                (AllByRecursion-append CanOpen c.loop-link.openings.items (opening.Iface place c.loop-link.number c.link.inside.kind c.link.inside.mtu ∷ []) old.ready ((within, fits), tt));
           })
       | else-touches w ↦
           (let without : links_at place (take (c.loop-link.link-index + 1) c.args.links.now) ≡ before = more ∙ ap (λ b. before ++ cond b (x ∷ []) []) (sym tested ∙ w.if-touches.false) ∙ append-nil before in
