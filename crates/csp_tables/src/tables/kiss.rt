@@ -34,8 +34,8 @@ impl Line {
         }
         Ok(Line {
             cover,
-            mtu: words.short(next + 1)?,
-            next: next + 2,
+            mtu: words.short(next.saturating_add(1))?,
+            next: next.saturating_add(2),
         })
     }
 
@@ -52,13 +52,13 @@ impl Line {
 pub(super) fn answer(alloc: Global, what: &str) -> Result<String, CaseError> {
     let words = Words::of(alloc, what)?;
     let line = Line::of(&words)?;
-    let next = line.next;
-    match words.at(next)? {
+    let first = line.next.saturating_add(1);
+    match words.at(line.next)? {
         "frame" => {
-            let payload = words.bytes(next + 2)?;
-            frame(alloc, line, words.word(next + 1)?, payload.as_slice())
+            let payload = words.bytes(first.saturating_add(1))?;
+            frame(alloc, line, words.word(first)?, payload.as_slice())
         }
-        "stream" => events(alloc, line, words.bytes(next + 1)?.as_slice()),
+        "stream" => events(alloc, line, words.bytes(first)?.as_slice()),
         "read" => progress(alloc, line, &words),
         _ => Err(Unread),
     }
@@ -128,7 +128,7 @@ fn push_event(alloc: Global, told: &mut String, event: &KissEvent) -> Result<(),
 fn progress(alloc: Global, line: Line, words: &Words) -> Result<String, CaseError> {
     let mut reader = line.reader()?;
     let mut told = String::new(alloc);
-    for place in line.next + 1..words.all().len() {
+    for place in line.next.saturating_add(1)..words.all().len() {
         let bytes = words.bytes(place)?;
         let step = reader.read_on(bytes.as_slice());
         if !told.is_empty() {
