@@ -288,6 +288,7 @@ impl Iface {
         requires unwritten { report.old.items ≡ [] }
         requires stock { 0 < spares.old.boxes }
         ensures events { report.new.items ≡ (fetched (ItemShown.Packet mark buffer.picture) (resting self.old.iface)).events }
+        ensures refused { (fetched (ItemShown.Packet mark buffer.picture) (resting self.old.iface)).refused ≡ 0 }
         ensures state { self.new ≡ with_iface self.old (fetched (ItemShown.Packet mark buffer.picture) (resting self.old.iface)).iface }
         ensures room { length report.new.items ≤ 1 }
         ensures stock { spares.new ≡ fetched_stock self.old.iface (ItemShown.Packet mark buffer.picture) spares.old }
