@@ -20,7 +20,7 @@ abbrev pub opening_of : Opening → PlainOpening
 opening_of (opening.Router c) = opens (who.Router c.facts.node) (router_for c)
 opening_of (opening.Bridge node) = bridge_at node
 opening_of (opening.Iface node number kind mtu) = iface_on node number kind mtu
-opening_of (opening.App node number steps) = app_with node number steps.items
+opening_of (opening.App node number script) = app_with node number script
 opening_of (opening.Link number kind plan) = link_with number kind plan.items
 
 -- the packets of a link fit the buffers of its nodes
@@ -32,7 +32,7 @@ abbrev pub CanOpen : Opening → Type 0
 CanOpen (opening.Router c) = IsConfig c
 CanOpen (opening.Bridge node) = ⊤
 CanOpen (opening.Iface node number kind mtu) = (number < IFACES) × (mtu ≤ MAX_PAYLOAD)
-CanOpen (opening.App node number steps) = (length steps.items + 1 < 2 ^ 32) × All IsStep steps.items
+CanOpen (opening.App node number script) = (length script + 1 < 2 ^ 32) × All IsStep script
 CanOpen (opening.Link number kind plan) = All IsFault plan.items
 
 -- the buffers of a party of a node are to be of this region, and a link has none

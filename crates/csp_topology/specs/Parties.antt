@@ -1,7 +1,7 @@
 -- The parties of a scene before their first turns, in the order of their logs.
 use Rattle.std.specs.Prelude.{ℕ, ◌+◌, Option, None, Some, List, [], ◌∷◌, ◌++◌, length, map}
 use Rattle.csp_app.specs.PlainApp as app
-use Rattle.csp_app.specs.declared.step.Step.{Step}
+use Rattle.csp_app.specs.PlainStep.{PlainStep}
 use Rattle.csp_bridge.specs.PlainBridge as bridge
 use Rattle.csp_deck.specs.Runs.{Steps}
 use Rattle.csp_iface.specs.PlainIface as iface
@@ -58,7 +58,7 @@ ifaces_from place number [] = []
 ifaces_from place number (l ∷ links) = iface_on place number l.kind l.mtu ∷ ifaces_from place (number + 1) links
 
 -- the applications of a node, from this number on
-abbrev pub app_with : ℕ → ℕ → List Step → PlainOpening
+abbrev pub app_with : ℕ → ℕ → List PlainStep → PlainOpening
 app_with place number steps = opens (who.App place number) (an_app (app.opening number steps))
 
 -- an application of a node before its first turn, with its steps

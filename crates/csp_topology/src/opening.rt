@@ -5,7 +5,7 @@ ghost use Rattle.csp_party.specs.Any.{plain};
 ghost use Rattle.csp_record.specs.Who.{node_of};
 ghost use Rattle.csp_topology.specs.Opening.{CanOpen, IsOfRegion, opening_of};
 
-use csp_app::{App, Step};
+use csp_app::{App, Script};
 use csp_arena::RegionToken;
 use csp_bridge::Bridge;
 use csp_iface::Iface;
@@ -42,7 +42,7 @@ pub enum Opening {
         /// Its number there.
         number: u8,
         /// What it does.
-        steps: Vec<Step>,
+        script: Script,
     },
     /// A link.
     Link {
@@ -97,10 +97,10 @@ impl Opening {
                 Opening::App {
                     node: _,
                     number,
-                    steps,
+                    script,
                 },
                 Some(region),
-            ) => Ok(AnyParty::App(App::open(alloc, number, steps, region)?)),
+            ) => Ok(AnyParty::App(App::open(alloc, number, script, region)?)),
             (
                 Opening::Link {
                     number: _,

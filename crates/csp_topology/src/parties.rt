@@ -12,7 +12,7 @@ use crate::links::names_at;
 use crate::opening::Opening;
 use csp_base::Addr;
 use csp_link::Fault;
-use csp_scene::{MAX_LINKS, MAX_NODES, SceneApp, SceneLink, SceneNode, Step};
+use csp_scene::{MAX_LINKS, MAX_NODES, SceneApp, SceneLink, SceneNode};
 use csp_stack::StackConfig;
 use std::alloc::{AllocError, Global};
 
@@ -146,7 +146,7 @@ fn app_of(alloc: Global, node: u8, number: u8, app: &SceneApp) -> Result<Opening
     Ok(Opening::App {
         node,
         number,
-        steps: copied_steps(alloc, &app.steps)?,
+        script: app.script.copy(alloc)?,
     })
 }
 
@@ -187,16 +187,5 @@ fn copied_plan(alloc: Global, plan: &[Fault]) -> Result<Vec<Fault>, AllocError>
 {
     let mut copy = Vec::with_capacity(alloc, plan.len())?;
     copy.extend_from_slice(plan)?;
-    Ok(copy)
-}
-
-/// A copy of these steps.
-fn copied_steps(alloc: Global, steps: &[Step]) -> Result<Vec<Step>, AllocError>
-    ensures { IfOk result (λ copy. copy.items ≡ steps.now) }
-{
-    let mut copy = Vec::with_capacity(alloc, steps.len())?;
-    for step in steps {
-        copy.push_reserved(step.copy());
-    }
     Ok(copy)
 }

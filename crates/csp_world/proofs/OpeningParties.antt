@@ -6,7 +6,7 @@ use Rattle.std.proofs.lemmas.Bool.{eqb-true, ltb-true}
 use Rattle.std.proofs.lemmas.List.{length-map}
 use Rattle.std.proofs.lemmas.Option.{same_Some, slice_get-map, slice_get_within}
 use Rattle.csp_app.specs.PlainApp as app
-use Rattle.csp_app.specs.declared.step.Step.{Step}
+use Rattle.csp_app.specs.PlainStep.{PlainStep}
 use Rattle.csp_bridge.specs.PlainBridge as bridge
 use Rattle.csp_iface.specs.PlainIface as iface
 use Rattle.csp_log.specs.Kinds.{carried_on}
@@ -87,7 +87,7 @@ iface_there stands place number kind mtu n links l at same_kind (queue.Up k) r e
 iface_there stands place number kind mtu n links l at same_kind (queue.Down k) r e = absurd cc
 
 -- of an application
-app_there : Stands → (number : ℕ) (steps : List Step) (n : PlainNode) (links : List PlainLink) → number < length n.apps → AreThere n links (an_app (app.opening number steps))
+app_there : Stands → (number : ℕ) (steps : List PlainStep) (n : PlainNode) (links : List PlainLink) → number < length n.apps → AreThere n links (an_app (app.opening number steps))
 app_there stands number steps n links few queue.Inbox r e = absurd cc
 app_there stands number steps n links few (queue.Up k) r e =
     own_lane (rule.Lane lane.Up) r (rule_of (opened_deck n links) (queue.Up k)) number k _ (λ same. up_rule stands n links k (omega (arith, few, same))) refl e
@@ -141,7 +141,7 @@ iface_new stands w place number n links l at on = record {
   home = λ node e. within_at w.decks place (opened_deck n links) at node e;
 }
 
-app_new : Stands → (w : PlainWorld) (place number : ℕ) (steps : List Step) (n : PlainNode) (links : List PlainLink) → slice_get w.decks place ≡ Some (opened_deck n links) → number < length n.apps → IsNew w.decks w.links (app_with place number steps)
+app_new : Stands → (w : PlainWorld) (place number : ℕ) (steps : List PlainStep) (n : PlainNode) (links : List PlainLink) → slice_get w.decks place ≡ Some (opened_deck n links) → number < length n.apps → IsNew w.decks w.links (app_with place number steps)
 app_new stands w place number steps n links at few = record {
   ready = λ later until goes. tt;
   counted = refl;
