@@ -47,4 +47,4 @@ links_planned nodes all (l ∷ links) is = (is.0.plan, links_planned nodes all l
 -- and so are the payloads on them
 pub links_fit : (nodes : List PlainNode) (all links : List PlainLink) → AllByRecursion (IsLink nodes all) links → AllByRecursion FitsBuffers links
 links_fit nodes all [] is = tt
-links_fit nodes all (l ∷ links) is = (is.0.most_mtu, links_fit nodes all links is.1)
+links_fit nodes all (l ∷ links) is = (omega (arith, is.0.mtu.1), links_fit nodes all links is.1)
