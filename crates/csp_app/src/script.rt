@@ -54,10 +54,7 @@ impl Script {
     pub fn takes(&self) -> usize
         ensures { result ≡ take_steps self.now }
     {
-        self.steps
-            .iter()
-            .filter(|step| step.is_take())
-            .count()
+        self.steps.iter().filter(|step| step.is_take()).count()
     }
 
     /// The step with this number, from 0.

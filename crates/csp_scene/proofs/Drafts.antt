@@ -193,10 +193,10 @@ IsDraft-app d place app is within router here room =
     })
 
 -- a step's packet has no more bytes than a packet may have
-pub IsOfPacket-step : (step : PlainStep) → IsStep step → IsOfPacket step
-IsOfPacket-step (step.Send slot bytes) is = omega (arith, is.2)
-IsOfPacket-step (step.Raw header bytes) is = is.1
-IsOfPacket-step _ is = omega arith
+pub step_of_packet : (step : PlainStep) → IsStep step → IsOfPacket step
+step_of_packet (step.Send slot bytes) is = omega (arith, is.2)
+step_of_packet (step.Raw header bytes) is = is.1
+step_of_packet _ is = omega arith
 
 -- a step
 IsApp-step : (app : PlainApp) (step : PlainStep) → IsApp app → IsStep step → length app.steps < MAX_STEPS → IsApp (with_step step app)

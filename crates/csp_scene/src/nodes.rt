@@ -179,7 +179,7 @@ impl Draft {
         }
     }
 
-    #[tactic(auto, using(crate::proofs::Drafts::IsOfPacket-step))]
+    #[tactic(auto, using(crate::proofs::Drafts::step_of_packet))]
     fn push_step(&mut self, place: usize, step: &Step<'_>) -> Result<(), LineError>
         requires kept { IsDraft self.old }
         requires node { place < length self.old.nodes }

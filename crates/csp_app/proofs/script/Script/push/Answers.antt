@@ -1,6 +1,6 @@
-use Rattle.std.proofs.Common.{◌≡◌, ◌∙◌, List, [], ◌∷◌, ◌++◌, ap, arith}
+use Rattle.std.proofs.Common.{◌≡◌, ◌∙◌, List, [], ◌∷◌, ◌++◌, ap}
 use Rattle.csp_app.specs.PlainStep.{bytes_of}
-use Rattle.csp_app.specs.Placing.{plain_step, part, placed_step}
+use Rattle.csp_app.specs.Placing.{plain_step, part}
 use Rattle.csp_app.specs.declared.placed.Placed.{Placed}
 use Rattle.csp_app.proofs.Scripts.{part_added, pushed_is}
 use Rattle.csp_app.proofs.script.Script.push.Goals as goal
