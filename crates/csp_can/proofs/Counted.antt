@@ -61,12 +61,12 @@ fresh_counted now (k ∷ ks) =
       | false ↦ fresh_counted now ks
     ]
 
-ruling_counted : (ks : List Kept) (a : Arrival) → ruling whole_frames ks a ≡ ruling counters (counted ks) a
-ruling_counted ks a =
+ruling_counted : (mtu : ℕ) (ks : List Kept) (a : Arrival) → ruling whole_frames mtu ks a ≡ ruling counters mtu (counted ks) a
+ruling_counted mtu ks a =
     let key = key_of a.frame.head in
     let stands : option_map shown_frames (standing whole_frames key ks) ≡ option_map (λ p. p) (standing counters key (counted ks)) = standing_counted key ks ∙ sym (option_map_same (standing counters key (counted ks))) in
     let many : length ks ≡ length (counted ks) = sym (length-map ks shown_frames) in
-    λ i. ruling_of a.frame.head.kind (stands i) (nat_le MAX_PARTIALS (many i)) a
+    λ i. ruling_of mtu a.frame.head.kind (stands i) (nat_le MAX_PARTIALS (many i)) a
 
 gone : (o : Option Kept) (a : Arrival) → counted (option_to_list (option_map (λ k. whole_frames.grown k a) o)) ≡ option_to_list (option_map (λ p. counters.grown p a) (option_map shown_frames o))
 gone None a = refl
@@ -86,37 +86,37 @@ done_counted goes_on key one grown ks =
     map-append shown_frames (without whole_frames key ks) grown ∙ ap (λ (ps : List Partial). ps ++ counted grown) (without_counted key ks)
 
 -- the same answer
-pub answer_counted : (ks : List Kept) (a : Arrival) → answer whole_frames ks a ≡ answer counters (counted ks) a
-answer_counted ks a =
-    ap answer_of (ruling_counted (fresh whole_frames a.time ks) a ∙ ap (λ (ps : List Partial). ruling counters ps a) (fresh_counted a.time ks))
+pub answer_counted : (mtu : ℕ) (ks : List Kept) (a : Arrival) → answer whole_frames mtu ks a ≡ answer counters mtu (counted ks) a
+answer_counted mtu ks a =
+    ap answer_of (ruling_counted mtu (fresh whole_frames a.time ks) a ∙ ap (λ (ps : List Partial). ruling counters mtu ps a) (fresh_counted a.time ks))
 
 -- the same partial packets afterwards
-pub next_counted : (ks : List Kept) (a : Arrival) → counted (next whole_frames ks a) ≡ next counters (counted ks) a
-next_counted ks a =
+pub next_counted : (mtu : ℕ) (ks : List Kept) (a : Arrival) → counted (next whole_frames mtu ks a) ≡ next counters mtu (counted ks) a
+next_counted mtu ks a =
     let left = fresh whole_frames a.time ks in
     let key = key_of a.frame.head in
-    let said = ruling_counted left a in
+    let said = ruling_counted mtu left a in
     let moved = gone_on_counted left a in
     let opened = shown_opened a in
-    done_counted (ruling whole_frames left a).deed key (whole_frames.opened a) (gone_on whole_frames left a) left
+    done_counted (ruling whole_frames mtu left a).deed key (whole_frames.opened a) (gone_on whole_frames left a) left
     ∙ (λ i. done counters (said i).deed key (opened i) (moved i) (counted left))
-    ∙ ap (λ (ps : List Partial). done counters (ruling counters ps a).deed key (counters.opened a) (gone_on counters ps a) ps) (fresh_counted a.time ks)
+    ∙ ap (λ (ps : List Partial). done counters (ruling counters mtu ps a).deed key (counters.opened a) (gone_on counters ps a) ps) (fresh_counted a.time ks)
 
-open_from : List Kept → List Arrival → List Kept
-open_from ks history = fold (next whole_frames) ks history
+open_from : (mtu : ℕ) → List Kept → List Arrival → List Kept
+open_from mtu ks history = fold (next whole_frames mtu) ks history
 
-fold_push : (ks : List Kept) (history : List Arrival) (a : Arrival) → fold (next whole_frames) ks (history ++ a ∷ []) ≡ next whole_frames (fold (next whole_frames) ks history) a
-fold_push ks [] a = refl
-fold_push ks (b ∷ history) a = fold_push (next whole_frames ks b) history a
+fold_push : (mtu : ℕ) (ks : List Kept) (history : List Arrival) (a : Arrival) → fold (next whole_frames mtu) ks (history ++ a ∷ []) ≡ next whole_frames mtu (fold (next whole_frames mtu) ks history) a
+fold_push mtu ks [] a = refl
+fold_push mtu ks (b ∷ history) a = fold_push mtu (next whole_frames mtu ks b) history a
 
 -- after one more frame
-pub open_after-push : (history : List Arrival) (a : Arrival) → open_after (history ++ a ∷ []) ≡ next whole_frames (open_after history) a
-open_after-push history a = fold_push [] history a
+pub open_after-push : (mtu : ℕ) (history : List Arrival) (a : Arrival) → open_after mtu (history ++ a ∷ []) ≡ next whole_frames mtu (open_after mtu history) a
+open_after-push mtu history a = fold_push mtu [] history a
 
 -- what the counters did is what the frames kept say
-pub by_whole_frames : (old new : List Partial) (a : Arrival) (r : CanAnswer) → r ≡ answer counters old a → new ≡ next counters old a
-    → (history : List Arrival) → old ≡ counted (open_after history) → (new ≡ counted (open_after (history ++ a ∷ []))) × (r ≡ answer whole_frames (open_after history) a)
-by_whole_frames old new a r said moved history was =
-    let later : next counters old a ≡ counted (open_after (history ++ a ∷ [])) = ap (λ (ps : List Partial). next counters ps a) was ∙ sym (next_counted (open_after history) a) ∙ sym (ap counted (open_after-push history a)) in
-    let told : answer counters old a ≡ answer whole_frames (open_after history) a = ap (λ (ps : List Partial). answer counters ps a) was ∙ sym (answer_counted (open_after history) a) in
+pub by_whole_frames : (mtu : ℕ) (old new : List Partial) (a : Arrival) (r : CanAnswer) → r ≡ answer counters mtu old a → new ≡ next counters mtu old a
+    → (history : List Arrival) → old ≡ counted (open_after mtu history) → (new ≡ counted (open_after mtu (history ++ a ∷ []))) × (r ≡ answer whole_frames mtu (open_after mtu history) a)
+by_whole_frames mtu old new a r said moved history was =
+    let later : next counters mtu old a ≡ counted (open_after mtu (history ++ a ∷ [])) = ap (λ (ps : List Partial). next counters mtu ps a) was ∙ sym (next_counted mtu (open_after mtu history) a) ∙ sym (ap counted (open_after-push mtu history a)) in
+    let told : answer counters mtu old a ≡ answer whole_frames mtu (open_after mtu history) a = ap (λ (ps : List Partial). answer counters mtu ps a) was ∙ sym (answer_counted mtu (open_after mtu history) a) in
     (moved ∙ later, said ∙ told)

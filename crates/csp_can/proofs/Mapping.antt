@@ -121,12 +121,12 @@ record Mapped (ks : List Kept) : Type 0 where
   few : length ks ≤ MAX_PARTIALS
 
 -- a packet opens only where one of its key stood or fewer than four did
-opens_room : (kind : Kind) (kept : Option Kept) (n : ℕ) (a : Arrival) → (ruling_of kind (option_map shown_frames kept) (nat_le MAX_PARTIALS n) a).deed ≡ opens → (not (is_some kept) && nat_le MAX_PARTIALS n) ≡ false
-opens_room Begin None n a =
-    begin_by false (nat_le MAX_PARTIALS n) a (λ r. r.deed ≡ opens → (true && nat_le MAX_PARTIALS n) ≡ false) (λ e. cc) (λ e. cc) (λ e. cc) (λ _ _ free _. free)
-opens_room Begin (Some k) n a = λ _. refl
-opens_room More None n a = λ e. cc
-opens_room More (Some k) n a = λ _. refl
+opens_room : (mtu : ℕ) (kind : Kind) (kept : Option Kept) (n : ℕ) (a : Arrival) → (ruling_of mtu kind (option_map shown_frames kept) (nat_le MAX_PARTIALS n) a).deed ≡ opens → (not (is_some kept) && nat_le MAX_PARTIALS n) ≡ false
+opens_room mtu Begin None n a =
+    begin_by mtu false (nat_le MAX_PARTIALS n) a (λ r. r.deed ≡ opens → (true && nat_le MAX_PARTIALS n) ≡ false) (λ e. cc) (λ e. cc) (λ e. cc) (λ _ _ free _. free)
+opens_room mtu Begin (Some k) n a = λ _. refl
+opens_room mtu More None n a = λ e. cc
+opens_room mtu More (Some k) n a = λ _. refl
 
 -- a MORE frame goes on only where a partial packet of its key stands, and grows no other
 grown_mapped : (key : Key) (kept : Option Kept) (a : Arrival) (ks : List Kept) → OfThisKey key kept → OneEach ks → Free key ks → OneEach (ks ++ option_to_list (option_map (λ k. whole_frames.grown k a) kept))
@@ -174,21 +174,21 @@ done_mapped goes_on a ks m free =
       few = omega arith;
     }
 
-next_mapped : (ks : List Kept) (a : Arrival) → Mapped ks → Mapped (next whole_frames ks a)
-next_mapped ks a m =
+next_mapped : (mtu : ℕ) (ks : List Kept) (a : Arrival) → Mapped ks → Mapped (next whole_frames mtu ks a)
+next_mapped mtu ks a m =
     let left = fresh whole_frames a.time ks in
     let test : Kept → Bool = λ k. nat_lt (a.time - (shown_frames k).time) GIVE_UP in
     let shorter = filter_length test ks in
     let few = m.few in
     let still : Mapped left = record { one_each = OneEach-filter test ks m.one_each; few = omega arith } in
-    done_mapped (ruling whole_frames left a).deed a left still (opens_room a.frame.head.kind (standing whole_frames (key_of a.frame.head) left) (length left) a)
+    done_mapped (ruling whole_frames mtu left a).deed a left still (opens_room mtu a.frame.head.kind (standing whole_frames (key_of a.frame.head) left) (length left) a)
 
-from_mapped : (ks : List Kept) (history : List Arrival) → Mapped ks → Mapped (fold (next whole_frames) ks history)
-from_mapped ks [] m = m
-from_mapped ks (a ∷ history) m = from_mapped (next whole_frames ks a) history (next_mapped ks a m)
+from_mapped : (mtu : ℕ) (ks : List Kept) (history : List Arrival) → Mapped ks → Mapped (fold (next whole_frames mtu) ks history)
+from_mapped mtu ks [] m = m
+from_mapped mtu ks (a ∷ history) m = from_mapped mtu (next whole_frames mtu ks a) history (next_mapped mtu ks a m)
 
 -- after any history
-pub always_map : (history : List Arrival) → IsMap (open_after history)
-always_map history =
-    let m = from_mapped [] history (record { one_each = tt; few = omega arith }) in
-    record { distinct = is_distinct (open_after history) m.one_each; few = m.few }
+pub always_map : (mtu : ℕ) (history : List Arrival) → IsMap (open_after mtu history)
+always_map mtu history =
+    let m = from_mapped mtu [] history (record { one_each = tt; few = omega arith }) in
+    record { distinct = is_distinct (open_after mtu history) m.one_each; few = m.few }

@@ -1,12 +1,11 @@
 -- A frame's answer is Whole exactly where it makes its key's list a chain.
-use Rattle.std.proofs.Common.{◌≡◌, ℕ, zero, suc, ◌+◌, ◌-◌, ◌<◌, ◌≤◌, ◌&&◌, ◌||◌, Bool, true, false, not, nat_lt, nat_eq, Option, Some, None, List, [], ◌∷◌, ◌++◌, length, map, take, drop, refl, sym, subst, ap, ◌∙◌, append-nil, arith, ◌↔◌}
+use Rattle.std.proofs.Common.{◌≡◌, ℕ, zero, suc, ◌+◌, ◌-◌, ◌<◌, ◌≤◌, ◌&&◌, ◌||◌, Bool, true, false, not, nat_lt, nat_eq, Option, Some, None, List, [], ◌∷◌, ◌++◌, length, map, take, refl, sym, subst, ap, ◌∙◌, append-nil, arith, ◌↔◌}
 use Rattle.std.specs.Prelude.{nat_le, fold, find, filter, is_some}
 use Rattle.std.specs.Option.{option_map, option_to_list}
 use Rattle.std.specs.List.{flat_map}
-use Rattle.std.proofs.lemmas.List.{length-append, length-drop, take-append-le, map-append}
+use Rattle.std.proofs.lemmas.List.{length-append, take-append-le, map-append}
 use Rattle.std.proofs.lemmas.Bool.{cond_both, false≢true, ltb-true, ltb-false, lt-ltb, leb-true, leb-false, eqb-true, eqb-false}
 use Rattle.arrayvec.specs.ArrayVec.{ArrayVec}
-use Rattle.csp_base.specs.declared.limits.TheConstants.{MAX_PAYLOAD}
 use Rattle.csp_base.specs.declared.traces.Trace.{Trace}
 use Rattle.csp_can.specs.declared.answers.CanAnswer.{CanAnswer}
 use Rattle.csp_can.specs.declared.answers.CanEvent.TheVariants.{Part, Whole, ShortBegin, BadRemain, TooMuch, TooLong, NoRoom}
@@ -69,18 +68,18 @@ measured_part stood q part apart =
     (λ _ e. absurd (apart (sym e))) (λ _ e. absurd (apart (sym e))) (λ less _. less)
 
 -- a fact of the ruling on a BEGIN frame, by four cases
-pub begin_by : (stood full : Bool) (a : Arrival) (P : Ruling → Type 0)
+pub begin_by : (mtu : ℕ) (stood full : Bool) (a : Arrival) (P : Ruling → Type 0)
     → P (refused ShortBegin leaves) → P (refused TooLong leaves) → P (refused NoRoom leaves)
-    → (6 ≤ length a.frame.bytes → begin_length a.frame.bytes ≤ MAX_PAYLOAD → (not stood && full) ≡ false
+    → (6 ≤ length a.frame.bytes → begin_length a.frame.bytes ≤ mtu → (not stood && full) ≡ false
     → P (measured stood (opened_partial a) opens))
-    → P (begin_ruling stood full a)
-begin_by stood full a P short long room opened =
+    → P (begin_ruling mtu stood full a)
+begin_by mtu stood full a P short long room opened =
     cond_both (nat_lt (length a.frame.bytes) 6) _ _ P (λ _. short)
     (λ e.
-    cond_both (nat_lt MAX_PAYLOAD (begin_length a.frame.bytes)) _ _ P (λ _. long)
+    cond_both (nat_lt mtu (begin_length a.frame.bytes)) _ _ P (λ _. long)
     (λ f.
     cond_both (not stood && full) _ _ P (λ _. room)
-    (λ g. opened (ltb-false (length a.frame.bytes) 6 e) (ltb-false MAX_PAYLOAD (begin_length a.frame.bytes) f) g)))
+    (λ g. opened (ltb-false (length a.frame.bytes) 6 e) (ltb-false mtu (begin_length a.frame.bytes) f) g)))
 
 -- a fact of the ruling on a MORE frame where a partial packet stands, by two cases
 pub more_by : (q : Partial) (a : Arrival) (P : Ruling → Type 0)
@@ -118,11 +117,12 @@ front_joined begin n more =
     omega (arith, front_bytes n more, length-append (begin_payload begin.bytes) (flat_map (λ f. f.bytes) (take n more)), length-append (begin_payload begin.bytes) (flat_map (λ f. f.bytes) more))
 
 -- what holds of the frames kept of a partial packet
-record Sound (k : Kept) : Type 0 where
+record Sound (mtu : ℕ) (k : Kept) : Type 0 where
   kind : k.begin.frame.head.kind ≡ Begin
   enough : 6 ≤ length k.begin.frame.bytes
   counts_down : CountsDown k.begin.frame.head.remain (map (λ a. a.frame) k.more)
   short : length (joined k.begin.frame (map (λ a. a.frame) k.more)) < begin_length k.begin.frame.bytes
+  fits : begin_length k.begin.frame.bytes ≤ mtu
 
 -- ---- a chain of one frame
 
@@ -148,32 +148,28 @@ no_room : (stood : Bool) (n : ℕ) → (stood || nat_lt n MAX_PARTIALS) ≡ true
 no_room true n e f = false≢true f
 no_room false n e f = let less = ltb-true n MAX_PARTIALS e in let more = leb-true MAX_PARTIALS n f in omega arith
 
-begin_completes : (stood : Bool) (n : ℕ) (a : Arrival) (h : ℕ) (p : List ℕ) (t : Trace) → a.frame.head.kind ≡ Begin
-    → (begin_ruling stood (nat_le MAX_PARTIALS n) a).event ≡ Whole h (record { items = p }) t
-    → ((stood || nat_lt n MAX_PARTIALS) ≡ true) × IsChain a.frame [] h p × (t ≡ a.trace)
-begin_completes stood n a h p t kind =
-    begin_by stood (nat_le MAX_PARTIALS n) a (λ r. r.event ≡ Whole h (record { items = p }) t → ((stood || nat_lt n MAX_PARTIALS) ≡ true) × IsChain a.frame [] h p × (t ≡ a.trace))
+begin_completes : (mtu : ℕ) (stood : Bool) (n : ℕ) (a : Arrival) (h : ℕ) (p : List ℕ) (t : Trace) → a.frame.head.kind ≡ Begin
+    → (begin_ruling mtu stood (nat_le MAX_PARTIALS n) a).event ≡ Whole h (record { items = p }) t
+    → ((stood || nat_lt n MAX_PARTIALS) ≡ true) × IsChain a.frame [] h p × (t ≡ a.trace) × (length p ≤ mtu)
+begin_completes mtu stood n a h p t kind =
+    begin_by mtu stood (nat_le MAX_PARTIALS n) a (λ r. r.event ≡ Whole h (record { items = p }) t → ((stood || nat_lt n MAX_PARTIALS) ≡ true) × IsChain a.frame [] h p × (t ≡ a.trace) × (length p ≤ mtu))
     (λ e. cc) (λ e. cc) (λ e. cc)
     (λ enough fits free e.
     let w = measured_whole stood (opened_partial a) opens h p t e in
-    (room stood n free, one_chain a.frame h p kind enough w.0 w.1 w.2, sym w.3))
+    let total = w.1 ∙ ap length w.2 in
+    (room stood n free, one_chain a.frame h p kind enough w.0 w.1 w.2, sym w.3, omega arith))
 
--- the bytes of a BEGIN frame are few
-begin_few : (bytes : List ℕ) → length bytes ≤ 8 → length (begin_payload bytes) ≤ MAX_PAYLOAD
-begin_few bytes few = omega (arith, length-drop 2 (drop 4 bytes), length-drop 4 bytes)
-
-begin_completed : (stood : Bool) (n : ℕ) (a : Arrival) (h : ℕ) (p : List ℕ) (t : Trace) → length a.frame.bytes ≤ 8
-    → (stood || nat_lt n MAX_PARTIALS) ≡ true → IsChain a.frame [] h p → t ≡ a.trace
-    → (begin_ruling stood (nat_le MAX_PARTIALS n) a).event ≡ Whole h (record { items = p }) t
-begin_completed stood n a h p t few free chain trace =
+begin_completed : (mtu : ℕ) (stood : Bool) (n : ℕ) (a : Arrival) (h : ℕ) (p : List ℕ) (t : Trace) → (stood || nat_lt n MAX_PARTIALS) ≡ true → IsChain a.frame [] h p → t ≡ a.trace → length p ≤ mtu
+    → (begin_ruling mtu stood (nat_le MAX_PARTIALS n) a).event ≡ Whole h (record { items = p }) t
+begin_completed mtu stood n a h p t free chain trace fits =
     let bytes = a.frame.bytes in
     let payload : begin_payload bytes ≡ p = sym (append-nil (begin_payload bytes)) ∙ chain.payload_is in
     let len : begin_length bytes ≡ length (begin_payload bytes) = chain.length_is ∙ ap length (sym payload) in
     let enough = chain.enough in
-    let fits = begin_few bytes few in
+    let whole = chain.length_is in
     cond_both (nat_lt (length bytes) 6) _ _ (λ (r : Ruling). r.event ≡ Whole h (record { items = p }) t) (λ e. absurd (let less = ltb-true (length bytes) 6 e in omega arith))
     (λ _.
-    cond_both (nat_lt MAX_PAYLOAD (begin_length bytes)) _ _ (λ (r : Ruling). r.event ≡ Whole h (record { items = p }) t) (λ e. absurd (let less = ltb-true MAX_PAYLOAD (begin_length bytes) e in omega arith))
+    cond_both (nat_lt mtu (begin_length bytes)) _ _ (λ (r : Ruling). r.event ≡ Whole h (record { items = p }) t) (λ e. absurd (let less = ltb-true mtu (begin_length bytes) e in omega arith))
     (λ _.
     cond_both (not stood && nat_le MAX_PARTIALS n) _ _ (λ (r : Ruling). r.event ≡ Whole h (record { items = p }) t) (λ e. absurd (no_room stood n free e))
     (λ _.
@@ -182,14 +178,14 @@ begin_completed stood n a h p t few free chain trace =
 
 -- ---- a chain that a MORE frame completes
 
-more_completes : (k : Kept) (a : Arrival) (h : ℕ) (p : List ℕ) (t : Trace) → Sound k → a.frame.head.kind ≡ More
+more_completes : (mtu : ℕ) (k : Kept) (a : Arrival) (h : ℕ) (p : List ℕ) (t : Trace) → Sound mtu k → a.frame.head.kind ≡ More
     → (more_ruling (Some (shown_frames k)) a).event ≡ Whole h (record { items = p }) t
-    → IsChain k.begin.frame (map (λ a. a.frame) k.more ++ a.frame ∷ []) h p × (t ≡ k.begin.trace)
-more_completes k a h p t sound kind =
+    → IsChain k.begin.frame (map (λ a. a.frame) k.more ++ a.frame ∷ []) h p × (t ≡ k.begin.trace) × (length p ≤ mtu)
+more_completes mtu k a h p t sound kind =
     let f = a.frame in
     let begin = k.begin.frame in
     let more : List Frame = map (λ a. a.frame) k.more in
-    more_by (shown_frames k) a (λ r. r.event ≡ Whole h (record { items = p }) t → IsChain begin (more ++ f ∷ []) h p × (t ≡ k.begin.trace))
+    more_by (shown_frames k) a (λ r. r.event ≡ Whole h (record { items = p }) t → IsChain begin (more ++ f ∷ []) h p × (t ≡ k.begin.trace) × (length p ≤ mtu))
     (λ e. cc)
     (λ next e.
     let w = measured_whole false (grown_partial (shown_frames k) a) goes_on h p t e in
@@ -209,6 +205,7 @@ more_completes k a h p t sound kind =
             omega arith;
       },
       sym w.3,
+      (let fits = sound.fits in omega arith),
     ))
 
 more_completed : (k : Kept) (a : Arrival) (h : ℕ) (p : List ℕ) (t : Trace) → IsChain k.begin.frame (map (λ a. a.frame) k.more ++ a.frame ∷ []) h p → t ≡ k.begin.trace
@@ -228,29 +225,29 @@ more_completed k a h p t chain trace =
 
 -- ---- both, by the kind of the frame
 
-AllSound : Option Kept → Type 0
-AllSound None = Unit {0}
-AllSound (Some k) = Sound k
+AllSound : (mtu : ℕ) → Option Kept → Type 0
+AllSound mtu None = Unit {0}
+AllSound mtu (Some k) = Sound mtu k
 
 begin_not_more : {X : Type 0} (kind : Kind) → kind ≡ Begin → kind ≡ More → X
 begin_not_more kind b m = cc
 
-completes : (kind : Kind) (kept : Option Kept) (n : ℕ) (a : Arrival) (h : ℕ) (p : List ℕ) (t : Trace) → a.frame.head.kind ≡ kind → AllSound kept
-    → (ruling_of kind (option_map shown_frames kept) (nat_le MAX_PARTIALS n) a).event ≡ Whole h (record { items = p }) t
-    → ((is_some kept || nat_lt n MAX_PARTIALS) ≡ true) × Chain (list_by kind kept a.frame) h p × (t ≡ trace_by kind kept a.trace)
+completes : (mtu : ℕ) (kind : Kind) (kept : Option Kept) (n : ℕ) (a : Arrival) (h : ℕ) (p : List ℕ) (t : Trace) → a.frame.head.kind ≡ kind → AllSound mtu kept
+    → (ruling_of mtu kind (option_map shown_frames kept) (nat_le MAX_PARTIALS n) a).event ≡ Whole h (record { items = p }) t
+    → ((is_some kept || nat_lt n MAX_PARTIALS) ≡ true) × Chain (list_by kind kept a.frame) h p × (t ≡ trace_by kind kept a.trace) × (length p ≤ mtu)
 unfolding AllSound
-completes Begin None n a h p t is sound e = begin_completes false n a h p t is e
-completes Begin (Some k) n a h p t is sound e = begin_completes true n a h p t is e
-completes More None n a h p t is sound e = cc
-completes More (Some k) n a h p t is sound e = let w = more_completes k a h p t sound is e in (refl, w.0, w.1)
+completes mtu Begin None n a h p t is sound e = begin_completes mtu false n a h p t is e
+completes mtu Begin (Some k) n a h p t is sound e = begin_completes mtu true n a h p t is e
+completes mtu More None n a h p t is sound e = cc
+completes mtu More (Some k) n a h p t is sound e = let w = more_completes mtu k a h p t sound is e in (refl, w.0, w.1, w.2)
 
-completed : (kind : Kind) (kept : Option Kept) (n : ℕ) (a : Arrival) (h : ℕ) (p : List ℕ) (t : Trace) → a.frame.head.kind ≡ kind → length a.frame.bytes ≤ 8
-    → ((is_some kept || nat_lt n MAX_PARTIALS) ≡ true) × Chain (list_by kind kept a.frame) h p × (t ≡ trace_by kind kept a.trace)
-    → (ruling_of kind (option_map shown_frames kept) (nat_le MAX_PARTIALS n) a).event ≡ Whole h (record { items = p }) t
-completed Begin None n a h p t is few w = begin_completed false n a h p t few w.0 w.1 w.2
-completed Begin (Some k) n a h p t is few w = begin_completed true n a h p t few w.0 w.1 w.2
-completed More None n a h p t is few w = begin_not_more a.frame.head.kind w.1.kind is
-completed More (Some k) n a h p t is few w = more_completed k a h p t w.1 w.2
+completed : (mtu : ℕ) (kind : Kind) (kept : Option Kept) (n : ℕ) (a : Arrival) (h : ℕ) (p : List ℕ) (t : Trace) → a.frame.head.kind ≡ kind
+    → ((is_some kept || nat_lt n MAX_PARTIALS) ≡ true) × Chain (list_by kind kept a.frame) h p × (t ≡ trace_by kind kept a.trace) × (length p ≤ mtu)
+    → (ruling_of mtu kind (option_map shown_frames kept) (nat_le MAX_PARTIALS n) a).event ≡ Whole h (record { items = p }) t
+completed mtu Begin None n a h p t is w = begin_completed mtu false n a h p t w.0 w.1 w.2 w.3
+completed mtu Begin (Some k) n a h p t is w = begin_completed mtu true n a h p t w.0 w.1 w.2 w.3
+completed mtu More None n a h p t is w = begin_not_more a.frame.head.kind w.1.kind is
+completed mtu More (Some k) n a h p t is w = more_completed k a h p t w.1 w.2
 
 -- ---- every partial packet that stands is sound
 
@@ -272,33 +269,33 @@ pub Each-append : {K : Type 0} (P : K → Type 0) (xs ys : List K) → Each P xs
 Each-append P [] ys e f = f
 Each-append P (x ∷ xs) ys e f = (e.0, Each-append P xs ys e.1 f)
 
-AllSound-find : (test : Kept → Bool) (ks : List Kept) → Each Sound ks → AllSound (find test ks)
+AllSound-find : (mtu : ℕ) (test : Kept → Bool) (ks : List Kept) → Each (Sound mtu) ks → AllSound mtu (find test ks)
 unfolding AllSound
-AllSound-find test [] e = tt
-AllSound-find test (k ∷ ks) e =
-    cond_both (test k) _ _ (λ (o : Option Kept). AllSound o) (λ _. e.0) (λ _. AllSound-find test ks e.1)
+AllSound-find mtu test [] e = tt
+AllSound-find mtu test (k ∷ ks) e =
+    cond_both (test k) _ _ (λ (o : Option Kept). AllSound mtu o) (λ _. e.0) (λ _. AllSound-find mtu test ks e.1)
 
 -- a frame that opens a partial packet leaves a sound one
-opens_sound : (kind : Kind) (kept : Option Kept) (n : ℕ) (a : Arrival) → a.frame.head.kind ≡ kind
-    → (ruling_of kind (option_map shown_frames kept) (nat_le MAX_PARTIALS n) a).deed ≡ opens → Sound (whole_frames.opened a)
-opens_sound Begin kept n a is =
-    begin_by (is_some (option_map shown_frames kept)) (nat_le MAX_PARTIALS n) a (λ r. r.deed ≡ opens → Sound (whole_frames.opened a))
+opens_sound : (mtu : ℕ) (kind : Kind) (kept : Option Kept) (n : ℕ) (a : Arrival) → a.frame.head.kind ≡ kind
+    → (ruling_of mtu kind (option_map shown_frames kept) (nat_le MAX_PARTIALS n) a).deed ≡ opens → Sound mtu (whole_frames.opened a)
+opens_sound mtu Begin kept n a is =
+    begin_by mtu (is_some (option_map shown_frames kept)) (nat_le MAX_PARTIALS n) a (λ r. r.deed ≡ opens → Sound mtu (whole_frames.opened a))
     (λ e. cc) (λ e. cc) (λ e. cc)
     (λ enough fits free e.
     let less = measured_part (is_some (option_map shown_frames kept)) (opened_partial a) opens (λ f. cc) e in
     let none = ap length (append-nil (begin_payload a.frame.bytes)) in
-    record { kind = is; enough = enough; counts_down = tt; short = omega arith })
-opens_sound More None n a is = λ e. cc
-opens_sound More (Some k) n a is =
-    more_by (shown_frames k) a (λ r. r.deed ≡ opens → Sound (whole_frames.opened a)) (λ e. cc)
+    record { kind = is; enough = enough; counts_down = tt; short = omega arith; fits = fits })
+opens_sound mtu More None n a is = λ e. cc
+opens_sound mtu More (Some k) n a is =
+    more_by (shown_frames k) a (λ r. r.deed ≡ opens → Sound mtu (whole_frames.opened a)) (λ e. cc)
     (λ next.
-    measured_by false (grown_partial (shown_frames k) a) goes_on (λ r. r.deed ≡ opens → Sound (whole_frames.opened a))
+    measured_by false (grown_partial (shown_frames k) a) goes_on (λ r. r.deed ≡ opens → Sound mtu (whole_frames.opened a))
     (λ _ e. cc) (λ _ e. cc) (λ _ e. cc))
 
 -- one that goes on leaves a sound one
-grown_sound : (k : Kept) (a : Arrival) → Sound k → a.frame.head.kind ≡ More → a.frame.head.remain + 1 ≡ (shown_frames k).remain
-    → length (joined k.begin.frame (map (λ b. b.frame) k.more) ++ a.frame.bytes) < begin_length k.begin.frame.bytes → Sound (whole_frames.grown k a)
-grown_sound k a sound kind next less =
+grown_sound : (mtu : ℕ) (k : Kept) (a : Arrival) → Sound mtu k → a.frame.head.kind ≡ More → a.frame.head.remain + 1 ≡ (shown_frames k).remain
+    → length (joined k.begin.frame (map (λ b. b.frame) k.more) ++ a.frame.bytes) < begin_length k.begin.frame.bytes → Sound mtu (whole_frames.grown k a)
+grown_sound mtu k a sound kind next less =
     let begin = k.begin.frame in
     let more : List Frame = map (λ b. b.frame) k.more in
     let frames : map (λ (b : Arrival). b.frame) (k.more ++ a ∷ []) ≡ more ++ a.frame ∷ [] = map-append (λ (b : Arrival). b.frame) k.more (a ∷ []) in
@@ -310,66 +307,67 @@ grown_sound k a sound kind next less =
       enough = sound.enough;
       counts_down = subst (λ (fs : List Frame). CountsDown begin.head.remain fs) (sym frames) down;
       short = subst (λ (fs : List Frame). length (joined begin fs) < begin_length begin.bytes) (sym frames) short;
+      fits = sound.fits;
     }
 
-goes_on_sound : (kind : Kind) (kept : Option Kept) (n : ℕ) (a : Arrival) → a.frame.head.kind ≡ kind → AllSound kept
-    → (ruling_of kind (option_map shown_frames kept) (nat_le MAX_PARTIALS n) a).deed ≡ goes_on → Each Sound (option_to_list (option_map (λ k. whole_frames.grown k a) kept))
+goes_on_sound : (mtu : ℕ) (kind : Kind) (kept : Option Kept) (n : ℕ) (a : Arrival) → a.frame.head.kind ≡ kind → AllSound mtu kept
+    → (ruling_of mtu kind (option_map shown_frames kept) (nat_le MAX_PARTIALS n) a).deed ≡ goes_on → Each (Sound mtu) (option_to_list (option_map (λ k. whole_frames.grown k a) kept))
 unfolding AllSound
-goes_on_sound kind None n a is sound = λ e. tt
-goes_on_sound Begin (Some k) n a is sound =
-    begin_by true (nat_le MAX_PARTIALS n) a (λ r. r.deed ≡ goes_on → Sound (whole_frames.grown k a) × Unit {0})
+goes_on_sound mtu kind None n a is sound = λ e. tt
+goes_on_sound mtu Begin (Some k) n a is sound =
+    begin_by mtu true (nat_le MAX_PARTIALS n) a (λ r. r.deed ≡ goes_on → Sound mtu (whole_frames.grown k a) × Unit {0})
     (λ e. cc) (λ e. cc) (λ e. cc)
     (λ enough fits free.
-    measured_by true (opened_partial a) opens (λ r. r.deed ≡ goes_on → Sound (whole_frames.grown k a) × Unit {0})
+    measured_by true (opened_partial a) opens (λ r. r.deed ≡ goes_on → Sound mtu (whole_frames.grown k a) × Unit {0})
     (λ _ e. cc) (λ _ e. cc) (λ _ e. cc))
-goes_on_sound More (Some k) n a is sound =
-    more_by (shown_frames k) a (λ r. r.deed ≡ goes_on → Sound (whole_frames.grown k a) × Unit {0}) (λ e. cc)
+goes_on_sound mtu More (Some k) n a is sound =
+    more_by (shown_frames k) a (λ r. r.deed ≡ goes_on → Sound mtu (whole_frames.grown k a) × Unit {0}) (λ e. cc)
     (λ next e. (
-      grown_sound k a sound is next
+      grown_sound mtu k a sound is next
           (measured_part false (grown_partial (shown_frames k) a) goes_on (λ f. cc) e),
       tt,
     ))
 
-done_sound : (d : Deed) (key : Key) (one : Kept) (grown : List Kept) (ks : List Kept) → Each Sound ks → (d ≡ opens → Sound one) → (d ≡ goes_on → Each Sound grown)
-    → Each Sound (done whole_frames d key one grown ks)
-done_sound leaves key one grown ks all opened more = all
-done_sound ends key one grown ks all opened more = Each-remove_first Sound (λ k. same_key (shown_frames k).key key) ks all
-done_sound opens key one grown ks all opened more =
-    Each-append Sound (without whole_frames key ks) (one ∷ []) (Each-remove_first Sound (λ k. same_key (shown_frames k).key key) ks all) (opened refl, tt)
-done_sound goes_on key one grown ks all opened more =
-    Each-append Sound (without whole_frames key ks) grown (Each-remove_first Sound (λ k. same_key (shown_frames k).key key) ks all) (more refl)
+done_sound : (mtu : ℕ) (d : Deed) (key : Key) (one : Kept) (grown : List Kept) (ks : List Kept) → Each (Sound mtu) ks → (d ≡ opens → Sound mtu one) → (d ≡ goes_on → Each (Sound mtu) grown)
+    → Each (Sound mtu) (done whole_frames d key one grown ks)
+done_sound mtu leaves key one grown ks all opened more = all
+done_sound mtu ends key one grown ks all opened more = Each-remove_first (Sound mtu) (λ k. same_key (shown_frames k).key key) ks all
+done_sound mtu opens key one grown ks all opened more =
+    Each-append (Sound mtu) (without whole_frames key ks) (one ∷ []) (Each-remove_first (Sound mtu) (λ k. same_key (shown_frames k).key key) ks all) (opened refl, tt)
+done_sound mtu goes_on key one grown ks all opened more =
+    Each-append (Sound mtu) (without whole_frames key ks) grown (Each-remove_first (Sound mtu) (λ k. same_key (shown_frames k).key key) ks all) (more refl)
 
-fresh_sound : (now : ℕ) (ks : List Kept) → Each Sound ks → Each Sound (fresh whole_frames now ks)
-fresh_sound now ks all = Each-filter Sound (λ k. nat_lt (now - (shown_frames k).time) GIVE_UP) ks all
+fresh_sound : (mtu : ℕ) (now : ℕ) (ks : List Kept) → Each (Sound mtu) ks → Each (Sound mtu) (fresh whole_frames now ks)
+fresh_sound mtu now ks all = Each-filter (Sound mtu) (λ k. nat_lt (now - (shown_frames k).time) GIVE_UP) ks all
 
-next_sound : (ks : List Kept) (a : Arrival) → Each Sound ks → Each Sound (next whole_frames ks a)
-next_sound ks a all =
+next_sound : (mtu : ℕ) (ks : List Kept) (a : Arrival) → Each (Sound mtu) ks → Each (Sound mtu) (next whole_frames mtu ks a)
+next_sound mtu ks a all =
     let left = fresh whole_frames a.time ks in
-    let sound = fresh_sound a.time ks all in
+    let sound = fresh_sound mtu a.time ks all in
     let key = key_of a.frame.head in
     let kept = standing whole_frames key left in
-    done_sound (ruling whole_frames left a).deed key (whole_frames.opened a) (gone_on whole_frames left a) left sound
-    (opens_sound a.frame.head.kind kept (length left) a refl)
-    (goes_on_sound a.frame.head.kind kept (length left) a refl (AllSound-find (λ k. same_key (shown_frames k).key key) left sound))
+    done_sound mtu (ruling whole_frames mtu left a).deed key (whole_frames.opened a) (gone_on whole_frames left a) left sound
+    (opens_sound mtu a.frame.head.kind kept (length left) a refl)
+    (goes_on_sound mtu a.frame.head.kind kept (length left) a refl (AllSound-find mtu (λ k. same_key (shown_frames k).key key) left sound))
 
-from_sound : (ks : List Kept) (history : List Arrival) → Each Sound ks → Each Sound (fold (next whole_frames) ks history)
-from_sound ks [] all = all
-from_sound ks (a ∷ history) all = from_sound (next whole_frames ks a) history (next_sound ks a all)
+from_sound : (mtu : ℕ) (ks : List Kept) (history : List Arrival) → Each (Sound mtu) ks → Each (Sound mtu) (fold (next whole_frames mtu) ks history)
+from_sound mtu ks [] all = all
+from_sound mtu ks (a ∷ history) all = from_sound mtu (next whole_frames mtu ks a) history (next_sound mtu ks a all)
 
 -- after any history, the answer to a frame is Whole exactly where it completes a chain
-pub whole_exactly : (history : List Arrival) (a : Arrival) → length a.frame.bytes ≤ 8 → (h : ℕ) (p : List ℕ) (t : Trace)
-    → ((answer whole_frames (open_after history) a).event ≡ Whole h (record { items = p }) t) ↔ Completes (open_after history) a h p t
-whole_exactly history a few h p t =
-    let left = fresh whole_frames a.time (open_after history) in
+pub whole_exactly : (mtu : ℕ) (history : List Arrival) (a : Arrival) (h : ℕ) (p : List ℕ) (t : Trace)
+    → ((answer whole_frames mtu (open_after mtu history) a).event ≡ Whole h (record { items = p }) t) ↔ Completes mtu (open_after mtu history) a h p t
+whole_exactly mtu history a h p t =
+    let left = fresh whole_frames a.time (open_after mtu history) in
     let key = key_of a.frame.head in
     let kept = standing whole_frames key left in
-    let sound = AllSound-find (λ k. same_key (shown_frames k).key key) left (fresh_sound a.time (open_after history) (from_sound [] history tt)) in
-    (completes a.frame.head.kind kept (length left) a h p t refl sound, completed a.frame.head.kind kept (length left) a h p t refl few)
+    let sound = AllSound-find mtu (λ k. same_key (shown_frames k).key key) left (fresh_sound mtu a.time (open_after mtu history) (from_sound mtu [] history tt)) in
+    (completes mtu a.frame.head.kind kept (length left) a h p t refl sound, completed mtu a.frame.head.kind kept (length left) a h p t refl)
 
 -- the same for what the counters answer
-pub counters_exactly : (old : List Partial) (a : Arrival) (r : CanAnswer) → r ≡ answer counters old a → length a.frame.bytes ≤ 8
-    → (history : List Arrival) → old ≡ counted (open_after history) → (h : ℕ) (p : List ℕ) (t : Trace)
-    → (r.event ≡ Whole h (record { items = p }) t) ↔ Completes (open_after history) a h p t
-counters_exactly old a r said few history was h p t =
-    let told : r ≡ answer whole_frames (open_after history) a = said ∙ ap (λ (ps : List Partial). answer counters ps a) was ∙ sym (answer_counted (open_after history) a) in
-    subst (λ (s : CanAnswer). (s.event ≡ Whole h (record { items = p }) t) ↔ Completes (open_after history) a h p t) (sym told) (whole_exactly history a few h p t)
+pub counters_exactly : (mtu : ℕ) (old : List Partial) (a : Arrival) (r : CanAnswer) → r ≡ answer counters mtu old a
+    → (history : List Arrival) → old ≡ counted (open_after mtu history) → (h : ℕ) (p : List ℕ) (t : Trace)
+    → (r.event ≡ Whole h (record { items = p }) t) ↔ Completes mtu (open_after mtu history) a h p t
+counters_exactly mtu old a r said history was h p t =
+    let told : r ≡ answer whole_frames mtu (open_after mtu history) a = said ∙ ap (λ (ps : List Partial). answer counters mtu ps a) was ∙ sym (answer_counted mtu (open_after mtu history) a) in
+    subst (λ (s : CanAnswer). (s.event ≡ Whole h (record { items = p }) t) ↔ Completes mtu (open_after mtu history) a h p t) (sym told) (whole_exactly mtu history a h p t)

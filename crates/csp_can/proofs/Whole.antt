@@ -113,13 +113,13 @@ fragments_read header payload dest id d i fits =
 
 -- the frames that stand on the bus for a packet are a chain, and read as it
 pub fragments_whole : (header : ℕ) (payload : List ℕ) (dest id : ℕ) (frames : List CanFrame) → header < 2 ^ 32 → dest < 32 → id < 1024 → length payload ≤ MAX_PAYLOAD
-    → frames ≡ map written (fragments_of header payload dest id) → Chain (map read_frame frames) header payload × ReadsAs (map read_frame frames) header payload
+    → frames ≡ map written (fragments_of header payload dest id) → Chain (map read_frame frames) header payload × ((mtu : ℕ) → length payload ≤ mtu → ReadsAs mtu (map read_frame frames) header payload)
 fragments_whole header payload dest id frames word d i fits are =
     let read : map read_frame frames ≡ fragments_of header payload dest id = ap (map read_frame) are ∙ fragments_read header payload dest id d i fits in
     let chain = fragments_chain header payload dest id word fits in
     let key = more_of_key (first_head header payload dest id) (frames_after (length payload)) (drop 2 payload) in
-    subst (λ (fs : List Frame). Chain fs header payload × ReadsAs fs header payload) (sym read)
-    (chain, reads_as (fragments_of header payload dest id) header payload chain key fits)
+    subst (λ (fs : List Frame). Chain fs header payload × ((mtu : ℕ) → length payload ≤ mtu → ReadsAs mtu fs header payload)) (sym read)
+    (chain, λ mtu short. reads_as mtu (fragments_of header payload dest id) header payload chain key short)
 
 -- each frame is one that a bus carries
 number_fits : (i : Identifier) → InBits i → identifier_number i < 2 ^ 29

@@ -54,11 +54,12 @@ trace_by More kept trace = unwrap_or (option_map (λ k. k.begin.trace) kept) tra
 abbrev pub has_room : Option Kept → List Kept → Bool
 has_room kept ks = is_some kept || nat_lt (length ks) MAX_PARTIALS
 
--- where these partial packets stood, the frame makes its key's list a chain of this header and payload, begun with this trace, and there is room for it
-abbrev pub Completes : List Kept → Arrival → ℕ → List ℕ → Trace → Type 0
-Completes before a header payload trace =
+-- where these partial packets stood, the frame makes its key's list a chain of this header and payload, begun with this trace, there is room for it, and the payload is no longer than a packet's may be
+abbrev pub Completes : (mtu : ℕ) → List Kept → Arrival → ℕ → List ℕ → Trace → Type 0
+Completes mtu before a header payload trace =
     let ks = fresh whole_frames a.time before in
     let kept = standing whole_frames (key_of a.frame.head) ks in
     IsTrue (has_room kept ks)
     × Chain (list_by a.frame.head.kind kept a.frame) header payload
     × (trace ≡ trace_by a.frame.head.kind kept a.trace)
+    × (length payload ≤ mtu)

@@ -5,6 +5,7 @@ pub mod ToCome
 pub mod Begins
 pub mod Rules
 pub mod Open
+pub mod Listening
 pub mod Steps
 pub mod Chains
 pub mod Alone

@@ -39,9 +39,9 @@ module _ {K : Type 0} (keeping : Keeping K) where
   without key ks = remove_first (λ k. same_key (keeping.shown k).key key) ks
 
   -- the ruling on a frame where these partial packets stand
-  abbrev pub ruling : List K → Arrival → Ruling
-  ruling ks a =
-      ruling_of a.frame.head.kind (option_map keeping.shown (standing (key_of a.frame.head) ks)) (nat_le MAX_PARTIALS (length ks)) a
+  abbrev pub ruling : (mtu : ℕ) → List K → Arrival → Ruling
+  ruling mtu ks a =
+      ruling_of mtu a.frame.head.kind (option_map keeping.shown (standing (key_of a.frame.head) ks)) (nat_le MAX_PARTIALS (length ks)) a
 
   -- the partial packets after a frame of this key: `one` is what it opens, and `grown` what it goes on with
   abbrev pub done : Deed → (key : Key) → (one : K) → (grown ks : List K) → List K
@@ -55,14 +55,14 @@ module _ {K : Type 0} (keeping : Keeping K) where
   gone_on ks a = option_to_list (option_map (λ k. keeping.grown k a) (standing (key_of a.frame.head) ks))
 
   -- the answer to a frame: first what is too old is given up, then the ruling
-  abbrev pub answer : List K → Arrival → CanAnswer
-  answer ks a = answer_of (ruling (fresh a.time ks) a)
+  abbrev pub answer : (mtu : ℕ) → List K → Arrival → CanAnswer
+  answer mtu ks a = answer_of (ruling mtu (fresh a.time ks) a)
 
   -- the partial packets after it
-  abbrev pub next : List K → Arrival → List K
-  next ks a =
+  abbrev pub next : (mtu : ℕ) → List K → Arrival → List K
+  next mtu ks a =
       let left = fresh a.time ks in
-      done (ruling left a).deed (key_of a.frame.head) (keeping.opened a) (gone_on left a) left
+      done (ruling mtu left a).deed (key_of a.frame.head) (keeping.opened a) (gone_on left a) left
 
 -- counters and bytes in the place of whole frames
 abbrev pub counters : Keeping Partial
@@ -105,8 +105,8 @@ whole_frames =
     }
 
 -- the partial packets, with the frames kept of each, after a history of frames
-abbrev pub open_after : List Arrival → List Kept
-open_after history = fold (next whole_frames) [] history
+abbrev pub open_after : (mtu : ℕ) → List Arrival → List Kept
+open_after mtu history = fold (next whole_frames mtu) [] history
 
 -- what the counters show of the frames kept
 abbrev pub counted : List Kept → List Partial

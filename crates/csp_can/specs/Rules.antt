@@ -1,5 +1,4 @@
 use Rattle.std.specs.Prelude.{ℕ, ◌+◌, ◌==◌, ◌&&◌, not, Bool, false, nat_lt, is_some, if◌then◌else◌, Option, Some, None, List, ◌++◌, length}
-use Rattle.csp_base.specs.declared.limits.TheConstants.{MAX_PAYLOAD}
 use Rattle.csp_base.specs.declared.traces.Trace.{Trace}
 use Rattle.csp_can.specs.declared.answers.CanEvent.{CanEvent}
 use Rattle.csp_can.specs.declared.answers.CanEvent.TheVariants.{Part, Whole, NoBegin, ShortBegin, BadRemain, TooMuch, TooLong, NoRoom}
@@ -71,11 +70,11 @@ measured restarted p part =
 abbrev pub opening_ruling : (stood full : Bool) → Partial → Ruling
 opening_ruling stood full p = if not stood && full then refused NoRoom leaves else measured stood p opens
 
--- a BEGIN frame: too short; too long a packet; else a packet opens
-abbrev pub begin_ruling : (stood full : Bool) → Arrival → Ruling
-begin_ruling stood full a =
+-- a BEGIN frame where a packet has at most so many payload bytes: too short; too long a packet; else a packet opens
+abbrev pub begin_ruling : (mtu : ℕ) (stood full : Bool) → Arrival → Ruling
+begin_ruling mtu stood full a =
     if nat_lt (length a.frame.bytes) 6 then refused ShortBegin leaves
-    else (if nat_lt MAX_PAYLOAD (begin_length a.frame.bytes) then refused TooLong leaves
+    else (if nat_lt mtu (begin_length a.frame.bytes) then refused TooLong leaves
     else opening_ruling stood full (opened_partial a))
 
 -- a MORE frame: without a partial packet of its key; not the next one; else measured with what came before
@@ -85,7 +84,7 @@ more_ruling (Some p) a =
     if a.frame.head.remain + 1 == p.remain then measured false (grown_partial p a) goes_on
     else refused BadRemain ends
 
--- the ruling on a frame, by the partial packet of its key, and whether the most partial packets stand
-abbrev pub ruling_of : Kind → (standing : Option Partial) → (full : Bool) → Arrival → Ruling
-ruling_of Begin standing full a = begin_ruling (is_some standing) full a
-ruling_of More standing full a = more_ruling standing a
+-- the ruling on a frame, by the most payload bytes of a packet, the partial packet of its key, and whether the most partial packets stand
+abbrev pub ruling_of : (mtu : ℕ) → Kind → (standing : Option Partial) → (full : Bool) → Arrival → Ruling
+ruling_of mtu Begin standing full a = begin_ruling mtu (is_some standing) full a
+ruling_of mtu More standing full a = more_ruling standing a

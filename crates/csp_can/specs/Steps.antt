@@ -1,4 +1,4 @@
-use Rattle.std.specs.Prelude.{◌≡◌, ◌+◌, ◌-◌, ◌<◌, ◌≤◌, nat_le, is_some, Some, List, ◌++◌, length, position, All}
+use Rattle.std.specs.Prelude.{◌≡◌, ℕ, ◌+◌, ◌-◌, ◌<◌, ◌≤◌, nat_le, is_some, Some, List, ◌++◌, length, position, All}
 use Rattle.csp_base.specs.declared.limits.TheConstants.{MAX_PAYLOAD}
 use Rattle.csp_can.specs.declared.partials.Partial.{Partial}
 use Rattle.csp_can.specs.declared.partials.TheConstants.{MAX_PARTIALS}
@@ -26,8 +26,8 @@ opened ps p =
     opening_ruling (is_some (standing counters p.key ps)) (nat_le MAX_PARTIALS (length ps)) p
 
 -- the ruling on a BEGIN frame there
-abbrev pub begin_said : List Partial → Arrival → Ruling
-begin_said ps a = begin_ruling (is_some (standing counters (key_of a.frame.head) ps)) (nat_le MAX_PARTIALS (length ps)) a
+abbrev pub begin_said : (mtu : ℕ) → List Partial → Arrival → Ruling
+begin_said mtu ps a = begin_ruling mtu (is_some (standing counters (key_of a.frame.head) ps)) (nat_le MAX_PARTIALS (length ps)) a
 
 -- the ruling on a MORE frame there
 abbrev pub more_said : List Partial → Arrival → Ruling

@@ -44,7 +44,7 @@ pub enum CanEvent {
     BadRemain,
     /// More payload bytes than the length says. The partial packet is dropped.
     TooMuch,
-    /// A BEGIN frame with a length that no packet has. All else is left.
+    /// A BEGIN frame with a length over that of the longest packet. All else is left.
     TooLong,
     /// A BEGIN frame of a new key where the most partial packets stand. All else is left.
     NoRoom,

@@ -1,18 +1,16 @@
-//! Packets put together from their frames.
+//! The partial packets of a listener.
 
-ghost use Rattle.std.specs.Prelude.{◌≡◌, ◌↔◌, ℕ, ◌<◌, ◌≤◌, ◌^◌, ◌∷◌, [], ◌++◌, length, nat_lt, nat_le, if◌then◌else◌, OnSome, IfSome, IfNone, true, false, position, List};
-ghost use Rattle.csp_can.specs.Identifiers.{identifier_of, key_of, same_key};
-ghost use Rattle.csp_can.specs.Rules.{Arrival, arrival, measured, leaves};
-ghost use Rattle.csp_can.specs.Chains.{Completes};
-ghost use Rattle.csp_can.specs.Maps.{IsMap};
+ghost use Rattle.std.specs.Prelude.{◌≡◌, ◌↔◌, ◌<◌, ◌≤◌, ◌∷◌, [], ◌++◌, length, nat_lt, if◌then◌else◌, OnSome, IfSome, IfNone, true, false, position, List};
+ghost use Rattle.csp_can.specs.Identifiers.{key_of, same_key};
+ghost use Rattle.csp_can.specs.Rules.{arrival, measured, leaves};
 ghost use Rattle.csp_base.specs.declared.traces.Trace.{Trace};
 ghost use Rattle.csp_can.specs.Steps.{opened, begin_said, more_said, after, StandsLast};
 ghost use Rattle.csp_can.specs.declared.partials.Partial.{Partial};
-ghost use Rattle.csp_can.specs.Open.{counters, fresh, standing, without, done, answer_of, answer, next, whole_frames, open_after, counted};
+ghost use Rattle.csp_can.specs.Open.{counters, fresh, standing, without, done, answer_of};
 
 use crate::answers::{CanAnswer, CanEvent};
 use crate::frames::{MAX_DATA, copied};
-use crate::identifiers::{Identifier, Key, Kind};
+use crate::identifiers::{Identifier, Key};
 use crate::partials::{Begin, GIVE_UP, MAX_PARTIALS, Partial};
 use arrayvec::ArrayVec;
 use csp_base::{MAX_PAYLOAD, Trace};
@@ -21,11 +19,11 @@ use std::marker::Model;
 
 /// Packets of which some frames came: at most `MAX_PARTIALS`, each of another key.
 #[derive(Drop)]
-pub struct Reassembly {
+pub struct Partials {
     partials: ArrayVec<Partial, MAX_PARTIALS>,
 }
 
-impl Model for Reassembly {
+impl Model for Partials {
     ghost use Rattle.std.specs.Prelude.{List};
     ghost use Rattle.csp_can.specs.declared.partials.Partial.{Partial};
 
@@ -38,54 +36,18 @@ impl Model for Reassembly {
     ghost invariant = { λ r. AllFit r.partials.items };
 }
 
-impl Reassembly {
+impl Partials {
     /// No partial packet stands.
-    pub fn new() -> Reassembly
-        ensures empty { result ≡ [] }
-        ensures whole { result ≡ counted (open_after []) }
-
-        // Whatever comes, the partial packets are a map from keys to frames.
-        ensures map { (history : List Arrival) → IsMap (open_after history) }
+    pub(crate) fn new() -> Partials
+        ensures { result ≡ [] }
     {
-        Reassembly {
+        Partials {
             partials: ArrayVec::new(),
         }
     }
 
-    /// A frame that came at `now`: its identifier, its data bytes and its trace. First each partial packet
-    /// whose last frame came `GIVE_UP` or more before `now` is given up.
-    pub fn frame(&mut self, id: u32, bytes: &[u8], trace: Trace, now: u64) -> CanAnswer
-        requires id { id < 2 ^ 29 }
-        requires bytes { length bytes.now ≤ MAX_DATA }
-
-        ensures answer { let a = arrival (identifier_of id) bytes.now trace now in
-            result ≡ answer counters self.old a }
-        ensures state { let a = arrival (identifier_of id) bytes.now trace now in
-            self.new ≡ next counters self.old a }
-
-        // The same by whole frames, over every history of frames and times.
-        ensures whole { let a = arrival (identifier_of id) bytes.now trace now in
-            (history : List Arrival) → self.old ≡ counted (open_after history)
-            → (self.new ≡ counted (open_after (history ++ a ∷ [])))
-            × (result ≡ answer whole_frames (open_after history) a) }
-
-        // Whole comes exactly where the frame makes its key's list of frames a chain.
-        ensures chain { let a = arrival (identifier_of id) bytes.now trace now in
-            (history : List Arrival) → self.old ≡ counted (open_after history)
-            → (header : ℕ) (payload : List ℕ) (begun : Trace)
-            → (result.event ≡ CanEvent.Whole header (record { items = payload }) begun)
-            ↔ Completes (open_after history) a header payload begun }
-    {
-        self.give_up(now);
-        let head = Identifier::decode(id);
-        match head.kind {
-            Kind::Begin => self.begin(&head, bytes, trace, now),
-            Kind::More => CanAnswer::plain(self.more(&head, bytes, trace, now)),
-        }
-    }
-
     /// Gives up each partial packet whose last frame came `GIVE_UP` or more before `now`.
-    fn give_up(&mut self, now: u64)
+    pub(crate) fn give_up(&mut self, now: u64)
         ensures { self.new ≡ fresh counters now self.old }
     {
         self.partials
@@ -151,18 +113,26 @@ impl Reassembly {
         }
     }
 
-    /// A BEGIN frame, after what is too old was given up.
-    fn begin(&mut self, head: &Identifier, bytes: &[u8], trace: Trace, now: u64) -> CanAnswer
-        requires { length bytes.now ≤ MAX_DATA }
+    /// A BEGIN frame, after what is too old was given up. A packet has at most `mtu` payload bytes.
+    pub(crate) fn begin(
+        &mut self,
+        mtu: u16,
+        head: &Identifier,
+        bytes: &[u8],
+        trace: Trace,
+        now: u64,
+    ) -> CanAnswer
+        requires mtu { mtu ≤ MAX_PAYLOAD }
+        requires bytes { length bytes.now ≤ MAX_DATA }
         ensures answer { let a = arrival head.now bytes.now trace now in
-            result ≡ answer_of (begin_said self.old a) }
+            result ≡ answer_of (begin_said mtu self.old a) }
         ensures state { let a = arrival head.now bytes.now trace now in
-            self.new ≡ after (begin_said self.old a) self.old a }
+            self.new ≡ after (begin_said mtu self.old a) self.old a }
     {
         let Some(begin) = Begin::read(bytes) else {
             return CanAnswer::plain(CanEvent::ShortBegin);
         };
-        if begin.length as usize > MAX_PAYLOAD {
+        if begin.length > mtu {
             return CanAnswer::plain(CanEvent::TooLong);
         }
         self.open(Partial {
@@ -193,7 +163,13 @@ impl Reassembly {
     }
 
     /// A MORE frame, after what is too old was given up: in place where it can be.
-    fn more(&mut self, head: &Identifier, bytes: &[u8], trace: Trace, now: u64) -> CanEvent
+    pub(crate) fn more(
+        &mut self,
+        head: &Identifier,
+        bytes: &[u8],
+        trace: Trace,
+        now: u64,
+    ) -> CanEvent
         ensures event { let a = arrival head.now bytes.now trace now in
             result ≡ (more_said self.old a).event }
         ensures state { let a = arrival head.now bytes.now trace now in

@@ -29,7 +29,7 @@ pub fn fragments(header: u32, payload: &[u8], dest: Addr, id: u16) -> Fragments
 
     // They are a chain, and read alone they are this packet again.
     ensures chain { Chain (map read_frame result) header payload.now }
-    ensures alone { ReadsAs (map read_frame result) header payload.now }
+    ensures alone { (mtu : ℕ) → length payload.now ≤ mtu → ReadsAs mtu (map read_frame result) header payload.now }
 
     // No other packet can be made of them, whichever come, how often and in what order.
     ensures own { MakesOnly (map read_frame result) header payload.now }

@@ -9,11 +9,12 @@ mod cutting;
 mod frames;
 mod identifiers;
 mod partials;
+mod reassembly;
 
 pub use answers::{CanAnswer, CanEvent};
-pub use assembly::Reassembly;
 pub use cutter::Fragments;
 pub use cutting::fragments;
 pub use frames::{CanFrame, MAX_DATA};
 pub use identifiers::{Identifier, Key, Kind};
 pub use partials::{GIVE_UP, MAX_PARTIALS};
+pub use reassembly::Reassembly;

@@ -1,5 +1,5 @@
 -- Bytes as a number, and how a register goes on to the bytes after them.
-use Rattle.std.proofs.Common.{◌≡◌, ℕ, zero, suc, ◌+◌, ◌-◌, ◌*◌, ◌/◌, ◌%◌, ◌^◌, ◌<◌, ◌≤◌, List, [], ◌∷◌, ◌++◌, length, take, drop, get_or, drop-cons, add-one, ap, sym, ◌∙◌, refl, arith, bit_xor}
+use Rattle.std.proofs.Common.{◌≡◌, ℕ, zero, suc, ◌+◌, ◌-◌, ◌*◌, ◌/◌, ◌%◌, ◌^◌, ◌<◌, ◌≤◌, List, [], ◌∷◌, ◌++◌, length, length-append, take, drop, get_or, drop-cons, add-one, ap, sym, ◌∙◌, refl, arith, bit_xor}
 use Rattle.std.specs.Simd.{first_chunks}
 use Rattle.std.specs.Int.{w128, byte_at, byte_worth, sum_through, bytes_low_first, to_le_bytes, from_le_bytes}
 use Rattle.std.proofs.lemmas.List.{take_more, take-append-drop, length-drop, length-take, drop-drop}
@@ -103,6 +103,17 @@ left_after-cons register byte bytes h =
     let n : ℕ = number_of (message_bits bytes) in
     let count : 8 * length (byte ∷ bytes) ≡ 8 + 8 * length bytes = omega arith in
     rw (count, message-cons byte bytes h, sum-later register byte n 8 h, places-xor (8 + 8 * length bytes) (bit_xor register byte) (n * 2 ^ 8), places-shifted 8 (8 * length bytes) n, places-add 8 (8 * length bytes) (bit_xor register byte), places-xor (8 * length bytes) (places 8 (bit_xor register byte)) n) refl
+
+-- the bytes of one message after those of another
+pub left_after-append : (register : ℕ) (xs ys : List ℕ) → left_after register (xs ++ ys) ≡ left_after (left_after register xs) ys
+unfolding left_after
+left_after-append register xs ys =
+    let n : ℕ = number_of (message_bits xs) in
+    let later : ℕ = number_of (message_bits ys) in
+    let j : ℕ = 8 * length xs in
+    let k : ℕ = 8 * length ys in
+    let count : 8 * length (xs ++ ys) ≡ j + k = omega (arith, length-append xs ys) in
+    rw (count, message-append xs ys, sum-later register n later j (message-lt xs), places-xor (j + k) (bit_xor register n) (later * 2 ^ j), places-shifted j k later, places-add j k (bit_xor register n), places-xor k (places j (bit_xor register n)) later) refl
 
 -- one byte further, by the table
 next_register : (sum : ℕ) → places 8 sum ≡ bit_xor (sum / 2 ^ 8) (byte_remainder 0 (sum % 2 ^ 8))

@@ -2,7 +2,7 @@
 //! register all ones at the start, and inverted at the end.
 #![tactic(auto)]
 
-ghost use Rattle.std.specs.Prelude.{◌≡◌, IfOk, IfErr, MatchResult};
+ghost use Rattle.std.specs.Prelude.{◌≡◌, ◌++◌, IfOk, IfErr, MatchResult};
 ghost use Rattle.csp_crc.specs.Check.{IsCause, payload_of};
 ghost use Rattle.csp_crc.specs.Crc.{checked, crc_of};
 
@@ -17,6 +17,13 @@ pub fn crc32c(bytes: &[u8]) -> u32
     ensures { result ≡ crc_of bytes.now }
 {
     !after_bytes(u32::MAX, bytes)
+}
+
+/// The CRC-32C of a message that stands in two parts.
+pub fn crc32c_joined(first: &[u8], rest: &[u8]) -> u32
+    ensures { result ≡ crc_of (first.now ++ rest.now) }
+{
+    !after_bytes(after_bytes(u32::MAX, first), rest)
 }
 
 /// Why the CRC at the end of some bytes does not stand.

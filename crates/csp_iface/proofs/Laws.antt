@@ -9,14 +9,14 @@ use Rattle.csp_buffer.specs.Content.{Content}
 use Rattle.csp_deck.specs.Step.{IsAnswerOf, times, op_numbers, item_numbers, answer_numbers}
 use Rattle.csp_iface.proofs.Counting.{among, holds_times}
 use Rattle.csp_iface.specs.Asking.{given, delivered, transmitted, handed, op_of, kind_of_plan, awaits}
-use Rattle.csp_iface.specs.Links.{carried_on}
 use Rattle.csp_iface.specs.PlainIface.{PlainIface, uses, holds}
 use Rattle.csp_iface.specs.Room.{CanHear, plain_iface}
-use Rattle.csp_iface.specs.Telling.{told_by, packet_in, filled, pushed, kept, begun, fetched, caught, resting, answered, tells}
+use Rattle.csp_iface.specs.Telling.{told_by, packet_in, filled, pushed, kept, begun, is_too_big, taken_up, fetched, caught, resting, answered, tells}
 use Rattle.csp_iface.specs.declared.iface.Iface.TheInside.{Inside}
 use Rattle.csp_iface.specs.declared.packet.Packet.{Packet}
 use Rattle.csp_iface.specs.declared.plan.Plan.{Plan}
 use Rattle.csp_iface.specs.declared.plan.Plan.TheVariants as plan
+use Rattle.csp_log.specs.Kinds.{carried_on}
 use Rattle.csp_log.specs.declared.frame.Frame.{Frame}
 use Rattle.csp_log.specs.declared.places.Carries.TheVariants as lane
 use Rattle.csp_log.specs.declared.places.LinkKind.{LinkKind}
@@ -51,8 +51,12 @@ pub handed_stays : (s : PlainIface) (p : Plan) → Stays s (handed s p)
 handed_stays s plan.Rest = record { number = refl; kind = refl; doing = refl }
 handed_stays s _ = record { number = refl; kind = refl; doing = refl }
 
+taken_up_stays : (too_big : Bool) (s : PlainIface) (mark : ℕ) (b : Content) → Stays s (taken_up too_big mark b s).iface
+taken_up_stays true s mark b = record { number = refl; kind = refl; doing = refl }
+taken_up_stays false s mark b = record { number = refl; kind = refl; doing = refl }
+
 fetched_stays : (s : PlainIface) (i : ItemShown) → Stays s (fetched i s).iface
-fetched_stays s (item.Packet _ _) = record { number = refl; kind = refl; doing = refl }
+fetched_stays s (item.Packet mark b) = taken_up_stays (is_too_big s b) s mark b
 fetched_stays s _ = record { number = refl; kind = refl; doing = refl }
 
 caught_stays : (s : PlainIface) (now : ℕ) (i : ItemShown) → Stays s (caught now i s).iface
@@ -116,7 +120,7 @@ IsFree s plan.Return = s.back ≡ None
 IsFree s plan.Deliver = s.back ≡ None
 IsFree s plan.Take = s.accepted ≡ None
 IsFree s plan.Transmit = s.back ≡ None
-IsFree s plan.Fetch = s.sending ≡ None
+IsFree s plan.Fetch = (s.sending ≡ None) × (s.back ≡ None)
 IsFree s plan.Receive = ⊤
 
 pub hears_free : (a : Inside) (p : Plan) → CanHear a p → IsFree (plain_iface a) p
@@ -125,7 +129,7 @@ hears_free a plan.Return h = h.1
 hears_free a plan.Deliver h = h.1
 hears_free a plan.Take h = h.1
 hears_free a plan.Transmit h = h.1
-hears_free a plan.Fetch h = h.0.done h.1
+hears_free a plan.Fetch h = (h.0.done h.1, h.2)
 hears_free a plan.Receive h = tt
 
 none_among : (k : ℕ) (t : Option Content) → t ≡ None → among k (option_to_list t) ≡ 0
@@ -140,8 +144,12 @@ kept_law k (item.Frame f) s = refl
 kept_law k (item.Packet _ _) s = refl
 kept_law k (item.Note _) s = refl
 
-fetched_law : (k : ℕ) (i : ItemShown) (s : PlainIface) → s.sending ≡ None → times k (holds (fetched i s).iface) ≡ times k (holds s) + times k (item_numbers i)
-fetched_law k (item.Packet mark b) s e = omega (arith, holds_times k s, holds_times k (begun mark b s), none_among k s.sending e)
+taken_up_law : (k : ℕ) (too_big : Bool) (mark : ℕ) (b : Content) (s : PlainIface) → IsFree s plan.Fetch → times k (holds (taken_up too_big mark b s).iface) ≡ times k (holds s) + among k (b ∷ [])
+taken_up_law k true mark b s e = omega (arith, holds_times k s, holds_times k (record s { back = Some b }), none_among k s.back e.1)
+taken_up_law k false mark b s e = omega (arith, holds_times k s, holds_times k (begun mark b s), none_among k s.sending e.0)
+
+fetched_law : (k : ℕ) (i : ItemShown) (s : PlainIface) → IsFree s plan.Fetch → times k (holds (fetched i s).iface) ≡ times k (holds s) + times k (item_numbers i)
+fetched_law k (item.Packet mark b) s e = taken_up_law k (is_too_big s b) mark b s e
 fetched_law k (item.Frame _) s e = omega arith
 fetched_law k (item.Note _) s e = omega arith
 
@@ -150,6 +158,7 @@ link_item : (k : ℕ) (kind : LinkKind) (i : ItemShown) → IsCarried (rule.Lane
 link_item k kind (item.Frame _) h = refl
 link_item k kind (item.Note _) h = refl
 link_item k link.Kiss (item.Packet _ _) h = absurd h
+link_item k link.KissHeader (item.Packet _ _) h = absurd h
 link_item k link.Can (item.Packet _ _) h = absurd h
 
 carried_by : (b : Bool) (r : Rule) (i : ItemShown) → b ≡ true → IsCarriedIn (if b then Some r else None) i → IsCarried r i

@@ -4,13 +4,14 @@ use Rattle.std.specs.Option.{option_to_list}
 use Rattle.csp_arena.specs.Cells.{RegionName}
 use Rattle.csp_buffer.specs.Content.{Content}
 use Rattle.csp_deck.specs.Keeping.{numbers_of}
-use Rattle.csp_iface.specs.Links.{carried_on, receiver_for}
+use Rattle.csp_iface.specs.Links.{receiver_for}
 use Rattle.csp_iface.specs.declared.packet.Packet.{Packet}
 use Rattle.csp_iface.specs.declared.plan.Plan.{Plan}
 use Rattle.csp_iface.specs.declared.plan.Plan.TheVariants as plan
 use Rattle.csp_iface.specs.declared.plan.Side.{Side}
 use Rattle.csp_iface.specs.declared.plan.Side.TheVariants as side
 use Rattle.csp_iface.specs.declared.receiver.Receiver.{Receiver}
+use Rattle.csp_log.specs.Kinds.{carried_on}
 use Rattle.csp_log.specs.declared.frame.Frame.{Frame}
 use Rattle.csp_log.specs.declared.places.Carries.TheVariants as lane
 use Rattle.csp_log.specs.declared.places.LinkKind.{LinkKind}
@@ -26,6 +27,8 @@ pub record PlainIface : Type 0 where
   pub number : ℕ
   -- the kind of its link
   pub kind : LinkKind
+  -- how many payload bytes a packet on it has at most
+  pub mtu : ℕ
   -- the side whose turn comes next
   pub side : Side
   -- a buffer that is to be given back
@@ -54,17 +57,18 @@ abbrev pub with_iface : IfaceAt → PlainIface → IfaceAt
 with_iface a s = record { region = a.region; iface = s }
 
 -- an interface at its opening: sending comes first
-abbrev pub opening : (node number : ℕ) → LinkKind → PlainIface
-opening node number kind = record {
+abbrev pub opening : (node number : ℕ) → LinkKind → (mtu : ℕ) → PlainIface
+opening node number kind mtu = record {
   node = node;
   number = number;
   kind = kind;
+  mtu = mtu;
   side = side.Sending;
   back = None;
   sending = None;
   frames = [];
   serial = 0;
-  receiver = receiver_for kind;
+  receiver = receiver_for kind mtu;
   whole = None;
   accepted = None;
   doing = plan.Rest;

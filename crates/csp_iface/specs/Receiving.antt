@@ -1,13 +1,12 @@
 -- what an interface makes of a frame that it popped, and of what it reads on
-use Rattle.std.specs.Prelude.{ℕ, ◌+◌, ◌==◌, if◌then◌else◌, Option, Some, None, List, unwrap_or}
+use Rattle.std.specs.Prelude.{ℕ, ◌+◌, ◌==◌, if◌then◌else◌, Option, Some, None, unwrap_or}
 use Rattle.std.specs.Option.{option_map}
 use Rattle.csp_base.specs.declared.traces.Trace.{Trace}
 use Rattle.csp_can.specs.Identifiers.{identifier_of}
-use Rattle.csp_can.specs.Open.{counters, answer, next}
+use Rattle.csp_can.specs.Listening.{Listening, answered, heard as listened}
 use Rattle.csp_can.specs.Rules.{Arrival, arrival}
 use Rattle.csp_can.specs.declared.answers.CanEvent.{CanEvent}
 use Rattle.csp_can.specs.declared.answers.CanEvent.TheVariants as can
-use Rattle.csp_can.specs.declared.partials.Partial.{Partial}
 use Rattle.csp_iface.specs.Keeping.{PlainStream}
 use Rattle.csp_iface.specs.declared.packet.Packet.{Packet}
 use Rattle.csp_iface.specs.declared.receiver.Receiver.{Receiver}
@@ -54,13 +53,13 @@ refused_by can.TooLong = 1
 refused_by can.NoRoom = 1
 
 -- a frame of a CAN bus comes to its partial packet
-abbrev pub reassembled : List Partial → Arrival → Heard
-reassembled ps a = record { receiver = by.Can (next counters ps a); whole = packet_of (answer counters ps a).event; refused = refused_by (answer counters ps a).event }
+abbrev pub reassembled : Listening → Arrival → Heard
+reassembled l a = record { receiver = by.Can (listened l a); whole = packet_of (answered l a).event; refused = refused_by (answered l a).event }
 
 -- a frame that was popped, by the kind of the link
 abbrev pub heard_by : ℕ → Receiver → Frame → Heard
 heard_by now (by.Kiss s) f = in_hand s f
-heard_by now (by.Can ps) f = reassembled ps (arrival (identifier_of (unwrap_or f.can 0)) f.bytes.items (arrived f.trace) now)
+heard_by now (by.Can l) f = reassembled l (arrival (identifier_of (unwrap_or f.can 0)) f.bytes.items (arrived f.trace) now)
 
 -- a frame at the last hop number is used up at once, as one that is refused
 abbrev pub heard : ℕ → Receiver → Frame → Heard
@@ -77,4 +76,4 @@ followed trace p = record { receiver = by.Kiss (record { reading = p.reading; re
 -- the frame in hand is read on, until a packet is whole or the frame is used up; of a CAN bus no frame is ever in hand
 abbrev pub read_further : Receiver → Heard
 read_further (by.Kiss s) = followed s.trace (read_on s.reading s.rest)
-read_further (by.Can ps) = record { receiver = by.Can ps; whole = None; refused = 0 }
+read_further (by.Can l) = record { receiver = by.Can l; whole = None; refused = 0 }

@@ -2,11 +2,12 @@
 use Rattle.std.specs.Prelude.{◌≡◌, ◌<◌, Bool, false, Option, None, List, []}
 use Rattle.std.specs.List.{AllByRecursion}
 use Rattle.csp_buffer.specs.Content.{Content}
-use Rattle.csp_iface.specs.Links.{kind_of, IsFrameOn}
+use Rattle.csp_iface.specs.Links.{heard_in, IsFrameOn}
 use Rattle.csp_iface.specs.PlainIface.{PlainIface, IfaceAt}
 use Rattle.csp_iface.specs.declared.iface.Iface.TheInside.{Inside}
 use Rattle.csp_iface.specs.declared.plan.Plan.{Plan}
 use Rattle.csp_iface.specs.declared.plan.Plan.TheVariants as plan
+use Rattle.csp_log.specs.Kinds.{carried_on}
 use Rattle.csp_log.specs.declared.frame.Frame.{Frame}
 use Rattle.csp_log.specs.declared.places.TheConstants.{IFACES}
 
@@ -16,6 +17,7 @@ plain_iface a = record {
   node = a.node;
   number = a.number;
   kind = a.kind;
+  mtu = a.mtu;
   side = a.side;
   back = a.back.content;
   sending = a.sender.packet;
@@ -43,14 +45,14 @@ CanHear a plan.Return = IsSettled a.sender.packet a.sender.frames a.sender.loade
 CanHear a plan.Deliver = IsSettled a.sender.packet a.sender.frames a.sender.loaded × (a.back.content ≡ None) × (a.accepted.content ≡ None)
 CanHear a plan.Take = IsSettled a.sender.packet a.sender.frames a.sender.loaded × (a.accepted.content ≡ None)
 CanHear a plan.Transmit = (a.sender.loaded ≡ false) × (a.back.content ≡ None)
-CanHear a plan.Fetch = IsSettled a.sender.packet a.sender.frames a.sender.loaded × (a.sender.frames ≡ [])
+CanHear a plan.Fetch = IsSettled a.sender.packet a.sender.frames a.sender.loaded × (a.sender.frames ≡ []) × (a.back.content ≡ None)
 CanHear a plan.Receive = IsSettled a.sender.packet a.sender.frames a.sender.loaded × (a.whole ≡ None)
 
 -- what an interface's fields keep at every time
 pub record IsIface (a : Inside) : Type 0 where
   pub number : a.number < IFACES
   -- what it receives is that of its link, and the link carries its frames
-  pub kind : kind_of a.receiver ≡ a.kind
+  pub kind : heard_in a.receiver ≡ carried_on a.kind
   pub frames : AllByRecursion (IsFrameOn a.kind) a.sender.frames
   pub hears : CanHear a a.doing
   -- all its buffers are of one region

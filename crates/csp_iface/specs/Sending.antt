@@ -1,5 +1,5 @@
 -- the frames of a transmission
-use Rattle.std.specs.Prelude.{ℕ, ◌%◌, ◌==◌, if◌then◌else◌, List, [], ◌∷◌, map, Some, None}
+use Rattle.std.specs.Prelude.{ℕ, ◌%◌, ◌==◌, Bool, true, false, if◌then◌else◌, List, [], ◌∷◌, map, Some, None}
 use Rattle.csp_base.specs.declared.traces.Trace.{Trace}
 use Rattle.csp_buffer.specs.Content.{Content}
 use Rattle.csp_can.specs.Fragments.{fragments_of}
@@ -21,15 +21,16 @@ sent_trace node number serial t = record { origin = Some (record { node = node; 
 abbrev pub next_node : (mark header : ℕ) → ℕ
 next_node mark header = if mark == UNMARKED then (header_at header).dst else mark
 
--- the one frame of a packet on a KISS link
-abbrev pub kiss_frame : Content → Trace → Frame
-kiss_frame b trace = record { can = None; bytes = record { items = frame b.header b.payload }; trace = trace }
+-- the one frame of a packet on a KISS link, whose CRC covers the header or not
+abbrev pub kiss_frame : (cover : Bool) → Content → Trace → Frame
+kiss_frame cover b trace = record { can = None; bytes = record { items = frame cover b.header b.payload }; trace = trace }
 
 -- a frame of a CAN bus, with its trace
 abbrev pub can_frame : Trace → CanFrame → Frame
 can_frame trace f = record { can = Some f.id; bytes = record { items = f.bytes.items }; trace = trace }
 
--- the frames of a packet by the kind of the link: on a CAN bus its fragments, with the transmission's number modulo 1,024
+-- the frames of a packet by the kind of the link: on a CAN bus its fragments, with the transmission's number modulo IDS
 abbrev pub frames_of : LinkKind → (serial next : ℕ) → Content → Trace → List Frame
-frames_of link.Kiss serial next b trace = kiss_frame b trace ∷ []
+frames_of link.Kiss serial next b trace = kiss_frame false b trace ∷ []
+frames_of link.KissHeader serial next b trace = kiss_frame true b trace ∷ []
 frames_of link.Can serial next b trace = map (can_frame trace) (map written (fragments_of b.header b.payload next (serial % IDS)))

@@ -2,7 +2,7 @@
 use Rattle.std.specs.Prelude.{ℕ, ◌==◌, Bool, true, false, List, [], ◌∷◌, if◌then◌else◌}
 use Rattle.csp_iface.specs.Circling.{all_read}
 use Rattle.csp_iface.specs.PlainIface.{PlainIface}
-use Rattle.csp_iface.specs.Telling.{answered, begun, has_packet}
+use Rattle.csp_iface.specs.Telling.{answered, begun, has_packet, is_too_big}
 use Rattle.csp_iface.specs.declared.plan.Plan.{Plan}
 use Rattle.csp_iface.specs.declared.plan.Plan.TheVariants as plan
 use Rattle.csp_iface.specs.declared.receiver.Receiver.{Receiver}
@@ -48,9 +48,9 @@ abbrev pub going_on_stock : Bool → Receiver → PlainSpares → PlainSpares
 going_on_stock true r s = s
 going_on_stock false r s = further_stock r s
 
--- an item of `Out`: of a packet the first frame is made
+-- an item of `Out`: of a packet that is not too big the first frame is made
 abbrev pub fetched_stock : PlainIface → ItemShown → PlainSpares → PlainSpares
-fetched_stock i (item.Packet mark b) s = made_stock (begun mark b i).frames s
+fetched_stock i (item.Packet mark b) s = if is_too_big i b then s else made_stock (begun mark b i).frames s
 fetched_stock i (item.Frame _) s = s
 fetched_stock i (item.Note _) s = s
 

@@ -1,5 +1,5 @@
 -- what an interface becomes when it is told its answer, and what it reports
-use Rattle.std.specs.Prelude.{ℕ, ◌+◌, ◌==◌, ◌||◌, Bool, true, false, if◌then◌else◌, Option, Some, None, List, [], ◌∷◌, ◌++◌}
+use Rattle.std.specs.Prelude.{ℕ, ◌+◌, ◌==◌, ◌||◌, Bool, true, false, nat_lt, if◌then◌else◌, Option, Some, None, List, [], ◌∷◌, ◌++◌, length}
 use Rattle.std.specs.Option.{is_some}
 use Rattle.csp_buffer.specs.Content.{Content}
 use Rattle.csp_iface.specs.PlainIface.{PlainIface}
@@ -60,9 +60,18 @@ begun mark b s = record s {
   serial = s.serial + 1;
 }
 
+-- a packet has a longer payload than its link takes
+abbrev pub is_too_big : PlainIface → Content → Bool
+is_too_big s b = nat_lt s.mtu (length b.payload)
+
+-- a packet that is to be sent: its transmission begins; one that is too big makes no frame and no transmission, and its buffer is to be given back
+abbrev pub taken_up : (too_big : Bool) → ℕ → Content → PlainIface → Outcome
+taken_up true mark b s = reports event.TooBig (record s { back = Some b })
+taken_up false mark b s = reports (event.Transmitted s.serial) (begun mark b s)
+
 -- an item of `Out`
 abbrev pub fetched : ItemShown → PlainIface → Outcome
-fetched (item.Packet mark b) s = reports (event.Transmitted s.serial) (begun mark b s)
+fetched (item.Packet mark b) s = taken_up (is_too_big s b) mark b s
 fetched (item.Frame _) s = quiet s
 fetched (item.Note _) s = quiet s
 

@@ -90,7 +90,7 @@ impl Iface {
     {
         self.back.is_empty()
             && self.accepted.is_empty()
-            && self.whole.is_none()
+            && !self.whole.is_some()
             && !self.sender.is_loaded()
             && self.receiver.is_read()
     }

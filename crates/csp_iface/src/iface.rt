@@ -1,13 +1,14 @@
 //! The interface itself.
 
-ghost use Rattle.std.specs.Prelude.{◌≡◌, ◌↔◌, ◌<◌, [], ◌∷◌, ◌++◌, IsTrue, IfSome, MatchOption};
+ghost use Rattle.std.specs.Prelude.{◌≡◌, ◌↔◌, ◌<◌, ◌≤◌, [], ◌∷◌, ◌++◌, IsTrue, IfSome, MatchOption};
 ghost use Rattle.csp_deck.specs.Step.{times};
 
-use crate::packet::Packet;
+use crate::packet::Whole;
 use crate::plan::{Plan, Side};
 use crate::receiver::Receiver;
 use crate::sender::Sender;
 use csp_arena::RegionToken;
+use csp_base::MAX_PAYLOAD;
 use csp_buffer::Buffer;
 use csp_deck::Hand;
 use csp_log::{IFACES, LinkKind};
@@ -21,12 +22,13 @@ pub struct Iface {
     pub(crate) node: u8,
     pub(crate) number: u8,
     pub(crate) kind: LinkKind,
+    pub(crate) mtu: u16,
     pub(crate) side: Side,
     pub(crate) back: Hand,
     pub(crate) sender: Sender,
     pub(crate) serial: u64,
     pub(crate) receiver: Receiver,
-    pub(crate) whole: Option<Packet>,
+    pub(crate) whole: Whole,
     pub(crate) accepted: Hand,
     pub(crate) doing: Plan,
 }
@@ -47,22 +49,24 @@ impl Iface {
     ghost use Rattle.csp_iface.specs.Drained.{drained};
     ghost use Rattle.csp_iface.specs.PlainIface.{opening, buffers, holds, with_iface};
 
-    /// The interface of this number of a node, on a link of this kind, at its opening. Its buffers are of
-    /// this region. It takes no memory.
-    pub fn new(node: u8, number: u8, kind: LinkKind, region: RegionToken) -> Iface
-        requires { number < IFACES }
-        ensures { result ≡ record { region = region.name; iface = opening node number kind } }
+    /// The interface of this number of a node, on a link of this kind, at its opening. It sends and takes packets
+    /// of at most `mtu` payload bytes. Its buffers are of this region. It takes no memory.
+    pub fn new(node: u8, number: u8, kind: LinkKind, mtu: u16, region: RegionToken) -> Iface
+        requires number { number < IFACES }
+        requires mtu { mtu ≤ MAX_PAYLOAD }
+        ensures { result ≡ record { region = region.name; iface = opening node number kind mtu } }
     {
         Iface {
             node,
             number,
             kind,
+            mtu,
             side: Side::Sending,
             back: Hand::empty(region.copy()),
             sender: Sender::idle(region.copy()),
             serial: 0,
-            receiver: Receiver::for_link(kind),
-            whole: None,
+            receiver: Receiver::for_link(kind, mtu),
+            whole: Whole::none(),
             accepted: Hand::empty(region),
             doing: Plan::Rest,
         }
@@ -99,6 +103,7 @@ impl Iface {
             node: _,
             number: _,
             kind: _,
+            mtu: _,
             side: _,
             back,
             sender,

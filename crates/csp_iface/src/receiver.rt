@@ -5,11 +5,12 @@ ghost use Rattle.csp_can.specs.Identifiers.{identifier_of};
 ghost use Rattle.csp_can.specs.Rules.{arrival};
 ghost use Rattle.csp_deck.specs.Carried.{IsCanItem};
 ghost use Rattle.csp_iface.specs.Receiving.{arrived, heard, read_further, reassembled};
+ghost use Rattle.csp_log.specs.Kinds.{carried_on};
 ghost use Rattle.csp_iface.specs.Stocking.{further_stock, heard_stock};
 
-use crate::packet::Packet;
+use crate::packet::Whole;
 use crate::stream::Stream;
-use csp_base::{MAX_FRAME, Trace};
+use csp_base::{MAX_FRAME, MAX_PAYLOAD, Trace};
 use csp_can::{CanEvent, Reassembly};
 use csp_deck::Spares;
 use csp_log::{BoxedFrame, Frame, ItemShown, LinkKind};
@@ -28,16 +29,18 @@ pub enum Receiver {
 
 impl Receiver {
     ghost use Rattle.csp_iface.specs.Circling.{is_read};
-    ghost use Rattle.csp_iface.specs.Links.{receiver_for, kind_of, IsFrameOn};
+    ghost use Rattle.csp_iface.specs.Links.{receiver_for, heard_in, IsFrameIn};
 
-    /// What is kept on a link of this kind before anything came.
-    pub fn for_link(kind: LinkKind) -> Receiver
-        ensures receiver { result ≡ receiver_for kind }
-        ensures kind { kind_of result ≡ kind }
+    /// What is kept on a link of this kind before anything came, where packets have at most `mtu` payload bytes.
+    pub fn for_link(kind: LinkKind, mtu: u16) -> Receiver
+        requires { mtu ≤ MAX_PAYLOAD }
+        ensures receiver { result ≡ receiver_for kind mtu }
+        ensures heard { heard_in result ≡ carried_on kind }
     {
         match kind {
-            LinkKind::Kiss => Receiver::Kiss(Stream::new()),
-            LinkKind::Can => Receiver::Can(Reassembly::new()),
+            LinkKind::Kiss => Receiver::Kiss(Stream::new(false, mtu)),
+            LinkKind::KissHeader => Receiver::Kiss(Stream::new(true, mtu)),
+            LinkKind::Can => Receiver::Can(Reassembly::new(mtu)),
         }
     }
 
@@ -46,16 +49,16 @@ impl Receiver {
         &mut self,
         frame: BoxedFrame,
         now: u64,
-        whole: &mut Option<Packet>,
+        whole: &mut Whole,
         spares: &mut Spares,
     ) -> u32
-        requires carried { IsFrameOn (kind_of self.old) frame }
+        requires carried { IsFrameIn (heard_in self.old) frame }
         requires free { whole.old ≡ None }
         ensures receiver { self.new ≡ (heard now self.old frame).receiver }
         ensures whole { whole.new ≡ (heard now self.old frame).whole }
         ensures refused { result ≡ (heard now self.old frame).refused }
         ensures few { result ≤ 1 }
-        ensures kind { kind_of self.new ≡ kind_of self.old }
+        ensures lane { heard_in self.new ≡ heard_in self.old }
         ensures stock { spares.new ≡ heard_stock self.old frame spares.old }
         ensures least { spares.old.boxes ≤ spares.new.boxes }
         ensures most { spares.new.boxes ≤ spares.old.boxes + 1 }
@@ -91,13 +94,13 @@ impl Receiver {
     /// Reads on in the frame in hand until a packet is whole, which goes into `whole`, or the frame is
     /// used up. Gives how many pieces were refused.
     #[inline(always)]
-    pub fn read_on(&mut self, whole: &mut Option<Packet>, spares: &mut Spares) -> u32
+    pub fn read_on(&mut self, whole: &mut Whole, spares: &mut Spares) -> u32
         requires { whole.old ≡ None }
         ensures receiver { self.new ≡ (read_further self.old).receiver }
         ensures whole { whole.new ≡ (read_further self.old).whole }
         ensures refused { result ≡ (read_further self.old).refused }
         ensures few { result ≤ MAX_FRAME }
-        ensures kind { kind_of self.new ≡ kind_of self.old }
+        ensures lane { heard_in self.new ≡ heard_in self.old }
         ensures stock { spares.new ≡ further_stock self.old spares.old }
         ensures least { spares.old.boxes ≤ spares.new.boxes }
         ensures most { spares.new.boxes ≤ spares.old.boxes + 1 }
@@ -110,7 +113,7 @@ impl Receiver {
 }
 
 /// A frame of a CAN bus comes to its partial packet. Gives 1 where it is refused.
-fn reassemble(partials: &mut Reassembly, frame: &Frame, now: u64, whole: &mut Option<Packet>) -> u32
+fn reassemble(partials: &mut Reassembly, frame: &Frame, now: u64, whole: &mut Whole) -> u32
     requires carried { IsCanItem (ItemShown.Frame frame.now) }
     requires early { frame.now.trace.hops < 2 ^ 64 - 1 }
     requires free { whole.old ≡ None }
@@ -125,18 +128,14 @@ fn reassemble(partials: &mut Reassembly, frame: &Frame, now: u64, whole: &mut Op
         arrived(&frame.trace),
         now,
     );
-    match answer.event {
+    match &answer.event {
         CanEvent::Part => 0,
         CanEvent::Whole {
             header,
             payload,
             trace,
         } => {
-            *whole = Some(Packet {
-                header,
-                payload,
-                trace,
-            });
+            whole.set(*header, payload.as_slice(), *trace);
             0
         }
         CanEvent::NoBegin

@@ -12,7 +12,7 @@ ghost use Rattle.csp_log.specs.PlainSpares.{without_box};
 
 use arrayvec::ArrayVec;
 use csp_arena::RegionToken;
-use csp_base::{Addr, Origin, Trace};
+use csp_base::{Addr, MAX_FRAME, Origin, Trace};
 use csp_buffer::Buffer;
 use csp_can::{Fragments, fragments};
 use csp_deck::{Hand, Spares};
@@ -35,6 +35,8 @@ pub struct Sender {
     rest: Option<Fragments>,
     /// The trace of each frame.
     trace: Trace,
+    /// Where a frame of a KISS link is written before its box has it.
+    written: ArrayVec<u8, MAX_FRAME>,
 }
 
 impl Model for Sender {
@@ -57,6 +59,7 @@ impl Sender {
             first: None,
             rest: None,
             trace: Trace::empty(),
+            written: ArrayVec::new(),
         }
     }
 
@@ -121,19 +124,58 @@ impl Sender {
         ensures least { spares.old.boxes ≤ spares.new.boxes + 1 }
         ensures most { spares.new.boxes ≤ spares.old.boxes }
     {
-        self.trace = trace;
         match kind {
-            LinkKind::Kiss => {
-                self.first = Some(kiss_frame(buffer, trace, spares));
-                self.rest = None;
-            }
-            LinkKind::Can => {
-                let id = (serial % IDS) as u16;
-                let mut rest = fragments(buffer.header(), buffer.payload(), next, id);
-                self.first = can_frame(&mut rest, trace, spares);
-                self.rest = Some(rest);
-            }
+            LinkKind::Kiss => self.cut_kiss(false, buffer, trace, spares),
+            LinkKind::KissHeader => self.cut_kiss(true, buffer, trace, spares),
+            LinkKind::Can => self.cut_can(buffer, next, serial, trace, spares),
         }
+    }
+
+    /// Makes the one frame of a packet on a KISS link, whose CRC covers the header or not.
+    fn cut_kiss(&mut self, cover: bool, buffer: &Buffer, trace: Trace, spares: &mut Spares)
+        requires { 0 < spares.old.boxes }
+        ensures state { self.new ≡ record {
+          region = self.old.region;
+          packet = self.old.packet;
+          frames = kiss_frame cover buffer.now.picture trace ∷ [];
+          loaded = true;
+        } }
+        ensures stock { spares.new ≡ without_box spares.old }
+    {
+        encode(buffer.header(), buffer.payload(), cover, &mut self.written);
+        self.first = Some(spares.fill(None, self.written.as_slice(), trace));
+        if self.rest.is_some() {
+            self.rest = None;
+        }
+    }
+
+    /// Cuts a packet into the frames of a CAN bus, with the identifier of the transmission of this number. The first
+    /// is made.
+    fn cut_can(
+        &mut self,
+        buffer: &Buffer,
+        next: Addr,
+        serial: u64,
+        trace: Trace,
+        spares: &mut Spares,
+    )
+        requires { 0 < spares.old.boxes }
+        ensures state { self.new ≡ record {
+          region = self.old.region;
+          packet = self.old.packet;
+          frames = frames_of LinkKind.Can serial next buffer.now.picture trace;
+          loaded = true;
+        } }
+        ensures carried { AllByRecursion (IsFrameOn LinkKind.Can) self.new.frames }
+        ensures stock { spares.new ≡ made_stock self.new.frames spares.old }
+        ensures least { spares.old.boxes ≤ spares.new.boxes + 1 }
+        ensures most { spares.new.boxes ≤ spares.old.boxes }
+    {
+        self.trace = trace;
+        let id = (serial % IDS) as u16;
+        let mut rest = fragments(buffer.header(), buffer.payload(), next, id);
+        self.first = can_frame(&mut rest, trace, spares);
+        self.rest = Some(rest);
     }
 
     /// Hands over the next frame, where it is here.
@@ -194,20 +236,10 @@ impl Sender {
             first: _,
             rest: _,
             trace: _,
+            written: _,
         } = self;
         packet.end();
     }
-}
-
-/// The one frame of a packet on a KISS link.
-fn kiss_frame(buffer: &Buffer, trace: Trace, spares: &mut Spares) -> BoxedFrame
-    requires { 0 < spares.old.boxes }
-    ensures frame { result ≡ kiss_frame buffer.now.picture trace }
-    ensures stock { spares.new ≡ without_box spares.old }
-{
-    let mut bytes = ArrayVec::new();
-    encode(buffer.header(), buffer.payload(), &mut bytes);
-    spares.fill(None, bytes.as_slice(), trace)
 }
 
 /// The next frame of a packet on a CAN bus, where one is left.

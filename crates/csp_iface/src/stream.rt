@@ -9,8 +9,8 @@ ghost use Rattle.csp_iface.specs.Stocking.{in_hand_stock, read_stock};
 ghost use Rattle.csp_kiss.specs.GoingOn.{read_on};
 ghost use Rattle.csp_kiss.specs.Reading.{unread};
 
-use crate::packet::Packet;
-use csp_base::{MAX_FRAME, Trace};
+use crate::packet::Whole;
+use csp_base::{MAX_FRAME, MAX_PAYLOAD, Trace};
 use csp_deck::Spares;
 use csp_kiss::{KissPacket, KissProgress, KissReader};
 use csp_log::BoxedFrame;
@@ -40,12 +40,14 @@ impl Model for Stream {
 }
 
 impl Stream {
-    /// A stream that is still to come.
-    pub fn new() -> Stream
-        ensures { result ≡ record { reading = unread; rest = []; trace = no_trace } }
+    /// A stream that is still to come, of frames whose CRC covers the header or not, and of packets with at most
+    /// `mtu` payload bytes.
+    pub fn new(cover: bool, mtu: u16) -> Stream
+        requires { mtu ≤ MAX_PAYLOAD }
+        ensures { result ≡ record { reading = unread cover mtu; rest = []; trace = no_trace } }
     {
         Stream {
-            reader: KissReader::new(),
+            reader: KissReader::new(cover, mtu),
             frame: None,
             at: 0,
             trace: Trace::empty(),
@@ -78,7 +80,7 @@ impl Stream {
     /// used up. Gives how many pieces were refused.
     #[tactic(auto, unfolding(csp_kiss::specs::GoingOn::read_on, csp_kiss::specs::Reading::answers))]
     #[inline(always)]
-    pub fn read_on(&mut self, whole: &mut Option<Packet>, spares: &mut Spares) -> u32
+    pub fn read_on(&mut self, whole: &mut Whole, spares: &mut Spares) -> u32
         requires { whole.old ≡ None }
         ensures state { let p = read_on self.old.reading self.old.rest in
             self.new ≡ record { reading = p.reading; rest = p.left; trace = self.old.trace } }
@@ -102,10 +104,11 @@ impl Stream {
         &mut self,
         frame: BoxedFrame,
         at: usize,
-        whole: &mut Option<Packet>,
+        whole: &mut Whole,
         spares: &mut Spares,
     ) -> u32
-        requires { at ≤ length frame.bytes.items }
+        requires place { at ≤ length frame.bytes.items }
+        requires free { whole.old ≡ None }
         ensures state { let p = read_on self.old.reading (drop at frame.bytes.items) in
             self.new ≡ record { reading = p.reading; rest = p.left; trace = self.old.trace } }
         ensures whole { whole.new ≡ option_map (traced self.old.trace) (read_on self.old.reading (drop at frame.bytes.items)).packet }
@@ -120,10 +123,12 @@ impl Stream {
             used,
             refused,
             packet,
-        } = self.reader.read_on(&bytes[at..]);
-        *whole = traced(packet, self.trace);
-        self.keep(frame, at + used, spares);
-        refused as u32
+        } = &self.reader.read_on(&bytes[at..]);
+        if let Some(KissPacket { header, payload }) = packet {
+            whole.set(*header, payload.as_slice(), self.trace);
+        }
+        self.keep(frame, at + *used, spares);
+        *refused as u32
     }
 
     /// Keeps a frame in hand whose bytes are read up to this place. Where all are read, its box goes back.
@@ -143,15 +148,4 @@ impl Stream {
             spares.keep(frame);
         }
     }
-}
-
-/// A packet of a stream, with its trace.
-fn traced(packet: Option<KissPacket>, trace: Trace) -> Option<Packet>
-    ensures { result ≡ option_map (traced trace) packet }
-{
-    packet.map(|KissPacket { header, payload }| Packet {
-        header,
-        payload,
-        trace,
-    })
 }

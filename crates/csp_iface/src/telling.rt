@@ -15,13 +15,13 @@ use csp_base::{Addr, MAX_FRAME, Origin};
 use csp_buffer::Buffer;
 use csp_deck::{Hand, Spares};
 use csp_header::Header;
-use csp_log::{Answer, AnswerShown, Event, Events, Item, UNMARKED};
+use csp_log::{Answer, AnswerShown, Event, Events, Item, ItemShown, UNMARKED};
 
 impl Iface {
     ghost use Rattle.csp_iface.specs.PlainIface.{uses, with_iface};
     ghost use Rattle.csp_iface.specs.Asking.{awaits};
-    ghost use Rattle.csp_iface.specs.Stocking.{answered_stock, made_stock, read_after_stock, stocks};
-    ghost use Rattle.csp_iface.specs.Telling.{tells, events, answered, read_after, begun, resting, pushed};
+    ghost use Rattle.csp_iface.specs.Stocking.{answered_stock, fetched_stock, made_stock, read_after_stock, stocks};
+    ghost use Rattle.csp_iface.specs.Telling.{tells, events, answered, read_after, begun, fetched, resting, pushed};
 
     /// Ends the turn with its answer: what the answer makes of the interface, and what it reads on then.
     pub(crate) fn told_now(
@@ -155,11 +155,8 @@ impl Iface {
         ensures refused { (answered self.old.iface now (AnswerShown.Taken buffer.picture)).refused ≡ 0 }
         ensures state { self.new ≡ with_iface self.old (answered self.old.iface now (AnswerShown.Taken buffer.picture)).iface }
     {
-        let buffer = match &self.whole {
-            Some(packet) => packet.fill(buffer),
-            None => buffer,
-        };
-        self.whole = None;
+        let buffer = self.whole.fill(buffer);
+        self.whole.clear();
         self.accepted.put(buffer);
         self.doing = Plan::Rest;
     }
@@ -173,7 +170,7 @@ impl Iface {
         ensures state { self.new ≡ with_iface self.old (answered self.old.iface now AnswerShown.NoBuffer).iface }
         ensures room { length report.new.items ≤ 1 }
     {
-        self.whole = None;
+        self.whole.clear();
         self.doing = Plan::Rest;
         report.push(Event::Starved);
     }
@@ -267,8 +264,7 @@ impl Iface {
     {
         match item {
             Item::Packet { mark, buffer } => {
-                let serial = self.send(mark, buffer, spares);
-                report.push(Event::Transmitted { serial });
+                self.fetch(mark, buffer, report, spares);
                 0
             }
             Item::Frame(frame) => {
@@ -279,6 +275,33 @@ impl Iface {
                 self.doing = Plan::Rest;
                 0
             }
+        }
+    }
+
+    /// A packet that is to be sent: its transmission begins, or it is too big for the link, and its buffer is to be
+    /// given back.
+    fn fetch(&mut self, mark: u8, buffer: Buffer, report: &mut Events, spares: &mut Spares)
+        requires doing { self.old.iface.doing ≡ Plan.Fetch }
+        requires mark { mark ≢ UNMARKED → mark < 32 }
+        requires of_it { buffer.region ≡ self.old.region }
+        requires countable { self.old.iface.serial < 2 ^ 32 - 1 }
+        requires unwritten { report.old.items ≡ [] }
+        requires stock { 0 < spares.old.boxes }
+        ensures events { report.new.items ≡ (fetched (ItemShown.Packet mark buffer.picture) (resting self.old.iface)).events }
+        ensures refused { (fetched (ItemShown.Packet mark buffer.picture) (resting self.old.iface)).refused ≡ 0 }
+        ensures state { self.new ≡ with_iface self.old (fetched (ItemShown.Packet mark buffer.picture) (resting self.old.iface)).iface }
+        ensures room { length report.new.items ≤ 1 }
+        ensures stock { spares.new ≡ fetched_stock self.old.iface (ItemShown.Packet mark buffer.picture) spares.old }
+        ensures least { spares.old.boxes ≤ spares.new.boxes + 1 }
+        ensures most { spares.new.boxes ≤ spares.old.boxes }
+    {
+        if buffer.payload().len() > usize::from(self.mtu) {
+            self.back.put(buffer);
+            self.doing = Plan::Rest;
+            report.push(Event::TooBig);
+        } else {
+            let serial = self.send(mark, buffer, spares);
+            report.push(Event::Transmitted { serial });
         }
     }
 

@@ -1,5 +1,5 @@
 -- What bytes that came together add to the events of the whole stream.
-use Rattle.std.proofs.Common.{◌≡◌, ℕ, List, [], ◌∷◌, ◌++◌, length, take, drop, Option, Some, None, refl, sym, ap, ◌∙◌, arith, append_assoc, append-nil, subst}
+use Rattle.std.proofs.Common.{◌≡◌, ℕ, Bool, List, [], ◌∷◌, ◌++◌, length, take, drop, Option, Some, None, refl, sym, ap, ◌∙◌, arith, append_assoc, append-nil, subst}
 use Rattle.std.proofs.lemmas.List.{take-append-drop, append_cancel_right}
 use Rattle.std.specs.List.{AllByRecursion}
 use Rattle.std.specs.Option.{option_to_list}
@@ -10,7 +10,7 @@ use Rattle.csp_kiss.specs.Reading.{Reading, HasRead, after, answer, answers, rea
 use Rattle.csp_kiss.specs.Stream.{events}
 use Rattle.csp_kiss.specs.GoingOn.{Progress, Gains, IsRefusal, event_for, read_on}
 use Rattle.csp_kiss.proofs.GoingOn.{going_on, read_step, with_refused}
-use Rattle.csp_kiss.proofs.Steps.{events-append, reading_of-push}
+use Rattle.csp_kiss.proofs.Steps.{events-append, reading_of-push, has_read}
 
 -- what is kept after some bytes
 after_all : Reading → List ℕ → Reading
@@ -81,30 +81,32 @@ used_first bytes used left n cut rest =
     let all : take n bytes ++ drop n bytes ≡ bytes = take-append-drop n bytes in
     append_cancel_right (take n bytes) used left (ap (λ (l : List ℕ). take n bytes ++ l) (sym rest) ∙ all ∙ cut)
 
-reading_of-append : (stream bytes : List ℕ) → reading_of (stream ++ bytes) ≡ after_all (reading_of stream) bytes
+reading_of-append : (cover : Bool) (mtu : ℕ) (stream bytes : List ℕ) → reading_of cover mtu (stream ++ bytes) ≡ after_all (reading_of cover mtu stream) bytes
 unfolding after_all
-reading_of-append stream [] = ap reading_of (append-nil stream)
-reading_of-append stream (byte ∷ bytes) =
-    ap reading_of (sym (append_assoc stream (byte ∷ []) bytes)) ∙ reading_of-append (stream ++ byte ∷ []) bytes
-    ∙ ap (λ (r : Reading). after_all r bytes) (reading_of-push stream byte)
+reading_of-append cover mtu stream [] = ap (reading_of cover mtu) (append-nil stream)
+reading_of-append cover mtu stream (byte ∷ bytes) =
+    ap (reading_of cover mtu) (sym (append_assoc stream (byte ∷ []) bytes)) ∙ reading_of-append cover mtu (stream ++ byte ∷ []) bytes
+    ∙ ap (λ (r : Reading). after_all r bytes) (reading_of-push cover mtu stream byte)
 
 -- after whatever stream
-pub has_read : (stream bytes : List ℕ) (r into : Reading) (n : ℕ) → HasRead stream r → into ≡ (read_on r bytes).reading
+pub read_besides : (stream bytes : List ℕ) (r into : Reading) (n : ℕ) → HasRead stream r → into ≡ (read_on r bytes).reading
     → drop n bytes ≡ (read_on r bytes).left → HasRead (stream ++ take n bytes) into
-has_read stream bytes r into n h e left =
+read_besides stream bytes r into n h e left =
     let read : Read r bytes (read_on r bytes) = reads r bytes in
-    e ∙ read.kept ∙ ap (λ (x : Reading). after_all x read.used) h ∙ sym (reading_of-append stream read.used)
-    ∙ ap (λ (bs : List ℕ). reading_of (stream ++ bs)) (sym (used_first bytes read.used _ n read.cut left))
+    has_read r.cover r.mtu (stream ++ take n bytes) into
+    (e ∙ read.kept ∙ ap (λ (x : Reading). after_all x read.used) h ∙ sym (reading_of-append r.cover r.mtu stream read.used)
+    ∙ ap (λ (bs : List ℕ). reading_of r.cover r.mtu (stream ++ bs)) (sym (used_first bytes read.used _ n read.cut left)))
 
 pub gains : (stream bytes : List ℕ) (r : Reading) (n refused : ℕ) (packet : Option KissPacket) → HasRead stream r → refused ≡ (read_on r bytes).refused → packet ≡ (read_on r bytes).packet
-    → drop n bytes ≡ (read_on r bytes).left → Gains (events stream) (events (stream ++ take n bytes)) refused packet
+    → drop n bytes ≡ (read_on r bytes).left → Gains (events r.cover r.mtu stream) (events r.cover r.mtu (stream ++ take n bytes)) refused packet
 gains stream bytes r n refused packet h e f left =
     let read : Read r bytes (read_on r bytes) = reads r bytes in
+    let before : List KissEvent = events r.cover r.mtu stream in
     record {
       refusals = read.refusals;
       counted = read.counted ∙ sym e;
       are_refused = read.are_refused;
-      gained = ap (λ (bs : List ℕ). events (stream ++ bs)) (used_first bytes read.used _ n read.cut left)
-          ∙ events-append stream read.used ∙ ap (λ (x : Reading). events stream ++ answers x read.used) (sym h)
-          ∙ ap (λ (es : List KissEvent). events stream ++ es) (read.said ∙ ap (λ (o : Option KissPacket). read.refusals ++ event_for o) (sym f));
+      gained = ap (λ (bs : List ℕ). events r.cover r.mtu (stream ++ bs)) (used_first bytes read.used _ n read.cut left)
+          ∙ events-append r.cover r.mtu stream read.used ∙ ap (λ (x : Reading). before ++ answers x read.used) (sym h)
+          ∙ ap (λ (es : List KissEvent). before ++ es) (read.said ∙ ap (λ (o : Option KissPacket). read.refusals ++ event_for o) (sym f));
     }

@@ -8,7 +8,7 @@ use Rattle.csp_kiss.specs.declared.TheConstants.{FEND}
 use Rattle.csp_kiss.specs.declared.event.KissEvent.{KissEvent}
 use Rattle.csp_kiss.specs.declared.progress.KissPacket.{KissPacket}
 use Rattle.csp_kiss.specs.declared.stage.Stage.TheVariants.{Start}
-use Rattle.csp_kiss.specs.Reading.{Reading, after, answer, answers, continued, told}
+use Rattle.csp_kiss.specs.Reading.{Reading, after, answer, answers, continued, going, told}
 use Rattle.csp_kiss.specs.GoingOn.{Progress, bytes_to_packet, packet_of, packets_in, read_on}
 
 -- some pieces more were refused on the way
@@ -144,35 +144,35 @@ later r bytes i = read_on r (drop (i + 1) bytes)
 
 -- a byte that ends no piece
 pub passed : (p : Progress) (r into : Reading) (bytes : List ℕ) (i n : ℕ) → i < length bytes → get_or bytes i 0 ≢ FEND
-    → into ≡ continued r.stage r.plain (get_or bytes i 0)
+    → into ≡ continued r r.stage (get_or bytes i 0)
     → p ≡ with_refused n (read_on r (drop i bytes)) → p ≡ with_refused n (read_on into (drop (i + 1) bytes))
 unfolding later
 passed p r into bytes i n h ne a same =
     let byte : ℕ = get_or bytes i 0 in
     let t : eqb byte FEND ≡ false = ne_eqb byte FEND ne in
-    let silent : answer r byte ≡ None = ap (λ b. cond b (told r.stage r.plain) None) t in
-    let reached : after r byte ≡ into = ap (λ b. cond b (record { stage = Start; plain = [] }) (continued r.stage r.plain byte)) t ∙ sym a in
+    let silent : answer r byte ≡ None = ap (λ b. cond b (told r r.stage) None) t in
+    let reached : after r byte ≡ into = ap (λ b. cond b (going r Start []) (continued r r.stage byte)) t ∙ sym a in
     same ∙ ap (with_refused n) (next r bytes i h
     ∙ ap (λ event. going_on event (after r byte) (drop (i + 1) bytes) (later (after r byte) bytes i)) silent
     ∙ ap (λ x. later x bytes i) reached)
 
 -- at a FEND, by what the piece that it ends gives
 pub met : (p : Progress) (r into : Reading) (bytes : List ℕ) (i n : ℕ) (event : Option KissEvent) → i < length bytes → get_or bytes i 0 ≡ FEND
-    → into ≡ record { stage = Start; plain = [] } → event ≡ told r.stage r.plain
+    → into ≡ going r Start [] → event ≡ told r r.stage
     → p ≡ with_refused n (read_on r (drop i bytes)) → p ≡ with_refused n (going_on event into (drop (i + 1) bytes) (read_on into (drop (i + 1) bytes)))
 unfolding later
 met p r into bytes i n event h e a said same =
     let byte : ℕ = get_or bytes i 0 in
     let t : eqb byte FEND ≡ true = eq-eqb byte FEND e in
-    let heard : answer r byte ≡ event = ap (λ b. cond b (told r.stage r.plain) None) t ∙ sym said in
-    let reached : after r byte ≡ into = ap (λ b. cond b (record { stage = Start; plain = [] }) (continued r.stage r.plain byte)) t ∙ sym a in
+    let heard : answer r byte ≡ event = ap (λ b. cond b (told r r.stage) None) t ∙ sym said in
+    let reached : after r byte ≡ into = ap (λ b. cond b (going r Start []) (continued r r.stage byte)) t ∙ sym a in
     same ∙ ap (with_refused n) (next r bytes i h
     ∙ ap (λ event. going_on event (after r byte) (drop (i + 1) bytes) (later (after r byte) bytes i)) heard
     ∙ ap (λ x. going_on event x (drop (i + 1) bytes) (later x bytes i)) reached)
 
 -- a piece more was refused
 pub refused : (p : Progress) (r into : Reading) (bytes : List ℕ) (i n : ℕ) (event : KissEvent) → i < length bytes → get_or bytes i 0 ≡ FEND
-    → into ≡ record { stage = Start; plain = [] } → Some event ≡ told r.stage r.plain → None ≡ packet_of event
+    → into ≡ going r Start [] → Some event ≡ told r r.stage → None ≡ packet_of event
     → p ≡ with_refused n (read_on r (drop i bytes)) → p ≡ with_refused (n + 1) (read_on into (drop (i + 1) bytes))
 refused p r into bytes i n event h e a said none same =
     met p r into bytes i n (Some event) h e a said same
@@ -181,7 +181,7 @@ refused p r into bytes i n event h e a said none same =
 
 -- a packet is whole
 pub whole : (p : Progress) (r into : Reading) (bytes : List ℕ) (i n : ℕ) (event : KissEvent) (packet : KissPacket) → i < length bytes → get_or bytes i 0 ≡ FEND
-    → into ≡ record { stage = Start; plain = [] } → Some event ≡ told r.stage r.plain → Some packet ≡ packet_of event
+    → into ≡ going r Start [] → Some event ≡ told r r.stage → Some packet ≡ packet_of event
     → p ≡ with_refused n (read_on r (drop i bytes)) → p ≡ with_refused n (record { refused = 0; packet = Some packet; reading = into; left = drop (i + 1) bytes })
 whole p r into bytes i n event packet h e a said found same =
     met p r into bytes i n (Some event) h e a said same

@@ -1,19 +1,19 @@
 -- The frame of a packet, read again.
-use Rattle.std.proofs.Common.{◌≡◌, ℕ, zero, suc, ◌+◌, ◌≤◌, Bool, true, false, cond, eqb, List, [], ◌∷◌, ◌++◌, length, take, drop, refl, sym, ap, ◌∙◌, arith, append_assoc, length-append}
-use Rattle.std.specs.Int.{w32, from_be_bytes}
+use Rattle.std.proofs.Common.{◌≡◌, ℕ, zero, suc, ◌^◌, ◌<◌, ◌≤◌, Bool, true, false, cond, eqb, List, [], ◌∷◌, ◌++◌, length, drop, refl, sym, ap, ◌∙◌, arith, append_assoc}
+use Rattle.std.specs.Int.{w32, from_be_bytes, to_be_bytes}
 use Rattle.std.specs.List.{flat_map, onto_first, All}
-use Rattle.std.proofs.Math.Seq.{take-append_seam, drop-append_seam}
 use Rattle.std.proofs.lemmas.Grind.{flat_map-append}
 use Rattle.std.proofs.lemmas.Bool.{eqb-true}
 use Rattle.std.proofs.lemmas.List.Elements.{All-append}
 use Rattle.std.proofs.lemmas.List.Splits.{slice_split_at}
-use Rattle.csp_crc.specs.Crc.{checked}
-use Rattle.csp_base.specs.declared.limits.TheConstants.{MAX_PAYLOAD}
+use Rattle.std.proofs.lemmas.Nat.{from_be_bytes-to_be_bytes_4}
+use Rattle.csp_crc.specs.Crc.{crc_of}
+use Rattle.csp_crc.proofs.Division.{crc_of-lt}
 use Rattle.csp_kiss.specs.declared.TheConstants.{FEND, FESC, TFEND, TFESC}
 use Rattle.csp_kiss.specs.declared.event.KissEvent.TheVariants.{Packet}
-use Rattle.csp_kiss.specs.Frame.{escape_of, escaped}
-use Rattle.csp_kiss.specs.Stream.{is_end, but_last, pieces, undone, judged, event_of, events}
-use Rattle.csp_kiss.proofs.Judging.{judged-packet, length-checked}
+use Rattle.csp_kiss.specs.Frame.{escape_of, escaped, covered, frame}
+use Rattle.csp_kiss.specs.Stream.{is_end, but_last, pieces, undone, compared, judged, event_of, events}
+use Rattle.csp_kiss.proofs.Judging.{judged-joined, compared-right}
 
 -- a frame from the parts that are written one after the other
 pub frame_from : (head payload crc : List ℕ) →
@@ -57,20 +57,24 @@ no_end-escaped [] = λ k d h. absurd (omega arith)
 no_end-escaped (byte ∷ bytes) =
     All-append (λ byte. is_end byte ≡ false) (escape_of byte) (escaped bytes) (no_end-byte byte (eqb byte FEND) (eqb byte FESC) refl) (no_end-escaped bytes)
 
-events-piece : (bytes : List ℕ) → All (λ byte. is_end byte ≡ false) bytes → events (FEND ∷ 0 ∷ (bytes ++ FEND ∷ [])) ≡ judged (undone false bytes) ∷ []
+events-piece : (cover : Bool) (mtu : ℕ) (bytes : List ℕ) → All (λ byte. is_end byte ≡ false) bytes → events cover mtu (FEND ∷ 0 ∷ (bytes ++ FEND ∷ [])) ≡ judged cover mtu (undone false bytes) ∷ []
 unfolding events pieces but_last event_of
-events-piece bytes none =
-    ap (λ parts. flat_map event_of (drop 1 (but_last ([] ∷ onto_first 0 parts)))) (slice_split_at is_end bytes FEND [] none refl)
+events-piece cover mtu bytes none =
+    ap (λ parts. flat_map (event_of cover mtu) (drop 1 (but_last ([] ∷ onto_first 0 parts)))) (slice_split_at is_end bytes FEND [] none refl)
 
-pub events-packet : (header : ℕ) (head payload : List ℕ) → length head ≡ 4 → from_be_bytes w32 head ≡ header → length payload ≤ MAX_PAYLOAD →
-    events (FEND ∷ 0 ∷ (escaped (head ++ checked payload) ++ FEND ∷ [])) ≡ Packet header (record { items = payload }) ∷ []
-events-packet header head payload four word short =
-    let all : List ℕ = head ++ checked payload in
-    let back : drop 4 all ≡ checked payload = ap (λ n. drop n all) (sym four) ∙ drop-append_seam head (checked payload) in
-    let front : take 4 all ≡ head = ap (λ n. take n all) (sym four) ∙ take-append_seam head (checked payload) in
-    let sum : length all ≡ length head + length (checked payload) = length-append head (checked payload) in
-    let rest : length (checked payload) ≡ length payload + 4 = length-checked payload in
-    let packet : judged all ≡ Packet (from_be_bytes w32 (take 4 all)) (record { items = payload }) = judged-packet all payload (omega arith) back in
-    let named : from_be_bytes w32 (take 4 all) ≡ header = ap (λ bytes. from_be_bytes w32 bytes) front ∙ word in
-    events-piece (escaped all) (no_end-escaped all)
-    ∙ ap (λ event. event ∷ []) (ap judged (undone-escaped all) ∙ packet ∙ ap (λ n. Packet n (record { items = payload })) named)
+pub events-packet : (cover : Bool) (mtu header : ℕ) (payload : List ℕ) → header < 2 ^ 32 → length payload ≤ mtu →
+    events cover mtu (frame cover header payload) ≡ Packet header (record { items = payload }) ∷ []
+unfolding frame
+events-packet cover mtu header payload fits short =
+    let crc : ℕ = crc_of (covered cover header payload) in
+    let head : List ℕ = to_be_bytes w32 header in
+    let last : List ℕ = to_be_bytes w32 crc in
+    let all : List ℕ = head ++ (payload ++ last) in
+    let word : from_be_bytes w32 head ≡ header = from_be_bytes-to_be_bytes_4 header fits in
+    let found : from_be_bytes w32 last ≡ crc = from_be_bytes-to_be_bytes_4 crc (crc_of-lt (covered cover header payload)) in
+    events-piece cover mtu (escaped all) (no_end-escaped all)
+    ∙ ap (λ event. event ∷ []) (
+    ap (judged cover mtu) (undone-escaped all)
+    ∙ judged-joined cover mtu head payload last refl refl short
+    ∙ (λ i. compared cover (word i) payload (found i))
+    ∙ compared-right cover header payload crc refl)

@@ -1,4 +1,5 @@
 pub mod Frame
 pub mod Stream
 pub mod Reading
+pub mod Room
 pub mod GoingOn

@@ -2,13 +2,11 @@
 use Rattle.std.specs.Prelude.{ℕ, ◌+◌, ◌-◌, ◌==◌, nat_lt, Bool, true, false, if◌then◌else◌, List, [], ◌∷◌, ◌++◌, length, take, drop}
 use Rattle.std.specs.Int.{w32, from_be_bytes}
 use Rattle.std.specs.List.{flat_map, slice_split}
-use Rattle.csp_base.specs.declared.limits.TheConstants.{MAX_PAYLOAD}
 use Rattle.csp_crc.specs.Crc.{crc_of}
-use Rattle.csp_crc.specs.declared.CrcError.{CrcError}
-use Rattle.csp_crc.specs.declared.CrcError.TheVariants.{Short as CrcShort, Wrong}
 use Rattle.csp_kiss.specs.declared.TheConstants.{FEND, FESC, TFEND, TFESC}
 use Rattle.csp_kiss.specs.declared.event.KissEvent.{KissEvent}
 use Rattle.csp_kiss.specs.declared.event.KissEvent.TheVariants.{Packet, TooLong, Short, BadCrc}
+use Rattle.csp_kiss.specs.Frame.{covered}
 
 -- where a stream is cut
 abbrev pub is_end : ℕ → Bool
@@ -34,29 +32,26 @@ undone escaping [] = []
 undone false (byte ∷ bytes) = if byte == FESC then undone true bytes else byte ∷ undone false bytes
 undone true (byte ∷ bytes) = meaning byte ++ undone false bytes
 
--- the packet, or that its CRC, the last four bytes, is wrong
-unfoldable pub compared : (header found : ℕ) (payload : List ℕ) → KissEvent
-compared header found payload = if found == crc_of payload then Packet header (record { items = payload }) else BadCrc found (crc_of payload)
+-- the packet, or that its CRC is wrong
+unfoldable pub compared : (cover : Bool) (header : ℕ) (payload : List ℕ) (found : ℕ) → KissEvent
+compared cover header payload found =
+    let wanted = crc_of (covered cover header payload) in
+    if found == wanted then Packet header (record { items = payload }) else BadCrc found wanted
 
--- what the bytes of a piece are: too many, too few, or four of a header, a payload and four of a CRC
-unfoldable pub judged : List ℕ → KissEvent
-judged bytes =
-    let rest = drop 4 bytes in
-    let before = length rest - 4 in
-    if nat_lt (MAX_PAYLOAD + 8) (length bytes) then TooLong
+-- what the bytes of a piece are where a packet has at most so many payload bytes: too many, too few, or four of a header, a payload and four of a CRC
+unfoldable pub judged : (cover : Bool) (mtu : ℕ) → List ℕ → KissEvent
+judged cover mtu bytes =
+    let before = length bytes - 4 in
+    let front = take before bytes in
+    if nat_lt (mtu + 8) (length bytes) then TooLong
     else if nat_lt (length bytes) 8 then Short
-    else compared (from_be_bytes w32 (take 4 bytes)) (from_be_bytes w32 (drop before rest)) (take before rest)
-
--- what a piece is whose CRC is refused
-abbrev pub refusal : CrcError → KissEvent
-refusal CrcShort = Short
-refusal (Wrong found wanted) = BadCrc found wanted
+    else compared cover (from_be_bytes w32 (take 4 front)) (drop 4 front) (from_be_bytes w32 (drop before bytes))
 
 -- what a piece gives: nothing where it has no byte, and else what is judged of it without its first byte
-unfoldable pub event_of : List ℕ → List KissEvent
-event_of [] = []
-event_of (skipped ∷ bytes) = judged (undone false bytes) ∷ []
+unfoldable pub event_of : (cover : Bool) (mtu : ℕ) → List ℕ → List KissEvent
+event_of cover mtu [] = []
+event_of cover mtu (skipped ∷ bytes) = judged cover mtu (undone false bytes) ∷ []
 
--- the events of a whole stream
-unfoldable pub events : List ℕ → List KissEvent
-events stream = flat_map event_of (pieces stream)
+-- the events of a whole stream, where the CRC of a frame covers the header or not, and a packet has at most so many payload bytes
+unfoldable pub events : (cover : Bool) (mtu : ℕ) → List ℕ → List KissEvent
+events cover mtu stream = flat_map (event_of cover mtu) (pieces stream)

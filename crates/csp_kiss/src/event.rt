@@ -16,15 +16,15 @@ pub enum KissEvent {
         /// The payload without the CRC of the frame.
         payload: ArrayVec<u8, MAX_PAYLOAD>,
     },
-    /// More bytes than a header, the greatest payload and a CRC.
+    /// More bytes than a header, the greatest payload that the reader takes, and a CRC.
     TooLong,
     /// Fewer bytes than a header and a CRC.
     Short,
-    /// The last four bytes are not the CRC-32C of the payload.
+    /// The last four bytes are not the CRC-32C of what it covers.
     BadCrc {
         /// What the last four bytes say.
         found: u32,
-        /// The CRC of the payload.
+        /// The CRC that belongs there.
         wanted: u32,
     },
 }

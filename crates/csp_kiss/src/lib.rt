@@ -1,8 +1,10 @@
 //! KISS frames: packets on a serial line, as this project's profile has them.
 //!
-//! A frame is FEND, a zero byte, the escaped header, payload and CRC-32C of the payload, and FEND.
+//! A frame is FEND, a zero byte, the escaped header, payload and CRC-32C, and FEND. The CRC is of the payload, or on a
+//! line where it covers the header of the four header bytes and the payload.
 #![tactic(auto)]
 
+mod checksum;
 mod encoder;
 mod event;
 mod progress;

@@ -44,7 +44,7 @@ impl KissReader {
         // the whole stream gain the refused pieces and the packet, and nothing else.
         ensures read { (stream : List ℕ) → HasRead stream self.old → HasRead (stream ++ take result.used bytes.now) self.new }
         ensures events { (stream : List ℕ) → HasRead stream self.old →
-            Gains (events stream) (events (stream ++ take result.used bytes.now)) result.refused result.packet }
+            Gains (events self.old.cover self.old.mtu stream) (events self.old.cover self.old.mtu (stream ++ take result.used bytes.now)) result.refused result.packet }
     {
         self.follow(bytes)
     }

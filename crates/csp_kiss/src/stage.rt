@@ -2,7 +2,7 @@
 
 use csp_base::MAX_PAYLOAD;
 
-/// One byte more than the longest piece that is a packet, so that a longer piece shows.
+/// Room for one byte more than the longest piece that is a packet anywhere, so that a longer piece shows.
 pub const ROOM: usize = MAX_PAYLOAD + 9;
 
 /// Where a reader is in its stream.

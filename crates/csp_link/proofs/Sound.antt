@@ -12,7 +12,7 @@ use Rattle.csp_link.specs.Asking.{handed, kind_of_doing, op_of}
 use Rattle.csp_link.specs.Copies.{damaged, flipped, held_copies, held_until}
 use Rattle.csp_link.specs.Fates.{fate_at}
 use Rattle.csp_link.specs.Holding.{first_due}
-use Rattle.csp_link.specs.PlainLink.{PlainDirection, PlainLink, direction, lane_of, uses}
+use Rattle.csp_link.specs.PlainLink.{PlainDirection, PlainLink, direction, uses}
 use Rattle.csp_link.specs.Planning.{Plan, push, pop, wait, first_rule, plan_in}
 use Rattle.csp_link.specs.Room.{AreCarried, CanHear, IsLink, plain_link}
 use Rattle.csp_link.specs.Telling.{frame_in, taken}
@@ -24,6 +24,7 @@ use Rattle.csp_link.specs.declared.held.TheConstants.{MOST_HELD}
 use Rattle.csp_link.specs.declared.link.Link.TheInside.{Inside}
 use Rattle.csp_link.specs.declared.way.Way.{Way}
 use Rattle.csp_link.specs.declared.way.Way.TheVariants.{Forth, Back}
+use Rattle.csp_log.specs.Kinds.{carried_on}
 use Rattle.csp_log.specs.declared.frame.Frame.{Frame}
 use Rattle.csp_log.specs.declared.places.LinkKind.{LinkKind}
 use Rattle.csp_log.specs.declared.places.LinkKind.TheVariants as kind
@@ -34,10 +35,11 @@ use Rattle.csp_log.specs.declared.shown.AnswerShown.TheVariants as answer
 
 -- the lanes of this kind carry this frame
 abbrev pub IsFrameOf : LinkKind → Frame → Type 0
-IsFrameOf k f = IsCarried (rule.Lane (lane_of k)) (item.Frame f)
+IsFrameOf k f = IsCarried (rule.Lane (carried_on k)) (item.Frame f)
 
 carried_flipped : (k : LinkKind) (bit : ℕ) (f : Frame) → IsFrameOf k f → IsFrameOf k (flipped bit f)
 carried_flipped kind.Kiss bit f c = c
+carried_flipped kind.KissHeader bit f c = c
 carried_flipped kind.Can bit f c = (c.0, omega (arith, c.1, length-set f.bytes.items (bit / 8) (bit_xor (slice_index f.bytes.items (bit / 8)) (128 / 2 ^ (bit % 8)))))
 
 carried_damaged : (k : LinkKind) (bit : Option ℕ) (f : Frame) → IsFrameOf k f → IsFrameOf k (damaged bit f)
@@ -57,7 +59,7 @@ handed_carried k wait d all = all
 pub taken_carried : (k : LinkKind) (fate : Fate) (now : ℕ) (f : Frame) (held : List Held) → AreCarried k held → IsFrameOf k f → AreCarried k (held ++ held_copies fate now f)
 taken_carried k fate now f held all c = All-append (λ (h : Held). IsFrameOf k h.frame) held _ all (carried_copies k fate.lost (fate.repeats + 1) (now + fate.delay) (damaged fate.flip f) (carried_damaged k fate.flip f c))
 
-carried_item : (k : LinkKind) (i : ItemShown) (f : Frame) → IsCarried (rule.Lane (lane_of k)) i → frame_in i ≡ Some f → IsFrameOf k f
+carried_item : (k : LinkKind) (i : ItemShown) (f : Frame) → IsCarried (rule.Lane (carried_on k)) i → frame_in i ≡ Some f → IsFrameOf k f
 carried_item k (item.Frame g) f c e = subst (IsFrameOf k) (ap (λ (o : Option Frame). unwrap_or o g) e) c
 carried_item k (item.Packet _ _) f c e = absurd cc
 carried_item k (item.Note _) f c e = absurd cc

@@ -8,10 +8,8 @@ use Rattle.csp_link.specs.declared.fault.Fault.{Fault}
 use Rattle.csp_link.specs.declared.held.Held.{Held}
 use Rattle.csp_link.specs.declared.way.Way.{Way}
 use Rattle.csp_link.specs.declared.way.Way.TheVariants.{Forth, Back}
-use Rattle.csp_log.specs.declared.places.Carries.{Carries}
-use Rattle.csp_log.specs.declared.places.Carries.TheVariants as lane
+use Rattle.csp_log.specs.Kinds.{carried_on}
 use Rattle.csp_log.specs.declared.places.LinkKind.{LinkKind}
-use Rattle.csp_log.specs.declared.places.LinkKind.TheVariants as kind
 use Rattle.csp_log.specs.declared.places.QueueId.{QueueId}
 use Rattle.csp_log.specs.declared.places.QueueId.TheVariants as queue
 use Rattle.csp_log.specs.declared.places.Rule.{Rule}
@@ -64,14 +62,9 @@ opening kind plan = record {
   doing = doing.Rest;
 }
 
--- what the lanes at its ends carry
-abbrev pub lane_of : LinkKind → Carries
-lane_of kind.Kiss = lane.Kiss
-lane_of kind.Can = lane.Can
-
 -- the lanes of two ends
 abbrev pub ends : LinkKind → ℕ → Option Rule
-ends kind k = (if nat_lt k 2 then Some (rule.Lane (lane_of kind)) else None)
+ends kind k = (if nat_lt k 2 then Some (rule.Lane (carried_on kind)) else None)
 
 -- it pops the `Tx` of its ends, and pushes to the `Rx`
 abbrev pub uses : PlainLink → QueueId → Option Rule

@@ -29,7 +29,7 @@ pub struct Held {
     pub frame: BoxedFrame,
 }
 
-/// The frames that a link holds for one end, in the order of holding, with room for 64 and no more.
+/// The frames that a link holds for one end, in the order of holding, with room for `LINK_HOLDS` and no more.
 #[derive(Drop)]
 pub struct HeldFrames {
     frames: VecDeque<Held>,

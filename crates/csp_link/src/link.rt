@@ -45,7 +45,7 @@ impl Link {
     ghost use Rattle.csp_link.specs.Stocking.{stocks};
     ghost use Rattle.csp_link.specs.Telling.{tells, turned};
 
-    /// A link of this kind that has carried nothing yet, with room for 64 held frames in each
+    /// A link of this kind that has carried nothing yet, with room for `LINK_HOLDS` held frames in each
     /// direction. Its plan says what happens to which frames.
     ///
     /// # Errors

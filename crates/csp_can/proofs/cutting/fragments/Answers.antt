@@ -18,8 +18,8 @@ returns-clause-chain c =
     (fragments_whole c.args.header c.args.payload.now c.args.dest c.args.id _ c.ranges.header.fits c.encode.ensures.dest c.requires.id c.requires.payload (returns-clause-frames c)).0
 
 pub returns-clause-alone : goal.returns-clause-alone
-returns-clause-alone c =
-    (fragments_whole c.args.header c.args.payload.now c.args.dest c.args.id _ c.ranges.header.fits c.encode.ensures.dest c.requires.id c.requires.payload (returns-clause-frames c)).1
+returns-clause-alone c mtu short =
+    (fragments_whole c.args.header c.args.payload.now c.args.dest c.args.id _ c.ranges.header.fits c.encode.ensures.dest c.requires.id c.requires.payload (returns-clause-frames c)).1 mtu short
 
 pub returns-clause-own : goal.returns-clause-own
 returns-clause-own c =

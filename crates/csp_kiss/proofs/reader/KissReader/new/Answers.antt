@@ -8,4 +8,4 @@ unfolding reading_of reading_at
 returns-clause-nothing c = search rules
 
 pub returns-clause-whole : goal.returns-clause-whole
-returns-clause-whole c stream = rw c.new.ensures (answers-unread stream)
+returns-clause-whole c stream = rw c.new.ensures (answers-unread c.args.cover c.args.mtu stream)

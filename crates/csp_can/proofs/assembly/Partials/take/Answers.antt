@@ -5,7 +5,7 @@ use Rattle.csp_base.specs.declared.limits.TheConstants.{MAX_PAYLOAD}
 use Rattle.csp_can.specs.declared.partials.Partial.{Partial}
 use Rattle.csp_can.specs.Identifiers.{same_key}
 use Rattle.csp_can.proofs.Places.{absent, present}
-use Rattle.csp_can.proofs.assembly.Reassembly.take.Goals as goal
+use Rattle.csp_can.proofs.assembly.Partials.take.Goals as goal
 
 pub returns-in_err-index-clause-found : goal.returns-in_err-index-clause-found
 returns-in_err-index-clause-found c =

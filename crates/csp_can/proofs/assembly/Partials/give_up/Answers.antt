@@ -5,7 +5,7 @@ use Rattle.csp_base.specs.declared.limits.TheConstants.{MAX_PAYLOAD}
 use Rattle.csp_can.specs.declared.partials.Partial.{Partial}
 use Rattle.csp_can.specs.declared.partials.TheConstants.{GIVE_UP}
 use Rattle.csp_can.specs.Open.{counters, fresh}
-use Rattle.csp_can.proofs.assembly.Reassembly.give_up.Goals as goal
+use Rattle.csp_can.proofs.assembly.Partials.give_up.Goals as goal
 
 pub invariant_of-self : goal.invariant_of-self
 invariant_of-self c =

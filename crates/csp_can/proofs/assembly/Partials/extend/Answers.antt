@@ -9,7 +9,7 @@ use Rattle.csp_can.specs.declared.identifiers.Key.{Key}
 use Rattle.csp_can.specs.declared.partials.Partial.{Partial}
 use Rattle.csp_can.specs.Identifiers.{key_of, same_key}
 use Rattle.csp_can.specs.Rules.{arrival, Ruling}
-use Rattle.csp_can.proofs.assembly.Reassembly.extend.Goals as goal
+use Rattle.csp_can.proofs.assembly.Partials.extend.Goals as goal
 
 found : (c : goal.After-self-1) → position (λ (q : Partial). same_key q.key (key_of c.args.head.now)) c.args.self.now ≡ Some c.in-Some.index
 found c = subst (λ (k : Key). position (λ (q : Partial). same_key q.key k) c.args.self.now ≡ Some c.in-Some.index) c.key.ensures (sym c.place.ensures.first ∙ c.in-Some.is)
