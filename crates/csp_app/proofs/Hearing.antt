@@ -16,8 +16,8 @@ use Rattle.csp_app.specs.declared.app.App.TheInside.{Inside}
 use Rattle.csp_app.specs.declared.plan.Plan.{Plan}
 use Rattle.csp_app.specs.declared.plan.Plan.TheVariants as plan
 use Rattle.csp_app.specs.declared.slot.Slot.{Slot}
-use Rattle.csp_app.specs.declared.step.Step.{Step}
-use Rattle.csp_app.specs.declared.step.Step.TheVariants as step
+use Rattle.csp_app.specs.PlainStep.{PlainStep}
+use Rattle.csp_app.specs.PlainStep as step
 use Rattle.csp_app.proofs.Takes.{takes_take}
 use Rattle.csp_buffer.specs.Content.{Content}
 use Rattle.csp_deck.specs.Carried.{IsCarried, IsRequest, IsUpItem}
@@ -48,7 +48,7 @@ abbrev pub IsFit : PlainApp → Type 0
 IsFit s = IfSome s.made (λ b. IsUpItem (item.Packet s.mark b))
 
 -- the turn of a state in which this step was found
-abbrev pub own : PlainApp → Option Step → Plan
+abbrev pub own : PlainApp → Option PlainStep → Plan
 own s found = first_rule s.taken s.refused (step_plan s found)
 
 -- what an application finds at the answer, what comes back fits where it was, what it waits for is what it asked, and its queues serve that
@@ -70,7 +70,7 @@ recv_hears s now slot packets rounds None false free few more e = record { hears
 recv_hears s now slot packets rounds (Some _) true free few more e = record { hears = (more, free, few); room = omega arith; kind = refl; served = down_served s.number }
 recv_hears s now slot packets rounds (Some _) false free few more e = record { hears = (more, free, few); room = omega arith; kind = refl; served = down_served s.number }
 
-own_hears : (number : ℕ) (steps : List Step) (done : ℕ) (since : Option ℕ) (asked : Bool) (sent : ℕ) (refused : Bool) (taken made : Option Content) (mark : ℕ) (held : List Content) (slots : List Slot) (doing : Plan) (now : ℕ) (found : Option Step)
+own_hears : (number : ℕ) (steps : List PlainStep) (done : ℕ) (since : Option ℕ) (asked : Bool) (sent : ℕ) (refused : Bool) (taken made : Option Content) (mark : ℕ) (held : List Content) (slots : List Slot) (doing : Plan) (now : ℕ) (found : Option PlainStep)
     → let s : PlainApp = record { number = number; steps = steps; done = done; since = since; asked = asked; sent = sent; refused = refused; taken = taken; made = made; mark = mark; held = held; slots = slots; doing = doing } in
     slice_get steps done ≡ found → IfSome found IsStep → IsFit s → (taken ≡ None → done < length steps) → Heard s now (own s found)
 own_hears number steps done since asked sent refused (Some b) made mark held slots doing now found e ok up more = record { hears = refl; room = omega arith; kind = refl; served = tt }
@@ -91,7 +91,7 @@ own_hears number steps done since asked sent false None (Some b) mark held slots
 own_hears number steps done since asked sent false None made mark held slots doing now (Some (step.Recv slot packets rounds)) e ok up more = recv_hears _ now slot packets rounds since _ refl ok (more refl) refl
 own_hears number steps done since asked sent false None made mark held slots doing now (Some (step.Wait rounds)) e ok up more = record { hears = (more refl, refl); room = omega arith; kind = refl; served = down_served number }
 
-found_step : (steps : List Step) (n : ℕ) (found : Option Step) → All IsStep steps → slice_get steps n ≡ found → IfSome found IsStep
+found_step : (steps : List PlainStep) (n : ℕ) (found : Option PlainStep) → All IsStep steps → slice_get steps n ≡ found → IfSome found IsStep
 found_step steps n None all e = tt
 found_step steps n (Some x) all e = subst IsStep (get_or_from_slice_get steps n x x e) (all n x (slice_get_within steps n x e))
 
@@ -134,15 +134,15 @@ asked_ready a b w now r view_at ends after kept regions =
     let p : Plan = plan_of s in
     let st : Stays s (handed s now p) = handed_stays s now p in
     let h : Heard s now p = asked_hears s now r.steps r.made goes in
-    let steps : b.steps.items ≡ a.steps.items = ap (λ (x : PlainApp). x.steps) e ∙ st.steps in
+    let steps : b.script ≡ a.script = ap (λ (x : PlainApp). x.steps) e ∙ st.steps in
     let done : b.progress.done ≡ a.progress.done = ap (λ (x : PlainApp). x.done) e ∙ st.done in
     let held : b.held.contents ≡ (handed s now p).held = ap (λ (x : PlainApp). x.held) e in
     let doing : b.doing ≡ p = ap (λ (x : PlainApp). x.doing) e in
     record {
-      few = subst (λ (xs : List Step). length xs + 1 < 2 ^ 32) (sym steps) r.few;
-      steps = subst (λ (xs : List Step). All IsStep xs) (sym steps) r.steps;
+      few = subst (λ (xs : List PlainStep). length xs + 1 < 2 ^ 32) (sym steps) r.few;
+      steps = subst (λ (xs : List PlainStep). All IsStep xs) (sym steps) r.steps;
       done = rw (steps, done) r.done;
-      room = omega (arith, h.room, r.room, kept, ap (λ (xs : List Content). length xs) held, ap lent doing, ap (λ (xs : List Step). take_steps (drop b.progress.done xs)) steps, ap (λ (n : ℕ). take_steps (drop n a.steps.items)) done);
+      room = omega (arith, h.room, r.room, kept, ap (λ (xs : List Content). length xs) held, ap lent doing, ap (λ (xs : List PlainStep). take_steps (drop b.progress.done xs)) steps, ap (λ (n : ℕ). take_steps (drop n a.script)) done);
       hears = rw (e, doing) h.hears;
       made = subst IsFit (sym e) (handed_fit s now p r.made);
       made_of_it = rw (regions.made, regions.taken) r.made_of_it;
@@ -150,16 +150,16 @@ asked_ready a b w now r view_at ends after kept regions =
     }
 
 -- an application whose `take` step is done is whole again
-pub take_ready : (a b : Inside) → IsReady a → slice_get a.steps.items a.progress.done ≡ Some step.Take → b.steps ≡ a.steps → b.progress.done ≡ a.progress.done + 1
+pub take_ready : (a b : Inside) → IsReady a → slice_get a.script a.progress.done ≡ Some step.Take → b.script ≡ a.script → b.progress.done ≡ a.progress.done + 1
     → b.doing ≡ plan.Rest → length b.held.contents ≤ length a.held.contents + 1 → b.held.room ≡ a.held.room → b.made.content ≡ a.made.content → b.mark ≡ a.mark → OneRegion a b → IsReady b
 take_ready a b r e steps done doing held kept made mark regions =
-    let t = takes_take a.steps.items a.progress.done e in
-    let left : take_steps (drop (a.progress.done + 1) b.steps.items) ≡ take_steps (drop (a.progress.done + 1) a.steps.items) = rw steps in
+    let t = takes_take a.script a.progress.done e in
+    let left : take_steps (drop (a.progress.done + 1) b.script) ≡ take_steps (drop (a.progress.done + 1) a.script) = rw steps in
     record {
       few = rw steps r.few;
       steps = rw steps r.steps;
       done = rw (steps, done) (omega (arith, t.1));
-      room = omega (arith, r.room, t.0, held, kept, ap lent doing, ap (λ (n : ℕ). take_steps (drop n b.steps.items)) done, left);
+      room = omega (arith, r.room, t.0, held, kept, ap lent doing, ap (λ (n : ℕ). take_steps (drop n b.script)) done, left);
       hears = rw doing tt;
       made = rw (made, mark) r.made;
       made_of_it = rw (regions.made, regions.taken) r.made_of_it;

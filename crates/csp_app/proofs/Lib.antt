@@ -3,4 +3,5 @@ pub mod Counting
 pub mod Hearing
 pub mod Laws
 pub mod Popping
+pub mod Scripts
 pub mod Takes

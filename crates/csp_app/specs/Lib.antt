@@ -1,7 +1,9 @@
 pub mod Asking
 pub mod Drained
 pub mod Making
+pub mod Placing
 pub mod PlainApp
+pub mod PlainStep
 pub mod Room
 pub mod Slots
 pub mod Steps

@@ -1,8 +1,8 @@
 -- the packets that steps send, and what an item has in it
 use Rattle.std.specs.Prelude.{ℕ, ◌+◌, ◌%◌, List, [], map, Option, Some, None}
 use Rattle.std.specs.List.{range_with_len}
-use Rattle.csp_app.specs.declared.step.Step.{Step}
-use Rattle.csp_app.specs.declared.step.Step.TheVariants as step
+use Rattle.csp_app.specs.PlainStep.{PlainStep}
+use Rattle.csp_app.specs.PlainStep as step
 use Rattle.csp_base.specs.Trace.{no_trace}
 use Rattle.csp_buffer.specs.Content.{Content}
 use Rattle.csp_log.specs.declared.note.Note.{Note}
@@ -34,20 +34,20 @@ abbrev pub burst_bytes : ℕ → ℕ → List ℕ
 burst_bytes len j = map (λ i. (j + i) % 256) (range_with_len 0 len)
 
 -- what each step sends
-abbrev pub batch_of : Step → Batch
+abbrev pub batch_of : PlainStep → Batch
 batch_of step.Take = no_packets
 batch_of step.Give = no_packets
 batch_of (step.Bind _ _) = no_packets
 batch_of (step.Connect _ _ _ _ _ _) = no_packets
-batch_of (step.Send slot bytes) = to_slot slot 1 (λ _. bytes.items)
+batch_of (step.Send slot bytes) = to_slot slot 1 (λ _. bytes)
 batch_of (step.Burst slot count len) = to_slot slot count (burst_bytes len)
-batch_of (step.Raw header bytes) = as_it_is header bytes.items
+batch_of (step.Raw header bytes) = as_it_is header bytes
 batch_of (step.Recv _ _ _) = no_packets
 batch_of (step.Close _) = no_packets
 batch_of (step.Wait _) = no_packets
 
 -- and the present one, where there is one
-abbrev pub batch_at : Option Step → Batch
+abbrev pub batch_at : Option PlainStep → Batch
 batch_at None = no_packets
 batch_at (Some step) = batch_of step
 

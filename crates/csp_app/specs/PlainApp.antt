@@ -5,7 +5,7 @@ use Rattle.csp_app.specs.Slots.{fresh, counted}
 use Rattle.csp_app.specs.declared.plan.Plan.{Plan}
 use Rattle.csp_app.specs.declared.plan.Plan.TheVariants as plan
 use Rattle.csp_app.specs.declared.slot.Slot.{Slot}
-use Rattle.csp_app.specs.declared.step.Step.{Step}
+use Rattle.csp_app.specs.PlainStep.{PlainStep}
 use Rattle.csp_arena.specs.Cells.{RegionName}
 use Rattle.csp_buffer.specs.Content.{Content}
 use Rattle.csp_deck.specs.Keeping.{numbers_of}
@@ -21,7 +21,7 @@ pub record PlainApp : Type 0 where
   -- its number in its node
   pub number : ℕ
   -- its script, and how many of its steps are done
-  pub steps : List Step
+  pub steps : List PlainStep
   pub done : ℕ
   -- when the present step had the first turn of its own
   pub since : Option ℕ
@@ -53,7 +53,7 @@ abbrev pub with_app : AppAt → PlainApp → AppAt
 with_app a s = record { region = a.region; app = s }
 
 -- an application of this number at the start of this script
-abbrev pub opening : ℕ → List Step → PlainApp
+abbrev pub opening : ℕ → List PlainStep → PlainApp
 opening number steps = record {
   number = number;
   steps = steps;

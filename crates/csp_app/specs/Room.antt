@@ -5,8 +5,9 @@ use Rattle.csp_app.specs.Slots.{slot_at}
 use Rattle.csp_app.specs.declared.app.App.TheInside.{Inside}
 use Rattle.csp_app.specs.declared.plan.Plan.{Plan}
 use Rattle.csp_app.specs.declared.plan.Plan.TheVariants as plan
-use Rattle.csp_app.specs.declared.step.Step.{Step}
-use Rattle.csp_app.specs.declared.step.Step.TheVariants as step
+use Rattle.csp_app.specs.PlainStep.{PlainStep}
+use Rattle.csp_app.specs.PlainStep as step
+use Rattle.csp_base.specs.declared.limits.TheConstants.{MAX_PAYLOAD}
 use Rattle.csp_log.specs.declared.places.TheConstants.{SLOTS, MAX_DATA}
 use Rattle.csp_log.specs.declared.shown.ItemShown.TheVariants as item
 use Rattle.csp_deck.specs.Carried.{IsUpItem}
@@ -15,7 +16,7 @@ use Rattle.csp_deck.specs.Carried.{IsUpItem}
 abbrev pub plain_app : Inside → PlainApp
 plain_app a = record {
   number = a.number;
-  steps = a.steps.items;
+  steps = a.script;
   done = a.progress.done;
   since = a.progress.since;
   asked = a.progress.asked;
@@ -33,21 +34,21 @@ plain_app a = record {
 abbrev pub app_at : Inside → AppAt
 app_at a = record { region = a.taken.region; app = plain_app a }
 
--- a step on slots that there are, whose packets for a slot have bytes, and no more than there may be
-abbrev pub IsStep : Step → Type 0
+-- a step on slots that there are, whose packets for a slot have bytes, and no packet more than there may be
+abbrev pub IsStep : PlainStep → Type 0
 IsStep step.Take = ⊤
 IsStep step.Give = ⊤
 IsStep (step.Bind _ _) = ⊤
 IsStep (step.Connect slot _ _ _ _ _) = slot < SLOTS
-IsStep (step.Send slot bytes) = (slot < SLOTS) × (1 ≤ length bytes.items) × (length bytes.items ≤ MAX_DATA)
+IsStep (step.Send slot bytes) = (slot < SLOTS) × (1 ≤ length bytes) × (length bytes ≤ MAX_DATA)
 IsStep (step.Burst slot count len) = (slot < SLOTS) × (1 ≤ count) × (1 ≤ len) × (len ≤ MAX_DATA)
-IsStep (step.Raw _ _) = ⊤
+IsStep (step.Raw _ bytes) = length bytes ≤ MAX_PAYLOAD
 IsStep (step.Recv slot _ _) = slot < SLOTS
 IsStep (step.Close slot) = slot < SLOTS
 IsStep (step.Wait _) = ⊤
 
 -- it takes a buffer to hold
-abbrev pub is_take : Step → Bool
+abbrev pub is_take : PlainStep → Bool
 is_take step.Take = true
 is_take step.Give = false
 is_take (step.Bind _ _) = false
@@ -60,7 +61,7 @@ is_take (step.Close _) = false
 is_take (step.Wait _) = false
 
 -- how many such steps a script has
-abbrev pub take_steps : List Step → ℕ
+abbrev pub take_steps : List PlainStep → ℕ
 take_steps steps = count_by is_take steps
 
 -- a held buffer that was handed over, and may come back
@@ -118,11 +119,11 @@ CanLook s (plan.Wait _) = GoesOn s
 -- what an application's fields keep at every time
 pub record IsReady (a : Inside) : Type 0 where
   -- steps are numbered in 32 bits, and name slots that there are
-  pub few : length a.steps.items + 1 < 2 ^ 32
-  pub steps : All IsStep a.steps.items
-  pub done : a.progress.done ≤ length a.steps.items
+  pub few : length a.script + 1 < 2 ^ 32
+  pub steps : All IsStep a.script
+  pub done : a.progress.done ≤ length a.script
   -- there is room for each buffer that comes back or that a `take` to come brings
-  pub room : length a.held.contents + lent a.doing + take_steps (drop a.progress.done a.steps.items) ≤ a.held.room
+  pub room : length a.held.contents + lent a.doing + take_steps (drop a.progress.done a.script) ≤ a.held.room
   pub hears : CanHear (plain_app a) a.doing
   -- the packet that was made is one that `Up` carries
   pub made : IfSome a.made.content (λ b. IsUpItem (item.Packet a.mark b))

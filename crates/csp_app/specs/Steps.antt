@@ -8,8 +8,8 @@ use Rattle.csp_app.specs.Told.{Told, still, over, over_with, put_off, not_an_ans
 use Rattle.csp_app.specs.Turn.{Turn, rests, takes, gives, pushes, pops}
 use Rattle.csp_app.specs.declared.plan.Plan.{Plan}
 use Rattle.csp_app.specs.declared.plan.Plan.TheVariants as plan
-use Rattle.csp_app.specs.declared.step.Step.{Step}
-use Rattle.csp_app.specs.declared.step.Step.TheVariants as step
+use Rattle.csp_app.specs.PlainStep.{PlainStep}
+use Rattle.csp_app.specs.PlainStep as step
 use Rattle.csp_buffer.specs.Content.{Content}
 use Rattle.csp_log.specs.declared.event.Event.TheVariants as event
 use Rattle.csp_log.specs.declared.note.Note.{Note}
@@ -51,7 +51,7 @@ abbrev pub is_enough : ℕ → ℕ → PlainApp → Bool
 is_enough slot packets s = nat_le packets (slot_at s.slots slot).unused
 
 -- where the present step stands
-abbrev pub step_plan : PlainApp → Option Step → Plan
+abbrev pub step_plan : PlainApp → Option PlainStep → Plan
 step_plan s (Some step.Take) = plan.Take
 step_plan s (Some step.Give) = give_plan s.held
 step_plan s (Some (step.Bind port need)) = note_plan s.asked (note.Bind port need)

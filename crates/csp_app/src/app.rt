@@ -4,9 +4,9 @@ ghost use Rattle.std.specs.Prelude.{◌≡◌, ◌+◌, ◌^◌, ◌<◌, ◌≤
 ghost use Rattle.csp_deck.specs.Keeping.{number_in};
 ghost use Rattle.csp_deck.specs.Step.{times};
 
-use crate::Step;
 use crate::plan::Plan;
 use crate::progress::Progress;
+use crate::script::Script;
 use crate::slot::{Slot, fresh_slot};
 use csp_arena::RegionToken;
 use csp_buffer::Buffer;
@@ -23,7 +23,7 @@ const SLOT_COUNT: usize = SLOTS as usize;
 /// It must be spent by `end`, when it holds no buffer.
 pub struct App {
     pub(crate) number: u8,
-    pub(crate) steps: Vec<Step>,
+    pub(crate) script: Script,
     pub(crate) progress: Progress,
     pub(crate) refused: bool,
     pub(crate) taken: Hand,
@@ -58,21 +58,17 @@ impl App {
     pub fn open(
         alloc: Global,
         number: u8,
-        steps: Vec<Step>,
+        script: Script,
         region: RegionToken,
     ) -> Result<App, AllocError>
-        requires few { length steps.items + 1 < 2 ^ 32 }
-        requires slots { All IsStep steps.items }
-        ensures { IfOk result (λ a. a ≡ record { region = region.name; app = opening number steps.items }) }
+        requires few { length script + 1 < 2 ^ 32 }
+        requires slots { All IsStep script }
+        ensures { IfOk result (λ a. a ≡ record { region = region.name; app = opening number script }) }
     {
-        let takes = steps
-            .iter()
-            .filter(|step| matches!(step, Step::Take))
-            .count();
-        let held = Pile::open(alloc, region.copy(), takes)?;
+        let held = Pile::open(alloc, region.copy(), script.takes())?;
         Ok(App {
             number,
-            steps,
+            script,
             progress: Progress::start(),
             refused: false,
             taken: Hand::empty(region.copy()),
@@ -99,7 +95,7 @@ impl App {
     pub(crate) fn is_done(&self) -> bool
         ensures { result ≡ has_ended self.now.app }
     {
-        self.steps.len() <= self.progress.done && self.taken.is_empty()
+        self.script.len() <= self.progress.done && self.taken.is_empty()
     }
 }
 
@@ -144,7 +140,7 @@ impl App {
     {
         let App {
             number: _,
-            steps: _,
+            script: _,
             progress: _,
             refused: _,
             taken,

@@ -36,13 +36,10 @@ impl App {
         if self.refused {
             return Plan::Look;
         }
-        match &self.steps[self.progress.done] {
+        match self.script.step(self.progress.done) {
             Step::Take => Plan::Take,
             Step::Give => self.give_plan(),
-            Step::Bind { port, need } => self.note_plan(Note::Bind {
-                port: *port,
-                need: *need,
-            }),
+            Step::Bind { port, need } => self.note_plan(Note::Bind { port, need }),
             Step::Connect {
                 slot,
                 dest,
@@ -51,21 +48,21 @@ impl App {
                 flags,
                 from,
             } => self.note_plan(Note::Connect {
-                slot: *slot,
-                dest: *dest,
-                port: *port,
-                prio: *prio,
-                flags: *flags,
-                from: *from,
+                slot,
+                dest,
+                port,
+                prio,
+                flags,
+                from,
             }),
             Step::Send { .. } | Step::Burst { .. } | Step::Raw { .. } => self.packet_plan(),
             Step::Recv {
                 slot,
                 count,
                 rounds,
-            } => self.recv_plan(*slot, *count, *rounds),
-            Step::Close { slot } => self.note_plan(Note::Close { slot: *slot }),
-            Step::Wait { rounds } => Plan::Wait { rounds: *rounds },
+            } => self.recv_plan(slot, count, rounds),
+            Step::Close { slot } => self.note_plan(Note::Close { slot }),
+            Step::Wait { rounds } => Plan::Wait { rounds },
         }
     }
 

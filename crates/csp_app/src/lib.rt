@@ -6,11 +6,14 @@ mod asking;
 mod items;
 mod packets;
 mod party;
+mod placed;
 mod plan;
 mod progress;
+mod script;
 mod slot;
 mod step;
 mod telling;
 
 pub use app::App;
+pub use script::Script;
 pub use step::Step;

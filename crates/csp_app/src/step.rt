@@ -1,13 +1,10 @@
 //! The steps of a script.
 
-ghost use Rattle.std.specs.Prelude.{◌≡◌, ◌≤◌, length};
+use csp_base::{Addr, Port, Prio};
 
-use arrayvec::ArrayVec;
-use csp_base::{Addr, MAX_PAYLOAD, Port, Prio};
-
-/// One step of an application's script.
-#[derive(Drop, Clone, PartialEq, Eq, Debug)]
-pub enum Step {
+/// One step of an application's script, as it is read and added.
+#[derive(Clone, Copy, Debug)]
+pub enum Step<'a> {
     /// Takes a buffer from the pool and holds it. Where the pool is empty, that is noted.
     Take,
     /// Gives the buffer that it has held longest back to the pool.
@@ -30,7 +27,7 @@ pub enum Step {
     /// Sends a packet of these bytes on a slot.
     Send {
         slot: u8,
-        bytes: ArrayVec<u8, MAX_PAYLOAD>,
+        bytes: &'a [u8],
     },
     /// Sends so many packets of this length on a slot, one after the other. Packet `j`, from 0, has the
     /// bytes `(j + i) % 256`.
@@ -42,7 +39,7 @@ pub enum Step {
     /// Sends a packet of this header word and these bytes as it is.
     Raw {
         header: u32,
-        bytes: ArrayVec<u8, MAX_PAYLOAD>,
+        bytes: &'a [u8],
     },
     /// Waits for so many packets of a slot, at most so many rounds where `rounds` says so.
     Recv {
@@ -58,69 +55,4 @@ pub enum Step {
     Wait {
         rounds: u32,
     },
-}
-
-impl Step {
-    /// A copy of it. It takes no memory.
-    pub fn copy(&self) -> Step
-        ensures { result ≡ self.now }
-    {
-        match self {
-            Step::Take => Step::Take,
-            Step::Give => Step::Give,
-            Step::Bind { port, need } => Step::Bind {
-                port: *port,
-                need: *need,
-            },
-            Step::Connect {
-                slot,
-                dest,
-                port,
-                prio,
-                flags,
-                from,
-            } => Step::Connect {
-                slot: *slot,
-                dest: *dest,
-                port: *port,
-                prio: *prio,
-                flags: *flags,
-                from: *from,
-            },
-            Step::Send { slot, bytes } => Step::Send {
-                slot: *slot,
-                bytes: copied(bytes.as_slice()),
-            },
-            Step::Burst { slot, count, len } => Step::Burst {
-                slot: *slot,
-                count: *count,
-                len: *len,
-            },
-            Step::Raw { header, bytes } => Step::Raw {
-                header: *header,
-                bytes: copied(bytes.as_slice()),
-            },
-            Step::Recv {
-                slot,
-                count,
-                rounds,
-            } => Step::Recv {
-                slot: *slot,
-                count: *count,
-                rounds: *rounds,
-            },
-            Step::Close { slot } => Step::Close { slot: *slot },
-            Step::Wait { rounds } => Step::Wait { rounds: *rounds },
-        }
-    }
-}
-
-/// These bytes as those of a packet.
-fn copied(bytes: &[u8]) -> ArrayVec<u8, MAX_PAYLOAD>
-    requires { length bytes.now ≤ MAX_PAYLOAD }
-    ensures { result.items ≡ bytes.now }
-{
-    let mut copy = ArrayVec::new();
-    copy.try_extend_from_slice(bytes).unwrap();
-    copy
 }

@@ -111,9 +111,9 @@ impl App {
         requires of_it { buffer.region ≡ self.old.region }
         ensures { self.new ≡ with_app self.old (making (batch self.old.app) buffer.picture (at_rest self.old.app)) }
     {
-        let step = &self.steps[self.progress.done];
-        self.mark = mark_of(step);
-        let packet = filled(step, self.progress.sent, buffer);
+        let step = self.script.step(self.progress.done);
+        self.mark = mark_of(&step);
+        let packet = filled(&step, self.progress.sent, buffer);
         self.made.put(packet);
         self.doing = Plan::Rest;
     }
@@ -198,7 +198,7 @@ impl App {
         ensures { self.new ≡ with_app self.old (pushed_one (nat_lt (self.old.app.sent + 1) (batch self.old.app).count) (at_rest self.old.app)).state }
     {
         self.doing = Plan::Rest;
-        let packets = packets_of(&self.steps[self.progress.done]);
+        let packets = packets_of(&self.script.step(self.progress.done));
         if self.progress.has_more(packets) {
             self.progress.sent += 1;
         } else {

@@ -3,8 +3,8 @@ use Rattle.std.proofs.Common.{◌≡◌, ℕ, zero, suc, ◌+◌, ◌<◌, ◌�
 use Rattle.std.specs.Prelude.{codes}
 use Rattle.std.specs.FinMap as finite
 use Rattle.std.proofs.lemmas.Bool.{le-leb, and_parts, eqb-true}
-use Rattle.csp_app.specs.declared.step.Step.{Step}
-use Rattle.csp_app.specs.declared.step.Step.TheVariants as step
+use Rattle.csp_app.specs.PlainStep.{PlainStep}
+use Rattle.csp_app.specs.PlainStep as step
 use Rattle.csp_link.specs.declared.fault.Fault.{Fault}
 use Rattle.csp_route.specs.Routes.{Routes, with_row, merged}
 use Rattle.csp_scene.specs.Draft.{PlainDraft, no_draft, demand}
@@ -247,18 +247,18 @@ app_ops false plan = refl
 connects : (plan : List Fault) → judge all_rows true (at_fault plan (ops []) [] (Some 0)) (codes "connect 0 3 10 crc rdp") ≡ Ok (at_fault plan (ops (connecting ∷ [])) [] (Some 0))
 connects plan = refl
 
-app_cam : (ia : Bool) (plan : List Fault) (steps : List Step) → judge all_rows ia (at_fault plan (ops steps) [] (Some 0)) (codes "app payload cam") ≡ Ok (at_fault plan (ops steps) (cam []) (Some 2))
+app_cam : (ia : Bool) (plan : List Fault) (steps : List PlainStep) → judge all_rows ia (at_fault plan (ops steps) [] (Some 0)) (codes "app payload cam") ≡ Ok (at_fault plan (ops steps) (cam []) (Some 2))
 app_cam true plan steps = refl
 app_cam false plan steps = refl
 
-binds : (plan : List Fault) (steps : List Step) → judge all_rows true (at_fault plan (ops steps) (cam []) (Some 2)) (codes "bind 10 rdp") ≡ Ok (at_fault plan (ops steps) (cam (binding ∷ [])) (Some 2))
+binds : (plan : List Fault) (steps : List PlainStep) → judge all_rows true (at_fault plan (ops steps) (cam []) (Some 2)) (codes "bind 10 rdp") ≡ Ok (at_fault plan (ops steps) (cam (binding ∷ [])) (Some 2))
 binds plan steps = refl
 
 burst_words : (plan : List Fault) (w : List ℕ) → begins_as_number w ≡ true → all_ascii_digits w ≡ true → leb 1 (number_of w) ≡ true → leb (number_of w) MAX_COUNT ≡ true
     → judge_words all_rows true (at_fault plan (ops (connecting ∷ [])) [] (Some 0)) (codes "burst" ∷ codes "0" ∷ w ∷ codes "100" ∷ []) ≡ Ok (at_fault plan (ops (connecting ∷ step.Burst 0 (number_of w) 100 ∷ [])) [] (Some 0))
 burst_words plan w begins digits low high = rw (begins, digits, low, high) refl
 
-recv_words : (plan : List Fault) (steps : List Step) (w : List ℕ) → begins_as_number w ≡ true → all_ascii_digits w ≡ true → leb 1 (number_of w) ≡ true → leb (number_of w) MAX_COUNT ≡ true
+recv_words : (plan : List Fault) (steps : List PlainStep) (w : List ℕ) → begins_as_number w ≡ true → all_ascii_digits w ≡ true → leb 1 (number_of w) ≡ true → leb (number_of w) MAX_COUNT ≡ true
     → judge_words all_rows true (at_fault plan (ops steps) (cam (binding ∷ [])) (Some 2)) (codes "recv" ∷ codes "0" ∷ w ∷ []) ≡ Ok (at_fault plan (ops steps) (cam (binding ∷ step.Recv 0 (number_of w) None ∷ [])) (Some 2))
 recv_words plan steps w begins digits low high = rw (begins, digits, low, high) refl
 
@@ -308,7 +308,7 @@ module _ (packets : ℕ) (least : 1 ≤ packets) (most : packets ≤ MAX_PACKETS
       (ap words_of (regroup (codes "burst 0 ") (decimal packets) (codes " 100")) ∙ words_back (codes "burst") (codes "0" ∷ decimal packets ∷ codes "100" ∷ []) (literal (codes "burst") refl (omega arith), (literal (codes "0") refl (omega arith), (packets_word, (literal (codes "100") refl (omega arith), tt)))))
       (burst_words plan (decimal packets) number_parts.0 number_parts.1 number_low number_high ∙ ap (λ n. ok_draft (at_fault plan (ops (connecting ∷ step.Burst 0 n 100 ∷ [])) [] (Some 0))) number_value)
 
-  recvs : (plan : List Fault) (steps : List Step) → judge all_rows true (at_fault plan (ops steps) (cam (binding ∷ [])) (Some 2)) (codes "recv 0 " ++ decimal packets) ≡ Ok (at_fault plan (ops steps) (cam (binding ∷ step.Recv 0 packets None ∷ [])) (Some 2))
+  recvs : (plan : List Fault) (steps : List PlainStep) → judge all_rows true (at_fault plan (ops steps) (cam (binding ∷ [])) (Some 2)) (codes "recv 0 " ++ decimal packets) ≡ Ok (at_fault plan (ops steps) (cam (binding ∷ step.Recv 0 packets None ∷ [])) (Some 2))
   recvs plan steps =
       judged_by true (at_fault plan (ops steps) (cam (binding ∷ [])) (Some 2)) (at_fault plan (ops steps) (cam (binding ∷ step.Recv 0 packets None ∷ [])) (Some 2)) (codes "recv 0 " ++ decimal packets) (codes "recv" ∷ codes "0" ∷ decimal packets ∷ [])
       recv_printable (let all = length-append (codes "recv 0 ") (decimal packets) in let few = digits_short in omega arith)

@@ -1,8 +1,8 @@
 -- The scene that a generated text states.
 use Rattle.std.specs.Prelude.{ℕ, ◌≡◌, List, [], ◌∷◌, Some, None, Ok, codes}
 use Rattle.std.specs.FinMap as finite
-use Rattle.csp_app.specs.declared.step.Step.{Step}
-use Rattle.csp_app.specs.declared.step.Step.TheVariants as step
+use Rattle.csp_app.specs.PlainStep.{PlainStep}
+use Rattle.csp_app.specs.PlainStep as step
 use Rattle.csp_base.specs.Priority.{prio_of}
 use Rattle.csp_link.specs.declared.fault.Fault.{Fault}
 use Rattle.csp_log.specs.declared.places.LinkKind.TheVariants as carried
@@ -10,6 +10,7 @@ use Rattle.csp_rdp_header.specs.Options.{usual_options}
 use Rattle.csp_route.specs.Routes.{Routes, with_row, merged}
 use Rattle.csp_route.specs.declared.row.Row.{Row}
 use Rattle.csp_scene.specs.Judge.{scene_of}
+use Rattle.csp_scene.specs.declared.limits.TheConstants.{DEFAULT_MTU}
 use Rattle.csp_scene.specs.Scene.{PlainScene, PlainNode, PlainLink, PlainApp, in_rounds}
 use Rattle.csp_gen.specs.GenText.{gen_text}
 
@@ -40,23 +41,23 @@ nodes station relay payload ops cam = node (codes "ground") 1 65400 station ops 
 -- the two links, of which the first has the faults
 abbrev pub links : List Fault → List PlainLink
 links plan =
-    record { name = codes "radio"; kind = carried.Kiss; ends = record { node = 0; iface = 0 } ∷ record { node = 1; iface = 0 } ∷ []; plan = plan }
-    ∷ record { name = codes "bus"; kind = carried.Can; ends = record { node = 1; iface = 1 } ∷ record { node = 2; iface = 0 } ∷ []; plan = [] } ∷ []
+    record { name = codes "radio"; kind = carried.Kiss; mtu = DEFAULT_MTU; ends = record { node = 0; iface = 0 } ∷ record { node = 1; iface = 0 } ∷ []; plan = plan }
+    ∷ record { name = codes "bus"; kind = carried.Can; mtu = DEFAULT_MTU; ends = record { node = 1; iface = 1 } ∷ record { node = 2; iface = 0 } ∷ []; plan = [] } ∷ []
 
 -- the two applications, with these steps
-abbrev pub ops : List Step → List PlainApp
+abbrev pub ops : List PlainStep → List PlainApp
 ops steps = record { name = codes "ops"; steps = steps } ∷ []
 
 -- the payload's application, with these steps
-abbrev pub cam : List Step → List PlainApp
+abbrev pub cam : List PlainStep → List PlainApp
 cam steps = record { name = codes "cam"; steps = steps } ∷ []
 
 -- `connect 0 3 10 crc rdp`, and `bind 10 rdp`
-abbrev pub connecting : Step
+abbrev pub connecting : PlainStep
 connecting = step.Connect 0 3 10 (prio_of 2) 3 None
 
 -- the step that binds port 10 for reliable connections
-abbrev pub binding : Step
+abbrev pub binding : PlainStep
 binding = step.Bind 10 2
 
 -- the scene in which so many packets are sent, with these faults

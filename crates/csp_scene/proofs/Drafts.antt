@@ -5,7 +5,8 @@ use Rattle.std.specs.FinMap as finite
 use Rattle.std.proofs.lemmas.List.{get_or-set_same}
 use Rattle.std.proofs.lemmas.List.Elements.{All-nil}
 use Rattle.std.proofs.lemmas.List.Sums.{sum_by_push, sum_by-set}
-use Rattle.csp_app.specs.declared.step.Step.{Step}
+use Rattle.csp_app.specs.PlainStep.{PlainStep, IsOfPacket}
+use Rattle.csp_app.specs.PlainStep as step
 use Rattle.csp_link.specs.declared.fault.Fault.{Fault}
 use Rattle.csp_log.specs.declared.places.LinkKind.{LinkKind}
 use Rattle.csp_rdp_header.specs.declared.options.Options.{Options}
@@ -14,7 +15,7 @@ use Rattle.csp_text.specs.Names.{is_name}
 use Rattle.csp_scene.specs.declared.limits.TheConstants.{MAX_UNTIL, MAX_NODES, MAX_LINKS, MAX_APPS, MAX_STEPS, MAX_FAULTS}
 use Rattle.csp_scene.specs.Scene.{PlainApp, PlainNode, PlainLink, PlainSchedule}
 use Rattle.csp_scene.specs.Links.{links_at, node_at, fault_count}
-use Rattle.csp_scene.specs.Ranges.{IsStep, AreOptions, IsApp, IsNode, IsPlanned, IsSchedule}
+use Rattle.csp_scene.specs.Ranges.{IsStep, AreOptions, IsApp, IsNode, IsMtu, IsPlanned, IsSchedule}
 use Rattle.csp_scene.specs.Draft.{PlainDraft, no_draft, with_node, with_link}
 use Rattle.csp_scene.specs.Nodes.{with_app, with_app_at, last_app, with_step, with_last_step, with_step_at}
 use Rattle.csp_scene.specs.Transport.{with_rdp, with_rdp_at}
@@ -191,15 +192,21 @@ IsDraft-app d place app is within router here room =
       app = subst (λ (one : PlainNode). 1 ≤ length one.apps) (sym stands) (omega (arith, longer));
     })
 
+-- a step's packet has no more bytes than a packet may have
+pub step_of_packet : (step : PlainStep) → IsStep step → IsOfPacket step
+step_of_packet (step.Send slot bytes) is = omega (arith, is.2)
+step_of_packet (step.Raw header bytes) is = is.1
+step_of_packet _ is = omega arith
+
 -- a step
-IsApp-step : (app : PlainApp) (step : Step) → IsApp app → IsStep step → length app.steps < MAX_STEPS → IsApp (with_step step app)
+IsApp-step : (app : PlainApp) (step : PlainStep) → IsApp app → IsStep step → length app.steps < MAX_STEPS → IsApp (with_step step app)
 IsApp-step app step is here room = record {
   name = is.name;
   steps = omega (arith, room, length-append app.steps (step ∷ []));
   ranges = AllByRecursion-push IsStep app.steps step is.ranges here;
 }
 
-IsNode-step : (node : PlainNode) (step : Step) → IsNode node → 1 ≤ length node.apps → IsStep step → length (last_app node).steps < MAX_STEPS → IsNode (with_last_step step node)
+IsNode-step : (node : PlainNode) (step : PlainStep) → IsNode node → 1 ≤ length node.apps → IsStep step → length (last_app node).steps < MAX_STEPS → IsNode (with_last_step step node)
 IsNode-step node step is some here room = record {
   name = is.name;
   addr = is.addr;
@@ -214,7 +221,7 @@ IsNode-step node step is some here room = record {
   few = omega (arith, is.few, length-set node.apps (length node.apps - 1) (with_step step (last_app node)));
 }
 
-pub IsDraft-step : (d : PlainDraft) (place : ℕ) (step : Step) → IsDraft d → place < length d.nodes → 1 ≤ length (node_at d.nodes place).apps → IsStep step → length (last_app (node_at d.nodes place)).steps < MAX_STEPS → IsDraft (with_step_at place step d)
+pub IsDraft-step : (d : PlainDraft) (place : ℕ) (step : PlainStep) → IsDraft d → place < length d.nodes → 1 ≤ length (node_at d.nodes place).apps → IsStep step → length (last_app (node_at d.nodes place)).steps < MAX_STEPS → IsDraft (with_step_at place step d)
 IsDraft-step d place step is within some here room =
     let node = node_at d.nodes place in
     let next = with_last_step step node in
@@ -270,13 +277,14 @@ IsDraft-rdp d place options is within here =
     (host_grows d.nodes d.links (set d.nodes place next) d.links d.host (grows_set d place next (omega arith)) is.host))
 
 -- a link
-pub IsDraft-link : (d : PlainDraft) (word : List ℕ) (kind : LinkKind) (one other : ℕ) → IsDraft d → IsTrue (is_name word) → one < length d.nodes → other < length d.nodes → one ≢ other → length d.links < MAX_LINKS → IsDraft (with_link (new_link d.links word kind one other) d)
-IsDraft-link d word kind one other is named there here apart room =
-    let link = new_link d.links word kind one other in
+pub IsDraft-link : (d : PlainDraft) (word : List ℕ) (kind : LinkKind) (mtu one other : ℕ) → IsDraft d → IsTrue (is_name word) → IsMtu mtu → one < length d.nodes → other < length d.nodes → one ≢ other → length d.links < MAX_LINKS → IsDraft (with_link (new_link d.links word kind mtu one other) d)
+IsDraft-link d word kind mtu one other is named sized there here apart room =
+    let link = new_link d.links word kind mtu one other in
     let more : (place : ℕ) → length (links_at place d.links) ≤ length (links_at place (d.links ++ link ∷ [])) = λ (place : ℕ). omega (arith, links_at-push place d.links link) in
     let grows : Grows d.nodes d.links d.nodes (d.links ++ link ∷ []) = record { more_nodes = omega arith; more_apps = λ place. omega arith; more_ifaces = more; more_links = omega (arith, length-append d.links (link ∷ [])) } in
     let stands : IsLinkAfter (length d.nodes) d.links link = record {
       name = named;
+      mtu = sized;
       first = record { node = one; iface = length (links_at one d.links) };
       second = record { node = other; iface = length (links_at other d.links) };
       two = refl;

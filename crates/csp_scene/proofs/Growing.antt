@@ -61,6 +61,7 @@ end_alike nodes more earlier others end grown alike is = record { node = omega (
 link_alike : (nodes more : ℕ) (earlier others : List PlainLink) (link : PlainLink) → nodes ≤ more → AreAlike earlier others → IsLinkAfter nodes earlier link → IsLinkAfter more others link
 link_alike nodes more earlier others link grown alike is = record {
   name = is.name;
+  mtu = is.mtu;
   first = is.first;
   second = is.second;
   two = is.two;
@@ -94,6 +95,7 @@ links_push nodes earlier (first ∷ links) link are is =
 fault_link : (nodes : ℕ) (earlier : List PlainLink) (link : PlainLink) (fault : Fault) → IsLinkAfter nodes earlier link → IsPlanned fault → IsLinkAfter nodes earlier (with_fault fault link)
 fault_link nodes earlier link fault is planned = record {
   name = is.name;
+  mtu = is.mtu;
   first = is.first;
   second = is.second;
   two = is.two;
@@ -168,6 +170,7 @@ links_stand nodes earlier (link ∷ rest) whole e are =
     let is = are.0 in
     let here : IsLink nodes (earlier ++ link ∷ rest) link = record {
       name = is.name;
+      mtu = is.mtu;
       ends = record {
         first = is.first;
         second = is.second;

@@ -5,11 +5,12 @@ use Rattle.std.specs.List.{filter_map, cons_option, slice_split, join_with_byte,
 use Rattle.std.specs.FinMap as finite
 use Rattle.std.proofs.lemmas.Bool.{eqb-false}
 use Rattle.std.proofs.lemmas.List.Splits.{join_with_byte-slice_split}
-use Rattle.csp_app.specs.declared.step.Step.{Step}
-use Rattle.csp_app.specs.declared.step.Step.TheVariants as step
+use Rattle.csp_app.specs.PlainStep.{PlainStep}
+use Rattle.csp_app.specs.PlainStep as step
 use Rattle.csp_link.specs.declared.fault.Fault.{Fault}
 use Rattle.csp_link.specs.declared.fault.FaultKind.TheVariants as fault
 use Rattle.csp_log.specs.declared.places.LinkKind.{LinkKind}
+use Rattle.csp_log.specs.declared.places.LinkKind.TheVariants as carried
 use Rattle.csp_rdp_header.specs.declared.options.Options.{Options}
 use Rattle.csp_route.specs.Routes.{Routes, merged}
 use Rattle.csp_route.specs.Text.{parsed}
@@ -31,7 +32,7 @@ use Rattle.csp_scene.specs.Steps.{bind_step, connect_step, send_step, burst_step
 use Rattle.csp_scene.specs.Draft.{PlainDraft, no_draft, demand, and_then, with_node, with_link}
 use Rattle.csp_scene.specs.Nodes.{state_until, new_node, new_bridge, may_add_node, state_node, new_app, may_add_app, with_app_at, state_app_at, state_app, last_app, with_step_at, state_step_at, state_step}
 use Rattle.csp_scene.specs.Transport.{given_options, is_tuned, with_rdp_at, state_rdp_at, state_rdp}
-use Rattle.csp_scene.specs.Joining.{link_kind, new_link, may_add_link, state_link_between, state_link, kind_of, known_ifaces, with_routes, add_routes, routed, state_route}
+use Rattle.csp_scene.specs.Joining.{kiss_kind, mtu_of, new_link, may_add_link, state_link_between, state_link, kind_of, known_ifaces, with_routes, add_routes, routed, state_route}
 use Rattle.csp_scene.specs.Faults.{planned, may_add_fault, with_fault_at, state_fault_at, state_fault}
 use Rattle.csp_scene.specs.Moves.{move_of}
 use Rattle.csp_scene.specs.Schedule.{state_schedule, add_moves, state_moves}
@@ -72,7 +73,7 @@ app_has d word None = err_has (move_count d) kind.Unknown
 app_has d word (Some place) =
     then_has (move_count d) (may_add_app (node_at d.nodes place).apps d.links word) (λ _. Ok (with_app_at place (new_app word) d)) (λ _. ok_has (move_count d) (with_app_at place (new_app word) d) (omega arith))
 
-step_has : (d : PlainDraft) (step : Step) (place : Option ℕ) → HasAtMost (move_count d) (state_step_at d step place)
+step_has : (d : PlainDraft) (step : PlainStep) (place : Option ℕ) → HasAtMost (move_count d) (state_step_at d step place)
 step_has d step None = err_has (move_count d) kind.Place
 step_has d step (Some place) =
     demanded (move_count d) (ltb (length (last_app (node_at d.nodes place)).steps) MAX_STEPS) kind.Full (Ok (with_step_at place step d)) (ok_has (move_count d) (with_step_at place step d) (omega arith))
@@ -83,11 +84,11 @@ rdp_has d options (Some place) =
     let next = with_rdp_at place options d in
     demanded (move_count d) (not (is_tuned d place)) kind.Twice (Ok next) (ok_has (move_count d) next (omega arith))
 
-link_has : (d : PlainDraft) (word : List ℕ) (carries : LinkKind) (one other : Option ℕ) → HasAtMost (move_count d) (state_link_between d word carries one other)
-link_has d word carries None other = err_has (move_count d) kind.Unknown
-link_has d word carries (Some one) None = err_has (move_count d) kind.Unknown
-link_has d word carries (Some one) (Some other) =
-    let next = with_link (new_link d.links word carries one other) d in
+link_has : (d : PlainDraft) (word : List ℕ) (carries : LinkKind) (mtu : ℕ) (one other : Option ℕ) → HasAtMost (move_count d) (state_link_between d word carries mtu one other)
+link_has d word carries mtu None other = err_has (move_count d) kind.Unknown
+link_has d word carries mtu (Some one) None = err_has (move_count d) kind.Unknown
+link_has d word carries mtu (Some one) (Some other) =
+    let next = with_link (new_link d.links word carries mtu one other) d in
     then_has (move_count d) (may_add_link d word one other) (λ _. Ok next) (λ _. ok_has (move_count d) next (omega arith))
 
 rows_has : (d : PlainDraft) (place : Option ℕ) (more : Routes) → HasAtMost (move_count d) (add_routes d place more)
@@ -138,7 +139,10 @@ moves_has d words =
 same_has : (d : PlainDraft) (args : List (List ℕ)) (told : Result PlainDraft SceneKind) → HasAtMost (move_count d) told → HasAtMost (move_count d + length args) told
 same_has d args told h = more_has (move_count d) (move_count d + length args) told (omega arith) h
 
-step_line : (d : PlainDraft) (args : List (List ℕ)) (step : Step) → HasAtMost (move_count d + length args) (state_step d step)
+link_line : (d : PlainDraft) (carries : LinkKind) (mtu : ℕ) (args : List (List ℕ)) → HasAtMost (move_count d + length args) (state_link d carries mtu args)
+link_line d carries mtu args = same_has d args (state_link d carries mtu args) (link_has d (word_at args 0) carries mtu (node_named (word_at args 2) d.nodes) (node_named (word_at args 3) d.nodes))
+
+step_line : (d : PlainDraft) (args : List (List ℕ)) (step : PlainStep) → HasAtMost (move_count d + length args) (state_step d step)
 step_line d args step = same_has d args (state_step d step) (step_has d step d.host)
 
 state_has : (one : Form) (shape : List Part) (d : PlainDraft) (args : List (List ℕ)) → HasAtMost (move_count d + length args) (state one shape d args)
@@ -149,7 +153,8 @@ state_has form.Moves shape d args = more_has (move_count d + length (drop 1 args
 state_has form.Node shape d args = same_has d args (state_node d (new_node shape args)) (node_has d (new_node shape args))
 state_has form.Bridge shape d args = same_has d args (state_node d (new_bridge shape args)) (node_has d (new_bridge shape args))
 state_has form.Rdp shape d args = same_has d args (state_rdp d args) (rdp_has d (given_options args) (router_named (word_at args 0) d.nodes))
-state_has form.Link shape d args = same_has d args (state_link d args) (link_has d (word_at args 0) (link_kind (word_at args 1)) (node_named (word_at args 2) d.nodes) (node_named (word_at args 3) d.nodes))
+state_has form.KissLink shape d args = link_line d (kiss_kind shape) (mtu_of shape args) args
+state_has form.CanLink shape d args = link_line d carried.Can (mtu_of shape args) args
 state_has form.Route shape d args =
     let place = router_named (word_at args 0) d.nodes in
     same_has d args (state_route d args) (routed_has d place (parsed (known_ifaces d place) (text_from args 1)))

@@ -6,11 +6,12 @@ use Rattle.std.specs.Str.{bytes_eq}
 use Rattle.std.specs.FinMap as finite
 use Rattle.std.proofs.lemmas.List.{map-append}
 use Rattle.std.proofs.lemmas.Slice.Eq.{bytes_eq-Decides}
-use Rattle.csp_app.specs.declared.step.Step.{Step}
-use Rattle.csp_app.specs.declared.step.Step.TheVariants as step
+use Rattle.csp_app.specs.PlainStep.{PlainStep}
+use Rattle.csp_app.specs.PlainStep as step
 use Rattle.csp_link.specs.declared.fault.Fault.{Fault}
 use Rattle.csp_link.specs.declared.fault.FaultKind.TheVariants as fault
 use Rattle.csp_log.specs.declared.places.LinkKind.{LinkKind}
+use Rattle.csp_log.specs.declared.places.LinkKind.TheVariants as carried
 use Rattle.csp_rdp_header.specs.declared.options.Options.{Options}
 use Rattle.csp_route.specs.Routes.{Routes, merged}
 use Rattle.csp_route.specs.Text.{parsed}
@@ -32,7 +33,7 @@ use Rattle.csp_scene.specs.Steps.{bind_step, connect_step, send_step, burst_step
 use Rattle.csp_scene.specs.Draft.{PlainDraft, no_draft, demand, and_then, with_node, with_link}
 use Rattle.csp_scene.specs.Nodes.{state_until, new_node, new_bridge, state_node, new_app, with_app, may_add_app, with_app_at, state_app_at, last_app, with_last_step, with_step_at, state_step_at}
 use Rattle.csp_scene.specs.Transport.{given_options, is_tuned, with_rdp, with_rdp_at, state_rdp_at}
-use Rattle.csp_scene.specs.Joining.{link_kind, new_link, may_add_link, state_link_between, kind_of, known_ifaces, with_routes, add_routes, routed}
+use Rattle.csp_scene.specs.Joining.{kiss_kind, mtu_of, new_link, may_add_link, state_link_between, kind_of, known_ifaces, with_routes, add_routes, routed}
 use Rattle.csp_scene.specs.Faults.{planned, may_add_fault, with_fault_at, state_fault_at}
 use Rattle.csp_scene.specs.Moves.{move_of}
 use Rattle.csp_scene.specs.Schedule.{state_schedule, add_moves, state_moves}
@@ -135,7 +136,7 @@ module _ (d : PlainDraft) (differ : Differ (names_of d.nodes)) where
       then_leaves (may_add_app (node_at d.nodes place).apps d.links word) (λ _. Ok (with_app_at place (new_app word) d))
       (λ _. ok_leaves (with_app_at place (new_app word) d) (changed place (with_app (new_app word) (node_at d.nodes place)) refl))
 
-  step_leaves : (step : Step) (place : Option ℕ) → LeavesApart (state_step_at d step place)
+  step_leaves : (step : PlainStep) (place : Option ℕ) → LeavesApart (state_step_at d step place)
   step_leaves step None = err_leaves kind.Place
   step_leaves step (Some place) =
       demanded (ltb (length (last_app (node_at d.nodes place)).steps) MAX_STEPS) kind.Full (Ok (with_step_at place step d))
@@ -147,11 +148,11 @@ module _ (d : PlainDraft) (differ : Differ (names_of d.nodes)) where
       demanded (not (is_tuned d place)) kind.Twice (Ok (with_rdp_at place options d))
       (ok_leaves (with_rdp_at place options d) (changed place (with_rdp options (node_at d.nodes place)) refl))
 
-  link_leaves : (word : List ℕ) (carries : LinkKind) (one other : Option ℕ) → LeavesApart (state_link_between d word carries one other)
-  link_leaves word carries None other = err_leaves kind.Unknown
-  link_leaves word carries (Some one) None = err_leaves kind.Unknown
-  link_leaves word carries (Some one) (Some other) =
-      let next = with_link (new_link d.links word carries one other) d in
+  link_leaves : (word : List ℕ) (carries : LinkKind) (mtu : ℕ) (one other : Option ℕ) → LeavesApart (state_link_between d word carries mtu one other)
+  link_leaves word carries mtu None other = err_leaves kind.Unknown
+  link_leaves word carries mtu (Some one) None = err_leaves kind.Unknown
+  link_leaves word carries mtu (Some one) (Some other) =
+      let next = with_link (new_link d.links word carries mtu one other) d in
       then_leaves (may_add_link d word one other) (λ _. Ok next) (λ _. ok_leaves next differ)
 
   rows_leave : (place : Option ℕ) (more : Routes) → LeavesApart (add_routes d place more)
@@ -199,7 +200,8 @@ module _ (d : PlainDraft) (differ : Differ (names_of d.nodes)) where
   state_leaves form.Node shape args = node_leaves (new_node shape args)
   state_leaves form.Bridge shape args = node_leaves (new_bridge shape args)
   state_leaves form.Rdp shape args = rdp_leaves (given_options args) (router_named (word_at args 0) d.nodes)
-  state_leaves form.Link shape args = link_leaves (word_at args 0) (link_kind (word_at args 1)) (node_named (word_at args 2) d.nodes) (node_named (word_at args 3) d.nodes)
+  state_leaves form.KissLink shape args = link_leaves (word_at args 0) (kiss_kind shape) (mtu_of shape args) (node_named (word_at args 2) d.nodes) (node_named (word_at args 3) d.nodes)
+  state_leaves form.CanLink shape args = link_leaves (word_at args 0) carried.Can (mtu_of shape args) (node_named (word_at args 2) d.nodes) (node_named (word_at args 3) d.nodes)
   state_leaves form.Route shape args =
       let place = router_named (word_at args 0) d.nodes in
       routed_leave place (parsed (known_ifaces d place) (text_from args 1))

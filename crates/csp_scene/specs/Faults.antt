@@ -52,7 +52,7 @@ has_fault fault plan = list_any (λ other. is_same_fault other fault) plan
 
 -- the link in a place
 abbrev pub no_link : PlainLink
-no_link = record { name = []; kind = carried.Kiss; ends = []; plan = [] }
+no_link = record { name = []; kind = carried.Kiss; mtu = 0; ends = []; plan = [] }
 
 -- the link at a place
 abbrev pub link_at : List PlainLink → ℕ → PlainLink

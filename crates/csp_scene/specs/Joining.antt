@@ -1,7 +1,7 @@
 -- What `link` and `route` lines state.
 use Rattle.std.specs.Prelude.{ℕ, ◌==◌, Bool, not, ◌&&◌, ◌||◌, nat_lt, nat_le, List, [], ◌∷◌, length, slice_set, Option, Some, None, is_some, Result, Ok, Err, if◌then◌else◌}
 use Rattle.std.specs.List.{list_any}
-use Rattle.std.specs.Str.{bytes_eq}
+use Rattle.std.specs.Option.{unwrap_or}
 use Rattle.std.specs.FinMap as finite
 use Rattle.csp_log.specs.declared.places.LinkKind.{LinkKind}
 use Rattle.csp_log.specs.declared.places.LinkKind.TheVariants as carried
@@ -11,29 +11,33 @@ use Rattle.csp_route.specs.declared.error.RouteError.{RouteError}
 use Rattle.csp_route.specs.declared.error.RouteKind.{RouteKind}
 use Rattle.csp_route.specs.declared.error.RouteKind.TheVariants as fault
 use Rattle.csp_route.specs.declared.table.TheConstants.{MAX_ROWS}
-use Rattle.csp_scene.specs.declared.limits.TheConstants.{MAX_LINKS, BRIDGE_LINKS}
+use Rattle.csp_scene.specs.declared.limits.TheConstants.{MAX_LINKS, BRIDGE_LINKS, DEFAULT_MTU}
 use Rattle.csp_scene.specs.declared.refusal.SceneKind.{SceneKind}
 use Rattle.csp_scene.specs.declared.refusal.SceneKind.TheVariants as kind
 use Rattle.csp_log.specs.declared.places.End.{End}
 use Rattle.csp_scene.specs.declared.table.Keyword.TheVariants as keyword
-use Rattle.csp_scene.specs.Table.{keyword_text}
+use Rattle.csp_scene.specs.declared.table.Part.{Part}
 use Rattle.csp_scene.specs.Scene.{PlainNode, PlainLink}
 use Rattle.csp_scene.specs.Links.{links_at, node_at}
 use Rattle.csp_scene.specs.Naming.{is_called, node_named, router_named, iface_names, is_name_taken}
-use Rattle.csp_scene.specs.Arguments.{word_at, text_from}
+use Rattle.csp_scene.specs.Arguments.{word_at, has_keyword, setting, text_from}
 use Rattle.csp_scene.specs.Draft.{PlainDraft, demand, and_then, with_link}
 
--- the kind of a link by its word
-abbrev pub link_kind : List ℕ → LinkKind
-link_kind word = if bytes_eq word (keyword_text keyword.Can) then carried.Can else carried.Kiss
+-- a KISS link whose line has the word `header` covers the header by its CRC
+abbrev pub kiss_kind : List Part → LinkKind
+kiss_kind shape = if has_keyword keyword.Header shape then carried.KissHeader else carried.Kiss
+
+-- the most bytes of a payload on a link: those that its line gives
+abbrev pub mtu_of : List Part → List (List ℕ) → ℕ
+mtu_of shape args = unwrap_or (setting keyword.Mtu shape args) DEFAULT_MTU
 
 -- the end of a new link at a node: at the interface after those that the node has
 abbrev pub end_at : List PlainLink → ℕ → End
 end_at links place = record { node = place; iface = length (links_at place links) }
 
--- the link of this name and kind between two nodes
-abbrev pub new_link : List PlainLink → List ℕ → LinkKind → ℕ → ℕ → PlainLink
-new_link links word kind one other = record { name = word; kind = kind; ends = end_at links one ∷ end_at links other ∷ []; plan = [] }
+-- the link of this name, kind and mtu between two nodes
+abbrev pub new_link : List PlainLink → List ℕ → LinkKind → ℕ → ℕ → ℕ → PlainLink
+new_link links word kind mtu one other = record { name = word; kind = kind; mtu = mtu; ends = end_at links one ∷ end_at links other ∷ []; plan = [] }
 
 -- an application of this node has this name
 abbrev pub has_app : List ℕ → PlainNode → Bool
@@ -50,17 +54,17 @@ may_add_link d word one other =
     (demand (nat_lt (length d.links) MAX_LINKS && takes_link d one && takes_link d other) kind.Full
     (Ok tt))
 
--- `link NAME kiss NODE NODE`, `link NAME can NODE NODE`: both nodes must be there
-abbrev pub state_link_between : PlainDraft → List ℕ → LinkKind → Option ℕ → Option ℕ → Result PlainDraft SceneKind
-state_link_between d word carries None other = Err kind.Unknown
-state_link_between d word carries (Some one) None = Err kind.Unknown
-state_link_between d word carries (Some one) (Some other) =
-    and_then (may_add_link d word one other) (λ _. Ok (with_link (new_link d.links word carries one other) d))
+-- `link NAME kiss NODE NODE [header] [mtu M]`, `link NAME can NODE NODE [mtu M]`: both nodes must be there
+abbrev pub state_link_between : PlainDraft → List ℕ → LinkKind → ℕ → Option ℕ → Option ℕ → Result PlainDraft SceneKind
+state_link_between d word carries mtu None other = Err kind.Unknown
+state_link_between d word carries mtu (Some one) None = Err kind.Unknown
+state_link_between d word carries mtu (Some one) (Some other) =
+    and_then (may_add_link d word one other) (λ _. Ok (with_link (new_link d.links word carries mtu one other) d))
 
--- what a `link` line adds
-abbrev pub state_link : PlainDraft → List (List ℕ) → Result PlainDraft SceneKind
-state_link d args =
-    state_link_between d (word_at args 0) (link_kind (word_at args 1)) (node_named (word_at args 2) d.nodes) (node_named (word_at args 3) d.nodes)
+-- what a `link` line of this kind and mtu adds
+abbrev pub state_link : PlainDraft → LinkKind → ℕ → List (List ℕ) → Result PlainDraft SceneKind
+state_link d carries mtu args =
+    state_link_between d (word_at args 0) carries mtu (node_named (word_at args 2) d.nodes) (node_named (word_at args 3) d.nodes)
 
 -- the kind of a line whose text of routes has this error
 abbrev pub kind_of : RouteKind → SceneKind

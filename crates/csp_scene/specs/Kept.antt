@@ -7,7 +7,7 @@ use Rattle.csp_route.specs.Routes.{IsWithin}
 use Rattle.csp_text.specs.Names.{is_name}
 use Rattle.csp_scene.specs.Scene.{PlainNode, PlainLink, PlainScene}
 use Rattle.csp_scene.specs.Links.{links_at, node_at, fault_count}
-use Rattle.csp_scene.specs.Ranges.{IsNode, IsPlanned, IsSchedule}
+use Rattle.csp_scene.specs.Ranges.{IsMtu, IsNode, IsPlanned, IsSchedule}
 use Rattle.csp_scene.specs.Table.{keyword_text, fixed_of, optional_of, shapes_of}
 use Rattle.csp_scene.specs.Checks.{all_pass}
 use Rattle.csp_scene.specs.Arguments.{keyword_place}
@@ -34,9 +34,10 @@ pub record IsEndAfter (nodes : ℕ) (earlier : List PlainLink) (end : End) : Typ
   pub node : end.node < nodes
   pub iface : end.iface ≡ length (links_at end.node earlier)
 
--- a link has a name, two ends at two nodes, and faults in their ranges
+-- a link has a name, an mtu in its range, two ends at two nodes, and faults in their ranges
 pub record IsLinkAfter (nodes : ℕ) (earlier : List PlainLink) (link : PlainLink) : Type 0 where
   pub name : IsTrue (is_name link.name)
+  pub mtu : IsMtu link.mtu
   pub first : End
   pub second : End
   pub two : link.ends ≡ first ∷ second ∷ []

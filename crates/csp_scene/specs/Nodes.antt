@@ -3,7 +3,7 @@ use Rattle.std.specs.Prelude.{ℕ, ◌-◌, not, ◌||◌, nat_lt, List, [], ◌
 use Rattle.std.specs.List.{list_any}
 use Rattle.std.specs.Option.{unwrap_or}
 use Rattle.std.specs.FinMap as finite
-use Rattle.csp_app.specs.declared.step.Step.{Step}
+use Rattle.csp_app.specs.PlainStep.{PlainStep}
 use Rattle.csp_rdp_header.specs.Options.{usual_options}
 use Rattle.csp_scene.specs.declared.limits.TheConstants.{MAX_NODES, MAX_APPS, MAX_STEPS, DEFAULT_SEED, DEFAULT_INBOX}
 use Rattle.csp_scene.specs.declared.table.Keyword.TheVariants as keyword
@@ -90,24 +90,24 @@ abbrev pub last_app : PlainNode → PlainApp
 last_app node = slice_index_or node.apps (length node.apps - 1) (new_app [])
 
 -- an application with one more step, a node whose last application has it, and a draft in which the node in a place has it
-abbrev pub with_step : Step → PlainApp → PlainApp
+abbrev pub with_step : PlainStep → PlainApp → PlainApp
 with_step step app = record app { steps = app.steps ++ step ∷ [] }
 
 -- a node with a step more of its last application
-abbrev pub with_last_step : Step → PlainNode → PlainNode
+abbrev pub with_last_step : PlainStep → PlainNode → PlainNode
 with_last_step step node = record node { apps = slice_set node.apps (length node.apps - 1) (with_step step (last_app node)) }
 
 -- with a step more of the last application of the node at a place
-abbrev pub with_step_at : ℕ → Step → PlainDraft → PlainDraft
+abbrev pub with_step_at : ℕ → PlainStep → PlainDraft → PlainDraft
 with_step_at place step d = record d { nodes = slice_set d.nodes place (with_last_step step (node_at d.nodes place)) }
 
 -- a step line: one more step of the application of the last `app` line
-abbrev pub state_step_at : PlainDraft → Step → Option ℕ → Result PlainDraft SceneKind
+abbrev pub state_step_at : PlainDraft → PlainStep → Option ℕ → Result PlainDraft SceneKind
 state_step_at d step None = Err kind.Place
 state_step_at d step (Some place) =
     demand (nat_lt (length (last_app (node_at d.nodes place)).steps) MAX_STEPS) kind.Full
     (Ok (with_step_at place step d))
 
 -- what a step line adds
-abbrev pub state_step : PlainDraft → Step → Result PlainDraft SceneKind
+abbrev pub state_step : PlainDraft → PlainStep → Result PlainDraft SceneKind
 state_step d step = state_step_at d step d.host

@@ -2,8 +2,8 @@
 use Rattle.std.specs.Prelude.{ℕ, ◌+◌, ◌≡◌, ◌≢◌, ◌≤◌, ◌<◌, ◌^◌, ⊤, List, [], ◌∷◌, length, Some, None, slice_get, IsTrue, IfSome}
 use Rattle.std.specs.List.{All, AllByRecursion}
 use Rattle.std.specs.FinMap as finite
-use Rattle.csp_app.specs.declared.step.Step.{Step}
-use Rattle.csp_app.specs.declared.step.Step.TheVariants as step
+use Rattle.csp_app.specs.PlainStep.{PlainStep}
+use Rattle.csp_app.specs.PlainStep as step
 use Rattle.csp_base.specs.declared.limits.TheConstants.{MAX_BUFFERS, MAX_PAYLOAD}
 use Rattle.csp_link.specs.Fates.{IsFault}
 use Rattle.csp_link.specs.declared.fault.Fault.{Fault}
@@ -15,7 +15,7 @@ use Rattle.csp_rdp_header.specs.declared.options.Options.{Options}
 use Rattle.csp_rdp_header.specs.declared.options.TheConstants.{MAX_WINDOW}
 use Rattle.csp_route.specs.Routes.{IsWithin}
 use Rattle.csp_text.specs.Names.{is_name}
-use Rattle.csp_scene.specs.declared.limits.TheConstants.{MAX_UNTIL, MAX_ADDR, MAX_NODES, MAX_LINKS, BRIDGE_LINKS, MAX_APPS, MAX_STEPS, MIN_BUFFERS, MAX_SEED, MIN_INBOX, MAX_INBOX, MAX_PORT, FIRST_OWN_PORT, MAX_DEST, CRC_FLAG, RDP_FLAG, MAX_COUNT, MAX_ROUNDS, MAX_FAULTS, LAST_FRAME, MAX_DELAY, MAX_FLIP, MAX_SHUFFLE, MAX_OPTION}
+use Rattle.csp_scene.specs.declared.limits.TheConstants.{MAX_UNTIL, MAX_ADDR, MAX_NODES, MAX_LINKS, BRIDGE_LINKS, MAX_APPS, MAX_STEPS, MIN_BUFFERS, MAX_SEED, MIN_INBOX, MAX_INBOX, MAX_PORT, FIRST_OWN_PORT, MAX_DEST, CRC_FLAG, RDP_FLAG, MAX_COUNT, MAX_ROUNDS, MAX_FAULTS, LAST_FRAME, MAX_DELAY, MAX_FLIP, MAX_SHUFFLE, MAX_OPTION, MIN_MTU, MAX_MTU}
 use Rattle.csp_log.specs.declared.places.End.{End}
 use Rattle.csp_scene.specs.declared.scenario.Move.{Move}
 use Rattle.csp_scene.specs.declared.scenario.Move.TheVariants as move
@@ -36,14 +36,14 @@ IsOwnPort port = (FIRST_OWN_PORT ≤ port) × (port ≤ MAX_PORT)
 
 -- a step's numbers: ports, addresses and flags of the header, a header word, as many bytes as a packet has; a slot that there
 -- is, a number of packets, of rounds
-abbrev pub IsStep : Step → Type 0
+abbrev pub IsStep : PlainStep → Type 0
 IsStep step.Take = ⊤
 IsStep step.Give = ⊤
 IsStep (step.Bind port need) = (port ≤ MAX_PORT) × AreFlags need
 IsStep (step.Connect slot dest port prio flags from) = (slot < SLOTS) × (dest ≤ MAX_DEST) × (port ≤ MAX_PORT) × AreFlags flags × IfSome from IsOwnPort
-IsStep (step.Send slot bytes) = (slot < SLOTS) × (1 ≤ length bytes.items) × (length bytes.items ≤ MAX_DATA)
+IsStep (step.Send slot bytes) = (slot < SLOTS) × (1 ≤ length bytes) × (length bytes ≤ MAX_DATA)
 IsStep (step.Burst slot count len) = (slot < SLOTS) × (1 ≤ count) × (count ≤ MAX_COUNT) × (1 ≤ len) × (len ≤ MAX_DATA)
-IsStep (step.Raw header bytes) = (header < 2 ^ 32) × (length bytes.items ≤ MAX_PAYLOAD)
+IsStep (step.Raw header bytes) = (header < 2 ^ 32) × (length bytes ≤ MAX_PAYLOAD)
 IsStep (step.Recv slot count rounds) = (slot < SLOTS) × (1 ≤ count) × (count ≤ MAX_COUNT) × IfSome rounds IsWait
 IsStep (step.Close slot) = slot < SLOTS
 IsStep (step.Wait rounds) = IsWait rounds
@@ -117,9 +117,14 @@ pub record AreEnds (nodes : List PlainNode) (links : List PlainLink) (link : Pla
   pub one_end : IsEnd nodes links link first
   pub other_end : IsEnd nodes links link second
 
--- a link has a name, two ends, and faults in their ranges
+-- the most bytes of a payload that a link may say
+abbrev pub IsMtu : ℕ → Type 0
+IsMtu mtu = (MIN_MTU ≤ mtu) × (mtu ≤ MAX_MTU)
+
+-- a link has a name, an mtu in its range, two ends, and faults in their ranges
 pub record IsLink (nodes : List PlainNode) (links : List PlainLink) (link : PlainLink) : Type 0 where
   pub name : IsTrue (is_name link.name)
+  pub mtu : IsMtu link.mtu
   pub ends : AreEnds nodes links link
   pub plan : All IsPlanned link.plan
 

@@ -1,6 +1,6 @@
 -- What a contract sees of a scene: plain lists and numbers, with the fields of the structs.
 use Rattle.std.specs.Prelude.{ℕ, List, [], Option}
-use Rattle.csp_app.specs.declared.step.Step.{Step}
+use Rattle.csp_app.specs.PlainStep.{PlainStep}
 use Rattle.csp_link.specs.declared.fault.Fault.{Fault}
 use Rattle.csp_log.specs.declared.places.LinkKind.{LinkKind}
 use Rattle.csp_rdp_header.specs.declared.options.Options.{Options}
@@ -13,7 +13,7 @@ use Rattle.csp_scene.specs.declared.scenario.Schedule.TheVariants as schedule
 -- an application: its name, byte by byte, and its steps in order
 pub record PlainApp : Type 0 where
   pub name : List ℕ
-  pub steps : List Step
+  pub steps : List PlainStep
 
 -- a node: its name, its address, how many buffers it has, its seed, the room of its inbox for each priority, the options of the
 -- reliable connections that it asks for, its routing table, its applications in order; a bridge is a node without an address
@@ -27,10 +27,11 @@ pub record PlainNode : Type 0 where
   pub routes : Routes
   pub apps : List PlainApp
 
--- a link: its name, what it carries, its ends, its faults in order
+-- a link: its name, what it carries, the most bytes of a payload on it, its ends, its faults in order
 pub record PlainLink : Type 0 where
   pub name : List ℕ
   pub kind : LinkKind
+  pub mtu : ℕ
   pub ends : List End
   pub plan : List Fault
 

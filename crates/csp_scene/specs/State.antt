@@ -1,8 +1,9 @@
 -- What one more line adds to what earlier lines state.
 use Rattle.std.specs.Prelude.{ℕ, ◌+◌, ◌==◌, Bool, true, ◌&&◌, ◌||◌, List, [], ◌∷◌, length, drop, Option, Some, None, is_some, Result, Ok, Err}
 use Rattle.std.specs.Option.{unwrap_or}
-use Rattle.csp_app.specs.declared.step.Step.TheVariants as step
+use Rattle.csp_app.specs.PlainStep as step
 use Rattle.csp_link.specs.declared.fault.FaultKind.TheVariants as fault
+use Rattle.csp_log.specs.declared.places.LinkKind.TheVariants as carried
 use Rattle.csp_scene.specs.declared.limits.TheConstants.{BRIDGE_LINKS}
 use Rattle.csp_scene.specs.declared.table.Part.{Part}
 use Rattle.csp_scene.specs.declared.table.Form.{Form}
@@ -16,7 +17,7 @@ use Rattle.csp_scene.specs.Steps.{bind_step, connect_step, send_step, burst_step
 use Rattle.csp_scene.specs.Draft.{PlainDraft, demand}
 use Rattle.csp_scene.specs.Nodes.{state_until, new_node, new_bridge, state_node, state_app, state_step}
 use Rattle.csp_scene.specs.Transport.{state_rdp}
-use Rattle.csp_scene.specs.Joining.{state_link, state_route}
+use Rattle.csp_scene.specs.Joining.{kiss_kind, mtu_of, state_link, state_route}
 use Rattle.csp_scene.specs.Faults.{state_fault}
 use Rattle.csp_scene.specs.Schedule.{state_schedule, state_moves}
 
@@ -29,7 +30,8 @@ state form.Moves shape d args = state_moves d (drop 1 args)
 state form.Node shape d args = state_node d (new_node shape args)
 state form.Bridge shape d args = state_node d (new_bridge shape args)
 state form.Rdp shape d args = state_rdp d args
-state form.Link shape d args = state_link d args
+state form.KissLink shape d args = state_link d (kiss_kind shape) (mtu_of shape args) args
+state form.CanLink shape d args = state_link d carried.Can (mtu_of shape args) args
 state form.Route shape d args = state_route d args
 state form.Lose shape d args = state_fault d args fault.Lose
 state form.Repeat shape d args = state_fault d args (fault.Repeat (number_at args 4))

@@ -1,6 +1,6 @@
 -- The line forms of the scenario language, a row each.
 use Rattle.std.specs.Prelude.{ℕ, Bool, true, false, List, [], ◌∷◌, ◌++◌, codes}
-use Rattle.csp_scene.specs.declared.limits.TheConstants.{MAX_UNTIL, MAX_SHUFFLE, MAX_ADDR, MIN_BUFFERS, MAX_SEED, MIN_INBOX, MAX_INBOX, LAST_FRAME, MAX_COPIES, MAX_DELAY, MAX_FLIP, MAX_SLOT, MAX_PORT, FIRST_OWN_PORT, MAX_DEST, MAX_PRIO, MAX_COUNT, MAX_ROUNDS, MAX_SEND, MAX_RAW, MAX_OPTION}
+use Rattle.csp_scene.specs.declared.limits.TheConstants.{MAX_UNTIL, MAX_SHUFFLE, MAX_ADDR, MIN_BUFFERS, MAX_SEED, MIN_INBOX, MAX_INBOX, LAST_FRAME, MAX_COPIES, MAX_DELAY, MAX_FLIP, MAX_SLOT, MAX_PORT, FIRST_OWN_PORT, MAX_DEST, MAX_PRIO, MAX_COUNT, MAX_ROUNDS, MAX_SEND, MAX_RAW, MAX_OPTION, MIN_MTU, MAX_MTU}
 use Rattle.csp_base.specs.declared.limits.TheConstants.{MAX_BUFFERS}
 use Rattle.csp_rdp_header.specs.declared.options.TheConstants.{MAX_WINDOW}
 use Rattle.csp_scene.specs.declared.table.Form.{Form}
@@ -23,6 +23,8 @@ keyword_text keyword.Shuffle = codes "shuffle"
 keyword_text keyword.Steps = codes "steps"
 keyword_text keyword.Kiss = codes "kiss"
 keyword_text keyword.Can = codes "can"
+keyword_text keyword.Header = codes "header"
+keyword_text keyword.Mtu = codes "mtu"
 keyword_text keyword.Ab = codes "ab"
 keyword_text keyword.Ba = codes "ba"
 keyword_text keyword.Lose = codes "lose"
@@ -43,7 +45,8 @@ first_word form.Moves = codes "schedule"
 first_word form.Node = codes "node"
 first_word form.Bridge = codes "bridge"
 first_word form.Rdp = codes "rdp"
-first_word form.Link = codes "link"
+first_word form.KissLink = codes "link"
+first_word form.CanLink = codes "link"
 first_word form.Route = codes "route"
 first_word form.Lose = codes "fault"
 first_word form.Repeat = codes "fault"
@@ -75,7 +78,8 @@ fixed_of form.Node = Name ∷ Number 0 MAX_ADDR ∷ Fixed keyword.Buffers ∷ Nu
 fixed_of form.Bridge = Name ∷ Fixed keyword.Buffers ∷ Number MIN_BUFFERS MAX_BUFFERS ∷ []
 fixed_of form.Rdp =
     Name ∷ Number 1 MAX_WINDOW ∷ Number 1 MAX_OPTION ∷ Number 1 MAX_OPTION ∷ Number 0 MAX_OPTION ∷ Number 0 MAX_OPTION ∷ Number 0 MAX_OPTION ∷ []
-fixed_of form.Link = Name ∷ Either keyword.Kiss keyword.Can ∷ Name ∷ Name ∷ []
+fixed_of form.KissLink = Name ∷ Fixed keyword.Kiss ∷ Name ∷ Name ∷ []
+fixed_of form.CanLink = Name ∷ Fixed keyword.Can ∷ Name ∷ Name ∷ []
 fixed_of form.Route = Name ∷ Text ∷ []
 fixed_of form.Lose = fault_of keyword.Lose []
 fixed_of form.Repeat = fault_of keyword.Repeat (Number 1 MAX_COPIES ∷ [])
@@ -102,7 +106,8 @@ optional_of form.Moves = []
 optional_of form.Node = Setting keyword.Seed 0 MAX_SEED ∷ Setting keyword.Inbox MIN_INBOX MAX_INBOX ∷ []
 optional_of form.Bridge = Setting keyword.Inbox MIN_INBOX MAX_INBOX ∷ []
 optional_of form.Rdp = []
-optional_of form.Link = []
+optional_of form.KissLink = Flag keyword.Header ∷ Setting keyword.Mtu MIN_MTU MAX_MTU ∷ []
+optional_of form.CanLink = Setting keyword.Mtu MIN_MTU MAX_MTU ∷ []
 optional_of form.Route = []
 optional_of form.Lose = []
 optional_of form.Repeat = []
@@ -129,7 +134,8 @@ is_step form.Moves = false
 is_step form.Node = false
 is_step form.Bridge = false
 is_step form.Rdp = false
-is_step form.Link = false
+is_step form.KissLink = false
+is_step form.CanLink = false
 is_step form.Route = false
 is_step form.Lose = false
 is_step form.Repeat = false
@@ -150,7 +156,7 @@ is_step form.Wait = true
 -- all forms
 abbrev pub all_forms : List Form
 all_forms =
-    form.Until ∷ form.Rounds ∷ form.Shuffle ∷ form.Moves ∷ form.Node ∷ form.Bridge ∷ form.Rdp ∷ form.Link ∷ form.Route
+    form.Until ∷ form.Rounds ∷ form.Shuffle ∷ form.Moves ∷ form.Node ∷ form.Bridge ∷ form.Rdp ∷ form.KissLink ∷ form.CanLink ∷ form.Route
     ∷ form.Lose ∷ form.Repeat ∷ form.Delay ∷ form.Flip ∷ form.App ∷ form.Take ∷ form.Give
     ∷ form.Bind ∷ form.Connect ∷ form.Send ∷ form.Burst ∷ form.Raw ∷ form.Recv ∷ form.Close ∷ form.Wait ∷ []
 

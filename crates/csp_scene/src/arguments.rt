@@ -9,8 +9,7 @@ ghost use Rattle.csp_scene.specs.Arguments.{word_at, number_at, is_keyword, keyw
 ghost use Rattle.csp_scene.specs.Kept.{Fits, FitsShape, part_at, IsNamePart, IsNumberPart, IsInPart, has_setting, range_of};
 
 use crate::table::{Form, Keyword, Part};
-use arrayvec::ArrayVec;
-use csp_base::{MAX_PAYLOAD, Name};
+use csp_base::Name;
 use csp_text::{byte_digits, hex_bytes, name, number};
 use std::alloc::{AllocError, Global};
 
@@ -51,12 +50,11 @@ pub(crate) fn number_at(form: Form, args: &[&[u8]], place: usize) -> u32
 }
 
 /// The bytes in a place.
-pub(crate) fn bytes_at(args: &[&[u8]], place: usize) -> ArrayVec<u8, MAX_PAYLOAD>
-    requires bytes { IsTrue (is_bytes (word_at (map (λ word. word.now) args.now) place)) }
-    requires room { length (bytes_of (word_at (map (λ word. word.now) args.now) place)) ≤ MAX_PAYLOAD }
-    ensures { result.items ≡ bytes_of (word_at (map (λ word. word.now) args.now) place) }
+pub(crate) fn bytes_at(alloc: Global, args: &[&[u8]], place: usize) -> Result<Vec<u8>, AllocError>
+    requires { IsTrue (is_bytes (word_at (map (λ word. word.now) args.now) place)) }
+    ensures { IfOk result (λ bytes. bytes.items ≡ bytes_of (word_at (map (λ word. word.now) args.now) place)) }
 {
-    hex_bytes(byte_digits(word_at(args, place)))
+    hex_bytes(alloc, byte_digits(word_at(args, place)))
 }
 
 /// Whether a part of a line is this fixed word.

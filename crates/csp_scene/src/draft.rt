@@ -15,9 +15,7 @@ use crate::naming::iface_count;
 use crate::nodes::{new_bridge, new_node};
 use crate::refusal::SceneKind;
 use crate::scenario::{Scene, SceneLink, SceneNode, Schedule};
-use crate::steps::{
-    bind_step, burst_step, close_step, connect_step, raw_step, recv_step, send_step, wait_step,
-};
+use crate::steps::{bind_step, burst_step, close_step, connect_step, recv_step, wait_step};
 use crate::table::{Form, Part};
 use csp_app::Step;
 use csp_link::FaultKind;
@@ -135,7 +133,8 @@ impl Draft {
             Form::Node => self.state_node(new_node(alloc, shape, args)),
             Form::Bridge => self.state_node(new_bridge(alloc, shape, args)),
             Form::Rdp => self.state_rdp(args),
-            Form::Link => self.state_link(alloc, args),
+            Form::KissLink => self.state_kiss_link(alloc, shape, args),
+            Form::CanLink => self.state_can_link(alloc, shape, args),
             Form::Route => self.state_route(alloc, args),
             Form::Lose => self.state_fault(args, planned(form, args, FaultKind::Lose)),
             Form::Repeat => {
@@ -151,16 +150,16 @@ impl Draft {
                 self.state_fault(args, planned(form, args, kind))
             }
             Form::App => self.state_app(alloc, args),
-            Form::Take => self.state_step(Step::Take),
-            Form::Give => self.state_step(Step::Give),
-            Form::Bind => self.state_step(bind_step(shape, args)),
-            Form::Connect => self.state_step(connect_step(shape, args)),
-            Form::Send => self.state_step(send_step(args)),
-            Form::Burst => self.state_step(burst_step(args)),
-            Form::Raw => self.state_step(raw_step(args)),
-            Form::Recv => self.state_step(recv_step(shape, args)),
-            Form::Close => self.state_step(close_step(args)),
-            Form::Wait => self.state_step(wait_step(args)),
+            Form::Take => self.state_step(&Step::Take),
+            Form::Give => self.state_step(&Step::Give),
+            Form::Bind => self.state_step(&bind_step(shape, args)),
+            Form::Connect => self.state_step(&connect_step(shape, args)),
+            Form::Send => self.state_send(alloc, args),
+            Form::Burst => self.state_step(&burst_step(args)),
+            Form::Raw => self.state_raw(alloc, args),
+            Form::Recv => self.state_step(&recv_step(shape, args)),
+            Form::Close => self.state_step(&close_step(args)),
+            Form::Wait => self.state_step(&wait_step(args)),
         }
     }
 

@@ -8,31 +8,33 @@ ghost use Rattle.csp_text.specs.Names.{is_name};
 ghost use Rattle.csp_scene.specs.Links.{links_at, node_at};
 ghost use Rattle.csp_scene.specs.Naming.{is_name_taken, node_named, router_named};
 ghost use Rattle.csp_scene.specs.Draft.{with_link};
-ghost use Rattle.csp_scene.specs.Joining.{link_kind, end_at, new_link, has_app, takes_link, may_add_link, state_link_between, state_link, kind_of, known_ifaces, with_routes, add_routes, routed, state_route_at, state_route};
-ghost use Rattle.csp_scene.specs.Kept.{IsDraft, Fits, Judged};
+ghost use Rattle.csp_scene.specs.Arguments.{word_at};
+ghost use Rattle.csp_scene.specs.Ranges.{IsMtu};
+ghost use Rattle.csp_scene.specs.Joining.{kiss_kind, mtu_of, end_at, new_link, has_app, takes_link, may_add_link, state_link_between, state_link, kind_of, known_ifaces, with_routes, add_routes, routed, state_route_at, state_route};
+ghost use Rattle.csp_scene.specs.Kept.{IsDraft, Fits, FitsShape, Judged};
 
-use crate::arguments::{name_at, text_from, word_at};
+use crate::arguments::{has_keyword, name_at, setting, text_from, word_at};
 use crate::draft::{Draft, LineError};
-use crate::limits::{BRIDGE_LINKS, MAX_LINKS};
+use crate::limits::{BRIDGE_LINKS, DEFAULT_MTU, MAX_LINKS};
 use crate::links::LinkDraft;
 use crate::naming::{
     IfaceNames, iface_count, iface_names, is_called, is_name_taken, node_named, router_named,
 };
 use crate::refusal::SceneKind;
 use crate::scenario::SceneLink;
-use crate::table::{Form, Keyword};
+use crate::table::{Form, Keyword, Part};
 use arrayvec::ArrayVec;
 use csp_base::Name;
 use csp_log::{End, LinkKind};
 use csp_route::{RouteKind, Table};
 use std::alloc::Global;
 
-/// The kind of a link by its word.
-fn link_kind(word: &[u8]) -> LinkKind
-    ensures { result ≡ link_kind word.now }
+/// The kind of a KISS link, by the words of its line.
+fn kiss_kind(shape: &[Part]) -> LinkKind
+    ensures { result ≡ kiss_kind shape.now }
 {
-    if word == Keyword::Can.text() {
-        LinkKind::Can
+    if has_keyword(Keyword::Header, shape) {
+        LinkKind::KissHeader
     } else {
         LinkKind::Kiss
     }
@@ -67,6 +69,7 @@ impl Draft {
         &self,
         name: Name,
         kind: LinkKind,
+        mtu: u16,
         one: usize,
         other: usize,
         alloc: Global,
@@ -74,7 +77,7 @@ impl Draft {
         requires one { one < 256 }
         requires other { other < 256 }
         requires few { length self.now.links ≤ MAX_LINKS }
-        ensures { result ≡ new_link self.now.links name.bytes kind one other }
+        ensures { result ≡ new_link self.now.links name.bytes kind mtu one other }
     {
         let mut ends = ArrayVec::new();
         ends.push(self.end_at(one));
@@ -82,6 +85,7 @@ impl Draft {
         SceneLink {
             name,
             kind,
+            mtu,
             ends,
             plan: Vec::new(alloc),
         }
@@ -128,19 +132,21 @@ impl Draft {
         alloc: Global,
         name: Name,
         kind: LinkKind,
+        mtu: u16,
         one: usize,
         other: usize,
     ) -> Result<(), LineError>
         requires kept { IsDraft self.old }
         requires name { IsTrue (is_name name.bytes) }
+        requires mtu { IsMtu mtu }
         requires one { one < length self.old.nodes }
         requires other { other < length self.old.nodes }
         requires apart { one ≢ other }
         requires room { length self.old.links < MAX_LINKS }
-        ensures answer { Judged result self.new (Ok (with_link (new_link self.old.links name.bytes kind one other) self.old)) }
+        ensures answer { Judged result self.new (Ok (with_link (new_link self.old.links name.bytes kind mtu one other) self.old)) }
         ensures kept { OnOk result (IsDraft self.new) }
     {
-        let link = self.new_link(name, kind, one, other, alloc);
+        let link = self.new_link(name, kind, mtu, one, other, alloc);
         let Ok(()) = self.links.push(LinkDraft::new(alloc, link)) else {
             return Err(LineError::NoMemory);
         };
@@ -152,38 +158,83 @@ impl Draft {
         alloc: Global,
         name: Name,
         kind: LinkKind,
+        mtu: u16,
         one: usize,
         other: usize,
     ) -> Result<(), LineError>
         requires kept { IsDraft self.old }
         requires name { IsTrue (is_name name.bytes) }
+        requires mtu { IsMtu mtu }
         requires one { one < length self.old.nodes }
         requires other { other < length self.old.nodes }
-        ensures answer { Judged result self.new (state_link_between self.old name.bytes kind (Some one) (Some other)) }
+        ensures answer { Judged result self.new (state_link_between self.old name.bytes kind mtu (Some one) (Some other)) }
         ensures kept { OnOk result (IsDraft self.new) }
     {
         match self.may_add_link(&name, one, other) {
-            Ok(()) => self.push_link(alloc, name, kind, one, other),
+            Ok(()) => self.push_link(alloc, name, kind, mtu, one, other),
             Err(kind) => Err(LineError::Kind(kind)),
         }
     }
 
-    /// A `link` line.
-    pub(crate) fn state_link(&mut self, alloc: Global, args: &[&[u8]]) -> Result<(), LineError>
+    /// A `link` line of this name, kind and mtu.
+    fn state_link(
+        &mut self,
+        alloc: Global,
+        name: Name,
+        kind: LinkKind,
+        mtu: u16,
+        args: &[&[u8]],
+    ) -> Result<(), LineError>
         requires kept { IsDraft self.old }
-        requires fits { Fits Form.Link (map (λ word. word.now) args.now) }
-        ensures answer { Judged result self.new (state_link self.old (map (λ word. word.now) args.now)) }
+        requires name { IsTrue (is_name name.bytes) }
+        requires word { name.bytes ≡ word_at (map (λ word. word.now) args.now) 0 }
+        requires mtu { IsMtu mtu }
+        ensures answer { Judged result self.new (state_link self.old kind mtu (map (λ word. word.now) args.now)) }
         ensures kept { OnOk result (IsDraft self.new) }
     {
-        let name = name_at(Form::Link, args, 0);
-        let kind = link_kind(word_at(args, 1));
         let Some(one) = node_named(&self.nodes, word_at(args, 2)) else {
             return Err(LineError::Kind(SceneKind::Unknown));
         };
         let Some(other) = node_named(&self.nodes, word_at(args, 3)) else {
             return Err(LineError::Kind(SceneKind::Unknown));
         };
-        self.state_link_between(alloc, name, kind, one, other)
+        self.state_link_between(alloc, name, kind, mtu, one, other)
+    }
+
+    /// A line of a KISS link.
+    pub(crate) fn state_kiss_link(
+        &mut self,
+        alloc: Global,
+        shape: &[Part],
+        args: &[&[u8]],
+    ) -> Result<(), LineError>
+        requires kept { IsDraft self.old }
+        requires fits { Fits Form.KissLink (map (λ word. word.now) args.now) }
+        requires shape { FitsShape Form.KissLink shape.now (map (λ word. word.now) args.now) }
+        ensures answer { Judged result self.new (state_link self.old (kiss_kind shape.now) (mtu_of shape.now (map (λ word. word.now) args.now)) (map (λ word. word.now) args.now)) }
+        ensures kept { OnOk result (IsDraft self.new) }
+    {
+        let name = name_at(Form::KissLink, args, 0);
+        let mtu = setting(Form::KissLink, Keyword::Mtu, shape, args).unwrap_or(DEFAULT_MTU);
+        self.state_link(alloc, name, kiss_kind(shape), mtu as u16, args)
+    }
+
+    /// A line of a CAN link.
+    pub(crate) fn state_can_link(
+        &mut self,
+        alloc: Global,
+        shape: &[Part],
+        args: &[&[u8]],
+    ) -> Result<(), LineError>
+        requires kept { IsDraft self.old }
+        requires fits { Fits Form.CanLink (map (λ word. word.now) args.now) }
+        requires shape { FitsShape Form.CanLink shape.now (map (λ word. word.now) args.now) }
+        ensures answer { Judged result self.new (state_link self.old LinkKind.Can (mtu_of shape.now (map (λ word. word.now) args.now)) (map (λ word. word.now) args.now)) }
+        ensures kept { OnOk result (IsDraft self.new) }
+    {
+        let name = name_at(Form::CanLink, args, 0);
+        let mtu = setting(Form::CanLink, Keyword::Mtu, shape, args).unwrap_or(DEFAULT_MTU);
+        self.state_link(alloc, name, LinkKind::Can, mtu as u16, args)
     }
 
     /// The interfaces that a line may route to.

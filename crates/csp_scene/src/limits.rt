@@ -22,6 +22,15 @@ pub const MAX_LINKS: usize = 12;
 /// How many links each bridge has.
 pub const BRIDGE_LINKS: usize = 2;
 
+/// The least that the longest payload of a link may be.
+pub const MIN_MTU: u32 = 64;
+
+/// The most that the longest payload of a link may be: that of a packet.
+pub const MAX_MTU: u32 = MAX_PAYLOAD as u32;
+
+/// The longest payload of a link whose line gives none.
+pub const DEFAULT_MTU: u32 = 256;
+
 /// The most faults that the plans of all links have together.
 pub const MAX_FAULTS: usize = 10_000;
 

@@ -4,21 +4,24 @@ ghost use Rattle.std.specs.Prelude.{◌≡◌, ◌<◌, ◌≤◌, ◌+◌, ◌|
 ghost use Rattle.std.specs.List.{list_any};
 ghost use Rattle.std.specs.FinMap as finite;
 ghost use Rattle.csp_text.specs.Names.{is_name};
+ghost use Rattle.csp_app.specs.Placing.{plain_step};
 ghost use Rattle.csp_scene.specs.Ranges.{IsStep, IsNode, IsApp};
 ghost use Rattle.csp_scene.specs.Links.{node_at};
 ghost use Rattle.csp_scene.specs.Draft.{with_node};
 ghost use Rattle.csp_scene.specs.Nodes.{state_until, new_node, new_bridge, may_add_node, state_node, new_app, may_add_app, with_app_at, state_app, last_app, with_step_at, state_step};
+ghost use Rattle.csp_scene.specs.Steps.{send_step, raw_step};
 ghost use Rattle.csp_scene.specs.Kept.{IsDraft, Fits, FitsShape, Judged};
 
-use crate::arguments::{name_at, number_at, setting};
+use crate::arguments::{bytes_at, name_at, number_at, setting};
 use crate::draft::{Draft, LineError};
 use crate::limits::{DEFAULT_INBOX, DEFAULT_SEED, MAX_APPS, MAX_NODES, MAX_STEPS};
 use crate::links::LinkDraft;
 use crate::naming::{is_addr_taken, is_called, is_link_name, is_name_taken, router_named};
 use crate::refusal::SceneKind;
 use crate::scenario::{SceneApp, SceneNode};
+use crate::steps::{raw_step, send_step};
 use crate::table::{Form, Keyword, Part};
-use csp_app::Step;
+use csp_app::{Script, Step};
 use csp_base::{Addr, Name};
 use csp_rdp_header::Options;
 use csp_route::Table;
@@ -169,43 +172,71 @@ impl Draft {
         };
         match may_add_app(&self.nodes[place].apps, &self.links, &name) {
             Ok(()) => {
-                let steps = Vec::new(alloc);
-                self.push_app(place, SceneApp { name, steps })
+                let script = Script::new(alloc);
+                self.push_app(place, SceneApp { name, script })
             }
             Err(kind) => Err(LineError::Kind(kind)),
         }
     }
 
-    fn push_step(&mut self, place: usize, step: Step) -> Result<(), LineError>
+    #[tactic(auto, using(crate::proofs::Drafts::step_of_packet))]
+    fn push_step(&mut self, place: usize, step: &Step<'_>) -> Result<(), LineError>
         requires kept { IsDraft self.old }
         requires node { place < length self.old.nodes }
         requires app { 1 ≤ length (node_at self.old.nodes place).apps }
-        requires step { IsStep step }
+        requires step { IsStep (plain_step step.now) }
         requires room { length (last_app (node_at self.old.nodes place)).steps < MAX_STEPS }
-        ensures answer { Judged result self.new (Ok (with_step_at place step self.old)) }
+        ensures answer { Judged result self.new (Ok (with_step_at place (plain_step step.now) self.old)) }
         ensures kept { OnOk result (IsDraft self.new) }
     {
         let last = self.nodes[place].apps.len() - 1;
-        let Ok(()) = self.nodes[place].apps[last].steps.push(step) else {
+        let Ok(()) = self.nodes[place].apps[last].script.push(step) else {
             return Err(LineError::NoMemory);
         };
         Ok(())
     }
 
     /// A step line.
-    pub(crate) fn state_step(&mut self, step: Step) -> Result<(), LineError>
+    pub(crate) fn state_step(&mut self, step: &Step<'_>) -> Result<(), LineError>
         requires kept { IsDraft self.old }
-        requires step { IsStep step }
-        ensures answer { Judged result self.new (state_step self.old step) }
+        requires step { IsStep (plain_step step.now) }
+        ensures answer { Judged result self.new (state_step self.old (plain_step step.now)) }
         ensures kept { OnOk result (IsDraft self.new) }
     {
         let Some(place) = self.host else {
             return Err(LineError::Kind(SceneKind::Place));
         };
         let apps = &self.nodes[place].apps;
-        if apps[apps.len() - 1].steps.len() >= MAX_STEPS {
+        if apps[apps.len() - 1].script.len() >= MAX_STEPS {
             return Err(LineError::Kind(SceneKind::Full));
         }
         self.push_step(place, step)
+    }
+    /// A `send` line.
+    #[inline(never)]
+    pub(crate) fn state_send(&mut self, alloc: Global, args: &[&[u8]]) -> Result<(), LineError>
+        requires kept { IsDraft self.old }
+        requires fits { Fits Form.Send (map (λ word. word.now) args.now) }
+        ensures answer { Judged result self.new (state_step self.old (send_step (map (λ word. word.now) args.now))) }
+        ensures kept { OnOk result (IsDraft self.new) }
+    {
+        match bytes_at(alloc, args, 1) {
+            Ok(bytes) => self.state_step(&send_step(args, &bytes)),
+            Err(_) => Err(LineError::NoMemory),
+        }
+    }
+
+    /// A `raw` line.
+    #[inline(never)]
+    pub(crate) fn state_raw(&mut self, alloc: Global, args: &[&[u8]]) -> Result<(), LineError>
+        requires kept { IsDraft self.old }
+        requires fits { Fits Form.Raw (map (λ word. word.now) args.now) }
+        ensures answer { Judged result self.new (state_step self.old (raw_step (map (λ word. word.now) args.now))) }
+        ensures kept { OnOk result (IsDraft self.new) }
+    {
+        match bytes_at(alloc, args, 1) {
+            Ok(bytes) => self.state_step(&raw_step(args, &bytes)),
+            Err(_) => Err(LineError::NoMemory),
+        }
     }
 }

@@ -4,7 +4,7 @@ ghost use Rattle.std.specs.Prelude.{◌≡◌};
 ghost use Rattle.csp_scene.specs.Links.{touches};
 
 use arrayvec::ArrayVec;
-use csp_app::Step;
+use csp_app::Script;
 use csp_base::{Addr, Name};
 use csp_link::Fault;
 use csp_log::{End, LINK_ENDS, LinkKind};
@@ -18,7 +18,7 @@ pub struct SceneApp {
     /// Its name, which no other application of the node has, and no link of the node.
     pub name: Name,
     /// What it does.
-    pub steps: Vec<Step>,
+    pub script: Script,
 }
 
 impl Model for SceneApp {
@@ -26,7 +26,7 @@ impl Model for SceneApp {
 
     ghost Value = { PlainApp };
 
-    ghost view = { λ app. record { name = app.name.bytes; steps = app.steps.items } };
+    ghost view = { λ app. record { name = app.name.bytes; steps = app.script } };
 }
 
 /// A node of the network, or a bridge between two links.
@@ -79,6 +79,8 @@ pub struct SceneLink {
     pub name: Name,
     /// What it carries.
     pub kind: LinkKind,
+    /// The most bytes that a packet's payload may have on it, `MIN_MTU` to `MAX_MTU`.
+    pub mtu: u16,
     /// Its two ends, in the order of its line.
     pub ends: ArrayVec<End, LINK_ENDS>,
     /// What goes wrong on it, in the order of the lines.
@@ -90,7 +92,7 @@ impl Model for SceneLink {
 
     ghost Value = { PlainLink };
 
-    ghost view = { λ link. record { name = link.name.bytes; kind = link.kind; ends = link.ends.items; plan = link.plan.items } };
+    ghost view = { λ link. record { name = link.name.bytes; kind = link.kind; mtu = link.mtu; ends = link.ends.items; plan = link.plan.items } };
 }
 
 impl SceneLink {

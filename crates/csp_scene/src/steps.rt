@@ -3,12 +3,14 @@
 ghost use Rattle.std.specs.Prelude.{◌≡◌, ◌≤◌, map, IfSome};
 ghost use Rattle.std.specs.Option.{unwrap_or};
 ghost use Rattle.csp_base.specs.Priority.{prio_of};
-ghost use Rattle.csp_scene.specs.Arguments.{setting};
+ghost use Rattle.csp_app.specs.Placing.{plain_step};
+ghost use Rattle.csp_text.specs.Hexadecimal.{bytes_of};
+ghost use Rattle.csp_scene.specs.Arguments.{word_at, setting};
 ghost use Rattle.csp_scene.specs.Ranges.{AreFlags, IsOwnPort, IsStep};
 ghost use Rattle.csp_scene.specs.Steps.{flag_of, flags_of, bind_step, connect_step, send_step, burst_step, raw_step, recv_step, close_step, wait_step};
 ghost use Rattle.csp_scene.specs.Kept.{Fits, FitsShape};
 
-use crate::arguments::{bytes_at, has_keyword, number_at, setting, word_at};
+use crate::arguments::{has_keyword, number_at, setting, word_at};
 use crate::limits::{CRC_FLAG, DEFAULT_PRIO, MAX_DEST, MAX_PORT, MAX_PRIO, RDP_FLAG};
 use crate::table::{Form, Keyword, Part};
 use csp_app::Step;
@@ -87,10 +89,10 @@ fn own_port(shape: &[Part], args: &[&[u8]]) -> Option<Port>
 }
 
 /// The step of a `bind` line.
-pub(crate) fn bind_step(shape: &[Part], args: &[&[u8]]) -> Step
+pub(crate) fn bind_step(shape: &[Part], args: &[&[u8]]) -> Step<'static>
     requires { Fits Form.Bind (map (λ word. word.now) args.now) }
-    ensures value { result ≡ bind_step shape.now (map (λ word. word.now) args.now) }
-    ensures kept { IsStep result }
+    ensures value { plain_step result ≡ bind_step shape.now (map (λ word. word.now) args.now) }
+    ensures kept { IsStep (plain_step result) }
 {
     Step::Bind {
         port: port_of(number_at(Form::Bind, args, 0)),
@@ -99,11 +101,11 @@ pub(crate) fn bind_step(shape: &[Part], args: &[&[u8]]) -> Step
 }
 
 /// The step of a `connect` line.
-pub(crate) fn connect_step(shape: &[Part], args: &[&[u8]]) -> Step
+pub(crate) fn connect_step(shape: &[Part], args: &[&[u8]]) -> Step<'static>
     requires fits { Fits Form.Connect (map (λ word. word.now) args.now) }
     requires shape { FitsShape Form.Connect shape.now (map (λ word. word.now) args.now) }
-    ensures value { result ≡ connect_step shape.now (map (λ word. word.now) args.now) }
-    ensures kept { IsStep result }
+    ensures value { plain_step result ≡ connect_step shape.now (map (λ word. word.now) args.now) }
+    ensures kept { IsStep (plain_step result) }
 {
     Step::Connect {
         slot: number_at(Form::Connect, args, 0) as u8,
@@ -116,22 +118,23 @@ pub(crate) fn connect_step(shape: &[Part], args: &[&[u8]]) -> Step
 }
 
 /// The step of a `send` line.
-pub(crate) fn send_step(args: &[&[u8]]) -> Step
-    requires { Fits Form.Send (map (λ word. word.now) args.now) }
-    ensures value { result ≡ send_step (map (λ word. word.now) args.now) }
-    ensures kept { IsStep result }
+pub(crate) fn send_step<'a>(args: &[&[u8]], bytes: &'a [u8]) -> Step<'a>
+    requires bytes { bytes.now ≡ bytes_of (word_at (map (λ word. word.now) args.now) 1) }
+    requires fits { Fits Form.Send (map (λ word. word.now) args.now) }
+    ensures value { plain_step result ≡ send_step (map (λ word. word.now) args.now) }
+    ensures kept { IsStep (plain_step result) }
 {
     Step::Send {
         slot: number_at(Form::Send, args, 0) as u8,
-        bytes: bytes_at(args, 1),
+        bytes,
     }
 }
 
 /// The step of a `burst` line.
-pub(crate) fn burst_step(args: &[&[u8]]) -> Step
+pub(crate) fn burst_step(args: &[&[u8]]) -> Step<'static>
     requires { Fits Form.Burst (map (λ word. word.now) args.now) }
-    ensures value { result ≡ burst_step (map (λ word. word.now) args.now) }
-    ensures kept { IsStep result }
+    ensures value { plain_step result ≡ burst_step (map (λ word. word.now) args.now) }
+    ensures kept { IsStep (plain_step result) }
 {
     Step::Burst {
         slot: number_at(Form::Burst, args, 0) as u8,
@@ -141,23 +144,24 @@ pub(crate) fn burst_step(args: &[&[u8]]) -> Step
 }
 
 /// The step of a `raw` line.
-pub(crate) fn raw_step(args: &[&[u8]]) -> Step
-    requires { Fits Form.Raw (map (λ word. word.now) args.now) }
-    ensures value { result ≡ raw_step (map (λ word. word.now) args.now) }
-    ensures kept { IsStep result }
+pub(crate) fn raw_step<'a>(args: &[&[u8]], bytes: &'a [u8]) -> Step<'a>
+    requires bytes { bytes.now ≡ bytes_of (word_at (map (λ word. word.now) args.now) 1) }
+    requires fits { Fits Form.Raw (map (λ word. word.now) args.now) }
+    ensures value { plain_step result ≡ raw_step (map (λ word. word.now) args.now) }
+    ensures kept { IsStep (plain_step result) }
 {
     Step::Raw {
         header: hex_word(word_at(args, 0)),
-        bytes: bytes_at(args, 1),
+        bytes,
     }
 }
 
 /// The step of a `recv` line.
-pub(crate) fn recv_step(shape: &[Part], args: &[&[u8]]) -> Step
+pub(crate) fn recv_step(shape: &[Part], args: &[&[u8]]) -> Step<'static>
     requires fits { Fits Form.Recv (map (λ word. word.now) args.now) }
     requires shape { FitsShape Form.Recv shape.now (map (λ word. word.now) args.now) }
-    ensures value { result ≡ recv_step shape.now (map (λ word. word.now) args.now) }
-    ensures kept { IsStep result }
+    ensures value { plain_step result ≡ recv_step shape.now (map (λ word. word.now) args.now) }
+    ensures kept { IsStep (plain_step result) }
 {
     Step::Recv {
         slot: number_at(Form::Recv, args, 0) as u8,
@@ -167,10 +171,10 @@ pub(crate) fn recv_step(shape: &[Part], args: &[&[u8]]) -> Step
 }
 
 /// The step of a `close` line.
-pub(crate) fn close_step(args: &[&[u8]]) -> Step
+pub(crate) fn close_step(args: &[&[u8]]) -> Step<'static>
     requires { Fits Form.Close (map (λ word. word.now) args.now) }
-    ensures value { result ≡ close_step (map (λ word. word.now) args.now) }
-    ensures kept { IsStep result }
+    ensures value { plain_step result ≡ close_step (map (λ word. word.now) args.now) }
+    ensures kept { IsStep (plain_step result) }
 {
     Step::Close {
         slot: number_at(Form::Close, args, 0) as u8,
@@ -178,10 +182,10 @@ pub(crate) fn close_step(args: &[&[u8]]) -> Step
 }
 
 /// The step of a `wait` line.
-pub(crate) fn wait_step(args: &[&[u8]]) -> Step
+pub(crate) fn wait_step(args: &[&[u8]]) -> Step<'static>
     requires { Fits Form.Wait (map (λ word. word.now) args.now) }
-    ensures value { result ≡ wait_step (map (λ word. word.now) args.now) }
-    ensures kept { IsStep result }
+    ensures value { plain_step result ≡ wait_step (map (λ word. word.now) args.now) }
+    ensures kept { IsStep (plain_step result) }
 {
     Step::Wait {
         rounds: number_at(Form::Wait, args, 0),

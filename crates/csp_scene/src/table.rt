@@ -5,8 +5,8 @@ ghost use Rattle.csp_scene.specs.Table.{first_word, keyword_text, is_step, fixed
 
 use crate::limits::{
     FIRST_OWN_PORT, LAST_FRAME, MAX_ADDR, MAX_COPIES, MAX_COUNT, MAX_DELAY, MAX_DEST, MAX_FLIP,
-    MAX_INBOX, MAX_OPTION, MAX_PORT, MAX_PRIO, MAX_RAW, MAX_ROUNDS, MAX_SEED, MAX_SEND,
-    MAX_SHUFFLE, MAX_SLOT, MAX_UNTIL, MIN_BUFFERS, MIN_INBOX,
+    MAX_INBOX, MAX_MTU, MAX_OPTION, MAX_PORT, MAX_PRIO, MAX_RAW, MAX_ROUNDS, MAX_SEED, MAX_SEND,
+    MAX_SHUFFLE, MAX_SLOT, MAX_UNTIL, MIN_BUFFERS, MIN_INBOX, MIN_MTU,
 };
 use csp_base::MAX_BUFFERS;
 use csp_rdp_header::MAX_WINDOW;
@@ -29,8 +29,10 @@ pub(crate) enum Form {
     Bridge,
     /// `rdp NODE W CT PT DA AT AC`
     Rdp,
-    /// `link NAME kiss NODE NODE`, `link NAME can NODE NODE`
-    Link,
+    /// `link NAME kiss NODE NODE [header] [mtu M]`
+    KissLink,
+    /// `link NAME can NODE NODE [mtu M]`
+    CanLink,
     /// `route NODE TEXT`
     Route,
     /// `fault LINK ab FRAME lose`; here and in the next three `ba` may stand for `ab`
@@ -86,6 +88,10 @@ pub(crate) enum Keyword {
     Kiss,
     /// `can`
     Can,
+    /// `header`
+    Header,
+    /// `mtu`
+    Mtu,
     /// `ab`
     Ab,
     /// `ba`
@@ -143,7 +149,7 @@ pub(crate) enum Group {
 }
 
 /// The line forms, in the order of the table.
-pub(crate) static FORMS: [Form; 24] = [
+pub(crate) static FORMS: [Form; 25] = [
     Form::Until,
     Form::Rounds,
     Form::Shuffle,
@@ -151,7 +157,8 @@ pub(crate) static FORMS: [Form; 24] = [
     Form::Node,
     Form::Bridge,
     Form::Rdp,
-    Form::Link,
+    Form::KissLink,
+    Form::CanLink,
     Form::Route,
     Form::Lose,
     Form::Repeat,
@@ -256,12 +263,34 @@ static RDP: [Part; 7] = [
     },
 ];
 
-static LINK: [Part; 4] = [
+static KISS_LINK: [Part; 4] = [
     Part::Name,
-    Part::Either(Keyword::Kiss, Keyword::Can),
+    Part::Fixed(Keyword::Kiss),
     Part::Name,
     Part::Name,
 ];
+
+static KISS_LINK_OPTIONS: [Group; 2] = [
+    Group::Flag(Keyword::Header),
+    Group::Setting {
+        keyword: Keyword::Mtu,
+        low: MIN_MTU,
+        high: MAX_MTU,
+    },
+];
+
+static CAN_LINK: [Part; 4] = [
+    Part::Name,
+    Part::Fixed(Keyword::Can),
+    Part::Name,
+    Part::Name,
+];
+
+static CAN_LINK_OPTIONS: [Group; 1] = [Group::Setting {
+    keyword: Keyword::Mtu,
+    low: MIN_MTU,
+    high: MAX_MTU,
+}];
 
 static ROUTE: [Part; 2] = [Part::Name, Part::Text];
 
@@ -432,6 +461,8 @@ impl Keyword {
             Keyword::Steps => b"steps",
             Keyword::Kiss => b"kiss",
             Keyword::Can => b"can",
+            Keyword::Header => b"header",
+            Keyword::Mtu => b"mtu",
             Keyword::Ab => b"ab",
             Keyword::Ba => b"ba",
             Keyword::Lose => b"lose",
@@ -457,7 +488,7 @@ impl Form {
             Form::Node => b"node",
             Form::Bridge => b"bridge",
             Form::Rdp => b"rdp",
-            Form::Link => b"link",
+            Form::KissLink | Form::CanLink => b"link",
             Form::Route => b"route",
             Form::Lose | Form::Repeat | Form::Delay | Form::Flip => b"fault",
             Form::App => b"app",
@@ -505,7 +536,8 @@ impl Form {
             Form::Node => &NODE,
             Form::Bridge => &BRIDGE,
             Form::Rdp => &RDP,
-            Form::Link => &LINK,
+            Form::KissLink => &KISS_LINK,
+            Form::CanLink => &CAN_LINK,
             Form::Route => &ROUTE,
             Form::Lose => &LOSE,
             Form::Repeat => &REPEAT,
@@ -531,6 +563,8 @@ impl Form {
         match self {
             Form::Node => &NODE_OPTIONS,
             Form::Bridge => &BRIDGE_OPTIONS,
+            Form::KissLink => &KISS_LINK_OPTIONS,
+            Form::CanLink => &CAN_LINK_OPTIONS,
             Form::Bind => &BIND_OPTIONS,
             Form::Connect => &CONNECT_OPTIONS,
             Form::Recv => &RECV_OPTIONS,

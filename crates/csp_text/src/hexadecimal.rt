@@ -1,6 +1,6 @@
 //! Bytes and 32-bit words as hexadecimal digits, read in either case and written in lower case.
 
-ghost use Rattle.std.specs.Prelude.{◌≡◌, ◌≤◌, ◌*◌, ◌++◌, length, IsTrue, OnOk};
+ghost use Rattle.std.specs.Prelude.{◌≡◌, ◌*◌, ◌++◌, length, IsTrue, IfOk, OnOk};
 ghost use Rattle.std.specs.List.{list_all};
 ghost use Rattle.std.specs.Str.{bytes_eq};
 ghost use Rattle.std.specs.String.{string_bytes};
@@ -8,7 +8,6 @@ ghost use Rattle.hex.specs.Hex.{is_hex_digit, encode_lower};
 ghost use Rattle.csp_text.specs.Hexadecimal.{is_hex, hex_bytes, no_bytes, is_bytes, byte_digits, bytes_of, is_hex_word, hex_number};
 
 use crate::ascii::text;
-use arrayvec::ArrayVec;
 use std::alloc::{AllocError, Global};
 
 /// How many hexadecimal digits a 32-bit word has.
@@ -33,21 +32,18 @@ pub fn is_hex(word: &[u8]) -> bool
     word.len() % 2 == 0 && are_digits(word)
 }
 
-/// The bytes that hexadecimal digits write, at most `N`.
-pub fn hex_bytes<const N: usize>(word: &[u8]) -> ArrayVec<u8, N>
-    requires hex { IsTrue (is_hex word.now) }
-    requires room { length word.now ≤ 2 * N }
-    ensures { result.items ≡ hex_bytes word.now }
+/// The bytes that hexadecimal digits write.
+///
+/// # Errors
+/// Want of memory.
+pub fn hex_bytes(alloc: Global, word: &[u8]) -> Result<Vec<u8>, AllocError>
+    requires { IsTrue (is_hex word.now) }
+    ensures { IfOk result (λ bytes. bytes.items ≡ hex_bytes word.now) }
 {
-    let mut room = [0; N];
-    let count = word.len() / 2;
-    match hex::decode_to_slice(word, &mut room[..count]) {
-        Ok(()) => {}
-        Err(_) => unreachable!(),
-    }
-    match ArrayVec::try_from(&room[..count]) {
-        Ok(bytes) => bytes,
-        Err(_) => unreachable!(),
+    match hex::decode(alloc, word) {
+        Ok(bytes) => Ok(bytes),
+        // Pairs of digits are refused for want of memory alone.
+        Err(_) => Err(AllocError),
     }
 }
 

@@ -34,10 +34,6 @@ fn bytes(alloc: Global, word: &[u8]) -> Result<String, CaseError> {
     if !is_bytes(word) {
         return plain(alloc, "none");
     }
-    let digits = byte_digits(word);
-    if digits.len() > 8 {
-        return Err(Unread);
-    }
-    let bytes = hex(alloc, hex_bytes::<4>(digits).as_slice())?;
+    let bytes = hex(alloc, &hex_bytes(alloc, byte_digits(word))?)?;
     Ok(format!(in alloc; "bytes {bytes}")?)
 }

@@ -5,7 +5,7 @@ use Rattle.csp_app.specs.PlainApp.{AppAt}
 use Rattle.csp_app.specs.Room.{CanHear, plain_app}
 use Rattle.csp_app.specs.declared.plan.Plan.TheVariants as plan
 use Rattle.csp_app.specs.declared.progress.Progress.{Progress}
-use Rattle.csp_app.specs.declared.step.Step.TheVariants as step
+use Rattle.csp_app.specs.PlainStep as step
 use Rattle.csp_deck.specs.Keeping.{PlainPile}
 use Rattle.csp_app.proofs.Hearing.{take_ready}
 use Rattle.csp_app.proofs.Takes.{takes_take}
@@ -14,13 +14,13 @@ use Rattle.csp_app.proofs.app.App.hold.Goals as goal
 pub add-requires-clause-room : goal.add-requires-clause-room
 add-requires-clause-room c =
     let d : c.self.inside.doing ≡ plan.Take = ap (λ (a : AppAt). a.app.doing) c.self.view_is ∙ c.requires.doing in
-    let h : slice_get c.self.inside.steps.items c.self.inside.progress.done ≡ Some step.Take = subst (CanHear (plain_app c.self.inside)) d c.self.invariant.hears in
-    let t = takes_take c.self.inside.steps.items c.self.inside.progress.done h in
+    let h : slice_get c.self.inside.script c.self.inside.progress.done ≡ Some step.Take = subst (CanHear (plain_app c.self.inside)) d c.self.invariant.hears in
+    let t = takes_take c.self.inside.script c.self.inside.progress.done h in
     omega (arith, t.0, c.self.invariant.room)
 
 pub invariant_of-self : goal.invariant_of-self
 invariant_of-self c =
     let d : c.self.inside.doing ≡ plan.Take = ap (λ (a : AppAt). a.app.doing) c.self.view_is ∙ c.requires.doing in
-    let h : slice_get c.self.inside.steps.items c.self.inside.progress.done ≡ Some step.Take = subst (CanHear (plain_app c.self.inside)) d c.self.invariant.hears in
+    let h : slice_get c.self.inside.script c.self.inside.progress.done ≡ Some step.Take = subst (CanHear (plain_app c.self.inside)) d c.self.invariant.hears in
     take_ready c.self.inside _ c.self.invariant h refl (ap (λ (p : Progress). p.done) c.advance.ensures) refl (rw c.add.ensures (grind (arith, common_steps)))
     (ap (λ (p : PlainPile). p.room) c.add.ensures) refl refl (record { taken = refl; made = refl; held = ap (λ (p : PlainPile). p.region) c.add.ensures })

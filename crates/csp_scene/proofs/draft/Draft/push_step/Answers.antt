@@ -1,11 +1,12 @@
 use Rattle.std.proofs.Common.{rules, arith}
 use Rattle.std.proofs.lemmas.Grind.{common_steps}
+use Rattle.csp_app.specs.Placing.{plain_step}
 use Rattle.csp_scene.specs.Nodes.{with_step_at}
 use Rattle.csp_scene.proofs.Drafts.{kept_of, IsDraft-step}
 use Rattle.csp_scene.proofs.draft.Draft.push_step.Goals as goal
 
 pub returns-clause-kept : goal.returns-clause-kept
 returns-clause-kept c =
-    kept_of (with_step_at c.args.place c.args.step c.args.self.now) _
-    (IsDraft-step c.args.self.now c.args.place c.args.step c.requires.kept c.requires.node c.requires.app c.requires.step c.requires.room)
+    kept_of (with_step_at c.args.place (plain_step c.args.step.now) c.args.self.now) _
+    (IsDraft-step c.args.self.now c.args.place (plain_step c.args.step.now) c.requires.kept c.requires.node c.requires.app c.requires.step c.requires.room)
     (first_of (search rules, grind (arith, common_steps)))
