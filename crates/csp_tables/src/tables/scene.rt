@@ -35,7 +35,8 @@ fn of_node(alloc: Global, how: &str, scene: &Scene) -> Result<String, CaseError>
         "step" => {
             let first = scene.nodes.first().ok_or(Unread)?;
             let app = first.apps.last().ok_or(Unread)?;
-            shown(alloc, app.steps.last().ok_or(Unread)?)
+            let last = app.script.len().checked_sub(1).ok_or(Unread)?;
+            shown(alloc, &app.script.step(last))
         }
         _ => Err(Unread),
     }
