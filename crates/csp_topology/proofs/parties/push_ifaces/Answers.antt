@@ -1,16 +1,17 @@
-use Rattle.std.proofs.Common.{◌≡◌, ℕ, ◌+◌, ◌<◌, ◌++◌, cond, List, [], ◌∷◌, length, map, take, ap, sym, ◌∙◌, arith, subst, length-append}
+use Rattle.std.proofs.Common.{◌≡◌, ℕ, ◌+◌, ◌<◌, ◌≤◌, ◌++◌, cond, List, [], ◌∷◌, length, map, take, ap, sym, ◌∙◌, arith, subst, length-append}
 use Rattle.std.specs.List.{AllByRecursion}
 use Rattle.std.proofs.lemmas.List.{append-nil, length-take-le, map-append}
 use Rattle.std.proofs.lemmas.List.Elements.{filter_more}
+use Rattle.csp_base.specs.declared.limits.TheConstants.{MAX_PAYLOAD}
 use Rattle.csp_log.specs.declared.places.TheConstants.{IFACES}
-use Rattle.csp_scene.proofs.Lists.{AllByRecursion-append}
+use Rattle.csp_scene.proofs.Lists.{AllByRecursion-append, AllByRecursion-at}
 use Rattle.csp_scene.specs.Links.{links_at, touches}
 use Rattle.csp_scene.specs.Scene.{PlainLink}
 use Rattle.csp_topology.proofs.PartyLemmas.{ifaces-push}
 use Rattle.csp_topology.proofs.PlanLemmas.{links_few}
 use Rattle.csp_topology.proofs.parties.push_ifaces.Goals as goal
 use Rattle.csp_topology.proofs.parties.push_ifaces.Goals.{then-touches+in_ok-push, else-touches}
-use Rattle.csp_topology.specs.Opening.{CanOpen, opening_of}
+use Rattle.csp_topology.specs.Opening.{CanOpen, FitsBuffers, opening_of}
 use Rattle.csp_topology.specs.Parties.{PlainOpening, iface_on, ifaces_from}
 use Rattle.csp_topology.specs.declared.opening.Opening.{Opening}
 use Rattle.csp_topology.specs.declared.opening.Opening.TheVariants as opening
@@ -32,6 +33,8 @@ loop-link-preserved c =
     filter_more (touches place) c.args.links.now c.loop-link.link-index x low ∙ ap (λ (y : PlainLink). before ++ cond (touches place y) (y ∷ []) []) (sym c.link-item.is) in
     let so_far = take c.loop-link.link-index c.args.links.now in
     let within : c.loop-link.number < IFACES = omega (arith, old.number, links_few place so_far, length-take-le c.loop-link.link-index c.args.links.now (omega (arith, low)), low, c.requires.few_links) in
+    let most : x.mtu ≤ MAX_PAYLOAD = subst FitsBuffers (sym c.link-item.is) (AllByRecursion-at FitsBuffers c.args.links.now c.loop-link.link-index x c.requires.fit low) in
+    let fits : c.link.inside.mtu ≤ MAX_PAYLOAD = omega (arith, most, ap (λ (l : PlainLink). l.mtu) c.link.view_is) in
     let tested : c.touches.result ≡ touches place x = c.touches.ensures ∙ ap (λ (p : ℕ). touches p x) c.from.ensures in
     elim c.if-touches.branch [
       | then-touches+in_ok-push w ↦
