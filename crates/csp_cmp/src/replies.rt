@@ -7,12 +7,13 @@ ghost use Rattle.csp_cmp.specs.Replies.{clock_bytes, ident_bytes, padded, peek_b
 
 use crate::{CmpRequest, MAX_CHUNK, NAME_LEN};
 use arrayvec::ArrayVec;
+use csp_base::MAX_PAYLOAD;
 
 /// The type of a reply.
 pub const REPLY: u8 = 0xFF;
 
-/// The most bytes of a reply.
-pub const MAX_REPLY: usize = 252;
+/// The most bytes of a reply: a checksum still fits behind it into a packet.
+pub const MAX_REPLY: usize = MAX_PAYLOAD - 4;
 
 /// How many things an interface counts.
 pub const COUNTS: usize = 10;

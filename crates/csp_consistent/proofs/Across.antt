@@ -6,7 +6,7 @@ use Rattle.csp_base.specs.declared.traces.Trace.{Trace}
 use Rattle.csp_link.specs.Applied.{frames_popped, frames_pushed, made, made_from, popped_by, pushed_by}
 use Rattle.csp_link.specs.Copies.{copies_of, damaged}
 use Rattle.csp_link.specs.Fates.{fate_of}
-use Rattle.csp_link.specs.PlainLink.{lane_of}
+use Rattle.csp_log.specs.Kinds.{carried_on}
 use Rattle.csp_link.specs.Ways.{number, other, from_queue, to_queue}
 use Rattle.csp_link.specs.declared.fates.Fate.{Fate}
 use Rattle.csp_link.specs.declared.fault.Fault.{Fault}
@@ -116,19 +116,19 @@ abbrev pub AreLanes : PlainRecord → ℕ → Carries → End → End → Type 0
 AreLanes r n carries a b = AllByRecursion (IsInOrder r) (end_lanes n carries 0 a ++ end_lanes n carries 1 b)
 
 lanes_there : (r : PlainRecord) (n m j : ℕ) (links : List PlainLink) (l : PlainLink) (a b : End) → m ≡ n + j → slice_get links j ≡ Some l → l.ends ≡ a ∷ b ∷ [] → AllByRecursion (IsInOrder r) (link_lanes n links)
-    → AreLanes r m (lane_of l.kind) a b
+    → AreLanes r m (carried_on l.kind) a b
 lanes_there r n m j [] l a b e there two all = absurd cc
 lanes_there r n m zero (x ∷ links) l a b e there two all =
     let same : x ≡ l = ap (λ o. unwrap_or o x) there in
     let place : n ≡ m = omega (arith, e) in
-    subst (λ es. AllByRecursion (IsInOrder r) (lanes_on m (lane_of l.kind) 0 es)) two
-    (subst (λ k. AllByRecursion (IsInOrder r) (lanes_on k (lane_of l.kind) 0 l.ends)) place
-    (subst (λ (y : PlainLink). AllByRecursion (IsInOrder r) (lanes_on n (lane_of y.kind) 0 y.ends)) same
-    (each_first (IsInOrder r) (lanes_on n (lane_of x.kind) 0 x.ends) (link_lanes (n + 1) links) all)))
+    subst (λ es. AllByRecursion (IsInOrder r) (lanes_on m (carried_on l.kind) 0 es)) two
+    (subst (λ k. AllByRecursion (IsInOrder r) (lanes_on k (carried_on l.kind) 0 l.ends)) place
+    (subst (λ (y : PlainLink). AllByRecursion (IsInOrder r) (lanes_on n (carried_on y.kind) 0 y.ends)) same
+    (each_first (IsInOrder r) (lanes_on n (carried_on x.kind) 0 x.ends) (link_lanes (n + 1) links) all)))
 lanes_there r n m (suc j) (x ∷ links) l a b e there two all =
-    lanes_there r (n + 1) m j links l a b (omega (arith, e)) there two (each_last (IsInOrder r) (lanes_on n (lane_of x.kind) 0 x.ends) (link_lanes (n + 1) links) all)
+    lanes_there r (n + 1) m j links l a b (omega (arith, e)) there two (each_last (IsInOrder r) (lanes_on n (carried_on x.kind) 0 x.ends) (link_lanes (n + 1) links) all)
 
-pub link_lanes_of : (scene : PlainScene) (r : PlainRecord) (n : ℕ) (l : PlainLink) (a b : End) → AreInOrder scene r → slice_get scene.links n ≡ Some l → l.ends ≡ a ∷ b ∷ [] → AreLanes r n (lane_of l.kind) a b
+pub link_lanes_of : (scene : PlainScene) (r : PlainRecord) (n : ℕ) (l : PlainLink) (a b : End) → AreInOrder scene r → slice_get scene.links n ≡ Some l → l.ends ≡ a ∷ b ∷ [] → AreLanes r n (carried_on l.kind) a b
 unfolding lanes_of
 link_lanes_of scene r n l a b order there two =
     lanes_there r 0 n n scene.links l a b (omega arith) there two (each_last (IsInOrder r) (lanes_from 0 scene.nodes scene.links) (link_lanes 0 scene.links) order)

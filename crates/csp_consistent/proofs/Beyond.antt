@@ -7,7 +7,7 @@ use Rattle.csp_deck.specs.Runs.{IsRun}
 use Rattle.csp_iface.specs.PlainIface.{opening}
 use Rattle.csp_iface.specs.Receiving.{arrived}
 use Rattle.csp_iface.specs.Sending.{sent_trace}
-use Rattle.csp_link.specs.PlainLink.{lane_of}
+use Rattle.csp_log.specs.Kinds.{carried_on}
 use Rattle.csp_link.specs.declared.way.Way.TheVariants.{Forth, Back}
 use Rattle.csp_log.specs.declared.places.End.{End}
 use Rattle.csp_log.specs.declared.places.QueueId.TheVariants as queue
@@ -117,10 +117,10 @@ entries_alike node number (party ∷ parties) = λ i. (if is_alike node number p
 
 -- the run of an interface, where it has entries
 iface_run : (scene : PlainScene) (r : PlainRecord) (node number : ℕ) → Logged (IsOf scene) (who.Iface node number) r.parties
-    → (l : PlainLink) × (slice_get (links_at node scene.links) number ≡ Some l) × IsRun party_steps 0 (an_iface (opening node number l.kind)) (entries_of r (who.Iface node number))
+    → (l : PlainLink) × (slice_get (links_at node scene.links) number ≡ Some l) × IsRun party_steps 0 (an_iface (opening node number l.kind l.mtu)) (entries_of r (who.Iface node number))
 iface_run scene r node number log =
     let mine : IsIfaceAt scene.nodes scene.links node number log.opening.party = subst (λ w. IsOwner scene.nodes scene.links w log.opening.party) log.name log.holds in
-    (mine.link, mine.on, subst (λ es. IsRun party_steps 0 (an_iface (opening node number mine.link.kind)) es) (sym log.entries) (subst (λ p. IsRun party_steps 0 p log.log.entries) mine.party log.logged.run))
+    (mine.link, mine.on, subst (λ es. IsRun party_steps 0 (an_iface (opening node number mine.link.kind mine.link.mtu)) es) (sym log.entries) (subst (λ p. IsRun party_steps 0 p log.log.entries) mine.party log.logged.run))
 
 -- whatever an interface pushed to its link has the trace of one of its transmissions
 sent_all : (scene : PlainScene) (r : PlainRecord) → AreLogsOf (parties_of scene) r.parties → (node number : ℕ)
@@ -132,8 +132,8 @@ sent_all scene r are node number =
         → AllByRecursion (IsFrameOf (IsBegun node number (entries_of r (who.Iface node number)))) (puts (queue.Tx number) (entries_of r (who.Iface node number)))
     told (inl none) = subst (λ es. AllByRecursion (IsFrameOf (IsBegun node number es)) (puts (queue.Tx number) es)) (sym none) tt
     told (inr log) =
-        let run : (l : PlainLink) × (slice_get (links_at node scene.links) number ≡ Some l) × IsRun party_steps 0 (an_iface (opening node number l.kind)) (entries_of r (who.Iface node number)) = iface_run scene r node number log in
-        transmitted_all node number run.0.kind (entries_of r (who.Iface node number)) run.2
+        let run : (l : PlainLink) × (slice_get (links_at node scene.links) number ≡ Some l) × IsRun party_steps 0 (an_iface (opening node number l.kind l.mtu)) (entries_of r (who.Iface node number)) = iface_run scene r node number log in
+        transmitted_all node number run.0.kind run.0.mtu (entries_of r (who.Iface node number)) run.2
 
 -- what came over a link in either direction
 came_over : (scene : PlainScene) (r : PlainRecord) (l : PlainLink) (end : End) (Q : Trace → Type 0) → AreLogsOf (parties_of scene) r.parties → AreInOrder scene r → (j : IsJoint scene.links l end)
@@ -143,12 +143,12 @@ came_over scene r l end Q are order j all =
   where
     by_way : (l.ends ≡ end ∷ j.beyond ∷ []) ⊎ (l.ends ≡ j.beyond ∷ end ∷ []) → AllByRecursion (IsFrameOf Q) (gets (queue.Rx end.iface) (entries_of r (who.Iface end.node end.iface)))
     by_way (inl two) =
-        let lanes : AreLanes r j.number (lane_of l.kind) end j.beyond = link_lanes_of scene r j.number l end j.beyond order j.there two in
+        let lanes : AreLanes r j.number (carried_on l.kind) end j.beyond = link_lanes_of scene r j.number l end j.beyond order j.there two in
         through (IsFrameOf Q) r _ lanes.1.0
         (across Q l.plan Back (entries_of r (who.Link j.number)) (are_planned scene r are j.number l Back j.there)
         (through (IsFrameOf Q) r _ lanes.1.1.0 all))
     by_way (inr two) =
-        let lanes : AreLanes r j.number (lane_of l.kind) j.beyond end = link_lanes_of scene r j.number l j.beyond end order j.there two in
+        let lanes : AreLanes r j.number (carried_on l.kind) j.beyond end = link_lanes_of scene r j.number l j.beyond end order j.there two in
         through (IsFrameOf Q) r _ lanes.1.1.1.0
         (across Q l.plan Forth (entries_of r (who.Link j.number)) (are_planned scene r are j.number l Forth j.there)
         (through (IsFrameOf Q) r _ lanes.0 all))
@@ -185,11 +185,11 @@ have_origins scene r after are order end =
     told : (entries_of r (who.Iface end.node end.iface) ≡ []) ⊎ Logged (IsOf scene) (who.Iface end.node end.iface) r.parties → AllByRecursion (IsSent scene r end) (puts queue.Inbox (entries_of r (who.Iface end.node end.iface)))
     told (inl none) = subst (λ es. AllByRecursion (IsSent scene r end) (puts queue.Inbox es)) (sym none) tt
     told (inr log) =
-        let run : (l : PlainLink) × (slice_get (links_at end.node scene.links) end.iface ≡ Some l) × IsRun party_steps 0 (an_iface (opening end.node end.iface l.kind)) (entries_of r (who.Iface end.node end.iface)) = iface_run scene r end.node end.iface log in
+        let run : (l : PlainLink) × (slice_get (links_at end.node scene.links) end.iface ≡ Some l) × IsRun party_steps 0 (an_iface (opening end.node end.iface l.kind l.mtu)) (entries_of r (who.Iface end.node end.iface)) = iface_run scene r end.node end.iface log in
         let first : 0 + end.iface ≡ end.iface = omega arith in
         let j : IsJoint scene.links run.0 end = subst (λ k. IsJoint scene.links run.0 (record { node = end.node; iface = k })) first (joint (length scene.nodes) end.node scene.links [] end.iface run.0 after run.1) in
         let Q : Trace → Type 0 = IsBegun j.beyond.node j.beyond.iface (entries_of r (who.Iface j.beyond.node j.beyond.iface)) in
         let got : AllByRecursion (IsFrameOf Q) (gets (queue.Rx end.iface) (entries_of r (who.Iface end.node end.iface))) = came_over scene r run.0 end Q are order j (sent_all scene r are j.beyond.node j.beyond.iface) in
         AllByRecursion-map (IsPacketOf (HasCome r j.beyond)) (IsSent scene r end) (puts queue.Inbox (entries_of r (who.Iface end.node end.iface))) (is_sent scene r run.0 end j)
-        (received (HasCome r j.beyond) end.node end.iface run.0.kind (entries_of r (who.Iface end.node end.iface)) run.2
+        (received (HasCome r j.beyond) end.node end.iface run.0.kind run.0.mtu (entries_of r (who.Iface end.node end.iface)) run.2
         (AllByRecursion-map (IsFrameOf Q) (IsFrameOf (λ t. HasCome r j.beyond (arrived t))) (gets (queue.Rx end.iface) (entries_of r (who.Iface end.node end.iface))) (hop_more r j.beyond) got))

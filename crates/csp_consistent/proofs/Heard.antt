@@ -3,9 +3,9 @@ use Rattle.std.proofs.Common.{◌≡◌, ◌⊎◌, inl, inr, ℕ, ◌+◌, ◌=
 use Rattle.std.specs.Prelude.{if◌then◌else◌, ⊤}
 use Rattle.std.specs.List.{AllByRecursion}
 use Rattle.csp_base.specs.declared.traces.Trace.{Trace}
-use Rattle.csp_base.specs.declared.limits.TheConstants.{MAX_PAYLOAD}
 use Rattle.csp_can.specs.Begins.{begin_length}
 use Rattle.csp_can.specs.Identifiers.{identifier_of, key_of, same_key}
+use Rattle.csp_can.specs.Listening.{Listening}
 use Rattle.csp_can.specs.Open.{counters, fresh, standing, without, ruling, done, gone_on, remove_first}
 use Rattle.csp_can.specs.Rules.{Arrival, arrival, Deed, leaves, ends, opens, goes_on, Ruling, refused, opened_partial, grown_partial, measured, begin_ruling, more_ruling, ruling_of}
 use Rattle.csp_can.specs.declared.answers.CanEvent.{CanEvent}
@@ -34,7 +34,7 @@ IsWholeOf P (Some p) = P p.trace
 -- what is kept of a stream has one, unless there is nothing to read; and so has each partial packet
 abbrev pub IsKeptOf : (Trace → Type 0) → Receiver → Type 0
 IsKeptOf P (by.Kiss s) = (s.rest ≡ []) ⊎ P s.trace
-IsKeptOf P (by.Can ps) = AllByRecursion (λ p. P p.trace) ps
+IsKeptOf P (by.Can l) = AllByRecursion (λ p. P p.trace) l.partials
 
 abbrev pub IsHeardOf : (Trace → Type 0) → Heard → Type 0
 IsHeardOf P h = IsKeptOf P h.receiver × IsWholeOf P h.whole
@@ -97,9 +97,9 @@ measured_of P restarted p part here =
     chosen false true = here
     chosen false false = tt
 
-begun_of : (P : Trace → Type 0) (stood full : Bool) (a : Arrival) → P a.trace → IsEventOf P (begin_ruling stood full a).event
-begun_of P stood full a here =
-    chosen (nat_lt (length a.frame.bytes) 6) (nat_lt MAX_PAYLOAD (begin_length a.frame.bytes)) (not stood && full)
+begun_of : (P : Trace → Type 0) (mtu : ℕ) (stood full : Bool) (a : Arrival) → P a.trace → IsEventOf P (begin_ruling mtu stood full a).event
+begun_of P mtu stood full a here =
+    chosen (nat_lt (length a.frame.bytes) 6) (nat_lt mtu (begin_length a.frame.bytes)) (not stood && full)
   where
     chosen : (short long none : Bool) → IsRulingOf P (if short then refused can.ShortBegin leaves
         else (if long then refused can.TooLong leaves
@@ -118,9 +118,9 @@ more_of P (Some p) a one =
     chosen true = measured_of P false (grown_partial p a) goes_on one
     chosen false = tt
 
-ruling_is_of : (P : Trace → Type 0) (kind : Kind) (o : Option Partial) (full : Bool) (a : Arrival) → IsPartialOf P o → P a.trace → IsEventOf P (ruling_of kind o full a).event
-ruling_is_of P Begin o full a one here = begun_of P (is_some o) full a here
-ruling_is_of P More o full a one here = more_of P o a one
+ruling_is_of : (P : Trace → Type 0) (mtu : ℕ) (kind : Kind) (o : Option Partial) (full : Bool) (a : Arrival) → IsPartialOf P o → P a.trace → IsEventOf P (ruling_of mtu kind o full a).event
+ruling_is_of P mtu Begin o full a one here = begun_of P mtu (is_some o) full a here
+ruling_is_of P mtu More o full a one here = more_of P o a one
 
 shown_of : (P : Trace → Type 0) (o : Option Partial) → IsPartialOf P o → IsPartialOf P (option_map (λ k. k) o)
 shown_of P None one = tt
@@ -137,13 +137,13 @@ whole_of P can.TooLong one = tt
 whole_of P can.NoRoom one = tt
 
 -- a frame of a CAN bus
-pub reassembled_of : (P : Trace → Type 0) (ps : List Partial) (a : Arrival) → AllByRecursion (λ p. P p.trace) ps → P a.trace → IsHeardOf P (reassembled ps a)
-reassembled_of P ps a all here =
-    let left : List Partial = fresh counters a.time ps in
-    let still : AllByRecursion (λ (p : Partial). P p.trace) left = each_filter (λ (p : Partial). P p.trace) _ ps all in
+pub reassembled_of : (P : Trace → Type 0) (l : Listening) (a : Arrival) → AllByRecursion (λ p. P p.trace) l.partials → P a.trace → IsHeardOf P (reassembled l a)
+reassembled_of P l a all here =
+    let left : List Partial = fresh counters a.time l.partials in
+    let still : AllByRecursion (λ (p : Partial). P p.trace) left = each_filter (λ (p : Partial). P p.trace) _ l.partials all in
     let one : IsPartialOf P (standing counters (key_of a.frame.head) left) = found_of P (λ k. same_key k.key (key_of a.frame.head)) left still in (
-      done_of P (ruling counters left a).deed (key_of a.frame.head) (opened_partial a) (gone_on counters left a) left here (grown_of P a (standing counters (key_of a.frame.head) left) one) still,
-      whole_of P (ruling counters left a).event (ruling_is_of P a.frame.head.kind (option_map (λ k. k) (standing counters (key_of a.frame.head) left)) _ a (shown_of P (standing counters (key_of a.frame.head) left) one) here),
+      done_of P (ruling counters l.mtu left a).deed (key_of a.frame.head) (opened_partial a) (gone_on counters left a) left here (grown_of P a (standing counters (key_of a.frame.head) left) one) still,
+      whole_of P (ruling counters l.mtu left a).event (ruling_is_of P l.mtu a.frame.head.kind (option_map (λ k. k) (standing counters (key_of a.frame.head) left)) _ a (shown_of P (standing counters (key_of a.frame.head) left) one) here),
     )
 
 -- any frame
@@ -153,7 +153,7 @@ heard_of P now r f kept here =
   where
     going : (r : Receiver) → IsKeptOf P r → IsHeardOf P (heard_by now r f)
     going (by.Kiss s) kept = (inr here, tt)
-    going (by.Can ps) kept = reassembled_of P ps (arrival (identifier_of (unwrap_or f.can 0)) f.bytes.items (arrived f.trace) now) kept here
+    going (by.Can l) kept = reassembled_of P l (arrival (identifier_of (unwrap_or f.can 0)) f.bytes.items (arrived f.trace) now) kept here
 
     chosen : (b : Bool) → IsHeardOf P (if b then record { receiver = r; whole = None; refused = 1 } else heard_by now r f)
     chosen true = (kept, tt)
@@ -171,4 +171,4 @@ silent_of P trace reading = (inl refl, tt)
 pub further_of : (P : Trace → Type 0) (r : Receiver) → IsKeptOf P r → IsHeardOf P (read_further r)
 further_of P (by.Kiss s) (inl none) = subst (λ rest. IsHeardOf P (followed s.trace (read_on s.reading rest))) (sym none) (silent_of P s.trace s.reading)
 further_of P (by.Kiss s) (inr here) = (inr here, traced_of P s.trace (read_on s.reading s.rest).packet here)
-further_of P (by.Can ps) all = (all, tt)
+further_of P (by.Can l) all = (all, tt)

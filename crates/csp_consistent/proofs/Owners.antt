@@ -34,7 +34,7 @@ pub record IsIfaceAt (nodes : List PlainNode) (links : List PlainLink) (place nu
   pub link : PlainLink
   pub there : slice_get nodes place ≡ Some node
   pub on : slice_get (links_at place links) number ≡ Some link
-  pub party : p ≡ an_iface (plain_iface.opening place number link.kind)
+  pub party : p ≡ an_iface (plain_iface.opening place number link.kind link.mtu)
 
 -- an application of a node
 pub record IsAppAt (nodes : List PlainNode) (place number : ℕ) (p : PlainParty) : Type 0 where

@@ -11,7 +11,7 @@ use Rattle.csp_iface.specs.PlainIface.{PlainIface, opening}
 use Rattle.csp_iface.specs.Links.{receiver_for}
 use Rattle.csp_iface.specs.Planning.{plan_of, first_rule, side_plan}
 use Rattle.csp_iface.specs.Receiving.{arrived, heard, read_further}
-use Rattle.csp_iface.specs.Telling.{told_by, fetched, caught, pushed, kept, filled, going_on, has_packet, read_after, tells, resting}
+use Rattle.csp_iface.specs.Telling.{told_by, fetched, caught, pushed, kept, filled, going_on, has_packet, is_too_big, read_after, taken_up, tells, resting}
 use Rattle.csp_iface.specs.declared.packet.Packet.{Packet}
 use Rattle.csp_iface.specs.declared.plan.Plan.{Plan}
 use Rattle.csp_iface.specs.declared.plan.Plan.TheVariants as plan
@@ -91,7 +91,11 @@ kept_holding P (item.Note _) s h = h
 
 fetched_holding : (P : Trace → Type 0) (i : ItemShown) (s : PlainIface) → IsHolding P s → IsHolding P (fetched i s).iface
 fetched_holding P (item.Frame _) s h = h
-fetched_holding P (item.Packet _ _) s h = h
+fetched_holding P (item.Packet mark b) s h = taken (is_too_big s b)
+  where
+    taken : (big : Bool) → IsHolding P (taken_up big mark b s).iface
+    taken true = h
+    taken false = h
 fetched_holding P (item.Note _) s h = h
 
 caught_holding : (P : Trace → Type 0) (now : ℕ) (i : ItemShown) (s : PlainIface) → IsHolding P s → IsFrameOf (λ t. P (arrived t)) i → IsHolding P (caught now i s).iface
@@ -192,7 +196,11 @@ kept_named node number (item.Note _) s h = h
 
 fetched_named : (node number : ℕ) (i : ItemShown) (s : PlainIface) → IsNamed node number s → IsNamed node number (fetched i s).iface
 fetched_named node number (item.Frame _) s h = h
-fetched_named node number (item.Packet _ _) s h = h
+fetched_named node number (item.Packet mark b) s h = taken (is_too_big s b)
+  where
+    taken : (big : Bool) → IsNamed node number (taken_up big mark b s).iface
+    taken true = h
+    taken false = h
 fetched_named node number (item.Note _) s h = h
 
 caught_named : (node number now : ℕ) (i : ItemShown) (s : PlainIface) → IsNamed node number s → IsNamed node number (caught now i s).iface
@@ -231,11 +239,12 @@ run_received P node number (e ∷ es) time s run named h got =
     (subst (λ o. AllByRecursion (IsPacketOf P) (put_by queue.Inbox o e.answer)) (sym run.1.op) (put_of P s (plan_of s) e.answer h))
     (run_received P node number es e.time (tells (asked s e.time) e.time e.answer) run.2 (step_named node number s e.time e.answer named) (step_holding P s e.time e.answer h own_got) then_got)
 
-opening_kept : (P : Trace → Type 0) (kind : LinkKind) → IsKeptOf P (receiver_for kind)
-opening_kept P kind.Kiss = inl refl
-opening_kept P kind.Can = tt
+opening_kept : (P : Trace → Type 0) (kind : LinkKind) (mtu : ℕ) → IsKeptOf P (receiver_for kind mtu)
+opening_kept P kind.Kiss mtu = inl refl
+opening_kept P kind.KissHeader mtu = inl refl
+opening_kept P kind.Can mtu = tt
 
 -- where each frame that an interface popped has, one hop on, a trace of some kind, each packet that it handed to its inbox has one
-pub received : (P : Trace → Type 0) (node number : ℕ) (kind : LinkKind) (es : List Entry) → IsRun party_steps 0 (an_iface (opening node number kind)) es
+pub received : (P : Trace → Type 0) (node number : ℕ) (kind : LinkKind) (mtu : ℕ) (es : List Entry) → IsRun party_steps 0 (an_iface (opening node number kind mtu)) es
     → AllByRecursion (IsFrameOf (λ t. P (arrived t))) (gets (queue.Rx number) es) → AllByRecursion (IsPacketOf P) (puts queue.Inbox es)
-received P node number kind es run got = run_received P node number es 0 (opening node number kind) run (refl, refl) (tt, tt, opening_kept P kind) got
+received P node number kind mtu es run got = run_received P node number es 0 (opening node number kind mtu) run (refl, refl) (tt, tt, opening_kept P kind mtu) got

@@ -13,7 +13,7 @@ use Rattle.csp_iface.specs.Asking.{asked, op_of, given, delivered, transmitted}
 use Rattle.csp_iface.specs.PlainIface.{PlainIface, opening}
 use Rattle.csp_iface.specs.Planning.{plan_of}
 use Rattle.csp_iface.specs.Sending.{sent_trace, next_node, frames_of, can_frame}
-use Rattle.csp_iface.specs.Telling.{told_by, caught, pushed, kept, fetched as told_fetched, tells, bad, concluded}
+use Rattle.csp_iface.specs.Telling.{told_by, caught, pushed, kept, fetched as told_fetched, tells, bad, concluded, is_too_big, taken_up}
 use Rattle.csp_iface.specs.declared.plan.Plan.{Plan}
 use Rattle.csp_iface.specs.declared.plan.Plan.TheVariants as plan
 use Rattle.csp_iface.specs.declared.sender.TheConstants.{IDS}
@@ -57,6 +57,7 @@ can_traces Q t (f ∷ fs) here = (here, can_traces Q t fs here)
 
 frames_traces : (Q : Trace → Type 0) (k : LinkKind) (serial next : ℕ) (b : Content) (t : Trace) → Q t → HaveTraces Q (frames_of k serial next b t)
 frames_traces Q link.Kiss serial next b t here = (here, tt)
+frames_traces Q link.KissHeader serial next b t here = (here, tt)
 frames_traces Q link.Can serial next b t here = can_traces Q t (map written (fragments_of b.header b.payload next (serial % IDS))) here
 
 handed_traces : (Q : Trace → Type 0) (s : PlainIface) (p : Plan) → HaveTraces Q s.frames → HaveTraces Q (waiting s p).frames
@@ -88,14 +89,22 @@ kept_traces Q n fs (item.Frame f) s all h fits = (came_back Q n fs f all fits, h
 kept_traces Q n fs (item.Packet _ _) s all h fits = h
 kept_traces Q n fs (item.Note _) s all h fits = h
 
--- a packet that is fetched begins the transmission of this serial
+-- a packet that is fetched, and not too big, begins the transmission of this serial
+abbrev IsTakenUp : (Trace → Type 0) → PlainIface → Content → (too_big : Bool) → Type 0
+IsTakenUp Q s b true = ⊤
+IsTakenUp Q s b false = Q (sent_trace s.node s.number s.serial b.trace)
+
 abbrev IsFresh : (Trace → Type 0) → PlainIface → ItemShown → Type 0
-IsFresh Q s (item.Packet mark b) = Q (sent_trace s.node s.number s.serial b.trace)
+IsFresh Q s (item.Packet mark b) = IsTakenUp Q s b (is_too_big s b)
 IsFresh Q s (item.Frame _) = ⊤
 IsFresh Q s (item.Note _) = ⊤
 
+taken_traces : (Q : Trace → Type 0) (too_big : Bool) (mark : ℕ) (b : Content) (s : PlainIface) → HaveTraces Q s.frames → IsTakenUp Q s b too_big → HaveTraces Q (taken_up too_big mark b s).iface.frames
+taken_traces Q true mark b s h here = h
+taken_traces Q false mark b s h here = frames_traces Q s.kind s.serial (next_node mark b.header) b (sent_trace s.node s.number s.serial b.trace) here
+
 fetched_traces : (Q : Trace → Type 0) (i : ItemShown) (s : PlainIface) → HaveTraces Q s.frames → IsFresh Q s i → HaveTraces Q (told_fetched i s).iface.frames
-fetched_traces Q (item.Packet mark b) s h here = frames_traces Q s.kind s.serial (next_node mark b.header) b (sent_trace s.node s.number s.serial b.trace) here
+fetched_traces Q (item.Packet mark b) s h here = taken_traces Q (is_too_big s b) mark b s h here
 fetched_traces Q (item.Frame _) s h here = h
 fetched_traces Q (item.Note _) s h here = h
 
@@ -198,7 +207,11 @@ abbrev shown_by : ℕ → List Event → OpShown → AnswerShown → Option Cont
 shown_by n es o a = if list_any (is_beginning n) es then fetched (moved_by o a) else None
 
 turn_silent : (n : ℕ) (s : PlainIface) (now : ℕ) (p : Plan) (a : AnswerShown) (k : ℕ) → (told s now p a).serial ≤ n → shown_by n ((told_by (waiting s p) now p a).events ++ bad k) (op_of s p) a ≡ None
-turn_silent n s now plan.Fetch (answer.Popped (item.Packet mark b)) k h = later_none n s.serial k (Some b) h
+turn_silent n s now plan.Fetch (answer.Popped (item.Packet mark b)) k h = taken (is_too_big s b) h
+  where
+    taken : (big : Bool) → (taken_up big mark b (waiting s plan.Fetch)).iface.serial ≤ n → shown_by n ((taken_up big mark b (waiting s plan.Fetch)).events ++ bad k) (op_of s plan.Fetch) (answer.Popped (item.Packet mark b)) ≡ None
+    taken true g = ap (λ c. if c then Some b else None) (none_bad n k)
+    taken false g = later_none n s.serial k (Some b) g
 turn_silent n s now plan.Fetch (answer.Popped (item.Frame _)) k h = nothing _ None refl
 turn_silent n s now plan.Fetch (answer.Popped (item.Note _)) k h = nothing _ None refl
 turn_silent n s now plan.Fetch _ k h = nothing _ None refl
@@ -228,7 +241,11 @@ kept_serial (item.Packet _ _) s = refl
 kept_serial (item.Note _) s = refl
 
 fetched_serial : (i : ItemShown) (s : PlainIface) → s.serial ≤ (told_fetched i s).iface.serial
-fetched_serial (item.Packet _ _) s = omega arith
+fetched_serial (item.Packet mark b) s = taken (is_too_big s b)
+  where
+    taken : (big : Bool) → s.serial ≤ (taken_up big mark b s).iface.serial
+    taken true = le_refl s.serial
+    taken false = omega arith
 fetched_serial (item.Frame _) s = le_refl s.serial
 fetched_serial (item.Note _) s = le_refl s.serial
 
@@ -259,12 +276,17 @@ told_serial s now p a = same_serial s.serial (waiting s p).serial (handed_serial
 fresh_item : (node number : ℕ) (all : List Entry) (s : PlainIface) (k : ℕ) (rest : List Content) (i : ItemShown) → IsNamed node number s
     → filter_map (shown_in s.serial) all ≡ cons_option (shown_by s.serial ((told_fetched i (waiting s plan.Fetch)).events ++ bad k) (op_of s plan.Fetch) (answer.Popped i)) rest
     → IsFresh (IsBegun node number all) s i
-fresh_item node number all s k rest (item.Packet mark b) named e = record {
-  serial = s.serial;
-  packet = b;
-  shown = ap (λ cs. slice_get cs 0) (e ∙ ap (λ o. cons_option o rest) (this_shown s.serial k b));
-  trace = λ i. sent_trace (named.0 i) (named.1 i) s.serial b.trace;
-}
+fresh_item node number all s k rest (item.Packet mark b) named e = taken (is_too_big s b) e
+  where
+    taken : (big : Bool) → filter_map (shown_in s.serial) all ≡ cons_option (shown_by s.serial ((taken_up big mark b (waiting s plan.Fetch)).events ++ bad k) (op_of s plan.Fetch) (answer.Popped (item.Packet mark b))) rest
+        → IsTakenUp (IsBegun node number all) s b big
+    taken true f = tt
+    taken false f = record {
+      serial = s.serial;
+      packet = b;
+      shown = ap (λ cs. slice_get cs 0) (f ∙ ap (λ o. cons_option o rest) (this_shown s.serial k b));
+      trace = λ i. sent_trace (named.0 i) (named.1 i) s.serial b.trace;
+    }
 fresh_item node number all s k rest (item.Frame _) named e = tt
 fresh_item node number all s k rest (item.Note _) named e = tt
 
@@ -298,6 +320,6 @@ run_traces node number all (e ∷ es) time s run named alike h =
     (told_traces Q s e.time p e.answer h run.1.fits fresh))
 
 -- each frame that an interface pushed to its link has the trace of a transmission that its entries show
-pub transmitted_all : (node number : ℕ) (k : LinkKind) (es : List Entry) → IsRun party_steps 0 (an_iface (opening node number k)) es
+pub transmitted_all : (node number : ℕ) (k : LinkKind) (mtu : ℕ) (es : List Entry) → IsRun party_steps 0 (an_iface (opening node number k mtu)) es
     → AllByRecursion (IsFrameOf (IsBegun node number es)) (puts (queue.Tx number) es)
-transmitted_all node number k es run = run_traces node number es es 0 (opening node number k) run (refl, refl) (λ n le. refl) tt
+transmitted_all node number k mtu es run = run_traces node number es es 0 (opening node number k mtu) run (refl, refl) (λ n le. refl) tt

@@ -51,7 +51,7 @@ events-cut cover mtu stream byte false e =
     ∙ ap (λ parts. flat_map (event_of cover mtu) (drop 1 parts)) (but_last-onto_last byte (slice_split is_end stream))
     ∙ sym (append-nil (flat_map (event_of cover mtu) (drop 1 (but_last (slice_split is_end stream)))))
 
-events-more : (cover : Bool) (mtu : ℕ) (stream : List ℕ) (byte : ℕ) → events cover mtu (stream ++ byte ∷ []) ≡ events cover mtu stream ++ option_to_list (answer (reading_of cover mtu stream) byte)
+pub events-more : (cover : Bool) (mtu : ℕ) (stream : List ℕ) (byte : ℕ) → events cover mtu (stream ++ byte ∷ []) ≡ events cover mtu stream ++ option_to_list (answer (reading_of cover mtu stream) byte)
 events-more cover mtu stream byte = events-cut cover mtu stream byte (eqb byte FEND) refl
 
 -- what a reader that was fed this stream answers to one byte more is what the byte adds

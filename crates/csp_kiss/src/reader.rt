@@ -77,7 +77,7 @@ impl KissReader {
     }
 
     /// Takes a byte that ends no piece.
-    pub(crate) fn go_on(&mut self, byte: u8)
+    pub fn go_on(&mut self, byte: u8)
         requires { byte ≢ FEND }
         ensures { self.new ≡ continued self.old self.old.stage byte }
     {

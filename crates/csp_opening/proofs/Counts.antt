@@ -47,7 +47,7 @@ hubs_apps m place number (a ∷ apps) rest = let s = step m (app_at place number
 
 hubs_ifaces : (m place number : ℕ) (links : List PlainLink) (rest : List PlainOpening) → hubs m (ifaces_from place number links ++ rest) ≡ hubs m rest
 hubs_ifaces m place number [] rest = refl
-hubs_ifaces m place number (l ∷ links) rest = let s = step m (iface_on place number l.kind) (ifaces_from place (number + 1) links ++ rest) in let r = hubs_ifaces m place (number + 1) links rest in omega (arith, s, r)
+hubs_ifaces m place number (l ∷ links) rest = let s = step m (iface_on place number l.kind l.mtu) (ifaces_from place (number + 1) links ++ rest) in let r = hubs_ifaces m place (number + 1) links rest in omega (arith, s, r)
 
 hubs_hub : (m : ℕ) (addr : Option ℕ) (place : ℕ) (n : PlainNode) (links : List PlainLink) (rest : List PlainOpening) → hubs m (hub_by addr place n links ∷ rest) ≡ cond (place == m) 1 0 + hubs m rest
 hubs_hub m (Some a) place n links rest = step m (hub_by (Some a) place n links) rest

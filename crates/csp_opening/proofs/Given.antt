@@ -31,8 +31,8 @@ use Rattle.csp_topology.specs.declared.wire.Wire.{Wire}
 pub new_party : (o : Opening) → IsNewParty (opening_of o).party
 new_party (opening.Router c) = record { ready = λ e. tt; counted = refl; holds = refl }
 new_party (opening.Bridge n) = record { ready = λ e. tt; counted = refl; holds = refl }
-new_party (opening.Iface n k kind) = record { ready = λ e. refl; counted = refl; holds = refl }
-new_party (opening.App n k steps) = record { ready = λ e. tt; counted = refl; holds = refl }
+new_party (opening.Iface n k kind mtu) = record { ready = λ e. refl; counted = refl; holds = refl }
+new_party (opening.App n k script) = record { ready = λ e. tt; counted = refl; holds = refl }
 new_party (opening.Link k kind plan) = record { ready = λ e. tt; counted = refl; holds = refl }
 
 two_ends : (p : ℕ) (w : Wire) → ends_of p w ≤ 2

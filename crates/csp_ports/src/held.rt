@@ -20,7 +20,7 @@ use csp_conn::MAX_APPS;
 use csp_rdp::Rdp;
 use csp_rdp_window::{RECEIVE_PLACES, SEND_PLACES};
 
-/// The most buffers that they hold: those of 16 machines, and of 4 packets that wait.
+/// The most buffers that they hold: those of all machines, and a packet that waits of each application.
 pub const MAX_HELD: usize = 964;
 
 const _: () = prove!(MAX_HELD == ALL_SLOTS * (SEND_PLACES + RECEIVE_PLACES) + MAX_APPS);

@@ -16,8 +16,8 @@ use Rattle.csp_app.specs.Telling.{at_rest, tells}
 use Rattle.csp_app.specs.Turn.{Turn, gives, giving_op, op_of, popped, pops, pushes, pushing_op, rests, takes, told_of, until_told}
 use Rattle.csp_app.specs.declared.plan.Plan.{Plan}
 use Rattle.csp_app.specs.declared.plan.Plan.TheVariants as plan
-use Rattle.csp_app.specs.declared.step.Step.{Step}
-use Rattle.csp_app.specs.declared.step.Step.TheVariants as step
+use Rattle.csp_app.specs.PlainStep.{PlainStep}
+use Rattle.csp_app.specs.PlainStep as step
 use Rattle.csp_buffer.specs.Content.{Content}
 use Rattle.csp_deck.specs.Carried.{IsCarried, IsUpItem}
 use Rattle.csp_deck.specs.Runs.{IsRun, step_after}
@@ -42,62 +42,62 @@ use Rattle.csp_consistent.specs.Reading.{put_by, puts}
 use Rattle.csp_consistent.proofs.Each.{each_if}
 
 -- the numbers of a scene's steps are in the ranges of an application's
-in_range : (x : Step) → ranges.IsStep x → IsStep x
+in_range : (x : PlainStep) → ranges.IsStep x → IsStep x
 in_range step.Take h = tt
 in_range step.Give h = tt
 in_range (step.Bind _ _) h = tt
 in_range (step.Connect slot dest port prio flags from) h = h.0
 in_range (step.Send slot bytes) h = h
 in_range (step.Burst slot count len) h = (h.0, h.1, h.3, h.4)
-in_range (step.Raw header bytes) h = tt
+in_range (step.Raw header bytes) h = h.1
 in_range (step.Recv slot count rounds) h = h.0
 in_range (step.Close slot) h = h
 in_range (step.Wait rounds) h = tt
 
-all_in_range : (steps : List Step) → AllByRecursion ranges.IsStep steps → AllByRecursion IsStep steps
+all_in_range : (steps : List PlainStep) → AllByRecursion ranges.IsStep steps → AllByRecursion IsStep steps
 all_in_range [] all = tt
 all_in_range (x ∷ xs) all = (in_range x all.0, all_in_range xs all.1)
 
 -- it has these steps, and what it made is one that an `Up` carries
-abbrev Stands : List Step → PlainApp → Type 0
+abbrev Stands : List PlainStep → PlainApp → Type 0
 Stands steps s = (s.steps ≡ steps) × IsFit s
 
-abbrev Leaves : List Step → Turn → Type 0
+abbrev Leaves : List PlainStep → Turn → Type 0
 Leaves steps (rests told) = Stands steps told.state
 Leaves steps (takes taken none) = ((b : Content) → Stands steps (taken b).state) × Stands steps none.state
 Leaves steps (gives c until given back) = Stands steps until × Stands steps given.state × ((b : Content) → Stands steps (back b).state)
 Leaves steps (pushes c until pushed back) = Stands steps until × Stands steps pushed.state × ((i : ItemShown) → IsUpItem i → Stands steps (back i).state)
 Leaves steps (pops until look) = Stands steps until × ((n : Option Note) (s : PlainApp) → Stands steps s → Stands steps (look n s).state)
 
-stands_pushed : (steps : List Step) (more : Bool) (s : PlainApp) → Stands steps s → Stands steps (pushed_one more s).state
+stands_pushed : (steps : List PlainStep) (more : Bool) (s : PlainApp) → Stands steps s → Stands steps (pushed_one more s).state
 stands_pushed steps true s h = h
 stands_pushed steps false s h = h
 
-stands_answered : (steps : List Step) (n : Option Note) (s : PlainApp) → Stands steps s → Stands steps (answered n s).state
+stands_answered : (steps : List PlainStep) (n : Option Note) (s : PlainApp) → Stands steps s → Stands steps (answered n s).state
 stands_answered steps None s h = h
 stands_answered steps (Some note.Bound) s h = h
 stands_answered steps (Some _) s h = h
 
-stands_received : (steps : List Step) (slot packets : ℕ) (enough passed down : Bool) (s : PlainApp) → Stands steps s → Stands steps (recv_end slot packets enough passed down s).state
+stands_received : (steps : List PlainStep) (slot packets : ℕ) (enough passed down : Bool) (s : PlainApp) → Stands steps s → Stands steps (recv_end slot packets enough passed down s).state
 stands_received steps slot packets true passed down s h = h
 stands_received steps slot packets false true down s h = h
 stands_received steps slot packets false false true s h = h
 stands_received steps slot packets false false false s h = h
 
-stands_waited : (steps : List Step) (passed : Bool) (s : PlainApp) → Stands steps s → Stands steps (wait_end passed s).state
+stands_waited : (steps : List PlainStep) (passed : Bool) (s : PlainApp) → Stands steps s → Stands steps (wait_end passed s).state
 stands_waited steps true s h = h
 stands_waited steps false s h = h
 
 -- a packet that the present step makes
-made_up : (found : Option Step) (j : ℕ) (b : Content) → IfSome found IsStep → IsUpItem (item.Packet (batch_at found).mark (filled (batch_at found) j b))
+made_up : (found : Option PlainStep) (j : ℕ) (b : Content) → IfSome found IsStep → IsUpItem (item.Packet (batch_at found).mark (filled (batch_at found) j b))
 made_up None j b h = λ marked. absurd (marked refl)
 made_up (Some x) j b h = up_carries x j b h
 
-found_step : (steps : List Step) (n : ℕ) (found : Option Step) → All IsStep steps → slice_get steps n ≡ found → IfSome found IsStep
+found_step : (steps : List PlainStep) (n : ℕ) (found : Option PlainStep) → All IsStep steps → slice_get steps n ≡ found → IfSome found IsStep
 found_step steps n None all e = tt
 found_step steps n (Some x) all e = subst IsStep (get_or_from_slice_get steps n x x e) (all n x (slice_get_within steps n x e))
 
-leaves : (steps : List Step) (s : PlainApp) (now : ℕ) (p : Plan) → All IsStep steps → Stands steps s → Leaves steps (turn_of s now p)
+leaves : (steps : List PlainStep) (s : PlainApp) (now : ℕ) (p : Plan) → All IsStep steps → Stands steps s → Leaves steps (turn_of s now p)
 leaves steps s now plan.Rest all h = h
 leaves steps s now plan.Return all h = (h, h, λ b. h)
 leaves steps s now plan.Look all h = (h, λ n t g. g)
@@ -124,7 +124,7 @@ abbrev IsUpBack : AnswerShown → Type 0
 IsUpBack (answer.Full i) = IsUpItem i
 IsUpBack _ = ⊤
 
-stands_told : (steps : List Step) (s : PlainApp) (t : Turn) (a : AnswerShown) → Leaves steps t → Stands steps s → IsUpBack a → Stands steps (told_of s t a).state
+stands_told : (steps : List PlainStep) (s : PlainApp) (t : Turn) (a : AnswerShown) → Leaves steps t → Stands steps s → IsUpBack a → Stands steps (told_of s t a).state
 stands_told steps s (rests told) answer.Nothing l h g = l
 stands_told steps s (takes taken none) (answer.Taken b) l h g = l.0 b
 stands_told steps s (takes taken none) answer.NoBuffer l h g = l.1
@@ -136,7 +136,7 @@ stands_told steps s (pops until look) (answer.Popped i) l h g = l.1 (note_in i) 
 stands_told steps s (pops until look) answer.Empty l h g = l.1 None s h
 stands_told steps s _ _ l h g = h
 
-stands_until : (steps : List Step) (s : PlainApp) (t : Turn) → Leaves steps t → Stands steps s → Stands steps (until_told s t)
+stands_until : (steps : List PlainStep) (s : PlainApp) (t : Turn) → Leaves steps t → Stands steps s → Stands steps (until_told s t)
 stands_until steps s (rests told) l h = h
 stands_until steps s (takes taken none) l h = h
 stands_until steps s (gives c until given back) l h = l.0
@@ -184,13 +184,13 @@ put_up s number (op.Push (queue.Tx k) i) answer.Pushed h = tt
 put_up s number (op.Push (queue.Rx k) i) answer.Pushed h = tt
 put_up s number _ _ h = tt
 
-stands_after : (steps : List Step) (s : PlainApp) (now : ℕ) (a : AnswerShown) → All IsStep steps → Stands steps s → CanServe (uses s) (asks s now) → Fits (asks s now) a → Stands steps (tells (asked s now) now a)
+stands_after : (steps : List PlainStep) (s : PlainApp) (now : ℕ) (a : AnswerShown) → All IsStep steps → Stands steps s → CanServe (uses s) (asks s now) → Fits (asks s now) a → Stands steps (tells (asked s now) now a)
 stands_after steps s now a all h served f =
     let rest : PlainApp = at_rest (asked s now) in
     let until : Stands steps rest = stands_until steps s (turn_of s now (plan_of s)) (leaves steps s now (plan_of s) all h) h in
     stands_told steps rest (turn_of rest now (plan_of s)) a (leaves steps rest now (plan_of s) all until) until (fits_back s now (plan_of s) a served f)
 
-run_up : (steps : List Step) (number : ℕ) (es : List Entry) (time : ℕ) (s : PlainApp) → All IsStep steps → IsRun app_steps time s es → Stands steps s → AllByRecursion IsUpItem (puts (queue.Up number) es)
+run_up : (steps : List PlainStep) (number : ℕ) (es : List Entry) (time : ℕ) (s : PlainApp) → All IsStep steps → IsRun app_steps time s es → Stands steps s → AllByRecursion IsUpItem (puts (queue.Up number) es)
 run_up steps number [] time s all run h = tt
 run_up steps number (e ∷ es) time s all run h =
     let served : CanServe (uses s) (asks s e.time) = (asked_hears s e.time (subst (All IsStep) (sym h.0) all) h.1 run.1.goes_on).served in
@@ -199,5 +199,5 @@ run_up steps number (e ∷ es) time s all run h =
     (run_up steps number es e.time (step_after app_steps s e) all run.2 (stands_after steps s e.time e.answer all h served run.1.fits))
 
 -- from its opening on
-pub puts_up_items : (number : ℕ) (steps : List Step) (es : List Entry) → AllByRecursion ranges.IsStep steps → IsRun app_steps 0 (opening number steps) es → AllByRecursion IsUpItem (puts (queue.Up number) es)
+pub puts_up_items : (number : ℕ) (steps : List PlainStep) (es : List Entry) → AllByRecursion ranges.IsStep steps → IsRun app_steps 0 (opening number steps) es → AllByRecursion IsUpItem (puts (queue.Up number) es)
 puts_up_items number steps es all run = run_up steps number es 0 (opening number steps) (All-from_recursion IsStep steps (all_in_range steps all)) run (refl, tt)

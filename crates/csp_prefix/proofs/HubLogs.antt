@@ -312,6 +312,6 @@ shown_all R number serial (e ∷ es) own got = (
   shown_all R number serial es own.1 (each_last (IsOfKind R) (got_by (queue.Out number) e.op e.answer) (gets (queue.Out number) es) got),
 )
 
-pub iface_shows : (R : Content → Type 0) (node number serial : ℕ) (kind : LinkKind) (es : List Entry) → IsRun party_steps 0 (an_iface (opening node number kind)) es
+pub iface_shows : (R : Content → Type 0) (node number serial : ℕ) (kind : LinkKind) (mtu : ℕ) (es : List Entry) → IsRun party_steps 0 (an_iface (opening node number kind mtu)) es
     → AllByRecursion (IsOfKind R) (gets (queue.Out number) es) → AllByRecursion (λ e. (b : Content) → shown_in serial e ≡ Some b → R b) es
-iface_shows R node number serial kind es run got = shown_all R number serial es (fetches_from node number es 0 (opening node number kind) run (refl, refl)) got
+iface_shows R node number serial kind mtu es run got = shown_all R number serial es (fetches_from node number es 0 (opening node number kind mtu) run (refl, refl)) got

@@ -224,6 +224,7 @@ module _ (Over : Numbering → ℕ → Opening → List (List ℕ) → Type 0) (
   tells_event h books (event.Bad count) new t = tells_other h books (event.Bad count) (λ app ends. refl) t
   tells_event h books event.Starved new t = tells_other h books event.Starved (λ app ends. refl) t
   tells_event h books event.InboxFull new t = tells_other h books event.InboxFull (λ app ends. refl) t
+  tells_event h books event.TooBig new t = tells_other h books event.TooBig (λ app ends. refl) t
   tells_event h books event.Reboot new t = tells_other h books event.Reboot (λ app ends. refl) t
   tells_event h books event.Shutdown new t = tells_other h books event.Shutdown (λ app ends. refl) t
 

@@ -54,6 +54,7 @@ not_sent apps slot books (event.Transmitted serial) new = refl
 not_sent apps slot books (event.Bad count) new = refl
 not_sent apps slot books event.Starved new = refl
 not_sent apps slot books event.InboxFull new = refl
+not_sent apps slot books event.TooBig new = refl
 not_sent apps slot books event.Reboot new = refl
 not_sent apps slot books event.Shutdown new = refl
 

@@ -170,6 +170,7 @@ kept_by apps (event.Transmitted serial) books app slot how new is = is
 kept_by apps (event.Bad count) books app slot how new is = is
 kept_by apps event.Starved books app slot how new is = is
 kept_by apps event.InboxFull books app slot how new is = is
+kept_by apps event.TooBig books app slot how new is = is
 kept_by apps event.Reboot books app slot how new is = is
 kept_by apps event.Shutdown books app slot how new is = is
 

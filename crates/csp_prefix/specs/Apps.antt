@@ -4,7 +4,7 @@ use Rattle.std.specs.List.{AllByRecursion}
 use Rattle.csp_app.specs.Asking.{asks, asked}
 use Rattle.csp_app.specs.PlainApp.{PlainApp, has_ended, opening}
 use Rattle.csp_app.specs.Telling.{events, tells}
-use Rattle.csp_app.specs.declared.step.Step.{Step}
+use Rattle.csp_app.specs.PlainStep.{PlainStep}
 use Rattle.csp_deck.specs.Runs.{IsRun, Steps}
 use Rattle.csp_log.specs.declared.entry.Entry.{Entry}
 use Rattle.csp_log.specs.declared.places.QueueId.TheVariants as queue
@@ -18,7 +18,7 @@ abbrev pub app_steps : Steps PlainApp
 app_steps = record { has_ended = has_ended; asks = asks; asked = asked; tells = tells; events = events }
 
 -- the log of an application with this number and script: a run of its turns from its opening
-abbrev pub IsAppLog : ℕ → List Step → List Entry → Type 0
+abbrev pub IsAppLog : ℕ → List PlainStep → List Entry → Type 0
 IsAppLog number steps es = IsRun app_steps 0 (opening number steps) es
 
 -- its packets have no trace; and it took the payloads of what it got
@@ -28,4 +28,4 @@ pub record IsTrueApp (number : ℕ) (es : List Entry) : Type 0 where
 
 -- the claim of applications: each log of one is true
 abbrev pub AreTrueApps : Type 0
-AreTrueApps = (number : ℕ) (steps : List Step) (es : List Entry) → IsAppLog number steps es → IsTrueApp number es
+AreTrueApps = (number : ℕ) (steps : List PlainStep) (es : List Entry) → IsAppLog number steps es → IsTrueApp number es

@@ -1,7 +1,8 @@
 -- what a row says of the packet that comes to it
-use Rattle.std.proofs.Common.{◌≡◌, ℕ, ◌+◌, Bool, true, false, not, ◌&&◌, ◌||◌, List, length, Option, Some, None, refl, ap}
+use Rattle.std.proofs.Common.{◌≡◌, ℕ, ◌+◌, Bool, true, false, not, ◌&&◌, ◌||◌, List, length, Option, Some, None, refl, sym, ap, ◌∙◌}
 use Rattle.std.specs.Prelude.{◌==◌, if◌then◌else◌}
 use Rattle.csp_rdp_header.specs.Head.{has_flag}
+use Rattle.csp_rdp_header.specs.Numbers.{is_malformed}
 use Rattle.csp_rdp_header.specs.declared.head.RdpHead.{RdpHead}
 use Rattle.csp_rdp_header.specs.declared.head.TheConstants.{RST, EAK, ACK, SYN}
 use Rattle.csp_rdp_window.specs.Receiving.{first_missing, index_in, is_awaited, is_kept}
@@ -121,6 +122,31 @@ data-fresh r h bytes t time e =
     let enters = comes-to r.state r h bytes (row.Data t) time refl e refl in
     let found = data-found r (index_in r.recv h.seq.0) t (data-row r h bytes t enters.comes.acked) in
     record { shown = found.0; awaited = found.1; missing = found.2; is_open = enters.is_open }
+
+-- ---- lists
+
+data-not-list : (r : PlainRdp) (o : Option ℕ) → data_row r o ≡ row.Lists → ⊥
+data-not-list r None e = cc
+data-not-list r (Some s) e = go (is_awaited r.recv s) (is_kept r.recv s) e
+  where
+    go : (a b : Bool) → (if not a then row.Outside else if b then row.Duplicate else row.Data s) ≡ row.Lists → ⊥
+    go false b f = cc
+    go true true f = cc
+    go true false f = cc
+
+listed : (r : PlainRdp) (h : RdpHead) (bytes : List ℕ) → ack_row r h bytes ≡ row.Lists → has_flag h EAK ≡ true
+listed r h bytes e = go (has_flag h EAK) (length bytes == 0) refl e
+  where
+    go : (a b : Bool) → has_flag h EAK ≡ a → (if a then row.Lists else if b then row.Acknowledges else data_row r (index_in r.recv h.seq.0)) ≡ row.Lists → has_flag h EAK ≡ true
+    go true b p f = p
+    go false true p f = cc
+    go false false p f = absurd (data-not-list r _ f)
+
+-- a list is read only where it is one
+pub list-read : (r : PlainRdp) (h : RdpHead) (bytes : List ℕ) (time : ℕ) → row_in r.state r h bytes ≡ row.Lists → is_malformed bytes ≡ false
+list-read r h bytes time e =
+    let enters = comes-to r.state r h bytes row.Lists time refl e refl in
+    sym (ap (λ b. b && is_malformed bytes) (listed r h bytes enters.comes.acked)) ∙ enters.comes.good
 
 -- ---- entering
 

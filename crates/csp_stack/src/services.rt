@@ -44,7 +44,8 @@ pub fn judge_service(
 {
     match packet.service() {
         Some(Service::Ping) => echo(facts, state, packet, report),
-        Some(_) | None => ask_service(facts, state, now, packet, report),
+        Some(_) => ask_service(facts, state, now, packet, report),
+        None => state.discard(Discard::NoSocket, packet.into_buffer(), report),
     }
 }
 

@@ -66,6 +66,7 @@ module _ (app : ℕ) (ends : Ends) where
   one_opened (event.Bad count) h = tt
   one_opened event.Starved h = tt
   one_opened event.InboxFull h = tt
+  one_opened event.TooBig h = tt
   one_opened event.Reboot h = tt
   one_opened event.Shutdown h = tt
 

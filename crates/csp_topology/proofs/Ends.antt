@@ -2,7 +2,7 @@
 use Rattle.std.proofs.Common.{◌≡◌, ◌≢◌, ℕ, suc, ◌+◌, ◌<◌, Option, Some, None, length, slice_get, ap, refl, sym, subst, ◌∙◌, arith, inl, inr}
 use Rattle.std.specs.Option.{option_and_then}
 use Rattle.std.proofs.lemmas.Option.{get_or_from_slice_get, same_Some, slice_get_within}
-use Rattle.csp_link.specs.PlainLink.{lane_of}
+use Rattle.csp_log.specs.Kinds.{carried_on}
 use Rattle.csp_lists.specs.PlainDeck.{IsLinkRule}
 use Rattle.csp_log.specs.declared.places.End.{End}
 use Rattle.csp_log.specs.declared.places.QueueId.{QueueId}
@@ -30,7 +30,7 @@ link_stands scene k l at = record { place = ends scene + k; party = link_at k l;
 iface_stands : (scene : PlainScene) (node k : ℕ) (n : PlainNode) → slice_get scene.nodes node ≡ Some n → k < length (links_at node scene.links) → Stands scene (who.Iface node k)
 iface_stands scene node k n there low =
     let (l, on) = get-within (links_at node scene.links) k low in
-    record { place = begins scene node + suc k; party = iface_on node k l.kind; at = iface_there scene node k n l there on; named = refl }
+    record { place = begins scene node + suc k; party = iface_on node k l.kind l.mtu; at = iface_there scene node k n l there on; named = refl }
 
 app_stands : (scene : PlainScene) (node k : ℕ) (n : PlainNode) → slice_get scene.nodes node ≡ Some n → k < length n.apps → Stands scene (who.App node k)
 app_stands scene node k n there low =
@@ -222,7 +222,7 @@ ends_apart scene are n m k j l o s t e f same =
 own_end : (node : ℕ) (l : PlainLane) (w : Who) (q : QueueId) → node_of w ≡ Some node → q ≡ l.queue → IsEndOf node l (record { who = w; queue = q })
 own_end node l w q home called = inl (record { home = home; called = called })
 
-frames_on : (j : PlainJoint) (l : PlainLink) → j.carries ≡ lane_of l.kind → IsLinkRule j.carries
+frames_on : (j : PlainJoint) (l : PlainLink) → j.carries ≡ carried_on l.kind → IsLinkRule j.carries
 frames_on j l same = subst IsLinkRule (sym same) (link_rule l.kind)
 
 stays : (scene : PlainScene) → ArePlaced scene → (node k : ℕ) (l : PlainLane) → Wire scene node k l → StaysHome scene node l

@@ -5,7 +5,7 @@ use Rattle.std.proofs.lemmas.Bool.{eqb-true, eq-eqb}
 use Rattle.std.proofs.lemmas.List.{length-append, length-map}
 use Rattle.std.proofs.lemmas.List.Elements.{filter-append}
 use Rattle.std.proofs.lemmas.Option.{same_Some}
-use Rattle.csp_link.specs.PlainLink.{lane_of}
+use Rattle.csp_log.specs.Kinds.{carried_on}
 use Rattle.csp_log.specs.declared.places.Carries.{Carries}
 use Rattle.csp_log.specs.declared.places.End.{End}
 use Rattle.csp_scene.specs.Kept.{AreLinksAfter, IsLinkAfter}
@@ -46,14 +46,14 @@ pub record IsJoint (number : ℕ) (links : List PlainLink) (j : PlainJoint) : Ty
   pub end : End
   pub there : slice_get links index ≡ Some link
   pub at : slice_get link.ends place ≡ Some end
-  pub is : j ≡ joint_of (number + index) (lane_of link.kind) place end
+  pub is : j ≡ joint_of (number + index) (carried_on link.kind) place end
 
 is_joint : (number : ℕ) (links : List PlainLink) (i : ℕ) (j : PlainJoint) → slice_get (joints_from number links) i ≡ Some j → IsJoint number links j
 is_joint number [] i j e = absurd cc
-is_joint number (l ∷ links) i j e = by (among (joints_on number (lane_of l.kind) 0 l.ends) (joints_from (number + 1) links) i j e) (λ k f. is_joint (number + 1) links k j f) where
-  by : Among (joints_on number (lane_of l.kind) 0 l.ends) (joints_from (number + 1) links) i j → ((k : ℕ) → slice_get (joints_from (number + 1) links) k ≡ Some j → IsJoint (number + 1) links j) → IsJoint number (l ∷ links) j
+is_joint number (l ∷ links) i j e = by (among (joints_on number (carried_on l.kind) 0 l.ends) (joints_from (number + 1) links) i j e) (λ k f. is_joint (number + 1) links k j f) where
+  by : Among (joints_on number (carried_on l.kind) 0 l.ends) (joints_from (number + 1) links) i j → ((k : ℕ) → slice_get (joints_from (number + 1) links) k ≡ Some j → IsJoint (number + 1) links j) → IsJoint number (l ∷ links) j
   by (of_first f) rest =
-      let h = is_on number (lane_of l.kind) 0 l.ends i j f in
+      let h = is_on number (carried_on l.kind) 0 l.ends i j f in
       record {
         index = 0;
         link = l;
@@ -62,29 +62,29 @@ is_joint number (l ∷ links) i j e = by (among (joints_on number (lane_of l.kin
         there = refl;
         at = h.there;
         is = h.is
-            ∙ ap (λ (k : ℕ). joint_of k (lane_of l.kind) (0 + h.index) h.end) (omega arith)
-            ∙ ap (λ (k : ℕ). joint_of (number + 0) (lane_of l.kind) k h.end) (omega arith);
+            ∙ ap (λ (k : ℕ). joint_of k (carried_on l.kind) (0 + h.index) h.end) (omega arith)
+            ∙ ap (λ (k : ℕ). joint_of (number + 0) (carried_on l.kind) k h.end) (omega arith);
       }
   by (of_second k at f) rest =
       let h = rest k f in
-      record { index = suc h.index; link = h.link; place = h.place; end = h.end; there = h.there; at = h.at; is = h.is ∙ ap (λ (m : ℕ). joint_of m (lane_of h.link.kind) h.place h.end) (omega arith) }
+      record { index = suc h.index; link = h.link; place = h.place; end = h.end; there = h.there; at = h.at; is = h.is ∙ ap (λ (m : ℕ). joint_of m (carried_on h.link.kind) h.place h.end) (omega arith) }
 
 joint_there : (number : ℕ) (links : List PlainLink) (i place : ℕ) (l : PlainLink) (x : End) → slice_get links i ≡ Some l → slice_get l.ends place ≡ Some x
-    → (k : ℕ) × (slice_get (joints_from number links) k ≡ Some (joint_of (number + i) (lane_of l.kind) place x))
+    → (k : ℕ) × (slice_get (joints_from number links) k ≡ Some (joint_of (number + i) (carried_on l.kind) place x))
 joint_there number [] i place l x there at = absurd cc
 joint_there number (y ∷ links) zero place l x there at =
     let same : y ≡ l = same_Some y l there in
     let own : slice_get y.ends place ≡ Some x = ap (λ (z : PlainLink). slice_get z.ends place) same ∙ at in (
       place,
-      get-first (joints_on number (lane_of y.kind) 0 y.ends) (joints_from (number + 1) links) place (joint_of number (lane_of y.kind) (0 + place) x) (on_there number (lane_of y.kind) 0 y.ends place x own)
-          ∙ ap (λ (z : PlainLink). Some (joint_of number (lane_of z.kind) (0 + place) x)) same
-          ∙ ap (λ (k : ℕ). Some (joint_of number (lane_of l.kind) k x)) (omega arith)
-          ∙ ap (λ (k : ℕ). Some (joint_of k (lane_of l.kind) place x)) (omega arith),
+      get-first (joints_on number (carried_on y.kind) 0 y.ends) (joints_from (number + 1) links) place (joint_of number (carried_on y.kind) (0 + place) x) (on_there number (carried_on y.kind) 0 y.ends place x own)
+          ∙ ap (λ (z : PlainLink). Some (joint_of number (carried_on z.kind) (0 + place) x)) same
+          ∙ ap (λ (k : ℕ). Some (joint_of number (carried_on l.kind) k x)) (omega arith)
+          ∙ ap (λ (k : ℕ). Some (joint_of k (carried_on l.kind) place x)) (omega arith),
     )
 joint_there number (y ∷ links) (suc i) place l x there at =
     let (k, got) = joint_there (number + 1) links i place l x there at in (
-      length (joints_on number (lane_of y.kind) 0 y.ends) + k,
-      get-second (joints_on number (lane_of y.kind) 0 y.ends) (joints_from (number + 1) links) k ∙ got ∙ ap (λ (m : ℕ). Some (joint_of m (lane_of l.kind) place x)) (omega arith),
+      length (joints_on number (carried_on y.kind) 0 y.ends) + k,
+      get-second (joints_on number (carried_on y.kind) 0 y.ends) (joints_from (number + 1) links) k ∙ got ∙ ap (λ (m : ℕ). Some (joint_of m (carried_on l.kind) place x)) (omega arith),
     )
 
 -- ---- at a node
@@ -104,7 +104,7 @@ abbrev pub iface_at : PlainJoint → ℕ
 iface_at j = j.end.iface
 
 abbrev pub carried : PlainLink → Carries
-carried l = lane_of l.kind
+carried l = carried_on l.kind
 
 -- a link of two ends at different nodes has one end at a node which it touches, and none at another
 pub data Touch (node : ℕ) (l : PlainLink) (f s : End) : Type 0 where
@@ -130,8 +130,8 @@ touch node l f s two apart = by (f.node == node) (s.node == node) refl refl wher
 abbrev pub two_joints : ℕ → Carries → End → End → List PlainJoint → List PlainJoint
 two_joints number carries f s js = joint_of number carries 0 f ∷ joint_of number carries (0 + 1) s ∷ js
 
-pub joined : (number : ℕ) (l : PlainLink) (links : List PlainLink) (f s : End) → l.ends ≡ f ∷ s ∷ [] → joints_from number (l ∷ links) ≡ two_joints number (lane_of l.kind) f s (joints_from (number + 1) links)
-joined number l links f s two = ap (λ (es : List End). joints_on number (lane_of l.kind) 0 es ++ joints_from (number + 1) links) two
+pub joined : (number : ℕ) (l : PlainLink) (links : List PlainLink) (f s : End) → l.ends ≡ f ∷ s ∷ [] → joints_from number (l ∷ links) ≡ two_joints number (carried_on l.kind) f s (joints_from (number + 1) links)
+joined number l links f s two = ap (λ (es : List End). joints_on number (carried_on l.kind) 0 es ++ joints_from (number + 1) links) two
 
 -- the interfaces of the ends at a node are numbered in order, and each carries what its link does
 abbrev pub AreOrdered : ℕ → ℕ → List PlainJoint → List PlainLink → Type 0
@@ -139,10 +139,10 @@ AreOrdered node first js links = (map iface_at (joints_at node js) ≡ range_wit
 
 module _ (node a number : ℕ) (l : PlainLink) (f s : End) (js : List PlainJoint) (links : List PlainLink) where
   abbrev jf : PlainJoint
-  jf = joint_of number (lane_of l.kind) 0 f
+  jf = joint_of number (carried_on l.kind) 0 f
 
   abbrev js_ : PlainJoint
-  js_ = joint_of number (lane_of l.kind) (0 + 1) s
+  js_ = joint_of number (carried_on l.kind) (0 + 1) s
 
   abbrev ends_here : Bool → Bool → List PlainJoint
   ends_here b c = cond b (jf ∷ cond c (js_ ∷ joints_at node js) (joints_at node js)) (cond c (js_ ∷ joints_at node js) (joints_at node js))
@@ -153,7 +153,7 @@ module _ (node a number : ℕ) (l : PlainLink) (f s : End) (js : List PlainJoint
   abbrev Ordered : Bool → Bool → Bool → Type 0
   Ordered b c t = (map iface_at (ends_here b c) ≡ range_with_len a (length (links_here t))) × (map (λ j. j.carries) (ends_here b c) ≡ map carried (links_here t))
 
-  ordered_so : (b c t : Bool) → (f.node == node) ≡ b → (s.node == node) ≡ c → touches node l ≡ t → Ordered b c t → AreOrdered node a (two_joints number (lane_of l.kind) f s js) (l ∷ links)
+  ordered_so : (b c t : Bool) → (f.node == node) ≡ b → (s.node == node) ≡ c → touches node l ≡ t → Ordered b c t → AreOrdered node a (two_joints number (carried_on l.kind) f s js) (l ∷ links)
   ordered_so b c t e g h is = rw (e, g, h) is
 
 ordered : (nodes node a number : ℕ) (earlier links : List PlainLink) → AreLinksAfter nodes earlier links → a ≡ length (links_at node earlier) → AreOrdered node a (joints_from number links) links
@@ -165,19 +165,19 @@ ordered nodes node a number earlier (l ∷ links) are count =
       is = are.0
 
       by : Touch node l is.first is.second → ((m : ℕ) → m ≡ length (links_at node (earlier ++ l ∷ [])) → AreOrdered node m (joints_from (number + 1) links) links)
-          → AreOrdered node a (two_joints number (lane_of l.kind) is.first is.second (joints_from (number + 1) links)) (l ∷ links)
+          → AreOrdered node a (two_joints number (carried_on l.kind) is.first is.second (joints_from (number + 1) links)) (l ∷ links)
       by (at_first e g t) more =
           let one = more_links node earlier l true t in
           let h = more (a + 1) (omega (arith, count, one)) in
           let here : is.first.iface ≡ a = is.one_end.iface ∙ ap (λ (n : ℕ). length (links_at n earlier)) (eqb-true is.first.node node e) ∙ sym count in
           ordered_so node a number l is.first is.second (joints_from (number + 1) links) links true false true e g t
-          (ap (λ (k : ℕ). k ∷ map iface_at (joints_at node (joints_from (number + 1) links))) here ∙ ap (λ (ks : List ℕ). a ∷ ks) h.0, ap (λ (cs : List Carries). lane_of l.kind ∷ cs) h.1)
+          (ap (λ (k : ℕ). k ∷ map iface_at (joints_at node (joints_from (number + 1) links))) here ∙ ap (λ (ks : List ℕ). a ∷ ks) h.0, ap (λ (cs : List Carries). carried_on l.kind ∷ cs) h.1)
       by (at_second e g t) more =
           let one = more_links node earlier l true t in
           let h = more (a + 1) (omega (arith, count, one)) in
           let here : is.second.iface ≡ a = is.other_end.iface ∙ ap (λ (n : ℕ). length (links_at n earlier)) (eqb-true is.second.node node g) ∙ sym count in
           ordered_so node a number l is.first is.second (joints_from (number + 1) links) links false true true e g t
-          (ap (λ (k : ℕ). k ∷ map iface_at (joints_at node (joints_from (number + 1) links))) here ∙ ap (λ (ks : List ℕ). a ∷ ks) h.0, ap (λ (cs : List Carries). lane_of l.kind ∷ cs) h.1)
+          (ap (λ (k : ℕ). k ∷ map iface_at (joints_at node (joints_from (number + 1) links))) here ∙ ap (λ (ks : List ℕ). a ∷ ks) h.0, ap (λ (cs : List Carries). carried_on l.kind ∷ cs) h.1)
       by (at_none e g t) more =
           let one = more_links node earlier l false t in
           ordered_so node a number l is.first is.second (joints_from (number + 1) links) links false false false e g t (more a (omega (arith, count, one)))
@@ -207,7 +207,7 @@ pub record IsAt (scene : PlainScene) (node k : ℕ) (j : PlainJoint) : Type 0 wh
   pub link : PlainLink
   pub there : slice_get scene.links j.link ≡ Some link
   pub at : slice_get link.ends j.place ≡ Some j.end
-  pub carries : j.carries ≡ lane_of link.kind
+  pub carries : j.carries ≡ carried_on link.kind
   pub node_is : j.end.node ≡ node
   pub iface_is : j.end.iface ≡ k
 
@@ -232,14 +232,14 @@ joint_is scene are node k j at =
 
 -- each end of a link is one of those at its node, at the place of its interface
 pub end_joint : (scene : PlainScene) → ArePlaced scene → (i place : ℕ) (l : PlainLink) (x : End) → slice_get scene.links i ≡ Some l → slice_get l.ends place ≡ Some x
-    → slice_get (joints_of scene x.node) x.iface ≡ Some (joint_of i (lane_of l.kind) place x)
+    → slice_get (joints_of scene x.node) x.iface ≡ Some (joint_of i (carried_on l.kind) place x)
 end_joint scene are i place l x there at =
     let (q, all) = joint_there 0 scene.links i place l x there at in
-    let made : slice_get (all_joints scene) q ≡ Some (joint_of i (lane_of l.kind) place x) = all ∙ ap (λ (m : ℕ). Some (joint_of m (lane_of l.kind) place x)) (omega arith) in
-    let (k, kept) = kept-there (is_at x.node) (all_joints scene) q (joint_of i (lane_of l.kind) place x) made (eq-eqb x.node x.node refl) in
-    ap (slice_get (joints_of scene x.node)) (iface_number scene are x.node k (joint_of i (lane_of l.kind) place x) kept) ∙ kept
+    let made : slice_get (all_joints scene) q ≡ Some (joint_of i (carried_on l.kind) place x) = all ∙ ap (λ (m : ℕ). Some (joint_of m (carried_on l.kind) place x)) (omega arith) in
+    let (k, kept) = kept-there (is_at x.node) (all_joints scene) q (joint_of i (carried_on l.kind) place x) made (eq-eqb x.node x.node refl) in
+    ap (slice_get (joints_of scene x.node)) (iface_number scene are x.node k (joint_of i (carried_on l.kind) place x) kept) ∙ kept
 
 -- and an interface on a link has one that carries what the link does
-pub link_joint : (scene : PlainScene) → ArePlaced scene → (node k : ℕ) (l : PlainLink) → slice_get (links_at node scene.links) k ≡ Some l → (j : PlainJoint) × (slice_get (joints_of scene node) k ≡ Some j) × (j.carries ≡ lane_of l.kind)
+pub link_joint : (scene : PlainScene) → ArePlaced scene → (node k : ℕ) (l : PlainLink) → slice_get (links_at node scene.links) k ≡ Some l → (j : PlainJoint) × (slice_get (joints_of scene node) k ≡ Some j) × (j.carries ≡ carried_on l.kind)
 link_joint scene are node k l on =
-    made-from (λ (j : PlainJoint). j.carries) (joints_of scene node) k (lane_of l.kind) (ap (λ (cs : List Carries). slice_get cs k) (joints_ordered scene are node).1 ∙ get-made carried (links_at node scene.links) k l on)
+    made-from (λ (j : PlainJoint). j.carries) (joints_of scene node) k (carried_on l.kind) (ap (λ (cs : List Carries). slice_get cs k) (joints_ordered scene are node).1 ∙ get-made carried (links_at node scene.links) k l on)

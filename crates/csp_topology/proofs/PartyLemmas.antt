@@ -47,15 +47,16 @@ pub nodes_few : (scene : PlainScene) → IsScene scene → length (parties_from 
 nodes_few scene h = omega (arith, nodes_count 0 scene.nodes scene.links h.few_links h.nodes, h.few)
 
 -- the interfaces with one more
-ifaces-more : (place number : ℕ) (links : List PlainLink) (l : PlainLink) → ifaces_from place number (links ++ l ∷ []) ≡ ifaces_from place number links ++ iface_on place (number + length links) l.kind ∷ []
-ifaces-more place number [] l = ap (λ (k : ℕ). iface_on place k l.kind ∷ []) (omega arith)
+ifaces-more : (place number : ℕ) (links : List PlainLink) (l : PlainLink) → ifaces_from place number (links ++ l ∷ []) ≡ ifaces_from place number links ++ iface_on place (number + length links) l.kind l.mtu ∷ []
+ifaces-more place number [] l = ap (λ (k : ℕ). iface_on place k l.kind l.mtu ∷ []) (omega arith)
 ifaces-more place number (x ∷ links) l =
-    ap (λ os. iface_on place number x.kind ∷ os) (ifaces-more place (number + 1) links l ∙ ap (λ (k : ℕ). ifaces_from place (number + 1) links ++ iface_on place k l.kind ∷ []) (omega arith))
+    ap (λ os. iface_on place number x.kind x.mtu ∷ os) (ifaces-more place (number + 1) links l ∙ ap (λ (k : ℕ). ifaces_from place (number + 1) links ++ iface_on place k l.kind l.mtu ∷ []) (omega arith))
 
-pub ifaces-push : (os : List PlainOpening) (place number : ℕ) (carried : LinkKind) (links : List PlainLink) (l : PlainLink) → number ≡ length links → carried ≡ l.kind
-    → (os ++ ifaces_from place 0 links) ++ iface_on place number carried ∷ [] ≡ os ++ ifaces_from place 0 (links ++ l ∷ [])
-ifaces-push os place number carried links l count same =
-    append_assoc os (ifaces_from place 0 links) (iface_on place number carried ∷ [])
-    ∙ ap (λ (k : LinkKind). os ++ (ifaces_from place 0 links ++ iface_on place number k ∷ [])) same
-    ∙ ap (λ (k : ℕ). os ++ (ifaces_from place 0 links ++ iface_on place k l.kind ∷ [])) (omega (arith, count))
+pub ifaces-push : (os : List PlainOpening) (place number : ℕ) (carried : LinkKind) (most : ℕ) (links : List PlainLink) (l : PlainLink) → number ≡ length links → carried ≡ l.kind → most ≡ l.mtu
+    → (os ++ ifaces_from place 0 links) ++ iface_on place number carried most ∷ [] ≡ os ++ ifaces_from place 0 (links ++ l ∷ [])
+ifaces-push os place number carried most links l count same limit =
+    append_assoc os (ifaces_from place 0 links) (iface_on place number carried most ∷ [])
+    ∙ ap (λ (k : LinkKind). os ++ (ifaces_from place 0 links ++ iface_on place number k most ∷ [])) same
+    ∙ ap (λ (m : ℕ). os ++ (ifaces_from place 0 links ++ iface_on place number l.kind m ∷ [])) limit
+    ∙ ap (λ (k : ℕ). os ++ (ifaces_from place 0 links ++ iface_on place k l.kind l.mtu ∷ [])) (omega (arith, count))
     ∙ ap (λ (is : List PlainOpening). os ++ is) (sym (ifaces-more place 0 links l))

@@ -4,8 +4,7 @@ use Rattle.std.specs.List.{AllByRecursion}
 use Rattle.std.proofs.lemmas.Bool.{eqb-true, ltb-true}
 use Rattle.std.proofs.lemmas.List.{length-map}
 use Rattle.std.proofs.lemmas.Option.{same_Some, slice_get_within}
-use Rattle.csp_iface.specs.Links.{carried_on}
-use Rattle.csp_link.specs.PlainLink.{lane_of}
+use Rattle.csp_log.specs.Kinds.{carried_on}
 use Rattle.csp_log.specs.declared.places.Carries.{Carries}
 use Rattle.csp_log.specs.declared.places.Carries.TheVariants as lane
 use Rattle.csp_log.specs.declared.places.End.{End}
@@ -121,10 +120,6 @@ module _ (scene : PlainScene) (are : ArePlaced scene) (node : ℕ) (n : PlainNod
 
   -- ---- an interface
 
-  same_lane : (k : LinkKind) → carried_on k ≡ lane_of k
-  same_lane kind.Kiss = refl
-  same_lane kind.Can = refl
-
   iface_called : (k : ℕ) (j : PlainJoint) (name : ℕ → QueueId) → j.end.node ≡ node → j.end.iface ≡ k → end_named (who.Iface j.end.node j.end.iface) (name j.end.iface) ≡ end_named (who.Iface node k) (name k)
   iface_called k j name at number = ap (λ (m : ℕ). end_named (who.Iface m j.end.iface) (name j.end.iface)) at ∙ ap (λ (i : ℕ). end_named (who.Iface node i) (name i)) number
 
@@ -153,7 +148,7 @@ module _ (scene : PlainScene) (are : ArePlaced scene) (node : ℕ) (n : PlainNod
         at = tx_there scene node n there k j at;
         side = putting;
         called = iface_called k j queue.Tx h.node_is h.iface_is;
-        carries = is ∙ ap (λ (c : Carries). rule.Lane c) (same_lane l.kind ∙ sym carries);
+        carries = is ∙ ap (λ (c : Carries). rule.Lane c) (sym carries);
       })
 
   iface_rx : (k : ℕ) (l : PlainLink) (r : Rule) → slice_get (links_at node scene.links) k ≡ Some l → r ≡ rule.Lane (carried_on l.kind) → IsServed scene (who.Iface node k) (queue.Rx k) r
@@ -167,10 +162,10 @@ module _ (scene : PlainScene) (are : ArePlaced scene) (node : ℕ) (n : PlainNod
         at = rx_there scene node n there k j at;
         side = getting;
         called = iface_called k j queue.Rx h.node_is h.iface_is;
-        carries = is ∙ ap (λ (c : Carries). rule.Lane c) (same_lane l.kind ∙ sym carries);
+        carries = is ∙ ap (λ (c : Carries). rule.Lane c) (sym carries);
       })
 
-  iface_served : (k : ℕ) (l : PlainLink) → slice_get (links_at node scene.links) k ≡ Some l → (q : QueueId) (r : Rule) → uses (iface_on node k l.kind).party q ≡ Some r → IsServed scene (who.Iface node k) q r
+  iface_served : (k : ℕ) (l : PlainLink) → slice_get (links_at node scene.links) k ≡ Some l → (q : QueueId) (r : Rule) → uses (iface_on node k l.kind l.mtu).party q ≡ Some r → IsServed scene (who.Iface node k) q r
   iface_served k l on queue.Inbox r e = an_inbox scene (who.Iface node k) r refl e
   iface_served k l on (queue.Out m) r e =
       let (same, is) = own r (rule.Lane lane.Out) m k _ refl e in
@@ -244,37 +239,37 @@ has_end scene l is (suc zero) low =
 has_end scene l is (suc (suc k)) low = absurd (omega (arith, low))
 
 module _ (scene : PlainScene) (are : ArePlaced scene) (i : ℕ) (l : PlainLink) (there : slice_get scene.links i ≡ Some l) (is : AreEnds scene.nodes scene.links l) where
-  link_tx : (place : ℕ) (r : Rule) → place < 2 → r ≡ rule.Lane (lane_of l.kind) → IsServed scene (who.Link i) (queue.Tx place) r
+  link_tx : (place : ℕ) (r : Rule) → place < 2 → r ≡ rule.Lane (carried_on l.kind) → IsServed scene (who.Link i) (queue.Tx place) r
   link_tx place r low same =
       let h = has_end scene l is place low in
       let x = h.end in
       inr (record {
         node = x.node;
         place = ifaces_of scene x.node + x.iface;
-        wire = tx_lane (joint_of i (lane_of l.kind) place x);
-        at = tx_there scene x.node h.n h.there x.iface (joint_of i (lane_of l.kind) place x) (end_joint scene are i place l x there h.at);
+        wire = tx_lane (joint_of i (carried_on l.kind) place x);
+        at = tx_there scene x.node h.n h.there x.iface (joint_of i (carried_on l.kind) place x) (end_joint scene are i place l x there h.at);
         side = getting;
         called = refl;
         carries = same;
       })
 
-  link_rx : (place : ℕ) (r : Rule) → place < 2 → r ≡ rule.Lane (lane_of l.kind) → IsServed scene (who.Link i) (queue.Rx place) r
+  link_rx : (place : ℕ) (r : Rule) → place < 2 → r ≡ rule.Lane (carried_on l.kind) → IsServed scene (who.Link i) (queue.Rx place) r
   link_rx place r low same =
       let h = has_end scene l is place low in
       let x = h.end in
       inr (record {
         node = x.node;
         place = x.iface;
-        wire = rx_lane (joint_of i (lane_of l.kind) place x);
-        at = rx_there scene x.node h.n h.there x.iface (joint_of i (lane_of l.kind) place x) (end_joint scene are i place l x there h.at);
+        wire = rx_lane (joint_of i (carried_on l.kind) place x);
+        at = rx_there scene x.node h.n h.there x.iface (joint_of i (carried_on l.kind) place x) (end_joint scene are i place l x there h.at);
         side = putting;
         called = refl;
         carries = same;
       })
 
   link_served : (q : QueueId) (r : Rule) → uses (link_at i l).party q ≡ Some r → IsServed scene (who.Link i) q r
-  link_served (queue.Tx k) r e = let (low, same) = if_within r (rule.Lane (lane_of l.kind)) k 2 _ refl e in link_tx k r low same
-  link_served (queue.Rx k) r e = let (low, same) = if_within r (rule.Lane (lane_of l.kind)) k 2 _ refl e in link_rx k r low same
+  link_served (queue.Tx k) r e = let (low, same) = if_within r (rule.Lane (carried_on l.kind)) k 2 _ refl e in link_tx k r low same
+  link_served (queue.Rx k) r e = let (low, same) = if_within r (rule.Lane (carried_on l.kind)) k 2 _ refl e in link_rx k r low same
   link_served queue.Inbox r e = absurd cc
   link_served (queue.Up k) r e = absurd cc
   link_served (queue.Down k) r e = absurd cc

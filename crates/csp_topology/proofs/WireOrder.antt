@@ -4,7 +4,7 @@ use Rattle.std.specs.List.{AllByRecursion, range_with_len}
 use Rattle.std.proofs.lemmas.List.{append_assoc, map-append}
 use Rattle.std.proofs.lemmas.Option.{same_Some}
 use Rattle.csp_deck.specs.Carried.{places_of}
-use Rattle.csp_link.specs.PlainLink.{lane_of}
+use Rattle.csp_log.specs.Kinds.{carried_on}
 use Rattle.csp_lists.specs.Order.{lanes, places_in}
 use Rattle.csp_log.specs.declared.places.End.{End}
 use Rattle.csp_log.specs.declared.places.Place.{Place}
@@ -144,17 +144,17 @@ end_low scene l is place x e = by place (ap (λ (es : List End). slice_get es pl
   by (suc (suc k)) g = absurd cc
 
 module _ (scene : PlainScene) (are : ArePlaced scene) (i : ℕ) (l : PlainLink) (there : slice_get scene.links i ≡ Some l) (is : AreEnds scene.nodes scene.links l) where
-  tx_wire : (place : ℕ) (x : End) → slice_get l.ends place ≡ Some x → IsWire scene (tx_lane (joint_of i (lane_of l.kind) place x))
+  tx_wire : (place : ℕ) (x : End) → slice_get l.ends place ≡ Some x → IsWire scene (tx_lane (joint_of i (carried_on l.kind) place x))
   tx_wire place x at =
       let (n, node) = get-within scene.nodes x.node (end_low scene l is place x at) in
-      record { place = ifaces_of scene x.node + x.iface; at = tx_there scene x.node n node x.iface (joint_of i (lane_of l.kind) place x) (end_joint scene are i place l x there at) }
+      record { place = ifaces_of scene x.node + x.iface; at = tx_there scene x.node n node x.iface (joint_of i (carried_on l.kind) place x) (end_joint scene are i place l x there at) }
 
-  rx_wire : (place : ℕ) (x : End) → slice_get l.ends place ≡ Some x → IsWire scene (rx_lane (joint_of i (lane_of l.kind) place x))
+  rx_wire : (place : ℕ) (x : End) → slice_get l.ends place ≡ Some x → IsWire scene (rx_lane (joint_of i (carried_on l.kind) place x))
   rx_wire place x at =
       let (n, node) = get-within scene.nodes x.node (end_low scene l is place x at) in
-      record { place = x.iface; at = rx_there scene x.node n node x.iface (joint_of i (lane_of l.kind) place x) (end_joint scene are i place l x there at) }
+      record { place = x.iface; at = rx_there scene x.node n node x.iface (joint_of i (carried_on l.kind) place x) (end_joint scene are i place l x there at) }
 
-  ends_wired : (place : ℕ) (es : List End) → ((k m : ℕ) (x : End) → slice_get es k ≡ Some x → m ≡ place + k → slice_get l.ends m ≡ Some x) → AreWires scene (lanes_on i (lane_of l.kind) place es)
+  ends_wired : (place : ℕ) (es : List End) → ((k m : ℕ) (x : End) → slice_get es k ≡ Some x → m ≡ place + k → slice_get l.ends m ≡ Some x) → AreWires scene (lanes_on i (carried_on l.kind) place es)
   ends_wired place [] at = tt
   ends_wired place (x ∷ es) at = (
     tx_wire place x (at 0 place x refl (omega arith)),
@@ -169,7 +169,7 @@ links_wired : (scene : PlainScene) → IsScene scene → ArePlaced scene → (nu
 links_wired scene is are number [] there = tt
 links_wired scene is are number (l ∷ links) there =
     let at = there 0 number l refl (omega arith) in
-    AllByRecursion-append (IsWire scene) (lanes_on number (lane_of l.kind) 0 l.ends) (link_lanes (number + 1) links)
+    AllByRecursion-append (IsWire scene) (lanes_on number (carried_on l.kind) 0 l.ends) (link_lanes (number + 1) links)
     (ends_wired scene are number l at (each_link scene.nodes scene.links scene.links is.links number l at).ends 0 l.ends (λ k m x e same. ap (slice_get l.ends) (first_is m k same) ∙ e))
     (links_wired scene is are (number + 1) links (λ k m x e same. there (suc k) m x e (omega (arith, same))))
 

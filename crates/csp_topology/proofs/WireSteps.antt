@@ -4,7 +4,7 @@ use Rattle.std.specs.List.{AllByRecursion, range_with_len}
 use Rattle.std.proofs.lemmas.List.{append_assoc, map-append}
 use Rattle.std.proofs.lemmas.Simd.{map-map}
 use Rattle.std.proofs.lemmas.List.FromFn.{map-range_with_len_more}
-use Rattle.csp_link.specs.PlainLink.{lane_of}
+use Rattle.csp_log.specs.Kinds.{carried_on}
 use Rattle.csp_log.specs.declared.places.End.{End}
 use Rattle.csp_record.specs.declared.who.Who.{Who}
 use Rattle.csp_scene.specs.Ranges.{IsLink, IsNode}
@@ -105,7 +105,7 @@ each_node (y ∷ nodes) are zero x low is = subst IsNode (sym is) are.0
 each_node (y ∷ nodes) are (suc k) x low is = each_node nodes are.1 k x (omega (arith, low)) is
 
 -- a node has no more ends of links than there are links
-few_more : (node number n : ℕ) (l : PlainLink) (f s : End) (js : List PlainJoint) → Touch node l f s → length (joints_at node js) ≤ n → length (joints_at node (two_joints number (lane_of l.kind) f s js)) ≤ suc n
+few_more : (node number n : ℕ) (l : PlainLink) (f s : End) (js : List PlainJoint) → Touch node l f s → length (joints_at node js) ≤ n → length (joints_at node (two_joints number (carried_on l.kind) f s js)) ≤ suc n
 few_more node number n l f s js (at_first e g t) h =
     let low : suc (length (joints_at node js)) ≤ suc n = omega (arith, h) in
     rw (e, g) low

@@ -1,7 +1,7 @@
 -- The lanes of a scene: who puts into each, and who gets.
 use Rattle.std.specs.Prelude.{ℕ, ◌+◌, Option, None, Some, List, [], ◌∷◌, ◌++◌, length}
 use Rattle.std.specs.List.{flat_map, range_with_len}
-use Rattle.csp_link.specs.PlainLink.{lane_of}
+use Rattle.csp_log.specs.Kinds.{carried_on}
 use Rattle.csp_log.specs.declared.places.Carries.{Carries}
 use Rattle.csp_log.specs.declared.places.Carries.TheVariants as lane
 use Rattle.csp_log.specs.declared.places.End.{End}
@@ -67,7 +67,7 @@ lanes_on number carries at (end ∷ ends) = end_lanes number carries at end ++ l
 -- the lanes of these links, from this number on
 abbrev pub link_lanes : ℕ → List PlainLink → List PlainLane
 link_lanes number [] = []
-link_lanes number (l ∷ links) = lanes_on number (lane_of l.kind) 0 l.ends ++ link_lanes (number + 1) links
+link_lanes number (l ∷ links) = lanes_on number (carried_on l.kind) 0 l.ends ++ link_lanes (number + 1) links
 
 -- all lanes of a scene
 unfoldable pub lanes_of : PlainScene → List PlainLane

@@ -1,13 +1,15 @@
 -- A party before it is opened.
-use Rattle.std.specs.Prelude.{ℕ, ◌≡◌, ◌+◌, ◌<◌, ◌^◌, ⊤, Option, None, Some, All, length}
+use Rattle.std.specs.Prelude.{ℕ, ◌≡◌, ◌+◌, ◌<◌, ◌≤◌, ◌^◌, ⊤, Option, None, Some, All, length}
 use Rattle.csp_app.specs.Room.{IsStep}
 use Rattle.csp_arena.specs.declared.token.RegionToken.{RegionToken}
+use Rattle.csp_base.specs.declared.limits.TheConstants.{MAX_PAYLOAD}
 use Rattle.csp_deck.specs.Regions.{nowhere}
 use Rattle.csp_link.specs.Fates.{IsFault}
 use Rattle.csp_log.specs.declared.places.TheConstants.{IFACES}
 use Rattle.csp_party.specs.Any.{region_of}
 use Rattle.csp_party.specs.declared.any.AnyParty.{AnyParty}
 use Rattle.csp_record.specs.declared.who.Who.TheVariants as who
+use Rattle.csp_scene.specs.Scene.{PlainLink}
 use Rattle.csp_stack.specs.Config.{IsConfig}
 use Rattle.csp_topology.specs.Parties.{PlainOpening, opens, router_for, bridge_at, iface_on, app_with, link_with}
 use Rattle.csp_topology.specs.declared.opening.Opening.{Opening}
@@ -17,16 +19,20 @@ use Rattle.csp_topology.specs.declared.opening.Opening.TheVariants as opening
 abbrev pub opening_of : Opening → PlainOpening
 opening_of (opening.Router c) = opens (who.Router c.facts.node) (router_for c)
 opening_of (opening.Bridge node) = bridge_at node
-opening_of (opening.Iface node number kind) = iface_on node number kind
-opening_of (opening.App node number steps) = app_with node number steps.items
+opening_of (opening.Iface node number kind mtu) = iface_on node number kind mtu
+opening_of (opening.App node number script) = app_with node number script
 opening_of (opening.Link number kind plan) = link_with number kind plan.items
+
+-- the packets of a link fit the buffers of its nodes
+abbrev pub FitsBuffers : PlainLink → Type 0
+FitsBuffers l = l.mtu ≤ MAX_PAYLOAD
 
 -- its numbers are those that such a party may have
 abbrev pub CanOpen : Opening → Type 0
 CanOpen (opening.Router c) = IsConfig c
 CanOpen (opening.Bridge node) = ⊤
-CanOpen (opening.Iface node number kind) = number < IFACES
-CanOpen (opening.App node number steps) = (length steps.items + 1 < 2 ^ 32) × All IsStep steps.items
+CanOpen (opening.Iface node number kind mtu) = (number < IFACES) × (mtu ≤ MAX_PAYLOAD)
+CanOpen (opening.App node number script) = (length script + 1 < 2 ^ 32) × All IsStep script
 CanOpen (opening.Link number kind plan) = All IsFault plan.items
 
 -- the buffers of a party of a node are to be of this region, and a link has none

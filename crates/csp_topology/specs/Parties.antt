@@ -1,7 +1,7 @@
 -- The parties of a scene before their first turns, in the order of their logs.
 use Rattle.std.specs.Prelude.{ℕ, ◌+◌, Option, None, Some, List, [], ◌∷◌, ◌++◌, length, map}
 use Rattle.csp_app.specs.PlainApp as app
-use Rattle.csp_app.specs.declared.step.Step.{Step}
+use Rattle.csp_app.specs.PlainStep.{PlainStep}
 use Rattle.csp_bridge.specs.PlainBridge as bridge
 use Rattle.csp_deck.specs.Runs.{Steps}
 use Rattle.csp_iface.specs.PlainIface as iface
@@ -48,17 +48,17 @@ abbrev pub hub_by : Option ℕ → ℕ → PlainNode → List PlainLink → Plai
 hub_by (Some addr) place n links = opens (who.Router place) (router_for (config_of place addr n links))
 hub_by None place n links = bridge_at place
 
--- the interfaces of a node, one for each of these links, from this number on
-abbrev pub iface_on : ℕ → ℕ → LinkKind → PlainOpening
-iface_on place number kind = opens (who.Iface place number) (an_iface (iface.opening place number kind))
+-- the interface of this number of a node before its first turn, on a link of this kind whose packets have payloads of at most so many bytes
+abbrev pub iface_on : (place number : ℕ) → LinkKind → (mtu : ℕ) → PlainOpening
+iface_on place number kind mtu = opens (who.Iface place number) (an_iface (iface.opening place number kind mtu))
 
 -- a node's interfaces on these links, from this number on
 abbrev pub ifaces_from : ℕ → ℕ → List PlainLink → List PlainOpening
 ifaces_from place number [] = []
-ifaces_from place number (l ∷ links) = iface_on place number l.kind ∷ ifaces_from place (number + 1) links
+ifaces_from place number (l ∷ links) = iface_on place number l.kind l.mtu ∷ ifaces_from place (number + 1) links
 
 -- the applications of a node, from this number on
-abbrev pub app_with : ℕ → ℕ → List Step → PlainOpening
+abbrev pub app_with : ℕ → ℕ → List PlainStep → PlainOpening
 app_with place number steps = opens (who.App place number) (an_app (app.opening number steps))
 
 -- an application of a node before its first turn, with its steps

@@ -1,6 +1,6 @@
 -- The pool and the queues of each node of a scene.
 use Rattle.std.specs.Prelude.{ℕ, ◌+◌, ◌<◌, ◌≤◌, List, [], ◌∷◌, All, length, map}
-use Rattle.csp_link.specs.PlainLink.{lane_of}
+use Rattle.csp_log.specs.Kinds.{carried_on}
 use Rattle.csp_lists.specs.PlainDeck.{IsLinkRule}
 use Rattle.csp_log.specs.declared.places.Carries.{Carries}
 use Rattle.csp_scene.specs.Links.{links_at}
@@ -17,7 +17,7 @@ pub record PlainNodePlan : Type 0 where
 
 -- those of a node on these links
 abbrev pub plan_of : PlainNode → List PlainLink → PlainNodePlan
-plan_of n links = record { buffers = n.buffers; inbox = n.inbox; apps = length n.apps; lanes = map (λ l. lane_of l.kind) links }
+plan_of n links = record { buffers = n.buffers; inbox = n.inbox; apps = length n.apps; lanes = map (λ l. carried_on l.kind) links }
 
 -- those of the nodes from this place on
 abbrev pub plans_from : ℕ → List PlainNode → List PlainLink → List PlainNodePlan

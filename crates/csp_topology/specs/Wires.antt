@@ -2,7 +2,7 @@
 use Rattle.std.specs.Prelude.{ℕ, ◌+◌, ◌==◌, Bool, Option, List, [], ◌∷◌, ◌++◌, filter, length, map, slice_get}
 use Rattle.std.specs.List.{range_with_len}
 use Rattle.std.specs.Option.{option_and_then}
-use Rattle.csp_link.specs.PlainLink.{lane_of}
+use Rattle.csp_log.specs.Kinds.{carried_on}
 use Rattle.csp_log.specs.declared.places.Carries.{Carries}
 use Rattle.csp_log.specs.declared.places.Carries.TheVariants as lane
 use Rattle.csp_log.specs.declared.places.End.{End}
@@ -27,7 +27,7 @@ joints_on number carries at (end ∷ ends) = record { link = number; carries = c
 -- the ends of these links, from this number on
 abbrev pub joints_from : ℕ → List PlainLink → List PlainJoint
 joints_from number [] = []
-joints_from number (l ∷ links) = joints_on number (lane_of l.kind) 0 l.ends ++ joints_from (number + 1) links
+joints_from number (l ∷ links) = joints_on number (carried_on l.kind) 0 l.ends ++ joints_from (number + 1) links
 
 -- whether a link ends there at this node
 abbrev pub is_at : ℕ → PlainJoint → Bool

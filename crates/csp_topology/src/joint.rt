@@ -3,7 +3,6 @@
 ghost use Rattle.std.specs.Prelude.{◌≡◌, ◌≤◌, ◌++◌, length, IfOk, OnOk};
 ghost use Rattle.csp_topology.specs.Wires.{joints_at, joints_from, joints_on};
 
-use crate::links::lane_of;
 use csp_log::{Carries, End, LINK_ENDS};
 use csp_scene::{MAX_LINKS, SceneLink};
 use std::alloc::{AllocError, Global};
@@ -42,7 +41,7 @@ pub(crate) fn joints_of(alloc: Global, links: &[SceneLink]) -> Result<Vec<Joint>
         push_joints(
             &mut joints,
             number as u8,
-            lane_of(link.kind),
+            link.kind.carries(),
             link.ends.as_slice(),
         )?;
     }

@@ -1,25 +1,15 @@
 //! The links that a node is on.
 
 ghost use Rattle.std.specs.Prelude.{◌≡◌, ◌≤◌, IfOk, length, map};
-ghost use Rattle.csp_link.specs.PlainLink.{lane_of};
+ghost use Rattle.csp_log.specs.Kinds.{carried_on};
 ghost use Rattle.csp_scene.specs.Links.{links_at};
 
 use arrayvec::ArrayVec;
 use csp_base::Name;
-use csp_log::{Carries, LinkKind};
+use csp_log::Carries;
 use csp_scene::{MAX_LINKS, SceneLink};
 use csp_stack::IFACE_ROOM;
 use std::alloc::{AllocError, Global};
-
-/// What the lanes of a link of this kind carry.
-pub(crate) fn lane_of(kind: LinkKind) -> Carries
-    ensures { result ≡ lane_of kind }
-{
-    match kind {
-        LinkKind::Kiss => Carries::Kiss,
-        LinkKind::Can => Carries::Can,
-    }
-}
 
 /// What the links of a node carry, in their order.
 pub(crate) fn lanes_at(
@@ -27,12 +17,12 @@ pub(crate) fn lanes_at(
     place: u8,
     links: &[SceneLink],
 ) -> Result<Vec<Carries>, AllocError>
-    ensures { IfOk result (λ lanes. lanes.items ≡ map (λ l. lane_of l.kind) (links_at place links.now)) }
+    ensures { IfOk result (λ lanes. lanes.items ≡ map (λ l. carried_on l.kind) (links_at place links.now)) }
 {
     let mut lanes = Vec::new(alloc);
     for link in links {
         if link.touches(usize::from(place)) {
-            lanes.push(lane_of(link.kind))?;
+            lanes.push(link.kind.carries())?;
         }
     }
     Ok(lanes)

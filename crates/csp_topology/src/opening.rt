@@ -5,7 +5,7 @@ ghost use Rattle.csp_party.specs.Any.{plain};
 ghost use Rattle.csp_record.specs.Who.{node_of};
 ghost use Rattle.csp_topology.specs.Opening.{CanOpen, IsOfRegion, opening_of};
 
-use csp_app::{App, Step};
+use csp_app::{App, Script};
 use csp_arena::RegionToken;
 use csp_bridge::Bridge;
 use csp_iface::Iface;
@@ -32,6 +32,8 @@ pub enum Opening {
         number: u8,
         /// What its link carries.
         kind: LinkKind,
+        /// The most bytes of a payload on its link.
+        mtu: u16,
     },
     /// An application.
     App {
@@ -40,7 +42,7 @@ pub enum Opening {
         /// Its number there.
         number: u8,
         /// What it does.
-        steps: Vec<Step>,
+        script: Script,
     },
     /// A link.
     Link {
@@ -82,17 +84,23 @@ impl Opening {
                 alloc, config, region,
             )?)),
             (Opening::Bridge(_), Some(region)) => Ok(AnyParty::Bridge(Bridge::new(region))),
-            (Opening::Iface { node, number, kind }, Some(region)) => Ok(AnyParty::Iface(Iface::new(
-                node, number, kind, region,
-            ))),
+            (
+                Opening::Iface {
+                    node,
+                    number,
+                    kind,
+                    mtu,
+                },
+                Some(region),
+            ) => Ok(AnyParty::Iface(Iface::new(node, number, kind, mtu, region))),
             (
                 Opening::App {
                     node: _,
                     number,
-                    steps,
+                    script,
                 },
                 Some(region),
-            ) => Ok(AnyParty::App(App::open(alloc, number, steps, region)?)),
+            ) => Ok(AnyParty::App(App::open(alloc, number, script, region)?)),
             (
                 Opening::Link {
                     number: _,

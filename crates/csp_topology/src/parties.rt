@@ -5,14 +5,14 @@ ghost use Rattle.std.specs.List.{AllByRecursion};
 ghost use Rattle.csp_scene.specs.Links.{links_at};
 ghost use Rattle.csp_scene.specs.Ranges.{IsApp, IsJoined, IsLink, IsNode, IsPlanned};
 ghost use Rattle.csp_scene.specs.Scene.{PlainNode};
-ghost use Rattle.csp_topology.specs.Opening.{CanOpen, opening_of};
+ghost use Rattle.csp_topology.specs.Opening.{CanOpen, FitsBuffers, opening_of};
 ghost use Rattle.csp_topology.specs.Parties.{app_at, apps_from, config_of, hub_by, ifaces_from, link_at, links_from, parties_at, parties_from};
 
 use crate::links::names_at;
 use crate::opening::Opening;
 use csp_base::Addr;
 use csp_link::Fault;
-use csp_scene::{MAX_LINKS, MAX_NODES, SceneApp, SceneLink, SceneNode, Step};
+use csp_scene::{MAX_LINKS, MAX_NODES, SceneApp, SceneLink, SceneNode};
 use csp_stack::StackConfig;
 use std::alloc::{AllocError, Global};
 
@@ -27,6 +27,7 @@ pub(crate) fn push_nodes(
     requires joined { (k : ℕ) (node : PlainNode) → slice_get nodes.now k ≡ Some node → IsJoined links.now k node }
     requires few { length nodes.now ≤ MAX_NODES }
     requires few_links { length links.now ≤ MAX_LINKS }
+    requires fit { AllByRecursion FitsBuffers links.now }
     requires ready { AllByRecursion CanOpen openings.old.items }
     ensures parties { OnOk result (map opening_of openings.new.items ≡ map opening_of openings.old.items ++ parties_from 0 nodes.now links.now) }
     ensures ready { OnOk result (AllByRecursion CanOpen openings.new.items) }
@@ -49,6 +50,7 @@ fn push_node(
     requires node { IsNode node.now }
     requires joined { IsJoined links.now place node.now }
     requires few_links { length links.now ≤ MAX_LINKS }
+    requires fit { AllByRecursion FitsBuffers links.now }
     requires ready { AllByRecursion CanOpen openings.old.items }
     ensures parties { OnOk result (map opening_of openings.new.items ≡ map opening_of openings.old.items ++ parties_at place node.now (links_at place links.now)) }
     ensures ready { OnOk result (AllByRecursion CanOpen openings.new.items) }
@@ -97,6 +99,7 @@ fn push_ifaces(
     links: &[SceneLink],
 ) -> Result<(), AllocError>
     requires few_links { length links.now ≤ MAX_LINKS }
+    requires fit { AllByRecursion FitsBuffers links.now }
     requires ready { AllByRecursion CanOpen openings.old.items }
     ensures parties { OnOk result (map opening_of openings.new.items ≡ map opening_of openings.old.items ++ ifaces_from place 0 (links_at place links.now)) }
     ensures ready { OnOk result (AllByRecursion CanOpen openings.new.items) }
@@ -108,6 +111,7 @@ fn push_ifaces(
                 node: place,
                 number,
                 kind: link.kind,
+                mtu: link.mtu,
             })?;
             number += 1;
         }
@@ -142,7 +146,7 @@ fn app_of(alloc: Global, node: u8, number: u8, app: &SceneApp) -> Result<Opening
     Ok(Opening::App {
         node,
         number,
-        steps: copied_steps(alloc, &app.steps)?,
+        script: app.script.copy(alloc)?,
     })
 }
 
@@ -183,16 +187,5 @@ fn copied_plan(alloc: Global, plan: &[Fault]) -> Result<Vec<Fault>, AllocError>
 {
     let mut copy = Vec::with_capacity(alloc, plan.len())?;
     copy.extend_from_slice(plan)?;
-    Ok(copy)
-}
-
-/// A copy of these steps.
-fn copied_steps(alloc: Global, steps: &[Step]) -> Result<Vec<Step>, AllocError>
-    ensures { IfOk result (λ copy. copy.items ≡ steps.now) }
-{
-    let mut copy = Vec::with_capacity(alloc, steps.len())?;
-    for step in steps {
-        copy.push_reserved(step.copy());
-    }
     Ok(copy)
 }

@@ -13,7 +13,7 @@ use Rattle.csp_consistent.specs.Queues.{MayAsk, MayPop, MayPush}
 use Rattle.csp_consistent.specs.Reading.{got_by, gets, is_queue, is_who, put_by, puts}
 use Rattle.csp_consistent.proofs.OwnQueues.{own_asks}
 use Rattle.csp_deck.specs.Step.{entry_of}
-use Rattle.csp_link.specs.PlainLink.{lane_of}
+use Rattle.csp_log.specs.Kinds.{carried_on}
 use Rattle.csp_lists.specs.PlainDeck.{PlainDeck, answer_of, lane_room, shape_of}
 use Rattle.csp_lists.specs.Order.{places_in, position_of}
 use Rattle.csp_buffer.specs.Content.{Content}
@@ -50,10 +50,10 @@ use Rattle.csp_world.specs.World.{PlainMember, PlainWorld, answered, told, turn,
 
 -- what the links of a node carry
 abbrev pub carried_at : ℕ → List PlainLink → List Carries
-carried_at node links = map (λ l. lane_of l.kind) (links_at node links)
+carried_at node links = map (λ l. carried_on l.kind) (links_at node links)
 
 pub as_many : (node : ℕ) (links : List PlainLink) (k : ℕ) → k < length (links_at node links) → k < length (carried_at node links)
-as_many node links k few = rw (length-map (links_at node links) (λ (l : PlainLink). lane_of l.kind)) few
+as_many node links k few = rw (length-map (links_at node links) (λ (l : PlainLink). carried_on l.kind)) few
 
 -- a lane of a scene, where the links have these ends: its node is there and has it, who puts and who gets there are its ends alone, and what
 -- is refused is a push there

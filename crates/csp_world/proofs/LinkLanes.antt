@@ -9,7 +9,7 @@ use Rattle.csp_consistent.specs.Lanes.{IsRefused}
 use Rattle.csp_topology.specs.Lanes.{end_lanes, lanes_from, lanes_of, lanes_on, link_lanes}
 use Rattle.csp_consistent.specs.Queues.{MayAsk, MayPop, MayPush}
 use Rattle.csp_consistent.specs.Reading.{got_by, is_queue, is_who, put_by}
-use Rattle.csp_link.specs.PlainLink.{lane_of}
+use Rattle.csp_log.specs.Kinds.{carried_on}
 use Rattle.csp_lists.specs.PlainDeck.{PlainDeck}
 use Rattle.csp_log.specs.declared.places.Carries.{Carries}
 use Rattle.csp_log.specs.declared.places.End.{End}
@@ -336,8 +336,8 @@ module _ (scene : PlainScene) (apart : AreEndsApart (ends_in scene.links)) where
       → AllByRecursion (IsLaneOf scene (ends_in scene.links)) (link_lanes number links)
   of_links number [] same all = tt
   of_links number (l ∷ links) same all =
-      all-append (IsLaneOf scene (ends_in scene.links)) (lanes_on number (lane_of l.kind) 0 l.ends) (link_lanes (number + 1) links)
-      (of_ends number l (ap (slice_get scene.links) (omega arith) ∙ same 0) all.0 (lane_of l.kind) 0 l.ends (λ k. ap (slice_get l.ends) (omega arith)))
+      all-append (IsLaneOf scene (ends_in scene.links)) (lanes_on number (carried_on l.kind) 0 l.ends) (link_lanes (number + 1) links)
+      (of_ends number l (ap (slice_get scene.links) (omega arith) ∙ same 0) all.0 (carried_on l.kind) 0 l.ends (λ k. ap (slice_get l.ends) (omega arith)))
       (of_links (number + 1) links (λ k. ap (slice_get scene.links) (omega arith) ∙ same (suc k)) all.1)
 
 pub all_lanes_of : (scene : PlainScene) → IsScene scene → AreLinksAfter (length scene.nodes) [] scene.links → AllByRecursion (IsLaneOf scene (ends_in scene.links)) (lanes_of scene)

@@ -6,11 +6,10 @@ use Rattle.std.proofs.lemmas.Bool.{eqb-true, ltb-true}
 use Rattle.std.proofs.lemmas.List.{length-map}
 use Rattle.std.proofs.lemmas.Option.{same_Some, slice_get-map, slice_get_within}
 use Rattle.csp_app.specs.PlainApp as app
-use Rattle.csp_app.specs.declared.step.Step.{Step}
+use Rattle.csp_app.specs.PlainStep.{PlainStep}
 use Rattle.csp_bridge.specs.PlainBridge as bridge
-use Rattle.csp_iface.specs.Links.{carried_on}
 use Rattle.csp_iface.specs.PlainIface as iface
-use Rattle.csp_link.specs.PlainLink.{lane_of}
+use Rattle.csp_log.specs.Kinds.{carried_on}
 use Rattle.csp_lists.specs.PlainDeck.{PlainDeck, rule_of}
 use Rattle.csp_log.specs.declared.places.Carries.TheVariants as lane
 use Rattle.csp_log.specs.declared.places.End.{End}
@@ -73,27 +72,22 @@ bridge_there stands n links two (queue.Down k) r e = absurd cc
 bridge_there stands n links two (queue.Tx k) r e = absurd cc
 bridge_there stands n links two (queue.Rx k) r e = absurd cc
 
--- the frames that an interface sends and receives are those of its link
-same_lane : (k : LinkKind) → lane_of k ≡ carried_on k
-same_lane kind.Kiss = refl
-same_lane kind.Can = refl
-
 -- of an interface on one of its links
-iface_there : Stands → (place number : ℕ) (kind : LinkKind) (n : PlainNode) (links : List PlainLink) (l : PlainLink) → slice_get links number ≡ Some l → l.kind ≡ kind → AreThere n links (an_iface (iface.opening place number kind))
-iface_there stands place number kind n links l at same_kind queue.Inbox r e = e
-iface_there stands place number kind n links l at same_kind (queue.Out k) r e =
+iface_there : Stands → (place number : ℕ) (kind : LinkKind) (mtu : ℕ) (n : PlainNode) (links : List PlainLink) (l : PlainLink) → slice_get links number ≡ Some l → l.kind ≡ kind → AreThere n links (an_iface (iface.opening place number kind mtu))
+iface_there stands place number kind mtu n links l at same_kind queue.Inbox r e = e
+iface_there stands place number kind mtu n links l at same_kind (queue.Out k) r e =
     own_lane (rule.Lane lane.Out) r (rule_of (opened_deck n links) (queue.Out k)) number k _ (λ same. out_rule stands n links k (omega (arith, slice_get_within links number l at, same))) refl e
-iface_there stands place number kind n links l at same_kind (queue.Tx k) r e =
+iface_there stands place number kind mtu n links l at same_kind (queue.Tx k) r e =
     own_lane (rule.Lane (carried_on kind)) r (rule_of (opened_deck n links) (queue.Tx k)) number k _
-    (λ same. tx_rule stands n links k l (ap (slice_get links) same ∙ at) ∙ ap (λ c. Some (rule.Lane c)) (ap lane_of same_kind ∙ same_lane kind)) refl e
-iface_there stands place number kind n links l at same_kind (queue.Rx k) r e =
+    (λ same. tx_rule stands n links k l (ap (slice_get links) same ∙ at) ∙ ap (λ c. Some (rule.Lane c)) (ap carried_on same_kind)) refl e
+iface_there stands place number kind mtu n links l at same_kind (queue.Rx k) r e =
     own_lane (rule.Lane (carried_on kind)) r (rule_of (opened_deck n links) (queue.Rx k)) number k _
-    (λ same. rx_rule stands n links k l (ap (slice_get links) same ∙ at) ∙ ap (λ c. Some (rule.Lane c)) (ap lane_of same_kind ∙ same_lane kind)) refl e
-iface_there stands place number kind n links l at same_kind (queue.Up k) r e = absurd cc
-iface_there stands place number kind n links l at same_kind (queue.Down k) r e = absurd cc
+    (λ same. rx_rule stands n links k l (ap (slice_get links) same ∙ at) ∙ ap (λ c. Some (rule.Lane c)) (ap carried_on same_kind)) refl e
+iface_there stands place number kind mtu n links l at same_kind (queue.Up k) r e = absurd cc
+iface_there stands place number kind mtu n links l at same_kind (queue.Down k) r e = absurd cc
 
 -- of an application
-app_there : Stands → (number : ℕ) (steps : List Step) (n : PlainNode) (links : List PlainLink) → number < length n.apps → AreThere n links (an_app (app.opening number steps))
+app_there : Stands → (number : ℕ) (steps : List PlainStep) (n : PlainNode) (links : List PlainLink) → number < length n.apps → AreThere n links (an_app (app.opening number steps))
 app_there stands number steps n links few queue.Inbox r e = absurd cc
 app_there stands number steps n links few (queue.Up k) r e =
     own_lane (rule.Lane lane.Up) r (rule_of (opened_deck n links) (queue.Up k)) number k _ (λ same. up_rule stands n links k (omega (arith, few, same))) refl e
@@ -137,17 +131,17 @@ hub_new : Stands → (w : PlainWorld) (addr : Option ℕ) (place : ℕ) (n : Pla
 hub_new stands w (Some addr) place n links at two = router_new stands w place addr n links at
 hub_new stands w None place n links at two = bridge_new stands w place n links at (two refl)
 
-iface_new : Stands → (w : PlainWorld) (place number : ℕ) (n : PlainNode) (links : List PlainLink) (l : PlainLink) → slice_get w.decks place ≡ Some (opened_deck n links) → slice_get links number ≡ Some l → IsNew w.decks w.links (iface_on place number l.kind)
+iface_new : Stands → (w : PlainWorld) (place number : ℕ) (n : PlainNode) (links : List PlainLink) (l : PlainLink) → slice_get w.decks place ≡ Some (opened_deck n links) → slice_get links number ≡ Some l → IsNew w.decks w.links (iface_on place number l.kind l.mtu)
 iface_new stands w place number n links l at on = record {
   ready = λ later until goes. refl;
   counted = refl;
-  served = λ q s u. there_at w.decks place n links q s at (iface_there stands place number l.kind n links l on refl q s u);
+  served = λ q s u. there_at w.decks place n links q s at (iface_there stands place number l.kind l.mtu n links l on refl q s u);
   called = tt;
   holds = refl;
   home = λ node e. within_at w.decks place (opened_deck n links) at node e;
 }
 
-app_new : Stands → (w : PlainWorld) (place number : ℕ) (steps : List Step) (n : PlainNode) (links : List PlainLink) → slice_get w.decks place ≡ Some (opened_deck n links) → number < length n.apps → IsNew w.decks w.links (app_with place number steps)
+app_new : Stands → (w : PlainWorld) (place number : ℕ) (steps : List PlainStep) (n : PlainNode) (links : List PlainLink) → slice_get w.decks place ≡ Some (opened_deck n links) → number < length n.apps → IsNew w.decks w.links (app_with place number steps)
 app_new stands w place number steps n links at few = record {
   ready = λ later until goes. tt;
   counted = refl;

@@ -5,7 +5,7 @@ use Rattle.std.specs.Option.{option_and_then}
 use Rattle.std.proofs.lemmas.Bool.{ltb-true}
 use Rattle.std.proofs.lemmas.Option.{slice_get-map}
 use Rattle.csp_link.specs.PlainLink as link
-use Rattle.csp_link.specs.PlainLink.{lane_of}
+use Rattle.csp_log.specs.Kinds.{carried_on}
 use Rattle.csp_lists.specs.PlainDeck.{PlainDeck, rule_of}
 use Rattle.csp_log.specs.declared.places.End.{End}
 use Rattle.csp_log.specs.declared.places.LinkKind.{LinkKind}
@@ -38,13 +38,14 @@ node_there (x ∷ nodes) zero low = (x, refl)
 node_there (x ∷ nodes) (suc k) low = node_there nodes k (omega (arith, low))
 
 -- the rules of a link's lanes are those of frames
-frames : (k : LinkKind) → of_frames (rule.Lane (lane_of k)) ≡ Some (rule.Lane (lane_of k))
+frames : (k : LinkKind) → of_frames (rule.Lane (carried_on k)) ≡ Some (rule.Lane (carried_on k))
 frames kind.Kiss = refl
+frames kind.KissHeader = refl
 frames kind.Can = refl
 
 -- at each end of a link the node there has its lanes
 tx_there : Stands → (nodes : List PlainNode) (links : List PlainLink) (l : PlainLink) (end : End) → IsEnd nodes links l end
-    → option_and_then of_frames (rule_there (map deck_of (plans_from 0 nodes links)) (Some (end.node, queue.Tx end.iface))) ≡ Some (rule.Lane (lane_of l.kind))
+    → option_and_then of_frames (rule_there (map deck_of (plans_from 0 nodes links)) (Some (end.node, queue.Tx end.iface))) ≡ Some (rule.Lane (carried_on l.kind))
 tx_there stands nodes links l end is =
     let there = node_there nodes end.node is.node in
     ap (λ (o : Option PlainDeck). option_and_then of_frames (option_and_then (λ (d : PlainDeck). rule_of d (queue.Tx end.iface)) o)) (deck_there nodes links end.node there.0 there.1)
@@ -52,7 +53,7 @@ tx_there stands nodes links l end is =
     ∙ frames l.kind
 
 rx_there : Stands → (nodes : List PlainNode) (links : List PlainLink) (l : PlainLink) (end : End) → IsEnd nodes links l end
-    → option_and_then of_frames (rule_there (map deck_of (plans_from 0 nodes links)) (Some (end.node, queue.Rx end.iface))) ≡ Some (rule.Lane (lane_of l.kind))
+    → option_and_then of_frames (rule_there (map deck_of (plans_from 0 nodes links)) (Some (end.node, queue.Rx end.iface))) ≡ Some (rule.Lane (carried_on l.kind))
 rx_there stands nodes links l end is =
     let there = node_there nodes end.node is.node in
     ap (λ (o : Option PlainDeck). option_and_then of_frames (option_and_then (λ (d : PlainDeck). rule_of d (queue.Rx end.iface)) o)) (deck_there nodes links end.node there.0 there.1)
@@ -92,10 +93,10 @@ can_join stands nodes links l is = record {
   lanes (queue.Up k) r u = absurd cc
   lanes (queue.Down k) r u = absurd cc
   lanes (queue.Out k) r u = absurd cc
-  lanes (queue.Tx k) r u = of_two (rule.Lane (lane_of l.kind)) r k _ _ (seen l.ends (queue.Tx k)) (tx_there stands nodes links l e.first e.one_end) (tx_there stands nodes links l e.second e.other_end)
+  lanes (queue.Tx k) r u = of_two (rule.Lane (carried_on l.kind)) r k _ _ (seen l.ends (queue.Tx k)) (tx_there stands nodes links l e.first e.one_end) (tx_there stands nodes links l e.second e.other_end)
       (λ same. ap (λ (ends : List End). seen ends (queue.Tx k)) e.two ∙ ap (λ (j : ℕ). seen (e.first ∷ e.second ∷ []) (queue.Tx j)) same)
       (λ same. ap (λ (ends : List End). seen ends (queue.Tx k)) e.two ∙ ap (λ (j : ℕ). seen (e.first ∷ e.second ∷ []) (queue.Tx j)) same) _ refl u
-  lanes (queue.Rx k) r u = of_two (rule.Lane (lane_of l.kind)) r k _ _ (seen l.ends (queue.Rx k)) (rx_there stands nodes links l e.first e.one_end) (rx_there stands nodes links l e.second e.other_end)
+  lanes (queue.Rx k) r u = of_two (rule.Lane (carried_on l.kind)) r k _ _ (seen l.ends (queue.Rx k)) (rx_there stands nodes links l e.first e.one_end) (rx_there stands nodes links l e.second e.other_end)
       (λ same. ap (λ (ends : List End). seen ends (queue.Rx k)) e.two ∙ ap (λ (j : ℕ). seen (e.first ∷ e.second ∷ []) (queue.Rx j)) same)
       (λ same. ap (λ (ends : List End). seen ends (queue.Rx k)) e.two ∙ ap (λ (j : ℕ). seen (e.first ∷ e.second ∷ []) (queue.Rx j)) same) _ refl u
 

@@ -12,7 +12,7 @@ use Rattle.csp_topology.specs.Parties.{parties_of}
 use Rattle.csp_consistent.specs.Pools.{AreNumbersKept, IsPoolWhole}
 use Rattle.csp_consistent.specs.Runs.{AreLogsOf}
 use Rattle.csp_deck.specs.Step.{times}
-use Rattle.csp_link.specs.PlainLink.{lane_of}
+use Rattle.csp_log.specs.Kinds.{carried_on}
 use Rattle.csp_lists.specs.PlainDeck.{PlainDeck}
 use Rattle.csp_log.specs.declared.places.End.{End}
 use Rattle.csp_nodes.specs.Fresh.{fresh_buffers}
@@ -71,7 +71,7 @@ all_after P keeps scene all (a_tick ∷ hs) = all_after P keeps scene all hs
 -- each queue stands where a queue does
 decks_queued : (place : ℕ) (nodes : List PlainNode) (links : List PlainLink) → AllByRecursion AreQueued (map deck_of (plans_from place nodes links))
 decks_queued place [] links = tt
-decks_queued place (n ∷ nodes) links = (queued-opening (fresh_buffers n.buffers) n.inbox (length n.apps) (map (λ l. lane_of l.kind) (links_at place links)), decks_queued (place + 1) nodes links)
+decks_queued place (n ∷ nodes) links = (queued-opening (fresh_buffers n.buffers) n.inbox (length n.apps) (map (λ l. carried_on l.kind) (links_at place links)), decks_queued (place + 1) nodes links)
 
 opening_queued : (scene : PlainScene) → AllByRecursion AreQueued (opening scene).decks
 unfolding opening
@@ -129,7 +129,7 @@ scene_known stands queues shape scene is = record {
 opening_inbox : (scene : PlainScene) (node : ℕ) (n : PlainNode) → slice_get scene.nodes node ≡ Some n → IsInboxKept node n (opening scene).decks (opening scene).members
 opening_inbox scene node n at =
     rw (members_opened scene)
-    (inbox_opened node n (fresh_buffers n.buffers) n.inbox (length n.apps) (map (λ l. lane_of l.kind) (links_at node scene.links)) (opening scene).decks (parties_of scene) (opening_there scene node n at))
+    (inbox_opened node n (fresh_buffers n.buffers) n.inbox (length n.apps) (map (λ l. carried_on l.kind) (links_at node scene.links)) (opening scene).decks (parties_of scene) (opening_there scene node n at))
 
 all_inboxes : (scene : PlainScene) → IsKnown scene (parties_of scene) → (node : ℕ) (n : PlainNode) → slice_get scene.nodes node ≡ Some n → (hs : List Happening) → IsInboxKept node n (world_after scene hs).decks (world_after scene hs).members
 all_inboxes scene known node n at [] = opening_inbox scene node n at

@@ -9,7 +9,7 @@ use Rattle.csp_base.specs.declared.priority.Prio.TheVariants.{Critical, High, No
 use Rattle.csp_topology.specs.Parties.{PlainOpening, parties_of}
 use Rattle.csp_consistent.specs.Pools.{held_by, left_held, parties_held, party_held, place_named, pools_held}
 use Rattle.csp_consistent.specs.Whole.{AreQueuesLeft, at_node, left_name, queue_name, queues_from, queues_of}
-use Rattle.csp_link.specs.PlainLink.{lane_of}
+use Rattle.csp_log.specs.Kinds.{carried_on}
 use Rattle.csp_lists.specs.Gathered.{held_at, left_at, prio_named, queue_named}
 use Rattle.csp_lists.specs.Order.{places_in}
 use Rattle.csp_lists.specs.PlainDeck.{PlainDeck, PlainQueue, answer_of, buffer_numbers, emptied, numbers_of, opening_queue, shape_of}
@@ -87,11 +87,11 @@ row_opened : (inbox : ℕ) (links : List Carries) (ps : List Place) → map (λ 
 row_opened inbox links [] = refl
 row_opened inbox links (p ∷ ps) = ap (λ (rest : List Place). p ∷ rest) (row_opened inbox links ps)
 
-node_opened : (n : PlainNode) (links : List PlainLink) → map (λ q. q.place) (map emptied (map (opening_queue n.inbox (map (λ l. lane_of l.kind) links)) (places_in (shape_of (length n.apps) (map (λ l. lane_of l.kind) links)))))
+node_opened : (n : PlainNode) (links : List PlainLink) → map (λ q. q.place) (map emptied (map (opening_queue n.inbox (map (λ l. carried_on l.kind) links)) (places_in (shape_of (length n.apps) (map (λ l. carried_on l.kind) links)))))
     ≡ places_in (record { ifaces = length links; apps = length n.apps })
 node_opened n links =
-    row_opened n.inbox (map (λ l. lane_of l.kind) links) (places_in (shape_of (length n.apps) (map (λ l. lane_of l.kind) links)))
-    ∙ ap (λ (ifaces : ℕ). places_in (record { ifaces = ifaces; apps = length n.apps })) (length-map links (λ l. lane_of l.kind))
+    row_opened n.inbox (map (λ l. carried_on l.kind) links) (places_in (shape_of (length n.apps) (map (λ l. carried_on l.kind) links)))
+    ∙ ap (λ (ifaces : ℕ). places_in (record { ifaces = ifaces; apps = length n.apps })) (length-map links (λ l. carried_on l.kind))
 
 nodes_opened : (node : ℕ) (nodes : List PlainNode) (links : List PlainLink) → places_from node (rows (map deck_of (plans_from node nodes links))) ≡ queues_from node nodes links
 nodes_opened node [] links = refl

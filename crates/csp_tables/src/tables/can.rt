@@ -1,5 +1,6 @@
-//! Fragments on a CAN bus: `can frames HEADER PAYLOAD NEXT NUMBER`, `can count LENGTH`, and `can heard FRAME ..`,
-//! where a frame is `IDENTIFIER:DATA`, and `@TIME` says when the frames after it come.
+//! Fragments on a CAN bus: `can frames HEADER PAYLOAD NEXT NUMBER`, `can count LENGTH`, `can ends LENGTH`, and
+//! `can heard FRAME ..`, where a frame is `IDENTIFIER:DATA`, `@TIME` says when the frames after it come, and `mtu M`
+//! before the frames says another greatest payload than 256.
 
 use csp_base::{Addr, MAX_PAYLOAD, Trace};
 use csp_can::{CanAnswer, CanEvent, CanFrame, Fragments, MAX_DATA, Reassembly, fragments};
@@ -8,12 +9,16 @@ use csp_cases::{CaseError, Words, bytes_of, counted, long_of, word_of};
 use csp_text::push_hex;
 use std::alloc::Global;
 
+/// The greatest payload where nothing else is said.
+const USUAL_MTU: u16 = 256;
+
 /// The frames of a packet, how many there are, or what a listener answers to frames.
 pub(super) fn answer(alloc: Global, what: &str) -> Result<String, CaseError> {
     let words = Words::of(alloc, what)?;
     match words.at(0)? {
         "frames" => frames(alloc, &words),
         "count" => count(alloc, usize::from(words.short(1)?)),
+        "ends" => ends(alloc, usize::from(words.short(1)?)),
         "heard" => heard(alloc, &words),
         _ => Err(Unread),
     }
@@ -55,21 +60,51 @@ fn push_frame(alloc: Global, told: &mut String, frame: &CanFrame) -> Result<(), 
     Ok(())
 }
 
-/// How many frames a packet with so many bytes has.
-fn count(alloc: Global, length: usize) -> Result<String, CaseError> {
+/// The frames of a packet with so many bytes from node 1 to node 2, whose number is 5.
+fn fragments_long(alloc: Global, length: usize) -> Result<Fragments, CaseError> {
     let bytes = vec![in alloc; 7u8; length]?;
     let next = Addr::new(2).ok_or(Unread)?;
+    fragments_of(0x8222_B000, bytes.as_slice(), next, 5)
+}
+
+/// How many frames a packet with so many bytes has.
+fn count(alloc: Global, length: usize) -> Result<String, CaseError> {
     let mut count = 0u64;
-    for _frame in fragments_of(0x8222_B000, bytes.as_slice(), next, 5)? {
+    for _frame in fragments_long(alloc, length)? {
         count = count.saturating_add(1);
     }
     counted(alloc, count)
 }
 
+/// The identifiers of the first and the last frame of a packet with so many bytes.
+fn ends(alloc: Global, length: usize) -> Result<String, CaseError> {
+    let mut first = None;
+    let mut last = 0;
+    for frame in fragments_long(alloc, length)? {
+        first = first.or(Some(frame.id));
+        last = frame.id;
+    }
+    let first = first.ok_or(Unread)?;
+    Ok(format!(in alloc; "{first:08x} {last:08x}")?)
+}
+
+/// A listener to packets of the greatest payload that these words say, or of 256 bytes.
+fn listener(words: &Words) -> Result<Reassembly, CaseError> {
+    let mtu = if words.at(1)? == "mtu" {
+        words.short(2)?
+    } else {
+        USUAL_MTU
+    };
+    if usize::from(mtu) > MAX_PAYLOAD {
+        return Err(Unread);
+    }
+    Ok(Reassembly::new(mtu))
+}
+
 /// What a listener answers to each frame. A whole packet is told by its header, its payload and the place in the list
 /// of the frame that began it, counted from 0.
 fn heard(alloc: Global, words: &Words) -> Result<String, CaseError> {
-    let mut listener = Reassembly::new();
+    let mut listener = listener(words)?;
     let mut told = String::new(alloc);
     let mut time = 0;
     let mut place = 0u64;

@@ -1,16 +1,17 @@
-use Rattle.std.proofs.Common.{◌≡◌, ℕ, ◌+◌, ◌<◌, ◌++◌, cond, List, [], ◌∷◌, length, map, take, ap, sym, ◌∙◌, arith, subst, length-append}
+use Rattle.std.proofs.Common.{◌≡◌, ℕ, ◌+◌, ◌<◌, ◌≤◌, ◌++◌, cond, List, [], ◌∷◌, length, map, take, ap, sym, ◌∙◌, arith, subst, length-append}
 use Rattle.std.specs.List.{AllByRecursion}
 use Rattle.std.proofs.lemmas.List.{append-nil, length-take-le, map-append}
 use Rattle.std.proofs.lemmas.List.Elements.{filter_more}
+use Rattle.csp_base.specs.declared.limits.TheConstants.{MAX_PAYLOAD}
 use Rattle.csp_log.specs.declared.places.TheConstants.{IFACES}
-use Rattle.csp_scene.proofs.Lists.{AllByRecursion-append}
+use Rattle.csp_scene.proofs.Lists.{AllByRecursion-append, AllByRecursion-at}
 use Rattle.csp_scene.specs.Links.{links_at, touches}
 use Rattle.csp_scene.specs.Scene.{PlainLink}
 use Rattle.csp_topology.proofs.PartyLemmas.{ifaces-push}
 use Rattle.csp_topology.proofs.PlanLemmas.{links_few}
 use Rattle.csp_topology.proofs.parties.push_ifaces.Goals as goal
 use Rattle.csp_topology.proofs.parties.push_ifaces.Goals.{then-touches+in_ok-push, else-touches}
-use Rattle.csp_topology.specs.Opening.{CanOpen, opening_of}
+use Rattle.csp_topology.specs.Opening.{CanOpen, FitsBuffers, opening_of}
 use Rattle.csp_topology.specs.Parties.{PlainOpening, iface_on, ifaces_from}
 use Rattle.csp_topology.specs.declared.opening.Opening.{Opening}
 use Rattle.csp_topology.specs.declared.opening.Opening.TheVariants as opening
@@ -32,6 +33,8 @@ loop-link-preserved c =
     filter_more (touches place) c.args.links.now c.loop-link.link-index x low ∙ ap (λ (y : PlainLink). before ++ cond (touches place y) (y ∷ []) []) (sym c.link-item.is) in
     let so_far = take c.loop-link.link-index c.args.links.now in
     let within : c.loop-link.number < IFACES = omega (arith, old.number, links_few place so_far, length-take-le c.loop-link.link-index c.args.links.now (omega (arith, low)), low, c.requires.few_links) in
+    let most : x.mtu ≤ MAX_PAYLOAD = subst FitsBuffers (sym c.link-item.is) (AllByRecursion-at FitsBuffers c.args.links.now c.loop-link.link-index x c.requires.fit low) in
+    let fits : c.link.inside.mtu ≤ MAX_PAYLOAD = omega (arith, most, ap (λ (l : PlainLink). l.mtu) c.link.view_is) in
     let tested : c.touches.result ≡ touches place x = c.touches.ensures ∙ ap (λ (p : ℕ). touches p x) c.from.ensures in
     elim c.if-touches.branch [
       | then-touches+in_ok-push w ↦
@@ -40,11 +43,11 @@ loop-link-preserved c =
             number = w.number-is ∙ omega (arith, old.number, ap (λ (ls : List PlainLink). length ls) with_it, length-append before (x ∷ []));
             parties = ap (λ (os : List Opening). map opening_of os) (ap (λ v. v.items) w.openings-is ∙ w.in_ok-push.ensures.items)
                 ∙ map-append opening_of c.loop-link.openings.items _
-                ∙ ap (λ (os : List PlainOpening). os ++ iface_on place c.loop-link.number c.link.inside.kind ∷ []) old.parties
-                ∙ ifaces-push (map opening_of c.args.openings.now.items) place c.loop-link.number c.link.inside.kind before x old.number (ap (λ (l : PlainLink). l.kind) c.link.view_is)
+                ∙ ap (λ (os : List PlainOpening). os ++ iface_on place c.loop-link.number c.link.inside.kind c.link.inside.mtu ∷ []) old.parties
+                ∙ ifaces-push (map opening_of c.args.openings.now.items) place c.loop-link.number c.link.inside.kind c.link.inside.mtu before x old.number (ap (λ (l : PlainLink). l.kind) c.link.view_is) (ap (λ (l : PlainLink). l.mtu) c.link.view_is)
                 ∙ ap (λ (ls : List PlainLink). map opening_of c.args.openings.now.items ++ ifaces_from place 0 ls) (sym with_it);
             ready = subst (λ (os : List Opening). AllByRecursion CanOpen os) (sym (ap (λ v. v.items) w.openings-is ∙ w.in_ok-push.ensures.items))
-                (AllByRecursion-append CanOpen c.loop-link.openings.items (opening.Iface place c.loop-link.number c.link.inside.kind ∷ []) old.ready (within, tt));
+                (AllByRecursion-append CanOpen c.loop-link.openings.items (opening.Iface place c.loop-link.number c.link.inside.kind c.link.inside.mtu ∷ []) old.ready ((within, fits), tt));
           })
       | else-touches w ↦
           (let without : links_at place (take (c.loop-link.link-index + 1) c.args.links.now) ≡ before = more ∙ ap (λ b. before ++ cond b (x ∷ []) []) (sym tested ∙ w.if-touches.false) ∙ append-nil before in

@@ -2,10 +2,10 @@ use Rattle.std.proofs.Common.{◌≡◌, ◌++◌, List, All, map, ap, sym, subs
 use Rattle.std.specs.List.{AllByRecursion}
 use Rattle.csp_scene.specs.Ranges.{IsPlanned}
 use Rattle.csp_scene.specs.Scene.{PlainLink, PlainNode, PlainScene}
-use Rattle.csp_topology.proofs.PlanLemmas.{links_planned, plans_fit}
+use Rattle.csp_topology.proofs.PlanLemmas.{links_fit, links_planned, plans_fit}
 use Rattle.csp_topology.proofs.TopologyLemmas.{topology_is}
 use Rattle.csp_topology.proofs.topology.Topology.of.Goals as goal
-use Rattle.csp_topology.specs.Opening.{opening_of}
+use Rattle.csp_topology.specs.Opening.{FitsBuffers, opening_of}
 use Rattle.csp_topology.specs.Parties.{PlainOpening, links_from, parties_from}
 use Rattle.csp_topology.specs.Plan.{IsPlan, PlainNodePlan, plans_from}
 
@@ -14,6 +14,12 @@ push_links-requires-clause-planned c =
     let scene : PlainScene = c.args.scene.now in
     let links : c.deref-3.result.now ≡ scene.links = c.deref-3.ensures.value ∙ ap (λ (s : PlainScene). s.links) c.scene.view_is in
     subst (λ (ls : List PlainLink). AllByRecursion (λ l. All IsPlanned l.plan) ls) (sym links) (links_planned scene.nodes scene.links scene.links c.requires.links)
+
+pub push_nodes-requires-clause-fit : goal.push_nodes-requires-clause-fit
+push_nodes-requires-clause-fit c =
+    let scene : PlainScene = c.args.scene.now in
+    let links : c.deref-2.result.now ≡ scene.links = c.deref-2.ensures.value ∙ ap (λ (s : PlainScene). s.links) c.scene.view_is in
+    subst (λ (ls : List PlainLink). AllByRecursion FitsBuffers ls) (sym links) (links_fit scene.nodes scene.links scene.links c.requires.links)
 
 pub returns-clause-whole : goal.returns-clause-whole
 returns-clause-whole c =

@@ -1,0 +1,5 @@
+pub mod Words
+pub mod Packets
+pub mod Talks
+pub mod Text
+pub mod Fed
