@@ -26,6 +26,7 @@ use Rattle.csp_report.specs.declared.ifaces.IfaceCount.{IfaceCount}
 use Rattle.csp_report.specs.declared.ifaces.IfaceCount.TheVariants as count
 use Rattle.csp_report.specs.declared.parties.Seat.TheVariants as seat
 use Rattle.csp_report.specs.declared.places.PlaceKind.TheVariants as kind
+use Rattle.csp_report.specs.declared.text.TheConstants.{VERSION}
 use Rattle.csp_report.specs.Lines.{Line, ended_line, text_of}
 use Rattle.csp_report.specs.Parties.{party_at, entries_at, events_at}
 use Rattle.csp_report.specs.Places.{held_in}
@@ -177,6 +178,7 @@ count_lacks count.Accepted = plain (codes "accepted") refl
 count_lacks count.Bad = plain (codes "bad") refl
 count_lacks count.Starved = plain (codes "starved") refl
 count_lacks count.Full = plain (codes "full") refl
+count_lacks count.TooBig = plain (codes "toobig") refl
 
 counts_lack : (entries : List Entry) (counts : List IfaceCount) → AllByRecursion (Lacks 10) (flat_map (λ which. count_word which ∷ decimal (counted which entries) ∷ []) counts)
 counts_lack entries [] = tt
@@ -221,6 +223,7 @@ good_asked node round is (event.Transmitted serial) = tt
 good_asked node round is (event.Bad frames) = tt
 good_asked node round is event.Starved = tt
 good_asked node round is event.InboxFull = tt
+good_asked node round is event.TooBig = tt
 
 good_all_asked : (node : List ℕ) (round : ℕ) → IsTrue (is_name node) → (events : List Event) → AllByRecursion IsGood (flat_map (asked_lines node round) events)
 good_all_asked node round is [] = tt
@@ -287,6 +290,7 @@ module _ (node app : List ℕ) (node_is : IsTrue (is_name node)) (app_is : IsTru
   good_event (event.Bad count) = tt
   good_event event.Starved = tt
   good_event event.InboxFull = tt
+  good_event event.TooBig = tt
   good_event event.Reboot = tt
   good_event event.Shutdown = tt
 
@@ -377,7 +381,7 @@ good_lines scene run is whole =
     let is_lines : List Line = flat_map (λ node. node_iface_lines run.parties node.0 node.1.name scene.links) (enumerate_from 0 scene.nodes) in
     let vs : List Line = flat_map (λ node. node_event_lines run.parties node.0 node.1.name) (enumerate_from 0 scene.nodes) in
     let ps : List Line = flat_map (λ node. node_app_lines scene.nodes run.parties node.0 node.1.name node.1.apps) (enumerate_from 0 scene.nodes) in
-    let head : AllByRecursion IsGood two_lines = (other title_line (plain (codes "csp-report") refl, (number 1, tt)) refl, (good_end run, tt)) in
+    let head : AllByRecursion IsGood two_lines = (other title_line (plain (codes "csp-report") refl, (number VERSION, tt)) refl, (good_end run, tt)) in
     let nodes : AllByRecursion IsGood ns = good_nodes run 0 scene.nodes is.nodes (λ i n e. let at : i ≡ 0 + i = omega arith in subst (λ (p : ℕ). IsWholeNode run p n.buffers) at (whole i n.buffers (counted_at scene.nodes i n e))) in
     let ifaces : AllByRecursion IsGood is_lines = good_node_ifaces run.parties 0 scene.nodes scene.links is.nodes (links_named scene.nodes scene.links scene.links is.links) in
     all_joined IsGood (two_lines ++ ns ++ rs ++ is_lines ++ vs ++ ps) (count_lines run)

@@ -219,6 +219,7 @@ module _ (nodes : List PlainNode) (nodes_are : AllByRecursion IsNode nodes) (nod
   event_other (event.Bad count) = tt
   event_other event.Starved = tt
   event_other event.InboxFull = tt
+  event_other event.TooBig = tt
   event_other event.Reboot = tt
   event_other event.Shutdown = tt
 
@@ -285,6 +286,7 @@ asked_other node round (event.Transmitted serial) = tt
 asked_other node round (event.Bad count) = tt
 asked_other node round event.Starved = tt
 asked_other node round event.InboxFull = tt
+asked_other node round event.TooBig = tt
 
 -- the lines before those of the applications
 abbrev head_lines : List PlainNode → List PlainLink → PlainRecord → List Line

@@ -77,6 +77,7 @@ asked_lines node round (event.Transmitted serial) = []
 asked_lines node round (event.Bad count) = []
 asked_lines node round event.Starved = []
 asked_lines node round event.InboxFull = []
+asked_lines node round event.TooBig = []
 
 -- those of an entry of its router, whose round is the entry's time: the first round is 0
 abbrev pub entry_lines : List ℕ → Entry → List Line
@@ -118,5 +119,6 @@ event_lines node app (event.Transmitted serial) = []
 event_lines node app (event.Bad count) = []
 event_lines node app event.Starved = []
 event_lines node app event.InboxFull = []
+event_lines node app event.TooBig = []
 event_lines node app event.Reboot = []
 event_lines node app event.Shutdown = []

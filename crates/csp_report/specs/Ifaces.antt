@@ -19,6 +19,7 @@ weight count.Sent (event.Transmitted serial) = 1
 weight count.Bad (event.Bad frames) = frames
 weight count.Starved event.Starved = 1
 weight count.Full event.InboxFull = 1
+weight count.TooBig event.TooBig = 1
 weight _ _ = 0
 
 -- the counts of these entries: the packets put into an inbox, or what the events add up to
@@ -28,10 +29,11 @@ counted count.Accepted entries = count_by (λ entry. is_some (put_in (moved_in e
 counted count.Bad entries = sum_by (weight count.Bad) (all_events entries)
 counted count.Starved entries = sum_by (weight count.Starved) (all_events entries)
 counted count.Full entries = sum_by (weight count.Full) (all_events entries)
+counted count.TooBig entries = sum_by (weight count.TooBig) (all_events entries)
 
 -- the counts, in the order in which an interface's line has them
 abbrev pub all_counts : List IfaceCount
-all_counts = count.Sent ∷ count.Accepted ∷ count.Bad ∷ count.Starved ∷ count.Full ∷ []
+all_counts = count.Sent ∷ count.Accepted ∷ count.Bad ∷ count.Starved ∷ count.Full ∷ count.TooBig ∷ []
 
 -- the word of a count
 abbrev pub count_word : IfaceCount → List ℕ
@@ -40,6 +42,7 @@ count_word count.Accepted = codes "accepted"
 count_word count.Bad = codes "bad"
 count_word count.Starved = codes "starved"
 count_word count.Full = codes "full"
+count_word count.TooBig = codes "toobig"
 
 -- `iface NODE LINK`, and each count's word with its number
 abbrev pub iface_line : List ℕ → List ℕ → List Entry → Line

@@ -19,10 +19,11 @@ use Rattle.csp_report.specs.Ifaces.{iface_line}
 use Rattle.csp_report.specs.declared.parties.Seat.TheVariants as seat
 use Rattle.csp_report.specs.declared.places.PlaceKind.{PlaceKind}
 use Rattle.csp_report.specs.declared.places.PlaceKind.TheVariants as kind
+use Rattle.csp_report.specs.declared.text.TheConstants.{VERSION}
 
--- `csp-report 1`
+-- `csp-report V`: the version of the report
 abbrev pub title_line : Line
-title_line = codes "csp-report" ∷ decimal 1 ∷ []
+title_line = codes "csp-report" ∷ decimal VERSION ∷ []
 
 -- `end finished R` or `end unfinished R`: whether every application had ended, and the rounds made
 abbrev pub end_line : PlainRecord → Line

@@ -116,6 +116,7 @@ fn push_event(out: &mut String, node: &str, app: &str, event: Event) -> Result<(
         | Event::Bad { .. }
         | Event::Starved
         | Event::InboxFull
+        | Event::TooBig
         | Event::Reboot
         | Event::Shutdown => Ok(()),
     }

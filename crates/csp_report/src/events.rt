@@ -68,7 +68,8 @@ fn push_event(
         | Event::Transmitted { .. }
         | Event::Bad { .. }
         | Event::Starved
-        | Event::InboxFull => Ok(()),
+        | Event::InboxFull
+        | Event::TooBig => Ok(()),
     }
 }
 

@@ -32,15 +32,18 @@ pub(crate) enum IfaceCount {
     Starved,
     /// `full`: packets that found the inbox full.
     Full,
+    /// `toobig`: packets with a longer payload than the link takes.
+    TooBig,
 }
 
 /// The counts, in the order in which an interface's line has them.
-const COUNTS: [IfaceCount; 5] = [
+const COUNTS: [IfaceCount; 6] = [
     IfaceCount::Sent,
     IfaceCount::Accepted,
     IfaceCount::Bad,
     IfaceCount::Starved,
     IfaceCount::Full,
+    IfaceCount::TooBig,
 ];
 
 /// The word of a count.
@@ -53,6 +56,7 @@ fn count_word(which: IfaceCount) -> &'static str
         IfaceCount::Bad => "bad",
         IfaceCount::Starved => "starved",
         IfaceCount::Full => "full",
+        IfaceCount::TooBig => "toobig",
     }
 }
 
@@ -65,6 +69,7 @@ fn weight(event: Event, which: IfaceCount) -> u64
         (IfaceCount::Bad, Event::Bad { count }) => u64::from(count),
         (IfaceCount::Starved, Event::Starved) => 1,
         (IfaceCount::Full, Event::InboxFull) => 1,
+        (IfaceCount::TooBig, Event::TooBig) => 1,
         _ => 0,
     }
 }
@@ -115,9 +120,11 @@ fn count_in(log: &Log, which: IfaceCount) -> Result<u64, AllocError>
 {
     match which {
         IfaceCount::Accepted => Ok(count_accepted(log)),
-        IfaceCount::Sent | IfaceCount::Bad | IfaceCount::Starved | IfaceCount::Full => {
-            sum_events(log.all_events(), which)
-        }
+        IfaceCount::Sent
+        | IfaceCount::Bad
+        | IfaceCount::Starved
+        | IfaceCount::Full
+        | IfaceCount::TooBig => sum_events(log.all_events(), which),
     }
 }
 

@@ -15,4 +15,4 @@ mod text;
 
 pub use laws::tells_prefix;
 pub use summing::summary;
-pub use text::report;
+pub use text::{VERSION, report};

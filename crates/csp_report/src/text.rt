@@ -21,8 +21,8 @@ use csp_record::{Record, passed, stale};
 use csp_scene::{Scene, SceneLink, SceneNode};
 use std::alloc::{AllocError, Global};
 
-/// The number of the report's form.
-const FORM: u64 = 1;
+/// The version of the report, which its first line tells.
+pub const VERSION: u64 = 2;
 
 /// Appends a line of a word and a number.
 fn push_total(out: &mut String, word: &str, count: u64) -> Result<(), AllocError>
@@ -78,7 +78,7 @@ fn push_lines(
     requires { count ≡ passed run.now }
     ensures { OnOk result (string_bytes out.new ≡ string_bytes out.old ++ text_of (report_lines nodes.now links.now run.now)) }
 {
-    push_total(out, "csp-report", FORM)?;
+    push_total(out, "csp-report", VERSION)?;
     push_end(out, run)?;
     push_nodes(out, nodes, run)?;
     push_routers(out, nodes, run)?;
