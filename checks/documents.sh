@@ -112,7 +112,7 @@ printed() {
   grep -vxFf "$1" "$work/shown"
 }
 
-{ printed scenarios/mission.scn 'until 20000'; printed scenarios/mission.report 'csp-report 1'; } > "$work/printed"
+{ printed scenarios/mission.scn 'until 20000'; printed scenarios/mission.report 'csp-report 2'; } > "$work/printed"
 complain 'lines that the README shows, and that the mission or its report has not' "$work/printed"
 
 # The logic of the kit, by which a proof counts with any kit that has it.

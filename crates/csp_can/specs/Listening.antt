@@ -1,10 +1,11 @@
--- a listener on a bus: how many payload bytes a packet has at most, and the partial packets that stand
+-- What a listener on a bus keeps, and what it answers.
 use Rattle.std.specs.Prelude.{ℕ, List, []}
 use Rattle.csp_can.specs.declared.answers.CanAnswer.{CanAnswer}
 use Rattle.csp_can.specs.declared.partials.Partial.{Partial}
 use Rattle.csp_can.specs.Rules.{Arrival}
 use Rattle.csp_can.specs.Open.{answer, next, counters}
 
+-- how many payload bytes a packet has at most, and the partial packets that stand
 pub record Listening : Type 0 where
   pub mtu : ℕ
   pub partials : List Partial
