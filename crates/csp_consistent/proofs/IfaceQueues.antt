@@ -1,5 +1,5 @@
 -- An interface keeps its number, and uses the queues of that.
-use Rattle.std.proofs.Common.{◌≡◌, ℕ, Option, None, Some, List, [], ◌∷◌, refl, ◌∙◌}
+use Rattle.std.proofs.Common.{◌≡◌, ℕ, Bool, true, false, Option, None, Some, List, [], ◌∷◌, refl, ◌∙◌}
 use Rattle.std.specs.Prelude.{slice_get}
 use Rattle.csp_buffer.specs.Content.{Content}
 use Rattle.csp_consistent.specs.Queues.{MayAsk}
@@ -26,7 +26,11 @@ number_kept (item.Frame f) s = refl
 number_kept (item.Note n) s = refl
 
 number_fetched : (i : ItemShown) (s : PlainIface) → (telling.fetched i s).iface.number ≡ s.number
-number_fetched (item.Packet mark b) s = refl
+number_fetched (item.Packet mark b) s = taken (telling.is_too_big s b)
+  where
+    taken : (big : Bool) → (telling.taken_up big mark b s).iface.number ≡ s.number
+    taken true = refl
+    taken false = refl
 number_fetched (item.Frame f) s = refl
 number_fetched (item.Note n) s = refl
 
