@@ -5,6 +5,8 @@
 mod packets;
 mod talks;
 mod tap;
+mod whole;
 mod words;
 
 pub use tap::Tap;
+pub use whole::tapped;

@@ -5,4 +5,5 @@ pub mod Words
 pub mod Gen
 pub mod Prefix
 pub mod Threads
+pub mod Tap
 pub mod Owes

@@ -1,9 +1,10 @@
 -- What each command owes.
-use Rattle.std.specs.Prelude.{ℕ, ◌≡◌, ◌≢◌, List, Option, Err, IfSome}
+use Rattle.std.specs.Prelude.{ℕ, ◌≡◌, ◌≢◌, Bool, List, Option, Err, IfSome}
 use Rattle.csp_scene.specs.Judge.{scene_of}
 use Rattle.csp_scene.specs.declared.refusal.SceneKind.{SceneKind}
 use Rattle.csp_top.specs.Gen.{HasReport, IsSummedUpOrNoMemory, WroteSummary, WroteSummaryPart}
-use Rattle.csp_top.specs.Main.{IsDoneOrNoMemory, IsPastEntries, IsUnhindered, WasRead, WroteReliably, WroteReport, WrotePart}
+use Rattle.csp_top.specs.Main.{IsDoneOrNoMemory, IsPastEntries, IsUnhindered, WasRead, WroteReliably, WroteReport, WrotePart, WroteWhole}
+use Rattle.csp_top.specs.Tap.{IsOpenStream, IsTappedOrNoMemory, WroteTap, WroteTapPart}
 use Rattle.csp_top.specs.Threads.{IsFree, IsRunOrNoMemory, WroteRun, WroteRunPart}
 use Rattle.csp_top.specs.declared.status.LimitKind.{LimitKind}
 use Rattle.csp_top.specs.declared.status.LimitKind.TheVariants as limit
@@ -25,10 +26,11 @@ pub record Edge : Type 0 where
 abbrev pub edge : Option (List ℕ) → ℕ → Option (List ℕ) → ℕ → Edge
 edge left reading written writing = record { left = left; reading = reading; written = written; writing = writing }
 
--- what a command owes that writes a report of the text that it reads: the whole of it, which is reliable, or a prefix, and only of a text that was read to
+-- what a command owes that writes a report of the text that it reads: the whole of it, in which places add up and which is reliable, or a prefix, and only of a text that was read to
 -- its end; or the refusal of the text. Which bytes are written for a text, whole or in part, differs with the command
 pub record OwesReport (Wrote WroteSome : List ℕ → Option (List ℕ) → Option (List ℕ) → Type 0) (old new : Edge) (answer : Status) : Type 0 where
   pub done : answer ≡ status.Done → IfSome old.left (λ text. Wrote text old.written new.written)
+  pub places : answer ≡ status.Done → WroteWhole old.written new.written
   pub reliable : answer ≡ status.Done → WroteReliably old.written new.written
   pub read : answer ≡ status.Done → WasRead old.left new.left
   pub part : answer ≡ status.WriteFault → IfSome old.left (λ text. WroteSome text old.written new.written)
@@ -52,6 +54,7 @@ pub record OwesRun (old new : Edge) (answer : Status) : Type 0 where
 -- `gen N`: the summary of the report of the scenario in which so many packets are sent; the source, the scene and the limits are no cause of an answer
 pub record OwesGen (packets : ℕ) (old new : Edge) (answer : Status) : Type 0 where
   pub done : answer ≡ status.Done → WroteSummary packets old.written new.written
+  pub places : answer ≡ status.Done → WroteWhole old.written new.written
   pub part : answer ≡ status.WriteFault → WroteSummaryPart packets old.written new.written
   pub no_reading : answer ≢ status.ReadFault
   pub no_scene : (line : ℕ) (kind : SceneKind) → answer ≢ status.Scene line kind
@@ -59,8 +62,20 @@ pub record OwesGen (packets : ℕ) (old new : Edge) (answer : Status) : Type 0 w
   pub report : HasReport packets
   pub complete : (Rose old.writing new.writing → ⊥) → IsSummedUpOrNoMemory packets old.written new.written answer
 
+-- `tap`, and `tap --header` where the CRC covers the header: the text of the stream that it reads, whole or a prefix of it; the scene and the entry limit
+-- are no cause of an answer
+pub record OwesTap (cover : Bool) (old new : Edge) (answer : Status) : Type 0 where
+  pub done : answer ≡ status.Done → IfSome old.left (λ stream. WroteTap cover stream old.written new.written)
+  pub read : answer ≡ status.Done → WasRead old.left new.left
+  pub part : answer ≡ status.WriteFault → IfSome old.left (λ stream. WroteTapPart cover stream old.written new.written)
+  pub part_read : answer ≡ status.WriteFault → WasRead old.left new.left
+  pub no_scene : (line : ℕ) (kind : SceneKind) → answer ≢ status.Scene line kind
+  pub no_entries : (number : ℕ) → answer ≢ status.Limit limit.Entries number
+  pub complete : IfSome old.left (λ stream. IsOpenStream stream old.reading new.reading old.writing new.writing → IsTappedOrNoMemory cover stream old.written new.written answer)
+
 -- what a command owes
 abbrev pub Owes : Command → Edge → Edge → Status → Type 0
 Owes command.Sim = OwesSim
 Owes (command.Run workers) = OwesRun
 Owes (command.Gen packets) = OwesGen packets
+Owes (command.Tap cover) = OwesTap cover

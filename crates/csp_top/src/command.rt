@@ -4,7 +4,6 @@ ghost use Rattle.std.specs.Prelude.{◌≡◌, ◌≢◌, ◌+◌, ◌↔◌, �
 ghost use Rattle.std.specs.String.{string_bytes};
 ghost use Rattle.csp_base.specs.Faults.{Rose};
 ghost use Rattle.csp_base.specs.Transfer.{TookAtMost, TookExactly};
-ghost use Rattle.csp_top.specs.Main.{WroteWhole};
 ghost use Rattle.csp_top.specs.Owes.{Owes, edge};
 ghost use Rattle.csp_top.specs.declared.status.LimitKind.{LimitKind};
 ghost use Rattle.csp_words.specs.Grammar.{command_of};
@@ -13,6 +12,7 @@ ghost use Rattle.csp_words.specs.declared.grammar.Command.{Command};
 use crate::generation::gen_main;
 use crate::simulation::sim_main;
 use crate::status::{LimitKind, MAX_SCENARIO, Status};
+use crate::tapping::tap_main;
 use crate::threads::run_main;
 use csp_base::{Sink, Source};
 use csp_rounds::Gate;
@@ -39,7 +39,6 @@ pub fn csp_main<R: Threads + Wait + Sync, S: Source, K: Sink, G: Gate>(
 
     // What each command owes.
     ensures owes { (c : Command) → command_of (map string_bytes words.now) ≡ Ok c → Owes c (edge (S.left source.old) (S.faults source.old) (K.written sink.old) (K.faults sink.old)) (edge (S.left source.new) (S.faults source.new) (K.written sink.new) (K.faults sink.new)) result }
-    ensures places { result ≡ Status.Done → WroteWhole (K.written sink.old) (K.written sink.new) }
     ensures read_fault { result ≡ Status.ReadFault → Rose (S.faults source.old) (S.faults source.new) }
     ensures no_read_fault { result ≢ Status.ReadFault → S.faults source.new ≡ S.faults source.old }
 
@@ -54,6 +53,7 @@ pub fn csp_main<R: Threads + Wait + Sync, S: Source, K: Sink, G: Gate>(
         Ok(Command::Sim) => sim_main(alloc, source, sink),
         Ok(Command::Run { workers }) => run_main(rt, alloc, workers, source, sink, gate),
         Ok(Command::Gen { packets }) => gen_main(alloc, packets, sink),
+        Ok(Command::Tap { cover }) => tap_main(alloc, cover, source, sink),
         Err(_) => Status::Words,
     }
 }

@@ -9,6 +9,7 @@ mod numbers;
 mod saying;
 mod simulation;
 mod status;
+mod tapping;
 mod threads;
 mod words;
 

@@ -17,7 +17,7 @@ pub enum LimitKind {
 /// How a call of the program ends. The exit statuses are 0 to 6 in the order of the variants.
 #[derive(Clone, Copy, PartialEq, Eq, Debug)]
 pub enum Status {
-    /// The source was read to its end, for `gen` not at all, and the whole report or summary was written.
+    /// The source was read to its end, for `gen` not at all, and the whole report, summary or text of a stream was written.
     Done,
     /// Memory was wanting. Nothing was written.
     NoMemory,
@@ -25,7 +25,7 @@ pub enum Status {
     Words,
     /// The source counted a fault, which it can't for `gen`. Nothing was written.
     ReadFault,
-    /// The sink counted a fault. A prefix of the report or summary was written.
+    /// The sink counted a fault. A prefix of the report, summary or text was written.
     WriteFault,
     /// The scenario is refused: its first refused line, from 1, and what is wrong with it.
     Scene {

@@ -10,10 +10,10 @@ use Rattle.csp_text.specs.Numbers.{is_decimal, number_of}
 use Rattle.csp_gen.proofs.Decimals.{is_decimal-decimal, number_of-decimal, decimal-number_of}
 use Rattle.csp_gen.specs.declared.scenario.TheConstants.{MAX_PACKETS}
 use Rattle.csp_words.specs.declared.grammar.Command.{Command}
-use Rattle.csp_words.specs.declared.grammar.Command.TheVariants.{Sim, Run, Gen}
+use Rattle.csp_words.specs.declared.grammar.Command.TheVariants.{Sim, Run, Gen, Tap}
 use Rattle.csp_words.specs.declared.grammar.TheConstants.{DEFAULT_WORKERS, MAX_WORKERS}
 use Rattle.csp_words.specs.declared.grammar.WordsError.TheVariants.{Grammar}
-use Rattle.csp_words.specs.Grammar.{Row, sim_row, run_words, run_row, apart_words, apart_row, apart_rows, joined_words, joined_row, joined_rows, gen_words, gen_row, gen_rows, are_words, found_in, command_of, AreRun, AreGen}
+use Rattle.csp_words.specs.Grammar.{Row, sim_row, run_words, run_row, tap_words, tap_row, apart_words, apart_row, apart_rows, joined_words, joined_row, joined_rows, gen_words, gen_row, gen_rows, are_words, found_in, command_of, AreRun, AreGen}
 
 -- the test of words is equality
 pub words_same : (a b : List (List ℕ)) → are_words a b ≡ true → a ≡ b
@@ -133,15 +133,31 @@ run_not_sim = texts_differ (codes "run") (codes "sim") refl
 gen_not_run : codes "gen" ≢ codes "run"
 gen_not_run = texts_differ (codes "gen") (codes "run") refl
 
+run_not_tap : codes "run" ≢ codes "tap"
+run_not_tap = texts_differ (codes "run") (codes "tap") refl
+
+gen_not_tap : codes "gen" ≢ codes "tap"
+gen_not_tap = texts_differ (codes "gen") (codes "tap") refl
+
+-- words of which none of the first rows has just these
+past_first : (words : List (List ℕ)) → words ≢ codes "sim" ∷ [] → words ≢ run_words → words ≢ tap_words false → words ≢ tap_words true
+    → command_of words ≡ found_in (apart_rows ++ (joined_rows ++ gen_rows)) words
+past_first words no_sim no_run no_tap no_header =
+    later_row sim_row (run_row ∷ tap_row false ∷ tap_row true ∷ (apart_rows ++ (joined_rows ++ gen_rows))) words no_sim
+    ∙ later_row run_row (tap_row false ∷ tap_row true ∷ (apart_rows ++ (joined_rows ++ gen_rows))) words no_run
+    ∙ later_row (tap_row false) (tap_row true ∷ (apart_rows ++ (joined_rows ++ gen_rows))) words no_tap
+    ∙ later_row (tap_row true) (apart_rows ++ (joined_rows ++ gen_rows)) words no_header
+
 -- the command that is found, and its words
 data Which (words : List (List ℕ)) (command : Command) : Type 0 where
   sims : words ≡ codes "sim" ∷ [] → command ≡ Sim → Which words command
   runs : (workers : ℕ) → AreRun workers words → command ≡ Run workers → Which words command
   gens : (packets : ℕ) → AreGen packets words → command ≡ Gen packets → Which words command
+  taps : (cover : Bool) → words ≡ tap_words cover → command ≡ Tap cover → Which words command
 
 which : (words : List (List ℕ)) (command : Command) → command_of words ≡ Ok command → Which words command
 unfolding apart_rows joined_rows gen_rows
-which words command e = first (found_first sim_row (run_row ∷ (apart_rows ++ (joined_rows ++ gen_rows))) words command e)
+which words command e = first (found_first sim_row (run_row ∷ tap_row false ∷ tap_row true ∷ (apart_rows ++ (joined_rows ++ gen_rows))) words command e)
   where
     last : Found gen_row 1 MAX_PACKETS words command ⊎ (Err Grammar ≡ Ok command) → Which words command
     last (inl f) = gens f.at (record { least = omega (arith, f.low); most = omega (arith, f.high); words_are = f.words_are }) f.command_is
@@ -155,13 +171,21 @@ which words command e = first (found_first sim_row (run_row ∷ (apart_rows ++ (
     third (inl f) = runs f.at (record { least = omega (arith, f.low); most = omega (arith, f.high); words_are = inl f.words_are }) f.command_is
     third (inr later) = fourth (found joined_row gen_rows 1 MAX_WORKERS words command later)
 
-    second : ((words ≡ run_words) × (command ≡ Run DEFAULT_WORKERS)) ⊎ (found_in (apart_rows ++ (joined_rows ++ gen_rows)) words ≡ Ok command) → Which words command
-    second (inl f) = runs DEFAULT_WORKERS (record { least = omega arith; most = omega arith; words_are = inr (inr (f.0, refl)) }) f.1
-    second (inr later) = third (found apart_row (joined_rows ++ gen_rows) 1 MAX_WORKERS words command later)
+    headed : ((words ≡ tap_words true) × (command ≡ Tap true)) ⊎ (found_in (apart_rows ++ (joined_rows ++ gen_rows)) words ≡ Ok command) → Which words command
+    headed (inl f) = taps true f.0 f.1
+    headed (inr later) = third (found apart_row (joined_rows ++ gen_rows) 1 MAX_WORKERS words command later)
 
-    first : ((words ≡ codes "sim" ∷ []) × (command ≡ Sim)) ⊎ (found_in (run_row ∷ (apart_rows ++ (joined_rows ++ gen_rows))) words ≡ Ok command) → Which words command
+    tapped : ((words ≡ tap_words false) × (command ≡ Tap false)) ⊎ (found_in (tap_row true ∷ (apart_rows ++ (joined_rows ++ gen_rows))) words ≡ Ok command) → Which words command
+    tapped (inl f) = taps false f.0 f.1
+    tapped (inr later) = headed (found_first (tap_row true) (apart_rows ++ (joined_rows ++ gen_rows)) words command later)
+
+    second : ((words ≡ run_words) × (command ≡ Run DEFAULT_WORKERS)) ⊎ (found_in (tap_row false ∷ tap_row true ∷ (apart_rows ++ (joined_rows ++ gen_rows))) words ≡ Ok command) → Which words command
+    second (inl f) = runs DEFAULT_WORKERS (record { least = omega arith; most = omega arith; words_are = inr (inr (f.0, refl)) }) f.1
+    second (inr later) = tapped (found_first (tap_row false) (tap_row true ∷ (apart_rows ++ (joined_rows ++ gen_rows))) words command later)
+
+    first : ((words ≡ codes "sim" ∷ []) × (command ≡ Sim)) ⊎ (found_in (run_row ∷ tap_row false ∷ tap_row true ∷ (apart_rows ++ (joined_rows ++ gen_rows))) words ≡ Ok command) → Which words command
     first (inl f) = sims f.0 f.1
-    first (inr later) = second (found_first run_row (apart_rows ++ (joined_rows ++ gen_rows)) words command later)
+    first (inr later) = second (found_first run_row (tap_row false ∷ tap_row true ∷ (apart_rows ++ (joined_rows ++ gen_rows))) words command later)
 
 -- `sim`, and nothing else, is Sim
 pub to_sim : command_of (codes "sim" ∷ []) ≡ Ok Sim
@@ -174,6 +198,7 @@ of_sim words e = told (which words Sim e)
     told (sims same is) = same
     told (runs workers are is) = cc
     told (gens packets are is) = cc
+    told (taps cover same is) = cc
 
 -- `run` with its number of workers, and nothing else, is Run with that number
 pub to_run : (workers : ℕ) (words : List (List ℕ)) → AreRun workers words → command_of words ≡ Ok (Run workers)
@@ -191,18 +216,19 @@ to_run workers words are = told are.words_are
     after : (more : List (List ℕ)) → words ≡ codes "run" ∷ more → words ≢ codes "sim" ∷ []
     after more is e = let same : codes "run" ∷ more ≡ codes "sim" ∷ [] = sym is ∙ e in run_not_sim (let heads : codes "run" ≡ codes "sim" = cc in heads)
 
+    no_tap : (more then : List (List ℕ)) → words ≡ codes "run" ∷ more → words ≢ codes "tap" ∷ then
+    no_tap more then is e = let same : codes "run" ∷ more ≡ codes "tap" ∷ then = sym is ∙ e in run_not_tap (let heads : codes "run" ≡ codes "tap" = cc in heads)
+
     told : (words ≡ apart_words workers) ⊎ ((words ≡ joined_words workers) ⊎ ((words ≡ run_words) × (workers ≡ DEFAULT_WORKERS))) → command_of words ≡ Ok (Run workers)
     told (inl is) =
-        later_row sim_row (run_row ∷ (apart_rows ++ (joined_rows ++ gen_rows))) words (after _ is)
-        ∙ later_row run_row (apart_rows ++ (joined_rows ++ gen_rows)) words (λ e. let no : apart_words workers ≡ run_words = sym is ∙ e in cc)
+        past_first words (after _ is) (λ e. let no : apart_words workers ≡ run_words = sym is ∙ e in cc) (no_tap _ _ is) (no_tap _ _ is)
         ∙ ap (found_in (apart_rows ++ (joined_rows ++ gen_rows))) is ∙ apart
     told (inr (inl is)) =
-        later_row sim_row (run_row ∷ (apart_rows ++ (joined_rows ++ gen_rows))) words (after _ is)
-        ∙ later_row run_row (apart_rows ++ (joined_rows ++ gen_rows)) words (λ e. let no : joined_words workers ≡ run_words = sym is ∙ e in cc)
+        past_first words (after _ is) (λ e. let no : joined_words workers ≡ run_words = sym is ∙ e in cc) (no_tap _ _ is) (no_tap _ _ is)
         ∙ ap (found_in (apart_rows ++ (joined_rows ++ gen_rows))) is ∙ joined
     told (inr (inr is)) =
-        later_row sim_row (run_row ∷ (apart_rows ++ (joined_rows ++ gen_rows))) words (after _ is.0)
-        ∙ first_row run_row (apart_rows ++ (joined_rows ++ gen_rows)) words is.0 ∙ ap (λ (n : ℕ). Ok (Run n)) (sym is.1)
+        later_row sim_row (run_row ∷ tap_row false ∷ tap_row true ∷ (apart_rows ++ (joined_rows ++ gen_rows))) words (after _ is.0)
+        ∙ first_row run_row (tap_row false ∷ tap_row true ∷ (apart_rows ++ (joined_rows ++ gen_rows))) words is.0 ∙ ap (λ (n : ℕ). Ok (Run n)) (sym is.1)
 
 pub of_run : (workers : ℕ) (words : List (List ℕ)) → command_of words ≡ Ok (Run workers) → AreRun workers words
 of_run workers words e = told (which words (Run workers) e)
@@ -211,13 +237,15 @@ of_run workers words e = told (which words (Run workers) e)
     told (sims same is) = cc
     told (runs n are is) = let same : n ≡ workers = cc in subst (λ (k : ℕ). AreRun k words) same are
     told (gens packets are is) = cc
+    told (taps cover same is) = cc
 
 -- `gen N`, and nothing else, is Gen with that number
 pub to_gen : (packets : ℕ) (words : List (List ℕ)) → AreGen packets words → command_of words ≡ Ok (Gen packets)
 unfolding apart_rows joined_rows gen_rows
 to_gen packets words are =
-    later_row sim_row (run_row ∷ (apart_rows ++ (joined_rows ++ gen_rows))) words (λ e. let no : gen_words packets ≡ codes "sim" ∷ [] = sym are.words_are ∙ e in cc)
-    ∙ later_row run_row (apart_rows ++ (joined_rows ++ gen_rows)) words (λ e. let no : gen_words packets ≡ run_words = sym are.words_are ∙ e in cc)
+    past_first words (λ e. let no : gen_words packets ≡ codes "sim" ∷ [] = sym are.words_are ∙ e in cc) (λ e. let no : gen_words packets ≡ run_words = sym are.words_are ∙ e in cc)
+    (λ e. let no : gen_words packets ≡ tap_words false = sym are.words_are ∙ e in cc)
+    (λ e. let no : gen_words packets ≡ tap_words true = sym are.words_are ∙ e in gen_not_tap (let heads : codes "gen" ≡ codes "tap" = cc in heads))
     ∙ miss apart_row (joined_rows ++ gen_rows) 1 MAX_WORKERS words (λ p low high e. let no : gen_words packets ≡ apart_words p = sym are.words_are ∙ e in cc)
     ∙ miss joined_row gen_rows 1 MAX_WORKERS words (λ p low high e. let no : gen_words packets ≡ joined_words p = sym are.words_are ∙ e in gen_not_run (let heads : codes "gen" ≡ codes "run" = cc in heads))
     ∙ ap (λ rows. found_in rows words) (sym (append-nil gen_rows))
@@ -230,28 +258,43 @@ of_gen packets words e = told (which words (Gen packets) e)
     told (sims same is) = cc
     told (runs n are is) = cc
     told (gens n are is) = let same : n ≡ packets = cc in subst (λ (k : ℕ). AreGen k words) same are
+    told (taps cover same is) = cc
+
+-- `tap`, also with `--header`, and nothing else, is Tap
+pub to_tap : (cover : Bool) → command_of (tap_words cover) ≡ Ok (Tap cover)
+to_tap false = refl
+to_tap true = refl
+
+pub of_tap : (cover : Bool) (words : List (List ℕ)) → command_of words ≡ Ok (Tap cover) → words ≡ tap_words cover
+of_tap cover words e = told (which words (Tap cover) e)
+  where
+    told : Which words (Tap cover) → words ≡ tap_words cover
+    told (sims same is) = cc
+    told (runs n are is) = cc
+    told (gens n are is) = cc
+    told (taps c same is) = let alike : c ≡ cover = cc in subst (λ (k : Bool). words ≡ tap_words k) alike same
 
 -- all other words are outside the grammar
-pub of_none : (words : List (List ℕ)) → words ≢ codes "sim" ∷ [] → ((workers : ℕ) → ¬ AreRun workers words) → ((packets : ℕ) → ¬ AreGen packets words) → command_of words ≡ Err Grammar
+pub of_none : (words : List (List ℕ)) → words ≢ codes "sim" ∷ [] → ((workers : ℕ) → ¬ AreRun workers words) → ((packets : ℕ) → ¬ AreGen packets words) → words ≢ tap_words false → words ≢ tap_words true → command_of words ≡ Err Grammar
 unfolding apart_rows joined_rows gen_rows
-of_none words no_sim no_run no_gen =
-    later_row sim_row (run_row ∷ (apart_rows ++ (joined_rows ++ gen_rows))) words no_sim
-    ∙ later_row run_row (apart_rows ++ (joined_rows ++ gen_rows)) words (λ e. no_run DEFAULT_WORKERS (record { least = omega arith; most = omega arith; words_are = inr (inr (e, refl)) }))
+of_none words no_sim no_run no_gen no_tap no_header =
+    past_first words no_sim (λ e. no_run DEFAULT_WORKERS (record { least = omega arith; most = omega arith; words_are = inr (inr (e, refl)) })) no_tap no_header
     ∙ miss apart_row (joined_rows ++ gen_rows) 1 MAX_WORKERS words (λ p low high e. no_run p (record { least = low; most = omega arith; words_are = inl e }))
     ∙ miss joined_row gen_rows 1 MAX_WORKERS words (λ p low high e. no_run p (record { least = low; most = omega arith; words_are = inr (inl e) }))
     ∙ ap (λ rows. found_in rows words) (sym (append-nil gen_rows))
     ∙ miss gen_row [] 1 MAX_PACKETS words (λ p low high e. no_gen p (record { least = low; most = omega arith; words_are = e }))
 
-pub to_none : (words : List (List ℕ)) → command_of words ≡ Err Grammar → (words ≢ codes "sim" ∷ []) × ((workers : ℕ) → ¬ AreRun workers words) × ((packets : ℕ) → ¬ AreGen packets words)
+pub to_none : (words : List (List ℕ)) → command_of words ≡ Err Grammar → (words ≢ codes "sim" ∷ []) × ((workers : ℕ) → ¬ AreRun workers words) × ((packets : ℕ) → ¬ AreGen packets words) × ((cover : Bool) → words ≢ tap_words cover)
 to_none words e = (
   λ same. let is : command_of words ≡ Ok Sim = ap command_of same in cc,
   λ workers are. let is : command_of words ≡ Ok (Run workers) = to_run workers words are in cc,
   λ packets are. let is : command_of words ≡ Ok (Gen packets) = to_gen packets words are in cc,
+  λ cover same. let is : command_of words ≡ Ok (Tap cover) = ap command_of same ∙ to_tap cover in cc,
 )
 
 -- no row has no word, or more than three
 pub other_count : {A : Type 0} (f : A → List ℕ) (words : List A) → length words ≢ 1 → length words ≢ 2 → length words ≢ 3 → command_of (map f words) ≡ Err Grammar
-other_count f [] one two three = of_none [] (λ e. cc) (λ workers are. no_run workers are.words_are) (λ packets are. let e = are.words_are in cc)
+other_count f [] one two three = of_none [] (λ e. cc) (λ workers are. no_run workers are.words_are) (λ packets are. let e = are.words_are in cc) (λ e. cc) (λ e. cc)
   where
     no_run : (n : ℕ) → ([] ≡ apart_words n) ⊎ (([] ≡ joined_words n) ⊎ (([] ≡ run_words) × (n ≡ DEFAULT_WORKERS))) → ⊥
     no_run n (inl e) = cc
@@ -261,26 +304,29 @@ other_count f (a ∷ []) one two three = absurd (one refl)
 other_count f (a ∷ b ∷ []) one two three = absurd (two refl)
 other_count f (a ∷ b ∷ c ∷ []) one two three = absurd (three refl)
 other_count f (a ∷ b ∷ c ∷ d ∷ words) one two three =
-    of_none (f a ∷ f b ∷ f c ∷ f d ∷ map f words) (λ e. cc) (λ workers are. no_run workers are.words_are) (λ packets are. let e = are.words_are in cc)
+    of_none (f a ∷ f b ∷ f c ∷ f d ∷ map f words) (λ e. cc) (λ workers are. no_run workers are.words_are) (λ packets are. let e = are.words_are in cc) (λ e. cc) (λ e. cc)
   where
     no_run : (n : ℕ) → (f a ∷ f b ∷ f c ∷ f d ∷ map f words ≡ apart_words n) ⊎ ((f a ∷ f b ∷ f c ∷ f d ∷ map f words ≡ joined_words n) ⊎ ((f a ∷ f b ∷ f c ∷ f d ∷ map f words ≡ run_words) × (n ≡ DEFAULT_WORKERS))) → ⊥
     no_run n (inl e) = cc
     no_run n (inr (inl e)) = cc
     no_run n (inr (inr e)) = let no = e.0 in cc
 
--- one word that is neither `sim` nor `run`
-pub other_word : (word : List ℕ) → word ≢ codes "sim" → word ≢ codes "run" → command_of (word ∷ []) ≡ Err Grammar
-other_word word h g = of_none (word ∷ []) (λ e. let same : word ≡ codes "sim" = cc in h same) (λ workers are. no_run workers are.words_are) (λ packets are. let e = are.words_are in cc)
+-- one word that is none of `sim`, `run` and `tap`
+pub other_word : (word : List ℕ) → word ≢ codes "sim" → word ≢ codes "run" → word ≢ codes "tap" → command_of (word ∷ []) ≡ Err Grammar
+other_word word h g t =
+    of_none (word ∷ []) (λ e. let same : word ≡ codes "sim" = cc in h same) (λ workers are. no_run workers are.words_are) (λ packets are. let e = are.words_are in cc)
+    (λ e. let same : word ≡ codes "tap" = cc in t same) (λ e. cc)
   where
     no_run : (n : ℕ) → (word ∷ [] ≡ apart_words n) ⊎ ((word ∷ [] ≡ joined_words n) ⊎ ((word ∷ [] ≡ run_words) × (n ≡ DEFAULT_WORKERS))) → ⊥
     no_run n (inl e) = cc
     no_run n (inr (inl e)) = cc
     no_run n (inr (inr e)) = let both = e.0 in g (let same : word ≡ codes "run" = cc in same)
 
--- two words of which the first is neither `gen` nor `run`
-pub other_first : (word second : List ℕ) → word ≢ codes "gen" → word ≢ codes "run" → command_of (word ∷ second ∷ []) ≡ Err Grammar
-other_first word second h g =
+-- two words of which the first is none of `gen`, `run` and `tap`
+pub other_first : (word second : List ℕ) → word ≢ codes "gen" → word ≢ codes "run" → word ≢ codes "tap" → command_of (word ∷ second ∷ []) ≡ Err Grammar
+other_first word second h g t =
     of_none (word ∷ second ∷ []) (λ e. cc) (λ workers are. no_run workers are.words_are) (λ packets are. let e = are.words_are in h (let same : word ≡ codes "gen" = cc in same))
+    (λ e. cc) (λ e. t (let same : word ≡ codes "tap" = cc in same))
   where
     no_run : (n : ℕ) → (word ∷ second ∷ [] ≡ apart_words n) ⊎ ((word ∷ second ∷ [] ≡ joined_words n) ⊎ ((word ∷ second ∷ [] ≡ run_words) × (n ≡ DEFAULT_WORKERS))) → ⊥
     no_run n (inl e) = cc
@@ -289,7 +335,7 @@ other_first word second h g =
 
 -- three words that don't begin with `run --workers`
 pub other_option : (word option digits : List ℕ) → ((word ≡ codes "run") × (option ≡ codes "--workers") → ⊥) → command_of (word ∷ option ∷ digits ∷ []) ≡ Err Grammar
-other_option word option digits h = of_none (word ∷ option ∷ digits ∷ []) (λ e. cc) (λ workers are. no_run workers are.words_are) (λ packets are. let e = are.words_are in cc)
+other_option word option digits h = of_none (word ∷ option ∷ digits ∷ []) (λ e. cc) (λ workers are. no_run workers are.words_are) (λ packets are. let e = are.words_are in cc) (λ e. cc) (λ e. cc)
   where
     no_run : (n : ℕ) → (word ∷ option ∷ digits ∷ [] ≡ apart_words n) ⊎ ((word ∷ option ∷ digits ∷ [] ≡ joined_words n) ⊎ ((word ∷ option ∷ digits ∷ [] ≡ run_words) × (n ≡ DEFAULT_WORKERS))) → ⊥
     no_run n (inl e) = h (cc, cc)
@@ -298,11 +344,22 @@ other_option word option digits h = of_none (word ∷ option ∷ digits ∷ []) 
 
 -- `gen` with a word that is no number in the range
 pub no_number : (digits : List ℕ) → ((packets : ℕ) → ¬ AreGen packets (codes "gen" ∷ digits ∷ [])) → command_of (codes "gen" ∷ digits ∷ []) ≡ Err Grammar
-no_number digits none_is = of_none (codes "gen" ∷ digits ∷ []) (λ e. cc) (λ workers are. no_run workers are.words_are) none_is
+no_number digits none_is = of_none (codes "gen" ∷ digits ∷ []) (λ e. cc) (λ workers are. no_run workers are.words_are) none_is (λ e. cc) (λ e. gen_not_tap (let heads : codes "gen" ≡ codes "tap" = cc in heads))
   where
     no_run : (n : ℕ) → (codes "gen" ∷ digits ∷ [] ≡ apart_words n) ⊎ ((codes "gen" ∷ digits ∷ [] ≡ joined_words n) ⊎ ((codes "gen" ∷ digits ∷ [] ≡ run_words) × (n ≡ DEFAULT_WORKERS))) → ⊥
     no_run n (inl e) = cc
     no_run n (inr (inl e)) = gen_not_run (let heads : codes "gen" ≡ codes "run" = cc in heads)
+    no_run n (inr (inr e)) = let no = e.0 in cc
+
+-- `tap` with another option than `--header`
+pub no_header : (option : List ℕ) → option ≢ codes "--header" → command_of (codes "tap" ∷ option ∷ []) ≡ Err Grammar
+no_header option h =
+    of_none (codes "tap" ∷ option ∷ []) (λ e. cc) (λ workers are. no_run workers are.words_are) (λ packets are. let e = are.words_are in gen_not_tap (let heads : codes "gen" ≡ codes "tap" = cc in heads))
+    (λ e. cc) (λ e. h (let same : option ≡ codes "--header" = cc in same))
+  where
+    no_run : (n : ℕ) → (codes "tap" ∷ option ∷ [] ≡ apart_words n) ⊎ ((codes "tap" ∷ option ∷ [] ≡ joined_words n) ⊎ ((codes "tap" ∷ option ∷ [] ≡ run_words) × (n ≡ DEFAULT_WORKERS))) → ⊥
+    no_run n (inl e) = cc
+    no_run n (inr (inl e)) = run_not_tap (let heads : codes "run" ≡ codes "tap" = cc in heads)
     no_run n (inr (inr e)) = let no = e.0 in cc
 
 -- the words of `run --workers N`, and of `run --workers=N`
@@ -315,7 +372,7 @@ are_joined workers option digits parts low high is =
 
 -- with another word in its place
 pub no_workers : (digits : List ℕ) → ((workers : ℕ) → 1 ≤ workers → workers ≤ MAX_WORKERS → digits ≢ decimal workers) → command_of (codes "run" ∷ codes "--workers" ∷ digits ∷ []) ≡ Err Grammar
-no_workers digits none_is = of_none (codes "run" ∷ codes "--workers" ∷ digits ∷ []) (λ e. cc) (λ workers are. no_run workers are.least are.most are.words_are) (λ packets are. let e = are.words_are in cc)
+no_workers digits none_is = of_none (codes "run" ∷ codes "--workers" ∷ digits ∷ []) (λ e. cc) (λ workers are. no_run workers are.least are.most are.words_are) (λ packets are. let e = are.words_are in cc) (λ e. cc) (λ e. cc)
   where
     no_run : (n : ℕ) → 1 ≤ n → n ≤ MAX_WORKERS → (codes "run" ∷ codes "--workers" ∷ digits ∷ [] ≡ apart_words n) ⊎ ((codes "run" ∷ codes "--workers" ∷ digits ∷ [] ≡ joined_words n) ⊎ ((codes "run" ∷ codes "--workers" ∷ digits ∷ [] ≡ run_words) × (n ≡ DEFAULT_WORKERS)))
         → ⊥
@@ -326,6 +383,7 @@ no_workers digits none_is = of_none (codes "run" ∷ codes "--workers" ∷ digit
 pub no_option : (option : List ℕ) → ((workers : ℕ) → 1 ≤ workers → workers ≤ MAX_WORKERS → option ≢ codes "--workers=" ++ decimal workers) → command_of (codes "run" ∷ option ∷ []) ≡ Err Grammar
 no_option option none_is =
     of_none (codes "run" ∷ option ∷ []) (λ e. cc) (λ workers are. no_run workers are.least are.most are.words_are) (λ packets are. let e = are.words_are in gen_not_run (let heads : codes "gen" ≡ codes "run" = cc in heads))
+    (λ e. cc) (λ e. run_not_tap (let heads : codes "run" ≡ codes "tap" = cc in heads))
   where
     no_run : (n : ℕ) → 1 ≤ n → n ≤ MAX_WORKERS → (codes "run" ∷ option ∷ [] ≡ apart_words n) ⊎ ((codes "run" ∷ option ∷ [] ≡ joined_words n) ⊎ ((codes "run" ∷ option ∷ [] ≡ run_words) × (n ≡ DEFAULT_WORKERS))) → ⊥
     no_run n low high (inl e) = cc

@@ -5,7 +5,7 @@ use Rattle.std.specs.List.{range_with_len}
 use Rattle.std.specs.Str.{bytes_eq}
 use Rattle.csp_gen.specs.declared.scenario.TheConstants.{MAX_PACKETS}
 use Rattle.csp_words.specs.declared.grammar.Command.{Command}
-use Rattle.csp_words.specs.declared.grammar.Command.TheVariants.{Sim, Run, Gen}
+use Rattle.csp_words.specs.declared.grammar.Command.TheVariants.{Sim, Run, Gen, Tap}
 use Rattle.csp_words.specs.declared.grammar.TheConstants.{DEFAULT_WORKERS, MAX_WORKERS}
 use Rattle.csp_words.specs.declared.grammar.WordsError.{WordsError}
 use Rattle.csp_words.specs.declared.grammar.WordsError.TheVariants.{Grammar}
@@ -25,6 +25,15 @@ run_words = codes "run" ∷ []
 -- the row of `run`
 abbrev pub run_row : Row
 run_row = (run_words, Run DEFAULT_WORKERS)
+
+-- `tap`, and `tap --header` where the CRC covers the header
+abbrev pub tap_words : (cover : Bool) → List (List ℕ)
+tap_words false = codes "tap" ∷ []
+tap_words true = codes "tap" ∷ codes "--header" ∷ []
+
+-- their rows
+abbrev pub tap_row : (cover : Bool) → Row
+tap_row cover = (tap_words cover, Tap cover)
 
 -- `run --workers N`, N in decimal digits
 abbrev pub apart_words : ℕ → List (List ℕ)
@@ -64,7 +73,7 @@ gen_rows = map gen_row (range_with_len 1 MAX_PACKETS)
 
 -- the rows of the grammar
 abbrev pub rows : List Row
-rows = sim_row ∷ run_row ∷ (apart_rows ++ (joined_rows ++ gen_rows))
+rows = sim_row ∷ run_row ∷ tap_row false ∷ tap_row true ∷ (apart_rows ++ (joined_rows ++ gen_rows))
 
 -- words are those of a row, neither more nor fewer
 abbrev pub are_words : List (List ℕ) → List (List ℕ) → Bool

@@ -23,6 +23,11 @@ pub enum Command {
         /// How many packets it sends, 1 to `csp_gen::MAX_PACKETS`.
         packets: u32,
     },
+    /// To tell what a captured KISS stream holds: `tap`, or `tap --header`.
+    Tap {
+        /// Whether the CRC of a frame covers the header.
+        cover: bool,
+    },
 }
 
 /// Why words are no command.

@@ -1,5 +1,5 @@
-//! The words of the command line, a small exact grammar: `sim`; `run`, also with the number of workers; and `gen N` with N
-//! from 1 to the most packets of a generated scenario.
+//! The words of the command line, a small exact grammar: `sim`; `run`, also with the number of workers; `gen N` with N
+//! from 1 to the most packets of a generated scenario; and `tap`, also with `--header`.
 #![tactic(auto)]
 
 mod grammar;

@@ -1,9 +1,9 @@
 //! Reads the words.
 
-ghost use Rattle.std.specs.Prelude.{◌≡◌, ◌≢◌, ◌↔◌, ◌≤◌, ◌++◌, ℕ, Ok, Err, None, IfSome, [], ◌∷◌, map, codes};
+ghost use Rattle.std.specs.Prelude.{◌≡◌, ◌≢◌, ◌↔◌, ◌≤◌, ◌++◌, ℕ, Bool, Ok, Err, None, IfSome, [], ◌∷◌, map, codes};
 ghost use Rattle.std.specs.Fmt.{decimal};
 ghost use Rattle.std.specs.String.{string_bytes};
-ghost use Rattle.csp_words.specs.Grammar.{AreGen, AreRun, command_of};
+ghost use Rattle.csp_words.specs.Grammar.{AreGen, AreRun, command_of, tap_words};
 
 use crate::grammar::{Command, DEFAULT_WORKERS, MAX_WORKERS, WordsError};
 use csp_gen::MAX_PACKETS;
@@ -16,7 +16,8 @@ pub fn command(words: &[String]) -> Result<Command, WordsError>
     ensures sim { (result ≡ Ok Command.Sim) ↔ (map string_bytes words.now ≡ codes "sim" ∷ []) }
     ensures run { (workers : ℕ) → (result ≡ Ok (Command.Run workers)) ↔ AreRun workers (map string_bytes words.now) }
     ensures generated { (packets : ℕ) → (result ≡ Ok (Command.Gen packets)) ↔ AreGen packets (map string_bytes words.now) }
-    ensures refused { (result ≡ Err WordsError.Grammar) ↔ ((map string_bytes words.now ≢ codes "sim" ∷ []) × ((workers : ℕ) → ¬ AreRun workers (map string_bytes words.now)) × ((packets : ℕ) → ¬ AreGen packets (map string_bytes words.now))) }
+    ensures tap { (cover : Bool) → (result ≡ Ok (Command.Tap cover)) ↔ (map string_bytes words.now ≡ tap_words cover) }
+    ensures refused { (result ≡ Err WordsError.Grammar) ↔ ((map string_bytes words.now ≢ codes "sim" ∷ []) × ((workers : ℕ) → ¬ AreRun workers (map string_bytes words.now)) × ((packets : ℕ) → ¬ AreGen packets (map string_bytes words.now)) × ((cover : Bool) → map string_bytes words.now ≢ tap_words cover)) }
 {
     named(words)
 }
@@ -47,6 +48,8 @@ fn of_one(word: &[u8]) -> Result<Command, WordsError>
         Ok(Command::Run {
             workers: DEFAULT_WORKERS,
         })
+    } else if word == b"tap".as_slice() {
+        Ok(Command::Tap { cover: false })
     } else {
         Err(WordsError::Grammar)
     }
@@ -60,6 +63,8 @@ fn of_two(word: &[u8], second: &[u8]) -> Result<Command, WordsError>
         generated(second)
     } else if word == b"run".as_slice() {
         run_with(second)
+    } else if word == b"tap".as_slice() {
+        tapped(second)
     } else {
         Err(WordsError::Grammar)
     }
@@ -83,6 +88,17 @@ fn generated(digits: &[u8]) -> Result<Command, WordsError>
     match packets(digits) {
         Some(packets) => Ok(Command::Gen { packets }),
         None => Err(WordsError::Grammar),
+    }
+}
+
+/// The command `tap` with this word for its option.
+fn tapped(option: &[u8]) -> Result<Command, WordsError>
+    ensures { result ≡ command_of (codes "tap" ∷ option.now ∷ []) }
+{
+    if option == b"--header".as_slice() {
+        Ok(Command::Tap { cover: true })
+    } else {
+        Err(WordsError::Grammar)
     }
 }
 

@@ -11,6 +11,8 @@ pub(super) fn answer(alloc: Global, what: &str) -> Result<String, CaseError> {
         Ok(Command::Sim) => plain(alloc, "sim"),
         Ok(Command::Run { workers }) => Ok(format!(in alloc; "run by {workers} workers")?),
         Ok(Command::Gen { packets }) => Ok(format!(in alloc; "gen of {packets} packets")?),
+        Ok(Command::Tap { cover: false }) => plain(alloc, "tap"),
+        Ok(Command::Tap { cover: true }) => plain(alloc, "tap with header"),
         Err(_) => plain(alloc, "bad words"),
     }
 }
