@@ -157,7 +157,7 @@ module _ (scene : PlainScene) (r : PlainRecord) (is : IsScene scene) (con : IsCo
   shows_below n node number serial hear (inr l) =
       let at : IsIfaceAt scene.nodes scene.links node number l.opening.party = owner_of scene r (who.Iface node number) l in
       let lane : IsInOrder r (out_lane node (hub_of node at.node.addr) number) = out_lane_there scene r node number at.node con.lanes at.there (slice_get_within (links_at node scene.links) number at.link at.on) in
-      iface_shows (IsGenuineBelow (flows_in scene r) n) node number serial at.link.kind (entries_of r (who.Iface node number))
+      iface_shows (IsGenuineBelow (flows_in scene r) n) node number serial at.link.kind at.link.mtu (entries_of r (who.Iface node number))
       (run_of scene r (who.Iface node number) (an_iface (plain_iface.opening node number at.link.kind at.link.mtu)) l at.party)
       (through (Below n) r (out_lane node (hub_of node at.node.addr) number) lane (hub_below n node number at.node.addr (hear node at.node at.there)))
 
