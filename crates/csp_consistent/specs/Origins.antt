@@ -1,5 +1,5 @@
 -- Consistent, part 6: each packet that an interface pushed to an inbox was sent by the interface at the other end of its link.
-use Rattle.std.specs.Prelude.{◌≡◌, ◌⊎◌, ℕ, ◌+◌, Some, List, [], ◌∷◌, ⊤, slice_get}
+use Rattle.std.specs.Prelude.{◌≡◌, ◌⊎◌, ℕ, ◌+◌, Some, [], ◌∷◌, slice_get}
 use Rattle.std.specs.List.{AllByRecursion}
 use Rattle.csp_base.specs.declared.traces.Origin.{Origin}
 use Rattle.csp_buffer.specs.Content.{Content}

@@ -8,8 +8,6 @@ use Rattle.csp_log.specs.Kinds.{carried_on}
 use Rattle.csp_log.specs.declared.places.Carries.{Carries}
 use Rattle.csp_log.specs.declared.places.Carries.TheVariants as lane
 use Rattle.csp_log.specs.declared.places.End.{End}
-use Rattle.csp_log.specs.declared.places.LinkKind.{LinkKind}
-use Rattle.csp_log.specs.declared.places.LinkKind.TheVariants as kind
 use Rattle.csp_log.specs.declared.places.QueueId.{QueueId}
 use Rattle.csp_log.specs.declared.places.QueueId.TheVariants as queue
 use Rattle.csp_log.specs.declared.places.Rule.{Rule}

@@ -14,7 +14,6 @@ use Rattle.csp_lists.specs.PlainDeck.{PlainDeck, rule_of}
 use Rattle.csp_log.specs.declared.places.Carries.TheVariants as lane
 use Rattle.csp_log.specs.declared.places.End.{End}
 use Rattle.csp_log.specs.declared.places.LinkKind.{LinkKind}
-use Rattle.csp_log.specs.declared.places.LinkKind.TheVariants as kind
 use Rattle.csp_log.specs.declared.places.QueueId.{QueueId}
 use Rattle.csp_log.specs.declared.places.QueueId.TheVariants as queue
 use Rattle.csp_log.specs.declared.places.Rule.{Rule}

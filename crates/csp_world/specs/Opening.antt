@@ -1,5 +1,5 @@
 -- The world of a scene before its first turn.
-use Rattle.std.specs.Prelude.{ℕ, ◌≡◌, Some, List, [], map, All}
+use Rattle.std.specs.Prelude.{◌≡◌, Some, List, [], map, All}
 use Rattle.std.specs.Option.{option_and_then}
 use Rattle.csp_link.specs.Fates.{IsFault}
 use Rattle.csp_link.specs.PlainLink as link

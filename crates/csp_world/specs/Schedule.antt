@@ -1,5 +1,5 @@
 -- The schedules, as lists of turns and ticks, and the checks after each round.
-use Rattle.std.specs.Prelude.{ℕ, zero, suc, ◌+◌, ◌*◌, ◌==◌, ◌&&◌, ◌<◌, ⊤, Bool, false, Option, None, Some, List, [], ◌∷◌, length, map, replicate, nat_le, if◌then◌else◌}
+use Rattle.std.specs.Prelude.{ℕ, zero, suc, ◌*◌, ◌==◌, ◌&&◌, ◌<◌, ⊤, Bool, false, Option, None, Some, List, [], ◌∷◌, length, map, replicate, nat_le, if◌then◌else◌}
 use Rattle.std.specs.List.{range_with_len, flat_map, position_or_len}
 use Rattle.csp_draw.specs.Draws.{next_draw, drawn}
 use Rattle.csp_record.specs.declared.who.Who.TheVariants as who

@@ -1,6 +1,5 @@
-use Rattle.std.proofs.Common.{◌≡◌, List, length, map, ap, sym, ◌∙◌, arith}
+use Rattle.std.proofs.Common.{◌≡◌, List, length, map, ap, ◌∙◌, arith}
 use Rattle.csp_scene.specs.Scene.{PlainScene}
-use Rattle.csp_topology.specs.Parties.{PlainOpening}
 use Rattle.csp_topology.specs.Plan.{PlainNodePlan, plans_from}
 use Rattle.csp_topology.specs.Topology.{PlainTopology}
 use Rattle.csp_world.proofs.OpeningParties.{scene_new}
