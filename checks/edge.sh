@@ -119,8 +119,25 @@ sed -n 2p "$work/report" > "$work/out"
 echo 'end unfinished 3' > "$work/wanted_out"
 compare 'the mission until round 3, run' 0
 
+# 0: captured streams: a frame as its page has it, read by its rules and by those of a covered header; and an empty one.
+printf '\xc0\x00\x82\x22\xb0\x00\xdb\xdc\xdb\xdd\xdb\xdc\x7d\x49\xd4\x79\xc0' > "$work/capture"
+cp "$work/nothing" "$work/wanted_said"
+printf '%s\n' 'csp-tap 1' 'packet 1 8222b000 pri 2 src 1 dst 2 dport 10 sport 48 flags 00 len 3 c0dbc0' \
+  'talk 1 2 10 48 packets 1 bytes 3' 'end 1' > "$work/wanted_out"
+"$program" tap < "$work/capture" > "$work/out" 2> "$work/said"
+got=$?
+compare 'a captured frame' 0
+printf '%s\n' 'csp-tap 1' 'badcrc 1 7d49d479 272bfd9c' 'end 1' > "$work/wanted_out"
+"$program" tap --header < "$work/capture" > "$work/out" 2> "$work/said"
+got=$?
+compare 'a captured frame, by a covered header' 0
+printf 'csp-tap 1\nend 0\n' > "$work/wanted_out"
+"$program" tap < "$work/nothing" > "$work/out" 2> "$work/said"
+got=$?
+compare 'an empty capture' 0
+
 # 0 and 5: the longest texts, of a line feed for each byte.
-printf 'csp-report 1\nend finished 0\nstale 0\npassed 0\n' > "$work/wanted_out"
+printf 'csp-report 2\nend finished 0\nstale 0\npassed 0\n' > "$work/wanted_out"
 cp "$work/nothing" "$work/wanted_said"
 { echo 'until 10'; times 1048567 ''; } | "$program" sim > "$work/out" 2> "$work/said"
 got=$?
@@ -148,6 +165,8 @@ refused 'run without a number' 2 'cspsim: bad words' run --workers
 refused 'run without workers' 2 'cspsim: bad words' run --workers 0
 refused 'run with nine workers' 2 'cspsim: bad words' run --workers=9
 refused 'run with workers twice' 2 'cspsim: bad words' run --workers 1 --workers 1
+refused 'tap --x' 2 'cspsim: bad words' tap --x
+refused 'tap tap' 2 'cspsim: bad words' tap tap
 refused '--help' 2 'cspsim: bad words' --help
 refused 'sim and an empty word' 2 'cspsim: bad words' sim ''
 refused 'a word that is not UTF-8' 2 'cspsim: bad words' $'\xff'
@@ -198,6 +217,7 @@ refused 'an empty text, run' 5 'cspsim: line 1: Missing' run
 times 1048577 '#' | tr -d '\n' > "$work/in"
 fed 'a text of 1,048,577 bytes' 6 'cspsim: limit Bytes 1048576'
 refused 'a text of 1,048,577 bytes, run' 6 'cspsim: limit Bytes 1048576' run
+refused 'a stream of 1,048,577 bytes' 6 'cspsim: limit Bytes 1048576' tap
 cp "$here/measure/limit.scn" "$work/in"
 fed 'a run up to the limit of entries' 6 'cspsim: limit Entries 4000000'
 
