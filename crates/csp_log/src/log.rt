@@ -28,7 +28,7 @@ use std::marker::Model;
 
 /// For how many lines and bytes a log takes room at least, where it takes any: so many at a time that it is
 /// seldom moved.
-const FEWEST_LINES: usize = 16_384;
+const FEWEST_LINES: usize = 32_768;
 
 const FEWEST_BYTES: usize = 262_144;
 
@@ -294,7 +294,7 @@ fn take_room(
 ) -> Result<u32, AllocError>
     ensures told { IfOk result (λ room. room ≡ entries) }
     ensures lines { IsRoomier lines.old lines.new }
-    ensures lines_room { OnOk result (HasTaken lines.old lines.new entries 16384) }
+    ensures lines_room { OnOk result (HasTaken lines.old lines.new entries 32768) }
     ensures rows { (rows.new.rows ≡ rows.old.rows) × (rows.old.room ≤ rows.new.room) }
     ensures rows_room { OnOk result (rows.new.room ≡ max rows.old.room entries) }
     ensures bytes { IsRoomier bytes.old bytes.new }

@@ -13,7 +13,7 @@ use std::alloc::{AllocError, Global};
 use std::marker::Model;
 
 /// For how many rows it takes room at least, where it takes any, and for how many of large numbers.
-const FEWEST_ROWS: usize = 4_096;
+const FEWEST_ROWS: usize = 8_192;
 
 const FEWEST_WIDE: usize = 8;
 
@@ -97,7 +97,7 @@ impl Rows {
 fn take_room(slots: &mut Vec<Slot>, wides: &mut Vec<Row>, rows: usize) -> Result<usize, AllocError>
     ensures told { IfOk result (λ room. room ≡ rows) }
     ensures slots { IsRoomier slots.old slots.new }
-    ensures slots_room { OnOk result (HasTaken slots.old slots.new rows 4096) }
+    ensures slots_room { OnOk result (HasTaken slots.old slots.new rows 8192) }
     ensures wides { IsRoomier wides.old wides.new }
     ensures wides_room { OnOk result (HasTaken wides.old wides.new rows 8) }
 {
