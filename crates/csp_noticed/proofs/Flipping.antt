@@ -58,7 +58,7 @@ number-changed (byte ∷ bytes) (suc place) m h small =
     rw (at, number-cons byte (set bytes place (bit_xor (get_or bytes place 0) (2 ^ m))), rest, number-cons byte bytes) (later-bit (number_of (message_bits bytes)) byte (8 * place + m))
 
 -- the bits of a byte from the top one down
-top_down : (j : ℕ) → j < 8 → (128 / 2 ^ j ≡ 2 ^ (7 - j)) × (2 ^ (7 - j) < 2 ^ 8)
+pub top_down : (j : ℕ) → j < 8 → (128 / 2 ^ j ≡ 2 ^ (7 - j)) × (2 ^ (7 - j) < 2 ^ 8)
 top_down j h =
     let whole : (7 - j) + j ≡ 7 = omega arith in
     let product : 2 ^ (7 - j) * 2 ^ j ≡ 128 = sym (pow-add 2 (7 - j) j) ∙ ap (λ k. 2 ^ k) whole in

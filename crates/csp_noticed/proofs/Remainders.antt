@@ -1,5 +1,6 @@
 -- Two messages whose numbers differ in one bit have different remainders, since what is left of a single bit is never 0.
-use Rattle.std.proofs.Common.{◌≡◌, ◌≢◌, ℕ, zero, suc, ◌+◌, ◌-◌, ◌*◌, ◌/◌, ◌%◌, ◌^◌, ◌<◌, List, length, refl, ap, sym, ◌∙◌, arith, bit_xor, ◌⊎◌, inl, inr}
+use Rattle.std.proofs.Common.{◌≡◌, ◌≢◌, ℕ, zero, suc, ◌+◌, ◌-◌, ◌*◌, ◌/◌, ◌%◌, ◌^◌, ◌<◌, List, length, ap, sym, ◌∙◌, arith, bit_xor, inl, inr}
+use Rattle.std.proofs.lemmas.Bool.{cases_eq}
 use Rattle.std.proofs.lemmas.Nat.{xor_lt}
 use Rattle.std.specs.Int.Bits.{xor_assoc, xor_self, xor_zero_l, xor_zero_r}
 use Rattle.csp_crc.specs.Bits.{number_of, message_bits}
@@ -18,20 +19,12 @@ xor_same a b e = sym (xor_back a b) ∙ ap (bit_xor a) e ∙ xor_zero_r a
 xor_none : (a b : ℕ) → bit_xor a b ≡ a → b ≡ 0
 xor_none a b e = sym (xor_back a b) ∙ ap (bit_xor a) e ∙ xor_self a
 
-even_or_odd : (n : ℕ) → (n % 2 ≡ 0) ⊎ (n % 2 ≡ 1)
-even_or_odd n = by (n % 2) (omega arith)
-  where
-    by : (r : ℕ) → r < 2 → (r ≡ 0) ⊎ (r ≡ 1)
-    by zero h = inl refl
-    by (suc zero) h = inr refl
-    by (suc (suc r)) h = absurd (omega arith)
-
 -- a place of the division leaves something of what isn't 0: the top bit of the polynomial, which is added, was not there
 place-some : (n : ℕ) → 0 < n → n < 2 ^ 32 → (0 < place n) × (place n < 2 ^ 32)
-place-some n some fits = elim (even_or_odd n) [
+place-some n some fits = elim (cases_eq (n % 2) 0) [
   | inl even ↦ let half = place-even n even in (omega arith, omega arith)
   | inr odd ↦
-      let sum = place-odd n odd in
+      let sum = place-odd n (omega arith) in
       let small : n / 2 < 2 ^ 31 = omega arith in
       let below : bit_xor (n / 2) 0x82F63B78 < 2 ^ 32 = xor_lt 32 (n / 2) 0x82F63B78 (omega arith) (omega arith) in
       let here : bit_xor (n / 2) 0x82F63B78 ≢ 0 = λ e. let same = xor_same (n / 2) 0x82F63B78 e in absurd (omega arith) in

@@ -6,7 +6,7 @@ use Rattle.std.specs.Int.Bits.{bit_xor}
 abbrev pub flipped : (bit : ℕ) → List ℕ → List ℕ
 flipped bit bytes = slice_set bytes (bit / 8) (bit_xor (slice_index bytes (bit / 8)) (128 / 2 ^ (bit % 8)))
 
--- two lists of one length differ in one bit: the second is the first with a bit turned over that is there
+-- two lists of one length differ in one bit: the second is the first with one of its bits turned over
 pub record DifferInOneBit (xs ys : List ℕ) : Type 0 where
   pub bit : ℕ
   pub there : bit < 8 * length xs
