@@ -1,0 +1,3 @@
+pub mod Flipping
+pub mod Plain
+pub mod Made
