@@ -33,7 +33,7 @@ shown_grown k a =
     let bytes = ap (joined k.begin.frame) frames ∙ joined-push k.begin.frame (map (λ (b : Arrival). b.frame) k.more) a.frame in
     λ i. record (grown_partial (shown_frames k) a) { payload = record { items = bytes i }; remain = (last i).frame.head.remain; time = (last i).time }
 
-option_map_same : (o : Option Partial) → option_map (λ p. p) o ≡ o
+pub option_map_same : (o : Option Partial) → option_map (λ p. p) o ≡ o
 option_map_same None = refl
 option_map_same (Some p) = refl
 

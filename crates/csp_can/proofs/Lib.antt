@@ -7,3 +7,4 @@ pub mod Feeding
 pub mod Whole
 pub mod Mapping
 pub mod Own
+pub mod Going

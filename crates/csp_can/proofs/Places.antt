@@ -1,6 +1,6 @@
-use Rattle.std.proofs.Common.{◌≡◌, ℕ, zero, suc, ◌+◌, ◌<◌, Bool, true, false, not, cond, Some, None, List, [], ◌∷◌, ◌++◌, length, get_or, set, refl, ap, subst, arith}
-use Rattle.std.specs.Prelude.{nat_lt, find, position, remove}
-use Rattle.std.specs.List.{prefix_len}
+use Rattle.std.proofs.Common.{◌≡◌, ℕ, zero, suc, ◌+◌, ◌<◌, ◌≤◌, Bool, true, false, not, cond, Some, None, List, [], ◌∷◌, ◌++◌, length, get_or, set, refl, ap, subst, arith}
+use Rattle.std.specs.Prelude.{◌&&◌, nat_lt, find, position, remove}
+use Rattle.std.specs.List.{filter, list_all, prefix_len}
 use Rattle.std.proofs.lemmas.Bool.Decides.{nat_tests}
 use Rattle.csp_can.specs.Open.{remove_first}
 
@@ -16,6 +16,25 @@ last_replaced (x ∷ y ∷ ks) zero k h = absurd (omega arith)
 last_replaced (x ∷ ks) (suc i) k h = ap (λ (xs : List _). x ∷ xs) (last_replaced ks i k (omega arith))
 
 module _ {K : Type 0} (p : K → Bool) where
+  filter_short : (ks : List K) → length (filter p ks) ≤ length ks
+  filter_short [] = omega arith
+  filter_short (k ∷ ks) = let rest = filter_short ks in
+      elim (p k) as (λ b. length (cond b (k ∷ filter p ks) (filter p ks)) ≤ suc (length ks)) [
+        | true ↦ omega (arith, rest)
+        | false ↦ omega (arith, rest)
+      ]
+
+  -- each element passes exactly where all of them stay
+  pub all_stay : (ks : List K) → (list_all p ks ≡ true → filter p ks ≡ ks) × (filter p ks ≡ ks → list_all p ks ≡ true)
+  all_stay [] = (λ _. refl, λ _. refl)
+  all_stay (k ∷ ks) =
+      let rest = all_stay ks in
+      let short = filter_short ks in
+      elim (p k) as (λ b. ((b && list_all p ks) ≡ true → cond b (k ∷ filter p ks) (filter p ks) ≡ k ∷ ks) × (cond b (k ∷ filter p ks) (filter p ks) ≡ k ∷ ks → (b && list_all p ks) ≡ true)) [
+        | true ↦ (λ h. ap (λ (xs : List K). k ∷ xs) (rest.0 h), λ h. rest.1 cc)
+        | false ↦ (λ h. absurd cc, λ h. let same = ap length h in absurd (omega (arith, short, same)))
+      ]
+
   -- how many come before the first that passes
   abbrev before : List K → ℕ
   before ks = prefix_len (λ x. not (p x)) ks

@@ -6,7 +6,8 @@ use Rattle.csp_can.specs.Frames.{Frame}
 use Rattle.csp_can.specs.Identifiers.{key_of, same_key}
 use Rattle.csp_can.specs.declared.identifiers.Key.{Key}
 use Rattle.csp_can.specs.Rules.{Arrival, Ruling, opening_ruling, begin_ruling, more_ruling}
-use Rattle.csp_can.specs.Open.{counters, standing, done, gone_on}
+use Rattle.csp_can.specs.Open.{counters, fresh, standing, done, gone_on}
+use Rattle.csp_can.specs.declared.answers.CanEvent.TheVariants.{Part}
 
 -- no partial packet is longer than a packet may be
 abbrev pub AllFit : List Partial → Type 0
@@ -32,6 +33,12 @@ begin_said mtu ps a = begin_ruling mtu (is_some (standing counters (key_of a.fra
 -- the ruling on a MORE frame there
 abbrev pub more_said : List Partial → Arrival → Ruling
 more_said ps a = more_ruling (standing counters (key_of a.frame.head) ps) a
+
+-- no partial packet is to be given up at the time of a MORE frame, and by it the last one goes on and isn't whole
+pub record GoesOnLast (ps : List Partial) (a : Arrival) : Type 0 where
+  pub fresh : fresh counters a.time ps ≡ ps
+  pub event : (more_said ps a).event ≡ Part
+  pub last : StandsLast (key_of a.frame.head) ps
 
 -- the partial packets after a ruling on a frame
 abbrev pub after : Ruling → List Partial → Arrival → List Partial

@@ -1,10 +1,11 @@
 //! The partial packets of a listener.
 
-ghost use Rattle.std.specs.Prelude.{◌≡◌, ◌↔◌, ◌<◌, ◌≤◌, ◌∷◌, [], ◌++◌, length, nat_lt, if◌then◌else◌, OnSome, IfSome, IfNone, true, false, position, List};
+ghost use Rattle.std.specs.Prelude.{◌≡◌, ◌↔◌, ◌<◌, ◌≤◌, ◌∷◌, [], ◌++◌, ◌-◌, length, nat_lt, if◌then◌else◌, OnSome, IfSome, IfNone, true, false, position, List};
+ghost use Rattle.std.specs.List.{list_all};
 ghost use Rattle.csp_can.specs.Identifiers.{key_of, same_key};
 ghost use Rattle.csp_can.specs.Rules.{arrival, measured, leaves};
 ghost use Rattle.csp_base.specs.declared.traces.Trace.{Trace};
-ghost use Rattle.csp_can.specs.Steps.{opened, begin_said, more_said, after, StandsLast};
+ghost use Rattle.csp_can.specs.Steps.{opened, begin_said, more_said, after, GoesOnLast, StandsLast};
 ghost use Rattle.csp_can.specs.declared.partials.Partial.{Partial};
 ghost use Rattle.csp_can.specs.Open.{counters, fresh, standing, without, done, answer_of};
 
@@ -52,6 +53,15 @@ impl Partials {
     {
         self.partials
             .retain(|p| now.saturating_sub(p.time) < GIVE_UP);
+    }
+
+    /// Whether none is to be given up at `now`.
+    fn are_fresh(&self, now: u64) -> bool
+        ensures { result ≡ list_all (λ p. nat_lt (now - p.time) GIVE_UP) self.now }
+    {
+        self.partials
+            .iter()
+            .all(|p| now.saturating_sub(p.time) < GIVE_UP)
     }
 
     /// Where the partial packet of a key stands.
@@ -160,6 +170,17 @@ impl Partials {
             }
             _ => false,
         }
+    }
+
+    /// The same where besides none is to be given up.
+    pub(crate) fn go_on(&mut self, head: &Identifier, bytes: &[u8], now: u64) -> bool
+        ensures when { (trace : Trace) → let a = arrival head.now bytes.now trace now in
+            (result ≡ true) ↔ GoesOnLast self.old a }
+        ensures state { result ≡ true → (trace : Trace) → let a = arrival head.now bytes.now trace now in
+            self.new ≡ after (more_said self.old a) self.old a }
+        ensures left { result ≡ false → self.new ≡ self.old }
+    {
+        self.are_fresh(now) && self.extend(head, bytes, now)
     }
 
     /// A MORE frame, after what is too old was given up: in place where it can be.

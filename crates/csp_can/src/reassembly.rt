@@ -1,6 +1,6 @@
 //! Packets put together from their frames.
 
-ghost use Rattle.std.specs.Prelude.{◌≡◌, ◌↔◌, ℕ, ◌<◌, ◌≤◌, ◌^◌, ◌∷◌, [], ◌++◌, length, List};
+ghost use Rattle.std.specs.Prelude.{◌≡◌, ◌↔◌, ℕ, ◌<◌, ◌≤◌, ◌^◌, ◌∷◌, [], ◌++◌, length, true, false, List};
 ghost use Rattle.csp_base.specs.declared.traces.Trace.{Trace};
 ghost use Rattle.csp_can.specs.Chains.{Completes};
 ghost use Rattle.csp_can.specs.Identifiers.{identifier_of};
@@ -8,6 +8,7 @@ ghost use Rattle.csp_can.specs.Listening.{answered, heard, silent};
 ghost use Rattle.csp_can.specs.Maps.{IsMap};
 ghost use Rattle.csp_can.specs.Open.{answer, counted, open_after, whole_frames};
 ghost use Rattle.csp_can.specs.Rules.{Arrival, arrival};
+ghost use Rattle.csp_can.specs.Steps.{GoesOnLast};
 
 use crate::answers::{CanAnswer, CanEvent};
 use crate::assembly::Partials;
@@ -82,6 +83,27 @@ impl Reassembly {
         match head.kind {
             Kind::Begin => self.partials.begin(self.mtu, &head, bytes, trace, now),
             Kind::More => CanAnswer::plain(self.partials.more(&head, bytes, trace, now)),
+        }
+    }
+
+    /// Takes a frame by which alone the packet of the last frame goes on, as most do: then `frame` would answer
+    /// `Part`, in a value with room for a whole packet. Whether it is such a frame; any other is left to `frame`.
+    pub fn go_on(&mut self, id: u32, bytes: &[u8], now: u64) -> bool
+        requires id { id < 2 ^ 29 }
+        requires bytes { length bytes.now ≤ MAX_DATA }
+
+        ensures when { (trace : Trace) → let a = arrival (identifier_of id) bytes.now trace now in
+            (result ≡ true) ↔ ((a.frame.head.kind ≡ Kind.More) × GoesOnLast self.old.partials a) }
+        ensures answer { result ≡ true → (trace : Trace) → let a = arrival (identifier_of id) bytes.now trace now in
+            answered self.old a ≡ record { restarted = false; event = CanEvent.Part } }
+        ensures state { result ≡ true → (trace : Trace) → let a = arrival (identifier_of id) bytes.now trace now in
+            self.new ≡ heard self.old a }
+        ensures left { result ≡ false → self.new ≡ self.old }
+    {
+        let head = Identifier::decode(id);
+        match head.kind {
+            Kind::Begin => false,
+            Kind::More => self.partials.go_on(&head, bytes, now),
         }
     }
 }

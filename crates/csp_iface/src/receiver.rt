@@ -1,6 +1,6 @@
 //! What an interface keeps of what came, by the kind of its link.
 
-ghost use Rattle.std.specs.Prelude.{◌≡◌, ◌+◌, ◌-◌, ◌^◌, ◌<◌, ◌≤◌, None, unwrap_or};
+ghost use Rattle.std.specs.Prelude.{◌≡◌, ◌+◌, ◌-◌, ◌^◌, ◌<◌, ◌≤◌, None, Some, unwrap_or};
 ghost use Rattle.csp_can.specs.Identifiers.{identifier_of};
 ghost use Rattle.csp_can.specs.Rules.{arrival};
 ghost use Rattle.csp_deck.specs.Carried.{IsCanItem};
@@ -122,12 +122,32 @@ fn reassemble(partials: &mut Reassembly, frame: &Frame, now: u64, whole: &mut Wh
     ensures refused { result ≡ (reassembled partials.old (arrival (identifier_of (unwrap_or frame.now.can 0)) frame.now.bytes.items (arrived frame.now.trace) now)).refused }
     ensures few { result ≤ 1 }
 {
-    let answer = partials.frame(
-        frame.can.unwrap(),
-        frame.bytes.as_slice(),
-        arrived(&frame.trace),
-        now,
-    );
+    let id = frame.can.unwrap();
+    if partials.go_on(id, frame.bytes.as_slice(), now) {
+        return 0;
+    }
+    end_or_begin(partials, id, frame, now, whole)
+}
+
+/// The same for any frame, with the answer by value.
+#[inline(never)]
+fn end_or_begin(
+    partials: &mut Reassembly,
+    id: u32,
+    frame: &Frame,
+    now: u64,
+    whole: &mut Whole,
+) -> u32
+    requires id { frame.now.can ≡ Some id }
+    requires carried { IsCanItem (ItemShown.Frame frame.now) }
+    requires early { frame.now.trace.hops < 2 ^ 64 - 1 }
+    requires free { whole.old ≡ None }
+    ensures partials { Receiver.Can partials.new ≡ (reassembled partials.old (arrival (identifier_of id) frame.now.bytes.items (arrived frame.now.trace) now)).receiver }
+    ensures whole { whole.new ≡ (reassembled partials.old (arrival (identifier_of id) frame.now.bytes.items (arrived frame.now.trace) now)).whole }
+    ensures refused { result ≡ (reassembled partials.old (arrival (identifier_of id) frame.now.bytes.items (arrived frame.now.trace) now)).refused }
+    ensures few { result ≤ 1 }
+{
+    let answer = partials.frame(id, frame.bytes.as_slice(), arrived(&frame.trace), now);
     match &answer.event {
         CanEvent::Part => 0,
         CanEvent::Whole {
