@@ -91,13 +91,9 @@ impl Reassembly {
     pub fn go_on(&mut self, id: u32, bytes: &[u8], now: u64) -> bool
         requires id { id < 2 ^ 29 }
         requires bytes { length bytes.now ≤ MAX_DATA }
-
-        ensures when { (trace : Trace) → let a = arrival (identifier_of id) bytes.now trace now in
-            (result ≡ true) ↔ ((a.frame.head.kind ≡ Kind.More) × GoesOnLast self.old.partials a) }
-        ensures answer { result ≡ true → (trace : Trace) → let a = arrival (identifier_of id) bytes.now trace now in
-            answered self.old a ≡ record { restarted = false; event = CanEvent.Part } }
-        ensures state { result ≡ true → (trace : Trace) → let a = arrival (identifier_of id) bytes.now trace now in
-            self.new ≡ heard self.old a }
+        ensures when { (trace : Trace) → (result ≡ true) ↔ (((identifier_of id).kind ≡ Kind.More) × GoesOnLast self.old.partials (arrival (identifier_of id) bytes.now trace now)) }
+        ensures answer { result ≡ true → (trace : Trace) → answered self.old (arrival (identifier_of id) bytes.now trace now) ≡ record { restarted = false; event = CanEvent.Part } }
+        ensures state { result ≡ true → (trace : Trace) → self.new ≡ heard self.old (arrival (identifier_of id) bytes.now trace now) }
         ensures left { result ≡ false → self.new ≡ self.old }
     {
         let head = Identifier::decode(id);
