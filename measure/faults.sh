@@ -29,7 +29,7 @@ rows=$here/../crates/csp_rows/data
 list() {
   echo "$rows/port_opens_a_connection.scn $rows/port_opens_a_connection.report same sim"
   echo "$rows/port_opens_a_connection.scn $rows/port_opens_a_connection.report rounds run --workers 2"
-  echo "/dev/null $here/faults/gen_20.report same gen 20"
+  echo "/dev/null $rows/gen_20.report same gen 20"
   echo "$work/capture $work/capture.report same tap"
 }
 

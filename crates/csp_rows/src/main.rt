@@ -6,6 +6,7 @@
 //! table says how many cases it has, and after it stands each case that differs.
 #![tactic(auto)]
 
+mod faults;
 mod folder;
 mod program;
 mod row;
@@ -60,11 +61,13 @@ fn runs<R: Files + Print + AllocGlobal + Clone + Drop + Threads + Wait + Sync>(
 }
 
 /// Goes through the tables.
-fn tables<R: Files + Print + AllocGlobal + Clone + Drop>(rt: &R) -> io::Result<()> {
+fn tables<R: Files + Print + AllocGlobal + Clone + Drop + Threads + Wait + Sync>(
+    rt: &R,
+) -> io::Result<()> {
     let names = names_of(rt, ".table")?;
     for name in names.as_slice() {
         let text = fs::read_to_string(rt, format!(in rt.alloc(); "{name}.table")?)?;
-        let table = judged(rt.alloc(), &Program, text.as_str())?;
+        let table = judged(rt.alloc(), &Program { rt }, text.as_str())?;
         let cases = table.cases;
         println!(rt; "table {name}: {cases} cases")?;
         for line in table.differing.as_slice() {
