@@ -1,6 +1,6 @@
-//! Runs in which one read or one write fails, each in turn: `reads SOURCE REPORT | WORDS` and `writes SOURCE REPORT | WORDS`. The
-//! two names are those of the files with what there is to read and what is to be written, `-` for an empty one; then come the
-//! words of the program. The sink takes 16 bytes in a call.
+//! Runs in which one read or one write fails, each in turn. A file has one case a line, `reads SOURCE REPORT | WORDS => ANSWER` or
+//! `writes ..`. The two names are those of the files with what there is to read and what is to be written, `-` for an empty one;
+//! then come the words of the program. The sink takes 16 bytes in a call.
 //!
 //! After a failing read nothing is read any more, and nothing is written. After the failing write of number k, from 0, nothing
 //! is written any more, and just the first 16 * k bytes of the report were. A run none of whose calls fails is done, and has
@@ -10,7 +10,7 @@
 
 use csp_base::{MemSink, MemSource};
 use csp_cases::CaseError::Unread;
-use csp_cases::{CaseError, Words};
+use csp_cases::{CaseError, Outcome, Words};
 use csp_rounds::OrderGate;
 use csp_top::{Status, csp_main};
 use std::alloc::{AllocError, Global};
@@ -30,7 +30,7 @@ const MOST: u64 = 10_000;
 
 /// Which calls fail, one in a run.
 #[derive(Clone, Copy, PartialEq, Eq, Debug)]
-pub(crate) enum Calls {
+enum Calls {
     /// Those that read.
     Reads,
     /// Those that write.
@@ -55,13 +55,45 @@ struct Ended {
     gave_up: bool,
 }
 
-/// Makes the runs of a case, and tells how many calls failed and how many answers were others than they must be.
-pub(crate) fn failing<R: Files + AllocGlobal + Clone + Threads + Wait + Sync>(
+/// Goes through the cases of a file. A line that begins with `#` is none.
+pub(crate) fn judged<R: Files + AllocGlobal + Clone + Threads + Wait + Sync>(
     rt: &R,
     alloc: Global,
-    calls: Calls,
-    what: &str,
+    text: &str,
+) -> Result<Outcome, AllocError> {
+    let mut cases = 0usize;
+    let mut differing = Vec::new(alloc);
+    for line in text.lines() {
+        if line.starts_with("#") {
+            continue;
+        }
+        cases = cases.saturating_add(1);
+        let (asked, wanted) = line.split_once(" => ").unwrap_or((line, ""));
+        match failing(rt, alloc, asked) {
+            Ok(answer) => {
+                if answer.as_str() != wanted {
+                    differing.push(format!(in alloc; "{asked}: {answer}")?)?;
+                }
+            }
+            Err(CaseError::NoMemory) => return Err(AllocError),
+            Err(Unread) => differing.push(format!(in alloc; "{asked}: no case")?)?,
+        }
+    }
+    Ok(Outcome { cases, differing })
+}
+
+/// Makes the runs of a case, and tells how many calls failed and how many answers were others than they must be.
+fn failing<R: Files + AllocGlobal + Clone + Threads + Wait + Sync>(
+    rt: &R,
+    alloc: Global,
+    asked: &str,
 ) -> Result<String, CaseError> {
+    let (which, what) = asked.split_once(" ").ok_or(Unread)?;
+    let calls = match which {
+        "reads" => Calls::Reads,
+        "writes" => Calls::Writes,
+        _ => return Err(Unread),
+    };
     let case = read(rt, alloc, what)?;
     let mut others = 0u64;
     for number in 0..MOST {

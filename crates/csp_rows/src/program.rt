@@ -1,30 +1,21 @@
 //! Runs by the schedule over memory: `sim | reads N .. | writes N .. | piece N | TEXT`, where the numbers say
 //! which calls of the source and of the sink fail, counted from 0, and a piece is what the sink takes in a call. The
-//! line on standard error: `say scene LINE`, `say bytes N`, .. The words behind the program's name: `own WORDS`. And runs in
-//! which each read or each write fails in turn (`faults`).
+//! line on standard error: `say scene LINE`, `say bytes N`, .. And the words behind the program's name: `own WORDS`.
 
-use crate::faults::{Calls, failing};
 use csp_base::{MemSink, MemSource};
 use csp_cases::CaseError::{NoMemory, Unread};
 use csp_cases::{Answers, CaseError, Words, joined, unescaped};
 use csp_scene::SceneKind;
 use csp_top::{LimitKind, Status, own_words, say, sim_main};
 use std::alloc::Global;
-use std::fs::Files;
-use std::sync::Wait;
-use std::thread::Threads;
 
 /// The room of the sink.
 const ROOM: usize = 65_536;
 
 /// The program over memory.
-#[derive(Drop)]
-pub(crate) struct Program<'a, R> {
-    /// What gives files and threads.
-    pub(crate) rt: &'a R,
-}
+pub(crate) struct Program;
 
-impl<'a, R: Files + AllocGlobal + Clone + Threads + Wait + Sync> Answers for Program<'a, R> {
+impl Answers for Program {
     /// The answer to what a case asks. Its first word says of what.
     fn answer(&self, alloc: Global, asked: &str) -> Result<String, CaseError> {
         let (which, what) = asked.split_once(" ").unwrap_or((asked, ""));
@@ -32,8 +23,6 @@ impl<'a, R: Files + AllocGlobal + Clone + Threads + Wait + Sync> Answers for Pro
             "sim" => sim(alloc, what),
             "say" => said(alloc, status(&Words::of(alloc, what)?)?),
             "own" => own(alloc, what),
-            "reads" => failing(self.rt, alloc, Calls::Reads, what),
-            "writes" => failing(self.rt, alloc, Calls::Writes, what),
             _ => Err(Unread),
         }
     }
