@@ -10,7 +10,7 @@ use arrayvec::ArrayVec;
 use itoa::Buffer;
 use std::alloc::AllocError;
 
-/// The most bytes that a line has besides those of a payload: none has more than eight numbers, each with a name.
+/// Room for a line without its payload, whose numbers may have 20 digits each.
 pub(crate) const ROOM: usize = 240;
 
 /// A line that is made, or as much of one as stands before a payload or after it.

@@ -1,6 +1,4 @@
-use Rattle.std.proofs.Common.{List, ℕ, ◌/◌, ◌%◌, [], ◌∷◌, ◌++◌, ap, sym, ◌∙◌, append_assoc}
-use Rattle.std.specs.List.{slice_index}
-use Rattle.hex.specs.Hex.{lower_digits}
+use Rattle.std.proofs.Common.{List, ℕ, [], ◌∷◌, ◌++◌, ap, sym, ◌∙◌, append_assoc}
 use Rattle.csp_tap.proofs.Digits.{encode_one}
 use Rattle.csp_tap.proofs.words.put_pair.Goals as goal
 
