@@ -1,2 +1,4 @@
 mod Tables
 mod Telling
+mod Digits
+mod Pieces

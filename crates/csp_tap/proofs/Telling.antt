@@ -1,6 +1,6 @@
 -- What a tap keeps of its stream, when one more byte comes.
 use Rattle.std.proofs.Common.{◌≡◌, ◌≢◌, ℕ, ◌+◌, Bool, false, cond, eqb, Option, Some, None, Result, Ok, Err, List, [], ◌∷◌, ◌++◌, length, refl, sym, ap, ◌∙◌, arith, append-nil, append_assoc, length-append, subst}
-use Rattle.std.specs.Prelude.{OnOk}
+use Rattle.std.specs.Prelude.{IfOk, OnOk}
 use Rattle.std.specs.List.{cons_option}
 use Rattle.std.specs.Option.{option_to_list}
 use Rattle.std.proofs.lemmas.Bool.{ne_eqb}
@@ -17,6 +17,7 @@ use Rattle.csp_kiss.proofs.Steps.{events-more, reading_of-push}
 use Rattle.csp_tap.specs.Fed.{PlainTap, HasFed, HasTold, talks_with, telling}
 use Rattle.csp_tap.specs.Packets.{event_line, event_lines}
 use Rattle.csp_tap.specs.Talks.{packets_in, table, talk_lines}
+use Rattle.csp_tap.specs.Pieces.{told_with}
 use Rattle.csp_tap.specs.Text.{first_line, last_line, tap_text}
 use Rattle.csp_tap.specs.declared.talks.Tally.{Tally}
 use Rattle.csp_tap.proofs.Tables.{table-none, table-push}
@@ -33,6 +34,10 @@ fed_none cover tap reading lines count talks =
 pub on_ok : {T E P Q : Type 0} (r : Result T E) → (P → Q) → OnOk r P → OnOk r Q
 on_ok (Ok x) f p = f p
 on_ok (Err e) f p = tt
+
+pub if_ok : {T E : Type 0} {P Q : T → Type 0} (r : Result T E) → ((x : T) → P x → Q x) → IfOk r P → IfOk r Q
+if_ok (Ok x) f p = f x p
+if_ok (Err e) f p = tt
 
 event_lines-push : (number : ℕ) (es : List KissEvent) (e : KissEvent) → event_lines number (es ++ e ∷ []) ≡ event_lines number es ++ event_line (number + length es) e
 unfolding event_lines
@@ -83,7 +88,7 @@ events_more cover stream byte reading event h e =
     events-more cover MAX_PAYLOAD stream byte
     ∙ ap (λ (o : Option KissEvent). events cover MAX_PAYLOAD stream ++ option_to_list o) (ap (λ (r : Reading). answer r byte) (sym h) ∙ e)
 
-abbrev tap_at : Reading → List ℕ → ℕ → List (ℕ × Tally) → PlainTap
+abbrev pub tap_at : Reading → List ℕ → ℕ → List (ℕ × Tally) → PlainTap
 tap_at reading lines count talks = record { reading = reading; lines = lines; count = count; talks = talks }
 
 module _ (cover : Bool) (stream : List ℕ) (byte : ℕ) (reading into : Reading) (lines : List ℕ) (count : ℕ) (talks : List (ℕ × Tally)) where
@@ -115,6 +120,29 @@ module _ (cover : Bool) (stream : List ℕ) (byte : ℕ) (reading into : Reading
         told = subst (λ (es : List KissEvent). HasTold es (telling event (tap_at into lines count talks))) (sym more) (told_more (events cover MAX_PAYLOAD stream) event (tap_at into lines count talks) before);
       } in
       subst (HasFed cover (stream ++ byte ∷ [])) (sym tells) fed
+
+  -- that ends a piece, which may bring an event
+  pub fed_end : (event : Option KissEvent) → answer reading byte ≡ event → into ≡ after reading byte
+      → HasFed cover stream (tap_at reading lines count talks) → HasFed cover (stream ++ byte ∷ []) (told_with event (tap_at into lines count talks))
+  fed_end None none is h = fed_silent none is h
+  fed_end (Some event) some is h = fed_event event (telling event (tap_at into lines count talks)) some is refl h
+
+same_reading : (event : Option KissEvent) (tap : PlainTap) → (told_with event tap).reading ≡ tap.reading
+same_reading None tap = refl
+same_reading (Some event) tap = refl
+
+into_reading : (event : Option KissEvent) (tap : PlainTap) (into : Reading) → told_with event (tap_at into tap.lines tap.count tap.talks) ≡ tap_at into (told_with event tap).lines (told_with event tap).count (told_with event tap).talks
+into_reading None tap into = refl
+into_reading (Some event) tap into = refl
+
+-- a piece more was told of, where it has a byte, and the next begins
+pub fed_piece : (cover : Bool) (stream : List ℕ) (before between : PlainTap) (into : Reading) → between ≡ told_with (told before.reading before.reading.stage) before → into ≡ going between.reading Start []
+    → HasFed cover stream before → HasFed cover (stream ++ FEND ∷ []) (tap_at into between.lines between.count between.talks)
+fed_piece cover stream before between into tells starts h =
+    let event : Option KissEvent = told before.reading before.reading.stage in
+    let same : between.reading ≡ before.reading = ap (λ (t : PlainTap). t.reading) tells ∙ same_reading event before in
+    let fed = fed_end cover stream FEND before.reading into before.lines before.count before.talks event refl (starts ∙ ap (λ (r : Reading). going r Start []) same) h in
+    subst (HasFed cover (stream ++ FEND ∷ [])) (into_reading event before into ∙ ap (λ (t : PlainTap). tap_at into t.lines t.count t.talks) (sym tells)) fed
 
 -- ---- the whole text
 

@@ -3,6 +3,7 @@
 #![tactic(auto)]
 
 mod packets;
+mod piece;
 mod talks;
 mod tap;
 mod whole;

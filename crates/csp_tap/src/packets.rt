@@ -1,20 +1,23 @@
 //! The lines of events.
 
-ghost use Rattle.std.specs.Prelude.{◌≡◌, ◌++◌, ◌∷◌, [], codes, OnOk};
+ghost use Rattle.std.specs.Prelude.{◌≡◌, ◌+◌, ◌≤◌, ◌++◌, ◌∷◌, [], length, codes, OnOk};
 ghost use Rattle.std.specs.Option.{option_map};
-ghost use Rattle.std.specs.String.{string_bytes};
 ghost use Rattle.std.specs.Fmt.{decimal};
 ghost use Rattle.csp_rdp_header.specs.Head.{parted};
 ghost use Rattle.csp_tap.specs.Packets.{before_crc, crc_word, crc_words, event_line, field_words, has_flag, head_words, header_words, hex_bytes, hex_word, layer_words, node_words, packet_line, packet_start, payload_words, port_words, rdp_words};
-ghost use Rattle.csp_tap.specs.Words.{line, words};
+ghost use Rattle.csp_tap.specs.Pieces.{event_of};
+ghost use Rattle.csp_tap.specs.Words.{line as line_of, words};
+ghost use Rattle.csp_tap.specs.declared.words.TheConstants.{ROOM};
 
-use crate::words::{begin_line, end_line, push_bytes, push_count, push_counted, push_word};
+use crate::piece::Finding;
+use crate::words::{
+    Line, begin_line, end_line, push_bytes, push_line, put_bytes, put_count, put_counted, put_word,
+};
 use bitflags::Flags;
 use csp_crc::{CrcError, check};
 use csp_header::{FlagSet, Header};
-use csp_kiss::KissEvent;
 use csp_rdp_header::RdpHead;
-use std::alloc::{AllocError, Global};
+use std::alloc::AllocError;
 
 /// Whether a header has these flags.
 fn has_flag(flags: FlagSet, header: &Header) -> bool
@@ -24,71 +27,63 @@ fn has_flag(flags: FlagSet, header: &Header) -> bool
 }
 
 /// Appends a number of 32 bits in eight hexadecimal digits.
-fn push_hex_word(alloc: Global, out: &mut String, number: u32) -> Result<(), AllocError>
-    ensures { OnOk result (string_bytes out.new ≡ string_bytes out.old ++ words (hex_word number ∷ [])) }
+fn put_hex_word(line: &mut Line, number: u32)
+    requires { length line.old.items + 9 ≤ ROOM }
+    ensures items { line.new.items ≡ line.old.items ++ words (hex_word number ∷ []) }
+    ensures fits { length line.new.items ≤ length line.old.items + 9 }
 {
-    push_bytes(alloc, out, &number.to_be_bytes())
+    put_bytes(line, &number.to_be_bytes());
 }
 
 /// Appends priority, source and destination.
-fn push_nodes(out: &mut String, header: &Header) -> Result<(), AllocError>
-    ensures { OnOk result (string_bytes out.new ≡ string_bytes out.old ++ words (node_words header.now)) }
+fn put_nodes(line: &mut Line, header: &Header)
+    requires { length line.old.items + 75 ≤ ROOM }
+    ensures items { line.new.items ≡ line.old.items ++ words (node_words header.now) }
+    ensures fits { length line.new.items ≤ length line.old.items + 75 }
 {
-    push_counted(out, "pri", u64::from(header.prio.number()))?;
-    push_counted(out, "src", u64::from(header.src.get()))?;
-    push_counted(out, "dst", u64::from(header.dst.get()))
+    put_counted(line, "pri", u64::from(header.prio.number()));
+    put_counted(line, "src", u64::from(header.src.get()));
+    put_counted(line, "dst", u64::from(header.dst.get()));
 }
 
 /// Appends ports and flags.
-fn push_ports(alloc: Global, out: &mut String, header: &Header) -> Result<(), AllocError>
-    ensures { OnOk result (string_bytes out.new ≡ string_bytes out.old ++ words (port_words header.now)) }
+fn put_ports(line: &mut Line, header: &Header)
+    requires { length line.old.items + 63 ≤ ROOM }
+    ensures items { line.new.items ≡ line.old.items ++ words (port_words header.now) }
+    ensures fits { length line.new.items ≤ length line.old.items + 63 }
 {
-    push_counted(out, "dport", u64::from(header.dport.get()))?;
-    push_counted(out, "sport", u64::from(header.sport.get()))?;
-    push_word(out, "flags")?;
-    push_bytes(alloc, out, &[header.flags.bits()])
+    put_counted(line, "dport", u64::from(header.dport.get()));
+    put_counted(line, "sport", u64::from(header.sport.get()));
+    put_word(line, "flags");
+    put_bytes(line, &[header.flags.bits()]);
 }
 
 /// Appends the fields of a header.
-fn push_header(alloc: Global, out: &mut String, header: &Header) -> Result<(), AllocError>
-    ensures { OnOk result (string_bytes out.new ≡ string_bytes out.old ++ header_words header.now) }
+fn put_header(line: &mut Line, header: &Header)
+    requires { length line.old.items + 138 ≤ ROOM }
+    ensures items { line.new.items ≡ line.old.items ++ header_words header.now }
+    ensures fits { length line.new.items ≤ length line.old.items + 138 }
 {
-    push_nodes(out, header)?;
-    push_ports(alloc, out, header)
-}
-
-/// Appends bytes, `-` for none.
-fn push_payload_bytes(alloc: Global, out: &mut String, payload: &[u8]) -> Result<(), AllocError>
-    ensures { OnOk result (string_bytes out.new ≡ string_bytes out.old ++ words (hex_bytes payload.now ∷ [])) }
-{
-    match payload {
-        [] => push_word(out, "-"),
-        _ => push_bytes(alloc, out, payload),
-    }
-}
-
-/// Appends length and bytes.
-fn push_payload(alloc: Global, out: &mut String, payload: &[u8]) -> Result<(), AllocError>
-    ensures { OnOk result (string_bytes out.new ≡ string_bytes out.old ++ words (payload_words payload.now)) }
-{
-    push_counted(out, "len", payload.len() as u64)?;
-    push_payload_bytes(alloc, out, payload)
+    put_nodes(line, header);
+    put_ports(line, header);
 }
 
 /// Appends what a packet's own CRC is found to be, where it has one.
-fn push_crc(out: &mut String, flag: bool, payload: &[u8]) -> Result<(), AllocError>
-    ensures { OnOk result (string_bytes out.new ≡ string_bytes out.old ++ words (crc_words flag payload.now)) }
+fn put_crc(line: &mut Line, flag: bool, payload: &[u8])
+    requires { length line.old.items + 10 ≤ ROOM }
+    ensures items { line.new.items ≡ line.old.items ++ words (crc_words flag payload.now) }
+    ensures fits { length line.new.items ≤ length line.old.items + 10 }
 {
-    if !flag {
-        return Ok(());
+    if flag {
+        put_word(line, "crc");
+        put_word(line, crc_word(payload));
     }
-    push_word(out, "crc")?;
-    push_word(out, crc_word(payload))
 }
 
 /// What a CRC at the end of some bytes is found to be.
 fn crc_word(payload: &[u8]) -> &'static str
-    ensures { result.now ≡ crc_word payload.now }
+    ensures word { result.now ≡ crc_word payload.now }
+    ensures fits { length result.now ≤ 5 }
 {
     match check(payload) {
         Ok(_) => "ok",
@@ -109,129 +104,158 @@ fn before_crc(flag: bool, payload: &[u8]) -> Option<&[u8]>
 }
 
 /// Appends the fields of the head at the end of some bytes.
-fn push_head(alloc: Global, out: &mut String, bytes: &[u8]) -> Result<(), AllocError>
-    ensures { OnOk result (string_bytes out.new ≡ string_bytes out.old ++ words (head_words (parted bytes.now))) }
+fn put_head(line: &mut Line, bytes: &[u8])
+    requires { length line.old.items + 13 ≤ ROOM }
+    ensures items { line.new.items ≡ line.old.items ++ words (head_words (parted bytes.now)) }
+    ensures fits { length line.new.items ≤ length line.old.items + 13 }
 {
     match RdpHead::decode(bytes) {
-        Ok((_, head)) => push_fields(alloc, out, head),
-        Err(_) => push_word(out, "short"),
+        Ok((_, head)) => put_fields(line, head),
+        Err(_) => put_word(line, "short"),
     }
 }
 
 /// Appends the fields of a head.
-fn push_fields(alloc: Global, out: &mut String, head: RdpHead) -> Result<(), AllocError>
-    ensures { OnOk result (string_bytes out.new ≡ string_bytes out.old ++ words (field_words head)) }
+fn put_fields(line: &mut Line, head: RdpHead)
+    requires { length line.old.items + 13 ≤ ROOM }
+    ensures items { line.new.items ≡ line.old.items ++ words (field_words head) }
+    ensures fits { length line.new.items ≤ length line.old.items + 13 }
 {
-    push_bytes(alloc, out, &[head.flags])?;
-    push_bytes(alloc, out, &head.seq.0.to_be_bytes())?;
-    push_bytes(alloc, out, &head.ack.0.to_be_bytes())
+    put_bytes(line, &[head.flags]);
+    put_bytes(line, &head.seq.0.to_be_bytes());
+    put_bytes(line, &head.ack.0.to_be_bytes());
 }
 
 /// Appends the head of the reliable transport at the end of these bytes, where a packet has one.
-fn push_rdp(
-    alloc: Global,
-    out: &mut String,
-    flag: bool,
-    bytes: Option<&[u8]>,
-) -> Result<(), AllocError>
-    ensures { OnOk result (string_bytes out.new ≡ string_bytes out.old ++ words (rdp_words flag (option_map (λ bytes. bytes.now) bytes.entry))) }
+fn put_rdp(line: &mut Line, flag: bool, bytes: Option<&[u8]>)
+    requires { length line.old.items + 17 ≤ ROOM }
+    ensures items { line.new.items ≡ line.old.items ++ words (rdp_words flag (option_map (λ bytes. bytes.now) bytes.entry)) }
+    ensures fits { length line.new.items ≤ length line.old.items + 17 }
 {
     match bytes {
         Some(bytes) if flag => {
-            push_word(out, "rdp")?;
-            push_head(alloc, out, bytes)
+            put_word(line, "rdp");
+            put_head(line, bytes);
         }
-        _ => Ok(()),
+        _ => {}
     }
 }
 
 /// Appends what the flags of a packet say of its payload.
-fn push_layers(
-    alloc: Global,
-    out: &mut String,
-    header: &Header,
-    payload: &[u8],
-) -> Result<(), AllocError>
-    ensures { OnOk result (string_bytes out.new ≡ string_bytes out.old ++ layer_words header.now payload.now) }
+fn put_layers(line: &mut Line, header: &Header, payload: &[u8])
+    requires { length line.old.items + 27 ≤ ROOM }
+    ensures items { line.new.items ≡ line.old.items ++ layer_words header.now payload.now }
+    ensures fits { length line.new.items ≤ length line.old.items + 27 }
 {
     let flag = has_flag(FlagSet::CRC32, header);
-    push_crc(out, flag, payload)?;
-    push_rdp(
-        alloc,
-        out,
+    put_crc(line, flag, payload);
+    put_rdp(
+        line,
         has_flag(FlagSet::RDP, header),
         before_crc(flag, payload),
-    )
+    );
 }
 
 /// Begins the line of a packet.
-fn push_start(alloc: Global, out: &mut String, number: u64, header: u32) -> Result<(), AllocError>
-    ensures { OnOk result (string_bytes out.new ≡ string_bytes out.old ++ packet_start number header) }
+fn put_start(line: &mut Line, number: u64, header: u32)
+    requires { length line.old.items + 36 ≤ ROOM }
+    ensures items { line.new.items ≡ line.old.items ++ packet_start number header }
+    ensures fits { length line.new.items ≤ length line.old.items + 36 }
 {
-    begin_line(out, "packet")?;
-    push_count(out, number)?;
-    push_hex_word(alloc, out, header)
+    begin_line(line, "packet");
+    put_count(line, number);
+    put_hex_word(line, header);
+}
+
+/// Appends the line of a packet up to its payload.
+fn push_front(
+    out: &mut Vec<u8>,
+    number: u64,
+    header: u32,
+    fields: &Header,
+    size: usize,
+) -> Result<(), AllocError>
+    ensures { OnOk result (out.new.items ≡ out.old.items ++ (packet_start number header ++ (header_words fields.now ++ words (codes "len" ∷ decimal size ∷ [])))) }
+{
+    let mut line = Line::new();
+    put_start(&mut line, number, header);
+    put_header(&mut line, fields);
+    put_counted(&mut line, "len", size as u64);
+    push_line(out, &line)
+}
+
+/// Appends bytes, `-` for none.
+fn push_payload(out: &mut Vec<u8>, payload: &[u8]) -> Result<(), AllocError>
+    ensures { OnOk result (out.new.items ≡ out.old.items ++ words (hex_bytes payload.now ∷ [])) }
+{
+    match payload {
+        [] => out.extend_from_slice(b" -"),
+        _ => push_bytes(out, payload),
+    }
+}
+
+/// Appends the line of a packet from its payload on.
+fn push_back(out: &mut Vec<u8>, fields: &Header, payload: &[u8]) -> Result<(), AllocError>
+    ensures { OnOk result (out.new.items ≡ out.old.items ++ (layer_words fields.now payload.now ++ 10 ∷ [])) }
+{
+    let mut line = Line::new();
+    put_layers(&mut line, fields, payload);
+    end_line(&mut line);
+    push_line(out, &line)
 }
 
 /// Appends the line of a packet.
 fn push_packet(
-    alloc: Global,
-    out: &mut String,
+    out: &mut Vec<u8>,
     number: u64,
     header: u32,
     payload: &[u8],
 ) -> Result<(), AllocError>
-    ensures { OnOk result (string_bytes out.new ≡ string_bytes out.old ++ packet_line number header payload.now) }
+    ensures { OnOk result (out.new.items ≡ out.old.items ++ packet_line number header payload.now) }
 {
     let fields = Header::decode(header);
-    push_start(alloc, out, number, header)?;
-    push_header(alloc, out, &fields)?;
-    push_payload(alloc, out, payload)?;
-    push_layers(alloc, out, &fields, payload)?;
-    end_line(out)
+    push_front(out, number, header, &fields, payload.len())?;
+    push_payload(out, payload)?;
+    push_back(out, &fields, payload)
 }
 
 /// Appends the line of a refused piece, by the word for it.
-fn push_refused(out: &mut String, word: &str, number: u64) -> Result<(), AllocError>
-    ensures { OnOk result (string_bytes out.new ≡ string_bytes out.old ++ line word.now (decimal number ∷ [])) }
+fn push_refused(out: &mut Vec<u8>, word: &str, number: u64) -> Result<(), AllocError>
+    requires { length word.now ≤ 7 }
+    ensures { OnOk result (out.new.items ≡ out.old.items ++ line_of word.now (decimal number ∷ [])) }
 {
-    begin_line(out, word)?;
-    push_count(out, number)?;
-    end_line(out)
+    let mut line = Line::new();
+    begin_line(&mut line, word);
+    put_count(&mut line, number);
+    end_line(&mut line);
+    push_line(out, &line)
 }
 
 /// Appends the line of a frame whose CRC is wrong.
-fn push_bad_crc(
-    alloc: Global,
-    out: &mut String,
-    number: u64,
-    found: u32,
-    wanted: u32,
-) -> Result<(), AllocError>
-    ensures { OnOk result (string_bytes out.new ≡ string_bytes out.old ++ line (codes "badcrc") (decimal number ∷ hex_word found ∷ hex_word wanted ∷ [])) }
+fn push_bad_crc(out: &mut Vec<u8>, number: u64, found: u32, wanted: u32) -> Result<(), AllocError>
+    ensures { OnOk result (out.new.items ≡ out.old.items ++ line_of (codes "badcrc") (decimal number ∷ hex_word found ∷ hex_word wanted ∷ [])) }
 {
-    begin_line(out, "badcrc")?;
-    push_count(out, number)?;
-    push_hex_word(alloc, out, found)?;
-    push_hex_word(alloc, out, wanted)?;
-    end_line(out)
+    let mut line = Line::new();
+    begin_line(&mut line, "badcrc");
+    put_count(&mut line, number);
+    put_hex_word(&mut line, found);
+    put_hex_word(&mut line, wanted);
+    end_line(&mut line);
+    push_line(out, &line)
 }
 
-/// Appends the line of the event of this number.
-pub(crate) fn push_event(
-    alloc: Global,
-    out: &mut String,
+/// Appends the line of what the piece of this number is found to be.
+pub(crate) fn push_finding(
+    out: &mut Vec<u8>,
     number: u64,
-    event: &KissEvent,
+    finding: Finding<'_>,
 ) -> Result<(), AllocError>
-    ensures { OnOk result (string_bytes out.new ≡ string_bytes out.old ++ event_line number event.now) }
+    ensures { OnOk result (out.new.items ≡ out.old.items ++ event_line number (event_of finding.entry)) }
 {
-    match event {
-        KissEvent::Packet { header, payload } => {
-            push_packet(alloc, out, number, *header, payload.as_slice())
-        }
-        KissEvent::TooLong => push_refused(out, "toolong", number),
-        KissEvent::Short => push_refused(out, "short", number),
-        KissEvent::BadCrc { found, wanted } => push_bad_crc(alloc, out, number, *found, *wanted),
+    match finding {
+        Finding::Packet { header, payload } => push_packet(out, number, header, payload),
+        Finding::TooLong => push_refused(out, "toolong", number),
+        Finding::Short => push_refused(out, "short", number),
+        Finding::BadCrc { found, wanted } => push_bad_crc(out, number, found, wanted),
     }
 }

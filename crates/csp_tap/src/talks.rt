@@ -1,11 +1,11 @@
 //! Who talks to whom: how many packets and bytes went from one port of a node to one of another.
 
-ghost use Rattle.std.specs.Prelude.{◌≡◌, ◌+◌, ◌++◌, [], OnOk, IfOk, ◌<◌};
-ghost use Rattle.std.specs.String.{string_bytes};
+ghost use Rattle.std.specs.Prelude.{◌≡◌, ◌+◌, ◌++◌, [], length, OnOk, IfOk, ◌<◌, ◌≤◌};
 ghost use Rattle.csp_tap.specs.Words.{words};
 ghost use Rattle.csp_tap.specs.Talks.{talk_of, talk_line, talk_lines, talk_words, tally_at, tally_words, with_packet};
+ghost use Rattle.csp_tap.specs.declared.words.TheConstants.{ROOM};
 
-use crate::words::{begin_line, end_line, push_count, push_counted};
+use crate::words::{Line, begin_line, end_line, push_line, put_count, put_counted};
 use std::alloc::{AllocError, Global};
 use std::collections::BTreeMap;
 use std::marker::Model;
@@ -91,8 +91,8 @@ impl Talks {
     }
 
     /// Appends the lines of the talks.
-    pub(crate) fn push_lines(&self, out: &mut String) -> Result<(), AllocError>
-        ensures { OnOk result (string_bytes out.new ≡ string_bytes out.old ++ talk_lines self.now) }
+    pub(crate) fn push_lines(&self, out: &mut Vec<u8>) -> Result<(), AllocError>
+        ensures { OnOk result (out.new.items ≡ out.old.items ++ talk_lines self.now) }
     {
         for (talk, tally) in self.map.iter() {
             push_talk(out, *talk, *tally)?;
@@ -102,29 +102,35 @@ impl Talks {
 }
 
 /// Appends source, destination, destination port and source port of a talk.
-fn push_ends(out: &mut String, talk: u32) -> Result<(), AllocError>
-    ensures { OnOk result (string_bytes out.new ≡ string_bytes out.old ++ words (talk_words talk)) }
+fn put_ends(line: &mut Line, talk: u32)
+    requires { length line.old.items + 84 ≤ ROOM }
+    ensures items { line.new.items ≡ line.old.items ++ words (talk_words talk) }
+    ensures fits { length line.new.items ≤ length line.old.items + 84 }
 {
-    push_count(out, u64::from(talk >> 17))?;
-    push_count(out, u64::from((talk >> 12) % 32))?;
-    push_count(out, u64::from((talk >> 6) % 64))?;
-    push_count(out, u64::from(talk % 64))
+    put_count(line, u64::from(talk >> 17));
+    put_count(line, u64::from((talk >> 12) % 32));
+    put_count(line, u64::from((talk >> 6) % 64));
+    put_count(line, u64::from(talk % 64));
 }
 
 /// Appends what went in a talk.
-fn push_tally(out: &mut String, tally: Tally) -> Result<(), AllocError>
-    ensures { OnOk result (string_bytes out.new ≡ string_bytes out.old ++ words (tally_words tally)) }
+fn put_tally(line: &mut Line, tally: Tally)
+    requires { length line.old.items + 56 ≤ ROOM }
+    ensures items { line.new.items ≡ line.old.items ++ words (tally_words tally) }
+    ensures fits { length line.new.items ≤ length line.old.items + 56 }
 {
-    push_counted(out, "packets", tally.packets)?;
-    push_counted(out, "bytes", tally.bytes)
+    put_counted(line, "packets", tally.packets);
+    put_counted(line, "bytes", tally.bytes);
 }
 
 /// Appends the line of a talk.
-fn push_talk(out: &mut String, talk: u32, tally: Tally) -> Result<(), AllocError>
-    ensures { OnOk result (string_bytes out.new ≡ string_bytes out.old ++ talk_line (talk, tally)) }
+fn push_talk(out: &mut Vec<u8>, talk: u32, tally: Tally) -> Result<(), AllocError>
+    ensures { OnOk result (out.new.items ≡ out.old.items ++ talk_line (talk, tally)) }
 {
-    begin_line(out, "talk")?;
-    push_ends(out, talk)?;
-    push_tally(out, tally)?;
-    end_line(out)
+    let mut line = Line::new();
+    begin_line(&mut line, "talk");
+    put_ends(&mut line, talk);
+    put_tally(&mut line, tally);
+    end_line(&mut line);
+    push_line(out, &line)
 }

@@ -9,22 +9,12 @@ ghost use Rattle.csp_tap.specs.Text.{tap_text};
 use crate::tap::Tap;
 use std::alloc::{AllocError, Global};
 
-/// Feeds a whole stream to a tap that was fed nothing.
-fn feed(tap: &mut Tap, stream: &[u8]) -> Result<(), AllocError>
-    ensures { OnOk result ((cover : Bool) → HasFed cover [] tap.old → HasFed cover stream.now tap.new) }
-{
-    for byte in stream {
-        tap.byte(*byte)?;
-    }
-    Ok(())
-}
-
 /// The text of a stream of frames whose CRC covers the header or not.
 pub fn tapped(alloc: Global, cover: bool, stream: &[u8]) -> Result<Vec<u8>, AllocError>
     ensures { IfOk result (λ text. text.items ≡ tap_text (events cover MAX_PAYLOAD stream.now)) }
 {
     let mut tap = Tap::open(alloc, cover)?;
-    match feed(&mut tap, stream) {
+    match tap.bytes(stream) {
         Ok(()) => tap.finish(),
         Err(error) => {
             tap.end();
