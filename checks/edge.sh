@@ -93,6 +93,14 @@ compare 'gen 20' 0
 got=$?
 grep -qx 'took 500' "$work/out" || echo 'took 500 is wanted' > "$work/said"
 compare 'gen 500, a second time' 0
+# Its 25 faults show in the rounds: one for each 20 packets, from frame 10 on, 10 to 29 frames apart.
+printf '%s\n' 'csp-gen 500' 'end finished 3965' \
+  'node ground 1 buffers 32 free 31 inbox 0 lane 0 router 1 iface 0 app 0' \
+  'node relay 2 buffers 32 free 32 inbox 0 lane 0 router 0 iface 0 app 0' \
+  'node payload 3 buffers 32 free 32 inbox 0 lane 0 router 0 iface 0 app 0' \
+  'took 500' 'stale 0' 'passed 0' > "$work/wanted_out"
+cp "$work/nothing" "$work/wanted_said"
+compare 'gen 500' 0
 
 # 0: runs in threads. A scenario of one application has one report, by however many workers; the mission ends with each
 # buffer in one place, all taken, and both counts 0, in whatever order the threads took their turns.
@@ -131,6 +139,20 @@ printf '%s\n' 'csp-tap 1' 'badcrc 1 7d49d479 272bfd9c' 'end 1' > "$work/wanted_o
 "$program" tap --header < "$work/capture" > "$work/out" 2> "$work/said"
 got=$?
 compare 'a captured frame, by a covered header' 0
+# The greatest address and port of both ends, whose talk is one for all priorities; 2,042 bytes of payload, and one more.
+{
+  printf '\xc0\x00\xff\xff\xff\x00\x00\x00\x00\x00\xc0\x00\x3f\xff\xff\x00\x00\x00\x00\x00\xc0\x00'
+  head -c 2050 /dev/zero
+  printf '\xc0\x00'
+  head -c 2051 /dev/zero
+  printf '\xc0'
+} > "$work/capture"
+printf '%s\n' 'csp-tap 1' 'packet 1 ffffff00 pri 3 src 31 dst 31 dport 63 sport 63 flags 00 len 0 -' \
+  'packet 2 3fffff00 pri 0 src 31 dst 31 dport 63 sport 63 flags 00 len 0 -' 'badcrc 3 00000000 86dde189' 'toolong 4' \
+  'talk 31 31 63 63 packets 2 bytes 0' 'end 4' > "$work/wanted_out"
+"$program" tap < "$work/capture" > "$work/out" 2> "$work/said"
+got=$?
+compare 'a capture at the ends of its ranges' 0
 printf 'csp-tap 1\nend 0\n' > "$work/wanted_out"
 "$program" tap < "$work/nothing" > "$work/out" 2> "$work/said"
 got=$?

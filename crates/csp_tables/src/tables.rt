@@ -4,6 +4,7 @@ mod buffer;
 mod can;
 mod command;
 mod crc;
+mod generated;
 mod header;
 mod kiss;
 mod machine;
@@ -57,8 +58,10 @@ fn answer_of_part(alloc: Global, who: &str, what: &str) -> Result<String, CaseEr
         "machine" => machine::answer(alloc, what),
         "stale" => record::stale(alloc, what),
         "passed" => record::passed(alloc, what),
+        "weight" => record::weight(alloc, what),
         "scene" => scene::answer(alloc, what),
         "command" => command::answer(alloc, what),
+        "gen" => generated::answer(alloc, what),
         _ => Err(CaseError::Unread),
     }
 }

@@ -1,5 +1,5 @@
-//! How many stale copies a record tells of, and how many packets passed a link changed: `stale EVENT; EVENT ..` and
-//! `passed DEED; DEED ..`.
+//! How many stale copies a record tells of, how many packets passed a link changed, and what the entries of a log weigh:
+//! `stale EVENT; EVENT ..`, `passed DEED; DEED ..` and `weight DEED; DEED ..`.
 //!
 //! An event is `PEER TAG CUR UNA`, where a packet with this tag is handed to a connection with this peer. A peer is
 //! `NODE.NUMBER`, a tag `NODE.NUMBER.INDEX.ACK`, or `-` for none.
@@ -122,6 +122,16 @@ pub(super) fn passed(alloc: Global, what: &str) -> Result<String, CaseError> {
     }
     let count = csp_record::passed(alloc, &record(alloc, parties))?;
     counted(alloc, count)
+}
+
+/// What the entries of these deeds weigh together, in one log.
+pub(super) fn weight(alloc: Global, what: &str) -> Result<String, CaseError> {
+    let mut supply = Supply::open(alloc)?;
+    let mut log = Log::new(alloc);
+    for deed in what.split(";") {
+        note(alloc, &mut log, &mut supply, &Words::of(alloc, deed)?)?;
+    }
+    counted(alloc, log.weight())
 }
 
 /// Notes a deed.
