@@ -15,6 +15,7 @@ mod record;
 mod route;
 mod scene;
 mod service;
+mod sfp;
 mod text;
 mod window;
 
@@ -44,6 +45,7 @@ fn answer_of_format(alloc: Global, who: &str, what: &str) -> Result<String, Case
         "route" => route::answer(alloc, what),
         "cmp" => service::request(alloc, what),
         "rdp" => rdp::answer(alloc, what),
+        "sfp" => sfp::answer(alloc, what),
         _ => answer_of_part(alloc, who, what),
     }
 }
