@@ -16,11 +16,12 @@ pub record Gathering : Type 0 where
 abbrev pub nothing : Gathering
 nothing = record { total = None; bytes = [] }
 
--- what was gathered of the blob under way
+-- bytes are of a blob under way where it has a length; else none are
 abbrev pub begun : Option ℕ → List ℕ → List ℕ
 begun None bytes = []
 begun (Some total) bytes = bytes
 
+-- what was gathered of the blob under way
 abbrev pub gathered : Gathering → List ℕ
 gathered g = begun g.total g.bytes
 
