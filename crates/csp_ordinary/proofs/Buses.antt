@@ -29,7 +29,7 @@ use Rattle.csp_record.specs.Transmissions.{transmission}
 use Rattle.csp_consistent.proofs.Heard.{IsHeardSo, IsListeningSo, read_by, read_from, reassembled_so}
 use Rattle.csp_ordinary.proofs.AsSent.{IsAsSent}
 use Rattle.csp_ordinary.proofs.Fragments.{IsPieceBy}
-use Rattle.csp_ordinary.proofs.Words.{some_same}
+use Rattle.csp_ordinary.proofs.Headers.{some_same}
 
 -- a number on the bus is that of a transmission of this header and payload, which began before the numbers came round
 pub record HasNumber (r : PlainRecord) (node number id header : ℕ) (payload : List ℕ) : Type 0 where

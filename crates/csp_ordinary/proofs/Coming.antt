@@ -38,7 +38,7 @@ use Rattle.csp_ordinary.proofs.AsSent.{IsAsSent}
 use Rattle.csp_ordinary.proofs.Buses.{HasNumber, IsCanOf, IsPieceSent}
 use Rattle.csp_ordinary.proofs.Fragments.{IsPiece, few_frames, piece_at, piece_read}
 use Rattle.csp_ordinary.proofs.Streams.{IsFlippedIn, IsKissOf}
-use Rattle.csp_ordinary.proofs.Words.{word_of}
+use Rattle.csp_ordinary.proofs.Headers.{word_of}
 
 -- a frame that came from this end, by the kind of the link
 abbrev pub IsComeFrom : PlainRecord → ℕ → ℕ → ℕ → LinkKind → Frame → Type 0

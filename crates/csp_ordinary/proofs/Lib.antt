@@ -7,4 +7,4 @@ pub mod Nothing
 pub mod Serials
 pub mod Streams
 pub mod Unflipped
-pub mod Words
+pub mod Headers

@@ -1,5 +1,5 @@
 -- In an ordinary run each packet that an interface handed to its inbox is as it was sent, and so none is counted as changed.
-use Rattle.std.proofs.Common.{◌≡◌, ◌⊎◌, inl, inr, ℕ, ◌+◌, ◌<◌, ◌≤◌, false, Option, None, Some, List, [], ◌∷◌, length, filter_map, slice_get, unwrap_or, refl, sym, ap, ◌∙◌, subst, arith}
+use Rattle.std.proofs.Common.{◌≡◌, ◌⊎◌, inl, inr, ℕ, ◌+◌, ◌<◌, ◌≤◌, true, false, Option, None, Some, List, [], ◌∷◌, length, filter_map, slice_get, unwrap_or, refl, sym, ap, ◌∙◌, subst, arith}
 use Rattle.std.specs.List.{AllByRecursion}
 use Rattle.csp_base.specs.declared.limits.TheConstants.{MAX_PAYLOAD}
 use Rattle.csp_buffer.specs.Content.{Content}
@@ -45,7 +45,7 @@ use Rattle.csp_ordinary.proofs.Buses.{IsCanOf, bus_hears, bus_rests, IsPartSent}
 use Rattle.csp_ordinary.proofs.Coming.{IsComeFrom, comes}
 use Rattle.csp_ordinary.proofs.Counting.{IsPacketWith, counts_none}
 use Rattle.csp_ordinary.proofs.Serials.{serial_below}
-use Rattle.csp_ordinary.proofs.Words.{none_some}
+use Rattle.csp_ordinary.proofs.Headers.{none_some}
 use Rattle.csp_ordinary.proofs.Streams.{IsKissOf, IsStreamSo, stream_hears, stream_rests}
 use Rattle.csp_consistent.proofs.Heard.{IsListeningSo}
 

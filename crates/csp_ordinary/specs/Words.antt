@@ -4,7 +4,7 @@ use Rattle.std.specs.List.{AllByRecursion, filter_map}
 use Rattle.csp_buffer.specs.Content.{Content}
 use Rattle.csp_log.specs.Moving.{moved_in}
 use Rattle.csp_log.specs.declared.entry.Entry.{Entry}
-use Rattle.csp_record.specs.Record.{PlainRecord}
+use Rattle.csp_record.specs.Record.{PlainPartyLog, PlainRecord}
 use Rattle.csp_record.specs.Transmissions.{fetched}
 
 -- the header of a packet is a word of 32 bits, as the field is of which it is read
@@ -15,6 +15,10 @@ IsWord b = b.header < 2 ^ 32
 abbrev pub all_fetched : List Entry → List Content
 all_fetched es = filter_map (λ e. fetched (moved_in e)) es
 
+-- so it is for each packet that a party fetched
+abbrev pub FetchesWords : PlainPartyLog → Type 0
+FetchesWords party = AllByRecursion IsWord (all_fetched party.entries)
+
 -- the header of each packet that a record shows to be fetched from an `Out` is a word of 32 bits
 abbrev pub HasWords : PlainRecord → Type 0
-HasWords r = AllByRecursion (λ party. AllByRecursion IsWord (all_fetched party.entries)) r.parties
+HasWords r = AllByRecursion FetchesWords r.parties

@@ -5,7 +5,7 @@ use Rattle.csp_log.specs.declared.entry.Entry.{Entry}
 use Rattle.csp_ordinary.specs.Words.{IsWord}
 use Rattle.csp_record.proofs.Passing.{chosen-over}
 use Rattle.csp_record.specs.Transmissions.{fetched}
-use Rattle.csp_ordinary.proofs.Words.{all_next, fetched_nothing}
+use Rattle.csp_ordinary.proofs.Headers.{all_next, fetched_nothing}
 use Rattle.csp_ordinary.proofs.words.hold_all.Goals as goal
 
 pub loop-index-init : goal.loop-index-init
