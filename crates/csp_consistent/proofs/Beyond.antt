@@ -8,7 +8,13 @@ use Rattle.csp_iface.specs.PlainIface.{opening}
 use Rattle.csp_iface.specs.Receiving.{arrived}
 use Rattle.csp_iface.specs.Sending.{sent_trace}
 use Rattle.csp_log.specs.Kinds.{carried_on}
+use Rattle.csp_link.specs.Applied.{frames_popped}
+use Rattle.csp_link.specs.Copies.{damaged}
+use Rattle.csp_link.specs.Fates.{fate_of}
+use Rattle.csp_link.specs.Ways as ways
+use Rattle.csp_link.specs.declared.way.Way.{Way}
 use Rattle.csp_link.specs.declared.way.Way.TheVariants.{Forth, Back}
+use Rattle.csp_log.specs.declared.frame.Frame.{Frame}
 use Rattle.csp_log.specs.declared.places.End.{End}
 use Rattle.csp_log.specs.declared.places.QueueId.TheVariants as queue
 use Rattle.csp_log.specs.declared.shown.ItemShown.{ItemShown}
@@ -28,15 +34,15 @@ use Rattle.csp_consistent.specs.Origins.{IsSent, HaveOrigins}
 use Rattle.csp_topology.specs.Parties.{parties_of, party_steps}
 use Rattle.csp_consistent.specs.Reading.{entries_of, is_who, puts, gets}
 use Rattle.csp_consistent.specs.Runs.{AreLogsOf}
-use Rattle.csp_consistent.proofs.Across.{AreLanes, across, link_lanes_of, through}
+use Rattle.csp_consistent.proofs.Across.{AreLanes, across_so, damaged_of, link_lanes_of, through}
 use Rattle.csp_consistent.proofs.Names.{Logged}
 use Rattle.csp_consistent.proofs.Owners.{IsIfaceAt, IsOf, IsOwner}
 use Rattle.csp_consistent.proofs.Planned.{are_planned, logged}
-use Rattle.csp_consistent.proofs.Received.{IsFrameOf, IsPacketOf, received}
+use Rattle.csp_consistent.proofs.Received.{IsFrameOf, IsPacketOf, IsSuchFrame, received}
 use Rattle.csp_consistent.proofs.Transmitted.{IsBegun, transmitted_all}
 
 -- a link that stands in a place has this end, and another
-record IsJoint (links : List PlainLink) (l : PlainLink) (end : End) : Type 0 where
+pub record IsJoint (links : List PlainLink) (l : PlainLink) (end : End) : Type 0 where
   pub number : ℕ
   pub there : slice_get links number ≡ Some l
   pub beyond : End
@@ -91,7 +97,7 @@ more_at place x b e (y ∷ earlier) =
     first false rest = rest
 
 -- the link of an interface
-joint : (nodes place : ℕ) (links earlier : List PlainLink) (j : ℕ) (l : PlainLink) → AreLinksAfter nodes earlier links → slice_get (links_at place links) j ≡ Some l → IsJoint links l (record { node = place; iface = length (links_at place earlier) + j })
+pub joint : (nodes place : ℕ) (links earlier : List PlainLink) (j : ℕ) (l : PlainLink) → AreLinksAfter nodes earlier links → slice_get (links_at place links) j ≡ Some l → IsJoint links l (record { node = place; iface = length (links_at place earlier) + j })
 joint nodes place [] earlier j l are on = absurd cc
 joint nodes place (x ∷ links) earlier j l are on =
     first (touches place x) refl j on (λ k. joint nodes place links (earlier ++ x ∷ []) k l are.1)
@@ -111,12 +117,12 @@ is_alike node number (who.Bridge _) = refl
 is_alike node number (who.App _ _) = refl
 is_alike node number (who.Link _) = refl
 
-entries_alike : (node number : ℕ) (parties : List PlainPartyLog) → iface_entries parties node number ≡ flat_map (λ party. if is_who (who.Iface node number) party.who then party.entries else []) parties
+pub entries_alike : (node number : ℕ) (parties : List PlainPartyLog) → iface_entries parties node number ≡ flat_map (λ party. if is_who (who.Iface node number) party.who then party.entries else []) parties
 entries_alike node number [] = refl
 entries_alike node number (party ∷ parties) = λ i. (if is_alike node number party.who i then party.entries else []) ++ entries_alike node number parties i
 
 -- the run of an interface, where it has entries
-iface_run : (scene : PlainScene) (r : PlainRecord) (node number : ℕ) → Logged (IsOf scene) (who.Iface node number) r.parties
+pub iface_run : (scene : PlainScene) (r : PlainRecord) (node number : ℕ) → Logged (IsOf scene) (who.Iface node number) r.parties
     → (l : PlainLink) × (slice_get (links_at node scene.links) number ≡ Some l) × IsRun party_steps 0 (an_iface (opening node number l.kind l.mtu)) (entries_of r (who.Iface node number))
 iface_run scene r node number log =
     let mine : IsIfaceAt scene.nodes scene.links node number log.opening.party = subst (λ w. IsOwner scene.nodes scene.links w log.opening.party) log.name log.holds in
@@ -136,22 +142,23 @@ sent_all scene r are node number =
         transmitted_all node number run.0.kind run.0.mtu (entries_of r (who.Iface node number)) run.2
 
 -- what came over a link in either direction
-came_over : (scene : PlainScene) (r : PlainRecord) (l : PlainLink) (end : End) (Q : Trace → Type 0) → AreLogsOf (parties_of scene) r.parties → AreInOrder scene r → (j : IsJoint scene.links l end)
-    → AllByRecursion (IsFrameOf Q) (puts (queue.Tx j.beyond.iface) (entries_of r (who.Iface j.beyond.node j.beyond.iface))) → AllByRecursion (IsFrameOf Q) (gets (queue.Rx end.iface) (entries_of r (who.Iface end.node end.iface)))
-came_over scene r l end Q are order j all =
+pub came_over : (scene : PlainScene) (r : PlainRecord) (l : PlainLink) (end : End) (Q R : Frame → Type 0) → AreLogsOf (parties_of scene) r.parties → AreInOrder scene r → (j : IsJoint scene.links l end)
+    → ((way : Way) (k : ℕ) (f : Frame) → slice_get (frames_popped way (entries_of r (who.Link j.number))) k ≡ Some f → Q f → R (damaged (fate_of (ways.number way) (k + 1) l.plan).flip f))
+    → AllByRecursion (IsSuchFrame Q) (puts (queue.Tx j.beyond.iface) (entries_of r (who.Iface j.beyond.node j.beyond.iface))) → AllByRecursion (IsSuchFrame R) (gets (queue.Rx end.iface) (entries_of r (who.Iface end.node end.iface)))
+came_over scene r l end Q R are order j each all =
     by_way j.ends
   where
-    by_way : (l.ends ≡ end ∷ j.beyond ∷ []) ⊎ (l.ends ≡ j.beyond ∷ end ∷ []) → AllByRecursion (IsFrameOf Q) (gets (queue.Rx end.iface) (entries_of r (who.Iface end.node end.iface)))
+    by_way : (l.ends ≡ end ∷ j.beyond ∷ []) ⊎ (l.ends ≡ j.beyond ∷ end ∷ []) → AllByRecursion (IsSuchFrame R) (gets (queue.Rx end.iface) (entries_of r (who.Iface end.node end.iface)))
     by_way (inl two) =
         let lanes : AreLanes r j.number (carried_on l.kind) end j.beyond = link_lanes_of scene r j.number l end j.beyond order j.there two in
-        through (IsFrameOf Q) r _ lanes.1.0
-        (across Q l.plan Back (entries_of r (who.Link j.number)) (are_planned scene r are j.number l Back j.there)
-        (through (IsFrameOf Q) r _ lanes.1.1.0 all))
+        through (IsSuchFrame R) r _ lanes.1.0
+        (across_so Q R l.plan Back (entries_of r (who.Link j.number)) (are_planned scene r are j.number l Back j.there) (each Back)
+        (through (IsSuchFrame Q) r _ lanes.1.1.0 all))
     by_way (inr two) =
         let lanes : AreLanes r j.number (carried_on l.kind) j.beyond end = link_lanes_of scene r j.number l j.beyond end order j.there two in
-        through (IsFrameOf Q) r _ lanes.1.1.1.0
-        (across Q l.plan Forth (entries_of r (who.Link j.number)) (are_planned scene r are j.number l Forth j.there)
-        (through (IsFrameOf Q) r _ lanes.0 all))
+        through (IsSuchFrame R) r _ lanes.1.1.1.0
+        (across_so Q R l.plan Forth (entries_of r (who.Link j.number)) (are_planned scene r are j.number l Forth j.there) (each Forth)
+        (through (IsSuchFrame Q) r _ lanes.0 all))
 
 -- a trace that came over has one hop more than that of a transmission
 abbrev HasCome : PlainRecord → End → Trace → Type 0
@@ -189,7 +196,8 @@ have_origins scene r after are order end =
         let first : 0 + end.iface ≡ end.iface = omega arith in
         let j : IsJoint scene.links run.0 end = subst (λ k. IsJoint scene.links run.0 (record { node = end.node; iface = k })) first (joint (length scene.nodes) end.node scene.links [] end.iface run.0 after run.1) in
         let Q : Trace → Type 0 = IsBegun j.beyond.node j.beyond.iface (entries_of r (who.Iface j.beyond.node j.beyond.iface)) in
-        let got : AllByRecursion (IsFrameOf Q) (gets (queue.Rx end.iface) (entries_of r (who.Iface end.node end.iface))) = came_over scene r run.0 end Q are order j (sent_all scene r are j.beyond.node j.beyond.iface) in
+        let got : AllByRecursion (IsFrameOf Q) (gets (queue.Rx end.iface) (entries_of r (who.Iface end.node end.iface))) = came_over scene r run.0 end (λ f. Q f.trace) (λ f. Q f.trace) are order j
+        (λ way k f there here. damaged_of Q (fate_of (ways.number way) (k + 1) run.0.plan).flip f here) (sent_all scene r are j.beyond.node j.beyond.iface) in
         AllByRecursion-map (IsPacketOf (HasCome r j.beyond)) (IsSent scene r end) (puts queue.Inbox (entries_of r (who.Iface end.node end.iface))) (is_sent scene r run.0 end j)
         (received (HasCome r j.beyond) end.node end.iface run.0.kind run.0.mtu (entries_of r (who.Iface end.node end.iface)) run.2
         (AllByRecursion-map (IsFrameOf Q) (IsFrameOf (λ t. HasCome r j.beyond (arrived t))) (gets (queue.Rx end.iface) (entries_of r (who.Iface end.node end.iface))) (hop_more r j.beyond) got))

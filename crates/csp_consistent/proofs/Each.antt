@@ -1,7 +1,7 @@
 -- What holds of each element of a list made from others.
-use Rattle.std.proofs.Common.{Bool, true, false, cond, List, [], ◌∷◌, ◌++◌, filter, drop}
+use Rattle.std.proofs.Common.{◌≡◌, ℕ, zero, suc, Bool, true, false, cond, Option, None, Some, List, [], ◌∷◌, ◌++◌, filter, filter_map, drop, slice_get, unwrap_or, refl, ap, subst}
 use Rattle.std.specs.Prelude.{if◌then◌else◌}
-use Rattle.std.specs.List.{AllByRecursion}
+use Rattle.std.specs.List.{AllByRecursion, cons_option}
 use Rattle.std.specs.List.Sorted.{IsPermutation}
 use Rattle.std.proofs.lemmas.List.Elements.{All-from_recursion, recursion_from_All}
 use Rattle.std.proofs.lemmas.List.Sorted.{All-permutation}
@@ -34,3 +34,23 @@ each_if P false x here = tt
 
 pub each_permuted : {X : Type 0} (P : X → Type 0) (xs ys : List X) → IsPermutation xs ys → AllByRecursion P xs → AllByRecursion P ys
 each_permuted P xs ys same all = recursion_from_All P ys (All-permutation P xs ys same (All-from_recursion P xs all))
+
+-- the one in a place; and what holds in each place holds of all
+pub each_at : {X : Type 0} (P : X → Type 0) (xs : List X) (k : ℕ) (x : X) → AllByRecursion P xs → slice_get xs k ≡ Some x → P x
+each_at P [] k x all e = absurd cc
+each_at P (y ∷ xs) zero x all e = subst P (ap (λ o. unwrap_or o y) e) all.0
+each_at P (y ∷ xs) (suc k) x all e = each_at P xs k x all.1 e
+
+pub each_there : {X : Type 0} (P : X → Type 0) (xs : List X) → ((k : ℕ) (x : X) → slice_get xs k ≡ Some x → P x) → AllByRecursion P xs
+each_there P [] h = tt
+each_there P (x ∷ xs) h = (h 0 x refl, each_there P xs (λ k y there. h (suc k) y there))
+
+-- the first that a function gives is one that it gives
+pub first_given : {X Y : Type 0} (R : Y → Type 0) (f : X → Option Y) (xs : List X) (y : Y) → slice_get (filter_map f xs) 0 ≡ Some y → AllByRecursion (λ x. (z : Y) → f x ≡ Some z → R z) xs → R y
+first_given R f [] y e all = absurd cc
+first_given {X} {Y} R f (x ∷ xs) y e all =
+    by (f x) refl e (λ is. first_given R f xs y is all.1)
+  where
+    by : (o : Option Y) → f x ≡ o → slice_get (cons_option o (filter_map f xs)) 0 ≡ Some y → (slice_get (filter_map f xs) 0 ≡ Some y → R y) → R y
+    by None h is rest = rest is
+    by (Some z) h is rest = subst R (ap (λ o. unwrap_or o z) is) (all.0 z h)

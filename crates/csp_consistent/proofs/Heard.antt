@@ -1,5 +1,5 @@
--- What is heard has the trace of a frame: of the one that is heard now, or of one that was kept.
-use Rattle.std.proofs.Common.{◌≡◌, ◌⊎◌, inl, inr, ℕ, ◌+◌, ◌==◌, Bool, true, false, cond, not, ◌&&◌, is_some, nat_lt, Option, Some, None, List, [], ◌∷◌, length, find, option_map, option_to_list, unwrap_or, refl, sym, subst}
+-- What is heard is of a kind, where the frame is, and what was kept before; so it has the trace of a frame: of the one that is heard now, or of one that was kept.
+use Rattle.std.proofs.Common.{◌≡◌, ◌⊎◌, inl, inr, ℕ, ◌+◌, ◌==◌, Bool, true, false, cond, not, ◌&&◌, is_some, nat_lt, Option, Some, None, List, [], ◌∷◌, length, find, option_map, option_to_list, nat_le, unwrap_or, refl, sym, ap, subst}
 use Rattle.std.specs.Prelude.{if◌then◌else◌, ⊤}
 use Rattle.std.specs.List.{AllByRecursion}
 use Rattle.csp_base.specs.declared.traces.Trace.{Trace}
@@ -14,6 +14,7 @@ use Rattle.csp_can.specs.declared.identifiers.Key.{Key}
 use Rattle.csp_can.specs.declared.identifiers.Kind.{Kind}
 use Rattle.csp_can.specs.declared.identifiers.Kind.TheVariants.{Begin, More}
 use Rattle.csp_can.specs.declared.partials.Partial.{Partial}
+use Rattle.csp_can.specs.declared.partials.TheConstants.{MAX_PARTIALS}
 use Rattle.csp_iface.specs.Receiving.{arrived, Heard, heard, heard_by, packet_of, reassembled, traced, followed, read_further}
 use Rattle.csp_iface.specs.declared.packet.Packet.{Packet}
 use Rattle.csp_iface.specs.declared.receiver.Receiver.{Receiver}
@@ -26,125 +27,151 @@ use Rattle.csp_log.specs.declared.frame.Frame.{Frame}
 use Rattle.csp_scene.proofs.Lists.{AllByRecursion-append}
 use Rattle.csp_consistent.proofs.Each.{each_filter}
 
--- a whole packet has a trace of this kind, where there is one
+-- a whole packet is of this kind by its header, payload and trace, where there is one
+abbrev pub IsWholeSo : (ℕ → List ℕ → Trace → Type 0) → Option Packet → Type 0
+IsWholeSo W None = ⊤
+IsWholeSo W (Some p) = W p.header p.payload.items p.trace
+
+-- it has a trace of this kind
 abbrev pub IsWholeOf : (Trace → Type 0) → Option Packet → Type 0
-IsWholeOf P None = ⊤
-IsWholeOf P (Some p) = P p.trace
+IsWholeOf P o = IsWholeSo (λ header payload trace. P trace) o
+
+-- what is kept of a bus: partial packets of a kind
+abbrev pub IsListeningSo : (Partial → Type 0) → Receiver → Type 0
+IsListeningSo P (by.Kiss s) = ⊥
+IsListeningSo P (by.Can l) = AllByRecursion P l.partials
 
 -- what is kept of a stream has one, unless there is nothing to read; and so has each partial packet
 abbrev pub IsKeptOf : (Trace → Type 0) → Receiver → Type 0
 IsKeptOf P (by.Kiss s) = (s.rest ≡ []) ⊎ P s.trace
 IsKeptOf P (by.Can l) = AllByRecursion (λ p. P p.trace) l.partials
 
+-- what is heard: of this kind is what is kept from then on, and of that a whole packet
+abbrev pub IsHeardSo : (ℕ → List ℕ → Trace → Type 0) → (Receiver → Type 0) → Heard → Type 0
+IsHeardSo W K h = K h.receiver × IsWholeSo W h.whole
+
 abbrev pub IsHeardOf : (Trace → Type 0) → Heard → Type 0
-IsHeardOf P h = IsKeptOf P h.receiver × IsWholeOf P h.whole
+IsHeardOf P h = IsHeardSo (λ header payload trace. P trace) (IsKeptOf P) h
+
+-- a ruling's packet, if one is whole, is of this kind
+abbrev IsEventSo : (ℕ → List ℕ → Trace → Type 0) → CanEvent → Type 0
+IsEventSo W (can.Whole header payload trace) = W header payload.items trace
+IsEventSo W can.Part = ⊤
+IsEventSo W can.NoBegin = ⊤
+IsEventSo W can.ShortBegin = ⊤
+IsEventSo W can.BadRemain = ⊤
+IsEventSo W can.TooMuch = ⊤
+IsEventSo W can.TooLong = ⊤
+IsEventSo W can.NoRoom = ⊤
+
+whole_so : (W : ℕ → List ℕ → Trace → Type 0) (e : CanEvent) → IsEventSo W e → IsWholeSo W (packet_of e)
+whole_so W (can.Whole _ _ _) one = one
+whole_so W can.Part one = tt
+whole_so W can.NoBegin one = tt
+whole_so W can.ShortBegin one = tt
+whole_so W can.BadRemain one = tt
+whole_so W can.TooMuch one = tt
+whole_so W can.TooLong one = tt
+whole_so W can.NoRoom one = tt
 
 -- partial packets
-abbrev IsPartialOf : (Trace → Type 0) → Option Partial → Type 0
-IsPartialOf P None = ⊤
-IsPartialOf P (Some p) = P p.trace
-
-abbrev IsEventOf : (Trace → Type 0) → CanEvent → Type 0
-IsEventOf P (can.Whole _ _ trace) = P trace
-IsEventOf P can.Part = ⊤
-IsEventOf P can.NoBegin = ⊤
-IsEventOf P can.ShortBegin = ⊤
-IsEventOf P can.BadRemain = ⊤
-IsEventOf P can.TooMuch = ⊤
-IsEventOf P can.TooLong = ⊤
-IsEventOf P can.NoRoom = ⊤
-
-abbrev IsRulingOf : (Trace → Type 0) → Ruling → Type 0
-IsRulingOf P r = IsEventOf P r.event
-
-found_of : (P : Trace → Type 0) (test : Partial → Bool) (ps : List Partial) → AllByRecursion (λ p. P p.trace) ps → IsPartialOf P (find test ps)
-found_of P test [] all = tt
-found_of P test (p ∷ ps) all =
-    first (test p) (found_of P test ps all.1)
+found_so : (P : Partial → Type 0) (test : Partial → Bool) (ps : List Partial) (p : Partial) → AllByRecursion P ps → find test ps ≡ Some p → P p × (test p ≡ true)
+found_so P test [] p all e = absurd cc
+found_so P test (q ∷ ps) p all e =
+    first (test q) refl e (found_so P test ps p all.1)
   where
-    first : (b : Bool) → IsPartialOf P (find test ps) → IsPartialOf P (cond b (Some p) (find test ps))
-    first true rest = all.0
-    first false rest = rest
+    first : (b : Bool) → test q ≡ b → cond b (Some q) (find test ps) ≡ Some p → (find test ps ≡ Some p → P p × (test p ≡ true)) → P p × (test p ≡ true)
+    first true is f rest = let same : q ≡ p = ap (λ o. unwrap_or o q) f in (subst P same all.0, subst (λ x. test x ≡ true) same is)
+    first false is f rest = rest f
 
-without_of : (P : Trace → Type 0) (test : Partial → Bool) (ps : List Partial) → AllByRecursion (λ p. P p.trace) ps → AllByRecursion (λ p. P p.trace) (remove_first test ps)
-without_of P test [] all = tt
-without_of P test (p ∷ ps) all =
-    first (test p) (without_of P test ps all.1)
+without_so : (P : Partial → Type 0) (test : Partial → Bool) (ps : List Partial) → AllByRecursion P ps → AllByRecursion P (remove_first test ps)
+without_so P test [] all = tt
+without_so P test (p ∷ ps) all =
+    first (test p) (without_so P test ps all.1)
   where
-    first : (b : Bool) → AllByRecursion (λ p. P p.trace) (remove_first test ps) → AllByRecursion (λ p. P p.trace) (if b then ps else p ∷ remove_first test ps)
+    first : (b : Bool) → AllByRecursion P (remove_first test ps) → AllByRecursion P (if b then ps else p ∷ remove_first test ps)
     first true rest = all.1
     first false rest = (all.0, rest)
 
-grown_of : (P : Trace → Type 0) (a : Arrival) (o : Option Partial) → IsPartialOf P o → AllByRecursion (λ p. P p.trace) (option_to_list (option_map (λ k. grown_partial k a) o))
-grown_of P a None one = tt
-grown_of P a (Some p) one = (one, tt)
+-- where what a frame opens, and what it goes on with, is of a kind, and a partial packet of that kind that has its length is a packet of a kind
+module _ (W : ℕ → List ℕ → Trace → Type 0) (P : Partial → Type 0) (A : Arrival → Type 0)
+    (opened : (a : Arrival) → A a → a.frame.head.kind ≡ Begin → P (opened_partial a))
+    (grown : (p : Partial) (a : Arrival) → P p → A a → a.frame.head.kind ≡ More → same_key p.key (key_of a.frame.head) ≡ true → (a.frame.head.remain + 1 == p.remain) ≡ true → P (grown_partial p a))
+    (whole : (p : Partial) → P p → (length p.payload.items == p.length) ≡ true → W p.header p.payload.items p.trace) where
+  -- a ruling on a frame where these stand: its packet, and what stands after it
+  abbrev IsRuledSo : Arrival → List Partial → Ruling → Type 0
+  IsRuledSo a left r = IsEventSo W r.event × AllByRecursion P (done counters r.deed (key_of a.frame.head) (opened_partial a) (gone_on counters left a) left)
 
-done_of : (P : Trace → Type 0) (deed : Deed) (key : Key) (one : Partial) (grown ps : List Partial) → P one.trace → AllByRecursion (λ p. P p.trace) grown → AllByRecursion (λ p. P p.trace) ps
-    → AllByRecursion (λ p. P p.trace) (done counters deed key one grown ps)
-done_of P leaves key one grown ps here more all = all
-done_of P ends key one grown ps here more all = without_of P (λ k. same_key k.key key) ps all
-done_of P opens key one grown ps here more all = AllByRecursion-append (λ (p : Partial). P p.trace) (without counters key ps) (one ∷ []) (without_of P (λ k. same_key k.key key) ps all) (here, tt)
-done_of P goes_on key one grown ps here more all = AllByRecursion-append (λ (p : Partial). P p.trace) (without counters key ps) grown (without_of P (λ k. same_key k.key key) ps all) more
+  measured_so : (a : Arrival) (left : List Partial) (restarted : Bool) (p : Partial) (part : Deed) → P p → AllByRecursion P left
+      → AllByRecursion P (done counters part (key_of a.frame.head) (opened_partial a) (gone_on counters left a) left) → IsRuledSo a left (measured restarted p part)
+  measured_so a left restarted p part here all after =
+      chosen (nat_lt p.length (length p.payload.items)) (length p.payload.items == p.length) refl
+    where
+      ended : AllByRecursion P (without counters (key_of a.frame.head) left)
+      ended = without_so P (λ k. same_key k.key (key_of a.frame.head)) left all
 
-measured_of : (P : Trace → Type 0) (restarted : Bool) (p : Partial) (part : Deed) → P p.trace → IsEventOf P (measured restarted p part).event
-measured_of P restarted p part here =
-    chosen (nat_lt p.length (length p.payload.items)) (length p.payload.items == p.length)
-  where
-    chosen : (long just : Bool) → IsRulingOf P (if long then record { restarted = restarted; event = can.TooMuch; deed = ends }
-        else (if just then record { restarted = restarted; event = can.Whole p.header p.payload p.trace; deed = ends }
-        else record { restarted = restarted; event = can.Part; deed = part }))
-    chosen true just = tt
-    chosen false true = here
-    chosen false false = tt
+      chosen : (long just : Bool) → (length p.payload.items == p.length) ≡ just → IsRuledSo a left (if long then record { restarted = restarted; event = can.TooMuch; deed = ends }
+          else (if just then record { restarted = restarted; event = can.Whole p.header p.payload p.trace; deed = ends }
+          else record { restarted = restarted; event = can.Part; deed = part }))
+      chosen true just e = (tt, ended)
+      chosen false true e = (whole p here e, ended)
+      chosen false false e = (tt, after)
 
-begun_of : (P : Trace → Type 0) (mtu : ℕ) (stood full : Bool) (a : Arrival) → P a.trace → IsEventOf P (begin_ruling mtu stood full a).event
-begun_of P mtu stood full a here =
-    chosen (nat_lt (length a.frame.bytes) 6) (nat_lt mtu (begin_length a.frame.bytes)) (not stood && full)
-  where
-    chosen : (short long none : Bool) → IsRulingOf P (if short then refused can.ShortBegin leaves
-        else (if long then refused can.TooLong leaves
-        else (if none then refused can.NoRoom leaves else measured stood (opened_partial a) opens)))
-    chosen true long none = tt
-    chosen false true none = tt
-    chosen false false true = tt
-    chosen false false false = measured_of P stood (opened_partial a) opens here
+  begun_so : (mtu : ℕ) (stood full : Bool) (a : Arrival) (left : List Partial) → A a → a.frame.head.kind ≡ Begin → AllByRecursion P left → IsRuledSo a left (begin_ruling mtu stood full a)
+  begun_so mtu stood full a left here begins all =
+      chosen (nat_lt (length a.frame.bytes) 6) (nat_lt mtu (begin_length a.frame.bytes)) (not stood && full)
+    where
+      one : P (opened_partial a)
+      one = opened a here begins
 
-more_of : (P : Trace → Type 0) (o : Option Partial) (a : Arrival) → IsPartialOf P o → IsEventOf P (more_ruling o a).event
-more_of P None a one = tt
-more_of P (Some p) a one =
-    chosen (a.frame.head.remain + 1 == p.remain)
-  where
-    chosen : (b : Bool) → IsRulingOf P (if b then measured false (grown_partial p a) goes_on else refused can.BadRemain ends)
-    chosen true = measured_of P false (grown_partial p a) goes_on one
-    chosen false = tt
+      chosen : (short long none : Bool) → IsRuledSo a left (if short then refused can.ShortBegin leaves
+          else (if long then refused can.TooLong leaves
+          else (if none then refused can.NoRoom leaves else measured stood (opened_partial a) opens)))
+      chosen true long none = (tt, all)
+      chosen false true none = (tt, all)
+      chosen false false true = (tt, all)
+      chosen false false false =
+          measured_so a left stood (opened_partial a) opens one all
+          (AllByRecursion-append P (without counters (key_of a.frame.head) left) (opened_partial a ∷ []) (without_so P (λ k. same_key k.key (key_of a.frame.head)) left all) (one, tt))
 
-ruling_is_of : (P : Trace → Type 0) (mtu : ℕ) (kind : Kind) (o : Option Partial) (full : Bool) (a : Arrival) → IsPartialOf P o → P a.trace → IsEventOf P (ruling_of mtu kind o full a).event
-ruling_is_of P mtu Begin o full a one here = begun_of P mtu (is_some o) full a here
-ruling_is_of P mtu More o full a one here = more_of P o a one
+  more_so : (o : Option Partial) (a : Arrival) (left : List Partial) → A a → a.frame.head.kind ≡ More → standing counters (key_of a.frame.head) left ≡ o → AllByRecursion P left → IsRuledSo a left (more_ruling o a)
+  more_so None a left here more e all = (tt, all)
+  more_so (Some p) a left here more e all =
+      chosen (a.frame.head.remain + 1 == p.remain) refl
+    where
+      found : P p × (same_key p.key (key_of a.frame.head) ≡ true)
+      found = found_so P (λ k. same_key k.key (key_of a.frame.head)) left p all e
 
-shown_of : (P : Trace → Type 0) (o : Option Partial) → IsPartialOf P o → IsPartialOf P (option_map (λ k. k) o)
-shown_of P None one = tt
-shown_of P (Some p) one = one
+      ended : AllByRecursion P (without counters (key_of a.frame.head) left)
+      ended = without_so P (λ k. same_key k.key (key_of a.frame.head)) left all
 
-whole_of : (P : Trace → Type 0) (e : CanEvent) → IsEventOf P e → IsWholeOf P (packet_of e)
-whole_of P (can.Whole _ _ _) one = one
-whole_of P can.Part one = tt
-whole_of P can.NoBegin one = tt
-whole_of P can.ShortBegin one = tt
-whole_of P can.BadRemain one = tt
-whole_of P can.TooMuch one = tt
-whole_of P can.TooLong one = tt
-whole_of P can.NoRoom one = tt
+      chosen : (b : Bool) → (a.frame.head.remain + 1 == p.remain) ≡ b → IsRuledSo a left (if b then measured false (grown_partial p a) goes_on else refused can.BadRemain ends)
+      chosen true is =
+          let one : P (grown_partial p a) = grown p a found.0 here more found.1 is in
+          let went : option_to_list (option_map (λ k. grown_partial k a) (standing counters (key_of a.frame.head) left)) ≡ grown_partial p a ∷ [] = ap (λ x. option_to_list (option_map (λ k. grown_partial k a) x)) e in
+          measured_so a left false (grown_partial p a) goes_on one all
+          (AllByRecursion-append P (without counters (key_of a.frame.head) left) (gone_on counters left a) ended (subst (AllByRecursion P) (sym went) (one, tt)))
+      chosen false is = (tt, ended)
 
--- a frame of a CAN bus
-pub reassembled_of : (P : Trace → Type 0) (l : Listening) (a : Arrival) → AllByRecursion (λ p. P p.trace) l.partials → P a.trace → IsHeardOf P (reassembled l a)
+  ruled_so : (mtu : ℕ) (kind : Kind) (full : Bool) (a : Arrival) (left : List Partial) → a.frame.head.kind ≡ kind → A a → AllByRecursion P left
+      → IsRuledSo a left (ruling_of mtu kind (option_map (λ k. k) (standing counters (key_of a.frame.head) left)) full a)
+  ruled_so mtu Begin full a left e here all = begun_so mtu (is_some (option_map (λ k. k) (standing counters (key_of a.frame.head) left))) full a left here e all
+  ruled_so mtu More full a left e here all = more_so (option_map (λ k. k) (standing counters (key_of a.frame.head) left)) a left here e (same (standing counters (key_of a.frame.head) left)) all
+    where
+      same : (o : Option Partial) → o ≡ option_map (λ k. k) o
+      same None = refl
+      same (Some p) = refl
+
+  -- a frame of a CAN bus
+  pub reassembled_so : (l : Listening) (a : Arrival) → AllByRecursion P l.partials → A a → IsHeardSo W (λ r. IsListeningSo P r) (reassembled l a)
+  reassembled_so l a all here =
+      let left : List Partial = fresh counters a.time l.partials in
+      let ruled : IsRuledSo a left (ruling counters l.mtu left a) = ruled_so l.mtu a.frame.head.kind (nat_le MAX_PARTIALS (length left)) a left refl here (each_filter P _ l.partials all) in
+      (ruled.1, whole_so W (ruling counters l.mtu left a).event ruled.0)
+
+reassembled_of : (P : Trace → Type 0) (l : Listening) (a : Arrival) → AllByRecursion (λ p. P p.trace) l.partials → P a.trace → IsHeardOf P (reassembled l a)
 reassembled_of P l a all here =
-    let left : List Partial = fresh counters a.time l.partials in
-    let still : AllByRecursion (λ (p : Partial). P p.trace) left = each_filter (λ (p : Partial). P p.trace) _ l.partials all in
-    let one : IsPartialOf P (standing counters (key_of a.frame.head) left) = found_of P (λ k. same_key k.key (key_of a.frame.head)) left still in (
-      done_of P (ruling counters l.mtu left a).deed (key_of a.frame.head) (opened_partial a) (gone_on counters left a) left here (grown_of P a (standing counters (key_of a.frame.head) left) one) still,
-      whole_of P (ruling counters l.mtu left a).event (ruling_is_of P l.mtu a.frame.head.kind (option_map (λ k. k) (standing counters (key_of a.frame.head) left)) _ a (shown_of P (standing counters (key_of a.frame.head) left) one) here),
-    )
+    reassembled_so (λ header payload trace. P trace) (λ p. P p.trace) (λ b. P b.trace) (λ b h e. h) (λ p b h came e key next. h) (λ p h e. h) l a all here
 
 -- any frame
 pub heard_of : (P : Trace → Type 0) (now : ℕ) (r : Receiver) (f : Frame) → IsKeptOf P r → P (arrived f.trace) → IsHeardOf P (heard now r f)
@@ -172,3 +199,22 @@ pub further_of : (P : Trace → Type 0) (r : Receiver) → IsKeptOf P r → IsHe
 further_of P (by.Kiss s) (inl none) = subst (λ rest. IsHeardOf P (followed s.trace (read_on s.reading rest))) (sym none) (silent_of P s.trace s.reading)
 further_of P (by.Kiss s) (inr here) = (inr here, traced_of P s.trace (read_on s.reading s.rest).packet here)
 further_of P (by.Can l) all = (all, tt)
+
+-- what was heard, and read on where no packet is whole
+abbrev pub read_by : Bool → Heard → Heard
+read_by true h = record { receiver = h.receiver; whole = h.whole; refused = 0 }
+read_by false h = read_further h.receiver
+
+abbrev pub read_from : Heard → Heard
+read_from h = read_by (is_some h.whole) h
+
+pub read_of : (P : Trace → Type 0) (now : ℕ) (r : Receiver) (f : Frame) → IsKeptOf P r → P (arrived f.trace) → IsHeardOf P (read_from (heard now r f))
+read_of P now r f kept here =
+    chosen (is_some (heard now r f).whole)
+  where
+    new : IsHeardOf P (heard now r f)
+    new = heard_of P now r f kept here
+
+    chosen : (b : Bool) → IsHeardOf P (read_by b (heard now r f))
+    chosen true = new
+    chosen false = further_of P (heard now r f).receiver new.0

@@ -1,5 +1,5 @@
--- What an interface hands to its inbox has the trace of a frame that it popped, with one hop more.
-use Rattle.std.proofs.Common.{◌≡◌, inl, ℕ, ◌==◌, Bool, true, false, Option, Some, None, List, [], ◌∷◌, slice_get, refl, sym, subst}
+-- What an interface hands to its inbox is as what was whole when it heard its frames: it has the trace of a frame that it popped, with one hop more.
+use Rattle.std.proofs.Common.{◌≡◌, inl, ℕ, ◌==◌, ◌||◌, Bool, true, false, is_some, Option, Some, None, List, [], ◌∷◌, slice_get, refl, sym, ap, subst}
 use Rattle.std.specs.Prelude.{if◌then◌else◌, ⊤}
 use Rattle.std.specs.List.{AllByRecursion}
 use Rattle.std.proofs.lemmas.Bool.{eq-eqb}
@@ -10,13 +10,14 @@ use Rattle.csp_iface.specs.Asking.{asks, asked, op_of, handed, given, delivered,
 use Rattle.csp_iface.specs.PlainIface.{PlainIface, opening}
 use Rattle.csp_iface.specs.Links.{receiver_for}
 use Rattle.csp_iface.specs.Planning.{plan_of, first_rule, side_plan}
-use Rattle.csp_iface.specs.Receiving.{arrived, heard, read_further}
+use Rattle.csp_iface.specs.Receiving.{Heard, arrived, heard, read_further}
 use Rattle.csp_iface.specs.Telling.{told_by, fetched, caught, pushed, kept, filled, going_on, has_packet, is_too_big, read_after, taken_up, tells, resting}
 use Rattle.csp_iface.specs.declared.packet.Packet.{Packet}
 use Rattle.csp_iface.specs.declared.plan.Plan.{Plan}
 use Rattle.csp_iface.specs.declared.plan.Plan.TheVariants as plan
 use Rattle.csp_iface.specs.declared.plan.Side.{Side}
 use Rattle.csp_iface.specs.declared.plan.Side.TheVariants as side
+use Rattle.csp_iface.specs.declared.receiver.Receiver.{Receiver}
 use Rattle.csp_log.specs.declared.entry.Entry.{Entry}
 use Rattle.csp_log.specs.declared.frame.Frame.{Frame}
 use Rattle.csp_log.specs.declared.places.LinkKind.{LinkKind}
@@ -31,26 +32,30 @@ use Rattle.csp_scene.proofs.Lists.{AllByRecursion-append}
 use Rattle.csp_topology.specs.Parties.{party_steps}
 use Rattle.csp_consistent.specs.Reading.{put_by, got_by, puts, gets}
 use Rattle.csp_consistent.proofs.Each.{each_first, each_last}
-use Rattle.csp_consistent.proofs.Heard.{IsWholeOf, IsKeptOf, IsHeardOf, heard_of, further_of}
+use Rattle.csp_consistent.proofs.Heard.{IsWholeSo, IsKeptOf, IsHeardSo, read_by, read_from, read_of, further_of}
 
--- a frame with a trace of this kind, if it is one; a packet with one
+-- a frame of this kind, if it is one
+abbrev pub IsSuchFrame : (Frame → Type 0) → ItemShown → Type 0
+IsSuchFrame G (item.Frame f) = G f
+IsSuchFrame G (item.Packet _ _) = ⊤
+IsSuchFrame G (item.Note _) = ⊤
+
+-- a frame with a trace of this kind
 abbrev pub IsFrameOf : (Trace → Type 0) → ItemShown → Type 0
-IsFrameOf P (item.Frame f) = P f.trace
-IsFrameOf P (item.Packet _ _) = ⊤
-IsFrameOf P (item.Note _) = ⊤
+IsFrameOf P i = IsSuchFrame (λ f. P f.trace) i
+
+-- a packet that is of this kind by its header, payload and trace; one with such a trace
+abbrev pub IsPacketSo : (ℕ → List ℕ → Trace → Type 0) → ItemShown → Type 0
+IsPacketSo W (item.Packet _ b) = W b.header b.payload b.trace
+IsPacketSo W (item.Frame _) = ⊥
+IsPacketSo W (item.Note _) = ⊥
 
 abbrev pub IsPacketOf : (Trace → Type 0) → ItemShown → Type 0
-IsPacketOf P (item.Packet _ b) = P b.trace
-IsPacketOf P (item.Frame _) = ⊥
-IsPacketOf P (item.Note _) = ⊥
+IsPacketOf P i = IsPacketSo (λ header payload trace. P trace) i
 
-abbrev IsAcceptedOf : (Trace → Type 0) → Option Content → Type 0
-IsAcceptedOf P None = ⊤
-IsAcceptedOf P (Some b) = P b.trace
-
--- what an interface has in hand has such traces
-abbrev IsHolding : (Trace → Type 0) → PlainIface → Type 0
-IsHolding P s = IsWholeOf P s.whole × IsAcceptedOf P s.accepted × IsKeptOf P s.receiver
+abbrev IsAcceptedSo : (ℕ → List ℕ → Trace → Type 0) → Option Content → Type 0
+IsAcceptedSo W None = ⊤
+IsAcceptedSo W (Some b) = W b.header b.payload b.trace
 
 -- the interface between its operation and the answer, and after the answer, before it reads on
 abbrev pub waiting : PlainIface → Plan → PlainIface
@@ -58,6 +63,10 @@ waiting s p = resting (record (handed s p) { doing = p })
 
 abbrev pub told : PlainIface → ℕ → Plan → AnswerShown → PlainIface
 told s now p a = (told_by (waiting s p) now p a).iface
+
+-- and once it has read on
+abbrev read_on_in : PlainIface → PlainIface
+read_on_in s = record s { receiver = (read_after s).receiver; whole = (read_after s).whole }
 
 -- a whole packet is there when a buffer is taken
 taking : (back accepted : Option Content) (whole : Option Packet) (own : Plan) → (own ≡ plan.Take → ⊥) → first_rule back accepted whole own ≡ plan.Take → (p : Packet) × (whole ≡ Some p)
@@ -71,43 +80,11 @@ never_taking side.Sending [] e = cc
 never_taking side.Sending (_ ∷ _) e = cc
 never_taking side.Receiving fs e = cc
 
-handed_holding : (P : Trace → Type 0) (s : PlainIface) (p : Plan) → IsHolding P s → IsHolding P (waiting s p)
-handed_holding P s plan.Rest h = h
-handed_holding P s plan.Return h = h
-handed_holding P s plan.Deliver h = (h.0, tt, h.2)
-handed_holding P s plan.Take h = h
-handed_holding P s plan.Transmit h = h
-handed_holding P s plan.Fetch h = h
-handed_holding P s plan.Receive h = h
-
-pushed_holding : (P : Trace → Type 0) (fs : List Frame) (s : PlainIface) → IsHolding P s → IsHolding P (pushed fs s)
-pushed_holding P [] s h = h
-pushed_holding P (_ ∷ _) s h = h
-
-kept_holding : (P : Trace → Type 0) (i : ItemShown) (s : PlainIface) → IsHolding P s → IsHolding P (kept i s)
-kept_holding P (item.Frame _) s h = h
-kept_holding P (item.Packet _ _) s h = h
-kept_holding P (item.Note _) s h = h
-
-fetched_holding : (P : Trace → Type 0) (i : ItemShown) (s : PlainIface) → IsHolding P s → IsHolding P (fetched i s).iface
-fetched_holding P (item.Frame _) s h = h
-fetched_holding P (item.Packet mark b) s h = taken (is_too_big s b)
-  where
-    taken : (big : Bool) → IsHolding P (taken_up big mark b s).iface
-    taken true = h
-    taken false = h
-fetched_holding P (item.Note _) s h = h
-
-caught_holding : (P : Trace → Type 0) (now : ℕ) (i : ItemShown) (s : PlainIface) → IsHolding P s → IsFrameOf (λ t. P (arrived t)) i → IsHolding P (caught now i s).iface
-caught_holding P now (item.Frame f) s h here =
-    let new : IsHeardOf P (heard now s.receiver f) = heard_of P now s.receiver f h.2 here in
-    (new.1, h.1, new.0)
-caught_holding P now (item.Packet _ _) s h here = h
-caught_holding P now (item.Note _) s h here = h
-
-filled_of : (P : Trace → Type 0) (whole : Option Packet) (p : Packet) (b : Content) → whole ≡ Some p → IsWholeOf P whole → P (filled whole b).trace
-filled_of P None p b e h = absurd cc
-filled_of P (Some q) p b e h = h
+-- no accepted packet is there when a frame is popped
+receiving : (back accepted : Option Content) (whole : Option Packet) (own : Plan) → first_rule back accepted whole own ≡ plan.Receive → accepted ≡ None
+receiving (Some _) accepted whole own e = absurd cc
+receiving None (Some _) whole own e = absurd cc
+receiving None None whole own e = refl
 
 -- the frame that came
 came : (P : ItemShown → Type 0) (n : ℕ) (i : ItemShown) → AllByRecursion P (if n == n then i ∷ [] else []) → P i
@@ -115,129 +92,202 @@ came P n i all =
     let there : AllByRecursion P (i ∷ []) = subst (λ (b : Bool). AllByRecursion P (if b then i ∷ [] else [])) (eq-eqb n n refl) all in
     there.0
 
-told_holding : (P : Trace → Type 0) (s : PlainIface) (now : ℕ) (p : Plan) (a : AnswerShown) → (p ≡ plan.Take → (k : Packet) × (s.whole ≡ Some k)) → IsHolding P s
-    → AllByRecursion (IsFrameOf (λ t. P (arrived t))) (got_by (queue.Rx s.number) (op_of s p) a) → IsHolding P (told s now p a)
-told_holding P s now plan.Return answer.Given take h got = h
-told_holding P s now plan.Return (answer.PoolFull b) take h got = h
-told_holding P s now plan.Deliver answer.Pushed take h got = (h.0, tt, h.2)
-told_holding P s now plan.Deliver (answer.Full i) take h got = (h.0, tt, h.2)
-told_holding P s now plan.Take (answer.Taken b) take h got =
-    let one : (k : Packet) × (s.whole ≡ Some k) = take refl in
-    (tt, filled_of P s.whole one.0 b one.1 h.0, h.2)
-told_holding P s now plan.Take answer.NoBuffer take h got = (tt, h.1, h.2)
-told_holding P s now plan.Transmit answer.Pushed take h got = pushed_holding P (waiting s plan.Transmit).frames (waiting s plan.Transmit) h
-told_holding P s now plan.Transmit (answer.Full i) take h got = kept_holding P i (waiting s plan.Transmit) h
-told_holding P s now plan.Fetch (answer.Popped i) take h got = fetched_holding P i (waiting s plan.Fetch) h
-told_holding P s now plan.Fetch answer.Empty take h got = h
-told_holding P s now plan.Receive (answer.Popped i) take h got = caught_holding P now i (waiting s plan.Receive) h (came (IsFrameOf (λ t. P (arrived t))) s.number i got)
-told_holding P s now plan.Receive answer.Empty take h got = h
-told_holding P s now p a take h got = handed_holding P s p h
+-- where each frame of a kind that is heard leaves something of a kind, and a packet of a kind if one is whole with it
+module _ (W : ℕ → List ℕ → Trace → Type 0) (K : Receiver → Type 0) (G : Frame → Type 0)
+    (hears : (now : ℕ) (r : Receiver) (f : Frame) → K r → G f → IsHeardSo W K (read_from (heard now r f))) (rests : (r : Receiver) → K r → IsHeardSo W K (read_further r)) where
+  -- what an interface has in hand is so
+  abbrev IsHolding : PlainIface → Type 0
+  IsHolding s = IsWholeSo W s.whole × IsAcceptedSo W s.accepted × K s.receiver
 
--- reading on
-read_holding : (P : Trace → Type 0) (s : PlainIface) → IsHolding P s → IsHolding P (record s { receiver = (read_after s).receiver; whole = (read_after s).whole })
-read_holding P s h =
-    going (has_packet s)
+  handed_holding : (s : PlainIface) (p : Plan) → IsHolding s → IsHolding (waiting s p)
+  handed_holding s plan.Rest h = h
+  handed_holding s plan.Return h = h
+  handed_holding s plan.Deliver h = (h.0, tt, h.2)
+  handed_holding s plan.Take h = h
+  handed_holding s plan.Transmit h = h
+  handed_holding s plan.Fetch h = h
+  handed_holding s plan.Receive h = h
+
+  pushed_holding : (fs : List Frame) (s : PlainIface) → IsHolding s → IsHolding (pushed fs s)
+  pushed_holding [] s h = h
+  pushed_holding (_ ∷ _) s h = h
+
+  kept_holding : (i : ItemShown) (s : PlainIface) → IsHolding s → IsHolding (kept i s)
+  kept_holding (item.Frame _) s h = h
+  kept_holding (item.Packet _ _) s h = h
+  kept_holding (item.Note _) s h = h
+
+  fetched_holding : (i : ItemShown) (s : PlainIface) → IsHolding s → IsHolding (fetched i s).iface
+  fetched_holding (item.Frame _) s h = h
+  fetched_holding (item.Packet mark b) s h = taken (is_too_big s b)
+    where
+      taken : (big : Bool) → IsHolding (taken_up big mark b s).iface
+      taken true = h
+      taken false = h
+  fetched_holding (item.Note _) s h = h
+
+  filled_of : (whole : Option Packet) (p : Packet) (b : Content) → whole ≡ Some p → IsWholeSo W whole → W (filled whole b).header (filled whole b).payload (filled whole b).trace
+  filled_of None p b e h = absurd cc
+  filled_of (Some q) p b e h = h
+
+  -- reading on
+  reads : (s : PlainIface) → IsHolding s → IsHolding (read_on_in s)
+  reads s h =
+      going (has_packet s)
+    where
+      going : (b : Bool) → IsHolding (record s { receiver = (going_on b s).receiver; whole = (going_on b s).whole })
+      going true = h
+      going false =
+          let new : IsHeardSo W K (read_further s.receiver) = rests s.receiver h.2 in
+          (new.1, h.1, new.0)
+
+  -- and where a frame was heard
+  reads_heard : (b accepted : Bool) (new : Heard) (s : PlainIface) → accepted ≡ false → IsHeardSo W K (read_by b new) → IsHeardSo W K (going_on (b || accepted) (record s { receiver = new.receiver; whole = new.whole }))
+  reads_heard true accepted new s e h = h
+  reads_heard false true new s e h = absurd cc
+  reads_heard false false new s e h = h
+
+  heard_holding : (s : PlainIface) (now : ℕ) (f : Frame) → s.accepted ≡ None → IsHolding s → G f → IsHolding (read_on_in (told s now plan.Receive (answer.Popped (item.Frame f))))
+  heard_holding s now f none h here =
+      let t : PlainIface = told s now plan.Receive (answer.Popped (item.Frame f)) in
+      let new : IsHeardSo W K (going_on (has_packet t) t) =
+      reads_heard (is_some (heard now s.receiver f).whole) (is_some s.accepted) (heard now s.receiver f) (waiting s plan.Receive) (ap is_some none) (hears now s.receiver f h.2 here) in
+      (new.1, h.1, new.0)
+
+  told_holding : (s : PlainIface) (now : ℕ) (p : Plan) (a : AnswerShown) → (p ≡ plan.Take → (k : Packet) × (s.whole ≡ Some k)) → (p ≡ plan.Receive → s.accepted ≡ None) → IsHolding s
+      → AllByRecursion (IsSuchFrame G) (got_by (queue.Rx s.number) (op_of s p) a) → IsHolding (read_on_in (told s now p a))
+  told_holding s now plan.Return answer.Given take none h got = reads (told s now plan.Return answer.Given) h
+  told_holding s now plan.Return (answer.PoolFull b) take none h got = reads (told s now plan.Return (answer.PoolFull b)) h
+  told_holding s now plan.Deliver answer.Pushed take none h got = reads (told s now plan.Deliver answer.Pushed) (h.0, tt, h.2)
+  told_holding s now plan.Deliver (answer.Full i) take none h got = reads (told s now plan.Deliver (answer.Full i)) (h.0, tt, h.2)
+  told_holding s now plan.Take (answer.Taken b) take none h got =
+      let one : (k : Packet) × (s.whole ≡ Some k) = take refl in
+      reads (told s now plan.Take (answer.Taken b)) (tt, filled_of s.whole one.0 b one.1 h.0, h.2)
+  told_holding s now plan.Take answer.NoBuffer take none h got = reads (told s now plan.Take answer.NoBuffer) (tt, h.1, h.2)
+  told_holding s now plan.Transmit answer.Pushed take none h got = reads (told s now plan.Transmit answer.Pushed) (pushed_holding (waiting s plan.Transmit).frames (waiting s plan.Transmit) h)
+  told_holding s now plan.Transmit (answer.Full i) take none h got = reads (told s now plan.Transmit (answer.Full i)) (kept_holding i (waiting s plan.Transmit) h)
+  told_holding s now plan.Fetch (answer.Popped i) take none h got = reads (told s now plan.Fetch (answer.Popped i)) (fetched_holding i (waiting s plan.Fetch) h)
+  told_holding s now plan.Fetch answer.Empty take none h got = reads (told s now plan.Fetch answer.Empty) h
+  told_holding s now plan.Receive (answer.Popped (item.Frame f)) take none h got = heard_holding s now f (none refl) h (came (IsSuchFrame G) s.number (item.Frame f) got)
+  told_holding s now plan.Receive (answer.Popped (item.Packet mark b)) take none h got = reads (told s now plan.Receive (answer.Popped (item.Packet mark b))) h
+  told_holding s now plan.Receive (answer.Popped (item.Note n)) take none h got = reads (told s now plan.Receive (answer.Popped (item.Note n))) h
+  told_holding s now plan.Receive answer.Empty take none h got = reads (told s now plan.Receive answer.Empty) h
+  told_holding s now p a take none h got = reads (told s now p a) (handed_holding s p h)
+
+  step_holding : (s : PlainIface) (now : ℕ) (a : AnswerShown) → IsHolding s → AllByRecursion (IsSuchFrame G) (got_by (queue.Rx s.number) (asks s now) a) → IsHolding (tells (asked s now) now a)
+  step_holding s now a h got =
+      told_holding s now (plan_of s) a (taking s.back s.accepted s.whole (side_plan s.side s.frames) (never_taking s.side s.frames)) (receiving s.back s.accepted s.whole (side_plan s.side s.frames)) h got
+
+  -- what goes to the inbox
+  delivered_of : (number : ℕ) (o : Option Content) (a : AnswerShown) → IsAcceptedSo W o → AllByRecursion (IsPacketSo W) (put_by queue.Inbox (delivered number o) a)
+  delivered_of number None a h = tt
+  delivered_of number (Some b) answer.Pushed h = (h, tt)
+  delivered_of number (Some b) _ h = tt
+
+  given_of : (o : Option Content) (a : AnswerShown) → AllByRecursion (IsPacketSo W) (put_by queue.Inbox (given o) a)
+  given_of None a = tt
+  given_of (Some b) a = tt
+
+  transmitted_of : (number : ℕ) (o : Option Frame) (a : AnswerShown) → AllByRecursion (IsPacketSo W) (put_by queue.Inbox (transmitted number o) a)
+  transmitted_of number None a = tt
+  transmitted_of number (Some f) answer.Pushed = tt
+  transmitted_of number (Some f) _ = tt
+
+  put_of : (s : PlainIface) (p : Plan) (a : AnswerShown) → IsHolding s → AllByRecursion (IsPacketSo W) (put_by queue.Inbox (op_of s p) a)
+  put_of s plan.Rest a h = tt
+  put_of s plan.Return a h = given_of s.back a
+  put_of s plan.Deliver a h = delivered_of s.number s.accepted a h.1
+  put_of s plan.Take a h = tt
+  put_of s plan.Transmit a h = transmitted_of s.number (slice_get s.frames 0) a
+  put_of s plan.Fetch a h = tt
+  put_of s plan.Receive a h = tt
+
+-- its names, its link's kind and its mtu stay
+abbrev Bears : (ℕ → ℕ → LinkKind → ℕ → Type 0) → PlainIface → Type 0
+Bears B s = B s.node s.number s.kind s.mtu
+
+handed_bears : (B : ℕ → ℕ → LinkKind → ℕ → Type 0) (s : PlainIface) (p : Plan) → Bears B s → Bears B (waiting s p)
+handed_bears B s plan.Rest h = h
+handed_bears B s plan.Return h = h
+handed_bears B s plan.Deliver h = h
+handed_bears B s plan.Take h = h
+handed_bears B s plan.Transmit h = h
+handed_bears B s plan.Fetch h = h
+handed_bears B s plan.Receive h = h
+
+pushed_bears : (B : ℕ → ℕ → LinkKind → ℕ → Type 0) (fs : List Frame) (s : PlainIface) → Bears B s → Bears B (pushed fs s)
+pushed_bears B [] s h = h
+pushed_bears B (_ ∷ _) s h = h
+
+kept_bears : (B : ℕ → ℕ → LinkKind → ℕ → Type 0) (i : ItemShown) (s : PlainIface) → Bears B s → Bears B (kept i s)
+kept_bears B (item.Frame _) s h = h
+kept_bears B (item.Packet _ _) s h = h
+kept_bears B (item.Note _) s h = h
+
+fetched_bears : (B : ℕ → ℕ → LinkKind → ℕ → Type 0) (i : ItemShown) (s : PlainIface) → Bears B s → Bears B (fetched i s).iface
+fetched_bears B (item.Frame _) s h = h
+fetched_bears B (item.Packet mark b) s h = taken (is_too_big s b)
   where
-    going : (b : Bool) → IsHolding P (record s { receiver = (going_on b s).receiver; whole = (going_on b s).whole })
-    going true = h
-    going false =
-        let new : IsHeardOf P (read_further s.receiver) = further_of P s.receiver h.2 in
-        (new.1, h.1, new.0)
+    taken : (big : Bool) → Bears B (taken_up big mark b s).iface
+    taken true = h
+    taken false = h
+fetched_bears B (item.Note _) s h = h
 
-step_holding : (P : Trace → Type 0) (s : PlainIface) (now : ℕ) (a : AnswerShown) → IsHolding P s → AllByRecursion (IsFrameOf (λ t. P (arrived t))) (got_by (queue.Rx s.number) (asks s now) a) → IsHolding P (tells (asked s now) now a)
-step_holding P s now a h got =
-    read_holding P (told s now (plan_of s) a) (told_holding P s now (plan_of s) a (taking s.back s.accepted s.whole (side_plan s.side s.frames) (never_taking s.side s.frames)) h got)
+caught_bears : (B : ℕ → ℕ → LinkKind → ℕ → Type 0) (now : ℕ) (i : ItemShown) (s : PlainIface) → Bears B s → Bears B (caught now i s).iface
+caught_bears B now (item.Frame _) s h = h
+caught_bears B now (item.Packet _ _) s h = h
+caught_bears B now (item.Note _) s h = h
 
--- what goes to the inbox
-delivered_of : (P : Trace → Type 0) (number : ℕ) (o : Option Content) (a : AnswerShown) → IsAcceptedOf P o → AllByRecursion (IsPacketOf P) (put_by queue.Inbox (delivered number o) a)
-delivered_of P number None a h = tt
-delivered_of P number (Some b) answer.Pushed h = (h, tt)
-delivered_of P number (Some b) _ h = tt
+told_bears : (B : ℕ → ℕ → LinkKind → ℕ → Type 0) (s : PlainIface) (now : ℕ) (p : Plan) (a : AnswerShown) → Bears B s → Bears B (told s now p a)
+told_bears B s now plan.Return answer.Given h = h
+told_bears B s now plan.Return (answer.PoolFull b) h = h
+told_bears B s now plan.Deliver answer.Pushed h = h
+told_bears B s now plan.Deliver (answer.Full i) h = h
+told_bears B s now plan.Take (answer.Taken b) h = h
+told_bears B s now plan.Take answer.NoBuffer h = h
+told_bears B s now plan.Transmit answer.Pushed h = pushed_bears B (waiting s plan.Transmit).frames (waiting s plan.Transmit) h
+told_bears B s now plan.Transmit (answer.Full i) h = kept_bears B i (waiting s plan.Transmit) h
+told_bears B s now plan.Fetch (answer.Popped i) h = fetched_bears B i (waiting s plan.Fetch) h
+told_bears B s now plan.Fetch answer.Empty h = h
+told_bears B s now plan.Receive (answer.Popped i) h = caught_bears B now i (waiting s plan.Receive) h
+told_bears B s now plan.Receive answer.Empty h = h
+told_bears B s now p a h = handed_bears B s p h
 
-given_of : (P : Trace → Type 0) (o : Option Content) (a : AnswerShown) → AllByRecursion (IsPacketOf P) (put_by queue.Inbox (given o) a)
-given_of P None a = tt
-given_of P (Some b) a = tt
+step_bears : (B : ℕ → ℕ → LinkKind → ℕ → Type 0) (s : PlainIface) (now : ℕ) (a : AnswerShown) → Bears B s → Bears B (tells (asked s now) now a)
+step_bears B s now a h = told_bears B s now (plan_of s) a h
 
-transmitted_of : (P : Trace → Type 0) (number : ℕ) (o : Option Frame) (a : AnswerShown) → AllByRecursion (IsPacketOf P) (put_by queue.Inbox (transmitted number o) a)
-transmitted_of P number None a = tt
-transmitted_of P number (Some f) answer.Pushed = tt
-transmitted_of P number (Some f) _ = tt
-
-put_of : (P : Trace → Type 0) (s : PlainIface) (p : Plan) (a : AnswerShown) → IsHolding P s → AllByRecursion (IsPacketOf P) (put_by queue.Inbox (op_of s p) a)
-put_of P s plan.Rest a h = tt
-put_of P s plan.Return a h = given_of P s.back a
-put_of P s plan.Deliver a h = delivered_of P s.number s.accepted a h.1
-put_of P s plan.Take a h = tt
-put_of P s plan.Transmit a h = transmitted_of P s.number (slice_get s.frames 0) a
-put_of P s plan.Fetch a h = tt
-put_of P s plan.Receive a h = tt
-
--- its names stay
 abbrev pub IsNamed : ℕ → ℕ → PlainIface → Type 0
 IsNamed node number s = (s.node ≡ node) × (s.number ≡ number)
 
-handed_named : (node number : ℕ) (s : PlainIface) (p : Plan) → IsNamed node number s → IsNamed node number (waiting s p)
-handed_named node number s plan.Rest h = h
-handed_named node number s plan.Return h = h
-handed_named node number s plan.Deliver h = h
-handed_named node number s plan.Take h = h
-handed_named node number s plan.Transmit h = h
-handed_named node number s plan.Fetch h = h
-handed_named node number s plan.Receive h = h
-
-pushed_named : (node number : ℕ) (fs : List Frame) (s : PlainIface) → IsNamed node number s → IsNamed node number (pushed fs s)
-pushed_named node number [] s h = h
-pushed_named node number (_ ∷ _) s h = h
-
-kept_named : (node number : ℕ) (i : ItemShown) (s : PlainIface) → IsNamed node number s → IsNamed node number (kept i s)
-kept_named node number (item.Frame _) s h = h
-kept_named node number (item.Packet _ _) s h = h
-kept_named node number (item.Note _) s h = h
-
-fetched_named : (node number : ℕ) (i : ItemShown) (s : PlainIface) → IsNamed node number s → IsNamed node number (fetched i s).iface
-fetched_named node number (item.Frame _) s h = h
-fetched_named node number (item.Packet mark b) s h = taken (is_too_big s b)
-  where
-    taken : (big : Bool) → IsNamed node number (taken_up big mark b s).iface
-    taken true = h
-    taken false = h
-fetched_named node number (item.Note _) s h = h
-
-caught_named : (node number now : ℕ) (i : ItemShown) (s : PlainIface) → IsNamed node number s → IsNamed node number (caught now i s).iface
-caught_named node number now (item.Frame _) s h = h
-caught_named node number now (item.Packet _ _) s h = h
-caught_named node number now (item.Note _) s h = h
-
-told_named : (node number : ℕ) (s : PlainIface) (now : ℕ) (p : Plan) (a : AnswerShown) → IsNamed node number s → IsNamed node number (told s now p a)
-told_named node number s now plan.Return answer.Given h = h
-told_named node number s now plan.Return (answer.PoolFull b) h = h
-told_named node number s now plan.Deliver answer.Pushed h = h
-told_named node number s now plan.Deliver (answer.Full i) h = h
-told_named node number s now plan.Take (answer.Taken b) h = h
-told_named node number s now plan.Take answer.NoBuffer h = h
-told_named node number s now plan.Transmit answer.Pushed h = pushed_named node number (waiting s plan.Transmit).frames (waiting s plan.Transmit) h
-told_named node number s now plan.Transmit (answer.Full i) h = kept_named node number i (waiting s plan.Transmit) h
-told_named node number s now plan.Fetch (answer.Popped i) h = fetched_named node number i (waiting s plan.Fetch) h
-told_named node number s now plan.Fetch answer.Empty h = h
-told_named node number s now plan.Receive (answer.Popped i) h = caught_named node number now i (waiting s plan.Receive) h
-told_named node number s now plan.Receive answer.Empty h = h
-told_named node number s now p a h = handed_named node number s p h
-
 pub step_named : (node number : ℕ) (s : PlainIface) (now : ℕ) (a : AnswerShown) → IsNamed node number s → IsNamed node number (tells (asked s now) now a)
-step_named node number s now a h = told_named node number s now (plan_of s) a h
+step_named node number s now a h = step_bears (λ n k kind mtu. (n ≡ node) × (k ≡ number)) s now a h
 
-run_received : (P : Trace → Type 0) (node number : ℕ) (es : List Entry) (time : ℕ) (s : PlainIface) → IsRun party_steps time (an_iface s) es → IsNamed node number s → IsHolding P s
-    → AllByRecursion (IsFrameOf (λ t. P (arrived t))) (gets (queue.Rx number) es) → AllByRecursion (IsPacketOf P) (puts queue.Inbox es)
-run_received P node number [] time s run named h got = tt
-run_received P node number (e ∷ es) time s run named h got =
-    let Q : ItemShown → Type 0 = IsFrameOf (λ t. P (arrived t)) in
-    let now_got : AllByRecursion Q (got_by (queue.Rx number) e.op e.answer) = each_first Q (got_by (queue.Rx number) e.op e.answer) (gets (queue.Rx number) es) got in
-    let then_got : AllByRecursion Q (gets (queue.Rx number) es) = each_last Q (got_by (queue.Rx number) e.op e.answer) (gets (queue.Rx number) es) got in
-    let own_got : AllByRecursion Q (got_by (queue.Rx s.number) (asks s e.time) e.answer) =
-    subst (λ n. AllByRecursion Q (got_by (queue.Rx n) (asks s e.time) e.answer)) (sym named.1) (subst (λ o. AllByRecursion Q (got_by (queue.Rx number) o e.answer)) run.1.op now_got) in
-    AllByRecursion-append (IsPacketOf P) (put_by queue.Inbox e.op e.answer) (puts queue.Inbox es)
-    (subst (λ o. AllByRecursion (IsPacketOf P) (put_by queue.Inbox o e.answer)) (sym run.1.op) (put_of P s (plan_of s) e.answer h))
-    (run_received P node number es e.time (tells (asked s e.time) e.time e.answer) run.2 (step_named node number s e.time e.answer named) (step_holding P s e.time e.answer h own_got) then_got)
+-- the interface of this name, on a link of this kind and mtu
+abbrev pub IsOn : ℕ → ℕ → LinkKind → ℕ → PlainIface → Type 0
+IsOn node number kind mtu s = (s.node ≡ node) × (s.number ≡ number) × (s.kind ≡ kind) × (s.mtu ≡ mtu)
+
+pub step_on : (node number : ℕ) (kind : LinkKind) (mtu : ℕ) (s : PlainIface) (now : ℕ) (a : AnswerShown) → IsOn node number kind mtu s → IsOn node number kind mtu (tells (asked s now) now a)
+step_on node number kind mtu s now a h = step_bears (λ n k c m. (n ≡ node) × (k ≡ number) × (c ≡ kind) × (m ≡ mtu)) s now a h
+
+-- where each frame of a kind that is heard keeps what is known, each packet that an interface handed to its inbox is of the kind of those that were whole
+module _ (W : ℕ → List ℕ → Trace → Type 0) (K : Receiver → Type 0) (G : Frame → Type 0)
+    (hears : (now : ℕ) (r : Receiver) (f : Frame) → K r → G f → IsHeardSo W K (read_from (heard now r f))) (rests : (r : Receiver) → K r → IsHeardSo W K (read_further r)) where
+  run_received : (node number : ℕ) (es : List Entry) (time : ℕ) (s : PlainIface) → IsRun party_steps time (an_iface s) es → IsNamed node number s → IsHolding W K G hears rests s
+      → AllByRecursion (IsSuchFrame G) (gets (queue.Rx number) es) → AllByRecursion (IsPacketSo W) (puts queue.Inbox es)
+  run_received node number [] time s run named h got = tt
+  run_received node number (e ∷ es) time s run named h got =
+      let Q : ItemShown → Type 0 = IsSuchFrame G in
+      let now_got : AllByRecursion Q (got_by (queue.Rx number) e.op e.answer) = each_first Q (got_by (queue.Rx number) e.op e.answer) (gets (queue.Rx number) es) got in
+      let then_got : AllByRecursion Q (gets (queue.Rx number) es) = each_last Q (got_by (queue.Rx number) e.op e.answer) (gets (queue.Rx number) es) got in
+      let own_got : AllByRecursion Q (got_by (queue.Rx s.number) (asks s e.time) e.answer) =
+      subst (λ n. AllByRecursion Q (got_by (queue.Rx n) (asks s e.time) e.answer)) (sym named.1) (subst (λ o. AllByRecursion Q (got_by (queue.Rx number) o e.answer)) run.1.op now_got) in
+      AllByRecursion-append (IsPacketSo W) (put_by queue.Inbox e.op e.answer) (puts queue.Inbox es)
+      (subst (λ o. AllByRecursion (IsPacketSo W) (put_by queue.Inbox o e.answer)) (sym run.1.op) (put_of W K G hears rests s (plan_of s) e.answer h))
+      (run_received node number es e.time (tells (asked s e.time) e.time e.answer) run.2 (step_named node number s e.time e.answer named) (step_holding W K G hears rests s e.time e.answer h own_got) then_got)
+
+  pub received_so : (node number : ℕ) (kind : LinkKind) (mtu : ℕ) (es : List Entry) → K (receiver_for kind mtu) → IsRun party_steps 0 (an_iface (opening node number kind mtu)) es
+      → AllByRecursion (IsSuchFrame G) (gets (queue.Rx number) es) → AllByRecursion (IsPacketSo W) (puts queue.Inbox es)
+  received_so node number kind mtu es first run got = run_received node number es 0 (opening node number kind mtu) run (refl, refl) (tt, tt, first) got
 
 opening_kept : (P : Trace → Type 0) (kind : LinkKind) (mtu : ℕ) → IsKeptOf P (receiver_for kind mtu)
 opening_kept P kind.Kiss mtu = inl refl
@@ -247,4 +297,5 @@ opening_kept P kind.Can mtu = tt
 -- where each frame that an interface popped has, one hop on, a trace of some kind, each packet that it handed to its inbox has one
 pub received : (P : Trace → Type 0) (node number : ℕ) (kind : LinkKind) (mtu : ℕ) (es : List Entry) → IsRun party_steps 0 (an_iface (opening node number kind mtu)) es
     → AllByRecursion (IsFrameOf (λ t. P (arrived t))) (gets (queue.Rx number) es) → AllByRecursion (IsPacketOf P) (puts queue.Inbox es)
-received P node number kind mtu es run got = run_received P node number es 0 (opening node number kind mtu) run (refl, refl) (tt, tt, opening_kept P kind mtu) got
+received P node number kind mtu es run got =
+    received_so (λ header payload trace. P trace) (IsKeptOf P) (λ f. P (arrived f.trace)) (read_of P) (further_of P) node number kind mtu es (opening_kept P kind mtu) run got

@@ -1,8 +1,8 @@
--- What an interface hands to its link has the trace of a transmission: that of the packet in the first entry that shows its serial.
-use Rattle.std.proofs.Common.{◌≡◌, ℕ, ◌+◌, ◌%◌, ◌≤◌, ◌==◌, ◌||◌, Bool, true, false, Option, Some, None, List, [], ◌∷◌, ◌++◌, map, slice_get, filter_map, refl, sym, ap, ◌∙◌, subst, arith, le_refl, eqb-true}
+-- What an interface hands to its link is a frame of a transmission: of the packet in the first entry that shows its serial. It has its trace.
+use Rattle.std.proofs.Common.{◌≡◌, ℕ, ◌+◌, ◌%◌, ◌≤◌, ◌==◌, ◌||◌, Bool, true, false, Option, Some, None, List, [], ◌∷◌, ◌++◌, length, map, slice_get, filter_map, refl, sym, ap, ◌∙◌, subst, arith, le_refl, eqb-true}
 use Rattle.std.specs.Prelude.{if◌then◌else◌, ⊤}
 use Rattle.std.specs.List.{AllByRecursion, list_any, cons_option}
-use Rattle.std.proofs.lemmas.Bool.{eq-eqb}
+use Rattle.std.proofs.lemmas.Bool.{eq-eqb, ltb-false}
 use Rattle.csp_base.specs.declared.traces.Trace.{Trace}
 use Rattle.csp_buffer.specs.Content.{Content}
 use Rattle.csp_can.specs.Fragments.{fragments_of}
@@ -34,11 +34,21 @@ use Rattle.csp_log.specs.declared.shown.AnswerShown.{AnswerShown}
 use Rattle.csp_log.specs.declared.shown.AnswerShown.TheVariants as answer
 use Rattle.csp_party.specs.Any.{an_iface}
 use Rattle.csp_record.specs.Transmissions.{fetched, is_beginning, shown_in}
-use Rattle.csp_scene.proofs.Lists.{AllByRecursion-append}
+use Rattle.csp_scene.proofs.Lists.{AllByRecursion-append, AllByRecursion-map}
 use Rattle.csp_topology.specs.Parties.{party_steps}
 use Rattle.csp_consistent.specs.Reading.{put_by, puts}
-use Rattle.csp_consistent.proofs.Each.{each_drop_first, each_if}
-use Rattle.csp_consistent.proofs.Received.{IsFrameOf, IsNamed, waiting, told, step_named}
+use Rattle.csp_consistent.proofs.Each.{each_at, each_drop_first, each_if, each_there}
+use Rattle.csp_consistent.proofs.Received.{IsFrameOf, IsOn, IsSuchFrame, step_on, told, waiting}
+
+-- a frame is one of a transmission which these entries show, of a packet that is not too big
+pub record IsSentIn (node number : ℕ) (kind : LinkKind) (mtu : ℕ) (es : List Entry) (f : Frame) : Type 0 where
+  pub serial : ℕ
+  pub mark : ℕ
+  pub packet : Content
+  pub shown : slice_get (filter_map (shown_in serial) es) 0 ≡ Some packet
+  pub fits : length packet.payload ≤ mtu
+  pub place : ℕ
+  pub among : slice_get (frames_of kind serial (next_node mark packet.header) packet (sent_trace node number serial packet.trace)) place ≡ Some f
 
 -- a trace is that of a transmission which these entries show
 pub record IsBegun (node number : ℕ) (es : List Entry) (t : Trace) : Type 0 where
@@ -47,7 +57,7 @@ pub record IsBegun (node number : ℕ) (es : List Entry) (t : Trace) : Type 0 wh
   pub shown : slice_get (filter_map (shown_in serial) es) 0 ≡ Some packet
   pub trace : t ≡ sent_trace node number serial packet.trace
 
--- the frames that are left have such traces
+-- the frames of a transmission have its trace
 abbrev HaveTraces : (Trace → Type 0) → List Frame → Type 0
 HaveTraces Q fs = AllByRecursion (λ f. Q f.trace) fs
 
@@ -60,102 +70,102 @@ frames_traces Q link.Kiss serial next b t here = (here, tt)
 frames_traces Q link.KissHeader serial next b t here = (here, tt)
 frames_traces Q link.Can serial next b t here = can_traces Q t (map written (fragments_of b.header b.payload next (serial % IDS))) here
 
-handed_traces : (Q : Trace → Type 0) (s : PlainIface) (p : Plan) → HaveTraces Q s.frames → HaveTraces Q (waiting s p).frames
-handed_traces Q s plan.Rest h = h
-handed_traces Q s plan.Return h = h
-handed_traces Q s plan.Deliver h = h
-handed_traces Q s plan.Take h = h
-handed_traces Q s plan.Transmit h = each_drop_first (λ (f : Frame). Q f.trace) s.frames h
-handed_traces Q s plan.Fetch h = h
-handed_traces Q s plan.Receive h = h
+handed_such : (Q : Frame → Type 0) (s : PlainIface) (p : Plan) → AllByRecursion Q s.frames → AllByRecursion Q (waiting s p).frames
+handed_such Q s plan.Rest h = h
+handed_such Q s plan.Return h = h
+handed_such Q s plan.Deliver h = h
+handed_such Q s plan.Take h = h
+handed_such Q s plan.Transmit h = each_drop_first Q s.frames h
+handed_such Q s plan.Fetch h = h
+handed_such Q s plan.Receive h = h
 
-pushed_traces : (Q : Trace → Type 0) (fs : List Frame) (s : PlainIface) → HaveTraces Q s.frames → HaveTraces Q (pushed fs s).frames
-pushed_traces Q [] s h = h
-pushed_traces Q (_ ∷ _) s h = h
+pushed_such : (Q : Frame → Type 0) (fs : List Frame) (s : PlainIface) → AllByRecursion Q s.frames → AllByRecursion Q (pushed fs s).frames
+pushed_such Q [] s h = h
+pushed_such Q (_ ∷ _) s h = h
 
 -- the frame that comes back is the one that went
-trace_in : Trace → ItemShown → Trace
-trace_in t (item.Frame f) = f.trace
-trace_in t (item.Packet _ _) = t
-trace_in t (item.Note _) = t
+frame_in : Frame → ItemShown → Frame
+frame_in g (item.Frame f) = f
+frame_in g (item.Packet _ _) = g
+frame_in g (item.Note _) = g
 
-came_back : (Q : Trace → Type 0) (n : ℕ) (fs : List Frame) (f : Frame) → HaveTraces Q fs → Fits (transmitted n (slice_get fs 0)) (answer.Full (item.Frame f)) → Q f.trace
-unfolding trace_in
+came_back : (Q : Frame → Type 0) (n : ℕ) (fs : List Frame) (f : Frame) → AllByRecursion Q fs → Fits (transmitted n (slice_get fs 0)) (answer.Full (item.Frame f)) → Q f
+unfolding frame_in
 came_back Q n [] f h fits = absurd fits
-came_back Q n (g ∷ fs) f h fits = subst Q (sym (ap (trace_in g.trace) fits)) h.0
+came_back Q n (g ∷ fs) f h fits = subst Q (sym (ap (frame_in g) fits)) h.0
 
-kept_traces : (Q : Trace → Type 0) (n : ℕ) (fs : List Frame) (i : ItemShown) (s : PlainIface) → HaveTraces Q fs → HaveTraces Q s.frames → Fits (transmitted n (slice_get fs 0)) (answer.Full i) → HaveTraces Q (kept i s).frames
-kept_traces Q n fs (item.Frame f) s all h fits = (came_back Q n fs f all fits, h)
-kept_traces Q n fs (item.Packet _ _) s all h fits = h
-kept_traces Q n fs (item.Note _) s all h fits = h
+kept_such : (Q : Frame → Type 0) (n : ℕ) (fs : List Frame) (i : ItemShown) (s : PlainIface) → AllByRecursion Q fs → AllByRecursion Q s.frames → Fits (transmitted n (slice_get fs 0)) (answer.Full i) → AllByRecursion Q (kept i s).frames
+kept_such Q n fs (item.Frame f) s all h fits = (came_back Q n fs f all fits, h)
+kept_such Q n fs (item.Packet _ _) s all h fits = h
+kept_such Q n fs (item.Note _) s all h fits = h
 
--- a packet that is fetched, and not too big, begins the transmission of this serial
-abbrev IsTakenUp : (Trace → Type 0) → PlainIface → Content → (too_big : Bool) → Type 0
-IsTakenUp Q s b true = ⊤
-IsTakenUp Q s b false = Q (sent_trace s.node s.number s.serial b.trace)
+-- a packet that is fetched, and not too big, begins the transmission of this serial, with its frames
+abbrev IsTakenUp : (Frame → Type 0) → PlainIface → ℕ → Content → (too_big : Bool) → Type 0
+IsTakenUp Q s mark b true = ⊤
+IsTakenUp Q s mark b false = AllByRecursion Q (frames_of s.kind s.serial (next_node mark b.header) b (sent_trace s.node s.number s.serial b.trace))
 
-abbrev IsFresh : (Trace → Type 0) → PlainIface → ItemShown → Type 0
-IsFresh Q s (item.Packet mark b) = IsTakenUp Q s b (is_too_big s b)
+abbrev IsFresh : (Frame → Type 0) → PlainIface → ItemShown → Type 0
+IsFresh Q s (item.Packet mark b) = IsTakenUp Q s mark b (is_too_big s b)
 IsFresh Q s (item.Frame _) = ⊤
 IsFresh Q s (item.Note _) = ⊤
 
-taken_traces : (Q : Trace → Type 0) (too_big : Bool) (mark : ℕ) (b : Content) (s : PlainIface) → HaveTraces Q s.frames → IsTakenUp Q s b too_big → HaveTraces Q (taken_up too_big mark b s).iface.frames
-taken_traces Q true mark b s h here = h
-taken_traces Q false mark b s h here = frames_traces Q s.kind s.serial (next_node mark b.header) b (sent_trace s.node s.number s.serial b.trace) here
+taken_such : (Q : Frame → Type 0) (too_big : Bool) (mark : ℕ) (b : Content) (s : PlainIface) → AllByRecursion Q s.frames → IsTakenUp Q s mark b too_big → AllByRecursion Q (taken_up too_big mark b s).iface.frames
+taken_such Q true mark b s h here = h
+taken_such Q false mark b s h here = here
 
-fetched_traces : (Q : Trace → Type 0) (i : ItemShown) (s : PlainIface) → HaveTraces Q s.frames → IsFresh Q s i → HaveTraces Q (told_fetched i s).iface.frames
-fetched_traces Q (item.Packet mark b) s h here = taken_traces Q (is_too_big s b) mark b s h here
-fetched_traces Q (item.Frame _) s h here = h
-fetched_traces Q (item.Note _) s h here = h
+fetched_such : (Q : Frame → Type 0) (i : ItemShown) (s : PlainIface) → AllByRecursion Q s.frames → IsFresh Q s i → AllByRecursion Q (told_fetched i s).iface.frames
+fetched_such Q (item.Packet mark b) s h here = taken_such Q (is_too_big s b) mark b s h here
+fetched_such Q (item.Frame _) s h here = h
+fetched_such Q (item.Note _) s h here = h
 
-caught_traces : (Q : Trace → Type 0) (now : ℕ) (i : ItemShown) (s : PlainIface) → HaveTraces Q s.frames → HaveTraces Q (caught now i s).iface.frames
-caught_traces Q now (item.Frame _) s h = h
-caught_traces Q now (item.Packet _ _) s h = h
-caught_traces Q now (item.Note _) s h = h
+caught_such : (Q : Frame → Type 0) (now : ℕ) (i : ItemShown) (s : PlainIface) → AllByRecursion Q s.frames → AllByRecursion Q (caught now i s).iface.frames
+caught_such Q now (item.Frame _) s h = h
+caught_such Q now (item.Packet _ _) s h = h
+caught_such Q now (item.Note _) s h = h
 
 -- what a turn fetched
-abbrev IsFreshIn : (Trace → Type 0) → PlainIface → Plan → AnswerShown → Type 0
+abbrev IsFreshIn : (Frame → Type 0) → PlainIface → Plan → AnswerShown → Type 0
 IsFreshIn Q s plan.Fetch (answer.Popped i) = IsFresh Q s i
 IsFreshIn Q s _ _ = ⊤
 
-told_traces : (Q : Trace → Type 0) (s : PlainIface) (now : ℕ) (p : Plan) (a : AnswerShown) → HaveTraces Q s.frames → Fits (op_of s p) a → IsFreshIn Q s p a → HaveTraces Q (told s now p a).frames
-told_traces Q s now plan.Return answer.Given h fits here = h
-told_traces Q s now plan.Return (answer.PoolFull b) h fits here = h
-told_traces Q s now plan.Deliver answer.Pushed h fits here = h
-told_traces Q s now plan.Deliver (answer.Full i) h fits here = h
-told_traces Q s now plan.Take (answer.Taken b) h fits here = h
-told_traces Q s now plan.Take answer.NoBuffer h fits here = h
-told_traces Q s now plan.Transmit answer.Pushed h fits here = pushed_traces Q (waiting s plan.Transmit).frames (waiting s plan.Transmit) (handed_traces Q s plan.Transmit h)
-told_traces Q s now plan.Transmit (answer.Full i) h fits here = kept_traces Q s.number s.frames i (waiting s plan.Transmit) h (handed_traces Q s plan.Transmit h) fits
-told_traces Q s now plan.Fetch (answer.Popped i) h fits here = fetched_traces Q i (waiting s plan.Fetch) h here
-told_traces Q s now plan.Fetch answer.Empty h fits here = h
-told_traces Q s now plan.Receive (answer.Popped i) h fits here = caught_traces Q now i (waiting s plan.Receive) h
-told_traces Q s now plan.Receive answer.Empty h fits here = h
-told_traces Q s now p a h fits here = handed_traces Q s p h
+told_such : (Q : Frame → Type 0) (s : PlainIface) (now : ℕ) (p : Plan) (a : AnswerShown) → AllByRecursion Q s.frames → Fits (op_of s p) a → IsFreshIn Q s p a → AllByRecursion Q (told s now p a).frames
+told_such Q s now plan.Return answer.Given h fits here = h
+told_such Q s now plan.Return (answer.PoolFull b) h fits here = h
+told_such Q s now plan.Deliver answer.Pushed h fits here = h
+told_such Q s now plan.Deliver (answer.Full i) h fits here = h
+told_such Q s now plan.Take (answer.Taken b) h fits here = h
+told_such Q s now plan.Take answer.NoBuffer h fits here = h
+told_such Q s now plan.Transmit answer.Pushed h fits here = pushed_such Q (waiting s plan.Transmit).frames (waiting s plan.Transmit) (handed_such Q s plan.Transmit h)
+told_such Q s now plan.Transmit (answer.Full i) h fits here = kept_such Q s.number s.frames i (waiting s plan.Transmit) h (handed_such Q s plan.Transmit h) fits
+told_such Q s now plan.Fetch (answer.Popped i) h fits here = fetched_such Q i (waiting s plan.Fetch) h here
+told_such Q s now plan.Fetch answer.Empty h fits here = h
+told_such Q s now plan.Receive (answer.Popped i) h fits here = caught_such Q now i (waiting s plan.Receive) h
+told_such Q s now plan.Receive answer.Empty h fits here = h
+told_such Q s now p a h fits here = handed_such Q s p h
 
 -- what goes to the link
-transmitted_put : (Q : Trace → Type 0) (number n : ℕ) (fs : List Frame) (a : AnswerShown) → HaveTraces Q fs → AllByRecursion (IsFrameOf Q) (put_by (queue.Tx number) (transmitted n (slice_get fs 0)) a)
+transmitted_put : (Q : Frame → Type 0) (number n : ℕ) (fs : List Frame) (a : AnswerShown) → AllByRecursion Q fs → AllByRecursion (IsSuchFrame Q) (put_by (queue.Tx number) (transmitted n (slice_get fs 0)) a)
 transmitted_put Q number n [] a h = tt
-transmitted_put Q number n (f ∷ fs) answer.Pushed h = each_if (IsFrameOf Q) (n == number) (item.Frame f) h.0
+transmitted_put Q number n (f ∷ fs) answer.Pushed h = each_if (IsSuchFrame Q) (n == number) (item.Frame f) h.0
 transmitted_put Q number n (f ∷ fs) _ h = tt
 
-given_put : (Q : Trace → Type 0) (number : ℕ) (o : Option Content) (a : AnswerShown) → AllByRecursion (IsFrameOf Q) (put_by (queue.Tx number) (given o) a)
+given_put : (Q : Frame → Type 0) (number : ℕ) (o : Option Content) (a : AnswerShown) → AllByRecursion (IsSuchFrame Q) (put_by (queue.Tx number) (given o) a)
 given_put Q number None a = tt
 given_put Q number (Some b) a = tt
 
-delivered_put : (Q : Trace → Type 0) (number n : ℕ) (o : Option Content) (a : AnswerShown) → AllByRecursion (IsFrameOf Q) (put_by (queue.Tx number) (delivered n o) a)
+delivered_put : (Q : Frame → Type 0) (number n : ℕ) (o : Option Content) (a : AnswerShown) → AllByRecursion (IsSuchFrame Q) (put_by (queue.Tx number) (delivered n o) a)
 delivered_put Q number n None a = tt
 delivered_put Q number n (Some b) answer.Pushed = tt
 delivered_put Q number n (Some b) _ = tt
 
-put_traces : (Q : Trace → Type 0) (number : ℕ) (s : PlainIface) (p : Plan) (a : AnswerShown) → HaveTraces Q s.frames → AllByRecursion (IsFrameOf Q) (put_by (queue.Tx number) (op_of s p) a)
-put_traces Q number s plan.Rest a h = tt
-put_traces Q number s plan.Return a h = given_put Q number s.back a
-put_traces Q number s plan.Deliver a h = delivered_put Q number s.number s.accepted a
-put_traces Q number s plan.Take a h = tt
-put_traces Q number s plan.Transmit a h = transmitted_put Q number s.number s.frames a h
-put_traces Q number s plan.Fetch a h = tt
-put_traces Q number s plan.Receive a h = tt
+put_such : (Q : Frame → Type 0) (number : ℕ) (s : PlainIface) (p : Plan) (a : AnswerShown) → AllByRecursion Q s.frames → AllByRecursion (IsSuchFrame Q) (put_by (queue.Tx number) (op_of s p) a)
+put_such Q number s plan.Rest a h = tt
+put_such Q number s plan.Return a h = given_put Q number s.back a
+put_such Q number s plan.Deliver a h = delivered_put Q number s.number s.accepted a
+put_such Q number s plan.Take a h = tt
+put_such Q number s plan.Transmit a h = transmitted_put Q number s.number s.frames a h
+put_such Q number s plan.Fetch a h = tt
+put_such Q number s plan.Receive a h = tt
 
 -- which serials a turn shows: none but the present one, and that where a packet is fetched
 nothing : (b : Bool) (o : Option Content) → o ≡ None → (if b then o else None) ≡ None
@@ -206,7 +216,7 @@ this_shown serial k b = ap (λ c. if c || list_any (is_beginning serial) (bad k)
 abbrev shown_by : ℕ → List Event → OpShown → AnswerShown → Option Content
 shown_by n es o a = if list_any (is_beginning n) es then fetched (moved_by o a) else None
 
-turn_silent : (n : ℕ) (s : PlainIface) (now : ℕ) (p : Plan) (a : AnswerShown) (k : ℕ) → (told s now p a).serial ≤ n → shown_by n ((told_by (waiting s p) now p a).events ++ bad k) (op_of s p) a ≡ None
+pub turn_silent : (n : ℕ) (s : PlainIface) (now : ℕ) (p : Plan) (a : AnswerShown) (k : ℕ) → (told s now p a).serial ≤ n → shown_by n ((told_by (waiting s p) now p a).events ++ bad k) (op_of s p) a ≡ None
 turn_silent n s now plan.Fetch (answer.Popped (item.Packet mark b)) k h = taken (is_too_big s b) h
   where
     taken : (big : Bool) → (taken_up big mark b (waiting s plan.Fetch)).iface.serial ≤ n → shown_by n ((taken_up big mark b (waiting s plan.Fetch)).events ++ bad k) (op_of s plan.Fetch) (answer.Popped (item.Packet mark b)) ≡ None
@@ -222,7 +232,7 @@ turn_silent n s now plan.Take a k h = nothing _ None refl
 turn_silent n s now plan.Transmit a k h = nothing _ _ (transmitted_fetched s.number (slice_get s.frames 0) a)
 turn_silent n s now plan.Receive a k h = nothing _ _ (popped_fetched s.number a)
 
-handed_serial : (s : PlainIface) (p : Plan) → (waiting s p).serial ≡ s.serial
+pub handed_serial : (s : PlainIface) (p : Plan) → (waiting s p).serial ≡ s.serial
 handed_serial s plan.Rest = refl
 handed_serial s plan.Return = refl
 handed_serial s plan.Deliver = refl
@@ -231,11 +241,11 @@ handed_serial s plan.Transmit = refl
 handed_serial s plan.Fetch = refl
 handed_serial s plan.Receive = refl
 
-pushed_serial : (fs : List Frame) (s : PlainIface) → (pushed fs s).serial ≡ s.serial
+pub pushed_serial : (fs : List Frame) (s : PlainIface) → (pushed fs s).serial ≡ s.serial
 pushed_serial [] s = refl
 pushed_serial (_ ∷ _) s = refl
 
-kept_serial : (i : ItemShown) (s : PlainIface) → (kept i s).serial ≡ s.serial
+pub kept_serial : (i : ItemShown) (s : PlainIface) → (kept i s).serial ≡ s.serial
 kept_serial (item.Frame _) s = refl
 kept_serial (item.Packet _ _) s = refl
 kept_serial (item.Note _) s = refl
@@ -249,7 +259,7 @@ fetched_serial (item.Packet mark b) s = taken (is_too_big s b)
 fetched_serial (item.Frame _) s = le_refl s.serial
 fetched_serial (item.Note _) s = le_refl s.serial
 
-caught_serial : (now : ℕ) (i : ItemShown) (s : PlainIface) → (caught now i s).iface.serial ≡ s.serial
+pub caught_serial : (now : ℕ) (i : ItemShown) (s : PlainIface) → (caught now i s).iface.serial ≡ s.serial
 caught_serial now (item.Packet _ _) s = refl
 caught_serial now (item.Frame _) s = refl
 caught_serial now (item.Note _) s = refl
@@ -273,53 +283,78 @@ told_serial s now plan.Receive answer.Empty = le_refl s.serial
 told_serial s now p a = same_serial s.serial (waiting s p).serial (handed_serial s p)
 
 -- a packet that was fetched is the first that shows its serial
-fresh_item : (node number : ℕ) (all : List Entry) (s : PlainIface) (k : ℕ) (rest : List Content) (i : ItemShown) → IsNamed node number s
+fresh_item : (node number : ℕ) (kind : LinkKind) (mtu : ℕ) (all : List Entry) (s : PlainIface) (k : ℕ) (rest : List Content) (i : ItemShown) → IsOn node number kind mtu s
     → filter_map (shown_in s.serial) all ≡ cons_option (shown_by s.serial ((told_fetched i (waiting s plan.Fetch)).events ++ bad k) (op_of s plan.Fetch) (answer.Popped i)) rest
-    → IsFresh (IsBegun node number all) s i
-fresh_item node number all s k rest (item.Packet mark b) named e = taken (is_too_big s b) e
+    → IsFresh (IsSentIn node number kind mtu all) s i
+fresh_item node number kind mtu all s k rest (item.Packet mark b) on e = taken (is_too_big s b) refl e
   where
-    taken : (big : Bool) → filter_map (shown_in s.serial) all ≡ cons_option (shown_by s.serial ((taken_up big mark b (waiting s plan.Fetch)).events ++ bad k) (op_of s plan.Fetch) (answer.Popped (item.Packet mark b))) rest
-        → IsTakenUp (IsBegun node number all) s b big
-    taken true f = tt
-    taken false f = record {
+    taken : (big : Bool) → is_too_big s b ≡ big → filter_map (shown_in s.serial) all ≡ cons_option (shown_by s.serial ((taken_up big mark b (waiting s plan.Fetch)).events ++ bad k) (op_of s plan.Fetch) (answer.Popped (item.Packet mark b))) rest
+        → IsTakenUp (IsSentIn node number kind mtu all) s mark b big
+    taken true fits f = tt
+    taken false fits f = each_there (IsSentIn node number kind mtu all) (frames_of s.kind s.serial (next_node mark b.header) b (sent_trace s.node s.number s.serial b.trace)) (λ place x there. record {
       serial = s.serial;
+      mark = mark;
       packet = b;
       shown = ap (λ cs. slice_get cs 0) (f ∙ ap (λ o. cons_option o rest) (this_shown s.serial k b));
-      trace = λ i. sent_trace (named.0 i) (named.1 i) s.serial b.trace;
-    }
-fresh_item node number all s k rest (item.Frame _) named e = tt
-fresh_item node number all s k rest (item.Note _) named e = tt
+      fits = omega (arith, ltb-false s.mtu (length b.payload) fits, on.3);
+      place = place;
+      among = sym (λ i. slice_get (frames_of (on.2 i) s.serial (next_node mark b.header) b (sent_trace (on.0 i) (on.1 i) s.serial b.trace)) place) ∙ there;
+    })
+fresh_item node number kind mtu all s k rest (item.Frame _) on e = tt
+fresh_item node number kind mtu all s k rest (item.Note _) on e = tt
 
-fresh_turn : (node number : ℕ) (all : List Entry) (s : PlainIface) (now k : ℕ) (rest : List Content) (p : Plan) (a : AnswerShown) → IsNamed node number s
+fresh_turn : (node number : ℕ) (kind : LinkKind) (mtu : ℕ) (all : List Entry) (s : PlainIface) (now k : ℕ) (rest : List Content) (p : Plan) (a : AnswerShown) → IsOn node number kind mtu s
     → filter_map (shown_in s.serial) all ≡ cons_option (shown_by s.serial ((told_by (waiting s p) now p a).events ++ bad k) (op_of s p) a) rest
-    → IsFreshIn (IsBegun node number all) s p a
-fresh_turn node number all s now k rest plan.Fetch (answer.Popped i) named e = fresh_item node number all s k rest i named e
-fresh_turn node number all s now k rest _ _ named e = tt
+    → IsFreshIn (IsSentIn node number kind mtu all) s p a
+fresh_turn node number kind mtu all s now k rest plan.Fetch (answer.Popped i) on e = fresh_item node number kind mtu all s k rest i on e
+fresh_turn node number kind mtu all s now k rest _ _ on e = tt
 
 -- a step of an interface: its entry's operation and events
-shown_step : (n : ℕ) (s : PlainIface) (e : Entry) → IsStep party_steps (an_iface s) e
+pub shown_step : (n : ℕ) (s : PlainIface) (e : Entry) → IsStep party_steps (an_iface s) e
     → shown_in n e ≡ shown_by n ((told_by (waiting s (plan_of s)) e.time (plan_of s) e.answer).events ++ bad (concluded (asked s e.time) e.time e.answer).refused) (op_of s (plan_of s)) e.answer
 shown_step n s e step = λ i. if list_any (is_beginning n) (step.events i) then fetched (moved_by (step.op i) e.answer) else None
 
-run_traces : (node number : ℕ) (all es : List Entry) (time : ℕ) (s : PlainIface) → IsRun party_steps time (an_iface s) es → IsNamed node number s
-    → ((n : ℕ) → s.serial ≤ n → filter_map (shown_in n) all ≡ filter_map (shown_in n) es) → HaveTraces (IsBegun node number all) s.frames
-    → AllByRecursion (IsFrameOf (IsBegun node number all)) (puts (queue.Tx number) es)
-run_traces node number all [] time s run named alike h = tt
-run_traces node number all (e ∷ es) time s run named alike h =
-    let Q : Trace → Type 0 = IsBegun node number all in
+run_sent : (node number : ℕ) (kind : LinkKind) (mtu : ℕ) (all es : List Entry) (time : ℕ) (s : PlainIface) → IsRun party_steps time (an_iface s) es → IsOn node number kind mtu s
+    → ((n : ℕ) → s.serial ≤ n → filter_map (shown_in n) all ≡ filter_map (shown_in n) es) → AllByRecursion (IsSentIn node number kind mtu all) s.frames
+    → AllByRecursion (IsSuchFrame (IsSentIn node number kind mtu all)) (puts (queue.Tx number) es)
+run_sent node number kind mtu all [] time s run on alike h = tt
+run_sent node number kind mtu all (e ∷ es) time s run on alike h =
+    let Q : Frame → Type 0 = IsSentIn node number kind mtu all in
     let p : Plan = plan_of s in
     let k : ℕ = (concluded (asked s e.time) e.time e.answer).refused in
     let fresh : IsFreshIn Q s p e.answer =
-    fresh_turn node number all s e.time k (filter_map (shown_in s.serial) es) p e.answer named
+    fresh_turn node number kind mtu all s e.time k (filter_map (shown_in s.serial) es) p e.answer on
     (alike s.serial (le_refl s.serial) ∙ ap (λ o. cons_option o (filter_map (shown_in s.serial) es)) (shown_step s.serial s e run.1)) in
-    AllByRecursion-append (IsFrameOf Q) (put_by (queue.Tx number) e.op e.answer) (puts (queue.Tx number) es)
-    (subst (λ o. AllByRecursion (IsFrameOf Q) (put_by (queue.Tx number) o e.answer)) (sym run.1.op) (put_traces Q number s p e.answer h))
-    (run_traces node number all es e.time (tells (asked s e.time) e.time e.answer) run.2 (step_named node number s e.time e.answer named)
+    AllByRecursion-append (IsSuchFrame Q) (put_by (queue.Tx number) e.op e.answer) (puts (queue.Tx number) es)
+    (subst (λ o. AllByRecursion (IsSuchFrame Q) (put_by (queue.Tx number) o e.answer)) (sym run.1.op) (put_such Q number s p e.answer h))
+    (run_sent node number kind mtu all es e.time (tells (asked s e.time) e.time e.answer) run.2 (step_on node number kind mtu s e.time e.answer on)
     (λ n le. alike n (omega (arith, le, told_serial s e.time p e.answer))
     ∙ ap (λ o. cons_option o (filter_map (shown_in n) es)) (shown_step n s e run.1 ∙ turn_silent n s e.time p e.answer k le))
-    (told_traces Q s e.time p e.answer h run.1.fits fresh))
+    (told_such Q s e.time p e.answer h run.1.fits fresh))
 
--- each frame that an interface pushed to its link has the trace of a transmission that its entries show
-pub transmitted_all : (node number : ℕ) (k : LinkKind) (mtu : ℕ) (es : List Entry) → IsRun party_steps 0 (an_iface (opening node number k mtu)) es
+-- each frame that an interface pushed to its link is one of a transmission that its entries show
+pub sent_frames : (node number : ℕ) (kind : LinkKind) (mtu : ℕ) (es : List Entry) → IsRun party_steps 0 (an_iface (opening node number kind mtu)) es
+    → AllByRecursion (IsSuchFrame (IsSentIn node number kind mtu es)) (puts (queue.Tx number) es)
+sent_frames node number kind mtu es run = run_sent node number kind mtu es es 0 (opening node number kind mtu) run (refl, refl, refl, refl) (λ n le. refl) tt
+
+-- and so it has the trace of that transmission
+pub sent_traced : (node number : ℕ) (kind : LinkKind) (mtu : ℕ) (es : List Entry) (f : Frame) → IsSentIn node number kind mtu es f → IsBegun node number es f.trace
+sent_traced node number kind mtu es f is =
+    let t : Trace = sent_trace node number is.serial is.packet.trace in
+    record {
+      serial = is.serial;
+      packet = is.packet;
+      shown = is.shown;
+      trace = each_at (λ g. g.trace ≡ t) (frames_of kind is.serial (next_node is.mark is.packet.header) is.packet t) is.place f
+          (frames_traces (λ u. u ≡ t) kind is.serial (next_node is.mark is.packet.header) is.packet t refl) is.among;
+    }
+
+begun_item : (node number : ℕ) (kind : LinkKind) (mtu : ℕ) (es : List Entry) (i : ItemShown) → IsSuchFrame (IsSentIn node number kind mtu es) i → IsFrameOf (IsBegun node number es) i
+begun_item node number kind mtu es (item.Frame f) is = sent_traced node number kind mtu es f is
+begun_item node number kind mtu es (item.Packet _ _) is = tt
+begun_item node number kind mtu es (item.Note _) is = tt
+
+pub transmitted_all : (node number : ℕ) (kind : LinkKind) (mtu : ℕ) (es : List Entry) → IsRun party_steps 0 (an_iface (opening node number kind mtu)) es
     → AllByRecursion (IsFrameOf (IsBegun node number es)) (puts (queue.Tx number) es)
-transmitted_all node number k mtu es run = run_traces node number es es 0 (opening node number k mtu) run (refl, refl) (λ n le. refl) tt
+transmitted_all node number kind mtu es run =
+    AllByRecursion-map (IsSuchFrame (IsSentIn node number kind mtu es)) (IsFrameOf (IsBegun node number es)) (puts (queue.Tx number) es) (begun_item node number kind mtu es) (sent_frames node number kind mtu es run)

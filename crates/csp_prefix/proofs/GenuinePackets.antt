@@ -41,13 +41,13 @@ use Rattle.csp_topology.specs.Parties.{config_of}
 use Rattle.csp_consistent.specs.Reading.{entries_of, gets, left_in, puts, with_priority}
 use Rattle.csp_prefix.specs.Routers.{AreShown, AreTrueRouters, HearsGenuine, IsGenuineItem, IsTrueRouter}
 use Rattle.csp_consistent.proofs.Across.{through}
-use Rattle.csp_consistent.proofs.Each.{each_first}
+use Rattle.csp_consistent.proofs.Each.{each_at, each_first, first_given}
 use Rattle.csp_prefix.proofs.FlowReads.{said_is, said_of}
 use Rattle.csp_prefix.proofs.HubLogs.{bridge_keeps, bridge_puts, iface_shows, router_keeps, router_sends}
 use Rattle.csp_consistent.proofs.Names.{Logged}
 use Rattle.csp_prefix.proofs.NodeLanes.{RouterThere, out_lane_there, owner_of, router_there, run_of}
 use Rattle.csp_consistent.proofs.Owners.{IsBridgeAt, IsIfaceAt, IsOf}
-use Rattle.csp_prefix.proofs.PacketLists.{IsOfKind, accepted_of, by_mark, by_priority, each_any, each_at, each_both, each_of_priority, first_given, iface_entries_in, none_counted}
+use Rattle.csp_prefix.proofs.PacketLists.{IsOfKind, accepted_of, by_mark, by_priority, each_any, each_both, each_of_priority, iface_entries_in, none_counted}
 use Rattle.csp_consistent.proofs.Planned.{logged}
 
 -- the flows that a record shows

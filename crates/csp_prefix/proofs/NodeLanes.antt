@@ -24,11 +24,11 @@ use Rattle.csp_consistent.specs.Runs.{AreLogsOf}
 use Rattle.csp_consistent.proofs.Across.{through}
 use Rattle.csp_prefix.proofs.AppItems.{puts_up_items}
 use Rattle.csp_prefix.proofs.AppTurns.{true_apps}
-use Rattle.csp_consistent.proofs.Each.{each_first, each_last}
+use Rattle.csp_consistent.proofs.Each.{each_at, each_first, each_last}
 use Rattle.csp_prefix.proofs.HubLogs.{app_run, comes_so, router_run, serves_own}
 use Rattle.csp_consistent.proofs.Names.{Logged}
 use Rattle.csp_consistent.proofs.Owners.{IsAppAt, IsOf, IsOwner, IsRouterAt}
-use Rattle.csp_prefix.proofs.PacketLists.{each_at, each_both}
+use Rattle.csp_prefix.proofs.PacketLists.{each_both}
 use Rattle.csp_consistent.proofs.Planned.{logged}
 
 -- ---- lanes

@@ -42,11 +42,6 @@ pub each_both : {X : Type 0} (P Q R : X → Type 0) (xs : List X) → ((x : X) �
 each_both P Q R [] h ps qs = tt
 each_both P Q R (x ∷ xs) h ps qs = (h x ps.0 qs.0, each_both P Q R xs h ps.1 qs.1)
 
-pub each_at : {X : Type 0} (P : X → Type 0) (xs : List X) (k : ℕ) (x : X) → AllByRecursion P xs → slice_get xs k ≡ Some x → P x
-each_at P [] k x all e = absurd cc
-each_at P (y ∷ xs) zero x all e = subst P (ap (λ o. unwrap_or o y) e) all.0
-each_at P (y ∷ xs) (suc k) x all e = each_at P xs k x all.1 e
-
 each_flat : {X Y : Type 0} (P : X → Type 0) (Q : Y → Type 0) (f : X → List Y) (xs : List X) → ((x : X) → P x → AllByRecursion Q (f x)) → AllByRecursion P xs → AllByRecursion Q (flat_map f xs)
 each_flat P Q f [] h all = tt
 each_flat P Q f (x ∷ xs) h all = AllByRecursion-append Q (f x) (flat_map f xs) (h x all.0) (each_flat P Q f xs h all.1)
@@ -64,16 +59,6 @@ none_counted test (x ∷ xs) e =
     by false h rest =
         let all : cond (test x) 1 0 + count_by test xs ≡ 0 = sym (sum_by-cons (λ y. cond (test y) 1 0) x xs) ∙ e in
         (h, rest (omega (arith, all, ap {B = ℕ} (λ b. cond b 1 0) h)))
-
--- the first that a function gives is one that it gives
-pub first_given : {X Y : Type 0} (R : Y → Type 0) (f : X → Option Y) (xs : List X) (y : Y) → slice_get (filter_map f xs) 0 ≡ Some y → AllByRecursion (λ x. (z : Y) → f x ≡ Some z → R z) xs → R y
-first_given R f [] y e all = absurd cc
-first_given {X} {Y} R f (x ∷ xs) y e all =
-    by (f x) refl e (λ is. first_given R f xs y is all.1)
-  where
-    by : (o : Option Y) → f x ≡ o → slice_get (cons_option o (filter_map f xs)) 0 ≡ Some y → (slice_get (filter_map f xs) 0 ≡ Some y → R y) → R y
-    by None h is rest = rest is
-    by (Some z) h is rest = subst R (ap (λ o. unwrap_or o z) is) (all.0 z h)
 
 -- ---- packets among items
 

@@ -3,3 +3,4 @@ mod OpeningNumbers
 mod Owing
 mod Prefix
 mod Untaken
+mod Unchanged

@@ -1,5 +1,6 @@
 -- What a call of the program owes: what it writes by what it read, and when each answer comes.
-use Rattle.std.specs.Prelude.{ℕ, ◌≡◌, ◌≤◌, List, [], ◌++◌, length, Option, None, Some, Ok, IfSome, ⊤}
+use Rattle.std.specs.Prelude.{ℕ, ◌≡◌, ◌≤◌, List, [], ◌∷◌, ◌++◌, length, Option, None, Some, Ok, IfSome, ⊤, codes}
+use Rattle.std.specs.Fmt.{decimal}
 use Rattle.csp_base.specs.Faults.{Rose}
 use Rattle.csp_base.specs.Transfer.{WrotePrefix}
 use Rattle.std.specs.Io.KnownBytes.{Appends}
@@ -7,6 +8,8 @@ use Rattle.csp_scene.specs.Scene.{PlainScene}
 use Rattle.csp_scene.specs.Judge.{scene_of}
 use Rattle.csp_record.specs.Record.{PlainRecord}
 use Rattle.csp_world.specs.Record.{sim_record}
+use Rattle.csp_ordinary.specs.Ordinary.{HasNoFlips, HasNumbersForAll, IsOrdinary}
+use Rattle.csp_report.specs.Lines.{ended_line}
 use Rattle.csp_report.specs.Report.{report}
 use Rattle.csp_consistent.specs.Consistent.{IsConsistent}
 use Rattle.csp_report.specs.PlacesAddUp.{PlacesAddUp}
@@ -15,7 +18,13 @@ use Rattle.csp_top.specs.declared.status.Status.{Status}
 use Rattle.csp_top.specs.declared.status.Status.TheVariants as status
 use Rattle.csp_top.specs.declared.status.TheConstants.{MAX_SCENARIO}
 
--- the text states a scene, whose run ends before its logs are full; its record is consistent with the scene, and these bytes are its report
+-- the bytes of a report end with the line `passed 0`
+pub record EndsUnchanged (bytes : List ℕ) : Type 0 where
+  pub before : List ℕ
+  pub whole : bytes ≡ before ++ ended_line (codes "passed" ∷ decimal 0 ∷ [])
+
+-- the text states a scene, whose run ends before its logs are full; its record is consistent with the scene, and these bytes are its report. Where
+-- the run was ordinary, they end with `passed 0`; so they do where no line of the scenario flips a bit and no bus wore out its numbers
 pub record IsReportOf (text bytes : List ℕ) : Type 0 where
   pub scene : PlainScene
   pub run : PlainRecord
@@ -23,6 +32,8 @@ pub record IsReportOf (text bytes : List ℕ) : Type 0 where
   pub ran : sim_record scene ≡ Some run
   pub consistent : IsConsistent scene run
   pub reported : bytes ≡ report scene run
+  pub passes : IsOrdinary scene run → EndsUnchanged bytes
+  pub unflipped : HasNoFlips scene → HasNumbersForAll scene run → EndsUnchanged bytes
 
 -- the text states a scene whose logs reach the entry limit
 pub record IsPastEntries (text : List ℕ) : Type 0 where

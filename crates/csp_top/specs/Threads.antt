@@ -6,15 +6,18 @@ use Rattle.csp_base.specs.Transfer.{WrotePrefix}
 use Rattle.csp_consistent.specs.Threaded.{IsThreaded}
 use Rattle.csp_node.specs.Runs.{HasStopped}
 use Rattle.csp_record.specs.Record.{PlainRecord}
+use Rattle.csp_ordinary.specs.Ordinary.{HasNoFlips, HasNumbersForAll, IsOrdinary}
 use Rattle.csp_report.specs.Report.{report}
 use Rattle.csp_scene.specs.Judge.{scene_of}
 use Rattle.csp_scene.specs.Scene.{PlainScene}
 use Rattle.csp_world.specs.declared.limits.TheConstants.{MAX_ENTRIES}
+use Rattle.csp_top.specs.Main.{EndsUnchanged}
 use Rattle.csp_top.specs.declared.status.Status.{Status}
 use Rattle.csp_top.specs.declared.status.Status.TheVariants as status
 use Rattle.csp_top.specs.declared.status.TheConstants.{MAX_SCENARIO}
 
--- the text states a scene, and these bytes are the report of a record that can be one of its run in threads and tells why that stopped
+-- the text states a scene, and these bytes are the report of a record that can be one of its run in threads and tells why that stopped. Where the run
+-- was ordinary, they end with `passed 0`; so they do where no line of the scenario flips a bit and no bus wore out its numbers
 pub record IsRunReportOf (text bytes : List ℕ) : Type 0 where
   pub scene : PlainScene
   pub run : PlainRecord
@@ -22,6 +25,8 @@ pub record IsRunReportOf (text bytes : List ℕ) : Type 0 where
   pub threaded : IsThreaded scene run
   pub stopped : HasStopped scene.until MAX_ENTRIES run
   pub reported : bytes ≡ report scene run
+  pub passes : IsOrdinary scene run → EndsUnchanged bytes
+  pub unflipped : HasNoFlips scene → HasNumbersForAll scene run → EndsUnchanged bytes
 
 -- the whole report of such a run was written
 abbrev pub WroteRun : List ℕ → Option (List ℕ) → Option (List ℕ) → Type 0

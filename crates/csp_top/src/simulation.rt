@@ -5,6 +5,7 @@ ghost use Rattle.std.specs.Prelude.{◌≡◌, ◌≢◌, ◌≤◌, ◌+◌, �
 ghost use Rattle.csp_base.specs.Faults.{Rose};
 ghost use Rattle.csp_base.specs.Transfer.{TookAtMost, TookExactly};
 ghost use Rattle.csp_consistent.specs.Consistent.{IsConsistent};
+ghost use Rattle.csp_ordinary.specs.Ordinary.{HasNoFlips, HasNumbersForAll, IsOrdinary};
 ghost use Rattle.csp_record.specs.Whole.{IsWhole};
 ghost use Rattle.csp_report.specs.Report.{report};
 ghost use Rattle.csp_scene.specs.Judge.{scene_of};
@@ -13,7 +14,7 @@ ghost use Rattle.csp_scene.specs.Naming.{AreNamedApart};
 ghost use Rattle.csp_scene.specs.Ranges.{IsScene};
 ghost use Rattle.csp_scene.specs.Scene.{moves_in};
 ghost use Rattle.csp_scene.specs.declared.refusal.SceneKind.{SceneKind};
-ghost use Rattle.csp_top.specs.Main.{WroteReport, WrotePart, WasRead, WroteReliably, WroteWhole, IsReportOf, IsPastEntries, IsUnhindered, IsDoneOrNoMemory};
+ghost use Rattle.csp_top.specs.Main.{EndsUnchanged, WroteReport, WrotePart, WasRead, WroteReliably, WroteWhole, IsReportOf, IsPastEntries, IsUnhindered, IsDoneOrNoMemory};
 ghost use Rattle.csp_top.specs.Statuses.{status_of_read, status_of};
 ghost use Rattle.csp_report.specs.PlacesAddUp.{PlacesAddUp};
 ghost use Rattle.csp_report.specs.ReliablePrefix.{HasReliablePrefix};
@@ -22,6 +23,7 @@ use crate::laws::tells_reliable_prefix;
 use crate::numbers::hold_numbers;
 use crate::status::{LimitKind, MAX_SCENARIO, Status};
 use csp_base::{ReadError, Sink, Source, read_up_to, write_whole};
+use csp_ordinary::{hold_words, passes_nothing, undamaged_without_flips};
 use csp_prefix::{opens_on_slots, takes_a_prefix};
 use csp_record::Record;
 use csp_report::report;
@@ -149,17 +151,23 @@ pub(crate) fn read_scene(alloc: Global, text: &[u8]) -> Result<Scene, Refusal>
 pub(crate) fn told(alloc: Global, run: &Record, scene: &Scene) -> Result<Vec<u8>, Refusal>
     requires ranges { IsScene scene.now }
     requires apart { AreNamedApart scene.now.nodes }
+    requires ends { AreLinksAfter (length scene.now.nodes) [] scene.now.links }
     requires consistent { IsConsistent scene.now run.now }
     requires whole { IsWhole (map (λ n. n.buffers) scene.now.nodes) run.now }
     ensures bytes { IfOk result (λ bytes. bytes.items ≡ report scene.now run.now) }
     ensures places { IfOk result (λ bytes. PlacesAddUp bytes.items) }
     ensures reliable { IfOk result (λ bytes. HasReliablePrefix bytes.items) }
+    ensures passes { IfOk result (λ bytes. IsOrdinary scene.now run.now → EndsUnchanged bytes.items) }
+    ensures unflipped { IfOk result (λ bytes. HasNoFlips scene.now → HasNumbersForAll scene.now run.now → EndsUnchanged bytes.items) }
     ensures refused { IfErr result (λ why. why ≡ Refusal.NoMemory) }
 {
     takes_a_prefix();
     opens_on_slots();
     tells_reliable_prefix();
+    passes_nothing();
+    undamaged_without_flips();
     hold_numbers(run);
+    hold_words(run);
     match report(alloc, run, scene) {
         Ok(bytes) => Ok(bytes),
         Err(_) => Err(Refusal::NoMemory),

@@ -1,0 +1,75 @@
+-- The header of each packet whose transmission a record shows is a word, where those of all that were fetched are.
+use Rattle.std.proofs.Common.{◌≡◌, ℕ, zero, suc, ◌+◌, ◌<◌, ◌^◌, Bool, true, false, Option, None, Some, List, [], ◌∷◌, filter_map, flat_map, slice_get, take, refl, sym, ap, ◌∙◌, add-one, subst}
+use Rattle.std.specs.List.{AllByRecursion, cons_option, list_any}
+use Rattle.std.specs.Option.{option_and_then}
+use Rattle.std.specs.Prelude.{if◌then◌else◌, IfSome}
+use Rattle.csp_base.specs.declared.traces.Origin.{Origin}
+use Rattle.csp_buffer.specs.Content.{Content}
+use Rattle.csp_log.specs.Idling.{IsIdle}
+use Rattle.csp_log.specs.Moving.{moved_in}
+use Rattle.csp_log.specs.declared.entry.Entry.{Entry}
+use Rattle.csp_record.specs.Record.{PlainPartyLog, PlainRecord}
+use Rattle.csp_record.specs.Transmissions.{fetched, iface_entries, is_beginning, shown_in, transmission}
+use Rattle.csp_record.specs.Who.{is_iface}
+use Rattle.csp_scene.proofs.Lists.{AllByRecursion-append}
+use Rattle.csp_consistent.proofs.Each.{first_given}
+use Rattle.csp_ordinary.specs.Words.{HasWords, IsWord, all_fetched}
+
+-- ---- entry by entry
+
+all_more : {X Y : Type 0} (P : Y → Type 0) (g : X → Option Y) (xs : List X) (k : ℕ) → AllByRecursion P (filter_map g (take k xs)) → IfSome (option_and_then g (slice_get xs k)) P → AllByRecursion P (filter_map g (take (suc k) xs))
+all_more P g [] zero all here = tt
+all_more P g [] (suc k) all here = tt
+all_more {X} {Y} P g (x ∷ xs) zero all here = by (g x) here
+  where
+    by : (o : Option Y) → IfSome o P → AllByRecursion P (cons_option o [])
+    by None h = tt
+    by (Some y) h = (h, tt)
+all_more {X} {Y} P g (x ∷ xs) (suc k) all here = by (g x) all (λ rest. all_more P g xs k rest here)
+  where
+    by : (o : Option Y) → AllByRecursion P (cons_option o (filter_map g (take k xs))) → (AllByRecursion P (filter_map g (take k xs)) → AllByRecursion P (filter_map g (take (suc k) xs))) → AllByRecursion P (cons_option o (filter_map g (take (suc k) xs)))
+    by None h rest = rest h
+    by (Some y) h rest = (h.0, rest h.1)
+
+pub all_next : {X Y : Type 0} (P : Y → Type 0) (g : X → Option Y) (xs : List X) (k : ℕ) → AllByRecursion P (filter_map g (take k xs)) → IfSome (option_and_then g (slice_get xs k)) P → AllByRecursion P (filter_map g (take (k + 1) xs))
+all_next P g xs k all here = rw (add-one k) (all_more P g xs k all here)
+
+-- an idle entry fetched nothing
+pub fetched_nothing : (e : Entry) → IsIdle e → fetched (moved_in e) ≡ None
+fetched_nothing e idle = ap fetched idle.moved
+
+-- ---- what a record shows
+
+pub none_some : (c : Content) → ◌≡◌ {A = Option Content} None (Some c) → ⊥
+none_some c e = cc
+
+pub some_same : (a b : Content) → ◌≡◌ {A = Option Content} (Some a) (Some b) → a ≡ b
+some_same a b e = cc
+
+shown_fetched : (b : Bool) (o : Option Content) (c : Content) → (if b then o else None) ≡ Some c → o ≡ Some c
+shown_fetched true o c e = e
+shown_fetched false o c e = absurd cc
+
+shown_words : (serial : ℕ) (es : List Entry) → AllByRecursion IsWord (all_fetched es) → AllByRecursion (λ e. (c : Content) → shown_in serial e ≡ Some c → IsWord c) es
+shown_words serial [] all = tt
+shown_words serial (e ∷ es) all =
+    by (fetched (moved_in e)) refl all (λ rest. shown_words serial es rest)
+  where
+    by : (o : Option Content) → fetched (moved_in e) ≡ o → AllByRecursion IsWord (cons_option o (all_fetched es)) → (AllByRecursion IsWord (all_fetched es) → AllByRecursion (λ e. (c : Content) → shown_in serial e ≡ Some c → IsWord c) es)
+        → AllByRecursion (λ e. (c : Content) → shown_in serial e ≡ Some c → IsWord c) (e ∷ es)
+    by None is h rest = (λ c f. absurd (none_some c (sym is ∙ shown_fetched (list_any (is_beginning serial) e.events.items) (fetched (moved_in e)) c f)), rest h)
+    by (Some d) is h rest = (λ c f. subst IsWord (some_same d c (sym is ∙ shown_fetched (list_any (is_beginning serial) e.events.items) (fetched (moved_in e)) c f)) h.0, rest h.1)
+
+iface_words : (node number serial : ℕ) (parties : List PlainPartyLog) → AllByRecursion (λ party. AllByRecursion IsWord (all_fetched party.entries)) parties
+    → AllByRecursion (λ e. (c : Content) → shown_in serial e ≡ Some c → IsWord c) (iface_entries parties node number)
+iface_words node number serial [] all = tt
+iface_words node number serial (party ∷ parties) all =
+    AllByRecursion-append (λ (e : Entry). (c : Content) → shown_in serial e ≡ Some c → IsWord c) (if is_iface node number party.who then party.entries else []) (iface_entries parties node number)
+    (by (is_iface node number party.who)) (iface_words node number serial parties all.1)
+  where
+    by : (b : Bool) → AllByRecursion (λ e. (c : Content) → shown_in serial e ≡ Some c → IsWord c) (if b then party.entries else [])
+    by true = shown_words serial party.entries all.0
+    by false = tt
+
+pub word_of : (r : PlainRecord) → HasWords r → (o : Origin) (b : Content) → transmission r o ≡ Some b → b.header < 2 ^ 32
+word_of r words o b e = first_given IsWord (shown_in o.serial) (iface_entries r.parties o.node o.iface) b e (iface_words o.node o.iface o.serial r.parties words)

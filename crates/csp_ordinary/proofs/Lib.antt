@@ -1,0 +1,10 @@
+pub mod AsSent
+pub mod Buses
+pub mod Coming
+pub mod Counting
+pub mod Fragments
+pub mod Nothing
+pub mod Serials
+pub mod Streams
+pub mod Unflipped
+pub mod Headers

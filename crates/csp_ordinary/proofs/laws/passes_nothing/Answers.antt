@@ -1,0 +1,5 @@
+use Rattle.csp_ordinary.proofs.Nothing.{passed_none}
+use Rattle.csp_ordinary.proofs.laws.passes_nothing.Goals as goal
+
+pub returns : goal.returns
+returns c = passed_none
