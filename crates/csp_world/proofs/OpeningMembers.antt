@@ -92,7 +92,7 @@ pub world-push : (w : Inside) (members : Vec Member Global) (room : Room) (buffe
     → members.items ≡ w.members.items ++ m ∷ [] → IsNew w.decks.decks w.decks.links (opens m.who (plain m.party)) → HasNumbers w.decks.decks (node_of m.who) buffers
     → ((node : ℕ) → node_of m.who ≡ Some node → slice_get w.decks.regions node ≡ Some (region_of m.party))
     → m.numbers.items ≡ [] → buffers ≤ vec_capacity m.numbers → m.log.spare ≡ 0
-    → length w.members.items + 1 < 2 ^ 31 → HasRoom w.decks.decks (length w.members.items + 1) room
+    → length w.members.items + 1 ≤ MAX_PARTIES → HasRoom w.decks.decks (length w.members.items + 1) room
     → IsWorld (record { decks = w.decks; members = members; time = w.time; room = room; desk = w.desk; boxes = w.boxes })
 world-push w members room buffers m h e new numbers home none fits spare few more =
     let l : length members.items ≡ length w.members.items + 1 = ap (λ (ms : List Member). length ms) e ∙ length-append w.members.items (m ∷ []) in
