@@ -13,7 +13,7 @@ abbrev pub weight_before : ℕ → PlainRecord → ℕ
 weight_before round r = sum_by (λ (log : PlainPartyLog). weight_of_all (early round log.entries)) r.parties
 
 -- it made no more rounds than this; before its last round its entries weighed less than the limit; and where it is not finished, it made as many
--- rounds, or its entries weigh as much as the limit
+-- rounds, or its entries weigh the limit at least
 pub record HasStopped (until limit : ℕ) (r : PlainRecord) : Type 0 where
   pub most : r.rounds ≤ until
   pub before : 0 < r.rounds → weight_before (r.rounds - 1) r < limit
