@@ -243,6 +243,22 @@ refused 'a stream of 1,048,577 bytes' 6 'cspsim: limit Bytes 1048576' tap
 cp "$here/measure/limit.scn" "$work/in"
 fed 'a run up to the limit of entries' 6 'cspsim: limit Entries 4000000'
 
+# 6: fewer turns, by steps, in which a link finds the lanes at both its ends full, so that each shows a frame of 4,095 bytes
+# twice and weighs eight.
+{
+  printf '%s\n' 'until 1' 'node a 1 buffers 16' 'node b 2 buffers 16' 'link l kiss a b mtu 2042' 'route a 3 l' 'route b 3 l'
+  for number in {1..8}; do printf 'fault l ab %d repeat 7\nfault l ba %d repeat 7\n' "$number" "$number"; done
+  for app in 'a x' 'b y'; do
+    echo "app $app"
+    times 8 'raw 82328a00 00'
+    echo "raw 82328a00 $(times 2042 c0 | tr -d '\n')"
+    echo 'recv 0 1'
+  done
+  times 60 'schedule steps a.x a a a.l a.l b.y b b b.l b.l'
+  times 500050 l | paste -sd ' ' | fold -w 8000 | sed 's/^/schedule steps /'
+} > "$work/in"
+fed 'a run by steps whose entries weigh eight each' 6 'cspsim: limit Entries 4000000'
+
 # The script, in a copy without a program. What it says in brackets on standard error is left out.
 copy=$work/copy
 mkdir "$copy" "$work/stub" || exit 70

@@ -1,12 +1,13 @@
 -- What the record of a network that has been run says of its logs.
-use Rattle.std.proofs.Common.{◌≡◌, inl, inr, ℕ, ◌-◌, ◌<◌, ◌≤◌, List, length, sum_by, sym, ap, ◌∙◌, subst}
+use Rattle.std.proofs.Common.{◌≡◌, inl, inr, ℕ, ◌-◌, ◌<◌, ◌≤◌, List, sum_by, sym, ap, ◌∙◌, subst}
 use Rattle.csp_consistent.specs.Rounds.{HaveMadeRounds, early}
 use Rattle.csp_fabric.specs.declared.fabric.Fabric.{Fabric}
 use Rattle.csp_flow.specs.Closed.{IsClosed, log_of}
+use Rattle.csp_log.specs.Weights.{weight_of_all}
 use Rattle.csp_node.proofs.Entries.{sum_mapped}
 use Rattle.csp_node.proofs.Rounds.{finished_done, rounds_made}
-use Rattle.csp_node.specs.Rounds.{HasRun, entries_early, entries_of, plains}
-use Rattle.csp_node.specs.Runs.{HasStopped, entries_before, entries_in}
+use Rattle.csp_node.specs.Rounds.{HasRun, plains, weight, weight_early}
+use Rattle.csp_node.specs.Runs.{HasStopped, weight_before, weight_in}
 use Rattle.csp_posts.specs.Seen.{SeenPost}
 use Rattle.csp_prompt.specs.Played.{are_done, logs_of}
 use Rattle.csp_record.specs.Record.{PlainPartyLog, PlainRecord}
@@ -23,21 +24,21 @@ module _ (scene : PlainScene) (f : Fabric) (limit : ℕ) (posts : List SeenPost)
   pub finished : r.finished ≡ are_done (plains posts)
   finished = closed.told.finished ∙ finished_done (plains posts)
 
-  entries_same : entries_in r ≡ entries_of (plains posts)
-  entries_same = ap (sum_by (λ (log : PlainPartyLog). length log.entries)) closed.told.parties ∙ sum_mapped (λ (log : PlainPartyLog). length log.entries) log_of (plains posts)
+  weight_same : weight_in r ≡ weight (plains posts)
+  weight_same = ap (sum_by (λ (log : PlainPartyLog). weight_of_all log.entries)) closed.told.parties ∙ sum_mapped (λ (log : PlainPartyLog). weight_of_all log.entries) log_of (plains posts)
 
-  before_same : (round : ℕ) → entries_before round r ≡ entries_early round (plains posts)
+  before_same : (round : ℕ) → weight_before round r ≡ weight_early round (plains posts)
   before_same round =
-      ap (sum_by (λ (log : PlainPartyLog). length (early round log.entries))) closed.told.parties ∙ sum_mapped (λ (log : PlainPartyLog). length (early round log.entries)) log_of (plains posts)
+      ap (sum_by (λ (log : PlainPartyLog). weight_of_all (early round log.entries))) closed.told.parties ∙ sum_mapped (λ (log : PlainPartyLog). weight_of_all (early round log.entries)) log_of (plains posts)
 
   pub stopped : HasStopped scene.until limit r
   stopped = record {
     most = subst (λ (n : ℕ). n ≤ scene.until) (sym same_rounds) run.most;
     before = λ some.
         subst (λ (n : ℕ). n < limit) (sym (before_same (r.rounds - 1)))
-        (subst (λ (n : ℕ). 0 < n → entries_early (n - 1) (plains posts) < limit) (sym same_rounds) run.between.before some);
+        (subst (λ (n : ℕ). 0 < n → weight_early (n - 1) (plains posts) < limit) (sym same_rounds) run.between.before some);
     unfinished = λ e. elim (run.unfinished (sym finished ∙ e)) [
       | inl all ↦ inl (same_rounds ∙ all)
-      | inr full ↦ inr (subst (λ (n : ℕ). limit ≤ n) (sym entries_same) full)
+      | inr full ↦ inr (subst (λ (n : ℕ). limit ≤ n) (sym weight_same) full)
     ];
   }

@@ -1,13 +1,13 @@
--- How many entries logs have.
+-- How many entries logs have, and what they weigh.
 use Rattle.std.proofs.Common.{◌≡◌, ◌⊎◌, inl, inr, ℕ, suc, true, ◌+◌, ◌-◌, ◌*◌, ◌<◌, ◌≤◌, ◌^◌, List, [], ◌∷◌, length, map, sum_by, refl, sym, ap, ◌∙◌, subst, arith, length-append, le_of_eq}
 use Rattle.std.specs.List.{AllByRecursion, AllZip}
 use Rattle.std.proofs.lemmas.List.Sums.{sum_by-cons}
-use Rattle.std.proofs.lemmas.List.{length-map}
 use Rattle.csp_consistent.specs.Rounds.{early}
 use Rattle.csp_deck.specs.Runs.{last_time}
 use Rattle.csp_ends.specs.Ends.{PlainNodeQueues}
+use Rattle.csp_log.specs.Weights.{weight_of_all}
 use Rattle.csp_log.specs.declared.entry.Entry.{Entry}
-use Rattle.csp_node.specs.Rounds.{IsShort, entries_early, entries_of, plains}
+use Rattle.csp_node.specs.Rounds.{IsShort, plains, weight, weight_early}
 use Rattle.csp_party.specs.Any.{has_ended}
 use Rattle.csp_posts.specs.Between.{HasHeard}
 use Rattle.csp_posts.specs.Posts.{AreTurns, PlainPost}
@@ -19,29 +19,7 @@ pub sum_mapped : {X Y : Type 0} (f : Y → ℕ) (g : X → Y) (xs : List X) → 
 sum_mapped f g [] = refl
 sum_mapped f g (x ∷ xs) = sum_by-cons f (g x) (map g xs) ∙ ap (λ (n : ℕ). f (g x) + n) (sum_mapped f g xs) ∙ sym (sum_by-cons (λ y. f (g y)) x xs)
 
-sum_short : (most : ℕ) (posts : List PlainPost) → AllByRecursion (λ s. length s.entries ≤ most) posts → entries_of posts ≤ length posts * most
-sum_short most [] all = omega arith
-sum_short most (s ∷ posts) all =
-    let first : length s.entries ≤ most = all.0 in
-    let rest : entries_of posts ≤ length posts * most = sum_short most posts all.1 in
-    subst (λ (n : ℕ). n ≤ length (s ∷ posts) * most) (sym (sum_by-cons (λ (t : PlainPost). length t.entries) s posts)) (added (length s.entries) (entries_of posts) (length posts) most first rest)
-  where
-    added : (a b n m : ℕ) → a ≤ m → b ≤ n * m → a + b ≤ suc n * m
-    added a b n m h k = omega (arith, h, k)
-
--- so many entries can be counted
-pub few_entries : (rounds : ℕ) (posts : List SeenPost) → AllByRecursion (IsShort rounds) (plains posts) → rounds ≤ 2 ^ 20 → length posts ≤ 2 ^ 20 → entries_of (plains posts) < 2 ^ 64
-few_entries rounds posts short few parties =
-    bound (entries_of (plains posts)) (length (plains posts)) (sum_short (2 ^ 23) (plains posts) (each_short (plains posts) short)) (omega (arith, parties, length-map posts (λ (s : SeenPost). s.plain)))
-  where
-    each_short : (posts : List PlainPost) → AllByRecursion (IsShort rounds) posts → AllByRecursion (λ s. length s.entries ≤ 2 ^ 23) posts
-    each_short [] all = tt
-    each_short (s ∷ posts) all = (omega (arith, all.0, few), each_short posts all.1)
-
-    bound : (n k : ℕ) → n ≤ k * 2 ^ 23 → k ≤ 2 ^ 20 → n < 2 ^ 64
-    bound n k h g = omega (arith, h, g)
-
--- and more go in
+-- a log has room for the turns of a round
 pub room_left : (rounds : ℕ) (posts : List SeenPost) → AllByRecursion (IsShort rounds) (plains posts) → rounds ≤ 2 ^ 20 → AllByRecursion (λ s. length s.plain.entries + 8 ≤ 2 ^ 32 - 2) posts
 room_left rounds [] short few = tt
 room_left rounds (s ∷ posts) short few = (omega (arith, short.0, few), room_left rounds posts short.1 few)
@@ -70,18 +48,18 @@ all_short nodes now (r ∷ posts) [] after m turns all = absurd m
 all_short nodes now [] [] (t ∷ after) m turns all = absurd turns
 all_short nodes now (r ∷ posts) (s ∷ met) [] m turns all = absurd turns
 
--- before it the logs had the entries of the round before
+-- before it the logs had the entries of the rounds before
 before_turns : (nodes : List PlainNodeQueues) (now : ℕ) (s t : PlainPost) → AreTurns nodes now 8 s t → AllByRecursion (λ e. e.time < now) s.entries → early now t.entries ≡ s.entries
 before_turns nodes now s t turns old = ap (early now) turns.entries ∙ early_now now now s.entries turns.more old turns.times refl
 
 pub early_after : (nodes : List PlainNodeQueues) (now : ℕ) (posts met after : List PlainPost) → AllZip HasHeard posts met → AllZip (AreTurns nodes now 8) met after → AllByRecursion (λ s. AllByRecursion (λ e. e.time < now) s.entries) posts
-    → entries_early now after ≡ entries_of posts
+    → weight_early now after ≡ weight posts
 early_after nodes now [] [] [] m t all = refl
 early_after nodes now (r ∷ posts) (s ∷ met) (t ∷ after) m turns all =
-    sum_by-cons (λ (u : PlainPost). length (early now u.entries)) t after
-    ∙ ap (λ (es : List Entry). length es + entries_early now after) (before_turns nodes now s t turns.0 (subst (AllByRecursion (λ e. e.time < now)) (sym m.0.entries) all.0) ∙ m.0.entries)
-    ∙ ap (λ (n : ℕ). length r.entries + n) (early_after nodes now posts met after m.1 turns.1 all.1)
-    ∙ sym (sum_by-cons (λ (u : PlainPost). length u.entries) r posts)
+    sum_by-cons (λ (u : PlainPost). weight_of_all (early now u.entries)) t after
+    ∙ ap (λ (es : List Entry). weight_of_all es + weight_early now after) (before_turns nodes now s t turns.0 (subst (AllByRecursion (λ e. e.time < now)) (sym m.0.entries) all.0) ∙ m.0.entries)
+    ∙ ap (λ (n : ℕ). weight_of_all r.entries + n) (early_after nodes now posts met after m.1 turns.1 all.1)
+    ∙ sym (sum_by-cons (λ (u : PlainPost). weight_of_all u.entries) r posts)
 early_after nodes now [] (s ∷ met) after m turns all = absurd m
 early_after nodes now (r ∷ posts) [] after m turns all = absurd m
 early_after nodes now [] [] (t ∷ after) m turns all = absurd turns

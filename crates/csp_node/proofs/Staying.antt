@@ -10,7 +10,7 @@ use Rattle.csp_fabric.specs.Fabrics.{CanNote, IsFabricOf, buffers_at, network_of
 use Rattle.csp_fabric.specs.declared.fabric.Fabric.{Fabric}
 use Rattle.csp_log.specs.declared.entry.Entry.{Entry}
 use Rattle.csp_node.proofs.Entries.{last_within}
-use Rattle.csp_node.specs.Rounds.{IsBetween, IsShort, IsStill, entries_early, plains}
+use Rattle.csp_node.specs.Rounds.{IsBetween, IsShort, IsStill, plains, weight_early}
 use Rattle.csp_posts.specs.Between.{AreInRounds}
 use Rattle.csp_posts.specs.Books.{AreInBooks}
 use Rattle.csp_posts.specs.Meetings.{HasMet}
@@ -87,7 +87,7 @@ between_still scene f limit rounds posts after still h =
       between = subst (λ (ps : List PlainPost). AreInRounds f.queues rounds ps) same h.between;
       made = subst (λ (ps : List PlainPost). HaveMadeRounds rounds (parties_of scene) (logs_of ps)) same h.made;
       short = subst (λ (ps : List PlainPost). AllByRecursion (IsShort rounds) ps) same h.short;
-      before = subst (λ (ps : List PlainPost). 0 < rounds → entries_early (rounds - 1) ps < limit) same h.before;
+      before = subst (λ (ps : List PlainPost). 0 < rounds → weight_early (rounds - 1) ps < limit) same h.before;
     }
 
 -- after a meeting and a round

@@ -4,6 +4,7 @@ use Rattle.std.specs.List.{AllByRecursion}
 use Rattle.csp_consistent.specs.Rounds.{HaveMadeRounds, early}
 use Rattle.csp_fabric.specs.Fabrics.{IsFabricOf}
 use Rattle.csp_fabric.specs.declared.fabric.Fabric.{Fabric}
+use Rattle.csp_log.specs.Weights.{weight_of_all}
 use Rattle.csp_posts.specs.Between.{AreInRounds}
 use Rattle.csp_posts.specs.Books.{AreInBooks}
 use Rattle.csp_posts.specs.Posts.{PlainPost}
@@ -21,26 +22,26 @@ pub record IsStill (s t : SeenPost) : Type 0 where
   pub plain : t.plain ≡ s.plain
   pub room : t.room ≡ s.room
 
--- how many entries all logs have together
-abbrev pub entries_of : List PlainPost → ℕ
-entries_of posts = sum_by (λ (s : PlainPost). length s.entries) posts
+-- what the entries of all logs weigh together
+abbrev pub weight : List PlainPost → ℕ
+weight posts = sum_by (λ (s : PlainPost). weight_of_all s.entries) posts
 
--- how many they had before this round
-abbrev pub entries_early : ℕ → List PlainPost → ℕ
-entries_early round posts = sum_by (λ (s : PlainPost). length (early round s.entries)) posts
+-- what those of before this round weigh
+abbrev pub weight_early : ℕ → List PlainPost → ℕ
+weight_early round posts = sum_by (λ (s : PlainPost). weight_of_all (early round s.entries)) posts
 
 -- a log has no more than eight entries for each round
 abbrev pub IsShort : ℕ → PlainPost → Type 0
 IsShort rounds s = length s.entries ≤ 8 * rounds
 
--- a fabric and posts are the network of a scene, of which so many rounds were made; before the last of them the logs had fewer entries than the limit
+-- a fabric and posts are the network of a scene, of which so many rounds were made; before the last of them the entries weighed less than the limit
 pub record IsBetween (scene : PlainScene) (f : Fabric) (limit rounds : ℕ) (posts : List SeenPost) : Type 0 where
   pub fabric : IsFabricOf scene f posts
   pub books : AreInBooks (plains posts)
   pub between : AreInRounds f.queues rounds (plains posts)
   pub made : HaveMadeRounds rounds (parties_of scene) (logs_of (plains posts))
   pub short : AllByRecursion (IsShort rounds) (plains posts)
-  pub before : 0 < rounds → entries_early (rounds - 1) (plains posts) < limit
+  pub before : 0 < rounds → weight_early (rounds - 1) (plains posts) < limit
 
 -- they have been run: no more rounds were made than the scene has; where an application has not ended, as many were made, or the logs have reached
 -- the limit
@@ -48,4 +49,4 @@ pub record HasRun (scene : PlainScene) (f : Fabric) (limit : ℕ) (posts : List 
   pub rounds : ℕ
   pub between : IsBetween scene f limit rounds posts
   pub most : rounds ≤ scene.until
-  pub unfinished : are_done (plains posts) ≡ false → (rounds ≡ scene.until) ⊎ (limit ≤ entries_of (plains posts))
+  pub unfinished : are_done (plains posts) ≡ false → (rounds ≡ scene.until) ⊎ (limit ≤ weight (plains posts))

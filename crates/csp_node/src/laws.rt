@@ -6,7 +6,7 @@ ghost use Rattle.csp_consistent.specs.Threaded.{IsThreaded};
 ghost use Rattle.csp_fabric.specs.Fabrics.{IsFabricOf};
 ghost use Rattle.csp_fabric.specs.declared.fabric.Fabric.{Fabric};
 ghost use Rattle.csp_flow.specs.Closed.{IsClosed};
-ghost use Rattle.csp_node.specs.Rounds.{HasRun, IsBetween, entries_of, plains};
+ghost use Rattle.csp_node.specs.Rounds.{HasRun, IsBetween, plains, weight};
 ghost use Rattle.csp_node.specs.Runs.{HasStopped};
 ghost use Rattle.csp_posts.specs.Between.{HaveMet};
 ghost use Rattle.csp_posts.specs.Books.{AreInBooks, IsFresh};
@@ -48,9 +48,9 @@ pub(crate) fn meets_ready()
     meetings_keep_network();
 }
 
-/// A meeting of all posts, and then a round of all, begun before every application has ended and before the logs reach the limit, is one round more.
+/// A meeting of all posts, and then a round of all, begun before every application has ended and before the entries weigh as much as the limit, is one round more.
 pub(crate) fn makes_rounds()
-    ensures { (scene : PlainScene) (f : Fabric) (limit now : ℕ) (posts met after : List SeenPost) → IsBetween scene f limit now posts → are_done (plains posts) ≡ false → entries_of (plains posts) < limit → now < 2 ^ 62 → AllZip HasMet posts met → AreInBooks (plains met) → HaveMet (plains met) → AllZip (HasTurned f.queues now 8) met after → IsBetween scene f limit (now + 1) after }
+    ensures { (scene : PlainScene) (f : Fabric) (limit now : ℕ) (posts met after : List SeenPost) → IsBetween scene f limit now posts → are_done (plains posts) ≡ false → weight (plains posts) < limit → now < 2 ^ 62 → AllZip HasMet posts met → AreInBooks (plains met) → HaveMet (plains met) → AllZip (HasTurned f.queues now 8) met after → IsBetween scene f limit (now + 1) after }
 {
     meetings_keep_network();
     turns_keep_network();

@@ -1,11 +1,12 @@
-//! The logs of posts: how many entries they have, and room for those of a round.
+//! The logs of posts: what their entries weigh, and room for those of a round.
 
 ghost use Rattle.std.specs.Prelude.{◌≡◌, ◌+◌, ◌-◌, ◌^◌, ◌<◌, ◌≤◌, OnOk, length, not};
 ghost use Rattle.std.specs.List.{AllByRecursion, AllZip, list_all};
-ghost use Rattle.csp_node.specs.Rounds.{IsStill, entries_of, plains};
+ghost use Rattle.csp_node.specs.Rounds.{IsStill, plains, weight};
 ghost use Rattle.csp_posts.specs.Ready.{is_unfinished};
 
 use csp_posts::{Post, ROUND_TURNS};
+use csp_topology::MAX_PARTIES;
 use std::alloc::AllocError;
 
 /// Whether each application has ended.
@@ -15,10 +16,10 @@ pub(crate) fn are_finished(posts: &[Post]) -> bool
     posts.iter().all(|post| !post.unfinished())
 }
 
-/// How many entries all logs have together.
-pub(crate) fn entries(posts: &[Post]) -> u64
-    requires { entries_of (plains posts.now) < 2 ^ 64 }
-    ensures { result ≡ entries_of (plains posts.now) }
+/// What the entries of all logs weigh together.
+pub(crate) fn weight(posts: &[Post]) -> u64
+    requires { length posts.now ≤ MAX_PARTIES }
+    ensures { result ≡ weight (plains posts.now) }
 {
     let mut total = 0;
     for post in posts {

@@ -4,7 +4,7 @@ ghost use Rattle.std.specs.Prelude.{◌≡◌, ◌+◌, ◌^◌, ◌<◌, ◌≤
 ghost use Rattle.std.specs.List.{AllByRecursion};
 ghost use Rattle.csp_consistent.specs.Threaded.{IsThreaded};
 ghost use Rattle.csp_fabric.specs.Fabrics.{IsFabricOf};
-ghost use Rattle.csp_node.specs.Rounds.{HasRun, IsBetween, entries_of, plains};
+ghost use Rattle.csp_node.specs.Rounds.{HasRun, IsBetween, plains, weight};
 ghost use Rattle.csp_node.specs.Runs.{HasStopped};
 ghost use Rattle.csp_prompt.specs.Played.{are_done};
 ghost use Rattle.csp_record.specs.Whole.{IsWhole};
@@ -14,7 +14,7 @@ ghost use Rattle.csp_scene.specs.Scene.{PlainScene};
 
 use crate::Network;
 use crate::laws::{makes_rounds, meets_ready, starts_rounds, tells_run};
-use crate::logs::{are_finished, entries, make_room};
+use crate::logs::{are_finished, make_room, weight};
 use csp_posts::{Post, ROUND_TURNS};
 use csp_record::Record;
 use csp_rounds::{Gate, rounds};
@@ -25,7 +25,7 @@ use std::sync::Wait;
 use std::thread::Threads;
 
 /// Runs a scene by rounds, in which so many workers share out the parties: before each round there is made room in each log, and all posts
-/// meet. It ends where every application has ended; else where the logs have this many entries together; else after the scene's rounds.
+/// meet. It ends where every application has ended; else where the entries of all logs weigh this much together; else after the scene's rounds.
 ///
 /// # Errors
 /// Want of memory; the network is closed then as at any other end.
@@ -92,7 +92,7 @@ fn make_rounds<R: Threads + Wait + Sync, G: Gate>(
         if are_finished(posts) {
             return Ok(());
         }
-        if entries(posts) >= limit {
+        if weight(posts) >= limit {
             return Ok(());
         }
         make_room(posts)?;
@@ -115,7 +115,7 @@ fn make_round<R: Threads + Wait + Sync, G: Gate>(
     requires room { AllByRecursion (λ s. ROUND_TURNS ≤ s.spare) posts.old }
     requires workers { 1 ≤ workers }
     requires early { now < MAX_UNTIL }
-    ensures { (scene : PlainScene) (limit : ℕ) → IsBetween scene network.now.fabric limit now posts.old → entries_of (plains posts.old) < limit → IsBetween scene network.now.fabric limit (now + 1) posts.new }
+    ensures { (scene : PlainScene) (limit : ℕ) → IsBetween scene network.now.fabric limit now posts.old → weight (plains posts.old) < limit → IsBetween scene network.now.fabric limit (now + 1) posts.new }
 {
     meets_ready();
     makes_rounds();

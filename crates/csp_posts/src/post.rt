@@ -1,10 +1,11 @@
 //! A party of a threaded run: its turns and its rounds.
 
-ghost use Rattle.std.specs.Prelude.{◌≡◌, ◌↔◌, ◌+◌, ◌++◌, ◌∷◌, ◌-◌, ◌≤◌, ◌^◌, [], true, false, Some, length, max, OnOk, OnErr, vec_capacity};
+ghost use Rattle.std.specs.Prelude.{◌≡◌, ◌↔◌, ◌+◌, ◌++◌, ◌∷◌, ◌-◌, ◌<◌, ◌≤◌, ◌^◌, [], true, false, Some, length, max, OnOk, OnErr, vec_capacity};
 ghost use Rattle.csp_base.specs.declared.turns.Turn.{Turn};
 ghost use Rattle.csp_ends.specs.Ends.{rule_of, AreEnds};
 ghost use Rattle.csp_ends.specs.Ends as hands;
 ghost use Rattle.csp_log.specs.Pictures.{turn_of};
+ghost use Rattle.csp_log.specs.Weights.{weight_of_all};
 ghost use Rattle.csp_log.specs.declared.entry.Entry.{Entry};
 ghost use Rattle.csp_log.specs.declared.places.QueueId.{QueueId};
 ghost use Rattle.csp_log.specs.declared.places.Rule.{Rule};
@@ -106,11 +107,12 @@ impl Post {
         self.log.reserve(turns)
     }
 
-    /// The number of its entries.
+    /// What its entries weigh together.
     pub fn entries(&self) -> u64
-        ensures { result ≡ length self.now.plain.entries }
+        ensures weight { result ≡ weight_of_all self.now.plain.entries }
+        ensures few { result < 2 ^ 35 }
     {
-        self.log.len()
+        self.log.weight()
     }
 
     /// Whether it is an application that hasn't ended.

@@ -5,7 +5,6 @@ pub mod ClosingSums
 pub mod ClosingParts
 pub mod ContentLemmas
 pub mod EndsApart
-pub mod FewRounds
 pub mod FitLemmas
 pub mod FullLemmas
 pub mod HolderLemmas

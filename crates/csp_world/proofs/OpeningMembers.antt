@@ -1,5 +1,5 @@
 -- Lemmas on a world to which a party is added that is new.
-use Rattle.std.proofs.Common.{◌≡◌, ℕ, ◌+◌, ◌<◌, ◌≤◌, ◌^◌, Bool, true, false, List, [], ◌∷◌, ◌++◌, Option, Some, None, length, map, ap, refl, sym, ◌∙◌, subst, arith, slice_get, IsSomeAnd, vec_capacity, Vec, Global, length-append, if◌then◌else◌}
+use Rattle.std.proofs.Common.{◌≡◌, ℕ, ◌+◌, ◌≤◌, Bool, true, false, List, [], ◌∷◌, ◌++◌, Option, Some, None, length, map, ap, refl, sym, ◌∙◌, subst, arith, slice_get, IsSomeAnd, vec_capacity, Vec, Global, length-append, if◌then◌else◌}
 use Rattle.std.specs.List.{flat_map}
 use Rattle.std.proofs.lemmas.List.{map-append}
 use Rattle.csp_deck.specs.Step.{times}
@@ -8,6 +8,7 @@ use Rattle.csp_nodes.specs.DecksAt.{DecksAt}
 use Rattle.csp_party.specs.Any.{holds, plain, region_of}
 use Rattle.csp_record.specs.Who.{node_of}
 use Rattle.csp_topology.specs.Parties.{opens}
+use Rattle.csp_topology.specs.declared.topology.TheConstants.{MAX_PARTIES}
 use Rattle.csp_world.proofs.OpeningLists.{each-push, flat_map-push_none}
 use Rattle.csp_world.specs.Holders.{holds_at, is_home, IsConserved}
 use Rattle.csp_world.specs.Inside.{world_of, rooms, IsFit, IsNew, AllFit, HasRoom, IsWorld}
@@ -92,7 +93,7 @@ pub world-push : (w : Inside) (members : Vec Member Global) (room : Room) (buffe
     → members.items ≡ w.members.items ++ m ∷ [] → IsNew w.decks.decks w.decks.links (opens m.who (plain m.party)) → HasNumbers w.decks.decks (node_of m.who) buffers
     → ((node : ℕ) → node_of m.who ≡ Some node → slice_get w.decks.regions node ≡ Some (region_of m.party))
     → m.numbers.items ≡ [] → buffers ≤ vec_capacity m.numbers → m.log.spare ≡ 0
-    → length w.members.items + 1 < 2 ^ 31 → HasRoom w.decks.decks (length w.members.items + 1) room
+    → length w.members.items + 1 ≤ MAX_PARTIES → HasRoom w.decks.decks (length w.members.items + 1) room
     → IsWorld (record { decks = w.decks; members = members; time = w.time; room = room; desk = w.desk; boxes = w.boxes })
 world-push w members room buffers m h e new numbers home none fits spare few more =
     let l : length members.items ≡ length w.members.items + 1 = ap (λ (ms : List Member). length ms) e ∙ length-append w.members.items (m ∷ []) in

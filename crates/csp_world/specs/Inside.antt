@@ -12,6 +12,7 @@ use Rattle.csp_record.specs.Who.{node_of}
 use Rattle.csp_record.specs.declared.who.Who.{Who}
 use Rattle.csp_record.specs.declared.who.Who.TheVariants as who
 use Rattle.csp_topology.specs.Parties.{PlainOpening}
+use Rattle.csp_topology.specs.declared.topology.TheConstants.{MAX_PARTIES}
 use Rattle.csp_world.specs.Holders.{IsConserved}
 use Rattle.csp_world.specs.Seen.{plain_member}
 use Rattle.csp_world.specs.SeenWorld.{SeenWorld}
@@ -93,4 +94,4 @@ pub record IsWorld (w : Inside) : Type 0 where
   pub room : HasRoom w.decks.decks (length w.members.items) w.room
   pub early : w.time < 2 ^ 62
   pub few_decks : length w.decks.decks ≤ 255
-  pub few_members : length w.members.items < 2 ^ 31
+  pub few_members : length w.members.items ≤ MAX_PARTIES

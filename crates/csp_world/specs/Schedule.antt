@@ -8,7 +8,7 @@ use Rattle.csp_scene.specs.Scene.{PlainScene, PlainSchedule, in_rounds, shuffled
 use Rattle.csp_scene.specs.declared.scenario.Move.{Move}
 use Rattle.csp_scene.specs.declared.scenario.Move.TheVariants as move
 use Rattle.csp_world.specs.Opening.{opening}
-use Rattle.csp_world.specs.World.{PlainWorld, turn, tick, finished, entries}
+use Rattle.csp_world.specs.World.{PlainWorld, turn, tick, finished, weight}
 use Rattle.csp_world.specs.declared.limits.TheConstants.{TURNS_PER_ROUND, MAX_ENTRIES}
 use Rattle.csp_world.specs.declared.rounds.Order.{Order}
 use Rattle.csp_world.specs.declared.rounds.Order.TheVariants as order
@@ -46,9 +46,10 @@ next_order parties (order.ByDraw x) = order.ByDraw (draws (TURNS_PER_ROUND * par
 unfoldable pub round : Order → PlainWorld → PlainWorld
 round o w = tick (turns w (places_in (length w.members) o))
 
--- what is looked at in this order: every application has ended, the entry limit; none where the logs reach it
+-- what is looked at in this order: every application has ended, the entry limit, to which the entries count by what they weigh; none where the
+-- logs reach it
 abbrev pub checked : PlainWorld → Option PlainWorld → Option PlainWorld
-checked after later = (if finished after then Some after else if nat_le MAX_ENTRIES (entries after) then None else later)
+checked after later = (if finished after then Some after else if nat_le MAX_ENTRIES (weight after) then None else later)
 
 -- at most so many rounds, with these checks after each
 unfoldable pub rounds : ℕ → Order → PlainWorld → Option PlainWorld

@@ -7,6 +7,7 @@ use Rattle.csp_log.specs.declared.entry.Entry.{Entry}
 use Rattle.csp_log.specs.declared.places.End.{End}
 use Rattle.csp_log.specs.declared.shown.AnswerShown.{AnswerShown}
 use Rattle.csp_log.specs.declared.shown.OpShown.{OpShown}
+use Rattle.csp_log.specs.Weights.{weight_of_all}
 use Rattle.csp_nodes.specs.Serving.{answer_in}
 use Rattle.csp_party.specs.Any.{PlainParty, a_router, a_bridge, an_iface, an_app, a_link, asks, asked, tells, events, has_ended}
 use Rattle.csp_record.specs.declared.who.Who.{Who}
@@ -77,3 +78,7 @@ finished w = list_all (λ m. is_done m.party) w.members
 -- how many entries all logs have together
 abbrev pub entries : PlainWorld → ℕ
 entries w = sum_by (λ m. length m.entries) w.members
+
+-- what the entries of all logs weigh together
+abbrev pub weight : PlainWorld → ℕ
+weight w = sum_by (λ m. weight_of_all m.entries) w.members

@@ -4,6 +4,7 @@ ghost use Rattle.std.specs.Prelude.{◌≡◌, ◌≢◌, ◌+◌, ◌-◌, ◌<
 ghost use Rattle.std.specs.List.{list_all};
 ghost use Rattle.std.specs.Option.{option_map};
 ghost use Rattle.csp_buffer.specs.Content.{Content};
+ghost use Rattle.csp_log.specs.Weights.{weight_of_all};
 ghost use Rattle.csp_log.specs.declared.shown.AnswerShown.TheVariants as answer;
 ghost use Rattle.csp_party.specs.Any.{plain};
 ghost use Rattle.csp_record.specs.Who.{home_of, node_of};
@@ -12,7 +13,7 @@ ghost use Rattle.csp_world.specs.Holders.{holders, deck_holders, counts, HasOneH
 ghost use Rattle.csp_world.specs.Reached.{IsReached};
 ghost use Rattle.csp_world.specs.Schedule.{names, place_named, turns};
 ghost use Rattle.csp_world.specs.Seen.{has_number, answer_at_place, turn_by, log_len};
-ghost use Rattle.csp_world.specs.World.{turn, tick, finished, entries, is_done};
+ghost use Rattle.csp_world.specs.World.{turn, tick, finished, weight, is_done};
 
 mod closing;
 mod opening;
@@ -27,6 +28,7 @@ use csp_lists::{counts_holders, gathers, weighs};
 use csp_nodes::Decks;
 use csp_record::Who;
 use csp_scene::Move;
+use csp_topology::MAX_PARTIES;
 use std::alloc::AllocError;
 use std::marker::Model;
 
@@ -68,11 +70,11 @@ impl World {
         self.members.len()
     }
 
-    /// How many entries all logs have together.
+    /// What the entries of all logs weigh together.
     pub fn entries(&self) -> u64
-        ensures { result ≡ entries self.now.plain }
+        ensures { result ≡ weight self.now.plain }
     {
-        count_entries(&self.members)
+        weigh_entries(&self.members)
     }
 
     /// Whether each application has ended.
@@ -224,14 +226,14 @@ pub(crate) fn all_done(members: &[Member]) -> bool
     members.iter().all(|member| member.is_done())
 }
 
-/// How many entries the logs of these parties have together.
-fn count_entries(members: &[Member]) -> u64
-    requires { length members.now < 2 ^ 31 }
-    ensures { result ≡ sum_by (λ m. length m.log.entries) members.now }
+/// What the entries of the logs of these parties weigh together.
+fn weigh_entries(members: &[Member]) -> u64
+    requires { length members.now ≤ MAX_PARTIES }
+    ensures { result ≡ sum_by (λ m. weight_of_all m.log.entries) members.now }
 {
     let mut total = 0;
     for member in members {
-        total += member.log.len();
+        total += member.log.weight();
     }
     total
 }

@@ -188,7 +188,7 @@ impl World {
         requires ready { CanOpen party }
         requires new { IsNew self.old.plain.decks self.old.plain.links (opening_of party) }
         requires decks { self.old.plain.decks ≡ map deck_of nodes.now }
-        requires few { length self.old.plain.members + 1 < 2 ^ 31 }
+        requires few { length self.old.plain.members + 1 ≤ MAX_PARTIES }
         ensures { OnOk result (self.new.plain ≡ record self.old.plain { members = self.old.plain.members ++ new_member (opening_of party) ∷ [] }) }
     {
         let who = party.who();
@@ -216,7 +216,7 @@ impl World {
         requires new { IsNew self.old.plain.decks self.old.plain.links (record { who = who; party = plain party }) }
         requires room { (node : ℕ) → node_of who ≡ Some node → IsSomeAnd (slice_get (rooms self.old.plain.decks) node) (λ room. room ≤ buffers) }
         requires home { (node : ℕ) → node_of who ≡ Some node → slice_get self.old.regions node ≡ Some (region_of party) }
-        requires few { length self.old.plain.members + 1 < 2 ^ 31 }
+        requires few { length self.old.plain.members + 1 ≤ MAX_PARTIES }
         ensures { OnOk result (self.new.plain ≡ record self.old.plain { members = self.old.plain.members ++ new_member (record { who = who; party = plain party }) ∷ [] }) }
     {
         let nodes = self.decks.len();

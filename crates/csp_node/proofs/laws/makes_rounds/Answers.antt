@@ -5,7 +5,7 @@ use Rattle.csp_fabric.specs.Fabrics.{network_of}
 use Rattle.csp_node.proofs.Entries.{all_late, all_short, all_turned, early_after}
 use Rattle.csp_node.proofs.Hearing.{all_heard}
 use Rattle.csp_node.proofs.Staying.{fabric_stays, round_stays}
-use Rattle.csp_node.specs.Rounds.{entries_early, plains}
+use Rattle.csp_node.specs.Rounds.{plains, weight_early}
 use Rattle.csp_posts.specs.Between.{AreInRounds, HasHeard}
 use Rattle.csp_posts.specs.Posts.{AreTurns}
 use Rattle.csp_prompt.specs.Played.{are_done}
@@ -29,6 +29,6 @@ returns c = λ scene f limit now posts met after h undone few early heard books 
       between = c.goes_on.ensures n.nodes (opened_in scene) now 8 (plains met) (plains after) (c.traces_posts.ensures scene n (plains met) mid) between known turns;
       made = c.makes_a_round.ensures n.nodes now (parties_of scene) (plains met) (plains after) made (c.runs_parties.ensures scene n (plains met) mid) (c.runs_parties.ensures scene n (plains after) net) undone_yet turns;
       short = all_short n.nodes now (plains posts) (plains met) (plains after) told turns h.short;
-      before = λ _. subst (λ (k : ℕ). entries_early k (plains after) < limit) (omega arith)
+      before = λ _. subst (λ (k : ℕ). weight_early k (plains after) < limit) (omega arith)
           (subst (λ (k : ℕ). k < limit) (sym (early_after n.nodes now (plains posts) (plains met) (plains after) told turns h.between.times)) few);
     }

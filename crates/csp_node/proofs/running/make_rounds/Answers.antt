@@ -1,9 +1,9 @@
 use Rattle.std.proofs.Common.{◌≡◌, true, length, sym, ap, ◌∙◌, arith}
 use Rattle.csp_fabric.specs.Fabrics.{network_of}
-use Rattle.csp_node.proofs.Entries.{few_entries, room_left}
+use Rattle.csp_node.proofs.Entries.{room_left}
 use Rattle.csp_node.proofs.Rounds.{finished_plain}
 use Rattle.csp_node.proofs.Staying.{as_many, between_still, fabric_still, plains_still}
-use Rattle.csp_node.specs.Rounds.{entries_of, plains}
+use Rattle.csp_node.specs.Rounds.{plains, weight}
 use Rattle.csp_prompt.specs.Played.{are_done}
 use Rattle.csp_scene.specs.Scene.{PlainScene}
 use Rattle.csp_topology.specs.Parties.{parties_of}
@@ -19,14 +19,12 @@ returns-then-are_finished-clause-run g c =
       unfinished = λ undone. let done : are_done (plains c.loop-round.posts) ≡ true = sym (finished_plain c.loop-round.posts) ∙ sym c.are_finished.ensures ∙ c.if-are_finished.true in cc;
     }
 
-pub entries-requires : goal.entries-requires
-entries-requires g c =
+pub weight-requires : goal.weight-requires
+weight-requires g c =
     let scene = c.args.scene.now in
-    let most = c.requires.scene.most in
-    let until : c.scene.inside.until ≡ c.args.scene.now.until = ap (λ (p : PlainScene). p.until) c.scene.view_is in
     let few = c.counts_parties.ensures scene c.requires.scene in
     let many : length c.loop-round.posts ≡ length (parties_of scene) = as_many scene (network_of c.args.network.now.fabric) (parties_of scene) c.loop-round.posts c.loop-round.invariant.fabric.network.parties in
-    few_entries c.loop-round.round c.loop-round.posts c.loop-round.invariant.short (omega (arith, c.loop-round-test.true, c.from-round-end.ensures, most, until)) (omega (arith, few, many))
+    omega (arith, few, many)
 
 pub make_room-requires : goal.make_room-requires
 make_room-requires g c =
@@ -47,7 +45,7 @@ make_round-requires-clause-unfinished g c lives within =
 
 pub loop-round-preserved : goal.loop-round-preserved
 loop-round-preserved g c =
-    let same : entries_of (plains c.make_room.new.posts) ≡ entries_of (plains c.loop-round.posts) = ap entries_of (plains_still c.loop-round.posts c.make_room.new.posts c.make_room.ensures.still) in
+    let same : weight (plains c.make_room.new.posts) ≡ weight (plains c.loop-round.posts) = ap weight (plains_still c.loop-round.posts c.make_room.new.posts c.make_room.ensures.still) in
     c.make_round.ensures c.args.scene.now c.args.limit
     (between_still c.args.scene.now c.args.network.now.fabric c.args.limit c.loop-round.round c.loop-round.posts c.make_room.new.posts c.make_room.ensures.still c.loop-round.invariant)
-    (omega (arith, same, c.entries.ensures, c.if-entries-limit.false))
+    (omega (arith, same, c.weight.ensures, c.if-weight-limit.false))

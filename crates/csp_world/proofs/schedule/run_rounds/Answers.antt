@@ -1,9 +1,12 @@
-use Rattle.std.proofs.Common.{◌<◌, ◌≤◌, ◌-◌, length, ap, sym, ◌∙◌, arith}
+use Rattle.std.proofs.Common.{ℕ, ◌<◌, ◌≤◌, ◌-◌, length, ap, sym, ◌∙◌, arith}
 use Rattle.csp_world.specs.declared.limits.TheConstants.{MAX_ENTRIES}
-use Rattle.csp_world.specs.World.{entries}
-use Rattle.csp_world.proofs.RunLemmas.{run_at_once, run_later, rounds_over, round_finished, round_limit, round_on, some_parties}
+use Rattle.csp_world.specs.World.{entries, weight}
+use Rattle.csp_world.proofs.RunLemmas.{entries_weigh, run_at_once, run_later, rounds_over, round_finished, round_limit, round_on, some_parties}
 use Rattle.csp_world.proofs.ScheduleLemmas.{round_time, round_members}
 use Rattle.csp_world.proofs.schedule.run_rounds.Goals as goal
+
+fewer : {n m limit : ℕ} → n ≤ m → m < limit → n < limit
+fewer h k = omega (arith, h, k)
 
 pub returns-then-finished-clause-run : goal.returns-then-finished-clause-run
 returns-then-finished-clause-run c = run_at_once c.args.most c.args.first c.args.world.now.plain (sym c.finished.ensures ∙ c.if-finished.true)
@@ -21,7 +24,7 @@ returns-then-finished-2-clause-run c =
 
 pub returns-then-entries-ge-MAX_ENTRIES-clause-entries : goal.returns-then-entries-ge-MAX_ENTRIES-clause-entries
 returns-then-entries-ge-MAX_ENTRIES-clause-entries c = λ _.
-    let full : MAX_ENTRIES ≤ entries c.make_round.new.world.plain = omega (arith, c.entries.ensures, c.if-entries-ge-MAX_ENTRIES.true) in
+    let full : MAX_ENTRIES ≤ weight c.make_round.new.world.plain = omega (arith, c.entries.ensures, c.if-entries-ge-MAX_ENTRIES.true) in
     sym (run_later c.args.most c.args.first c.args.world.now.plain (sym c.finished.ensures ∙ c.if-finished.false))
     ∙ sym c.loop.invariant.left
     ∙ round_limit c.args.most c.loop.counter c.loop.order c.loop.world.plain c.make_round.new.world.plain c.loop-test.true c.in_ok-order.ensures.round (sym c.finished-in-loop.ensures ∙ c.if-finished-2.false) full
@@ -31,13 +34,13 @@ loop-preserved c =
     let w = c.loop.world.plain in
     let v = c.make_round.new.world.plain in
     let made = c.in_ok-order.ensures in
-    let few : entries v < MAX_ENTRIES = omega (arith, c.entries.ensures, c.if-entries-ge-MAX_ENTRIES.false) in
+    let few : weight v < MAX_ENTRIES = omega (arith, c.entries.ensures, c.if-entries-ge-MAX_ENTRIES.false) in
     record {
       left = round_on c.args.most c.loop.counter c.loop.order c.in_ok-order.order w v c.loop-test.true made.round made.next (sym c.finished-in-loop.ensures ∙ c.if-finished-2.false) few ∙ c.loop.invariant.left;
       members = ap (λ u. length u.members) made.round ∙ round_members w c.loop.order ∙ c.loop.invariant.members;
       counts = made.counts ∙ c.loop.invariant.counts;
       time = omega (arith, ap (λ u. u.time) made.round, round_time w c.loop.order, c.loop.invariant.time);
-      few = few;
+      few = fewer (entries_weigh v) few;
     }
 
 pub returns-clause-run : goal.returns-clause-run

@@ -1,8 +1,9 @@
-use Rattle.std.proofs.Common.{ℕ, ◌≡◌, ◌≤◌, ◌<◌, ◌+◌, ◌^◌, Some, length, vec_capacity, arith, refl, subst, sym, slice_get}
+use Rattle.std.proofs.Common.{ℕ, ◌≡◌, ◌≤◌, ◌+◌, Some, length, vec_capacity, arith, refl, subst, sym, slice_get}
 use Rattle.std.proofs.lemmas.List.{length-map}
 use Rattle.csp_party.specs.Any.{plain, region_of}
 use Rattle.csp_record.specs.Who.{node_of}
 use Rattle.csp_topology.specs.Parties.{opens}
+use Rattle.csp_topology.specs.declared.topology.TheConstants.{MAX_PARTIES}
 use Rattle.csp_world.proofs.OpeningMembers.{HasNumbers, has_room-push, has_room-kept, world-push, world-kept}
 use Rattle.csp_world.specs.Inside.{IsNew}
 use Rattle.csp_world.specs.Seen.{plain_member}
@@ -19,7 +20,7 @@ invariant_of-self c =
     let new = subst (λ (v : SeenWorld). IsNew v.plain.decks v.plain.links (opens c.args.who (plain c.args.party))) (sym c.self.view_is) c.requires.new in
     let numbers = subst (λ (v : SeenWorld). HasNumbers v.plain.decks (node_of c.args.who) c.args.buffers) (sym c.self.view_is) c.requires.room in
     let home = subst (λ (v : SeenWorld). (node : ℕ) → node_of c.args.who ≡ Some node → slice_get v.regions node ≡ Some (region_of c.args.party)) (sym c.self.view_is) c.requires.home in
-    let few : length w.members.items + 1 < 2 ^ 31 = omega (arith, subst (λ (v : SeenWorld). length v.plain.members + 1 < 2 ^ 31) (sym c.self.view_is) c.requires.few, length-map w.members.items plain_member) in
+    let few : length w.members.items + 1 ≤ MAX_PARTIES = omega (arith, subst (λ (v : SeenWorld). length v.plain.members + 1 ≤ MAX_PARTIES) (sym c.self.view_is) c.requires.few, length-map w.members.items plain_member) in
     let held : w.room.queues + length w.members.items + 1 + length w.decks.decks ≤ vec_capacity c.member_room.new.room.held = omega (arith, e.held_room, c.len-nodes.ensures.count) in
     world-push w c.push_reserved.new.self c.member_room.new.room c.args.buffers _ c.self.invariant
     (rw e.members at c.push_reserved.ensures.items)
