@@ -10,9 +10,9 @@ use Rattle.csp_report.specs.Report.{report}
 use Rattle.csp_scene.specs.Judge.{scene_of}
 use Rattle.csp_scene.specs.Scene.{PlainScene}
 use Rattle.csp_world.specs.declared.limits.TheConstants.{MAX_ENTRIES}
-use Rattle.csp_top.specs.declared.status.Status.{Status}
-use Rattle.csp_top.specs.declared.status.Status.TheVariants as status
-use Rattle.csp_top.specs.declared.status.TheConstants.{MAX_SCENARIO}
+use Rattle.csp_bench.specs.declared.status.Status.{Status}
+use Rattle.csp_bench.specs.declared.status.Status.TheVariants as status
+use Rattle.csp_bench.specs.declared.status.TheConstants.{MAX_SCENARIO}
 
 -- the text states a scene, and these bytes are the report of a record that can be one of its run in threads and tells why that stopped
 pub record IsRunReportOf (text bytes : List ℕ) : Type 0 where

@@ -1,4 +1,4 @@
-//! What the program answers.
+//! What a program answers.
 
 use csp_scene::SceneKind;
 
@@ -45,7 +45,7 @@ pub enum Status {
 
 impl Status {
     ghost use Rattle.std.specs.Prelude.{◌≡◌};
-    ghost use Rattle.csp_top.specs.Said.{code_of};
+    ghost use Rattle.csp_bench.specs.Said.{code_of};
 
     /// The exit status: 0 to 6, in the order of the variants.
     pub fn code(self) -> u8
