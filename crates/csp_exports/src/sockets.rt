@@ -95,12 +95,12 @@ fn is_reaching(log: &Log, index: u64, app: usize, port: u8) -> bool
 fn has_reached(log: &Log, app: usize, port: u8) -> bool
     ensures { result ≡ list_any (is_reaching app port) log.now.entries }
 {
-    let mut index = log.next_deed(0);
+    let mut index = 0;
     while index < log.len() {
         if is_reaching(log, index, app, port) {
             return true;
         }
-        index = log.next_deed(index + 1);
+        index += 1;
     }
     false
 }
