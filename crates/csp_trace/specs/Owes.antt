@@ -5,6 +5,7 @@ use Rattle.std.specs.Io.KnownBytes.{Appends}
 use Rattle.csp_base.specs.Transfer.{WrotePrefix}
 use Rattle.csp_bench.specs.Edge.{Edge, WasRead}
 use Rattle.csp_bench.specs.Running.{IsPastEntries, IsUnhindered}
+use Rattle.csp_bench.specs.Statuses.{status_of}
 use Rattle.csp_bench.specs.declared.status.LimitKind.TheVariants as limit
 use Rattle.csp_bench.specs.declared.status.Status.{Status}
 use Rattle.csp_bench.specs.declared.status.Status.TheVariants as status
@@ -20,6 +21,8 @@ use Rattle.csp_trace.specs.Modes.{asked_of}
 use Rattle.csp_trace.specs.declared.asked.Asked.{Asked}
 use Rattle.csp_trace.specs.declared.asked.Asked.TheVariants as asked
 use Rattle.csp_trace.specs.declared.mode.Mode.{Mode}
+use Rattle.csp_trace.specs.declared.tracing.Untold.{Untold}
+use Rattle.csp_trace.specs.declared.tracing.Untold.TheVariants as untold
 
 -- the text of what is asked, of a scene and the record of its run: one row a mode
 abbrev pub told : Asked → PlainScene → PlainRecord → List ℕ
@@ -41,6 +44,11 @@ pub record IsUnnamed (mode : Mode) (text : List ℕ) : Type 0 where
   pub scene : PlainScene
   pub stated : scene_of text ≡ Ok scene
   pub lacking : asked_of mode scene ≡ None
+
+-- the status of each refusal: names that the scene lacks are bad words
+abbrev pub status_without : Untold → Status
+status_without (untold.Text why) = status_of why
+status_without untold.Names = status.Words
 
 -- the whole of it was written
 abbrev pub WroteTrace : Mode → List ℕ → Option (List ℕ) → Option (List ℕ) → Type 0
