@@ -1,5 +1,5 @@
 -- How a walk over a log, or over a script, goes on by one.
-use Rattle.std.proofs.Common.{◌≡◌, ℕ, zero, suc, ◌+◌, ◌<◌, ◌||◌, Bool, true, false, Option, Some, None, List, [], ◌∷◌, ◌++◌, get_or, length, drop, refl, sym, ap, ◌∙◌, add-one, drop-cons, append_assoc, arith}
+use Rattle.std.proofs.Common.{◌≡◌, ℕ, zero, suc, ◌+◌, ◌<◌, ◌||◌, Bool, true, false, Option, Some, None, List, [], ◌∷◌, ◌++◌, get_or, length, drop, refl, sym, ap, ◌∙◌, add-one, drop-cons, append_assoc, length-append, arith}
 use Rattle.std.proofs.lemmas.List.Concat.{flat_map-cons}
 use Rattle.std.specs.List.{flat_map, list_any}
 use Rattle.std.specs.Option.{option_map_or}
@@ -11,13 +11,21 @@ next f [] i h = absurd (omega (arith, h))
 next f (x ∷ xs) zero h = sym (flat_map-cons f x xs)
 next f (x ∷ xs) (suc i) h = next f xs i (omega (arith, h))
 
+-- the same of an element that is there
+pub next_is : {X A : Type 0} (f : X → List A) (xs : List X) (i : ℕ) (x : X) → i < length xs → slice_get xs i ≡ Some x → f x ++ flat_map f (drop (i + 1) xs) ≡ flat_map f (drop i xs)
+next_is f xs i x h is = rw (add-one i) (ap (λ o. option_map_or f o [] ++ flat_map f (drop (suc i) xs)) (sym is) ∙ next f xs i h)
+
 -- one more is appended, and what is to come is that much less
-pub appended : {X A : Type 0} (f : X → List A) (xs : List X) (i : ℕ) (out more whole : List A) → i < length xs → more ≡ out ++ option_map_or f (slice_get xs i) [] → out ++ flat_map f (drop i xs) ≡ whole
+pub appended : {X A : Type 0} (f : X → List A) (xs : List X) (i : ℕ) (x : X) (out more whole : List A) → i < length xs → slice_get xs i ≡ Some x → more ≡ out ++ f x → out ++ flat_map f (drop i xs) ≡ whole
     → more ++ flat_map f (drop (i + 1) xs) ≡ whole
-appended f xs i out more whole h pushed before =
-    rw (add-one i)
-        (ap (λ l. l ++ flat_map f (drop (suc i) xs)) pushed ∙ append_assoc out (option_map_or f (slice_get xs i) []) (flat_map f (drop (suc i) xs))
-        ∙ ap (λ l. out ++ l) (next f xs i h) ∙ before)
+appended f xs i x out more whole h is pushed before =
+    ap (λ l. l ++ flat_map f (drop (i + 1) xs)) pushed ∙ append_assoc out (f x) (flat_map f (drop (i + 1) xs)) ∙ ap (λ l. out ++ l) (next_is f xs i x h is) ∙ before
+
+-- so many more are counted
+pub counted : {X A : Type 0} (f : X → List A) (xs : List X) (i : ℕ) (x : X) (count more whole : ℕ) → i < length xs → slice_get xs i ≡ Some x → more ≡ count + length (f x) → count + length (flat_map f (drop i xs)) ≡ whole
+    → more + length (flat_map f (drop (i + 1) xs)) ≡ whole
+counted f xs i x count more whole h is one before =
+    omega (arith, one, before, ap length (next_is f xs i x h is), length-append (f x) (flat_map f (drop (i + 1) xs)))
 
 -- whether an element, or one after it, passes a test
 one_or_later : {X : Type 0} (p : X → Bool) (xs : List X) (i : ℕ) → i < length xs → list_any p (drop i xs) ≡ (option_map_or p (slice_get xs i) false || list_any p (drop (suc i) xs))

@@ -4,13 +4,15 @@ use Rattle.std.specs.Fmt.{decimal}
 use Rattle.std.specs.Int.{w32, to_be_bytes}
 use Rattle.std.specs.List.{flat_map}
 use Rattle.hex.specs.Hex.{encode_upper}
-use Rattle.csp_log.specs.Framing.{framed_in}
 use Rattle.csp_log.specs.declared.entry.Entry.{Entry}
 use Rattle.csp_log.specs.declared.frame.Frame.{Frame}
-use Rattle.csp_log.specs.declared.framed.Framed.{Framed}
-use Rattle.csp_log.specs.declared.framed.Framed.TheVariants as framed
 use Rattle.csp_log.specs.declared.places.End.{End}
 use Rattle.csp_log.specs.declared.places.QueueId.TheVariants as queue
+use Rattle.csp_log.specs.declared.shown.AnswerShown.{AnswerShown}
+use Rattle.csp_log.specs.declared.shown.AnswerShown.TheVariants as answer
+use Rattle.csp_log.specs.declared.shown.ItemShown.TheVariants as item
+use Rattle.csp_log.specs.declared.shown.OpShown.{OpShown}
+use Rattle.csp_log.specs.declared.shown.OpShown.TheVariants as op
 use Rattle.csp_record.specs.Record.{PlainPartyLog, PlainRecord}
 use Rattle.csp_record.specs.Who.{is_iface}
 use Rattle.csp_report.specs.Lines.{Line, ended_line}
@@ -39,9 +41,9 @@ written form.Kiss link round frame = frame.bytes.items
 written form.Candump link round frame = ended_line (frame_line link round frame)
 
 -- the frame that a turn put on a link, if it did
-abbrev pub put_on : Framed → Option Frame
-put_on (framed.Pushed (queue.Tx number) frame) = Some frame
-put_on _ = None
+abbrev pub put_on : OpShown → AnswerShown → Option Frame
+put_on (op.Push (queue.Tx number) (item.Frame frame)) answer.Pushed = Some frame
+put_on _ _ = None
 
 -- what is written for it
 abbrev pub written_of : Form → (link : List ℕ) (round : ℕ) → Option Frame → List ℕ
@@ -50,7 +52,7 @@ written_of which link round (Some frame) = written which link round frame
 
 -- what is written for a turn
 abbrev pub written_for : Form → (link : List ℕ) → Entry → List ℕ
-written_for which link e = written_of which link e.time (put_on (framed_in e))
+written_for which link e = written_of which link e.time (put_on e.op e.answer)
 
 -- what is written for a party's turns, where it is the interface at this end
 abbrev pub written_by : Form → (link : List ℕ) → End → PlainPartyLog → List ℕ

@@ -1,21 +1,21 @@
 -- What of a scene was of no use in its run: faults that hit no frame, nodes that sent nothing, sockets that nobody reached.
-use Rattle.std.specs.Prelude.{ℕ, ◌==◌, ◌&&◌, Bool, true, false, not, nat_lt, if◌then◌else◌, Option, Some, None, List, [], ◌∷◌, ◌++◌, codes, find, count_by}
+use Rattle.std.specs.Prelude.{ℕ, ◌==◌, ◌&&◌, Bool, true, false, not, nat_lt, if◌then◌else◌, Option, Some, None, List, [], ◌∷◌, ◌++◌, codes, find, length}
 use Rattle.std.specs.Fmt.{decimal}
 use Rattle.std.specs.List.{flat_map, enumerate_from, list_any, range_with_len}
 use Rattle.csp_app.specs.PlainStep.{PlainStep}
 use Rattle.csp_app.specs.PlainStep as step
 use Rattle.csp_header.specs.Word.{header_at}
+use Rattle.csp_link.specs.Applied.{frames_popped}
 use Rattle.csp_link.specs.declared.fault.Fault.{Fault}
 use Rattle.csp_link.specs.declared.fault.FaultKind.{FaultKind}
 use Rattle.csp_link.specs.declared.fault.FaultKind.TheVariants as fault
-use Rattle.csp_log.specs.Framing.{framed_in}
+use Rattle.csp_link.specs.declared.way.Way.{Way}
+use Rattle.csp_link.specs.declared.way.Way.TheVariants as way
 use Rattle.csp_log.specs.Moving.{moved_in}
 use Rattle.csp_log.specs.PlainLog.{all_events}
 use Rattle.csp_log.specs.declared.entry.Entry.{Entry}
 use Rattle.csp_log.specs.declared.event.Event.{Event}
 use Rattle.csp_log.specs.declared.event.Event.TheVariants as event
-use Rattle.csp_log.specs.declared.framed.Framed.{Framed}
-use Rattle.csp_log.specs.declared.framed.Framed.TheVariants as framed
 use Rattle.csp_log.specs.declared.moved.Moved.{Moved}
 use Rattle.csp_log.specs.declared.moved.Moved.TheVariants as moved
 use Rattle.csp_log.specs.declared.places.QueueId.TheVariants as queue
@@ -29,14 +29,9 @@ use Rattle.csp_exports.specs.declared.idle.TheConstants.{UNUSED_VERSION}
 
 -- ---- faults
 
--- a turn of a link took a frame in this direction: from its first end to its second, 0, or back, 1
-abbrev pub is_taken : (dir : ℕ) → Framed → Bool
-is_taken dir (framed.Popped (queue.Tx number) frame) = number == dir
-is_taken dir _ = false
-
--- how many frames these turns took in it
-abbrev pub frames_taken : (dir : ℕ) → List Entry → ℕ
-frames_taken dir entries = count_by (λ e. is_taken dir (framed_in e)) entries
+-- how many frames the turns of a link took in this direction
+abbrev pub frames_taken : Way → List Entry → ℕ
+frames_taken way entries = length (frames_popped way entries)
 
 -- a party is the link at this place among the links
 abbrev pub is_link : ℕ → Who → Bool
@@ -81,7 +76,7 @@ plan_lines forth back l = flat_map (idle_fault_lines forth back l.name) l.plan
 
 -- those of all links
 abbrev pub fault_lines : List PlainPartyLog → List PlainLink → List Line
-fault_lines parties links = flat_map (λ l. plan_lines (frames_taken 0 (link_turns parties l.0)) (frames_taken 1 (link_turns parties l.0)) l.1) (enumerate_from 0 links)
+fault_lines parties links = flat_map (λ l. plan_lines (frames_taken way.Forth (link_turns parties l.0)) (frames_taken way.Back (link_turns parties l.0)) l.1) (enumerate_from 0 links)
 
 -- ---- nodes
 

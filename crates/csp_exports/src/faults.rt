@@ -1,40 +1,41 @@
 //! Faults that hit no frame.
 
-ghost use Rattle.std.specs.Prelude.{◌≡◌, ◌++◌, ◌∷◌, ◌<◌, false, length, slice_get, find, OnOk};
+ghost use Rattle.std.specs.Prelude.{◌≡◌, ◌++◌, ◌∷◌, if◌then◌else◌, length, find, OnOk};
 ghost use Rattle.std.specs.List.{flat_map, join_with_byte};
-ghost use Rattle.std.specs.Option.{option_map, option_map_or};
+ghost use Rattle.std.specs.Option.{option_map};
 ghost use Rattle.std.specs.String.{string_bytes};
-ghost use Rattle.csp_log.specs.Framing.{framed_in};
+ghost use Rattle.csp_link.specs.Applied.{popped_by};
 ghost use Rattle.csp_report.specs.Lines.{ended_line, text_of};
-ghost use Rattle.csp_exports.specs.Unused.{direction_word, fault_line, fault_lines, frames_taken, harm_words, hits_none, idle_fault_lines, is_link, is_taken, link_turns, plan_lines, turns_of};
+ghost use Rattle.csp_exports.specs.Unused.{direction_word, fault_line, fault_lines, frames_taken, harm_words, hits_none, idle_fault_lines, is_link, link_turns, plan_lines, turns_of};
 
 use crate::parties::is_link;
-use csp_link::{Fault, FaultKind};
-use csp_log::{Framed, Log, QueueId};
+use csp_link::{Fault, FaultKind, Way};
+use csp_log::{AnswerShown, Entry, ItemShown, Log, OpShown, QueueId};
 use csp_record::PartyLog;
 use csp_report::{begin_line, end_line, push_count, push_counted, push_word};
 use csp_scene::SceneLink;
 use std::alloc::AllocError;
 
-/// Whether the turn of this entry, of a link, took a frame in this direction.
-fn has_taken(log: &Log, index: u64, dir: u8) -> bool
-    requires { index < length log.now.entries }
-    ensures { result ≡ option_map_or (λ e. is_taken dir (framed_in e)) (slice_get log.now.entries index) false }
+/// Whether a turn of a link took a frame in this direction.
+fn has_taken(entry: &Entry, way: Way) -> bool
+    ensures { (if result then 1 else 0) ≡ length (popped_by way entry.now.op entry.now.answer) }
 {
-    match log.framed(index) {
-        Framed::Popped(QueueId::Tx(number), _) => number == dir,
+    match (&entry.op, &entry.answer) {
+        (OpShown::Pop(QueueId::Tx(number)), AnswerShown::Popped(ItemShown::Frame(_))) => {
+            *number == way.number()
+        }
         _ => false,
     }
 }
 
 /// How many frames the turns of a link took in this direction.
-fn count_taken(log: &Log, dir: u8) -> u64
-    ensures { result ≡ frames_taken dir log.now.entries }
+fn count_taken(log: &Log, way: Way) -> u64
+    ensures { result ≡ frames_taken way log.now.entries }
 {
     let mut count = 0;
     let mut index = 0;
     while index < log.len() {
-        if has_taken(log, index, dir) {
+        if has_taken(&log.entry(index), way) {
             count += 1;
         }
         index += 1;
@@ -43,11 +44,11 @@ fn count_taken(log: &Log, dir: u8) -> u64
 }
 
 /// The same, of a link that may not be there.
-fn taken(link: Option<&PartyLog>, dir: u8) -> u64
-    ensures { result ≡ frames_taken dir (turns_of (option_map (λ party. party.now) link.entry)) }
+fn taken(link: Option<&PartyLog>, way: Way) -> u64
+    ensures { result ≡ frames_taken way (turns_of (option_map (λ party. party.now) link.entry)) }
 {
     match link {
-        Some(party) => count_taken(&party.log, dir),
+        Some(party) => count_taken(&party.log, way),
         None => 0,
     }
 }
@@ -141,15 +142,15 @@ fn push_link(
     number: usize,
     link: &SceneLink,
 ) -> Result<(), AllocError>
-    ensures { OnOk result (string_bytes out.new ≡ string_bytes out.old ++ text_of (plan_lines (frames_taken 0 (link_turns parties.now number)) (frames_taken 1 (link_turns parties.now number)) link.now)) }
+    ensures { OnOk result (string_bytes out.new ≡ string_bytes out.old ++ text_of (plan_lines (frames_taken Way.Forth (link_turns parties.now number)) (frames_taken Way.Back (link_turns parties.now number)) link.now)) }
 {
     let party = link_party(parties, number);
     push_plan(
         out,
         link.name.as_str(),
         link.plan.as_slice(),
-        taken(party, 0),
-        taken(party, 1),
+        taken(party, Way::Forth),
+        taken(party, Way::Back),
     )
 }
 

@@ -1,16 +1,16 @@
 //! The frames that an end put on its link, as bytes and as lines.
 
-ghost use Rattle.std.specs.Prelude.{◌≡◌, ◌++◌, ◌<◌, [], length, slice_get, OnOk, IfOk};
+ghost use Rattle.std.specs.Prelude.{◌≡◌, ◌++◌, ◌<◌, OnOk, IfOk};
 ghost use Rattle.std.specs.Fmt.{decimal};
 ghost use Rattle.std.specs.List.{flat_map};
-ghost use Rattle.std.specs.Option.{option_map_or};
+ghost use Rattle.std.specs.Option.{option_map};
 ghost use Rattle.hex.specs.Hex.{encode_upper};
 ghost use Rattle.csp_report.specs.Lines.{ended_line};
-ghost use Rattle.csp_exports.specs.Frames.{exported, frame_line, frame_word, stamp_word, three_digits, written, written_by, written_for};
+ghost use Rattle.csp_exports.specs.Frames.{exported, frame_line, frame_word, put_on, stamp_word, three_digits, written, written_by, written_for};
 
 use crate::ends::Form;
 use crate::parties::is_iface_at;
-use csp_log::{End, Framed, Log, LoggedFrame, QueueId};
+use csp_log::{AnswerShown, End, Entry, Frame, ItemShown, Log, OpShown, QueueId};
 use csp_record::{PartyLog, Record};
 use itoa::Buffer;
 use std::alloc::{AllocError, Global};
@@ -56,14 +56,14 @@ fn push_upper(alloc: Global, out: &mut Vec<u8>, bytes: &[u8]) -> Result<(), Allo
 fn push_frame_word(
     alloc: Global,
     out: &mut Vec<u8>,
-    frame: &LoggedFrame,
+    frame: &Frame,
 ) -> Result<(), AllocError>
     ensures { OnOk result (out.new.items ≡ out.old.items ++ frame_word frame.now) }
 {
-    let identifier = frame.can().unwrap_or(0).to_be_bytes();
+    let identifier = frame.can.unwrap_or(0).to_be_bytes();
     push_upper(alloc, out, &identifier)?;
     out.extend_from_slice("#".as_bytes())?;
-    push_upper(alloc, out, frame.bytes())
+    push_upper(alloc, out, frame.bytes.as_slice())
 }
 
 /// Appends the line of a frame put on this link in a round.
@@ -72,7 +72,7 @@ fn push_line(
     out: &mut Vec<u8>,
     link: &str,
     round: u64,
-    frame: &LoggedFrame,
+    frame: &Frame,
 ) -> Result<(), AllocError>
     ensures { OnOk result (out.new.items ≡ out.old.items ++ ended_line (frame_line link.now round frame.now)) }
 {
@@ -91,33 +91,41 @@ fn push_frame(
     form: Form,
     link: &str,
     round: u64,
-    frame: &LoggedFrame,
+    frame: &Frame,
 ) -> Result<(), AllocError>
     ensures { OnOk result (out.new.items ≡ out.old.items ++ written form link.now round frame.now) }
 {
     match form {
-        Form::Kiss => out.extend_from_slice(frame.bytes()),
+        Form::Kiss => out.extend_from_slice(frame.bytes.as_slice()),
         Form::Candump => push_line(alloc, out, link, round, frame),
     }
 }
 
-/// Appends what is written for the turn of this entry.
+/// The frame that a turn put on a link, if it did.
+fn put_on(entry: &Entry) -> Option<&Frame>
+    ensures { option_map (λ frame. frame.now) result ≡ put_on entry.now.op entry.now.answer }
+{
+    match (&entry.op, &entry.answer) {
+        (OpShown::Push(QueueId::Tx(_), ItemShown::Frame(frame)), AnswerShown::Pushed) => {
+            Some(frame)
+        }
+        _ => None,
+    }
+}
+
+/// Appends what is written for a turn.
 fn push_entry(
     alloc: Global,
     out: &mut Vec<u8>,
     form: Form,
     link: &str,
-    log: &Log,
-    index: u64,
+    entry: &Entry,
 ) -> Result<(), AllocError>
-    requires { index < length log.now.entries }
-    ensures { OnOk result (out.new.items ≡ out.old.items ++ option_map_or (written_for form link.now) (slice_get log.now.entries index) []) }
+    ensures { OnOk result (out.new.items ≡ out.old.items ++ written_for form link.now entry.now) }
 {
-    match log.framed(index) {
-        Framed::Pushed(QueueId::Tx(_), frame) => {
-            push_frame(alloc, out, form, link, log.time(index), &frame)
-        }
-        _ => Ok(()),
+    match put_on(entry) {
+        Some(frame) => push_frame(alloc, out, form, link, entry.time, frame),
+        None => Ok(()),
     }
 }
 
@@ -133,7 +141,7 @@ fn push_log(
 {
     let mut index = 0;
     while index < log.len() {
-        push_entry(alloc, out, form, link, log, index)?;
+        push_entry(alloc, out, form, link, &log.entry(index))?;
         index += 1;
     }
     Ok(())

@@ -1,6 +1,5 @@
 pub mod Bytes
 pub mod Drafting
-pub mod Framing
 pub mod Idling
 pub mod Kinds
 pub mod Layout

@@ -3,7 +3,6 @@
 ghost use Rattle.std.specs.Prelude.{◌≡◌, ℕ, ◌+◌, ◌-◌, ◌*◌, ◌^◌, ◌<◌, ◌≤◌, [], ◌++◌, ◌∷◌, length, max, nat_lt, slice_get, slice_range, All, Some, false, ◌&&◌, IfOk, OnOk, OnErr, vec_len, vec_capacity};
 ghost use Rattle.std.specs.Option.{option_map};
 ghost use Rattle.csp_buffer.specs.Trails.{trace_of};
-ghost use Rattle.csp_log.specs.Framing.{framed_in};
 ghost use Rattle.csp_log.specs.Idling.{IsIdle, is_idle};
 ghost use Rattle.csp_log.specs.Layout.{IsRoomier, HasTaken};
 ghost use Rattle.csp_log.specs.Moving.{moved_in};
@@ -13,15 +12,14 @@ ghost use Rattle.csp_log.specs.PlainLog.{with_entry, entry_with, all_events};
 ghost use Rattle.csp_log.specs.Rows.{draft_of, spoken_of, IsDeedLong, IsKeptIn, Says};
 ghost use Rattle.csp_log.specs.Weights.{weight_of_all};
 
-use crate::deeds::{entry_of, events_at, framed_of, idle, keep, make_room, moved_of};
+use crate::deeds::{entry_of, events_at, idle, keep, make_room, moved_of};
 use crate::draft::Draft;
 use crate::noted::{is_still, read_noted};
 use crate::row::{Deed, Line, Row};
 use crate::rows::Rows;
 use crate::weights::surplus;
 use crate::{
-    AnswerShown, Entry, Event, Events, Framed, MAX_EVENTS, MAX_WEIGHT, Moved, Noted, OpShown,
-    QueueId,
+    AnswerShown, Entry, Event, Events, MAX_EVENTS, MAX_WEIGHT, Moved, Noted, OpShown, QueueId,
 };
 use csp_base::{MAX_FRAME, Trace};
 use csp_buffer::Trail;
@@ -171,32 +169,6 @@ impl Log {
             Line::Rested { .. } | Line::FoundNoBuffer { .. } | Line::FoundEmpty { .. } => {
                 Moved::NoPacket
             }
-        }
-    }
-
-    /// The frame that the turn of this entry moved, counted from 0.
-    pub fn framed(&self, index: u64) -> Framed<'_>
-        requires { index < length self.now.entries }
-        ensures { option_map framed_in (slice_get self.now.entries index) ≡ Some result }
-    {
-        match self.lines[index as usize] {
-            Line::Kept { row } => framed_of(&self.bytes, &self.rows.row(row as usize)),
-            Line::Rested { .. } | Line::FoundNoBuffer { .. } | Line::FoundEmpty { .. } => {
-                Framed::NoFrame
-            }
-        }
-    }
-
-    /// When the turn of this entry was, counted from 0: the number of rounds completed before.
-    pub fn time(&self, index: u64) -> u64
-        requires { index < length self.now.entries }
-        ensures { option_map (λ e. e.time) (slice_get self.now.entries index) ≡ Some result }
-    {
-        match self.lines[index as usize] {
-            Line::Kept { row } => self.rows.row(row as usize).time,
-            Line::Rested { time } => u64::from(time),
-            Line::FoundNoBuffer { time } => u64::from(time),
-            Line::FoundEmpty { time, .. } => u64::from(time),
         }
     }
 

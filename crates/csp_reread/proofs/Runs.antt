@@ -14,7 +14,6 @@ use Rattle.csp_iface.specs.PlainIface.{PlainIface, opening}
 use Rattle.csp_iface.specs.Planning.{plan_of}
 use Rattle.csp_iface.specs.Telling.{told_by, tells, bad, concluded}
 use Rattle.csp_kiss.specs.declared.progress.KissPacket.{KissPacket}
-use Rattle.csp_log.specs.Framing.{framed_by}
 use Rattle.csp_log.specs.Moving.{moved_by}
 use Rattle.csp_log.specs.declared.entry.Entry.{Entry}
 use Rattle.csp_log.specs.declared.frame.Frame.{Frame}
@@ -34,7 +33,7 @@ module _ (name : List ℕ) (s : PlainIface) (e : Entry) (step : IsStep party_ste
   refused = (concluded (asked s e.time) e.time e.answer).refused
 
   wrote : written_for form.Kiss name e ≡ put_by (op_of s (plan_of s)) e.answer
-  wrote = ap (λ o. written_of form.Kiss name e.time (put_on (framed_by o e.answer))) step.op ∙ same (put_on (framed_by (op_of s (plan_of s)) e.answer))
+  wrote = ap (λ o. written_of form.Kiss name e.time (put_on o e.answer)) step.op ∙ same (put_on (op_of s (plan_of s)) e.answer)
     where
       same : (f : Option Frame) → written_of form.Kiss name e.time f ≡ written_of form.Kiss [] 0 f
       same None = refl

@@ -22,7 +22,6 @@ use Rattle.csp_iface.specs.declared.plan.Plan.TheVariants as plan
 use Rattle.csp_iface.specs.declared.plan.Side.{Side}
 use Rattle.csp_iface.specs.declared.plan.Side.TheVariants as side
 use Rattle.csp_kiss.specs.declared.progress.KissPacket.{KissPacket}
-use Rattle.csp_log.specs.Framing.{framed_by}
 use Rattle.csp_log.specs.Moving.{moved_by}
 use Rattle.csp_log.specs.Pictures.{Fits}
 use Rattle.csp_log.specs.declared.event.Event.{Event}
@@ -53,7 +52,7 @@ AreOf cover (f ∷ g ∷ fs) (p ∷ ps) = ⊥
 
 -- what a turn put on the link, and the packet whose transmission it began
 abbrev pub put_by : OpShown → AnswerShown → List ℕ
-put_by o a = written_of form.Kiss [] 0 (put_on (framed_by o a))
+put_by o a = written_of form.Kiss [] 0 (put_on o a)
 
 abbrev pub made_by : List Event → OpShown → AnswerShown → List KissPacket
 made_by es o a = read_of (if list_any is_transmission es then fetched (moved_by o a) else None)
@@ -100,10 +99,7 @@ delivered_put n (Some b) answer.Pushed = refl
 delivered_put n (Some b) _ = refl
 
 popped_put : (q : QueueId) (a : AnswerShown) → put_by (op.Pop q) a ≡ []
-popped_put q (answer.Popped (item.Packet _ _)) = refl
-popped_put q (answer.Popped (item.Frame _)) = refl
-popped_put q (answer.Popped (item.Note _)) = refl
-popped_put q _ = refl
+popped_put q a = refl
 
 -- the frames that are left after each turn that doesn't send
 return_frames : (s : PlainIface) (now : ℕ) (a : AnswerShown) → (told s now plan.Return a).frames ≡ s.frames
