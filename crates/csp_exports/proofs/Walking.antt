@@ -1,9 +1,11 @@
 -- How a walk over a log, or over a script, goes on by one.
-use Rattle.std.proofs.Common.{◌≡◌, ℕ, zero, suc, ◌+◌, ◌<◌, ◌||◌, Bool, true, false, Option, Some, None, List, [], ◌∷◌, ◌++◌, get_or, length, drop, refl, sym, ap, ◌∙◌, add-one, drop-cons, append_assoc, length-append, arith}
+use Rattle.std.proofs.Common.{◌≡◌, ℕ, zero, suc, ◌+◌, ◌-◌, ◌<◌, ◌||◌, Bool, true, false, Option, Some, None, List, [], ◌∷◌, ◌++◌, get_or, length, drop, refl, sym, ap, ◌∙◌, add-one, drop-cons, append_assoc, length-append, arith}
+use Rattle.std.proofs.lemmas.Grind.{flat_map-append}
 use Rattle.std.proofs.lemmas.List.Concat.{flat_map-cons}
-use Rattle.std.specs.List.{flat_map, list_any}
+use Rattle.std.specs.List.{flat_map, list_any, range_with_len}
 use Rattle.std.specs.Option.{option_map_or}
 use Rattle.std.specs.Prelude.{slice_get}
+use Rattle.csp_report.specs.Lines.{Line, ended_line, text_of}
 
 -- what is made of an element, and then of those after it
 next : {X A : Type 0} (f : X → List A) (xs : List X) (i : ℕ) → i < length xs → option_map_or f (slice_get xs i) [] ++ flat_map f (drop (suc i) xs) ≡ flat_map f (drop i xs)
@@ -40,3 +42,13 @@ found p xs i b answer h is yes before = sym before ∙ one_or_later p xs i h ∙
 -- where it doesn't, those after it settle it
 pub passed : {X : Type 0} (p : X → Bool) (xs : List X) (i : ℕ) (b answer : Bool) → i < length xs → b ≡ option_map_or p (slice_get xs i) false → b ≡ false → list_any p (drop i xs) ≡ answer → list_any p (drop (i + 1) xs) ≡ answer
 passed p xs i b answer h is no before = rw (add-one i) (sym (ap (λ c. c || list_any p (drop (suc i) xs)) (sym is ∙ no)) ∙ sym (one_or_later p xs i h) ∙ before)
+
+-- the lines of a port, and then of those after it
+pub port_on : (f : ℕ → List Line) (port count : ℕ) (out more whole : List ℕ) → port < count → more ≡ out ++ text_of (f port) → out ++ text_of (flat_map f (range_with_len port (count - port))) ≡ whole
+    → more ++ text_of (flat_map f (range_with_len (port + 1) (count - (port + 1)))) ≡ whole
+port_on f port count out more whole h pushed before =
+    let rest : List Line = flat_map f (range_with_len (port + 1) (count - (port + 1))) in
+    let one_more : count - port ≡ suc (count - (port + 1)) = omega arith in
+    let here : text_of (flat_map f (range_with_len port (count - port))) ≡ text_of (f port) ++ text_of rest =
+    ap (λ n. text_of (flat_map f (range_with_len port n))) one_more ∙ ap text_of (flat_map-cons f port (range_with_len (port + 1) (count - (port + 1)))) ∙ flat_map-append ended_line (f port) rest in
+    ap (λ l. l ++ text_of rest) pushed ∙ append_assoc out (text_of (f port)) (text_of rest) ∙ ap (λ l. out ++ l) (sym here) ∙ before
