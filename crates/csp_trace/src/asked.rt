@@ -1,6 +1,7 @@
 //! What is asked of a scene, and its text.
 
 ghost use Rattle.std.specs.Prelude.{◌≡◌, IfOk};
+ghost use Rattle.csp_scene.specs.Ranges.{IsScene};
 ghost use Rattle.csp_trace.specs.Modes.{asked_of};
 ghost use Rattle.csp_trace.specs.Owes.{told};
 
@@ -40,6 +41,7 @@ pub(crate) fn told(
     scene: &Scene,
     run: &Record,
 ) -> Result<Vec<u8>, AllocError>
+    requires { IsScene scene.now }
     ensures { IfOk result (λ bytes. bytes.items ≡ told asked.now scene.now run.now) }
 {
     match asked {
