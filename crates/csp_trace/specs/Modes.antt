@@ -15,8 +15,9 @@ abbrev pub of_one : List ℕ → Option Mode
 of_one word = if bytes_eq word (codes "unused") then Some mode.Unused else None
 
 -- `kiss LINK END`, `candump LINK END`
-abbrev pub of_three : (word : List ℕ) → PlainEndName → Option Mode
-of_three word name =
+abbrev pub of_three : (word second third : List ℕ) → Option Mode
+of_three word second third =
+    let name : PlainEndName = record { link = second; node = third } in
     if bytes_eq word (codes "kiss") then Some (mode.Export form.Kiss name)
     else if bytes_eq word (codes "candump") then Some (mode.Export form.Candump name)
     else None
@@ -26,7 +27,7 @@ abbrev pub mode_of : List (List ℕ) → Option Mode
 mode_of [] = None
 mode_of (word ∷ []) = of_one word
 mode_of (word ∷ second ∷ []) = None
-mode_of (word ∷ link ∷ node ∷ []) = of_three word (record { link = link; node = node })
+mode_of (word ∷ second ∷ third ∷ []) = of_three word second third
 mode_of (word ∷ second ∷ third ∷ fourth ∷ more) = None
 
 -- what they ask of a scene; none where they name an end that the scene lacks, or whose link carries something else

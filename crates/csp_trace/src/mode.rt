@@ -22,12 +22,10 @@ pub(crate) fn mode_of<'a>(words: &'a [String]) -> Option<Mode<'a>>
 {
     match words {
         [word] => of_one(word.as_str().as_bytes()),
-        [word, link, node] => of_three(
+        [word, second, third] => of_three(
             word.as_str().as_bytes(),
-            EndName {
-                link: link.as_str(),
-                node: node.as_str(),
-            },
+            second.as_str(),
+            third.as_str(),
         ),
         _ => None,
     }
@@ -44,10 +42,14 @@ fn of_one<'a>(word: &[u8]) -> Option<Mode<'a>>
     }
 }
 
-/// What a word asks for with the name of an end.
-fn of_three<'a>(word: &[u8], name: EndName<'a>) -> Option<Mode<'a>>
-    ensures { result ≡ of_three word.now name }
+/// What a word asks for with two more.
+fn of_three<'a>(word: &[u8], second: &'a str, third: &'a str) -> Option<Mode<'a>>
+    ensures { result ≡ of_three word.now second.now third.now }
 {
+    let name = EndName {
+        link: second,
+        node: third,
+    };
     if word == b"kiss".as_slice() {
         Some(Mode::Export(Form::Kiss, name))
     } else if word == b"candump".as_slice() {
