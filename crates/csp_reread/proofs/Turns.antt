@@ -7,7 +7,6 @@ use Rattle.std.specs.List.{AllByRecursion, flat_map, list_any}
 use Rattle.csp_buffer.specs.Content.{Content}
 use Rattle.csp_base.specs.declared.traces.Trace.{Trace}
 use Rattle.csp_consistent.proofs.Received.{waiting, told}
-use Rattle.csp_consistent.proofs.Transmitted.{given_fetched, delivered_fetched, transmitted_fetched, popped_fetched}
 use Rattle.csp_exports.specs.Frames.{put_on, written_of}
 use Rattle.csp_exports.specs.Unused.{is_transmission}
 use Rattle.csp_exports.specs.declared.ends.Form.TheVariants as form
@@ -88,7 +87,28 @@ none_bad k = chosen (k == 0)
     chosen true = refl
     chosen false = refl
 
--- what the operations besides put on the link
+-- what the operations besides fetch
+given_fetched : (o : Option Content) (a : AnswerShown) → fetched (moved_by (given o) a) ≡ None
+given_fetched None a = refl
+given_fetched (Some b) a = refl
+
+delivered_fetched : (n : ℕ) (o : Option Content) (a : AnswerShown) → fetched (moved_by (delivered n o) a) ≡ None
+delivered_fetched n None a = refl
+delivered_fetched n (Some b) answer.Pushed = refl
+delivered_fetched n (Some b) _ = refl
+
+transmitted_fetched : (n : ℕ) (o : Option Frame) (a : AnswerShown) → fetched (moved_by (transmitted n o) a) ≡ None
+transmitted_fetched n None a = refl
+transmitted_fetched n (Some f) answer.Pushed = refl
+transmitted_fetched n (Some f) _ = refl
+
+popped_fetched : (n : ℕ) (a : AnswerShown) → fetched (moved_by (op.Pop (queue.Rx n)) a) ≡ None
+popped_fetched n (answer.Popped (item.Packet _ _)) = refl
+popped_fetched n (answer.Popped (item.Frame _)) = refl
+popped_fetched n (answer.Popped (item.Note _)) = refl
+popped_fetched n _ = refl
+
+-- and put on the link
 given_put : (o : Option Content) (a : AnswerShown) → put_by (given o) a ≡ []
 given_put None a = refl
 given_put (Some b) a = refl
