@@ -53,11 +53,7 @@ fn push_upper(alloc: Global, out: &mut Vec<u8>, bytes: &[u8]) -> Result<(), Allo
 }
 
 /// Appends a frame's identifier and its bytes.
-fn push_frame_word(
-    alloc: Global,
-    out: &mut Vec<u8>,
-    frame: &Frame,
-) -> Result<(), AllocError>
+fn push_frame_word(alloc: Global, out: &mut Vec<u8>, frame: &Frame) -> Result<(), AllocError>
     ensures { OnOk result (out.new.items ≡ out.old.items ++ frame_word frame.now) }
 {
     let identifier = frame.can.unwrap_or(0).to_be_bytes();
