@@ -19,7 +19,7 @@ pub enum Form {
 }
 
 /// Names an end of a link. Contracts see it as its two names.
-#[derive(Clone, Copy, Debug)]
+#[derive(Drop, Debug)]
 pub struct EndName<'a> {
     /// The name of the link.
     pub link: &'a str,
@@ -33,6 +33,18 @@ impl<'a> Model for EndName<'a> {
     ghost Value = { PlainEndName };
 
     ghost view = { λ name. record { link = name.link.now; node = name.node.now } };
+}
+
+impl<'a> EndName<'a> {
+    /// The same names once more.
+    pub fn again(&self) -> EndName<'a>
+        ensures { result ≡ self.now }
+    {
+        EndName {
+            link: self.link,
+            node: self.node,
+        }
+    }
 }
 
 /// Whether what a link of this kind carries can be written in this form.

@@ -30,7 +30,8 @@ fn push_three(out: &mut Vec<u8>, number: u64) -> Result<(), AllocError>
 {
     out.push(b'0' + (number / 100) as u8)?;
     out.push(b'0' + (number / 10 % 10) as u8)?;
-    out.push(b'0' + (number % 10) as u8)
+    out.push(b'0' + (number % 10) as u8)?;
+    Ok(())
 }
 
 /// Appends a round as seconds.
@@ -77,7 +78,8 @@ fn push_line(
     out.extend_from_slice(link.as_bytes())?;
     out.push(b' ')?;
     push_frame_word(alloc, out, frame)?;
-    out.push(b'\n')
+    out.push(b'\n')?;
+    Ok(())
 }
 
 /// Appends what is written for a frame put on this link in a round.
@@ -178,6 +180,7 @@ fn push_parties(
     Ok(())
 }
 
+#[tactic(auto, using(crate::proofs::Walking::exported_is))]
 /// The frames that an end of the link of this name put on it, in order: their bytes one after the other, or a line for each.
 pub fn exported(
     alloc: Global,
