@@ -101,7 +101,7 @@ limit() {
   limit 'bytes of a payload; sent on a connection; of a frame' csp_base.MAX_PAYLOAD csp_log.MAX_DATA csp_base.MAX_FRAME
   limit 'window of a reliable connection, in packets' csp_rdp_header.MAX_WINDOW
   limit 'faults; rounds; weight of all entries' csp_scene.MAX_FAULTS csp_scene.MAX_UNTIL csp_world.MAX_ENTRIES
-  limit 'bytes of a scenario; of a line' csp_top.MAX_SCENARIO csp_scene.MAX_LINE
+  limit 'bytes of a scenario; of a line' csp_bench.MAX_SCENARIO csp_scene.MAX_LINE
 } > "$work/limits"
 complain 'limits of the README that are not the constants' "$work/limits"
 

@@ -14,5 +14,6 @@ mod summing;
 mod text;
 
 pub use laws::tells_prefix;
+pub use lines::{begin_line, end_line, push_count, push_counted, push_word};
 pub use summing::summary;
 pub use text::{VERSION, report};

@@ -8,14 +8,14 @@ use csp_text::push_number;
 use std::alloc::AllocError;
 
 /// Appends the first word of a line.
-pub(crate) fn begin_line(out: &mut String, word: &str) -> Result<(), AllocError>
+pub fn begin_line(out: &mut String, word: &str) -> Result<(), AllocError>
     ensures { OnOk result (string_bytes out.new ≡ string_bytes out.old ++ word.now) }
 {
     out.push_str(word)
 }
 
 /// Appends a further word.
-pub(crate) fn push_word(out: &mut String, word: &str) -> Result<(), AllocError>
+pub fn push_word(out: &mut String, word: &str) -> Result<(), AllocError>
     ensures { OnOk result (string_bytes out.new ≡ string_bytes out.old ++ 32 ∷ word.now) }
 {
     out.push(' ')?;
@@ -23,7 +23,7 @@ pub(crate) fn push_word(out: &mut String, word: &str) -> Result<(), AllocError>
 }
 
 /// Appends a further word that is a number, in decimal digits.
-pub(crate) fn push_count(out: &mut String, count: u64) -> Result<(), AllocError>
+pub fn push_count(out: &mut String, count: u64) -> Result<(), AllocError>
     ensures { OnOk result (string_bytes out.new ≡ string_bytes out.old ++ 32 ∷ decimal count) }
 {
     out.push(' ')?;
@@ -31,7 +31,7 @@ pub(crate) fn push_count(out: &mut String, count: u64) -> Result<(), AllocError>
 }
 
 /// Appends a further word and the number that belongs to it.
-pub(crate) fn push_counted(out: &mut String, word: &str, count: u64) -> Result<(), AllocError>
+pub fn push_counted(out: &mut String, word: &str, count: u64) -> Result<(), AllocError>
     ensures { OnOk result (string_bytes out.new ≡ string_bytes out.old ++ 32 ∷ (word.now ++ 32 ∷ decimal count)) }
 {
     push_word(out, word)?;
@@ -39,7 +39,7 @@ pub(crate) fn push_counted(out: &mut String, word: &str, count: u64) -> Result<(
 }
 
 /// Ends a line.
-pub(crate) fn end_line(out: &mut String) -> Result<(), AllocError>
+pub fn end_line(out: &mut String) -> Result<(), AllocError>
     ensures { OnOk result (string_bytes out.new ≡ string_bytes out.old ++ 10 ∷ []) }
 {
     out.push('\n')

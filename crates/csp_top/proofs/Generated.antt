@@ -14,9 +14,9 @@ use Rattle.csp_world.specs.Opening.{opening}
 use Rattle.csp_world.specs.Record.{record_of, sim_record}
 use Rattle.csp_world.specs.Schedule.{run}
 use Rattle.csp_top.specs.Gen.{HasReport}
-use Rattle.csp_top.specs.Main.{IsPastEntries}
-use Rattle.csp_top.specs.declared.simulation.Refusal.{Refusal}
-use Rattle.csp_top.specs.declared.simulation.Refusal.TheVariants as refusal
+use Rattle.csp_bench.specs.Running.{IsPastEntries}
+use Rattle.csp_bench.specs.declared.reading.Refusal.{Refusal}
+use Rattle.csp_bench.specs.declared.reading.Refusal.TheVariants as refusal
 
 eleven : (packets : ℕ) (plan : List Fault) → length (opening (gen_scene packets plan)).members ≡ 11
 unfolding opening parties_of

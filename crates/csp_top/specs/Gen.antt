@@ -9,8 +9,8 @@ use Rattle.csp_scene.specs.Judge.{scene_of}
 use Rattle.csp_scene.specs.Scene.{PlainScene}
 use Rattle.csp_world.specs.Record.{sim_record}
 use Rattle.csp_top.specs.Main.{IsReportOf}
-use Rattle.csp_top.specs.declared.status.Status.{Status}
-use Rattle.csp_top.specs.declared.status.Status.TheVariants as status
+use Rattle.csp_bench.specs.declared.status.Status.{Status}
+use Rattle.csp_bench.specs.declared.status.Status.TheVariants as status
 
 -- these bytes are the summary of the report of the scenario in which so many packets are sent
 pub record IsSummaryOf (packets : ℕ) (bytes : List ℕ) : Type 0 where

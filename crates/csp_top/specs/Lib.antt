@@ -1,7 +1,5 @@
 pub mod Main
-pub mod Statuses
 pub mod Said
-pub mod Words
 pub mod Gen
 pub mod Prefix
 pub mod Threads

@@ -1,7 +1,6 @@
 -- What a call of the program owes: what it writes by what it read, and when each answer comes.
-use Rattle.std.specs.Prelude.{ℕ, ◌≡◌, ◌≤◌, List, [], ◌∷◌, ◌++◌, length, Option, None, Some, Ok, IfSome, ⊤, codes}
+use Rattle.std.specs.Prelude.{ℕ, ◌≡◌, List, ◌∷◌, [], ◌++◌, Option, Some, Ok, IfSome, ⊤, codes}
 use Rattle.std.specs.Fmt.{decimal}
-use Rattle.csp_base.specs.Faults.{Rose}
 use Rattle.csp_base.specs.Transfer.{WrotePrefix}
 use Rattle.std.specs.Io.KnownBytes.{Appends}
 use Rattle.csp_scene.specs.Scene.{PlainScene}
@@ -14,9 +13,8 @@ use Rattle.csp_report.specs.Report.{report}
 use Rattle.csp_consistent.specs.Consistent.{IsConsistent}
 use Rattle.csp_report.specs.PlacesAddUp.{PlacesAddUp}
 use Rattle.csp_report.specs.ReliablePrefix.{HasReliablePrefix}
-use Rattle.csp_top.specs.declared.status.Status.{Status}
-use Rattle.csp_top.specs.declared.status.Status.TheVariants as status
-use Rattle.csp_top.specs.declared.status.TheConstants.{MAX_SCENARIO}
+use Rattle.csp_bench.specs.declared.status.Status.{Status}
+use Rattle.csp_bench.specs.declared.status.Status.TheVariants as status
 
 -- the bytes of a report end with the line `passed 0`
 pub record EndsUnchanged (bytes : List ℕ) : Type 0 where
@@ -35,12 +33,6 @@ pub record IsReportOf (text bytes : List ℕ) : Type 0 where
   pub passes : IsOrdinary scene run → EndsUnchanged bytes
   pub unflipped : HasNoFlips scene → HasNumbersForAll scene run → EndsUnchanged bytes
 
--- the text states a scene whose logs reach the entry limit
-pub record IsPastEntries (text : List ℕ) : Type 0 where
-  pub scene : PlainScene
-  pub stated : scene_of text ≡ Ok scene
-  pub full : sim_record scene ≡ None
-
 -- the whole report of the text was written
 abbrev pub WroteReport : List ℕ → Option (List ℕ) → Option (List ℕ) → Type 0
 WroteReport text old new = (bytes : List ℕ) × IsReportOf text bytes × Appends old new bytes
@@ -48,10 +40,6 @@ WroteReport text old new = (bytes : List ℕ) × IsReportOf text bytes × Append
 -- a prefix of the report of the text was written
 abbrev pub WrotePart : List ℕ → Option (List ℕ) → Option (List ℕ) → Type 0
 WrotePart text old new = (bytes : List ℕ) × IsReportOf text bytes × WrotePrefix old new bytes
-
--- the source was read to its end, which came within the limit
-abbrev pub WasRead : Option (List ℕ) → Option (List ℕ) → Type 0
-WasRead left_old left_new = IfSome left_old (λ text. (length text ≤ MAX_SCENARIO) × (left_new ≡ Some []))
 
 -- in what was written, each node's line has six places that add up to its number of buffers
 abbrev pub WroteWhole : Option (List ℕ) → Option (List ℕ) → Type 0
@@ -61,17 +49,6 @@ WroteWhole old new = IfSome old (λ before. (bytes : List ℕ) × (new ≡ Some 
 -- beginning of what the peer sent
 abbrev pub WroteReliably : Option (List ℕ) → Option (List ℕ) → Type 0
 WroteReliably old new = IfSome old (λ before. (bytes : List ℕ) × (new ≡ Some (before ++ bytes)) × HasReliablePrefix bytes)
-
--- nothing hinders a report of this text: it has no more bytes than the limit, it states a scene, no count of faults
--- rises, neither of reading nor of writing, and the run of the scene doesn't stop at the entry limit
-pub record IsUnhindered (text : List ℕ) (reading_old reading_new writing_old writing_new : ℕ) : Type 0 where
-  pub short : length text ≤ MAX_SCENARIO
-  pub scene : PlainScene
-  pub run : PlainRecord
-  pub stated : scene_of text ≡ Ok scene
-  pub reading_steady : Rose reading_old reading_new → ⊥
-  pub writing_steady : Rose writing_old writing_new → ⊥
-  pub ran : sim_record scene ≡ Some run
 
 -- the answer is Done, and the whole report of the text was written, or it is want of memory
 abbrev pub IsDoneOrNoMemory : List ℕ → Option (List ℕ) → Option (List ℕ) → Status → Type 0

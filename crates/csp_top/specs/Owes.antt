@@ -3,28 +3,19 @@ use Rattle.std.specs.Prelude.{ℕ, ◌≡◌, ◌≢◌, Bool, List, Option, Err
 use Rattle.csp_scene.specs.Judge.{scene_of}
 use Rattle.csp_scene.specs.declared.refusal.SceneKind.{SceneKind}
 use Rattle.csp_top.specs.Gen.{HasReport, IsSummedUpOrNoMemory, WroteSummary, WroteSummaryPart}
-use Rattle.csp_top.specs.Main.{IsDoneOrNoMemory, IsPastEntries, IsUnhindered, WasRead, WroteReliably, WroteReport, WrotePart, WroteWhole}
+use Rattle.csp_bench.specs.Edge.{Edge, WasRead}
+use Rattle.csp_bench.specs.Running.{IsPastEntries, IsUnhindered}
+use Rattle.csp_top.specs.Main.{IsDoneOrNoMemory, WroteReliably, WroteReport, WrotePart, WroteWhole}
 use Rattle.csp_top.specs.Tap.{IsOpenStream, IsTappedOrNoMemory, WroteTap, WroteTapPart}
 use Rattle.csp_top.specs.Threads.{IsFree, IsRunOrNoMemory, WroteRun, WroteRunPart}
-use Rattle.csp_top.specs.declared.status.LimitKind.{LimitKind}
-use Rattle.csp_top.specs.declared.status.LimitKind.TheVariants as limit
-use Rattle.csp_top.specs.declared.status.Status.{Status}
-use Rattle.csp_top.specs.declared.status.Status.TheVariants as status
+use Rattle.csp_bench.specs.declared.status.LimitKind.{LimitKind}
+use Rattle.csp_bench.specs.declared.status.LimitKind.TheVariants as limit
+use Rattle.csp_bench.specs.declared.status.Status.{Status}
+use Rattle.csp_bench.specs.declared.status.Status.TheVariants as status
 use Rattle.csp_words.specs.declared.grammar.Command.{Command}
 use Rattle.csp_words.specs.declared.grammar.Command.TheVariants as command
 use Rattle.csp_base.specs.Faults.{Rose}
 use Rattle.csp_world.specs.declared.limits.TheConstants.{MAX_ENTRIES}
-
--- what a call finds, and what it leaves: the bytes that the source has yet to give and how often it failed, and what was written and how often that failed
-pub record Edge : Type 0 where
-  pub left : Option (List ℕ)
-  pub reading : ℕ
-  pub written : Option (List ℕ)
-  pub writing : ℕ
-
--- such an edge
-abbrev pub edge : Option (List ℕ) → ℕ → Option (List ℕ) → ℕ → Edge
-edge left reading written writing = record { left = left; reading = reading; written = written; writing = writing }
 
 -- what a command owes that writes a report of the text that it reads: the whole of it, in which places add up and which is reliable, or a prefix, and only of a text that was read to
 -- its end; or the refusal of the text. Which bytes are written for a text, whole or in part, differs with the command

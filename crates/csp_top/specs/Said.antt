@@ -1,49 +1,8 @@
--- What the program says on standard error, and its exit status.
-use Rattle.std.specs.Prelude.{ℕ, List, [], ◌∷◌, ◌++◌, codes}
-use Rattle.std.specs.Fmt.{decimal}
-use Rattle.csp_scene.specs.declared.refusal.SceneKind.{SceneKind}
-use Rattle.csp_scene.specs.declared.refusal.SceneKind.TheVariants as kind
-use Rattle.csp_top.specs.declared.status.LimitKind.{LimitKind}
-use Rattle.csp_top.specs.declared.status.LimitKind.TheVariants as limit
-use Rattle.csp_top.specs.declared.status.Status.{Status}
-use Rattle.csp_top.specs.declared.status.Status.TheVariants as status
+-- What the program says on standard error.
+use Rattle.std.specs.Prelude.{ℕ, List, codes}
+use Rattle.csp_bench.specs.Said.{said_by}
+use Rattle.csp_bench.specs.declared.status.Status.{Status}
 
--- the exit status: 0 to 6, in the order of the answers
-abbrev pub code_of : Status → ℕ
-code_of status.Done = 0
-code_of status.NoMemory = 1
-code_of status.Words = 2
-code_of status.ReadFault = 3
-code_of status.WriteFault = 4
-code_of (status.Scene line what) = 5
-code_of (status.Limit which number) = 6
-
--- the word of what is wrong with a line
-abbrev pub word_of_kind : SceneKind → List ℕ
-word_of_kind kind.Byte = codes "Byte"
-word_of_kind kind.Long = codes "Long"
-word_of_kind kind.Word = codes "Word"
-word_of_kind kind.Place = codes "Place"
-word_of_kind kind.Count = codes "Count"
-word_of_kind kind.Choice = codes "Choice"
-word_of_kind kind.Name = codes "Name"
-word_of_kind kind.Number = codes "Number"
-word_of_kind kind.Unknown = codes "Unknown"
-word_of_kind kind.Twice = codes "Twice"
-word_of_kind kind.Full = codes "Full"
-word_of_kind kind.Missing = codes "Missing"
-
--- the word of a limit
-abbrev pub word_of_limit : LimitKind → List ℕ
-word_of_limit limit.Bytes = codes "Bytes"
-word_of_limit limit.Entries = codes "Entries"
-
--- the line of each answer, with the line feed that ends it; nothing where the report was written
+-- its line for each answer, which begins with its name
 abbrev pub said_of : Status → List ℕ
-said_of status.Done = []
-said_of status.NoMemory = codes "cspsim: no memory" ++ 10 ∷ []
-said_of status.Words = codes "cspsim: bad words" ++ 10 ∷ []
-said_of status.ReadFault = codes "cspsim: read fault" ++ 10 ∷ []
-said_of status.WriteFault = codes "cspsim: write fault" ++ 10 ∷ []
-said_of (status.Scene line what) = codes "cspsim: line " ++ decimal line ++ codes ": " ++ word_of_kind what ++ 10 ∷ []
-said_of (status.Limit which number) = codes "cspsim: limit " ++ word_of_limit which ++ codes " " ++ decimal number ++ 10 ∷ []
+said_of answer = said_by (codes "cspsim") answer

@@ -6,9 +6,9 @@ use Rattle.csp_base.specs.Transfer.{WrotePrefix}
 use Rattle.csp_base.specs.declared.limits.TheConstants.{MAX_PAYLOAD}
 use Rattle.csp_kiss.specs.Stream.{events}
 use Rattle.csp_tap.specs.Text.{tap_text}
-use Rattle.csp_top.specs.declared.status.Status.{Status}
-use Rattle.csp_top.specs.declared.status.Status.TheVariants as status
-use Rattle.csp_top.specs.declared.status.TheConstants.{MAX_SCENARIO}
+use Rattle.csp_bench.specs.declared.status.Status.{Status}
+use Rattle.csp_bench.specs.declared.status.Status.TheVariants as status
+use Rattle.csp_bench.specs.declared.status.TheConstants.{MAX_SCENARIO}
 
 -- the text of a stream's events, where a packet has any payload that a packet may have
 abbrev pub text_of_stream : (cover : Bool) (stream : List ℕ) → List ℕ

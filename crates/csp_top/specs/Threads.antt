@@ -12,9 +12,9 @@ use Rattle.csp_scene.specs.Judge.{scene_of}
 use Rattle.csp_scene.specs.Scene.{PlainScene}
 use Rattle.csp_world.specs.declared.limits.TheConstants.{MAX_ENTRIES}
 use Rattle.csp_top.specs.Main.{EndsUnchanged}
-use Rattle.csp_top.specs.declared.status.Status.{Status}
-use Rattle.csp_top.specs.declared.status.Status.TheVariants as status
-use Rattle.csp_top.specs.declared.status.TheConstants.{MAX_SCENARIO}
+use Rattle.csp_bench.specs.declared.status.Status.{Status}
+use Rattle.csp_bench.specs.declared.status.Status.TheVariants as status
+use Rattle.csp_bench.specs.declared.status.TheConstants.{MAX_SCENARIO}
 
 -- the text states a scene, and these bytes are the report of a record that can be one of its run in threads and tells why that stopped. Where the run
 -- was ordinary, they end with `passed 0`; so they do where no line of the scenario flips a bit and no bus wore out its numbers

@@ -4,17 +4,18 @@ ghost use Rattle.std.specs.Prelude.{◌≡◌, ◌≢◌, ◌+◌, ◌↔◌, �
 ghost use Rattle.std.specs.String.{string_bytes};
 ghost use Rattle.csp_base.specs.Faults.{Rose};
 ghost use Rattle.csp_base.specs.Transfer.{TookAtMost, TookExactly};
-ghost use Rattle.csp_top.specs.Owes.{Owes, edge};
-ghost use Rattle.csp_top.specs.declared.status.LimitKind.{LimitKind};
+ghost use Rattle.csp_bench.specs.Edge.{edge};
+ghost use Rattle.csp_top.specs.Owes.{Owes};
+ghost use Rattle.csp_bench.specs.declared.status.LimitKind.{LimitKind};
 ghost use Rattle.csp_words.specs.Grammar.{command_of};
 ghost use Rattle.csp_words.specs.declared.grammar.Command.{Command};
 
 use crate::generation::gen_main;
 use crate::simulation::sim_main;
-use crate::status::{LimitKind, MAX_SCENARIO, Status};
 use crate::tapping::tap_main;
 use crate::threads::run_main;
 use csp_base::{Sink, Source};
+use csp_bench::{LimitKind, MAX_SCENARIO, Status};
 use csp_rounds::Gate;
 use csp_words::{Command, WordsError, command};
 use std::alloc::Global;

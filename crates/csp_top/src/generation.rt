@@ -7,11 +7,11 @@ ghost use Rattle.csp_report.specs.PlacesAddUp.{PlacesAddUp};
 ghost use Rattle.csp_scene.specs.declared.refusal.SceneKind.{SceneKind};
 ghost use Rattle.csp_top.specs.Gen.{IsSummaryOf, WroteSummary, WroteSummaryPart, HasReport, IsSummedUpOrNoMemory};
 ghost use Rattle.csp_top.specs.Main.{WroteWhole};
-ghost use Rattle.csp_top.specs.declared.status.LimitKind.{LimitKind};
+ghost use Rattle.csp_bench.specs.declared.status.LimitKind.{LimitKind};
 
-use crate::simulation::{Refusal, report_of};
-use crate::status::Status;
+use crate::simulation::report_of;
 use csp_base::{Sink, write_whole};
+use csp_bench::{Refusal, Status};
 use csp_gen::{MAX_PACKETS, text};
 use csp_report::summary;
 use std::alloc::Global;

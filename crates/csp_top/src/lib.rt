@@ -8,14 +8,11 @@ mod laws;
 mod numbers;
 mod saying;
 mod simulation;
-mod status;
 mod tapping;
 mod threads;
-mod words;
 
 pub use command::csp_main;
+pub use csp_bench::{LimitKind, MAX_SCENARIO, Status, own_words};
 pub use laws::{stays_reliable, tells_reliable_prefix};
 pub use saying::say;
 pub use simulation::sim_main;
-pub use status::{LimitKind, MAX_SCENARIO, Status};
-pub use words::own_words;

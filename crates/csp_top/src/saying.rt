@@ -1,20 +1,13 @@
 //! What the program says on standard error.
 
-ghost use Rattle.std.specs.Prelude.{◌≡◌, ◌++◌, ◌∷◌, ◌≤◌, ◌+◌, [], codes, length, OnOk, OnErr, IsErr};
-ghost use Rattle.std.specs.Fmt.{decimal};
+ghost use Rattle.std.specs.Prelude.{◌≡◌, OnOk, OnErr, IsErr};
 ghost use Rattle.std.specs.Io.KnownBytes.{Appends};
-ghost use Rattle.arrayvec.specs.ArrayString.{array_string_len};
 ghost use Rattle.csp_base.specs.Faults.{Rose};
 ghost use Rattle.csp_base.specs.Transfer.{WrotePrefix};
-ghost use Rattle.csp_top.specs.Said.{said_of, word_of_kind, word_of_limit};
+ghost use Rattle.csp_top.specs.Said.{said_of};
 
-use crate::status::{LimitKind, Status};
-use arrayvec::ArrayString;
-use csp_base::{Failed, Sink, write_whole};
-use csp_scene::SceneKind;
-
-/// The most bytes that are said: those of the line of a limit with a number of 20 digits are 43.
-const MAX_SAID: usize = 64;
+use csp_base::{Failed, Sink};
+use csp_bench::Status;
 
 /// Says why a run was not done, in one line, and nothing where it was done. No memory is taken.
 pub fn say<E: Sink>(status: Status, errors: &mut E) -> Result<(), Failed>
@@ -23,100 +16,5 @@ pub fn say<E: Sink>(status: Status, errors: &mut E) -> Result<(), Failed>
     ensures fault { IsErr result → Rose (E.faults errors.old) (E.faults errors.new) }
     ensures steady { OnOk result (E.faults errors.new ≡ E.faults errors.old) }
 {
-    write_whole(errors, said(status).as_str().as_bytes())
-}
-
-/// The line that is said, with the line feed that ends it.
-fn said(status: Status) -> ArrayString<MAX_SAID>
-    ensures { result.bytes ≡ said_of status }
-{
-    match status {
-        Status::Done => ArrayString::new(),
-        Status::NoMemory => plain_line("no memory"),
-        Status::Words => plain_line("bad words"),
-        Status::ReadFault => plain_line("read fault"),
-        Status::WriteFault => plain_line("write fault"),
-        Status::Scene { line, kind } => refused_line(line, kind),
-        Status::Limit { kind, number } => limit_line(kind, number),
-    }
-}
-
-/// The line of an answer that says no more than itself.
-fn plain_line(text: &str) -> ArrayString<MAX_SAID>
-    requires { length text.now ≤ 20 }
-    ensures { result.bytes ≡ codes "cspsim: " ++ text.now ++ 10 ∷ [] }
-{
-    let mut line = ArrayString::new();
-    line.push_str("cspsim: ");
-    line.push_str(text);
-    line.push('\n');
-    line
-}
-
-/// Appends the digits of a number.
-fn push_digits(line: &mut ArrayString<MAX_SAID>, number: u64)
-    requires { array_string_len line.old ≤ 30 }
-    ensures bytes { line.new.bytes ≡ line.old.bytes ++ decimal number }
-    ensures short { array_string_len line.new ≤ array_string_len line.old + 20 }
-{
-    let mut digits = itoa::Buffer::new();
-    line.push_str(digits.format(number));
-}
-
-/// The line of a scenario that is refused at this line.
-fn refused_line(number: u32, kind: SceneKind) -> ArrayString<MAX_SAID>
-    ensures { result.bytes ≡ codes "cspsim: line " ++ decimal number ++ codes ": " ++ word_of_kind kind ++ 10 ∷ [] }
-{
-    let mut line = ArrayString::new();
-    line.push_str("cspsim: line ");
-    push_digits(&mut line, u64::from(number));
-    line.push_str(": ");
-    line.push_str(word_of_kind(kind));
-    line.push('\n');
-    line
-}
-
-/// The line of a limit that was reached.
-fn limit_line(kind: LimitKind, number: u64) -> ArrayString<MAX_SAID>
-    ensures { result.bytes ≡ codes "cspsim: limit " ++ word_of_limit kind ++ codes " " ++ decimal number ++ 10 ∷ [] }
-{
-    let mut line = ArrayString::new();
-    line.push_str("cspsim: limit ");
-    line.push_str(word_of_limit(kind));
-    line.push_str(" ");
-    push_digits(&mut line, number);
-    line.push('\n');
-    line
-}
-
-/// The word of what is wrong with a line.
-fn word_of_kind(kind: SceneKind) -> &'static str
-    ensures word { result.now ≡ word_of_kind kind }
-    ensures short { length result.now ≤ 7 }
-{
-    match kind {
-        SceneKind::Byte => "Byte",
-        SceneKind::Long => "Long",
-        SceneKind::Word => "Word",
-        SceneKind::Place => "Place",
-        SceneKind::Count => "Count",
-        SceneKind::Choice => "Choice",
-        SceneKind::Name => "Name",
-        SceneKind::Number => "Number",
-        SceneKind::Unknown => "Unknown",
-        SceneKind::Twice => "Twice",
-        SceneKind::Full => "Full",
-        SceneKind::Missing => "Missing",
-    }
-}
-
-/// The word of a limit.
-fn word_of_limit(kind: LimitKind) -> &'static str
-    ensures word { result.now ≡ word_of_limit kind }
-    ensures short { length result.now ≤ 7 }
-{
-    match kind {
-        LimitKind::Bytes => "Bytes",
-        LimitKind::Entries => "Entries",
-    }
+    csp_bench::say("cspsim", status, errors)
 }

@@ -1,9 +1,11 @@
 //! The command `sim`: the source read to its end, the scenario judged, the run, the report built whole, the
 //! report written. The first refusal in this order is the answer.
 
-ghost use Rattle.std.specs.Prelude.{◌≡◌, ◌≢◌, ◌≤◌, ◌+◌, ℕ, [], Ok, Err, IfSome, IfOk, IfErr, length, map};
+ghost use Rattle.std.specs.Prelude.{◌≡◌, ◌≢◌, ◌≤◌, ◌+◌, ℕ, [], Err, IfSome, IfOk, IfErr, length, map};
 ghost use Rattle.csp_base.specs.Faults.{Rose};
 ghost use Rattle.csp_base.specs.Transfer.{TookAtMost, TookExactly};
+ghost use Rattle.csp_bench.specs.Edge.{WasRead};
+ghost use Rattle.csp_bench.specs.Running.{IsPastEntries, IsUnhindered};
 ghost use Rattle.csp_consistent.specs.Consistent.{IsConsistent};
 ghost use Rattle.csp_ordinary.specs.Ordinary.{HasNoFlips, HasNumbersForAll, IsOrdinary};
 ghost use Rattle.csp_record.specs.Whole.{IsWhole};
@@ -12,23 +14,21 @@ ghost use Rattle.csp_scene.specs.Judge.{scene_of};
 ghost use Rattle.csp_scene.specs.Kept.{AreLinksAfter};
 ghost use Rattle.csp_scene.specs.Naming.{AreNamedApart};
 ghost use Rattle.csp_scene.specs.Ranges.{IsScene};
-ghost use Rattle.csp_scene.specs.Scene.{moves_in};
 ghost use Rattle.csp_scene.specs.declared.refusal.SceneKind.{SceneKind};
-ghost use Rattle.csp_top.specs.Main.{EndsUnchanged, WroteReport, WrotePart, WasRead, WroteReliably, WroteWhole, IsReportOf, IsPastEntries, IsUnhindered, IsDoneOrNoMemory};
-ghost use Rattle.csp_top.specs.Statuses.{status_of_read, status_of};
+ghost use Rattle.csp_top.specs.Main.{EndsUnchanged, WroteReport, WrotePart, WroteReliably, WroteWhole, IsReportOf, IsDoneOrNoMemory};
 ghost use Rattle.csp_report.specs.PlacesAddUp.{PlacesAddUp};
 ghost use Rattle.csp_report.specs.ReliablePrefix.{HasReliablePrefix};
 
 use crate::laws::tells_reliable_prefix;
 use crate::numbers::hold_numbers;
-use crate::status::{LimitKind, MAX_SCENARIO, Status};
-use csp_base::{ReadError, Sink, Source, read_up_to, write_whole};
+use csp_base::{Sink, Source, read_up_to, write_whole};
+use csp_bench::{LimitKind, MAX_SCENARIO, Refusal, Status, read_scene, read_status, run_of};
 use csp_ordinary::{hold_words, passes_nothing, undamaged_without_flips};
 use csp_prefix::{opens_on_slots, takes_a_prefix};
 use csp_record::Record;
 use csp_report::report;
-use csp_scene::{Scene, SceneError, SceneKind, parse};
-use csp_world::{MAX_ENTRIES, SimError, simulate};
+use csp_scene::{Scene, SceneKind};
+use csp_world::MAX_ENTRIES;
 use std::alloc::Global;
 
 /// Runs the scenario that the source gives, and writes the report of its run.
@@ -69,47 +69,6 @@ pub fn sim_main<S: Source, K: Sink>(alloc: Global, source: &mut S, sink: &mut K)
     }
 }
 
-/// What the program answers where the source was not read to its end.
-pub(crate) fn read_status(error: ReadError) -> Status
-    ensures { result ≡ status_of_read error }
-{
-    match error {
-        ReadError::NoMemory => Status::NoMemory,
-        ReadError::Fault => Status::ReadFault,
-        ReadError::TooLong => Status::Limit {
-            kind: LimitKind::Bytes,
-            number: MAX_SCENARIO as u64,
-        },
-    }
-}
-
-/// Why a text has no report.
-#[derive(Clone, Copy, PartialEq, Eq, Debug)]
-pub(crate) enum Refusal {
-    /// Memory was wanting.
-    NoMemory,
-    /// The text is refused at this line.
-    Scene { line: u32, kind: SceneKind },
-    /// The logs reached the entry limit.
-    Entries,
-}
-
-impl Refusal {
-    /// What the program answers then.
-    pub(crate) fn status(self) -> Status
-        ensures { result ≡ status_of self }
-    {
-        match self {
-            Refusal::NoMemory => Status::NoMemory,
-            Refusal::Scene { line, kind } => Status::Scene { line, kind },
-            Refusal::Entries => Status::Limit {
-                kind: LimitKind::Entries,
-                number: MAX_ENTRIES,
-            },
-        }
-    }
-}
-
 /// The report of a text: of the run of the scene that it states.
 pub(crate) fn report_of(alloc: Global, text: &[u8]) -> Result<Vec<u8>, Refusal>
     requires { length text.now ≤ MAX_SCENARIO }
@@ -123,27 +82,9 @@ pub(crate) fn report_of(alloc: Global, text: &[u8]) -> Result<Vec<u8>, Refusal>
         Ok(scene) => scene,
         Err(refusal) => return Err(refusal),
     };
-    match simulate(alloc, &scene) {
-        Ok(record) => told(alloc, &record, &scene),
-        Err(SimError::Entries) => Err(Refusal::Entries),
-        Err(SimError::NoMemory) => Err(Refusal::NoMemory),
-    }
-}
-
-/// The scene that a text states.
-pub(crate) fn read_scene(alloc: Global, text: &[u8]) -> Result<Scene, Refusal>
-    ensures scene { IfOk result (λ scene. scene_of text.now ≡ Ok scene) }
-    ensures refused { (line : ℕ) (kind : SceneKind) → result ≡ Err (Refusal.Scene line kind) → scene_of text.now ≡ Err (record { line = line; kind = kind }) }
-    ensures entries { result ≢ Err Refusal.Entries }
-    ensures ranges { IfOk result IsScene }
-    ensures ends { IfOk result (λ scene. AreLinksAfter (length scene.nodes) [] scene.links) }
-    ensures apart { IfOk result (λ scene. AreNamedApart scene.nodes) }
-    ensures moves { IfOk result (λ scene. length (moves_in scene.schedule) ≤ length text.now) }
-{
-    match parse(alloc, text) {
-        Ok(scene) => Ok(scene),
-        Err(SceneError::Refused { line, kind }) => Err(Refusal::Scene { line, kind }),
-        Err(SceneError::NoMemory) => Err(Refusal::NoMemory),
+    match run_of(alloc, &scene) {
+        Ok(run) => told(alloc, &run, &scene),
+        Err(refusal) => Err(refusal),
     }
 }
 

@@ -4,13 +4,12 @@ ghost use Rattle.std.specs.Prelude.{◌≡◌, ◌≢◌, ◌+◌, ℕ, IfSome};
 ghost use Rattle.csp_base.specs.Faults.{Rose};
 ghost use Rattle.csp_base.specs.Transfer.{TookAtMost, TookExactly};
 ghost use Rattle.csp_scene.specs.declared.refusal.SceneKind.{SceneKind};
-ghost use Rattle.csp_top.specs.Main.{WasRead};
+ghost use Rattle.csp_bench.specs.Edge.{WasRead};
 ghost use Rattle.csp_top.specs.Tap.{IsOpenStream, IsTappedOrNoMemory, WroteTap, WroteTapPart};
-ghost use Rattle.csp_top.specs.declared.status.LimitKind.{LimitKind};
+ghost use Rattle.csp_bench.specs.declared.status.LimitKind.{LimitKind};
 
-use crate::simulation::read_status;
-use crate::status::{LimitKind, MAX_SCENARIO, Status};
 use csp_base::{Sink, Source, read_up_to, write_whole};
+use csp_bench::{LimitKind, MAX_SCENARIO, Status, read_status};
 use csp_tap::tapped;
 use std::alloc::Global;
 

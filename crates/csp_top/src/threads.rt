@@ -8,13 +8,14 @@ ghost use Rattle.csp_report.specs.PlacesAddUp.{PlacesAddUp};
 ghost use Rattle.csp_report.specs.ReliablePrefix.{HasReliablePrefix};
 ghost use Rattle.csp_scene.specs.Judge.{scene_of};
 ghost use Rattle.csp_scene.specs.declared.refusal.SceneKind.{SceneKind};
-ghost use Rattle.csp_top.specs.Main.{WasRead, WroteReliably, WroteWhole};
+ghost use Rattle.csp_bench.specs.Edge.{WasRead};
+ghost use Rattle.csp_top.specs.Main.{WroteReliably, WroteWhole};
 ghost use Rattle.csp_top.specs.Threads.{IsRunReportOf, IsFree, IsRunOrNoMemory, WroteRun, WroteRunPart};
-ghost use Rattle.csp_top.specs.declared.status.LimitKind.{LimitKind};
+ghost use Rattle.csp_bench.specs.declared.status.LimitKind.{LimitKind};
 
-use crate::simulation::{Refusal, read_scene, read_status, told};
-use crate::status::{LimitKind, MAX_SCENARIO, Status};
+use crate::simulation::told;
 use csp_base::{Sink, Source, read_up_to, write_whole};
+use csp_bench::{LimitKind, MAX_SCENARIO, Refusal, Status, read_scene, read_status};
 use csp_node::run;
 use csp_rounds::Gate;
 use csp_scene::SceneKind;

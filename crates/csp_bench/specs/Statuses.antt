@@ -2,12 +2,12 @@
 use Rattle.csp_base.specs.declared.source.ReadError.{ReadError}
 use Rattle.csp_base.specs.declared.source.ReadError.TheVariants as read
 use Rattle.csp_world.specs.declared.limits.TheConstants.{MAX_ENTRIES}
-use Rattle.csp_top.specs.declared.simulation.Refusal.{Refusal}
-use Rattle.csp_top.specs.declared.simulation.Refusal.TheVariants as refusal
-use Rattle.csp_top.specs.declared.status.LimitKind.TheVariants as limit
-use Rattle.csp_top.specs.declared.status.Status.{Status}
-use Rattle.csp_top.specs.declared.status.Status.TheVariants as status
-use Rattle.csp_top.specs.declared.status.TheConstants.{MAX_SCENARIO}
+use Rattle.csp_bench.specs.declared.reading.Refusal.{Refusal}
+use Rattle.csp_bench.specs.declared.reading.Refusal.TheVariants as refusal
+use Rattle.csp_bench.specs.declared.status.LimitKind.TheVariants as limit
+use Rattle.csp_bench.specs.declared.status.Status.{Status}
+use Rattle.csp_bench.specs.declared.status.Status.TheVariants as status
+use Rattle.csp_bench.specs.declared.status.TheConstants.{MAX_SCENARIO}
 
 -- of a source that was not read to its end
 abbrev pub status_of_read : ReadError → Status

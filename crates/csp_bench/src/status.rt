@@ -1,4 +1,4 @@
-//! What the program answers.
+//! What a program answers.
 
 use csp_scene::SceneKind;
 
@@ -17,11 +17,11 @@ pub enum LimitKind {
 /// How a call of the program ends. The exit statuses are 0 to 6 in the order of the variants.
 #[derive(Clone, Copy, PartialEq, Eq, Debug)]
 pub enum Status {
-    /// The source was read to its end, for `gen` not at all, and the whole report, summary or text of a stream was written.
+    /// The source was read to its end, for `gen` not at all, and the whole report, summary or other text was written.
     Done,
     /// Memory was wanting. Nothing was written.
     NoMemory,
-    /// The words are not a command. Nothing was read.
+    /// The words ask for nothing, and nothing was read; of csptrace also, they name what the scenario lacks.
     Words,
     /// The source counted a fault, which it can't for `gen`. Nothing was written.
     ReadFault,
@@ -45,7 +45,7 @@ pub enum Status {
 
 impl Status {
     ghost use Rattle.std.specs.Prelude.{◌≡◌};
-    ghost use Rattle.csp_top.specs.Said.{code_of};
+    ghost use Rattle.csp_bench.specs.Said.{code_of};
 
     /// The exit status: 0 to 6, in the order of the variants.
     pub fn code(self) -> u8

@@ -3,7 +3,7 @@
 ghost use Rattle.std.specs.Prelude.{◌≡◌, Err, IfOk, IfErr, drop};
 ghost use Rattle.std.specs.IoError.{error_kind};
 ghost use Rattle.std.specs.Vec.Iter.{into_iter_items};
-ghost use Rattle.csp_top.specs.Words.{status_without_words};
+ghost use Rattle.csp_bench.specs.Words.{status_without_words};
 
 use crate::status::Status;
 use std::alloc::{AllocError, Global};

@@ -1,0 +1,5 @@
+mod Runs
+mod Steady
+mod Streams
+mod Turns
+mod Whole
