@@ -1,0 +1,380 @@
+-- The machine of a reliable connection stays light.
+use Rattle.std.proofs.Common.{length-append}
+use Rattle.std.proofs.Common.{◌≡◌, ℕ, ◌+◌, ◌*◌, ◌<◌, ◌≤◌, Bool, true, false, not, cond, List, [], ◌∷◌, ◌++◌, length, map, Option, None, Some, refl, sym, ap, ◌∙◌, subst, arith}
+use Rattle.std.proofs.lemmas.Bool.{leb-true}
+use Rattle.std.proofs.lemmas.List.Elements.{All-append, All-cons, All-filter, All-head, All-map, All-nil, All-push, All-tail, All-weaker}
+use Rattle.std.proofs.lemmas.List.{length-map, map-append}
+use Rattle.std.specs.List.{All, filter, find, flat_map}
+use Rattle.std.specs.Option.{option_map, option_map_or}
+use Rattle.std.specs.Prelude.{◌==◌, ◌&&◌, IfSome, if◌then◌else◌, nat_le, nat_lt}
+use Rattle.csp_base.specs.declared.sequence.Seq.{Seq}
+use Rattle.csp_base.specs.declared.traces.Tag.{Tag}
+use Rattle.csp_buffer.specs.Content.{Content}
+use Rattle.csp_buffer.specs.PlainBuffer.{PlainBuffer}
+use Rattle.csp_ports.proofs.Wholes.{admitted_whole, closed_whole, idle_whole, sent_whole, ticked_whole}
+use Rattle.csp_ports.specs.Came.{pictures}
+use Rattle.csp_prefix.proofs.MachineWindows.{IsSameSend, same-acked, same-filtered, same-heard, same-marked}
+use Rattle.csp_rdp.proofs.BalanceLemmas.{whole-again, whole-delivered, whole-handed, whole-rested, whole-taken}
+use Rattle.csp_rdp.proofs.RowLemmas.{data-fresh, entered-recv}
+use Rattle.csp_rdp.specs.Balance.{IsInOrder}
+use Rattle.csp_rdp.specs.Holding.{loose_buffers, rdp_buffers, recv_rested, rested, unneeded, useless_buffers}
+use Rattle.csp_rdp.specs.Jobs.{admitting, closed_in, closing, counted, delivering, delivery, delivery_in, keeping_again, reset_after, says, sending_index, sent, syn_in, taken_in, ticked, timed_out, without_delivery}
+use Rattle.csp_rdp.specs.Machine.{PlainRdp, accepting, broken, connecting, idle, left, owes_rst}
+use Rattle.csp_rdp.specs.Table.{acknowledged, after, back_of, entered, entered_from, handed, keeping, listing, row_in}
+use Rattle.csp_rdp.specs.declared.answers.State.TheVariants.{Closed, SynSent, SynRcvd, Open, CloseWait}
+use Rattle.csp_rdp.specs.declared.answers.State.{State}
+use Rattle.csp_rdp.specs.declared.jobs.Job.TheVariants as job
+use Rattle.csp_rdp.specs.declared.jobs.Job.{Job}
+use Rattle.csp_rdp.specs.declared.rows.Row.TheVariants as row
+use Rattle.csp_rdp.specs.declared.rows.Row.{Row}
+use Rattle.csp_rdp_header.specs.Head.{seq_bytes}
+use Rattle.csp_rdp_header.specs.Numbers.{numbers_of}
+use Rattle.csp_rdp_header.specs.declared.head.RdpHead.{RdpHead}
+use Rattle.csp_rdp_header.specs.declared.options.Options.{Options}
+use Rattle.csp_rdp_window.specs.Receiving.{Kept, PlainRecv, first_buffer, is_awaited, is_kept, kept_numbers, kept_with, next_buffer}
+use Rattle.csp_rdp_window.specs.Sending.{PlainSend, acknowledges, is_loose}
+use Rattle.csp_rdp_window.specs.Shown.{shown}
+use Rattle.csp_rdp_window.specs.Times.{has_passed}
+use Rattle.csp_rdp_window.specs.declared.pending.Mark.TheVariants.{Abandoned, Sent}
+use Rattle.csp_rdp_window.specs.declared.pending.Mark.{Mark}
+use Rattle.csp_rdp_window.specs.declared.pending.Pending.{Pending}
+use Rattle.csp_sizes.specs.Light.{IsData, IsLight, IsLightKept, IsLightMachine, IsSized}
+
+-- ---- packets of a send window, and those that a receive window keeps
+
+abbrev AreData : List Pending → Type 0
+AreData ps = All (λ p. IsData p.buffer.picture) ps
+
+abbrev AreKept : ℕ → List Kept → Type 0
+AreKept cur ks = All (IsLightKept cur) ks
+
+-- what befalls the packets leaves their payloads
+same_data : (a b : PlainSend) → IsSameSend a b → AreData a.packets → AreData b.packets
+same_data a b same all = same.packets (λ index payload. length payload ≤ 522) all
+
+-- later more is near
+kept_later : (cur next : ℕ) (ks : List Kept) → cur ≤ next → AreKept cur ks → AreKept next ks
+kept_later cur next ks more all = All-weaker (IsLightKept cur) (IsLightKept next) (λ k one. record { near = omega (arith, more, one.near); light = one.light }) ks all
+
+-- one more is kept
+kept_more : (cur t : ℕ) (b : PlainBuffer) (ks : List Kept) → t ≤ cur + 41 → IsLight b.picture → AreKept cur ks → AreKept cur (kept_with t b ks)
+kept_more cur t b [] near light all = All-cons (IsLightKept cur) (record { index = t; buffer = b }) [] (record { near = near; light = light }) all
+kept_more cur t b (k ∷ ks) near light all =
+    go (nat_lt t k.index) (kept_more cur t b ks near light (All-tail (IsLightKept cur) k ks all))
+  where
+    go : (c : Bool) → AreKept cur (kept_with t b ks) → AreKept cur (if c then record { index = t; buffer = b } ∷ k ∷ ks else k ∷ kept_with t b ks)
+    go true rest = All-cons (IsLightKept cur) (record { index = t; buffer = b }) (k ∷ ks) (record { near = near; light = light }) all
+    go false rest = All-cons (IsLightKept cur) k (kept_with t b ks) (All-head (IsLightKept cur) k ks all) rest
+
+-- their buffers
+kept_buffers : (cur : ℕ) (ks : List Kept) → AreKept cur ks → All IsLight (pictures (map (λ k. k.buffer) ks))
+kept_buffers cur ks all = All-map IsLight (λ (b : PlainBuffer). b.picture) (map (λ k. k.buffer) ks) (All-map (λ (b : PlainBuffer). IsLight b.picture) (λ (k : Kept). k.buffer) ks (All-weaker (IsLightKept cur) (λ k. IsLight k.buffer.picture) (λ k one. one.light) ks all))
+
+pub data_light : (b : Content) → IsData b → IsLight b
+data_light b short = omega (arith, short)
+
+data_buffers : (ps : List Pending) → AreData ps → All IsLight (pictures (map (λ p. p.buffer) ps))
+data_buffers ps all = All-map IsLight (λ (b : PlainBuffer). b.picture) (map (λ p. p.buffer) ps) (All-map (λ (b : PlainBuffer). IsLight b.picture) (λ (p : Pending). p.buffer) ps (All-weaker (λ p. IsData p.buffer.picture) (λ p. IsLight p.buffer.picture) (λ p one. data_light p.buffer.picture one) ps all))
+
+pictures_both : (xs ys : List PlainBuffer) → All IsLight (pictures xs) → All IsLight (pictures ys) → All IsLight (pictures (xs ++ ys))
+pictures_both xs ys one two = subst (λ bs. All IsLight bs) (sym (map-append (λ (b : PlainBuffer). b.picture) xs ys)) (All-append IsLight (pictures xs) (pictures ys) one two)
+
+-- all that a connection holds
+pub held_light : (r : PlainRdp) → IsSized r → All IsLight (pictures (rdp_buffers r))
+held_light r h = pictures_both (map (λ p. p.buffer) r.send.packets) (map (λ k. k.buffer) r.recv.kept) (data_buffers r.send.packets h.sends) (kept_buffers r.recv.cur r.recv.kept h.keeps)
+
+useless_light : (s : State) (r : PlainRdp) → IsSized r → All IsLight (pictures (useless_buffers s r.recv))
+useless_light Open r h = All-nil IsLight
+useless_light SynSent r h = kept_buffers r.recv.cur r.recv.kept h.keeps
+useless_light SynRcvd r h = kept_buffers r.recv.cur r.recv.kept h.keeps
+useless_light CloseWait r h = kept_buffers r.recv.cur r.recv.kept h.keeps
+useless_light Closed r h = kept_buffers r.recv.cur r.recv.kept h.keeps
+
+pub unneeded_light : (r : PlainRdp) → IsSized r → All IsLight (pictures (unneeded r))
+unneeded_light r h =
+    pictures_both (loose_buffers r.send) (useless_buffers r.state r.recv)
+    (data_buffers (filter is_loose r.send.packets) (All-filter is_loose (λ p. IsData p.buffer.picture) r.send.packets h.sends)) (useless_light r.state r h)
+
+-- ---- steps
+
+sized_left : (s : State) (time : ℕ) (r : PlainRdp) → IsSized r → IsSized (left s time r)
+sized_left s time r h = record { sends = same_data r.send _ (same-marked Abandoned r.send) h.sends; keeps = h.keeps; narrow = h.narrow; options = h.options }
+
+sized_broken : (time : ℕ) (r : PlainRdp) → IsSized r → IsSized (broken time r)
+sized_broken time r h = let l = sized_left CloseWait time r h in record { sends = l.sends; keeps = l.keeps; narrow = l.narrow; options = l.options }
+
+sized_timed : (s : State) (time : ℕ) (r : PlainRdp) → IsSized r → IsSized (timed_out s time r)
+sized_timed SynSent time r h = sized_left Closed time r h
+sized_timed SynRcvd time r h = sized_left Closed time r h
+sized_timed Open time r h = go (r.send.una == r.send.nxt)
+  where
+    go : (b : Bool) → IsSized (if b then r else broken time r)
+    go true = h
+    go false = sized_broken time r h
+sized_timed CloseWait time r h = sized_left Closed time r h
+sized_timed Closed time r h = h
+
+pub ticked_light : (time : ℕ) (r : PlainRdp) → IsLightMachine r → IsLightMachine (ticked time r)
+ticked_light time r h = record { whole = ticked_whole time r h.whole; sized = go (has_passed (Some r.since) r.options.conn_timeout time) }
+  where
+    go : (b : Bool) → IsSized (if b then timed_out r.state time r else r)
+    go true = sized_timed r.state time r h.sized
+    go false = h.sized
+
+sized_closed : (s : State) (time : ℕ) (r : PlainRdp) → IsSized r → IsSized (closed_in s time r)
+sized_closed SynSent time r h = sized_left Closed time r h
+sized_closed SynRcvd time r h = sized_broken time r h
+sized_closed Open time r h = sized_broken time r h
+sized_closed CloseWait time r h = h
+sized_closed Closed time r h = h
+
+pub closing_light : (time : ℕ) (r : PlainRdp) → IsLightMachine r → IsLightMachine (closing time r)
+closing_light time r h = record { whole = closed_whole r.state time r h.whole; sized = sized_closed r.state time r h.sized }
+
+pub admitting_light : (b : PlainBuffer) (time : ℕ) (r : PlainRdp) → IsData b.picture → IsLightMachine r → IsLightMachine (admitting b time r)
+admitting_light b time r short h = record {
+  whole = admitted_whole b time r h.whole;
+  sized = record { sends = All-push (λ p. IsData p.buffer.picture) r.send.packets _ h.sized.sends short; keeps = h.sized.keeps; narrow = h.sized.narrow; options = h.sized.options };
+}
+
+sized_sent : (j : Job) (time : ℕ) (r : PlainRdp) → IsSized r → IsSized (sent j time r)
+sized_sent job.Rst time r h = record { sends = h.sends; keeps = h.keeps; narrow = h.narrow; options = h.options }
+sized_sent job.Syn time r h = record { sends = h.sends; keeps = h.keeps; narrow = h.narrow; options = h.options }
+sized_sent job.Deliver time r h = h
+sized_sent job.Eak time r h = record { sends = h.sends; keeps = h.keeps; narrow = h.narrow; options = h.options }
+sized_sent job.Data time r h = record { sends = same_data r.send _ (same-marked (Sent (sending_index time r) time) r.send) h.sends; keeps = h.keeps; narrow = h.narrow; options = h.options }
+sized_sent job.Ack time r h = record { sends = h.sends; keeps = h.keeps; narrow = h.narrow; options = h.options }
+
+pub sent_light : (j : Job) (time : ℕ) (r : PlainRdp) → IsLightMachine r → IsLightMachine (sent j time r)
+sent_light j time r h = record { whole = sent_whole j time r h.whole; sized = sized_sent j time r h.sized }
+
+kept_rested : (s : State) (w : PlainRecv) → AreKept w.cur w.kept → AreKept (recv_rested s w).cur (recv_rested s w).kept
+kept_rested Open w all = all
+kept_rested SynSent w all = All-nil (IsLightKept w.cur)
+kept_rested SynRcvd w all = All-nil (IsLightKept w.cur)
+kept_rested CloseWait w all = All-nil (IsLightKept w.cur)
+kept_rested Closed w all = All-nil (IsLightKept w.cur)
+
+narrow_rested : (s : State) (w : PlainRecv) → w.window ≤ 20 → (recv_rested s w).window ≤ 20
+narrow_rested Open w h = h
+narrow_rested SynSent w h = h
+narrow_rested SynRcvd w h = h
+narrow_rested CloseWait w h = h
+narrow_rested Closed w h = h
+
+pub rested_light : (r : PlainRdp) → IsLightMachine r → IsLightMachine (rested r)
+rested_light r h = record {
+  whole = whole-rested r h.whole;
+  sized = record {
+    sends = All-filter (λ p. p.needed) (λ p. IsData p.buffer.picture) r.send.packets h.sized.sends;
+    keeps = kept_rested r.state r.recv h.sized.keeps;
+    narrow = narrow_rested r.state r.recv h.sized.narrow;
+    options = h.sized.options;
+  };
+}
+
+-- ---- a packet is handed to it
+
+sized_entered : (s : State) (time : ℕ) (r : PlainRdp) → IsSized r → IsSized (entered_from s time r)
+sized_entered SynSent time r h = h
+sized_entered SynRcvd time r h = record { sends = h.sends; keeps = h.keeps; narrow = h.narrow; options = h.options }
+sized_entered Open time r h = h
+sized_entered CloseWait time r h = h
+sized_entered Closed time r h = h
+
+sized_acknowledged : (number time : ℕ) (r : PlainRdp) → IsSized r → IsSized (acknowledged number time r)
+sized_acknowledged number time r h = record {
+  sends = same_data r.send _ (same-acked (shown number r.send.start r.send.una) r.send) h.sends;
+  keeps = h.keeps;
+  narrow = h.narrow;
+  options = h.options;
+}
+
+sized_listing : (b : Bool) (bytes : List ℕ) (time : ℕ) (r : PlainRdp) → IsSized r → IsSized (listing b bytes time r)
+sized_listing false bytes time r h = h
+sized_listing true bytes time r h = record {
+  sends = same_data r.send _ (same-heard (numbers_of bytes) time r.options.packet_timeout r.send) h.sends;
+  keeps = h.keeps;
+  narrow = h.narrow;
+  options = h.options;
+}
+
+sized_keeping : (t : ℕ) (p : PlainBuffer) (r : PlainRdp) → t ≤ r.recv.cur + 41 → IsLight p.picture → IsSized r → IsSized (keeping t p r)
+sized_keeping t p r near light h = record { sends = h.sends; keeps = kept_more r.recv.cur t p r.recv.kept near light h.keeps; narrow = h.narrow; options = h.options }
+
+-- an awaited index is near
+awaited_near : (w : PlainRecv) (t : ℕ) → is_awaited w t ≡ true → w.window ≤ 20 → t ≤ w.cur + 41
+awaited_near w t e narrow = go (nat_lt w.cur t) (nat_le t (w.cur + 2 * w.window)) refl e
+  where
+    go : (a b : Bool) → nat_le t (w.cur + 2 * w.window) ≡ b → (a && b) ≡ true → t ≤ w.cur + 41
+    go false b p q = cc
+    go true false p q = cc
+    go true true p q = let low = leb-true t (w.cur + 2 * w.window) p in omega (arith, low, narrow)
+
+sized_after : (y : Row) (h : RdpHead) (tag : Option Tag) (p : PlainBuffer) (time : ℕ) (r : PlainRdp) → row_in r.state r h p.picture.payload ≡ y → IsLight p.picture → IsSized r → IsSized (after y h tag p time r)
+sized_after row.Stray h tag p time r e light z = z
+sized_after row.Refused h tag p time r e light z = sized_left Closed time r z
+sized_after row.Answered h tag p time r e light z = record { sends = z.sends; keeps = All-nil (IsLightKept 0); narrow = z.options; options = z.options }
+sized_after row.Repeated h tag p time r e light z = record { sends = z.sends; keeps = z.keeps; narrow = z.narrow; options = z.options }
+sized_after row.Late h tag p time r e light z = record { sends = z.sends; keeps = z.keeps; narrow = z.narrow; options = z.options }
+sized_after row.Reset h tag p time r e light z = let l = sized_left Closed time r z in record { sends = l.sends; keeps = l.keeps; narrow = l.narrow; options = l.options }
+sized_after (row.ResetAt t) h tag p time r e light z = record { sends = z.sends; keeps = z.keeps; narrow = z.narrow; options = z.options }
+sized_after row.Broken h tag p time r e light z = sized_broken time r z
+sized_after row.Ended h tag p time r e light z = sized_left Closed time r z
+sized_after row.Acknowledges h tag p time r e light z = sized_acknowledged h.ack.0 time (entered time r) (sized_entered r.state time r z)
+sized_after row.Lists h tag p time r e light z = sized_listing (acknowledges r.send h.ack.0) p.picture.payload time (acknowledged h.ack.0 time (entered time r)) (sized_acknowledged h.ack.0 time (entered time r) (sized_entered r.state time r z))
+sized_after row.Outside h tag p time r e light z = let n = sized_entered r.state time r z in record { sends = n.sends; keeps = n.keeps; narrow = n.narrow; options = n.options }
+sized_after row.Duplicate h tag p time r e light z = sized_acknowledged h.ack.0 time (entered time r) (sized_entered r.state time r z)
+sized_after (row.Data t) h tag p time r e light z =
+    let fresh = data-fresh r h p.picture.payload t time e in
+    let near : t ≤ (entered time r).recv.cur + 41 = subst (λ (w : PlainRecv). t ≤ w.cur + 41) (sym (entered-recv r.state time r)) (awaited_near r.recv t fresh.awaited z.narrow) in
+    sized_keeping t p (acknowledged h.ack.0 time (entered time r)) near light (sized_acknowledged h.ack.0 time (entered time r) (sized_entered r.state time r z))
+
+pub handed_light : (h : RdpHead) (tag : Option Tag) (p : PlainBuffer) (time : ℕ) (r : PlainRdp) → IsLight p.picture → IsLightMachine r → IsLightMachine (handed h tag p time r)
+handed_light h tag p time r light z = record {
+  whole = whole-handed (row_in r.state r h p.picture.payload) h tag p time r refl z.whole;
+  sized = sized_after (row_in r.state r h p.picture.payload) h tag p time r refl light z.sized;
+}
+
+-- and what comes back is the packet
+pub back_light : (y : Row) (p : PlainBuffer) → IsLight p.picture → IfSome (back_of y p) (λ b. IsLight b.picture)
+back_light row.Stray p light = light
+back_light row.Refused p light = light
+back_light row.Answered p light = light
+back_light row.Repeated p light = light
+back_light row.Late p light = light
+back_light row.Reset p light = light
+back_light (row.ResetAt t) p light = light
+back_light row.Broken p light = light
+back_light row.Ended p light = light
+back_light row.Acknowledges p light = light
+back_light row.Lists p light = light
+back_light row.Outside p light = light
+back_light row.Duplicate p light = light
+back_light (row.Data t) p light = tt
+
+-- ---- deliveries
+
+sized_taken : (s : State) (r : PlainRdp) → IsSized r → IsSized (taken_in s r)
+sized_taken Open r h = record {
+  sends = h.sends;
+  keeps = All-filter (λ k. not (k.index == r.recv.cur + 1)) (IsLightKept r.recv.cur) r.recv.kept h.keeps;
+  narrow = h.narrow;
+  options = h.options;
+}
+sized_taken SynSent r h = h
+sized_taken SynRcvd r h = h
+sized_taken CloseWait r h = h
+sized_taken Closed r h = h
+
+pub taken_light : (r : PlainRdp) → IsLightMachine r → IsLightMachine (without_delivery r)
+taken_light r h = record { whole = whole-taken r.state r refl h.whole; sized = sized_taken r.state r h.sized }
+
+sized_reset : (o : Option ℕ) (time : ℕ) (r : PlainRdp) → IsSized r → IsSized (reset_after o time r)
+sized_reset None time r h = h
+sized_reset (Some t) time r h = go (nat_le t (r.recv.cur + 1))
+  where
+    go : (b : Bool) → IsSized (if b then owes_rst (left Closed time r) else r)
+    go true = let l = sized_left Closed time r h in record { sends = l.sends; keeps = l.keeps; narrow = l.narrow; options = l.options }
+    go false = h
+
+pub delivering_light : (time : ℕ) (r : PlainRdp) → r.state ≡ Open → is_kept r.recv (r.recv.cur + 1) ≡ false → IsLightMachine r → IsLightMachine (delivering time r)
+delivering_light time r e none h = record {
+  whole = whole-delivered time r e none h.whole;
+  sized = sized_reset r.reset_at time _
+      (record { sends = h.sized.sends; keeps = kept_later r.recv.cur (r.recv.cur + 1) r.recv.kept (omega arith) h.sized.keeps; narrow = h.sized.narrow; options = h.sized.options });
+}
+
+pub again_light : (b : PlainBuffer) (r : PlainRdp) → r.state ≡ Open → is_kept r.recv (r.recv.cur + 1) ≡ false → IsLight b.picture → IsLightMachine r → IsLightMachine (keeping_again b r)
+again_light b r e none light h = record {
+  whole = whole-again b r e none h.whole;
+  sized = record { sends = h.sized.sends; keeps = kept_more r.recv.cur (r.recv.cur + 1) b r.recv.kept (omega arith) light h.sized.keeps; narrow = h.sized.narrow; options = h.sized.options };
+}
+
+-- what is delivered is light
+found_light : (cur : ℕ) (test : Kept → Bool) (ks : List Kept) → AreKept cur ks → IfSome (option_map (λ k. k.buffer) (find test ks)) (λ b. IsLight b.picture)
+found_light cur test [] all = tt
+found_light cur test (k ∷ ks) all = go (test k) (found_light cur test ks (All-tail (IsLightKept cur) k ks all))
+  where
+    go : (c : Bool) → IfSome (option_map (λ k. k.buffer) (find test ks)) (λ b. IsLight b.picture) → IfSome (option_map (λ k. k.buffer) (cond c (Some k) (find test ks))) (λ b. IsLight b.picture)
+    go true rest = (All-head (IsLightKept cur) k ks all).light
+    go false rest = rest
+
+delivered_light : (s : State) (r : PlainRdp) → IsSized r → IfSome (delivery_in s r) (λ b. IsLight b.picture)
+delivered_light Open r h = found_light r.recv.cur (λ k. k.index == r.recv.cur + 1) r.recv.kept h.keeps
+delivered_light SynSent r h = tt
+delivered_light SynRcvd r h = tt
+delivered_light CloseWait r h = tt
+delivered_light Closed r h = tt
+
+pub delivery_light : (r : PlainRdp) → IsLightMachine r → IfSome (delivery r) (λ b. IsLight b.picture)
+delivery_light r h = delivered_light r.state r h.sized
+
+-- ---- new ones
+
+pub idle_light : IsLightMachine idle
+idle_light = record {
+  whole = idle_whole;
+  sized = record { sends = All-nil (λ p. IsData p.buffer.picture); keeps = All-nil (IsLightKept 0); narrow = omega arith; options = omega arith };
+}
+
+pub connecting_light : (start : ℕ) (options : Options) (node nth time : ℕ) → options.window ≤ 20 → IsLightMachine (connecting start options node nth time)
+connecting_light start options node nth time narrow = record {
+  whole = record { unopened = (refl, refl); ordered = tt };
+  sized = record { sends = All-nil (λ p. IsData p.buffer.picture); keeps = All-nil (IsLightKept 0); narrow = narrow; options = narrow };
+}
+
+pub accepting_light : (start : ℕ) (options : Options) (other : ℕ) (tag : Option Tag) (node nth time : ℕ) → options.window ≤ 20 → IsLightMachine (accepting start options other tag node nth time)
+accepting_light start options other tag node nth time narrow = record {
+  whole = record { unopened = (refl, refl); ordered = tt };
+  sized = record { sends = All-nil (λ p. IsData p.buffer.picture); keeps = All-nil (IsLightKept 0); narrow = narrow; options = narrow };
+}
+
+-- ---- what its packets say
+
+-- what is in order and near are few
+in_order_few : (last most : ℕ) (ks : List Kept) → IsInOrder last ks → All (λ k. k.index ≤ most) ks → last ≤ most → length ks + last ≤ most
+in_order_few last most [] order all low = omega (arith, low)
+in_order_few last most (k ∷ ks) order all low =
+    let first = All-head (λ (k : Kept). k.index ≤ most) k ks all in
+    let rest = in_order_few k.index most ks order.1 (All-tail (λ (k : Kept). k.index ≤ most) k ks all) first in
+    let past = order.0 in
+    omega (arith, rest, past)
+
+seqs_long : (ss : List Seq) → length (flat_map seq_bytes ss) ≡ 2 * length ss
+seqs_long [] = refl
+seqs_long (s ∷ ss) =
+    let rest = seqs_long ss in
+    let both : length (seq_bytes s ++ flat_map seq_bytes ss) ≡ 2 + length (flat_map seq_bytes ss) = length-append (seq_bytes s) (flat_map seq_bytes ss) in
+    omega (arith, both, rest)
+
+payload_short : (index : ℕ) (ps : List Pending) → AreData ps → length (option_map_or (λ p. p.buffer.picture.payload) (find (λ p. p.index == index) ps) []) ≤ 522
+payload_short index [] all = omega arith
+payload_short index (p ∷ ps) all = go (p.index == index) (payload_short index ps (All-tail (λ p. IsData p.buffer.picture) p ps all))
+  where
+    go : (c : Bool) → length (option_map_or (λ p. p.buffer.picture.payload) (find (λ p. p.index == index) ps) []) ≤ 522
+        → length (option_map_or (λ p. p.buffer.picture.payload) (cond c (Some p) (find (λ p. p.index == index) ps)) []) ≤ 522
+    go true rest = All-head (λ p. IsData p.buffer.picture) p ps all
+    go false rest = rest
+
+syn_short : (s : State) (r : PlainRdp) → length (syn_in s r).bytes ≤ 522
+syn_short SynSent r = omega arith
+syn_short SynRcvd r = omega arith
+syn_short Open r = omega arith
+syn_short CloseWait r = omega arith
+syn_short Closed r = omega arith
+
+list_short : (r : PlainRdp) → IsLightMachine r → length (flat_map seq_bytes (kept_numbers r.recv)) ≤ 522
+list_short r h =
+    let few = in_order_few r.recv.cur (r.recv.cur + 41) r.recv.kept h.whole.ordered (All-weaker (IsLightKept r.recv.cur) (λ k. k.index ≤ r.recv.cur + 41) (λ k one. one.near) r.recv.kept h.sized.keeps) (omega arith) in
+    let long = seqs_long (kept_numbers r.recv) in
+    let count : length (kept_numbers r.recv) ≡ length r.recv.kept = length-map r.recv.kept _ in
+    omega (arith, few, long, count)
+
+pub says_short : (j : Job) (time : ℕ) (r : PlainRdp) → IsLightMachine r → length (says j time r).bytes ≤ 522
+says_short job.Rst time r h = omega arith
+says_short job.Syn time r h = syn_short r.state r
+says_short job.Deliver time r h = omega arith
+says_short job.Eak time r h = list_short r h
+says_short job.Data time r h = payload_short (sending_index time r) r.send.packets h.sized.sends
+says_short job.Ack time r h = omega arith
