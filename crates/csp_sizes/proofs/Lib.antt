@@ -1,5 +1,7 @@
 pub mod LightAnswers
+pub mod LightHolding
 pub mod LightMachines
+pub mod LightSays
 pub mod LightPorts
 pub mod LightServices
 pub mod LightRules

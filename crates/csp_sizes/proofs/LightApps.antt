@@ -9,9 +9,10 @@ use Rattle.csp_app.specs.Making.{Batch, batch_at, batch_of, filled, packet_in, n
 use Rattle.csp_app.specs.PlainApp.{PlainApp, opening}
 use Rattle.csp_app.specs.PlainStep.{PlainStep}
 use Rattle.csp_app.specs.Slots.{slot_at}
-use Rattle.csp_app.specs.Steps.{answered, answered_by, batch, gives_up, has_passed, is_enough, plan_of, pushed_one, received, recv_end, turn_of, wait_end, waited}
+use Rattle.csp_app.specs.Steps.{answered, answered_by, batch, gives_up, has_passed, is_enough, plan_of, pushed_one, received, recv_end, satisfied, turn_of, wait_end, waited}
 use Rattle.csp_app.specs.Telling.{at_rest, tells}
-use Rattle.csp_app.specs.Turn.{Turn, giving_op, op_of, popped, pushing_op, told_of, until_told}
+use Rattle.csp_app.specs.Told.{Told, over, still}
+use Rattle.csp_app.specs.Turn.{Turn, rests, giving_op, op_of, popped, pushing_op, told_of, until_told}
 use Rattle.csp_app.specs.declared.plan.Plan.TheVariants as plan
 use Rattle.csp_app.specs.declared.plan.Plan.{Plan}
 use Rattle.csp_buffer.specs.Content.{Content}
@@ -146,7 +147,14 @@ batch_short [] done number all = omega arith
 batch_short (s ∷ steps) zero number all = All-head IsShortStep s steps all number
 batch_short (s ∷ steps) (suc done) number all = batch_short steps done number (All-tail IsShortStep s steps all)
 
+rests_light : (s : PlainApp) (t : Told) (a : AnswerShown) → IsLightApp t.state → IsLightApp s → IsLightApp (told_of s (rests t) a).state
+rests_light s t answer.Nothing done h = done
+rests_light s t a done h = h
+
 told_light : (s : PlainApp) (now : ℕ) (p : Plan) (a : AnswerShown) → IfSome (item_in a) (λ i. item_bytes i ≤ most_for p) → IfSome (buffer_in a) IsLight → IsLightApp s → IsLightApp (told_of s (turn_of s now p) a).state
+told_light s now plan.Rest a items buffers h = rests_light s (still s) a h h
+told_light s now plan.Skip a items buffers h = rests_light s (over s) a h h
+told_light s now (plan.Use slot packets) a items buffers h = rests_light s (satisfied slot packets s) a h h
 told_light s now plan.Return (answer.PoolFull b) items buffers h = record { steps = h.steps; taken = buffers; made = h.made; held = h.held }
 told_light s now plan.Look (answer.Popped i) items buffers h = popped_light i s items h
 told_light s now plan.Take (answer.Taken b) items buffers h = record { steps = h.steps; taken = h.taken; made = h.made; held = All-push IsLight s.held b h.held buffers }

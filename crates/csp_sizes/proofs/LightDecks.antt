@@ -177,12 +177,12 @@ same_pop q x e = record { op = λ h. tt; answer = by }
 end_room : (ends : List End) (q : QueueId) → IfSome (at_end ends q) (λ there. room_of there.1 ≡ room_of q)
 end_room ends (queue.Tx k) = by (slice_get ends k)
   where
-    by : (o : Option End) → IfSome (option_map (λ e. (e.node, queue.Tx e.iface)) o) (λ there. room_of there.1 ≡ 531)
+    by : (o : Option End) → IfSome {T = ℕ × QueueId} (option_map (λ (e : End). (e.node, queue.Tx e.iface)) o) (λ there. room_of there.1 ≡ 531)
     by None = tt
     by (Some e) = refl
 end_room ends (queue.Rx k) = by (slice_get ends k)
   where
-    by : (o : Option End) → IfSome (option_map (λ e. (e.node, queue.Rx e.iface)) o) (λ there. room_of there.1 ≡ 531)
+    by : (o : Option End) → IfSome {T = ℕ × QueueId} (option_map (λ (e : End). (e.node, queue.Rx e.iface)) o) (λ there. room_of there.1 ≡ 531)
     by None = tt
     by (Some e) = refl
 end_room ends queue.Inbox = tt
@@ -201,7 +201,7 @@ goes_room links (who.Bridge node) q = refl
 goes_room links (who.Iface node k) q = refl
 goes_room links (who.App node k) q = refl
 
-home_same : (o : OpShown) (n : Option ℕ) → IfSome (option_map (λ node. (node, o)) n) (λ there. IsSameOp o there.1)
+home_same : (o : OpShown) (n : Option ℕ) → IfSome {T = ℕ × OpShown} (option_map (λ node. (node, o)) n) (λ there. IsSameOp o there.1)
 home_same o None = tt
 home_same o (Some node) = record { op = λ h. h; answer = λ a h. h }
 

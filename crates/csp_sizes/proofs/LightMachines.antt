@@ -1,15 +1,11 @@
 -- The machine of a reliable connection stays light.
-use Rattle.std.proofs.Common.{length-append}
 use Rattle.std.proofs.Common.{◌≡◌, ℕ, ◌+◌, ◌*◌, ◌<◌, ◌≤◌, Bool, true, false, not, cond, List, [], ◌∷◌, ◌++◌, length, map, Option, None, Some, refl, sym, ap, ◌∙◌, subst, arith}
 use Rattle.std.proofs.lemmas.Bool.{leb-true}
-use Rattle.std.proofs.lemmas.List.Elements.{All-append, All-cons, All-filter, All-head, All-map, All-nil, All-push, All-tail, All-weaker}
-use Rattle.std.proofs.lemmas.List.{length-map, map-append}
+use Rattle.std.proofs.lemmas.List.Elements.{All-filter, All-head, All-nil, All-push, All-tail}
 use Rattle.std.specs.List.{All, filter, find, flat_map}
 use Rattle.std.specs.Option.{option_map, option_map_or}
 use Rattle.std.specs.Prelude.{◌==◌, ◌&&◌, IfSome, if◌then◌else◌, nat_le, nat_lt}
-use Rattle.csp_base.specs.declared.sequence.Seq.{Seq}
 use Rattle.csp_base.specs.declared.traces.Tag.{Tag}
-use Rattle.csp_buffer.specs.Content.{Content}
 use Rattle.csp_buffer.specs.PlainBuffer.{PlainBuffer}
 use Rattle.csp_ports.proofs.Wholes.{admitted_whole, closed_whole, idle_whole, sent_whole, ticked_whole}
 use Rattle.csp_ports.specs.Came.{pictures}
@@ -38,62 +34,8 @@ use Rattle.csp_rdp_window.specs.Times.{has_passed}
 use Rattle.csp_rdp_window.specs.declared.pending.Mark.TheVariants.{Abandoned, Sent}
 use Rattle.csp_rdp_window.specs.declared.pending.Mark.{Mark}
 use Rattle.csp_rdp_window.specs.declared.pending.Pending.{Pending}
+use Rattle.csp_sizes.proofs.LightHolding.{AreKept, kept_later, kept_more, same_data}
 use Rattle.csp_sizes.specs.Light.{IsData, IsLight, IsLightKept, IsLightMachine, IsSized}
-
--- ---- packets of a send window, and those that a receive window keeps
-
-abbrev AreData : List Pending → Type 0
-AreData ps = All (λ p. IsData p.buffer.picture) ps
-
-abbrev AreKept : ℕ → List Kept → Type 0
-AreKept cur ks = All (IsLightKept cur) ks
-
--- what befalls the packets leaves their payloads
-same_data : (a b : PlainSend) → IsSameSend a b → AreData a.packets → AreData b.packets
-same_data a b same all = same.packets (λ index payload. length payload ≤ 522) all
-
--- later more is near
-kept_later : (cur next : ℕ) (ks : List Kept) → cur ≤ next → AreKept cur ks → AreKept next ks
-kept_later cur next ks more all = All-weaker (IsLightKept cur) (IsLightKept next) (λ k one. record { near = omega (arith, more, one.near); light = one.light }) ks all
-
--- one more is kept
-kept_more : (cur t : ℕ) (b : PlainBuffer) (ks : List Kept) → t ≤ cur + 41 → IsLight b.picture → AreKept cur ks → AreKept cur (kept_with t b ks)
-kept_more cur t b [] near light all = All-cons (IsLightKept cur) (record { index = t; buffer = b }) [] (record { near = near; light = light }) all
-kept_more cur t b (k ∷ ks) near light all =
-    go (nat_lt t k.index) (kept_more cur t b ks near light (All-tail (IsLightKept cur) k ks all))
-  where
-    go : (c : Bool) → AreKept cur (kept_with t b ks) → AreKept cur (if c then record { index = t; buffer = b } ∷ k ∷ ks else k ∷ kept_with t b ks)
-    go true rest = All-cons (IsLightKept cur) (record { index = t; buffer = b }) (k ∷ ks) (record { near = near; light = light }) all
-    go false rest = All-cons (IsLightKept cur) k (kept_with t b ks) (All-head (IsLightKept cur) k ks all) rest
-
--- their buffers
-kept_buffers : (cur : ℕ) (ks : List Kept) → AreKept cur ks → All IsLight (pictures (map (λ k. k.buffer) ks))
-kept_buffers cur ks all = All-map IsLight (λ (b : PlainBuffer). b.picture) (map (λ k. k.buffer) ks) (All-map (λ (b : PlainBuffer). IsLight b.picture) (λ (k : Kept). k.buffer) ks (All-weaker (IsLightKept cur) (λ k. IsLight k.buffer.picture) (λ k one. one.light) ks all))
-
-pub data_light : (b : Content) → IsData b → IsLight b
-data_light b short = omega (arith, short)
-
-data_buffers : (ps : List Pending) → AreData ps → All IsLight (pictures (map (λ p. p.buffer) ps))
-data_buffers ps all = All-map IsLight (λ (b : PlainBuffer). b.picture) (map (λ p. p.buffer) ps) (All-map (λ (b : PlainBuffer). IsLight b.picture) (λ (p : Pending). p.buffer) ps (All-weaker (λ p. IsData p.buffer.picture) (λ p. IsLight p.buffer.picture) (λ p one. data_light p.buffer.picture one) ps all))
-
-pictures_both : (xs ys : List PlainBuffer) → All IsLight (pictures xs) → All IsLight (pictures ys) → All IsLight (pictures (xs ++ ys))
-pictures_both xs ys one two = subst (λ bs. All IsLight bs) (sym (map-append (λ (b : PlainBuffer). b.picture) xs ys)) (All-append IsLight (pictures xs) (pictures ys) one two)
-
--- all that a connection holds
-pub held_light : (r : PlainRdp) → IsSized r → All IsLight (pictures (rdp_buffers r))
-held_light r h = pictures_both (map (λ p. p.buffer) r.send.packets) (map (λ k. k.buffer) r.recv.kept) (data_buffers r.send.packets h.sends) (kept_buffers r.recv.cur r.recv.kept h.keeps)
-
-useless_light : (s : State) (r : PlainRdp) → IsSized r → All IsLight (pictures (useless_buffers s r.recv))
-useless_light Open r h = All-nil IsLight
-useless_light SynSent r h = kept_buffers r.recv.cur r.recv.kept h.keeps
-useless_light SynRcvd r h = kept_buffers r.recv.cur r.recv.kept h.keeps
-useless_light CloseWait r h = kept_buffers r.recv.cur r.recv.kept h.keeps
-useless_light Closed r h = kept_buffers r.recv.cur r.recv.kept h.keeps
-
-pub unneeded_light : (r : PlainRdp) → IsSized r → All IsLight (pictures (unneeded r))
-unneeded_light r h =
-    pictures_both (loose_buffers r.send) (useless_buffers r.state r.recv)
-    (data_buffers (filter is_loose r.send.packets) (All-filter is_loose (λ p. IsData p.buffer.picture) r.send.packets h.sends)) (useless_light r.state r h)
 
 -- ---- steps
 
@@ -329,52 +271,3 @@ accepting_light start options other tag node nth time narrow = record {
   whole = record { unopened = (refl, refl); ordered = tt };
   sized = record { sends = All-nil (λ p. IsData p.buffer.picture); keeps = All-nil (IsLightKept 0); narrow = narrow; options = narrow };
 }
-
--- ---- what its packets say
-
--- what is in order and near are few
-in_order_few : (last most : ℕ) (ks : List Kept) → IsInOrder last ks → All (λ k. k.index ≤ most) ks → last ≤ most → length ks + last ≤ most
-in_order_few last most [] order all low = omega (arith, low)
-in_order_few last most (k ∷ ks) order all low =
-    let first = All-head (λ (k : Kept). k.index ≤ most) k ks all in
-    let rest = in_order_few k.index most ks order.1 (All-tail (λ (k : Kept). k.index ≤ most) k ks all) first in
-    let past = order.0 in
-    omega (arith, rest, past)
-
-seqs_long : (ss : List Seq) → length (flat_map seq_bytes ss) ≡ 2 * length ss
-seqs_long [] = refl
-seqs_long (s ∷ ss) =
-    let rest = seqs_long ss in
-    let both : length (seq_bytes s ++ flat_map seq_bytes ss) ≡ 2 + length (flat_map seq_bytes ss) = length-append (seq_bytes s) (flat_map seq_bytes ss) in
-    omega (arith, both, rest)
-
-payload_short : (index : ℕ) (ps : List Pending) → AreData ps → length (option_map_or (λ p. p.buffer.picture.payload) (find (λ p. p.index == index) ps) []) ≤ 522
-payload_short index [] all = omega arith
-payload_short index (p ∷ ps) all = go (p.index == index) (payload_short index ps (All-tail (λ p. IsData p.buffer.picture) p ps all))
-  where
-    go : (c : Bool) → length (option_map_or (λ p. p.buffer.picture.payload) (find (λ p. p.index == index) ps) []) ≤ 522
-        → length (option_map_or (λ p. p.buffer.picture.payload) (cond c (Some p) (find (λ p. p.index == index) ps)) []) ≤ 522
-    go true rest = All-head (λ p. IsData p.buffer.picture) p ps all
-    go false rest = rest
-
-syn_short : (s : State) (r : PlainRdp) → length (syn_in s r).bytes ≤ 522
-syn_short SynSent r = omega arith
-syn_short SynRcvd r = omega arith
-syn_short Open r = omega arith
-syn_short CloseWait r = omega arith
-syn_short Closed r = omega arith
-
-list_short : (r : PlainRdp) → IsLightMachine r → length (flat_map seq_bytes (kept_numbers r.recv)) ≤ 522
-list_short r h =
-    let few = in_order_few r.recv.cur (r.recv.cur + 41) r.recv.kept h.whole.ordered (All-weaker (IsLightKept r.recv.cur) (λ k. k.index ≤ r.recv.cur + 41) (λ k one. one.near) r.recv.kept h.sized.keeps) (omega arith) in
-    let long = seqs_long (kept_numbers r.recv) in
-    let count : length (kept_numbers r.recv) ≡ length r.recv.kept = length-map r.recv.kept _ in
-    omega (arith, few, long, count)
-
-pub says_short : (j : Job) (time : ℕ) (r : PlainRdp) → IsLightMachine r → length (says j time r).bytes ≤ 522
-says_short job.Rst time r h = omega arith
-says_short job.Syn time r h = syn_short r.state r
-says_short job.Deliver time r h = omega arith
-says_short job.Eak time r h = list_short r h
-says_short job.Data time r h = payload_short (sending_index time r) r.send.packets h.sized.sends
-says_short job.Ack time r h = omega arith

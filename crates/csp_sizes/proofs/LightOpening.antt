@@ -8,12 +8,15 @@ use Rattle.csp_app.specs.Making.{batch_of, burst_bytes}
 use Rattle.csp_app.specs.PlainStep as step
 use Rattle.csp_app.specs.PlainStep.{PlainStep}
 use Rattle.csp_buffer.specs.Content.{Content, cleared}
-use Rattle.csp_gen.specs.GenScene.{binding, connecting, gen_scene}
+use Rattle.csp_gen.specs.GenScene.{all_to, binding, cam, connecting, gen_scene, links, no_rows, node, ops, relay_table}
 use Rattle.csp_link.specs.declared.fault.Fault.{Fault}
+use Rattle.csp_log.specs.declared.places.LinkKind.TheVariants as carried
 use Rattle.csp_log.specs.declared.places.LinkKind.{LinkKind}
 use Rattle.csp_nodes.specs.Fresh.{fresh_buffers}
 use Rattle.csp_party.specs.Any.{a_router}
 use Rattle.csp_route.specs.Routes.{Routes}
+use Rattle.csp_route.specs.Routes.{merged}
+use Rattle.csp_scene.specs.Links.{links_at}
 use Rattle.csp_scene.specs.Scene.{PlainLink, PlainNode, PlainScene}
 use Rattle.csp_service.specs.Counting.{no_stats}
 use Rattle.csp_service.specs.declared.facts.TheConstants.{IFACE_ROOM}
@@ -22,10 +25,12 @@ use Rattle.csp_sizes.proofs.LightDecks.{deck_opened}
 use Rattle.csp_sizes.proofs.LightIfaces.{iface_opened}
 use Rattle.csp_sizes.proofs.LightLinks.{link_opened}
 use Rattle.csp_sizes.proofs.LightPorts.{ports_opened}
-use Rattle.csp_sizes.specs.Light.{IsFew, IsLight, IsLightDeck, IsLightParty, IsLightWorld, IsShortStep}
+use Rattle.csp_sizes.specs.Light.{IsFew, IsLight, IsLightDeck, IsLightParty, IsShortStep}
+use Rattle.csp_sizes.specs.Worlds.{IsLightWorld}
 use Rattle.csp_stack.specs.Config.{opening_state}
 use Rattle.csp_stack.specs.Router.{Facts}
 use Rattle.csp_topology.specs.Parties.{PlainOpening, parties_of}
+use Rattle.csp_topology.specs.Parties.{config_of, hub_by}
 use Rattle.csp_topology.specs.Plan.{PlainNodePlan, plans_from}
 use Rattle.csp_world.specs.Opening.{deck_of, new_member, opening}
 use Rattle.csp_world.specs.World.{PlainMember}
@@ -60,13 +65,32 @@ cam_short packets = All-cons IsShortStep binding (step.Recv 0 packets None ∷ [
 abbrev IsOpening : PlainOpening → Type 0
 IsOpening o = IsLightParty o.party
 
+-- the nodes of such a scene
+abbrev ground : ℕ → PlainNode
+ground packets = node (codes "ground") 1 65400 (merged no_rows (all_to 0)) (ops (connecting ∷ step.Burst 0 packets 100 ∷ []))
+
+abbrev relay : PlainNode
+relay = node (codes "relay") 2 0 (merged no_rows relay_table) []
+
+abbrev payload : ℕ → PlainNode
+payload packets = node (codes "payload") 3 0 (merged no_rows (all_to 0)) (cam (binding ∷ step.Recv 0 packets None ∷ []))
+
+hub_opened : (place addr : ℕ) (n : PlainNode) (links : List PlainLink) → n.options.window ≤ 20 → length n.name ≤ 20 → IsOpening (hub_by (Some addr) place n links)
+hub_opened place addr n links window name = router_opened (config_of place addr n links).facts (config_of place addr n links).routes window name
+
 parties_opened : (packets : ℕ) (plan : List Fault) → AllByRecursion IsOpening (parties_of (gen_scene packets plan))
 unfolding parties_of
 parties_opened packets plan =
-    (router_opened _ _ (omega arith) (omega arith), (iface_opened 0 0 _ _ (omega arith), (app_opened 0 _ (ops_short packets),
-    (router_opened _ _ (omega arith) (omega arith), (iface_opened 1 0 _ _ (omega arith), (iface_opened 1 1 _ _ (omega arith),
-    (router_opened _ _ (omega arith) (omega arith), (iface_opened 2 0 _ _ (omega arith), (app_opened 0 _ (cam_short packets),
-    (link_opened _ plan, (link_opened _ [], tt)))))))))))
+    (hub_opened 0 1 (ground packets) (links_at 0 (links plan)) (omega arith) (omega arith),
+    (iface_opened 0 0 carried.Kiss 256 (omega arith),
+    (app_opened 0 (connecting ∷ step.Burst 0 packets 100 ∷ []) (ops_short packets),
+    (hub_opened 1 2 relay (links_at 1 (links plan)) (omega arith) (omega arith),
+    (iface_opened 1 0 carried.Kiss 256 (omega arith),
+    (iface_opened 1 1 carried.Can 256 (omega arith),
+    (hub_opened 2 3 (payload packets) (links_at 2 (links plan)) (omega arith) (omega arith),
+    (iface_opened 2 0 carried.Can 256 (omega arith),
+    (app_opened 0 (binding ∷ step.Recv 0 packets None ∷ []) (cam_short packets),
+    (link_opened carried.Kiss plan, (link_opened carried.Can [], tt)))))))))))
 
 pub opening_light : (packets : ℕ) (plan : List Fault) → IsLightWorld (opening (gen_scene packets plan))
 unfolding opening

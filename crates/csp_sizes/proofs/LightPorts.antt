@@ -53,7 +53,9 @@ use Rattle.csp_rdp.specs.declared.jobs.Job.{Job}
 use Rattle.csp_rdp_header.specs.Head.{head_bytes}
 use Rattle.csp_rdp_header.specs.declared.head.RdpHead.{RdpHead}
 use Rattle.csp_rdp_window.specs.Receiving.{is_kept}
-use Rattle.csp_sizes.proofs.LightMachines.{accepting_light, admitting_light, again_light, back_light, closing_light, connecting_light, data_light, delivering_light, handed_light, held_light, idle_light, rested_light, says_short, sent_light, taken_light, ticked_light, unneeded_light}
+use Rattle.csp_sizes.proofs.LightHolding.{data_light, held_light, unneeded_light}
+use Rattle.csp_sizes.proofs.LightMachines.{accepting_light, admitting_light, again_light, back_light, closing_light, connecting_light, delivering_light, handed_light, idle_light, rested_light, sent_light, taken_light, ticked_light}
+use Rattle.csp_sizes.proofs.LightSays.{says_short}
 use Rattle.csp_sizes.specs.Light.{ArePorts, IsData, IsLight, IsLightMachine}
 
 -- what comes of a step of ports: they are light, and what they let go

@@ -156,7 +156,7 @@ headed_light h b short = protected_light (is_checked h) b (λ e. short) (omega (
 parted_short : (payload : List ℕ) → IfSome (parted payload) (λ read. length read.0 ≤ length payload)
 parted_short payload = go (nat_lt (length payload) 5)
   where
-    go : (b : Bool) → IfSome (if b then None else Some (take (length payload - 5) payload, head_of (drop (length payload - 5) payload))) (λ read. length read.0 ≤ length payload)
+    go : (b : Bool) → IfSome {T = List ℕ × RdpHead} (if b then None else Some (take (length payload - 5) payload, head_of (drop (length payload - 5) payload))) (λ read. length read.0 ≤ length payload)
     go true = tt
     go false = omega (arith, length-take (length payload - 5) payload)
 
@@ -190,8 +190,8 @@ IsRuled P (Ok p) = P p
 IsRuled P (Err t) = IsTold t
 
 go_on : (P : Arrival → Type 0) (r : Ruling) (next : Arrival → Told) → IsRuled P r → ((p : Arrival) → P p → IsTold (next p)) → IsTold (rules.onward r next)
-go_on P (Ok p) next h then = then p h
-go_on P (Err t) next h then = h
+go_on P (Ok p) next h each = each p h
+go_on P (Err t) next h each = h
 
 abbrev Arrives : Arrival → Type 0
 Arrives p = IsLight p.buffer

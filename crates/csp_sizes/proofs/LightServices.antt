@@ -102,26 +102,21 @@ record IsAnswered (n : ℕ) (o : Outcome) : Type 0 where
 
 padded_long : (text : List ℕ) (room : ℕ) → length text ≤ room → length (padded text room) ≡ room
 padded_long text room h =
-    let both = length-append text (replicate (room - length text) 0) in
-    let rest : length (replicate (room - length text) 0) ≡ room - length text = length-replicate (room - length text) 0 in
+    let zeros : List ℕ = replicate (room - length text) 0 in
+    let both = length-append text zeros in
+    let rest : length zeros ≡ room - length text = length-replicate (room - length text) 0 in
     omega (arith, h, both, rest)
 
-joined : (xs ys : List ℕ) (m n : ℕ) → length xs ≤ m → length ys ≤ n → length (xs ++ ys) ≤ m + n
-joined xs ys m n one two = omega (arith, one, two, length-append xs ys)
+six_joined : (a b c d e f : List ℕ) → length a ≤ 2 → length b ≤ 20 → length c ≤ 30 → length d ≤ 20 → length e ≤ 12 → length f ≤ 9 → length (a ++ b ++ c ++ d ++ e ++ f) ≤ 93
+six_joined a b c d e f one two three four five six = simp length-append (omega (arith, one, two, three, four, five, six))
 
-long : (text : List ℕ) (room : ℕ) → length text ≤ room → length (padded text room) ≤ room
-long text room h = let e = padded_long text room h in omega (arith, e)
+padded_short : (text : List ℕ) (room : ℕ) → length text ≤ room → length (padded text room) ≤ room
+padded_short text room h = let e = padded_long text room h in omega (arith, e)
 
 ident_short : (host : List ℕ) → length host ≤ 20 → length (ident_bytes host) ≤ 93
 ident_short host h =
-    let built : List ℕ = padded DATE.now DATE_ROOM ++ padded TIME.now TIME_ROOM in
-    let version : List ℕ = padded REVISION.now REVISION_ROOM ++ built in
-    let model : List ℕ = padded MODEL.now MODEL_ROOM ++ version in
-    joined (same_bytes Ident) (padded host HOST_ROOM ++ model) 2 91 (omega arith)
-    (joined (padded host HOST_ROOM) model 20 71 (long host 20 h)
-    (joined (padded MODEL.now MODEL_ROOM) version 30 41 (long MODEL.now 30 (omega arith))
-    (joined (padded REVISION.now REVISION_ROOM) built 20 21 (long REVISION.now 20 (omega arith))
-    (joined (padded DATE.now DATE_ROOM) (padded TIME.now TIME_ROOM) 12 9 (long DATE.now 12 (omega arith)) (long TIME.now 9 (omega arith))))))
+    six_joined (same_bytes Ident) (padded host HOST_ROOM) (padded MODEL.now MODEL_ROOM) (padded REVISION.now REVISION_ROOM) (padded DATE.now DATE_ROOM) (padded TIME.now TIME_ROOM)
+    (omega arith) (padded_short host 20 h) (padded_short MODEL.now 30 (omega arith)) (padded_short REVISION.now 20 (omega arith)) (padded_short DATE.now 12 (omega arith)) (padded_short TIME.now 9 (omega arith))
 
 counts_long : (counts : List ℕ) → length (flat_map (to_be_bytes w32) counts) ≡ 4 * length counts
 counts_long [] = refl
@@ -133,7 +128,7 @@ counts_long (n ∷ counts) =
 stats_short : (field counts : List ℕ) → length field ≤ 11 → length counts ≤ 10 → length (stats_bytes field counts) ≤ 53
 stats_short field counts f c =
     let long = counts_long counts in
-    let both : length (same_bytes (Stats field) ++ flat_map (to_be_bytes w32) counts) ≡ (2 + length field) + length (flat_map (to_be_bytes w32) counts) = length-append (same_bytes (Stats field)) (flat_map (to_be_bytes w32) counts) in
+    let both = length-append (same_bytes (Stats field)) (flat_map (to_be_bytes w32) counts) in
     omega (arith, f, c, long, both)
 
 range_few : (bytes : List ℕ) (first len : ℕ) → length (slice_range bytes first (first + len)) ≤ len

@@ -2,6 +2,7 @@
 use Rattle.std.proofs.Common.{◌≡◌, ℕ, ◌+◌, ◌/◌, ◌≤◌, Bool, true, false, List, [], ◌∷◌, ◌++◌, length, slice_get, slice_set, get_or, Option, None, Some, refl, sym, ap, ◌∙◌, subst, arith}
 use Rattle.std.proofs.lemmas.List.Elements.{All-set}
 use Rattle.std.proofs.lemmas.List.Sums.{sum_by-append, sum_by-cons, sum_by-set}
+use Rattle.std.proofs.lemmas.List.{length-set}
 use Rattle.std.proofs.lemmas.Option.{get_or_from_slice_get, slice_get_within}
 use Rattle.std.specs.List.{All}
 use Rattle.std.specs.Prelude.{if◌then◌else◌}
@@ -21,7 +22,8 @@ use Rattle.csp_sizes.proofs.LightDecks.{AreServed, all_there, decks_light}
 use Rattle.csp_sizes.proofs.LightIfaces as ifaces
 use Rattle.csp_sizes.proofs.LightLinks as links
 use Rattle.csp_sizes.proofs.LightRouters as routers
-use Rattle.csp_sizes.specs.Light.{IsLightAnswer, IsLightOp, IsLightParty, IsLightWorld}
+use Rattle.csp_sizes.specs.Light.{IsLightAnswer, IsLightOp, IsLightParty}
+use Rattle.csp_sizes.specs.Worlds.{IsLightWorld}
 use Rattle.csp_world.specs.World.{PlainMember, PlainWorld, answered, told, turn, turn_at, turned, turned_by, weight}
 
 -- ---- a party
@@ -70,13 +72,14 @@ entry_weighs time o a es asking light =
 
 -- ---- the world
 
--- it is light, and at most so much was added to what all entries weigh
+-- it is light, of as many parties as before, and at most so much was added to what all entries weigh
 pub record IsLightAfter (n : ℕ) (w v : PlainWorld) : Type 0 where
+  pub members : length v.members ≡ length w.members
   pub light : IsLightWorld v
   pub weighs : weight v ≤ weight w + n
 
 after_none : (n : ℕ) (w : PlainWorld) → IsLightWorld w → IsLightAfter n w w
-after_none n w h = record { light = h; weighs = omega arith }
+after_none n w h = record { members = refl; light = h; weighs = omega arith }
 
 by_light : (w : PlainWorld) (place : ℕ) (m : PlainMember) (x : AnswerShown × List PlainDeck) → slice_get w.members place ≡ Some m → IsLightWorld w → IsLightParty m.party → AreServed (asks m.party w.time) x
     → IsLightAfter 1 w (turned_by w place m x)
@@ -91,6 +94,7 @@ by_light w place m x e h own lists =
     let single : weight_of_all (entry ∷ []) ≡ weight_of entry + weight_of_all [] = sum_by-cons weight_of entry [] in
     let was = ap (λ (p : PlainMember). weight_of_all p.entries) here in
     record {
+      members = length-set w.members place (told m time x.0);
       light = record {
         decks = lists.decks;
         members = All-set (λ (m : PlainMember). IsLightParty m.party) w.members place (told m time x.0) (party_light m.party time x.0 own lists.answer) h.members;

@@ -30,7 +30,6 @@ use Rattle.csp_rdp.specs.Machine.{PlainRdp}
 use Rattle.csp_rdp_window.specs.Receiving.{Kept}
 use Rattle.csp_service.specs.declared.stats.Stats.{Stats}
 use Rattle.csp_stack.specs.Router.{Facts, Leaving, Router, State}
-use Rattle.csp_world.specs.World.{PlainMember, PlainWorld}
 
 -- ---- packets and frames
 
@@ -113,9 +112,9 @@ pub record IsLightMachine (r : PlainRdp) : Type 0 where
   pub sized : IsSized r
 
 -- the machines of a node and the packets that wait for room
-pub record AreHeld (machines : List PlainRdp) (stalled : List (Option PlainStalled)) : Type 0 where
-  pub machines : All IsLightMachine machines
-  pub stalled : All (λ o. IfSome o (λ s. IsData s.buffer.picture)) stalled
+pub record AreHeld (rs : List PlainRdp) (waits : List (Option PlainStalled)) : Type 0 where
+  pub machines : All IsLightMachine rs
+  pub stalled : All (λ o. IfSome o (λ s. IsData s.buffer.picture)) waits
 
 -- so it is of a node's ports
 abbrev pub ArePorts : PlainPorts → Type 0
@@ -126,11 +125,11 @@ abbrev pub IsFew : Stats → Type 0
 IsFew s = length s.counts ≤ 10
 
 -- what a router holds: its ports, its trash, the packet that is to go out; and the counts of its interfaces
-pub record IsHeld (machines : List PlainRdp) (stalled : List (Option PlainStalled)) (trash : List Content) (out : Option Leaving) (stats : List Stats) : Type 0 where
-  pub ports : AreHeld machines stalled
-  pub trash : All IsLight trash
-  pub out : IfSome out (λ o. length o.buffer.payload ≤ room_of o.queue)
-  pub stats : All IsFew stats
+pub record IsHeld (rs : List PlainRdp) (waits : List (Option PlainStalled)) (spent : List Content) (leaving : Option Leaving) (counts : List Stats) : Type 0 where
+  pub ports : AreHeld rs waits
+  pub trash : All IsLight spent
+  pub out : IfSome leaving (λ o. length o.buffer.payload ≤ room_of o.queue)
+  pub stats : All IsFew counts
 
 -- so it is of its state
 abbrev pub IsLightState : State → Type 0
@@ -168,11 +167,11 @@ abbrev pub IsShortStep : PlainStep → Type 0
 IsShortStep step = (number : ℕ) → length ((batch_of step).bytes number) ≤ 522
 
 -- what an application has: its steps, and the packets that it popped, made and holds
-pub record IsAppOf (steps : List PlainStep) (taken made : Option Content) (held : List Content) : Type 0 where
-  pub steps : All IsShortStep steps
-  pub taken : IfSome taken IsLight
-  pub made : IfSome made IsData
-  pub held : All IsLight held
+pub record IsAppOf (script : List PlainStep) (back next : Option Content) (kept : List Content) : Type 0 where
+  pub steps : All IsShortStep script
+  pub taken : IfSome back IsLight
+  pub made : IfSome next IsData
+  pub held : All IsLight kept
 
 -- so it is of an application
 abbrev pub IsLightApp : PlainApp → Type 0
@@ -194,10 +193,3 @@ IsLightParty (a_bridge b) = ⊥
 IsLightParty (an_iface i) = IsLightIface i
 IsLightParty (an_app a) = IsLightApp a
 IsLightParty (a_link l) = IsLightLink l
-
--- ---- the world
-
--- all lists and all parties of a world are light
-pub record IsLightWorld (w : PlainWorld) : Type 0 where
-  pub decks : All IsLightDeck w.decks
-  pub members : All (λ m. IsLightParty m.party) w.members
