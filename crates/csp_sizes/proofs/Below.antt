@@ -1,6 +1,5 @@
 -- The run of a generated scene ends below the entry limit, however it goes: each of its entries weighs one.
-use Rattle.std.proofs.Common.{map, sum_by}
-use Rattle.std.proofs.Common.{◌≡◌, ℕ, zero, suc, ◌+◌, ◌*◌, ◌<◌, ◌≤◌, Bool, true, false, cond, leb, Option, None, Some, List, [], ◌∷◌, length, refl, sym, ◌∙◌, length-append, arith}
+use Rattle.std.proofs.Common.{map, sum_by, ◌≡◌, ℕ, zero, suc, ◌+◌, ◌*◌, ◌<◌, ◌≤◌, Bool, true, false, cond, leb, Option, None, Some, List, [], ◌∷◌, length, refl, sym, ◌∙◌, length-append, arith}
 use Rattle.std.proofs.lemmas.Bool.{leb-true}
 use Rattle.std.specs.List.{range_with_len, flat_map}
 use Rattle.std.specs.Option.{option_map}
@@ -12,8 +11,7 @@ use Rattle.csp_scene.specs.Scene.{PlainScene, in_rounds}
 use Rattle.csp_sizes.proofs.LightOpening.{opening_light}
 use Rattle.csp_sizes.proofs.LightTurns.{IsLightAfter, turn_light}
 use Rattle.csp_sizes.specs.Worlds.{IsLightWorld}
-use Rattle.csp_topology.specs.Parties.{PlainOpening}
-use Rattle.csp_topology.specs.Parties.{parties_of}
+use Rattle.csp_topology.specs.Parties.{PlainOpening, parties_of}
 use Rattle.csp_world.specs.Opening.{new_member, opening}
 use Rattle.csp_world.specs.Record.{record_of, sim_record}
 use Rattle.csp_world.specs.Schedule.{checked, turns, round_places, round, rounds, run, run_rounds, run_by}

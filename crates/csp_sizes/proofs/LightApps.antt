@@ -1,18 +1,18 @@
 -- An application's turn keeps it light.
-use Rattle.std.proofs.Common.{◌≡◌, ℕ, ◌+◌, ◌≤◌, Bool, true, false, List, [], ◌∷◌, ◌++◌, length, map, drop, slice_get, Option, None, Some, refl, zero, suc, arith}
+use Rattle.std.proofs.Common.{ℕ, ◌+◌, ◌≤◌, Bool, true, false, List, [], ◌∷◌, length, slice_get, Option, None, Some, zero, suc, arith}
 use Rattle.std.proofs.lemmas.List.Elements.{All-cons, All-drop, All-head, All-nil, All-push, All-tail}
 use Rattle.std.specs.List.{All}
 use Rattle.std.specs.Option.{option_map}
 use Rattle.std.specs.Prelude.{IfSome, nat_lt}
-use Rattle.csp_app.specs.Asking.{asked, asks, handed}
-use Rattle.csp_app.specs.Making.{Batch, batch_at, batch_of, filled, packet_in, note_in}
+use Rattle.csp_app.specs.Asking.{asked, asks}
+use Rattle.csp_app.specs.Making.{batch_at, packet_in, note_in}
 use Rattle.csp_app.specs.PlainApp.{PlainApp, opening}
 use Rattle.csp_app.specs.PlainStep.{PlainStep}
 use Rattle.csp_app.specs.Slots.{slot_at}
-use Rattle.csp_app.specs.Steps.{answered, answered_by, batch, gives_up, has_passed, is_enough, plan_of, pushed_one, received, recv_end, satisfied, turn_of, wait_end, waited}
+use Rattle.csp_app.specs.Steps.{answered, answered_by, batch, gives_up, has_passed, is_enough, plan_of, pushed_one, received, recv_end, satisfied, turn_of, wait_end}
 use Rattle.csp_app.specs.Telling.{at_rest, tells}
 use Rattle.csp_app.specs.Told.{Told, over, still}
-use Rattle.csp_app.specs.Turn.{Turn, rests, giving_op, op_of, popped, pushing_op, told_of, until_told}
+use Rattle.csp_app.specs.Turn.{rests, giving_op, op_of, popped, pushing_op, told_of, until_told}
 use Rattle.csp_app.specs.declared.plan.Plan.TheVariants as plan
 use Rattle.csp_app.specs.declared.plan.Plan.{Plan}
 use Rattle.csp_buffer.specs.Content.{Content}
@@ -23,7 +23,6 @@ use Rattle.csp_log.specs.declared.shown.AnswerShown.TheVariants as answer
 use Rattle.csp_log.specs.declared.shown.AnswerShown.{AnswerShown}
 use Rattle.csp_log.specs.declared.shown.ItemShown.TheVariants as item
 use Rattle.csp_log.specs.declared.shown.ItemShown.{ItemShown}
-use Rattle.csp_log.specs.declared.shown.OpShown.{OpShown}
 use Rattle.csp_sizes.proofs.LightAnswers.{buffer_came, item_came, most_of, most_small, some_shorter}
 use Rattle.csp_sizes.specs.Light.{IsData, IsLight, IsLightAnswer, IsLightApp, IsLightOp, IsShortStep}
 use Rattle.csp_stack.specs.Readings.{buffer_in, item_in}

@@ -1,22 +1,19 @@
 -- The lists of a node stay light, and what they answer is light.
-use Rattle.std.proofs.Common.{slice_index_or}
-use Rattle.std.proofs.Common.{◌≡◌, ℕ, zero, suc, ◌+◌, ◌<◌, ◌≤◌, Bool, true, false, cond, List, [], ◌∷◌, ◌++◌, length, map, slice_get, slice_set, Option, None, Some, refl, sym, ap, ◌∙◌, subst, arith}
+use Rattle.std.proofs.Common.{slice_index_or, ◌≡◌, ℕ, zero, suc, ◌≤◌, Bool, true, false, cond, List, [], ◌∷◌, ◌++◌, length, map, slice_get, slice_set, Option, None, Some, refl, sym, ap, ◌∙◌, subst, arith}
 use Rattle.std.proofs.Math.Seq.{map-set_same}
 use Rattle.std.proofs.lemmas.List.Elements.{All-head, All-map, All-nil, All-push, All-set, All-tail}
 use Rattle.std.proofs.lemmas.Option.{get_or_from_slice_get, slice_get-map}
 use Rattle.std.specs.List.{All}
 use Rattle.std.specs.Option.{option_and_then, option_map}
 use Rattle.std.specs.Prelude.{IfSome, nat_lt}
-use Rattle.csp_buffer.specs.Content.{Content, cleared}
+use Rattle.csp_buffer.specs.Content.{Content}
 use Rattle.csp_deck.specs.Carried.{place_for}
 use Rattle.csp_lists.proofs.Standing.{place_there}
 use Rattle.csp_lists.specs.Order.{places_in, position_of}
-use Rattle.csp_lists.specs.PlainDeck.{PlainDeck, PlainQueue, answer_of, front_of, given, opening_deck, opening_queue, popped, pops_at, pushed, queue_at, refilled, shape_of, taken, with_nth, with_queue}
-use Rattle.csp_lists.specs.PlainDeck.{with_pool}
+use Rattle.csp_lists.specs.PlainDeck.{PlainDeck, PlainQueue, answer_of, front_of, given, opening_deck, opening_queue, popped, pops_at, pushed, queue_at, refilled, shape_of, taken, with_nth, with_queue, with_pool}
 use Rattle.csp_log.specs.Weights.{item_bytes}
 use Rattle.csp_log.specs.declared.places.Carries.{Carries}
 use Rattle.csp_log.specs.declared.places.End.{End}
-use Rattle.csp_log.specs.declared.places.Place.TheVariants as place
 use Rattle.csp_log.specs.declared.places.Place.{Place}
 use Rattle.csp_log.specs.declared.places.QueueId.TheVariants as queue
 use Rattle.csp_log.specs.declared.places.QueueId.{QueueId}
@@ -79,7 +76,7 @@ refilled_light d p q items h e all = by (position_of d.shape p) e
       queues = All-set IsLightQueue d.queues at (refilled q items) own h.queues;
       order = λ k x s.
           let same : map (λ (q : PlainQueue). q.place) (slice_set d.queues at (refilled q items)) ≡ map (λ (q : PlainQueue). q.place) d.queues =
-              map-set_same (λ (q : PlainQueue). q.place) d.queues at (refilled q items) q (ap (λ (q : PlainQueue). q.place) (sym (get_or_from_slice_get d.queues at q q f))) in
+          map-set_same (λ (q : PlainQueue). q.place) d.queues at (refilled q items) q (ap (λ (q : PlainQueue). q.place) (sym (get_or_from_slice_get d.queues at q q f))) in
           h.order k x (ap (λ (ps : List Place). slice_get ps k) (sym same) ∙ s);
     }
 

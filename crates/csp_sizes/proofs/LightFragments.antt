@@ -1,12 +1,11 @@
 -- Frames of a CAN bus, and what is made whole of them.
-use Rattle.std.proofs.Common.{length-append}
-use Rattle.std.proofs.Common.{◌≡◌, ℕ, zero, suc, ◌+◌, ◌-◌, ◌<◌, ◌≤◌, Bool, true, false, not, cond, List, [], ◌∷◌, ◌++◌, length, map, take, drop, Option, None, Some, refl, sym, ap, ◌∙◌, arith}
+use Rattle.std.proofs.Common.{length-append, ◌≡◌, ℕ, zero, suc, ◌+◌, ◌-◌, ◌≤◌, Bool, true, false, cond, List, [], ◌∷◌, ◌++◌, length, map, take, drop, Option, None, Some, refl, arith}
 use Rattle.std.proofs.lemmas.List.Elements.{All-append, All-cons, All-filter, All-head, All-map, All-nil, All-push, All-tail}
 use Rattle.std.proofs.lemmas.List.{length-take}
 use Rattle.std.specs.Int.{to_be_bytes, w16, w32}
 use Rattle.std.specs.List.{All, filter, find}
 use Rattle.std.specs.Option.{is_some, option_map, option_to_list}
-use Rattle.std.specs.Prelude.{◌&&◌, IfSome, if◌then◌else◌, nat_le, nat_lt}
+use Rattle.std.specs.Prelude.{IfSome, if◌then◌else◌, nat_le, nat_lt}
 use Rattle.csp_base.specs.declared.traces.Trace.{Trace}
 use Rattle.csp_can.proofs.Sound.{begin_by, measured_by, more_by}
 use Rattle.csp_can.specs.Begins.{begin_length}
@@ -15,8 +14,7 @@ use Rattle.csp_can.specs.Frames.{Frame as CanPart, written}
 use Rattle.csp_can.specs.Identifiers.{key_of, same_key}
 use Rattle.csp_can.specs.Listening.{Listening, answered, heard as listened}
 use Rattle.csp_can.specs.Open.{counters, done, fresh, gone_on, remove_first, ruling, standing, without}
-use Rattle.csp_can.specs.Rules.{Arrival, Deed, Ruling, begin_ruling, ends, goes_on, grown_partial, leaves, measured, more_ruling, opened_partial, opens, refused, ruling_of}
-use Rattle.csp_can.specs.declared.answers.CanEvent.TheVariants as can
+use Rattle.csp_can.specs.Rules.{Arrival, Deed, begin_ruling, ends, goes_on, grown_partial, leaves, measured, more_ruling, opened_partial, opens, ruling_of}
 use Rattle.csp_can.specs.declared.answers.CanEvent.{CanEvent}
 use Rattle.csp_can.specs.declared.frames.CanFrame.{CanFrame}
 use Rattle.csp_can.specs.declared.identifiers.Identifier.{Identifier}
@@ -25,10 +23,8 @@ use Rattle.csp_can.specs.declared.identifiers.Kind.TheVariants.{Begin, More}
 use Rattle.csp_can.specs.declared.identifiers.Kind.{Kind}
 use Rattle.csp_can.specs.declared.partials.Partial.{Partial}
 use Rattle.csp_can.specs.declared.partials.TheConstants.{GIVE_UP, MAX_PARTIALS}
-use Rattle.csp_iface.specs.Receiving.{packet_of, reassembled}
+use Rattle.csp_iface.specs.Receiving.{packet_of}
 use Rattle.csp_iface.specs.Sending.{can_frame}
-use Rattle.csp_iface.specs.declared.receiver.Receiver.TheVariants as by
-use Rattle.csp_log.specs.declared.frame.Frame.{Frame}
 use Rattle.csp_sizes.specs.Light.{IsLightFrame}
 
 -- ---- the frames that a packet is cut into

@@ -1,21 +1,20 @@
 -- An interface's turn keeps it light.
-use Rattle.std.proofs.Common.{◌≡◌, ℕ, ◌+◌, ◌≤◌, Bool, true, false, List, [], ◌∷◌, length, map, drop, slice_get, Option, None, Some, refl, arith}
+use Rattle.std.proofs.Common.{◌≡◌, ℕ, ◌≤◌, Bool, true, false, List, [], ◌∷◌, length, slice_get, Option, None, Some, refl, arith}
 use Rattle.std.proofs.lemmas.Bool.{ltb-false}
 use Rattle.std.proofs.lemmas.List.Elements.{All-cons, All-drop, All-head, All-nil}
 use Rattle.std.specs.List.{All}
 use Rattle.std.specs.Option.{option_map}
-use Rattle.std.specs.Prelude.{unwrap_or}
-use Rattle.std.specs.Prelude.{◌==◌, ◌%◌, IfSome, if◌then◌else◌, nat_lt}
+use Rattle.std.specs.Prelude.{unwrap_or, ◌==◌, ◌%◌, IfSome, if◌then◌else◌, nat_lt}
 use Rattle.csp_base.specs.declared.traces.Trace.{Trace}
 use Rattle.csp_buffer.specs.Content.{Content}
 use Rattle.csp_can.specs.Identifiers.{identifier_of}
 use Rattle.csp_can.specs.Listening.{Listening}
 use Rattle.csp_can.specs.Rules.{Arrival, arrival}
-use Rattle.csp_iface.specs.Asking.{asked, asks, delivered, given, handed, op_of, transmitted, turned}
+use Rattle.csp_iface.specs.Asking.{asked, asks, delivered, given, handed, op_of, transmitted}
 use Rattle.csp_iface.specs.Links.{receiver_for}
 use Rattle.csp_iface.specs.PlainIface.{PlainIface, opening}
 use Rattle.csp_iface.specs.Planning.{plan_of}
-use Rattle.csp_iface.specs.Receiving.{Heard, arrived, followed, heard, heard_by, in_hand, read_further, reassembled, traced}
+use Rattle.csp_iface.specs.Receiving.{Heard, arrived, followed, heard, heard_by, read_further, reassembled, traced}
 use Rattle.csp_iface.specs.Sending.{frames_of, kiss_frame, next_node, sent_trace}
 use Rattle.csp_iface.specs.Telling as telling
 use Rattle.csp_iface.specs.Telling.{tells}
@@ -36,8 +35,6 @@ use Rattle.csp_log.specs.declared.shown.AnswerShown.TheVariants as answer
 use Rattle.csp_log.specs.declared.shown.AnswerShown.{AnswerShown}
 use Rattle.csp_log.specs.declared.shown.ItemShown.TheVariants as item
 use Rattle.csp_log.specs.declared.shown.ItemShown.{ItemShown}
-use Rattle.csp_log.specs.declared.shown.OpShown.TheVariants as op
-use Rattle.csp_log.specs.declared.shown.OpShown.{OpShown}
 use Rattle.csp_sizes.proofs.LightAnswers.{any_came, buffer_came}
 use Rattle.csp_sizes.proofs.LightFragments.{answered_short, frames_light, listened_short}
 use Rattle.csp_sizes.proofs.LightStreams.{IsRead, all_read, frame_short}

@@ -1,17 +1,16 @@
 -- A link's turn keeps it light.
-use Rattle.std.proofs.Common.{◌≡◌, ℕ, suc, ◌+◌, ◌/◌, ◌%◌, ◌≤◌, Bool, true, false, cond, List, [], ◌∷◌, ◌++◌, length, map, take, drop, Option, None, Some, refl, arith}
+use Rattle.std.proofs.Common.{ℕ, suc, ◌+◌, ◌/◌, ◌%◌, ◌≤◌, Bool, true, false, cond, List, [], ◌∷◌, length, take, drop, Option, None, Some, arith}
 use Rattle.std.proofs.lemmas.List.Elements.{All-append, All-cons, All-drop, All-head, All-map, All-nil, All-replicate, All-tail, All-take}
 use Rattle.std.proofs.lemmas.List.{length-set}
 use Rattle.std.specs.Int.Bits.{bit_xor}
-use Rattle.std.specs.List.{All, enumerate_from, find, insert, remove}
-use Rattle.std.specs.Prelude.{⊤}
-use Rattle.std.specs.Prelude.{◌^◌, IfSome, if◌then◌else◌, nat_le, replicate, slice_index}
+use Rattle.std.specs.List.{All, enumerate_from, find}
+use Rattle.std.specs.Prelude.{⊤, ◌^◌, IfSome, if◌then◌else◌, nat_le, replicate, slice_index}
 use Rattle.csp_link.specs.Asking.{asked, asks, handed, op_of}
 use Rattle.csp_link.specs.Copies.{copies_of, damaged, flipped, held_copies, held_until}
 use Rattle.csp_link.specs.Fates.{fate_at}
 use Rattle.csp_link.specs.Holding.{first_due}
 use Rattle.csp_link.specs.PlainLink.{PlainDirection, PlainLink, direction, in_turn, opening, with_direction}
-use Rattle.csp_link.specs.Planning.{Plan, first_rule, plan_in, plan_of, pop, push, wait}
+use Rattle.csp_link.specs.Planning.{Plan, first_rule, plan_of, pop, push, wait}
 use Rattle.csp_link.specs.Telling as telling
 use Rattle.csp_link.specs.Telling.{tells}
 use Rattle.csp_link.specs.declared.doing.Doing.TheVariants as doing

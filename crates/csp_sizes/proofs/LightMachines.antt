@@ -1,20 +1,18 @@
 -- The machine of a reliable connection stays light.
-use Rattle.std.proofs.Common.{◌≡◌, ℕ, ◌+◌, ◌*◌, ◌<◌, ◌≤◌, Bool, true, false, not, cond, List, [], ◌∷◌, ◌++◌, length, map, Option, None, Some, refl, sym, ap, ◌∙◌, subst, arith}
+use Rattle.std.proofs.Common.{◌≡◌, ℕ, ◌+◌, ◌*◌, ◌≤◌, Bool, true, false, not, cond, List, [], ◌∷◌, Option, None, Some, refl, sym, subst, arith}
 use Rattle.std.proofs.lemmas.Bool.{leb-true}
 use Rattle.std.proofs.lemmas.List.Elements.{All-filter, All-head, All-nil, All-push, All-tail}
-use Rattle.std.specs.List.{All, filter, find, flat_map}
-use Rattle.std.specs.Option.{option_map, option_map_or}
+use Rattle.std.specs.List.{find}
+use Rattle.std.specs.Option.{option_map}
 use Rattle.std.specs.Prelude.{◌==◌, ◌&&◌, IfSome, if◌then◌else◌, nat_le, nat_lt}
 use Rattle.csp_base.specs.declared.traces.Tag.{Tag}
 use Rattle.csp_buffer.specs.PlainBuffer.{PlainBuffer}
 use Rattle.csp_ports.proofs.Wholes.{admitted_whole, closed_whole, idle_whole, sent_whole, ticked_whole}
-use Rattle.csp_ports.specs.Came.{pictures}
-use Rattle.csp_prefix.proofs.MachineWindows.{IsSameSend, same-acked, same-filtered, same-heard, same-marked}
+use Rattle.csp_prefix.proofs.MachineWindows.{same-acked, same-heard, same-marked}
 use Rattle.csp_rdp.proofs.BalanceLemmas.{whole-again, whole-delivered, whole-handed, whole-rested, whole-taken}
 use Rattle.csp_rdp.proofs.RowLemmas.{data-fresh, entered-recv}
-use Rattle.csp_rdp.specs.Balance.{IsInOrder}
-use Rattle.csp_rdp.specs.Holding.{loose_buffers, rdp_buffers, recv_rested, rested, unneeded, useless_buffers}
-use Rattle.csp_rdp.specs.Jobs.{admitting, closed_in, closing, counted, delivering, delivery, delivery_in, keeping_again, reset_after, says, sending_index, sent, syn_in, taken_in, ticked, timed_out, without_delivery}
+use Rattle.csp_rdp.specs.Holding.{recv_rested, rested}
+use Rattle.csp_rdp.specs.Jobs.{admitting, closed_in, closing, delivering, delivery, delivery_in, keeping_again, reset_after, sending_index, sent, taken_in, ticked, timed_out, without_delivery}
 use Rattle.csp_rdp.specs.Machine.{PlainRdp, accepting, broken, connecting, idle, left, owes_rst}
 use Rattle.csp_rdp.specs.Table.{acknowledged, after, back_of, entered, entered_from, handed, keeping, listing, row_in}
 use Rattle.csp_rdp.specs.declared.answers.State.TheVariants.{Closed, SynSent, SynRcvd, Open, CloseWait}
@@ -23,17 +21,14 @@ use Rattle.csp_rdp.specs.declared.jobs.Job.TheVariants as job
 use Rattle.csp_rdp.specs.declared.jobs.Job.{Job}
 use Rattle.csp_rdp.specs.declared.rows.Row.TheVariants as row
 use Rattle.csp_rdp.specs.declared.rows.Row.{Row}
-use Rattle.csp_rdp_header.specs.Head.{seq_bytes}
 use Rattle.csp_rdp_header.specs.Numbers.{numbers_of}
 use Rattle.csp_rdp_header.specs.declared.head.RdpHead.{RdpHead}
 use Rattle.csp_rdp_header.specs.declared.options.Options.{Options}
-use Rattle.csp_rdp_window.specs.Receiving.{Kept, PlainRecv, first_buffer, is_awaited, is_kept, kept_numbers, kept_with, next_buffer}
-use Rattle.csp_rdp_window.specs.Sending.{PlainSend, acknowledges, is_loose}
+use Rattle.csp_rdp_window.specs.Receiving.{Kept, PlainRecv, is_awaited, is_kept}
+use Rattle.csp_rdp_window.specs.Sending.{acknowledges}
 use Rattle.csp_rdp_window.specs.Shown.{shown}
 use Rattle.csp_rdp_window.specs.Times.{has_passed}
 use Rattle.csp_rdp_window.specs.declared.pending.Mark.TheVariants.{Abandoned, Sent}
-use Rattle.csp_rdp_window.specs.declared.pending.Mark.{Mark}
-use Rattle.csp_rdp_window.specs.declared.pending.Pending.{Pending}
 use Rattle.csp_sizes.proofs.LightHolding.{AreKept, kept_later, kept_more, same_data}
 use Rattle.csp_sizes.specs.Light.{IsData, IsLight, IsLightKept, IsLightMachine, IsSized}
 

@@ -1,23 +1,20 @@
 -- A generated scene opens a light world.
-use Rattle.std.proofs.Common.{◌≡◌, ℕ, ◌+◌, ◌%◌, ◌≤◌, List, [], ◌∷◌, length, map, Option, None, Some, refl, arith}
+use Rattle.std.proofs.Common.{◌≡◌, ℕ, ◌+◌, ◌%◌, ◌≤◌, List, [], ◌∷◌, length, map, None, Some, arith}
 use Rattle.std.proofs.lemmas.List.Elements.{All-cons, All-from_recursion, All-map, All-nil, All-replicate}
 use Rattle.std.proofs.lemmas.List.FromFn.{length-map-range_with_len}
 use Rattle.std.specs.List.{All, AllByRecursion, range_with_len}
 use Rattle.std.specs.Prelude.{codes}
-use Rattle.csp_app.specs.Making.{batch_of, burst_bytes}
+use Rattle.csp_app.specs.Making.{burst_bytes}
 use Rattle.csp_app.specs.PlainStep as step
-use Rattle.csp_app.specs.PlainStep.{PlainStep}
-use Rattle.csp_buffer.specs.Content.{Content, cleared}
+use Rattle.csp_buffer.specs.Content.{cleared}
 use Rattle.csp_gen.specs.GenScene.{all_to, binding, cam, connecting, gen_scene, links, no_rows, node, ops, relay_table}
 use Rattle.csp_link.specs.declared.fault.Fault.{Fault}
 use Rattle.csp_log.specs.declared.places.LinkKind.TheVariants as carried
-use Rattle.csp_log.specs.declared.places.LinkKind.{LinkKind}
 use Rattle.csp_nodes.specs.Fresh.{fresh_buffers}
 use Rattle.csp_party.specs.Any.{a_router}
-use Rattle.csp_route.specs.Routes.{Routes}
-use Rattle.csp_route.specs.Routes.{merged}
+use Rattle.csp_route.specs.Routes.{Routes, merged}
 use Rattle.csp_scene.specs.Links.{links_at}
-use Rattle.csp_scene.specs.Scene.{PlainLink, PlainNode, PlainScene}
+use Rattle.csp_scene.specs.Scene.{PlainLink, PlainNode}
 use Rattle.csp_service.specs.Counting.{no_stats}
 use Rattle.csp_service.specs.declared.facts.TheConstants.{IFACE_ROOM}
 use Rattle.csp_sizes.proofs.LightApps.{app_opened}
@@ -29,8 +26,7 @@ use Rattle.csp_sizes.specs.Light.{IsFew, IsLight, IsLightDeck, IsLightParty, IsS
 use Rattle.csp_sizes.specs.Worlds.{IsLightWorld}
 use Rattle.csp_stack.specs.Config.{opening_state}
 use Rattle.csp_stack.specs.Router.{Facts}
-use Rattle.csp_topology.specs.Parties.{PlainOpening, parties_of}
-use Rattle.csp_topology.specs.Parties.{config_of, hub_by}
+use Rattle.csp_topology.specs.Parties.{PlainOpening, parties_of, config_of, hub_by}
 use Rattle.csp_topology.specs.Plan.{PlainNodePlan, plans_from}
 use Rattle.csp_world.specs.Opening.{deck_of, new_member, opening}
 use Rattle.csp_world.specs.World.{PlainMember}
@@ -80,17 +76,34 @@ hub_opened place addr n links window name = router_opened (config_of place addr 
 
 parties_opened : (packets : ℕ) (plan : List Fault) → AllByRecursion IsOpening (parties_of (gen_scene packets plan))
 unfolding parties_of
-parties_opened packets plan =
-    (hub_opened 0 1 (ground packets) (links_at 0 (links plan)) (omega arith) (omega arith),
-    (iface_opened 0 0 carried.Kiss 256 (omega arith),
-    (app_opened 0 (connecting ∷ step.Burst 0 packets 100 ∷ []) (ops_short packets),
-    (hub_opened 1 2 relay (links_at 1 (links plan)) (omega arith) (omega arith),
-    (iface_opened 1 0 carried.Kiss 256 (omega arith),
-    (iface_opened 1 1 carried.Can 256 (omega arith),
-    (hub_opened 2 3 (payload packets) (links_at 2 (links plan)) (omega arith) (omega arith),
-    (iface_opened 2 0 carried.Can 256 (omega arith),
-    (app_opened 0 (binding ∷ step.Recv 0 packets None ∷ []) (cam_short packets),
-    (link_opened carried.Kiss plan, (link_opened carried.Can [], tt)))))))))))
+parties_opened packets plan = (
+  hub_opened 0 1 (ground packets) (links_at 0 (links plan)) (omega arith) (omega arith),
+  (
+    iface_opened 0 0 carried.Kiss 256 (omega arith),
+    (
+      app_opened 0 (connecting ∷ step.Burst 0 packets 100 ∷ []) (ops_short packets),
+      (
+        hub_opened 1 2 relay (links_at 1 (links plan)) (omega arith) (omega arith),
+        (
+          iface_opened 1 0 carried.Kiss 256 (omega arith),
+          (
+            iface_opened 1 1 carried.Can 256 (omega arith),
+            (
+              hub_opened 2 3 (payload packets) (links_at 2 (links plan)) (omega arith) (omega arith),
+              (
+                iface_opened 2 0 carried.Can 256 (omega arith),
+                (
+                  app_opened 0 (binding ∷ step.Recv 0 packets None ∷ []) (cam_short packets),
+                  (link_opened carried.Kiss plan, (link_opened carried.Can [], tt)),
+                ),
+              ),
+            ),
+          ),
+        ),
+      ),
+    ),
+  ),
+)
 
 pub opening_light : (packets : ℕ) (plan : List Fault) → IsLightWorld (opening (gen_scene packets plan))
 unfolding opening

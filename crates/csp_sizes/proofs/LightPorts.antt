@@ -1,13 +1,8 @@
 -- The ports of a node stay light, and so is what they let go.
-use Rattle.std.proofs.Common.{length-append, suc, zero}
-use Rattle.std.proofs.Common.{◌≡◌, ℕ, ◌+◌, ◌*◌, ◌<◌, ◌≤◌, Bool, true, false, List, [], ◌∷◌, ◌++◌, length, map, Option, None, Some, refl, sym, ap, ◌∙◌, subst, arith, inl, inr, get_or}
+use Rattle.std.proofs.Common.{length-append, suc, zero, ◌≡◌, ℕ, ◌+◌, ◌*◌, ◌≤◌, Bool, true, false, List, [], ◌∷◌, ◌++◌, length, Option, None, Some, refl, sym, ap, ◌∙◌, subst, arith, get_or}
 use Rattle.std.proofs.lemmas.List.Elements.{All-append, All-cons, All-nil, All-replicate, All-set}
-use Rattle.std.specs.List.{All}
-use Rattle.std.specs.List.{range_with_len}
-use Rattle.std.specs.Option.{option_to_list}
-use Rattle.std.specs.Prelude.{IfSome}
-use Rattle.std.specs.Prelude.{slice_set}
-use Rattle.std.specs.Prelude.{◌/◌, ◌%◌}
+use Rattle.std.specs.List.{All, range_with_len}
+use Rattle.std.specs.Prelude.{IfSome, slice_set, ◌/◌, ◌%◌}
 use Rattle.csp_base.specs.declared.priority.Prio.{Prio}
 use Rattle.csp_buffer.specs.Content.{Content}
 use Rattle.csp_buffer.specs.PlainBuffer.{PlainBuffer}
@@ -21,13 +16,12 @@ use Rattle.csp_conn.specs.declared.slot.Slot.{Slot}
 use Rattle.csp_log.specs.declared.note.Note.TheVariants as note
 use Rattle.csp_log.specs.declared.note.Note.{Note}
 use Rattle.csp_ports.proofs.Counting.{all_or}
-use Rattle.csp_ports.specs.Asking.{is_reliable, answered, answered_by, close, close_by, connect, connect_by, ended, ended_by, ending_in, held_by, joined}
+use Rattle.csp_ports.specs.Asking.{is_reliable, answered, answered_by, close, close_by, connect, connect_by, ended_by, ending_in, held_by, joined}
 use Rattle.csp_ports.specs.Came.{Came, come, pictures, then}
-use Rattle.csp_ports.specs.Packets.{accepted, admitting_by, back_by, handing, invited, submitting, submitting_in}
-use Rattle.csp_ports.specs.PlainPorts.{PlainPorts, PlainStalled, anywhere, machine_at, owing, ports_of, stalled_at, start_of, terms_at, wishing, with_machine, with_stalled, with_terms}
-use Rattle.csp_ports.specs.PlainPorts.{is_closing}
-use Rattle.csp_ports.specs.Steps.{changed, closed, closed_by, connected, connected_by, dropped, dropped_in, dropped_of, dropped_on, freed, given_up, has_room, refused, refused_by, replaced, settled, settled_by, settled_on, stepped, timed, timed_at, timed_in, vacated, went}
-use Rattle.csp_ports.specs.Tasks.{delivered, kept_again, made_in, making, turned, without_packet}
+use Rattle.csp_ports.specs.Packets.{admitting_by, back_by, handing, invited, submitting, submitting_in}
+use Rattle.csp_ports.specs.PlainPorts.{PlainPorts, PlainStalled, anywhere, machine_at, ports_of, stalled_at, start_of, terms_at, with_machine, with_stalled, is_closing}
+use Rattle.csp_ports.specs.Steps.{changed, closed_by, connected_by, dropped, dropped_in, dropped_of, dropped_on, freed, given_up, has_room, refused, refused_by, settled, settled_by, settled_on, stepped, timed, timed_at, timed_in, vacated, went}
+use Rattle.csp_ports.specs.Tasks.{delivered, kept_again, made_in, making, without_packet}
 use Rattle.csp_ports.specs.declared.handing.Invitation.{Invitation}
 use Rattle.csp_ports.specs.declared.origin.Origin.{Origin}
 use Rattle.csp_ports.specs.declared.owed.Owed.{Owed}
@@ -37,10 +31,8 @@ use Rattle.csp_ports.specs.declared.terms.Wish.TheVariants as wish
 use Rattle.csp_ports.specs.declared.terms.Wish.{Wish}
 use Rattle.csp_rdp.proofs.BalanceLemmas.{missing-taken}
 use Rattle.csp_rdp.specs.Changes.{change_between}
-use Rattle.csp_rdp.specs.Holding.{rdp_buffers, rested, unneeded}
-use Rattle.csp_rdp.specs.Jobs.{admitting, closing, head_for}
-use Rattle.csp_rdp.specs.Jobs.{delivering, delivery, delivery_in, keeping_again, sent, taken_in, ticked, without_delivery}
-use Rattle.csp_rdp.specs.Jobs.{says}
+use Rattle.csp_rdp.specs.Holding.{rdp_buffers, rested}
+use Rattle.csp_rdp.specs.Jobs.{admitting, closing, head_for, delivering, delivery_in, taken_in, ticked, without_delivery, says}
 use Rattle.csp_rdp.specs.Machine.{PlainRdp, idle}
 use Rattle.csp_rdp.specs.Table.{back_of, handed, row_of, is_stray}
 use Rattle.csp_rdp.specs.declared.answers.Change.TheVariants as change

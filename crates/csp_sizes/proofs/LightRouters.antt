@@ -1,6 +1,5 @@
 -- A router's turn keeps it light.
-use Rattle.std.proofs.Common.{subst, sym}
-use Rattle.std.proofs.Common.{◌≡◌, ℕ, ◌+◌, ◌≤◌, Bool, true, false, List, [], ◌∷◌, ◌++◌, length, drop, Option, None, Some, refl, arith}
+use Rattle.std.proofs.Common.{subst, sym, ◌≡◌, ℕ, ◌≤◌, Bool, true, false, List, [], ◌∷◌, length, Option, None, Some, refl, arith}
 use Rattle.std.proofs.lemmas.List.Elements.{All-append, All-cons, All-drop, All-head}
 use Rattle.std.specs.List.{All}
 use Rattle.std.specs.Prelude.{IfSome}
@@ -15,7 +14,6 @@ use Rattle.csp_log.specs.declared.shown.AnswerShown.{AnswerShown}
 use Rattle.csp_log.specs.declared.shown.ItemShown.TheVariants as item
 use Rattle.csp_log.specs.declared.shown.ItemShown.{ItemShown}
 use Rattle.csp_log.specs.declared.shown.OpShown.TheVariants as op
-use Rattle.csp_log.specs.declared.shown.OpShown.{OpShown}
 use Rattle.csp_ports.specs.Asking.{answered}
 use Rattle.csp_ports.specs.PlainPorts.{PlainPorts, machine_at}
 use Rattle.csp_ports.specs.Steps.{timed as ports_timed}
@@ -29,7 +27,7 @@ use Rattle.csp_sizes.proofs.LightMachines.{delivery_light}
 use Rattle.csp_sizes.proofs.LightPorts.{Comes, answered_light, delivered_after, delivery_open, kept_after, machine_light, timed_light, without_packet_light}
 use Rattle.csp_sizes.proofs.LightRules.{IsTold, heard_light, made_on_light, ported_light, served_light, trashed, was_full_light, went_out_light}
 use Rattle.csp_sizes.specs.Light.{AreFacts, ArePorts, IsLight, IsLightAnswer, IsLightOp, IsLightRouter, IsLightState, room_of}
-use Rattle.csp_stack.specs.Counting.{was_full, went_out}
+use Rattle.csp_stack.specs.Counting.{was_full}
 use Rattle.csp_stack.specs.Party.{asked_of, asks_of, told_of}
 use Rattle.csp_stack.specs.Readings.{buffer_in, is_pushed, item_in}
 use Rattle.csp_stack.specs.Router.{Facts, Leaving, Router, State, at_rest}

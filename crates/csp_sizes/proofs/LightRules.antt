@@ -1,6 +1,5 @@
 -- What a router makes of a packet stays light.
-use Rattle.std.proofs.Common.{length-append}
-use Rattle.std.proofs.Common.{◌≡◌, ℕ, ◌+◌, ◌-◌, ◌%◌, ◌<◌, ◌≤◌, Bool, true, false, List, [], ◌∷◌, ◌++◌, length, take, drop, Option, None, Some, Result, Ok, Err, refl, sym, ap, ◌∙◌, subst, arith}
+use Rattle.std.proofs.Common.{length-append, ◌≡◌, ℕ, ◌+◌, ◌-◌, ◌≤◌, Bool, true, false, List, [], ◌∷◌, ◌++◌, length, take, drop, Option, None, Some, Result, Ok, Err, refl, sym, ap, ◌∙◌, arith}
 use Rattle.std.proofs.lemmas.Bool.{false≢true, ltb-false}
 use Rattle.std.proofs.lemmas.List.Elements.{All-append, All-push, All-set}
 use Rattle.std.proofs.lemmas.List.{length-set, length-take}
@@ -8,13 +7,11 @@ use Rattle.std.proofs.lemmas.Nat.{and_mask}
 use Rattle.std.specs.Int.RustNames.{bit_and}
 use Rattle.std.specs.Int.{from_be_bytes, to_be_bytes, w32}
 use Rattle.std.specs.List.{All}
-use Rattle.std.specs.Prelude.{◌==◌, ◌||◌, IfOk, IfSome, if◌then◌else◌, nat_lt}
-use Rattle.std.specs.Prelude.{◌^◌, get_or, min, slice_index, slice_set}
+use Rattle.std.specs.Prelude.{◌==◌, ◌||◌, IfOk, IfSome, if◌then◌else◌, nat_lt, ◌^◌, get_or, min, slice_index, slice_set}
 use Rattle.csp_base.specs.Trace.{no_trace}
 use Rattle.csp_base.specs.declared.traces.Tag.{Tag}
 use Rattle.csp_buffer.specs.Content.{Content}
 use Rattle.csp_conn.specs.PlainConns.{slot_at}
-use Rattle.csp_conn.specs.Slots.{between}
 use Rattle.csp_conn.specs.declared.slot.Connection.{Connection}
 use Rattle.csp_conn.specs.declared.slot.Slot.TheVariants as slot
 use Rattle.csp_conn.specs.declared.slot.Slot.{Slot}
@@ -32,8 +29,7 @@ use Rattle.csp_log.specs.declared.places.TheConstants.{UNMARKED}
 use Rattle.csp_log.specs.declared.shown.ItemShown.TheVariants as item
 use Rattle.csp_log.specs.declared.shown.ItemShown.{ItemShown}
 use Rattle.csp_ports.proofs.Counting.{all_or}
-use Rattle.csp_ports.specs.Asking.{bind, close, connect, is_reliable as are_reliable}
-use Rattle.csp_ports.specs.Asking.{bind_by}
+use Rattle.csp_ports.specs.Asking.{close, connect, is_reliable as are_reliable, bind_by}
 use Rattle.csp_ports.specs.Came.{Came}
 use Rattle.csp_ports.specs.Packets.{handing, invited, submitting}
 use Rattle.csp_ports.specs.PlainPorts.{PlainPorts, terms_at}
@@ -51,7 +47,7 @@ use Rattle.csp_rdp_header.specs.declared.head.TheConstants.{ACK, RST, SYN}
 use Rattle.csp_rdp_header.specs.declared.options.Options.{Options}
 use Rattle.csp_route.specs.Routes.{route_of}
 use Rattle.csp_route.specs.declared.row.Row.{Row}
-use Rattle.csp_service.specs.Answers.{answered, Outcome}
+use Rattle.csp_service.specs.Answers.{answered}
 use Rattle.csp_service.specs.Counting.{counted, raised, no_stats, place_of}
 use Rattle.csp_service.specs.declared.answers.Served.TheVariants.{NoService, Refused, Reply, Silent}
 use Rattle.csp_service.specs.declared.answers.Served.{Served}
@@ -70,8 +66,7 @@ use Rattle.csp_stack.specs.Rules as rules
 use Rattle.csp_stack.specs.Rules.{Arrival, Ruling}
 use Rattle.csp_stack.specs.Sending.{headed, protected}
 use Rattle.csp_stack.specs.Serving.{facts_of, reply_header, reply_in, with_facts}
-use Rattle.csp_stack.specs.Told.{Told, ported}
-use Rattle.csp_stack.specs.Told.{with_ports}
+use Rattle.csp_stack.specs.Told.{Told, ported, with_ports}
 
 abbrev pub IsTold : Told → Type 0
 IsTold t = IsLightState t.state

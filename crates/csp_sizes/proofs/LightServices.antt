@@ -1,30 +1,27 @@
 -- Replies of services are short, or no longer than their requests.
-use Rattle.std.proofs.Common.{length-append}
-use Rattle.std.proofs.Common.{◌≡◌, ℕ, ◌+◌, ◌*◌, ◌-◌, ◌<◌, ◌≤◌, Bool, true, false, not, List, [], ◌∷◌, ◌++◌, length, take, drop, get_or, slice_get, Option, None, Some, Result, Ok, Err, refl, sym, ap, ◌∙◌, subst, arith}
+use Rattle.std.proofs.Common.{length-append, ◌≡◌, ℕ, ◌+◌, ◌*◌, ◌-◌, ◌≤◌, Bool, true, false, List, [], ◌∷◌, ◌++◌, length, take, drop, get_or, slice_get, Option, None, Some, Result, Ok, Err, refl, sym, subst, arith}
 use Rattle.std.proofs.lemmas.Bool.{ltb-false}
 use Rattle.std.proofs.lemmas.List.{length-replicate, length-take}
 use Rattle.std.specs.Int.{to_be_bytes, w32}
 use Rattle.std.specs.List.{All, flat_map}
-use Rattle.std.specs.Prelude.{⊤}
-use Rattle.std.specs.Prelude.{◌==◌, ◌&&◌, ◌||◌, IfOk, IfSome, if◌then◌else◌, nat_lt, replicate, slice_range}
+use Rattle.std.specs.Prelude.{⊤, ◌==◌, IfOk, IfSome, if◌then◌else◌, nat_lt, replicate, slice_range}
 use Rattle.arrayvec.specs.ArrayVec.{ArrayVec}
 use Rattle.csp_cmp.specs.Codes.{code_of}
 use Rattle.csp_cmp.specs.Reading.{by_code, chunk_of, counted, decoded, if_few, if_whole, need_of, read_as}
-use Rattle.csp_cmp.specs.Replies.{clock_bytes, ident_bytes, padded, peek_bytes, same_bytes, stats_bytes}
+use Rattle.csp_cmp.specs.Replies.{ident_bytes, padded, peek_bytes, same_bytes, stats_bytes}
 use Rattle.csp_cmp.specs.declared.code.Code.TheVariants as code
 use Rattle.csp_cmp.specs.declared.code.Code.{Code}
 use Rattle.csp_cmp.specs.declared.errors.CmpError.TheVariants.{BadLength, BadCount, BadType}
 use Rattle.csp_cmp.specs.declared.errors.CmpError.{CmpError}
-use Rattle.csp_cmp.specs.declared.reading.TheConstants.{REQUEST, MAX_CHUNK}
+use Rattle.csp_cmp.specs.declared.reading.TheConstants.{REQUEST}
 use Rattle.csp_cmp.specs.declared.replies.TheConstants.{MODEL, REVISION, DATE, TIME, HOST_ROOM, MODEL_ROOM, REVISION_ROOM, DATE_ROOM, TIME_ROOM}
 use Rattle.csp_cmp.specs.declared.request.CmpRequest.TheVariants.{Ident, RouteSet, Stats, Peek, Poke, Clock}
 use Rattle.csp_cmp.specs.declared.request.CmpRequest.{CmpRequest}
 use Rattle.csp_ports.proofs.Counting.{all_or}
-use Rattle.csp_route.specs.Routes.{key_of}
-use Rattle.csp_route.specs.Routes.{with_row}
+use Rattle.csp_route.specs.Routes.{key_of, with_row}
 use Rattle.csp_route.specs.declared.row.Row.{Row}
-use Rattle.csp_service.specs.Answers.{outcome, overwritten, refused, replied, with_routes, with_services, Outcome, answered, has_no_room, iface_of, peeked, poked, requested, rebooted, routed, row_asked, served_by, told_clock, told_stats}
-use Rattle.csp_service.specs.Clock.{nanos_of, seconds_of, set_by, shown}
+use Rattle.csp_service.specs.Answers.{outcome, overwritten, refused, replied, with_routes, with_services, Outcome, answered, has_no_room, iface_of, peeked, poked, requested, rebooted, routed, row_asked, served_by, told_stats}
+use Rattle.csp_service.specs.Clock.{seconds_of}
 use Rattle.csp_service.specs.Counting.{no_stats}
 use Rattle.csp_service.specs.Facts.{PlainFacts}
 use Rattle.csp_service.specs.Services.{service_at}

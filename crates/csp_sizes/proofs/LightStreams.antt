@@ -1,16 +1,14 @@
 -- Frames of a KISS link, and what is read of a stream of them.
-use Rattle.std.proofs.Common.{length-append}
-use Rattle.std.proofs.Common.{◌≡◌, ℕ, ◌+◌, ◌*◌, ◌-◌, ◌<◌, ◌≤◌, Bool, true, false, List, [], ◌∷◌, ◌++◌, length, take, drop, slice_get, Option, None, Some, refl, sym, ap, ◌∙◌, subst, arith}
+use Rattle.std.proofs.Common.{length-append, ◌≡◌, ℕ, ◌+◌, ◌*◌, ◌-◌, ◌≤◌, Bool, true, false, List, [], ◌∷◌, ◌++◌, length, take, drop, Option, None, Some, refl, sym, subst, arith}
 use Rattle.std.proofs.lemmas.Bool.{ltb-false}
 use Rattle.std.proofs.lemmas.List.{length-drop, length-take}
 use Rattle.std.specs.Int.{from_be_bytes, to_be_bytes, w32}
-use Rattle.std.specs.List.{flat_map, fold}
 use Rattle.std.specs.Prelude.{◌==◌, IfSome, if◌then◌else◌, nat_lt}
 use Rattle.csp_crc.specs.Crc.{crc_of}
-use Rattle.csp_kiss.proofs.GoingOn.{ended, going_on, read_step, with_refused}
+use Rattle.csp_kiss.proofs.GoingOn.{ended, going_on, read_step}
 use Rattle.csp_kiss.specs.Frame.{covered, escape_of, escaped, frame}
 use Rattle.csp_kiss.specs.GoingOn.{Progress, packet_of, read_on}
-use Rattle.csp_kiss.specs.Reading.{Reading, after, answer, answers, continued, going, kept, resolved, told}
+use Rattle.csp_kiss.specs.Reading.{Reading, after, answer, answers, continued, going, kept, told}
 use Rattle.csp_kiss.specs.Stream.{compared, judged}
 use Rattle.csp_kiss.specs.declared.TheConstants.{FEND, FESC, TFEND, TFESC}
 use Rattle.csp_kiss.specs.declared.event.KissEvent.TheVariants.{Packet, TooLong, Short, BadCrc}

@@ -1,15 +1,13 @@
 -- A turn of a light world gives a light world, and weighs at most one.
-use Rattle.std.proofs.Common.{◌≡◌, ℕ, ◌+◌, ◌/◌, ◌≤◌, Bool, true, false, List, [], ◌∷◌, ◌++◌, length, slice_get, slice_set, get_or, Option, None, Some, refl, sym, ap, ◌∙◌, subst, arith}
+use Rattle.std.proofs.Common.{◌≡◌, ℕ, ◌+◌, ◌/◌, ◌≤◌, Bool, true, false, List, [], ◌∷◌, ◌++◌, length, slice_get, Option, None, Some, refl, ap, arith}
 use Rattle.std.proofs.lemmas.List.Elements.{All-set}
 use Rattle.std.proofs.lemmas.List.Sums.{sum_by-append, sum_by-cons, sum_by-set}
 use Rattle.std.proofs.lemmas.List.{length-set}
 use Rattle.std.proofs.lemmas.Option.{get_or_from_slice_get, slice_get_within}
-use Rattle.std.specs.List.{All}
 use Rattle.std.specs.Prelude.{if◌then◌else◌}
 use Rattle.csp_deck.specs.Step.{entry_of}
 use Rattle.csp_lists.specs.PlainDeck.{PlainDeck}
-use Rattle.csp_log.specs.Weights.{answer_bytes, item_bytes, op_bytes, weight_of, weight_of_all}
-use Rattle.csp_log.specs.declared.entry.Entry.{Entry}
+use Rattle.csp_log.specs.Weights.{answer_bytes, op_bytes, weight_of, weight_of_all}
 use Rattle.csp_log.specs.declared.event.Event.{Event}
 use Rattle.csp_log.specs.declared.shown.AnswerShown.TheVariants as answer
 use Rattle.csp_log.specs.declared.shown.AnswerShown.{AnswerShown}

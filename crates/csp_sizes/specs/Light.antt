@@ -4,13 +4,10 @@ use Rattle.csp_app.specs.Making.{batch_of}
 use Rattle.csp_app.specs.PlainApp.{PlainApp}
 use Rattle.csp_app.specs.PlainStep.{PlainStep}
 use Rattle.csp_buffer.specs.Content.{Content}
-use Rattle.csp_can.specs.declared.partials.Partial.{Partial}
 use Rattle.csp_iface.specs.PlainIface.{PlainIface}
-use Rattle.csp_iface.specs.declared.packet.Packet.{Packet}
 use Rattle.csp_iface.specs.declared.receiver.Receiver.TheVariants as by
 use Rattle.csp_iface.specs.declared.receiver.Receiver.{Receiver}
 use Rattle.csp_link.specs.PlainLink.{PlainDirection, PlainLink}
-use Rattle.csp_link.specs.declared.held.Held.{Held}
 use Rattle.csp_lists.specs.Order.{places_in}
 use Rattle.csp_lists.specs.PlainDeck.{PlainDeck, PlainQueue}
 use Rattle.csp_log.specs.Weights.{item_bytes}
