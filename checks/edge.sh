@@ -255,7 +255,7 @@ fed 'a run up to the limit of entries' 6 'cspsim: limit Entries 4000000'
     echo 'recv 0 1'
   done
   times 60 'schedule steps a.x a a a.l a.l b.y b b b.l b.l'
-  times 500000 l | paste -sd ' ' | fold -w 8000 | sed 's/^/schedule steps /'
+  times 500050 l | paste -sd ' ' | fold -w 8000 | sed 's/^/schedule steps /'
 } > "$work/in"
 fed 'a run by steps whose entries weigh eight each' 6 'cspsim: limit Entries 4000000'
 

@@ -1,5 +1,5 @@
 -- Lemmas on a world to which a party is added that is new.
-use Rattle.std.proofs.Common.{◌≡◌, ℕ, ◌+◌, ◌<◌, ◌≤◌, ◌^◌, Bool, true, false, List, [], ◌∷◌, ◌++◌, Option, Some, None, length, map, ap, refl, sym, ◌∙◌, subst, arith, slice_get, IsSomeAnd, vec_capacity, Vec, Global, length-append, if◌then◌else◌}
+use Rattle.std.proofs.Common.{◌≡◌, ℕ, ◌+◌, ◌≤◌, Bool, true, false, List, [], ◌∷◌, ◌++◌, Option, Some, None, length, map, ap, refl, sym, ◌∙◌, subst, arith, slice_get, IsSomeAnd, vec_capacity, Vec, Global, length-append, if◌then◌else◌}
 use Rattle.std.specs.List.{flat_map}
 use Rattle.std.proofs.lemmas.List.{map-append}
 use Rattle.csp_deck.specs.Step.{times}
@@ -8,6 +8,7 @@ use Rattle.csp_nodes.specs.DecksAt.{DecksAt}
 use Rattle.csp_party.specs.Any.{holds, plain, region_of}
 use Rattle.csp_record.specs.Who.{node_of}
 use Rattle.csp_topology.specs.Parties.{opens}
+use Rattle.csp_topology.specs.declared.topology.TheConstants.{MAX_PARTIES}
 use Rattle.csp_world.proofs.OpeningLists.{each-push, flat_map-push_none}
 use Rattle.csp_world.specs.Holders.{holds_at, is_home, IsConserved}
 use Rattle.csp_world.specs.Inside.{world_of, rooms, IsFit, IsNew, AllFit, HasRoom, IsWorld}

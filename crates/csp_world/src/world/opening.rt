@@ -1,8 +1,7 @@
 //! The world of a scene before its first turn.
 
-ghost use Rattle.std.specs.Prelude.{◌≡◌, ◌+◌, ◌<◌, ◌≤◌, ◌^◌, ◌++◌, ◌∷◌, ℕ, [], Some, length, map, max, slice_get, vec_len, vec_capacity, OnOk, IfOk, IsSome, IsSomeAnd};
+ghost use Rattle.std.specs.Prelude.{◌≡◌, ◌+◌, ◌<◌, ◌≤◌, ◌^◌, ◌++◌, ◌∷◌, ℕ, [], Some, length, map, max, slice_get, vec_len, vec_capacity, OnOk, IfOk, IsSomeAnd};
 ghost use Rattle.std.specs.List.{AllByRecursion};
-ghost use Rattle.csp_arena.specs.declared.token.RegionToken.{RegionToken};
 ghost use Rattle.csp_party.specs.Any.{plain, region_of};
 ghost use Rattle.csp_record.specs.Who.{node_of};
 ghost use Rattle.csp_scene.specs.Ranges.{IsScene};
@@ -17,7 +16,6 @@ use crate::member::Member;
 use crate::room::Room;
 use crate::world::World;
 use arrayvec::ArrayVec;
-use csp_arena::RegionToken;
 use csp_deck::{Desk, End, LINK_ENDS, Log, Spares};
 use csp_lists::opens;
 use csp_nodes::Decks;
@@ -194,25 +192,16 @@ impl World {
         ensures { OnOk result (self.new.plain ≡ record self.old.plain { members = self.old.plain.members ++ new_member (opening_of party) ∷ [] }) }
     {
         let who = party.who();
-        let (region, buffers) = self.home_of(nodes, who);
-        let opened = party.open(alloc, region)?;
-        self.add_member(alloc, who, opened, buffers)
-    }
-
-    /// The region of a party's node, and how many buffers it has, where the nodes are these; a link has neither.
-    fn home_of(&self, nodes: &[NodePlan], who: Who) -> (Option<RegionToken>, u16)
-        requires decks { self.now.plain.decks ≡ map deck_of nodes.now }
-        requires home { (node : ℕ) → node_of who ≡ Some node → node < length self.now.plain.decks }
-        ensures region { IsSome (node_of who) → IsSome result.0 }
-        ensures home { (node : ℕ) (region : RegionToken) → node_of who ≡ Some node → result.0 ≡ Some region → slice_get self.now.regions node ≡ Some region.name }
-        ensures room { (node : ℕ) → node_of who ≡ Some node → IsSomeAnd (slice_get (rooms self.now.plain.decks) node) (λ room. room ≤ result.1) }
-    {
         match who.node() {
             Some(node) => {
                 let plan = &nodes[usize::from(node)];
-                (Some(self.decks.token(node)), plan.buffers)
+                let opened = party.open(alloc, Some(self.decks.token(node)))?;
+                self.add_member(alloc, who, opened, plan.buffers)
             }
-            None => (None, 0),
+            None => {
+                let opened = party.open(alloc, None)?;
+                self.add_member(alloc, who, opened, 0)
+            }
         }
     }
 

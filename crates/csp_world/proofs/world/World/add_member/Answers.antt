@@ -1,4 +1,4 @@
-use Rattle.std.proofs.Common.{ℕ, ◌≡◌, ◌≤◌, ◌<◌, ◌+◌, ◌^◌, Some, length, vec_capacity, arith, refl, subst, sym, slice_get}
+use Rattle.std.proofs.Common.{ℕ, ◌≡◌, ◌≤◌, ◌+◌, Some, length, vec_capacity, arith, refl, subst, sym, slice_get}
 use Rattle.std.proofs.lemmas.List.{length-map}
 use Rattle.csp_party.specs.Any.{plain, region_of}
 use Rattle.csp_record.specs.Who.{node_of}
