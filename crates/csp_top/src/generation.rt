@@ -14,6 +14,7 @@ use csp_base::{Sink, write_whole};
 use csp_bench::{Refusal, Status};
 use csp_gen::{MAX_PACKETS, text};
 use csp_report::summary;
+use csp_sizes::stays_below;
 use std::alloc::Global;
 
 /// Runs the scenario in which so many packets are sent, and writes the summary of its report.
@@ -53,6 +54,7 @@ fn summary_of(alloc: Global, packets: u32) -> Result<Vec<u8>, Refusal>
     ensures report { HasReport packets }
     ensures refused { IfErr result (λ why. why ≡ Refusal.NoMemory) }
 {
+    stays_below();
     let text = match text(alloc, packets) {
         Ok(text) => text,
         Err(_) => return Err(Refusal::NoMemory),

@@ -8,7 +8,7 @@ use Rattle.csp_scene.specs.declared.scenario.Move.TheVariants as move
 use Rattle.csp_world.specs.Opening.{opening}
 use Rattle.csp_world.specs.Reached.{IsReached, a_tick, a_turn}
 use Rattle.csp_world.specs.Schedule.{checked, moved, moves, next_order, places_in, round, rounds, run, run_by, run_moves, run_rounds, turns}
-use Rattle.csp_world.specs.World.{PlainWorld, entries, finished, tick, turn}
+use Rattle.csp_world.specs.World.{PlainWorld, finished, tick, turn, weight}
 use Rattle.csp_world.specs.declared.limits.TheConstants.{MAX_ENTRIES}
 use Rattle.csp_world.specs.declared.rounds.Order.{Order}
 use Rattle.csp_world.specs.declared.rounds.Order.TheVariants as order
@@ -38,9 +38,9 @@ reached_checked scene after w later now next e = by (finished after) e where
   full true g = absurd cc
   full false g = next g
 
-  by : (done : Bool) → (if done then Some after else if nat_le MAX_ENTRIES (entries after) then None else later) ≡ Some w → IsReached scene w
+  by : (done : Bool) → (if done then Some after else if nat_le MAX_ENTRIES (weight after) then None else later) ≡ Some w → IsReached scene w
   by true g = subst (IsReached scene) (same_Some after w g) now
-  by false g = full (nat_le MAX_ENTRIES (entries after)) g
+  by false g = full (nat_le MAX_ENTRIES (weight after)) g
 
 reached_rounds : (scene : PlainScene) (most : ℕ) (o : Order) (w v : PlainWorld) → IsReached scene w → rounds most o w ≡ Some v → IsReached scene v
 unfolding rounds

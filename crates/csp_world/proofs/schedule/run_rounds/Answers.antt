@@ -1,6 +1,6 @@
 use Rattle.std.proofs.Common.{ℕ, ◌<◌, ◌≤◌, ◌-◌, length, ap, sym, ◌∙◌, arith}
 use Rattle.csp_world.specs.declared.limits.TheConstants.{MAX_ENTRIES}
-use Rattle.csp_world.specs.World.{entries, weight}
+use Rattle.csp_world.specs.World.{weight}
 use Rattle.csp_world.proofs.RunLemmas.{entries_weigh, run_at_once, run_later, rounds_over, round_finished, round_limit, round_on, some_parties}
 use Rattle.csp_world.proofs.ScheduleLemmas.{round_time, round_members}
 use Rattle.csp_world.proofs.schedule.run_rounds.Goals as goal

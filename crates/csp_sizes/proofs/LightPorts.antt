@@ -1,0 +1,366 @@
+-- The ports of a node stay light, and so is what they let go.
+use Rattle.std.proofs.Common.{length-append, suc, zero, ◌≡◌, ℕ, ◌+◌, ◌*◌, ◌≤◌, Bool, true, false, List, [], ◌∷◌, ◌++◌, length, Option, None, Some, refl, sym, ap, ◌∙◌, subst, arith, get_or}
+use Rattle.std.proofs.lemmas.List.Elements.{All-append, All-cons, All-nil, All-replicate, All-set}
+use Rattle.std.specs.List.{All, range_with_len}
+use Rattle.std.specs.Prelude.{IfSome, slice_set, ◌/◌, ◌%◌}
+use Rattle.csp_base.specs.declared.priority.Prio.{Prio}
+use Rattle.csp_buffer.specs.Content.{Content}
+use Rattle.csp_buffer.specs.PlainBuffer.{PlainBuffer}
+use Rattle.csp_conn.specs.Opening.{is_refused, own_port_of}
+use Rattle.csp_conn.specs.PlainConns.{place_of, slot_at}
+use Rattle.csp_conn.specs.Slots.{is_free}
+use Rattle.csp_conn.specs.declared.conns.TheConstants.{MAX_APPS, SLOTS}
+use Rattle.csp_conn.specs.declared.slot.Connection.{Connection}
+use Rattle.csp_conn.specs.declared.slot.Slot.TheVariants.{Free, Held, Open as Opened}
+use Rattle.csp_conn.specs.declared.slot.Slot.{Slot}
+use Rattle.csp_log.specs.declared.note.Note.TheVariants as note
+use Rattle.csp_log.specs.declared.note.Note.{Note}
+use Rattle.csp_ports.proofs.Counting.{all_or}
+use Rattle.csp_ports.specs.Asking.{is_reliable, answered, answered_by, close, close_by, connect, connect_by, ended_by, ending_in, held_by, joined}
+use Rattle.csp_ports.specs.Came.{Came, come, pictures, then}
+use Rattle.csp_ports.specs.Packets.{admitting_by, back_by, handing, invited, submitting, submitting_in}
+use Rattle.csp_ports.specs.PlainPorts.{PlainPorts, PlainStalled, anywhere, machine_at, ports_of, stalled_at, start_of, terms_at, with_machine, with_stalled, is_closing}
+use Rattle.csp_ports.specs.Steps.{changed, closed_by, connected_by, dropped, dropped_in, dropped_of, dropped_on, freed, given_up, has_room, refused, refused_by, settled, settled_by, settled_on, stepped, timed, timed_at, timed_in, vacated, went}
+use Rattle.csp_ports.specs.Tasks.{delivered, kept_again, made_in, making, without_packet}
+use Rattle.csp_ports.specs.declared.handing.Invitation.{Invitation}
+use Rattle.csp_ports.specs.declared.origin.Origin.{Origin}
+use Rattle.csp_ports.specs.declared.owed.Owed.{Owed}
+use Rattle.csp_ports.specs.declared.places.TheConstants.{ALL_SLOTS}
+use Rattle.csp_ports.specs.declared.request.Request.{Request}
+use Rattle.csp_ports.specs.declared.terms.Wish.TheVariants as wish
+use Rattle.csp_ports.specs.declared.terms.Wish.{Wish}
+use Rattle.csp_rdp.proofs.BalanceLemmas.{missing-taken}
+use Rattle.csp_rdp.specs.Changes.{change_between}
+use Rattle.csp_rdp.specs.Holding.{rdp_buffers, rested}
+use Rattle.csp_rdp.specs.Jobs.{admitting, closing, head_for, delivering, delivery_in, taken_in, ticked, without_delivery, says}
+use Rattle.csp_rdp.specs.Machine.{PlainRdp, idle}
+use Rattle.csp_rdp.specs.Table.{back_of, handed, row_of, is_stray}
+use Rattle.csp_rdp.specs.declared.answers.Change.TheVariants as change
+use Rattle.csp_rdp.specs.declared.answers.Change.{Change}
+use Rattle.csp_rdp.specs.declared.answers.State.TheVariants.{Closed, SynSent, SynRcvd, Open, CloseWait}
+use Rattle.csp_rdp.specs.declared.answers.State.{State}
+use Rattle.csp_rdp.specs.declared.answers.Why.TheVariants as machine_why
+use Rattle.csp_rdp.specs.declared.answers.Why.{Why}
+use Rattle.csp_rdp.specs.declared.jobs.Job.{Job}
+use Rattle.csp_rdp_header.specs.Head.{head_bytes}
+use Rattle.csp_rdp_header.specs.declared.head.RdpHead.{RdpHead}
+use Rattle.csp_rdp_window.specs.Receiving.{is_kept}
+use Rattle.csp_sizes.proofs.LightHolding.{data_light, held_light, unneeded_light}
+use Rattle.csp_sizes.proofs.LightMachines.{accepting_light, admitting_light, again_light, back_light, closing_light, connecting_light, delivering_light, handed_light, idle_light, rested_light, sent_light, taken_light, ticked_light}
+use Rattle.csp_sizes.proofs.LightSays.{says_short}
+use Rattle.csp_sizes.specs.Light.{ArePorts, IsData, IsLight, IsLightMachine}
+
+-- what comes of a step of ports: they are light, and what they let go
+pub record Comes (c : Came) : Type 0 where
+  pub ports : ArePorts c.ports
+  pub loose : All IsLight c.loose
+
+abbrev IsWaiting : Option PlainStalled → Type 0
+IsWaiting o = IfSome o (λ s. IsData s.buffer.picture)
+
+pub comes_come : (p : PlainPorts) → ArePorts p → Comes (come p)
+comes_come p h = record { ports = h; loose = All-nil IsLight }
+
+comes_then : (c : Came) (next : PlainPorts → Came) → Comes c → ((p : PlainPorts) → ArePorts p → Comes (next p)) → Comes (then c next)
+comes_then c next h more =
+    let d = more c.ports h.ports in
+    record { ports = d.ports; loose = All-append IsLight c.loose (next c.ports).loose h.loose d.loose }
+
+-- ---- machines in their places
+
+pub machine_light : (p : PlainPorts) (app slot : ℕ) → ArePorts p → IsLightMachine (machine_at p app slot)
+machine_light p app slot h = all_or IsLightMachine p.machines (place_of app slot) idle h.machines idle_light
+
+pub with_machine_light : (p : PlainPorts) (app slot : ℕ) (r : PlainRdp) → IsLightMachine r → ArePorts p → ArePorts (with_machine p app slot r)
+with_machine_light p app slot r one h = record { machines = All-set IsLightMachine p.machines (place_of app slot) r one h.machines; stalled = h.stalled }
+
+stalled_light : (p : PlainPorts) (app : ℕ) → ArePorts p → IsWaiting (stalled_at p app)
+stalled_light p app h = all_or IsWaiting p.stalled app None h.stalled tt
+
+with_stalled_light : (p : PlainPorts) (app : ℕ) (o : Option PlainStalled) → IsWaiting o → ArePorts p → ArePorts (with_stalled p app o)
+with_stalled_light p app o one h = record { machines = h.machines; stalled = All-set IsWaiting p.stalled app o one h.stalled }
+
+-- ---- a machine makes a step
+
+stepped_light : (app slot : ℕ) (r : PlainRdp) (p : PlainPorts) → IsLightMachine r → ArePorts p → Comes (stepped app slot r p)
+stepped_light app slot r p one h = record { ports = with_machine_light p app slot (rested r) (rested_light r one) h; loose = unneeded_light r one.sized }
+
+-- another takes its place
+let_go : (app slot : ℕ) (p : PlainPorts) → ArePorts p → All IsLight (pictures (rdp_buffers (machine_at p app slot)))
+let_go app slot p h = held_light (machine_at p app slot) (machine_light p app slot h).sized
+
+vacated_light : (ordinal app slot : ℕ) (p : PlainPorts) → ArePorts p → Comes (vacated ordinal app slot p)
+vacated_light ordinal app slot p h = record { ports = with_machine_light p app slot idle idle_light h; loose = let_go app slot p h }
+
+given_up_light : (app slot : ℕ) (p : PlainPorts) → ArePorts p → Comes (given_up app slot p)
+given_up_light app slot p h = vacated_light (terms_at p app slot).ordinal app slot p h
+
+freed_light : (app slot : ℕ) (p : PlainPorts) → ArePorts p → Comes (freed app slot p)
+freed_light app slot p h = vacated_light ((terms_at p app slot).ordinal + 1) app slot p h
+
+connected_light : (w : Wish) (app slot : ℕ) (p : PlainPorts) → ArePorts p → ArePorts (connected_by w app slot p)
+connected_light wish.Connection app slot p h = h
+connected_light wish.Nothing app slot p h = h
+connected_light wish.End app slot p h = h
+connected_light wish.Ended app slot p h = h
+
+refused_light : (w : Wish) (why : Why) (app slot : ℕ) (p : PlainPorts) → ArePorts p → Comes (refused_by w why app slot p)
+refused_light wish.Connection why app slot p h = let c = given_up_light app slot p h in record { ports = c.ports; loose = All-append IsLight (given_up app slot p).loose [] c.loose (All-nil IsLight) }
+refused_light wish.Nothing why app slot p h = given_up_light app slot p h
+refused_light wish.End why app slot p h = given_up_light app slot p h
+refused_light wish.Ended why app slot p h = given_up_light app slot p h
+
+closed_light : (w : Wish) (was_open : Bool) (app slot : ℕ) (p : PlainPorts) → ArePorts p → Comes (closed_by w was_open app slot p)
+closed_light wish.End was_open app slot p h = record { ports = h; loose = All-nil IsLight }
+closed_light wish.Nothing true app slot p h = record { ports = h; loose = All-nil IsLight }
+closed_light wish.Nothing false app slot p h = given_up_light app slot p h
+closed_light wish.Connection was_open app slot p h = record { ports = h; loose = All-nil IsLight }
+closed_light wish.Ended was_open app slot p h = record { ports = h; loose = All-nil IsLight }
+
+changed_light : (ch : Change) (app slot : ℕ) (p : PlainPorts) → ArePorts p → Comes (changed ch app slot p)
+changed_light change.None app slot p h = comes_come p h
+changed_light change.Opened app slot p h = record { ports = connected_light (terms_at p app slot).wish app slot p h; loose = All-nil IsLight }
+changed_light (change.Refused why) app slot p h = refused_light (terms_at p app slot).wish why app slot p h
+changed_light change.Down app slot p h = record { ports = h; loose = All-nil IsLight }
+changed_light change.Closed app slot p h = closed_light (terms_at p app slot).wish (machine_at p app slot).was_open app slot p h
+
+went_light : (before : State) (why : Why) (app slot : ℕ) (r : PlainRdp) (p : PlainPorts) → IsLightMachine r → ArePorts p → Comes (went before why app slot r p)
+went_light before why app slot r p one h =
+    comes_then (stepped app slot r p) (changed (change_between before r.state why) app slot) (stepped_light app slot r p one h)
+    (λ q k. changed_light (change_between before r.state why) app slot q k)
+
+-- ---- the packet that waits for room
+
+admitted_light : (time app slot : ℕ) (b : PlainBuffer) (p : PlainPorts) → IsData b.picture → ArePorts p → ArePorts (with_machine p app slot (admitting b time (machine_at p app slot)))
+admitted_light time app slot b p short h = with_machine_light p app slot _ (admitting_light b time (machine_at p app slot) short (machine_light p app slot h)) h
+
+settled_by_light : (room : Bool) (time app : ℕ) (s : PlainStalled) (p : PlainPorts) → IsData s.buffer.picture → ArePorts p → ArePorts (settled_by room time app s p)
+settled_by_light true time app s p short h = admitted_light time app s.slot s.buffer (with_stalled p app None) short (with_stalled_light p app None tt h)
+settled_by_light false time app s p short h = h
+
+settled_on_light : (o : Option PlainStalled) (time app : ℕ) (p : PlainPorts) → IsWaiting o → ArePorts p → ArePorts (settled_on o time app p)
+settled_on_light None time app p short h = h
+settled_on_light (Some s) time app p short h = settled_by_light (has_room (machine_at p app s.slot)) time app s p short h
+
+settled_light : (time app : ℕ) (p : PlainPorts) → ArePorts p → ArePorts (settled time app p)
+settled_light time app p h = settled_on_light (stalled_at p app) time app p (stalled_light p app h) h
+
+-- it is discarded
+lost_light : (app : ℕ) (s : PlainStalled) (p : PlainPorts) (c : Came) → IsData s.buffer.picture → ArePorts p → c.ports ≡ with_stalled p app None → c.loose ≡ s.buffer.picture ∷ [] → Comes c
+lost_light app s p c short h ports loose = record {
+  ports = subst (λ (q : PlainPorts). ArePorts q) (sym ports) (with_stalled_light p app None tt h);
+  loose = subst (λ (bs : List Content). All IsLight bs) (sym loose) (All-cons IsLight s.buffer.picture [] (data_light s.buffer.picture short) (All-nil IsLight));
+}
+
+dropped_in_light : (st : State) (app : ℕ) (s : PlainStalled) (p : PlainPorts) → IsData s.buffer.picture → ArePorts p → Comes (dropped_in st app s p)
+dropped_in_light Open app s p short h = comes_come p h
+dropped_in_light SynSent app s p short h = lost_light app s p _ short h refl refl
+dropped_in_light SynRcvd app s p short h = lost_light app s p _ short h refl refl
+dropped_in_light CloseWait app s p short h = lost_light app s p _ short h refl refl
+dropped_in_light Closed app s p short h = lost_light app s p _ short h refl refl
+
+dropped_on_light : (o : Option PlainStalled) (app : ℕ) (p : PlainPorts) → IsWaiting o → ArePorts p → Comes (dropped_on o app p)
+dropped_on_light None app p short h = comes_come p h
+dropped_on_light (Some s) app p short h = dropped_in_light (machine_at p app s.slot).state app s p short h
+
+dropped_light : (app : ℕ) (p : PlainPorts) → ArePorts p → Comes (dropped app p)
+dropped_light app p h = dropped_on_light (stalled_at p app) app p (stalled_light p app h) h
+
+-- ---- the timers
+
+timed_at_light : (time app slot : ℕ) (p : PlainPorts) → ArePorts p → Comes (timed_at time app slot p)
+timed_at_light time app slot p h =
+    let r = machine_at p app slot in
+    went_light r.state machine_why.Timeout app slot (ticked time r) p (ticked_light time r (machine_light p app slot h)) h
+
+timed_in_light : (time : ℕ) (ks : List ℕ) (p : PlainPorts) → ArePorts p → Comes (timed_in time ks p)
+timed_in_light time [] p h = comes_come p h
+timed_in_light time (k ∷ ks) p h = comes_then (timed_at time (k / SLOTS) (k % SLOTS) p) (timed_in time ks) (timed_at_light time (k / SLOTS) (k % SLOTS) p h) (λ q g. timed_in_light time ks q g)
+
+dropped_of_light : (apps : List ℕ) (p : PlainPorts) → ArePorts p → Comes (dropped_of apps p)
+dropped_of_light [] p h = comes_come p h
+dropped_of_light (app ∷ apps) p h = comes_then (dropped app p) (dropped_of apps) (dropped_light app p h) (λ q g. dropped_of_light apps q g)
+
+pub timed_light : (time : ℕ) (p : PlainPorts) → ArePorts p → Comes (timed time p)
+timed_light time p h =
+    comes_then (timed_in time (range_with_len 0 (p.conns.apps * SLOTS)) p) (λ q. dropped_of (range_with_len 0 q.conns.apps) q) (timed_in_light time (range_with_len 0 (p.conns.apps * SLOTS)) p h)
+    (λ q g. dropped_of_light (range_with_len 0 q.conns.apps) q g)
+
+-- ---- packets
+
+back_came : (o : Option PlainBuffer) (stray : Bool) (p : PlainPorts) → IfSome o (λ b. IsLight b.picture) → ArePorts p → Comes (back_by o stray p)
+back_came None stray p light h = record { ports = h; loose = All-nil IsLight }
+back_came (Some b) stray p light h = record { ports = h; loose = All-cons IsLight b.picture [] light (All-nil IsLight) }
+
+pub handing_light : (p : PlainPorts) (app slot : ℕ) (head : RdpHead) (b : Content) (time : ℕ) → IsLight b → ArePorts p → Comes (handing p app slot head b time)
+handing_light p app slot head b time light h =
+    let r = machine_at p app slot in
+    let y = row_of r head b.payload in
+    let next = handed head b.trace.tag (anywhere b) time r in
+    let third : PlainPorts → Came = λ q. come (settled time app q) in
+    let second : PlainPorts → Came = λ q. then (dropped app q) third in
+    let first : PlainPorts → Came = λ q. then (went r.state machine_why.Reset app slot next q) second in
+    let c =
+    comes_then (back_by (back_of y (anywhere b)) (is_stray y) p) first (back_came (back_of y (anywhere b)) (is_stray y) p (back_light y (anywhere b) light) h) (λ q g.
+    comes_then (went r.state machine_why.Reset app slot next q) second (went_light r.state machine_why.Reset app slot next q (handed_light head b.trace.tag (anywhere b) time r light (machine_light p app slot h)) g) (λ q g.
+    comes_then (dropped app q) third (dropped_light app q g) (λ q g.
+    comes_come (settled time app q) (settled_light time app q g)))) in
+    record { ports = c.ports; loose = c.loose }
+
+admitting_by_light : (room : Bool) (p : PlainPorts) (app slot : ℕ) (b : Content) (time : ℕ) → IsData b → ArePorts p → ArePorts (admitting_by room p app slot b time)
+admitting_by_light true p app slot b time short h = admitted_light time app slot (anywhere b) p short h
+admitting_by_light false p app slot b time short h = with_stalled_light p app (Some (record { slot = slot; buffer = anywhere b })) short h
+
+lost_came : (p : PlainPorts) (b : Content) (c : Came) → IsData b → ArePorts p → c.ports ≡ p → c.loose ≡ b ∷ [] → Comes c
+lost_came p b c short h ports loose = record {
+  ports = subst (λ (q : PlainPorts). ArePorts q) (sym ports) h;
+  loose = subst (λ (bs : List Content). All IsLight bs) (sym loose) (All-cons IsLight b [] (data_light b short) (All-nil IsLight));
+}
+
+submitting_in_light : (st : State) (p : PlainPorts) (app slot : ℕ) (b : Content) (time : ℕ) → IsData b → ArePorts p → Comes (submitting_in st p app slot b time)
+submitting_in_light Open p app slot b time short h = record { ports = admitting_by_light (has_room (machine_at p app slot)) p app slot b time short h; loose = All-nil IsLight }
+submitting_in_light SynSent p app slot b time short h = lost_came p b _ short h refl refl
+submitting_in_light SynRcvd p app slot b time short h = lost_came p b _ short h refl refl
+submitting_in_light CloseWait p app slot b time short h = lost_came p b _ short h refl refl
+submitting_in_light Closed p app slot b time short h = lost_came p b _ short h refl refl
+
+pub submitting_light : (p : PlainPorts) (app slot : ℕ) (b : Content) (time : ℕ) → IsData b → ArePorts p → Comes (submitting p app slot b time)
+submitting_light p app slot b time short h = submitting_in_light (machine_at p app slot).state p app slot b time short h
+
+pub invited_light : (o : Origin) (p : PlainPorts) (app slot : ℕ) (c : Connection) (prio : Prio) (flags : ℕ) (i : Invitation) (time : ℕ) → i.options.window ≤ 20 → ArePorts p
+    → Comes (invited o p app slot c prio flags i time)
+invited_light o p app slot c prio flags i time narrow h = record {
+  ports = with_machine_light p app slot _ (accepting_light (start_of o.seed p.made) i.options i.head.seq.0 i.tag o.node p.made time narrow) h;
+  loose = let_go app slot p h;
+}
+
+-- ---- what applications ask
+
+joined_light : (reliable : Bool) (o : Origin) (p : PlainPorts) (app : ℕ) (r : Request) (own time : ℕ) → o.options.window ≤ 20 → ArePorts p → Comes (joined reliable o p app r own time)
+joined_light false o p app r own time narrow h = record { ports = h; loose = All-nil IsLight }
+joined_light true o p app r own time narrow h = record {
+  ports = with_machine_light p app r.slot _ (connecting_light (start_of o.seed p.made) o.options o.node p.made time narrow) h;
+  loose = let_go app r.slot p h;
+}
+
+connect_by_light : (s : Slot) (refused : Bool) (own : Option ℕ) (o : Origin) (p : PlainPorts) (app : ℕ) (r : Request) (time : ℕ) → o.options.window ≤ 20 → ArePorts p → Comes (connect_by s refused own o p app r time)
+connect_by_light Free true own o p app r time narrow h = record { ports = h; loose = All-nil IsLight }
+connect_by_light Free false (Some own) o p app r time narrow h = joined_light (is_reliable r.flags) o p app r own time narrow h
+connect_by_light Free false None o p app r time narrow h = record { ports = h; loose = All-nil IsLight }
+connect_by_light Held refused own o p app r time narrow h = record { ports = h; loose = All-nil IsLight }
+connect_by_light (Opened c) refused own o p app r time narrow h = record { ports = h; loose = All-nil IsLight }
+
+pub connect_light : (o : Origin) (p : PlainPorts) (app : ℕ) (r : Request) (time : ℕ) → o.options.window ≤ 20 → ArePorts p → Comes (connect o p app r time)
+connect_light o p app r time narrow h = connect_by_light (slot_at p.conns app r.slot) (is_refused p.conns r.dest r.from) (own_port_of p.conns r.dest r.from) o p app r time narrow h
+
+ending_light : (st : State) (app slot : ℕ) (p : PlainPorts) → ArePorts p → ArePorts (ending_in st app slot p)
+ending_light Closed app slot p h = h
+ending_light SynSent app slot p h = h
+ending_light SynRcvd app slot p h = h
+ending_light Open app slot p h = h
+ending_light CloseWait app slot p h = h
+
+held_by_light : (free : Bool) (p : PlainPorts) (app slot : ℕ) → ArePorts p → ArePorts (held_by free p app slot)
+held_by_light true p app slot h = h
+held_by_light false p app slot h = h
+
+close_by_light : (closes : Bool) (p : PlainPorts) (app slot time : ℕ) → ArePorts p → Comes (close_by closes p app slot time)
+close_by_light true p app slot time h = comes_come p h
+close_by_light false p app slot time h =
+    let r = closing time (machine_at p app slot) in
+    let q = held_by (is_free (slot_at p.conns app slot)) p app slot in
+    comes_then (stepped app slot r q) (λ x. come (ending_in r.state app slot x))
+    (stepped_light app slot r q (closing_light time (machine_at p app slot) (machine_light p app slot h)) (held_by_light (is_free (slot_at p.conns app slot)) p app slot h))
+    (λ x g. comes_come (ending_in r.state app slot x) (ending_light r.state app slot x g))
+
+pub close_light : (p : PlainPorts) (app slot time : ℕ) → ArePorts p → Comes (close p app slot time)
+close_light p app slot time h = close_by_light (is_closing (terms_at p app slot).wish) p app slot time h
+
+ended_by_light : (n : Note) (app : ℕ) (p : PlainPorts) → ArePorts p → Comes (ended_by n app p)
+ended_by_light (note.Closed slot) app p h = freed_light app slot p h
+ended_by_light note.Bound app p h = comes_come p h
+ended_by_light (note.Connected slot) app p h = comes_come p h
+ended_by_light (note.Refused reason) app p h = comes_come p h
+ended_by_light (note.Down slot) app p h = comes_come p h
+ended_by_light (note.Bind port need) app p h = comes_come p h
+ended_by_light (note.Connect slot dest port prio flags from) app p h = comes_come p h
+ended_by_light (note.Close slot) app p h = comes_come p h
+
+answered_by_light : (os : List Owed) (p : PlainPorts) → ArePorts p → Comes (answered_by os p)
+answered_by_light [] p h = comes_come p h
+answered_by_light (o ∷ os) p h = ended_by_light o.note o.app (record p { owed = os }) h
+
+pub answered_light : (p : PlainPorts) → ArePorts p → Comes (answered p)
+answered_light p h = answered_by_light p.owed p h
+
+-- ---- tasks
+
+pub made_light : (j : Job) (time app slot : ℕ) (b : Content) (p : PlainPorts) → ArePorts p → length (made_in j time app slot b p).payload ≤ 527
+made_light j time app slot b p h =
+    let r = machine_at p app slot in
+    let s = says j time r in
+    let short = says_short j time r (machine_light p app slot h) in
+    let whole : length (s.bytes ++ head_bytes (head_for s r)) ≡ length s.bytes + 5 = length-append s.bytes (head_bytes (head_for s r)) in
+    omega (arith, short, whole)
+
+pub making_light : (j : Job) (time app slot : ℕ) (p : PlainPorts) → ArePorts p → ArePorts (making j time app slot p)
+making_light j time app slot p h = with_machine_light p app slot _ (sent_light j time (machine_at p app slot) (machine_light p app slot h)) h
+
+pub without_packet_light : (app slot : ℕ) (p : PlainPorts) → ArePorts p → ArePorts (without_packet app slot p)
+without_packet_light app slot p h = with_machine_light p app slot _ (taken_light (machine_at p app slot) (machine_light p app slot h)) h
+
+-- the machine that a packet is taken out of stands there: of a slot past the end nothing is delivered
+there_or : (rs : List PlainRdp) (k : ℕ) (r : PlainRdp) → (get_or rs k idle).state ≡ Open → get_or (slice_set rs k r) k idle ≡ r
+there_or [] k r opened = cc
+there_or (x ∷ rs) zero r opened = refl
+there_or (x ∷ rs) (suc k) r opened = there_or rs k r opened
+
+taken_same : (s : State) (r : PlainRdp) → ((taken_in s r).state ≡ r.state) × ((taken_in s r).recv.cur ≡ r.recv.cur)
+taken_same Open r = (refl, refl)
+taken_same SynSent r = (refl, refl)
+taken_same SynRcvd r = (refl, refl)
+taken_same CloseWait r = (refl, refl)
+taken_same Closed r = (refl, refl)
+
+pub delivery_open : (s : State) (r : PlainRdp) (b : PlainBuffer) → delivery_in s r ≡ Some b → s ≡ Open
+delivery_open Open r b e = refl
+delivery_open SynSent r b e = cc
+delivery_open SynRcvd r b e = cc
+delivery_open CloseWait r b e = cc
+delivery_open Closed r b e = cc
+
+-- what a connection is from which a packet is being delivered
+record IsTaken (r : PlainRdp) : Type 0 where
+  is_open : r.state ≡ Open
+  missing : is_kept r.recv (r.recv.cur + 1) ≡ false
+
+taken_is : (r : PlainRdp) → r.state ≡ Open → IsTaken (without_delivery r)
+taken_is r opened =
+    let same = taken_same r.state r in
+    record { is_open = same.0 ∙ opened; missing = ap (λ (n : ℕ). is_kept (without_delivery r).recv (n + 1)) same.1 ∙ missing-taken r.state r opened }
+
+now_taken : (p : PlainPorts) (app slot : ℕ) → (machine_at p app slot).state ≡ Open → IsTaken (machine_at (without_packet app slot p) app slot)
+now_taken p app slot opened =
+    subst IsTaken (sym (there_or p.machines (place_of app slot) (without_delivery (machine_at p app slot)) opened)) (taken_is (machine_at p app slot) opened)
+
+-- a packet is delivered, or kept again
+pub delivered_after : (time app slot : ℕ) (p : PlainPorts) → (machine_at p app slot).state ≡ Open → ArePorts p → Comes (delivered time app slot (without_packet app slot p))
+delivered_after time app slot p opened h =
+    let q = without_packet app slot p in
+    let g = without_packet_light app slot p h in
+    let r = machine_at q app slot in
+    let is = now_taken p app slot opened in
+    comes_then (went r.state machine_why.Reset app slot (delivering time r) q) (dropped app)
+    (went_light r.state machine_why.Reset app slot (delivering time r) q (delivering_light time r is.is_open is.missing (machine_light q app slot g)) g)
+    (λ x k. dropped_light app x k)
+
+pub kept_after : (app slot : ℕ) (b : Content) (p : PlainPorts) → (machine_at p app slot).state ≡ Open → IsLight b → ArePorts p → ArePorts (kept_again app slot b (without_packet app slot p))
+kept_after app slot b p opened light h =
+    let q = without_packet app slot p in
+    let g = without_packet_light app slot p h in
+    let is = now_taken p app slot opened in
+    with_machine_light q app slot _ (again_light (anywhere b) (machine_at q app slot) is.is_open is.missing light (machine_light q app slot g)) g
+
+-- at the opening
+pub ports_opened : (apps : ℕ) → ArePorts (ports_of apps)
+ports_opened apps = record { machines = All-replicate IsLightMachine ALL_SLOTS idle idle_light; stalled = All-replicate IsWaiting MAX_APPS None tt }
