@@ -77,7 +77,7 @@ one_accepted R scene r are each k log there =
     let name : log.who ≡ o.0.who = ap (λ (l : PlainPartyLog). l.who) (sym same) ∙ found.2.who in
     let entries : entries_in o.0.who r.parties ≡ log.entries = found.3 ∙ ap (λ (l : PlainPartyLog). l.entries) same in
     by_who R log.who log.entries (λ node number is.
-        subst (λ es. AllByRecursion (IsPacketWith R) (puts queue.Inbox es)) (ap (λ w. entries_in w r.parties) (sym is ∙ name) ∙ entries) (each node number))
+    subst (λ es. AllByRecursion (IsPacketWith R) (puts queue.Inbox es)) (ap (λ w. entries_in w r.parties) (sym is ∙ name) ∙ entries) (each node number))
 
 all_flat : {X Y : Type 0} (P : Y → Type 0) (f : X → List Y) (xs : List X) → AllByRecursion (λ x. AllByRecursion P (f x)) xs → AllByRecursion P (flat_map f xs)
 all_flat P f [] all = tt
