@@ -1,0 +1,6 @@
+pub mod Rounds
+pub mod Along
+pub mod Sets
+pub mod Counting
+pub mod Telling
+pub mod Bare
