@@ -2,9 +2,9 @@
 use Rattle.std.proofs.Common.{◌≡◌, ℕ, ◌+◌, Bool, true, false, cond, List, [], ◌∷◌, ◌++◌, refl, sym, ap, ◌∙◌, arith}
 use Rattle.std.proofs.lemmas.List.Sums.{sum_by-append}
 use Rattle.csp_link.specs.declared.way.Way.{Way}
-use Rattle.csp_log.specs.Framing.{framed_in}
 use Rattle.csp_log.specs.declared.entry.Entry.{Entry}
 use Rattle.csp_scene.specs.Scene.{PlainScene}
+use Rattle.csp_timeline.specs.Entries.{framed_in}
 use Rattle.csp_timeline.specs.Happenings.{is_taken, taken}
 use Rattle.csp_timeline.specs.Remembering.{Carries, Counts, one_if}
 use Rattle.csp_timeline.specs.declared.links.Carrying.{Carrying}

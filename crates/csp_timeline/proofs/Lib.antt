@@ -3,4 +3,5 @@ pub mod Along
 pub mod Sets
 pub mod Counting
 pub mod Telling
-pub mod Bare
+pub mod Idle
+pub mod Plans

@@ -4,23 +4,22 @@ use Rattle.std.specs.List.{list_any}
 use Rattle.std.specs.Option.{option_and_then, option_map_or}
 use Rattle.csp_link.specs.Ways.{number}
 use Rattle.csp_link.specs.Fates.{fate_of}
-use Rattle.csp_log.specs.Framing.{framed_in}
-use Rattle.csp_log.specs.Moving.{marked_in, moved_in}
+use Rattle.csp_log.specs.Moving.{moved_in}
 use Rattle.csp_log.specs.Noting.{noted_in}
 use Rattle.csp_log.specs.declared.entry.Entry.{Entry}
 use Rattle.csp_log.specs.declared.event.Event.{Event}
-use Rattle.csp_log.specs.declared.framed.Framed.{Framed}
 use Rattle.csp_log.specs.declared.moved.Moved.{Moved}
 use Rattle.csp_log.specs.declared.noted.Noted.{Noted}
 use Rattle.csp_record.specs.declared.who.Who.{Who}
 use Rattle.csp_record.specs.declared.who.Who.TheVariants as who
 use Rattle.csp_scene.specs.Scene.{PlainScene}
+use Rattle.csp_timeline.specs.Entries.{framed_in, marked_in}
 use Rattle.csp_timeline.specs.Happenings.{app_told, at, happened, iface_told, is_again, is_beginning, moved_frame, number_of, parcel_in, plan_of, reported, router_told, taken, was_sent}
 use Rattle.csp_timeline.specs.Numbers.{Adds, has}
-use Rattle.csp_timeline.specs.Remembering.{Carries, Counts, Remembers, count_of, fate_in}
+use Rattle.csp_timeline.specs.Remembering.{Carries, Counts, count_of, fate_known}
+use Rattle.csp_timeline.specs.declared.entries.Framed.{Framed}
 use Rattle.csp_timeline.specs.declared.kinds.Happening.{Happening}
 use Rattle.csp_timeline.specs.declared.links.Carrying.{Carrying}
-use Rattle.csp_timeline.specs.declared.telling.Memory.{Memory}
 use Rattle.csp_timeline.proofs.Counting.{Carries-more}
 use Rattle.csp_timeline.proofs.Sets.{sent-more}
 
@@ -90,7 +89,7 @@ iface-read scene before (Some e) node n old new time moved events was adds t m v
 pub link-read : (scene : PlainScene) (before : List Entry) (o : Option Entry) (place : ℕ) (old new : Carrying) (time : ℕ) (framed : Framed)
     → Carries scene place before old → Counts old new framed
     → option_map (λ e. e.time) o ≡ Some time → option_map framed_in o ≡ Some framed
-    → IfSome o (λ e. (map (at time (who.Link place)) (moved_frame (count_of old) (fate_in old) framed) ≡ happened scene (who.Link place) before e) × Carries scene place (before ++ e ∷ []) new)
+    → IfSome o (λ e. (map (at time (who.Link place)) (moved_frame (count_of old) (fate_known old) framed) ≡ happened scene (who.Link place) before e) × Carries scene place (before ++ e ∷ []) new)
 link-read scene before None place old new time framed was counts t f = tt
 link-read scene before (Some e) place old new time framed was counts t f =
     let party = who.Link place in

@@ -65,7 +65,7 @@ fn marked_in(entry: &Entry) -> Option<u8>
 }
 
 /// What is read of the entry of this index.
-pub(crate) fn glance(log: &Log, index: u64) -> Glance
+pub(crate) fn look_at(log: &Log, index: u64) -> Glance
     requires { index < length log.now.entries }
     ensures time { option_map (λ e. e.time) (slice_get log.now.entries index) ≡ Some result.time }
     ensures mark { option_map marked_in (slice_get log.now.entries index) ≡ Some result.mark }

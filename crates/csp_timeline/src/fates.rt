@@ -23,6 +23,8 @@ impl Model for Fate {
     ghost Value = { Rattle.csp_link.specs.declared.fates.Fate.Fate };
 
     ghost view = { λ f. record { lost = f.lost; repeats = f.repeats; delay = f.delay; flip = f.flip } };
+
+    ghost inverse = { λ f. record { lost = f.lost; repeats = f.repeats; delay = f.delay; flip = f.flip } };
 }
 
 impl Fate {

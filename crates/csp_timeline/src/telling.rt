@@ -10,7 +10,7 @@ ghost use Rattle.csp_timeline.specs.Happenings.{along_from, asked_or_told, sent_
 ghost use Rattle.csp_timeline.specs.Numbers.{has, Adds};
 ghost use Rattle.csp_timeline.specs.Remembering.{count_of, fate_known, is_link, AreWithin, Counts, Remembers};
 
-use crate::entries::{Framed, glance, is_idle};
+use crate::entries::{Framed, is_idle, look_at};
 use crate::kinds::{Happening, Parcel, What};
 use crate::links::{Carrying, moved_frame};
 use crate::parcels::{parcel_in, parcel_of};
@@ -254,7 +254,7 @@ fn tell_entry(
     ensures told { (scene : PlainScene) (before : List Entry) → Remembers scene before memory.old who → OnOk result (IfSome (slice_get log.now.entries index) (λ e. (list.new.items ≡ list.old.items ++ happened scene who before e) × Remembers scene (before ++ e ∷ []) memory.new who)) }
     ensures within { (most : ℕ) → AreWithin most memory.old.carrying → AreWithin (most + 1) memory.new.carrying }
 {
-    let glance = glance(log, index);
+    let glance = look_at(log, index);
     let turn = Turn {
         time: glance.time,
         who,
