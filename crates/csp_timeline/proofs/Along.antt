@@ -1,5 +1,5 @@
 -- What the entries of a log tell, one entry after the other.
-use Rattle.std.proofs.Common.{◌≡◌, ℕ, ◌+◌, List, [], ◌∷◌, ◌++◌, Some, sym, ap, ◌∙◌, take, drop, slice_get, append_assoc}
+use Rattle.std.proofs.Common.{◌≡◌, ℕ, zero, suc, ◌+◌, ◌<◌, ◌≤◌, List, [], ◌∷◌, ◌++◌, Option, None, Some, refl, sym, ap, ◌∙◌, subst, take, drop, length, slice_get, IfSome, append_assoc, append-nil, drop_of_length-le, arith}
 use Rattle.std.proofs.lemmas.List.{drop_more, take_more}
 use Rattle.std.proofs.lemmas.Option.{get_or_from_slice_get, slice_get_within}
 use Rattle.csp_log.specs.declared.entry.Entry.{Entry}
@@ -28,3 +28,25 @@ next tells entries i e before after all there is so_far =
     ∙ (λ j. before ++ (tells (take i entries) e ++ along_from tells (front j) (drop (i + 1) entries)))
     ∙ (λ j. before ++ along_from tells (take i entries) (sym rest j))
     ∙ so_far
+
+none-within : {X : Type 0} (xs : List X) (i : ℕ) → i < length xs → slice_get xs i ≡ None → ⊥
+none-within [] i lt e = omega (arith, lt)
+none-within (x ∷ xs) zero lt e = cc
+none-within (x ∷ xs) (suc i) lt e = none-within xs i (omega (arith, lt)) e
+
+-- one entry more
+pub step : {X : Type 0} (tells : List Entry → Entry → List X) (R : List Entry → Type 0) (entries : List Entry) (i : ℕ) (before after all : List X)
+    → i < length entries
+    → IfSome (slice_get entries i) (λ e. (after ≡ before ++ tells (take i entries) e) × R (take i entries ++ e ∷ []))
+    → before ++ along_from tells (take i entries) (drop i entries) ≡ all
+    → (after ++ along_from tells (take (i + 1) entries) (drop (i + 1) entries) ≡ all) × R (take (i + 1) entries)
+step {X} tells R entries i before after all lt here so_far = by (slice_get entries i) refl here
+  where
+    by : (o : Option Entry) → slice_get entries i ≡ o → IfSome o (λ e. (after ≡ before ++ tells (take i entries) e) × R (take i entries ++ e ∷ [])) → (after ++ along_from tells (take (i + 1) entries) (drop (i + 1) entries) ≡ all) × R (take (i + 1) entries)
+    by None e h = absurd (none-within entries i lt e)
+    by (Some x) e h = (next tells entries i x before after all e h.0 so_far, subst R (sym (place entries i x e).1) h.1)
+
+-- no entry more
+pub finish : {X : Type 0} (tells : List Entry → Entry → List X) (entries : List Entry) (i : ℕ) (told all : List X) → length entries ≤ i → told ++ along_from tells (take i entries) (drop i entries) ≡ all → told ≡ all
+unfolding along_from
+finish tells entries i told all le so_far = sym (append-nil told) ∙ (λ j. told ++ along_from tells (take i entries) (sym (drop_of_length-le i entries le) j)) ∙ so_far

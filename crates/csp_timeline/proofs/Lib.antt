@@ -2,6 +2,6 @@ pub mod Rounds
 pub mod Along
 pub mod Sets
 pub mod Counting
-pub mod Telling
+pub mod Told
 pub mod Idle
 pub mod Plans

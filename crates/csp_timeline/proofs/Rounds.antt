@@ -7,7 +7,8 @@ use Rattle.std.proofs.lemmas.List.Sorted.{IsNonDecreasingBy-from_sort_by_key}
 use Rattle.std.specs.List.{AllByRecursion, range_with_len}
 use Rattle.std.specs.List.Sorted.{IsNonDecreasingBy, IsSortedByKeyClosure, IsStableByKey, IsStableByKeyClosure}
 use denote.Param.Members.{Mut}
-use Rattle.core.specs.Fn.{Called}
+use Rattle.std.specs.Fn.{Called}
+use Rattle.std.specs.Prelude.{⊤}
 use Rattle.csp_log.specs.declared.note.Note.TheVariants as note
 use Rattle.csp_record.specs.declared.who.Who.TheVariants as who
 use Rattle.csp_timeline.specs.Happenings.{in_rounds, latest}

@@ -157,7 +157,9 @@ was_sent node entries n = list_any (λ e. option_map_or (is_same n) (number_in n
 
 -- the packet of an entry is transmitted again: it takes a number with which one was transmitted before
 abbrev pub is_again : ℕ → (before : List Entry) → Option Parcel → Bool
-is_again node before packet = option_map_or (was_sent node before) (option_and_then (number_of node) packet) fals-- ---- what is reported
+is_again node before packet = option_map_or (was_sent node before) (option_and_then (number_of node) packet) false
+
+-- ---- what is reported
 
 -- an event, with the packet that its turn moved; what an application sent and took is told of its own turns
 abbrev pub reported_by : (again : Bool) → Option Parcel → Event → List What

@@ -5,6 +5,7 @@ use Rattle.std.specs.Int.{w32, to_be_bytes}
 use Rattle.std.specs.Option.{option_map_or}
 use Rattle.hex.specs.Hex.{encode_lower}
 use Rattle.csp_base.specs.Priority.{prio_number}
+use Rattle.csp_base.specs.declared.priority.Prio.{Prio}
 use Rattle.csp_base.specs.declared.traces.Origin.{Origin}
 use Rattle.csp_base.specs.declared.traces.Tag.{Tag}
 use Rattle.csp_header.specs.Word.{header_at}
@@ -16,6 +17,7 @@ use Rattle.csp_log.specs.declared.event.Event.{Event}
 use Rattle.csp_log.specs.declared.event.Event.TheVariants as event
 use Rattle.csp_log.specs.declared.note.Note.{Note}
 use Rattle.csp_log.specs.declared.note.Note.TheVariants as note
+use Rattle.csp_log.specs.declared.note.Why.{Why}
 use Rattle.csp_log.specs.declared.places.TheConstants.{UNMARKED}
 use Rattle.csp_report.specs.Events.{word_of, word_of_refusal}
 use Rattle.csp_scene.specs.Scene.{PlainScene}
@@ -39,9 +41,13 @@ hex_pair w byte = 32 ∷ (w ++ 32 ∷ encode_lower (byte ∷ []))
 
 -- ---- packets and frames
 
+-- an address and a port: `ADDR:PORT`
+abbrev pub end_word : (addr port : ℕ) → List ℕ
+end_word addr port = decimal addr ++ 58 ∷ decimal port
+
 -- who sends a packet to whom: ` SRC:SPORT>DST:DPORT`
 abbrev pub ends_words : Header → List ℕ
-ends_words h = word (decimal h.src) ++ 58 ∷ (decimal h.sport ++ 62 ∷ (decimal h.dst ++ 58 ∷ decimal h.dport))
+ends_words h = 32 ∷ (end_word h.src h.sport ++ 62 ∷ end_word h.dst h.dport)
 
 -- a header: ` SRC:SPORT>DST:DPORT pri P flags FF`
 abbrev pub header_words : Header → List ℕ
@@ -116,13 +122,18 @@ abbrev pub from_words : Option ℕ → List ℕ
 from_words None = []
 from_words (Some port) = numbered (codes "from") port
 
+-- a connection that is asked for: on which slot, to which port of which node
+abbrev pub target_words : (slot dest port : ℕ) → List ℕ
+target_words slot dest port = word (codes "connect") ++ (numbered (codes "slot") slot ++ (numbered (codes "to") dest ++ numbered (codes "port") port))
+
+-- its priority, its flags, and the own port that is asked for
+abbrev pub terms_words : Prio → (flags : ℕ) → Option ℕ → List ℕ
+terms_words prio flags from = numbered (codes "pri") (prio_number prio) ++ (hex_pair (codes "flags") flags ++ from_words from)
+
 -- what is asked, or answered
 abbrev pub note_words : Note → List ℕ
 note_words (note.Bind port need) = numbered (codes "bind") port ++ hex_pair (codes "flags") need
-note_words (note.Connect slot dest port prio flags from) =
-    word (codes "connect")
-    ++ (numbered (codes "slot") slot
-    ++ (numbered (codes "to") dest ++ (numbered (codes "port") port ++ (numbered (codes "pri") (prio_number prio) ++ (hex_pair (codes "flags") flags ++ from_words from)))))
+note_words (note.Connect slot dest port prio flags from) = target_words slot dest port ++ terms_words prio flags from
 note_words (note.Close slot) = numbered (codes "close") slot
 note_words note.Bound = word (codes "bound")
 note_words (note.Connected slot) = numbered (codes "connected") slot
@@ -164,12 +175,16 @@ slot_words verb slot = verb ++ numbered (codes "slot") slot
 abbrev pub number_words : (verb : List ℕ) → ℕ → List ℕ
 number_words verb n = verb ++ word (decimal n)
 
+-- a step whose request was refused
+abbrev pub refused_words : (step : ℕ) → Why → List ℕ
+refused_words step why = step_words (codes "refused") step ++ word (word_of_refusal why)
+
 -- what a party of the node in this place reports
 abbrev pub event_words : PlainScene → (node : ℕ) → Event → List ℕ
 event_words scene node (event.TookEmpty step) = step_words (codes "empty") step
 event_words scene node (event.Sent slot ordinal) = slot_words (codes "sent") slot
 event_words scene node (event.Took slot ordinal) = slot_words (codes "took") slot
-event_words scene node (event.Refused step why) = step_words (codes "refused") step ++ word (word_of_refusal why)
+event_words scene node (event.Refused step why) = refused_words step why
 event_words scene node (event.GaveUp step) = step_words (codes "gaveup") step
 event_words scene node (event.SlotDown step) = step_words (codes "slotdown") step
 event_words scene node (event.Discarded why) = codes "discards" ++ word (word_of why)

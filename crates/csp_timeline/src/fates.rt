@@ -20,7 +20,9 @@ pub struct Fate {
 }
 
 impl Model for Fate {
-    ghost Value = { Rattle.csp_link.specs.declared.fates.Fate.Fate };
+    ghost use Rattle.csp_link.specs.declared.fates.Fate.{Fate as Known};
+
+    ghost Value = { Known };
 
     ghost view = { λ f. record { lost = f.lost; repeats = f.repeats; delay = f.delay; flip = f.flip } };
 

@@ -2,10 +2,10 @@
 
 ghost use Rattle.std.specs.Prelude.{◌≡◌, ◌++◌, OnOk};
 ghost use Rattle.std.specs.String.{string_bytes};
-ghost use Rattle.csp_timeline.specs.Words.{peer_words, opened_words, event_words, hands_words, opens_words, step_words, slot_words, number_words};
+ghost use Rattle.csp_timeline.specs.Words.{peer_words, opened_words, event_words, hands_words, opens_words, step_words, refused_words, slot_words, number_words};
 
 use crate::labels::{app_name, node_name};
-use csp_log::Event;
+use csp_log::{Event, Why};
 use csp_report::{push_count, push_counted, push_word, word_of, word_of_refusal};
 use csp_scene::Scene;
 use std::alloc::AllocError;
@@ -75,6 +75,14 @@ fn push_step(out: &mut String, verb: &str, step: u32) -> Result<(), AllocError>
     push_counted(out, "step", u64::from(step))
 }
 
+/// Appends that a step's request was refused.
+fn push_refused(out: &mut String, step: u32, why: Why) -> Result<(), AllocError>
+    ensures { OnOk result (string_bytes out.new ≡ string_bytes out.old ++ refused_words step why) }
+{
+    push_step(out, "refused", step)?;
+    push_word(out, word_of_refusal(why))
+}
+
 /// Appends what became of a packet of a slot.
 fn push_slot(out: &mut String, verb: &str, slot: u8) -> Result<(), AllocError>
     ensures { OnOk result (string_bytes out.new ≡ string_bytes out.old ++ slot_words verb.now slot) }
@@ -104,10 +112,7 @@ pub(crate) fn push_event(
         Event::TookEmpty { step } => push_step(out, "empty", step),
         Event::Sent { slot, .. } => push_slot(out, "sent", slot),
         Event::Took { slot, .. } => push_slot(out, "took", slot),
-        Event::Refused { step, why } => {
-            push_step(out, "refused", step)?;
-            push_word(out, word_of_refusal(why))
-        }
+        Event::Refused { step, why } => push_refused(out, step, why),
         Event::GaveUp { step } => push_step(out, "gaveup", step),
         Event::SlotDown { step } => push_step(out, "slotdown", step),
         Event::Discarded(why) => {

@@ -6,7 +6,7 @@ ghost use Rattle.std.specs.Option.{option_and_then, option_map_or};
 ghost use Rattle.csp_log.specs.Idling.{IsIdle};
 ghost use Rattle.csp_log.specs.declared.entry.Entry.{Entry};
 ghost use Rattle.csp_scene.specs.Scene.{PlainScene};
-ghost use Rattle.csp_timeline.specs.Happenings.{along_from, asked_or_told, sent_or_took, answered, accepted, reported_by, reported, at, app_told, iface_told, router_told, happened, moved_frame, number_of, is_beginning, plan_at};
+ghost use Rattle.csp_timeline.specs.Happenings.{along_from, asked_or_told, sent_or_took, answered, accepted, reported_by, reported, at, app_told, iface_told, router_told, happened, moved_frame, number_of, parcel_in, is_beginning, plan_at};
 ghost use Rattle.csp_timeline.specs.Numbers.{has, Adds};
 ghost use Rattle.csp_timeline.specs.Remembering.{count_of, fate_known, is_link, AreWithin, Counts, Remembers};
 

@@ -6,10 +6,10 @@ ghost use Rattle.std.specs.String.{string_bytes};
 ghost use Rattle.std.specs.Fmt.{decimal};
 ghost use Rattle.csp_record.specs.Who.{node_of};
 ghost use Rattle.csp_timeline.specs.Labels.{label};
-ghost use Rattle.csp_timeline.specs.Timeline.{column, transmission_word, what_words, line, first_line, timeline};
+ghost use Rattle.csp_timeline.specs.Timeline.{column, took_words, transmission_word, what_words, line, first_line, timeline};
 
 use crate::gathering::happenings;
-use crate::kinds::{Happening, What};
+use crate::kinds::{Happening, Parcel, What};
 use crate::labels::{app_name, push_label};
 use crate::reports::push_event;
 use crate::words::{
@@ -77,6 +77,21 @@ fn transmission_word(again: bool) -> &'static str
     if again { "retransmits" } else { "transmits" }
 }
 
+/// Appends that an application takes a packet from a slot.
+fn push_took(
+    alloc: Global,
+    out: &mut String,
+    scene: &Scene,
+    mark: u8,
+    packet: &Parcel,
+) -> Result<(), AllocError>
+    ensures { OnOk result (string_bytes out.new ≡ string_bytes out.old ++ took_words scene.now mark packet.now) }
+{
+    out.push_str("takes")?;
+    push_counted(out, "slot", u64::from(mark))?;
+    push_packet(alloc, out, scene, packet)
+}
+
 /// Appends what happened, at a party of the node in this place.
 fn push_what(
     alloc: Global,
@@ -100,11 +115,7 @@ fn push_what(
             out.push_str("sends")?;
             push_sent(alloc, out, scene, *mark, packet)
         }
-        What::Took { mark, packet } => {
-            out.push_str("takes")?;
-            push_counted(out, "slot", u64::from(*mark))?;
-            push_packet(alloc, out, scene, packet)
-        }
+        What::Took { mark, packet } => push_took(alloc, out, scene, *mark, packet),
         What::Answered { app, note } => {
             out.push_str("tells")?;
             push_word(out, app_name(scene, node, *app))?;
@@ -170,11 +181,11 @@ fn push_happening(
 }
 
 /// Appends the first line.
-fn push_first(out: &mut String) -> Result<(), AllocError>
-    ensures { OnOk result (string_bytes out.new ≡ string_bytes out.old ++ first_line) }
+fn push_first(out: &mut String, version: u64) -> Result<(), AllocError>
+    ensures { OnOk result (string_bytes out.new ≡ string_bytes out.old ++ first_line version) }
 {
     begin_line(out, "csp-timeline")?;
-    push_count(out, VERSION)?;
+    push_count(out, version)?;
     end_line(out)
 }
 
@@ -203,7 +214,7 @@ pub fn timeline(alloc: Global, scene: &Scene, run: &Record) -> Result<Vec<u8>, A
 {
     let list = happenings(alloc, scene, run)?;
     let mut out = String::new(alloc);
-    push_first(&mut out)?;
+    push_first(&mut out, VERSION)?;
     push_happenings(alloc, &mut out, scene, list.as_slice())?;
     Ok(out.into_bytes())
 }

@@ -5,7 +5,7 @@ ghost use Rattle.std.specs.String.{string_bytes};
 ghost use Rattle.std.specs.Fmt.{decimal};
 ghost use Rattle.std.specs.Int.{w32, to_be_bytes};
 ghost use Rattle.hex.specs.Hex.{encode_lower};
-ghost use Rattle.csp_timeline.specs.Words.{word, numbered, hex_pair, ends_words, header_words, origin_words, kind_word, tag_words, packet_words, some_packet_words, can_words, frame_words, way_word, some_words, flip_words, fate_words, from_words, note_words, sent_words};
+ghost use Rattle.csp_timeline.specs.Words.{word, numbered, hex_pair, end_word, ends_words, header_words, origin_words, kind_word, tag_words, packet_words, some_packet_words, can_words, frame_words, way_word, some_words, flip_words, fate_words, from_words, target_words, terms_words, note_words, sent_words};
 
 use crate::fates::Fate;
 use crate::kinds::{Kind, Parcel, Piece};
@@ -29,17 +29,23 @@ fn push_pair(alloc: Global, out: &mut String, name: &str, byte: u8) -> Result<()
     push_hex(alloc, out, &[byte])
 }
 
+/// Appends an address and a port: `ADDR:PORT`.
+fn push_end(out: &mut String, addr: Addr, port: Port) -> Result<(), AllocError>
+    ensures { OnOk result (string_bytes out.new ≡ string_bytes out.old ++ end_word addr port) }
+{
+    push_number(out, u64::from(addr.get()))?;
+    out.push(':')?;
+    push_number(out, u64::from(port.get()))
+}
+
 /// Appends who sends a packet to whom: ` SRC:SPORT>DST:DPORT`.
 fn push_ends(out: &mut String, header: &Header) -> Result<(), AllocError>
     ensures { OnOk result (string_bytes out.new ≡ string_bytes out.old ++ ends_words header.now) }
 {
-    push_count(out, u64::from(header.src.get()))?;
-    out.push(':')?;
-    push_number(out, u64::from(header.sport.get()))?;
+    out.push(' ')?;
+    push_end(out, header.src, header.sport)?;
     out.push('>')?;
-    push_number(out, u64::from(header.dst.get()))?;
-    out.push(':')?;
-    push_number(out, u64::from(header.dport.get()))
+    push_end(out, header.dst, header.dport)
 }
 
 /// Appends a header.
@@ -220,23 +226,26 @@ fn push_bind(alloc: Global, out: &mut String, port: Port, need: u8) -> Result<()
     push_pair(alloc, out, "flags", need)
 }
 
-/// Appends that a connection is asked for.
-fn push_connect(
-    alloc: Global,
-    out: &mut String,
-    slot: u8,
-    dest: Addr,
-    port: Port,
-    prio: Prio,
-    flags: u8,
-    from: Option<Port>,
-) -> Result<(), AllocError>
-    ensures { OnOk result (string_bytes out.new ≡ string_bytes out.old ++ note_words (Note.Connect slot dest port prio flags from)) }
+/// Appends that a connection is asked for, on which slot and to which port of which node.
+fn push_target(out: &mut String, slot: u8, dest: Addr, port: Port) -> Result<(), AllocError>
+    ensures { OnOk result (string_bytes out.new ≡ string_bytes out.old ++ target_words slot dest port) }
 {
     push_word(out, "connect")?;
     push_counted(out, "slot", u64::from(slot))?;
     push_counted(out, "to", u64::from(dest.get()))?;
-    push_counted(out, "port", u64::from(port.get()))?;
+    push_counted(out, "port", u64::from(port.get()))
+}
+
+/// Appends the priority and the flags of a connection, and the own port that is asked for.
+fn push_terms(
+    alloc: Global,
+    out: &mut String,
+    prio: Prio,
+    flags: u8,
+    from: Option<Port>,
+) -> Result<(), AllocError>
+    ensures { OnOk result (string_bytes out.new ≡ string_bytes out.old ++ terms_words prio flags from) }
+{
     push_counted(out, "pri", u64::from(prio.number()))?;
     push_pair(alloc, out, "flags", flags)?;
     push_from(out, from)
@@ -255,7 +264,10 @@ pub(crate) fn push_note(alloc: Global, out: &mut String, note: Note) -> Result<(
             prio,
             flags,
             from,
-        } => push_connect(alloc, out, slot, dest, port, prio, flags, from),
+        } => {
+            push_target(out, slot, dest, port)?;
+            push_terms(alloc, out, prio, flags, from)
+        }
         Note::Close { slot } => push_counted(out, "close", u64::from(slot)),
         Note::Bound => push_word(out, "bound"),
         Note::Connected { slot } => push_counted(out, "connected", u64::from(slot)),

@@ -1,6 +1,7 @@
 -- What is told of an entry, by what was read of it.
-use Rattle.std.proofs.Common.{◌≡◌, ℕ, ◌+◌, Bool, false, Option, None, Some, List, [], ◌∷◌, ◌++◌, refl, sym, ap, ◌∙◌, ⊤, map, Result, Ok, Err, OnOk, IfSome, BTreeSet, option_map, subst, unwrap_or, if◌then◌else◌}
+use Rattle.std.proofs.Common.{◌≡◌, ℕ, ◌+◌, Bool, false, Option, None, Some, List, [], ◌∷◌, ◌++◌, refl, sym, ap, ◌∙◌, map, Result, Ok, Err, OnOk, IfSome, BTreeSet, option_map, subst, unwrap_or, if◌then◌else◌}
 use Rattle.std.specs.List.{list_any}
+use Rattle.std.specs.Prelude.{⊤}
 use Rattle.std.specs.Option.{option_and_then, option_map_or}
 use Rattle.csp_link.specs.Ways.{number}
 use Rattle.csp_link.specs.Fates.{fate_of}
@@ -16,10 +17,11 @@ use Rattle.csp_scene.specs.Scene.{PlainScene}
 use Rattle.csp_timeline.specs.Entries.{framed_in, marked_in}
 use Rattle.csp_timeline.specs.Happenings.{app_told, at, happened, iface_told, is_again, is_beginning, moved_frame, number_of, parcel_in, plan_of, reported, router_told, taken, was_sent}
 use Rattle.csp_timeline.specs.Numbers.{Adds, has}
-use Rattle.csp_timeline.specs.Remembering.{Carries, Counts, count_of, fate_known}
+use Rattle.csp_timeline.specs.Remembering.{Carries, Counts, Remembers, count_of, fate_known}
 use Rattle.csp_timeline.specs.declared.entries.Framed.{Framed}
 use Rattle.csp_timeline.specs.declared.kinds.Happening.{Happening}
 use Rattle.csp_timeline.specs.declared.links.Carrying.{Carrying}
+use Rattle.csp_timeline.specs.declared.telling.Memory.{Memory}
 use Rattle.csp_timeline.proofs.Counting.{Carries-more}
 use Rattle.csp_timeline.proofs.Sets.{sent-more}
 
@@ -27,6 +29,10 @@ use Rattle.csp_timeline.proofs.Sets.{sent-more}
 pub on-ok : {T E : Type 0} (r : Result T E) (P Q : Type 0) → (P → Q) → OnOk r P → OnOk r Q
 on-ok (Ok x) P Q f p = f p
 on-ok (Err e) P Q f p = p
+
+pub on-both : {T E : Type 0} (r : Result T E) (P Q R : Type 0) → (P → Q → R) → OnOk r P → OnOk r Q → OnOk r R
+on-both (Ok x) P Q R f p q = f p q
+on-both (Err e) P Q R f p q = p
 
 -- what is in one thing is in the same thing
 same : {X : Type 0} (x y : X) → ◌≡◌ {A = Option X} (Some x) (Some y) → x ≡ y
@@ -97,3 +103,37 @@ link-read scene before (Some e) place old new time framed was counts t f =
       (λ i. map (at (sym (same e.time time t) i) party) (moved_frame (λ way. was.taken way i) (λ way n. was.fates way n i) (fs i))),
       Carries-more scene place before e old new was (subst (λ (g : Framed). Counts old new g) fs counts),
     )
+
+-- ---- where a call succeeded
+
+pub iface-told : {T E : Type 0} (r : Result T E) (party : Who) (node n : ℕ) → party ≡ who.Iface node n
+    → (scene : PlainScene) (before : List Entry) (o : Option Entry) (old new : Memory) (list_old list_new : List Happening) (time : ℕ) (moved : Moved) (events : List Event)
+    → Remembers scene before old party
+    → OnOk r (list_new ≡ list_old ++ iface_told (at time party) (again_read old.numbers node moved) moved events)
+    → OnOk r (Adds old.numbers new.numbers (number_read node moved events))
+    → option_map (λ e. e.time) o ≡ Some time → option_map moved_in o ≡ Some moved → option_map (λ e. e.events.items) o ≡ Some events
+    → OnOk r (IfSome o (λ e. (list_new ≡ list_old ++ happened scene party before e) × Remembers scene (before ++ e ∷ []) new party))
+iface-told r party node n is scene before o old new list_old list_new time moved events was told numbers t m v =
+    let again = again_read old.numbers node moved in
+    on-both r _ _ _
+    (λ told numbers. subst (λ (p : Who). IfSome o (λ e. (list_new ≡ list_old ++ happened scene p before e) × Remembers scene (before ++ e ∷ []) new p)) (sym is)
+    (tells o list_old list_new (iface_told (at time (who.Iface node n)) again moved events) _ _
+    (told ∙ (λ i. list_old ++ iface_told (at time (is i)) again moved events))
+    (iface-read scene before o node n old.numbers new.numbers time moved events (subst (λ (p : Who). Remembers scene before old p) is was) numbers t m v)))
+    told numbers
+
+pub link-told : {T E : Type 0} (r : Result T E) (party : Who) (place : ℕ) → party ≡ who.Link place
+    → (scene : PlainScene) (before : List Entry) (o : Option Entry) (old new : Memory) (list_old list_new : List Happening) (time : ℕ) (framed : Framed)
+    → Remembers scene before old party
+    → OnOk r (list_new ≡ list_old ++ map (at time party) (moved_frame (count_of old.carrying) (fate_known old.carrying) framed))
+    → Counts old.carrying new.carrying framed
+    → option_map (λ e. e.time) o ≡ Some time → option_map framed_in o ≡ Some framed
+    → OnOk r (IfSome o (λ e. (list_new ≡ list_old ++ happened scene party before e) × Remembers scene (before ++ e ∷ []) new party))
+link-told r party place is scene before o old new list_old list_new time framed was told counts t f =
+    let frames = moved_frame (count_of old.carrying) (fate_known old.carrying) framed in
+    on-ok r _ _
+    (λ told. subst (λ (p : Who). IfSome o (λ e. (list_new ≡ list_old ++ happened scene p before e) × Remembers scene (before ++ e ∷ []) new p)) (sym is)
+    (tells o list_old list_new (map (at time (who.Link place)) frames) _ _
+    (told ∙ (λ i. list_old ++ map (at time (is i)) frames))
+    (link-read scene before o place old.carrying new.carrying time framed (subst (λ (p : Who). Remembers scene before old p) is was) counts t f)))
+    told
