@@ -49,4 +49,4 @@ step {X} tells R entries i before after all lt here so_far = by (slice_get entri
 -- no entry more
 pub finish : {X : Type 0} (tells : List Entry → Entry → List X) (entries : List Entry) (i : ℕ) (told all : List X) → length entries ≤ i → told ++ along_from tells (take i entries) (drop i entries) ≡ all → told ≡ all
 unfolding along_from
-finish tells entries i told all le so_far = sym (append-nil told) ∙ (λ j. told ++ along_from tells (take i entries) (sym (drop_of_length-le i entries le) j)) ∙ so_far
+finish tells entries i told all le so_far = sym (append-nil told) ∙ (λ j. told ++ along_from tells (take i entries) (sym (drop_of_length-le entries le) j)) ∙ so_far

@@ -37,19 +37,19 @@ Ascends (h ∷ hs) = AllFrom h.time hs × Ascends hs
 -- nothing is of a round before all, or after all
 none-before : (k a : ℕ) → k < a → (hs : List Happening) → AllFrom a hs → of_round k hs ≡ []
 none-before k a lt [] all = refl
-none-before k a lt (h ∷ hs) all = by (eqb h.time k) refl
+none-before k a lt (h ∷ hs) all = by (eqb h.time k) refl (none-before k a lt hs all.1)
   where
-    by : (b : Bool) → eqb h.time k ≡ b → cond b (h ∷ of_round k hs) (of_round k hs) ≡ []
-    by true e = absurd (omega (arith, eqb-true h.time k e, all.0, lt))
-    by false e = none-before k a lt hs all.1
+    by : (b : Bool) → eqb h.time k ≡ b → of_round k hs ≡ [] → cond b (h ∷ of_round k hs) (of_round k hs) ≡ []
+    by true e none = absurd (omega (arith, eqb-true h.time k e, all.0, lt))
+    by false e none = none
 
 none-after : (k n : ℕ) → n ≤ k → (hs : List Happening) → AllBelow n hs → of_round k hs ≡ []
 none-after k n le [] all = refl
-none-after k n le (h ∷ hs) all = by (eqb h.time k) refl
+none-after k n le (h ∷ hs) all = by (eqb h.time k) refl (none-after k n le hs all.1)
   where
-    by : (b : Bool) → eqb h.time k ≡ b → cond b (h ∷ of_round k hs) (of_round k hs) ≡ []
-    by true e = absurd (omega (arith, eqb-true h.time k e, all.0, le))
-    by false e = none-after k n le hs all.1
+    by : (b : Bool) → eqb h.time k ≡ b → of_round k hs ≡ [] → cond b (h ∷ of_round k hs) (of_round k hs) ≡ []
+    by true e none = absurd (omega (arith, eqb-true h.time k e, all.0, le))
+    by false e none = none
 
 -- one that is before these rounds adds nothing to them
 rounds-before : (a n : ℕ) (h : Happening) (hs : List Happening) → h.time < a → rounds a n (h ∷ hs) ≡ rounds a n hs
@@ -63,15 +63,16 @@ rounds-before a (suc n) h hs lt = λ i. by (eqb h.time a) refl i ++ rounds-befor
 -- one that is before all others is the first of them
 rounds-first : (a n : ℕ) (h : Happening) (hs : List Happening) → a ≤ h.time → h.time < a + n → AllFrom h.time hs → rounds a n (h ∷ hs) ≡ h ∷ rounds a n hs
 rounds-first a zero h hs le lt all = absurd (omega (arith, le, lt))
-rounds-first a (suc n) h hs le lt all = by (eqb h.time a) refl
+rounds-first a (suc n) h hs le lt all = by (eqb h.time a) refl (λ later. rounds-first (a + 1) n h hs (omega (arith, later)) (omega (arith, lt)) all)
   where
-    by : (b : Bool) → eqb h.time a ≡ b → cond b (h ∷ of_round a hs) (of_round a hs) ++ rounds (a + 1) n (h ∷ hs) ≡ h ∷ (of_round a hs ++ rounds (a + 1) n hs)
-    by true e = ap (λ rest. h ∷ (of_round a hs ++ rest)) (rounds-before (a + 1) n h hs (omega (arith, eqb-true h.time a e)))
-    by false e =
-        let later : a < h.time = omega (arith, le, λ same. eqb-false h.time a e same) in
+    by : (b : Bool) → eqb h.time a ≡ b → (a < h.time → rounds (a + 1) n (h ∷ hs) ≡ h ∷ rounds (a + 1) n hs) → cond b (h ∷ of_round a hs) (of_round a hs) ++ rounds (a + 1) n (h ∷ hs) ≡ h ∷ (of_round a hs ++ rounds (a + 1) n hs)
+    by true e next = ap (λ rest. h ∷ (of_round a hs ++ rest)) (rounds-before (a + 1) n h hs (omega (arith, eqb-true h.time a e)))
+    by false e next =
+        let other : h.time ≡ a → ⊥ = eqb-false h.time a e in
+        let later : a < h.time = omega (arith, le, other) in
         let none = none-before a h.time later hs all in
         ap (λ front. front ++ rounds (a + 1) n (h ∷ hs)) none
-        ∙ rounds-first (a + 1) n h hs (omega (arith, later)) (omega (arith, lt)) all
+        ∙ next later
         ∙ ap (λ front. h ∷ (front ++ rounds (a + 1) n hs)) (sym none)
 
 rounds-none : (a n : ℕ) → rounds a n [] ≡ []
@@ -135,7 +136,7 @@ ties-are : (k t : ℕ) → (not (is_lt (nat_cmp k t)) && not (is_lt (nat_cmp t k
 ties-are k t = grind (arith, nat_tests)
 
 -- something of a round
-some_of : ℕ → Happening
+abbrev some_of : ℕ → Happening
 some_of k = record { time = k; who = who.Link 0; what = what.Asked note.Bound }
 
 same-rounds : (xs ys : List Happening) → IsStableByKey (λ h. h.time) nat_cmp xs ys → (k : ℕ) → of_round k ys ≡ of_round k xs

@@ -43,10 +43,10 @@ what_words scene node (what.Reported e p) = event_words scene node e ++ some_pac
 abbrev pub line : PlainScene → Happening → List ℕ
 line scene h = column TIME_WIDTH (decimal h.time) ++ (column LABEL_WIDTH (label scene h.who) ++ (what_words scene (unwrap_or (node_of h.who) 0) h.what ++ 10 ∷ []))
 
--- the first line, with the number of the form
-abbrev pub first_line : (version : ℕ) → List ℕ
-first_line version = codes "csp-timeline" ++ (word (decimal version) ++ 10 ∷ [])
+-- the first line: a title, and the number of the form
+abbrev pub first_line : (title : List ℕ) → (version : ℕ) → List ℕ
+first_line title version = title ++ (word (decimal version) ++ 10 ∷ [])
 
 -- the timeline
 abbrev pub timeline : PlainScene → PlainRecord → List ℕ
-timeline scene r = first_line VERSION ++ flat_map (line scene) (happenings scene r)
+timeline scene r = first_line (codes "csp-timeline") VERSION ++ flat_map (line scene) (happenings scene r)

@@ -122,9 +122,17 @@ abbrev pub from_words : Option ℕ → List ℕ
 from_words None = []
 from_words (Some port) = numbered (codes "from") port
 
--- a connection that is asked for: on which slot, to which port of which node
+-- the node and the port that a connection is asked for to
+abbrev pub dest_words : (dest port : ℕ) → List ℕ
+dest_words dest port = numbered (codes "to") dest ++ numbered (codes "port") port
+
+-- a word, and a slot
+abbrev pub slotted : List ℕ → (slot : ℕ) → List ℕ
+slotted w slot = word w ++ numbered (codes "slot") slot
+
+-- a connection that is asked for, on which slot and where to
 abbrev pub target_words : (slot dest port : ℕ) → List ℕ
-target_words slot dest port = word (codes "connect") ++ (numbered (codes "slot") slot ++ (numbered (codes "to") dest ++ numbered (codes "port") port))
+target_words slot dest port = slotted (codes "connect") slot ++ dest_words dest port
 
 -- its priority, its flags, and the own port that is asked for
 abbrev pub terms_words : Prio → (flags : ℕ) → Option ℕ → List ℕ

@@ -181,10 +181,10 @@ fn push_happening(
 }
 
 /// Appends the first line.
-fn push_first(out: &mut String, version: u64) -> Result<(), AllocError>
-    ensures { OnOk result (string_bytes out.new ≡ string_bytes out.old ++ first_line version) }
+fn push_first(out: &mut String, title: &str, version: u64) -> Result<(), AllocError>
+    ensures { OnOk result (string_bytes out.new ≡ string_bytes out.old ++ first_line title.now version) }
 {
-    begin_line(out, "csp-timeline")?;
+    begin_line(out, title)?;
     push_count(out, version)?;
     end_line(out)
 }
@@ -214,7 +214,7 @@ pub fn timeline(alloc: Global, scene: &Scene, run: &Record) -> Result<Vec<u8>, A
 {
     let list = happenings(alloc, scene, run)?;
     let mut out = String::new(alloc);
-    push_first(&mut out, VERSION)?;
+    push_first(&mut out, "csp-timeline", VERSION)?;
     push_happenings(alloc, &mut out, scene, list.as_slice())?;
     Ok(out.into_bytes())
 }

@@ -5,7 +5,7 @@ ghost use Rattle.std.specs.String.{string_bytes};
 ghost use Rattle.std.specs.Fmt.{decimal};
 ghost use Rattle.std.specs.Int.{w32, to_be_bytes};
 ghost use Rattle.hex.specs.Hex.{encode_lower};
-ghost use Rattle.csp_timeline.specs.Words.{word, numbered, hex_pair, end_word, ends_words, header_words, origin_words, kind_word, tag_words, packet_words, some_packet_words, can_words, frame_words, way_word, some_words, flip_words, fate_words, from_words, target_words, terms_words, note_words, sent_words};
+ghost use Rattle.csp_timeline.specs.Words.{word, numbered, hex_pair, end_word, ends_words, header_words, origin_words, kind_word, tag_words, packet_words, some_packet_words, can_words, frame_words, way_word, some_words, flip_words, fate_words, from_words, dest_words, slotted, target_words, terms_words, note_words, sent_words};
 
 use crate::fates::Fate;
 use crate::kinds::{Kind, Parcel, Piece};
@@ -226,14 +226,28 @@ fn push_bind(alloc: Global, out: &mut String, port: Port, need: u8) -> Result<()
     push_pair(alloc, out, "flags", need)
 }
 
+/// Appends a word and a slot.
+fn push_slotted(out: &mut String, word: &str, slot: u8) -> Result<(), AllocError>
+    ensures { OnOk result (string_bytes out.new ≡ string_bytes out.old ++ slotted word.now slot) }
+{
+    push_word(out, word)?;
+    push_counted(out, "slot", u64::from(slot))
+}
+
+/// Appends the node and the port that a connection is asked for to.
+fn push_dest(out: &mut String, dest: Addr, port: Port) -> Result<(), AllocError>
+    ensures { OnOk result (string_bytes out.new ≡ string_bytes out.old ++ dest_words dest port) }
+{
+    push_counted(out, "to", u64::from(dest.get()))?;
+    push_counted(out, "port", u64::from(port.get()))
+}
+
 /// Appends that a connection is asked for, on which slot and to which port of which node.
 fn push_target(out: &mut String, slot: u8, dest: Addr, port: Port) -> Result<(), AllocError>
     ensures { OnOk result (string_bytes out.new ≡ string_bytes out.old ++ target_words slot dest port) }
 {
-    push_word(out, "connect")?;
-    push_counted(out, "slot", u64::from(slot))?;
-    push_counted(out, "to", u64::from(dest.get()))?;
-    push_counted(out, "port", u64::from(port.get()))
+    push_slotted(out, "connect", slot)?;
+    push_dest(out, dest, port)
 }
 
 /// Appends the priority and the flags of a connection, and the own port that is asked for.

@@ -21,7 +21,7 @@ loop-index-preserved c =
           (w.in_ok-tell_entry.ensures.told scene (take index entries) was) so_far in
           rw (w.list-is, w.memory-is) (told, remembers, w.tell_entry.ensures.within index within)
       | else-not-is_untold w ↦
-          let idle = c.is_untold.ensures ? in
+          let idle = c.is_untold.ensures w.if-not-is_untold.false in
           let (told, remembers) = step (happened scene party) (λ (before : List Entry). Remembers scene before c.loop-index.memory party) entries index c.loop-index.list.items c.loop-index.list.items _ (omega (arith, c.loop-index-test.true, c.len-index-end.ensures.value))
           (idle-step scene party (take index entries) (slice_get entries index) c.loop-index.memory c.loop-index.list.items idle.0 idle.1 was) so_far in
           rw (w.list-is, w.memory-is) (told, remembers, AreWithin-later index c.loop-index.memory.carrying within)
