@@ -37,6 +37,19 @@ fn tell_parties(
     Ok(())
 }
 
+/// What happened in the turns of each party, one party after the other.
+fn party_by_party(
+    alloc: Global,
+    scene: &Scene,
+    run: &Record,
+) -> Result<Vec<Happening>, AllocError>
+    ensures { IfOk result (λ list. list.items ≡ flat_map (happenings_of scene.now) run.now.parties) }
+{
+    let mut list = Vec::new(alloc);
+    tell_parties(alloc, &mut list, scene, run.parties.as_slice())?;
+    Ok(list)
+}
+
 /// What happened in a run of this scene: round by round, and in a round party by party, each turn in its order.
 ///
 /// # Errors
@@ -48,8 +61,7 @@ pub fn happenings(
 ) -> Result<Vec<Happening>, AllocError>
     ensures { IfOk result (λ list. list.items ≡ happenings scene.now run.now) }
 {
-    let mut list = Vec::new(alloc);
-    tell_parties(alloc, &mut list, scene, run.parties.as_slice())?;
+    let mut list = party_by_party(alloc, scene, run)?;
     list.sort_by_key(|happening| happening.time)?;
     Ok(list)
 }
