@@ -67,7 +67,7 @@ fn push_step(
 }
 
 /// The word of why a request was refused.
-fn word_of_refusal(why: Why) -> &'static str
+pub fn word_of_refusal(why: Why) -> &'static str
     ensures { result.now ≡ word_of_refusal why }
 {
     match why {

@@ -13,7 +13,9 @@ mod routers;
 mod summing;
 mod text;
 
+pub use apps::word_of_refusal;
 pub use laws::tells_prefix;
 pub use lines::{begin_line, end_line, push_count, push_counted, push_word};
+pub use routers::word_of;
 pub use summing::summary;
 pub use text::{VERSION, report};

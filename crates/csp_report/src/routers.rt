@@ -36,7 +36,7 @@ const DISCARDS: [Discard; 12] = [
 const RELAY_DISCARDS: [Discard; 1] = [Discard::Full];
 
 /// The word of a reason in a router's line.
-fn word_of(why: Discard) -> &'static str
+pub fn word_of(why: Discard) -> &'static str
     ensures { result.now ≡ word_of why }
 {
     match why {

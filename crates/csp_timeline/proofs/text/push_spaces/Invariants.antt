@@ -1,0 +1,9 @@
+use Rattle.std.proofs.Common.{◌≡◌, ◌++◌, replicate, string_bytes}
+use Rattle.csp_timeline.proofs.text.push_spaces.Given as goal
+
+-- the text so far, then the spaces that are still to come
+abbrev pub invariant-loop-left : goal.invariant-loop-left
+invariant-loop-left l = string_bytes l.out ++ replicate l.left 32 ≡ string_bytes l.initial.out ++ replicate l.count 32
+
+abbrev pub decreases-loop-left : goal.decreases-loop-left
+decreases-loop-left l = l.left
