@@ -1,0 +1,16 @@
+//! The picture of a run, which any browser shows: the nodes as columns, time downwards, and the frames that links carried as lines
+//! from their sender's column to their receiver's, coloured by what became of them.
+#![tactic(auto)]
+
+mod colours;
+mod elements;
+mod legend;
+mod picture;
+mod places;
+mod rows;
+mod seen;
+mod style;
+mod words;
+
+pub use picture::picture;
+pub use seen::Window;
