@@ -6,4 +6,5 @@ pub mod Seen
 pub mod Rows
 pub mod Legend
 pub mod Style
+pub mod Apart
 pub mod Picture

@@ -16,7 +16,7 @@ down links row = top links + STEP * (row + 1)
 
 -- how wide and how high a picture is
 abbrev pub width : (nodes : ℕ) → ℕ
-width nodes = max LEAST_WIDTH (FIRST + COLUMN * nodes)
+width nodes = max LEAST_WIDTH (COLUMN * nodes)
 
 -- the nodes' lines end below the last row, and below them stand their names again
 abbrev pub height : (links rows : ℕ) → ℕ

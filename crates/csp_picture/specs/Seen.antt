@@ -21,10 +21,15 @@ abbrev pub opens : Option ℕ → Bool
 opens None = true
 opens (Some id) = id / 2 ^ 18 % 2 == 0
 
--- whether it may be shown: that a link took a frame which opens a packet, or to which its plan does something; and that it handed one on which opens a packet
+-- a frame closes its packet: on a KISS link each does, and on a CAN link one whose identifier says in its bits 10 to 17 that none is to come
+abbrev pub closes : Option ℕ → Bool
+closes None = true
+closes (Some id) = id / 2 ^ 10 % 256 == 0
+
+-- whether it may be shown: that a link took a frame which opens a packet, or to which its plan does something; and that it handed one on which closes a packet
 abbrev pub is_drawn : What → Bool
 is_drawn (what.Carried way number fate frame) = opens frame.can || is_harmed fate
-is_drawn (what.HandedOn way frame) = opens frame.can
+is_drawn (what.HandedOn way frame) = closes frame.can
 is_drawn _ = false
 
 -- whether a round is in the window; without one each is

@@ -11,6 +11,11 @@ use std::alloc::AllocError;
 /// The radius of a dot.
 pub const RADIUS: u64 = 3;
 
+/// How far above its foot a letter rises, and how far below it drops, at most.
+pub const RISES: u64 = 12;
+
+pub const DROPS: u64 = 4;
+
 /// How wide a letter is.
 pub const CHAR_WIDTH: u64 = 7;
 

@@ -21,7 +21,7 @@ pub const LEFT: u64 = 10;
 pub const SAMPLE: u64 = 40;
 
 /// How far apart the samples of colours are.
-pub const SAMPLE_STEP: u64 = 104;
+pub const SAMPLE_STEP: u64 = 112;
 
 /// How far from its sample's beginning a word stands.
 pub const WORD: u64 = 46;

@@ -4,6 +4,7 @@
 
 mod colours;
 mod elements;
+mod laws;
 mod legend;
 mod picture;
 mod places;
@@ -12,5 +13,6 @@ mod seen;
 mod style;
 mod words;
 
+pub use laws::labels_stand_apart;
 pub use picture::picture;
 pub use seen::Window;

@@ -96,7 +96,8 @@ fn push_drawn(
 }
 
 /// The picture of a run of this scene, as SVG: the frames that its links took and handed on, in the order of the rounds, or
-/// those of a window of rounds. Of a packet on a CAN link it has the first frame, and each to which the plan does something.
+/// those of a window of rounds. The line of a
+/// packet on a CAN link goes from where its first frame was taken to where its last one was handed on.
 ///
 /// # Errors
 /// Want of memory.

@@ -12,7 +12,7 @@ pub const FIRST: u64 = 150;
 pub const COLUMN: u64 = 270;
 
 /// A picture is at least so wide, for its legend.
-pub const LEAST_WIDTH: u64 = 640;
+pub const LEAST_WIDTH: u64 = 690;
 
 /// Where the columns of a picture without links begin.
 pub const TOP: u64 = 66;
@@ -61,7 +61,7 @@ pub(crate) fn width(nodes: usize) -> u64
     requires { nodes ≤ MAX_NODES }
     ensures { result ≡ width nodes }
 {
-    LEAST_WIDTH.max(FIRST + COLUMN * nodes as u64)
+    LEAST_WIDTH.max(COLUMN * nodes as u64)
 }
 
 /// How high a picture is.

@@ -1,7 +1,7 @@
 //! What a picture shows of what happened, and what is known when it comes to each thing.
 
 ghost use Rattle.std.specs.Prelude.{◌≡◌, OnOk};
-ghost use Rattle.csp_picture.specs.Seen.{opens, is_drawn, is_in, is_shown, nothing_seen, sent_by, start_of, with_sent, with_start, noted, counted, after};
+ghost use Rattle.csp_picture.specs.Seen.{opens, closes, is_drawn, is_in, is_shown, nothing_seen, sent_by, start_of, with_sent, with_start, noted, counted, after};
 
 use crate::colours::is_harmed;
 use csp_base::Origin;
@@ -65,13 +65,23 @@ pub(crate) fn opens(can: Option<u32>) -> bool
     }
 }
 
+/// Whether a frame with this identifier closes a packet.
+fn closes(can: Option<u32>) -> bool
+    ensures { result ≡ closes can }
+{
+    match can {
+        None => true,
+        Some(id) => (id >> 10) % 256 == 0,
+    }
+}
+
 /// Whether what happened may be shown.
 fn is_drawn(what: &What) -> bool
     ensures { result ≡ is_drawn what.now }
 {
     match what {
         What::Carried { fate, frame, .. } => opens(frame.can) || is_harmed(fate),
-        What::HandedOn { frame, .. } => opens(frame.can),
+        What::HandedOn { frame, .. } => closes(frame.can),
         _ => false,
     }
 }
