@@ -13,8 +13,8 @@ abbrev pub opened : (name class : List ℕ) → List ℕ
 opened name class = codes "<" ++ (name ++ attribute (codes "class") class)
 
 -- the two attributes of a point
-abbrev pub point : (x y : List ℕ) → Point → List ℕ
-point x y p = attribute x (decimal p.x) ++ attribute y (decimal p.y)
+abbrev pub located : (x y : List ℕ) → Point → List ℕ
+located x y p = attribute x (decimal p.x) ++ attribute y (decimal p.y)
 
 -- `/>`, and the end of the line
 abbrev pub closed : List ℕ
@@ -23,13 +23,13 @@ closed = codes "/>\n"
 -- a line of this class from one point to another, with dashes of this length
 abbrev pub line : (class : List ℕ) → (start stop : Point) → (dash : ℕ) → List ℕ
 line class start stop dash =
-    opened (codes "line") class ++ (point (codes "x1") (codes "y1") start ++ (point (codes "x2") (codes "y2") stop ++ (attribute (codes "stroke-dasharray") (decimal dash) ++ closed)))
+    opened (codes "line") class ++ (located (codes "x1") (codes "y1") start ++ (located (codes "x2") (codes "y2") stop ++ (attribute (codes "stroke-dasharray") (decimal dash) ++ closed)))
 
 -- a dot of this class at a point
 abbrev pub dot : (class : List ℕ) → Point → List ℕ
-dot class p = opened (codes "circle") class ++ (point (codes "cx") (codes "cy") p ++ (attribute (codes "r") (decimal RADIUS) ++ closed))
+dot class p = opened (codes "circle") class ++ (located (codes "cx") (codes "cy") p ++ (attribute (codes "r") (decimal RADIUS) ++ closed))
 
 -- words of this class at a point, and how long they are whatever the letters' form: `CHAR_WIDTH` for each byte
 abbrev pub text : (class : List ℕ) → Point → (words : List ℕ) → List ℕ
 text class p words =
-    opened (codes "text") class ++ (point (codes "x") (codes "y") p ++ (attribute (codes "textLength") (decimal (CHAR_WIDTH * length words)) ++ (codes ">" ++ (words ++ codes "</text>\n"))))
+    opened (codes "text") class ++ (located (codes "x") (codes "y") p ++ (attribute (codes "textLength") (decimal (CHAR_WIDTH * length words)) ++ (codes ">" ++ (words ++ codes "</text>\n"))))

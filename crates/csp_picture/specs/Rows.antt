@@ -12,7 +12,7 @@ use Rattle.csp_picture.specs.Colours.{colour_of, name_of}
 use Rattle.csp_picture.specs.Elements.{line, dot, text}
 use Rattle.csp_picture.specs.Places.{across, top, down, width, dash}
 use Rattle.csp_picture.specs.Seen.{PlainSeen, is_shown, opens, sent_by, start_of, along}
-use Rattle.csp_picture.specs.Words.{spaced, sent_words, fate_words, counted}
+use Rattle.csp_picture.specs.Words.{spaced, sent_words, fate_words}
 use Rattle.csp_picture.specs.declared.elements.Point.{Point}
 use Rattle.csp_picture.specs.declared.colours.Colour.{Colour}
 use Rattle.csp_picture.specs.declared.colours.Colour.TheVariants as colour
@@ -40,8 +40,8 @@ abbrev pub course_of : List PlainLink → Who → Way → Course
 course_of links party way = record { link = link_of party; from = node_at links (link_of party) (number way); to = node_at links (link_of party) (number (other way)) }
 
 -- the point on a node's line in a row
-abbrev pub at : (links row node : ℕ) → Point
-at links row node = record { x = across node; y = down links row }
+abbrev pub spot : (links row node : ℕ) → Point
+spot links row node = record { x = across node; y = down links row }
 
 -- half way from the one node's line to the other's in a row
 abbrev pub half_way : (links row from to : ℕ) → Point
@@ -50,16 +50,16 @@ half_way links row from to = record { x = (across from + across to) / 2; y = dow
 -- a lost frame's line ends half way
 abbrev pub lost_line : (lost : Bool) → (links row : ℕ) → Course → List ℕ
 lost_line false links row c = []
-lost_line true links row c = line (name_of colour.Lost) (at links row c.from) (half_way links row c.from c.to) (dash c.link)
+lost_line true links row c = line (name_of colour.Lost) (spot links row c.from) (half_way links row c.from c.to) (dash c.link)
 
 -- a link took a frame: a dot on its sender's line
 abbrev pub taken_shape : (links row : ℕ) → Course → Fate → List ℕ
-taken_shape links row c fate = dot (name_of (colour_of fate)) (at links row c.from) ++ lost_line fate.lost links row c
+taken_shape links row c fate = dot (name_of (colour_of fate)) (spot links row c.from) ++ lost_line fate.lost links row c
 
 -- a link handed a frame on: a line to its receiver's line, from where the link took it, or from the top where the picture has not that
 abbrev pub handed_shape : (links row : ℕ) → Course → Option Start → List ℕ
-handed_shape links row c None = line (name_of colour.Earlier) (record { x = across c.from; y = top links }) (at links row c.to) (dash c.link)
-handed_shape links row c (Some start) = line (name_of (colour_of start.fate)) (at links start.row c.from) (at links row c.to) (dash c.link)
+handed_shape links row c None = line (name_of colour.Earlier) (record { x = across c.from; y = top links }) (spot links row c.to) (dash c.link)
+handed_shape links row c (Some start) = line (name_of (colour_of start.fate)) (spot links start.row c.from) (spot links row c.to) (dash c.link)
 
 -- what is drawn of what happened
 abbrev pub shape : List PlainLink → PlainSeen → Who → What → List ℕ

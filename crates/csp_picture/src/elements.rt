@@ -3,7 +3,7 @@
 ghost use Rattle.std.specs.Prelude.{◌≡◌, ◌++◌, ◌*◌, OnOk, IfOk, codes, length};
 ghost use Rattle.std.specs.String.{string_bytes};
 ghost use Rattle.std.specs.Fmt.{decimal};
-ghost use Rattle.csp_picture.specs.Elements.{attribute, opened, point, closed, line, dot, text};
+ghost use Rattle.csp_picture.specs.Elements.{attribute, opened, located, closed, line, dot, text};
 
 use csp_text::push_number;
 use std::alloc::AllocError;
@@ -59,7 +59,7 @@ fn push_opened(out: &mut String, name: &str, class: &str) -> Result<(), AllocErr
 
 /// Appends the two attributes of a point.
 fn push_point(out: &mut String, x: &str, y: &str, point: Point) -> Result<(), AllocError>
-    ensures { OnOk result (string_bytes out.new ≡ string_bytes out.old ++ point x.now y.now point) }
+    ensures { OnOk result (string_bytes out.new ≡ string_bytes out.old ++ located x.now y.now point) }
 {
     push_measure(out, x, point.x)?;
     push_measure(out, y, point.y)
@@ -90,11 +90,11 @@ pub(crate) fn push_line(
 }
 
 /// Appends a dot of this class at a point.
-pub(crate) fn push_dot(out: &mut String, class: &str, at: Point) -> Result<(), AllocError>
-    ensures { OnOk result (string_bytes out.new ≡ string_bytes out.old ++ dot class.now at) }
+pub(crate) fn push_dot(out: &mut String, class: &str, point: Point) -> Result<(), AllocError>
+    ensures { OnOk result (string_bytes out.new ≡ string_bytes out.old ++ dot class.now point) }
 {
     push_opened(out, "circle", class)?;
-    push_point(out, "cx", "cy", at)?;
+    push_point(out, "cx", "cy", point)?;
     push_closed(out, "r", RADIUS)
 }
 
@@ -118,11 +118,11 @@ fn push_words(out: &mut String, words: &str) -> Result<(), AllocError>
 }
 
 /// Appends words of this class at a point.
-pub(crate) fn push_text(out: &mut String, class: &str, at: Point, words: &str) -> Result<(), AllocError>
-    ensures { OnOk result (string_bytes out.new ≡ string_bytes out.old ++ text class.now at words.now) }
+pub(crate) fn push_text(out: &mut String, class: &str, point: Point, words: &str) -> Result<(), AllocError>
+    ensures { OnOk result (string_bytes out.new ≡ string_bytes out.old ++ text class.now point words.now) }
 {
     push_opened(out, "text", class)?;
-    push_point(out, "x", "y", at)?;
+    push_point(out, "x", "y", point)?;
     push_measure(out, "textLength", length_of(words)?)?;
     push_words(out, words)
 }

@@ -3,7 +3,7 @@
 ghost use Rattle.std.specs.Prelude.{◌≡◌, ◌+◌, ◌-◌, ◌++◌, ◌==◌, ◌<◌, ◌≤◌, [], nat_lt, if◌then◌else◌, length, OnOk, IfOk};
 ghost use Rattle.std.specs.String.{string_bytes};
 ghost use Rattle.std.specs.Fmt.{decimal};
-ghost use Rattle.csp_picture.specs.Rows.{link_of, node_at, course_of, at, half_way, lost_line, taken_shape, handed_shape, shape, shape_of, shapes, link_name, frame_words, label, label_text, note, round_text, gap, times, notes_of, notes};
+ghost use Rattle.csp_picture.specs.Rows.{link_of, node_at, course_of, spot, half_way, lost_line, taken_shape, handed_shape, shape, shape_of, shapes, link_name, frame_words, label, label_text, note, round_text, gap, times, notes_of, notes};
 ghost use Rattle.csp_picture.specs.Seen.{is_shown, after, after_all};
 
 use crate::colours::Colour;
@@ -80,9 +80,9 @@ fn course_of(links: &[SceneLink], who: Who, way: Way) -> Course
 }
 
 /// The point on a node's line in a row.
-fn at(links: usize, row: u32, node: u8) -> Point
+fn spot(links: usize, row: u32, node: u8) -> Point
     requires { links ≤ MAX_LINKS }
-    ensures { result ≡ at links row node }
+    ensures { result ≡ spot links row node }
 {
     Point {
         x: across(usize::from(node)),
@@ -118,7 +118,7 @@ fn push_lost(
     push_line(
         out,
         Colour::Lost.name(),
-        at(links, row, course.from),
+        spot(links, row, course.from),
         half_way(links, row, course.from, course.to),
         dash(usize::from(course.link)),
     )
@@ -135,7 +135,7 @@ fn push_taken(
     requires { links ≤ MAX_LINKS }
     ensures { OnOk result (string_bytes out.new ≡ string_bytes out.old ++ taken_shape links row course.now fate.now) }
 {
-    push_dot(out, Colour::of(fate).name(), at(links, row, course.from))?;
+    push_dot(out, Colour::of(fate).name(), spot(links, row, course.from))?;
     push_lost(out, fate.lost, links, row, course)
 }
 
@@ -150,12 +150,12 @@ fn push_handed(
     requires { links ≤ MAX_LINKS }
     ensures { OnOk result (string_bytes out.new ≡ string_bytes out.old ++ handed_shape links row course.now start) }
 {
-    let stop = at(links, row, course.to);
+    let stop = spot(links, row, course.to);
     let dashes = dash(usize::from(course.link));
     match start {
         Some(start) => {
             let class = Colour::of(&start.fate).name();
-            push_line(out, class, at(links, start.row, course.from), stop, dashes)
+            push_line(out, class, spot(links, start.row, course.from), stop, dashes)
         }
         None => {
             let first = Point {
