@@ -45,7 +45,7 @@ marker c = marked c ++ (codes "' viewBox='0 0 10 10' refX='9' refY='5' markerWid
 
 -- a white ground, and what all texts and lines look like
 abbrev pub base_style : List ℕ
-base_style = codes "<rect width='100%' height='100%' fill='#fff'/>\n<style>\ntext{font:12px monospace;fill:#222}\nline{stroke-width:2}\n.left{text-anchor:end}\n.middle{text-anchor:middle}\n.node{stroke:#bbb}\ntext.gap{fill:#777}\nline.gap{stroke:#bbb;stroke-width:1;stroke-dasharray:2 4}\n"
+base_style = codes "<rect width='100%' height='100%' fill='#fff'/>\n<style>\ntext{font:12px monospace;fill:#222;stroke:#fff;stroke-width:3;paint-order:stroke}\nline{stroke-width:2}\n.left{text-anchor:end}\n.middle{text-anchor:middle}\n.node{stroke:#bbb}\ntext.gap{fill:#777}\nline.gap{stroke:#bbb;stroke-width:1;stroke-dasharray:2 4}\n"
 
 -- the style of a picture
 abbrev pub style : List ℕ

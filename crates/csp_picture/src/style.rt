@@ -11,7 +11,7 @@ use std::alloc::AllocError;
 /// A white ground, and what all texts and lines look like.
 const BASE: &str = "<rect width='100%' height='100%' fill='#fff'/>\n\
     <style>\n\
-    text{font:12px monospace;fill:#222}\n\
+    text{font:12px monospace;fill:#222;stroke:#fff;stroke-width:3;paint-order:stroke}\n\
     line{stroke-width:2}\n\
     .left{text-anchor:end}\n\
     .middle{text-anchor:middle}\n\
