@@ -1,6 +1,6 @@
 -- The colours of frames, by what became of them.
 use Rattle.std.specs.Prelude.{ℕ, Bool, ◌||◌, nat_lt, is_some, if◌then◌else◌, List, [], ◌∷◌, codes}
-use Rattle.csp_link.specs.declared.fates.Fate.{Fate}
+use Rattle.csp_timeline.specs.declared.fates.Fate.{Fate}
 use Rattle.csp_picture.specs.declared.colours.Colour.{Colour}
 use Rattle.csp_picture.specs.declared.colours.Colour.TheVariants as colour
 

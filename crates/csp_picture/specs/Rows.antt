@@ -3,7 +3,7 @@ use Rattle.std.specs.Prelude.{ℕ, ◌+◌, ◌-◌, ◌/◌, ◌==◌, Bool, tr
 use Rattle.std.specs.Fmt.{decimal}
 use Rattle.std.specs.Option.{option_map_or, option_and_then}
 use Rattle.csp_link.specs.Ways.{number, other}
-use Rattle.csp_link.specs.declared.fates.Fate.{Fate}
+use Rattle.csp_timeline.specs.declared.fates.Fate.{Fate}
 use Rattle.csp_link.specs.declared.way.Way.{Way}
 use Rattle.csp_record.specs.declared.who.Who.{Who}
 use Rattle.csp_record.specs.declared.who.Who.TheVariants as who

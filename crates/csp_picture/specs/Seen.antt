@@ -4,7 +4,7 @@ use Rattle.std.specs.BTreeMap.{insert_entry, is_at}
 use Rattle.std.specs.Map.{lookup}
 use Rattle.std.specs.Option.{option_and_then}
 use Rattle.csp_base.specs.declared.traces.Origin.{Origin}
-use Rattle.csp_link.specs.declared.fates.Fate.{Fate}
+use Rattle.csp_timeline.specs.declared.fates.Fate.{Fate}
 use Rattle.csp_record.specs.Table.{key_cmp}
 use Rattle.csp_record.specs.declared.who.Who.{Who}
 use Rattle.csp_record.specs.declared.who.Who.TheVariants as who

@@ -11,11 +11,11 @@ use crate::elements::{Point, push_dot, push_line, push_text};
 use crate::places::{across, dash, down, top, width};
 use crate::seen::{Seen, Sent, Start, Window, is_shown, opens};
 use crate::words::{push_fate, push_sent, push_word};
-use csp_link::{Fate, Way};
+use csp_link::Way;
 use csp_record::Who;
 use csp_scene::{MAX_LINKS, MAX_NODES, SceneLink};
 use csp_text::push_number;
-use csp_timeline::{Happening, Piece, What};
+use csp_timeline::{Fate, Happening, Piece, What};
 use std::alloc::{AllocError, Global};
 
 /// How far above its row a label stands.

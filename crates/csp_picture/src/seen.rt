@@ -5,9 +5,8 @@ ghost use Rattle.csp_picture.specs.Seen.{opens, closes, is_drawn, is_in, is_show
 
 use crate::colours::is_harmed;
 use csp_base::Origin;
-use csp_link::Fate;
 use csp_record::Who;
-use csp_timeline::{Happening, Parcel, What};
+use csp_timeline::{Fate, Happening, Parcel, What};
 use std::alloc::{AllocError, Global};
 use std::collections::BTreeMap;
 use std::marker::Model;

@@ -9,9 +9,8 @@ ghost use Rattle.csp_picture.specs.Words.{spaced, counted, port_words, flow_word
 use crate::seen::Sent;
 use csp_base::Tag;
 use csp_header::Header;
-use csp_link::Fate;
 use csp_text::push_number;
-use csp_timeline::{Kind, Parcel};
+use csp_timeline::{Fate, Kind, Parcel};
 use std::alloc::AllocError;
 
 /// Appends a word with a space before it.
