@@ -1,7 +1,8 @@
 -- What is told along a list, where the next of it was told.
-use Rattle.std.proofs.Common.{◌≡◌, ℕ, suc, ◌+◌, ◌<◌, List, ◌∷◌, ◌++◌, length, drop, get_or, drop-cons, add-one, append_assoc, refl, sym, ap, ◌∙◌}
+use Rattle.std.proofs.Common.{◌≡◌, ℕ, suc, ◌+◌, ◌<◌, List, ◌∷◌, ◌++◌, length, drop, get_or, ◌≤◌, [], drop-cons, add-one, append_assoc, refl, sym, ap, ◌∙◌}
+use Rattle.std.proofs.lemmas.List.{drop_all}
 use Rattle.std.specs.Prelude.{Option}
-use Rattle.csp_timeline.specs.declared.happenings.Happening.{Happening}
+use Rattle.csp_timeline.specs.declared.kinds.Happening.{Happening}
 use Rattle.csp_picture.specs.Seen.{PlainSeen, after, after_all, along}
 use Rattle.csp_picture.specs.declared.seen.Window.{Window}
 
@@ -28,3 +29,13 @@ module _ (window : Option Window) (hs : List Happening) (i : ℕ) (h : Happening
   -- and what is known in the end stays
   pub passed_more : (all seen' : PlainSeen) → seen' ≡ after window seen h → after_all window seen (drop i hs) ≡ all → after_all window seen' (drop (i + 1) hs) ≡ all
   passed_more all seen' passed before = rw passed (sym after_step ∙ before)
+
+-- nothing is told of nothing
+pub along_end : (tells : PlainSeen → Happening → List ℕ) (window : Option Window) (seen : PlainSeen) (hs : List Happening) (i : ℕ) → length hs ≤ i → along tells window seen (drop i hs) ≡ []
+unfolding along
+along_end tells window seen hs i past = ap (along tells window seen) (drop_all i hs past)
+
+-- and nothing becomes known
+pub after_end : (window : Option Window) (seen : PlainSeen) (hs : List Happening) (i : ℕ) → length hs ≤ i → after_all window seen (drop i hs) ≡ seen
+unfolding after_all
+after_end window seen hs i past = ap (after_all window seen) (drop_all i hs past)

@@ -1,6 +1,6 @@
 -- The colours of frames, by what became of them.
 use Rattle.std.specs.Prelude.{ℕ, Bool, ◌||◌, nat_lt, is_some, if◌then◌else◌, List, [], ◌∷◌, codes}
-use Rattle.csp_timeline.specs.declared.fates.Fate.{Fate}
+use Rattle.csp_link.specs.declared.fates.Fate.{Fate}
 use Rattle.csp_picture.specs.declared.colours.Colour.{Colour}
 use Rattle.csp_picture.specs.declared.colours.Colour.TheVariants as colour
 
@@ -23,7 +23,7 @@ name_of colour.Repeated = codes "repeated"
 name_of colour.Earlier = codes "earlier"
 
 -- the colours in the order of the legend
-abbrev pub all_colours : List Colour
+unfoldable pub all_colours : List Colour
 all_colours = colour.Plain ∷ colour.Lost ∷ colour.Flipped ∷ colour.Delayed ∷ colour.Repeated ∷ colour.Earlier ∷ []
 
 -- whether a plan does anything to a frame

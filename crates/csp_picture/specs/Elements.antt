@@ -29,7 +29,18 @@ line class start stop dash =
 abbrev pub dot : (class : List ℕ) → Point → List ℕ
 dot class p = opened (codes "circle") class ++ (located (codes "cx") (codes "cy") p ++ (attribute (codes "r") (decimal RADIUS) ++ closed))
 
--- words of this class at a point, and how long they are whatever the letters' form: `CHAR_WIDTH` for each byte
+-- how long words are, whatever the letters' form: `CHAR_WIDTH` for each byte
+unfoldable pub long : (words : List ℕ) → ℕ
+long words = CHAR_WIDTH * length words
+
+-- how a text of this class at a point begins
+unfoldable pub text_start : (class : List ℕ) → Point → List ℕ
+text_start class p = opened (codes "text") class ++ located (codes "x") (codes "y") p
+
+-- how long its words are, and they
+unfoldable pub text_words : (words : List ℕ) → List ℕ
+text_words words = attribute (codes "textLength") (decimal (long words)) ++ (codes ">" ++ (words ++ codes "</text>\n"))
+
+-- words of this class at a point
 abbrev pub text : (class : List ℕ) → Point → (words : List ℕ) → List ℕ
-text class p words =
-    opened (codes "text") class ++ (located (codes "x") (codes "y") p ++ (attribute (codes "textLength") (decimal (CHAR_WIDTH * length words)) ++ (codes ">" ++ (words ++ codes "</text>\n"))))
+text class p words = text_start class p ++ text_words words

@@ -11,19 +11,27 @@ use Rattle.csp_picture.specs.Seen.{nothing_seen, after_all}
 use Rattle.csp_picture.specs.Style.{style}
 use Rattle.csp_picture.specs.declared.seen.Window.{Window}
 use Rattle.csp_timeline.specs.Happenings.{happenings}
-use Rattle.csp_timeline.specs.declared.happenings.Happening.{Happening}
+use Rattle.csp_timeline.specs.declared.kinds.Happening.{Happening}
+
+-- how the size is named
+unfoldable pub box_word : List ℕ
+box_word = codes " viewBox='0 0 "
 
 -- ` viewBox='0 0 WIDTH HEIGHT'>`
-abbrev pub view_box : (width height : ℕ) → List ℕ
-view_box width height = codes " viewBox='0 0 " ++ (decimal width ++ (codes " " ++ (decimal height ++ codes "'>\n")))
+unfoldable pub view_box : (width height : ℕ) → List ℕ
+view_box width height = box_word ++ (decimal width ++ (codes " " ++ (decimal height ++ codes "'>\n")))
+
+-- how every picture begins
+unfoldable pub svg_word : List ℕ
+svg_word = codes "<svg xmlns='http://www.w3.org/2000/svg'"
 
 -- how a picture of this width and height begins
-abbrev pub head : (width height : ℕ) → List ℕ
+unfoldable pub head : (width height : ℕ) → List ℕ
 head width height =
-    codes "<svg xmlns='http://www.w3.org/2000/svg'" ++ (attribute (codes "width") (decimal width) ++ (attribute (codes "height") (decimal height) ++ view_box width height))
+    svg_word ++ (attribute (codes "width") (decimal width) ++ (attribute (codes "height") (decimal height) ++ view_box width height))
 
 -- what a picture of so many rows has besides what happened: its look, the legend, the columns
-abbrev pub frame : List PlainNode → List PlainLink → (rows : ℕ) → List ℕ
+unfoldable pub frame : List PlainNode → List PlainLink → (rows : ℕ) → List ℕ
 frame nodes links rows = head (width (length nodes)) (height (length links) rows) ++ (style ++ (legend nodes links ++ columns nodes (length links) rows))
 
 -- a picture of what happened: what is drawn, and above it what is written

@@ -3,7 +3,7 @@ use Rattle.std.specs.Prelude.{ℕ, ◌+◌, ◌-◌, ◌/◌, ◌==◌, Bool, tr
 use Rattle.std.specs.Fmt.{decimal}
 use Rattle.std.specs.Option.{option_map_or, option_and_then}
 use Rattle.csp_link.specs.Ways.{number, other}
-use Rattle.csp_timeline.specs.declared.fates.Fate.{Fate}
+use Rattle.csp_link.specs.declared.fates.Fate.{Fate}
 use Rattle.csp_link.specs.declared.way.Way.{Way}
 use Rattle.csp_record.specs.declared.who.Who.{Who}
 use Rattle.csp_record.specs.declared.who.Who.TheVariants as who
@@ -21,10 +21,10 @@ use Rattle.csp_picture.specs.declared.rows.TheConstants.{ABOVE, BESIDE, ROUNDS_E
 use Rattle.csp_picture.specs.declared.seen.Sent.{Sent}
 use Rattle.csp_picture.specs.declared.seen.Start.{Start}
 use Rattle.csp_picture.specs.declared.seen.Window.{Window}
-use Rattle.csp_timeline.specs.declared.happenings.Happening.{Happening}
-use Rattle.csp_timeline.specs.declared.happenings.Piece.{Piece}
-use Rattle.csp_timeline.specs.declared.happenings.What.{What}
-use Rattle.csp_timeline.specs.declared.happenings.What.TheVariants as what
+use Rattle.csp_timeline.specs.declared.kinds.Happening.{Happening}
+use Rattle.csp_timeline.specs.declared.kinds.Piece.{Piece}
+use Rattle.csp_timeline.specs.declared.kinds.What.{What}
+use Rattle.csp_timeline.specs.declared.kinds.What.TheVariants as what
 
 -- the place of a link's party among the links
 abbrev pub link_of : Who → ℕ
@@ -59,7 +59,7 @@ taken_shape links row c fate = dot (name_of (colour_of fate)) (spot links row c.
 -- a link handed a frame on: a line to its receiver's line, from where the link took it, or from the top where the picture has not that
 abbrev pub handed_shape : (links row : ℕ) → Course → Option Start → List ℕ
 handed_shape links row c None = line (name_of colour.Earlier) (record { x = across c.from; y = top links }) (spot links row c.to) (dash c.link)
-handed_shape links row c (Some start) = line (name_of (colour_of start.fate)) (spot links start.row c.from) (spot links row c.to) (dash c.link)
+handed_shape links row c (Some start) = line (name_of start.colour) (spot links start.row c.from) (spot links row c.to) (dash c.link)
 
 -- what is drawn of what happened
 abbrev pub shape : List PlainLink → PlainSeen → Who → What → List ℕ
@@ -88,11 +88,11 @@ frame_words true sent = sent_words sent
 frame_words false sent = spaced (codes "part")
 
 -- a label: the link, the frame, its fate
-abbrev pub label : List ℕ → PlainSeen → Piece → Fate → List ℕ
+unfoldable pub label : List ℕ → PlainSeen → Piece → Fate → List ℕ
 label name seen frame fate = name ++ (frame_words (opens frame.can) (sent_by seen frame.trace.origin) ++ fate_words fate)
 
 -- it stands above the frame's line, beside the sender's line, on the side of the receiver
-abbrev pub label_text : (links row : ℕ) → Course → (words : List ℕ) → List ℕ
+unfoldable pub label_text : (links row : ℕ) → Course → (words : List ℕ) → List ℕ
 label_text links row c words =
     if nat_lt c.from c.to
     then text (codes "right") (record { x = across c.from + BESIDE; y = down links row - ABOVE }) words
@@ -104,11 +104,11 @@ note links seen party (what.Carried way number fate frame) = label_text (length 
 note links seen party _ = []
 
 -- the round, left of the first column
-abbrev pub round_text : (links row round : ℕ) → List ℕ
+unfoldable pub round_text : (links row round : ℕ) → List ℕ
 round_text links row round = text (codes "left") (record { x = ROUNDS_END; y = down links row + ROUND_DROP }) (decimal round)
 
 -- a gap of so many rounds in which nothing was shown: a line across, and how many
-abbrev pub gap : (nodes links row rounds : ℕ) → List ℕ
+unfoldable pub gap : (nodes links row rounds : ℕ) → List ℕ
 gap nodes links row rounds =
     line (codes "gap") (record { x = GAP_START; y = down links row - GAP_RISE }) (record { x = width nodes; y = down links row - GAP_RISE }) 0
     ++ text (codes "gap") (record { x = GAP_START; y = down links row + ROUND_DROP }) (codes "+" ++ decimal rounds)

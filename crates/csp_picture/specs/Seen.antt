@@ -4,17 +4,17 @@ use Rattle.std.specs.BTreeMap.{insert_entry, is_at}
 use Rattle.std.specs.Map.{lookup}
 use Rattle.std.specs.Option.{option_and_then}
 use Rattle.csp_base.specs.declared.traces.Origin.{Origin}
-use Rattle.csp_timeline.specs.declared.fates.Fate.{Fate}
+use Rattle.csp_link.specs.declared.fates.Fate.{Fate}
 use Rattle.csp_record.specs.Table.{key_cmp}
 use Rattle.csp_record.specs.declared.who.Who.{Who}
 use Rattle.csp_record.specs.declared.who.Who.TheVariants as who
-use Rattle.csp_picture.specs.Colours.{is_harmed}
+use Rattle.csp_picture.specs.Colours.{colour_of, is_harmed}
 use Rattle.csp_picture.specs.declared.seen.Sent.{Sent}
 use Rattle.csp_picture.specs.declared.seen.Start.{Start}
 use Rattle.csp_picture.specs.declared.seen.Window.{Window}
-use Rattle.csp_timeline.specs.declared.happenings.Happening.{Happening}
-use Rattle.csp_timeline.specs.declared.happenings.What.{What}
-use Rattle.csp_timeline.specs.declared.happenings.What.TheVariants as what
+use Rattle.csp_timeline.specs.declared.kinds.Happening.{Happening}
+use Rattle.csp_timeline.specs.declared.kinds.What.{What}
+use Rattle.csp_timeline.specs.declared.kinds.What.TheVariants as what
 
 -- whether a frame opens a packet: on a KISS link each does, and on a CAN link one whose identifier has a 0 as its bit 18
 abbrev pub opens : Option ℕ → Bool
@@ -65,7 +65,7 @@ abbrev pub sent_by : PlainSeen → Option Origin → Option Sent
 sent_by seen None = None
 sent_by seen (Some origin) = lookup (is_at (key_cmp (key_of origin))) seen.sent
 
--- the row in which a link took it, and its fate there
+-- the row in which a link took it, and the colour that it has from there
 abbrev pub start_of : PlainSeen → Option Origin → Option Start
 start_of seen None = None
 start_of seen (Some origin) = lookup (is_at (key_cmp (key_of origin))) seen.starts
@@ -77,7 +77,7 @@ with_sent _ serial sent seen = seen
 
 -- a link took a frame, which opens the packet or not, in the row that is next
 abbrev pub with_start : (opening : Bool) → Option Origin → Fate → PlainSeen → PlainSeen
-with_start true (Some origin) fate seen = record seen { starts = insert_entry key_cmp seen.starts (key_of origin) (record { row = seen.rows; fate = fate }) }
+with_start true (Some origin) fate seen = record seen { starts = insert_entry key_cmp seen.starts (key_of origin) (record { row = seen.rows; colour = colour_of fate }) }
 with_start _ _ fate seen = seen
 
 -- what is noted of what happened: of what was transmitted always, of what a link took where it is shown

@@ -28,25 +28,41 @@ abbrev pub paints : Colour → List ℕ
 paints c = codes "{stroke:" ++ (paint_of c ++ (codes ";fill:" ++ (paint_of c ++ codes "}\n")))
 
 -- the look of what is of this colour
-abbrev pub look : Colour → List ℕ
+unfoldable pub look : Colour → List ℕ
 look c = codes "." ++ (name_of c ++ paints c)
 
+-- what names a tip
+unfoldable pub tip_word : List ℕ
+tip_word = codes "{marker-end:url(#"
+
 -- the tip of its lines
-abbrev pub tip : Colour → List ℕ
-tip c = codes "line." ++ (name_of c ++ (codes "{marker-end:url(#" ++ (name_of c ++ codes ")}\n")))
+unfoldable pub tip : Colour → List ℕ
+tip c = codes "line." ++ (name_of c ++ (tip_word ++ (name_of c ++ codes ")}\n")))
+
+-- how a tip begins
+unfoldable pub marker_word : List ℕ
+marker_word = codes "<marker id='"
 
 -- the names of a tip
-abbrev pub marked : Colour → List ℕ
-marked c = codes "<marker id='" ++ (name_of c ++ (codes "' class='" ++ name_of c))
+unfoldable pub marked : Colour → List ℕ
+marked c = marker_word ++ (name_of c ++ (codes "' class='" ++ name_of c))
+
+-- its size and place
+unfoldable pub marker_form : List ℕ
+marker_form = codes "' viewBox='0 0 10 10' refX='9' refY='5' markerWidth='10' markerHeight='10' markerUnits='userSpaceOnUse' orient='auto'><path d='"
+
+-- how it ends
+unfoldable pub marker_end : List ℕ
+marker_end = codes "'/></marker>\n"
 
 -- what that tip is
-abbrev pub marker : Colour → List ℕ
-marker c = marked c ++ (codes "' viewBox='0 0 10 10' refX='9' refY='5' markerWidth='10' markerHeight='10' markerUnits='userSpaceOnUse' orient='auto'><path d='" ++ (tip_of c ++ codes "'/></marker>\n"))
+unfoldable pub marker : Colour → List ℕ
+marker c = marked c ++ (marker_form ++ (tip_of c ++ marker_end))
 
 -- a white ground, and what all texts and lines look like
-abbrev pub base_style : List ℕ
+unfoldable pub base_style : List ℕ
 base_style = codes "<rect width='100%' height='100%' fill='#fff'/>\n<style>\ntext{font:12px monospace;fill:#222;stroke:#fff;stroke-width:3;paint-order:stroke}\nline{stroke-width:2}\n.left{text-anchor:end}\n.middle{text-anchor:middle}\n.node{stroke:#bbb}\ntext.gap{fill:#777}\nline.gap{stroke:#bbb;stroke-width:1;stroke-dasharray:2 4}\n"
 
 -- the style of a picture
-abbrev pub style : List ℕ
+unfoldable pub style : List ℕ
 style = base_style ++ (flat_map (λ c. look c ++ tip c) all_colours ++ (codes "</style>\n" ++ flat_map marker all_colours))

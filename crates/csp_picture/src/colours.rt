@@ -1,6 +1,6 @@
 //! The colours of frames.
 
-ghost use Rattle.std.specs.Prelude.{◌≡◌};
+ghost use Rattle.std.specs.Prelude.{◌≡◌, ◌<◌, length};
 ghost use Rattle.csp_picture.specs.Colours.{colour_of, name_of, all_colours, is_harmed};
 ghost use Rattle.csp_picture.specs.Style.{paint_of, tip_of};
 
@@ -33,9 +33,11 @@ const COLOURS: [Colour; 6] = [
     Colour::Earlier,
 ];
 
+#[tactic(auto, unfolding(crate::specs::Colours::all_colours))]
 /// All of them, in the order of the legend.
 pub(crate) fn all_colours<'a>() -> &'a [Colour]
-    ensures { result.now ≡ all_colours }
+    ensures all { result.now ≡ all_colours }
+    ensures few { length result.now < 100 }
 {
     &COLOURS
 }

@@ -1,9 +1,9 @@
 //! The elements of a picture.
 
-ghost use Rattle.std.specs.Prelude.{◌≡◌, ◌++◌, ◌*◌, OnOk, IfOk, codes, length};
+ghost use Rattle.std.specs.Prelude.{◌≡◌, ◌++◌, OnOk, IfOk, codes};
 ghost use Rattle.std.specs.String.{string_bytes};
 ghost use Rattle.std.specs.Fmt.{decimal};
-ghost use Rattle.csp_picture.specs.Elements.{attribute, opened, located, closed, line, dot, text};
+ghost use Rattle.csp_picture.specs.Elements.{attribute, opened, located, closed, line, dot, long, text_start, text_words, text};
 
 use csp_text::push_number;
 use std::alloc::AllocError;
@@ -98,14 +98,24 @@ pub(crate) fn push_dot(out: &mut String, class: &str, point: Point) -> Result<()
     push_closed(out, "r", RADIUS)
 }
 
+#[tactic(auto, unfolding(crate::specs::Elements::long))]
 /// How long words are. Memory is wanting where that is more than 64 bits count.
 fn length_of(words: &str) -> Result<u64, AllocError>
-    ensures { IfOk result (λ long. long ≡ CHAR_WIDTH * length words.now) }
+    ensures { IfOk result (λ number. number ≡ long words.now) }
 {
     match CHAR_WIDTH.checked_mul(words.len() as u64) {
         Some(long) => Ok(long),
         None => Err(AllocError),
     }
+}
+
+#[tactic(auto, unfolding(crate::specs::Elements::text_start))]
+/// Appends how a text of this class at a point begins.
+fn push_text_start(out: &mut String, class: &str, point: Point) -> Result<(), AllocError>
+    ensures { OnOk result (string_bytes out.new ≡ string_bytes out.old ++ text_start class.now point) }
+{
+    push_opened(out, "text", class)?;
+    push_point(out, "x", "y", point)
 }
 
 /// Appends the words of a text and its end.
@@ -117,12 +127,24 @@ fn push_words(out: &mut String, words: &str) -> Result<(), AllocError>
     out.push_str("</text>\n")
 }
 
-/// Appends words of this class at a point.
-pub(crate) fn push_text(out: &mut String, class: &str, point: Point, words: &str) -> Result<(), AllocError>
-    ensures { OnOk result (string_bytes out.new ≡ string_bytes out.old ++ text class.now point words.now) }
+#[tactic(auto, unfolding(crate::specs::Elements::text_words))]
+/// Appends how long the words of a text are, and they.
+fn push_text_words(out: &mut String, words: &str) -> Result<(), AllocError>
+    ensures { OnOk result (string_bytes out.new ≡ string_bytes out.old ++ text_words words.now) }
 {
-    push_opened(out, "text", class)?;
-    push_point(out, "x", "y", point)?;
     push_measure(out, "textLength", length_of(words)?)?;
     push_words(out, words)
+}
+
+/// Appends words of this class at a point.
+pub(crate) fn push_text(
+    out: &mut String,
+    class: &str,
+    point: Point,
+    words: &str,
+) -> Result<(), AllocError>
+    ensures { OnOk result (string_bytes out.new ≡ string_bytes out.old ++ text class.now point words.now) }
+{
+    push_text_start(out, class, point)?;
+    push_text_words(out, words)
 }

@@ -4,7 +4,7 @@ ghost use Rattle.std.specs.Prelude.{◌≡◌, ◌++◌, ◌<◌, ◌≤◌, ◌
 ghost use Rattle.std.specs.List.{flat_map, enumerate_from};
 ghost use Rattle.std.specs.String.{string_bytes};
 ghost use Rattle.csp_picture.specs.Colours.{all_colours};
-ghost use Rattle.csp_picture.specs.Legend.{sample, colour_sample, node_name, link_words, link_sample, column, legend, columns};
+ghost use Rattle.csp_picture.specs.Legend.{sample, colour_sample, node_name, link_words, link_sample, column_line, column_names, column, legend, columns};
 ghost use Rattle.csp_picture.specs.Words.{spaced};
 
 use crate::colours::{Colour, all_colours};
@@ -41,6 +41,7 @@ pub const NAME_RISE: u64 = 6;
 /// How far below the last row it stands once more.
 pub const NAME_DROP: u64 = 18;
 
+#[tactic(auto, unfolding(crate::specs::Legend::sample))]
 /// Appends a sample of a line with its words.
 fn push_sample(
     out: &mut String,
@@ -50,8 +51,8 @@ fn push_sample(
     dash: u64,
     words: &str,
 ) -> Result<(), AllocError>
-    requires across { x < 2 ^ 20 }
-    requires down { (20 ≤ y) × (y < 2 ^ 20) }
+    requires right { x < 2 ^ 20 }
+    requires below { (20 ≤ y) × (y < 2 ^ 20) }
     ensures { OnOk result (string_bytes out.new ≡ string_bytes out.old ++ sample class.now x y dash words.now) }
 {
     let start = Point { x, y: y - RISE };
@@ -63,14 +64,23 @@ fn push_sample(
     push_text(out, "right", Point { x: x + WORD, y }, words)
 }
 
+#[tactic(auto, unfolding(crate::specs::Legend::colour_sample))]
+/// Appends the sample of the colour in this place.
+fn push_colour(out: &mut String, place: usize, colour: Colour) -> Result<(), AllocError>
+    requires { place < 100 }
+    ensures { OnOk result (string_bytes out.new ≡ string_bytes out.old ++ colour_sample place colour) }
+{
+    let x = LEFT + SAMPLE_STEP * place as u64;
+    push_sample(out, colour.name(), x, HEAD_LINE, 0, colour.name())
+}
+
 /// Appends the samples of these colours side by side.
 fn push_colours(out: &mut String, colours: &[Colour]) -> Result<(), AllocError>
     requires { length colours.now < 100 }
     ensures { OnOk result (string_bytes out.new ≡ string_bytes out.old ++ flat_map (λ c. colour_sample c.0 c.1) (enumerate_from 0 colours.now)) }
 {
     for (place, colour) in colours.iter().enumerate() {
-        let x = LEFT + SAMPLE_STEP * place as u64;
-        push_sample(out, colour.name(), x, HEAD_LINE, 0, colour.name())?;
+        push_colour(out, place, *colour)?;
     }
     Ok(())
 }
@@ -86,6 +96,7 @@ fn push_node_name(out: &mut String, nodes: &[SceneNode], place: usize) -> Result
     }
 }
 
+#[tactic(auto, unfolding(crate::specs::Legend::link_words))]
 /// The words of a link.
 fn link_words(
     alloc: Global,
@@ -103,6 +114,7 @@ fn link_words(
     Ok(words)
 }
 
+#[tactic(auto, unfolding(crate::specs::Legend::link_sample))]
 /// Appends the sample of a link.
 fn push_link(
     alloc: Global,
@@ -136,6 +148,7 @@ fn push_links(
     Ok(())
 }
 
+#[tactic(auto, unfolding(crate::specs::Legend::legend))]
 /// Appends the legend.
 pub(crate) fn push_legend(
     alloc: Global,
@@ -150,7 +163,56 @@ pub(crate) fn push_legend(
     push_links(alloc, out, nodes, links)
 }
 
-/// Appends the line of a node, with its name above and below it.
+#[tactic(auto, unfolding(crate::specs::Legend::column_line))]
+/// Appends the line of the node in this place.
+fn push_column_line(
+    out: &mut String,
+    links: usize,
+    rows: u32,
+    place: usize,
+) -> Result<(), AllocError>
+    requires links { links ≤ MAX_LINKS }
+    requires place { place ≤ MAX_NODES }
+    ensures { OnOk result (string_bytes out.new ≡ string_bytes out.old ++ column_line links rows place) }
+{
+    let start = Point {
+        x: across(place),
+        y: top(links),
+    };
+    let stop = Point {
+        x: across(place),
+        y: down(links, rows),
+    };
+    push_line(out, "node", start, stop, 0)
+}
+
+#[tactic(auto, unfolding(crate::specs::Legend::column_names))]
+/// Appends its name above and below that.
+fn push_column_names(
+    out: &mut String,
+    links: usize,
+    rows: u32,
+    place: usize,
+    name: &str,
+) -> Result<(), AllocError>
+    requires links { links ≤ MAX_LINKS }
+    requires place { place ≤ MAX_NODES }
+    ensures { OnOk result (string_bytes out.new ≡ string_bytes out.old ++ column_names links rows place name.now) }
+{
+    let above = Point {
+        x: across(place),
+        y: top(links) - NAME_RISE,
+    };
+    let below = Point {
+        x: across(place),
+        y: down(links, rows) + NAME_DROP,
+    };
+    push_text(out, "middle", above, name)?;
+    push_text(out, "middle", below, name)
+}
+
+#[tactic(auto, unfolding(crate::specs::Legend::column))]
+/// Appends the column of a node.
 fn push_column(
     out: &mut String,
     links: usize,
@@ -162,12 +224,8 @@ fn push_column(
     requires place { place ≤ MAX_NODES }
     ensures { OnOk result (string_bytes out.new ≡ string_bytes out.old ++ column links rows place node.now) }
 {
-    let x = across(place);
-    let name = node.name.as_str();
-    let (above, below) = (top(links), down(links, rows));
-    push_line(out, "node", Point { x, y: above }, Point { x, y: below }, 0)?;
-    push_text(out, "middle", Point { x, y: above - NAME_RISE }, name)?;
-    push_text(out, "middle", Point { x, y: below + NAME_DROP }, name)
+    push_column_line(out, links, rows, place)?;
+    push_column_names(out, links, rows, place, node.name.as_str())
 }
 
 /// Appends the columns of the nodes.

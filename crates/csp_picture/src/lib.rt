@@ -6,13 +6,13 @@ mod colours;
 mod elements;
 mod laws;
 mod legend;
-mod picture;
 mod places;
 mod rows;
 mod seen;
 mod style;
+mod whole;
 mod words;
 
 pub use laws::labels_stand_apart;
-pub use picture::picture;
 pub use seen::Window;
+pub use whole::picture;

@@ -4,7 +4,7 @@ ghost use Rattle.std.specs.Prelude.{◌≡◌, ◌+◌, ◌-◌, ◌++◌, ◌==
 ghost use Rattle.std.specs.String.{string_bytes};
 ghost use Rattle.std.specs.Fmt.{decimal};
 ghost use Rattle.csp_picture.specs.Rows.{link_of, node_at, course_of, spot, half_way, lost_line, taken_shape, handed_shape, shape, shape_of, shapes, link_name, frame_words, label, label_text, note, round_text, gap, times, notes_of, notes};
-ghost use Rattle.csp_picture.specs.Seen.{is_shown, after, after_all};
+ghost use Rattle.csp_picture.specs.Seen.{is_shown, after};
 
 use crate::colours::Colour;
 use crate::elements::{Point, push_dot, push_line, push_text};
@@ -154,7 +154,7 @@ fn push_handed(
     let dashes = dash(usize::from(course.link));
     match start {
         Some(start) => {
-            let class = Colour::of(&start.fate).name();
+            let class = start.colour.name();
             push_line(out, class, spot(links, start.row, course.from), stop, dashes)
         }
         None => {
@@ -184,7 +184,7 @@ fn push_shape(
             push_taken(out, links.len(), row, &course_of(links, who, *way), fate)
         }
         What::HandedOn { way, frame } => {
-            let start = seen.start(frame.trace.origin);
+            let start = seen.start_of(frame.trace.origin);
             push_handed(out, links.len(), row, &course_of(links, who, *way), start)
         }
         _ => Ok(()),
@@ -218,8 +218,7 @@ pub(crate) fn push_shapes(
     happenings: &[Happening],
 ) -> Result<(), AllocError>
     requires { length links.now ≤ MAX_LINKS }
-    ensures text { OnOk result (string_bytes out.new ≡ string_bytes out.old ++ shapes links.now window seen.old happenings.now) }
-    ensures seen { OnOk result (seen.new ≡ after_all window seen.old happenings.now) }
+    ensures { OnOk result (string_bytes out.new ≡ string_bytes out.old ++ shapes links.now window seen.old happenings.now) }
 {
     for happening in happenings {
         let shown = is_shown(window, happening);
@@ -250,6 +249,7 @@ fn push_link_name(out: &mut String, links: &[SceneLink], link: usize) -> Result<
     }
 }
 
+#[tactic(auto, unfolding(crate::specs::Rows::label))]
 /// The label of a frame that a link took.
 fn label_of(
     alloc: Global,
@@ -263,11 +263,12 @@ fn label_of(
 {
     let mut words = String::new(alloc);
     push_link_name(&mut words, links, link)?;
-    push_frame(&mut words, opens(frame.can), seen.sent(frame.trace.origin))?;
+    push_frame(&mut words, opens(frame.can), seen.sent_by(frame.trace.origin))?;
     push_fate(&mut words, fate)?;
     Ok(words)
 }
 
+#[tactic(auto, unfolding(crate::specs::Rows::label_text))]
 /// Appends a label beside its sender's line, on the side of the receiver.
 fn push_label(
     out: &mut String,
@@ -322,6 +323,7 @@ fn digits(alloc: Global, before: &str, number: u64) -> Result<String, AllocError
     Ok(words)
 }
 
+#[tactic(auto, unfolding(crate::specs::Rows::round_text))]
 /// Appends the round of a row.
 fn push_round(
     alloc: Global,
@@ -341,6 +343,7 @@ fn push_round(
     push_text(out, "left", foot, words.as_str())
 }
 
+#[tactic(auto, unfolding(crate::specs::Rows::gap))]
 /// Appends a gap of so many rounds above a row.
 fn push_gap(
     alloc: Global,

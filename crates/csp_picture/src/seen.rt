@@ -3,7 +3,7 @@
 ghost use Rattle.std.specs.Prelude.{◌≡◌, OnOk};
 ghost use Rattle.csp_picture.specs.Seen.{opens, closes, is_drawn, is_in, is_shown, nothing_seen, sent_by, start_of, with_sent, with_start, noted, counted, after};
 
-use crate::colours::is_harmed;
+use crate::colours::{Colour, is_harmed};
 use csp_base::Origin;
 use csp_record::Who;
 use csp_timeline::{Fate, Happening, Parcel, What};
@@ -21,17 +21,17 @@ pub struct Window {
 }
 
 /// What an interface transmitted: its packet, where that is known, and whether it was again.
-#[derive(Clone, Copy, PartialEq, Eq, Debug)]
+#[derive(Clone, Copy, Debug)]
 pub(crate) struct Sent {
     pub packet: Option<Parcel>,
     pub again: bool,
 }
 
-/// Where a link took the frame that opens a transmission: in which row, and its fate.
+/// Where a link took the frame that opens a transmission: in which row, and the colour of its fate.
 #[derive(Clone, Copy, PartialEq, Eq, Debug)]
 pub(crate) struct Start {
     pub row: u32,
-    pub fate: Fate,
+    pub colour: Colour,
 }
 
 /// Transmissions are looked up by node, interface and serial.
@@ -130,7 +130,7 @@ impl Seen {
     }
 
     /// What was transmitted, by the origin of a frame.
-    pub(crate) fn sent(&self, origin: Option<Origin>) -> Option<Sent>
+    pub(crate) fn sent_by(&self, origin: Option<Origin>) -> Option<Sent>
         ensures { result ≡ sent_by self.now origin }
     {
         let Some(origin) = origin else {
@@ -143,7 +143,7 @@ impl Seen {
     }
 
     /// Where a link took it.
-    pub(crate) fn start(&self, origin: Option<Origin>) -> Option<Start>
+    pub(crate) fn start_of(&self, origin: Option<Origin>) -> Option<Start>
         ensures { result ≡ start_of self.now origin }
     {
         let Some(origin) = origin else {
@@ -173,15 +173,15 @@ impl Seen {
         &mut self,
         opening: bool,
         origin: Option<Origin>,
-        fate: Fate,
+        fate: &Fate,
     ) -> Result<(), AllocError>
-        ensures { OnOk result (self.new ≡ with_start opening origin fate self.old) }
+        ensures { OnOk result (self.new ≡ with_start opening origin fate.now self.old) }
     {
         match origin {
             Some(origin) if opening => {
                 let start = Start {
                     row: self.rows,
-                    fate,
+                    colour: Colour::of(fate),
                 };
                 self.starts
                     .insert((origin.node, origin.iface, origin.serial), start)?;
@@ -195,12 +195,18 @@ impl Seen {
     fn note(&mut self, shown: bool, happening: &Happening) -> Result<(), AllocError>
         ensures { OnOk result (self.new ≡ noted shown happening.now happening.now.what self.old) }
     {
-        match happening.what {
+        match &happening.what {
             What::Transmitted {
                 serial,
                 again,
                 packet,
-            } => self.note_sent(happening.who, serial, Sent { packet, again }),
+            } => {
+                let sent = Sent {
+                    packet: *packet,
+                    again: *again,
+                };
+                self.note_sent(happening.who, *serial, sent)
+            }
             What::Carried { fate, frame, .. } => {
                 self.note_start(shown && opens(frame.can), frame.trace.origin, fate)
             }
