@@ -127,13 +127,13 @@ fn push_words(out: &mut String, words: &str) -> Result<(), AllocError>
     out.push_str("</text>\n")
 }
 
-#[tactic(auto, unfolding(crate::specs::Elements::text_words))]
 /// Appends how long the words of a text are, and they.
 fn push_text_words(out: &mut String, words: &str) -> Result<(), AllocError>
     ensures { OnOk result (string_bytes out.new ≡ string_bytes out.old ++ text_words words.now) }
 {
     push_measure(out, "textLength", length_of(words)?)?;
-    push_words(out, words)
+    push_words(out, words)?;
+    Ok(())
 }
 
 /// Appends words of this class at a point.

@@ -129,7 +129,14 @@ fn push_link(
 {
     let words = link_words(alloc, nodes, links, place, link)?;
     let y = LINK_LINE + LEGEND_STEP * place as u64;
-    push_sample(out, Colour::Plain.name(), LEFT, y, dash(place), words.as_str())
+    push_sample(
+        out,
+        Colour::Plain.name(),
+        LEFT,
+        y,
+        dash(place),
+        words.as_str(),
+    )
 }
 
 /// Appends the samples of the links, one below the other.

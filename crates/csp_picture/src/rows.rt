@@ -155,7 +155,13 @@ fn push_handed(
     match start {
         Some(start) => {
             let class = start.colour.name();
-            push_line(out, class, spot(links, start.row, course.from), stop, dashes)
+            push_line(
+                out,
+                class,
+                spot(links, start.row, course.from),
+                stop,
+                dashes,
+            )
         }
         None => {
             let first = Point {
@@ -263,7 +269,11 @@ fn label_of(
 {
     let mut words = String::new(alloc);
     push_link_name(&mut words, links, link)?;
-    push_frame(&mut words, opens(frame.can), seen.sent_by(frame.trace.origin))?;
+    push_frame(
+        &mut words,
+        opens(frame.can),
+        seen.sent_by(frame.trace.origin),
+    )?;
     push_fate(&mut words, fate)?;
     Ok(words)
 }
@@ -303,7 +313,10 @@ fn push_note(
 {
     match what {
         What::Carried {
-            way, fate, frame, ..
+            way,
+            fate,
+            frame,
+            ..
         } => {
             let words = label_of(alloc, links, usize::from(link_of(who)), seen, frame, fate)?;
             let course = course_of(links, who, *way);

@@ -96,7 +96,9 @@ fn push_marked(out: &mut String, colour: Colour) -> Result<(), AllocError>
 fn push_marker_form(out: &mut String) -> Result<(), AllocError>
     ensures { OnOk result (string_bytes out.new ≡ string_bytes out.old ++ marker_form) }
 {
-    out.push_str("' viewBox='0 0 10 10' refX='9' refY='5' markerWidth='10' markerHeight='10' markerUnits='userSpaceOnUse' orient='auto'><path d='")
+    out.push_str(
+        "' viewBox='0 0 10 10' refX='9' refY='5' markerWidth='10' markerHeight='10' markerUnits='userSpaceOnUse' orient='auto'><path d='",
+    )
 }
 
 #[tactic(auto, unfolding(crate::specs::Style::marker_end))]

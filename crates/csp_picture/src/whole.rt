@@ -60,7 +60,12 @@ fn push_head(out: &mut String, width: u64, height: u64) -> Result<(), AllocError
 }
 
 /// Appends how a picture of so many nodes, links and rows begins.
-fn push_sized_head(out: &mut String, nodes: usize, links: usize, rows: u32) -> Result<(), AllocError>
+fn push_sized_head(
+    out: &mut String,
+    nodes: usize,
+    links: usize,
+    rows: u32,
+) -> Result<(), AllocError>
     requires nodes { nodes ≤ MAX_NODES }
     requires links { links ≤ MAX_LINKS }
     ensures { OnOk result (string_bytes out.new ≡ string_bytes out.old ++ head (width nodes) (height links rows)) }
@@ -103,11 +108,7 @@ fn pass_all(
 }
 
 /// How many rows there are.
-fn rows_of(
-    alloc: Global,
-    window: Option<Window>,
-    happened: &[Happening],
-) -> Result<u32, AllocError>
+fn rows_of(alloc: Global, window: Option<Window>, happened: &[Happening]) -> Result<u32, AllocError>
     ensures { IfOk result (λ rows. rows ≡ (after_all window nothing_seen happened.now).rows) }
 {
     let mut seen = Seen::new(alloc);

@@ -91,7 +91,11 @@ fn push_parcel(out: &mut String, packet: &Parcel) -> Result<(), AllocError>
 fn push_again(out: &mut String, again: bool) -> Result<(), AllocError>
     ensures { OnOk result (string_bytes out.new ≡ string_bytes out.old ++ again_words again) }
 {
-    if again { push_word(out, "again") } else { Ok(()) }
+    if again {
+        push_word(out, "again")
+    } else {
+        Ok(())
+    }
 }
 
 /// Appends the words of a packet, where it is known.
