@@ -1,0 +1,10 @@
+pub mod Places
+pub mod Elements
+pub mod Colours
+pub mod Words
+pub mod Seen
+pub mod Rows
+pub mod Legend
+pub mod Style
+pub mod Apart
+pub mod Picture
