@@ -50,6 +50,11 @@ for stored in "$here"/scenarios/*.*; do
   compare "$name" 0 "$stored" ''
 done
 
+# The picture of docs/: `svg 58 118` of the mission.
+"$program" svg 58 118 < "$here/scenarios/mission.scn" > "$work/out" 2> "$work/said"
+got=$?
+compare "the mission's picture" 0 "$here/docs/mission.svg" ''
+
 # 1: memory for a run up to the limit of entries is wanting.
 cp "$here/measure/limit.scn" "$work/in"
 (ulimit -v 24576 && "$program" unused < "$work/in" > "$work/out" 2> "$work/said")
