@@ -11,10 +11,12 @@ use Rattle.csp_bench.specs.declared.status.Status.{Status}
 use Rattle.csp_bench.specs.declared.status.Status.TheVariants as status
 use Rattle.csp_exports.specs.Frames.{exported}
 use Rattle.csp_exports.specs.Unused.{unused}
+use Rattle.csp_picture.specs.Picture.{picture}
 use Rattle.csp_record.specs.Record.{PlainRecord}
 use Rattle.csp_scene.specs.Judge.{scene_of}
 use Rattle.csp_scene.specs.Scene.{PlainScene}
 use Rattle.csp_scene.specs.declared.refusal.SceneKind.{SceneKind}
+use Rattle.csp_timeline.specs.Timeline.{timeline}
 use Rattle.csp_world.specs.Record.{sim_record}
 use Rattle.csp_world.specs.declared.limits.TheConstants.{MAX_ENTRIES}
 use Rattle.csp_trace.specs.Modes.{asked_of}
@@ -27,6 +29,8 @@ use Rattle.csp_trace.specs.declared.tracing.Untold.TheVariants as untold
 -- the text of what is asked, of a scene and the record of its run: one row a mode
 abbrev pub told : Asked → PlainScene → PlainRecord → List ℕ
 told (asked.Export which name end) scene run = exported which name.link end run
+told asked.Timeline scene run = timeline scene run
+told (asked.Picture window) scene run = picture scene run window
 told asked.Unused scene run = unused scene run
 
 -- the text states a scene, whose run ends before its logs are full, and these bytes are what the mode asks of it

@@ -8,13 +8,19 @@ ghost use Rattle.csp_trace.specs.Owes.{told};
 use crate::mode::Mode;
 use csp_exports::{EndName, Form, end_named, exported, unused};
 use csp_log::End;
+use csp_picture::{Window, picture};
 use csp_record::Record;
 use csp_scene::Scene;
+use csp_timeline::timeline;
 use std::alloc::{AllocError, Global};
 
 /// What is asked of a scene.
 #[derive(Drop, Debug)]
 pub enum Asked<'a> {
+    /// What happened, line by line.
+    Timeline,
+    /// The frames as a picture, of all rounds or of a window of them.
+    Picture(Option<Window>),
     /// The frames that this end, which is so named, put on its link.
     Export(Form, EndName<'a>, End),
     /// What of it was of no use.
@@ -30,6 +36,8 @@ pub(crate) fn asked_of<'a>(mode: &Mode<'a>, scene: &Scene) -> Option<Asked<'a>>
             Some(end) => Some(Asked::Export(*form, name.again(), end)),
             None => None,
         },
+        Mode::Timeline => Some(Asked::Timeline),
+        Mode::Picture(window) => Some(Asked::Picture(*window)),
         Mode::Unused => Some(Asked::Unused),
     }
 }
@@ -46,6 +54,8 @@ pub(crate) fn told(
 {
     match asked {
         Asked::Export(form, name, end) => exported(alloc, *form, name.link, *end, run),
+        Asked::Timeline => timeline(alloc, scene, run),
+        Asked::Picture(window) => picture(alloc, scene, run, *window),
         Asked::Unused => unused(alloc, scene, run),
     }
 }
