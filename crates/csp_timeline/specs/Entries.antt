@@ -27,9 +27,10 @@ marked_by (op.Push q (item.Packet mark p)) answer.Pushed = Some mark
 marked_by (op.Pop q) (answer.Popped (item.Packet mark p)) = Some mark
 marked_by _ _ = None
 
--- the same of an entry
+-- the frame that an entry's turn moved
 abbrev pub framed_in : Entry → Framed
 framed_in e = framed_by e.op e.answer
 
+-- the mark of the packet that an entry's turn moved
 abbrev pub marked_in : Entry → Option ℕ
 marked_in e = marked_by e.op e.answer

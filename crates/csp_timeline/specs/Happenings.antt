@@ -190,13 +190,15 @@ plan_at scene (who.Router node) = []
 plan_at scene (who.Bridge node) = []
 plan_at scene (who.Iface node n) = []
 
--- an application's turn, an interface's, a router's
+-- what an application's turn was
 abbrev pub app_told : (What → Happening) → Noted → (mark : Option ℕ) → Moved → List Event → List Happening
 app_told at noted mark moved events = map at (asked_or_told noted) ++ (map at (sent_or_took mark moved) ++ reported at false (parcel_in moved) events)
 
+-- what an interface's turn was
 abbrev pub iface_told : (What → Happening) → (again : Bool) → Moved → List Event → List Happening
 iface_told at again moved events = map at (accepted moved) ++ reported at again (parcel_in moved) events
 
+-- what a router's turn was
 abbrev pub router_told : (What → Happening) → Noted → Moved → List Event → List Happening
 router_told at noted moved events = map at (answered noted) ++ reported at false (parcel_in moved) events
 

@@ -19,18 +19,20 @@ use Rattle.csp_timeline.specs.Numbers.{has}
 use Rattle.csp_timeline.specs.declared.links.Carrying.{Carrying}
 use Rattle.csp_timeline.specs.declared.telling.Memory.{Memory}
 
--- what a map says of the frame of this number
+-- the order of a map's keys: by direction, then number
 abbrev pub key_cmp : (ℕ × ℕ) → (ℕ × ℕ) → Ordering
 key_cmp x y = ordering_then (nat_cmp x.0 y.0) (nat_cmp x.1 y.1)
 
+-- what a map says of the frame of this number
 abbrev pub fate_in : BTreeMap (ℕ × ℕ) Fate → (dir frame : ℕ) → Fate
 fate_in fates dir frame = unwrap_or (tree.get key_cmp fates (dir, frame)) unharmed
 
--- how many frames of a direction were taken, and what its plan says of a frame
+-- how many frames of a direction were taken
 abbrev pub count_of : Carrying → Way → ℕ
 count_of c Forth = c.forth
 count_of c Back = c.back
 
+-- what the plan says of a frame of a direction
 abbrev pub fate_known : Carrying → Way → ℕ → Fate
 fate_known c way n = fate_in c.fates (number way) n
 

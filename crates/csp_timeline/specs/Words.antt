@@ -173,13 +173,15 @@ opens_words scene app slot nth peer = codes "opens" ++ (numbered (app_name scene
 abbrev pub hands_words : (nth cur una : ℕ) → List ℕ
 hands_words nth cur una = codes "hands" ++ (numbered (codes "rdp") nth ++ (numbered (codes "at") cur ++ numbered (codes "una") una))
 
--- what became of a step, or of a packet of a slot; a verb and a number
+-- what became of a step
 abbrev pub step_words : (verb : List ℕ) → ℕ → List ℕ
 step_words verb step = verb ++ numbered (codes "step") step
 
+-- what became of a packet of a slot
 abbrev pub slot_words : (verb : List ℕ) → ℕ → List ℕ
 slot_words verb slot = verb ++ numbered (codes "slot") slot
 
+-- a verb and a number
 abbrev pub number_words : (verb : List ℕ) → ℕ → List ℕ
 number_words verb n = verb ++ word (decimal n)
 
