@@ -162,21 +162,21 @@ nothing : (b : Bool) (o : Option Content) → o ≡ None → (if b then o else N
 nothing true o e = e
 nothing false o e = refl
 
-pub given_fetched : (o : Option Content) (a : AnswerShown) → fetched (moved_by (given o) a) ≡ None
+given_fetched : (o : Option Content) (a : AnswerShown) → fetched (moved_by (given o) a) ≡ None
 given_fetched None a = refl
 given_fetched (Some b) a = refl
 
-pub delivered_fetched : (n : ℕ) (o : Option Content) (a : AnswerShown) → fetched (moved_by (delivered n o) a) ≡ None
+delivered_fetched : (n : ℕ) (o : Option Content) (a : AnswerShown) → fetched (moved_by (delivered n o) a) ≡ None
 delivered_fetched n None a = refl
 delivered_fetched n (Some b) answer.Pushed = refl
 delivered_fetched n (Some b) _ = refl
 
-pub transmitted_fetched : (n : ℕ) (o : Option Frame) (a : AnswerShown) → fetched (moved_by (transmitted n o) a) ≡ None
+transmitted_fetched : (n : ℕ) (o : Option Frame) (a : AnswerShown) → fetched (moved_by (transmitted n o) a) ≡ None
 transmitted_fetched n None a = refl
 transmitted_fetched n (Some f) answer.Pushed = refl
 transmitted_fetched n (Some f) _ = refl
 
-pub popped_fetched : (n : ℕ) (a : AnswerShown) → fetched (moved_by (op.Pop (queue.Rx n)) a) ≡ None
+popped_fetched : (n : ℕ) (a : AnswerShown) → fetched (moved_by (op.Pop (queue.Rx n)) a) ≡ None
 popped_fetched n (answer.Popped (item.Packet _ _)) = refl
 popped_fetched n (answer.Popped (item.Frame _)) = refl
 popped_fetched n (answer.Popped (item.Note _)) = refl

@@ -1,11 +1,17 @@
 -- How a walk over a log, or over a script, goes on by one.
-use Rattle.std.proofs.Common.{◌≡◌, ℕ, zero, suc, ◌+◌, ◌-◌, ◌<◌, ◌||◌, Bool, true, false, Option, Some, None, List, [], ◌∷◌, ◌++◌, get_or, length, drop, refl, sym, ap, ◌∙◌, add-one, drop-cons, append_assoc, length-append, arith}
+use Rattle.std.proofs.Common.{◌≡◌, ℕ, zero, suc, ◌+◌, ◌-◌, ◌<◌, ◌≤◌, ◌||◌, Bool, true, false, Option, Some, None, List, [], ◌∷◌, ◌++◌, get_or, length, drop, refl, sym, ap, ◌∙◌, add-one, drop-cons, append_assoc, append-nil, length-append, arith}
 use Rattle.std.proofs.lemmas.Grind.{flat_map-append}
 use Rattle.std.proofs.lemmas.List.Concat.{flat_map-cons}
 use Rattle.std.specs.List.{flat_map, list_any, range_with_len}
 use Rattle.std.specs.Option.{option_map_or}
-use Rattle.std.specs.Prelude.{slice_get}
+use Rattle.std.specs.Prelude.{if◌then◌else◌, slice_get}
+use Rattle.csp_log.specs.declared.places.End.{End}
+use Rattle.csp_record.specs.Record.{PlainRecord}
 use Rattle.csp_report.specs.Lines.{Line, ended_line, text_of}
+use Rattle.csp_scene.specs.Scene.{PlainScene}
+use Rattle.csp_exports.specs.Frames.{exported, written_by}
+use Rattle.csp_exports.specs.Unused.{unused, unused_lines}
+use Rattle.csp_exports.specs.declared.ends.Form.{Form}
 
 -- what is made of an element, and then of those after it
 next : {X A : Type 0} (f : X → List A) (xs : List X) (i : ℕ) → i < length xs → option_map_or f (slice_get xs i) [] ++ flat_map f (drop (suc i) xs) ≡ flat_map f (drop i xs)
@@ -37,11 +43,11 @@ one_or_later p (x ∷ xs) (suc i) h = one_or_later p xs i (omega (arith, h))
 
 -- where it does, one of all does
 pub found : {X : Type 0} (p : X → Bool) (xs : List X) (i : ℕ) (b answer : Bool) → i < length xs → b ≡ option_map_or p (slice_get xs i) false → b ≡ true → list_any p (drop i xs) ≡ answer → answer ≡ true
-found p xs i b answer h is yes before = sym before ∙ one_or_later p xs i h ∙ ap (λ c. c || list_any p (drop (suc i) xs)) (sym is ∙ yes)
+found p xs i b answer h is passes before = sym before ∙ one_or_later p xs i h ∙ ap (λ c. c || list_any p (drop (suc i) xs)) (sym is ∙ passes)
 
 -- where it doesn't, those after it settle it
 pub passed : {X : Type 0} (p : X → Bool) (xs : List X) (i : ℕ) (b answer : Bool) → i < length xs → b ≡ option_map_or p (slice_get xs i) false → b ≡ false → list_any p (drop i xs) ≡ answer → list_any p (drop (i + 1) xs) ≡ answer
-passed p xs i b answer h is no before = rw (add-one i) (sym (ap (λ c. c || list_any p (drop (suc i) xs)) (sym is ∙ no)) ∙ sym (one_or_later p xs i h) ∙ before)
+passed p xs i b answer h is fails before = rw (add-one i) (sym (ap (λ c. c || list_any p (drop (suc i) xs)) (sym is ∙ fails)) ∙ sym (one_or_later p xs i h) ∙ before)
 
 -- the lines of a port, and then of those after it
 pub port_on : (f : ℕ → List Line) (port count : ℕ) (out more whole : List ℕ) → port < count → more ≡ out ++ text_of (f port) → out ++ text_of (flat_map f (range_with_len port (count - port))) ≡ whole
@@ -52,3 +58,40 @@ port_on f port count out more whole h pushed before =
     let here : text_of (flat_map f (range_with_len port (count - port))) ≡ text_of (f port) ++ text_of rest =
     ap (λ n. text_of (flat_map f (range_with_len port n))) one_more ∙ ap text_of (flat_map-cons f port (range_with_len (port + 1) (count - (port + 1)))) ∙ flat_map-append ended_line (f port) rest in
     ap (λ l. l ++ text_of rest) pushed ∙ append_assoc out (text_of (f port)) (text_of rest) ∙ ap (λ l. out ++ l) (sym here) ∙ before
+
+-- after the last port nothing is to come
+pub ports_done : (f : ℕ → List Line) (port count : ℕ) (out whole : List ℕ) → count ≤ port → out ++ text_of (flat_map f (range_with_len port (count - port))) ≡ whole → out ≡ whole
+ports_done f port count out whole h before =
+    let none : 0 ≡ count - port = omega arith in
+    sym (append-nil out) ∙ ap (λ n. out ++ text_of (flat_map f (range_with_len port n))) none ∙ before
+
+-- a turn that is counted, and one that is not
+pub one_yes : (b : Bool) (n count more : ℕ) → b ≡ true → (if b then 1 else 0) ≡ n → more ≡ count + 1 → more ≡ count + n
+one_yes true n count more e is m = omega (arith, is, m)
+one_yes false n count more e is m = absurd cc
+
+pub one_no : (b : Bool) (n count more : ℕ) → b ≡ false → (if b then 1 else 0) ≡ n → more ≡ count → more ≡ count + n
+one_no true n count more e is m = absurd cc
+one_no false n count more e is m = omega (arith, is, m)
+
+-- a line and the lines of three kinds, one kind after the other
+pub in_turn : (title : Line) (faults nodes sockets : List Line) (before first second third fourth : List ℕ) → first ≡ before ++ ended_line title → second ≡ first ++ text_of faults → third ≡ second ++ text_of nodes → fourth ≡ third ++ text_of sockets
+    → fourth ≡ before ++ text_of ((title ∷ []) ++ faults ++ nodes ++ sockets)
+in_turn title faults nodes sockets before first second third fourth e f g h =
+    let t : List ℕ = ended_line title in
+    let a : List ℕ = text_of faults in
+    let b : List ℕ = text_of nodes in
+    let c : List ℕ = text_of sockets in
+    let all : text_of ((title ∷ []) ++ faults ++ nodes ++ sockets) ≡ t ++ ((a ++ b) ++ c) =
+    flat_map-cons ended_line title (faults ++ nodes ++ sockets) ∙ ap (λ l. t ++ l) (flat_map-append ended_line (faults ++ nodes) sockets ∙ ap (λ l. l ++ c) (flat_map-append ended_line faults nodes)) in
+    h ∙ ap (λ l. l ++ c) g ∙ ap (λ l. (l ++ b) ++ c) f ∙ ap (λ l. ((l ++ a) ++ b) ++ c) e
+    ∙ ap (λ l. l ++ c) (append_assoc (before ++ t) a b) ∙ append_assoc (before ++ t) (a ++ b) c ∙ append_assoc before t ((a ++ b) ++ c) ∙ ap (λ l. before ++ l) (sym all)
+
+-- the two texts, opened
+pub unused_is : (scene : PlainScene) (run : PlainRecord) → unused scene run ≡ text_of (unused_lines scene.nodes scene.links run.parties)
+unfolding unused
+unused_is scene run = refl
+
+pub exported_is : (which : Form) (name : List ℕ) (end : End) (run : PlainRecord) → exported which name end run ≡ flat_map (written_by which name end) run.parties
+unfolding exported
+exported_is which name end run = refl

@@ -21,7 +21,7 @@ use Rattle.csp_exports.specs.declared.ends.Form.TheVariants as form
 
 -- a number below 1,000 in three digits
 abbrev pub three_digits : ℕ → List ℕ
-three_digits n = 48 + n / 100 ∷ 48 + n / 10 % 10 ∷ 48 + n % 10 ∷ []
+three_digits n = (48 + n / 100) ∷ (48 + n / 10 % 10) ∷ (48 + n % 10) ∷ []
 
 -- `(S.MMM000)`: a round as seconds, of 1,000 rounds each, and millionths of a second
 abbrev pub stamp_word : ℕ → List ℕ

@@ -19,7 +19,7 @@ pub enum Form {
 }
 
 /// Names an end of a link. Contracts see it as its two names.
-#[derive(Clone, Copy, Debug)]
+#[derive(Drop, Debug)]
 pub struct EndName<'a> {
     /// The name of the link.
     pub link: &'a str,
@@ -33,6 +33,18 @@ impl<'a> Model for EndName<'a> {
     ghost Value = { PlainEndName };
 
     ghost view = { λ name. record { link = name.link.now; node = name.node.now } };
+}
+
+impl<'a> EndName<'a> {
+    /// The same names once more.
+    pub fn again(&self) -> EndName<'a>
+        ensures { result ≡ self.now }
+    {
+        EndName {
+            link: self.link,
+            node: self.node,
+        }
+    }
 }
 
 /// Whether what a link of this kind carries can be written in this form.
@@ -63,7 +75,9 @@ fn is_end_at(nodes: &[SceneNode], name: &str, end: End) -> bool
 fn end_at(nodes: &[SceneNode], name: &str, ends: &[End]) -> Option<End>
     ensures { result ≡ find (is_end_at nodes.now name.now) ends.now }
 {
-    ends.iter().copied().find(|end| is_end_at(nodes, name, *end))
+    ends.iter()
+        .copied()
+        .find(|end| is_end_at(nodes, name, *end))
 }
 
 /// The end of a link at the node of this name, where its frames can be written in this form.
@@ -81,7 +95,9 @@ fn end_on(nodes: &[SceneNode], form: Form, node: &str, link: &SceneLink) -> Opti
 fn link_called<'a>(links: &'a [SceneLink], name: &str) -> Option<&'a SceneLink>
     ensures { option_map (λ link. link.now) result ≡ find (is_link_called name.now) links.now }
 {
-    links.iter().find(|link| link.name.as_bytes() == name.as_bytes())
+    links
+        .iter()
+        .find(|link| link.name.as_bytes() == name.as_bytes())
 }
 
 /// The end that is named: of the link of this name, at the node of this name. `None` where the scene lacks one of them, where

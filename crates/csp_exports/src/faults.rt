@@ -151,7 +151,8 @@ fn push_link(
         link.plan.as_slice(),
         taken(party, Way::Forth),
         taken(party, Way::Back),
-    )
+    )?;
+    Ok(())
 }
 
 /// Appends the lines of the faults of all links.

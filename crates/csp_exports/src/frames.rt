@@ -30,7 +30,8 @@ fn push_three(out: &mut Vec<u8>, number: u64) -> Result<(), AllocError>
 {
     out.push(b'0' + (number / 100) as u8)?;
     out.push(b'0' + (number / 10 % 10) as u8)?;
-    out.push(b'0' + (number % 10) as u8)
+    out.push(b'0' + (number % 10) as u8)?;
+    Ok(())
 }
 
 /// Appends a round as seconds.
@@ -53,11 +54,7 @@ fn push_upper(alloc: Global, out: &mut Vec<u8>, bytes: &[u8]) -> Result<(), Allo
 }
 
 /// Appends a frame's identifier and its bytes.
-fn push_frame_word(
-    alloc: Global,
-    out: &mut Vec<u8>,
-    frame: &Frame,
-) -> Result<(), AllocError>
+fn push_frame_word(alloc: Global, out: &mut Vec<u8>, frame: &Frame) -> Result<(), AllocError>
     ensures { OnOk result (out.new.items ≡ out.old.items ++ frame_word frame.now) }
 {
     let identifier = frame.can.unwrap_or(0).to_be_bytes();
@@ -81,7 +78,8 @@ fn push_line(
     out.extend_from_slice(link.as_bytes())?;
     out.push(b' ')?;
     push_frame_word(alloc, out, frame)?;
-    out.push(b'\n')
+    out.push(b'\n')?;
+    Ok(())
 }
 
 /// Appends what is written for a frame put on this link in a round.
@@ -182,6 +180,7 @@ fn push_parties(
     Ok(())
 }
 
+#[tactic(auto, using(crate::proofs::Walking::exported_is))]
 /// The frames that an end of the link of this name put on it, in order: their bytes one after the other, or a line for each.
 pub fn exported(
     alloc: Global,

@@ -37,9 +37,11 @@ fn push_lines(
     push_title(out)?;
     push_links(out, parties, links)?;
     push_nodes(out, parties, nodes)?;
-    push_sockets(out, parties, nodes)
+    push_sockets(out, parties, nodes)?;
+    Ok(())
 }
 
+#[tactic(auto, using(crate::proofs::Walking::unused_is))]
 /// What of a scene was of no use in its run, a line for each: faults that hit no frame, nodes that sent nothing, and sockets
 /// that nobody reached.
 pub fn unused(alloc: Global, scene: &Scene, run: &Record) -> Result<Vec<u8>, AllocError>

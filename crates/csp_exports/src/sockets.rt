@@ -7,7 +7,7 @@ ghost use Rattle.std.specs.String.{string_bytes};
 ghost use Rattle.csp_app.specs.Placing.{plain_step};
 ghost use Rattle.csp_log.specs.Moving.{moved_in};
 ghost use Rattle.csp_report.specs.Lines.{ended_line, text_of};
-ghost use Rattle.csp_exports.specs.Unused.{app_lines, binds, came_to, is_lonely, is_reached_by, is_reaching, lonely_lines, opens_for, socket_line, socket_lines};
+ghost use Rattle.csp_exports.specs.Unused.{app_lines, binds, came_to, is_lonely, is_reached_by, is_reaching, lonely_lines, node_socket_lines, opens_for, socket_line, socket_lines};
 
 use crate::parties::is_router_of;
 use csp_app::{Script, Step};
@@ -22,8 +22,8 @@ use std::alloc::AllocError;
 pub const PORTS: u8 = 64;
 
 /// Whether a step binds this port.
-fn binds(step: Step<'_>, port: u8) -> bool
-    ensures { result ≡ binds port (plain_step step) }
+fn binds(step: &Step<'_>, port: u8) -> bool
+    ensures { result ≡ binds port (plain_step step.now) }
 {
     match step {
         Step::Bind { port: bound, .. } => bound.get() == port,
@@ -45,7 +45,7 @@ fn has_bound(steps: &Script, port: u8) -> bool
 {
     let mut number = 0;
     while number < steps.len() {
-        if binds(steps.step(number), port) {
+        if binds(&steps.step(number), port) {
             return true;
         }
         number += 1;
@@ -191,6 +191,25 @@ fn push_apps(
     Ok(())
 }
 
+/// Appends those of the node at this place.
+fn push_node(
+    out: &mut String,
+    parties: &[PartyLog],
+    place: usize,
+    node: &SceneNode,
+) -> Result<(), AllocError>
+    ensures { OnOk result (string_bytes out.new ≡ string_bytes out.old ++ text_of (node_socket_lines parties.now place node.now)) }
+{
+    push_apps(
+        out,
+        parties,
+        place,
+        node.name.as_str(),
+        node.apps.as_slice(),
+    )?;
+    Ok(())
+}
+
 /// Appends those of all nodes.
 pub(crate) fn push_sockets(
     out: &mut String,
@@ -200,13 +219,7 @@ pub(crate) fn push_sockets(
     ensures { OnOk result (string_bytes out.new ≡ string_bytes out.old ++ text_of (socket_lines parties.now nodes.now)) }
 {
     for (place, node) in nodes.iter().enumerate() {
-        push_apps(
-            out,
-            parties,
-            place,
-            node.name.as_str(),
-            node.apps.as_slice(),
-        )?;
+        push_node(out, parties, place, node)?;
     }
     Ok(())
 }

@@ -7,7 +7,6 @@ use Rattle.std.specs.List.{AllByRecursion, flat_map, list_any}
 use Rattle.csp_buffer.specs.Content.{Content}
 use Rattle.csp_base.specs.declared.traces.Trace.{Trace}
 use Rattle.csp_consistent.proofs.Received.{waiting, told}
-use Rattle.csp_consistent.proofs.Transmitted.{given_fetched, delivered_fetched, transmitted_fetched, popped_fetched}
 use Rattle.csp_exports.specs.Frames.{put_on, written_of}
 use Rattle.csp_exports.specs.Unused.{is_transmission}
 use Rattle.csp_exports.specs.declared.ends.Form.TheVariants as form
@@ -69,6 +68,10 @@ pub record Turned (cover : Bool) (rest made : List KissPacket) (put : List ℕ) 
 quiet_turn : (cover : Bool) (rest made : List KissPacket) (put : List ℕ) (frames : List Frame) → put ≡ [] → made ≡ [] → AreOf cover frames rest → Turned cover rest made put frames
 quiet_turn cover rest made put frames no_put no_made h = record { shown = []; left = rest; whole = ap (λ m. rest ++ m) no_made ∙ append-nil rest; bytes = no_put; pending = h }
 
+-- what a turn reports
+abbrev reports : PlainIface → (now k : ℕ) → Plan → AnswerShown → List Event
+reports s now k p a = (told_by (waiting s p) now p a).events ++ bad k
+
 -- a turn whose operation fetched nothing makes nothing
 none_made : (es : List Event) (o : Option Content) → o ≡ None → read_of (if list_any is_transmission es then o else None) ≡ []
 none_made es o e = by (list_any is_transmission es)
@@ -88,7 +91,28 @@ none_bad k = chosen (k == 0)
     chosen true = refl
     chosen false = refl
 
--- what the operations besides put on the link
+-- what the operations besides fetch
+given_fetched : (o : Option Content) (a : AnswerShown) → fetched (moved_by (given o) a) ≡ None
+given_fetched None a = refl
+given_fetched (Some b) a = refl
+
+delivered_fetched : (n : ℕ) (o : Option Content) (a : AnswerShown) → fetched (moved_by (delivered n o) a) ≡ None
+delivered_fetched n None a = refl
+delivered_fetched n (Some b) answer.Pushed = refl
+delivered_fetched n (Some b) _ = refl
+
+transmitted_fetched : (n : ℕ) (o : Option Frame) (a : AnswerShown) → fetched (moved_by (transmitted n o) a) ≡ None
+transmitted_fetched n None a = refl
+transmitted_fetched n (Some f) answer.Pushed = refl
+transmitted_fetched n (Some f) _ = refl
+
+popped_fetched : (n : ℕ) (a : AnswerShown) → fetched (moved_by (op.Pop (queue.Rx n)) a) ≡ None
+popped_fetched n (answer.Popped (item.Packet _ _)) = refl
+popped_fetched n (answer.Popped (item.Frame _)) = refl
+popped_fetched n (answer.Popped (item.Note _)) = refl
+popped_fetched n _ = refl
+
+-- and put on the link
 given_put : (o : Option Content) (a : AnswerShown) → put_by (given o) a ≡ []
 given_put None a = refl
 given_put (Some b) a = refl
@@ -219,16 +243,16 @@ module _ (cover : Bool) (s : PlainIface) (now k : ℕ) (covered : covers s.kind 
 
   pub fetch_turn : (a : AnswerShown) → after_fetch a
   fetch_turn (answer.Popped (item.Packet mark b)) = fetched_turn mark b (is_too_big s b)
-  fetch_turn (answer.Popped (item.Frame f)) = idle (answer.Popped (item.Frame f)) (none_made _ None refl) refl
-  fetch_turn (answer.Popped (item.Note n)) = idle (answer.Popped (item.Note n)) (none_made _ None refl) refl
-  fetch_turn answer.Empty = idle answer.Empty (none_made _ None refl) refl
-  fetch_turn answer.Nothing = idle answer.Nothing (none_made _ None refl) refl
-  fetch_turn (answer.Taken b) = idle (answer.Taken b) (none_made _ None refl) refl
-  fetch_turn answer.NoBuffer = idle answer.NoBuffer (none_made _ None refl) refl
-  fetch_turn answer.Given = idle answer.Given (none_made _ None refl) refl
-  fetch_turn (answer.PoolFull b) = idle (answer.PoolFull b) (none_made _ None refl) refl
-  fetch_turn answer.Pushed = idle answer.Pushed (none_made _ None refl) refl
-  fetch_turn (answer.Full i) = idle (answer.Full i) (none_made _ None refl) refl
+  fetch_turn (answer.Popped (item.Frame f)) = idle (answer.Popped (item.Frame f)) (none_made (reports s now k plan.Fetch (answer.Popped (item.Frame f))) None refl) refl
+  fetch_turn (answer.Popped (item.Note n)) = idle (answer.Popped (item.Note n)) (none_made (reports s now k plan.Fetch (answer.Popped (item.Note n))) None refl) refl
+  fetch_turn answer.Empty = idle answer.Empty (none_made (reports s now k plan.Fetch answer.Empty) None refl) refl
+  fetch_turn answer.Nothing = idle answer.Nothing (none_made (reports s now k plan.Fetch answer.Nothing) None refl) refl
+  fetch_turn (answer.Taken b) = idle (answer.Taken b) (none_made (reports s now k plan.Fetch (answer.Taken b)) None refl) refl
+  fetch_turn answer.NoBuffer = idle answer.NoBuffer (none_made (reports s now k plan.Fetch answer.NoBuffer) None refl) refl
+  fetch_turn answer.Given = idle answer.Given (none_made (reports s now k plan.Fetch answer.Given) None refl) refl
+  fetch_turn (answer.PoolFull b) = idle (answer.PoolFull b) (none_made (reports s now k plan.Fetch (answer.PoolFull b)) None refl) refl
+  fetch_turn answer.Pushed = idle answer.Pushed (none_made (reports s now k plan.Fetch answer.Pushed) None refl) refl
+  fetch_turn (answer.Full i) = idle (answer.Full i) (none_made (reports s now k plan.Fetch (answer.Full i)) None refl) refl
 
 -- a packet is fetched only where no frame is left
 spent_by : (back accepted : Option Content) (whole : Option Packet) (which : Side) (fs : List Frame) → first_rule back accepted whole (side_plan which fs) ≡ plan.Fetch → fs ≡ []
@@ -246,20 +270,20 @@ none_left cover fs (p ∷ ps) e h = absurd (subst (λ (gs : List Frame). AreOf c
 -- a turn by its plan
 turn_by : (cover : Bool) (s : PlainIface) (now k : ℕ) (rest : List KissPacket) (p : Plan) (a : AnswerShown) → covers s.kind ≡ Some cover → (p ≡ plan.Fetch → s.frames ≡ []) → Fits (op_of s p) a → AreOf cover s.frames rest
     → Turned cover rest (made_by ((told_by (waiting s p) now p a).events ++ bad k) (op_of s p) a) (put_by (op_of s p) a) (told s now p a).frames
-turn_by cover s now k rest plan.Rest a covered spent fits h = quiet_turn cover rest _ _ _ refl (none_made _ None refl) h
+turn_by cover s now k rest plan.Rest a covered spent fits h = quiet_turn cover rest _ _ _ refl (none_made (reports s now k plan.Rest a) None refl) h
 turn_by cover s now k rest plan.Return a covered spent fits h =
-    quiet_turn cover rest _ _ _ (given_put s.back a) (none_made _ _ (given_fetched s.back a)) (subst (λ (fs : List Frame). AreOf cover fs rest) (sym (return_frames s now a)) h)
+    quiet_turn cover rest _ _ _ (given_put s.back a) (none_made (reports s now k plan.Return a) _ (given_fetched s.back a)) (subst (λ (fs : List Frame). AreOf cover fs rest) (sym (return_frames s now a)) h)
 turn_by cover s now k rest plan.Deliver a covered spent fits h =
-    quiet_turn cover rest _ _ _ (delivered_put s.number s.accepted a) (none_made _ _ (delivered_fetched s.number s.accepted a)) (subst (λ (fs : List Frame). AreOf cover fs rest) (sym (deliver_frames s now a)) h)
+    quiet_turn cover rest _ _ _ (delivered_put s.number s.accepted a) (none_made (reports s now k plan.Deliver a) _ (delivered_fetched s.number s.accepted a)) (subst (λ (fs : List Frame). AreOf cover fs rest) (sym (deliver_frames s now a)) h)
 turn_by cover s now k rest plan.Take a covered spent fits h =
-    quiet_turn cover rest _ _ _ refl (none_made _ None refl) (subst (λ (fs : List Frame). AreOf cover fs rest) (sym (take_frames s now a)) h)
+    quiet_turn cover rest _ _ _ refl (none_made (reports s now k plan.Take a) None refl) (subst (λ (fs : List Frame). AreOf cover fs rest) (sym (take_frames s now a)) h)
 turn_by cover s now k rest plan.Transmit a covered spent fits h =
-    with_made cover rest _ _ _ _ (none_made _ _ (transmitted_fetched s.number (slice_get s.frames 0) a)) (transmit_frames s now a) (sent_turn cover s.number s.frames rest a fits h)
+    with_made cover rest _ _ _ _ (none_made (reports s now k plan.Transmit a) _ (transmitted_fetched s.number (slice_get s.frames 0) a)) (transmit_frames s now a) (sent_turn cover s.number s.frames rest a fits h)
 turn_by cover s now k rest plan.Fetch a covered spent fits h =
     subst (λ (ps : List KissPacket). Turned cover ps (made_by ((told_by (waiting s plan.Fetch) now plan.Fetch a).events ++ bad k) (op_of s plan.Fetch) a) (put_by (op_of s plan.Fetch) a) (told s now plan.Fetch a).frames)
     (sym (none_left cover s.frames rest (spent refl) h)) (fetch_turn cover s now k covered (spent refl) a)
 turn_by cover s now k rest plan.Receive a covered spent fits h =
-    quiet_turn cover rest _ _ _ (popped_put (queue.Rx s.number) a) (none_made _ _ (popped_fetched s.number a)) (subst (λ (fs : List Frame). AreOf cover fs rest) (sym (receive_frames s now a)) h)
+    quiet_turn cover rest _ _ _ (popped_put (queue.Rx s.number) a) (none_made (reports s now k plan.Receive a) _ (popped_fetched s.number a)) (subst (λ (fs : List Frame). AreOf cover fs rest) (sym (receive_frames s now a)) h)
 
 -- any turn
 pub turn : (cover : Bool) (s : PlainIface) (now k : ℕ) (rest : List KissPacket) (a : AnswerShown) → covers s.kind ≡ Some cover → Fits (op_of s (plan_of s)) a → AreOf cover s.frames rest
@@ -290,16 +314,23 @@ module _ (s : PlainIface) (now k : ℕ) where
   fetched_fits mark b false e = shown_fit s.mtu (event.Transmitted s.serial ∷ bad k) b (ltb-false s.mtu (length b.payload) e)
 
   fits_by : (p : Plan) (a : AnswerShown) → MadeFits p a
-  fits_by plan.Rest a = none_fit s.mtu _ (none_made _ None refl)
-  fits_by plan.Return a = none_fit s.mtu _ (none_made _ _ (given_fetched s.back a))
-  fits_by plan.Deliver a = none_fit s.mtu _ (none_made _ _ (delivered_fetched s.number s.accepted a))
-  fits_by plan.Take a = none_fit s.mtu _ (none_made _ None refl)
-  fits_by plan.Transmit a = none_fit s.mtu _ (none_made _ _ (transmitted_fetched s.number (slice_get s.frames 0) a))
+  fits_by plan.Rest a = none_fit s.mtu _ (none_made (reports s now k plan.Rest a) None refl)
+  fits_by plan.Return a = none_fit s.mtu _ (none_made (reports s now k plan.Return a) _ (given_fetched s.back a))
+  fits_by plan.Deliver a = none_fit s.mtu _ (none_made (reports s now k plan.Deliver a) _ (delivered_fetched s.number s.accepted a))
+  fits_by plan.Take a = none_fit s.mtu _ (none_made (reports s now k plan.Take a) None refl)
+  fits_by plan.Transmit a = none_fit s.mtu _ (none_made (reports s now k plan.Transmit a) _ (transmitted_fetched s.number (slice_get s.frames 0) a))
   fits_by plan.Fetch (answer.Popped (item.Packet mark b)) = fetched_fits mark b (is_too_big s b) refl
-  fits_by plan.Fetch (answer.Popped (item.Frame f)) = none_fit s.mtu _ (none_made _ None refl)
-  fits_by plan.Fetch (answer.Popped (item.Note n)) = none_fit s.mtu _ (none_made _ None refl)
-  fits_by plan.Fetch _ = none_fit s.mtu _ (none_made _ None refl)
-  fits_by plan.Receive a = none_fit s.mtu _ (none_made _ _ (popped_fetched s.number a))
+  fits_by plan.Fetch (answer.Popped (item.Frame f)) = none_fit s.mtu _ (none_made (reports s now k plan.Fetch (answer.Popped (item.Frame f))) None refl)
+  fits_by plan.Fetch (answer.Popped (item.Note n)) = none_fit s.mtu _ (none_made (reports s now k plan.Fetch (answer.Popped (item.Note n))) None refl)
+  fits_by plan.Fetch answer.Empty = none_fit s.mtu _ (none_made (reports s now k plan.Fetch answer.Empty) None refl)
+  fits_by plan.Fetch answer.Nothing = none_fit s.mtu _ (none_made (reports s now k plan.Fetch answer.Nothing) None refl)
+  fits_by plan.Fetch (answer.Taken b) = none_fit s.mtu _ (none_made (reports s now k plan.Fetch (answer.Taken b)) None refl)
+  fits_by plan.Fetch answer.NoBuffer = none_fit s.mtu _ (none_made (reports s now k plan.Fetch answer.NoBuffer) None refl)
+  fits_by plan.Fetch answer.Given = none_fit s.mtu _ (none_made (reports s now k plan.Fetch answer.Given) None refl)
+  fits_by plan.Fetch (answer.PoolFull b) = none_fit s.mtu _ (none_made (reports s now k plan.Fetch (answer.PoolFull b)) None refl)
+  fits_by plan.Fetch answer.Pushed = none_fit s.mtu _ (none_made (reports s now k plan.Fetch answer.Pushed) None refl)
+  fits_by plan.Fetch (answer.Full i) = none_fit s.mtu _ (none_made (reports s now k plan.Fetch (answer.Full i)) None refl)
+  fits_by plan.Receive a = none_fit s.mtu _ (none_made (reports s now k plan.Receive a) _ (popped_fetched s.number a))
 
 -- any turn's
 pub turn_fits : (s : PlainIface) (now k : ℕ) (a : AnswerShown) → AllByRecursion (Fit s.mtu) (made_by ((told_by (waiting s (plan_of s)) now (plan_of s) a).events ++ bad k) (op_of s (plan_of s)) a)

@@ -12,8 +12,7 @@ mod tapping;
 mod threads;
 
 pub use command::csp_main;
+pub use csp_bench::{LimitKind, MAX_SCENARIO, Status, own_words};
 pub use laws::{stays_reliable, tells_reliable_prefix};
 pub use saying::say;
 pub use simulation::sim_main;
-
-pub use csp_bench::{LimitKind, MAX_SCENARIO, Status, own_words};

@@ -13,7 +13,7 @@ use csp_scene::Scene;
 use std::alloc::{AllocError, Global};
 
 /// What is asked of a scene.
-#[derive(Clone, Copy, Debug)]
+#[derive(Drop, Debug)]
 pub enum Asked<'a> {
     /// The frames that this end, which is so named, put on its link.
     Export(Form, EndName<'a>, End),
@@ -27,7 +27,7 @@ pub(crate) fn asked_of<'a>(mode: &Mode<'a>, scene: &Scene) -> Option<Asked<'a>>
 {
     match mode {
         Mode::Export(form, name) => match end_named(scene, *form, name) {
-            Some(end) => Some(Asked::Export(*form, *name, end)),
+            Some(end) => Some(Asked::Export(*form, name.again(), end)),
             None => None,
         },
         Mode::Unused => Some(Asked::Unused),

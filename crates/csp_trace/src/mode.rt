@@ -7,7 +7,7 @@ ghost use Rattle.csp_trace.specs.Modes.{mode_of, of_one, of_three};
 use csp_exports::{EndName, Form};
 
 /// What is to be told of a run.
-#[derive(Clone, Copy, Debug)]
+#[derive(Drop, Debug)]
 pub enum Mode<'a> {
     /// The frames that an end put on its link, in this form: `kiss LINK END`, `candump LINK END`.
     Export(Form, EndName<'a>),
