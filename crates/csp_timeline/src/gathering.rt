@@ -38,11 +38,7 @@ fn tell_parties(
 }
 
 /// What happened in the turns of each party, one party after the other.
-fn party_by_party(
-    alloc: Global,
-    scene: &Scene,
-    run: &Record,
-) -> Result<Vec<Happening>, AllocError>
+fn party_by_party(alloc: Global, scene: &Scene, run: &Record) -> Result<Vec<Happening>, AllocError>
     ensures { IfOk result (λ list. list.items ≡ flat_map (happenings_of scene.now) run.now.parties) }
 {
     let mut list = Vec::new(alloc);
@@ -54,11 +50,7 @@ fn party_by_party(
 ///
 /// # Errors
 /// Want of memory, which is taken in proportion to what happened.
-pub fn happenings(
-    alloc: Global,
-    scene: &Scene,
-    run: &Record,
-) -> Result<Vec<Happening>, AllocError>
+pub fn happenings(alloc: Global, scene: &Scene, run: &Record) -> Result<Vec<Happening>, AllocError>
     ensures { IfOk result (λ list. list.items ≡ happenings scene.now run.now) }
 {
     let mut list = party_by_party(alloc, scene, run)?;

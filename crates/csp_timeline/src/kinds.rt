@@ -55,11 +55,20 @@ pub enum What {
     /// An application was told this by its router.
     Told(Note),
     /// An application sent a packet, with this mark: a slot, or `UNMARKED` where it is sent as it is.
-    Sent { mark: u8, packet: Parcel },
+    Sent {
+        mark: u8,
+        packet: Parcel,
+    },
     /// An application took a packet, with this mark: its slot.
-    Took { mark: u8, packet: Parcel },
+    Took {
+        mark: u8,
+        packet: Parcel,
+    },
     /// A router told this application of its node this.
-    Answered { app: u8, note: Note },
+    Answered {
+        app: u8,
+        note: Note,
+    },
     /// An interface began the transmission of this serial; `again` where it had transmitted a packet with the same number
     /// of a flow of its own node before.
     Transmitted {
@@ -77,7 +86,10 @@ pub enum What {
         frame: Piece,
     },
     /// A link handed a frame on, in this direction.
-    HandedOn { way: Way, frame: Piece },
+    HandedOn {
+        way: Way,
+        frame: Piece,
+    },
     /// A party reported this, where its turn moved that packet, if it moved one.
     Reported {
         event: Event,

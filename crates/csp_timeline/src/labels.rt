@@ -72,12 +72,7 @@ pub(crate) fn push_iface_label(
 }
 
 /// Appends the name of an application, `NODE.APP`.
-fn push_app_label(
-    out: &mut String,
-    scene: &Scene,
-    node: u8,
-    number: u8,
-) -> Result<(), AllocError>
+fn push_app_label(out: &mut String, scene: &Scene, node: u8, number: u8) -> Result<(), AllocError>
     ensures { OnOk result (string_bytes out.new ≡ string_bytes out.old ++ app_label scene.now node number) }
 {
     out.push_str(node_name(scene, node))?;

@@ -133,7 +133,11 @@ fn tell_accepted(list: &mut Vec<Happening>, turn: Turn, moved: &Moved) -> Result
 {
     match moved {
         Moved::Pushed(QueueId::Inbox, packet) => {
-            push(list, turn, What::Accepted(parcel_of(QueueId::Inbox, packet)))
+            push(
+                list,
+                turn,
+                What::Accepted(parcel_of(QueueId::Inbox, packet)),
+            )
         }
         _ => Ok(()),
     }
@@ -151,7 +155,15 @@ fn tell_event(
 {
     match event {
         Event::Transmitted { serial } => {
-            push(list, turn, What::Transmitted { serial, again, packet })
+            push(
+                list,
+                turn,
+                What::Transmitted {
+                    serial,
+                    again,
+                    packet,
+                },
+            )
         }
         Event::Sent { .. } | Event::Took { .. } => Ok(()),
         _ => push(list, turn, What::Reported { event, packet }),
@@ -266,9 +278,7 @@ fn tell_entry(
         Who::App(_, _) => tell_app(list, turn, noted, glance.mark, &moved, events),
         Who::Router(_) => tell_router(list, turn, noted, &moved, events),
         Who::Bridge(_) => tell_events(list, turn, false, parcel_in(&moved), events),
-        Who::Iface(node, _) => {
-            tell_iface(list, &mut memory.numbers, turn, node, &moved, events)
-        }
+        Who::Iface(node, _) => { tell_iface(list, &mut memory.numbers, turn, node, &moved, events) }
         Who::Link(_) => tell_link(list, &mut memory.carrying, turn, glance.framed),
     }
 }
