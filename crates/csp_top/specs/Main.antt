@@ -21,6 +21,15 @@ pub record EndsUnchanged (bytes : List ℕ) : Type 0 where
   pub before : List ℕ
   pub whole : bytes ≡ before ++ ended_line (codes "passed" ∷ decimal 0 ∷ [])
 
+-- where a run was ordinary the bytes of its report end so; so they do where no line of the scenario flips a bit and no bus wore out its numbers
+pub record EndsAsOrdinary (scene : PlainScene) (run : PlainRecord) (bytes : List ℕ) : Type 0 where
+  pub passes : IsOrdinary scene run → EndsUnchanged bytes
+  pub unflipped : HasNoFlips scene → HasNumbersForAll scene run → EndsUnchanged bytes
+
+-- so it is with these bytes
+unfoldable pub IsUnchangedIfOrdinary : PlainScene → PlainRecord → List ℕ → Type 0
+IsUnchangedIfOrdinary scene run bytes = EndsAsOrdinary scene run bytes
+
 -- the text states a scene, whose run ends before its logs are full; its record is consistent with the scene, and these bytes are its report. Where
 -- the run was ordinary, they end with `passed 0`; so they do where no line of the scenario flips a bit and no bus wore out its numbers
 pub record IsReportOf (text bytes : List ℕ) : Type 0 where
@@ -30,8 +39,7 @@ pub record IsReportOf (text bytes : List ℕ) : Type 0 where
   pub ran : sim_record scene ≡ Some run
   pub consistent : IsConsistent scene run
   pub reported : bytes ≡ report scene run
-  pub passes : IsOrdinary scene run → EndsUnchanged bytes
-  pub unflipped : HasNoFlips scene → HasNumbersForAll scene run → EndsUnchanged bytes
+  pub ordinary : IsUnchangedIfOrdinary scene run bytes
 
 -- the whole report of the text was written
 abbrev pub WroteReport : List ℕ → Option (List ℕ) → Option (List ℕ) → Type 0

@@ -6,12 +6,11 @@ use Rattle.csp_base.specs.Transfer.{WrotePrefix}
 use Rattle.csp_consistent.specs.Threaded.{IsThreaded}
 use Rattle.csp_node.specs.Runs.{HasStopped}
 use Rattle.csp_record.specs.Record.{PlainRecord}
-use Rattle.csp_ordinary.specs.Ordinary.{HasNoFlips, HasNumbersForAll, IsOrdinary}
 use Rattle.csp_report.specs.Report.{report}
 use Rattle.csp_scene.specs.Judge.{scene_of}
 use Rattle.csp_scene.specs.Scene.{PlainScene}
 use Rattle.csp_world.specs.declared.limits.TheConstants.{MAX_ENTRIES}
-use Rattle.csp_top.specs.Main.{EndsUnchanged}
+use Rattle.csp_top.specs.Main.{IsUnchangedIfOrdinary}
 use Rattle.csp_bench.specs.declared.status.Status.{Status}
 use Rattle.csp_bench.specs.declared.status.Status.TheVariants as status
 use Rattle.csp_bench.specs.declared.status.TheConstants.{MAX_SCENARIO}
@@ -25,8 +24,7 @@ pub record IsRunReportOf (text bytes : List ℕ) : Type 0 where
   pub threaded : IsThreaded scene run
   pub stopped : HasStopped scene.until MAX_ENTRIES run
   pub reported : bytes ≡ report scene run
-  pub passes : IsOrdinary scene run → EndsUnchanged bytes
-  pub unflipped : HasNoFlips scene → HasNumbersForAll scene run → EndsUnchanged bytes
+  pub ordinary : IsUnchangedIfOrdinary scene run bytes
 
 -- the whole report of such a run was written
 abbrev pub WroteRun : List ℕ → Option (List ℕ) → Option (List ℕ) → Type 0

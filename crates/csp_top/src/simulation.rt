@@ -7,7 +7,6 @@ ghost use Rattle.csp_base.specs.Transfer.{TookAtMost, TookExactly};
 ghost use Rattle.csp_bench.specs.Edge.{WasRead};
 ghost use Rattle.csp_bench.specs.Running.{IsPastEntries, IsUnhindered};
 ghost use Rattle.csp_consistent.specs.Consistent.{IsConsistent};
-ghost use Rattle.csp_ordinary.specs.Ordinary.{HasNoFlips, HasNumbersForAll, IsOrdinary};
 ghost use Rattle.csp_record.specs.Whole.{IsWhole};
 ghost use Rattle.csp_report.specs.Report.{report};
 ghost use Rattle.csp_scene.specs.Judge.{scene_of};
@@ -15,7 +14,7 @@ ghost use Rattle.csp_scene.specs.Kept.{AreLinksAfter};
 ghost use Rattle.csp_scene.specs.Naming.{AreNamedApart};
 ghost use Rattle.csp_scene.specs.Ranges.{IsScene};
 ghost use Rattle.csp_scene.specs.declared.refusal.SceneKind.{SceneKind};
-ghost use Rattle.csp_top.specs.Main.{EndsUnchanged, WroteReport, WrotePart, WroteReliably, WroteWhole, IsReportOf, IsDoneOrNoMemory};
+ghost use Rattle.csp_top.specs.Main.{IsUnchangedIfOrdinary, WroteReport, WrotePart, WroteReliably, WroteWhole, IsReportOf, IsDoneOrNoMemory};
 ghost use Rattle.csp_report.specs.PlacesAddUp.{PlacesAddUp};
 ghost use Rattle.csp_report.specs.ReliablePrefix.{HasReliablePrefix};
 
@@ -98,8 +97,7 @@ pub(crate) fn told(alloc: Global, run: &Record, scene: &Scene) -> Result<Vec<u8>
     ensures bytes { IfOk result (λ bytes. bytes.items ≡ report scene.now run.now) }
     ensures places { IfOk result (λ bytes. PlacesAddUp bytes.items) }
     ensures reliable { IfOk result (λ bytes. HasReliablePrefix bytes.items) }
-    ensures passes { IfOk result (λ bytes. IsOrdinary scene.now run.now → EndsUnchanged bytes.items) }
-    ensures unflipped { IfOk result (λ bytes. HasNoFlips scene.now → HasNumbersForAll scene.now run.now → EndsUnchanged bytes.items) }
+    ensures ordinary { IfOk result (λ bytes. IsUnchangedIfOrdinary scene.now run.now bytes.items) }
     ensures refused { IfErr result (λ why. why ≡ Refusal.NoMemory) }
 {
     takes_a_prefix();

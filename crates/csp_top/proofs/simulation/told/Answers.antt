@@ -1,8 +1,10 @@
 use Rattle.std.proofs.Common.{sym, subst}
+use Rattle.csp_ordinary.specs.Ordinary.{IsOrdinary}
+use Rattle.csp_report.specs.Report.{report}
 use Rattle.csp_report.specs.ReliablePrefix.{HasReliablePrefix}
 use Rattle.csp_top.proofs.Unchanged.{ends_unchanged}
 use Rattle.csp_top.proofs.simulation.told.Goals as goal
-use Rattle.csp_top.specs.Main.{EndsUnchanged}
+use Rattle.csp_top.specs.Main.{EndsAsOrdinary, EndsUnchanged, IsUnchangedIfOrdinary}
 
 pub returns-in-Ok-clause-reliable : goal.returns-in-Ok-clause-reliable
 returns-in-Ok-clause-reliable c =
@@ -15,17 +17,14 @@ returns-in-Ok-clause-reliable c =
     (λ node app x opened. (let placed = c.opens_on_slots.ensures scene run ranges consistent node app x opened in record { app = placed.0; slot = placed.1 }))
     (c.takes_a_prefix.ensures scene run ranges consistent))
 
-pub returns-in-Ok-clause-passes : goal.returns-in-Ok-clause-passes
-returns-in-Ok-clause-passes c =
+pub returns-in-Ok-clause-ordinary : goal.returns-in-Ok-clause-ordinary
+unfolding IsUnchangedIfOrdinary
+returns-in-Ok-clause-ordinary c =
     let scene = c.args.scene.now in
-    let run = c.args.run.now in λ ordinary.
-    subst EndsUnchanged (sym c.in-Ok.ensures.bytes)
-    (ends_unchanged scene run (c.passes_nothing.ensures scene run c.requires.ranges c.requires.ends c.requires.consistent c.hold_words.ensures ordinary))
-
-pub returns-in-Ok-clause-unflipped : goal.returns-in-Ok-clause-unflipped
-returns-in-Ok-clause-unflipped c =
-    let scene = c.args.scene.now in
-    let run = c.args.run.now in λ none numbers.
-    subst EndsUnchanged (sym c.in-Ok.ensures.bytes)
-    (ends_unchanged scene run (c.passes_nothing.ensures scene run c.requires.ranges c.requires.ends c.requires.consistent c.hold_words.ensures
-    (record { undamaged = c.undamaged_without_flips.ensures scene run none; numbers = numbers })))
+    let run = c.args.run.now in
+    let ends : IsOrdinary scene run → EndsUnchanged (report scene run) = λ ordinary.
+    ends_unchanged scene run (c.passes_nothing.ensures scene run c.requires.ranges c.requires.ends c.requires.consistent c.hold_words.ensures ordinary) in
+    subst (EndsAsOrdinary scene run) (sym c.in-Ok.ensures.bytes) (record {
+      passes = ends;
+      unflipped = λ none numbers. ends (record { undamaged = c.undamaged_without_flips.ensures scene run none; numbers = numbers });
+    })
