@@ -1,6 +1,7 @@
 -- What a command owes is what the one that the words name owes.
 use Rattle.std.proofs.Common.{◌≡◌, Result, Ok, sym, ◌∙◌, subst}
-use Rattle.csp_top.specs.Owes.{Edge, Owes}
+use Rattle.csp_bench.specs.Edge.{Edge}
+use Rattle.csp_top.specs.Owes.{Owes}
 use Rattle.csp_bench.specs.declared.status.Status.{Status}
 use Rattle.csp_words.specs.declared.grammar.Command.{Command}
 use Rattle.csp_words.specs.declared.grammar.WordsError.{WordsError}
