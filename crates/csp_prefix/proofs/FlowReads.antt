@@ -185,3 +185,12 @@ said_none es nth never =
     by : IsSearched es nth (apps_in es) (said_of es nth) → said_of es nth ≡ []
     by (inl none) = none.0
     by (inr on) = absurd (never on.app on.opening on.flow)
+
+-- what holds of nothing, and of what was sent on each connection with the number, holds of what was said
+pub said_so : (P : List (List ℕ) → Type 0) (es : List Entry) (nth : ℕ) → P [] → ((app : ℕ) (x : Opening) → IsFlowOf es app nth x → P (sent app x.slot x.ordinal es)) → P (said_of es nth)
+said_so P es nth nothing each =
+    by (searched es nth (apps_in es))
+  where
+    by : IsSearched es nth (apps_in es) (said_of es nth) → P (said_of es nth)
+    by (inl none) = subst P (sym none.0) nothing
+    by (inr on) = subst P (sym on.same) (each on.app on.opening on.flow)

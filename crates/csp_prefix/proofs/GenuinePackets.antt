@@ -1,61 +1,32 @@
--- Every packet that a router or bridge got from its inbox is genuine: by induction on the links that it crossed.
-use Rattle.std.proofs.Common.{◌≡◌, ◌⊎◌, inl, inr, ℕ, zero, suc, ◌+◌, ◌<◌, ◌==◌, ◌&&◌, Bool, true, false, not, Option, Some, None, List, [], ◌∷◌, ◌++◌, flat_map, slice_get, refl, sym, ap, ◌∙◌, subst, arith, eqb-true, le_refl}
-use Rattle.std.specs.Prelude.{if◌then◌else◌}
-use Rattle.std.specs.List.{AllByRecursion}
-use Rattle.std.specs.Option.{option_and_then}
-use Rattle.std.specs.Str.{bytes_eq}
-use Rattle.std.proofs.lemmas.Option.{get_or_from_slice_get, slice_get_within}
-use Rattle.std.proofs.lemmas.Slice.Eq.{bytes_eq-Decides}
-use Rattle.csp_base.specs.Priority.{prio_number}
-use Rattle.csp_base.specs.declared.traces.Origin.{Origin}
-use Rattle.csp_bridge.specs.PlainBridge as plain_bridge
+-- Every packet that a router got from its inbox is genuine, by the flows that the record shows: each router sends only such, but for what it passes on.
+use Rattle.std.proofs.Common.{◌≡◌, ℕ, ◌++◌, sym, ap, ◌∙◌}
+use Rattle.std.proofs.lemmas.Option.{get_or_from_slice_get}
 use Rattle.csp_buffer.specs.Content.{Content}
 use Rattle.csp_header.specs.Word.{header_at}
-use Rattle.csp_log.specs.declared.entry.Entry.{Entry}
-use Rattle.csp_log.specs.declared.places.End.{End}
-use Rattle.csp_log.specs.declared.places.QueueId.TheVariants as queue
-use Rattle.csp_log.specs.declared.places.TheConstants.{UNMARKED}
-use Rattle.csp_log.specs.declared.shown.ItemShown.{ItemShown}
-use Rattle.csp_log.specs.declared.shown.ItemShown.TheVariants as item
-use Rattle.csp_party.specs.Any.{a_bridge, an_iface}
-use Rattle.csp_iface.specs.PlainIface as plain_iface
 use Rattle.csp_ports.specs.PlainPorts.{start_of}
 use Rattle.csp_rdp_header.specs.Head.{head_bytes}
-use Rattle.csp_record.specs.Passed.{accepted_by, differs, is_changed, passed}
+use Rattle.csp_record.specs.Passed.{passed}
 use Rattle.csp_record.specs.Record.{PlainRecord}
-use Rattle.csp_record.specs.Transmissions.{iface_entries, shown_in, transmission}
-use Rattle.csp_record.specs.declared.who.Who.{Who}
 use Rattle.csp_record.specs.declared.who.Who.TheVariants as who
-use Rattle.csp_scene.proofs.Lists.{AllByRecursion-map}
 use Rattle.csp_scene.specs.Links.{links_at, no_node, node_at}
 use Rattle.csp_scene.specs.Ranges.{IsScene}
 use Rattle.csp_scene.specs.Scene.{PlainNode, PlainScene}
 use Rattle.csp_stack.specs.Readings.{is_checked}
 use Rattle.csp_consistent.specs.Consistent.{IsConsistent}
 use Rattle.csp_prefix.specs.Flows.{Flows, IsFilledFor, IsGenuine, with_checksum}
-use Rattle.csp_consistent.specs.Inboxes.{came_through, writer_of}
-use Rattle.csp_consistent.specs.Lanes.{IsInOrder}
-use Rattle.csp_topology.specs.Lanes.{hub_of, out_lane}
-use Rattle.csp_consistent.specs.Origins.{IsSent}
 use Rattle.csp_topology.specs.Parties.{config_of}
-use Rattle.csp_consistent.specs.Reading.{entries_of, gets, left_in, puts, with_priority}
-use Rattle.csp_prefix.specs.Routers.{AreShown, AreTrueRouters, HearsGenuine, IsGenuineItem, IsTrueRouter}
-use Rattle.csp_consistent.proofs.Across.{through}
-use Rattle.csp_consistent.proofs.Each.{each_at, each_first, first_given}
+use Rattle.csp_consistent.specs.Reading.{entries_of}
+use Rattle.csp_prefix.specs.Routers.{AreShown, AreTrueRouters, HearsGenuine, IsTrueRouter}
 use Rattle.csp_prefix.proofs.FlowReads.{said_is, said_of}
-use Rattle.csp_prefix.proofs.HubLogs.{bridge_keeps, bridge_puts, iface_shows, router_keeps, router_sends}
-use Rattle.csp_consistent.proofs.Names.{Logged}
-use Rattle.csp_prefix.proofs.NodeLanes.{RouterThere, out_lane_there, owner_of, router_there, run_of}
-use Rattle.csp_consistent.proofs.Owners.{IsBridgeAt, IsIfaceAt, IsOf}
-use Rattle.csp_prefix.proofs.PacketLists.{IsOfKind, accepted_of, by_mark, by_priority, each_any, each_both, each_of_priority, iface_entries_in, none_counted}
-use Rattle.csp_consistent.proofs.Planned.{logged}
+use Rattle.csp_prefix.proofs.HeardPackets.{hears_only}
+use Rattle.csp_prefix.proofs.NodeLanes.{RouterThere}
 
 -- the flows that a record shows
 abbrev pub flows_in : PlainScene → PlainRecord → Flows
 flows_in scene r = record { said = λ flow. said_of (entries_of r (who.Router flow.0)) flow.1; start = λ flow. start_of (node_at scene.nodes flow.0).seed flow.1 }
 
 -- a packet is as genuine as one that has its header, payload and tag
-genuine_like : (flows : Flows) (b c : Content) → b.header ≡ c.header → b.payload ≡ c.payload → b.trace.tag ≡ c.trace.tag → IsGenuine flows c → IsGenuine flows b
+pub genuine_like : (flows : Flows) (b c : Content) → b.header ≡ c.header → b.payload ≡ c.payload → b.trace.tag ≡ c.trace.tag → IsGenuine flows c → IsGenuine flows b
 genuine_like flows b c headers payloads tags g tag e =
     let f : IsFilledFor flows c tag = g tag (sym tags ∙ e) in
     record {
@@ -64,34 +35,6 @@ genuine_like flows b c headers payloads tags g tag e =
       payload = payloads ∙ f.payload ∙ ap (λ h. with_checksum (is_checked (header_at h)) (f.bytes ++ head_bytes f.head)) (sym headers);
       true_of = f.true_of;
     }
-
-both_hold : (x y : Bool) → not (x && y) ≡ false → (x ≡ true) × (y ≡ true)
-both_hold true true e = (refl, refl)
-both_hold true false e = absurd cc
-both_hold false y e = absurd cc
-
--- a packet that crossed fewer links than so many is genuine
-abbrev pub IsGenuineBelow : Flows → ℕ → Content → Type 0
-IsGenuineBelow flows n b = b.trace.hops < n → IsGenuine flows b
-
-none_below : (flows : Flows) (i : ItemShown) → IsOfKind (IsGenuineBelow flows 0) i
-none_below flows (item.Packet mark b) = λ low. absurd (omega (arith, low))
-none_below flows (item.Frame _) = tt
-none_below flows (item.Note _) = tt
-
-below_any : (flows : Flows) (n : ℕ) (i : ItemShown) → IsOfKind (IsGenuine flows) i → IsOfKind (IsGenuineBelow flows n) i
-below_any flows n (item.Packet mark b) g = λ low. g
-below_any flows n (item.Frame _) g = tt
-below_any flows n (item.Note _) g = tt
-
-from_below : (flows : Flows) (i : ItemShown) → ((n : ℕ) → IsOfKind (IsGenuineBelow flows n) i) → IsGenuineItem flows i
-from_below flows (item.Packet mark b) h = h (suc b.trace.hops) (le_refl (suc b.trace.hops))
-from_below flows (item.Frame _) h = tt
-from_below flows (item.Note _) h = tt
-
-all_from_below : (flows : Flows) (is : List ItemShown) → ((n : ℕ) → AllByRecursion (IsOfKind (IsGenuineBelow flows n)) is) → AllByRecursion (IsGenuineItem flows) is
-all_from_below flows [] h = tt
-all_from_below flows (i ∷ is) h = (from_below flows i (λ n. (h n).0), all_from_below flows is (λ n. (h n).1))
 
 module _ (scene : PlainScene) (r : PlainRecord) (is : IsScene scene) (con : IsConsistent scene r) (same : passed r ≡ 0) (true_routers : AreTrueRouters) where
   -- a router of the scene is true, and the record shows its flows
@@ -104,111 +47,7 @@ module _ (scene : PlainScene) (r : PlainRecord) (is : IsScene scene) (con : IsCo
     start = λ nth. ap (λ (n : PlainNode). start_of n.seed nth) (get_or_from_slice_get scene.nodes place t.node no_node t.there);
   }
 
-  abbrev Below : ℕ → ItemShown → Type 0
-  Below n = IsOfKind (IsGenuineBelow (flows_in scene r) n)
-
-  -- all that hubs hear is genuine, if it crossed fewer links than so many
-  abbrev HearBelow : ℕ → Type 0
-  HearBelow n = (place : ℕ) (node : PlainNode) → slice_get scene.nodes place ≡ Some node → AllByRecursion (Below n) (gets queue.Inbox (entries_of r (hub_of place node.addr)))
-
-  -- then so is what they put into an `Out`
-  router_below : (n place k : ℕ) → AllByRecursion (Below n) (gets queue.Inbox (entries_of r (who.Router place))) → (entries_of r (who.Router place) ≡ []) ⊎ Logged (IsOf scene) (who.Router place) r.parties
-      → AllByRecursion (Below n) (puts (queue.Out k) (entries_of r (who.Router place)))
-  router_below n place k got (inl none) = subst (λ es. AllByRecursion (Below n) (puts (queue.Out k) es)) (sym none) tt
-  router_below n place k got (inr l) =
-      let es : List Entry = entries_of r (who.Router place) in
-      let t : RouterThere scene r place = router_there scene r place is con.runs con.lanes l in
-      router_sends (IsGenuineBelow (flows_in scene r) n) (flows_in scene r) es k es (λ b g low. g) (λ b h. each_at (Below n) (gets queue.Inbox es) h.at (item.Packet h.mark b) got h.there)
-      ((true_router place t).sends (flows_in scene r) (are_shown place t))
-
-  bridge_below : (n place k : ℕ) → AllByRecursion (Below n) (gets queue.Inbox (entries_of r (who.Bridge place))) → (entries_of r (who.Bridge place) ≡ []) ⊎ Logged (IsOf scene) (who.Bridge place) r.parties
-      → AllByRecursion (Below n) (puts (queue.Out k) (entries_of r (who.Bridge place)))
-  bridge_below n place k got (inl none) = subst (λ es. AllByRecursion (Below n) (puts (queue.Out k) es)) (sym none) tt
-  bridge_below n place k got (inr l) =
-      let at : IsBridgeAt scene.nodes place l.opening.party = owner_of scene r (who.Bridge place) l in
-      bridge_puts (IsGenuineBelow (flows_in scene r) n) (queue.Out k) (entries_of r (who.Bridge place)) 0 plain_bridge.opening (run_of scene r (who.Bridge place) (a_bridge plain_bridge.opening) l at.party) tt got
-
-  hub_below : (n place k : ℕ) (addr : Option ℕ) → AllByRecursion (Below n) (gets queue.Inbox (entries_of r (hub_of place addr))) → AllByRecursion (Below n) (puts (queue.Out k) (entries_of r (hub_of place addr)))
-  hub_below n place k (Some addr) got = router_below n place k got (logged scene r (who.Router place) con.runs)
-  hub_below n place k None got = bridge_below n place k got (logged scene r (who.Bridge place) con.runs)
-
-  -- what they put into their own inboxes is genuine
-  router_inbox : (place : ℕ) → (entries_of r (who.Router place) ≡ []) ⊎ Logged (IsOf scene) (who.Router place) r.parties → AllByRecursion (IsOfKind (IsGenuine (flows_in scene r))) (puts queue.Inbox (entries_of r (who.Router place)))
-  router_inbox place (inl none) = subst (λ es. AllByRecursion (IsOfKind (IsGenuine (flows_in scene r))) (puts queue.Inbox es)) (sym none) tt
-  router_inbox place (inr l) =
-      let es : List Entry = entries_of r (who.Router place) in
-      let t : RouterThere scene r place = router_there scene r place is con.runs con.lanes l in
-      router_keeps (flows_in scene r) es es ((true_router place t).sends (flows_in scene r) (are_shown place t))
-
-  bridge_inbox : (place : ℕ) → (entries_of r (who.Bridge place) ≡ []) ⊎ Logged (IsOf scene) (who.Bridge place) r.parties → AllByRecursion (IsOfKind (IsGenuine (flows_in scene r))) (puts queue.Inbox (entries_of r (who.Bridge place)))
-  bridge_inbox place (inl none) = subst (λ es. AllByRecursion (IsOfKind (IsGenuine (flows_in scene r))) (puts queue.Inbox es)) (sym none) tt
-  bridge_inbox place (inr l) =
-      let at : IsBridgeAt scene.nodes place l.opening.party = owner_of scene r (who.Bridge place) l in
-      bridge_keeps (IsGenuine (flows_in scene r)) (entries_of r (who.Bridge place)) 0 plain_bridge.opening (run_of scene r (who.Bridge place) (a_bridge plain_bridge.opening) l at.party)
-
-  hub_inbox : (place : ℕ) (addr : Option ℕ) → AllByRecursion (IsOfKind (IsGenuine (flows_in scene r))) (puts queue.Inbox (entries_of r (hub_of place addr)))
-  hub_inbox place (Some addr) = router_inbox place (logged scene r (who.Router place) con.runs)
-  hub_inbox place None = bridge_inbox place (logged scene r (who.Bridge place) con.runs)
-
-  -- what a transmission shows
-  shows_below : (n node number serial : ℕ) → HearBelow n → (entries_of r (who.Iface node number) ≡ []) ⊎ Logged (IsOf scene) (who.Iface node number) r.parties
-      → AllByRecursion (λ e. (b : Content) → shown_in serial e ≡ Some b → IsGenuineBelow (flows_in scene r) n b) (entries_of r (who.Iface node number))
-  shows_below n node number serial hear (inl none) = subst (AllByRecursion (λ (e : Entry). (b : Content) → shown_in serial e ≡ Some b → IsGenuineBelow (flows_in scene r) n b)) (sym none) tt
-  shows_below n node number serial hear (inr l) =
-      let at : IsIfaceAt scene.nodes scene.links node number l.opening.party = owner_of scene r (who.Iface node number) l in
-      let lane : IsInOrder r (out_lane node (hub_of node at.node.addr) number) = out_lane_there scene r node number at.node con.lanes at.there (slice_get_within (links_at node scene.links) number at.link at.on) in
-      iface_shows (IsGenuineBelow (flows_in scene r) n) node number serial at.link.kind at.link.mtu (entries_of r (who.Iface node number))
-      (run_of scene r (who.Iface node number) (an_iface (plain_iface.opening node number at.link.kind at.link.mtu)) l at.party)
-      (through (Below n) r (out_lane node (hub_of node at.node.addr) number) lane (hub_below n node number at.node.addr (hear node at.node at.there)))
-
-  sent_below : (n : ℕ) → HearBelow n → (o : Origin) (sent : Content) → transmission r o ≡ Some sent → IsGenuineBelow (flows_in scene r) n sent
-  sent_below n hear o sent shown =
-      first_given (IsGenuineBelow (flows_in scene r) n) (shown_in o.serial) (iface_entries r.parties o.node o.iface) sent shown
-      (subst (AllByRecursion (λ (e : Entry). (b : Content) → shown_in o.serial e ≡ Some b → IsGenuineBelow (flows_in scene r) n b)) (sym (iface_entries_in r.parties o.node o.iface))
-      (shows_below n o.node o.iface o.serial hear (logged scene r (who.Iface o.node o.iface) con.runs)))
-
-  as_sent : (n : ℕ) → HearBelow n → (b : Content) (o : Origin) (sent : Content) → option_and_then (transmission r) b.trace.origin ≡ Some sent → transmission r o ≡ Some sent → b.trace.tag ≡ sent.trace.tag
-      → b.trace.hops ≡ sent.trace.hops + 1 → is_changed r b ≡ false → IsGenuineBelow (flows_in scene r) (suc n) b
-  as_sent n hear b o sent named shown tag hops unchanged low =
-      let alike : ((b.header == sent.header) ≡ true) × (bytes_eq b.payload sent.payload ≡ true) = both_hold (b.header == sent.header) (bytes_eq b.payload sent.payload) (sym (ap (λ x. differs x b) named) ∙ unchanged) in
-      genuine_like (flows_in scene r) b sent (eqb-true b.header sent.header alike.0) ((bytes_eq-Decides b.payload sent.payload).0 alike.1) tag (sent_below n hear o sent shown (omega (arith, low, hops)))
-
-  -- what an interface put into an inbox crossed one link more than what was sent beyond, and is as that was
-  came_below : (n : ℕ) (end : End) → HearBelow n → (i : ItemShown) → IsSent scene r end i → IsOfKind (λ b. is_changed r b ≡ false) i → Below (suc n) i
-  came_below n end hear (item.Packet mark b) s unchanged = as_sent n hear b s.origin s.sent (ap (option_and_then (transmission r)) s.named ∙ s.shown) s.shown s.tag s.hops unchanged
-  came_below n end hear (item.Frame _) s unchanged = tt
-  came_below n end hear (item.Note _) s unchanged = tt
-
-  iface_below : (n place mark : ℕ) → HearBelow n → AllByRecursion (Below (suc n)) (puts queue.Inbox (entries_of r (who.Iface place mark)))
-  iface_below n place mark hear =
-      let end : End = record { node = place; iface = mark } in
-      each_both (IsSent scene r end) (IsOfKind (λ b. is_changed r b ≡ false)) (Below (suc n)) (puts queue.Inbox (entries_of r (who.Iface place mark))) (came_below n end hear)
-      (con.origins end) (accepted_of (λ b. is_changed r b ≡ false) place mark r.parties (none_counted (is_changed r) (flat_map accepted_by r.parties) same))
-
-  -- what was put into an inbox with a mark
-  writer_below : (n place mark : ℕ) (addr : Option ℕ) → HearBelow n → AllByRecursion (Below (suc n)) (puts queue.Inbox (entries_of r (writer_of place (hub_of place addr) mark)))
-  writer_below n place mark addr hear =
-      by (mark == UNMARKED)
-    where
-      by : (c : Bool) → AllByRecursion (Below (suc n)) (puts queue.Inbox (entries_of r (if c then hub_of place addr else who.Iface place mark)))
-      by true = AllByRecursion-map (IsOfKind (IsGenuine (flows_in scene r))) (Below (suc n)) (puts queue.Inbox (entries_of r (hub_of place addr))) (below_any (flows_in scene r) (suc n)) (hub_inbox place addr)
-      by false = iface_below n place mark hear
-
-  hear_next : (n : ℕ) → HearBelow n → HearBelow (suc n)
-  hear_next n hear place node there =
-      let hub : Who = hub_of place node.addr in
-      by_priority (IsGenuineBelow (flows_in scene r) (suc n)) (gets queue.Inbox (entries_of r hub)) λ p.
-      each_first (Below (suc n)) (with_priority p (gets queue.Inbox (entries_of r hub))) (left_in r place queue.Inbox (prio_number p))
-      (by_mark (IsGenuineBelow (flows_in scene r) (suc n)) (came_through r place hub p) λ mark.
-      subst (AllByRecursion (Below (suc n))) (sym (((con.inboxes place node there).priorities p).order mark))
-      (each_of_priority (Below (suc n)) p (puts queue.Inbox (entries_of r (writer_of place hub mark))) (writer_below n place mark node.addr hear)))
-
-  hear_below : (n : ℕ) → HearBelow n
-  hear_below zero place node there = each_any (Below 0) (gets queue.Inbox (entries_of r (hub_of place node.addr))) (none_below (flows_in scene r))
-  hear_below (suc n) place node there = hear_next n (hear_below n) place node there
-
   -- all that a router hears is genuine
   pub hears_genuine : (place : ℕ) (t : RouterThere scene r place) → HearsGenuine (flows_in scene r) (entries_of r (who.Router place))
-  hears_genuine place t =
-      subst (λ a. AllByRecursion (IsGenuineItem (flows_in scene r)) (gets queue.Inbox (entries_of r (hub_of place a)))) t.called
-      (all_from_below (flows_in scene r) (gets queue.Inbox (entries_of r (hub_of place t.node.addr))) (λ n. hear_below n place t.node t.there))
+  hears_genuine =
+      hears_only scene r is con same (IsGenuine (flows_in scene r)) (genuine_like (flows_in scene r)) (λ place t. (true_router place t).sends (flows_in scene r) (are_shown place t))

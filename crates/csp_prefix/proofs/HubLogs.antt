@@ -48,12 +48,10 @@ use Rattle.csp_stack.specs.declared.plan.Plan.{Plan}
 use Rattle.csp_stack.specs.declared.plan.Plan.TheVariants as plan
 use Rattle.csp_stack.specs.declared.sources.Source.TheVariants as source
 use Rattle.csp_prefix.specs.Apps.{app_steps}
-use Rattle.csp_prefix.specs.Flows.{Flows, IsGenuine}
 use Rattle.csp_topology.specs.Parties.{party_steps}
 use Rattle.csp_consistent.specs.Reading.{got_by, gets, is_queue, put_by, puts}
-use Rattle.csp_prefix.specs.Routers.{ComesSo, IsHeard, IsUntraced, PushesSo, router_steps}
+use Rattle.csp_prefix.specs.Routers.{ComesSo, IsHeard, IsOfKind, IsUntraced, PushesSo, router_steps}
 use Rattle.csp_consistent.proofs.Each.{each_first, each_if, each_last}
-use Rattle.csp_prefix.proofs.PacketLists.{IsOfKind}
 use Rattle.csp_consistent.proofs.Received.{IsNamed, step_named}
 
 -- ---- a party's run is that of what it is
@@ -158,44 +156,46 @@ comes_so apps (e ∷ es) own got =
 
 -- ---- what a router puts
 
-sent_one : (R : Content → Type 0) (flows : Flows) (all : List Entry) (k : ℕ) (o : OpShown) (a : AnswerShown) → ((b : Content) → IsGenuine flows b → R b) → ((b : Content) → IsHeard all b → R b)
-    → PushesSo flows all o a → AllByRecursion (IsOfKind R) (put_by (queue.Out k) o a)
-sent_one R flows all k (op.Push (queue.Out j) (item.Packet mark b)) answer.Pushed genuine heard so = each_if (IsOfKind R) (j == k) (item.Packet mark b) (chosen so)
+sent_one : (P R : Content → Type 0) (all : List Entry) (k : ℕ) (o : OpShown) (a : AnswerShown) → ((b : Content) → P b → R b) → ((b : Content) → IsHeard all b → R b)
+    → PushesSo P all o a → AllByRecursion (IsOfKind R) (put_by (queue.Out k) o a)
+sent_one P R all k (op.Push (queue.Out j) (item.Packet mark b)) answer.Pushed own heard so = each_if (IsOfKind R) (j == k) (item.Packet mark b) (chosen so)
   where
-    chosen : IsGenuine flows b ⊎ IsHeard all b → R b
-    chosen (inl g) = genuine b g
+    chosen : P b ⊎ IsHeard all b → R b
+    chosen (inl p) = own b p
     chosen (inr h) = heard b h
-sent_one R flows all k (op.Push queue.Inbox (item.Packet mark b)) answer.Pushed genuine heard so = tt
-sent_one R flows all k (op.Push (queue.Up j) (item.Packet mark b)) answer.Pushed genuine heard so = tt
-sent_one R flows all k (op.Push (queue.Down j) (item.Packet mark b)) answer.Pushed genuine heard so = tt
-sent_one R flows all k (op.Push (queue.Tx j) (item.Packet mark b)) answer.Pushed genuine heard so = tt
-sent_one R flows all k (op.Push (queue.Rx j) (item.Packet mark b)) answer.Pushed genuine heard so = tt
-sent_one R flows all k (op.Push q (item.Frame f)) answer.Pushed genuine heard so = each_if (IsOfKind R) (is_queue (queue.Out k) q) (item.Frame f) tt
-sent_one R flows all k (op.Push q (item.Note n)) answer.Pushed genuine heard so = each_if (IsOfKind R) (is_queue (queue.Out k) q) (item.Note n) tt
-sent_one R flows all k _ _ genuine heard so = tt
+sent_one P R all k (op.Push queue.Inbox (item.Packet mark b)) answer.Pushed own heard so = tt
+sent_one P R all k (op.Push (queue.Up j) (item.Packet mark b)) answer.Pushed own heard so = tt
+sent_one P R all k (op.Push (queue.Down j) (item.Packet mark b)) answer.Pushed own heard so = tt
+sent_one P R all k (op.Push (queue.Tx j) (item.Packet mark b)) answer.Pushed own heard so = tt
+sent_one P R all k (op.Push (queue.Rx j) (item.Packet mark b)) answer.Pushed own heard so = tt
+sent_one P R all k (op.Push q (item.Frame f)) answer.Pushed own heard so = each_if (IsOfKind R) (is_queue (queue.Out k) q) (item.Frame f) tt
+sent_one P R all k (op.Push q (item.Note n)) answer.Pushed own heard so = each_if (IsOfKind R) (is_queue (queue.Out k) q) (item.Note n) tt
+sent_one P R all k _ _ own heard so = tt
 
-pub router_sends : (R : Content → Type 0) (flows : Flows) (all : List Entry) (k : ℕ) (es : List Entry) → ((b : Content) → IsGenuine flows b → R b) → ((b : Content) → IsHeard all b → R b)
-    → AllByRecursion (λ e. PushesSo flows all e.op e.answer) es → AllByRecursion (IsOfKind R) (puts (queue.Out k) es)
-router_sends R flows all k [] genuine heard so = tt
-router_sends R flows all k (e ∷ es) genuine heard so =
+-- into an `Out`: packets of the kind that it sends, and those that it heard
+pub router_sends : (P R : Content → Type 0) (all : List Entry) (k : ℕ) (es : List Entry) → ((b : Content) → P b → R b) → ((b : Content) → IsHeard all b → R b)
+    → AllByRecursion (λ e. PushesSo P all e.op e.answer) es → AllByRecursion (IsOfKind R) (puts (queue.Out k) es)
+router_sends P R all k [] own heard so = tt
+router_sends P R all k (e ∷ es) own heard so =
     AllByRecursion-append (IsOfKind R) (put_by (queue.Out k) e.op e.answer) (puts (queue.Out k) es)
-    (sent_one R flows all k e.op e.answer genuine heard so.0) (router_sends R flows all k es genuine heard so.1)
+    (sent_one P R all k e.op e.answer own heard so.0) (router_sends P R all k es own heard so.1)
 
-kept_one : (flows : Flows) (all : List Entry) (o : OpShown) (a : AnswerShown) → PushesSo flows all o a → AllByRecursion (IsOfKind (IsGenuine flows)) (put_by queue.Inbox o a)
-kept_one flows all (op.Push queue.Inbox (item.Packet mark b)) answer.Pushed so = (so, tt)
-kept_one flows all (op.Push (queue.Out j) (item.Packet mark b)) answer.Pushed so = tt
-kept_one flows all (op.Push (queue.Up j) (item.Packet mark b)) answer.Pushed so = tt
-kept_one flows all (op.Push (queue.Down j) (item.Packet mark b)) answer.Pushed so = tt
-kept_one flows all (op.Push (queue.Tx j) (item.Packet mark b)) answer.Pushed so = tt
-kept_one flows all (op.Push (queue.Rx j) (item.Packet mark b)) answer.Pushed so = tt
-kept_one flows all (op.Push q (item.Frame f)) answer.Pushed so = each_if (IsOfKind (IsGenuine flows)) (is_queue queue.Inbox q) (item.Frame f) tt
-kept_one flows all (op.Push q (item.Note n)) answer.Pushed so = each_if (IsOfKind (IsGenuine flows)) (is_queue queue.Inbox q) (item.Note n) tt
-kept_one flows all _ _ so = tt
+kept_one : (P : Content → Type 0) (all : List Entry) (o : OpShown) (a : AnswerShown) → PushesSo P all o a → AllByRecursion (IsOfKind P) (put_by queue.Inbox o a)
+kept_one P all (op.Push queue.Inbox (item.Packet mark b)) answer.Pushed so = (so, tt)
+kept_one P all (op.Push (queue.Out j) (item.Packet mark b)) answer.Pushed so = tt
+kept_one P all (op.Push (queue.Up j) (item.Packet mark b)) answer.Pushed so = tt
+kept_one P all (op.Push (queue.Down j) (item.Packet mark b)) answer.Pushed so = tt
+kept_one P all (op.Push (queue.Tx j) (item.Packet mark b)) answer.Pushed so = tt
+kept_one P all (op.Push (queue.Rx j) (item.Packet mark b)) answer.Pushed so = tt
+kept_one P all (op.Push q (item.Frame f)) answer.Pushed so = each_if (IsOfKind P) (is_queue queue.Inbox q) (item.Frame f) tt
+kept_one P all (op.Push q (item.Note n)) answer.Pushed so = each_if (IsOfKind P) (is_queue queue.Inbox q) (item.Note n) tt
+kept_one P all _ _ so = tt
 
-pub router_keeps : (flows : Flows) (all es : List Entry) → AllByRecursion (λ e. PushesSo flows all e.op e.answer) es → AllByRecursion (IsOfKind (IsGenuine flows)) (puts queue.Inbox es)
-router_keeps flows all [] so = tt
-router_keeps flows all (e ∷ es) so =
-    AllByRecursion-append (IsOfKind (IsGenuine flows)) (put_by queue.Inbox e.op e.answer) (puts queue.Inbox es) (kept_one flows all e.op e.answer so.0) (router_keeps flows all es so.1)
+-- into its own inbox: packets of the kind that it sends alone
+pub router_keeps : (P : Content → Type 0) (all es : List Entry) → AllByRecursion (λ e. PushesSo P all e.op e.answer) es → AllByRecursion (IsOfKind P) (puts queue.Inbox es)
+router_keeps P all [] so = tt
+router_keeps P all (e ∷ es) so =
+    AllByRecursion-append (IsOfKind P) (put_by queue.Inbox e.op e.answer) (puts queue.Inbox es) (kept_one P all e.op e.answer so.0) (router_keeps P all es so.1)
 
 -- ---- what a bridge puts: what it got from its inbox
 

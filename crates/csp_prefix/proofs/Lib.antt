@@ -2,6 +2,7 @@ pub mod AppItems
 pub mod AppTurns
 pub mod FlowReads
 pub mod GenuinePackets
+pub mod HeardPackets
 pub mod HubLogs
 pub mod MachineHearing
 pub mod MachineKept

@@ -18,7 +18,7 @@ use Rattle.csp_rdp.specs.Table.{handed}
 use Rattle.csp_rdp.specs.declared.answers.State.{State}
 use Rattle.csp_rdp.specs.declared.answers.State.TheVariants.{Closed, SynSent, SynRcvd, Open, CloseWait}
 use Rattle.csp_prefix.specs.Flows.{Flows, IsSaid}
-use Rattle.csp_prefix.specs.Machines.{HasDelivered, HasPeersStart, HasReceivedNothing, IsFed, IsInvited, IsReceiver, IsReceiving, IsToldSo, IsUntold, ReceivesIn, Receives}
+use Rattle.csp_prefix.specs.Machines.{HasDelivered, HasPeersStart, HasReceivedNothing, IsFed, IsInvited, IsReceiver, IsReceiving, IsToldSo, IsUntold, Receives, ReceivesIn, true_packets}
 use Rattle.csp_prefix.specs.Prefix.{IsBeginning}
 use Rattle.csp_prefix.specs.Slots.{IsKept, Now, Opens, after_delivering, after_opening, after_sending, waiting_for, with_machine}
 use Rattle.csp_prefix.proofs.MachineHearing.{hears-handed}
@@ -310,11 +310,11 @@ module _ (flows : Flows) where
 
 -- ---- all of it
 
-pub receiver-kept : (o : Origin) (flows : Flows) → IsKept o (IsFed flows) (IsInvited flows) (IsReceiver flows)
+pub receiver-kept : (o : Origin) (flows : Flows) → IsKept o (true_packets flows) (IsReceiver flows)
 receiver-kept o flows = record {
   grows = λ m later app slot n g i. i;
-  connects = λ m app slot ordinal time home. (record { book = refl; waits = refl }, record { cur = refl; kept = refl }, refl, refl);
-  accepts = λ m app slot ordinal time h tag options home syn invited. (
+  connects = λ m app slot ordinal time c flags home asked. (record { book = refl; waits = refl }, record { cur = refl; kept = refl }, refl, refl);
+  accepts = λ m app slot ordinal time c flags h tag options home syn invited. (
     record { book = refl; waits = refl },
     record { cur = refl; kept = refl },
     refl,

@@ -1,6 +1,6 @@
 -- What is known of a reliable connection that sends is kept by each step.
 use Rattle.std.proofs.Common.{◌≡◌, ℕ, ◌+◌, true, List, [], ◌∷◌, ◌++◌, length, Option, Some, None, refl, ap, ◌∙◌, sym, subst, arith}
-use Rattle.std.specs.Prelude.{◌≢◌, ⊤}
+use Rattle.std.specs.Prelude.{◌≢◌}
 use Rattle.std.specs.Option.{option_to_list}
 use Rattle.std.proofs.lemmas.List.{append-nil, length-append}
 use Rattle.std.proofs.lemmas.List.Elements.{All-nil, All-push, All-same}
@@ -17,7 +17,7 @@ use Rattle.csp_rdp.specs.Table.{handed}
 use Rattle.csp_rdp.specs.declared.answers.State.{State}
 use Rattle.csp_rdp.specs.declared.answers.State.TheVariants.{Closed, SynSent, SynRcvd, Open, CloseWait}
 use Rattle.csp_prefix.specs.Flows.{IsSaid}
-use Rattle.csp_prefix.specs.Machines.{HasSentNothing, IsNumbered, IsOpeningOf, IsOver, IsSender, IsSending, IsUntold, SendsIn, WasOpened}
+use Rattle.csp_prefix.specs.Machines.{HasSentNothing, IsNumbered, IsOpeningOf, IsOver, IsSender, IsSending, IsUntold, SendsIn, WasOpened, whatever}
 use Rattle.csp_prefix.specs.Slots.{GoesOn, IsKept, Now, Numbering, Opens, after_delivering, after_opening, after_sending, blank, waiting_for, with_machine}
 use Rattle.csp_prefix.proofs.MachineLists.{all-said-more, said-last}
 use Rattle.csp_prefix.proofs.MachineOpens.{IsEarly, early-is, opens-not, opens-rcvd, opens-sent, ways-not}
@@ -246,16 +246,16 @@ both n i = (i.book, i.waits)
 
 -- ---- all of it
 
-pub sender-kept : (o : Origin) → IsKept o (λ _ _ _ _. ⊤) (λ _ _. ⊤) (IsSender o)
+pub sender-kept : (o : Origin) → IsKept o whatever (IsSender o)
 sender-kept o = record {
   grows = λ m later app slot n g i. sends-grows n.machine.state o m later app slot n g i;
-  connects = λ m app slot ordinal time home. (
+  connects = λ m app slot ordinal time c flags home asked. (
     record { node = refl; start = refl; made = omega arith; home = home },
     record { book = refl; waits = refl },
     record { next = refl; packets = refl },
     refl,
   );
-  accepts = λ m app slot ordinal time h tag options home syn invited. (
+  accepts = λ m app slot ordinal time c flags h tag options home syn invited. (
     record { node = refl; start = refl; made = omega arith; home = home },
     record { book = refl; waits = refl },
     record { next = refl; packets = refl },

@@ -1,6 +1,6 @@
 -- What holds of each packet among items: of those of each priority, or with each mark; and what is read off a record's logs.
 use Rattle.std.proofs.Common.{◌≡◌, ℕ, ◌+◌, ◌==◌, ◌&&◌, Bool, true, false, cond, Option, Some, None, List, [], ◌∷◌, ◌++◌, flat_map, filter_map, slice_get, unwrap_or, zero, suc, refl, sym, ap, ◌∙◌, subst, arith}
-use Rattle.std.specs.Prelude.{if◌then◌else◌, count_by, ⊤}
+use Rattle.std.specs.Prelude.{if◌then◌else◌, count_by}
 use Rattle.std.specs.List.{AllByRecursion, cons_option}
 use Rattle.std.proofs.lemmas.Bool.{eq-eqb}
 use Rattle.std.proofs.lemmas.Grind.{flat_map-append}
@@ -29,6 +29,7 @@ use Rattle.csp_record.specs.declared.who.Who.{Who}
 use Rattle.csp_record.specs.declared.who.Who.TheVariants as who
 use Rattle.csp_scene.proofs.Lists.{AllByRecursion-append}
 use Rattle.csp_consistent.specs.Reading.{is_queue, is_who, of_mark, of_priority, put_by, puts, with_mark, with_priority}
+use Rattle.csp_prefix.specs.Routers.{IsOfKind}
 use Rattle.csp_consistent.proofs.Each.{each_first, each_if, each_last}
 use Rattle.csp_consistent.proofs.Names.{entries_in}
 
@@ -61,12 +62,6 @@ none_counted test (x ∷ xs) e =
         (h, rest (omega (arith, all, ap {B = ℕ} (λ b. cond b 1 0) h)))
 
 -- ---- packets among items
-
--- a packet of this kind, if it is a packet
-abbrev pub IsOfKind : (Content → Type 0) → ItemShown → Type 0
-IsOfKind R (item.Packet mark b) = R b
-IsOfKind R (item.Frame _) = ⊤
-IsOfKind R (item.Note _) = ⊤
 
 in_priority : (P : ItemShown → Type 0) (p : Prio) (i : ItemShown) → P i → AllByRecursion P (of_priority p i)
 in_priority P p (item.Packet mark b) h = each_if P (prio_number (priority_of b) == prio_number p) (item.Packet mark b) h

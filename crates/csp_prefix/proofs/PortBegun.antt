@@ -34,8 +34,8 @@ use Rattle.csp_prefix.proofs.PortFacts.{All, fine_of, good_of, grown_but}
 use Rattle.csp_prefix.proofs.PortQuiet.{owing_good}
 use Rattle.csp_prefix.proofs.PortSlots.{AreFineBut, IsFine, book_but, look, machine_but, none_some, owing_but, slot_but, terms_but, whole}
 use Rattle.csp_prefix.proofs.PortViews.{View, now_of, view}
-use Rattle.csp_prefix.specs.Ports.{AreGood, Books, Comes, ComesWith, IsInUse, IsSlot, IsVacant, Ordinals, ends_due, with_opened}
-use Rattle.csp_prefix.specs.Slots.{Book, GoesOn, IsKept, Now, Numbering, blank}
+use Rattle.csp_prefix.specs.Ports.{AreGood, Books, Comes, ComesWith, IsAskedSo, IsInUse, IsSlot, IsVacant, Ordinals, ends_due, with_opened}
+use Rattle.csp_prefix.specs.Slots.{Book, Coming, GoesOn, IsKept, Now, Numbering, blank}
 use Rattle.csp_prefix.specs.Slots.{begun as new_connection}
 
 -- a connection is on the slot, with terms of its own
@@ -114,12 +114,12 @@ numbered_goes_on app slot ordinal m = record { more = omega arith; same = λ n l
         absurd (omega (arith, same, l))
     go n l false e = refl
 
-module _ {o : Origin} {Fed : PlainRdp → RdpHead → Option Tag → List ℕ → Type 0} {Invites : RdpHead → Option Tag → Type 0} {Is : Numbering → ℕ → ℕ → Now → Type 0} (kept : IsKept o Fed Invites Is)
+module _ {o : Origin} {C : Coming} {Is : Numbering → ℕ → ℕ → Now → Type 0} (kept : IsKept o C Is)
     {m : Numbering} {ordinals : Ordinals} {books : Books} {p : PlainPorts} (app slot : ℕ) (here : app < p.conns.apps) (there : slot < SLOTS) (g : AreGood Is m ordinals books p) where
   -- one with this machine begins on a free slot
   begins : (q : PlainPorts) (c : Connection) (prio : Prio) (flags : ℕ) (what : Wish) (r : PlainRdp) → AreFineBut Is All m ordinals books q app slot (taken c prio flags what (view p books app slot)) → q.conns.apps ≡ p.conns.apps
       → slot_at p.conns app slot ≡ has.Free → are_reliable flags ≡ true → ends_due what ≡ 0 → (what ≡ wish.Ended → ⊥)
-      → Is (numbered app slot (terms_at p app slot).ordinal m) app slot (new_connection r (terms_at p app slot).ordinal) → ComesWith Is m ordinals books p.conns.apps (replaced app slot r (record q { made = q.made + 1 }))
+      → Is (numbered app slot (terms_at p app slot).ordinal m) app slot (new_connection c flags r (terms_at p app slot).ordinal) → ComesWith Is m ordinals books p.conns.apps (replaced app slot r (record q { made = q.made + 1 }))
   begins q c prio flags what r h same free reliable none other is =
       let x = view p books app slot in
       let y : View = record (taken c prio flags what x) { machine = r } in
@@ -127,8 +127,8 @@ module _ {o : Origin} {Fed : PlainRdp → RdpHead → Option Tag → List ℕ �
       let k : IsVacant (now_of x) × (x.terms.wish ≡ wish.Nothing) = free_slot Is m app slot x free f.holds in
       let new : Numbering = numbered app slot x.terms.ordinal m in
       let now : Is new app slot (now_of y) =
-      subst (λ (b : Book). Is new app slot (record { machine = r; ordinal = x.terms.ordinal; waits = x.waits; book = b })) (sym k.0.book)
-      (subst (λ (w : Option (List ℕ)). Is new app slot (record { machine = r; ordinal = x.terms.ordinal; waits = w; book = blank })) (sym k.0.waits) is) in
+      subst (λ (b : Book). Is new app slot (record { connection = c; flags = flags; machine = r; ordinal = x.terms.ordinal; waits = x.waits; book = b })) (sym k.0.book)
+      (subst (λ (w : Option (List ℕ)). Is new app slot (record { connection = c; flags = flags; machine = r; ordinal = x.terms.ordinal; waits = w; book = blank })) (sym k.0.waits) is) in
       let u : IsUse Is new (ordinals app slot) app slot y (now_of y) = record {
         connection = c;
         what = refl;
@@ -149,20 +149,20 @@ module _ {o : Origin} {Fed : PlainRdp → RdpHead → Option Tag → List ℕ �
       }
 
   -- one that is asked of the node
-  pub invited_comes : (c : Connection) (prio : Prio) (flags : ℕ) (i : Invitation) (time : ℕ) → slot_at p.conns app slot ≡ has.Free → are_reliable flags ≡ true → has_flag i.head SYN ≡ true → Invites i.head i.tag
+  pub invited_comes : (c : Connection) (prio : Prio) (flags : ℕ) (i : Invitation) (time : ℕ) → slot_at p.conns app slot ≡ has.Free → are_reliable flags ≡ true → has_flag i.head SYN ≡ true → C.invites c flags i.head i.tag
       → ComesWith Is m ordinals books p.conns.apps (invited o p app slot c prio flags i time)
   invited_comes c prio flags i time free reliable syn invites =
       let k = (terms_at p app slot).ordinal in
       begins (accepted p app slot c prio flags) c prio flags wish.Nothing (accepting (start_of o.seed p.made) i.options i.head.seq.0 i.tag o.node p.made time) (taken_but (look app slot here there (fine_of g)) c p.conns.last prio flags wish.Nothing) refl free reliable refl nothing_ended
-      (subst (λ (made : ℕ). Is (numbered app slot k m) app slot (new_connection (accepting (start_of o.seed made) i.options i.head.seq.0 i.tag o.node made time) k)) (sym g.made)
-      (kept.accepts (with_home app slot k m) app slot k time i.head i.tag i.options (home_here app slot k m) syn invites))
+      (subst (λ (made : ℕ). Is (numbered app slot k m) app slot (new_connection c flags (accepting (start_of o.seed made) i.options i.head.seq.0 i.tag o.node made time) k)) (sym g.made)
+      (kept.accepts (with_home app slot k m) app slot k time c flags i.head i.tag i.options (home_here app slot k m) syn invites))
 
 -- ---- what an application asks for
 
-module _ {o : Origin} {Fed : PlainRdp → RdpHead → Option Tag → List ℕ → Type 0} {Invites : RdpHead → Option Tag → Type 0} {Is : Numbering → ℕ → ℕ → Now → Type 0} (kept : IsKept o Fed Invites Is)
-    {m : Numbering} {ordinals : Ordinals} {books : Books} {p : PlainPorts} (app : ℕ) (r : Request) (here : app < p.conns.apps) (there : r.slot < SLOTS) (g : AreGood Is m ordinals books p) where
-  joined_comes : (b : Bool) (own time : ℕ) → slot_at p.conns app r.slot ≡ has.Free → are_reliable r.flags ≡ b → ComesWith Is m ordinals books p.conns.apps (joined b o p app r own time)
-  joined_comes false own time free plain =
+module _ {o : Origin} {C : Coming} {Is : Numbering → ℕ → ℕ → Now → Type 0} (kept : IsKept o C Is)
+    {m : Numbering} {ordinals : Ordinals} {books : Books} {p : PlainPorts} (app : ℕ) (r : Request) (here : app < p.conns.apps) (there : r.slot < SLOTS) (asked : IsAskedSo C p r) (g : AreGood Is m ordinals books p) where
+  joined_comes : (b : Bool) (own time : ℕ) → slot_at p.conns app r.slot ≡ has.Free → are_reliable r.flags ≡ b → own_port_of p.conns r.dest r.from ≡ Some own → ComesWith Is m ordinals books p.conns.apps (joined b o p app r own time)
+  joined_comes false own time free plain chosen =
       let c = between r.dest r.port own in
       let x = view p books app r.slot in
       let h = fine_of g in
@@ -176,23 +176,23 @@ module _ {o : Origin} {Fed : PlainRdp → RdpHead → Option Tag → List ℕ �
             (whole (owing_but (book_but (linked_but (look app r.slot here there h) c r.from r.prio r.flags wish.Nothing) (record (books app r.slot) { opened = Some (None, None) })) app (note.Connected r.slot) (subst (λ (n : ℕ). app < n) (sym (linked_apps p app r.slot c r.from)) here) there (λ s. refl))
             (plain_fine c r.prio r.flags x free plain f));
       })
-  joined_comes true own time free reliable =
+  joined_comes true own time free reliable chosen =
       let c = between r.dest r.port own in
       let k = (terms_at p app r.slot).ordinal in
       begins kept app r.slot here there g (linked wish.Connection p app r own) c r.prio r.flags wish.Connection (connecting (start_of o.seed p.made) o.options o.node p.made time)
       (linked_but (look app r.slot here there (fine_of g)) c r.from r.prio r.flags wish.Connection) (linked_apps p app r.slot c r.from) free reliable refl connection_ended
-      (subst (λ (made : ℕ). Is (numbered app r.slot k m) app r.slot (new_connection (connecting (start_of o.seed made) o.options o.node made time) k)) (sym g.made)
-      (kept.connects (with_home app r.slot k m) app r.slot k time (home_here app r.slot k m)))
+      (subst (λ (made : ℕ). Is (numbered app r.slot k m) app r.slot (new_connection c r.flags (connecting (start_of o.seed made) o.options o.node made time) k)) (sym g.made)
+      (kept.connects (with_home app r.slot k m) app r.slot k time c r.flags (home_here app r.slot k m) (asked reliable own chosen)))
 
   refused_comes : (reason : Why) → ComesWith Is m ordinals books p.conns.apps (come (owing p app (note.Refused reason)))
   refused_comes reason = unmade (record { same = refl; new = tt; good = owing_good g app (note.Refused reason) here tt (λ s. refl) })
 
-  connect_on : (w : Slot) (is_refused : Bool) (own : Option ℕ) (time : ℕ) → slot_at p.conns app r.slot ≡ w → ComesWith Is m ordinals books p.conns.apps (connect_by w is_refused own o p app r time)
-  connect_on has.Free true own time e = refused_comes why.PortBusy
-  connect_on has.Free false (Some own) time e = joined_comes (are_reliable r.flags) own time e refl
-  connect_on has.Free false None time e = unmade (record { same = refl; new = tt; good = g })
-  connect_on has.Held refused own time e = refused_comes why.Busy
-  connect_on (has.Open c) refused own time e = refused_comes why.Busy
+  connect_on : (w : Slot) (is_refused : Bool) (own : Option ℕ) (time : ℕ) → slot_at p.conns app r.slot ≡ w → own_port_of p.conns r.dest r.from ≡ own → ComesWith Is m ordinals books p.conns.apps (connect_by w is_refused own o p app r time)
+  connect_on has.Free true own time e f = refused_comes why.PortBusy
+  connect_on has.Free false (Some own) time e f = joined_comes (are_reliable r.flags) own time e refl f
+  connect_on has.Free false None time e f = unmade (record { same = refl; new = tt; good = g })
+  connect_on has.Held refused own time e f = refused_comes why.Busy
+  connect_on (has.Open c) refused own time e f = refused_comes why.Busy
 
   pub connect_comes : (time : ℕ) → ComesWith Is m ordinals books p.conns.apps (connect o p app r time)
-  connect_comes time = connect_on (slot_at p.conns app r.slot) (is_refused p.conns r.dest r.from) (own_port_of p.conns r.dest r.from) time refl
+  connect_comes time = connect_on (slot_at p.conns app r.slot) (is_refused p.conns r.dest r.from) (own_port_of p.conns r.dest r.from) time refl refl

@@ -24,7 +24,7 @@ use Rattle.csp_prefix.proofs.PortFacts.{Leaves, using}
 use Rattle.csp_prefix.proofs.PortSlots.{AreFine, AreFineBut, IsFine, book_but, ended_but, machine_but, none_some, owing_but, slot_but, terms_but, whole}
 use Rattle.csp_prefix.proofs.PortViews.{View, now_of, view}
 use Rattle.csp_prefix.specs.Ports.{Books, Ordinals, ends_due, with_opened}
-use Rattle.csp_prefix.specs.Slots.{Book, IsKept, Now, Numbering, Opens, after_opening, blank}
+use Rattle.csp_prefix.specs.Slots.{Book, Coming, IsKept, Now, Numbering, Opens, after_opening, blank}
 
 -- ---- a reliable connection on a slot
 
@@ -203,7 +203,7 @@ pub record IsEdge (Is : Numbering → ℕ → ℕ → Now → Type 0) (m : Numbe
 syn_sent_closed : SynSent ≡ Closed → ⊥
 syn_sent_closed e = cc
 
-module _ {o : Origin} {Fed : PlainRdp → RdpHead → Option Tag → List ℕ → Type 0} {Invites : RdpHead → Option Tag → Type 0} {Is : Numbering → ℕ → ℕ → Now → Type 0} (kept : IsKept o Fed Invites Is)
+module _ {o : Origin} {C : Coming} {Is : Numbering → ℕ → ℕ → Now → Type 0} (kept : IsKept o C Is)
     {Tight : ℕ → Type 0} {m : Numbering} {ordinals : Ordinals} {books : Books} {p : PlainPorts} {app slot : ℕ} {v : View} (h : AreFineBut Is Tight m ordinals books p app slot v)
     (before : State) (why : MachineWhy) (r : PlainRdp) (loose : Tight app → ⊥) (edge : IsEdge Is m (ordinals app slot) app slot before r v) where
   stepped_but : AreFineBut Is Tight m ordinals books (with_machine p app slot (rested r)) app slot (record v { machine = rested r })

@@ -28,7 +28,7 @@ use Rattle.csp_prefix.proofs.PortFacts.{All, Leaves, comes_of, fine_of, used, us
 use Rattle.csp_prefix.proofs.PortSlots.{AreFine, AreFineBut, ended_but, look, machine_but, none_some, slot_but, terms_but, whole}
 use Rattle.csp_prefix.proofs.PortViews.{View, now_of, view}
 use Rattle.csp_prefix.specs.Ports.{AreGood, Books, Comes, IsInUse, IsPlain, IsSlot, IsVacant, Ordinals, ends_due, waiting_on}
-use Rattle.csp_prefix.specs.Slots.{IsKept, Now, Numbering}
+use Rattle.csp_prefix.specs.Slots.{Coming, IsKept, Now, Numbering}
 use Rattle.csp_prefix.specs.Slots.{with_machine as with_other}
 
 -- ---- the close
@@ -77,7 +77,7 @@ none_due wish.Ended e = absurd cc
 still : (time : ℕ) (r : PlainRdp) → r ≡ idle → rested (closing time r) ≡ idle
 still time r e = ap (λ (r : PlainRdp). rested (closing time r)) e
 
-module _ {o : Origin} {Fed : PlainRdp → RdpHead → Option Tag → List ℕ → Type 0} {Invites : RdpHead → Option Tag → Type 0} {Is : Numbering → ℕ → ℕ → Now → Type 0} (kept : IsKept o Fed Invites Is)
+module _ {o : Origin} {C : Coming} {Is : Numbering → ℕ → ℕ → Now → Type 0} (kept : IsKept o C Is)
     {m : Numbering} {ordinals : Ordinals} {books : Books} {p : PlainPorts} (app slot time : ℕ) (here : app < p.conns.apps) (there : slot < SLOTS) (none : stalled_at p app ≡ None) (g : AreGood Is m ordinals books p) where
   -- a slot with a connection
   closed_use : (c : Connection) (b : Bool) (w : Wish) → let x = view p books app slot in x.what ≡ has.Open c → are_reliable x.terms.flags ≡ b
@@ -109,7 +109,7 @@ module _ {o : Origin} {Fed : PlainRdp → RdpHead → Option Tag → List ℕ �
       record {
         same = ending_apps r.state app slot (stepped app slot r (held_by true p app slot)).ports;
         new = tt;
-        fine = ending_fine (machine_but (slot_but (look app slot here there (fine_of g)) has.Held p.conns.last) (rested r)) (g.counted app slot here there) due none_waits (λ _. vacant_still k.0) r.state refl;
+        fine = ending_fine (machine_but (slot_but (look app slot here there (fine_of g)) has.Held p.conns.last) (rested r)) (g.counted app slot here there) due none_waits (λ _. let v = vacant_still k.0 in record { machine = v.machine; waits = v.waits; book = v.book }) r.state refl;
       }
 
   close_used : let x = view p books app slot in x.ends ≡ 0 → ((w : Wish) → IsSlot Is x.what (record x.terms { wish = w }) m app slot (now_of (record x { machine = rested (closing time x.machine) })))

@@ -18,7 +18,7 @@ use Rattle.csp_rdp_header.specs.declared.head.RdpHead.{RdpHead}
 use Rattle.csp_prefix.proofs.PortSlots.{AreFine, AreFineBut, waiting_here, waiting_open}
 use Rattle.csp_prefix.proofs.PortViews.{View, now_of, view}
 use Rattle.csp_prefix.specs.Ports.{AreGood, AreNew, Books, Comes, IsInUse, IsPlain, IsSlot, IsVacant, Ordinals, noted, noted_by}
-use Rattle.csp_prefix.specs.Slots.{GoesOn, IsKept, Now, Numbering}
+use Rattle.csp_prefix.specs.Slots.{Coming, GoesOn, IsKept, Now, Numbering}
 
 -- every application
 abbrev pub All : ℕ → Type 0
@@ -143,7 +143,7 @@ module _ (Is : Numbering → ℕ → ℕ → Now → Type 0) (m : Numbering) (ap
 
 -- ---- other connections are made
 
-module _ {o : Origin} {Fed : PlainRdp → RdpHead → Option Tag → List ℕ → Type 0} {Invites : RdpHead → Option Tag → Type 0} {Is : Numbering → ℕ → ℕ → Now → Type 0} (kept : IsKept o Fed Invites Is) where
+module _ {o : Origin} {C : Coming} {Is : Numbering → ℕ → ℕ → Now → Type 0} (kept : IsKept o C Is) where
   grown_use : (b : Bool) (old new : Numbering) (app slot : ℕ) (n : Now) → GoesOn old new → IsInUse Is b old app slot n → IsInUse Is b new app slot n
   grown_use true old new app slot n g h = kept.grows old new app slot n g h
   grown_use false old new app slot n g h = h

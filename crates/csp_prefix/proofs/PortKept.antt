@@ -13,15 +13,15 @@ use Rattle.csp_prefix.proofs.PortQuiet.{bound_good, keeps_good, makes_good, open
 use Rattle.csp_prefix.proofs.PortSubmits.{submitted_submits}
 use Rattle.csp_prefix.proofs.PortTimes.{timed_comes}
 use Rattle.csp_prefix.specs.Ports.{ArePortsKept}
-use Rattle.csp_prefix.specs.Slots.{IsKept, Now, Numbering}
+use Rattle.csp_prefix.specs.Slots.{Coming, IsKept, Now, Numbering}
 
-pub ports_kept : (o : Origin) (Fed : PlainRdp → RdpHead → Option Tag → List ℕ → Type 0) (Invites : RdpHead → Option Tag → Type 0) (Is : Numbering → ℕ → ℕ → Now → Type 0) → IsKept o Fed Invites Is → ArePortsKept o Fed Invites Is
-ports_kept o Fed Invites Is kept = record {
+pub ports_kept : (o : Origin) (C : Coming) (Is : Numbering → ℕ → ℕ → Now → Type 0) → IsKept o C Is → ArePortsKept o C Is
+ports_kept o C Is kept = record {
   opens = λ apps home few. opens_good Is apps home few;
   times = λ m ordinals books p time g. timed_comes kept g time;
   turns = λ m ordinals books p app slot g. turned_good g app slot;
   binds = λ m ordinals books p app port need here g. bound_good g app port need here;
-  connects = λ m ordinals books p app r time here there g. connect_comes kept app r here there g time;
+  connects = λ m ordinals books p app r time here there asked g. connect_comes kept app r here there asked g time;
   closes = λ m ordinals books p app slot time here there none g. close_comes kept app slot time here there none g;
   accepts = λ m ordinals books p app slot c prio flags here there free plain g. accepted_good app slot here there g c prio flags free plain;
   invites = λ m ordinals books p app slot c prio flags i time here there free reliable syn invites g. invited_comes kept app slot here there g c prio flags i time free reliable syn invites;

@@ -24,9 +24,10 @@ use Rattle.csp_prefix.proofs.PortQuiet.{idle_delivery, taken_state, used_on}
 use Rattle.csp_prefix.proofs.PortRoom.{dropped_leaves, settled_leaves}
 use Rattle.csp_prefix.proofs.PortSlots.{AreFine, AreFineBut, book_but, look, machine_but, none_some}
 use Rattle.csp_prefix.proofs.PortViews.{View, now_of, view}
-use Rattle.csp_prefix.specs.Ports.{AreGood, Books, Comes, IsReliableOn, Ordinals, with_down}
-use Rattle.csp_prefix.specs.Slots.{IsKept, Now, Numbering, Opens, after_delivering, after_opening}
+use Rattle.csp_prefix.specs.Ports.{AreGood, Books, Comes, IsReliableOn, Ordinals, connection_in, with_down}
+use Rattle.csp_prefix.specs.Slots.{Coming, IsKept, Now, Numbering, Opens, after_delivering, after_opening}
 use Rattle.csp_prefix.specs.Slots.{with_machine as with_other}
+use Rattle.csp_conn.specs.PlainConns.{slot_at}
 
 -- every application but this one
 abbrev pub Others : ℕ → ℕ → Type 0
@@ -39,7 +40,7 @@ loosened h = record {
 }
 
 -- after the step of a connection the packet of its application that waits is looked at
-module _ {o : Origin} {Fed : PlainRdp → RdpHead → Option Tag → List ℕ → Type 0} {Invites : RdpHead → Option Tag → Type 0} {Is : Numbering → ℕ → ℕ → Now → Type 0} (kept : IsKept o Fed Invites Is)
+module _ {o : Origin} {C : Coming} {Is : Numbering → ℕ → ℕ → Now → Type 0} (kept : IsKept o C Is)
     {m : Numbering} {ordinals : Ordinals} {apps app : ℕ} where
   dropped_next : {books : Books} {q : PlainPorts} → q.conns.apps ≡ apps → app < apps → AreFine Is (Others app) m ordinals books q → Leaves Is All m ordinals books apps (dropped app q)
   dropped_next {books} {q} same here h =
@@ -76,9 +77,9 @@ module _ {Is : Numbering → ℕ → ℕ → Now → Type 0} {Tight : ℕ → Ty
   told_handed : (r : PlainRdp) (tag : Option Tag) (c : Came) → Leaves Is Tight m ordinals books apps c → Leaves Is Tight m ordinals books apps (reporting (handing_event r tag) c)
   told_handed r tag c k = record { same = k.same; new = (tt, k.new); fine = k.fine }
 
-module _ {o : Origin} {Fed : PlainRdp → RdpHead → Option Tag → List ℕ → Type 0} {Invites : RdpHead → Option Tag → Type 0} {Is : Numbering → ℕ → ℕ → Now → Type 0} (kept : IsKept o Fed Invites Is)
+module _ {o : Origin} {C : Coming} {Is : Numbering → ℕ → ℕ → Now → Type 0} (kept : IsKept o C Is)
     {m : Numbering} {ordinals : Ordinals} {books : Books} {p : PlainPorts} (app slot : ℕ) (here : app < p.conns.apps) (there : slot < SLOTS) (g : AreGood Is m ordinals books p) where
-  handed_edge : (h : RdpHead) (b : Content) (time : ℕ) → IsReliableOn p app slot → Fed (machine_at p app slot) h b.trace.tag b.payload
+  handed_edge : (h : RdpHead) (b : Content) (time : ℕ) → IsReliableOn p app slot → C.fed (connection_in (slot_at p.conns app slot)) (machine_at p app slot) h b.trace.tag b.payload
       → IsEdge Is m (ordinals app slot) app slot (machine_at p app slot).state (handed h b.trace.tag (anywhere b) time (machine_at p app slot)) (view p books app slot)
   handed_edge h b time on fed =
       let x = view p books app slot in
@@ -98,7 +99,7 @@ module _ {o : Origin} {Fed : PlainRdp → RdpHead → Option Tag → List ℕ �
         rests = λ k. kept.rests m app slot (with_other r (now_of x)) (kept.hears m app slot (now_of x) h b.trace.tag (anywhere b) time fed k is);
       }
 
-  pub handed_comes : (h : RdpHead) (b : Content) (time : ℕ) → IsReliableOn p app slot → Fed (machine_at p app slot) h b.trace.tag b.payload → Comes Is m ordinals books p.conns.apps (handing p app slot h b time)
+  pub handed_comes : (h : RdpHead) (b : Content) (time : ℕ) → IsReliableOn p app slot → C.fed (connection_in (slot_at p.conns app slot)) (machine_at p app slot) h b.trace.tag b.payload → Comes Is m ordinals books p.conns.apps (handing p app slot h b time)
   handed_comes h b time on fed =
       let r = machine_at p app slot in
       let row = row_of r h b.payload in
@@ -138,7 +139,7 @@ delivery_open r b e = go r.state e
     go CloseWait e = absurd (none_some b e)
     go Closed e = absurd (none_some b e)
 
-module _ {o : Origin} {Fed : PlainRdp → RdpHead → Option Tag → List ℕ → Type 0} {Invites : RdpHead → Option Tag → Type 0} {Is : Numbering → ℕ → ℕ → Now → Type 0} (kept : IsKept o Fed Invites Is)
+module _ {o : Origin} {C : Coming} {Is : Numbering → ℕ → ℕ → Now → Type 0} (kept : IsKept o C Is)
     {m : Numbering} {ordinals : Ordinals} {books : Books} {p : PlainPorts} (app slot : ℕ) (here : app < p.conns.apps) (there : slot < SLOTS) (g : AreGood Is m ordinals books p) where
   -- what the slot shows then
   abbrev delivered_view : PlainBuffer → View

@@ -32,7 +32,7 @@ use Rattle.csp_prefix.proofs.PortFacts.{All, IsReliable, IsResting, either, fine
 use Rattle.csp_prefix.proofs.PortSlots.{AreFine, AreFineBut, IsFine, IsQuiet, look, machine_but, none_some, owing_quiet, owing_shape, whole}
 use Rattle.csp_prefix.proofs.PortViews.{View, now_of, view}
 use Rattle.csp_prefix.specs.Ports.{AreGood, Books, IsReliableOn, IsSlot, Ordinals, ends_due, now_at, waiting_on}
-use Rattle.csp_prefix.specs.Slots.{IsKept, Now, Numbering, blank}
+use Rattle.csp_prefix.specs.Slots.{Coming, IsKept, Now, Numbering, blank}
 
 -- ---- lists with another element
 
@@ -214,7 +214,7 @@ pub machine_by : {Is : Numbering → ℕ → ℕ → Now → Type 0} {Tight : �
 machine_by {Is} {Tight} {m} {ordinals} {books} {p} {app} {slot} {v} f h =
     subst (λ (v : View). AreFineBut Is Tight m ordinals books (with_machine p app slot (f (machine_at p app slot))) app slot (record v { machine = f v.machine })) h.seen (machine_but (at_view h) (f (machine_at p app slot)))
 
-module _ {o : Origin} {Fed : PlainRdp → RdpHead → Option Tag → List ℕ → Type 0} {Invites : RdpHead → Option Tag → Type 0} {Is : Numbering → ℕ → ℕ → Now → Type 0} (kept : IsKept o Fed Invites Is)
+module _ {o : Origin} {C : Coming} {Is : Numbering → ℕ → ℕ → Now → Type 0} (kept : IsKept o C Is)
     {m : Numbering} {ordinals : Ordinals} {books : Books} {p : PlainPorts} (app slot : ℕ) (here : app < p.conns.apps) (there : slot < SLOTS) (g : AreGood Is m ordinals books p) where
   pub owes_good : (time : ℕ) (j : Job) → job_of time (machine_at p app slot) ≡ Some j → IsReliableOn p app slot × Is m app slot (now_at p books app slot)
   owes_good time j e =

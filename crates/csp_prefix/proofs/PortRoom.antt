@@ -19,7 +19,7 @@ use Rattle.csp_prefix.proofs.PortFacts.{All, IsReliable, IsResting, Leaves, eith
 use Rattle.csp_prefix.proofs.PortSlots.{AreFine, AreFineBut, IsFor, look, machine_but, none_some, some_same, stalled_but, waiting_here, waiting_open, whole}
 use Rattle.csp_prefix.proofs.PortViews.{View, now_of, view}
 use Rattle.csp_prefix.specs.Ports.{Books, Ordinals, waiting_on}
-use Rattle.csp_prefix.specs.Slots.{IsKept, Now, Numbering}
+use Rattle.csp_prefix.specs.Slots.{Coming, IsKept, Now, Numbering}
 
 -- the connection of the packet that waits is open also for this application
 tighten : {Is : Numbering → ℕ → ℕ → Now → Type 0} {Loose Tight : ℕ → Type 0} {m : Numbering} {ordinals : Ordinals} {books : Books} {p : PlainPorts} (app : ℕ) → AreFine Is Loose m ordinals books p → ((a : ℕ) → Tight a → (a ≡ app → ⊥) → Loose a)
@@ -41,7 +41,7 @@ tighten {Loose = Loose} {Tight = Tight} {p = p} app h wider opened = record {
 waiting_for_it : (o : Option PlainStalled) (s : PlainStalled) → o ≡ Some s → IsFor s.slot o
 waiting_for_it o s e = subst (IsFor s.slot) (sym e) refl
 
-module _ {o : Origin} {Fed : PlainRdp → RdpHead → Option Tag → List ℕ → Type 0} {Invites : RdpHead → Option Tag → Type 0} {Is : Numbering → ℕ → ℕ → Now → Type 0} (kept : IsKept o Fed Invites Is)
+module _ {o : Origin} {C : Coming} {Is : Numbering → ℕ → ℕ → Now → Type 0} (kept : IsKept o C Is)
     {Loose : ℕ → Type 0} {m : Numbering} {ordinals : Ordinals} {books : Books} {p : PlainPorts} (app : ℕ) (here : app < p.conns.apps) (h : AreFine Is Loose m ordinals books p) where
   -- it waits for a reliable connection
   waits_on : (s : PlainStalled) → stalled_at p app ≡ Some s → IsReliable Is m app s.slot (view p books app s.slot)
@@ -112,7 +112,7 @@ room_open r e = go r.state refl e
     go CloseWait f e = absurd cc
     go Closed f e = absurd cc
 
-module _ {o : Origin} {Fed : PlainRdp → RdpHead → Option Tag → List ℕ → Type 0} {Invites : RdpHead → Option Tag → Type 0} {Is : Numbering → ℕ → ℕ → Now → Type 0} (kept : IsKept o Fed Invites Is)
+module _ {o : Origin} {C : Coming} {Is : Numbering → ℕ → ℕ → Now → Type 0} (kept : IsKept o C Is)
     {m : Numbering} {ordinals : Ordinals} {books : Books} {p : PlainPorts} (app : ℕ) (here : app < p.conns.apps) (h : AreFine Is All m ordinals books p) (time : ℕ) where
   settled_room : (s : PlainStalled) (b : Bool) → stalled_at p app ≡ Some s → has_room (machine_at p app s.slot) ≡ b → Leaves Is All m ordinals books p.conns.apps (come (settled_by b time app s p))
   settled_room s true e room =

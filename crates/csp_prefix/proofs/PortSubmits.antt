@@ -20,8 +20,8 @@ use Rattle.csp_prefix.proofs.PortChanges.{use_fine}
 use Rattle.csp_prefix.proofs.PortFacts.{fine_of, good_of, used}
 use Rattle.csp_prefix.proofs.PortSlots.{IsFor, book_but, look, machine_but, stalled_but, whole}
 use Rattle.csp_prefix.proofs.PortViews.{now_of, view}
-use Rattle.csp_prefix.specs.Ports.{AreGood, Books, IsReliableOn, Ordinals, Submits, waiting_on, with_sent}
-use Rattle.csp_prefix.specs.Slots.{Book, IsKept, Now, Numbering}
+use Rattle.csp_prefix.specs.Ports.{AreGood, Books, IsReliableOn, Ordinals, Submits, connection_in, waiting_on, with_sent}
+use Rattle.csp_prefix.specs.Slots.{Book, Coming, IsKept, Now, Numbering}
 
 submitting_apps : (s : State) (p : PlainPorts) (app slot : ℕ) (b : Content) (time : ℕ) → (submitting_in s p app slot b time).ports.conns.apps ≡ p.conns.apps
 submitting_apps Open p app slot b time = go (has_room (machine_at p app slot))
@@ -34,7 +34,7 @@ submitting_apps SynRcvd p app slot b time = refl
 submitting_apps CloseWait p app slot b time = refl
 submitting_apps Closed p app slot b time = refl
 
-module _ {o : Origin} {Fed : PlainRdp → RdpHead → Option Tag → List ℕ → Type 0} {Invites : RdpHead → Option Tag → Type 0} {Is : Numbering → ℕ → ℕ → Now → Type 0} (kept : IsKept o Fed Invites Is)
+module _ {o : Origin} {C : Coming} {Is : Numbering → ℕ → ℕ → Now → Type 0} (kept : IsKept o C Is)
     {m : Numbering} {ordinals : Ordinals} {books : Books} {p : PlainPorts} (app slot : ℕ) (b : Content) (time : ℕ) (here : app < p.conns.apps) (there : slot < SLOTS) (on : IsReliableOn p app slot) (none : stalled_at p app ≡ None) (g : AreGood Is m ordinals books p) where
   is_there : Is m app slot (now_of (view p books app slot))
   is_there = let x = view p books app slot in used Is m app slot x.what x.terms (now_of x) on.connection on.there on.reliable (g.slots app slot here there)
@@ -81,7 +81,7 @@ module _ {o : Origin} {Fed : PlainRdp → RdpHead → Option Tag → List ℕ �
         counted = g.counted app slot here there;
         ends = g.ends app slot here there;
         over = g.over app slot here there;
-        holds = subst (λ (w : Option (List ℕ)). Is m app slot (record { machine = x.machine; ordinal = x.terms.ordinal; waits = w; book = sent_book })) (sym waits_now) (kept.delays m app slot (now_of x) b.payload opened none_waits is_there);
+        holds = subst (λ (w : Option (List ℕ)). Is m app slot (record { connection = connection_in x.what; flags = x.terms.flags; machine = x.machine; ordinal = x.terms.ordinal; waits = w; book = sent_book })) (sym waits_now) (kept.delays m app slot (now_of x) b.payload opened none_waits is_there);
       })))
 
   abbrev Sends : State → Type 0

@@ -22,7 +22,7 @@ use Rattle.csp_prefix.proofs.PortRoom.{dropped_leaves}
 use Rattle.csp_prefix.proofs.PortSlots.{AreFine, IsFine, look, machine_but, whole}
 use Rattle.csp_prefix.proofs.PortViews.{now_of, view}
 use Rattle.csp_prefix.specs.Ports.{AreGood, Books, Comes, Ordinals}
-use Rattle.csp_prefix.specs.Slots.{IsKept, Now, Numbering, Opens}
+use Rattle.csp_prefix.specs.Slots.{Coming, IsKept, Now, Numbering, Opens}
 use Rattle.csp_prefix.specs.Slots.{with_machine as with_other}
 
 -- no application
@@ -67,7 +67,7 @@ idle_ticks time = go (has_passed (Some 0) idle.options.conn_timeout time)
     go true = refl
     go false = refl
 
-module _ {o : Origin} {Fed : PlainRdp → RdpHead → Option Tag → List ℕ → Type 0} {Invites : RdpHead → Option Tag → Type 0} {Is : Numbering → ℕ → ℕ → Now → Type 0} (kept : IsKept o Fed Invites Is)
+module _ {o : Origin} {C : Coming} {Is : Numbering → ℕ → ℕ → Now → Type 0} (kept : IsKept o C Is)
     {m : Numbering} {ordinals : Ordinals} {books : Books} {p : PlainPorts} (time app slot : ℕ) (here : app < p.conns.apps) (there : slot < SLOTS) (h : AreFine Is Never m ordinals books p) where
   idle_timed : machine_at p app slot ≡ idle → Leaves Is Never m ordinals books p.conns.apps (timed_at time app slot p)
   idle_timed e =
@@ -127,7 +127,7 @@ looser wider h = record {
 abbrev Before : ℕ → ℕ → Type 0
 Before n k = k < n
 
-module _ {o : Origin} {Fed : PlainRdp → RdpHead → Option Tag → List ℕ → Type 0} {Invites : RdpHead → Option Tag → Type 0} {Is : Numbering → ℕ → ℕ → Now → Type 0} (kept : IsKept o Fed Invites Is) {m : Numbering} {ordinals : Ordinals} (time apps : ℕ) where
+module _ {o : Origin} {C : Coming} {Is : Numbering → ℕ → ℕ → Now → Type 0} (kept : IsKept o C Is) {m : Numbering} {ordinals : Ordinals} (time apps : ℕ) where
   timed_one : {books : Books} {p : PlainPorts} (k : ℕ) → k < apps * 4 → p.conns.apps ≡ apps → AreFine Is Never m ordinals books p → Leaves Is Never m ordinals books apps (timed_at time (k / SLOTS) (k % SLOTS) p)
   timed_one {books} {p} k below same h =
       let d = divides k apps below in
@@ -154,7 +154,7 @@ module _ {o : Origin} {Fed : PlainRdp → RdpHead → Option Tag → List ℕ �
       let first : Leaves Is (Before (a + 1)) m ordinals books apps (dropped a p) = dropped_one a (omega (arith, e)) same h in
       then_leaves (dropped a p) (dropped_of (range_with_len (a + 1) n)) first (dropped_all n (a + 1) (omega (arith, e)) first.same first.fine)
 
-module _ {o : Origin} {Fed : PlainRdp → RdpHead → Option Tag → List ℕ → Type 0} {Invites : RdpHead → Option Tag → Type 0} {Is : Numbering → ℕ → ℕ → Now → Type 0} (kept : IsKept o Fed Invites Is) {m : Numbering} {ordinals : Ordinals} {books : Books} {p : PlainPorts} (g : AreGood Is m ordinals books p) (time : ℕ) where
+module _ {o : Origin} {C : Coming} {Is : Numbering → ℕ → ℕ → Now → Type 0} (kept : IsKept o C Is) {m : Numbering} {ordinals : Ordinals} {books : Books} {p : PlainPorts} (g : AreGood Is m ordinals books p) (time : ℕ) where
   all_timed : Leaves Is Never m ordinals books p.conns.apps (timed_in time (range_with_len 0 (p.conns.apps * SLOTS)) p)
   all_timed = timed_all kept time p.conns.apps (range_with_len 0 (p.conns.apps * SLOTS)) (range_below 0 (p.conns.apps * 4) (p.conns.apps * 4) (omega arith)) refl (loosened (fine_of g))
 

@@ -10,7 +10,7 @@ use Rattle.csp_ports.specs.PlainPorts.{PlainPorts, machine_at, stalled_at, terms
 use Rattle.csp_ports.specs.declared.owed.Owed.{Owed}
 use Rattle.csp_ports.specs.declared.terms.Terms.{Terms}
 use Rattle.csp_rdp.specs.Machine.{PlainRdp}
-use Rattle.csp_prefix.specs.Ports.{Books, Ordinals, is_end_of, waiting_on, with_book, with_ordinal}
+use Rattle.csp_prefix.specs.Ports.{Books, Ordinals, connection_in, is_end_of, waiting_on, with_book, with_ordinal}
 use Rattle.csp_prefix.specs.Slots.{Book, Now}
 
 -- all that the ports and the log have of a slot
@@ -34,7 +34,7 @@ view p books app slot = record {
 
 -- the connection there
 abbrev pub now_of : View → Now
-now_of v = record { machine = v.machine; ordinal = v.terms.ordinal; waits = v.waits; book = v.book }
+now_of v = record { connection = connection_in v.what; flags = v.terms.flags; machine = v.machine; ordinal = v.terms.ordinal; waits = v.waits; book = v.book }
 
 -- ---- another slot
 

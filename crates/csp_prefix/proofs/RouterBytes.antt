@@ -5,7 +5,7 @@ use Rattle.std.specs.Int.{from_be_bytes, to_be_bytes, w16, w32}
 use Rattle.std.specs.Int.RustNames.{bit_and}
 use Rattle.std.proofs.Math.Seq.{drop-append_seam, take-append_seam}
 use Rattle.std.proofs.lemmas.Bool.{le-ltb}
-use Rattle.std.proofs.lemmas.Nat.{and_mask, from_be_bytes-to_be_bytes_2, from_be_bytes-to_be_bytes_4}
+use Rattle.std.proofs.lemmas.Nat.{and_assoc, and_mask, from_be_bytes-to_be_bytes_2, from_be_bytes-to_be_bytes_4}
 use Rattle.csp_crc.proofs.Checked.{payload_of-right}
 use Rattle.csp_crc.proofs.Division.{crc_of-lt}
 use Rattle.csp_crc.specs.Check.{payload_of}
@@ -14,7 +14,7 @@ use Rattle.csp_header.specs.Word.{header_at, word_of}
 use Rattle.csp_header.specs.declared.word.Header.{Header}
 use Rattle.csp_rdp_header.specs.Head.{head_bytes, head_of, parted}
 use Rattle.csp_rdp_header.specs.declared.head.RdpHead.{RdpHead}
-use Rattle.csp_stack.specs.Readings.{is_checked}
+use Rattle.csp_stack.specs.Readings.{is_checked, is_reliable}
 use Rattle.csp_prefix.specs.Flows.{with_checksum}
 use Rattle.csp_prefix.proofs.RouterStanding.{unwrapped}
 
@@ -55,3 +55,10 @@ flag_bit n m e = and_mask n 1 ∙ e ∙ sym (and_mask m 1)
 
 pub checked_flag : (h : Header) → is_checked (header_at (word_of h)) ≡ is_checked h
 checked_flag h = ap (λ n. n == 1) (flag_bit (word_of h % 256) h.flags.0 (omega arith))
+
+-- two bits of a number are those of its rest by four
+second_bit : (n m : ℕ) → n % 4 ≡ m % 4 → bit_and n 2 ≡ bit_and m 2
+second_bit n m e = sym (and_assoc 2 n 3) ∙ ap (λ k. bit_and k 2) (and_mask n 2 ∙ e ∙ sym (and_mask m 2)) ∙ and_assoc 2 m 3
+
+pub reliable_flag : (h : Header) → is_reliable (header_at (word_of h)) ≡ is_reliable h
+reliable_flag h = ap (λ n. n == 2) (second_bit (word_of h % 256) h.flags.0 (omega arith))

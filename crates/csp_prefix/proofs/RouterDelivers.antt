@@ -22,7 +22,7 @@ use Rattle.csp_route.specs.Routes.{Routes}
 use Rattle.csp_stack.specs.Readings.{is_checked}
 use Rattle.csp_stack.specs.Router.{Facts, origin_of}
 use Rattle.csp_prefix.specs.Flows.{Flows, IsFilledFor, IsGenuine, IsTrueOf}
-use Rattle.csp_prefix.specs.Machines.{IsFed, IsInvited, IsReceiver, IsToldSo, Receives, ReceivesIn}
+use Rattle.csp_prefix.specs.Machines.{IsReceiver, IsToldSo, Receives, ReceivesIn, true_packets}
 use Rattle.csp_prefix.specs.Ports.{ArePortsKept}
 use Rattle.csp_prefix.specs.Prefix.{IsBeginning}
 use Rattle.csp_consistent.specs.Reading.{gets}
@@ -31,17 +31,17 @@ use Rattle.csp_prefix.specs.Slots.{Book, Now, blank}
 use Rattle.csp_prefix.proofs.RouterBooks.{all_at}
 use Rattle.csp_prefix.proofs.RouterBytes.{parted_back, unwrapped_is}
 use Rattle.csp_prefix.proofs.RouterStanding.{Aim, IsAim, unwrapped}
-use Rattle.csp_prefix.proofs.RouterTrue.{opening_known, past, run_known}
+use Rattle.csp_prefix.proofs.RouterTrue.{each_comes, opening_known, past, run_known}
 
 -- what is to be known of a receiver, where what it hears is so
 abbrev pub receiver_aim : Flows → Aim
 receiver_aim flows = record {
   is = IsReceiver flows;
-  fed = IsFed flows;
-  invites = IsInvited flows;
+  coming = true_packets flows;
   over = λ m app x down. (nth : ℕ) (flow : ℕ × ℕ) → x.nth ≡ Some nth → x.peer ≡ Some flow → IsBeginning down (flows.said flow);
   good = λ b. ⊤;
   hears = IsGenuine flows;
+  comes = λ i. ⊤;
   fresh = λ e. is_stale e ≡ false;
 }
 
@@ -64,7 +64,7 @@ receiver_not CloseWait flows n r is = told_not n.machine.was_open n refl r.0 is
 receiver_not Closed flows n r is = told_not n.machine.was_open n refl r.0 is
 
 -- ---- what a genuine packet says is true of its flow
-read_true : (flows : Flows) (b : Content) (payload : List ℕ) (read : List ℕ × RdpHead) (t : Tag) → IsFilledFor flows b t → unwrapped (is_checked (header_at b.header)) b.payload ≡ Some payload → parted payload ≡ Some read → IsTrueOf flows t read.1 read.0
+pub read_true : (flows : Flows) (b : Content) (payload : List ℕ) (read : List ℕ × RdpHead) (t : Tag) → IsFilledFor flows b t → unwrapped (is_checked (header_at b.header)) b.payload ≡ Some payload → parted payload ≡ Some read → IsTrueOf flows t read.1 read.0
 read_true flows b payload read t x un q =
     let raw : List ℕ = x.bytes ++ head_bytes x.head in
     let same : raw ≡ payload = unwrapped_is (is_checked (header_at b.header)) raw payload (subst (λ bytes. unwrapped (is_checked (header_at b.header)) bytes ≡ Some payload) x.payload un) in
@@ -86,20 +86,22 @@ fed_tag (Some t) flow cur una e =
     let two : t.nth ≡ flow.1 = eqb-true t.nth flow.1 named.1 in
     (t, refl, λ i. (one i, two i), inner.1)
 
-receiver_is_aim : (f : Facts) (es : List Entry) (flows : Flows) → ArePortsKept (origin_of f) (IsFed flows) (IsInvited flows) (IsReceiver flows) → Receives (IsReceiver flows) flows → IsAim (receiver_aim flows) f (past es)
+receiver_is_aim : (f : Facts) (es : List Entry) (flows : Flows) → ArePortsKept (origin_of f) (true_packets flows) (IsReceiver flows) → Receives (IsReceiver flows) flows → IsAim (receiver_aim flows) f (past es)
 receiver_is_aim f es flows ports receives = record {
   ports = ports;
   ended = λ m app slot n how is e nth flow q p. let known : n.book.opened ≡ Some (Some nth, Some flow) = e ∙ ap (λ x. Some (x, how.1)) q ∙ ap (λ y. Some (Some nth, y)) p in receives m app slot n nth flow is known;
   plain = λ m app slot ordinal down nth flow e p. absurd cc;
   grows = λ m m' app x down on over. over;
   never_plain = λ m app slot n is e. receiver_not n.machine.state flows n is e;
-  untraced = λ b e. tt;
-  makes = λ h m books p app slot time j b c part tells o known e. tt;
-  feeds = λ b payload r read hears un q fresh. record {
-    genuine = λ t e. read_true flows b payload read t (hears t e) un q;
+  unmarked = λ mark b e none comes. tt;
+  unreliable = λ b none plain. tt;
+  wishes = λ p r comes reliable own chosen. tt;
+  makes = λ h m books p app slot time j b c part tells o there known e. tt;
+  feeds = λ b payload r read hears known fresh. record {
+    genuine = λ t e. read_true flows b payload read t (hears t e) known.is_unwrapped known.is_parted;
     peer = λ flow e. fed_tag b.trace.tag flow r.recv.cur (una_of r) (subst (λ p. is_stale_at p b.trace.tag r.recv.cur (una_of r) ≡ false) e fresh);
   };
-  asks = λ b payload read hears un q syn t e. (read_true flows b payload read t (hears t e) un q).syn syn;
+  asks = λ b payload read hears known syn t e. (read_true flows b payload read t (hears t e) known.is_unwrapped known.is_parted).syn syn;
 }
 
 -- ---- no event tells of a stale copy
@@ -111,9 +113,9 @@ all_fresh : (es : List Entry) → HasNoStale es → AllByRecursion (λ e. AllByR
 all_fresh [] all = tt
 all_fresh (e ∷ es) all = let parts = first_all (λ v. is_stale v ≡ false) e.events.items (all_events es) all in (parts.0, all_fresh es parts.1)
 
-pub delivers_prefix : (f : Facts) (routes : Routes) (es : List Entry) (flows : Flows) → ArePortsKept (origin_of f) (IsFed flows) (IsInvited flows) (IsReceiver flows) → Receives (IsReceiver flows) flows → IsRouterLog f routes es → HearsGenuine flows es → HasNoStale es
+pub delivers_prefix : (f : Facts) (routes : Routes) (es : List Entry) (flows : Flows) → ArePortsKept (origin_of f) (true_packets flows) (IsReceiver flows) → Receives (IsReceiver flows) flows → IsRouterLog f routes es → HearsGenuine flows es → HasNoStale es
     → DeliversPrefix flows es
 delivers_prefix f routes es flows ports receives log hears none app nth x peer is e =
     let k = receiver_is_aim f es flows ports receives in
-    let r = run_known (receiver_aim flows) f routes es k log (λ at mark b q. all_at (IsGenuineItem flows) (gets queue.Inbox es) at (item.Packet mark b) hears q) (all_fresh es none) in
+    let r = run_known (receiver_aim flows) f routes es k log (λ at mark b q. all_at (IsGenuineItem flows) (gets queue.Inbox es) at (item.Packet mark b) hears q) (each_comes (receiver_aim flows) (λ i. tt) es) (all_fresh es none) in
     opening_known (receiver_aim flows) f es k r app nth x is nth peer is.numbered e

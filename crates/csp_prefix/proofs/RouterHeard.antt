@@ -43,37 +43,37 @@ use Rattle.csp_socket.specs.Bound.{owner_of}
 use Rattle.csp_service.specs.Facts.{PlainFacts}
 use Rattle.csp_service.specs.declared.stats.Count.TheVariants as count
 use Rattle.csp_stack.specs.Counting.{counting}
-use Rattle.csp_stack.specs.Readings.{is_checked, is_reliable, is_secured, lacks}
+use Rattle.csp_stack.specs.Readings.{is_checked, is_here, is_reliable, is_secured, lacks}
 use Rattle.csp_stack.specs.Router.{Facts, Leaving, State, origin_of}
 use Rattle.csp_stack.specs.Rules.{Arrival, accepting, answer_flags, arrival, asked_by, asked_with, at_socket, by_answer, by_checksum, by_connection, by_destination, by_row, by_security, by_service, by_socket, by_transport, by_way, connection_of, heard, heard_at_port, heard_at_socket, heard_elsewhere, heard_here, invitation_in, inviting, is_mixed, differs, onward, owner_for, sent, sent_by, slot_for, slot_of, to_connection, to_itself, to_machine, to_slot}
 use Rattle.csp_stack.specs.Sending.{protected}
 use Rattle.csp_stack.specs.Serving.{facts_of, reply_header, reply_in, with_facts}
 use Rattle.csp_stack.specs.Told.{Told, discarded, leaving, spent, unchanged}
-use Rattle.csp_prefix.specs.Ports.{IsInUse, IsSlot, now_at, with_opened}
+use Rattle.csp_prefix.specs.Ports.{IsInUse, IsSlot, connection_in, now_at, with_opened}
 use Rattle.csp_prefix.specs.Slots.{Book}
 use Rattle.csp_prefix.proofs.RouterBooks.{Past, book_at, no_openings, no_openings_of, tells_noted, with_openings}
-use Rattle.csp_prefix.proofs.RouterStanding.{Aim, IsAim, IsOut, Stands, stands_comes, unwrapped}
+use Rattle.csp_prefix.proofs.RouterStanding.{Aim, IsAim, IsOut, IsRead, Stands, stands_comes, unwrapped}
+use Rattle.csp_prefix.proofs.RouterBytes.{reliable_flag}
+use Rattle.std.specs.Int.Bits.{and_zero_r}
 
 -- ---- slots that were found
-pub record IsFound (c : PlainConns) (app slot : ℕ) : Type 0 where
+pub record IsFound (c : PlainConns) (x : Connection) (app slot : ℕ) : Type 0 where
   pub app_there : app < c.apps
   pub slot_there : slot < SLOTS
-  pub connection : Connection
-  pub is_open : slot_at c app slot ≡ has.Open connection
+  pub is_open : slot_at c app slot ≡ has.Open x
 
-pub found_there : (c : PlainConns) (x : Connection) (at : ℕ × ℕ) → length c.slots ≡ c.apps * SLOTS → found c x ≡ Some at → IsFound c at.0 at.1
+pub found_there : (c : PlainConns) (x : Connection) (at : ℕ × ℕ) → length c.slots ≡ c.apps * SLOTS → found c x ≡ Some at → IsFound c x at.0 at.1
 found_there c x at all e = by_place (position (is_between x) c.slots) refl e
   where
-    by_place : (o : Option ℕ) → position (is_between x) c.slots ≡ o → option_map (λ place. (place / SLOTS, place % SLOTS)) o ≡ Some at → IsFound c at.0 at.1
+    by_place : (o : Option ℕ) → position (is_between x) c.slots ≡ o → option_map (λ place. (place / SLOTS, place % SLOTS)) o ≡ Some at → IsFound c x at.0 at.1
     by_place None q e = absurd cc
     by_place (Some place) q e =
         let same : (place / SLOTS, place % SLOTS) ≡ at = cc in
         let seen = position-Some (is_between x) c.slots place has.Free q in
         let whole : place / 4 * 4 + place % 4 ≡ place = omega arith in
-        subst (λ (a : ℕ × ℕ). IsFound c a.0 a.1) same (record {
+        subst (λ (a : ℕ × ℕ). IsFound c x a.0 a.1) same (record {
           app_there = omega (arith, seen.0, all);
           slot_there = omega arith;
-          connection = x;
           is_open = rw whole (is_between-open x _ seen.1);
         })
 
@@ -111,6 +111,10 @@ protected_trace false b = refl
 reply_untraced : (f : Facts) (h : Header) (b : Content) (bytes : List ℕ) → (reply_in f h b bytes).trace.tag ≡ None
 reply_untraced f h b bytes = ap (λ t. t.tag) (protected_trace (is_checked (reply_header f h)) _)
 
+-- a reply is of no connection: of the flags it keeps that of a checksum alone
+reply_unreliable : (f : Facts) (h : Header) (b : Content) (bytes : List ℕ) → is_reliable (header_at (reply_in f h b bytes).header) ≡ false
+reply_unreliable f h b bytes = reliable_flag (reply_header f h) ∙ ap (λ n. n == 2) (and_assoc 2 h.flags.0 1 ∙ and_zero_r h.flags.0)
+
 module _ (g : Aim) (f : Facts) (whole : Past) (k : IsAim g f whole) where
   -- where its events are as they are to be, what holds of the router holds of it after a turn that moved nothing
   abbrev pub Quietly : Past → Told → Type 0
@@ -138,14 +142,14 @@ module _ (g : Aim) (f : Facts) (whole : Past) (k : IsAim g f whole) where
   stands_sent h s b w good = sent_so _ _ h s b w good
 
   -- ---- the rules, from the first on
-  by_destination_so : (here : Bool) (row : Option Row) (h : Past) (s : State) (p : Arrival) (next : Arrival → Told) → g.hears p.buffer → Stands g f h s.ports s.out → Quietly h (next p) → Quietly h (onward (by_destination here row s p) next)
+  by_destination_so : (here : Bool) (row : Option Row) (h : Past) (s : State) (p : Arrival) (next : Arrival → Told) → g.hears p.buffer → Stands g f h s.ports s.out → (here ≡ true → Quietly h (next p)) → Quietly h (onward (by_destination here row s p) next)
   by_destination_so false None h s p next hears w rest = stands_discarded h s why.NoRoute p.buffer w
   by_destination_so false (Some row) h s p next hears w rest = by_back (row.iface == p.mark)
     where
       by_back : (back : Bool) → Quietly h (onward (Err (by_way back row s p)) next)
       by_back true = stands_discarded h s why.BackOut p.buffer w
       by_back false = stands_leaving h s (by_row row p.buffer) w (inr hears)
-  by_destination_so true row h s p next hears w rest = rest
+  by_destination_so true row h s p next hears w rest = rest refl
 
   by_security_so : (secured : Bool) (h : Past) (s : State) (p : Arrival) (next : Arrival → Told) → Stands g f h s.ports s.out → Quietly h (next p) → Quietly h (onward (by_security secured s p) next)
   by_security_so true h s p next w rest = stands_discarded h (counting s p.mark count.AuthErrors 1) why.Refused p.buffer w
@@ -161,39 +165,41 @@ module _ (g : Aim) (f : Facts) (whole : Past) (k : IsAim g f whole) where
   abbrev after_checksum : ℕ → Content → List ℕ → Arrival
   after_checksum mark b bytes = record { mark = mark; head = header_at b.header; buffer = record b { payload = bytes } }
 
-  plain_opened : (h : Past) (s : State) (w : Stands g f h s.ports s.out) (app slot : ℕ) → IsFound s.ports.conns app slot → are_reliable (terms_at s.ports app slot).flags ≡ false → (w.books app slot).opened ≡ Some (None, None)
-  plain_opened h s w app slot x plain =
+  plain_opened : (h : Past) (s : State) (w : Stands g f h s.ports s.out) (c : Connection) (app slot : ℕ) → IsFound s.ports.conns c app slot → are_reliable (terms_at s.ports app slot).flags ≡ false → (w.books app slot).opened ≡ Some (None, None)
+  plain_opened h s w c app slot x plain =
       let one = w.good.slots app slot x.app_there x.slot_there in
       let used = subst (λ o. IsSlot g.is o (terms_at s.ports app slot) w.numbering app slot (now_at s.ports w.books app slot)) x.is_open one in
       (subst (λ r. IsInUse g.is r w.numbering app slot (now_at s.ports w.books app slot)) plain used).opened
 
-  to_machine_so : (o : Option (List ℕ × RdpHead)) (h : Past) (s : State) (app slot time mark : ℕ) (b : Content) (bytes : List ℕ) → parted bytes ≡ o → g.hears b → unwrapped (is_checked (header_at b.header)) b.payload ≡ Some bytes
-      → IsFound s.ports.conns app slot → are_reliable (terms_at s.ports app slot).flags ≡ true → Stands g f h s.ports s.out → Quietly h (to_machine o s app slot time (after_checksum mark b bytes))
-  to_machine_so None h s app slot time mark b bytes e hears un x reliable w = stands_discarded h s why.Malformed (record b { payload = bytes }) w
-  to_machine_so (Some read) h s app slot time mark b bytes e hears un x reliable w = λ fresh.
+  to_machine_so : (o : Option (List ℕ × RdpHead)) (h : Past) (s : State) (app slot time mark : ℕ) (b : Content) (bytes : List ℕ) → parted bytes ≡ o → g.hears b → is_here f.addr (header_at b.header) ≡ true → is_reliable (header_at b.header) ≡ true → unwrapped (is_checked (header_at b.header)) b.payload ≡ Some bytes
+      → IsFound s.ports.conns (connection_of (header_at b.header)) app slot → are_reliable (terms_at s.ports app slot).flags ≡ true → Stands g f h s.ports s.out → Quietly h (to_machine o s app slot time (after_checksum mark b bytes))
+  to_machine_so None h s app slot time mark b bytes e hears here rdp un x reliable w = stands_discarded h s why.Malformed (record b { payload = bytes }) w
+  to_machine_so (Some read) h s app slot time mark b bytes e hears here rdp un x reliable w = λ fresh.
       stands_comes g f h s.ports s.out w w.numbering (handing s.ports app slot read.1 (record b { payload = read.0 }) time) (record { more = omega arith; same = λ n lt. refl }) k.grows
       (k.ports.hands w.numbering h.ends w.books s.ports app slot read.1 (record b { payload = read.0 }) time x.app_there x.slot_there
-      (record { connection = x.connection; there = x.is_open; reliable = reliable }) (k.feeds b bytes (machine_at s.ports app slot) read hears un e fresh.0) w.good)
+      (record { connection = connection_of (header_at b.header); there = x.is_open; reliable = reliable })
+      (subst (λ o. g.coming.fed (connection_in o) (machine_at s.ports app slot) read.1 b.trace.tag read.0) (sym x.is_open)
+      (k.feeds b bytes (machine_at s.ports app slot) read hears (record { here = here; reliable = rdp; is_unwrapped = un; is_parted = e }) fresh.0)) w.good)
 
-  to_connection_so : (reliable : Bool) (h : Past) (s : State) (app slot time mark : ℕ) (b : Content) (bytes : List ℕ) → g.hears b → unwrapped (is_checked (header_at b.header)) b.payload ≡ Some bytes
-      → IsFound s.ports.conns app slot → differs reliable (terms_at s.ports app slot).flags ≡ false → Stands g f h s.ports s.out → Quietly h (to_connection reliable s app slot time (after_checksum mark b bytes))
-  to_connection_so false h s app slot time mark b bytes hears un x same w =
-      stands_leaving h s (to_slot app slot (record b { payload = bytes })) w (subst (λ a. app < a) w.apps x.app_there, x.slot_there, plain_opened h s w app slot x same)
-  to_connection_so true h s app slot time mark b bytes hears un x same w =
-      to_machine_so (parted bytes) h s app slot time mark b bytes refl hears un x (not_false (are_reliable (terms_at s.ports app slot).flags) same) w
+  to_connection_so : (reliable : Bool) (h : Past) (s : State) (app slot time mark : ℕ) (b : Content) (bytes : List ℕ) → is_reliable (header_at b.header) ≡ reliable → g.hears b → is_here f.addr (header_at b.header) ≡ true → unwrapped (is_checked (header_at b.header)) b.payload ≡ Some bytes
+      → IsFound s.ports.conns (connection_of (header_at b.header)) app slot → differs reliable (terms_at s.ports app slot).flags ≡ false → Stands g f h s.ports s.out → Quietly h (to_connection reliable s app slot time (after_checksum mark b bytes))
+  to_connection_so false h s app slot time mark b bytes rdp hears here un x same w =
+      stands_leaving h s (to_slot app slot (record b { payload = bytes })) w (subst (λ a. app < a) w.apps x.app_there, x.slot_there, plain_opened h s w (connection_of (header_at b.header)) app slot x same)
+  to_connection_so true h s app slot time mark b bytes rdp hears here un x same w =
+      to_machine_so (parted bytes) h s app slot time mark b bytes refl hears here rdp un x (not_false (are_reliable (terms_at s.ports app slot).flags) same) w
     where
       not_false : (t : Bool) → not t ≡ false → t ≡ true
       not_false true e = refl
       not_false false e = absurd cc
 
-  by_connection_so : (at : Option (ℕ × ℕ)) (mixed short : Bool) (h : Past) (s : State) (time mark : ℕ) (b : Content) (bytes : List ℕ) (next : Arrival → Told) → g.hears b → unwrapped (is_checked (header_at b.header)) b.payload ≡ Some bytes
+  by_connection_so : (at : Option (ℕ × ℕ)) (mixed short : Bool) (h : Past) (s : State) (time mark : ℕ) (b : Content) (bytes : List ℕ) (next : Arrival → Told) → g.hears b → is_here f.addr (header_at b.header) ≡ true → unwrapped (is_checked (header_at b.header)) b.payload ≡ Some bytes
       → slot_of s (after_checksum mark b bytes) ≡ at → is_mixed s.ports at (header_at b.header) ≡ mixed → Stands g f h s.ports s.out → Quietly h (next (after_checksum mark b bytes))
       → Quietly h (onward (by_connection at mixed short s time (after_checksum mark b bytes)) next)
-  by_connection_so None mixed short h s time mark b bytes next hears un e same w rest = rest
-  by_connection_so (Some at) true short h s time mark b bytes next hears un e same w rest = stands_discarded h s why.Mixed (record b { payload = bytes }) w
-  by_connection_so (Some at) false true h s time mark b bytes next hears un e same w rest = stands_discarded h s why.Required (record b { payload = bytes }) w
-  by_connection_so (Some at) false false h s time mark b bytes next hears un e same w rest =
-      to_connection_so (is_reliable (header_at b.header)) h s at.0 at.1 time mark b bytes hears un (found_there s.ports.conns (connection_of (header_at b.header)) at w.good.conns e) same w
+  by_connection_so None mixed short h s time mark b bytes next hears here un e same w rest = rest
+  by_connection_so (Some at) true short h s time mark b bytes next hears here un e same w rest = stands_discarded h s why.Mixed (record b { payload = bytes }) w
+  by_connection_so (Some at) false true h s time mark b bytes next hears here un e same w rest = stands_discarded h s why.Required (record b { payload = bytes }) w
+  by_connection_so (Some at) false false h s time mark b bytes next hears here un e same w rest =
+      to_connection_so (is_reliable (header_at b.header)) h s at.0 at.1 time mark b bytes refl hears here un (found_there s.ports.conns (connection_of (header_at b.header)) at w.good.conns e) same w
 
   -- ---- 5. a packet to a bound port
   free_blank : (h : Past) (s : State) (w : Stands g f h s.ports s.out) (app slot : ℕ) → app < s.ports.conns.apps → slot < SLOTS → slot_at s.ports.conns app slot ≡ has.Free → (w.books app slot).opened ≡ None
@@ -215,25 +221,26 @@ module _ (g : Aim) (f : Facts) (whole : Past) (k : IsAim g f whole) where
         out = (few_f, there.0, book_at (λ a s b. a ≡ app → s ≡ slot → b.opened ≡ Some (None, None)) app slot _ w.books app slot (λ one two. refl) (λ differ one two. absurd (differ one two)) refl refl);
       }
 
-  abbrev IsAsked : Result Invitation Discard → Type 0
-  IsAsked (Err reason) = Unit {0}
-  IsAsked (Ok i) = (has_flag i.head SYN ≡ true) × g.invites i.head i.tag
+  abbrev IsAsked : Header → Result Invitation Discard → Type 0
+  IsAsked x (Err reason) = Unit {0}
+  IsAsked x (Ok i) = (has_flag i.head SYN ≡ true) × g.coming.invites (connection_of x) (answer_flags x) i.head i.tag
 
-  asked_with_so : (r : Result Options OptionError) (h : RdpHead) (tag : Option Tag) → has_flag h SYN ≡ true → g.invites h tag → IsAsked (asked_with r h tag)
-  asked_with_so (Err error) h tag e so = tt
-  asked_with_so (Ok options) h tag e so = (e, so)
+  asked_with_so : (x : Header) (r : Result Options OptionError) (h : RdpHead) (tag : Option Tag) → has_flag h SYN ≡ true → g.coming.invites (connection_of x) (answer_flags x) h tag → IsAsked x (asked_with r h tag)
+  asked_with_so x (Err error) h tag e so = tt
+  asked_with_so x (Ok options) h tag e so = (e, so)
 
-  asked_by_so : (syn other : Bool) (b : Content) (bytes : List ℕ) (read : List ℕ × RdpHead) → has_flag read.1 SYN ≡ syn → g.hears b → unwrapped (is_checked (header_at b.header)) b.payload ≡ Some bytes → parted bytes ≡ Some read
-      → IsAsked (asked_by syn other read.0 read.1 b.trace.tag)
-  asked_by_so false other b bytes read e hears un q = tt
-  asked_by_so true true b bytes read e hears un q = tt
-  asked_by_so true false b bytes read e hears un q = asked_with_so (judged read.0) read.1 b.trace.tag e (k.asks b bytes read hears un q e)
+  asked_by_so : (syn other : Bool) (b : Content) (bytes : List ℕ) (read : List ℕ × RdpHead) → has_flag read.1 SYN ≡ syn → g.hears b → IsRead f b bytes read
+      → IsAsked (header_at b.header) (asked_by syn other read.0 read.1 b.trace.tag)
+  asked_by_so false other b bytes read e hears known = tt
+  asked_by_so true true b bytes read e hears known = tt
+  asked_by_so true false b bytes read e hears known = asked_with_so (header_at b.header) (judged read.0) read.1 b.trace.tag e (k.asks b bytes read hears known e)
 
-  invitation_so : (o : Option (List ℕ × RdpHead)) (b : Content) (bytes : List ℕ) → parted bytes ≡ o → g.hears b → unwrapped (is_checked (header_at b.header)) b.payload ≡ Some bytes → IsAsked (invitation_in o b.trace.tag)
-  invitation_so None b bytes q hears un = tt
-  invitation_so (Some read) b bytes q hears un = asked_by_so (has_flag read.1 SYN) (has_flag read.1 ACK || has_flag read.1 RST) b bytes read refl hears un q
+  invitation_so : (o : Option (List ℕ × RdpHead)) (b : Content) (bytes : List ℕ) → parted bytes ≡ o → g.hears b → is_here f.addr (header_at b.header) ≡ true → is_reliable (header_at b.header) ≡ true → unwrapped (is_checked (header_at b.header)) b.payload ≡ Some bytes → IsAsked (header_at b.header) (invitation_in o b.trace.tag)
+  invitation_so None b bytes q hears here rdp un = tt
+  invitation_so (Some read) b bytes q hears here rdp un =
+      asked_by_so (has_flag read.1 SYN) (has_flag read.1 ACK || has_flag read.1 RST) b bytes read refl hears (record { here = here; reliable = rdp; is_unwrapped = un; is_parted = q })
 
-  inviting_so : (r : Result Invitation Discard) (o : Option ℕ) (h : Past) (s : State) (app time : ℕ) (p : Arrival) → IsAsked r → first_free s.ports.conns app ≡ o → app < s.ports.conns.apps → is_reliable p.head ≡ true → Stands g f h s.ports s.out
+  inviting_so : (r : Result Invitation Discard) (o : Option ℕ) (h : Past) (s : State) (app time : ℕ) (p : Arrival) → IsAsked p.head r → first_free s.ports.conns app ≡ o → app < s.ports.conns.apps → is_reliable p.head ≡ true → Stands g f h s.ports s.out
       → Quietly h (inviting r o f s app time p)
   inviting_so (Err reason) o h s app time p so e few reliable w = stands_discarded h s reason p.buffer w
   inviting_so (Ok i) None h s app time p so e few reliable w = stands_discarded h s why.NoSlot p.buffer w
@@ -243,24 +250,24 @@ module _ (g : Aim) (f : Facts) (whole : Past) (k : IsAim g f whole) where
       let done = k.ports.invites w.numbering h.ends w.books s.ports app slot (connection_of p.head) p.head.prio (answer_flags p.head) i time few there.0 there.1 (answer_reliable p.head ∙ reliable) so.0 so.1 w.good in
       stands_comes g f h s.ports s.out w done.after c done.goes_on k.grows done.comes
 
-  at_socket_so : (reliable : Bool) (h : Past) (s : State) (app time mark : ℕ) (b : Content) (bytes : List ℕ) → is_reliable (header_at b.header) ≡ reliable → g.hears b → unwrapped (is_checked (header_at b.header)) b.payload ≡ Some bytes
+  at_socket_so : (reliable : Bool) (h : Past) (s : State) (app time mark : ℕ) (b : Content) (bytes : List ℕ) → is_reliable (header_at b.header) ≡ reliable → g.hears b → is_here f.addr (header_at b.header) ≡ true → unwrapped (is_checked (header_at b.header)) b.payload ≡ Some bytes
       → app < s.ports.conns.apps → Stands g f h s.ports s.out → Quietly h (at_socket reliable (first_free s.ports.conns app) f s app time (after_checksum mark b bytes))
-  at_socket_so false h s app time mark b bytes e hears un few w = accepting_so (first_free s.ports.conns app) h s app (after_checksum mark b bytes) refl few e w
-  at_socket_so true h s app time mark b bytes e hears un few w =
-      inviting_so (invitation_in (parted bytes) b.trace.tag) (first_free s.ports.conns app) h s app time (after_checksum mark b bytes) (invitation_so (parted bytes) b bytes refl hears un) refl few e w
+  at_socket_so false h s app time mark b bytes e hears here un few w = accepting_so (first_free s.ports.conns app) h s app (after_checksum mark b bytes) refl few e w
+  at_socket_so true h s app time mark b bytes e hears here un few w =
+      inviting_so (invitation_in (parted bytes) b.trace.tag) (first_free s.ports.conns app) h s app time (after_checksum mark b bytes) (invitation_so (parted bytes) b bytes refl hears here e un) refl few e w
 
-  by_socket_so : (owner : Option (ℕ × ℕ)) (short : Bool) (h : Past) (s : State) (time mark : ℕ) (b : Content) (bytes : List ℕ) (next : Arrival → Told) → owner_of s.ports.bound (header_at b.header).dport ≡ owner → g.hears b
+  by_socket_so : (owner : Option (ℕ × ℕ)) (short : Bool) (h : Past) (s : State) (time mark : ℕ) (b : Content) (bytes : List ℕ) (next : Arrival → Told) → owner_of s.ports.bound (header_at b.header).dport ≡ owner → g.hears b → is_here f.addr (header_at b.header) ≡ true
       → unwrapped (is_checked (header_at b.header)) b.payload ≡ Some bytes → Stands g f h s.ports s.out → Quietly h (next (after_checksum mark b bytes))
       → Quietly h (onward (by_socket owner short (slot_for s.ports owner) f s time (after_checksum mark b bytes)) next)
-  by_socket_so None short h s time mark b bytes next e hears un w rest = rest
-  by_socket_so (Some owner) true h s time mark b bytes next e hears un w rest = stands_discarded h s why.Required (record b { payload = bytes }) w
-  by_socket_so (Some owner) false h s time mark b bytes next e hears un w rest =
+  by_socket_so None short h s time mark b bytes next e hears here un w rest = rest
+  by_socket_so (Some owner) true h s time mark b bytes next e hears here un w rest = stands_discarded h s why.Required (record b { payload = bytes }) w
+  by_socket_so (Some owner) false h s time mark b bytes next e hears here un w rest =
       let few : owner.0 < s.ports.conns.apps = subst (λ o. IfSome o (λ x. x.0 < s.ports.conns.apps)) e (w.good.owners (header_at b.header).dport) in
-      at_socket_so (is_reliable (header_at b.header)) h s owner.0 time mark b bytes refl hears un few w
+      at_socket_so (is_reliable (header_at b.header)) h s owner.0 time mark b bytes refl hears here un few w
 
   -- ---- 6. a request to a service
   by_answer_so : (o : Served) (reply : List ℕ) (h : Past) (s : State) (p : Arrival) → IsMute o → Stands g f h s.ports s.out → Quietly h (by_answer o reply f s p)
-  by_answer_so Reply reply h s p mute w = stands_sent h s (reply_in f p.head p.buffer reply) w (k.untraced (reply_in f p.head p.buffer reply) (reply_untraced f p.head p.buffer reply))
+  by_answer_so Reply reply h s p mute w = stands_sent h s (reply_in f p.head p.buffer reply) w (k.unreliable (reply_in f p.head p.buffer reply) (reply_untraced f p.head p.buffer reply) (reply_unreliable f p.head p.buffer reply))
   by_answer_so (Silent e) reply h s p mute w = stands_spent h s e p.buffer mute w
   by_answer_so (Refused error) reply h s p mute w = stands_discarded h s why.Malformed p.buffer w
   by_answer_so NoService reply h s p mute w = stands_discarded h s why.NoSocket p.buffer w
@@ -272,11 +279,11 @@ module _ (g : Aim) (f : Facts) (whole : Past) (k : IsAim g f whole) where
   -- ---- all rules
   pub stands_heard : (h : Past) (s : State) (time mark : ℕ) (b : Content) → ((port : ℕ) (request : List ℕ) (time : ℕ) (facts : PlainFacts) → IsMute (answered port request facts time).served) → g.hears b → Stands g f h s.ports s.out → Quietly h (heard f s time (arrival mark b))
   stands_heard h s time mark b mute hears w =
-      by_destination_so _ _ h s (arrival mark b) (λ p. heard_here f s time p) hears w
+      by_destination_so _ _ h s (arrival mark b) (λ p. heard_here f s time p) hears w λ here.
       (by_security_so (is_secured (header_at b.header)) h s (arrival mark b) (λ p. onward (by_checksum (is_checked p.head) (payload_of p.buffer.payload) s p) (λ q. heard_at_port f s time q)) w
       (by_checksum_so (is_checked (header_at b.header)) (payload_of b.payload) h s (arrival mark b) (λ q. heard_at_port f s time q) refl w (λ bytes un.
-      by_connection_so _ _ (lacks (owner_for s (after_checksum mark b bytes)) (header_at b.header)) h s time mark b bytes (λ p. heard_at_socket f s time p) hears un refl refl w
-      (by_socket_so _ _ h s time mark b bytes (λ p. heard_elsewhere f s time p) refl hears un w
+      by_connection_so _ _ (lacks (owner_for s (after_checksum mark b bytes)) (header_at b.header)) h s time mark b bytes (λ p. heard_at_socket f s time p) hears here un refl refl w
+      (by_socket_so _ _ h s time mark b bytes (λ p. heard_elsewhere f s time p) refl hears here un w
       (by_transport_so _ h s (after_checksum mark b bytes) (λ p. by_service f s time p) w
       (let o = answered (header_at b.header).dport bytes (facts_of f s) time in
       by_answer_so o.served o.reply h (with_facts s o.facts) (after_checksum mark b bytes) (mute (header_at b.header).dport bytes time (facts_of f s)) w))))))

@@ -53,7 +53,7 @@ pub record IsRunSo (g : Aim) (f : Facts) (h : Past) (es : List Entry) : Type 0 w
   pub pushed : AllByRecursion (λ e. PushedSo g e.op e.answer) es
 
 module _ (g : Aim) (f : Facts) (whole : Past) (k : IsAim g f whole) where
-  step_stands : (e : Entry) (h : Past) (s : State) → IsStep router_steps (record { facts = f; state = s }) e → IsCome g e → IsPart (past_with e h) whole → Stands g f h s.ports s.out
+  pub step_stands : (e : Entry) (h : Past) (s : State) → IsStep router_steps (record { facts = f; state = s }) e → IsCome g e → IsPart (past_with e h) whole → Stands g f h s.ports s.out
       → Stands g f (past_with e h) (told_at f (asked_at f s e.time) e.time e.answer).state.ports (told_at f (asked_at f s e.time) e.time e.answer).state.out × PushedSo g e.op e.answer
   step_stands e h s step come part w =
       let same : past_with e h ≡ past_after (asks_at f s e.time) e.answer (told_at f (asked_at f s e.time) e.time e.answer).events h =

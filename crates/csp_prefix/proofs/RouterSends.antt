@@ -8,6 +8,7 @@ use Rattle.csp_base.specs.Sequence.{number_of}
 use Rattle.csp_base.specs.declared.traces.Tag.{Tag}
 use Rattle.csp_buffer.specs.Content.{Content}
 use Rattle.csp_conn.specs.declared.slot.Connection.{Connection}
+use Rattle.csp_conn.specs.declared.slot.Slot.TheVariants as has
 use Rattle.csp_header.specs.declared.word.Header.{Header}
 use Rattle.csp_log.specs.declared.entry.Entry.{Entry}
 use Rattle.csp_log.specs.declared.event.Event.{Event}
@@ -29,7 +30,7 @@ use Rattle.csp_stack.specs.Router.{Facts, origin_of}
 use Rattle.csp_stack.specs.Rules.{addressed, header_for}
 use Rattle.csp_stack.specs.Sending.{protected}
 use Rattle.csp_prefix.specs.Flows.{Flows, IsFilledFor, IsGenuine, IsSaid, IsTrueOf, with_checksum}
-use Rattle.csp_prefix.specs.Machines.{IsOpeningOf, IsOver, IsSender, MakesTrue, OpensNumbered, SaysTrue, SendsIn, WasOpened}
+use Rattle.csp_prefix.specs.Machines.{IsOpeningOf, IsOver, IsSender, MakesTrue, OpensNumbered, SaysTrue, SendsIn, WasOpened, whatever}
 use Rattle.csp_prefix.specs.Ports.{ArePortsKept, Books, now_at}
 use Rattle.csp_prefix.specs.Prefix.{IsBeginning}
 use Rattle.csp_prefix.specs.Routers.{AreNumbered, AreShown, IsFlowOf, IsHeard, IsRouterLog, SendsGenuine, ArePlaced}
@@ -39,17 +40,18 @@ use Rattle.csp_prefix.proofs.RouterBytes.{checked_flag}
 use Rattle.csp_prefix.proofs.RouterHeard.{protected_trace}
 use Rattle.csp_prefix.proofs.RouterRun.{IsRunSo}
 use Rattle.csp_prefix.proofs.RouterStanding.{Aim, IsAim, IsPart}
-use Rattle.csp_prefix.proofs.RouterTrue.{opening_known, opening_placed, past, past_opened, past_sent, run_known}
+use Rattle.csp_prefix.proofs.RouterTrue.{each_comes, opening_known, opening_placed, past, past_opened, past_sent, run_known}
+use Rattle.csp_conn.specs.PlainConns.{slot_at}
 
 -- what is to be known of a sender; and the packets that go out are so
 abbrev pub sender_aim : Facts → List Entry → (Content → Type 0) → Aim
 sender_aim f es good = record {
   is = IsSender (origin_of f);
-  fed = λ r h tag bytes. ⊤;
-  invites = λ h tag. ⊤;
+  coming = whatever;
   over = λ m app x down. (nth : ℕ) → x.nth ≡ Some nth → IsOpeningOf m app x.slot x.ordinal nth;
   good = good;
   hears = IsHeard es;
+  comes = λ i. ⊤;
   fresh = λ e. ⊤;
 }
 
@@ -67,7 +69,7 @@ over_not : (was : Bool) (m : Numbering) (app slot : ℕ) (n : Now) → n.machine
 over_not true m app slot n e over is = numbered_not m app slot n (over.0 e) is
 over_not false m app slot n e over is = unopened n.book (over.1 e).book is
 
-sender_not : (s : State) (o : Origin) (m : Numbering) (app slot : ℕ) (n : Now) → SendsIn s o m app slot n → n.book.opened ≡ Some (None, None) → ⊥
+pub sender_not : (s : State) (o : Origin) (m : Numbering) (app slot : ℕ) (n : Now) → SendsIn s o m app slot n → n.book.opened ≡ Some (None, None) → ⊥
 sender_not SynSent o m app slot n sends is = unopened n.book sends.1.book is
 sender_not SynRcvd o m app slot n sends is = unopened n.book sends.1.book is
 sender_not Open o m app slot n sends is = numbered_not m app slot n sends.1 is
@@ -81,10 +83,10 @@ opening_later m m' app slot ordinal nth on is = record { made = let more = on.mo
 abbrev pub Makes : Facts → List Entry → (Content → Type 0) → Type 0
 Makes f es good =
     (h : Past) (m : Numbering) (books : Books) (p : PlainPorts) (app slot time : ℕ) (j : Job) (b : Content) (c : Connection) → IsPart h (past es) → Tells (sender_aim f es good).over f.apps m h books
-    → (terms_at p app slot).ordinal ≡ h.ends app slot → IsSender (origin_of f) m app slot (now_at p books app slot) → job_of time (machine_at p app slot) ≡ Some j
+    → (terms_at p app slot).ordinal ≡ h.ends app slot → slot_at p.conns app slot ≡ has.Open c → IsSender (origin_of f) m app slot (now_at p books app slot) → job_of time (machine_at p app slot) ≡ Some j
     → good (addressed f c (terms_at p app slot) (made_in j time app slot b p))
 
-pub sender_is_aim : (f : Facts) (es : List Entry) (good : Content → Type 0) → ArePortsKept (origin_of f) (λ r h tag bytes. ⊤) (λ h tag. ⊤) (IsSender (origin_of f)) → OpensNumbered (IsSender (origin_of f))
+pub sender_is_aim : (f : Facts) (es : List Entry) (good : Content → Type 0) → ArePortsKept (origin_of f) whatever (IsSender (origin_of f)) → OpensNumbered (IsSender (origin_of f))
     → ((b : Content) → b.trace.tag ≡ None → good b) → Makes f es good → IsAim (sender_aim f es good) f (past es)
 sender_is_aim f es good ports opens untraced makes = record {
   ports = ports;
@@ -92,13 +94,15 @@ sender_is_aim f es good ports opens untraced makes = record {
   plain = λ m app slot ordinal down nth e. absurd cc;
   grows = λ m m' app x down on over nth e. opening_later m m' app x.slot x.ordinal nth on (over nth e);
   never_plain = λ m app slot n is e. sender_not n.machine.state (origin_of f) m app slot n is e;
-  untraced = untraced;
+  unmarked = λ mark b e none comes. untraced b none;
+  unreliable = λ b none plain. untraced b none;
+  wishes = λ p r comes reliable own chosen. tt;
   makes = makes;
-  feeds = λ b payload r read hears un q fresh. tt;
-  asks = λ b payload read hears un q syn. tt;
+  feeds = λ b payload r read hears known fresh. tt;
+  asks = λ b payload read hears known syn. tt;
 }
 
-all_fresh : (es : List Entry) → AllByRecursion (λ e. AllByRecursion {X = Event} (λ v. ⊤) e.events.items) es
+pub all_fresh : (es : List Entry) → AllByRecursion (λ e. AllByRecursion {X = Event} (λ v. ⊤) e.events.items) es
 all_fresh [] = tt
 all_fresh (e ∷ es) = (each e.events.items, all_fresh es)
   where
@@ -107,11 +111,11 @@ all_fresh (e ∷ es) = (each e.events.items, all_fresh es)
     each (v ∷ vs) = (tt, each vs)
 
 sender_run : (f : Facts) (routes : Routes) (es : List Entry) (good : Content → Type 0) → IsAim (sender_aim f es good) f (past es) → IsRouterLog f routes es → IsRunSo (sender_aim f es good) f no_past es
-sender_run f routes es good k log = run_known (sender_aim f es good) f routes es k log (λ at mark b e. record { at = at; mark = mark; there = e }) (all_fresh es)
+sender_run f routes es good k log = run_known (sender_aim f es good) f routes es k log (λ at mark b e. record { at = at; mark = mark; there = e }) (each_comes (sender_aim f es good) (λ i. tt) es) (all_fresh es)
 
-pub are_numbered : (f : Facts) (routes : Routes) (es : List Entry) → ArePortsKept (origin_of f) (λ r h tag bytes. ⊤) (λ h tag. ⊤) (IsSender (origin_of f)) → OpensNumbered (IsSender (origin_of f)) → IsRouterLog f routes es → AreNumbered es
+pub are_numbered : (f : Facts) (routes : Routes) (es : List Entry) → ArePortsKept (origin_of f) whatever (IsSender (origin_of f)) → OpensNumbered (IsSender (origin_of f)) → IsRouterLog f routes es → AreNumbered es
 are_numbered f routes es ports opens log app other nth x y is also =
-    let k = sender_is_aim f es (λ b. ⊤) ports opens (λ b e. tt) (λ h m books p app slot time j b c part tells o known e. tt) in
+    let k = sender_is_aim f es (λ b. ⊤) ports opens (λ b e. tt) (λ h m books p app slot time j b c part tells o there known e. tt) in
     let r = sender_run f routes es (λ b. ⊤) k log in
     let one = opening_known (sender_aim f es (λ b. ⊤)) f es k r app nth x is nth is.numbered in
     let two = opening_known (sender_aim f es (λ b. ⊤)) f es k r other nth y also nth also.numbered in
@@ -119,9 +123,9 @@ are_numbered f routes es ports opens log app other nth x y is also =
     (ap (λ t. t.0) same, ap (λ t. t.1) same, ap (λ t. t.2) same)
 
 -- each opening's application and slot are there
-pub are_placed : (f : Facts) (routes : Routes) (es : List Entry) → ArePortsKept (origin_of f) (λ r h tag bytes. ⊤) (λ h tag. ⊤) (IsSender (origin_of f)) → OpensNumbered (IsSender (origin_of f)) → IsRouterLog f routes es → ArePlaced f es
+pub are_placed : (f : Facts) (routes : Routes) (es : List Entry) → ArePortsKept (origin_of f) whatever (IsSender (origin_of f)) → OpensNumbered (IsSender (origin_of f)) → IsRouterLog f routes es → ArePlaced f es
 are_placed f routes es ports opens log app at x e =
-    let k = sender_is_aim f es (λ b. ⊤) ports opens (λ b e. tt) (λ h m books p app slot time j b c part tells o known e. tt) in
+    let k = sender_is_aim f es (λ b. ⊤) ports opens (λ b e. tt) (λ h m books p app slot time j b c part tells o there known e. tt) in
     opening_placed (sender_aim f es (λ b. ⊤)) f es (sender_run f routes es (λ b. ⊤) k log) app at x e
 
 -- ---- and what is sent is genuine
@@ -145,7 +149,7 @@ said_more : (xs ys : List (List ℕ)) (index : ℕ) (bytes : List ℕ) → IsBeg
 said_more xs ys index bytes b is = record { low = is.low; there = subst (λ zs. slice_get zs (index - 1) ≡ Some bytes) b.whole (get_more xs b.rest (index - 1) bytes is.there) }
 
 -- an opening that was told is that of a flow
-opening_flow : (es : List Entry) (h : Past) (app nth : ℕ) (x : Opening) → IsPart h (past es) → IsAmong x (h.opened app) → x.nth ≡ Some nth → IsFlowOf es app nth x
+pub opening_flow : (es : List Entry) (h : Past) (app nth : ℕ) (x : Opening) → IsPart h (past es) → IsAmong x (h.opened app) → x.nth ≡ Some nth → IsFlowOf es app nth x
 opening_flow es h app nth x part a e =
     let b = part.opened app in
     record { at = a.at; there = subst (λ xs. slice_get xs a.at ≡ Some x) (b.whole ∙ past_opened es app) (get_more (h.opened app) b.rest a.at x a.there); numbered = e }
@@ -173,7 +177,7 @@ true_packet f es flows h m books app slot time j n shown part tells same known =
     }
 
 makes_genuine : (f : Facts) (es : List Entry) (flows : Flows) → MakesTrue (IsSender (origin_of f)) (origin_of f) → AreShown f es flows → Makes f es (IsGenuine flows)
-makes_genuine f es flows makes shown h m books p app slot time j b c part tells counted is job tag e =
+makes_genuine f es flows makes shown h m books p app slot time j b c part tells counted there is job tag e =
     let n : Now = now_at p books app slot in
     let r : PlainRdp = machine_at p app slot in
     let s : Says = says j time r in
@@ -189,7 +193,7 @@ makes_genuine f es flows makes shown h m books p app slot time j b c part tells 
       true_of = true_packet f es flows h m books app slot time j n shown part tells refl (makes m app slot n time j is job);
     })
 
-pub sends_genuine : (f : Facts) (routes : Routes) (es : List Entry) (flows : Flows) → ArePortsKept (origin_of f) (λ r h tag bytes. ⊤) (λ h tag. ⊤) (IsSender (origin_of f)) → MakesTrue (IsSender (origin_of f)) (origin_of f) → OpensNumbered (IsSender (origin_of f))
+pub sends_genuine : (f : Facts) (routes : Routes) (es : List Entry) (flows : Flows) → ArePortsKept (origin_of f) whatever (IsSender (origin_of f)) → MakesTrue (IsSender (origin_of f)) (origin_of f) → OpensNumbered (IsSender (origin_of f))
     → IsRouterLog f routes es → AreShown f es flows → SendsGenuine flows es
 sends_genuine f routes es flows ports makes opens log shown =
     let k = sender_is_aim f es (IsGenuine flows) ports opens (λ b none tag e. absurd (let bad : ◌≡◌ {A = Option Tag} None (Some tag) = sym none ∙ e in cc)) (makes_genuine f es flows makes shown) in

@@ -40,7 +40,7 @@ use Rattle.csp_route.specs.declared.row.Row.{Row}
 use Rattle.csp_header.specs.Word.{header_at}
 use Rattle.csp_socket.specs.Bound.{owner_of}
 use Rattle.csp_socket.specs.declared.sockets.TheConstants.{BINDABLE_PORTS}
-use Rattle.csp_stack.specs.Readings.{is_checked}
+use Rattle.csp_stack.specs.Readings.{is_checked, is_reliable}
 use Rattle.csp_stack.specs.Router.{Facts, State, origin_of}
 use Rattle.csp_stack.specs.Rules.{addressed, by_mark, by_slot, header_for, on_connection, requested, sent, sent_by, served}
 use Rattle.csp_stack.specs.Told.{Told, discarded}
@@ -51,6 +51,7 @@ use Rattle.csp_prefix.proofs.RouterBooks.{Past, Tells, no_openings_of, past_afte
 use Rattle.csp_prefix.proofs.RouterEntry.{AreUnsent, none_on, quiet_entry}
 use Rattle.csp_prefix.proofs.RouterHeard.{Quietly, protected_trace, stands_discarded, stands_sent, stands_unchanged}
 use Rattle.csp_prefix.proofs.RouterStanding.{Aim, IsAim, IsOut, Stands, good_plain, stands_comes}
+use Rattle.csp_prefix.proofs.RouterBytes.{reliable_flag}
 
 -- ---- events that tell nothing that was sent
 pub unsent_none : AreUnsent []
@@ -81,6 +82,10 @@ sent_entry k slot told b rest h unsent none =
 -- a packet without a trace has none when it is addressed
 addressed_untraced : (f : Facts) (c : Connection) (t : Terms) (i : ℕ) (b : Content) → IsUntraced (item.Packet i b) → (addressed f c t b).trace.tag ≡ None
 addressed_untraced f c t i b e = ap (λ x. x.tag) (protected_trace (is_checked (header_for f c t)) b) ∙ ap (λ x. x.tag) e
+
+-- and one of a plain connection is not of the reliable transport
+addressed_unreliable : (f : Facts) (c : Connection) (t : Terms) (b : Content) → are_reliable t.flags ≡ false → is_reliable (header_at (addressed f c t b).header) ≡ false
+addressed_unreliable f c t b plain = reliable_flag (header_for f c t) ∙ plain
 
 open_or : (s : MachineState) → (s ≡ state.Open) ⊎ (s ≢ state.Open)
 open_or state.Open = inl refl
@@ -124,7 +129,7 @@ module _ (g : Aim) (f : Facts) (whole : Past) (k : IsAim g f whole) where
       let told : ℕ = (terms_at s.ports app slot).ordinal in
       let x : Content = addressed f c (terms_at s.ports app slot) b in
       let to : ℕ = (header_at x.header).dst in
-      let off = sent_off (to == f.addr) (route_of s.routes to) s x empty (k.untraced x (addressed_untraced f c (terms_at s.ports app slot) slot b untraced)) in
+      let off = sent_off (to == f.addr) (route_of s.routes to) s x empty (k.unreliable x (addressed_untraced f c (terms_at s.ports app slot) slot b untraced) (addressed_unreliable f c (terms_at s.ports app slot) b plain)) in
       let t : Told = sent f s x in
       let one = w.good.slots app slot few low in
       let used = subst (λ o. IsSlot g.is o (terms_at s.ports app slot) w.numbering app slot (now_at s.ports w.books app slot)) there one in
@@ -180,18 +185,18 @@ module _ (g : Aim) (f : Facts) (whole : Past) (k : IsAim g f whole) where
   by_slot_so (has.Open c) h s app slot time b there few low free empty untraced w = by_connection_so (are_reliable (terms_at s.ports app slot).flags) c h s app slot time b there refl few low free empty untraced w
 
   by_mark_so : (unmarked : Bool) (h : Past) (s : State) (app mark time : ℕ) (b : Content) → (mark == UNMARKED) ≡ unmarked → app < s.ports.conns.apps → IsUpItem (item.Packet mark b) → stalled_at s.ports app ≡ None → s.out ≡ None
-      → IsUntraced (item.Packet mark b) → Stands g f h s.ports s.out → Serves h app (item.Packet mark b) (by_mark unmarked f s app mark time b)
-  by_mark_so true h s app mark time b e few up free empty untraced w =
-      let good = k.untraced b (ap (λ x. x.tag) untraced) in
+      → IsUntraced (item.Packet mark b) → g.comes (item.Packet mark b) → Stands g f h s.ports s.out → Serves h app (item.Packet mark b) (by_mark unmarked f s app mark time b)
+  by_mark_so true h s app mark time b e few up free empty untraced comes w =
+      let good = k.unmarked mark b e (ap (λ x. x.tag) untraced) comes in
       let off = sent_off ((header_at b.header).dst == f.addr) (route_of s.routes (header_at b.header).dst) s b empty good in
       quiet_packet h app mark b (sent f s b) off.unsent (stands_sent g f whole k h s b w good)
-  by_mark_so false h s app mark time b e few up free empty untraced w =
+  by_mark_so false h s app mark time b e few up free empty untraced comes w =
       let marked : mark ≢ UNMARKED = λ is. absurd (let same : (mark == UNMARKED) ≡ true = eq-eqb mark UNMARKED is in cc) in
       by_slot_so (slot_at s.ports.conns app mark) h s app mark time b refl few (up marked).0 free empty untraced w
 
   -- ---- a request
-  requested_so : (n : Note) (h : Past) (s : State) (app time : ℕ) → app < s.ports.conns.apps → IsUpItem (item.Note n) → stalled_at s.ports app ≡ None → Stands g f h s.ports s.out → Quietly g f whole k h (requested f s app time n)
-  requested_so (note.Bind port need) h s app time few up free w =
+  requested_so : (n : Note) (h : Past) (s : State) (app time : ℕ) → app < s.ports.conns.apps → IsUpItem (item.Note n) → stalled_at s.ports app ≡ None → g.comes (item.Note n) → Stands g f h s.ports s.out → Quietly g f whole k h (requested f s app time n)
+  requested_so (note.Bind port need) h s app time few up free comes w =
       stands_unchanged g f whole k h (record s { ports = bind s.ports app port need })
       (record { numbering = w.numbering; books = w.books; good = k.ports.binds w.numbering h.ends w.books s.ports app port need few w.good; tells = w.tells; apps = bind_apps (owner_of s.ports.bound port) (nat_lt port BINDABLE_PORTS) ∙ w.apps; out = w.out })
     where
@@ -199,21 +204,21 @@ module _ (g : Aim) (f : Facts) (whole : Past) (k : IsAim g f whole) where
       bind_apps o false = refl
       bind_apps (Some owner) true = refl
       bind_apps None true = refl
-  requested_so (note.Connect slot dest port prio flags from) h s app time few up free w =
+  requested_so (note.Connect slot dest port prio flags from) h s app time few up free comes w =
       let r : Request = record { slot = slot; dest = dest; port = port; prio = prio; flags = flags; from = from } in
-      let done = k.ports.connects w.numbering h.ends w.books s.ports app r time few up w.good in
+      let done = k.ports.connects w.numbering h.ends w.books s.ports app r time few up (k.wishes s.ports r comes) w.good in
       λ fresh. stands_comes g f h s.ports s.out w done.after (connect (origin_of f) s.ports app r time) done.goes_on k.grows done.comes
-  requested_so (note.Close slot) h s app time few up free w =
+  requested_so (note.Close slot) h s app time few up free comes w =
       λ fresh. stands_comes g f h s.ports s.out w w.numbering (close s.ports app slot time) (record { more = omega arith; same = λ n lt. refl }) k.grows
       (k.ports.closes w.numbering h.ends w.books s.ports app slot time few up free w.good)
-  requested_so note.Bound h s app time few up free w = stands_unchanged g f whole k h s w
-  requested_so (note.Connected slot) h s app time few up free w = stands_unchanged g f whole k h s w
-  requested_so (note.Refused reason) h s app time few up free w = stands_unchanged g f whole k h s w
-  requested_so (note.Closed slot) h s app time few up free w = stands_unchanged g f whole k h s w
-  requested_so (note.Down slot) h s app time few up free w = stands_unchanged g f whole k h s w
+  requested_so note.Bound h s app time few up free comes w = stands_unchanged g f whole k h s w
+  requested_so (note.Connected slot) h s app time few up free comes w = stands_unchanged g f whole k h s w
+  requested_so (note.Refused reason) h s app time few up free comes w = stands_unchanged g f whole k h s w
+  requested_so (note.Closed slot) h s app time few up free comes w = stands_unchanged g f whole k h s w
+  requested_so (note.Down slot) h s app time few up free comes w = stands_unchanged g f whole k h s w
 
-  pub stands_served : (i : ItemShown) (h : Past) (s : State) (app time : ℕ) → app < s.ports.conns.apps → IsUpItem i → IsUntraced i → stalled_at s.ports app ≡ None → s.out ≡ None → Stands g f h s.ports s.out
+  pub stands_served : (i : ItemShown) (h : Past) (s : State) (app time : ℕ) → app < s.ports.conns.apps → IsUpItem i → IsUntraced i → g.comes i → stalled_at s.ports app ≡ None → s.out ≡ None → Stands g f h s.ports s.out
       → Serves h app i (served f s time app i)
-  stands_served (item.Packet mark b) h s app time few up untraced free empty w = by_mark_so (mark == UNMARKED) h s app mark time b refl few up free empty untraced w
-  stands_served (item.Note n) h s app time few up untraced free empty w = quiet_note h app n (requested f s app time n) (requested_so n h s app time few up free w)
-  stands_served (item.Frame frame) h s app time few up untraced free empty w = absurd up
+  stands_served (item.Packet mark b) h s app time few up untraced comes free empty w = by_mark_so (mark == UNMARKED) h s app mark time b refl few up free empty untraced comes w
+  stands_served (item.Note n) h s app time few up untraced comes free empty w = quiet_note h app n (requested f s app time n) (requested_so n h s app time few up free comes w)
+  stands_served (item.Frame frame) h s app time few up untraced comes free empty w = absurd up

@@ -1,5 +1,5 @@
 -- what holds of a router between two steps, for what is to be known of its connections
-use Rattle.std.proofs.Common.{◌≡◌, ◌⊎◌, ℕ, ◌<◌, Bool, true, false, Option, None, Some, List, [], ◌∷◌, refl, sym, ap, ◌∙◌, subst}
+use Rattle.std.proofs.Common.{◌≡◌, ◌⊎◌, ℕ, ◌<◌, ◌==◌, Bool, true, false, Option, None, Some, List, [], ◌∷◌, refl, sym, ap, ◌∙◌, subst}
 use Rattle.std.specs.Prelude.{⊤}
 use Rattle.csp_base.specs.declared.traces.Tag.{Tag}
 use Rattle.csp_buffer.specs.Content.{Content}
@@ -27,23 +27,28 @@ use Rattle.csp_rdp_header.specs.Head.{has_flag, parted}
 use Rattle.csp_rdp_header.specs.declared.head.RdpHead.{RdpHead}
 use Rattle.csp_rdp_header.specs.declared.head.TheConstants.{SYN}
 use Rattle.csp_record.specs.declared.connections.Opening.{Opening}
-use Rattle.csp_stack.specs.Readings.{is_checked}
+use Rattle.csp_stack.specs.Readings.{is_checked, is_here, is_reliable}
 use Rattle.csp_stack.specs.Router.{Facts, Leaving, origin_of}
-use Rattle.csp_stack.specs.Rules.{addressed}
-use Rattle.csp_prefix.specs.Ports.{AreGood, AreNew, ArePortsKept, Books, Comes, IsInUse, IsNew, IsSlot, Ordinals, noted, noted_by, now_at, waiting_on, with_book}
+use Rattle.csp_stack.specs.Rules.{addressed, answer_flags, connection_of}
+use Rattle.csp_prefix.specs.Ports.{AreGood, AreNew, ArePortsKept, Books, Comes, IsAskedSo, IsInUse, IsNew, IsSlot, Ordinals, connection_in, noted, noted_by, now_at, waiting_on, with_book}
 use Rattle.csp_prefix.specs.Prefix.{IsBeginning}
-use Rattle.csp_prefix.specs.Slots.{Book, GoesOn, Now, Numbering, blank}
+use Rattle.csp_prefix.specs.Slots.{Book, Coming, GoesOn, Now, Numbering, blank}
 use Rattle.csp_prefix.proofs.RouterBooks.{Past, Tells, book_at, opening_on, tells_grows, tells_noted, with_openings}
+use Rattle.csp_ports.specs.declared.request.Request.{Request}
+use Rattle.csp_log.specs.declared.places.TheConstants.{UNMARKED}
+use Rattle.csp_log.specs.declared.shown.ItemShown.{ItemShown}
+use Rattle.csp_log.specs.declared.shown.ItemShown.TheVariants as item
+use Rattle.csp_log.specs.declared.note.Note.TheVariants as note
 
--- ---- what is to be known: of a connection, of what is handed to it and what opens it, of an opening whose connection is over, and of the packets that
--- go out, that are heard, and of the events
+-- ---- what is to be known: of a connection, of what comes to it, of an opening whose connection is over, of the packets that go out and of those that are
+-- heard, of what applications hand over, and of the events
 pub record Aim : Type 1 where
   pub is : Numbering → ℕ → ℕ → Now → Type 0
-  pub fed : PlainRdp → RdpHead → Option Tag → List ℕ → Type 0
-  pub invites : RdpHead → Option Tag → Type 0
+  pub coming : Coming
   pub over : Numbering → ℕ → Opening → List (List ℕ) → Type 0
   pub good : Content → Type 0
   pub hears : Content → Type 0
+  pub comes : ItemShown → Type 0
   pub fresh : Event → Type 0
 
 -- the payload of a packet once its checksum is cut off, where it is to have one
@@ -56,20 +61,29 @@ pub record IsPart (h whole : Past) : Type 0 where
   pub sent : (app slot ordinal : ℕ) → IsBeginning (h.sent app slot ordinal) (whole.sent app slot ordinal)
   pub opened : (app : ℕ) → IsBeginning (h.opened app) (whole.opened app)
 
+-- a packet of the reliable transport was heard by its node: its payload, and what stands before its head
+pub record IsRead (f : Facts) (b : Content) (payload : List ℕ) (read : List ℕ × RdpHead) : Type 0 where
+  pub here : is_here f.addr (header_at b.header) ≡ true
+  pub reliable : is_reliable (header_at b.header) ≡ true
+  pub is_unwrapped : unwrapped (is_checked (header_at b.header)) b.payload ≡ Some payload
+  pub is_parted : parted payload ≡ Some read
+
 pub record IsAim (g : Aim) (f : Facts) (whole : Past) : Type 0 where
-  pub ports : ArePortsKept (origin_of f) g.fed g.invites g.is
+  pub ports : ArePortsKept (origin_of f) g.coming g.is
   pub ended : (m : Numbering) (app slot : ℕ) (n : Now) (how : Option ℕ × Option (ℕ × ℕ)) → g.is m app slot n → n.book.opened ≡ Some how → g.over m app (opening_on slot n.ordinal how) n.book.down
   pub plain : (m : Numbering) (app slot ordinal : ℕ) (down : List (List ℕ)) → g.over m app (opening_on slot ordinal (None, None)) down
   pub grows : (m m' : Numbering) (app : ℕ) (x : Opening) (down : List (List ℕ)) → GoesOn m m' → g.over m app x down → g.over m' app x down
   pub never_plain : (m : Numbering) (app slot : ℕ) (n : Now) → g.is m app slot n → n.book.opened ≡ Some (None, None) → ⊥
-  pub untraced : (b : Content) → b.trace.tag ≡ None → g.good b
+  pub unmarked : (mark : ℕ) (b : Content) → (mark == UNMARKED) ≡ true → b.trace.tag ≡ None → g.comes (item.Packet mark b) → g.good b
+  pub unreliable : (b : Content) → b.trace.tag ≡ None → is_reliable (header_at b.header) ≡ false → g.good b
+  pub wishes : (p : PlainPorts) (r : Request) → g.comes (item.Note (note.Connect r.slot r.dest r.port r.prio r.flags r.from)) → IsAskedSo g.coming p r
   pub makes : (h : Past) (m : Numbering) (books : Books) (p : PlainPorts) (app slot time : ℕ) (j : Job) (b : Content) (c : Connection) → IsPart h whole → Tells g.over f.apps m h books
-      → (terms_at p app slot).ordinal ≡ h.ends app slot → g.is m app slot (now_at p books app slot) → job_of time (machine_at p app slot) ≡ Some j
+      → (terms_at p app slot).ordinal ≡ h.ends app slot → slot_at p.conns app slot ≡ has.Open c → g.is m app slot (now_at p books app slot) → job_of time (machine_at p app slot) ≡ Some j
       → g.good (addressed f c (terms_at p app slot) (made_in j time app slot b p))
-  pub feeds : (b : Content) (payload : List ℕ) (r : PlainRdp) (read : List ℕ × RdpHead) → g.hears b → unwrapped (is_checked (header_at b.header)) b.payload ≡ Some payload → parted payload ≡ Some read
-      → g.fresh (handing_event r b.trace.tag) → g.fed r read.1 b.trace.tag read.0
-  pub asks : (b : Content) (payload : List ℕ) (read : List ℕ × RdpHead) → g.hears b → unwrapped (is_checked (header_at b.header)) b.payload ≡ Some payload → parted payload ≡ Some read
-      → has_flag read.1 SYN ≡ true → g.invites read.1 b.trace.tag
+  pub feeds : (b : Content) (payload : List ℕ) (r : PlainRdp) (read : List ℕ × RdpHead) → g.hears b → IsRead f b payload read
+      → g.fresh (handing_event r b.trace.tag) → g.coming.fed (connection_of (header_at b.header)) r read.1 b.trace.tag read.0
+  pub asks : (b : Content) (payload : List ℕ) (read : List ℕ × RdpHead) → g.hears b → IsRead f b payload read
+      → has_flag read.1 SYN ≡ true → g.coming.invites (connection_of (header_at b.header)) (answer_flags (header_at b.header)) read.1 b.trace.tag
 
 -- ---- what is to go out: it is good, or goes out as it was heard; and to an application only on a plain connection
 abbrev pub IsOutTo : Aim → ℕ → Books → QueueId → ℕ → Content → Type 0
@@ -95,7 +109,7 @@ pub record Stands (g : Aim) (f : Facts) (h : Past) (p : PlainPorts) (leaves : Op
 
 -- ---- connections that are plain, and those that are over
 abbrev now_with : PlainPorts → ℕ → ℕ → Book → Now
-now_with p app slot b = record { machine = machine_at p app slot; ordinal = (terms_at p app slot).ordinal; waits = waiting_on slot (stalled_at p app); book = b }
+now_with p app slot b = record { connection = connection_in (slot_at p.conns app slot); flags = (terms_at p app slot).flags; machine = machine_at p app slot; ordinal = (terms_at p app slot).ordinal; waits = waiting_on slot (stalled_at p app); book = b }
 
 blank_unopened : (b : Book) (how : Option ℕ × Option (ℕ × ℕ)) → b ≡ blank → b.opened ≡ Some how → ⊥
 blank_unopened b how e is = let none : b.opened ≡ None = ap (λ (c : Book). c.opened) e in cc

@@ -1,9 +1,10 @@
 -- what is known of a router by the whole of its log, for what is to be known of its connections
-use Rattle.std.proofs.Common.{◌≡◌, ℕ, zero, suc, ◌+◌, ◌<◌, Some, List, [], ◌∷◌, ◌++◌, length, refl, sym, ap, ◌∙◌, subst, arith}
+use Rattle.std.proofs.Common.{◌≡◌, ℕ, zero, suc, ◌+◌, ◌<◌, ◌≤◌, None, Some, List, [], ◌∷◌, ◌++◌, length, refl, sym, ap, ◌∙◌, subst, arith}
+use Rattle.std.specs.Prelude.{⊤}
 use Rattle.std.specs.List.{AllByRecursion, slice_get}
 use Rattle.std.proofs.lemmas.List.{append-nil}
 use Rattle.csp_buffer.specs.Content.{Content}
-use Rattle.csp_conn.specs.declared.conns.TheConstants.{SLOTS}
+use Rattle.csp_conn.specs.declared.conns.TheConstants.{MAX_APPS, SLOTS}
 use Rattle.csp_log.specs.declared.entry.Entry.{Entry}
 use Rattle.csp_log.specs.declared.places.QueueId.TheVariants as queue
 use Rattle.csp_log.specs.declared.shown.AnswerShown.{AnswerShown}
@@ -12,6 +13,7 @@ use Rattle.csp_log.specs.declared.shown.ItemShown.{ItemShown}
 use Rattle.csp_log.specs.declared.shown.ItemShown.TheVariants as item
 use Rattle.csp_log.specs.declared.shown.OpShown.{OpShown}
 use Rattle.csp_log.specs.declared.shown.OpShown.TheVariants as op
+use Rattle.csp_ports.specs.PlainPorts.{ports_of}
 use Rattle.csp_record.specs.Connections.{openings}
 use Rattle.csp_record.specs.Payloads.{sent}
 use Rattle.csp_record.specs.declared.connections.Opening.{Opening}
@@ -54,39 +56,60 @@ get_past (x ∷ xs) ys i = let same : length (x ∷ xs) + i ≡ suc (length xs +
 IsGotBy : (Content → Type 0) → OpShown → AnswerShown → Type 0
 IsGotBy P o a = (at mark : ℕ) (b : Content) → slice_get (got_by queue.Inbox o a) at ≡ Some (item.Packet mark b) → P b
 
-heard_one : (g : Aim) (o : OpShown) (a : AnswerShown) → ((at mark : ℕ) (b : Content) → slice_get (got_by queue.Inbox o a) at ≡ Some (item.Packet mark b) → g.hears b) → HearsSo g o a
-heard_one g (op.Pop queue.Inbox) (answer.Popped (item.Packet mark b)) h = h 0 mark b refl
-heard_one g _ _ h = tt
+-- what was popped from an application's `Up` is as it is to be
+abbrev pub ComesUp : Aim → OpShown → AnswerShown → Type 0
+ComesUp g (op.Pop (queue.Up k)) (answer.Popped i) = g.comes i
+ComesUp g _ _ = ⊤
+
+heard_one : (g : Aim) (o : OpShown) (a : AnswerShown) → ((at mark : ℕ) (b : Content) → slice_get (got_by queue.Inbox o a) at ≡ Some (item.Packet mark b) → g.hears b)
+    → ComesUp g o a → HearsSo g o a
+heard_one g (op.Pop queue.Inbox) (answer.Popped (item.Packet mark b)) h c = h 0 mark b refl
+heard_one g (op.Pop (queue.Up k)) (answer.Popped i) h c = c
+heard_one g _ _ h c = tt
 
 get_first : (xs ys : List ItemShown) (i : ℕ) (x : ItemShown) → slice_get xs i ≡ Some x → slice_get (xs ++ ys) i ≡ Some x
 get_first [] ys i x e = absurd cc
 get_first (z ∷ zs) ys zero x e = e
 get_first (z ∷ zs) ys (suc i) x e = get_first zs ys i x e
 
-pub heard_all : (g : Aim) (es : List Entry) → ((at mark : ℕ) (b : Content) → slice_get (gets queue.Inbox es) at ≡ Some (item.Packet mark b) → g.hears b) → AllByRecursion (λ e. HearsSo g e.op e.answer) es
-heard_all g [] h = tt
-heard_all g (e ∷ es) h =
+pub heard_all : (g : Aim) (es : List Entry) → ((at mark : ℕ) (b : Content) → slice_get (gets queue.Inbox es) at ≡ Some (item.Packet mark b) → g.hears b)
+    → AllByRecursion (λ e. ComesUp g e.op e.answer) es → AllByRecursion (λ e. HearsSo g e.op e.answer) es
+heard_all g [] h c = tt
+heard_all g (e ∷ es) h c =
     let first : List ItemShown = got_by queue.Inbox e.op e.answer in (
-      heard_one g e.op e.answer (λ at mark b q. h at mark b (get_first first (gets queue.Inbox es) at (item.Packet mark b) q)),
-      heard_all g es (λ at mark b q. h (length first + at) mark b (get_past first (gets queue.Inbox es) at ∙ q)),
+      heard_one g e.op e.answer (λ at mark b q. h at mark b (get_first first (gets queue.Inbox es) at (item.Packet mark b) q)) c.0,
+      heard_all g es (λ at mark b q. h (length first + at) mark b (get_past first (gets queue.Inbox es) at ∙ q)) c.1,
     )
 
 -- ---- what is known of a run
-all_come : (g : Aim) (es : List Entry) → AllByRecursion (λ e. ComesSo e.op e.answer) es → AllByRecursion (λ e. HearsSo g e.op e.answer) es → AllByRecursion (λ e. AllByRecursion g.fresh e.events.items) es → AllByRecursion (IsCome g) es
+pub all_come : (g : Aim) (es : List Entry) → AllByRecursion (λ e. ComesSo e.op e.answer) es → AllByRecursion (λ e. HearsSo g e.op e.answer) es → AllByRecursion (λ e. AllByRecursion g.fresh e.events.items) es → AllByRecursion (IsCome g) es
 all_come g [] c h f = tt
 all_come g (e ∷ es) c h f = (record { comes = c.0; hears = h.0; fresh = f.0 }, all_come g es c.1 h.1 f.1)
 
+-- where whatever comes is so, all that comes is
+comes_any : (g : Aim) → ((i : ItemShown) → g.comes i) → (o : OpShown) (a : AnswerShown) → ComesUp g o a
+comes_any g any (op.Pop (queue.Up k)) (answer.Popped i) = any i
+comes_any g any _ _ = tt
+
+pub each_comes : (g : Aim) → ((i : ItemShown) → g.comes i) → (es : List Entry) → AllByRecursion (λ e. ComesUp g e.op e.answer) es
+each_comes g any [] = tt
+each_comes g any (e ∷ es) = (comes_any g any e.op e.answer, each_comes g any es)
+
+-- before its first turn
+pub opening_stands : (g : Aim) (f : Facts) (es : List Entry) → IsAim g f (past es) → f.apps ≤ MAX_APPS → Stands g f no_past (ports_of f.apps) None
+opening_stands g f es k few = record {
+  numbering = record { made = 0; home = λ n. (0, 0, 0) };
+  books = λ app slot. blank;
+  good = k.ports.opens f.apps (λ n. (0, 0, 0)) few;
+  tells = tells_nothing g.over f.apps (record { made = 0; home = λ n. (0, 0, 0) });
+  apps = refl;
+  out = tt;
+}
+
 pub run_known : (g : Aim) (f : Facts) (routes : Routes) (es : List Entry) → IsAim g f (past es) → IsRouterLog f routes es → ((at mark : ℕ) (b : Content) → slice_get (gets queue.Inbox es) at ≡ Some (item.Packet mark b) → g.hears b)
-    → AllByRecursion (λ e. AllByRecursion g.fresh e.events.items) es → IsRunSo g f no_past es
-run_known g f routes es k log hears fresh =
-    run_stands g f (past es) k es 0 no_past (opening_state f.apps routes) log.run (all_come g es log.comes (heard_all g es hears) fresh) (part_all (past es)) (record {
-      numbering = record { made = 0; home = λ n. (0, 0, 0) };
-      books = λ app slot. blank;
-      good = k.ports.opens f.apps (λ n. (0, 0, 0)) log.few;
-      tells = tells_nothing g.over f.apps (record { made = 0; home = λ n. (0, 0, 0) });
-      apps = refl;
-      out = tt;
-    })
+    → AllByRecursion (λ e. ComesUp g e.op e.answer) es → AllByRecursion (λ e. AllByRecursion g.fresh e.events.items) es → IsRunSo g f no_past es
+run_known g f routes es k log hears comes fresh =
+    run_stands g f (past es) k es 0 no_past (opening_state f.apps routes) log.run (all_come g es log.comes (heard_all g es hears comes) fresh) (part_all (past es)) (opening_stands g f es k log.few)
 
 -- of each opening what is to be known is known
 pub opening_known : (g : Aim) (f : Facts) (es : List Entry) → IsAim g f (past es) → (r : IsRunSo g f no_past es) → (app nth : ℕ) (x : Opening) → IsFlowOf es app nth x → g.over r.stands.numbering app x (delivered app x.slot x.ordinal es)

@@ -65,6 +65,7 @@ use Rattle.csp_prefix.proofs.RouterStanding.{Aim, IsAim, IsOut, IsPart, Stands, 
 -- ---- what is heard, and what is pushed
 abbrev pub HearsSo : Aim → OpShown → AnswerShown → Type 0
 HearsSo g (op.Pop queue.Inbox) (answer.Popped (item.Packet mark b)) = g.hears b
+HearsSo g (op.Pop (queue.Up k)) (answer.Popped i) = g.comes i
 HearsSo g _ _ = ⊤
 
 abbrev pub PushedSo : Aim → OpShown → AnswerShown → Type 0
@@ -239,7 +240,7 @@ module _ (g : Aim) (f : Facts) (whole : Past) (k : IsAim g f whole) where
   -- ---- an item of an application
   turn_serve : (app : ℕ) (h : Past) (s : State) (time : ℕ) (a : AnswerShown) → app < f.apps → stalled_at s.ports app ≡ None → s.out ≡ None → Stands g f h s.ports s.out → Turns h s time (plan.Serve app) a
   turn_serve app h s time (answer.Popped i) few free empty w = λ fits comes hears part fresh.
-      (stands_served g f whole k i h (at_rest (asked_by f s (plan.Serve app))) app time (subst (λ n. app < n) (sym w.apps) few) comes.0 comes.1 free empty w fresh, tt)
+      (stands_served g f whole k i h (at_rest (asked_by f s (plan.Serve app))) app time (subst (λ n. app < n) (sym w.apps) few) comes.0 comes.1 hears free empty w fresh, tt)
   turn_serve app h s time answer.Empty few free empty w = λ fits comes hears part fresh.
       (unmoved (op.Pop (queue.Up app)) answer.Empty h s.ports s.out (record { free = λ a s. refl; sent = λ a s. refl; down = λ a s. refl }) w, tt)
   turn_serve app h s time a few free empty w = λ fits comes hears part fresh. absurd fits
@@ -354,7 +355,7 @@ module _ (g : Aim) (f : Facts) (whole : Past) (k : IsAim g f whole) where
       let t : State = at_rest (asked_by f s (plan.Make app slot j)) in
       let known = k.ports.owes v.numbering h.ends v.books q app slot time j few low e v.good in
       let x : Content = addressed f known.0.connection (terms_at q app slot) (made_in j time app slot b q) in
-      let good : g.good x = k.makes h v.numbering v.books q app slot time j b known.0.connection (part_before op.Take (answer.Taken b) (after_told s time (plan.Make app slot j) (answer.Taken b)).events h whole part) v.tells (v.good.counted app slot few low) known.1 e in
+      let good : g.good x = k.makes h v.numbering v.books q app slot time j b known.0.connection (part_before op.Take (answer.Taken b) (after_told s time (plan.Make app slot j) (answer.Taken b)).events h whole part) v.tells (v.good.counted app slot few low) known.0.there known.1 e in
       let u : Stands g f h (making j time app slot q) s.out = record { numbering = v.numbering; books = v.books; good = k.ports.makes v.numbering h.ends v.books q app slot time j few low e v.good; tells = v.tells; apps = v.apps; out = v.out } in
       let done = stands_sent g f whole k h (record t { ports = making j time app slot q }) x u good in (
         subst (λ o. AllByRecursion g.fresh (made_on o j f t app slot time b).events → Stands g f (past_after op.Take (answer.Taken b) (made_on o j f t app slot time b).events h) (made_on o j f t app slot time b).state.ports (made_on o j f t app slot time b).state.out)
@@ -412,19 +413,37 @@ module _ (g : Aim) (f : Facts) (whole : Past) (k : IsAim g f whole) where
   all_second P [] ys all = all
   all_second P (x ∷ xs) ys all = all_second P xs ys all.1
 
+  events_told : (s : State) (time : ℕ) (a : AnswerShown) → (told_at f (asked_at f s time) time a).events ≡ (ports_timed time s.ports).events ++ (after_told (timed s time) time (plan_of f (timed s time) time) a).events
+  events_told s time a = ap (λ es. es ++ (after_told (timed s time) time (plan_of f (timed s time) time) a).events) (handed_early (timed s time) (plan_of f (timed s time) time))
+
+  -- the router once its timers were tried
+  pub stands_timed : (h : Past) (s : State) (time : ℕ) → Stands g f h s.ports s.out → Stands g f (with_openings (ports_timed time s.ports).events h) (timed s time).ports (timed s time).out
+  stands_timed h s time w =
+      stands_comes g f h s.ports s.out w w.numbering (ports_timed time s.ports) (record { more = omega arith; same = λ n lt. refl }) k.grows (k.ports.times w.numbering h.ends w.books s.ports time w.good)
+
+  -- what the timers told comes first in what the turn adds to the log
+  timed_first : (h : Past) (s : State) (time : ℕ) (a : AnswerShown) → Stands g f h s.ports s.out
+      → past_after (asks_at f s time) a (after_told (timed s time) time (plan_of f (timed s time) time) a).events (with_openings (ports_timed time s.ports).events h) ≡ past_after (asks_at f s time) a (told_at f (asked_at f s time) time a).events h
+  timed_first h s time a w =
+      let c : Came = ports_timed time s.ports in
+      let t : State = timed s time in
+      let p : Plan = plan_of f t time in
+      let came = k.ports.times w.numbering h.ends w.books s.ports time w.good in
+      split_entry (op_of t p) a c.events (after_told t time p a).events h (new_unsent s.ports.conns.apps c.events w.books came.new) ∙ ap (λ es. past_after (op_of t p) a es h) (sym (events_told s time a))
+
+  -- so what stands then is a part of the whole
+  pub timed_part : (h : Past) (s : State) (time : ℕ) (a : AnswerShown) → Stands g f h s.ports s.out → IsPart (past_after (asks_at f s time) a (told_at f (asked_at f s time) time a).events h) whole
+      → IsPart (with_openings (ports_timed time s.ports).events h) whole
+  timed_part h s time a w part =
+      part_before (asks_at f s time) a (after_told (timed s time) time (plan_of f (timed s time) time) a).events (with_openings (ports_timed time s.ports).events h) whole (subst (λ x. IsPart x whole) (sym (timed_first h s time a w)) part)
+
   pub turn_stands : (h : Past) (s : State) (time : ℕ) (a : AnswerShown) → Stands g f h s.ports s.out → Fits (asks_at f s time) a → ComesSo (asks_at f s time) a → HearsSo g (asks_at f s time) a
       → IsPart (past_after (asks_at f s time) a (told_at f (asked_at f s time) time a).events h) whole → AllByRecursion g.fresh (told_at f (asked_at f s time) time a).events
       → Stands g f (past_after (asks_at f s time) a (told_at f (asked_at f s time) time a).events h) (told_at f (asked_at f s time) time a).state.ports (told_at f (asked_at f s time) time a).state.out × PushedSo g (asks_at f s time) a
   turn_stands h s time a w fits comes hears part fresh =
       let c : Came = ports_timed time s.ports in
       let t : State = timed s time in
-      let p : Plan = plan_of f t time in
-      let came = k.ports.times w.numbering h.ends w.books s.ports time w.good in
-      let old : Past = with_openings c.events h in
-      let v : Stands g f old t.ports t.out = stands_comes g f h s.ports s.out w w.numbering c (record { more = omega arith; same = λ n lt. refl }) k.grows came in
-      let told : Told = after_told t time p a in
-      let events : (told_at f (asked_at f s time) time a).events ≡ c.events ++ told.events = ap (λ es. es ++ told.events) (handed_early t p) in
-      let same : past_after (op_of t p) a told.events old ≡ past_after (op_of t p) a (told_at f (asked_at f s time) time a).events h =
-      split_entry (op_of t p) a c.events told.events h (new_unsent s.ports.conns.apps c.events w.books came.new) ∙ ap (λ es. past_after (op_of t p) a es h) (sym events) in
-      let done = turn_plan t.trash t.out old t time a refl v fits comes hears (subst (λ x. IsPart x whole) (sym same) part) (all_second g.fresh c.events told.events (subst (AllByRecursion g.fresh) events fresh)) in
+      let told : Told = after_told t time (plan_of f t time) a in
+      let same = timed_first h s time a w in
+      let done = turn_plan t.trash t.out (with_openings c.events h) t time a refl (stands_timed h s time w) fits comes hears (subst (λ x. IsPart x whole) (sym same) part) (all_second g.fresh c.events told.events (subst (AllByRecursion g.fresh) (events_told s time a) fresh)) in
       (subst (λ x. Stands g f x told.state.ports told.state.out) same done.0, done.1)

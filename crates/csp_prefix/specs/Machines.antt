@@ -1,5 +1,5 @@
 -- What is known of a reliable connection that sends, and of one that receives; and what follows for its packets and its deliveries.
-use Rattle.std.specs.Prelude.{◌≡◌, ◌≤◌, ℕ, pos, ◌<◌, ◌+◌, true, false, Option, None, Some, List, [], ◌++◌, length, take, All}
+use Rattle.std.specs.Prelude.{◌≡◌, ◌≤◌, ℕ, pos, ◌<◌, ◌+◌, true, false, Option, None, Some, List, [], ◌++◌, length, take, All, ⊤}
 use Rattle.std.specs.Option.{option_to_list}
 use Rattle.csp_base.specs.Sequence.{number_of}
 use Rattle.csp_base.specs.declared.traces.Tag.{Tag}
@@ -16,9 +16,15 @@ use Rattle.csp_rdp_header.specs.declared.head.TheConstants.{SYN}
 use Rattle.csp_record.specs.Stale.{is_far}
 use Rattle.csp_prefix.specs.Flows.{Flows, IsSaid, IsTrueOf, is_data}
 use Rattle.csp_prefix.specs.Prefix.{IsBeginning}
-use Rattle.csp_prefix.specs.Slots.{Now, Numbering, blank}
+use Rattle.csp_prefix.specs.Slots.{Coming, Now, Numbering, blank}
 
--- ---- what of packets is handed to a connection: what they say is true of the flow that their tag names; and a connection with a peer gets
+-- ---- what comes to a connection
+
+-- whatever comes
+abbrev pub whatever : Coming
+whatever = record { fed = λ c r h tag bytes. ⊤; invites = λ c flags h tag. ⊤; asked = λ c flags. ⊤ }
+
+-- what of packets is handed to a connection: what they say is true of the flow that their tag names; and a connection with a peer gets
 -- packets of its peer's flow, not far from where it stands
 pub record IsFed (flows : Flows) (r : PlainRdp) (h : RdpHead) (tag : Option Tag) (bytes : List ℕ) : Type 0 where
   pub genuine : (t : Tag) → tag ≡ Some t → IsTrueOf flows t h bytes
@@ -27,6 +33,10 @@ pub record IsFed (flows : Flows) (r : PlainRdp) (h : RdpHead) (tag : Option Tag)
 -- a packet that opens a connection shows the start of the flow in its tag
 abbrev pub IsInvited : Flows → RdpHead → Option Tag → Type 0
 IsInvited flows h tag = (t : Tag) → tag ≡ Some t → h.seq.0 ≡ flows.start (flow_of t)
+
+-- such packets come to a connection and open one
+abbrev pub true_packets : Flows → Coming
+true_packets flows = record { fed = λ c. IsFed flows; invites = λ c flags. IsInvited flows; asked = λ c flags. ⊤ }
 
 -- ---- numbers of a connection that is open or to be opened: its own start, and the place at which it was made
 -- a machine has its own number, with the start and the slot that belong to it

@@ -5,7 +5,9 @@ use Rattle.csp_base.specs.declared.traces.Tag.{Tag}
 use Rattle.csp_base.specs.declared.priority.Prio.{Prio}
 use Rattle.csp_buffer.specs.Content.{Content}
 use Rattle.csp_buffer.specs.PlainBuffer.{PlainBuffer}
+use Rattle.csp_conn.specs.Opening.{own_port_of}
 use Rattle.csp_conn.specs.PlainConns.{slot_at}
+use Rattle.csp_conn.specs.Slots.{between}
 use Rattle.csp_conn.specs.declared.conns.TheConstants.{MAX_APPS, SLOTS}
 use Rattle.csp_conn.specs.declared.slot.Connection.{Connection}
 use Rattle.csp_conn.specs.declared.slot.Slot.{Slot}
@@ -39,7 +41,7 @@ use Rattle.csp_rdp_header.specs.Head.{has_flag}
 use Rattle.csp_rdp_header.specs.declared.head.RdpHead.{RdpHead}
 use Rattle.csp_rdp_header.specs.declared.head.TheConstants.{SYN}
 use Rattle.csp_socket.specs.Bound.{owner_of}
-use Rattle.csp_prefix.specs.Slots.{Book, GoesOn, Now, Numbering, blank}
+use Rattle.csp_prefix.specs.Slots.{Book, Coming, GoesOn, Now, Numbering, blank}
 
 -- ---- what the log tells of each slot
 
@@ -99,9 +101,15 @@ abbrev pub waiting_on : ℕ → Option PlainStalled → Option (List ℕ)
 waiting_on slot None = None
 waiting_on slot (Some s) = (if s.slot == slot then Some s.buffer.picture.payload else None)
 
+-- with whom the connection on a slot is; with none there, with nobody
+abbrev pub connection_in : Slot → Connection
+connection_in (has.Open c) = c
+connection_in has.Free = between 0 0 0
+connection_in has.Held = between 0 0 0
+
 -- the connection on a slot
 abbrev pub now_at : PlainPorts → Books → ℕ → ℕ → Now
-now_at p books app slot = record { machine = machine_at p app slot; ordinal = (terms_at p app slot).ordinal; waits = waiting_on slot (stalled_at p app); book = books app slot }
+now_at p books app slot = record { connection = connection_in (slot_at p.conns app slot); flags = (terms_at p app slot).flags; machine = machine_at p app slot; ordinal = (terms_at p app slot).ordinal; waits = waiting_on slot (stalled_at p app); book = books app slot }
 
 -- nothing is on a slot
 pub record IsVacant (n : Now) : Type 0 where
@@ -198,16 +206,19 @@ pub record Answers (Is : Numbering → ℕ → ℕ → Now → Type 0) (m : Numb
   pub quiet : c.events ≡ []
   pub good : AreGood Is m (ordinals_after o.app o.note ordinals) (books_after o.app o.note books) c.ports
 
+-- a reliable connection that an application asks for is so, whatever own port it is given
+abbrev pub IsAskedSo : Coming → PlainPorts → Request → Type 0
+IsAskedSo C p r = are_reliable r.flags ≡ true → (own : ℕ) → own_port_of p.conns r.dest r.from ≡ Some own → C.asked (between r.dest r.port own) r.flags
+
 -- ---- every step of the ports keeps it
 
 -- each step of a node's ports keeps what is known of its machines
-pub record ArePortsKept (o : Origin) (Fed : PlainRdp → RdpHead → Option Tag → List ℕ → Type 0) (Invites : RdpHead → Option Tag → Type 0)
-    (Is : Numbering → ℕ → ℕ → Now → Type 0) : Type 0 where
+pub record ArePortsKept (o : Origin) (C : Coming) (Is : Numbering → ℕ → ℕ → Now → Type 0) : Type 0 where
   pub opens : (apps : ℕ) (home : ℕ → ℕ × ℕ × ℕ) → apps ≤ MAX_APPS → AreGood Is (record { made = 0; home = home }) (λ _ _. 0) (λ _ _. blank) (ports_of apps)
   pub times : (m : Numbering) (ordinals : Ordinals) (books : Books) (p : PlainPorts) (time : ℕ) → AreGood Is m ordinals books p → Comes Is m ordinals books p.conns.apps (timed time p)
   pub turns : (m : Numbering) (ordinals : Ordinals) (books : Books) (p : PlainPorts) (app slot : ℕ) → AreGood Is m ordinals books p → AreGood Is m ordinals books (turned app slot p)
   pub binds : (m : Numbering) (ordinals : Ordinals) (books : Books) (p : PlainPorts) (app port need : ℕ) → app < p.conns.apps → AreGood Is m ordinals books p → AreGood Is m ordinals books (bind p app port need)
-  pub connects : (m : Numbering) (ordinals : Ordinals) (books : Books) (p : PlainPorts) (app : ℕ) (r : Request) (time : ℕ) → app < p.conns.apps → r.slot < SLOTS
+  pub connects : (m : Numbering) (ordinals : Ordinals) (books : Books) (p : PlainPorts) (app : ℕ) (r : Request) (time : ℕ) → app < p.conns.apps → r.slot < SLOTS → IsAskedSo C p r
       → AreGood Is m ordinals books p → ComesWith Is m ordinals books p.conns.apps (connect o p app r time)
   pub closes : (m : Numbering) (ordinals : Ordinals) (books : Books) (p : PlainPorts) (app slot time : ℕ) → app < p.conns.apps → slot < SLOTS → stalled_at p app ≡ None
       → AreGood Is m ordinals books p → Comes Is m ordinals books p.conns.apps (close p app slot time)
@@ -215,10 +226,10 @@ pub record ArePortsKept (o : Origin) (Fed : PlainRdp → RdpHead → Option Tag 
       → slot_at p.conns app slot ≡ has.Free → are_reliable flags ≡ false
       → AreGood Is m ordinals books p → AreGood Is m ordinals (with_opened app slot (None, None) books) (accepted p app slot c prio flags)
   pub invites : (m : Numbering) (ordinals : Ordinals) (books : Books) (p : PlainPorts) (app slot : ℕ) (c : Connection) (prio : Prio) (flags : ℕ) (i : Invitation) (time : ℕ) → app < p.conns.apps → slot < SLOTS
-      → slot_at p.conns app slot ≡ has.Free → are_reliable flags ≡ true → has_flag i.head SYN ≡ true → Invites i.head i.tag
+      → slot_at p.conns app slot ≡ has.Free → are_reliable flags ≡ true → has_flag i.head SYN ≡ true → C.invites c flags i.head i.tag
       → AreGood Is m ordinals books p → ComesWith Is m ordinals books p.conns.apps (invited o p app slot c prio flags i time)
   pub hands : (m : Numbering) (ordinals : Ordinals) (books : Books) (p : PlainPorts) (app slot : ℕ) (h : RdpHead) (b : Content) (time : ℕ) → app < p.conns.apps → slot < SLOTS
-      → IsReliableOn p app slot → Fed (machine_at p app slot) h b.trace.tag b.payload
+      → IsReliableOn p app slot → C.fed (connection_in (slot_at p.conns app slot)) (machine_at p app slot) h b.trace.tag b.payload
       → AreGood Is m ordinals books p → Comes Is m ordinals books p.conns.apps (handing p app slot h b time)
   pub submits : (m : Numbering) (ordinals : Ordinals) (books : Books) (p : PlainPorts) (app slot : ℕ) (b : Content) (time : ℕ) → app < p.conns.apps → slot < SLOTS
       → IsReliableOn p app slot → stalled_at p app ≡ None

@@ -80,25 +80,37 @@ pub record IsHeard (es : List Entry) (b : Content) : Type 0 where
   pub mark : ℕ
   pub there : slice_get (gets queue.Inbox es) at ≡ Some (item.Packet mark b)
 
--- what was pushed is genuine, or goes out as it came from the inbox
-abbrev pub PushesSo : Flows → List Entry → OpShown → AnswerShown → Type 0
-PushesSo flows es (op.Push queue.Inbox (item.Packet mark b)) answer.Pushed = IsGenuine flows b
-PushesSo flows es (op.Push (queue.Out k) (item.Packet mark b)) answer.Pushed = IsGenuine flows b ⊎ IsHeard es b
-PushesSo flows es _ _ = ⊤
+-- what was pushed is of this kind, or goes out as it came from the inbox
+abbrev pub PushesSo : (Content → Type 0) → List Entry → OpShown → AnswerShown → Type 0
+PushesSo P es (op.Push queue.Inbox (item.Packet mark b)) answer.Pushed = P b
+PushesSo P es (op.Push (queue.Out k) (item.Packet mark b)) answer.Pushed = P b ⊎ IsHeard es b
+PushesSo P es _ _ = ⊤
+
+-- it sends only packets of this kind, but for what it passes on
+abbrev pub SendsOnly : (Content → Type 0) → List Entry → Type 0
+SendsOnly P es = AllByRecursion (λ e. PushesSo P es e.op e.answer) es
 
 -- it sends genuine packets
 abbrev pub SendsGenuine : Flows → List Entry → Type 0
-SendsGenuine flows es = AllByRecursion (λ e. PushesSo flows es e.op e.answer) es
+SendsGenuine flows es = SendsOnly (IsGenuine flows) es
 
--- all that came from the inbox is genuine
+-- a packet of this kind, if it is a packet
+abbrev pub IsOfKind : (Content → Type 0) → ItemShown → Type 0
+IsOfKind P (item.Packet mark b) = P b
+IsOfKind P (item.Frame _) = ⊤
+IsOfKind P (item.Note _) = ⊤
+
+-- it hears only packets of this kind: each that came from the inbox is so
+abbrev pub HearsOnly : (Content → Type 0) → List Entry → Type 0
+HearsOnly P es = AllByRecursion (IsOfKind P) (gets queue.Inbox es)
+
+-- a genuine packet, if it is a packet
 abbrev pub IsGenuineItem : Flows → ItemShown → Type 0
-IsGenuineItem flows (item.Packet mark b) = IsGenuine flows b
-IsGenuineItem flows (item.Frame _) = ⊤
-IsGenuineItem flows (item.Note _) = ⊤
+IsGenuineItem flows i = IsOfKind (IsGenuine flows) i
 
 -- all that came from the inbox is genuine
 abbrev pub HearsGenuine : Flows → List Entry → Type 0
-HearsGenuine flows es = AllByRecursion (IsGenuineItem flows) (gets queue.Inbox es)
+HearsGenuine flows es = HearsOnly (IsGenuine flows) es
 
 -- no copy that was handed to a connection was stale
 abbrev pub HasNoStale : List Entry → Type 0

@@ -3,6 +3,7 @@
 use Rattle.std.specs.Prelude.{◌≡◌, ◌⊎◌, ◌≢◌, ℕ, ◌+◌, ◌<◌, ◌≤◌, true, false, Option, None, Some, List, [], ◌∷◌, ◌++◌}
 use Rattle.csp_base.specs.declared.traces.Tag.{Tag}
 use Rattle.csp_buffer.specs.PlainBuffer.{PlainBuffer}
+use Rattle.csp_conn.specs.declared.slot.Connection.{Connection}
 use Rattle.csp_ports.specs.PlainPorts.{start_of}
 use Rattle.csp_ports.specs.declared.origin.Origin.{Origin}
 use Rattle.csp_rdp.specs.Holding.{rested}
@@ -28,8 +29,11 @@ pub record Book : Type 0 where
 abbrev pub blank : Book
 blank = record { opened = None; sent = []; down = [] }
 
--- a connection on a slot: its machine, its ordinal, the payload of the packet that waits for room in its window, and what the log tells of it
+-- a connection on a slot: with whom it is, the flags of its packets, its machine, its ordinal, the payload of the packet that waits for room in
+-- its window, and what the log tells of it
 pub record Now : Type 0 where
+  pub connection : Connection
+  pub flags : ℕ
   pub machine : PlainRdp
   pub ordinal : ℕ
   pub waits : Option (List ℕ)
@@ -56,8 +60,8 @@ abbrev pub after_delivering : List ℕ → Now → Now
 after_delivering payload n = record n { book = record n.book { down = n.book.down ++ payload ∷ [] } }
 
 -- a new connection: nothing is told of it
-abbrev pub begun : PlainRdp → ℕ → Now
-begun r ordinal = record { machine = r; ordinal = ordinal; waits = None; book = blank }
+abbrev pub begun : Connection → (flags : ℕ) → PlainRdp → (ordinal : ℕ) → Now
+begun c flags r ordinal = record { connection = c; flags = flags; machine = r; ordinal = ordinal; waits = None; book = blank }
 
 -- how far the numbers of a node's connections have come, and at which application, slot and ordinal the connection of each was made
 pub record Numbering : Type 0 where
@@ -75,19 +79,25 @@ Opens SynSent Open = Unit {0}
 Opens SynRcvd Open = Unit {0}
 Opens _ _ = ⊥
 
--- what is kept, of the slots of a node whose connections begin so, where a packet is handed over only if it is as `Fed` says: of a connection
--- with this machine (its machine, the head, the tag and the payload), and of one that opens a connection (its head and its tag). A predicate
--- of numbering, application, slot and connection is kept by each step
-pub record IsKept (o : Origin) (Fed : PlainRdp → RdpHead → Option Tag → List ℕ → Type 0) (Invites : RdpHead → Option Tag → Type 0)
-    (Is : Numbering → ℕ → ℕ → Now → Type 0) : Type 0 where
+-- what is to be known of what comes to the connections of a node: of a packet that is handed to one (the connection, its machine, the head, the tag
+-- and the payload), of one that opens a connection (the connection, the flags of its packets, the head and the tag), and of a connection that an
+-- application asks for (with the flags of its packets)
+pub record Coming : Type 1 where
+  pub fed : Connection → PlainRdp → RdpHead → Option Tag → List ℕ → Type 0
+  pub invites : Connection → (flags : ℕ) → RdpHead → Option Tag → Type 0
+  pub asked : Connection → (flags : ℕ) → Type 0
+
+-- a predicate of numbering, application, slot and connection is kept by each step of the connections of a node, which begin so, where all that
+-- comes to them is so
+pub record IsKept (o : Origin) (C : Coming) (Is : Numbering → ℕ → ℕ → Now → Type 0) : Type 0 where
   -- other connections of the node are made
   pub grows : (m m' : Numbering) (app slot : ℕ) (n : Now) → GoesOn m m' → Is m app slot n → Is m' app slot n
   -- it is made, with the number that comes next
-  pub connects : (m : Numbering) (app slot ordinal time : ℕ) → m.home m.made ≡ (app, slot, ordinal)
-      → Is (record m { made = m.made + 1 }) app slot (begun (connecting (start_of o.seed m.made) o.options o.node m.made time) ordinal)
-  pub accepts : (m : Numbering) (app slot ordinal time : ℕ) (h : RdpHead) (tag : Option Tag) (options : Options) → m.home m.made ≡ (app, slot, ordinal)
-      → has_flag h SYN ≡ true → Invites h tag
-      → Is (record m { made = m.made + 1 }) app slot (begun (accepting (start_of o.seed m.made) options h.seq.0 tag o.node m.made time) ordinal)
+  pub connects : (m : Numbering) (app slot ordinal time : ℕ) (c : Connection) (flags : ℕ) → m.home m.made ≡ (app, slot, ordinal) → C.asked c flags
+      → Is (record m { made = m.made + 1 }) app slot (begun c flags (connecting (start_of o.seed m.made) o.options o.node m.made time) ordinal)
+  pub accepts : (m : Numbering) (app slot ordinal time : ℕ) (c : Connection) (flags : ℕ) (h : RdpHead) (tag : Option Tag) (options : Options) → m.home m.made ≡ (app, slot, ordinal)
+      → has_flag h SYN ≡ true → C.invites c flags h tag
+      → Is (record m { made = m.made + 1 }) app slot (begun c flags (accepting (start_of o.seed m.made) options h.seq.0 tag o.node m.made time) ordinal)
   -- before it is open nothing was told of it, and no packet waits; nor of one that never was
   pub early : (m : Numbering) (app slot : ℕ) (n : Now) → Is m app slot n → (n.machine.state ≡ SynSent) ⊎ (n.machine.state ≡ SynRcvd) → (n.book ≡ blank) × (n.waits ≡ None)
   pub never : (m : Numbering) (app slot : ℕ) (n : Now) → Is m app slot n → n.machine.was_open ≡ false → (n.book ≡ blank) × (n.waits ≡ None)
@@ -97,9 +107,9 @@ pub record IsKept (o : Origin) (Fed : PlainRdp → RdpHead → Option Tag → Li
   pub closes : (m : Numbering) (app slot : ℕ) (n : Now) (time : ℕ) → Is m app slot n → Is m app slot (with_machine (closing time n.machine) n)
   pub makes : (m : Numbering) (app slot : ℕ) (n : Now) (time : ℕ) (j : Job) → job_of time n.machine ≡ Some j → Is m app slot n → Is m app slot (with_machine (sent j time n.machine) n)
   -- a packet is handed to it: it is open then, or as open as it was
-  pub hears : (m : Numbering) (app slot : ℕ) (n : Now) (h : RdpHead) (tag : Option Tag) (b : PlainBuffer) (time : ℕ) → Fed n.machine h tag b.picture.payload
+  pub hears : (m : Numbering) (app slot : ℕ) (n : Now) (h : RdpHead) (tag : Option Tag) (b : PlainBuffer) (time : ℕ) → C.fed n.connection n.machine h tag b.picture.payload
       → (Opens n.machine.state (handed h tag b time n.machine).state → ⊥) → Is m app slot n → Is m app slot (with_machine (handed h tag b time n.machine) n)
-  pub opens : (m : Numbering) (app slot : ℕ) (n : Now) (h : RdpHead) (tag : Option Tag) (b : PlainBuffer) (time : ℕ) → Fed n.machine h tag b.picture.payload
+  pub opens : (m : Numbering) (app slot : ℕ) (n : Now) (h : RdpHead) (tag : Option Tag) (b : PlainBuffer) (time : ℕ) → C.fed n.connection n.machine h tag b.picture.payload
       → Opens n.machine.state (handed h tag b time n.machine).state → Is m app slot n → Is m app slot (after_opening (with_machine (handed h tag b time n.machine) n))
   -- a payload is sent on it while it is open and none waits: it is admitted, or waits; one that waits is admitted; or it is dropped where the
   -- connection is not open any more

@@ -8,6 +8,8 @@ use Rattle.csp_scene.specs.Judge.{scene_of}
 use Rattle.csp_record.specs.Record.{PlainRecord}
 use Rattle.csp_world.specs.Record.{sim_record}
 use Rattle.csp_ordinary.specs.Ordinary.{HasNoFlips, HasNumbersForAll, IsOrdinary}
+use Rattle.csp_peers.specs.Clear.{HasClearFlows}
+use Rattle.csp_prefix.specs.Prefix.{IsReliablePrefix}
 use Rattle.csp_report.specs.Lines.{ended_line}
 use Rattle.csp_report.specs.Report.{report}
 use Rattle.csp_consistent.specs.Consistent.{IsConsistent}
@@ -21,17 +23,26 @@ pub record EndsUnchanged (bytes : List ℕ) : Type 0 where
   pub before : List ℕ
   pub whole : bytes ≡ before ++ ended_line (codes "passed" ∷ decimal 0 ∷ [])
 
--- where a run was ordinary the bytes of its report end so; so they do where no line of the scenario flips a bit and no bus wore out its numbers
+-- they end with the lines `stale 0` and `passed 0`
+pub record EndsUncounted (bytes : List ℕ) : Type 0 where
+  pub before : List ℕ
+  pub whole : bytes ≡ before ++ ended_line (codes "stale" ∷ decimal 0 ∷ []) ++ ended_line (codes "passed" ∷ decimal 0 ∷ [])
+
+-- where a run was ordinary the bytes of its report end with `passed 0`; so they do where no line of the scenario flips a bit and no bus wore out its
+-- numbers. Where besides its flows are clear they end with `stale 0` and `passed 0`, and what was taken on each reliable connection with a peer is a
+-- beginning of what the peer sent
 pub record EndsAsOrdinary (scene : PlainScene) (run : PlainRecord) (bytes : List ℕ) : Type 0 where
   pub passes : IsOrdinary scene run → EndsUnchanged bytes
   pub unflipped : HasNoFlips scene → HasNumbersForAll scene run → EndsUnchanged bytes
+  pub clear : IsOrdinary scene run → HasClearFlows scene run → EndsUncounted bytes
+  pub prefix : IsOrdinary scene run → HasClearFlows scene run → IsReliablePrefix run
 
 -- so it is with these bytes
 unfoldable pub IsUnchangedIfOrdinary : PlainScene → PlainRecord → List ℕ → Type 0
 IsUnchangedIfOrdinary scene run bytes = EndsAsOrdinary scene run bytes
 
 -- the text states a scene, whose run ends before its logs are full; its record is consistent with the scene, and these bytes are its report. Where
--- the run was ordinary, they end with `passed 0`; so they do where no line of the scenario flips a bit and no bus wore out its numbers
+-- the run was ordinary, they end with `passed 0`, and where its flows were clear besides, with `stale 0` before that
 pub record IsReportOf (text bytes : List ℕ) : Type 0 where
   pub scene : PlainScene
   pub run : PlainRecord

@@ -16,7 +16,7 @@ use Rattle.csp_bench.specs.declared.status.Status.TheVariants as status
 use Rattle.csp_bench.specs.declared.status.TheConstants.{MAX_SCENARIO}
 
 -- the text states a scene, and these bytes are the report of a record that can be one of its run in threads and tells why that stopped. Where the run
--- was ordinary, they end with `passed 0`; so they do where no line of the scenario flips a bit and no bus wore out its numbers
+-- was ordinary, they end with `passed 0`, and where its flows were clear besides, with `stale 0` before that
 pub record IsRunReportOf (text bytes : List ℕ) : Type 0 where
   pub scene : PlainScene
   pub run : PlainRecord

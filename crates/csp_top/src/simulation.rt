@@ -7,6 +7,7 @@ ghost use Rattle.csp_base.specs.Transfer.{TookAtMost, TookExactly};
 ghost use Rattle.csp_bench.specs.Edge.{WasRead};
 ghost use Rattle.csp_bench.specs.Running.{IsPastEntries, IsUnhindered};
 ghost use Rattle.csp_consistent.specs.Consistent.{IsConsistent};
+ghost use Rattle.csp_peers.specs.Addressed.{AreAddressedApart};
 ghost use Rattle.csp_record.specs.Whole.{IsWhole};
 ghost use Rattle.csp_report.specs.Report.{report};
 ghost use Rattle.csp_scene.specs.Judge.{scene_of};
@@ -23,6 +24,7 @@ use crate::numbers::hold_numbers;
 use csp_base::{Sink, Source, read_up_to, write_whole};
 use csp_bench::{LimitKind, MAX_SCENARIO, Refusal, Status, read_scene, read_status, run_of};
 use csp_ordinary::{hold_words, passes_nothing, undamaged_without_flips};
+use csp_peers::{addresses_differ, counts_no_stale};
 use csp_prefix::{opens_on_slots, takes_a_prefix};
 use csp_record::Record;
 use csp_report::report;
@@ -81,6 +83,7 @@ pub(crate) fn report_of(alloc: Global, text: &[u8]) -> Result<Vec<u8>, Refusal>
         Ok(scene) => scene,
         Err(refusal) => return Err(refusal),
     };
+    addresses_differ();
     match run_of(alloc, &scene) {
         Ok(run) => told(alloc, &run, &scene),
         Err(refusal) => Err(refusal),
@@ -91,6 +94,7 @@ pub(crate) fn report_of(alloc: Global, text: &[u8]) -> Result<Vec<u8>, Refusal>
 pub(crate) fn told(alloc: Global, run: &Record, scene: &Scene) -> Result<Vec<u8>, Refusal>
     requires ranges { IsScene scene.now }
     requires apart { AreNamedApart scene.now.nodes }
+    requires addressed { AreAddressedApart scene.now.nodes }
     requires ends { AreLinksAfter (length scene.now.nodes) [] scene.now.links }
     requires consistent { IsConsistent scene.now run.now }
     requires whole { IsWhole (map (λ n. n.buffers) scene.now.nodes) run.now }
@@ -104,6 +108,7 @@ pub(crate) fn told(alloc: Global, run: &Record, scene: &Scene) -> Result<Vec<u8>
     opens_on_slots();
     tells_reliable_prefix();
     passes_nothing();
+    counts_no_stale();
     undamaged_without_flips();
     hold_numbers(run);
     hold_words(run);

@@ -17,6 +17,7 @@ use crate::simulation::told;
 use csp_base::{Sink, Source, read_up_to, write_whole};
 use csp_bench::{LimitKind, MAX_SCENARIO, Refusal, Status, read_scene, read_status};
 use csp_node::run;
+use csp_peers::addresses_differ;
 use csp_rounds::Gate;
 use csp_scene::SceneKind;
 use csp_world::MAX_ENTRIES;
@@ -88,6 +89,7 @@ fn report_of_run<R: Threads + Wait + Sync, G: Gate>(
         Ok(scene) => scene,
         Err(refusal) => return Err(refusal),
     };
+    addresses_differ();
     match run(rt, alloc, &scene, workers, gate, MAX_ENTRIES) {
         Ok(record) => told(alloc, &record, &scene),
         Err(_) => Err(Refusal::NoMemory),

@@ -1,0 +1,13 @@
+pub mod Addresses
+pub mod AppPackets
+pub mod AppWishes
+pub mod HandedEvents
+pub mod Handing
+pub mod PacketsMade
+pub mod ReceiverNear
+pub mod RouterEvents
+pub mod RouterMakes
+pub mod RouterNear
+pub mod SenderBounds
+pub mod StaleCounting
+pub mod StaleNone

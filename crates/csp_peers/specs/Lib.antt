@@ -1,0 +1,5 @@
+pub mod Addressed
+pub mod Clear
+pub mod Nearness
+pub mod Sent
+pub mod Unforged
