@@ -40,7 +40,7 @@ use Rattle.csp_prefix.proofs.HeardPackets.{hears_only}
 use Rattle.csp_prefix.proofs.NodeLanes.{RouterThere}
 use Rattle.csp_prefix.proofs.RouterBooks.{no_past}
 use Rattle.csp_prefix.proofs.RouterLaw.{true_routers}
-use Rattle.csp_prefix.proofs.RouterRun.{IsRunSo}
+use Rattle.csp_prefix.proofs.RouterRun.{IsRunSo, found_any}
 use Rattle.csp_prefix.proofs.RouterSends.{all_fresh}
 use Rattle.csp_prefix.proofs.RouterStanding.{Aim, IsAim}
 use Rattle.csp_prefix.proofs.RouterTrue.{ComesUp, past, run_known}
@@ -53,6 +53,7 @@ use Rattle.csp_peers.specs.Unforged.{ComesWell, GetsWell}
 use Rattle.csp_peers.proofs.AppWishes.{router_gets_each}
 use Rattle.csp_peers.proofs.RouterMakes.{AllowsOne, AreShort, IsFromBelow, IsMade, IsOwn, maker_aim, maker_is_aim}
 use Rattle.csp_peers.proofs.RouterNear.{AcksWithin, IsOfPeer, peer_aim, peer_is_aim}
+use Rattle.csp_stack.specs.Config.{opening_state}
 
 -- ---- what a log sent, entry by entry
 
@@ -187,7 +188,7 @@ module _ (scene : PlainScene) (r : PlainRecord) (is : IsScene scene) (con : IsCo
       let g : Aim = maker_aim f top last_index hears in
       let low = own_addr place t.node t.addr t.there t.called in
       let k : IsAim g f (past (log_of place)) = maker_is_aim f (log_of place) top last_index hears (omega (arith, low)) few allows (omega arith) (log_short place) from in
-      let run = run_known g f t.node.routes (log_of place) k t.log (λ at mark b e. heard b (record { at = at; mark = mark; there = e })) (all_well g (λ i c. c) (log_of place) (router_gets_each scene r is con clear.unforged clear.to_one place)) (all_fresh (log_of place)) in
+      let run = run_known g f t.node.routes (log_of place) k t.log (λ at mark b e. heard b (record { at = at; mark = mark; there = e })) (all_well g (λ i c. c) (log_of place) (router_gets_each scene r is con clear.unforged clear.to_one place)) (all_fresh (log_of place)) (found_any f (opening_state f.apps t.node.routes) (log_of place)) in
       sends_good g (log_of place) (log_of place) back run.pushed
 
   of_maker : (top place : ℕ) (t : RouterThere scene r place) (b : Content) (tag : Tag) → IsSentIn (log_of place) b → IsMade (facts_of place t) top last_index b tag → IsOfMaker scene r top b tag
@@ -309,7 +310,7 @@ module _ (scene : PlainScene) (r : PlainRecord) (is : IsScene scene) (con : IsCo
       let es : List Entry = log_of place in
       let g : Aim = peer_aim f broadcast last_index (flows_in scene r) (IsPeerOf t.addr) (IsHeard es) in
       let k : IsAim g f (past es) = peer_is_aim f es broadcast last_index (flows_in scene r) (IsPeerOf t.addr) (IsHeard es) (omega arith) allows_one (omega arith) (one_peer t.addr) all_short all_far (heard_sound place t) in
-      let run = run_known g f t.node.routes es k t.log (λ at mark b e. record { at = at; mark = mark; there = e }) (all_well g (λ i c. c) es (router_gets_each scene r is con clear.unforged clear.to_one place)) (all_fresh es) in
+      let run = run_known g f t.node.routes es k t.log (λ at mark b e. record { at = at; mark = mark; there = e }) (all_well g (λ i c. c) es (router_gets_each scene r is con clear.unforged clear.to_one place)) (all_fresh es) (found_any f (opening_state f.apps t.node.routes) es) in
       sends_both (IsSound scene r broadcast) (AcksWithin last_index) Acking es es (λ b s sound acks. (sound, acks))
       (sends_sound broadcast place t
       (makes broadcast place t (IsHeard es) (omega arith) allows_one (λ b h. from_own any_address b (of_kind (IsSound scene r any_address) es (hears_from place t) b h)) (λ b h. h) (λ b h. h)))

@@ -192,9 +192,9 @@ hearer-kept o flows R bound few one short =
         peered-opened flows R (with_machine (handed h tag b time n.machine) n)
             (peered-heard flows R h tag b n (handed h tag b time n.machine) fed.0 fed.1 fed.3 (hears-handed h tag b time n.machine) i.1),
       );
-      admits = λ m app slot n b time is_open waits i. (kept.admits m app slot n b time is_open waits i.0, record { right = i.1.right; near = i.1.near; fresh = i.1.fresh; alone = i.1.alone });
+      admits = λ m app slot n b time is_open room waits i. (kept.admits m app slot n b time is_open room waits i.0, record { right = i.1.right; near = i.1.near; fresh = i.1.fresh; alone = i.1.alone });
       delays = λ m app slot n payload is_open waits i. (kept.delays m app slot n payload is_open waits i.0, record { right = i.1.right; near = i.1.near; fresh = i.1.fresh; alone = i.1.alone });
-      settles = λ m app slot n b time is_open waits i. (kept.settles m app slot n b time is_open waits i.0, record { right = i.1.right; near = i.1.near; fresh = i.1.fresh; alone = i.1.alone });
+      settles = λ m app slot n b time is_open room waits i. (kept.settles m app slot n b time is_open room waits i.0, record { right = i.1.right; near = i.1.near; fresh = i.1.fresh; alone = i.1.alone });
       drops = λ m app slot n shut i. (kept.drops m app slot n shut i.0, record { right = i.1.right; near = i.1.near; fresh = i.1.fresh; alone = i.1.alone });
       delivers = λ m app slot n b time found i. (
         kept.delivers m app slot n b time found i.0,

@@ -158,6 +158,7 @@ maker_aim f top bound hears = record {
   hears = hears;
   comes = ComesWell;
   fresh = λ e. ⊤;
+  at = λ r. ⊤;
 }
 
 -- a packet without a tag that is not of the reliable transport is a node's own, whatever it is
@@ -195,7 +196,7 @@ maker_is_aim f es top bound hears low few allows some short from = record {
   unmarked = λ mark b e none comes. own_plain f top bound b none (comes (eqb-true mark UNMARKED e));
   unreliable = λ b none plain. own_plain f top bound b none plain;
   wishes = λ p r comes. asked_addressable top p r allows comes;
-  makes = λ h m books p app slot time j b c part tells o there is job. makes_own f es top bound low few some short _ h m books p app slot time j b c part tells there is job;
+  makes = λ h m books p app slot time j b c part tells o there is found job. makes_own f es top bound low few some short _ h m books p app slot time j b c part tells there is job;
   feeds = λ b payload r read heard known fresh. tt;
   asks = λ b payload read heard known syn. heard_addressable top b (from b heard) known.reliable;
 }

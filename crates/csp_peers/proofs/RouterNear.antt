@@ -61,9 +61,9 @@ both-kept o C D Is Js k l = record {
   makes = λ m app slot n time j job i. (k.makes m app slot n time j job i.0, l.makes m app slot n time j job i.1);
   hears = λ m app slot n h tag b time fed shut i. (k.hears m app slot n h tag b time fed.0 shut i.0, l.hears m app slot n h tag b time fed.1 shut i.1);
   opens = λ m app slot n h tag b time fed opening i. (k.opens m app slot n h tag b time fed.0 opening i.0, l.opens m app slot n h tag b time fed.1 opening i.1);
-  admits = λ m app slot n b time is_open waits i. (k.admits m app slot n b time is_open waits i.0, l.admits m app slot n b time is_open waits i.1);
+  admits = λ m app slot n b time is_open room waits i. (k.admits m app slot n b time is_open room waits i.0, l.admits m app slot n b time is_open room waits i.1);
   delays = λ m app slot n payload is_open waits i. (k.delays m app slot n payload is_open waits i.0, l.delays m app slot n payload is_open waits i.1);
-  settles = λ m app slot n b time is_open waits i. (k.settles m app slot n b time is_open waits i.0, l.settles m app slot n b time is_open waits i.1);
+  settles = λ m app slot n b time is_open room waits i. (k.settles m app slot n b time is_open room waits i.0, l.settles m app slot n b time is_open room waits i.1);
   drops = λ m app slot n shut i. (k.drops m app slot n shut i.0, l.drops m app slot n shut i.1);
   delivers = λ m app slot n b time e i. (k.delivers m app slot n b time e i.0, l.delivers m app slot n b time e i.1);
   keeps = λ m app slot n b c e same i. (k.keeps m app slot n b c e same i.0, l.keeps m app slot n b c e same i.1);
@@ -97,6 +97,7 @@ peer_aim f top bound flows R hears = record {
   hears = hears;
   comes = ComesWell;
   fresh = λ e. ⊤;
+  at = λ r. ⊤;
 }
 
 -- a packet that is for a node by its own address, or by broadcast, is not for the latter where its address is below that
@@ -146,7 +147,7 @@ module _ (f : Facts) (es : List Entry) (top bound : ℕ) (flows : Flows) (R : Co
     unmarked = λ mark b e none comes tag q. absurd (let both : ◌≡◌ {A = Option Tag} None (Some tag) = sym none ∙ q in cc);
     unreliable = λ b none plain tag q. absurd (let both : ◌≡◌ {A = Option Tag} None (Some tag) = sym none ∙ q in cc);
     wishes = λ p r comes reliable own chosen. (asked_addressable top p r allows comes reliable own chosen, tt);
-    makes = λ h m books p app slot time j b c part tells o there is job. acks_within p books m app slot time j b c is job;
+    makes = λ h m books p app slot time j b c part tells o there is found job. acks_within p books m app slot time j b c is job;
     feeds = λ b payload r read heard was fresh. (tt, fed_by b payload read heard was);
     asks = λ b payload read heard was syn.
         let fed = fed_by b payload read heard was in

@@ -251,9 +251,9 @@ maker-kept top o = record {
     (sender-kept o).opens m app slot n h tag b time tt opening i.0,
     bounded-opened top o (with_machine (handed h tag b time n.machine) n) (bounded-handed top o n h tag b time i.1),
   );
-  admits = λ m app slot n b time is_open waits i. ((sender-kept o).admits m app slot n b time is_open waits i.0, bounded-admits top o n b time i.1);
+  admits = λ m app slot n b time is_open room waits i. ((sender-kept o).admits m app slot n b time is_open room waits i.0, bounded-admits top o n b time i.1);
   delays = λ m app slot n payload is_open waits i. ((sender-kept o).delays m app slot n payload is_open waits i.0, bounded-delays top o n payload i.1);
-  settles = λ m app slot n b time is_open waits i. ((sender-kept o).settles m app slot n b time is_open waits i.0, bounded-settles top o n b time waits i.1);
+  settles = λ m app slot n b time is_open room waits i. ((sender-kept o).settles m app slot n b time is_open room waits i.0, bounded-settles top o n b time waits i.1);
   drops = λ m app slot n shut i. ((sender-kept o).drops m app slot n shut i.0, bounded-drops top o n i.1);
   delivers = λ m app slot n b time e i.
       let r = delivering time (without_delivery n.machine) in (

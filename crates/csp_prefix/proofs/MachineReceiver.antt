@@ -328,11 +328,11 @@ receiver-kept o flows = record {
   makes = λ m app slot n time j job i. receiver-on flows n.machine.recv n (sent j time n.machine) (goes-sent j time n.machine) (no-more n.machine.recv) i;
   hears = λ m app slot n h tag b time fed shut i. hears-on flows h tag b n (handed h tag b time n.machine) fed (hears-handed h tag b time n.machine) shut i;
   opens = λ m app slot n h tag b time fed opening i. hears-opening flows h tag b n (handed h tag b time n.machine) fed (hears-handed h tag b time n.machine) opening i;
-  admits = λ m app slot n b time is_open waits i.
+  admits = λ m app slot n b time is_open room waits i.
       sends-open flows n (after_sending b.picture.payload (with_machine (admitting b time n.machine) n)) (record { state = refl; nth = refl; peer = refl; was_open = refl; recv = refl; opened = refl; down = refl }) is_open i;
   delays = λ m app slot n payload is_open waits i.
       sends-open flows n (after_sending payload (waiting_for (Some payload) n)) (record { state = refl; nth = refl; peer = refl; was_open = refl; recv = refl; opened = refl; down = refl }) is_open i;
-  settles = λ m app slot n b time is_open waits i.
+  settles = λ m app slot n b time is_open room waits i.
       sends-open flows n (waiting_for None (with_machine (admitting b time n.machine) n)) (record { state = refl; nth = refl; peer = refl; was_open = refl; recv = refl; opened = refl; down = refl }) is_open i;
   drops = λ m app slot n shut i. receives-dropped flows n.machine.state n shut i;
   delivers = λ m app slot n b time found i. receiver-delivers flows n b found i _ (delivers-both time n.machine (delivers-open n.machine.state n.machine b found));

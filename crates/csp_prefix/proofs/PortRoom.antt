@@ -133,7 +133,7 @@ module _ {o : Origin} {C : Coming} {Is : Numbering → ℕ → ℕ → Now → T
               counted = f.counted;
               ends = f.ends;
               over = f.over;
-              holds = kept.settles m app s.slot (now_of x) s.buffer time (room_open x.machine room) (waiting_here (stalled_at p app) s e) k.holds;
+              holds = kept.settles m app s.slot (now_of x) s.buffer time (room_open x.machine room) room (waiting_here (stalled_at p app) s e) k.holds;
             }));
       }
   settled_room s false e room = record { same = refl; new = tt; fine = h }

@@ -52,8 +52,8 @@ module _ {o : Origin} {C : Coming} {Is : Numbering → ℕ → ℕ → Now → T
   waits_now : waiting_on slot (Some stalled_now) ≡ Some b.payload
   waits_now = ap (λ (x : Bool). if x then Some b.payload else None) (eq-eqb slot slot refl)
 
-  admitting_good : (room : Bool) → (machine_at p app slot).state ≡ Open → AreGood Is m ordinals (with_sent app slot b.payload books) (admitting_by room p app slot b time)
-  admitting_good true opened =
+  admitting_good : (room : Bool) → has_room (machine_at p app slot) ≡ room → (machine_at p app slot).state ≡ Open → AreGood Is m ordinals (with_sent app slot b.payload books) (admitting_by room p app slot b time)
+  admitting_good true room opened =
       let x = view p books app slot in
       let r = admitting (anywhere b) time x.machine in
       good_of
@@ -66,9 +66,9 @@ module _ {o : Origin} {C : Coming} {Is : Numbering → ℕ → ℕ → Now → T
         counted = g.counted app slot here there;
         ends = g.ends app slot here there;
         over = g.over app slot here there;
-        holds = kept.admits m app slot (now_of x) (anywhere b) time opened none_waits is_there;
+        holds = kept.admits m app slot (now_of x) (anywhere b) time opened room none_waits is_there;
       })))
-  admitting_good false opened =
+  admitting_good false room opened =
       let x = view p books app slot in
       let w = waiting_on slot (Some stalled_now) in
       good_of
@@ -100,6 +100,6 @@ module _ {o : Origin} {C : Coming} {Is : Numbering → ℕ → ℕ → Now → T
   pub submitted_submits : Submits Is m ordinals books p app slot b (submitting p app slot b time)
   submitted_submits = record {
     same = submitting_apps (machine_at p app slot).state p app slot b time;
-    sent = λ e. subst Sends (sym e) (refl, admitting_good (has_room (machine_at p app slot)) e);
+    sent = λ e. subst Sends (sym e) (refl, admitting_good (has_room (machine_at p app slot)) refl e);
     not_sent = λ e. discards (machine_at p app slot).state e;
   }

@@ -32,6 +32,8 @@ use Rattle.csp_prefix.proofs.RouterBooks.{all_at}
 use Rattle.csp_prefix.proofs.RouterBytes.{parted_back, unwrapped_is}
 use Rattle.csp_prefix.proofs.RouterStanding.{Aim, IsAim, unwrapped}
 use Rattle.csp_prefix.proofs.RouterTrue.{each_comes, opening_known, past, run_known}
+use Rattle.csp_prefix.proofs.RouterRun.{found_any}
+use Rattle.csp_stack.specs.Config.{opening_state}
 
 -- what is to be known of a receiver, where what it hears is so
 abbrev pub receiver_aim : Flows → Aim
@@ -43,6 +45,7 @@ receiver_aim flows = record {
   hears = IsGenuine flows;
   comes = λ i. ⊤;
   fresh = λ e. is_stale e ≡ false;
+  at = λ r. ⊤;
 }
 
 -- no reliable connection is open as a plain one is
@@ -96,7 +99,7 @@ receiver_is_aim f es flows ports receives = record {
   unmarked = λ mark b e none comes. tt;
   unreliable = λ b none plain. tt;
   wishes = λ p r comes reliable own chosen. tt;
-  makes = λ h m books p app slot time j b c part tells o there known e. tt;
+  makes = λ h m books p app slot time j b c part tells o there known found e. tt;
   feeds = λ b payload r read hears known fresh. record {
     genuine = λ t e. read_true flows b payload read t (hears t e) known.is_unwrapped known.is_parted;
     peer = λ flow e. fed_tag b.trace.tag flow r.recv.cur (una_of r) (subst (λ p. is_stale_at p b.trace.tag r.recv.cur (una_of r) ≡ false) e fresh);
@@ -117,5 +120,5 @@ pub delivers_prefix : (f : Facts) (routes : Routes) (es : List Entry) (flows : F
     → DeliversPrefix flows es
 delivers_prefix f routes es flows ports receives log hears none app nth x peer is e =
     let k = receiver_is_aim f es flows ports receives in
-    let r = run_known (receiver_aim flows) f routes es k log (λ at mark b q. all_at (IsGenuineItem flows) (gets queue.Inbox es) at (item.Packet mark b) hears q) (each_comes (receiver_aim flows) (λ i. tt) es) (all_fresh es none) in
+    let r = run_known (receiver_aim flows) f routes es k log (λ at mark b q. all_at (IsGenuineItem flows) (gets queue.Inbox es) at (item.Packet mark b) hears q) (each_comes (receiver_aim flows) (λ i. tt) es) (all_fresh es none) (found_any f (opening_state f.apps routes) es) in
     opening_known (receiver_aim flows) f es k r app nth x is nth peer is.numbered e

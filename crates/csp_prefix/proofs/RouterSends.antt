@@ -38,10 +38,11 @@ use Rattle.csp_prefix.specs.Slots.{Book, GoesOn, Now, Numbering, blank}
 use Rattle.csp_prefix.proofs.RouterBooks.{IsAmong, Past, Tells, no_past, opening_on}
 use Rattle.csp_prefix.proofs.RouterBytes.{checked_flag}
 use Rattle.csp_prefix.proofs.RouterHeard.{protected_trace}
-use Rattle.csp_prefix.proofs.RouterRun.{IsRunSo}
+use Rattle.csp_prefix.proofs.RouterRun.{IsRunSo, found_any}
 use Rattle.csp_prefix.proofs.RouterStanding.{Aim, IsAim, IsPart}
 use Rattle.csp_prefix.proofs.RouterTrue.{each_comes, opening_known, opening_placed, past, past_opened, past_sent, run_known}
 use Rattle.csp_conn.specs.PlainConns.{slot_at}
+use Rattle.csp_stack.specs.Config.{opening_state}
 
 -- what is to be known of a sender; and the packets that go out are so
 abbrev pub sender_aim : Facts → List Entry → (Content → Type 0) → Aim
@@ -53,6 +54,7 @@ sender_aim f es good = record {
   hears = IsHeard es;
   comes = λ i. ⊤;
   fresh = λ e. ⊤;
+  at = λ r. ⊤;
 }
 
 -- no reliable connection is open as a plain one is
@@ -83,7 +85,7 @@ opening_later m m' app slot ordinal nth on is = record { made = let more = on.mo
 abbrev pub Makes : Facts → List Entry → (Content → Type 0) → Type 0
 Makes f es good =
     (h : Past) (m : Numbering) (books : Books) (p : PlainPorts) (app slot time : ℕ) (j : Job) (b : Content) (c : Connection) → IsPart h (past es) → Tells (sender_aim f es good).over f.apps m h books
-    → (terms_at p app slot).ordinal ≡ h.ends app slot → slot_at p.conns app slot ≡ has.Open c → IsSender (origin_of f) m app slot (now_at p books app slot) → job_of time (machine_at p app slot) ≡ Some j
+    → (terms_at p app slot).ordinal ≡ h.ends app slot → slot_at p.conns app slot ≡ has.Open c → IsSender (origin_of f) m app slot (now_at p books app slot) → ⊤ → job_of time (machine_at p app slot) ≡ Some j
     → good (addressed f c (terms_at p app slot) (made_in j time app slot b p))
 
 pub sender_is_aim : (f : Facts) (es : List Entry) (good : Content → Type 0) → ArePortsKept (origin_of f) whatever (IsSender (origin_of f)) → OpensNumbered (IsSender (origin_of f))
@@ -111,11 +113,11 @@ all_fresh (e ∷ es) = (each e.events.items, all_fresh es)
     each (v ∷ vs) = (tt, each vs)
 
 sender_run : (f : Facts) (routes : Routes) (es : List Entry) (good : Content → Type 0) → IsAim (sender_aim f es good) f (past es) → IsRouterLog f routes es → IsRunSo (sender_aim f es good) f no_past es
-sender_run f routes es good k log = run_known (sender_aim f es good) f routes es k log (λ at mark b e. record { at = at; mark = mark; there = e }) (each_comes (sender_aim f es good) (λ i. tt) es) (all_fresh es)
+sender_run f routes es good k log = run_known (sender_aim f es good) f routes es k log (λ at mark b e. record { at = at; mark = mark; there = e }) (each_comes (sender_aim f es good) (λ i. tt) es) (all_fresh es) (found_any f (opening_state f.apps routes) es)
 
 pub are_numbered : (f : Facts) (routes : Routes) (es : List Entry) → ArePortsKept (origin_of f) whatever (IsSender (origin_of f)) → OpensNumbered (IsSender (origin_of f)) → IsRouterLog f routes es → AreNumbered es
 are_numbered f routes es ports opens log app other nth x y is also =
-    let k = sender_is_aim f es (λ b. ⊤) ports opens (λ b e. tt) (λ h m books p app slot time j b c part tells o there known e. tt) in
+    let k = sender_is_aim f es (λ b. ⊤) ports opens (λ b e. tt) (λ h m books p app slot time j b c part tells o there known found e. tt) in
     let r = sender_run f routes es (λ b. ⊤) k log in
     let one = opening_known (sender_aim f es (λ b. ⊤)) f es k r app nth x is nth is.numbered in
     let two = opening_known (sender_aim f es (λ b. ⊤)) f es k r other nth y also nth also.numbered in
@@ -125,7 +127,7 @@ are_numbered f routes es ports opens log app other nth x y is also =
 -- each opening's application and slot are there
 pub are_placed : (f : Facts) (routes : Routes) (es : List Entry) → ArePortsKept (origin_of f) whatever (IsSender (origin_of f)) → OpensNumbered (IsSender (origin_of f)) → IsRouterLog f routes es → ArePlaced f es
 are_placed f routes es ports opens log app at x e =
-    let k = sender_is_aim f es (λ b. ⊤) ports opens (λ b e. tt) (λ h m books p app slot time j b c part tells o there known e. tt) in
+    let k = sender_is_aim f es (λ b. ⊤) ports opens (λ b e. tt) (λ h m books p app slot time j b c part tells o there known found e. tt) in
     opening_placed (sender_aim f es (λ b. ⊤)) f es (sender_run f routes es (λ b. ⊤) k log) app at x e
 
 -- ---- and what is sent is genuine
@@ -177,7 +179,7 @@ true_packet f es flows h m books app slot time j n shown part tells same known =
     }
 
 makes_genuine : (f : Facts) (es : List Entry) (flows : Flows) → MakesTrue (IsSender (origin_of f)) (origin_of f) → AreShown f es flows → Makes f es (IsGenuine flows)
-makes_genuine f es flows makes shown h m books p app slot time j b c part tells counted there is job tag e =
+makes_genuine f es flows makes shown h m books p app slot time j b c part tells counted there is found job tag e =
     let n : Now = now_at p books app slot in
     let r : PlainRdp = machine_at p app slot in
     let s : Says = says j time r in

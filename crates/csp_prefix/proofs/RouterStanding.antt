@@ -41,7 +41,7 @@ use Rattle.csp_log.specs.declared.shown.ItemShown.TheVariants as item
 use Rattle.csp_log.specs.declared.note.Note.TheVariants as note
 
 -- ---- what is to be known: of a connection, of what comes to it, of an opening whose connection is over, of the packets that go out and of those that are
--- heard, of what applications hand over, and of the events
+-- heard, of what applications hand over, of the events, and of the machines as each turn finds them
 pub record Aim : Type 1 where
   pub is : Numbering → ℕ → ℕ → Now → Type 0
   pub coming : Coming
@@ -50,6 +50,7 @@ pub record Aim : Type 1 where
   pub hears : Content → Type 0
   pub comes : ItemShown → Type 0
   pub fresh : Event → Type 0
+  pub at : PlainRdp → Type 0
 
 -- the payload of a packet once its checksum is cut off, where it is to have one
 abbrev pub unwrapped : (is_checked : Bool) → List ℕ → Option (List ℕ)
@@ -78,7 +79,7 @@ pub record IsAim (g : Aim) (f : Facts) (whole : Past) : Type 0 where
   pub unreliable : (b : Content) → b.trace.tag ≡ None → is_reliable (header_at b.header) ≡ false → g.good b
   pub wishes : (p : PlainPorts) (r : Request) → g.comes (item.Note (note.Connect r.slot r.dest r.port r.prio r.flags r.from)) → IsAskedSo g.coming p r
   pub makes : (h : Past) (m : Numbering) (books : Books) (p : PlainPorts) (app slot time : ℕ) (j : Job) (b : Content) (c : Connection) → IsPart h whole → Tells g.over f.apps m h books
-      → (terms_at p app slot).ordinal ≡ h.ends app slot → slot_at p.conns app slot ≡ has.Open c → g.is m app slot (now_at p books app slot) → job_of time (machine_at p app slot) ≡ Some j
+      → (terms_at p app slot).ordinal ≡ h.ends app slot → slot_at p.conns app slot ≡ has.Open c → g.is m app slot (now_at p books app slot) → g.at (machine_at p app slot) → job_of time (machine_at p app slot) ≡ Some j
       → g.good (addressed f c (terms_at p app slot) (made_in j time app slot b p))
   pub feeds : (b : Content) (payload : List ℕ) (r : PlainRdp) (read : List ℕ × RdpHead) → g.hears b → IsRead f b payload read
       → g.fresh (handing_event r b.trace.tag) → g.coming.fed (connection_of (header_at b.header)) r read.1 b.trace.tag read.0

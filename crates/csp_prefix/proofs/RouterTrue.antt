@@ -28,7 +28,7 @@ use Rattle.csp_prefix.specs.Routers.{ComesSo, IsFlowOf, IsRouterLog}
 use Rattle.csp_prefix.specs.Slots.{blank}
 use Rattle.csp_prefix.proofs.PayloadReads.{delivered_are}
 use Rattle.csp_prefix.proofs.RouterBooks.{Past, all_at, no_past, over_now, tells_nothing}
-use Rattle.csp_prefix.proofs.RouterRun.{IsCome, IsRunSo, past_of, reads_down, reads_opened, reads_sent, run_stands}
+use Rattle.csp_prefix.proofs.RouterRun.{AreFound, IsCome, IsRunSo, past_of, reads_down, reads_opened, reads_sent, run_stands}
 use Rattle.csp_prefix.proofs.RouterStanding.{Aim, IsAim, IsPart, Stands, over_present}
 use Rattle.csp_prefix.proofs.RouterTurn.{HearsSo}
 
@@ -107,9 +107,9 @@ opening_stands g f es k few = record {
 }
 
 pub run_known : (g : Aim) (f : Facts) (routes : Routes) (es : List Entry) → IsAim g f (past es) → IsRouterLog f routes es → ((at mark : ℕ) (b : Content) → slice_get (gets queue.Inbox es) at ≡ Some (item.Packet mark b) → g.hears b)
-    → AllByRecursion (λ e. ComesUp g e.op e.answer) es → AllByRecursion (λ e. AllByRecursion g.fresh e.events.items) es → IsRunSo g f no_past es
-run_known g f routes es k log hears comes fresh =
-    run_stands g f (past es) k es 0 no_past (opening_state f.apps routes) log.run (all_come g es log.comes (heard_all g es hears comes) fresh) (part_all (past es)) (opening_stands g f es k log.few)
+    → AllByRecursion (λ e. ComesUp g e.op e.answer) es → AllByRecursion (λ e. AllByRecursion g.fresh e.events.items) es → AreFound g.at f (opening_state f.apps routes) es → IsRunSo g f no_past es
+run_known g f routes es k log hears comes fresh found =
+    run_stands g f (past es) k es 0 no_past (opening_state f.apps routes) log.run found (all_come g es log.comes (heard_all g es hears comes) fresh) (part_all (past es)) (opening_stands g f es k log.few)
 
 -- of each opening what is to be known is known
 pub opening_known : (g : Aim) (f : Facts) (es : List Entry) → IsAim g f (past es) → (r : IsRunSo g f no_past es) → (app nth : ℕ) (x : Opening) → IsFlowOf es app nth x → g.over r.stands.numbering app x (delivered app x.slot x.ordinal es)

@@ -347,55 +347,60 @@ module _ (g : Aim) (f : Facts) (whole : Past) (k : IsAim g f whole) where
       )
 
   -- ---- a packet that is made
-  turn_make : (app slot : ℕ) (j : Job) (h : Past) (s : State) (time : ℕ) (a : AnswerShown) → app < s.ports.conns.apps → slot < SLOTS → job_of time (machine_at s.ports app slot) ≡ Some j → s.out ≡ None → Stands g f h s.ports s.out
+
+  -- the machines on the slots are as they are to be
+  abbrev pub FoundSo : PlainPorts → Type 0
+  FoundSo p = (app slot : ℕ) → g.at (machine_at p app slot)
+
+  turn_make : (app slot : ℕ) (j : Job) (h : Past) (s : State) (time : ℕ) (a : AnswerShown) → g.at (machine_at s.ports app slot) → app < s.ports.conns.apps → slot < SLOTS → job_of time (machine_at s.ports app slot) ≡ Some j → s.out ≡ None → Stands g f h s.ports s.out
       → Turns h s time (plan.Make app slot j) a
-  turn_make app slot j h s time (answer.Taken b) few low e empty w = λ fits comes hears part fresh.
+  turn_make app slot j h s time (answer.Taken b) so few low e empty w = λ fits comes hears part fresh.
       let v = turned_stands app slot h s.ports s.out w in
       let q : PlainPorts = turned app slot s.ports in
       let t : State = at_rest (asked_by f s (plan.Make app slot j)) in
       let known = k.ports.owes v.numbering h.ends v.books q app slot time j few low e v.good in
       let x : Content = addressed f known.0.connection (terms_at q app slot) (made_in j time app slot b q) in
-      let good : g.good x = k.makes h v.numbering v.books q app slot time j b known.0.connection (part_before op.Take (answer.Taken b) (after_told s time (plan.Make app slot j) (answer.Taken b)).events h whole part) v.tells (v.good.counted app slot few low) known.0.there known.1 e in
+      let good : g.good x = k.makes h v.numbering v.books q app slot time j b known.0.connection (part_before op.Take (answer.Taken b) (after_told s time (plan.Make app slot j) (answer.Taken b)).events h whole part) v.tells (v.good.counted app slot few low) known.0.there known.1 so e in
       let u : Stands g f h (making j time app slot q) s.out = record { numbering = v.numbering; books = v.books; good = k.ports.makes v.numbering h.ends v.books q app slot time j few low e v.good; tells = v.tells; apps = v.apps; out = v.out } in
       let done = stands_sent g f whole k h (record t { ports = making j time app slot q }) x u good in (
         subst (λ o. AllByRecursion g.fresh (made_on o j f t app slot time b).events → Stands g f (past_after op.Take (answer.Taken b) (made_on o j f t app slot time b).events h) (made_on o j f t app slot time b).state.ports (made_on o j f t app slot time b).state.out)
             (sym known.0.there) (quietly op.Take (answer.Taken b) h (sent f (record t { ports = making j time app slot q }) x) (quiet_take (answer.Taken b) (sent f (record t { ports = making j time app slot q }) x).events) done) fresh,
         tt,
       )
-  turn_make app slot j h s time answer.NoBuffer few low e empty w = λ fits comes hears part fresh.
+  turn_make app slot j h s time answer.NoBuffer so few low e empty w = λ fits comes hears part fresh.
       (unmoved op.Take answer.NoBuffer h (turned app slot s.ports) s.out (quiet_take answer.NoBuffer []) (turned_stands app slot h s.ports s.out w), tt)
-  turn_make app slot j h s time a few low e empty w = λ fits comes hears part fresh. absurd fits
+  turn_make app slot j h s time a so few low e empty w = λ fits comes hears part fresh. absurd fits
 
   -- ---- the jobs, by which is owed
-  turn_task : (x : Task) (app slot : ℕ) (h : Past) (s : State) (time : ℕ) (a : AnswerShown) → IsTask time s.ports (app, slot, x) → s.out ≡ None → Stands g f h s.ports s.out → Turns h s time (plan_for app slot x) a
-  turn_task task.Tell app slot h s time a is empty w = turn_tell app slot h s time a w
-  turn_task task.Deliver app slot h s time a is empty w = turn_deliver (delivery (machine_at s.ports app slot)) app slot h s time a is.app_there is.slot_there refl (deliver_job time s.ports app slot is.is_task) empty w
-  turn_task (task.Make j) app slot h s time a is empty w = turn_make app slot j h s time a is.app_there is.slot_there (make_job time s.ports app slot j is.is_task) empty w
+  turn_task : (x : Task) (app slot : ℕ) (h : Past) (s : State) (time : ℕ) (a : AnswerShown) → FoundSo s.ports → IsTask time s.ports (app, slot, x) → s.out ≡ None → Stands g f h s.ports s.out → Turns h s time (plan_for app slot x) a
+  turn_task task.Tell app slot h s time a so is empty w = turn_tell app slot h s time a w
+  turn_task task.Deliver app slot h s time a so is empty w = turn_deliver (delivery (machine_at s.ports app slot)) app slot h s time a is.app_there is.slot_there refl (deliver_job time s.ports app slot is.is_task) empty w
+  turn_task (task.Make j) app slot h s time a so is empty w = turn_make app slot j h s time a (so app slot) is.app_there is.slot_there (make_job time s.ports app slot j is.is_task) empty w
 
-  turn_jobs : (owed : List Owed) (o : Option (ℕ × ℕ × Task)) (h : Past) (s : State) (time : ℕ) (a : AnswerShown) → s.ports.owed ≡ owed → next_task time s.ports ≡ o → s.out ≡ None → Stands g f h s.ports s.out → Turns h s time (jobs_by owed o) a
-  turn_jobs (o ∷ os) t h s time a e q empty w = turn_reply o os h s time a e empty w
-  turn_jobs [] (Some t) h s time a e q empty w = turn_task t.2 t.0 t.1 h s time a (task_there time s.ports t q) empty w
-  turn_jobs [] None h s time a e q empty w = turn_rest h s time a w
+  turn_jobs : (owed : List Owed) (o : Option (ℕ × ℕ × Task)) (h : Past) (s : State) (time : ℕ) (a : AnswerShown) → FoundSo s.ports → s.ports.owed ≡ owed → next_task time s.ports ≡ o → s.out ≡ None → Stands g f h s.ports s.out → Turns h s time (jobs_by owed o) a
+  turn_jobs (o ∷ os) t h s time a so e q empty w = turn_reply o os h s time a e empty w
+  turn_jobs [] (Some t) h s time a so e q empty w = turn_task t.2 t.0 t.1 h s time a so (task_there time s.ports t q) empty w
+  turn_jobs [] None h s time a so e q empty w = turn_rest h s time a w
 
   -- ---- the work that was found
-  turn_source : (first few : Bool) (place : ℕ) (h : Past) (s : State) (time : ℕ) (a : AnswerShown) → (place == 0) ≡ first → nat_le place f.apps ≡ few → has_work s time (cond first source.Inbox (cond few (source.App (place - 1)) source.Jobs)) ≡ true
+  turn_source : (first few : Bool) (place : ℕ) (h : Past) (s : State) (time : ℕ) (a : AnswerShown) → FoundSo s.ports → (place == 0) ≡ first → nat_le place f.apps ≡ few → has_work s time (cond first source.Inbox (cond few (source.App (place - 1)) source.Jobs)) ≡ true
       → s.out ≡ None → Stands g f h s.ports s.out → Turns h s time (work_at s time (cond first source.Inbox (cond few (source.App (place - 1)) source.Jobs))) a
-  turn_source true few place h s time a e q works empty w = turn_hear h s time a w
-  turn_source false true place h s time a e q works empty w =
+  turn_source true few place h s time a so e q works empty w = turn_hear h s time a w
+  turn_source false true place h s time a so e q works empty w =
       let low : place ≤ f.apps = leb-true place f.apps q in
       let more : place ≢ 0 = eqb-false place 0 e in
       turn_serve (place - 1) h s time a (omega (arith, low, more)) (serves_free s time (place - 1) works) empty w
-  turn_source false false place h s time a e q works empty w = turn_jobs s.ports.owed (next_task time s.ports) h s time a refl refl empty w
+  turn_source false false place h s time a so e q works empty w = turn_jobs s.ports.owed (next_task time s.ports) h s time a so refl refl empty w
 
-  turn_place : (o : Option ℕ) (h : Past) (s : State) (time : ℕ) (a : AnswerShown) → place_with_work f s time ≡ o → s.out ≡ None → Stands g f h s.ports s.out → Turns h s time (work_found f s time o) a
-  turn_place None h s time a e empty w = turn_rest h s time a w
-  turn_place (Some place) h s time a e empty w =
-      turn_source (place == 0) (nat_le place f.apps) place h s time a refl refl (found_passes (λ x. has_work s time (source_at f x)) (circle f s.cursor) place e) empty w
+  turn_place : (o : Option ℕ) (h : Past) (s : State) (time : ℕ) (a : AnswerShown) → FoundSo s.ports → place_with_work f s time ≡ o → s.out ≡ None → Stands g f h s.ports s.out → Turns h s time (work_found f s time o) a
+  turn_place None h s time a so e empty w = turn_rest h s time a w
+  turn_place (Some place) h s time a so e empty w =
+      turn_source (place == 0) (nat_le place f.apps) place h s time a so refl refl (found_passes (λ x. has_work s time (source_at f x)) (circle f s.cursor) place e) empty w
 
-  turn_plan : (trash : List Content) (o : Option Leaving) (h : Past) (s : State) (time : ℕ) (a : AnswerShown) → s.out ≡ o → Stands g f h s.ports s.out → Turns h s time (plan_by trash o (work_found f s time (place_with_work f s time))) a
-  turn_plan (b ∷ bs) o h s time a e w = turn_give h s time a w
-  turn_plan [] (Some o) h s time a e w = turn_push o h s time a e w
-  turn_plan [] None h s time a e w = turn_place (place_with_work f s time) h s time a refl e w
+  pub turn_plan : (trash : List Content) (o : Option Leaving) (h : Past) (s : State) (time : ℕ) (a : AnswerShown) → FoundSo s.ports → s.out ≡ o → Stands g f h s.ports s.out → Turns h s time (plan_by trash o (work_found f s time (place_with_work f s time))) a
+  turn_plan (b ∷ bs) o h s time a so e w = turn_give h s time a w
+  turn_plan [] (Some o) h s time a so e w = turn_push o h s time a e w
+  turn_plan [] None h s time a so e w = turn_place (place_with_work f s time) h s time a so refl e w
 
   -- ---- a whole turn
   handed_early : (s : State) (p : Plan) → (handed f s p).early ≡ s.early
@@ -437,13 +442,13 @@ module _ (g : Aim) (f : Facts) (whole : Past) (k : IsAim g f whole) where
   timed_part h s time a w part =
       part_before (asks_at f s time) a (after_told (timed s time) time (plan_of f (timed s time) time) a).events (with_openings (ports_timed time s.ports).events h) whole (subst (λ x. IsPart x whole) (sym (timed_first h s time a w)) part)
 
-  pub turn_stands : (h : Past) (s : State) (time : ℕ) (a : AnswerShown) → Stands g f h s.ports s.out → Fits (asks_at f s time) a → ComesSo (asks_at f s time) a → HearsSo g (asks_at f s time) a
+  pub turn_stands : (h : Past) (s : State) (time : ℕ) (a : AnswerShown) → FoundSo (timed s time).ports → Stands g f h s.ports s.out → Fits (asks_at f s time) a → ComesSo (asks_at f s time) a → HearsSo g (asks_at f s time) a
       → IsPart (past_after (asks_at f s time) a (told_at f (asked_at f s time) time a).events h) whole → AllByRecursion g.fresh (told_at f (asked_at f s time) time a).events
       → Stands g f (past_after (asks_at f s time) a (told_at f (asked_at f s time) time a).events h) (told_at f (asked_at f s time) time a).state.ports (told_at f (asked_at f s time) time a).state.out × PushedSo g (asks_at f s time) a
-  turn_stands h s time a w fits comes hears part fresh =
+  turn_stands h s time a so w fits comes hears part fresh =
       let c : Came = ports_timed time s.ports in
       let t : State = timed s time in
       let told : Told = after_told t time (plan_of f t time) a in
       let same = timed_first h s time a w in
-      let done = turn_plan t.trash t.out (with_openings c.events h) t time a refl (stands_timed h s time w) fits comes hears (subst (λ x. IsPart x whole) (sym same) part) (all_second g.fresh c.events told.events (subst (AllByRecursion g.fresh) (events_told s time a) fresh)) in
+      let done = turn_plan t.trash t.out (with_openings c.events h) t time a so refl (stands_timed h s time w) fits comes hears (subst (λ x. IsPart x whole) (sym same) part) (all_second g.fresh c.events told.events (subst (AllByRecursion g.fresh) (events_told s time a) fresh)) in
       (subst (λ x. Stands g f x told.state.ports told.state.out) same done.0, done.1)

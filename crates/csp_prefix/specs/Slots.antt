@@ -17,6 +17,7 @@ use Rattle.csp_rdp_header.specs.Head.{has_flag}
 use Rattle.csp_rdp_header.specs.declared.head.RdpHead.{RdpHead}
 use Rattle.csp_rdp_header.specs.declared.head.TheConstants.{SYN}
 use Rattle.csp_rdp_header.specs.declared.options.Options.{Options}
+use Rattle.csp_ports.specs.Steps.{has_room}
 
 -- what the log tells of the present connection of a slot: how it became open, if it did (its number and its peer), what was sent on it, and
 -- what was delivered
@@ -111,13 +112,13 @@ pub record IsKept (o : Origin) (C : Coming) (Is : Numbering → ℕ → ℕ → 
       → (Opens n.machine.state (handed h tag b time n.machine).state → ⊥) → Is m app slot n → Is m app slot (with_machine (handed h tag b time n.machine) n)
   pub opens : (m : Numbering) (app slot : ℕ) (n : Now) (h : RdpHead) (tag : Option Tag) (b : PlainBuffer) (time : ℕ) → C.fed n.connection n.machine h tag b.picture.payload
       → Opens n.machine.state (handed h tag b time n.machine).state → Is m app slot n → Is m app slot (after_opening (with_machine (handed h tag b time n.machine) n))
-  -- a payload is sent on it while it is open and none waits: it is admitted, or waits; one that waits is admitted; or it is dropped where the
-  -- connection is not open any more
-  pub admits : (m : Numbering) (app slot : ℕ) (n : Now) (b : PlainBuffer) (time : ℕ) → n.machine.state ≡ Open → n.waits ≡ None → Is m app slot n
+  -- a payload is sent on it while it is open and none waits: it is admitted where there is room, or waits; one that waits is admitted where there is
+  -- room; or it is dropped where the connection is not open any more
+  pub admits : (m : Numbering) (app slot : ℕ) (n : Now) (b : PlainBuffer) (time : ℕ) → n.machine.state ≡ Open → has_room n.machine ≡ true → n.waits ≡ None → Is m app slot n
       → Is m app slot (after_sending b.picture.payload (with_machine (admitting b time n.machine) n))
   pub delays : (m : Numbering) (app slot : ℕ) (n : Now) (payload : List ℕ) → n.machine.state ≡ Open → n.waits ≡ None → Is m app slot n
       → Is m app slot (after_sending payload (waiting_for (Some payload) n))
-  pub settles : (m : Numbering) (app slot : ℕ) (n : Now) (b : PlainBuffer) (time : ℕ) → n.machine.state ≡ Open → n.waits ≡ Some b.picture.payload → Is m app slot n
+  pub settles : (m : Numbering) (app slot : ℕ) (n : Now) (b : PlainBuffer) (time : ℕ) → n.machine.state ≡ Open → has_room n.machine ≡ true → n.waits ≡ Some b.picture.payload → Is m app slot n
       → Is m app slot (waiting_for None (with_machine (admitting b time n.machine) n))
   pub drops : (m : Numbering) (app slot : ℕ) (n : Now) → n.machine.state ≢ Open → Is m app slot n → Is m app slot (waiting_for None n)
   -- a packet is delivered, or taken out and kept again
