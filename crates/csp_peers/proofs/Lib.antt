@@ -11,3 +11,4 @@ pub mod RouterNear
 pub mod SenderBounds
 pub mod StaleCounting
 pub mod StaleNone
+pub mod WindowFacts

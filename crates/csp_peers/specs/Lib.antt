@@ -3,3 +3,4 @@ pub mod Clear
 pub mod Nearness
 pub mod Sent
 pub mod Unforged
+pub mod Window

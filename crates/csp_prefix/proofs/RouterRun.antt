@@ -1,5 +1,5 @@
 -- the runs of a router: what is to be known of its connections holds at the end
-use Rattle.std.proofs.Common.{◌≡◌, ℕ, List, [], ◌∷◌, ◌++◌, Option, sym, ap, ◌∙◌, subst}
+use Rattle.std.proofs.Common.{◌≡◌, ℕ, List, [], ◌∷◌, ◌++◌, Option, Some, sym, ap, ◌∙◌, subst}
 use Rattle.std.specs.Prelude.{⊤}
 use Rattle.std.specs.List.{AllByRecursion}
 use Rattle.std.proofs.lemmas.List.{append-nil, append_assoc}
@@ -7,7 +7,9 @@ use Rattle.csp_deck.specs.Runs.{IsRun, IsStep}
 use Rattle.csp_log.specs.declared.entry.Entry.{Entry}
 use Rattle.csp_log.specs.declared.event.Event.{Event}
 use Rattle.csp_ports.specs.PlainPorts.{PlainPorts, machine_at}
+use Rattle.csp_rdp.specs.Jobs.{job_of}
 use Rattle.csp_rdp.specs.Machine.{PlainRdp}
+use Rattle.csp_rdp.specs.declared.jobs.Job.{Job}
 use Rattle.csp_record.specs.declared.payloads.Way.TheVariants as way
 use Rattle.csp_record.proofs.Ordinals.{openings_after, payloads_after}
 use Rattle.csp_stack.specs.Router.{Facts, Leaving, State}
@@ -48,15 +50,15 @@ pub record IsCome (g : Aim) (e : Entry) : Type 0 where
   pub hears : HearsSo g e.op e.answer
   pub fresh : AllByRecursion g.fresh e.events.items
 
--- what is to be known of the machines that a router's turns find, once its timers were tried
+-- what is to be known of the machines that owe something at a router's turns, once its timers were tried
 abbrev pub AreFound : (PlainRdp → Type 0) → Facts → State → List Entry → Type 0
 AreFound At f s [] = ⊤
-AreFound At f s (e ∷ es) = ((app slot : ℕ) → At (machine_at (timed s e.time).ports app slot)) × AreFound At f (told_at f (asked_at f s e.time) e.time e.answer).state es
+AreFound At f s (e ∷ es) = ((app slot : ℕ) (j : Job) → job_of e.time (machine_at (timed s e.time).ports app slot) ≡ Some j → At (machine_at (timed s e.time).ports app slot)) × AreFound At f (told_at f (asked_at f s e.time) e.time e.answer).state es
 
 -- where nothing is to be known of them, it is so
 pub found_any : (f : Facts) (s : State) (es : List Entry) → AreFound (λ r. ⊤) f s es
 found_any f s [] = tt
-found_any f s (e ∷ es) = (λ app slot. tt, found_any f (told_at f (asked_at f s e.time) e.time e.answer).state es)
+found_any f s (e ∷ es) = (λ app slot j owed. tt, found_any f (told_at f (asked_at f s e.time) e.time e.answer).state es)
 
 pub record IsRunSo (g : Aim) (f : Facts) (h : Past) (es : List Entry) : Type 0 where
   pub ports : PlainPorts
@@ -65,7 +67,7 @@ pub record IsRunSo (g : Aim) (f : Facts) (h : Past) (es : List Entry) : Type 0 w
   pub pushed : AllByRecursion (λ e. PushedSo g e.op e.answer) es
 
 module _ (g : Aim) (f : Facts) (whole : Past) (k : IsAim g f whole) where
-  pub step_stands : (e : Entry) (h : Past) (s : State) → FoundSo g f whole k (timed s e.time).ports → IsStep router_steps (record { facts = f; state = s }) e → IsCome g e → IsPart (past_with e h) whole → Stands g f h s.ports s.out
+  pub step_stands : (e : Entry) (h : Past) (s : State) → FoundSo g f whole k e.time (timed s e.time).ports → IsStep router_steps (record { facts = f; state = s }) e → IsCome g e → IsPart (past_with e h) whole → Stands g f h s.ports s.out
       → Stands g f (past_with e h) (told_at f (asked_at f s e.time) e.time e.answer).state.ports (told_at f (asked_at f s e.time) e.time e.answer).state.out × PushedSo g e.op e.answer
   step_stands e h s so step come part w =
       let same : past_with e h ≡ past_after (asks_at f s e.time) e.answer (told_at f (asked_at f s e.time) e.time e.answer).events h =

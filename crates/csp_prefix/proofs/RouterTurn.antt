@@ -348,9 +348,9 @@ module _ (g : Aim) (f : Facts) (whole : Past) (k : IsAim g f whole) where
 
   -- ---- a packet that is made
 
-  -- the machines on the slots are as they are to be
-  abbrev pub FoundSo : PlainPorts → Type 0
-  FoundSo p = (app slot : ℕ) → g.at (machine_at p app slot)
+  -- each machine that owes something is as it is to be
+  abbrev pub FoundSo : ℕ → PlainPorts → Type 0
+  FoundSo time p = (app slot : ℕ) (j : Job) → job_of time (machine_at p app slot) ≡ Some j → g.at (machine_at p app slot)
 
   turn_make : (app slot : ℕ) (j : Job) (h : Past) (s : State) (time : ℕ) (a : AnswerShown) → g.at (machine_at s.ports app slot) → app < s.ports.conns.apps → slot < SLOTS → job_of time (machine_at s.ports app slot) ≡ Some j → s.out ≡ None → Stands g f h s.ports s.out
       → Turns h s time (plan.Make app slot j) a
@@ -372,18 +372,18 @@ module _ (g : Aim) (f : Facts) (whole : Past) (k : IsAim g f whole) where
   turn_make app slot j h s time a so few low e empty w = λ fits comes hears part fresh. absurd fits
 
   -- ---- the jobs, by which is owed
-  turn_task : (x : Task) (app slot : ℕ) (h : Past) (s : State) (time : ℕ) (a : AnswerShown) → FoundSo s.ports → IsTask time s.ports (app, slot, x) → s.out ≡ None → Stands g f h s.ports s.out → Turns h s time (plan_for app slot x) a
+  turn_task : (x : Task) (app slot : ℕ) (h : Past) (s : State) (time : ℕ) (a : AnswerShown) → FoundSo time s.ports → IsTask time s.ports (app, slot, x) → s.out ≡ None → Stands g f h s.ports s.out → Turns h s time (plan_for app slot x) a
   turn_task task.Tell app slot h s time a so is empty w = turn_tell app slot h s time a w
   turn_task task.Deliver app slot h s time a so is empty w = turn_deliver (delivery (machine_at s.ports app slot)) app slot h s time a is.app_there is.slot_there refl (deliver_job time s.ports app slot is.is_task) empty w
-  turn_task (task.Make j) app slot h s time a so is empty w = turn_make app slot j h s time a (so app slot) is.app_there is.slot_there (make_job time s.ports app slot j is.is_task) empty w
+  turn_task (task.Make j) app slot h s time a so is empty w = turn_make app slot j h s time a (so app slot j (make_job time s.ports app slot j is.is_task)) is.app_there is.slot_there (make_job time s.ports app slot j is.is_task) empty w
 
-  turn_jobs : (owed : List Owed) (o : Option (ℕ × ℕ × Task)) (h : Past) (s : State) (time : ℕ) (a : AnswerShown) → FoundSo s.ports → s.ports.owed ≡ owed → next_task time s.ports ≡ o → s.out ≡ None → Stands g f h s.ports s.out → Turns h s time (jobs_by owed o) a
+  turn_jobs : (owed : List Owed) (o : Option (ℕ × ℕ × Task)) (h : Past) (s : State) (time : ℕ) (a : AnswerShown) → FoundSo time s.ports → s.ports.owed ≡ owed → next_task time s.ports ≡ o → s.out ≡ None → Stands g f h s.ports s.out → Turns h s time (jobs_by owed o) a
   turn_jobs (o ∷ os) t h s time a so e q empty w = turn_reply o os h s time a e empty w
   turn_jobs [] (Some t) h s time a so e q empty w = turn_task t.2 t.0 t.1 h s time a so (task_there time s.ports t q) empty w
   turn_jobs [] None h s time a so e q empty w = turn_rest h s time a w
 
   -- ---- the work that was found
-  turn_source : (first few : Bool) (place : ℕ) (h : Past) (s : State) (time : ℕ) (a : AnswerShown) → FoundSo s.ports → (place == 0) ≡ first → nat_le place f.apps ≡ few → has_work s time (cond first source.Inbox (cond few (source.App (place - 1)) source.Jobs)) ≡ true
+  turn_source : (first few : Bool) (place : ℕ) (h : Past) (s : State) (time : ℕ) (a : AnswerShown) → FoundSo time s.ports → (place == 0) ≡ first → nat_le place f.apps ≡ few → has_work s time (cond first source.Inbox (cond few (source.App (place - 1)) source.Jobs)) ≡ true
       → s.out ≡ None → Stands g f h s.ports s.out → Turns h s time (work_at s time (cond first source.Inbox (cond few (source.App (place - 1)) source.Jobs))) a
   turn_source true few place h s time a so e q works empty w = turn_hear h s time a w
   turn_source false true place h s time a so e q works empty w =
@@ -392,12 +392,12 @@ module _ (g : Aim) (f : Facts) (whole : Past) (k : IsAim g f whole) where
       turn_serve (place - 1) h s time a (omega (arith, low, more)) (serves_free s time (place - 1) works) empty w
   turn_source false false place h s time a so e q works empty w = turn_jobs s.ports.owed (next_task time s.ports) h s time a so refl refl empty w
 
-  turn_place : (o : Option ℕ) (h : Past) (s : State) (time : ℕ) (a : AnswerShown) → FoundSo s.ports → place_with_work f s time ≡ o → s.out ≡ None → Stands g f h s.ports s.out → Turns h s time (work_found f s time o) a
+  turn_place : (o : Option ℕ) (h : Past) (s : State) (time : ℕ) (a : AnswerShown) → FoundSo time s.ports → place_with_work f s time ≡ o → s.out ≡ None → Stands g f h s.ports s.out → Turns h s time (work_found f s time o) a
   turn_place None h s time a so e empty w = turn_rest h s time a w
   turn_place (Some place) h s time a so e empty w =
       turn_source (place == 0) (nat_le place f.apps) place h s time a so refl refl (found_passes (λ x. has_work s time (source_at f x)) (circle f s.cursor) place e) empty w
 
-  pub turn_plan : (trash : List Content) (o : Option Leaving) (h : Past) (s : State) (time : ℕ) (a : AnswerShown) → FoundSo s.ports → s.out ≡ o → Stands g f h s.ports s.out → Turns h s time (plan_by trash o (work_found f s time (place_with_work f s time))) a
+  pub turn_plan : (trash : List Content) (o : Option Leaving) (h : Past) (s : State) (time : ℕ) (a : AnswerShown) → FoundSo time s.ports → s.out ≡ o → Stands g f h s.ports s.out → Turns h s time (plan_by trash o (work_found f s time (place_with_work f s time))) a
   turn_plan (b ∷ bs) o h s time a so e w = turn_give h s time a w
   turn_plan [] (Some o) h s time a so e w = turn_push o h s time a e w
   turn_plan [] None h s time a so e w = turn_place (place_with_work f s time) h s time a so refl e w
@@ -442,7 +442,7 @@ module _ (g : Aim) (f : Facts) (whole : Past) (k : IsAim g f whole) where
   timed_part h s time a w part =
       part_before (asks_at f s time) a (after_told (timed s time) time (plan_of f (timed s time) time) a).events (with_openings (ports_timed time s.ports).events h) whole (subst (λ x. IsPart x whole) (sym (timed_first h s time a w)) part)
 
-  pub turn_stands : (h : Past) (s : State) (time : ℕ) (a : AnswerShown) → FoundSo (timed s time).ports → Stands g f h s.ports s.out → Fits (asks_at f s time) a → ComesSo (asks_at f s time) a → HearsSo g (asks_at f s time) a
+  pub turn_stands : (h : Past) (s : State) (time : ℕ) (a : AnswerShown) → FoundSo time (timed s time).ports → Stands g f h s.ports s.out → Fits (asks_at f s time) a → ComesSo (asks_at f s time) a → HearsSo g (asks_at f s time) a
       → IsPart (past_after (asks_at f s time) a (told_at f (asked_at f s time) time a).events h) whole → AllByRecursion g.fresh (told_at f (asked_at f s time) time a).events
       → Stands g f (past_after (asks_at f s time) a (told_at f (asked_at f s time) time a).events h) (told_at f (asked_at f s time) time a).state.ports (told_at f (asked_at f s time) time a).state.out × PushedSo g (asks_at f s time) a
   turn_stands h s time a so w fits comes hears part fresh =
