@@ -62,7 +62,7 @@ get_more [] ys i x e = absurd cc
 get_more (z ∷ zs) ys zero x e = e
 get_more (z ∷ zs) ys (suc i) x e = get_more zs ys i x e
 
-get_past : {X : Type 0} (xs ys : List X) (i : ℕ) → slice_get (xs ++ ys) (length xs + i) ≡ slice_get ys i
+pub get_past : {X : Type 0} (xs ys : List X) (i : ℕ) → slice_get (xs ++ ys) (length xs + i) ≡ slice_get ys i
 get_past {X} [] ys i = let same : length {A = X} [] + i ≡ i = omega arith in ap (slice_get ys) same
 get_past (x ∷ xs) ys i = let same : length (x ∷ xs) + i ≡ suc (length xs + i) = omega arith in ap (slice_get (x ∷ (xs ++ ys))) same ∙ get_past xs ys i
 

@@ -79,7 +79,7 @@ not_false : (t : Bool) → not t ≡ false → t ≡ true
 not_false true e = refl
 not_false false e = absurd cc
 
-fed_tag : (o : Option Tag) (flow : ℕ × ℕ) (cur una : ℕ) → is_stale_at (Some flow) o cur una ≡ false → (t : Tag) × (o ≡ Some t) × (flow_of t ≡ flow) × (is_far t.index cur ≡ false)
+pub fed_tag : (o : Option Tag) (flow : ℕ × ℕ) (cur una : ℕ) → is_stale_at (Some flow) o cur una ≡ false → (t : Tag) × (o ≡ Some t) × (flow_of t ≡ flow) × (is_far t.index cur ≡ false)
 fed_tag None flow cur una e = absurd cc
 fed_tag (Some t) flow cur una e =
     let outer = or_parts (not (names t flow) || is_far t.index cur) (is_far t.ack una) e in
@@ -112,7 +112,7 @@ first_all : {X : Type 0} (P : X → Type 0) (xs ys : List X) → AllByRecursion 
 first_all P [] ys all = (tt, all)
 first_all P (x ∷ xs) ys all = let rest = first_all P xs ys all.1 in ((all.0, rest.0), rest.1)
 
-all_fresh : (es : List Entry) → HasNoStale es → AllByRecursion (λ e. AllByRecursion {X = Event} (λ v. is_stale v ≡ false) e.events.items) es
+pub all_fresh : (es : List Entry) → HasNoStale es → AllByRecursion (λ e. AllByRecursion {X = Event} (λ v. is_stale v ≡ false) e.events.items) es
 all_fresh [] all = tt
 all_fresh (e ∷ es) all = let parts = first_all (λ v. is_stale v ≡ false) e.events.items (all_events es) all in (parts.0, all_fresh es parts.1)
 
