@@ -1,3 +1,4 @@
 pub mod Modes
 pub mod Owes
+pub mod Reread
 pub mod Said

@@ -1,6 +1,5 @@
 -- What a call owes: what it writes by what it read, and when each answer comes.
 use Rattle.std.specs.Prelude.{ℕ, ◌≡◌, List, Option, Some, None, Ok, Err, IfSome, ⊤}
-use Rattle.std.specs.Option.{option_map}
 use Rattle.std.specs.Io.KnownBytes.{Appends}
 use Rattle.csp_base.specs.Transfer.{WrotePrefix}
 use Rattle.csp_bench.specs.Edge.{Edge, WasRead}
@@ -20,6 +19,7 @@ use Rattle.csp_timeline.specs.Timeline.{timeline}
 use Rattle.csp_world.specs.Record.{sim_record}
 use Rattle.csp_world.specs.declared.limits.TheConstants.{MAX_ENTRIES}
 use Rattle.csp_trace.specs.Modes.{asked_of}
+use Rattle.csp_trace.specs.Reread.{IsReadIfKiss}
 use Rattle.csp_trace.specs.declared.asked.Asked.{Asked}
 use Rattle.csp_trace.specs.declared.asked.Asked.TheVariants as asked
 use Rattle.csp_trace.specs.declared.mode.Mode.{Mode}
@@ -33,7 +33,8 @@ told asked.Timeline scene run = timeline scene run
 told (asked.Picture window) scene run = picture scene run window
 told asked.Unused scene run = unused scene run
 
--- the text states a scene, whose run ends before its logs are full, and these bytes are what the mode asks of it
+-- the text states a scene, whose run ends before its logs are full, and these bytes are what the mode asks of it; where they are those of an end of a KISS
+-- link, they are read again as the packets that it sent
 pub record IsTraceOf (mode : Mode) (text bytes : List ℕ) : Type 0 where
   pub scene : PlainScene
   pub run : PlainRecord
@@ -42,6 +43,7 @@ pub record IsTraceOf (mode : Mode) (text bytes : List ℕ) : Type 0 where
   pub named : asked_of mode scene ≡ Some what
   pub ran : sim_record scene ≡ Some run
   pub shown : bytes ≡ told what scene run
+  pub read : IsReadIfKiss what scene run bytes
 
 -- the text states a scene that lacks what the mode names
 pub record IsUnnamed (mode : Mode) (text : List ℕ) : Type 0 where

@@ -11,6 +11,8 @@ ghost use Rattle.csp_trace.specs.Owes.{IsTraceOf, IsUnnamed, status_without};
 use crate::asked::{asked_of, told};
 use crate::mode::Mode;
 use csp_bench::{MAX_SCENARIO, Refusal, Status, read_scene, run_of};
+use csp_ordinary::hold_words;
+use csp_reread::reads_what_was_sent;
 use csp_scene::SceneKind;
 use std::alloc::Global;
 
@@ -54,6 +56,8 @@ pub(crate) fn traced(alloc: Global, mode: &Mode, text: &[u8]) -> Result<Vec<u8>,
         Ok(run) => run,
         Err(refusal) => return Err(Untold::Text(refusal)),
     };
+    reads_what_was_sent();
+    hold_words(&run);
     match told(alloc, &asked, &scene, &run) {
         Ok(bytes) => Ok(bytes),
         Err(_) => Err(Untold::Text(Refusal::NoMemory)),
