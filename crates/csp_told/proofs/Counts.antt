@@ -1,0 +1,106 @@
+-- What a report counts as sent is the number of transmissions, and the entries that it reads are those of the interface's name.
+use Rattle.std.proofs.Common.{◌≡◌, ℕ, Bool, true, false, cond, List, [], ◌∷◌, ◌++◌, Option, Some, sum_by, count_by, refl, sym, ap, subst, ◌∙◌, append-nil, arith}
+use Rattle.std.proofs.lemmas.List.Sums.{sum_by-cons}
+use Rattle.std.specs.Prelude.{find}
+use Rattle.csp_base.specs.declared.traces.Tag.{Tag}
+use Rattle.csp_log.specs.PlainLog.{all_events}
+use Rattle.csp_log.specs.declared.entry.Entry.{Entry}
+use Rattle.csp_log.specs.declared.event.Discard.{Discard}
+use Rattle.csp_log.specs.declared.event.Event.{Event}
+use Rattle.csp_log.specs.declared.event.Event.TheVariants as event
+use Rattle.csp_log.specs.declared.note.Why.{Why}
+use Rattle.csp_record.specs.Record.{PlainPartyLog, PlainRecord}
+use Rattle.csp_record.specs.declared.who.Who.{Who}
+use Rattle.csp_record.specs.declared.who.Who.TheVariants as who
+use Rattle.csp_scene.specs.Scene.{PlainScene}
+use Rattle.csp_topology.specs.Parties.{PlainOpening, parties_of}
+use Rattle.csp_consistent.proofs.Names.{HasNone, AreApart, entries_in, none_there, who_is, are_apart}
+use Rattle.csp_consistent.specs.Reading.{is_who, entries_of}
+use Rattle.csp_consistent.specs.Runs.{AreLogsOf}
+use Rattle.csp_ordinary.specs.Ordinary.{is_transmission, transmissions}
+use Rattle.csp_report.specs.Parties as shown
+
+-- ---- the count
+
+-- a weight of events counts the transmissions that began where it does at each kind of event
+pub event_alike : (weight : Event → ℕ)
+    → ((serial : ℕ) → weight (event.Transmitted serial) ≡ 1)
+    → ((step : ℕ) → weight (event.TookEmpty step) ≡ 0)
+    → ((slot ordinal : ℕ) → weight (event.Sent slot ordinal) ≡ 0)
+    → ((slot ordinal : ℕ) → weight (event.Took slot ordinal) ≡ 0)
+    → ((step : ℕ) (reason : Why) → weight (event.Refused step reason) ≡ 0)
+    → ((step : ℕ) → weight (event.GaveUp step) ≡ 0)
+    → ((step : ℕ) → weight (event.SlotDown step) ≡ 0)
+    → ((reason : Discard) → weight (event.Discarded reason) ≡ 0)
+    → ((nth : ℕ) (peer : Option (ℕ × ℕ)) (tag : Option Tag) (cur una : ℕ) → weight (event.Handed nth peer tag cur una) ≡ 0)
+    → ((number slot : ℕ) (nth : Option ℕ) (peer : Option (ℕ × ℕ)) → weight (event.Opened number slot nth peer) ≡ 0)
+    → ((frames : ℕ) → weight (event.Bad frames) ≡ 0)
+    → weight event.Starved ≡ 0 → weight event.InboxFull ≡ 0 → weight event.TooBig ≡ 0 → weight event.Reboot ≡ 0 → weight event.Shutdown ≡ 0
+    → (e : Event) → weight e ≡ cond (is_transmission e) 1 0
+event_alike weight a b c d e f g h i j k l m n o p (event.Transmitted serial) = a serial
+event_alike weight a b c d e f g h i j k l m n o p (event.TookEmpty step) = b step
+event_alike weight a b c d e f g h i j k l m n o p (event.Sent slot ordinal) = c slot ordinal
+event_alike weight a b c d e f g h i j k l m n o p (event.Took slot ordinal) = d slot ordinal
+event_alike weight a b c d e f g h i j k l m n o p (event.Refused step reason) = e step reason
+event_alike weight a b c d e f g h i j k l m n o p (event.GaveUp step) = f step
+event_alike weight a b c d e f g h i j k l m n o p (event.SlotDown step) = g step
+event_alike weight a b c d e f g h i j k l m n o p (event.Discarded reason) = h reason
+event_alike weight a b c d e f g h i j k l m n o p (event.Handed nth peer tag cur una) = i nth peer tag cur una
+event_alike weight a b c d e f g h i j k l m n o p (event.Opened number slot nth peer) = j number slot nth peer
+event_alike weight a b c d e f g h i j k l m n o p (event.Bad frames) = k frames
+event_alike weight a b c d e f g h i j k l m n o p event.Starved = l
+event_alike weight a b c d e f g h i j k l m n o p event.InboxFull = m
+event_alike weight a b c d e f g h i j k l m n o p event.TooBig = n
+event_alike weight a b c d e f g h i j k l m n o p event.Reboot = o
+event_alike weight a b c d e f g h i j k l m n o p event.Shutdown = p
+
+sum_is : (weight : Event → ℕ) → ((e : Event) → weight e ≡ cond (is_transmission e) 1 0) → (events : List Event) → sum_by weight events ≡ count_by is_transmission events
+sum_is weight each [] = refl
+sum_is weight each (e ∷ events) =
+    omega (arith, sum_by-cons weight e events, sum_by-cons (λ (x : Event). cond (is_transmission x) 1 0) e events, each e, sum_is weight each events)
+
+-- ---- the entries
+
+-- a test of parties agrees with a name where it does on each kind of party
+pub party_alike : (p : PlainPartyLog → Bool) (w : Who)
+    → ((n : ℕ) (es : List Entry) (k : ℕ) → p (record { who = who.Router n; entries = es; step = k }) ≡ is_who w (who.Router n))
+    → ((n : ℕ) (es : List Entry) (k : ℕ) → p (record { who = who.Bridge n; entries = es; step = k }) ≡ is_who w (who.Bridge n))
+    → ((n i : ℕ) (es : List Entry) (k : ℕ) → p (record { who = who.Iface n i; entries = es; step = k }) ≡ is_who w (who.Iface n i))
+    → ((n i : ℕ) (es : List Entry) (k : ℕ) → p (record { who = who.App n i; entries = es; step = k }) ≡ is_who w (who.App n i))
+    → ((i : ℕ) (es : List Entry) (k : ℕ) → p (record { who = who.Link i; entries = es; step = k }) ≡ is_who w (who.Link i))
+    → (log : PlainPartyLog) → p log ≡ is_who w log.who
+party_alike p w routers bridges ifaces apps links log = by log.who
+  where
+    by : (x : Who) → p (record { who = x; entries = log.entries; step = log.step }) ≡ is_who w x
+    by (who.Router n) = routers n log.entries log.step
+    by (who.Bridge n) = bridges n log.entries log.step
+    by (who.Iface n i) = ifaces n i log.entries log.step
+    by (who.App n i) = apps n i log.entries log.step
+    by (who.Link i) = links i log.entries log.step
+
+module _ (w : Who) (p : PlainPartyLog → Bool) (agree : (log : PlainPartyLog) → p log ≡ is_who w log.who) where
+  -- the first party of a name is the only one
+  same_entries : (os : List PlainOpening) (logs : List PlainPartyLog) → AreLogsOf os logs → AreApart os → shown.entries_of (find p logs) ≡ entries_in w logs
+  same_entries [] [] are apart = refl
+  same_entries [] (log ∷ logs) are apart = absurd are
+  same_entries (o ∷ os) [] are apart = absurd are
+  same_entries (o ∷ os) (log ∷ logs) are apart = by_test (p log) refl (same_entries os logs are.1 apart.1)
+    where
+      only : is_who w log.who ≡ true → entries_in w logs ≡ []
+      only is =
+          let name : w ≡ o.who = who_is w log.who is ∙ are.0.who in
+          none_there w os logs are.1 (subst (λ x. HasNone x os) (sym name) apart.0)
+
+      by_test : (t : Bool) → p log ≡ t → shown.entries_of (find p logs) ≡ entries_in w logs → shown.entries_of (cond t (Some log) (find p logs)) ≡ cond (is_who w log.who) log.entries [] ++ entries_in w logs
+      by_test true e later =
+          let is : is_who w log.who ≡ true = sym (agree log) ∙ e in
+          sym (ap (λ t. cond t log.entries [] ++ entries_in w logs) is ∙ ap (λ (es : List Entry). log.entries ++ es) (only is) ∙ append-nil log.entries)
+      by_test false e later =
+          let not_it : is_who w log.who ≡ false = sym (agree log) ∙ e in
+          later ∙ sym (ap (λ t. cond t log.entries [] ++ entries_in w logs) not_it)
+
+-- what such a weight sums up at the first party that passes such a test is the number of transmissions by the entries of this name
+pub counted_is : (scene : PlainScene) (r : PlainRecord) → AreLogsOf (parties_of scene) r.parties → (w : Who) (p : PlainPartyLog → Bool) → ((log : PlainPartyLog) → p log ≡ is_who w log.who)
+    → (weight : Event → ℕ) → ((e : Event) → weight e ≡ cond (is_transmission e) 1 0) → sum_by weight (all_events (shown.entries_of (find p r.parties))) ≡ transmissions (entries_of r w)
+counted_is scene r are w p agree weight each =
+    sum_is weight each (all_events (shown.entries_of (find p r.parties))) ∙ ap transmissions (same_entries w p agree (parties_of scene) r.parties are (are_apart scene))

@@ -1,0 +1,6 @@
+mod Counts
+mod Digits
+mod LinesBack
+mod Parts
+mod SentLines
+mod Told
