@@ -10,6 +10,7 @@ use Rattle.csp_world.specs.Record.{sim_record}
 use Rattle.csp_ordinary.specs.Ordinary.{HasNoFlips, HasNumbersForAll, IsOrdinary}
 use Rattle.csp_peers.specs.Clear.{HasClearFlows}
 use Rattle.csp_prefix.specs.Prefix.{IsReliablePrefix}
+use Rattle.csp_told.specs.WithinNumbers.{SendsWithinNumbers}
 use Rattle.csp_report.specs.Lines.{ended_line}
 use Rattle.csp_report.specs.Report.{report}
 use Rattle.csp_consistent.specs.Consistent.{IsConsistent}
@@ -29,11 +30,12 @@ pub record EndsUncounted (bytes : List ℕ) : Type 0 where
   pub whole : bytes ≡ before ++ ended_line (codes "stale" ∷ decimal 0 ∷ []) ++ ended_line (codes "passed" ∷ decimal 0 ∷ [])
 
 -- where a run was ordinary the bytes of its report end with `passed 0`; so they do where no line of the scenario flips a bit and no bus wore out its
--- numbers. Where besides its flows are clear they end with `stale 0` and `passed 0`, and what was taken on each reliable connection with a peer is a
+-- numbers, be it by the record or by the report's own lines. Where besides its flows are clear they end with `stale 0` and `passed 0`, and what was taken on each reliable connection with a peer is a
 -- beginning of what the peer sent
 pub record EndsAsOrdinary (scene : PlainScene) (run : PlainRecord) (bytes : List ℕ) : Type 0 where
   pub passes : IsOrdinary scene run → EndsUnchanged bytes
   pub unflipped : HasNoFlips scene → HasNumbersForAll scene run → EndsUnchanged bytes
+  pub by_report : HasNoFlips scene → SendsWithinNumbers scene bytes → EndsUnchanged bytes
   pub clear : IsOrdinary scene run → HasClearFlows scene run → EndsUncounted bytes
   pub prefix : IsOrdinary scene run → HasClearFlows scene run → IsReliablePrefix run
 
