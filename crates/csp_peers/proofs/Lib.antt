@@ -11,4 +11,5 @@ pub mod RouterNear
 pub mod SenderBounds
 pub mod StaleCounting
 pub mod StaleNone
+pub mod WindowAcks
 pub mod WindowFacts

@@ -132,19 +132,19 @@ ordered-delivering time r i = ordered-reset r.reset_at time _ i
 
 -- ---- a step keeps the bounds
 
-own-ways : (a b : PlainRdp) → Ways a b → IsSameOwn a b
+pub own-ways : (a b : PlainRdp) → Ways a b → IsSameOwn a b
 own-ways a b (on g) = g.own
 own-ways a b (over g) = g.own
 own-ways a b (off g) = g.own
 
-own-heard : (h : RdpHead) (tag : Option Tag) (p : PlainBuffer) (a b : PlainRdp) → Hears h tag p a b → IsSameOwn a b
+pub own-heard : (h : RdpHead) (tag : Option Tag) (p : PlainBuffer) (a b : PlainRdp) → Hears h tag p a b → IsSameOwn a b
 own-heard h tag p a b (moves w) = own-ways a b w
 own-heard h tag p a b (keeps t e c g) = g.own
 own-heard h tag p a b (answers e f g) = g.own
 own-heard h tag p a b (enters e g) = g.own
 own-heard h tag p a b (enters_keeping t e c g) = g.own
 
-own-delivered : (w : PlainRecv) (a b : PlainRdp) → Delivers w a b → IsSameOwn a b
+pub own-delivered : (w : PlainRecv) (a b : PlainRdp) → Delivers w a b → IsSameOwn a b
 own-delivered w a b (delivers g) = g.own
 own-delivered w a b (resets g) = g.own
 
