@@ -13,3 +13,5 @@ pub mod StaleCounting
 pub mod StaleNone
 pub mod WindowAcks
 pub mod WindowFacts
+pub mod WindowMachine
+pub mod WindowSends
