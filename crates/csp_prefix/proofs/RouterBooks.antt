@@ -20,14 +20,15 @@ use Rattle.csp_record.proofs.Ordinals.{Ends, ended}
 use Rattle.csp_scene.proofs.Lists.{AllByRecursion-append, AllByRecursion-map}
 use Rattle.csp_prefix.specs.Delivered.{delivered_by}
 use Rattle.csp_prefix.specs.Ports.{AreNew, Books, IsNew, Ordinals, noted, noted_by, with_book, with_down, with_opened, with_ordinal, with_sent}
-use Rattle.csp_prefix.specs.Slots.{Book, Numbering, blank}
+use Rattle.csp_prefix.specs.Slots.{Book, GoesOn, Numbering, blank}
 
--- ---- what the log tells so far: the openings, what was sent and delivered, and the ends of the slots
+-- ---- what the log tells so far: the openings, what was sent and delivered, and the ends of the slots; and the numbering from which it is told
 pub record Past : Type 0 where
   pub opened : ℕ → List Opening
   pub sent : ℕ → ℕ → ℕ → List (List ℕ)
   pub down : ℕ → ℕ → ℕ → List (List ℕ)
   pub ends : ℕ → Ends
+  pub since : Numbering
 
 abbrev pub past_after : OpShown → AnswerShown → List Event → Past → Past
 past_after o a events h = record {
@@ -35,6 +36,7 @@ past_after o a events h = record {
   sent = λ app slot ordinal. h.sent app slot ordinal ++ (if h.ends app slot == ordinal then told_on way.Sent slot events (carried way.Sent app (moved_by o a)) else []);
   down = λ app slot ordinal. h.down app slot ordinal ++ (if h.ends app slot == ordinal then delivered_by app slot o a else []);
   ends = λ app. ended way.Sent app (note_moved o a) (h.ends app);
+  since = h.since;
 }
 
 -- openings alone; a payload that was sent, one that was delivered; a slot that was freed
@@ -52,8 +54,8 @@ freed_on app slot h = record h { ends = λ a s. if app == a && slot == s then h.
 
 -- two that agree are one
 pub past_same : (h k : Past) → ((app : ℕ) → h.opened app ≡ k.opened app) → ((app slot ordinal : ℕ) → h.sent app slot ordinal ≡ k.sent app slot ordinal)
-    → ((app slot ordinal : ℕ) → h.down app slot ordinal ≡ k.down app slot ordinal) → ((app slot : ℕ) → h.ends app slot ≡ k.ends app slot) → h ≡ k
-past_same h k o s d e = λ i. record { opened = λ app. o app i; sent = λ app slot ordinal. s app slot ordinal i; down = λ app slot ordinal. d app slot ordinal i; ends = λ app slot. e app slot i }
+    → ((app slot ordinal : ℕ) → h.down app slot ordinal ≡ k.down app slot ordinal) → ((app slot : ℕ) → h.ends app slot ≡ k.ends app slot) → h.since ≡ k.since → h ≡ k
+past_same h k o s d e q = λ i. record { opened = λ app. o app i; sent = λ app slot ordinal. s app slot ordinal i; down = λ app slot ordinal. d app slot ordinal i; ends = λ app slot. e app slot i; since = q i }
 
 -- ---- a place among others
 pub record IsAmong (x : Opening) (xs : List Opening) : Type 0 where
@@ -109,10 +111,11 @@ pub record Tells (Over : Numbering → ℕ → Opening → List (List ℕ) → T
   pub down : (app slot : ℕ) → (books app slot).down ≡ h.down app slot (h.ends app slot)
   pub later_sent : (app slot ordinal : ℕ) → h.ends app slot < ordinal → h.sent app slot ordinal ≡ []
   pub later_down : (app slot ordinal : ℕ) → h.ends app slot < ordinal → h.down app slot ordinal ≡ []
+  pub goes_on : GoesOn h.since m
 
 -- before the first entry
 abbrev pub no_past : Past
-no_past = record { opened = λ app. []; sent = λ app slot ordinal. []; down = λ app slot ordinal. []; ends = λ app slot. 0 }
+no_past = record { opened = λ app. []; sent = λ app slot ordinal. []; down = λ app slot ordinal. []; ends = λ app slot. 0; since = record { made = 0; home = λ n. (0, 0, 0) } }
 
 pub tells_nothing : (Over : Numbering → ℕ → Opening → List (List ℕ) → Type 0) (apps : ℕ) (m : Numbering) → Tells Over apps m no_past (λ app slot. blank)
 tells_nothing Over apps m = record {
@@ -122,12 +125,17 @@ tells_nothing Over apps m = record {
   down = λ app slot. refl;
   later_sent = λ app slot ordinal lt. refl;
   later_down = λ app slot ordinal lt. refl;
+  goes_on = record { more = omega arith; same = λ n lt. absurd (omega (arith, lt)) };
 }
+
+-- from one that goes on from another
+goes_further : (m m' m'' : Numbering) → GoesOn m m' → GoesOn m' m'' → GoesOn m m''
+goes_further m m' m'' g h = record { more = let one = g.more in let two = h.more in omega (arith, one, two); same = λ n lt. h.same n (let one = g.more in omega (arith, one, lt)) ∙ g.same n lt }
 
 -- other connections are made
 pub tells_grows : (Over : Numbering → ℕ → Opening → List (List ℕ) → Type 0) (apps : ℕ) (m m' : Numbering) (h : Past) (books : Books)
-    → ((app : ℕ) (x : Opening) (down : List (List ℕ)) → Over m app x down → Over m' app x down) → Tells Over apps m h books → Tells Over apps m' h books
-tells_grows Over apps m m' h books more t = record {
+    → ((app : ℕ) (x : Opening) (down : List (List ℕ)) → Over m app x down → Over m' app x down) → GoesOn m m' → Tells Over apps m h books → Tells Over apps m' h books
+tells_grows Over apps m m' h books more on t = record {
   told = λ app. AllByRecursion-map (IsTold Over apps m h books app) (IsTold Over apps m' h books app) (h.opened app)
       (λ x i. record { app_there = i.app_there; slot_there = i.slot_there; reached = i.reached; present = i.present; over = λ lt. more app x _ (i.over lt) }) (t.told app);
   back = t.back;
@@ -135,11 +143,12 @@ tells_grows Over apps m m' h books more t = record {
   down = t.down;
   later_sent = t.later_sent;
   later_down = t.later_down;
+  goes_on = goes_further h.since m m' t.goes_on on;
 }
 
 -- ---- an opening
 pub no_openings : (h : Past) → h ≡ with_openings [] h
-no_openings h = past_same h (with_openings [] h) (λ app. sym (append-nil (h.opened app))) (λ app slot ordinal. refl) (λ app slot ordinal. refl) (λ app slot. refl)
+no_openings h = past_same h (with_openings [] h) (λ app. sym (append-nil (h.opened app))) (λ app slot ordinal. refl) (λ app slot ordinal. refl) (λ app slot. refl) refl
 
 abbrev opening_more : ℕ → ℕ → Option ℕ × Option (ℕ × ℕ) → Past → Past
 opening_more app slot how h = record h { opened = λ a. h.opened a ++ (if app == a then opening_on slot (h.ends a slot) how ∷ [] else []) }
@@ -185,18 +194,19 @@ module _ (Over : Numbering → ℕ → Opening → List (List ℕ) → Type 0) (
     down = λ a s. book_at (λ a s b. b.down ≡ h.down a s (h.ends a s)) app slot _ books a s (t.down app slot) (λ differ. t.down a s);
     later_sent = t.later_sent;
     later_down = t.later_down;
+    goes_on = t.goes_on;
   }
 
 -- ---- several events
 pub no_openings_of : (h : Past) (e : Event) → ((app : ℕ) (ends : Ends) → opened_by app ends e ≡ []) → with_openings (e ∷ []) h ≡ h
 no_openings_of h e none =
-    past_same (with_openings (e ∷ []) h) h (λ app. ap (λ xs. h.opened app ++ (xs ++ [])) (none app (h.ends app)) ∙ append-nil (h.opened app)) (λ app slot ordinal. refl) (λ app slot ordinal. refl) (λ app slot. refl)
+    past_same (with_openings (e ∷ []) h) h (λ app. ap (λ xs. h.opened app ++ (xs ++ [])) (none app (h.ends app)) ∙ append-nil (h.opened app)) (λ app slot ordinal. refl) (λ app slot ordinal. refl) (λ app slot. refl) refl
 
 openings_one : (h : Past) (e : Event) (es : List Event) → with_openings es (with_openings (e ∷ []) h) ≡ with_openings (e ∷ es) h
 openings_one h e es =
     past_same (with_openings es (with_openings (e ∷ []) h)) (with_openings (e ∷ es) h)
     (λ app. append_assoc (h.opened app) (opened_by app (h.ends app) e ++ []) _ ∙ ap (λ xs. h.opened app ++ (xs ++ flat_map (opened_by app (h.ends app)) es)) (append-nil (opened_by app (h.ends app) e)))
-    (λ app slot ordinal. refl) (λ app slot ordinal. refl) (λ app slot. refl)
+    (λ app slot ordinal. refl) (λ app slot ordinal. refl) (λ app slot. refl) refl
 
 pub openings_both : (h : Past) (es fs : List Event) → with_openings fs (with_openings es h) ≡ with_openings (es ++ fs) h
 openings_both h [] fs = ap (with_openings fs) (sym (no_openings h))
@@ -210,7 +220,7 @@ module _ (Over : Numbering → ℕ → Opening → List (List ℕ) → Type 0) (
   tells_event : (h : Past) (books : Books) (e : Event) → IsNew apps e books → Tells Over apps m h books → Tells Over apps m (with_openings (e ∷ []) h) (noted_by e books)
   tells_event h books (event.Opened app slot nth peer) new t =
       subst (λ k. Tells Over apps m k (with_opened app slot (nth, peer) books))
-      (past_same (opening_more app slot (nth, peer) h) (with_openings (event.Opened app slot nth peer ∷ []) h) (λ a. ap (λ xs. h.opened a ++ xs) (sym (append-nil _))) (λ a s o. refl) (λ a s o. refl) (λ a s. refl))
+      (past_same (opening_more app slot (nth, peer) h) (with_openings (event.Opened app slot nth peer ∷ []) h) (λ a. ap (λ xs. h.opened a ++ xs) (sym (append-nil _))) (λ a s o. refl) (λ a s o. refl) (λ a s. refl) refl)
       (tells_opening Over apps m h books app slot (nth, peer) new.0 new.1 new.2 t)
   tells_event h books (event.Sent slot ordinal) new t = absurd new
   tells_event h books (event.TookEmpty step) new t = tells_other h books (event.TookEmpty step) (λ app ends. refl) t
@@ -263,6 +273,7 @@ module _ (Over : Numbering → ℕ → Opening → List (List ℕ) → Type 0) (
     down = λ a s. book_at (λ a s b. b.down ≡ h.down a s (h.ends a s)) app slot _ books a s (t.down app slot) (λ differ. t.down a s);
     later_sent = λ a s o lt. rw (t.later_sent a s o lt) (not_on app slot a s (h.ends a s) o payload (λ first second is. omega (arith, lt, is)));
     later_down = t.later_down;
+    goes_on = t.goes_on;
   }
 
   pub tells_down : (h : Past) (books : Books) (app slot : ℕ) (payload : List ℕ) → Tells Over apps m h books → Tells Over apps m (down_on app slot payload h) (with_down app slot payload books)
@@ -283,6 +294,7 @@ module _ (Over : Numbering → ℕ → Opening → List (List ℕ) → Type 0) (
         (λ differ. rw (not_on app slot a s (h.ends a s) (h.ends a s) payload (λ first second is. differ first second)) (t.down a s ∙ sym (append-nil _)));
     later_sent = t.later_sent;
     later_down = λ a s o lt. rw (t.later_down a s o lt) (not_on app slot a s (h.ends a s) o payload (λ first second is. omega (arith, lt, is)));
+    goes_on = t.goes_on;
   }
 
   -- ---- a slot that is freed: what is to be known of its connection is known
@@ -354,10 +366,11 @@ module _ (Over : Numbering → ℕ → Opening → List (List ℕ) → Type 0) (
     down = λ a s. both_at (λ a s b n. b.down ≡ h.down a s n) app slot blank _ books h.ends a s (sym (t.later_down app slot (h.ends app slot + 1) (omega arith))) (λ differ. t.down a s);
     later_sent = λ a s o lt. t.later_sent a s o (both_at (λ a s b n. n < o → h.ends a s < o) app slot blank _ books h.ends a s (λ lt. omega (arith, lt)) (λ differ lt. lt) lt);
     later_down = λ a s o lt. t.later_down a s o (both_at (λ a s b n. n < o → h.ends a s < o) app slot blank _ books h.ends a s (λ lt. omega (arith, lt)) (λ differ lt. lt) lt);
+    goes_on = t.goes_on;
   }
 
   pub freed_is : (app slot : ℕ) (h : Past) → freed_as app slot h ≡ freed_on app slot h
-  freed_is app slot h = past_same (freed_as app slot h) (freed_on app slot h) (λ a. refl) (λ a s o. refl) (λ a s o. refl) (freed_ends app slot h)
+  freed_is app slot h = past_same (freed_as app slot h) (freed_on app slot h) (λ a. refl) (λ a s o. refl) (λ a s o. refl) (freed_ends app slot h) refl
 
   pub tells_freed : (h : Past) (books : Books) (app slot : ℕ) → ((how : Option ℕ × Option (ℕ × ℕ)) → (books app slot).opened ≡ Some how → Over m app (opening_on slot (h.ends app slot) how) (books app slot).down)
       → Tells Over apps m h books → Tells Over apps m (freed_on app slot h) (with_book app slot blank books)

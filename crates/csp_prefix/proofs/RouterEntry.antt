@@ -34,7 +34,7 @@ quiet_entry o a events h q =
     past_same (with_openings events h) (past_after o a events h) (λ app. refl)
     (λ app slot ordinal. sym (append-nil _) ∙ ap (λ xs. h.sent app slot ordinal ++ xs) (none_on (h.ends app slot == ordinal) _ (q.sent app slot)))
     (λ app slot ordinal. sym (append-nil _) ∙ ap (λ xs. h.down app slot ordinal ++ xs) (none_on (h.ends app slot == ordinal) _ (q.down app slot)))
-    (λ app slot. ap (λ b. if b then h.ends app slot + 1 else h.ends app slot) (sym (q.free app slot)))
+    (λ app slot. ap (λ b. if b then h.ends app slot + 1 else h.ends app slot) (sym (q.free app slot))) refl
 
 -- none of these events tells that something was sent
 abbrev pub AreUnsent : List Event → Type 0
@@ -70,7 +70,7 @@ split_entry o a es fs h unsent =
     past_same (past_after o a fs (with_openings es h)) (past_after o a (es ++ fs) h)
     (λ app. append_assoc (h.opened app) _ _ ∙ ap (λ xs. h.opened app ++ xs) (sym (flat_map-append (opened_by app (h.ends app)) es fs)))
     (λ app slot ordinal. ap (λ xs. h.sent app slot ordinal ++ (if h.ends app slot == ordinal then xs else [])) (sym (both slot (carried way.Sent app (moved_by o a)))))
-    (λ app slot ordinal. refl) (λ app slot. refl)
+    (λ app slot ordinal. refl) (λ app slot. refl) refl
   where
     both : (slot : ℕ) (payload : Option (List ℕ)) → told_on way.Sent slot (es ++ fs) payload ≡ told_on way.Sent slot fs payload
     both slot None = refl

@@ -1,8 +1,9 @@
 -- the runs of a router: what is to be known of its connections holds at the end
-use Rattle.std.proofs.Common.{◌≡◌, ℕ, List, [], ◌∷◌, ◌++◌, Option, Some, sym, ap, ◌∙◌, subst}
+use Rattle.std.proofs.Common.{◌≡◌, ℕ, ◌<◌, List, [], ◌∷◌, ◌++◌, Option, Some, sym, ap, ◌∙◌, subst}
 use Rattle.std.specs.Prelude.{⊤}
 use Rattle.std.specs.List.{AllByRecursion}
 use Rattle.std.proofs.lemmas.List.{append-nil, append_assoc}
+use Rattle.csp_conn.specs.declared.conns.TheConstants.{SLOTS}
 use Rattle.csp_deck.specs.Runs.{IsRun, IsStep}
 use Rattle.csp_log.specs.declared.entry.Entry.{Entry}
 use Rattle.csp_log.specs.declared.event.Event.{Event}
@@ -50,15 +51,15 @@ pub record IsCome (g : Aim) (e : Entry) : Type 0 where
   pub hears : HearsSo g e.op e.answer
   pub fresh : AllByRecursion g.fresh e.events.items
 
--- what is to be known of the machines that owe something at a router's turns, once its timers were tried
+-- what is to be known of the machines of a router's slots that owe something at its turns, once its timers were tried
 abbrev pub AreFound : (PlainRdp → Type 0) → Facts → State → List Entry → Type 0
 AreFound At f s [] = ⊤
-AreFound At f s (e ∷ es) = ((app slot : ℕ) (j : Job) → job_of e.time (machine_at (timed s e.time).ports app slot) ≡ Some j → At (machine_at (timed s e.time).ports app slot)) × AreFound At f (told_at f (asked_at f s e.time) e.time e.answer).state es
+AreFound At f s (e ∷ es) = ((app slot : ℕ) (j : Job) → app < f.apps → slot < SLOTS → job_of e.time (machine_at (timed s e.time).ports app slot) ≡ Some j → At (machine_at (timed s e.time).ports app slot)) × AreFound At f (told_at f (asked_at f s e.time) e.time e.answer).state es
 
 -- where nothing is to be known of them, it is so
 pub found_any : (f : Facts) (s : State) (es : List Entry) → AreFound (λ r. ⊤) f s es
 found_any f s [] = tt
-found_any f s (e ∷ es) = (λ app slot j owed. tt, found_any f (told_at f (asked_at f s e.time) e.time e.answer).state es)
+found_any f s (e ∷ es) = (λ app slot j few low owed. tt, found_any f (told_at f (asked_at f s e.time) e.time e.answer).state es)
 
 pub record IsRunSo (g : Aim) (f : Facts) (h : Past) (es : List Entry) : Type 0 where
   pub ports : PlainPorts

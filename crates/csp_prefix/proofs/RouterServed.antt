@@ -77,7 +77,7 @@ sent_entry k slot told b rest h unsent none =
     past_same (sent_on k slot b.payload h) (past_after (op.Pop (queue.Up k)) (answer.Popped (item.Packet slot b)) (event.Sent slot told ∷ rest) h)
     (λ app. sym (append-nil (h.opened app)) ∙ ap (λ xs. h.opened app ++ xs) (sym (none app (h.ends app))))
     (λ a s o. ap (λ xs. h.sent a s o ++ (if h.ends a s == o then xs else [])) (sym (sent_here k slot a s b.payload told rest unsent)))
-    (λ a s o. sym (append-nil _) ∙ ap (λ xs. h.down a s o ++ xs) (none_on (h.ends a s == o) [] refl)) (λ a s. refl)
+    (λ a s o. sym (append-nil _) ∙ ap (λ xs. h.down a s o ++ xs) (none_on (h.ends a s == o) [] refl)) (λ a s. refl) refl
 
 -- a packet without a trace has none when it is addressed
 addressed_untraced : (f : Facts) (c : Connection) (t : Terms) (i : ℕ) (b : Content) → IsUntraced (item.Packet i b) → (addressed f c t b).trace.tag ≡ None

@@ -121,7 +121,7 @@ quiet_pushed q mark b es none = record { free = λ app s. refl; sent = λ app s.
 down_entry : (app slot : ℕ) (b : Content) (es : List Event) (h : Past) → with_openings es (down_on app slot b.payload h) ≡ past_after (op.Push (queue.Down app) (item.Packet slot b)) answer.Pushed es h
 down_entry app slot b es h =
     past_same (with_openings es (down_on app slot b.payload h)) (past_after (op.Push (queue.Down app) (item.Packet slot b)) answer.Pushed es h)
-    (λ a. refl) (λ a s o. sym (append-nil _) ∙ ap (λ xs. h.sent a s o ++ xs) (none_on (h.ends a s == o) [] refl)) (λ a s o. refl) (λ a s. refl)
+    (λ a. refl) (λ a s o. sym (append-nil _) ∙ ap (λ xs. h.sent a s o ++ xs) (none_on (h.ends a s == o) [] refl)) (λ a s o. refl) (λ a s. refl) refl
 
 -- the push of an answer
 quiet_answer : (app : ℕ) (n : Note) → ((a s : ℕ) → frees way.Sent a s (noted.Pushed (queue.Down app) n) ≡ false) → IsQuiet (op.Push (queue.Down app) (item.Note n)) answer.Pushed []
@@ -131,7 +131,7 @@ freed_entry : (app slot : ℕ) (h : Past) → freed_on app slot h ≡ past_after
 freed_entry app slot h =
     past_same (freed_on app slot h) (past_after (op.Push (queue.Down app) (item.Note (note.Closed slot))) answer.Pushed [] h)
     (λ a. sym (append-nil _)) (λ a s o. sym (append-nil _) ∙ ap (λ xs. h.sent a s o ++ xs) (none_on (h.ends a s == o) [] refl))
-    (λ a s o. sym (append-nil _) ∙ ap (λ xs. h.down a s o ++ xs) (none_on (h.ends a s == o) [] refl)) (λ a s. refl)
+    (λ a s o. sym (append-nil _) ∙ ap (λ xs. h.down a s o ++ xs) (none_on (h.ends a s == o) [] refl)) (λ a s. refl) refl
 
 module _ (g : Aim) (f : Facts) (whole : Past) (k : IsAim g f whole) where
   abbrev after_told : State → ℕ → Plan → AnswerShown → Told
@@ -348,9 +348,9 @@ module _ (g : Aim) (f : Facts) (whole : Past) (k : IsAim g f whole) where
 
   -- ---- a packet that is made
 
-  -- each machine that owes something is as it is to be
+  -- each machine of the node's slots that owes something is as it is to be
   abbrev pub FoundSo : ℕ → PlainPorts → Type 0
-  FoundSo time p = (app slot : ℕ) (j : Job) → job_of time (machine_at p app slot) ≡ Some j → g.at (machine_at p app slot)
+  FoundSo time p = (app slot : ℕ) (j : Job) → app < f.apps → slot < SLOTS → job_of time (machine_at p app slot) ≡ Some j → g.at (machine_at p app slot)
 
   turn_make : (app slot : ℕ) (j : Job) (h : Past) (s : State) (time : ℕ) (a : AnswerShown) → g.at (machine_at s.ports app slot) → app < s.ports.conns.apps → slot < SLOTS → job_of time (machine_at s.ports app slot) ≡ Some j → s.out ≡ None → Stands g f h s.ports s.out
       → Turns h s time (plan.Make app slot j) a
@@ -375,7 +375,7 @@ module _ (g : Aim) (f : Facts) (whole : Past) (k : IsAim g f whole) where
   turn_task : (x : Task) (app slot : ℕ) (h : Past) (s : State) (time : ℕ) (a : AnswerShown) → FoundSo time s.ports → IsTask time s.ports (app, slot, x) → s.out ≡ None → Stands g f h s.ports s.out → Turns h s time (plan_for app slot x) a
   turn_task task.Tell app slot h s time a so is empty w = turn_tell app slot h s time a w
   turn_task task.Deliver app slot h s time a so is empty w = turn_deliver (delivery (machine_at s.ports app slot)) app slot h s time a is.app_there is.slot_there refl (deliver_job time s.ports app slot is.is_task) empty w
-  turn_task (task.Make j) app slot h s time a so is empty w = turn_make app slot j h s time a (so app slot j (make_job time s.ports app slot j is.is_task)) is.app_there is.slot_there (make_job time s.ports app slot j is.is_task) empty w
+  turn_task (task.Make j) app slot h s time a so is empty w = turn_make app slot j h s time a (so app slot j (subst (λ n. app < n) w.apps is.app_there) is.slot_there (make_job time s.ports app slot j is.is_task)) is.app_there is.slot_there (make_job time s.ports app slot j is.is_task) empty w
 
   turn_jobs : (owed : List Owed) (o : Option (ℕ × ℕ × Task)) (h : Past) (s : State) (time : ℕ) (a : AnswerShown) → FoundSo time s.ports → s.ports.owed ≡ owed → next_task time s.ports ≡ o → s.out ≡ None → Stands g f h s.ports s.out → Turns h s time (jobs_by owed o) a
   turn_jobs (o ∷ os) t h s time a so e q empty w = turn_reply o os h s time a e empty w
