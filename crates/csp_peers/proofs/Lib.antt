@@ -3,6 +3,7 @@ pub mod AppPackets
 pub mod AppWishes
 pub mod HandedEvents
 pub mod Handing
+pub mod MachineFollows
 pub mod PacketsMade
 pub mod ReceiverNear
 pub mod RouterEvents
@@ -13,5 +14,7 @@ pub mod StaleCounting
 pub mod StaleNone
 pub mod WindowAcks
 pub mod WindowFacts
+pub mod WindowLast
 pub mod WindowMachine
+pub mod WindowPast
 pub mod WindowSends

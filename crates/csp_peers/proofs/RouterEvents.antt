@@ -119,5 +119,5 @@ module _ (f : Facts) (es : List Entry) (top bound : ℕ) (flows : Flows) (R : Co
       let heard = subst (λ o. HearsSo the_aim o e.answer) step.op come.0.hears in
       let fresh = AllByRecursion-map (ShowsHanding f (timed s e.time).ports (asks_at f s e.time) e.answer) (λ v. is_stale v ≡ false) (told_at f (asked_at f s e.time) e.time e.answer).events
       (λ x shows. event_fresh (with_openings (ports_timed e.time s.ports).events h) (timed s e.time).ports (timed s e.time).out v (asks_at f s e.time) e.answer x old heard shows) (shows_handings f s e.time e.answer step.fits) in
-      let done = step_stands the_aim f (past es) the_is_aim e h s (λ app slot j owed. tt) step come.0 here w in
+      let done = step_stands the_aim f (past es) the_is_aim e h s (λ app slot j few low owed. tt) step come.0 here w in
       (subst (AllByRecursion (λ v. is_stale v ≡ false)) (sym step.events) fresh, run_fresh rest e.time (past_with e h) (told_at f (asked_at f s e.time) e.time e.answer).state run.2 come.1 part done.0)

@@ -58,7 +58,7 @@ state_push s (x ∷ es) e = state_push (step_after router_steps s x) es e
 found_from : (f : Facts) (routes : Routes) (es before after : List Entry) (s : State) → es ≡ before ++ after → state_after router_steps (opening_router f routes) before ≡ record { facts = f; state = s } → AreFound (HadMachine f routes es) f s after
 found_from f routes es before [] s whole at = tt
 found_from f routes es before (e ∷ after) s whole at = (
-  λ app slot j owed. record {
+  λ app slot j few low owed. record {
     before = before;
     turn = e;
     after = after;
