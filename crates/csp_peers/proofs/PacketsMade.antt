@@ -1,9 +1,8 @@
 -- Each packet of a consistent record that a router hears is as its maker sent it: of the maker's address, for one node, with a tag of the maker's flow, an
 -- index that the flow has come to, and acknowledging no more than the peer's flow has.
-use Rattle.std.proofs.Common.{◌≡◌, ◌≢◌, ◌⊎◌, inl, inr, ℕ, zero, suc, ◌+◌, ◌-◌, ◌<◌, ◌≤◌, ◌==◌, Bool, true, false, Option, None, Some, List, [], ◌∷◌, ◌++◌, length, flat_map, slice_get, refl, sym, ap, ◌∙◌, subst, arith}
-use Rattle.std.specs.Prelude.{⊤, IfSome}
+use Rattle.std.proofs.Common.{◌≡◌, ◌⊎◌, inl, inr, ℕ, zero, suc, ◌+◌, ◌-◌, ◌<◌, ◌≤◌, true, Some, List, [], ◌∷◌, ◌++◌, length, slice_get, refl, sym, ap, ◌∙◌, subst, arith}
+use Rattle.std.specs.Prelude.{IfSome}
 use Rattle.std.specs.List.{AllByRecursion}
-use Rattle.std.specs.Option.{unwrap_or}
 use Rattle.csp_base.specs.declared.traces.Tag.{Tag}
 use Rattle.csp_buffer.specs.Content.{Content}
 use Rattle.csp_conn.specs.declared.slot.Connection.{Connection}
@@ -18,9 +17,7 @@ use Rattle.csp_log.specs.declared.shown.OpShown.{OpShown}
 use Rattle.csp_log.specs.declared.shown.OpShown.TheVariants as op
 use Rattle.csp_rdp.specs.Machine.{flow_of}
 use Rattle.csp_record.specs.Passed.{passed}
-use Rattle.csp_record.specs.Payloads.{sent}
 use Rattle.csp_record.specs.Record.{PlainRecord}
-use Rattle.csp_record.specs.declared.connections.Opening.{Opening}
 use Rattle.csp_record.specs.declared.who.Who.TheVariants as who
 use Rattle.csp_scene.specs.Links.{links_at}
 use Rattle.csp_scene.specs.Ranges.{IsNode, IsScene}
@@ -32,21 +29,20 @@ use Rattle.csp_topology.specs.Parties.{config_of}
 use Rattle.csp_consistent.proofs.Each.{each_at}
 use Rattle.csp_consistent.specs.Consistent.{IsConsistent}
 use Rattle.csp_consistent.specs.Reading.{entries_of, gets}
-use Rattle.csp_prefix.specs.Flows.{Flows, IsGenuine}
-use Rattle.csp_prefix.specs.Routers.{HearsOnly, IsFlowOf, IsHeard, IsOfKind, PushesSo, SendsOnly}
-use Rattle.csp_prefix.proofs.FlowReads.{said_of, said_so}
+use Rattle.csp_prefix.specs.Flows.{IsGenuine}
+use Rattle.csp_prefix.specs.Routers.{HearsOnly, IsHeard, IsOfKind, PushesSo, SendsOnly}
+use Rattle.csp_prefix.proofs.FlowReads.{said_so}
 use Rattle.csp_prefix.proofs.GenuinePackets.{are_shown, flows_in, genuine_like, true_router}
 use Rattle.csp_prefix.proofs.HeardPackets.{hears_only}
 use Rattle.csp_prefix.proofs.NodeLanes.{RouterThere}
-use Rattle.csp_prefix.proofs.RouterBooks.{no_past}
 use Rattle.csp_prefix.proofs.RouterLaw.{true_routers}
-use Rattle.csp_prefix.proofs.RouterRun.{IsRunSo, found_any}
+use Rattle.csp_prefix.proofs.RouterRun.{found_any}
 use Rattle.csp_prefix.proofs.RouterSends.{all_fresh}
 use Rattle.csp_prefix.proofs.RouterStanding.{Aim, IsAim}
 use Rattle.csp_prefix.proofs.RouterTrue.{ComesUp, past, run_known}
 use Rattle.csp_prefix.proofs.RouterTurn.{PushedSo}
 use Rattle.csp_peers.specs.Addressed.{AreAddressedApart}
-use Rattle.csp_peers.specs.Clear.{AreAlike, HasClearFlows}
+use Rattle.csp_peers.specs.Clear.{HasClearFlows}
 use Rattle.csp_peers.specs.Nearness.{AreShort as AreFlowsShort, half}
 use Rattle.csp_peers.specs.Sent.{IsSentIn, packets_sent, sent_by}
 use Rattle.csp_peers.specs.Unforged.{ComesWell, GetsWell}

@@ -1,16 +1,12 @@
 -- Nothing that a router hears is stale, where each packet of the reliable transport that comes is of its connection's peer and acknowledges no more than was
 -- sent: by each entry of its log, from what stands before it.
-use Rattle.std.proofs.Common.{◌≡◌, ◌⊎◌, inl, inr, ℕ, ◌+◌, ◌<◌, ◌≤◌, ◌==◌, Bool, true, false, Option, None, Some, List, [], ◌∷◌, ◌++◌, length, refl, sym, ap, ◌∙◌, subst, arith}
+use Rattle.std.proofs.Common.{◌≡◌, ℕ, ◌<◌, ◌≤◌, Bool, true, false, Option, List, [], ◌∷◌, length, refl, sym, ap, ◌∙◌, subst, arith}
 use Rattle.std.specs.Prelude.{if◌then◌else◌}
 use Rattle.std.specs.List.{AllByRecursion}
-use Rattle.csp_base.specs.declared.traces.Tag.{Tag}
 use Rattle.csp_buffer.specs.Content.{Content}
-use Rattle.csp_conn.specs.PlainConns.{slot_at}
-use Rattle.csp_conn.specs.declared.conns.TheConstants.{SLOTS}
 use Rattle.csp_conn.specs.declared.slot.Connection.{Connection}
-use Rattle.csp_conn.specs.declared.slot.Slot.TheVariants as has
 use Rattle.csp_header.specs.Word.{header_at}
-use Rattle.csp_deck.specs.Runs.{IsRun, IsStep}
+use Rattle.csp_deck.specs.Runs.{IsRun}
 use Rattle.csp_log.specs.declared.entry.Entry.{Entry}
 use Rattle.csp_log.specs.declared.event.Event.{Event}
 use Rattle.csp_log.specs.declared.event.Event.TheVariants as event
@@ -19,16 +15,14 @@ use Rattle.csp_log.specs.declared.shown.OpShown.{OpShown}
 use Rattle.csp_log.specs.declared.shown.OpShown.TheVariants as op
 use Rattle.csp_log.specs.declared.places.QueueId.TheVariants as queue
 use Rattle.csp_ports.specs.Asking.{is_reliable as are_reliable}
-use Rattle.csp_ports.specs.Came.{Came}
-use Rattle.csp_ports.specs.PlainPorts.{PlainPorts, machine_at, terms_at}
+use Rattle.csp_ports.specs.PlainPorts.{PlainPorts, terms_at}
 use Rattle.csp_ports.specs.Steps.{timed as ports_timed}
 use Rattle.csp_rdp.specs.Machine.{PlainRdp, flow_of, una_of}
 use Rattle.csp_record.specs.Stale.{is_stale}
 use Rattle.csp_scene.proofs.Lists.{AllByRecursion-map}
 use Rattle.csp_stack.specs.Router.{Facts, Leaving, State, origin_of}
 use Rattle.csp_stack.specs.Rules.{connection_of}
-use Rattle.csp_stack.specs.Told.{Told}
-use Rattle.csp_stack.specs.Turn.{asked_at, asks_at, op_of, plan_of, timed, told_at}
+use Rattle.csp_stack.specs.Turn.{asked_at, asks_at, timed, told_at}
 use Rattle.csp_prefix.specs.Flows.{Flows}
 use Rattle.csp_prefix.specs.Ports.{IsInUse, IsSlot, connection_in, now_at}
 use Rattle.csp_prefix.specs.Routers.{router_steps}
@@ -36,7 +30,7 @@ use Rattle.csp_prefix.specs.Slots.{Now}
 use Rattle.csp_prefix.proofs.RouterBooks.{Past, past_after, with_openings}
 use Rattle.csp_prefix.proofs.RouterHeard.{IsFound, found_there}
 use Rattle.csp_prefix.proofs.RouterRun.{IsCome, part_of, past_of, past_with, step_stands}
-use Rattle.csp_prefix.proofs.RouterStanding.{Aim, IsAim, IsPart, IsRead, Stands, stands_comes}
+use Rattle.csp_prefix.proofs.RouterStanding.{Aim, IsAim, IsPart, Stands}
 use Rattle.csp_prefix.proofs.RouterTurn.{HearsSo, stands_timed, timed_part}
 use Rattle.csp_prefix.proofs.RouterTrue.{past}
 use Rattle.csp_peers.proofs.Handing.{IsHanding, ShowsHanding}

@@ -1,9 +1,9 @@
 -- What a router makes of its own: a packet of the reliable transport has a tag, which names the node and an index that its flow has come to; it shows
 -- the node's address, and is for an address below a bound.
-use Rattle.std.proofs.Common.{◌≡◌, ◌≢◌, ℕ, zero, suc, ◌+◌, ◌<◌, ◌≤◌, ◌==◌, Bool, true, false, Option, None, Some, List, [], ◌∷◌, ◌++◌, length, refl, sym, ap, ◌∙◌, subst, arith, length-append}
+use Rattle.std.proofs.Common.{◌≡◌, ◌≢◌, ℕ, ◌+◌, ◌<◌, ◌≤◌, Bool, true, false, Option, None, Some, List, [], ◌∷◌, length, refl, sym, ap, ◌∙◌, subst, arith, length-append}
 use Rattle.std.specs.Prelude.{⊤, IfSome, cond, find, map, not}
 use Rattle.std.proofs.lemmas.Bool.{eqb-true}
-use Rattle.std.specs.List.{AllByRecursion, range_with_len}
+use Rattle.std.specs.List.{range_with_len}
 use Rattle.std.specs.Option.{unwrap_or}
 use Rattle.std.proofs.lemmas.Nat.{and_le_r}
 use Rattle.csp_base.specs.declared.traces.Tag.{Tag}
@@ -19,10 +19,8 @@ use Rattle.csp_header.specs.Word.{IsInRange, header_at, word_of}
 use Rattle.csp_header.specs.declared.word.Header.{Header}
 use Rattle.csp_log.specs.declared.entry.Entry.{Entry}
 use Rattle.csp_log.specs.declared.places.TheConstants.{UNMARKED}
-use Rattle.csp_log.specs.declared.shown.ItemShown.{ItemShown}
 use Rattle.csp_log.specs.declared.shown.ItemShown.TheVariants as item
 use Rattle.csp_log.specs.declared.note.Note.TheVariants as note
-use Rattle.csp_ports.specs.Asking.{is_reliable as are_reliable}
 use Rattle.csp_ports.specs.PlainPorts.{PlainPorts, machine_at, terms_at}
 use Rattle.csp_ports.specs.Tasks.{made_in}
 use Rattle.csp_ports.specs.declared.request.Request.{Request}

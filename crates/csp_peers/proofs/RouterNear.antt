@@ -1,16 +1,12 @@
 -- What a router's connections hear, and what they say then: where each packet of the reliable transport that is handed to one is of its peer's flow, each
 -- stands near its peer, and acknowledges no more than that flow has.
-use Rattle.std.proofs.Common.{◌≡◌, ◌⊎◌, inl, inr, ℕ, ◌+◌, ◌<◌, ◌≤◌, ◌==◌, ◌||◌, Bool, true, false, Option, None, Some, List, [], ◌∷◌, ◌++◌, length, refl, sym, ap, ◌∙◌, subst, arith}
+use Rattle.std.proofs.Common.{◌≡◌, ℕ, ◌<◌, ◌≤◌, ◌==◌, ◌||◌, Bool, true, false, Option, None, Some, List, length, refl, sym, ap, ◌∙◌, subst, arith}
 use Rattle.std.specs.Prelude.{⊤}
-use Rattle.std.specs.List.{AllByRecursion}
 use Rattle.std.specs.Option.{unwrap_or}
 use Rattle.csp_base.specs.declared.traces.Tag.{Tag}
 use Rattle.csp_buffer.specs.Content.{Content}
-use Rattle.csp_conn.specs.PlainConns.{slot_at}
 use Rattle.csp_conn.specs.declared.slot.Connection.{Connection}
-use Rattle.csp_conn.specs.declared.slot.Slot.TheVariants as has
 use Rattle.csp_header.specs.Word.{header_at}
-use Rattle.csp_header.specs.declared.word.Header.{Header}
 use Rattle.csp_log.specs.declared.entry.Entry.{Entry}
 use Rattle.csp_ports.specs.PlainPorts.{PlainPorts, machine_at, terms_at}
 use Rattle.csp_ports.specs.Tasks.{made_in}
@@ -20,7 +16,7 @@ use Rattle.csp_rdp.specs.Machine.{PlainRdp, flow_of}
 use Rattle.csp_rdp.specs.declared.jobs.Job.{Job}
 use Rattle.csp_stack.specs.Readings.{is_checked, is_reliable}
 use Rattle.csp_stack.specs.Router.{Facts, origin_of}
-use Rattle.csp_stack.specs.Rules.{addressed, answer_flags, connection_of, header_for}
+use Rattle.csp_stack.specs.Rules.{addressed, connection_of, header_for}
 use Rattle.std.proofs.lemmas.Bool.{eqb-true}
 use Rattle.csp_rdp_header.specs.declared.head.RdpHead.{RdpHead}
 use Rattle.csp_prefix.specs.Flows.{Flows, IsGenuine, IsTrueOf}

@@ -1,5 +1,5 @@
 -- In a run whose flows are clear, and in which links changed nothing, no copy is stale.
-use Rattle.std.proofs.Common.{◌≡◌, ◌⊎◌, inl, inr, ℕ, ◌+◌, ◌<◌, ◌≤◌, false, Some, List, [], ◌∷◌, refl, sym, ap, ◌∙◌, subst, arith}
+use Rattle.std.proofs.Common.{◌≡◌, ◌⊎◌, inl, inr, ℕ, false, List, [], sym, subst, arith}
 use Rattle.std.specs.List.{AllByRecursion}
 use Rattle.csp_buffer.specs.Content.{Content}
 use Rattle.csp_log.specs.declared.entry.Entry.{Entry}

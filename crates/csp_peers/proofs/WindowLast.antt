@@ -1,14 +1,13 @@
 -- A data packet that a router's last entry handed to a connection is within the window of its sender: by what the sender's router sent, what that heard of the
 -- connection's acknowledgements, and what the connection had delivered when it made them.
-use Rattle.std.proofs.Common.{◌≡◌, ◌≢◌, ◌⊎◌, inl, inr, ℕ, zero, suc, ◌+◌, ◌<◌, ◌≤◌, ◌==◌, Bool, true, false, Option, None, Some, List, [], ◌∷◌, ◌++◌, length, flat_map, slice_get, refl, sym, ap, ◌∙◌, subst, arith}
+use Rattle.std.proofs.Common.{◌≡◌, ◌≢◌, ◌⊎◌, inl, inr, ℕ, ◌+◌, ◌<◌, ◌≤◌, ◌==◌, Bool, true, false, Option, None, Some, List, [], ◌∷◌, ◌++◌, length, flat_map, slice_get, refl, sym, ap, ◌∙◌, subst, arith}
 use Rattle.std.specs.List.{AllByRecursion}
 use Rattle.std.specs.Option.{unwrap_or}
-use Rattle.std.specs.Prelude.{⊤, if◌then◌else◌}
+use Rattle.std.specs.Prelude.{⊤}
 use Rattle.std.proofs.lemmas.Bool.{eqb-false, eqb-true}
 use Rattle.std.proofs.lemmas.Grind.{flat_map-append}
 use Rattle.csp_base.specs.declared.traces.Tag.{Tag}
 use Rattle.csp_buffer.specs.Content.{Content}
-use Rattle.csp_conn.specs.declared.conns.TheConstants.{SLOTS}
 use Rattle.csp_deck.specs.Runs.{IsRun, IsStep, state_after}
 use Rattle.csp_header.specs.Word.{header_at}
 use Rattle.csp_log.specs.PlainLog.{all_events}
@@ -16,18 +15,14 @@ use Rattle.csp_log.specs.declared.entry.Entry.{Entry}
 use Rattle.csp_log.specs.declared.event.Event.{Event}
 use Rattle.csp_log.specs.declared.event.Event.TheVariants as event
 use Rattle.csp_log.specs.declared.places.QueueId.TheVariants as queue
-use Rattle.csp_log.specs.declared.shown.AnswerShown.{AnswerShown}
 use Rattle.csp_log.specs.declared.shown.AnswerShown.TheVariants as answer
-use Rattle.csp_log.specs.declared.shown.ItemShown.{ItemShown}
 use Rattle.csp_log.specs.declared.shown.ItemShown.TheVariants as item
-use Rattle.csp_log.specs.declared.shown.OpShown.{OpShown}
 use Rattle.csp_log.specs.declared.shown.OpShown.TheVariants as op
 use Rattle.csp_ports.specs.PlainPorts.{PlainPorts, machine_at}
-use Rattle.csp_rdp.specs.Machine.{PlainRdp, flow_of, una_of}
+use Rattle.csp_rdp.specs.Machine.{PlainRdp, flow_of}
 use Rattle.csp_record.specs.Passed.{passed}
 use Rattle.csp_record.specs.Record.{PlainPartyLog, PlainRecord}
 use Rattle.csp_record.specs.Stale.{is_stale, stale}
-use Rattle.csp_record.specs.declared.connections.Opening.{Opening}
 use Rattle.csp_record.specs.declared.who.Who.TheVariants as who
 use Rattle.csp_route.specs.Routes.{Routes}
 use Rattle.csp_scene.specs.Links.{links_at}
@@ -47,8 +42,7 @@ use Rattle.csp_consistent.specs.Reading.{entries_of, got_by, gets}
 use Rattle.csp_rdp_header.specs.Head.{head_bytes}
 use Rattle.csp_stack.specs.Readings.{is_checked}
 use Rattle.csp_prefix.specs.Flows.{IsGenuine, with_checksum}
-use Rattle.csp_prefix.specs.Ports.{IsReliableOn}
-use Rattle.csp_prefix.specs.Routers.{HasNoStale, HearsOnly, IsFlowOf, IsHeard, IsRouterLog, SendsOnly, opening_router, router_steps}
+use Rattle.csp_prefix.specs.Routers.{HasNoStale, HearsOnly, IsHeard, IsRouterLog, SendsOnly, opening_router, router_steps}
 use Rattle.csp_prefix.proofs.GenuinePackets.{are_shown, flows_in, hears_genuine}
 use Rattle.csp_prefix.proofs.HeardPackets.{hears_only}
 use Rattle.csp_prefix.proofs.NodeLanes.{RouterThere, router_there}
@@ -66,9 +60,9 @@ use Rattle.csp_prefix.proofs.MachineSays.{sender-opens}
 use Rattle.csp_prefix.proofs.MachineSender.{sender-kept}
 use Rattle.csp_prefix.proofs.PortKept.{ports_kept}
 use Rattle.csp_prefix.specs.Machines.{IsSender, whatever}
-use Rattle.csp_peers.specs.Window.{HadMachine, HadWindow, HasAsPeer, IsDataHanded, IsDataPacket, IsWithinWindow, LastIsWithinWindow}
+use Rattle.csp_peers.specs.Window.{HadWindow, HasAsPeer, IsDataHanded, IsDataPacket, IsWithinWindow, LastIsWithinWindow}
 use Rattle.csp_peers.proofs.HandedEvents.{entry_shows}
-use Rattle.csp_peers.proofs.Handing.{IsHanding, IsOfPopped, ShowsHanding}
+use Rattle.csp_peers.proofs.Handing.{IsOfPopped, ShowsHanding}
 use Rattle.csp_peers.proofs.PacketsMade.{get_past, of_kind, sends_both}
 use Rattle.csp_peers.proofs.WindowAcks.{acks_sent, owns_tags}
 use Rattle.csp_peers.proofs.WindowFacts.{Acknowledges, HasHeard, IsAck, IsAllowed, IsAllowedData, IsBefore}

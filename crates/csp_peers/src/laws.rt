@@ -1,8 +1,9 @@
-//! What follows for a consistent record whose flows are clear.
+//! What follows for a consistent record: where its flows are clear, and of the windows of its senders.
 
 ghost use Rattle.csp_consistent.specs.Consistent.{IsConsistent};
 ghost use Rattle.csp_peers.specs.Addressed.{AreAddressedApart};
 ghost use Rattle.csp_peers.specs.Clear.{HasClearFlows};
+ghost use Rattle.csp_peers.specs.Window.{LastIsWithinWindow};
 ghost use Rattle.csp_record.specs.Passed.{passed};
 ghost use Rattle.csp_record.specs.Record.{PlainRecord};
 ghost use Rattle.csp_record.specs.Stale.{stale};
@@ -21,4 +22,11 @@ pub fn addresses_differ()
 /// stands.
 pub fn counts_no_stale()
     ensures { (scene : PlainScene) (r : PlainRecord) → IsScene scene → AreAddressedApart scene.nodes → IsConsistent scene r → passed r ≡ 0 → HasClearFlows scene r → stale r ≡ 0 }
+{}
+
+/// Where a consistent record counts neither stale copies nor changed packets, a data packet that is handed to one of two reliable
+/// connections which are each other's peers, in what its router did last, has an index at most a window of its sender past the last one
+/// that the connection delivered. Of an earlier turn the record so far says it.
+pub fn keeps_window()
+    ensures { (scene : PlainScene) (r : PlainRecord) → IsScene scene → IsConsistent scene r → stale r ≡ 0 → passed r ≡ 0 → LastIsWithinWindow scene r }
 {}

@@ -3,7 +3,6 @@ use Rattle.std.specs.Prelude.{◌==◌, Bool, true, false, None, Option, Some, i
 use Rattle.std.proofs.Common.{◌≡◌, ℕ, ◌+◌, ◌<◌, List, arith, ap, refl, sym, subst, ◌∙◌}
 use Rattle.std.proofs.lemmas.Bool.{eq-eqb, eqb-true}
 use Rattle.csp_base.specs.declared.priority.Prio.{Prio}
-use Rattle.csp_base.specs.declared.traces.Tag.{Tag}
 use Rattle.csp_conn.specs.Opening.{is_refused, opened, own_port_of}
 use Rattle.csp_conn.specs.PlainConns.{slot_at, with_slot}
 use Rattle.csp_conn.specs.Slots.{between}
@@ -27,7 +26,6 @@ use Rattle.csp_ports.specs.declared.terms.Wish.{Wish}
 use Rattle.csp_ports.specs.declared.terms.Wish.TheVariants as wish
 use Rattle.csp_rdp.specs.Machine.{PlainRdp, accepting, connecting}
 use Rattle.csp_rdp_header.specs.Head.{has_flag}
-use Rattle.csp_rdp_header.specs.declared.head.RdpHead.{RdpHead}
 use Rattle.csp_rdp_header.specs.declared.head.TheConstants.{SYN}
 use Rattle.csp_prefix.proofs.PortChanges.{IsUse, nothing_ended, use_fine}
 use Rattle.csp_prefix.proofs.PortFacts.{All, fine_of, good_of, grown_but}

@@ -1,7 +1,6 @@
 -- the end of a slot: its close, and the answer to it
-use Rattle.std.specs.Prelude.{Bool, true, false, None, Option}
-use Rattle.std.proofs.Common.{◌≡◌, ℕ, ◌+◌, ◌<◌, List, ap, refl, sym, subst, ◌∙◌}
-use Rattle.csp_base.specs.declared.traces.Tag.{Tag}
+use Rattle.std.specs.Prelude.{Bool, true, false, None}
+use Rattle.std.proofs.Common.{◌≡◌, ℕ, ◌+◌, ◌<◌, ap, refl, sym, subst, ◌∙◌}
 use Rattle.csp_conn.specs.Slots.{is_free}
 use Rattle.csp_conn.specs.PlainConns.{slot_at}
 use Rattle.csp_conn.specs.declared.conns.TheConstants.{SLOTS}
@@ -22,7 +21,6 @@ use Rattle.csp_rdp.specs.Jobs.{closing}
 use Rattle.csp_rdp.specs.Machine.{PlainRdp, idle}
 use Rattle.csp_rdp.specs.declared.answers.State.{State}
 use Rattle.csp_rdp.specs.declared.answers.State.TheVariants as state
-use Rattle.csp_rdp_header.specs.declared.head.RdpHead.{RdpHead}
 use Rattle.csp_prefix.proofs.PortChanges.{at_view}
 use Rattle.csp_prefix.proofs.PortFacts.{All, Leaves, comes_of, fine_of, used, using}
 use Rattle.csp_prefix.proofs.PortSlots.{AreFine, AreFineBut, ended_but, look, machine_but, none_some, slot_but, terms_but, whole}

@@ -1,7 +1,6 @@
 -- ports that are good, by their slots; one step after another; and what is on a slot
-use Rattle.std.specs.Prelude.{Bool, true, false, None, Option, ⊤}
+use Rattle.std.specs.Prelude.{Bool, true, false, None, ⊤}
 use Rattle.std.proofs.Common.{◌≡◌, ◌⊎◌, inl, inr, ℕ, ◌+◌, List, [], ◌∷◌, ◌++◌, ap, refl, sym, subst, ◌∙◌}
-use Rattle.csp_base.specs.declared.traces.Tag.{Tag}
 use Rattle.csp_conn.specs.declared.slot.Connection.{Connection}
 use Rattle.csp_conn.specs.declared.slot.Slot.{Slot}
 use Rattle.csp_conn.specs.declared.slot.Slot.TheVariants as has
@@ -12,9 +11,8 @@ use Rattle.csp_ports.specs.PlainPorts.{PlainPorts, machine_at, stalled_at}
 use Rattle.csp_ports.specs.declared.origin.Origin.{Origin}
 use Rattle.csp_ports.specs.declared.terms.Terms.{Terms}
 use Rattle.csp_ports.specs.declared.terms.Wish.TheVariants as wish
-use Rattle.csp_rdp.specs.Machine.{PlainRdp, idle}
+use Rattle.csp_rdp.specs.Machine.{idle}
 use Rattle.csp_rdp.specs.declared.answers.State.TheVariants.{Open}
-use Rattle.csp_rdp_header.specs.declared.head.RdpHead.{RdpHead}
 use Rattle.csp_prefix.proofs.PortSlots.{AreFine, AreFineBut, waiting_here, waiting_open}
 use Rattle.csp_prefix.proofs.PortViews.{View, now_of, view}
 use Rattle.csp_prefix.specs.Ports.{AreGood, AreNew, Books, Comes, IsInUse, IsPlain, IsSlot, IsVacant, Ordinals, noted, noted_by}

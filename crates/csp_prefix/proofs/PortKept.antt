@@ -1,10 +1,6 @@
 -- every step of the ports keeps what is known of each connection
-use Rattle.std.specs.Prelude.{Option}
-use Rattle.std.proofs.Common.{ℕ, List}
-use Rattle.csp_base.specs.declared.traces.Tag.{Tag}
+use Rattle.std.proofs.Common.{ℕ}
 use Rattle.csp_ports.specs.declared.origin.Origin.{Origin}
-use Rattle.csp_rdp.specs.Machine.{PlainRdp}
-use Rattle.csp_rdp_header.specs.declared.head.RdpHead.{RdpHead}
 use Rattle.csp_prefix.proofs.PortAnswers.{answered_answers}
 use Rattle.csp_prefix.proofs.PortBegun.{accepted_good, connect_comes, invited_comes}
 use Rattle.csp_prefix.proofs.PortEnds.{close_comes}

@@ -3,7 +3,6 @@ use Rattle.std.specs.Prelude.{◌==◌, Bool, true, false, None, Option, Some}
 use Rattle.std.proofs.Common.{◌≡◌, ◌≢◌, ◌⊎◌, inl, inr, ℕ, ◌<◌, List, arith, refl, sym, subst, ◌∙◌}
 use Rattle.std.proofs.lemmas.Bool.{eqb-false, eqb-true}
 use Rattle.std.proofs.lemmas.List.{get_or-set_same}
-use Rattle.csp_base.specs.declared.traces.Tag.{Tag}
 use Rattle.csp_log.specs.declared.event.Discard.TheVariants as why
 use Rattle.csp_ports.specs.Came.{come, discarding}
 use Rattle.csp_ports.specs.PlainPorts.{PlainPorts, PlainStalled, machine_at, stalled_at, with_stalled}
@@ -13,7 +12,6 @@ use Rattle.csp_rdp.specs.Jobs.{admitting}
 use Rattle.csp_rdp.specs.Machine.{PlainRdp}
 use Rattle.csp_rdp.specs.declared.answers.State.{State}
 use Rattle.csp_rdp.specs.declared.answers.State.TheVariants.{Closed, CloseWait, Open, SynRcvd, SynSent}
-use Rattle.csp_rdp_header.specs.declared.head.RdpHead.{RdpHead}
 use Rattle.csp_prefix.proofs.PortChanges.{use_fine}
 use Rattle.csp_prefix.proofs.PortFacts.{All, IsReliable, IsResting, Leaves, either}
 use Rattle.csp_prefix.proofs.PortSlots.{AreFine, AreFineBut, IsFor, look, machine_but, none_some, some_same, stalled_but, waiting_here, waiting_open, whole}

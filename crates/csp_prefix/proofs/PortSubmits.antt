@@ -2,7 +2,6 @@
 use Rattle.std.specs.Prelude.{Bool, true, false, None, Option, Some, if◌then◌else◌}
 use Rattle.std.proofs.Common.{◌≡◌, ◌≢◌, ℕ, ◌<◌, List, [], ◌∷◌, ◌++◌, ap, refl, sym, subst}
 use Rattle.std.proofs.lemmas.Bool.{eq-eqb}
-use Rattle.csp_base.specs.declared.traces.Tag.{Tag}
 use Rattle.csp_buffer.specs.Content.{Content}
 use Rattle.csp_conn.specs.declared.conns.TheConstants.{SLOTS}
 use Rattle.csp_log.specs.declared.event.Discard.TheVariants as why
@@ -12,10 +11,8 @@ use Rattle.csp_ports.specs.PlainPorts.{PlainPorts, PlainStalled, anywhere, machi
 use Rattle.csp_ports.specs.Steps.{has_room}
 use Rattle.csp_ports.specs.declared.origin.Origin.{Origin}
 use Rattle.csp_rdp.specs.Jobs.{admitting}
-use Rattle.csp_rdp.specs.Machine.{PlainRdp}
 use Rattle.csp_rdp.specs.declared.answers.State.{State}
 use Rattle.csp_rdp.specs.declared.answers.State.TheVariants.{Closed, CloseWait, Open, SynRcvd, SynSent}
-use Rattle.csp_rdp_header.specs.declared.head.RdpHead.{RdpHead}
 use Rattle.csp_prefix.proofs.PortChanges.{use_fine}
 use Rattle.csp_prefix.proofs.PortFacts.{fine_of, good_of, used}
 use Rattle.csp_prefix.proofs.PortSlots.{IsFor, book_but, look, machine_but, stalled_but, whole}

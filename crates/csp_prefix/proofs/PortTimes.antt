@@ -1,8 +1,7 @@
 -- the timers of all reliable connections
-use Rattle.std.specs.Prelude.{◌==◌, Bool, true, false, Option, Some, if◌then◌else◌}
+use Rattle.std.specs.Prelude.{◌==◌, Bool, true, false, Some, if◌then◌else◌}
 use Rattle.std.specs.List.{AllByRecursion, range_with_len}
 use Rattle.std.proofs.Common.{◌≡◌, ◌⊎◌, inl, inr, ℕ, zero, suc, ◌+◌, ◌*◌, ◌/◌, ◌%◌, ◌<◌, List, [], ◌∷◌, arith, refl, sym, subst}
-use Rattle.csp_base.specs.declared.traces.Tag.{Tag}
 use Rattle.csp_conn.specs.declared.conns.TheConstants.{SLOTS}
 use Rattle.csp_ports.specs.PlainPorts.{PlainPorts, machine_at}
 use Rattle.csp_ports.specs.Steps.{dropped, dropped_of, timed, timed_at, timed_in, went}
@@ -13,7 +12,6 @@ use Rattle.csp_rdp.specs.Machine.{PlainRdp, broken, idle}
 use Rattle.csp_rdp.specs.declared.answers.State.{State}
 use Rattle.csp_rdp.specs.declared.answers.State.TheVariants.{Closed, CloseWait, Open, SynRcvd, SynSent}
 use Rattle.csp_rdp.specs.declared.answers.Why.TheVariants as machine_why
-use Rattle.csp_rdp_header.specs.declared.head.RdpHead.{RdpHead}
 use Rattle.csp_rdp_window.specs.Times.{has_passed}
 use Rattle.csp_prefix.proofs.PortChanges.{IsEdge, went_leaves}
 use Rattle.csp_prefix.proofs.PortFacts.{IsReliable, IsResting, Leaves, either, fine_of, good_of, then_leaves}

@@ -1,12 +1,11 @@
 -- What was taken on a reliable connection is a beginning of what was sent on its peer's.
-use Rattle.std.proofs.Common.{◌≡◌, ◌⊎◌, inl, inr, ℕ, false, Some, None, List, [], ◌∷◌, ◌++◌, flat_map, slice_get, unwrap_or, refl, sym, ap, ◌∙◌, subst, append_assoc}
+use Rattle.std.proofs.Common.{◌≡◌, ◌⊎◌, inl, inr, ℕ, false, Some, List, [], ◌∷◌, ◌++◌, flat_map, slice_get, unwrap_or, refl, sym, ap, ◌∙◌, subst, append_assoc}
 use Rattle.std.specs.List.{AllByRecursion}
 use Rattle.std.proofs.lemmas.Option.{slice_get_within}
 use Rattle.csp_log.specs.PlainLog.{all_events}
 use Rattle.csp_log.specs.declared.entry.Entry.{Entry}
 use Rattle.csp_log.specs.declared.places.QueueId.TheVariants as queue
 use Rattle.csp_log.specs.declared.shown.ItemShown.{ItemShown}
-use Rattle.csp_record.specs.Connections.{openings}
 use Rattle.csp_record.specs.Passed.{passed}
 use Rattle.csp_record.specs.Payloads.{took}
 use Rattle.csp_record.specs.Record.{PlainPartyLog, PlainRecord}
@@ -26,7 +25,7 @@ use Rattle.csp_prefix.specs.Routers.{AreTrueRouters, HasNoStale}
 use Rattle.csp_prefix.proofs.FlowReads.{said_is, said_none}
 use Rattle.csp_prefix.proofs.GenuinePackets.{are_shown, flows_in, hears_genuine, true_router}
 use Rattle.csp_consistent.proofs.Names.{Logged}
-use Rattle.csp_prefix.proofs.NodeLanes.{RouterThere, app_lanes_there, app_true, owner_of, router_there}
+use Rattle.csp_prefix.proofs.NodeLanes.{RouterThere, app_lanes_there, app_true, owner_of}
 use Rattle.csp_consistent.proofs.Owners.{IsAppAt, IsOf}
 use Rattle.csp_prefix.proofs.OpeningPlaces.{opener}
 use Rattle.csp_prefix.proofs.PacketLists.{events_of, none_counted}

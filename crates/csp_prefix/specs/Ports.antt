@@ -1,7 +1,6 @@
 -- What is to be known of the ports of a node, step by step, where a predicate is known of each reliable connection on a slot.
 use Rattle.std.specs.Prelude.{◌≡◌, ◌≢◌, ℕ, ◌+◌, ◌*◌, ◌<◌, ◌≤◌, ◌==◌, ◌&&◌, Bool, true, false, if◌then◌else◌, Option, None, Some, List, [], ◌∷◌, ◌++◌, length, count_by, IfSome, ⊤}
 use Rattle.std.specs.List.{AllByRecursion}
-use Rattle.csp_base.specs.declared.traces.Tag.{Tag}
 use Rattle.csp_base.specs.declared.priority.Prio.{Prio}
 use Rattle.csp_buffer.specs.Content.{Content}
 use Rattle.csp_buffer.specs.PlainBuffer.{PlainBuffer}
@@ -34,7 +33,7 @@ use Rattle.csp_ports.specs.declared.terms.Terms.{Terms}
 use Rattle.csp_ports.specs.declared.terms.Wish.{Wish}
 use Rattle.csp_ports.specs.declared.terms.Wish.TheVariants as wish
 use Rattle.csp_rdp.specs.Jobs.{delivery, job_of}
-use Rattle.csp_rdp.specs.Machine.{PlainRdp, idle}
+use Rattle.csp_rdp.specs.Machine.{idle}
 use Rattle.csp_rdp.specs.declared.answers.State.TheVariants.{Closed, Open}
 use Rattle.csp_rdp.specs.declared.jobs.Job.{Job}
 use Rattle.csp_rdp_header.specs.Head.{has_flag}

@@ -40,8 +40,8 @@ pub record EndsAsOrdinary (scene : PlainScene) (run : PlainRecord) (bytes : List
   pub prefix : IsOrdinary scene run → HasClearFlows scene run → IsReliablePrefix run
 
 -- so it is with these bytes
-unfoldable pub IsUnchangedIfOrdinary : PlainScene → PlainRecord → List ℕ → Type 0
-IsUnchangedIfOrdinary scene run bytes = EndsAsOrdinary scene run bytes
+unfoldable pub IsUncountedIfOrdinary : PlainScene → PlainRecord → List ℕ → Type 0
+IsUncountedIfOrdinary scene run bytes = EndsAsOrdinary scene run bytes
 
 -- the text states a scene, whose run ends before its logs are full; its record is consistent with the scene, and these bytes are its report. Where
 -- the run was ordinary, they end with `passed 0`, and where its flows were clear besides, with `stale 0` before that
@@ -52,7 +52,7 @@ pub record IsReportOf (text bytes : List ℕ) : Type 0 where
   pub ran : sim_record scene ≡ Some run
   pub consistent : IsConsistent scene run
   pub reported : bytes ≡ report scene run
-  pub ordinary : IsUnchangedIfOrdinary scene run bytes
+  pub ordinary : IsUncountedIfOrdinary scene run bytes
 
 -- the whole report of the text was written
 abbrev pub WroteReport : List ℕ → Option (List ℕ) → Option (List ℕ) → Type 0

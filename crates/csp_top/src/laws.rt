@@ -2,6 +2,7 @@
 
 ghost use Rattle.std.specs.Prelude.{◌≡◌, [], length, map};
 ghost use Rattle.csp_topology.specs.Parties.{parties_of};
+ghost use Rattle.csp_peers.specs.Window.{LastIsWithinWindow};
 ghost use Rattle.csp_prefix.specs.Prefix.{IsReliablePrefix};
 ghost use Rattle.csp_consistent.specs.Runs.{AreLogsOf};
 ghost use Rattle.csp_record.specs.Passed.{passed};
@@ -20,6 +21,7 @@ ghost use Rattle.csp_world.specs.Record.{record_of};
 ghost use Rattle.csp_world.specs.World.{PlainWorld};
 ghost use Rattle.std.specs.List.{AllByRecursion};
 
+use csp_peers::keeps_window;
 use csp_prefix::takes_a_prefix;
 use csp_report::tells_prefix;
 use csp_world::is_consistent;
@@ -39,4 +41,14 @@ pub fn stays_reliable()
 {
     is_consistent();
     takes_a_prefix();
+}
+
+/// After each turn and each tick of a scene's run, where the record so far counts neither stale copies nor changed packets: if the turn
+/// handed a data packet to one of two reliable connections which are each other's peers, the packet's index is at most a window of its
+/// sender past the last one that the connection delivered.
+pub fn stays_within_window()
+    ensures { (scene : PlainScene) (w : PlainWorld) → IsScene scene → AreLinksAfter (length scene.nodes) [] scene.links → IsReached scene w → stale (record_of w) ≡ 0 → passed (record_of w) ≡ 0 → LastIsWithinWindow scene (record_of w) }
+{
+    is_consistent();
+    keeps_window();
 }

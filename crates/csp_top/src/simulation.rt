@@ -15,7 +15,7 @@ ghost use Rattle.csp_scene.specs.Kept.{AreLinksAfter};
 ghost use Rattle.csp_scene.specs.Naming.{AreNamedApart};
 ghost use Rattle.csp_scene.specs.Ranges.{IsScene};
 ghost use Rattle.csp_scene.specs.declared.refusal.SceneKind.{SceneKind};
-ghost use Rattle.csp_top.specs.Main.{IsUnchangedIfOrdinary, WroteReport, WrotePart, WroteReliably, WroteWhole, IsReportOf, IsDoneOrNoMemory};
+ghost use Rattle.csp_top.specs.Main.{IsUncountedIfOrdinary, WroteReport, WrotePart, WroteReliably, WroteWhole, IsReportOf, IsDoneOrNoMemory};
 ghost use Rattle.csp_report.specs.PlacesAddUp.{PlacesAddUp};
 ghost use Rattle.csp_report.specs.ReliablePrefix.{HasReliablePrefix};
 
@@ -102,7 +102,7 @@ pub(crate) fn told(alloc: Global, run: &Record, scene: &Scene) -> Result<Vec<u8>
     ensures bytes { IfOk result (λ bytes. bytes.items ≡ report scene.now run.now) }
     ensures places { IfOk result (λ bytes. PlacesAddUp bytes.items) }
     ensures reliable { IfOk result (λ bytes. HasReliablePrefix bytes.items) }
-    ensures ordinary { IfOk result (λ bytes. IsUnchangedIfOrdinary scene.now run.now bytes.items) }
+    ensures ordinary { IfOk result (λ bytes. IsUncountedIfOrdinary scene.now run.now bytes.items) }
     ensures refused { IfErr result (λ why. why ≡ Refusal.NoMemory) }
 {
     takes_a_prefix();

@@ -7,7 +7,7 @@ use Rattle.csp_report.specs.Report.{report}
 use Rattle.csp_report.specs.ReliablePrefix.{HasReliablePrefix}
 use Rattle.csp_top.proofs.Unchanged.{ends_unchanged, ends_uncounted}
 use Rattle.csp_top.proofs.simulation.told.Goals as goal
-use Rattle.csp_top.specs.Main.{EndsAsOrdinary, EndsUnchanged, IsUnchangedIfOrdinary}
+use Rattle.csp_top.specs.Main.{EndsAsOrdinary, EndsUnchanged, IsUncountedIfOrdinary}
 
 pub returns-in-Ok-clause-reliable : goal.returns-in-Ok-clause-reliable
 returns-in-Ok-clause-reliable c =
@@ -21,7 +21,7 @@ returns-in-Ok-clause-reliable c =
     (c.takes_a_prefix.ensures scene run ranges consistent))
 
 pub returns-in-Ok-clause-ordinary : goal.returns-in-Ok-clause-ordinary
-unfolding IsUnchangedIfOrdinary
+unfolding IsUncountedIfOrdinary
 returns-in-Ok-clause-ordinary c =
     let scene = c.args.scene.now in
     let run = c.args.run.now in
