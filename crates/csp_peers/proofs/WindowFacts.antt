@@ -42,11 +42,12 @@ pub record HasHeard (es : List Entry) (flow : ℕ × ℕ) (t : Tag) : Type 0 whe
   pub tagged : packet.trace.tag ≡ Some t
   pub of : flow_of t ≡ flow
 
--- an index is within a window that the router had for this number, of the start of the flow, or of what a packet of the peer acknowledged
+-- an index is within a window that the router had for this number and this peer, of the start of the flow, or of what a packet of the peer acknowledged
 pub record IsAllowed (f : Facts) (routes : Routes) (es : List Entry) (nth : ℕ) (peer : ℕ × ℕ) (index : ℕ) : Type 0 where
   pub machine : PlainRdp
   pub had : HadMachine f routes es machine
   pub numbered : machine.nth ≡ nth
+  pub met : machine.peer ≡ Some peer
   pub within : (index ≤ machine.send.window) ⊎ ((t : Tag) × HasHeard es peer t × (index ≤ t.ack + machine.send.window))
 
 -- each data packet of this flow is so

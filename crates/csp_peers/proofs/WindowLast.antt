@@ -256,13 +256,13 @@ module _ (scene : PlainScene) (r : PlainRecord) (is : IsScene scene) (con : IsCo
 
     -- so each data packet of its peer's flow is within the window
     abbrev Within : Content → Type 0
-    Within b = (g : Tag) → IsDataPacket b g → flow_of g ≡ peer → IsWithinWindow scene r g cur
+    Within b = (g : Tag) → IsDataPacket b g → flow_of g ≡ peer → IsWithinWindow scene r g (place, nth) cur
 
-    within : (there : RouterThere scene r peer.0) (g : Tag) → flow_of g ≡ peer → IsAllowed (facts_of peer.0 there) there.node.routes (log_of peer.0) peer.1 (place, nth) g.index → IsWithinWindow scene r g cur
+    within : (there : RouterThere scene r peer.0) (g : Tag) → flow_of g ≡ peer → IsAllowed (facts_of peer.0 there) there.node.routes (log_of peer.0) peer.1 (place, nth) g.index → IsWithinWindow scene r g (place, nth) cur
     within there g of a = record {
       window = a.machine.send.window;
-      had = subst (λ x. HadWindow scene r x a.machine.send.window) (sym of)
-          (record { node = there.node; addr = there.addr; there = there.there; called = there.called; machine = a.machine; had = a.had; numbered = a.numbered; wide = refl });
+      had = subst (λ x. HadWindow scene r x (place, nth) a.machine.send.window) (sym of)
+          (record { node = there.node; addr = there.addr; there = there.there; called = there.called; machine = a.machine; had = a.had; numbered = a.numbered; meets = a.met; wide = refl });
       within = by a.within;
     }
       where
@@ -292,7 +292,7 @@ module _ (scene : PlainScene) (r : PlainRecord) (is : IsScene scene) (con : IsCo
     hears_data : HearsOnly Within (log_of place)
     hears_data = hears_only scene r is con same Within (λ b c headers payloads tags w g d of. w g (data_like b c g headers payloads tags d) of) all_data place t
 
-    last_within : IsWithinWindow scene r tag cur
+    last_within : IsWithinWindow scene r tag (place, nth) cur
     last_within =
         let told : is_stale (event.Handed nth (Some peer) (Some tag) cur handed.una) ≡ false = told_fresh in
         let names = fed_tag (Some tag) peer cur handed.una told in
@@ -306,6 +306,6 @@ module _ (scene : PlainScene) (r : PlainRecord) (is : IsScene scene) (con : IsCo
   window_holds place nth cur peer tag before e whole handed back =
       by (logged scene r (who.Router place) con.runs)
     where
-      by : (log_of place ≡ []) ⊎ Logged (IsOf scene) (who.Router place) r.parties → IsWithinWindow scene r tag cur
+      by : (log_of place ≡ []) ⊎ Logged (IsOf scene) (who.Router place) r.parties → IsWithinWindow scene r tag (place, nth) cur
       by (inl none) = absurd (not_empty before e (sym whole ∙ none))
       by (inr l) = last_within place nth cur peer tag before e whole handed back (router_there scene r place is con.runs con.lanes l)

@@ -183,6 +183,7 @@ module _ (f : Facts) (routes : Routes) (es : List Entry) (flows : Flows) (own pe
         machine = r;
         had = had;
         numbered = nth;
+        met = with_peer;
         within = subst (λ i. (i ≤ r.send.window) ⊎ ((t : Tag) × HasHeard es peer t × (i ≤ t.ack + r.send.window))) index (data-within (HasHeard es peer) own.1 peer j time r is.1 nth with_peer carries);
       }
 

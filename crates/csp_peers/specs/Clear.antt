@@ -1,5 +1,5 @@
 -- When no flow of a run can be taken for another: no application forges a packet of a connection, no connection is with all nodes at once, no two
--- connections of a node look alike, and none has so many packets that their numbers come again.
+-- connections of a node look alike, and on none are so many packets sent that two of its indices are half of all numbers apart.
 use Rattle.std.specs.Prelude.{◌≡◌, ℕ, ◌+◌, ◌<◌, Some, List, length}
 use Rattle.csp_base.specs.declared.traces.Tag.{Tag}
 use Rattle.csp_buffer.specs.Content.{Content}
@@ -32,7 +32,7 @@ AreApart node es =
 abbrev pub HasConnectionsApart : PlainRecord → Type 0
 HasConnectionsApart r = (node : ℕ) → AreApart node (entries_of r (who.Router node))
 
--- on each reliable connection fewer packets were sent than would bring its numbers half round
+-- on each reliable connection so few packets were sent that no two of its indices are half of all numbers apart
 abbrev pub HasShortFlows : PlainRecord → Type 0
 HasShortFlows r = (node app nth : ℕ) (x : Opening) → IsOpened r node app x → x.nth ≡ Some nth → length (sent_on r node app x) + 1 < half
 

@@ -29,7 +29,7 @@ use Rattle.csp_prefix.specs.Flows.{is_data, with_checksum}
 use Rattle.csp_prefix.specs.Prefix.{IsOfFlow}
 use Rattle.csp_prefix.specs.Routers.{opening_router, router_steps}
 
--- a packet carries data of a flow: it is filled with such a head and some bytes before it, and has a checksum where its header says so
+-- a packet carries data of a flow: it is filled with a head and the bytes before it, which make it data, and has a checksum where its header says so
 pub record IsDataPacket (b : Content) (t : Tag) : Type 0 where
   pub tagged : b.trace.tag ≡ Some t
   pub head : RdpHead
@@ -65,8 +65,8 @@ pub record HadMachine (f : Facts) (routes : Routes) (es : List Entry) (m : Plain
   pub slot : ℕ
   pub there : machine_at (timed (state_after router_steps (opening_router f routes) before).state turn.time).ports app slot ≡ m
 
--- the router of a flow's node had the flow's connection with this window
-pub record HadWindow (scene : PlainScene) (r : PlainRecord) (flow : ℕ × ℕ) (window : ℕ) : Type 0 where
+-- the router of a flow's node had the flow's connection, with this peer and this window
+pub record HadWindow (scene : PlainScene) (r : PlainRecord) (flow peer : ℕ × ℕ) (window : ℕ) : Type 0 where
   pub node : PlainNode
   pub addr : ℕ
   pub there : slice_get scene.nodes flow.0 ≡ Some node
@@ -74,16 +74,17 @@ pub record HadWindow (scene : PlainScene) (r : PlainRecord) (flow : ℕ × ℕ) 
   pub machine : PlainRdp
   pub had : HadMachine (config_of flow.0 addr node (links_at flow.0 scene.links)).facts node.routes (entries_of r (who.Router flow.0)) machine
   pub numbered : machine.nth ≡ flow.1
+  pub meets : machine.peer ≡ Some peer
   pub wide : machine.send.window ≡ window
 
--- an index is at most a window past where a connection stands
-pub record IsWithinWindow (scene : PlainScene) (r : PlainRecord) (t : Tag) (cur : ℕ) : Type 0 where
+-- an index is at most a window of its sender past where this connection, which is the sender's peer, stands
+pub record IsWithinWindow (scene : PlainScene) (r : PlainRecord) (t : Tag) (own : ℕ × ℕ) (cur : ℕ) : Type 0 where
   pub window : ℕ
-  pub had : HadWindow scene r (flow_of t) window
+  pub had : HadWindow scene r (flow_of t) own window
   pub within : t.index ≤ cur + window
 
 -- in what a record's routers did last: a data packet that was handed to a connection, whose peer's peer it is, is within the window of its sender
 abbrev pub LastIsWithinWindow : PlainScene → PlainRecord → Type 0
 LastIsWithinWindow scene r =
-    (place nth cur : ℕ) (peer : ℕ × ℕ) (t : Tag) (before : List Entry) (e : Entry) → entries_of r (who.Router place) ≡ before ++ e ∷ [] → IsDataHanded e nth peer t cur → HasAsPeer r peer (place, nth)
-    → IsWithinWindow scene r t cur
+    (place nth cur : ℕ) (peer : ℕ × ℕ) (t : Tag) (before : List Entry) (e : Entry) → entries_of r (who.Router place) ≡ before ++ e ∷ []
+    → IsDataHanded e nth peer t cur → HasAsPeer r peer (place, nth) → IsWithinWindow scene r t (place, nth) cur

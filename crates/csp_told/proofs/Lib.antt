@@ -1,5 +1,6 @@
 mod Counts
 mod Digits
+mod LastLines
 mod LinesBack
 mod Parts
 mod SentLines

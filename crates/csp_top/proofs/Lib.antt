@@ -3,4 +3,3 @@ mod OpeningNumbers
 mod Owing
 mod Prefix
 mod Untaken
-mod Unchanged

@@ -1,6 +1,5 @@
 -- What a call of the program owes: what it writes by what it read, and when each answer comes.
-use Rattle.std.specs.Prelude.{ℕ, ◌≡◌, List, ◌∷◌, [], ◌++◌, Option, Some, Ok, IfSome, ⊤, codes}
-use Rattle.std.specs.Fmt.{decimal}
+use Rattle.std.specs.Prelude.{ℕ, ◌≡◌, List, ◌++◌, Option, Some, Ok, IfSome, ⊤}
 use Rattle.csp_base.specs.Transfer.{WrotePrefix}
 use Rattle.std.specs.Io.KnownBytes.{Appends}
 use Rattle.csp_scene.specs.Scene.{PlainScene}
@@ -10,36 +9,29 @@ use Rattle.csp_world.specs.Record.{sim_record}
 use Rattle.csp_ordinary.specs.Ordinary.{HasNoFlips, HasNumbersForAll, IsOrdinary}
 use Rattle.csp_peers.specs.Clear.{HasClearFlows}
 use Rattle.csp_prefix.specs.Prefix.{IsReliablePrefix}
+use Rattle.csp_told.specs.LastLines.{EndsUnchanged}
 use Rattle.csp_told.specs.WithinNumbers.{SendsWithinNumbers}
-use Rattle.csp_report.specs.Lines.{ended_line}
 use Rattle.csp_report.specs.Report.{report}
 use Rattle.csp_consistent.specs.Consistent.{IsConsistent}
 use Rattle.csp_report.specs.PlacesAddUp.{PlacesAddUp}
-use Rattle.csp_report.specs.ReliablePrefix.{HasReliablePrefix}
+use Rattle.csp_report.specs.ReliablePrefix.{HasReliablePrefix, HavePeersTexts, IsUndisturbed, all_told, word_lines}
 use Rattle.csp_bench.specs.declared.status.Status.{Status}
 use Rattle.csp_bench.specs.declared.status.Status.TheVariants as status
 
--- the bytes of a report end with the line `passed 0`
-pub record EndsUnchanged (bytes : List ℕ) : Type 0 where
-  pub before : List ℕ
-  pub whole : bytes ≡ before ++ ended_line (codes "passed" ∷ decimal 0 ∷ [])
-
--- they end with the lines `stale 0` and `passed 0`
-pub record EndsUncounted (bytes : List ℕ) : Type 0 where
-  pub before : List ℕ
-  pub whole : bytes ≡ before ++ ended_line (codes "stale" ∷ decimal 0 ∷ []) ++ ended_line (codes "passed" ∷ decimal 0 ∷ [])
-
--- where a run was ordinary the bytes of its report end with `passed 0`; so they do where no line of the scenario flips a bit and no bus wore out its
--- numbers, be it by the record or by the report's own lines. Where besides its flows are clear they end with `stale 0` and `passed 0`, and what was taken on each reliable connection with a peer is a
--- beginning of what the peer sent
+-- what is known of the bytes of a report where its run was ordinary: their last line is `passed 0`. So it is where no line of the scenario flips a bit
+-- and no bus wore out its numbers, be that by the record or by the report's own lines. Where besides the run's flows are clear the last two lines are
+-- `stale 0` and `passed 0`, and what was taken on each reliable connection with a peer is a beginning of what the peer sent, by the record and by the
+-- report's own lines
 pub record EndsAsOrdinary (scene : PlainScene) (run : PlainRecord) (bytes : List ℕ) : Type 0 where
   pub passes : IsOrdinary scene run → EndsUnchanged bytes
   pub unflipped : HasNoFlips scene → HasNumbersForAll scene run → EndsUnchanged bytes
   pub by_report : HasNoFlips scene → SendsWithinNumbers scene bytes → EndsUnchanged bytes
-  pub clear : IsOrdinary scene run → HasClearFlows scene run → EndsUncounted bytes
+  pub clear : IsOrdinary scene run → HasClearFlows scene run → IsUndisturbed bytes
+  pub clear_by_report : HasNoFlips scene → SendsWithinNumbers scene bytes → HasClearFlows scene run → IsUndisturbed bytes
   pub prefix : IsOrdinary scene run → HasClearFlows scene run → IsReliablePrefix run
+  pub texts : IsOrdinary scene run → HasClearFlows scene run → HavePeersTexts (all_told (word_lines bytes))
 
--- so it is with these bytes
+-- the same, unfolded only where it is needed
 unfoldable pub IsUncountedIfOrdinary : PlainScene → PlainRecord → List ℕ → Type 0
 IsUncountedIfOrdinary scene run bytes = EndsAsOrdinary scene run bytes
 

@@ -1,4 +1,4 @@
-//! What the text of a report says of the record that it is made of.
+//! What the text of a report says of the record that it is made of, and what holds of every world that a scene's run reaches.
 
 ghost use Rattle.std.specs.Prelude.{◌≡◌, [], length, map};
 ghost use Rattle.csp_topology.specs.Parties.{parties_of};

@@ -29,7 +29,7 @@ use csp_prefix::{opens_on_slots, takes_a_prefix};
 use csp_record::Record;
 use csp_report::report;
 use csp_scene::{Scene, SceneKind};
-use csp_told::within_by_report;
+use csp_told::{ends_unchanged, ends_undisturbed, within_by_report};
 use csp_world::MAX_ENTRIES;
 use std::alloc::Global;
 
@@ -112,6 +112,8 @@ pub(crate) fn told(alloc: Global, run: &Record, scene: &Scene) -> Result<Vec<u8>
     counts_no_stale();
     undamaged_without_flips();
     within_by_report();
+    ends_unchanged();
+    ends_undisturbed();
     hold_numbers(run);
     hold_words(run);
     match report(alloc, run, scene) {

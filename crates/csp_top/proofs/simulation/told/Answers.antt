@@ -4,10 +4,11 @@ use Rattle.csp_peers.specs.Clear.{HasClearFlows}
 use Rattle.csp_record.specs.Passed.{passed}
 use Rattle.csp_record.specs.Stale.{stale}
 use Rattle.csp_report.specs.Report.{report}
-use Rattle.csp_report.specs.ReliablePrefix.{HasReliablePrefix}
-use Rattle.csp_top.proofs.Unchanged.{ends_unchanged, ends_uncounted}
+use Rattle.csp_report.specs.ReliablePrefix.{HasReliablePrefix, IsUndisturbed}
 use Rattle.csp_top.proofs.simulation.told.Goals as goal
-use Rattle.csp_top.specs.Main.{EndsAsOrdinary, EndsUnchanged, IsUncountedIfOrdinary}
+use Rattle.csp_told.specs.LastLines.{EndsUnchanged}
+use Rattle.csp_told.specs.WithinNumbers.{SendsWithinNumbers}
+use Rattle.csp_top.specs.Main.{EndsAsOrdinary, IsUncountedIfOrdinary}
 
 pub returns-in-Ok-clause-reliable : goal.returns-in-Ok-clause-reliable
 returns-in-Ok-clause-reliable c =
@@ -29,12 +30,20 @@ returns-in-Ok-clause-ordinary c =
     let consistent = c.requires.consistent in
     let same : IsOrdinary scene run → passed run ≡ 0 = c.passes_nothing.ensures scene run ranges c.requires.ends consistent c.hold_words.ensures in
     let fresh : IsOrdinary scene run → HasClearFlows scene run → stale run ≡ 0 = λ ordinary. c.counts_no_stale.ensures scene run ranges c.requires.addressed consistent (same ordinary) in
-    let unflipped : HasNoFlips scene → HasNumbersForAll scene run → EndsUnchanged (report scene run) = λ none numbers.
-    ends_unchanged scene run (same (record { undamaged = c.undamaged_without_flips.ensures scene run none; numbers = numbers })) in
+    let within : SendsWithinNumbers scene (report scene run) → HasNumbersForAll scene run = c.within_by_report.ensures scene run ranges consistent.runs in
+    let unharmed : HasNoFlips scene → HasNumbersForAll scene run → IsOrdinary scene run = λ none numbers. record { undamaged = c.undamaged_without_flips.ensures scene run none; numbers = numbers } in
+    let passes : IsOrdinary scene run → EndsUnchanged (report scene run) = λ ordinary. c.ends_unchanged.ensures scene run (same ordinary) in
+    let calm : IsOrdinary scene run → HasClearFlows scene run → IsUndisturbed (report scene run) = λ ordinary clear. c.ends_undisturbed.ensures scene run (fresh ordinary clear) (same ordinary) in
+    let reliable : HasReliablePrefix (report scene run) =
+    c.tells_reliable_prefix.ensures scene run ranges c.requires.apart consistent.runs c.requires.whole c.hold_numbers.ensures
+    (λ node app x opened. (let placed = c.opens_on_slots.ensures scene run ranges consistent node app x opened in record { app = placed.0; slot = placed.1 }))
+    (c.takes_a_prefix.ensures scene run ranges consistent) in
     subst (EndsAsOrdinary scene run) (sym c.in-Ok.ensures.bytes) (record {
-      passes = λ ordinary. ends_unchanged scene run (same ordinary);
-      unflipped = unflipped;
-      by_report = λ none within. unflipped none (c.within_by_report.ensures scene run ranges consistent.runs within);
-      clear = λ ordinary clear. ends_uncounted scene run (same ordinary) (fresh ordinary clear);
+      passes = passes;
+      unflipped = λ none numbers. passes (unharmed none numbers);
+      by_report = λ none told. passes (unharmed none (within told));
+      clear = calm;
+      clear_by_report = λ none told. calm (unharmed none (within told));
       prefix = λ ordinary clear. c.takes_a_prefix.ensures scene run ranges consistent (fresh ordinary clear) (same ordinary);
+      texts = λ ordinary clear. reliable (calm ordinary clear);
     })
