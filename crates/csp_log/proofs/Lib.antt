@@ -1,3 +1,4 @@
+mod Headers
 mod Idle
 pub mod Logged
 mod Slots

@@ -18,7 +18,7 @@ use Rattle.csp_buffer.specs.Trails.{trace_of}
 use Rattle.csp_buffer.specs.declared.trail.Trail.{Trail}
 use Rattle.csp_log.specs.PlainDraft.{PlainDraft}
 use Rattle.csp_log.specs.PlainLog.{entry_with, all_events}
-use Rattle.csp_log.specs.Rows.{draft_of, spoken_of, row_entry, kept_entry, entry_at, IsDeedLong, IsKeptIn, IsRowIn, IsLineIn, Says}
+use Rattle.csp_log.specs.Rows.{draft_of, spoken_of, row_entry, kept_entry, entry_at, IsDeedLong, IsDeedWord, IsKeptIn, IsRowIn, IsLineIn, Says}
 use Rattle.csp_log.specs.declared.entry.Entry.{Entry}
 use Rattle.csp_log.specs.declared.event.Event.{Event}
 use Rattle.csp_log.specs.declared.event.TheConstants.{MAX_EVENTS}
@@ -110,9 +110,9 @@ kept_anew bytes after carried first r is differs more at = record {
 pub says-kept : (rows : List Row) (bytes : List ℕ) (events : List Event) (time : ℕ) (bs : List ℕ) (d : Deed) (t : Trail) (told : List Event) (first_byte first_event place : ℕ) (rows_after : List Row) (bytes_after : List ℕ) (events_after : List Event)
     → place ≡ length rows → IsKeptIn bytes bytes_after bs first_byte → first_event ≡ length events
     → rows_after ≡ rows ++ record { time = time; first_byte = first_byte; first_event = first_event; bytes = length bs; events = length told; deed = d; trail = t } ∷ [] → events_after ≡ events ++ told
-    → IsDeedLong (length bs) d → length bs ≤ MAX_FRAME → length told ≤ MAX_EVENTS
+    → IsDeedLong (length bs) d → IsDeedWord d → length bs ≤ MAX_FRAME → length told ≤ MAX_EVENTS
     → Says rows bytes events time bs (draft_of bs (trace_of t) d) told (line.Kept place) rows_after bytes_after events_after
-says-kept rows bytes events time bs d t told first_byte first_event place rows_after bytes_after events_after at kept event rows_are events_are fits short few =
+says-kept rows bytes events time bs d t told first_byte first_event place rows_after bytes_after events_after at kept event rows_are events_are fits word short few =
     let r : Row = record { time = time; first_byte = first_byte; first_event = first_event; bytes = length bs; events = length told; deed = d; trail = t } in
     record {
       rows_more = r ∷ [];
@@ -127,6 +127,7 @@ says-kept rows bytes events time bs d t told first_byte first_event place rows_a
       inside = All-push (IsRowIn (length bytes_after) (length events_after)) [] r (search rules) (record {
         bytes_in = kept.inside;
         fits = fits;
+        word = word;
         short = short;
         events_in = rw (event, events_are) (grind (arith, common_steps));
         few = few;
@@ -185,7 +186,7 @@ told-push rows bytes events time carried draft told said rows_after bytes_after 
 
 -- rows and lines stay inside longer lists
 IsRowIn-more : (n m k l : ℕ) (r : Row) → n ≤ m → k ≤ l → IsRowIn n k r → IsRowIn m l r
-IsRowIn-more n m k l r a b h = record { bytes_in = let w = h.bytes_in in omega arith; fits = h.fits; short = h.short; events_in = let w = h.events_in in omega arith; few = h.few }
+IsRowIn-more n m k l r a b h = record { bytes_in = let w = h.bytes_in in omega arith; fits = h.fits; word = h.word; short = h.short; events_in = let w = h.events_in in omega arith; few = h.few }
 
 IsLineIn-more : (n m : ℕ) (l : Line) → n ≤ m → IsLineIn n l → IsLineIn m l
 IsLineIn-more n m (line.Rested _) le h = tt

@@ -1,5 +1,5 @@
 -- how a log keeps its entries: a line each, and where there is more to it a row, which points into one list of bytes and one of events
-use Rattle.std.specs.Prelude.{◌≡◌, ℕ, Bool, true, false, ◌+◌, ◌<◌, ◌≤◌, List, [], ◌++◌, Option, Some, None, ⊤, All, length, slice_get, slice_range}
+use Rattle.std.specs.Prelude.{◌≡◌, ℕ, Bool, true, false, ◌+◌, ◌^◌, ◌<◌, ◌≤◌, List, [], ◌++◌, Option, Some, None, ⊤, All, length, slice_get, slice_range}
 use Rattle.csp_base.specs.declared.limits.TheConstants.{MAX_PAYLOAD, MAX_FRAME}
 use Rattle.csp_base.specs.Trace.{no_trace}
 use Rattle.csp_base.specs.declared.traces.Trace.{Trace}
@@ -92,6 +92,28 @@ IsDeedLong n (deed.FoundFull q i) = IsItemLong n i
 IsDeedLong n (deed.Popped q i) = IsItemLong n i
 IsDeedLong n (deed.FoundEmpty q) = ⊤
 
+-- the header that is kept of a packet is a word of 32 bits
+abbrev pub IsHeadWord : PacketHead → Type 0
+IsHeadWord p = p.header < 2 ^ 32
+
+-- of an item, where it is a packet
+abbrev pub IsItemWord : ItemHead → Type 0
+IsItemWord (head.Packet mark p) = IsHeadWord p
+IsItemWord (head.Frame can) = ⊤
+IsItemWord (head.Note _) = ⊤
+
+-- of a deed, where a packet was moved or stayed
+abbrev pub IsDeedWord : Deed → Type 0
+IsDeedWord deed.Rested = ⊤
+IsDeedWord (deed.Took p) = IsHeadWord p
+IsDeedWord deed.FoundNoBuffer = ⊤
+IsDeedWord (deed.Gave p) = IsHeadWord p
+IsDeedWord (deed.FoundPoolFull p) = IsHeadWord p
+IsDeedWord (deed.Pushed q i) = IsItemWord i
+IsDeedWord (deed.FoundFull q i) = IsItemWord i
+IsDeedWord (deed.Popped q i) = IsItemWord i
+IsDeedWord (deed.FoundEmpty q) = ⊤
+
 -- the bytes and the events of a row
 abbrev pub bytes_in : List ℕ → Row → List ℕ
 bytes_in bytes r = slice_range bytes r.first_byte (r.first_byte + r.bytes)
@@ -128,10 +150,11 @@ spoken_of true time deed.FoundNoBuffer = Some (line.FoundNoBuffer time)
 spoken_of true time (deed.FoundEmpty q) = Some (line.FoundEmpty q time)
 spoken_of true time _ = None
 
--- a row's bytes and events stand in the lists
+-- a row's bytes and events stand in the lists, and its header is a word
 pub record IsRowIn (bytes events : ℕ) (r : Row) : Type 0 where
   pub bytes_in : r.first_byte + r.bytes ≤ bytes
   pub fits : IsDeedLong r.bytes r.deed
+  pub word : IsDeedWord r.deed
   pub short : r.bytes ≤ MAX_FRAME
   pub events_in : r.first_event + r.events ≤ events
   pub few : r.events ≤ MAX_EVENTS

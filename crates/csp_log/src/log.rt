@@ -3,19 +3,20 @@
 ghost use Rattle.std.specs.Prelude.{◌≡◌, ℕ, ◌+◌, ◌-◌, ◌*◌, ◌^◌, ◌<◌, ◌≤◌, [], ◌++◌, ◌∷◌, length, max, nat_lt, slice_get, slice_range, All, Some, false, ◌&&◌, IfOk, OnOk, OnErr, vec_len, vec_capacity};
 ghost use Rattle.std.specs.Option.{option_map};
 ghost use Rattle.csp_buffer.specs.Trails.{trace_of};
+ghost use Rattle.csp_log.specs.Headers.{MoveWords};
 ghost use Rattle.csp_log.specs.Idling.{IsIdle, is_idle};
 ghost use Rattle.csp_log.specs.Layout.{IsRoomier, HasTaken};
 ghost use Rattle.csp_log.specs.Moving.{moved_in};
 ghost use Rattle.csp_log.specs.Noting.{noted_in};
 ghost use Rattle.csp_log.specs.PlainDraft.{drafted};
 ghost use Rattle.csp_log.specs.PlainLog.{with_entry, entry_with, all_events};
-ghost use Rattle.csp_log.specs.Rows.{draft_of, spoken_of, IsDeedLong, IsKeptIn, Says};
+ghost use Rattle.csp_log.specs.Rows.{draft_of, spoken_of, IsDeedLong, IsDeedWord, IsHeadWord, IsKeptIn, Says};
 ghost use Rattle.csp_log.specs.Weights.{weight_of_all};
 
 use crate::deeds::{entry_of, events_at, idle, keep, make_room, moved_of};
 use crate::draft::Draft;
 use crate::noted::{is_still, read_noted};
-use crate::row::{Deed, Line, Row};
+use crate::row::{Deed, ItemHead, Line, PacketHead, Row};
 use crate::rows::Rows;
 use crate::weights::surplus;
 use crate::{
@@ -82,6 +83,9 @@ impl Log {
     pub fn len(&self) -> u64
         ensures value { result ≡ length self.now.entries }
         ensures few { length self.now.entries + self.now.spare ≤ 2 ^ 32 - 2 }
+
+        // The header of each packet that a turn moved is a word of 32 bits, as the field is of which it is read.
+        ensures words { MoveWords self.now.entries }
     {
         self.lines.len() as u64
     }
@@ -389,6 +393,7 @@ fn keep_row(
     ensures bytes_capacity { (vec_capacity bytes.old ≤ vec_capacity bytes.new) × (vec_len bytes.new ≤ vec_len bytes.old + MAX_FRAME) }
     ensures events_capacity { (vec_capacity events.old ≤ vec_capacity events.new) × (vec_len events.new ≤ vec_len events.old + MAX_EVENTS) }
 {
+    hold_word(deed);
     let row = rows.len() as u32;
     let first_byte = keep_once(bytes, carried);
     let first_event = keep(events, told);
@@ -402,6 +407,30 @@ fn keep_row(
         trail: *trail,
     });
     Line::Kept { row }
+}
+
+/// The header of a deed's packet, where there is one, is a word of 32 bits.
+#[inline(always)]
+fn hold_word(deed: &Deed)
+    ensures { IsDeedWord deed.now }
+{
+    match deed {
+        Deed::Took(packet) | Deed::Gave(packet) | Deed::FoundPoolFull(packet) => {
+            hold_head_word(packet)
+        }
+        Deed::Pushed(_, ItemHead::Packet { packet, .. })
+        | Deed::FoundFull(_, ItemHead::Packet { packet, .. })
+        | Deed::Popped(_, ItemHead::Packet { packet, .. }) => hold_head_word(packet),
+        _ => {}
+    }
+}
+
+/// So is that of a packet: it is read for the checker alone.
+#[inline(always)]
+fn hold_head_word(packet: &PacketHead)
+    ensures { IsHeadWord packet.now }
+{
+    let _header = packet.header;
 }
 
 /// Sees to it that a list has these bytes, for which there is room, and tells where they begin. Where they stand at its
