@@ -5,38 +5,35 @@ use Rattle.std.specs.Option.{option_and_then}
 use Rattle.std.specs.Prelude.{if◌then◌else◌, IfSome}
 use Rattle.csp_base.specs.declared.traces.Origin.{Origin}
 use Rattle.csp_buffer.specs.Content.{Content}
-use Rattle.csp_log.specs.Idling.{IsIdle}
+use Rattle.csp_log.specs.Headers.{IsWord, MovesWord, MoveWords}
 use Rattle.csp_log.specs.Moving.{moved_in}
 use Rattle.csp_log.specs.declared.entry.Entry.{Entry}
+use Rattle.csp_log.specs.declared.moved.Moved.{Moved}
+use Rattle.csp_log.specs.declared.moved.Moved.TheVariants as moved
+use Rattle.csp_log.specs.declared.places.QueueId.TheVariants as queue
 use Rattle.csp_record.specs.Record.{PlainPartyLog, PlainRecord}
 use Rattle.csp_record.specs.Transmissions.{fetched, iface_entries, is_beginning, shown_in, transmission}
 use Rattle.csp_record.specs.Who.{is_iface}
 use Rattle.csp_scene.proofs.Lists.{AllByRecursion-append}
 use Rattle.csp_consistent.proofs.Each.{first_given}
-use Rattle.csp_ordinary.specs.Words.{HasWords, IsWord, all_fetched}
+use Rattle.csp_ordinary.specs.Words.{HasWords, all_fetched}
 
 -- ---- entry by entry
 
-all_more : {X Y : Type 0} (P : Y → Type 0) (g : X → Option Y) (xs : List X) (k : ℕ) → AllByRecursion P (filter_map g (take k xs)) → IfSome (option_and_then g (slice_get xs k)) P → AllByRecursion P (filter_map g (take (suc k) xs))
-all_more P g [] zero all here = tt
-all_more P g [] (suc k) all here = tt
-all_more {X} {Y} P g (x ∷ xs) zero all here = by (g x) here
-  where
-    by : (o : Option Y) → IfSome o P → AllByRecursion P (cons_option o [])
-    by None h = tt
-    by (Some y) h = (h, tt)
-all_more {X} {Y} P g (x ∷ xs) (suc k) all here = by (g x) all (λ rest. all_more P g xs k rest here)
-  where
-    by : (o : Option Y) → AllByRecursion P (cons_option o (filter_map g (take k xs))) → (AllByRecursion P (filter_map g (take k xs)) → AllByRecursion P (filter_map g (take (suc k) xs))) → AllByRecursion P (cons_option o (filter_map g (take (suc k) xs)))
-    by None h rest = rest h
-    by (Some y) h rest = (h.0, rest h.1)
+-- what was fetched was moved
+fetched-word : (m : Moved) (more : List Content) → MovesWord m → AllByRecursion IsWord more → AllByRecursion IsWord (cons_option (fetched m) more)
+fetched-word (moved.Pushed q p) more h hs = hs
+fetched-word (moved.Popped (queue.Out number) p) more h hs = (h, hs)
+fetched-word (moved.Popped queue.Inbox p) more h hs = hs
+fetched-word (moved.Popped (queue.Up _) p) more h hs = hs
+fetched-word (moved.Popped (queue.Down _) p) more h hs = hs
+fetched-word (moved.Popped (queue.Tx _) p) more h hs = hs
+fetched-word (moved.Popped (queue.Rx _) p) more h hs = hs
+fetched-word moved.NoPacket more h hs = hs
 
-pub all_next : {X Y : Type 0} (P : Y → Type 0) (g : X → Option Y) (xs : List X) (k : ℕ) → AllByRecursion P (filter_map g (take k xs)) → IfSome (option_and_then g (slice_get xs k)) P → AllByRecursion P (filter_map g (take (k + 1) xs))
-all_next P g xs k all here = rw (add-one k) (all_more P g xs k all here)
-
--- an idle entry fetched nothing
-pub fetched_nothing : (e : Entry) → IsIdle e → fetched (moved_in e) ≡ None
-fetched_nothing e idle = ap fetched idle.moved
+pub fetched_words : (es : List Entry) → MoveWords es → AllByRecursion IsWord (all_fetched es)
+fetched_words [] all = tt
+fetched_words (e ∷ es) all = fetched-word (moved_in e) (all_fetched es) all.0 (fetched_words es all.1)
 
 -- ---- what a record shows
 

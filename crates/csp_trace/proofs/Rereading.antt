@@ -14,12 +14,13 @@ use Rattle.csp_exports.specs.Frames.{exported}
 use Rattle.csp_exports.specs.Unused.{is_transmission}
 use Rattle.csp_exports.specs.declared.ends.Form.{Form}
 use Rattle.csp_exports.specs.declared.ends.Form.TheVariants as form
+use Rattle.csp_log.specs.Headers.{IsWord}
 use Rattle.csp_log.specs.Moving.{moved_in}
 use Rattle.csp_log.specs.declared.entry.Entry.{Entry}
 use Rattle.csp_log.specs.declared.places.End.{End}
 use Rattle.csp_log.specs.declared.places.LinkKind.{LinkKind}
 use Rattle.csp_log.specs.declared.places.LinkKind.TheVariants as link
-use Rattle.csp_ordinary.specs.Words.{FetchesWords, HasWords, IsWord, all_fetched}
+use Rattle.csp_ordinary.specs.Words.{FetchesWords, HasWords, all_fetched}
 use Rattle.csp_record.specs.Record.{PlainPartyLog, PlainRecord}
 use Rattle.csp_record.specs.Transmissions.{fetched, iface_entries}
 use Rattle.csp_record.specs.Who.{is_iface}
