@@ -129,6 +129,7 @@ impl Placed {
     }
 
     /// The step itself, its packet's bytes read in this list.
+    #[inline(always)]
     pub fn read<'a>(&self, bytes: &'a [u8]) -> Step<'a>
         requires { IsWithin bytes.now self.now }
         ensures { plain_step result ≡ placed_step bytes.now self.now }

@@ -59,6 +59,7 @@ impl Script {
 
     /// The step with this number, from 0.
     #[tactic(auto, using(crate::proofs::Scripts::within_at, crate::proofs::Scripts::placed_at))]
+    #[inline(always)]
     pub fn step(&self, number: usize) -> Step<'_>
         requires { number < length self.now }
         ensures { plain_step result ≡ slice_index_or self.now number (plain_step result) }
