@@ -10,9 +10,10 @@ repeated and late, until PEERS runs (1,000) in which all conditions hold had a r
 
 Of each run the conditions of `passed` are read: that no frame of a KISS link whose CRC is of the payload alone was flipped, nor one of a CAN
 bus; that on a KISS link whose CRC covers the header each flip turned a plain byte into a plain byte; that no interface on a CAN bus made more
-than 1,024 transmissions. And those of `stale`: that no `raw` line has the flag RDP; that no reliable connection was made to address 31; that
-no node made two with the same peer address, peer port and own port; that each admitted fewer than 32,767 packets. Scenarios that are made for
-it break single ones alone.
+than 1,024 transmissions. And those of `stale`, as crates/csp_peers/specs/Clear.antt has them: that no `raw` line has the flag RDP; that no step
+asks for a reliable connection to address 31; that of the packets of reliable connections that a router sent, by an `Out` or to its own inbox,
+those of two connections of its node differ in peer address, peer port or own port; that on each connection at most 32,766 packets were sent.
+Scenarios that are made for it break single ones alone.
 
 It fails where the conditions of `passed` hold and packets are counted as changed; where all hold and copies are counted as stale; and where one
 can be dropped: where no run that breaks it alone counts any. It fails as well where a data packet is handed to a reliable connection, before
@@ -33,7 +34,7 @@ FEND, FESC = 0xC0, 0xDB
 IDS = 1024
 LEVEL = 17
 BROADCAST = 31
-ADMITTED = 32767
+MOST_SENT = 32766
 PASSED = ("payload CRC", "bus", "plain", "numbers")
 STALE = ("raw", "broadcast", "twice", "long")
 HERE = os.path.dirname(os.path.abspath(__file__))
@@ -87,8 +88,10 @@ class Model:
         self.flag, self.rdp = header.RDP, rdp
         self.level = Level(LEVEL)
         self.copies, link.copies = link.copies, self.noting
-        self.use, self.handed = stack.Router._use, stack.Router._handed
+        self.use, self.handed, self.push, self.discard = stack.Router._use, stack.Router._handed, stack.Router._push_out, stack.Router._discard
         stack.Router._use = lambda router, conn: self.using(router, conn)
+        stack.Router._push_out = lambda router: self.pushing(router)
+        stack.Router._discard = lambda router, why, buffer: self.discarding(router, why, buffer)
         stack.Router._handed = lambda *handed: self.handing(*handed)
         self.window = Window()
 
@@ -100,11 +103,24 @@ class Model:
         return self.copies(plan, direction, number, frame, now)
 
     def using(self, router, conn):
-        """A slot comes into use; a reliable connection is noted, whether or not it will open."""
+        """A slot comes into use; the machine of a reliable connection is noted, whether or not it will open."""
         if conn.kind == "rdp":
-            self.made.append((router.node, conn))
             self.machines[conn.rdp.node, conn.rdp.nth] = conn.rdp
         return self.use(router, conn)
+
+    def pushing(self, router):
+        """A packet leaves the router; one of its own reliable connections that finds room in an `Out` or the inbox is noted."""
+        (queue, _, packet), self.found_room = router.out, True
+        weight = self.push(router)
+        tag, header = packet.trace[2], packet.header
+        if self.found_room and (queue == "inbox" or queue[0] == "out") and tag and tag[0] == router.node:
+            ports = header >> 20 & 31, header >> 14 & 63, header >> 8 & 63
+            self.flows.setdefault((router.node, ports), set()).add(tag[1])
+        return weight
+
+    def discarding(self, router, why, packet):
+        self.found_room = False
+        return self.discard(router, why, packet)
 
     def handing(self, router, conn, head, packet, now):
         """A packet is handed to a reliable connection; of data from its peer it is noted how far past the last one delivered it is."""
@@ -126,7 +142,7 @@ class Model:
 
     def run(self, text):
         """What the run of a text breaks and counts; None where the text is refused."""
-        self.flipped, self.made, self.machines = [], [], {}
+        self.flipped, self.flows, self.machines = [], {}, {}
         try:
             self.world = self.World(self.scene.parse(text.encode("latin-1"), self.level), self.level)
         except self.scene.SceneError:
@@ -134,7 +150,7 @@ class Model:
         self.world.run_sim()
         sent, taken = self.connections()
         prefix = all(took == sent.get(peer, [])[:len(took)] for peer, took in taken)
-        return Told(self.passed_conditions() | self.stale_conditions(), self.world.passed, self.stale(), bool(taken), prefix)
+        return Told(self.passed_conditions() | self.stale_conditions(sent), self.world.passed, self.stale(), bool(taken), prefix)
 
     def connections(self):
         """What was sent on each reliable connection that opened, by its flow, and the peer of each with what was taken."""
@@ -164,21 +180,18 @@ class Model:
                 broken.add("numbers")
         return broken
 
-    def stale_conditions(self):
+    def stale_conditions(self, sent):
         """Those of `stale` besides that it broke."""
-        broken, seen = set(), set()
+        broken = set()
         steps = [s for n in self.world.scene.nodes for a in n.apps for s in a.steps]
         if any(s[0] == "raw" and s[1] & self.flag for s in steps):
             broken.add("raw")
-        for node, conn in self.made:
-            key = (node, conn.peer, conn.peer_port, conn.own_port)
-            if conn.client and conn.peer == BROADCAST:
-                broken.add("broadcast")
-            if key in seen:
-                broken.add("twice")
-            if conn.rdp.nxt - 1 >= ADMITTED:
-                broken.add("long")
-            seen.add(key)
+        if any(s[0] == "connect" and s[2] == BROADCAST and s[5] & self.flag for s in steps):
+            broken.add("broadcast")
+        if any(len(flows) > 1 for flows in self.flows.values()):
+            broken.add("twice")
+        if any(len(packets) > MOST_SENT for packets in sent.values()):
+            broken.add("long")
         return broken
 
 
@@ -343,8 +356,8 @@ MADE = (
     ("a port used again", again, "twice", 1, 0, True),
     ("a late opening", late_opening, "twice", 4, 0, True),
     ("late data", late_data, "twice", 1, 0, False),
-    ("32,767 packets", lambda: long_burst(ADMITTED), "long", 1, 0, True),
-    ("32,766 packets", lambda: long_burst(ADMITTED - 1), None, 0, 0, True),
+    ("32,767 packets", lambda: long_burst(MOST_SENT + 1), "long", 1, 0, True),
+    ("32,766 packets", lambda: long_burst(MOST_SENT), None, 0, 0, True),
     ("another port, KISS", lambda: other_port("kiss", 3, 39), "payload CRC", 1, 1, True),
     ("another port, bus", lambda: other_port("can", 8, 23), "bus", 1, 1, True),
     ("a forged packet in a payload", forged_inside, "plain", 1, 1, True),
