@@ -1,6 +1,6 @@
 //! How many packets passed a link changed, or were sent by nobody.
 
-ghost use Rattle.std.specs.Prelude.{◌≡◌, ◌<◌, false, length, slice_get, count_by, IfOk};
+ghost use Rattle.std.specs.Prelude.{◌≡◌, ◌^◌, ◌<◌, ◌≤◌, false, length, slice_get, count_by, IfOk, OnErr};
 ghost use Rattle.std.specs.List.{flat_map, filter_map};
 ghost use Rattle.std.specs.Option.{option_and_then, option_map_or};
 ghost use Rattle.csp_log.specs.Moving.{moved_in};
@@ -68,10 +68,11 @@ fn count_by_party(table: &Table, party: &PartyLog) -> u64
     }
 }
 
-/// How many such packets the interfaces among these parties put into inboxes. Memory is wanting where they
-/// are more than 64 bits count.
+/// How many such packets the interfaces among these parties put into inboxes. Memory is wanting exactly where
+/// they are more than 64 bits count.
 fn count_by_parties(table: &Table, parties: &[PartyLog]) -> Result<u64, AllocError>
-    ensures { IfOk result (λ count. count ≡ count_by (is_unlike table.now) (flat_map accepted_by parties.now)) }
+    ensures ok { IfOk result (λ count. count ≡ count_by (is_unlike table.now) (flat_map accepted_by parties.now)) }
+    ensures err { OnErr result (2 ^ 64 ≤ count_by (is_unlike table.now) (flat_map accepted_by parties.now)) }
 {
     let mut count = 0u64;
     for party in parties {
