@@ -4,3 +4,4 @@ pub mod Due
 pub mod Kept
 pub mod Named
 pub mod Sound
+pub mod Stocked

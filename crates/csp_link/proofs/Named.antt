@@ -1,5 +1,5 @@
 -- the fates of a plan
-use Rattle.std.proofs.Common.{◌≡◌, ℕ, Bool, true, false, cond, eqb, ◌&&◌, Option, Some, None, List, [], ◌∷◌, unwrap_or, refl, sym, ap, ◌∙◌, arith}
+use Rattle.std.proofs.Common.{◌≡◌, ℕ, ◌≤◌, max, Bool, true, false, cond, eqb, ◌&&◌, Option, Some, None, List, [], ◌∷◌, unwrap_or, refl, sym, ap, ◌∙◌, subst, arith}
 use Rattle.std.proofs.lemmas.Bool.{eqb-true}
 use Rattle.std.proofs.lemmas.Bool.Decides.{nat_tests}
 use Rattle.std.specs.List.{All, filter, fold}
@@ -9,7 +9,7 @@ use Rattle.std.specs.BTreeMap.{insert_entry, is_at}
 use Rattle.std.specs.declared.cmp.Ordering.{Ordering}
 use Rattle.std.specs.declared.cmp.Ordering.TheVariants.{Less, Equal, Greater}
 use Rattle.std.proofs.lemmas.List.Elements.{All-cons, All-head, All-tail}
-use Rattle.csp_link.specs.Fates.{Fates, afflicted, fate_at, fate_of, fates_of, joined, unharmed, with_fault}
+use Rattle.csp_link.specs.Fates.{Fates, afflicted, fate_at, fate_of, fates_of, joined, most_copies, unharmed, with_fault}
 use Rattle.csp_link.specs.declared.fates.Fate.{Fate}
 use Rattle.csp_link.specs.declared.fault.Fault.{Fault}
 
@@ -22,6 +22,22 @@ all_named P (e ∷ es) n fate all one =
       | Equal ↦ All-cons P fate (values_of es) one (All-tail P e.1 (values_of es) all)
       | Greater ↦ All-cons P e.1 (values_of (insert_entry nat_cmp es n fate)) (All-head P e.1 (values_of es) all) (all_named P es n fate (All-tail P e.1 (values_of es) all) one)
     ]
+
+-- no frame has more copies than the most
+most_from : (fates : Fates) (a frame : ℕ) → let most : ℕ = fold (λ m e. max m e.1.repeats) a fates in (a ≤ most) × ((fate_at fates frame).repeats ≤ most)
+most_from [] a frame = (omega arith, omega arith)
+most_from (e ∷ es) a frame =
+    let most = fold (λ m e. max m e.1.repeats) (max a e.1.repeats) es in
+    let rest = most_from es (max a e.1.repeats) frame in (
+      omega (arith, rest.0),
+      elim (is_eq (nat_cmp frame e.0)) as (λ b. (unwrap_or (cond b (Some e.1) (lookup (is_at (nat_cmp frame)) es)) unharmed).repeats ≤ most) [
+        | true ↦ omega (arith, rest.0)
+        | false ↦ rest.1
+      ],
+    )
+
+pub most_at : (fates : Fates) (frame : ℕ) (fate : Fate) → fate ≡ fate_at fates frame → fate.repeats ≤ most_copies fates
+most_at fates frame fate is = subst (λ (f : Fate). f.repeats ≤ most_copies fates) (sym is) (most_from fates 0 frame).1
 
 -- ---- what the map has of a frame is what the plan says of it
 

@@ -1,5 +1,5 @@
 -- what a plan of faults says of the frames of a direction, which are counted from 1
-use Rattle.std.specs.Prelude.{ℕ, ◌==◌, ◌&&◌, ◌≤◌, true, false, Some, None, List, [], ⊤, unwrap_or, if◌then◌else◌}
+use Rattle.std.specs.Prelude.{ℕ, ◌==◌, ◌&&◌, ◌≤◌, true, false, Some, None, List, [], ⊤, max, unwrap_or, if◌then◌else◌}
 use Rattle.std.specs.List.{filter, fold}
 use Rattle.std.specs.Ordering.{nat_cmp}
 use Rattle.std.specs.Map.{lookup}
@@ -32,6 +32,10 @@ Fates = List (ℕ × Fate)
 -- what the map has of the frame of this number
 abbrev pub fate_at : Fates → (frame : ℕ) → Fate
 fate_at fates frame = unwrap_or (lookup (is_at (nat_cmp frame)) fates) unharmed
+
+-- the most copies that the map adds to a frame
+abbrev pub most_copies : Fates → ℕ
+most_copies fates = fold (λ most entry. max most entry.1.repeats) 0 fates
 
 -- the map with a fault more
 abbrev pub with_fault : Fates → Fault → Fates

@@ -1,6 +1,6 @@
--- what a turn of a link leaves of its stock of boxes
-use Rattle.std.specs.Prelude.{ℕ, ◌+◌, ◌-◌, Option, Some, None, if◌then◌else◌}
-use Rattle.csp_link.specs.Fates.{fate_at}
+-- how many boxes a turn of a link may take, and what it leaves of its stock of them
+use Rattle.std.specs.Prelude.{ℕ, ◌+◌, ◌-◌, Option, Some, None, max, if◌then◌else◌}
+use Rattle.csp_link.specs.Fates.{fate_at, most_copies}
 use Rattle.csp_link.specs.PlainLink.{PlainDirection, PlainLink, in_turn}
 use Rattle.csp_link.specs.Telling.{frame_in}
 use Rattle.csp_link.specs.declared.doing.Doing.{Doing}
@@ -10,6 +10,10 @@ use Rattle.csp_log.specs.PlainSpares.{PlainSpares, with_box}
 use Rattle.csp_log.specs.declared.frame.Frame.{Frame}
 use Rattle.csp_log.specs.declared.shown.AnswerShown.{AnswerShown}
 use Rattle.csp_log.specs.declared.shown.AnswerShown.TheVariants as answer
+
+-- the most boxes that a turn takes: as many as the plan adds copies to a frame, in either direction
+abbrev pub needs : PlainLink → ℕ
+needs s = max (most_copies s.forth.fates) (most_copies s.back.fates)
 
 -- a lost frame's box is put back; each copy of any other takes one
 abbrev pub stock_after : Fate → PlainSpares → PlainSpares

@@ -2,7 +2,7 @@
 
 ghost use Rattle.std.specs.Prelude.{◌≡◌, ◌+◌, ◌^◌, ◌<◌, ◌≤◌, Some, All, length, IfOk};
 ghost use Rattle.csp_link.specs.Asking.{op_of, handed, doing_of};
-ghost use Rattle.csp_link.specs.Fates.{IsFault};
+ghost use Rattle.csp_link.specs.Fates.{most_copies, IsFault};
 ghost use Rattle.csp_link.specs.Planning.{plan_in, looks};
 ghost use Rattle.csp_link.specs.PlainLink.{opening_direction};
 ghost use Rattle.csp_link.specs.Room.{CanHear};
@@ -13,25 +13,31 @@ ghost use Rattle.csp_log.specs.Pictures.{shown_op};
 use crate::doing::Doing;
 use crate::fates::Fates;
 use crate::held::{Held, HeldFrames};
-use crate::{Fault, LINK_HOLDS, MAX_REPEATS, MOST_HELD, Way};
+use crate::{Fault, LINK_HOLDS, MOST_HELD, Way};
 use csp_log::{BoxedFrame, Item, Op, Spares};
 use std::alloc::{AllocError, Global};
 use std::marker::Model;
 
-/// What the plan says of the frames of a direction, how many it has popped, and those that it holds.
+/// What the plan says of the frames of a direction and the most copies that it adds to one, how many it has
+/// popped, and those that it holds.
 #[derive(Drop)]
 pub struct Direction {
     fates: Fates,
+    copies: u8,
     popped: u64,
     held: HeldFrames,
 }
 
 impl Model for Direction {
+    ghost use Rattle.std.specs.Prelude.{◌≡◌};
+    ghost use Rattle.csp_link.specs.Fates.{most_copies};
     ghost use Rattle.csp_link.specs.PlainLink.{PlainDirection};
 
     ghost Value = { PlainDirection };
 
     ghost view = { λ d. record { fates = d.fates; popped = d.popped; held = d.held } };
+
+    ghost invariant = { λ d. d.copies ≡ most_copies d.fates };
 }
 
 impl Direction {
@@ -43,8 +49,10 @@ impl Direction {
         requires { All IsFault plan.now }
         ensures { IfOk result (λ d. d ≡ opening_direction plan.now way) }
     {
+        let fates = Fates::open(alloc, way.number(), plan)?;
         Ok(Direction {
-            fates: Fates::open(alloc, way.number(), plan)?,
+            copies: fates.most_copies(),
+            fates,
             popped: 0,
             held: HeldFrames::open(alloc)?,
         })
@@ -82,6 +90,13 @@ impl Direction {
         self.held.len() <= MOST_HELD && self.held.first_due(now).is_none()
     }
 
+    /// The most copies that the plan adds to a frame.
+    pub fn copies(&self) -> u8
+        ensures { result ≡ most_copies self.now.fates }
+    {
+        self.copies
+    }
+
     /// A frame that was to be pushed comes back into its place.
     pub fn keep(&mut self, place: usize, due: u64, frame: BoxedFrame)
         requires place { place ≤ length self.old.held }
@@ -96,10 +111,10 @@ impl Direction {
         requires room { length self.old.held ≤ MOST_HELD }
         requires few { self.old.popped < 2 ^ 32 }
         requires early { now < 2 ^ 62 }
-        requires stock { MAX_REPEATS ≤ spares.old.boxes }
+        requires stock { most_copies self.old.fates ≤ spares.old.boxes }
         ensures state { self.new ≡ taken now (Some frame) self.old }
         ensures stock { spares.new ≡ taken_stock (Some frame) self.old spares.old }
-        ensures least { spares.old.boxes ≤ spares.new.boxes + MAX_REPEATS }
+        ensures least { spares.old.boxes ≤ spares.new.boxes + most_copies self.old.fates }
         ensures most { spares.new.boxes ≤ spares.old.boxes + 1 }
     {
         self.popped += 1;

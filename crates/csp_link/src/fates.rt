@@ -1,7 +1,7 @@
 //! What a plan has for each frame of a direction.
 
 ghost use Rattle.std.specs.Prelude.{◌≡◌, ◌≤◌, [], All, IfOk, OnOk, OnErr};
-ghost use Rattle.csp_link.specs.Fates.{unharmed, afflicted, fate_at, with_fault, fates_of, IsFault, IsKind};
+ghost use Rattle.csp_link.specs.Fates.{unharmed, afflicted, fate_at, most_copies, with_fault, fates_of, IsFault, IsKind};
 
 use crate::{Fault, FaultKind, MAX_REPEATS};
 use std::alloc::{AllocError, Global};
@@ -106,10 +106,22 @@ impl Fates {
     pub fn of(&self, frame: u64) -> Fate
         ensures fate { result ≡ fate_at self.now frame }
         ensures few { result.repeats ≤ MAX_REPEATS }
+        ensures most { result.repeats ≤ most_copies self.now }
     {
         match self.map.get(&frame) {
             Some(fate) => *fate,
             None => Fate::unharmed(),
         }
+    }
+
+    /// The most copies that it adds to a frame.
+    pub fn most_copies(&self) -> u8
+        ensures { result ≡ most_copies self.now }
+    {
+        let mut most = 0u8;
+        for (_, fate) in &self.map {
+            most = most.max(fate.repeats);
+        }
+        most
     }
 }

@@ -110,10 +110,10 @@ impl HeldFrames {
         requires few { fate.repeats ≤ MAX_REPEATS }
         requires room { length self.old ≤ MOST_HELD }
         requires early { now < 2 ^ 62 }
-        requires stock { MAX_REPEATS ≤ spares.old.boxes }
+        requires stock { fate.repeats ≤ spares.old.boxes }
         ensures held { self.new ≡ self.old ++ held_copies fate now frame }
         ensures stock { spares.new ≡ stock_after fate spares.old }
-        ensures least { spares.old.boxes ≤ spares.new.boxes + MAX_REPEATS }
+        ensures least { spares.old.boxes ≤ spares.new.boxes + fate.repeats }
         ensures most { spares.new.boxes ≤ spares.old.boxes + 1 }
     {
         if fate.lost {

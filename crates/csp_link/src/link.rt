@@ -8,7 +8,7 @@ ghost use Rattle.csp_log.specs.Pictures.{shown_op, shown_answer, shown_item};
 
 use crate::direction::Direction;
 use crate::doing::Doing;
-use crate::{Fault, MAX_REPEATS, Way};
+use crate::{Fault, Way};
 use csp_buffer::Buffer;
 use csp_deck::Circle;
 use csp_log::{Answer, AnswerShown, BoxedFrame, Item, LinkKind, Op, OpShown, QueueId, Spares};
@@ -42,7 +42,7 @@ impl Link {
     ghost use Rattle.csp_link.specs.PlainLink.{opening, uses, count};
     ghost use Rattle.csp_link.specs.Asking.{asks, asked, awaits};
     ghost use Rattle.csp_link.specs.Circling.{circle};
-    ghost use Rattle.csp_link.specs.Stocking.{stocks};
+    ghost use Rattle.csp_link.specs.Stocking.{needs, stocks};
     ghost use Rattle.csp_link.specs.Telling.{tells, turned};
 
     /// A link of this kind that has carried nothing yet, with room for `LINK_HOLDS` held frames in each
@@ -112,10 +112,10 @@ impl Link {
         requires fits { IsAnswerOf (uses self.old) (awaits self.old) (shown_answer answer) }
         requires early { now < 2 ^ 62 }
         requires countable { count self.old < 2 ^ 32 - 1 }
-        requires stock { MAX_REPEATS ≤ spares.old.boxes }
+        requires stock { needs self.old ≤ spares.old.boxes }
         ensures state { self.new ≡ tells self.old now (shown_answer answer) }
         ensures stock { spares.new ≡ stocks self.old now (shown_answer answer) spares.old }
-        ensures least { spares.old.boxes ≤ spares.new.boxes + MAX_REPEATS }
+        ensures least { spares.old.boxes ≤ spares.new.boxes + needs self.old }
         ensures most { spares.new.boxes ≤ spares.old.boxes + 1 }
     {
         match answer {
@@ -149,10 +149,10 @@ impl Link {
         requires fits { IsAnswerOf (uses self.old) (awaits self.old) (AnswerShown.Popped (shown_item item)) }
         requires early { now < 2 ^ 62 }
         requires countable { count self.old < 2 ^ 32 - 1 }
-        requires stock { MAX_REPEATS ≤ spares.old.boxes }
+        requires stock { needs self.old ≤ spares.old.boxes }
         ensures state { self.new ≡ tells self.old now (AnswerShown.Popped (shown_item item)) }
         ensures stock { spares.new ≡ stocks self.old now (AnswerShown.Popped (shown_item item)) spares.old }
-        ensures least { spares.old.boxes ≤ spares.new.boxes + MAX_REPEATS }
+        ensures least { spares.old.boxes ≤ spares.new.boxes + needs self.old }
         ensures most { spares.new.boxes ≤ spares.old.boxes + 1 }
     {
         let frame = frame_of(item);
@@ -170,6 +170,13 @@ impl Link {
     {
         self.way = self.way.other();
         self.doing = Doing::Rest;
+    }
+
+    /// The most copies that its plan adds to a frame, which is the most boxes that a turn takes.
+    pub(crate) fn copies(&self) -> u8
+        ensures { result ≡ needs self.now }
+    {
+        self.forth.copies().max(self.back.copies())
     }
 
     /// Whether it holds the buffer of this number: a link holds none.

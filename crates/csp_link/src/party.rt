@@ -1,6 +1,6 @@
 //! A link takes turns.
 
-use crate::{Link, MAX_REPEATS};
+use crate::Link;
 use csp_deck::{Circle, Party, Spares};
 use csp_log::{Answer, Events, Op, QueueId};
 
@@ -9,9 +9,8 @@ impl Party for Link {
     ghost use Rattle.csp_deck.specs.Regions.{nowhere};
     ghost use Rattle.csp_link.specs.PlainLink.{uses, count};
     ghost use Rattle.csp_link.specs.Asking.{asks, asked, awaits};
-    ghost use Rattle.csp_link.specs.Stocking.{stocks};
+    ghost use Rattle.csp_link.specs.Stocking.{needs, stocks};
     ghost use Rattle.csp_link.specs.Telling.{tells, events};
-    ghost use Rattle.csp_link.specs.declared.fault.TheConstants.{MAX_REPEATS};
 
     ghost is_ready = { λ _ _. ⊤ };
 
@@ -25,7 +24,7 @@ impl Party for Link {
 
     ghost count = { count };
 
-    ghost needs = { λ _. MAX_REPEATS };
+    ghost needs = { needs };
 
     ghost stocks = { stocks };
 
@@ -41,10 +40,12 @@ impl Party for Link {
 
     ghost holds = { λ _. [] };
 
+    #[tactic(auto, using(crate::proofs::Stocked::needs_asked))]
     fn ask(&mut self, now: u64) -> Op {
         self.ask_now(now)
     }
 
+    #[tactic(auto, using(crate::proofs::Stocked::needs_asked))]
     fn look(&mut self, now: u64) -> Option<QueueId> {
         self.look_now(now)
     }
@@ -53,6 +54,7 @@ impl Party for Link {
         self.circle_now(now)
     }
 
+    #[tactic(auto, using(crate::proofs::Stocked::needs_told))]
     fn told(&mut self, answer: Answer, now: u64, _report: &mut Events, spares: &mut Spares) {
         self.told_now(answer, now, spares)
     }
@@ -66,6 +68,6 @@ impl Party for Link {
     }
 
     fn boxes(&self) -> u8 {
-        MAX_REPEATS
+        self.copies()
     }
 }

@@ -25,7 +25,6 @@ use Rattle.csp_link.specs.PlainLink as plain_link
 use Rattle.csp_link.specs.PlainLink.{PlainLink}
 use Rattle.csp_link.specs.Stocking as link_stocking
 use Rattle.csp_link.specs.Telling as link_telling
-use Rattle.csp_link.specs.declared.fault.TheConstants.{MAX_REPEATS}
 use Rattle.csp_log.specs.PlainSpares.{PlainSpares}
 use Rattle.csp_log.specs.declared.event.Event.{Event}
 use Rattle.csp_log.specs.declared.places.QueueId.{QueueId}
@@ -116,7 +115,7 @@ needs (a_router r) = 0
 needs (a_bridge b) = 0
 needs (an_iface i) = 1
 needs (an_app a) = 0
-needs (a_link l) = MAX_REPEATS
+needs (a_link l) = link_stocking.needs l
 
 -- what is left of its stock of boxes once it was told this answer
 abbrev pub stocks : PlainParty → ℕ → AnswerShown → PlainSpares → PlainSpares
