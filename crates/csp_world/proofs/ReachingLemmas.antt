@@ -22,7 +22,7 @@ reached_turn scene w place r = record { happenings = a_turn place ∷ r.happenin
 pub reached_tick : (scene : PlainScene) (w : PlainWorld) → IsReached scene w → IsReached scene (tick w)
 reached_tick scene w r = record { happenings = a_tick ∷ r.happenings; there = ap tick r.there }
 
-reached_turns : (scene : PlainScene) (places : List ℕ) (w : PlainWorld) → IsReached scene w → IsReached scene (turns w places)
+pub reached_turns : (scene : PlainScene) (places : List ℕ) (w : PlainWorld) → IsReached scene w → IsReached scene (turns w places)
 unfolding turns
 reached_turns scene [] w r = r
 reached_turns scene (place ∷ places) w r = reached_turns scene places (turn w place) (reached_turn scene w place r)

@@ -11,6 +11,7 @@ ghost use Rattle.csp_record.specs.Who.{home_of, node_of};
 ghost use Rattle.csp_scene.specs.Scene.{PlainScene};
 ghost use Rattle.csp_world.specs.Holders.{holders, deck_holders, counts, HasOneHolder};
 ghost use Rattle.csp_world.specs.Reached.{IsReached};
+ghost use Rattle.csp_world.specs.Record.{HasConsistentRecord};
 ghost use Rattle.csp_world.specs.Schedule.{names, place_named, turns};
 ghost use Rattle.csp_world.specs.Seen.{has_number, answer_at_place, turn_by, log_len};
 ghost use Rattle.csp_world.specs.World.{turn, tick, finished, weight, is_done};
@@ -18,6 +19,7 @@ ghost use Rattle.csp_world.specs.World.{turn, tick, finished, weight, is_done};
 mod closing;
 mod opening;
 
+use crate::laws::is_consistent;
 use crate::looking::look_round;
 use crate::member::{Member, take_turn};
 use crate::moves::place_among;
@@ -108,12 +110,16 @@ impl World {
     ///
     /// `Turn::Ended` where it had ended before: then nothing is done or logged. `Turn::Idle` where
     /// nothing was asked, or the pool or queue was empty or full.
+    ///
+    /// Whatever turns and ticks came before it, the record of the world after it is consistent with the scene that the
+    /// world was opened for, under the conditions of the law `is_consistent`.
     #[inline(always)]
     pub fn step(&mut self, party: usize) -> Turn
         requires party { party < length self.old.plain.members }
         requires room { 0 < slice_index self.old.spares party }
         ensures plain { self.new.plain ≡ turn self.old.plain party }
         ensures reached { (scene : PlainScene) → IsReached scene self.old.plain → IsReached scene self.new.plain }
+        ensures consistent { HasConsistentRecord self.new.plain }
         ensures turn { result ≡ turn_by (answer_at_place self.old.plain party) }
         ensures spares { slice_index self.old.spares party ≤ slice_index self.new.spares party + 1 }
         ensures others { (k : ℕ) → k ≢ party → slice_index self.new.spares k ≡ slice_index self.old.spares k }
@@ -126,6 +132,7 @@ impl World {
         counts_holders();
         gathers();
         weighs();
+        is_consistent();
         take_turn(
             &mut self.members[party],
             &mut self.decks,
@@ -136,13 +143,16 @@ impl World {
 
     /// Takes turns of the party at this place, whose log has room for so many, where it looks into queues which are
     /// all empty until it is as it was: as many whole circles of them as so many turns have. Answers how many turns it
-    /// took, and takes none where the party does anything else.
+    /// took, and takes none where the party does anything else. The law `is_consistent` is a clause as it
+    /// is of `step`.
     #[inline(always)]
     pub(crate) fn look_round(&mut self, party: usize, most: usize) -> usize
         requires party { party < length self.old.plain.members }
         requires some { 0 < most }
         requires room { most ≤ slice_index self.old.spares party }
         ensures plain { self.new.plain ≡ turns self.old.plain (replicate result party) }
+        ensures reached { (scene : PlainScene) → IsReached scene self.old.plain → IsReached scene self.new.plain }
+        ensures consistent { HasConsistentRecord self.new.plain }
         ensures most { result ≤ most }
         ensures spares { slice_index self.new.spares party + result ≡ slice_index self.old.spares party }
         ensures others { (k : ℕ) → k ≢ party → slice_index self.new.spares k ≡ slice_index self.old.spares k }
@@ -150,19 +160,22 @@ impl World {
         ensures one_holder { HasOneHolder self.new.plain }
     {
         counts_holders();
+        is_consistent();
         let member = &mut self.members[party];
         look_round(member, &mut self.decks, self.time, most)
     }
 
-    /// One more round is complete.
+    /// One more round is complete. The law `is_consistent` is a clause as it is of `step`.
     pub fn tick(&mut self)
         requires { self.old.plain.time + 1 < 2 ^ 62 }
         ensures plain { self.new.plain ≡ tick self.old.plain }
         ensures reached { (scene : PlainScene) → IsReached scene self.old.plain → IsReached scene self.new.plain }
+        ensures consistent { HasConsistentRecord self.new.plain }
         ensures spares { self.new.spares ≡ self.old.spares }
         ensures one_holder { HasOneHolder self.new.plain }
     {
         counts_holders();
+        is_consistent();
         self.time += 1;
     }
 

@@ -6,6 +6,7 @@ use Rattle.csp_party.specs.Any.{plain}
 use Rattle.csp_world.specs.Grown.{IsGrown}
 use Rattle.csp_world.specs.Holders.{HasOneHolder, IsConserved, counts}
 use Rattle.csp_world.specs.Inside.{HasRoom, world_of}
+use Rattle.csp_world.specs.Reached.{IsReached}
 use Rattle.csp_world.specs.Schedule.{turns}
 use Rattle.csp_world.specs.Seen.{plain_member}
 use Rattle.csp_world.specs.SeenWorld.{SeenWorld}
@@ -14,6 +15,7 @@ use Rattle.csp_world.specs.declared.member.Member.{Member}
 use Rattle.csp_world.proofs.FitLemmas.{all_grown, all_set}
 use Rattle.csp_world.proofs.HolderLemmas.{moves_conserve, one_holder}
 use Rattle.csp_world.proofs.LookingLemmas.{looked_moves}
+use Rattle.csp_world.proofs.ReachingLemmas.{reached_turns}
 use Rattle.csp_world.proofs.StepLemmas.{member_got, plain_got, spare_at, spare_new, spare_other}
 use Rattle.csp_world.proofs.world.World.look_round.Goals as goal
 
@@ -86,6 +88,12 @@ returns-clause-plain c =
     ∙ ap (λ (ms : List PlainMember). record { decks = c.self.inside.decks.decks; links = c.self.inside.decks.links; members = ms; time = c.self.inside.time }) (map-set plain_member items c.args.party c.look_round.new.member)
     ∙ sym (c.look_round.ensures.turns w c.args.party refl refl refl (plain_at c))
     ∙ ap (λ (v : SeenWorld). turns v.plain (replicate c.look_round.result c.args.party)) c.self.view_is
+
+pub returns-clause-reached : goal.returns-clause-reached
+returns-clause-reached c = λ scene reached. subst (IsReached scene) (sym (returns-clause-plain c)) (reached_turns scene (replicate c.look_round.result c.args.party) c.args.self.now.plain reached)
+
+pub returns-clause-consistent : goal.returns-clause-consistent
+returns-clause-consistent c = λ scene is after reached. c.is_consistent.ensures scene _ is after reached
 
 pub returns-clause-spares : goal.returns-clause-spares
 returns-clause-spares c =

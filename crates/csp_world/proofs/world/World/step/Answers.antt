@@ -77,6 +77,9 @@ returns-clause-plain c = went _ _ _ _ _ _ _ _ (did c) ∙ ap (λ (v : SeenWorld)
 pub returns-clause-reached : goal.returns-clause-reached
 returns-clause-reached c = λ scene reached. subst (IsReached scene) (sym (returns-clause-plain c)) (reached_turn scene c.args.self.now.plain c.args.party reached)
 
+pub returns-clause-consistent : goal.returns-clause-consistent
+returns-clause-consistent c = λ scene is after reached. c.is_consistent.ensures scene _ is after reached
+
 pub returns-clause-turn : goal.returns-clause-turn
 returns-clause-turn c = came_to _ _ _ _ _ _ _ _ (did c) ∙ ap (λ (v : SeenWorld). turn_by (answer_at_place v.plain c.args.party)) c.self.view_is
 

@@ -24,3 +24,6 @@ returns-clause-one_holder c =
 
 pub returns-clause-reached : goal.returns-clause-reached
 returns-clause-reached c = λ scene reached. subst (λ (v : SeenWorld). IsReached scene (tick v.plain)) (sym c.self.view_is) (reached_tick scene c.args.self.now.plain reached)
+
+pub returns-clause-consistent : goal.returns-clause-consistent
+returns-clause-consistent c = λ scene is after reached. c.is_consistent.ensures scene _ is after reached
