@@ -37,13 +37,13 @@ router_steps = record { has_ended = λ _. false; asks = asks_of; asked = asked_o
 abbrev pub opening_router : Facts → Routes → Router
 opening_router f routes = record { facts = f; state = opening_state f.apps routes }
 
--- what came to it from an application is such as its lane carries, and a packet of it has no trace
+-- a packet has no trace
 abbrev pub IsUntraced : ItemShown → Type 0
 IsUntraced (item.Packet mark b) = b.trace ≡ no_trace
 IsUntraced (item.Frame _) = ⊤
 IsUntraced (item.Note _) = ⊤
 
--- what applications push has no trace, and what the pool gives is cleared
+-- what came to it from an application is such as its lane carries, and a packet of it has no trace
 abbrev pub ComesSo : OpShown → AnswerShown → Type 0
 ComesSo (op.Pop (queue.Up k)) (answer.Popped i) = IsUpItem i × IsUntraced i
 ComesSo _ _ = ⊤
