@@ -1,3 +1,4 @@
 pub mod Trailers
 pub mod Cutting
 pub mod Feeding
+pub mod Collecting

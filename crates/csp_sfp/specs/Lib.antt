@@ -1,3 +1,4 @@
 pub mod Trailer
 pub mod Pieces
 pub mod Gathering
+pub mod Collecting
