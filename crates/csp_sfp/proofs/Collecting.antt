@@ -14,7 +14,7 @@ use Rattle.csp_sfp.specs.declared.errors.SfpError.{SfpError}
 use Rattle.csp_sfp.proofs.Feeding.{answers_so, gathers}
 
 -- what is answered to payloads of which only the last makes a blob whole
-abbrev until_whole : ℕ → List (Result SfpAnswer SfpError)
+abbrev pub until_whole : ℕ → List (Result SfpAnswer SfpError)
 until_whole parts = replicate parts (Ok Part) ++ Ok Whole ∷ []
 
 -- ---- payloads that follow others

@@ -2,3 +2,4 @@ pub mod Trailers
 pub mod Cutting
 pub mod Feeding
 pub mod Collecting
+pub mod Joining

@@ -10,6 +10,6 @@ mod trailer;
 
 pub use collector::{Collector, SfpAnswer};
 pub use errors::SfpError;
-pub use laws::{collects_a_prefix, gathers_pieces};
+pub use laws::{collects_a_prefix, gathers_pieces, joins_data};
 pub use pieces::{MAX_PIECE, MAX_SIZE, Pieces};
 pub use trailer::{MAX_BLOB, TRAILER_LEN};
