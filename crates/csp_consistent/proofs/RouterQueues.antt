@@ -1,8 +1,9 @@
 -- A router pushes to its applications, its interfaces, and without a mark to its inbox.
 use Rattle.std.proofs.Common.{ℕ, ◌==◌, Bool, true, false, Option, None, Some, List, [], ◌∷◌, Result, Ok, Err, refl}
-use Rattle.std.specs.Prelude.{⊤}
+use Rattle.std.specs.Prelude.{if◌then◌else◌, ⊤}
 use Rattle.csp_buffer.specs.Content.{Content}
 use Rattle.csp_buffer.specs.PlainBuffer.{PlainBuffer}
+use Rattle.csp_conn.specs.Opening.{first_free}
 use Rattle.csp_conn.specs.PlainConns.{slot_at}
 use Rattle.csp_conn.specs.declared.slot.Connection.{Connection}
 use Rattle.csp_conn.specs.declared.slot.Slot.{Slot}
@@ -10,6 +11,7 @@ use Rattle.csp_conn.specs.declared.slot.Slot.TheVariants as slot
 use Rattle.csp_consistent.specs.Queues.{MayAsk, MayPush}
 use Rattle.csp_crc.specs.Check.{payload_of}
 use Rattle.csp_log.specs.declared.event.Discard.{Discard}
+use Rattle.csp_log.specs.declared.event.Discard.TheVariants as why
 use Rattle.csp_log.specs.declared.note.Note.{Note}
 use Rattle.csp_log.specs.declared.note.Note.TheVariants as note
 use Rattle.csp_log.specs.declared.places.QueueId.{QueueId}
@@ -18,10 +20,12 @@ use Rattle.csp_log.specs.declared.places.TheConstants.{UNMARKED}
 use Rattle.csp_log.specs.declared.shown.AnswerShown.{AnswerShown}
 use Rattle.csp_log.specs.declared.shown.ItemShown.{ItemShown}
 use Rattle.csp_log.specs.declared.shown.ItemShown.TheVariants as item
+use Rattle.csp_ports.specs.Asking.{is_reliable}
 use Rattle.csp_ports.specs.declared.handing.Invitation.{Invitation}
 use Rattle.csp_ports.specs.declared.owed.Owed.{Owed}
 use Rattle.csp_rdp.specs.Jobs.{delivery}
 use Rattle.csp_rdp.specs.declared.jobs.Job.{Job}
+use Rattle.csp_rdp_header.specs.Head.{parted}
 use Rattle.csp_rdp_header.specs.declared.head.RdpHead.{RdpHead}
 use Rattle.csp_record.specs.declared.who.Who.TheVariants as who
 use Rattle.csp_ports.specs.PlainPorts.{machine_at}
@@ -30,12 +34,16 @@ use Rattle.csp_route.specs.declared.row.Row.{Row}
 use Rattle.csp_service.specs.Answers.{Outcome, answered}
 use Rattle.csp_service.specs.declared.answers.Served.{Served}
 use Rattle.csp_service.specs.declared.answers.Served.TheVariants.{NoService, Refused, Reply, Silent}
-use Rattle.csp_stack.specs.Readings.{buffer_in, is_checked, is_here, is_pushed, is_reliable, is_secured, item_in, lacks}
+use Rattle.csp_service.specs.declared.stats.Count.TheVariants as count
+use Rattle.csp_stack.proofs.Unmoved.{by_rest, heard_here}
+use Rattle.csp_stack.specs.Comes.{heard_at_port, heard_at_socket, heard_elsewhere}
+use Rattle.csp_stack.specs.Counting.{counting}
+use Rattle.csp_stack.specs.Readings.{buffer_in, is_checked, is_here, is_pushed, is_secured, item_in}
 use Rattle.csp_stack.specs.Router.{Facts, Leaving, State}
-use Rattle.csp_stack.specs.Rules.{Arrival, Ruling, packet_in}
+use Rattle.csp_stack.specs.Rules.{◌>>=◌, Arrival, Ruling, Decided, Left, packet_in}
 use Rattle.csp_stack.specs.Rules as rules
 use Rattle.csp_stack.specs.Serving.{facts_of}
-use Rattle.csp_stack.specs.Told.{Told}
+use Rattle.csp_stack.specs.Told.{Told, discarded, leaving}
 use Rattle.csp_stack.specs.Turn as turn
 use Rattle.csp_stack.specs.declared.plan.Plan.{Plan}
 use Rattle.csp_stack.specs.declared.plan.Plan.TheVariants as plan
@@ -54,28 +62,33 @@ go_sent true row s b h = refl
 go_sent false None s b h = h
 go_sent false (Some row) s b h = tt
 
-go_way : (back : Bool) (row : Row) (s : State) (p : Arrival) → IsOutward s.out → Goes (rules.by_way back row s p)
-go_way true row s p h = h
-go_way false row s p h = tt
-
 abbrev GoesBy : Ruling → Type 0
-GoesBy (Ok p) = ⊤
-GoesBy (Err t) = Goes t
+GoesBy (Left p) = ⊤
+GoesBy (Decided t) = Goes t
 
-go_on : (r : Ruling) (next : Arrival → Told) → GoesBy r → ((p : Arrival) → Goes (next p)) → Goes (rules.onward r next)
-go_on (Ok p) next h then = then p
-go_on (Err t) next h then = h
+go_on : (r : Ruling) (next : Arrival → Told) → GoesBy r → ((p : Arrival) → Goes (next p)) → Goes (r >>= next)
+go_on (Left p) next h each = each p
+go_on (Decided t) next h each = h
 
-go_destination : (here : Bool) (row : Option Row) (s : State) (p : Arrival) → IsOutward s.out → GoesBy (rules.by_destination here row s p)
-go_destination false None s p h = h
-go_destination false (Some row) s p h = go_way (row.iface == p.mark) row s p h
-go_destination true row s p h = tt
+-- of two, the one that a test chooses
+go_either : (b : Bool) (t u : Told) → Goes t → Goes u → Goes (if b then t else u)
+go_either true t u one other = one
+go_either false t u one other = other
 
-go_security : (secured : Bool) (s : State) (p : Arrival) → IsOutward s.out → GoesBy (rules.by_security secured s p)
-go_security true s p h = h
-go_security false s p h = tt
+-- a rule of one test
+go_if : (b : Bool) (t : Told) (p : Arrival) → Goes t → GoesBy (if b then Decided t else Left p)
+go_if true t p h = h
+go_if false t p h = tt
 
-go_checksum : (checked : Bool) (payload : Option (List ℕ)) (s : State) (p : Arrival) → IsOutward s.out → GoesBy (rules.by_checksum checked payload s p)
+go_forwarded : (row : Option Row) (s : State) (p : Arrival) → IsOutward s.out → Goes (rules.forwarded row s p)
+go_forwarded None s p h = h
+go_forwarded (Some row) s p h = go_either (row.iface == p.mark) (discarded s why.BackOut p.buffer) (leaving s (rules.by_row row p.buffer)) h tt
+
+go_destination : (here : Bool) (t : Told) (p : Arrival) → Goes t → GoesBy (if here then Left p else Decided t)
+go_destination true t p h = tt
+go_destination false t p h = h
+
+go_checksum : (checked : Bool) (payload : Option (List ℕ)) (s : State) (p : Arrival) → IsOutward s.out → GoesBy (if checked then rules.with_payload payload s p else Left p)
 go_checksum true None s p h = h
 go_checksum true (Some payload) s p h = tt
 go_checksum false payload s p h = tt
@@ -84,15 +97,18 @@ go_machine : (read : Option (List ℕ × RdpHead)) (s : State) (app slot time : 
 go_machine None s app slot time p h = h
 go_machine (Some read) s app slot time p h = h
 
-go_connection : (reliable : Bool) (s : State) (app slot time : ℕ) (p : Arrival) → IsOutward s.out → Goes (rules.to_connection reliable s app slot time p)
-go_connection false s app slot time p h = tt
-go_connection true s app slot time p h = go_machine _ s app slot time p h
+go_connection : (s : State) (app slot time : ℕ) (p : Arrival) → IsOutward s.out → Goes (rules.to_connection s app slot time p)
+go_connection s app slot time p h =
+    go_either (is_reliable p.head.flags.0) (rules.to_machine (parted p.buffer.payload) s app slot time p) (leaving s (rules.to_slot app slot p.buffer)) (go_machine _ s app slot time p h) tt
 
-go_by_connection : (at : Option (ℕ × ℕ)) (mixed lacks : Bool) (s : State) (time : ℕ) (p : Arrival) → IsOutward s.out → GoesBy (rules.by_connection at mixed lacks s time p)
-go_by_connection None mixed lacks s time p h = tt
-go_by_connection (Some at) true lacks s time p h = h
-go_by_connection (Some at) false true s time p h = h
-go_by_connection (Some at) false false s time p h = go_connection _ s at.0 at.1 time p h
+go_by_connection : (at : Option (ℕ × ℕ)) (s : State) (time : ℕ) (p : Arrival) → IsOutward s.out → GoesBy (rules.by_connection at s time p)
+go_by_connection None s time p h = tt
+go_by_connection (Some at) s time p h = go_three (rules.is_mixed s at p) (rules.is_lacking s p) (go_connection s at.0 at.1 time p h)
+  where
+    go_three : (mixed lacking : Bool) → Goes (rules.to_connection s at.0 at.1 time p) → Goes (if mixed then discarded s why.Mixed p.buffer else if lacking then discarded s why.Required p.buffer else rules.to_connection s at.0 at.1 time p)
+    go_three true lacking rest = h
+    go_three false true rest = h
+    go_three false false rest = rest
 
 go_accepting : (free : Option ℕ) (s : State) (app : ℕ) (p : Arrival) → IsOutward s.out → Goes (rules.accepting free s app p)
 go_accepting None s app p h = h
@@ -103,18 +119,16 @@ go_inviting (Err reason) free f s app time p h = h
 go_inviting (Ok i) None f s app time p h = h
 go_inviting (Ok i) (Some slot) f s app time p h = h
 
-go_socket : (reliable : Bool) (free : Option ℕ) (f : Facts) (s : State) (app time : ℕ) (p : Arrival) → IsOutward s.out → Goes (rules.at_socket reliable free f s app time p)
-go_socket false free f s app time p h = go_accepting free s app p h
-go_socket true free f s app time p h = go_inviting _ free f s app time p h
+go_opening : (app : ℕ) (f : Facts) (s : State) (time : ℕ) (p : Arrival) → IsOutward s.out → Goes (rules.opening app f s time p)
+go_opening app f s time p h =
+    let free = first_free s.ports.conns app in
+    let i = rules.invitation_of p.buffer in
+    go_either (is_reliable p.head.flags.0) (rules.inviting i free f s app time p) (rules.accepting free s app p) (go_inviting i free f s app time p h) (go_accepting free s app p h)
 
-go_by_socket : (owner : Option (ℕ × ℕ)) (lacks : Bool) (free : Option ℕ) (f : Facts) (s : State) (time : ℕ) (p : Arrival) → IsOutward s.out → GoesBy (rules.by_socket owner lacks free f s time p)
-go_by_socket None lacks free f s time p h = tt
-go_by_socket (Some owner) true free f s time p h = h
-go_by_socket (Some owner) false free f s time p h = go_socket _ free f s owner.0 time p h
-
-go_transport : (reliable : Bool) (s : State) (p : Arrival) → IsOutward s.out → GoesBy (rules.by_transport reliable s p)
-go_transport true s p h = h
-go_transport false s p h = tt
+go_by_socket : (owner : Option (ℕ × ℕ)) (f : Facts) (s : State) (time : ℕ) (p : Arrival) → IsOutward s.out → GoesBy (rules.by_socket owner f s time p)
+go_by_socket None f s time p h = tt
+go_by_socket (Some owner) f s time p h =
+    go_either (rules.is_lacking s p) (discarded s why.Required p.buffer) (rules.opening owner.0 f s time p) h (go_opening owner.0 f s time p h)
 
 go_answer : (served : Served) (reply : List ℕ) (f : Facts) (s : State) (p : Arrival) → IsOutward s.out → Goes (rules.by_answer served reply f s p)
 go_answer Reply reply f s p h = go_sent _ _ s _ h
@@ -125,35 +139,16 @@ go_answer NoService reply f s p h = h
 go_outcome : (o : Outcome) (f : Facts) (s : State) (p : Arrival) → IsOutward s.out → Goes (rules.by_outcome o f s p)
 go_outcome o f s p h = go_answer o.served o.reply f _ p h
 
-go_elsewhere : (f : Facts) (s : State) (time : ℕ) (p : Arrival) → IsOutward s.out → Goes (rules.heard_elsewhere f s time p)
-go_elsewhere f s time p h =
-    go_on (rules.by_transport (is_reliable p.head) s p) (λ x. rules.by_service f s time x) (go_transport (is_reliable p.head) s p h)
-    (λ x. go_outcome (answered x.head.dport x.buffer.payload (facts_of f s) time) f s x h)
-
-go_at_socket : (f : Facts) (s : State) (time : ℕ) (p : Arrival) → IsOutward s.out → Goes (rules.heard_at_socket f s time p)
-go_at_socket f s time p h =
-    let owner = rules.owner_for s p in
-    go_on (rules.by_socket owner (lacks owner p.head) (rules.slot_for s.ports owner) f s time p) (λ x. rules.heard_elsewhere f s time x)
-    (go_by_socket owner (lacks owner p.head) (rules.slot_for s.ports owner) f s time p h) (λ x. go_elsewhere f s time x h)
-
-go_at_port : (f : Facts) (s : State) (time : ℕ) (p : Arrival) → IsOutward s.out → Goes (rules.heard_at_port f s time p)
-go_at_port f s time p h =
-    let at = rules.slot_of s p in
-    let lacking = lacks (rules.owner_for s p) p.head in
-    go_on (rules.by_connection at (rules.is_mixed s.ports at p.head) lacking s time p) (λ x. rules.heard_at_socket f s time x)
-    (go_by_connection at (rules.is_mixed s.ports at p.head) lacking s time p h) (λ x. go_at_socket f s time x h)
-
-go_here : (f : Facts) (s : State) (time : ℕ) (p : Arrival) → IsOutward s.out → Goes (rules.heard_here f s time p)
-go_here f s time p h =
-    go_on (rules.by_security (is_secured p.head) s p) (λ x. rules.onward (rules.by_checksum (is_checked x.head) (payload_of x.buffer.payload) s x) (λ y. rules.heard_at_port f s time y))
-    (go_security (is_secured p.head) s p h)
-    (λ x. go_on (rules.by_checksum (is_checked x.head) (payload_of x.buffer.payload) s x) (λ y. rules.heard_at_port f s time y)
-    (go_checksum (is_checked x.head) (payload_of x.buffer.payload) s x h) (λ y. go_at_port f s time y h))
-
+-- so the rules do, one after the other
 go_heard : (f : Facts) (s : State) (time : ℕ) (p : Arrival) → IsOutward s.out → Goes (rules.heard f s time p)
 go_heard f s time p h =
-    go_on (rules.by_destination (is_here f.addr p.head) (route_of s.routes p.head.dst) s p) (λ x. rules.heard_here f s time x)
-    (go_destination (is_here f.addr p.head) (route_of s.routes p.head.dst) s p h) (λ x. go_here f s time x h)
+    go_on (rules.for_this_node f s p) (λ p. heard_here f s time p) (go_destination (is_here f.addr p.head) (rules.forwarded (route_of s.routes p.head.dst) s p) p (go_forwarded (route_of s.routes p.head.dst) s p h)) (λ p.
+    go_on (rules.not_secured s p) (λ p. by_rest f s time p) (go_if (is_secured p.head) (discarded (counting s p.mark count.AuthErrors 1) why.Refused p.buffer) p h) (λ p.
+    go_on (rules.without_checksum s p) (λ p. heard_at_port f s time p) (go_checksum (is_checked p.head) (payload_of p.buffer.payload) s p h) (λ p.
+    go_on (rules.of_no_connection s time p) (λ p. heard_at_socket f s time p) (go_by_connection (rules.slot_of s p) s time p h) (λ p.
+    go_on (rules.to_no_socket f s time p) (λ p. heard_elsewhere f s time p) (go_by_socket (rules.owner_for s p) f s time p h) (λ p.
+    go_on (rules.not_reliable s p) (λ p. rules.by_service f s time p) (go_if (is_reliable p.head.flags.0) (discarded s why.NoSocket p.buffer) p h) (λ p.
+    go_outcome (answered p.head.dport p.buffer.payload (facts_of f s) time) f s p h))))))
 
 -- and so does what it makes of an item of an application
 go_on_connection : (reliable : Bool) (c : Connection) (f : Facts) (s : State) (app number time : ℕ) (b : Content) → IsOutward s.out → Goes (rules.on_connection reliable c f s app number time b)

@@ -11,7 +11,7 @@ use Rattle.csp_cmp.specs.Replies.{peek_bytes, same_bytes}
 use Rattle.csp_cmp.specs.declared.errors.CmpError.{CmpError}
 use Rattle.csp_cmp.specs.declared.request.CmpRequest.{CmpRequest}
 use Rattle.csp_cmp.specs.declared.request.CmpRequest.TheVariants.{Ident, RouteSet, Stats, Peek, Poke, Clock}
-use Rattle.csp_conn.specs.Opening.{found, is_refused, own_port_of}
+use Rattle.csp_conn.specs.Opening.{first_free, found, is_refused, own_port_of}
 use Rattle.csp_conn.specs.PlainConns.{slot_at}
 use Rattle.csp_conn.specs.declared.conns.TheConstants.{SLOTS}
 use Rattle.csp_conn.specs.declared.slot.Connection.{Connection}
@@ -36,7 +36,7 @@ use Rattle.csp_log.specs.declared.shown.ItemShown.{ItemShown}
 use Rattle.csp_log.specs.declared.shown.ItemShown.TheVariants as item
 use Rattle.csp_log.specs.declared.shown.OpShown.{OpShown}
 use Rattle.csp_log.specs.declared.shown.OpShown.TheVariants as op
-use Rattle.csp_ports.specs.Asking.{answered_by, close, close_by, connect, connect_by, ended_by, is_reliable as are_reliable, joined}
+use Rattle.csp_ports.specs.Asking.{answered_by, close, close_by, connect, connect_by, ended_by, is_reliable, joined}
 use Rattle.csp_ports.specs.Came.{Came, come, then as and_then}
 use Rattle.csp_ports.specs.Packets.{back_by, handing_event, submitting_in}
 use Rattle.csp_ports.specs.PlainPorts.{PlainPorts, PlainStalled, anywhere, is_closing, machine_at, stalled_at, terms_at}
@@ -74,13 +74,16 @@ use Rattle.csp_service.specs.declared.answers.TheConstants.{REBOOT, SHUTDOWN}
 use Rattle.csp_service.specs.declared.facts.TheConstants.{MEMORY}
 use Rattle.csp_service.specs.declared.service.Service.{Service}
 use Rattle.csp_service.specs.declared.service.Service.TheVariants as service
-use Rattle.csp_stack.specs.Counting.{came_in}
+use Rattle.csp_service.specs.declared.stats.Count.TheVariants as count
+use Rattle.csp_stack.proofs.Unmoved.{by_rest, heard_here}
+use Rattle.csp_stack.specs.Comes.{heard_at_port, heard_at_socket, heard_elsewhere}
+use Rattle.csp_stack.specs.Counting.{came_in, counting}
 use Rattle.csp_stack.specs.Party.{asked_of, asks_of, events_of}
-use Rattle.csp_stack.specs.Readings.{buffer_in, is_checked, is_here, is_pushed, is_reliable, is_secured, item_in, lacks}
+use Rattle.csp_stack.specs.Readings.{buffer_in, is_checked, is_here, is_pushed, is_secured, item_in}
 use Rattle.csp_stack.specs.Router.{Facts, Router, State, at_rest, origin_of}
-use Rattle.csp_stack.specs.Rules.{Arrival, accepting, addressed, arrival, at_socket, by_answer, by_checksum, by_connection, by_destination, by_mark, by_security, by_service, by_slot, by_socket, by_transport, by_way, connection_of, differs, heard, heard_at_port, heard_at_socket, heard_elsewhere, heard_here, invitation_of, inviting, is_mixed, made_on, on_connection, onward, owner_for, packet_in, requested, sent, sent_by, served, slot_for, slot_of, to_connection, to_machine}
+use Rattle.csp_stack.specs.Rules.{◌>>=◌, Arrival, Decided, Left, accepting, addressed, arrival, by_answer, by_connection, by_mark, by_row, by_service, by_slot, by_socket, connection_of, differs, forwarded, heard, invitation_of, inviting, is_lacking, is_mixed, made_on, on_connection, opening, owner_for, packet_in, requested, sent, sent_by, served, slot_of, to_connection, to_machine, to_slot, with_payload}
 use Rattle.csp_stack.specs.Serving.{facts_of, reply_in, with_facts}
-use Rattle.csp_stack.specs.Told.{Told, discarded}
+use Rattle.csp_stack.specs.Told.{Told, discarded, leaving}
 use Rattle.csp_stack.specs.Turn.{asked_at, asked_by, asks_at, handed, op_of, plan_of, timed, told_at, told_by, told_delivering, told_giving, told_hearing, told_keeping, told_making, told_noting, told_pushing, told_replying, told_sending, told_serving}
 use Rattle.csp_stack.specs.declared.plan.Plan.{Plan}
 use Rattle.csp_stack.specs.declared.plan.Plan.TheVariants as plan
@@ -205,7 +208,7 @@ joined_others true o p app r own time = tt
 
 connect_by_others : (x : Slot) (refuses : Bool) (own : Option ℕ) (o : Origin) (p : PlainPorts) (app : ℕ) (r : Request) (time : ℕ) → AreOthers (connect_by x refuses own o p app r time).events
 connect_by_others has.Free true own o p app r time = tt
-connect_by_others has.Free false (Some own) o p app r time = joined_others (are_reliable r.flags) o p app r own time
+connect_by_others has.Free false (Some own) o p app r time = joined_others (is_reliable r.flags) o p app r own time
 connect_by_others has.Free false None o p app r time = tt
 connect_by_others has.Held refuses own o p app r time = tt
 connect_by_others (has.Open c) refuses own o p app r time = tt
@@ -345,7 +348,7 @@ on_connection_others true c f s app number time b = submitting_others (machine_a
 by_slot_others : (x : Slot) (f : Facts) (s : State) (app number time : ℕ) (b : Content) → AreOthers (by_slot x f s app number time b).events
 by_slot_others has.Free f s app number time b = (tt, tt)
 by_slot_others has.Held f s app number time b = (tt, tt)
-by_slot_others (has.Open c) f s app number time b = on_connection_others (are_reliable (terms_at s.ports app number).flags) c f s app number time b
+by_slot_others (has.Open c) f s app number time b = on_connection_others (is_reliable (terms_at s.ports app number).flags) c f s app number time b
 
 by_mark_others : (unmarked : Bool) (f : Facts) (s : State) (app mark time : ℕ) (b : Content) → AreOthers (by_mark unmarked f s app mark time b).events
 by_mark_others true f s app mark time b = sent_others f s b
@@ -383,14 +386,20 @@ inviting_others (Err reason) o f s app time p = (tt, tt)
 inviting_others (Ok i) None f s app time p = (tt, tt)
 inviting_others (Ok i) (Some slot) f s app time p = tt
 
-at_socket_others : (reliable : Bool) (o : Option ℕ) (f : Facts) (s : State) (app time : ℕ) (p : Arrival) → AreOthers (at_socket reliable o f s app time p).events
-at_socket_others false o f s app time p = accepting_others o s app p
-at_socket_others true o f s app time p = inviting_others (invitation_of p.buffer) o f s app time p
+-- of two, the one that a test chooses
+either_others : (b : Bool) (t u : Told) → AreOthers t.events → AreOthers u.events → AreOthers (if b then t else u).events
+either_others true t u one other = one
+either_others false t u one other = other
 
-by_socket_others : (owner : Option (ℕ × ℕ)) (short : Bool) (o : Option ℕ) (f : Facts) (s : State) (time : ℕ) (p : Arrival) (next : Arrival → Told) → AreOthers (next p).events → AreOthers (onward (by_socket owner short o f s time p) next).events
-by_socket_others None short o f s time p next rest = rest
-by_socket_others (Some owner) true o f s time p next rest = (tt, tt)
-by_socket_others (Some owner) false o f s time p next rest = at_socket_others (is_reliable p.head) o f s owner.0 time p
+opening_others : (app : ℕ) (f : Facts) (s : State) (time : ℕ) (p : Arrival) → AreOthers (opening app f s time p).events
+opening_others app f s time p =
+    let free = first_free s.ports.conns app in
+    let i = invitation_of p.buffer in
+    either_others (is_reliable p.head.flags.0) (inviting i free f s app time p) (accepting free s app p) (inviting_others i free f s app time p) (accepting_others free s app p)
+
+by_socket_others : (owner : Option (ℕ × ℕ)) (f : Facts) (s : State) (time : ℕ) (p : Arrival) (next : Arrival → Told) → AreOthers (next p).events → AreOthers (by_socket owner f s time p >>= next).events
+by_socket_others None f s time p next rest = rest
+by_socket_others (Some owner) f s time p next rest = either_others (is_lacking s p) (discarded s why.Required p.buffer) (opening owner.0 f s time p) (tt, tt) (opening_others owner.0 f s time p)
 
 by_answer_others : (o : Served) (reply : List ℕ) (f : Facts) (s : State) (p : Arrival) → IsOtherServed o → AreOthers (by_answer o reply f s p).events
 by_answer_others Reply reply f s p is = sent_others f s (reply_in f p.head p.buffer reply)
@@ -403,15 +412,14 @@ by_service_others f s time p =
     let o = answered p.head.dport p.buffer.payload (facts_of f s) time in
     by_answer_others o.served o.reply f (with_facts s o.facts) p (service_other p.head.dport p.buffer.payload (facts_of f s) time)
 
-by_transport_others : (reliable : Bool) (s : State) (p : Arrival) (next : Arrival → Told) → AreOthers (next p).events → AreOthers (onward (by_transport reliable s p) next).events
-by_transport_others true s p next rest = (tt, tt)
-by_transport_others false s p next rest = rest
+not_reliable_others : (reliable : Bool) (s : State) (p : Arrival) (next : Arrival → Told) → AreOthers (next p).events → AreOthers ((if reliable then Decided (discarded s why.NoSocket p.buffer) else Left p) >>= next).events
+not_reliable_others true s p next rest = (tt, tt)
+not_reliable_others false s p next rest = rest
 
 -- a packet of no connection
 at_socket_heard_others : (f : Facts) (s : State) (time : ℕ) (p : Arrival) → AreOthers (heard_at_socket f s time p).events
 at_socket_heard_others f s time p =
-    by_socket_others (owner_for s p) (lacks (owner_for s p) p.head) (slot_for s.ports (owner_for s p)) f s time p (λ q. heard_elsewhere f s time q)
-    (by_transport_others (is_reliable p.head) s p (λ q. by_service f s time q) (by_service_others f s time p))
+    by_socket_others (owner_for s p) f s time p (λ q. heard_elsewhere f s time q) (not_reliable_others (is_reliable p.head.flags.0) s p (λ q. by_service f s time q) (by_service_others f s time p))
 
 -- the rules, where a packet may come to a connection: of each event that they tell what holds of others and of one that tells of the packet
 module _ (f : Facts) (s : State) (time mark : ℕ) (b : Content) (P : Event → Type 0) (other : (e : Event) → IsOther e → P e) (hands : (e : Event) → IsHanding f s.ports b e → P e) where
@@ -430,7 +438,7 @@ module _ (f : Facts) (s : State) (time mark : ℕ) (b : Content) (P : Event → 
   discarded_shows x reason c = (other (event.Discarded reason) tt, tt)
 
   to_machine_shows : (o : Option (List ℕ × RdpHead)) (app slot : ℕ) (bytes : List ℕ) → parted bytes ≡ o → is_here f.addr (header_at b.header) ≡ true → unwrapped (is_checked (header_at b.header)) b.payload ≡ Some bytes
-      → found s.ports.conns (connection_of (header_at b.header)) ≡ Some (app, slot) → is_reliable (header_at b.header) ≡ true → are_reliable (terms_at s.ports app slot).flags ≡ true → Shows (to_machine o s app slot time (at_port bytes))
+      → found s.ports.conns (connection_of (header_at b.header)) ≡ Some (app, slot) → is_reliable (header_at b.header).flags.0 ≡ true → is_reliable (terms_at s.ports app slot).flags ≡ true → Shows (to_machine o s app slot time (at_port bytes))
   to_machine_shows None app slot bytes q here un at reliable kind = discarded_shows s why.Malformed (record b { payload = bytes })
   to_machine_shows (Some read) app slot bytes q here un at reliable kind = (
     hands (handing_event (machine_at s.ports app slot) b.trace.tag) (record {
@@ -453,49 +461,60 @@ module _ (f : Facts) (s : State) (time mark : ℕ) (b : Content) (P : Event → 
   not_false true e = refl
   not_false false e = absurd cc
 
-  to_connection_shows : (reliable : Bool) (app slot : ℕ) (bytes : List ℕ) → is_reliable (header_at b.header) ≡ reliable → is_here f.addr (header_at b.header) ≡ true → unwrapped (is_checked (header_at b.header)) b.payload ≡ Some bytes
-      → found s.ports.conns (connection_of (header_at b.header)) ≡ Some (app, slot) → differs reliable (terms_at s.ports app slot).flags ≡ false → Shows (to_connection reliable s app slot time (at_port bytes))
+  to_connection_shows : (reliable : Bool) (app slot : ℕ) (bytes : List ℕ) → is_reliable (header_at b.header).flags.0 ≡ reliable → is_here f.addr (header_at b.header) ≡ true → unwrapped (is_checked (header_at b.header)) b.payload ≡ Some bytes
+      → found s.ports.conns (connection_of (header_at b.header)) ≡ Some (app, slot) → differs reliable (is_reliable (terms_at s.ports app slot).flags) ≡ false
+      → Shows (if reliable then to_machine (parted bytes) s app slot time (at_port bytes) else leaving s (to_slot app slot (record b { payload = bytes })))
   to_connection_shows false app slot bytes e here un at same = tt
-  to_connection_shows true app slot bytes e here un at same = to_machine_shows (parted bytes) app slot bytes refl here un at e (not_false (are_reliable (terms_at s.ports app slot).flags) same)
+  to_connection_shows true app slot bytes e here un at same = to_machine_shows (parted bytes) app slot bytes refl here un at e (not_false (is_reliable (terms_at s.ports app slot).flags) same)
 
-  by_connection_shows : (at : Option (ℕ × ℕ)) (mixed short : Bool) (bytes : List ℕ) (next : Arrival → Told) → found s.ports.conns (connection_of (header_at b.header)) ≡ at → is_mixed s.ports at (header_at b.header) ≡ mixed
-      → is_here f.addr (header_at b.header) ≡ true → unwrapped (is_checked (header_at b.header)) b.payload ≡ Some bytes → Shows (next (at_port bytes)) → Shows (onward (by_connection at mixed short s time (at_port bytes)) next)
-  by_connection_shows None mixed short bytes next e same here un rest = rest
-  by_connection_shows (Some at) true short bytes next e same here un rest = discarded_shows s why.Mixed (record b { payload = bytes })
-  by_connection_shows (Some at) false true bytes next e same here un rest = discarded_shows s why.Required (record b { payload = bytes })
-  by_connection_shows (Some at) false false bytes next e same here un rest = to_connection_shows (is_reliable (header_at b.header)) at.0 at.1 bytes refl here un e same
+  at_connection_shows : (mixed lacking : Bool) (at : ℕ × ℕ) (bytes : List ℕ) → is_mixed s at (at_port bytes) ≡ mixed → (is_mixed s at (at_port bytes) ≡ false → Shows (to_connection s at.0 at.1 time (at_port bytes)))
+      → Shows (if mixed then discarded s why.Mixed (record b { payload = bytes }) else if lacking then discarded s why.Required (record b { payload = bytes }) else to_connection s at.0 at.1 time (at_port bytes))
+  at_connection_shows true lacking at bytes e rest = discarded_shows s why.Mixed (record b { payload = bytes })
+  at_connection_shows false true at bytes e rest = discarded_shows s why.Required (record b { payload = bytes })
+  at_connection_shows false false at bytes e rest = rest e
+
+  by_connection_shows : (at : Option (ℕ × ℕ)) (bytes : List ℕ) (next : Arrival → Told) → found s.ports.conns (connection_of (header_at b.header)) ≡ at
+      → is_here f.addr (header_at b.header) ≡ true → unwrapped (is_checked (header_at b.header)) b.payload ≡ Some bytes → Shows (next (at_port bytes)) → Shows (by_connection at s time (at_port bytes) >>= next)
+  by_connection_shows None bytes next e here un rest = rest
+  by_connection_shows (Some at) bytes next e here un rest =
+      at_connection_shows (is_mixed s at (at_port bytes)) (is_lacking s (at_port bytes)) at bytes refl λ same. (to_connection_shows (is_reliable (header_at b.header).flags.0) at.0 at.1 bytes refl here un e same)
 
   at_port_shows : (bytes : List ℕ) → is_here f.addr (header_at b.header) ≡ true → unwrapped (is_checked (header_at b.header)) b.payload ≡ Some bytes → Shows (heard_at_port f s time (at_port bytes))
   at_port_shows bytes here un =
-      by_connection_shows (slot_of s (at_port bytes)) (is_mixed s.ports (slot_of s (at_port bytes)) (header_at b.header)) (lacks (owner_for s (at_port bytes)) (header_at b.header)) bytes (λ q. heard_at_socket f s time q) refl refl here un
+      by_connection_shows (slot_of s (at_port bytes)) bytes (λ q. heard_at_socket f s time q) refl here un
       (others_show (heard_at_socket f s time (at_port bytes)) (at_socket_heard_others f s time (at_port bytes)))
 
   by_checksum_shows : (checked : Bool) (o : Option (List ℕ)) (next : Arrival → Told) → payload_of b.payload ≡ o → ((bytes : List ℕ) → unwrapped checked b.payload ≡ Some bytes → Shows (next (at_port bytes)))
-      → Shows (onward (by_checksum checked o s (arrival mark b)) next)
+      → Shows ((if checked then with_payload o s (arrival mark b) else Left (arrival mark b)) >>= next)
   by_checksum_shows true None next e rest = discarded_shows s why.CrcWrong b
   by_checksum_shows true (Some bytes) next e rest = rest bytes e
   by_checksum_shows false o next e rest = rest b.payload refl
 
-  by_security_shows : (secured : Bool) (next : Arrival → Told) → Shows (next (arrival mark b)) → Shows (onward (by_security secured s (arrival mark b)) next)
-  by_security_shows true next rest = discarded_shows s why.Refused b
-  by_security_shows false next rest = rest
+  not_secured_shows : (secured : Bool) (x : State) (next : Arrival → Told) → Shows (next (arrival mark b)) → Shows ((if secured then Decided (discarded x why.Refused b) else Left (arrival mark b)) >>= next)
+  not_secured_shows true x next rest = discarded_shows x why.Refused b
+  not_secured_shows false x next rest = rest
 
   here_shows : is_here f.addr (header_at b.header) ≡ true → Shows (heard_here f s time (arrival mark b))
   here_shows here =
-      by_security_shows (is_secured (header_at b.header)) (λ p. onward (by_checksum (is_checked p.head) (payload_of p.buffer.payload) s p) (λ q. heard_at_port f s time q))
+      not_secured_shows (is_secured (header_at b.header)) (counting s mark count.AuthErrors 1) (λ p. by_rest f s time p)
       (by_checksum_shows (is_checked (header_at b.header)) (payload_of b.payload) (λ q. heard_at_port f s time q) refl (λ bytes un. at_port_shows bytes here un))
 
-  by_way_shows : (back : Bool) (row : Row) → Shows (by_way back row s (arrival mark b))
-  by_way_shows true row = discarded_shows s why.BackOut b
-  by_way_shows false row = tt
+  forwarded_shows : (row : Option Row) → Shows (forwarded row s (arrival mark b))
+  forwarded_shows None = discarded_shows s why.NoRoute b
+  forwarded_shows (Some row) = by_back (row.iface == mark)
+    where
+      by_back : (back : Bool) → Shows (if back then discarded s why.BackOut b else leaving s (by_row row b))
+      by_back true = discarded_shows s why.BackOut b
+      by_back false = tt
 
-  by_destination_shows : (here : Bool) (row : Option Row) (next : Arrival → Told) → (here ≡ true → Shows (next (arrival mark b))) → Shows (onward (by_destination here row s (arrival mark b)) next)
-  by_destination_shows false None next rest = discarded_shows s why.NoRoute b
-  by_destination_shows false (Some row) next rest = by_way_shows (row.iface == mark) row
-  by_destination_shows true row next rest = rest refl
+  for_this_node_shows : (here : Bool) (t : Told) (next : Arrival → Told) → Shows t → (here ≡ true → Shows (next (arrival mark b))) → Shows ((if here then Left (arrival mark b) else Decided t) >>= next)
+  for_this_node_shows false t next told rest = told
+  for_this_node_shows true t next told rest = rest refl
 
   pub heard_shows : Shows (heard f s time (arrival mark b))
-  heard_shows = by_destination_shows (is_here f.addr (header_at b.header)) (route_of s.routes (header_at b.header).dst) (λ p. heard_here f s time p) here_shows
+  heard_shows =
+      let way = route_of s.routes (header_at b.header).dst in
+      for_this_node_shows (is_here f.addr (header_at b.header)) (forwarded way s (arrival mark b)) (λ p. heard_here f s time p) (forwarded_shows way) here_shows
 
 -- ---- what an answer comes to, by the turn's plan
 

@@ -11,12 +11,12 @@ use Rattle.csp_log.specs.declared.shown.AnswerShown.TheVariants as answer
 use Rattle.csp_log.specs.declared.shown.ItemShown.TheVariants as item
 use Rattle.csp_log.specs.declared.shown.OpShown.{OpShown}
 use Rattle.csp_log.specs.declared.shown.OpShown.TheVariants as op
-use Rattle.csp_ports.specs.Asking.{is_reliable as are_reliable}
+use Rattle.csp_ports.specs.Asking.{is_reliable}
 use Rattle.csp_ports.specs.Packets.{handing_event}
 use Rattle.csp_ports.specs.PlainPorts.{PlainPorts, machine_at, terms_at}
 use Rattle.csp_rdp_header.specs.Head.{parted}
 use Rattle.csp_rdp_header.specs.declared.head.RdpHead.{RdpHead}
-use Rattle.csp_stack.specs.Readings.{is_checked, is_here, is_reliable}
+use Rattle.csp_stack.specs.Readings.{is_checked, is_here}
 use Rattle.csp_stack.specs.Router.{Facts}
 use Rattle.csp_stack.specs.Rules.{connection_of}
 use Rattle.csp_prefix.proofs.RouterStanding.{unwrapped}
@@ -30,8 +30,8 @@ pub record IsHanding (f : Facts) (p : PlainPorts) (b : Content) (e : Event) : Ty
   pub read : List ℕ × RdpHead
   pub here : is_here f.addr (header_at b.header) ≡ true
   pub at : found p.conns (connection_of (header_at b.header)) ≡ Some (app, slot)
-  pub reliable : is_reliable (header_at b.header) ≡ true
-  pub kind : are_reliable (terms_at p app slot).flags ≡ true
+  pub reliable : is_reliable (header_at b.header).flags.0 ≡ true
+  pub kind : is_reliable (terms_at p app slot).flags ≡ true
   pub unwrapped : unwrapped (is_checked (header_at b.header)) b.payload ≡ Some bytes
   pub parted : parted bytes ≡ Some read
   pub told : e ≡ handing_event (machine_at p app slot) b.trace.tag

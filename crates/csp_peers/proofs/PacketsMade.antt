@@ -22,7 +22,8 @@ use Rattle.csp_record.specs.declared.who.Who.TheVariants as who
 use Rattle.csp_scene.specs.Links.{links_at}
 use Rattle.csp_scene.specs.Ranges.{IsNode, IsScene}
 use Rattle.csp_scene.specs.Scene.{PlainNode, PlainScene}
-use Rattle.csp_stack.specs.Readings.{broadcast, is_reliable}
+use Rattle.csp_ports.specs.Asking.{is_reliable}
+use Rattle.csp_stack.specs.Readings.{broadcast}
 use Rattle.csp_stack.specs.Router.{Facts}
 use Rattle.csp_stack.specs.Rules.{connection_of}
 use Rattle.csp_topology.specs.Parties.{config_of}
@@ -134,13 +135,13 @@ pub record IsOfMaker (scene : PlainScene) (r : PlainRecord) (top : ℕ) (b : Con
 
 pub record IsSound (scene : PlainScene) (r : PlainRecord) (top : ℕ) (b : Content) : Type 0 where
   pub genuine : IsGenuine (flows_in scene r) b
-  pub tagged : is_reliable (header_at b.header) ≡ true → (t : Tag) × (b.trace.tag ≡ Some t)
+  pub tagged : is_reliable (header_at b.header).flags.0 ≡ true → (t : Tag) × (b.trace.tag ≡ Some t)
   pub made : (t : Tag) → b.trace.tag ≡ Some t → IsOfMaker scene r top b t
 
 sound_like : (scene : PlainScene) (r : PlainRecord) (top : ℕ) (b c : Content) → b.header ≡ c.header → b.payload ≡ c.payload → b.trace.tag ≡ c.trace.tag → IsSound scene r top c → IsSound scene r top b
 sound_like scene r top b c headers payloads tags s = record {
   genuine = genuine_like (flows_in scene r) b c headers payloads tags s.genuine;
-  tagged = λ e. let t = s.tagged (ap (λ h. is_reliable (header_at h)) (sym headers) ∙ e) in (t.0, tags ∙ t.1);
+  tagged = λ e. let t = s.tagged (ap (λ h. is_reliable (header_at h).flags.0) (sym headers) ∙ e) in (t.0, tags ∙ t.1);
   made = λ t e.
       let m = s.made t (sym tags ∙ e) in
       record {

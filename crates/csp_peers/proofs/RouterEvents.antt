@@ -14,7 +14,7 @@ use Rattle.csp_log.specs.declared.shown.AnswerShown.{AnswerShown}
 use Rattle.csp_log.specs.declared.shown.OpShown.{OpShown}
 use Rattle.csp_log.specs.declared.shown.OpShown.TheVariants as op
 use Rattle.csp_log.specs.declared.places.QueueId.TheVariants as queue
-use Rattle.csp_ports.specs.Asking.{is_reliable as are_reliable}
+use Rattle.csp_ports.specs.Asking.{is_reliable}
 use Rattle.csp_ports.specs.PlainPorts.{PlainPorts, terms_at}
 use Rattle.csp_ports.specs.Steps.{timed as ports_timed}
 use Rattle.csp_rdp.specs.Machine.{PlainRdp, flow_of, una_of}
@@ -57,7 +57,7 @@ module _ (f : Facts) (es : List Entry) (top bound : ℕ) (flows : Flows) (R : Co
   the_is_aim = peer_is_aim f es top bound flows R hears few allows within one flows_short far known
 
   -- what is known of the connection on a slot that was found
-  known_there : (h : Past) (p : PlainPorts) (o : Option Leaving) (w : Stands the_aim f h p o) (c : Connection) (app slot : ℕ) → IsFound p.conns c app slot → are_reliable (terms_at p app slot).flags ≡ true
+  known_there : (h : Past) (p : PlainPorts) (o : Option Leaving) (w : Stands the_aim f h p o) (c : Connection) (app slot : ℕ) → IsFound p.conns c app slot → is_reliable (terms_at p app slot).flags ≡ true
       → IsPeer top flows R (origin_of f) w.numbering app slot (now_at p w.books app slot)
   known_there h p o w c app slot x kind =
       let there = w.good.slots app slot x.app_there x.slot_there in

@@ -29,7 +29,8 @@ use Rattle.csp_rdp.specs.Machine.{PlainRdp}
 use Rattle.csp_rdp.specs.declared.jobs.Job.{Job}
 use Rattle.csp_record.specs.Payloads.{sent}
 use Rattle.csp_record.specs.declared.connections.Opening.{Opening}
-use Rattle.csp_stack.specs.Readings.{broadcast, is_checked, is_reliable}
+use Rattle.csp_ports.specs.Asking.{is_reliable}
+use Rattle.csp_stack.specs.Readings.{broadcast, is_checked}
 use Rattle.csp_stack.specs.Router.{Facts, origin_of}
 use Rattle.csp_stack.specs.Rules.{addressed, answer_flags, connection_of, header_for}
 use Rattle.csp_prefix.specs.Machines.{IsOver}
@@ -57,7 +58,7 @@ pub record IsMade (f : Facts) (top bound : ℕ) (b : Content) (t : Tag) : Type 0
 
 -- a packet of the node's own: one of the reliable transport has a tag, and one with a tag was made so
 pub record IsOwn (f : Facts) (top bound : ℕ) (b : Content) : Type 0 where
-  pub tagged : is_reliable (header_at b.header) ≡ true → (t : Tag) × (b.trace.tag ≡ Some t)
+  pub tagged : is_reliable (header_at b.header).flags.0 ≡ true → (t : Tag) × (b.trace.tag ≡ Some t)
   pub made : (t : Tag) → b.trace.tag ≡ Some t → IsMade f top bound b t
 
 -- fewer packets were sent on each flow of a log
@@ -70,7 +71,7 @@ AllowsOne top = (dest : ℕ) → dest < 32 → dest ≢ broadcast → dest < top
 
 -- a packet that was heard, if it is of the reliable transport, came from an address below a bound
 abbrev pub IsFromBelow : ℕ → Content → Type 0
-IsFromBelow top b = is_reliable (header_at b.header) ≡ true → (header_at b.header).src < top
+IsFromBelow top b = is_reliable (header_at b.header).flags.0 ≡ true → (header_at b.header).src < top
 
 -- ---- own ports
 found_low : (p : ℕ → Bool) (last : ℕ) (steps : List ℕ) (own : ℕ) → find p (map (port_after last) steps) ≡ Some own → own < 64
@@ -160,14 +161,14 @@ maker_aim f top bound hears = record {
 }
 
 -- a packet without a tag that is not of the reliable transport is a node's own, whatever it is
-pub own_plain : (f : Facts) (top bound : ℕ) (b : Content) → b.trace.tag ≡ None → is_reliable (header_at b.header) ≡ false → IsOwn f top bound b
+pub own_plain : (f : Facts) (top bound : ℕ) (b : Content) → b.trace.tag ≡ None → is_reliable (header_at b.header).flags.0 ≡ false → IsOwn f top bound b
 own_plain f top bound b none plain = record {
   tagged = λ e. absurd (let both : false ≡ true = sym plain ∙ e in cc);
   made = λ t e. absurd (let both : ◌≡◌ {A = Option Tag} None (Some t) = sym none ∙ e in cc);
 }
 
 -- the connection of a packet that was heard
-pub heard_addressable : (top : ℕ) (b : Content) → IsFromBelow top b → is_reliable (header_at b.header) ≡ true → IsAddressable top (connection_of (header_at b.header)) (answer_flags (header_at b.header))
+pub heard_addressable : (top : ℕ) (b : Content) → IsFromBelow top b → is_reliable (header_at b.header).flags.0 ≡ true → IsAddressable top (connection_of (header_at b.header)) (answer_flags (header_at b.header))
 heard_addressable top b from reliable = record {
   peer = from reliable;
   peer_port = omega arith;

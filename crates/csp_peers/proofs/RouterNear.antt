@@ -14,7 +14,8 @@ use Rattle.csp_ports.specs.declared.origin.Origin.{Origin}
 use Rattle.csp_rdp.specs.Jobs.{Says, job_of, says, tag_for}
 use Rattle.csp_rdp.specs.Machine.{PlainRdp, flow_of}
 use Rattle.csp_rdp.specs.declared.jobs.Job.{Job}
-use Rattle.csp_stack.specs.Readings.{is_checked, is_reliable}
+use Rattle.csp_ports.specs.Asking.{is_reliable}
+use Rattle.csp_stack.specs.Readings.{is_checked}
 use Rattle.csp_stack.specs.Router.{Facts, origin_of}
 use Rattle.csp_stack.specs.Rules.{addressed, connection_of, header_for}
 use Rattle.std.proofs.lemmas.Bool.{eqb-true}
@@ -72,7 +73,7 @@ both-kept o C D Is Js k l = record {
 pub record IsOfPeer (flows : Flows) (R : Connection → ℕ × ℕ → Type 0) (addr top bound : ℕ) (b : Content) : Type 0 where
   pub genuine : IsGenuine flows b
   pub from : IsFromBelow top b
-  pub tagged : is_reliable (header_at b.header) ≡ true → (t : Tag) × (b.trace.tag ≡ Some t)
+  pub tagged : is_reliable (header_at b.header).flags.0 ≡ true → (t : Tag) × (b.trace.tag ≡ Some t)
   pub peer : (t : Tag) → b.trace.tag ≡ Some t → (header_at b.header).dst ≡ addr → R (connection_of (header_at b.header)) (flow_of t)
   pub dst : (t : Tag) → b.trace.tag ≡ Some t → (header_at b.header).dst < top
   pub index : (t : Tag) → b.trace.tag ≡ Some t → t.index ≤ bound

@@ -17,7 +17,7 @@ use Rattle.csp_log.specs.declared.shown.AnswerShown.TheVariants as answer
 use Rattle.csp_log.specs.declared.shown.ItemShown.TheVariants as item
 use Rattle.csp_log.specs.declared.shown.OpShown.{OpShown}
 use Rattle.csp_log.specs.declared.shown.OpShown.TheVariants as op
-use Rattle.csp_ports.specs.Asking.{is_reliable as are_reliable}
+use Rattle.csp_ports.specs.Asking.{is_reliable}
 use Rattle.csp_ports.specs.PlainPorts.{PlainPorts, machine_at, terms_at}
 use Rattle.csp_ports.specs.Steps.{timed as ports_timed}
 use Rattle.csp_ports.specs.declared.terms.Terms.{Terms}
@@ -83,7 +83,7 @@ in_use_map Is Js false m m' app slot n more is = record { machine = is.machine; 
 slot_map : (Is Js : Numbering → ℕ → ℕ → Now → Type 0) (s : Slot) (t : Terms) (m m' : Numbering) (app slot : ℕ) (n : Now) → (Is m app slot n → Js m' app slot n) → IsSlot Is s t m app slot n → IsSlot Js s t m' app slot n
 slot_map Is Js has.Free t m m' app slot n more is = is
 slot_map Is Js has.Held t m m' app slot n more is = is
-slot_map Is Js (has.Open c) t m m' app slot n more is = in_use_map Is Js (are_reliable t.flags) m m' app slot n more is
+slot_map Is Js (has.Open c) t m m' app slot n more is = in_use_map Is Js (is_reliable t.flags) m m' app slot n more is
 
 module _ (Is Js : Numbering → ℕ → ℕ → Now → Type 0) (m m' : Numbering) (ordinals : Ordinals) (books : Books) (p : PlainPorts) where
   good_map : m'.made ≡ m.made → ((app slot : ℕ) → app < p.conns.apps → slot < SLOTS → Is m app slot (now_at p books app slot) → Js m' app slot (now_at p books app slot)) → AreGood Is m ordinals books p → AreGood Js m' ordinals books p

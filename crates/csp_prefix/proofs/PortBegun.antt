@@ -14,7 +14,7 @@ use Rattle.csp_log.specs.declared.note.Note.TheVariants as note
 use Rattle.csp_log.specs.declared.note.Why.{Why}
 use Rattle.csp_log.specs.declared.note.Why.TheVariants as why
 use Rattle.csp_ports.specs.Asking.{connect, connect_by, joined, linked}
-use Rattle.csp_ports.specs.Asking.{is_reliable as are_reliable}
+use Rattle.csp_ports.specs.Asking.{is_reliable}
 use Rattle.csp_ports.specs.Came.{Came, come}
 use Rattle.csp_ports.specs.Packets.{accepted, invited}
 use Rattle.csp_ports.specs.PlainPorts.{PlainPorts, begun, owing, start_of, terms_at}
@@ -68,7 +68,7 @@ linked_apps p app slot c (Some port) = refl
 abbrev plain_view : Connection → Prio → ℕ → View → View
 plain_view c prio flags v = record (taken c prio flags wish.Nothing v) { book = record v.book { opened = Some (None, None) } }
 
-plain_fine : {Is : Numbering → ℕ → ℕ → Now → Type 0} {m : Numbering} {ordinal app slot : ℕ} (c : Connection) (prio : Prio) (flags : ℕ) (v : View) → v.what ≡ has.Free → are_reliable flags ≡ false → IsFine Is All m ordinal app slot v → IsFine Is All m ordinal app slot (plain_view c prio flags v)
+plain_fine : {Is : Numbering → ℕ → ℕ → Now → Type 0} {m : Numbering} {ordinal app slot : ℕ} (c : Connection) (prio : Prio) (flags : ℕ) (v : View) → v.what ≡ has.Free → is_reliable flags ≡ false → IsFine Is All m ordinal app slot v → IsFine Is All m ordinal app slot (plain_view c prio flags v)
 plain_fine {Is} {m} {ordinal} {app} {slot} c prio flags v free plain f =
     let k = free_slot Is m app slot v free f.holds in
     record {
@@ -80,7 +80,7 @@ plain_fine {Is} {m} {ordinal} {app} {slot} c prio flags v free plain f =
     }
 
 module _ {Is : Numbering → ℕ → ℕ → Now → Type 0} {m : Numbering} {ordinals : Ordinals} {books : Books} {p : PlainPorts} (app slot : ℕ) (here : app < p.conns.apps) (there : slot < SLOTS) (g : AreGood Is m ordinals books p) where
-  pub accepted_good : (c : Connection) (prio : Prio) (flags : ℕ) → slot_at p.conns app slot ≡ has.Free → are_reliable flags ≡ false → AreGood Is m ordinals (with_opened app slot (None, None) books) (accepted p app slot c prio flags)
+  pub accepted_good : (c : Connection) (prio : Prio) (flags : ℕ) → slot_at p.conns app slot ≡ has.Free → is_reliable flags ≡ false → AreGood Is m ordinals (with_opened app slot (None, None) books) (accepted p app slot c prio flags)
   accepted_good c prio flags free plain =
       let h = fine_of g in
       good_of
@@ -116,7 +116,7 @@ module _ {o : Origin} {C : Coming} {Is : Numbering → ℕ → ℕ → Now → T
     {m : Numbering} {ordinals : Ordinals} {books : Books} {p : PlainPorts} (app slot : ℕ) (here : app < p.conns.apps) (there : slot < SLOTS) (g : AreGood Is m ordinals books p) where
   -- one with this machine begins on a free slot
   begins : (q : PlainPorts) (c : Connection) (prio : Prio) (flags : ℕ) (what : Wish) (r : PlainRdp) → AreFineBut Is All m ordinals books q app slot (taken c prio flags what (view p books app slot)) → q.conns.apps ≡ p.conns.apps
-      → slot_at p.conns app slot ≡ has.Free → are_reliable flags ≡ true → ends_due what ≡ 0 → (what ≡ wish.Ended → ⊥)
+      → slot_at p.conns app slot ≡ has.Free → is_reliable flags ≡ true → ends_due what ≡ 0 → (what ≡ wish.Ended → ⊥)
       → Is (numbered app slot (terms_at p app slot).ordinal m) app slot (new_connection c flags r (terms_at p app slot).ordinal) → ComesWith Is m ordinals books p.conns.apps (replaced app slot r (record q { made = q.made + 1 }))
   begins q c prio flags what r h same free reliable none other is =
       let x = view p books app slot in
@@ -147,7 +147,7 @@ module _ {o : Origin} {C : Coming} {Is : Numbering → ℕ → ℕ → Now → T
       }
 
   -- one that is asked of the node
-  pub invited_comes : (c : Connection) (prio : Prio) (flags : ℕ) (i : Invitation) (time : ℕ) → slot_at p.conns app slot ≡ has.Free → are_reliable flags ≡ true → has_flag i.head SYN ≡ true → C.invites c flags i.head i.tag
+  pub invited_comes : (c : Connection) (prio : Prio) (flags : ℕ) (i : Invitation) (time : ℕ) → slot_at p.conns app slot ≡ has.Free → is_reliable flags ≡ true → has_flag i.head SYN ≡ true → C.invites c flags i.head i.tag
       → ComesWith Is m ordinals books p.conns.apps (invited o p app slot c prio flags i time)
   invited_comes c prio flags i time free reliable syn invites =
       let k = (terms_at p app slot).ordinal in
@@ -159,7 +159,7 @@ module _ {o : Origin} {C : Coming} {Is : Numbering → ℕ → ℕ → Now → T
 
 module _ {o : Origin} {C : Coming} {Is : Numbering → ℕ → ℕ → Now → Type 0} (kept : IsKept o C Is)
     {m : Numbering} {ordinals : Ordinals} {books : Books} {p : PlainPorts} (app : ℕ) (r : Request) (here : app < p.conns.apps) (there : r.slot < SLOTS) (asked : IsAskedSo C p r) (g : AreGood Is m ordinals books p) where
-  joined_comes : (b : Bool) (own time : ℕ) → slot_at p.conns app r.slot ≡ has.Free → are_reliable r.flags ≡ b → own_port_of p.conns r.dest r.from ≡ Some own → ComesWith Is m ordinals books p.conns.apps (joined b o p app r own time)
+  joined_comes : (b : Bool) (own time : ℕ) → slot_at p.conns app r.slot ≡ has.Free → is_reliable r.flags ≡ b → own_port_of p.conns r.dest r.from ≡ Some own → ComesWith Is m ordinals books p.conns.apps (joined b o p app r own time)
   joined_comes false own time free plain chosen =
       let c = between r.dest r.port own in
       let x = view p books app r.slot in
@@ -187,7 +187,7 @@ module _ {o : Origin} {C : Coming} {Is : Numbering → ℕ → ℕ → Now → T
 
   connect_on : (w : Slot) (is_refused : Bool) (own : Option ℕ) (time : ℕ) → slot_at p.conns app r.slot ≡ w → own_port_of p.conns r.dest r.from ≡ own → ComesWith Is m ordinals books p.conns.apps (connect_by w is_refused own o p app r time)
   connect_on has.Free true own time e f = refused_comes why.PortBusy
-  connect_on has.Free false (Some own) time e f = joined_comes (are_reliable r.flags) own time e refl f
+  connect_on has.Free false (Some own) time e f = joined_comes (is_reliable r.flags) own time e refl f
   connect_on has.Free false None time e f = unmade (record { same = refl; new = tt; good = g })
   connect_on has.Held refused own time e f = refused_comes why.Busy
   connect_on (has.Open c) refused own time e f = refused_comes why.Busy

@@ -4,7 +4,7 @@ use Rattle.std.proofs.Common.{◌≡◌, ◌⊎◌, inl, inr, ℕ, ◌+◌, List
 use Rattle.csp_conn.specs.declared.slot.Connection.{Connection}
 use Rattle.csp_conn.specs.declared.slot.Slot.TheVariants as has
 use Rattle.csp_log.specs.declared.note.Note.TheVariants as note
-use Rattle.csp_ports.specs.Asking.{is_reliable as are_reliable}
+use Rattle.csp_ports.specs.Asking.{is_reliable}
 use Rattle.csp_ports.specs.Came.{come}
 use Rattle.csp_ports.specs.PlainPorts.{PlainPorts, terms_at, with_machine}
 use Rattle.csp_ports.specs.Steps.{changed, closed_by, connected_by, given_up, reason_of, refused_by, vacated, went}
@@ -29,7 +29,7 @@ use Rattle.csp_prefix.specs.Slots.{Book, Coming, IsKept, Now, Numbering, Opens, 
 pub record IsUse (Is : Numbering → ℕ → ℕ → Now → Type 0) (m : Numbering) (ordinal app slot : ℕ) (v : View) (n : Now) : Type 0 where
   pub connection : Connection
   pub what : v.what ≡ has.Open connection
-  pub reliable : are_reliable v.terms.flags ≡ true
+  pub reliable : is_reliable v.terms.flags ≡ true
   pub counted : v.terms.ordinal ≡ ordinal
   pub ends : v.ends ≡ ends_due v.terms.wish
   pub over : v.terms.wish ≡ wish.Ended → v.machine.state ≡ Closed
@@ -189,7 +189,7 @@ module _ {Is : Numbering → ℕ → ℕ → Now → Type 0} {Tight : ℕ → Ty
 pub record IsEdge (Is : Numbering → ℕ → ℕ → Now → Type 0) (m : Numbering) (ordinal app slot : ℕ) (before : State) (r : PlainRdp) (v : View) : Type 0 where
   pub connection : Connection
   pub what : v.what ≡ has.Open connection
-  pub reliable : are_reliable v.terms.flags ≡ true
+  pub reliable : is_reliable v.terms.flags ≡ true
   pub counted : v.terms.ordinal ≡ ordinal
   pub ends : v.ends ≡ ends_due v.terms.wish
   pub over : v.terms.wish ≡ wish.Ended → before ≡ Closed

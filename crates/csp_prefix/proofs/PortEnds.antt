@@ -8,7 +8,7 @@ use Rattle.csp_conn.specs.declared.slot.Connection.{Connection}
 use Rattle.csp_conn.specs.declared.slot.Slot.{Slot}
 use Rattle.csp_conn.specs.declared.slot.Slot.TheVariants as has
 use Rattle.csp_ports.specs.Asking.{close, close_by, ending_in, held_by}
-use Rattle.csp_ports.specs.Asking.{is_reliable as are_reliable}
+use Rattle.csp_ports.specs.Asking.{is_reliable}
 use Rattle.csp_ports.specs.Came.{come, then}
 use Rattle.csp_ports.specs.PlainPorts.{PlainPorts, is_closing, machine_at, stalled_at, terms_at, with_terms}
 use Rattle.csp_ports.specs.Steps.{stepped}
@@ -78,7 +78,7 @@ still time r e = ap (λ (r : PlainRdp). rested (closing time r)) e
 module _ {o : Origin} {C : Coming} {Is : Numbering → ℕ → ℕ → Now → Type 0} (kept : IsKept o C Is)
     {m : Numbering} {ordinals : Ordinals} {books : Books} {p : PlainPorts} (app slot time : ℕ) (here : app < p.conns.apps) (there : slot < SLOTS) (none : stalled_at p app ≡ None) (g : AreGood Is m ordinals books p) where
   -- a slot with a connection
-  closed_use : (c : Connection) (b : Bool) (w : Wish) → let x = view p books app slot in x.what ≡ has.Open c → are_reliable x.terms.flags ≡ b
+  closed_use : (c : Connection) (b : Bool) (w : Wish) → let x = view p books app slot in x.what ≡ has.Open c → is_reliable x.terms.flags ≡ b
       → IsSlot Is x.what (record x.terms { wish = w }) m app slot (now_of (record x { machine = rested (closing time x.machine) }))
   closed_use c true w e f =
       let x = view p books app slot in

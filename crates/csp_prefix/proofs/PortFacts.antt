@@ -5,7 +5,7 @@ use Rattle.csp_conn.specs.declared.slot.Connection.{Connection}
 use Rattle.csp_conn.specs.declared.slot.Slot.{Slot}
 use Rattle.csp_conn.specs.declared.slot.Slot.TheVariants as has
 use Rattle.csp_log.specs.declared.event.Event.{Event}
-use Rattle.csp_ports.specs.Asking.{is_reliable as are_reliable}
+use Rattle.csp_ports.specs.Asking.{is_reliable}
 use Rattle.csp_ports.specs.Came.{Came, then}
 use Rattle.csp_ports.specs.PlainPorts.{PlainPorts, machine_at, stalled_at}
 use Rattle.csp_ports.specs.declared.origin.Origin.{Origin}
@@ -111,20 +111,20 @@ pub record IsResting (v : View) : Type 0 where
 pub record IsReliable (Is : Numbering → ℕ → ℕ → Now → Type 0) (m : Numbering) (app slot : ℕ) (v : View) : Type 0 where
   pub connection : Connection
   pub what : v.what ≡ has.Open connection
-  pub reliable : are_reliable v.terms.flags ≡ true
+  pub reliable : is_reliable v.terms.flags ≡ true
   pub holds : Is m app slot (now_of v)
 
 module _ (Is : Numbering → ℕ → ℕ → Now → Type 0) (m : Numbering) (app slot : ℕ) where
-  pub used : (w : Slot) (t : Terms) (n : Now) (c : Connection) → w ≡ has.Open c → are_reliable t.flags ≡ true → IsSlot Is w t m app slot n → Is m app slot n
+  pub used : (w : Slot) (t : Terms) (n : Now) (c : Connection) → w ≡ has.Open c → is_reliable t.flags ≡ true → IsSlot Is w t m app slot n → Is m app slot n
   used w t n c e f h = subst (λ (b : Bool). IsInUse Is b m app slot n) f (subst (λ (w : Slot). IsSlot Is w t m app slot n) e h)
 
-  pub using : (w : Slot) (t : Terms) (n : Now) (c : Connection) → w ≡ has.Open c → are_reliable t.flags ≡ true → Is m app slot n → IsSlot Is w t m app slot n
+  pub using : (w : Slot) (t : Terms) (n : Now) (c : Connection) → w ≡ has.Open c → is_reliable t.flags ≡ true → Is m app slot n → IsSlot Is w t m app slot n
   using w t n c e f h = subst (λ (w : Slot). IsSlot Is w t m app slot n) (sym e) (subst (λ (b : Bool). IsInUse Is b m app slot n) (sym f) h)
 
   pub either : (v : View) → IsSlot Is v.what v.terms m app slot (now_of v) → IsResting v ⊎ IsReliable Is m app slot v
   either v h = by_slot v.what refl
     where
-      by_flags : (c : Connection) (b : Bool) → v.what ≡ has.Open c → are_reliable v.terms.flags ≡ b → IsResting v ⊎ IsReliable Is m app slot v
+      by_flags : (c : Connection) (b : Bool) → v.what ≡ has.Open c → is_reliable v.terms.flags ≡ b → IsResting v ⊎ IsReliable Is m app slot v
       by_flags c true e f = inr (record { connection = c; what = e; reliable = f; holds = used v.what v.terms (now_of v) c e f h })
       by_flags c false e f =
           let k : IsPlain (now_of v) = subst (λ (b : Bool). IsInUse Is b m app slot (now_of v)) f (subst (λ (w : Slot). IsSlot Is w v.terms m app slot (now_of v)) e h) in
@@ -137,7 +137,7 @@ module _ (Is : Numbering → ℕ → ℕ → Now → Type 0) (m : Numbering) (ap
       by_slot has.Held e =
           let k : IsVacant (now_of v) = subst (λ (w : Slot). IsSlot Is w v.terms m app slot (now_of v)) e h in
           inl (record { machine = k.machine; waits = k.waits })
-      by_slot (has.Open c) e = by_flags c (are_reliable v.terms.flags) e refl
+      by_slot (has.Open c) e = by_flags c (is_reliable v.terms.flags) e refl
 
 -- ---- other connections are made
 
@@ -149,7 +149,7 @@ module _ {o : Origin} {C : Coming} {Is : Numbering → ℕ → ℕ → Now → T
   grown_slot : (w : Slot) (t : Terms) (old new : Numbering) (app slot : ℕ) (n : Now) → GoesOn old new → IsSlot Is w t old app slot n → IsSlot Is w t new app slot n
   grown_slot has.Free t old new app slot n g h = h
   grown_slot has.Held t old new app slot n g h = h
-  grown_slot (has.Open c) t old new app slot n g h = grown_use (are_reliable t.flags) old new app slot n g h
+  grown_slot (has.Open c) t old new app slot n g h = grown_use (is_reliable t.flags) old new app slot n g h
 
   pub grown_but : {Tight : ℕ → Type 0} {old : Numbering} {ordinals : Ordinals} {books : Books} {p : PlainPorts} {app slot : ℕ} {v : View} (new : Numbering) → GoesOn old new → new.made ≡ old.made + 1 → AreFineBut Is Tight old ordinals books p app slot v
       → AreFineBut Is Tight new ordinals books (record p { made = p.made + 1 }) app slot v

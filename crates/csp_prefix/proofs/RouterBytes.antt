@@ -14,7 +14,8 @@ use Rattle.csp_header.specs.Word.{header_at, word_of}
 use Rattle.csp_header.specs.declared.word.Header.{Header}
 use Rattle.csp_rdp_header.specs.Head.{head_bytes, head_of, parted}
 use Rattle.csp_rdp_header.specs.declared.head.RdpHead.{RdpHead}
-use Rattle.csp_stack.specs.Readings.{is_checked, is_reliable}
+use Rattle.csp_ports.specs.Asking.{is_reliable}
+use Rattle.csp_stack.specs.Readings.{is_checked}
 use Rattle.csp_prefix.specs.Flows.{with_checksum}
 use Rattle.csp_prefix.proofs.RouterStanding.{unwrapped}
 
@@ -60,5 +61,5 @@ checked_flag h = ap (λ n. n == 1) (flag_bit (word_of h % 256) h.flags.0 (omega 
 second_bit : (n m : ℕ) → n % 4 ≡ m % 4 → bit_and n 2 ≡ bit_and m 2
 second_bit n m e = sym (and_assoc 2 n 3) ∙ ap (λ k. bit_and k 2) (and_mask n 2 ∙ e ∙ sym (and_mask m 2)) ∙ and_assoc 2 m 3
 
-pub reliable_flag : (h : Header) → is_reliable (header_at (word_of h)) ≡ is_reliable h
+pub reliable_flag : (h : Header) → is_reliable (header_at (word_of h)).flags.0 ≡ is_reliable h.flags.0
 reliable_flag h = ap (λ n. n == 2) (second_bit (word_of h % 256) h.flags.0 (omega arith))

@@ -1,6 +1,6 @@
 -- what comes of a packet that a router hears
 use Rattle.std.proofs.Common.{◌≡◌, inl, inr, ℕ, ◌+◌, ◌-◌, ◌*◌, ◌/◌, ◌%◌, ◌<◌, ◌==◌, ◌||◌, not, Bool, true, false, Option, None, Some, List, [], ◌∷◌, length, take, drop, get_or, refl, sym, ap, ◌∙◌, subst, arith}
-use Rattle.std.specs.Prelude.{IfSome, Result, Ok, Err}
+use Rattle.std.specs.Prelude.{IfSome, Result, Ok, Err, if◌then◌else◌}
 use Rattle.std.specs.List.{AllByRecursion, position}
 use Rattle.std.specs.Option.{option_map}
 use Rattle.std.proofs.lemmas.List.{get_or-drop, get_or-take, length-take}
@@ -23,7 +23,7 @@ use Rattle.csp_log.specs.declared.event.Discard.{Discard}
 use Rattle.csp_log.specs.declared.event.Discard.TheVariants as why
 use Rattle.csp_log.specs.declared.event.Event.{Event}
 use Rattle.csp_log.specs.declared.event.Event.TheVariants as event
-use Rattle.csp_ports.specs.Asking.{is_reliable as are_reliable}
+use Rattle.csp_ports.specs.Asking.{is_reliable}
 use Rattle.csp_ports.specs.Packets.{handing, invited}
 use Rattle.csp_ports.specs.PlainPorts.{machine_at, terms_at}
 use Rattle.csp_ports.specs.declared.handing.Invitation.{Invitation}
@@ -35,6 +35,7 @@ use Rattle.csp_rdp_header.specs.declared.head.TheConstants.{ACK, RST, SYN}
 use Rattle.csp_rdp_header.specs.declared.options.Options.{Options}
 use Rattle.csp_record.specs.Connections.{opened_by}
 use Rattle.csp_record.proofs.Ordinals.{Ends}
+use Rattle.csp_route.specs.Routes.{route_of}
 use Rattle.csp_route.specs.declared.row.Row.{Row}
 use Rattle.csp_service.specs.Answers.{answered}
 use Rattle.csp_service.specs.declared.answers.Served.{Served}
@@ -43,9 +44,11 @@ use Rattle.csp_socket.specs.Bound.{owner_of}
 use Rattle.csp_service.specs.Facts.{PlainFacts}
 use Rattle.csp_service.specs.declared.stats.Count.TheVariants as count
 use Rattle.csp_stack.specs.Counting.{counting}
-use Rattle.csp_stack.specs.Readings.{is_checked, is_here, is_reliable, is_secured, lacks}
+use Rattle.csp_stack.proofs.Unmoved.{by_rest, heard_here}
+use Rattle.csp_stack.specs.Comes.{heard_at_port, heard_at_socket, heard_elsewhere}
+use Rattle.csp_stack.specs.Readings.{is_checked, is_here, is_secured}
 use Rattle.csp_stack.specs.Router.{Facts, Leaving, State, origin_of}
-use Rattle.csp_stack.specs.Rules.{Arrival, accepting, answer_flags, arrival, asked_by, asked_with, at_socket, by_answer, by_checksum, by_connection, by_destination, by_row, by_security, by_service, by_socket, by_transport, by_way, connection_of, heard, heard_at_port, heard_at_socket, heard_elsewhere, heard_here, invitation_in, inviting, is_mixed, differs, onward, owner_for, sent, sent_by, slot_for, slot_of, to_connection, to_itself, to_machine, to_slot}
+use Rattle.csp_stack.specs.Rules.{◌>>=◌, Arrival, Decided, Left, accepting, answer_flags, arrival, asked_by, asked_with, by_answer, by_connection, by_row, by_service, by_socket, connection_of, differs, forwarded, heard, invitation_in, inviting, is_lacking, is_mixed, opening, sent, sent_by, slot_of, to_connection, to_itself, to_machine, to_slot, with_payload}
 use Rattle.csp_stack.specs.Sending.{protected}
 use Rattle.csp_stack.specs.Serving.{facts_of, reply_header, reply_in, with_facts}
 use Rattle.csp_stack.specs.Told.{Told, discarded, leaving, spent, unchanged}
@@ -94,7 +97,7 @@ free_there c app slot e =
     (few, sym here ∙ is_free-free _ seen.1)
 
 -- ---- the flags of an answer
-answer_reliable : (h : Header) → are_reliable (answer_flags h) ≡ is_reliable h
+answer_reliable : (h : Header) → is_reliable (answer_flags h) ≡ is_reliable h.flags.0
 answer_reliable h = ap (λ n. n == 2) (and_assoc 2 h.flags.0 3)
 
 -- ---- what services report opens nothing
@@ -112,7 +115,7 @@ reply_untraced : (f : Facts) (h : Header) (b : Content) (bytes : List ℕ) → (
 reply_untraced f h b bytes = ap (λ t. t.tag) (protected_trace (is_checked (reply_header f h)) _)
 
 -- a reply is of no connection: of the flags it keeps that of a checksum alone
-reply_unreliable : (f : Facts) (h : Header) (b : Content) (bytes : List ℕ) → is_reliable (header_at (reply_in f h b bytes).header) ≡ false
+reply_unreliable : (f : Facts) (h : Header) (b : Content) (bytes : List ℕ) → is_reliable (header_at (reply_in f h b bytes).header).flags.0 ≡ false
 reply_unreliable f h b bytes = reliable_flag (reply_header f h) ∙ ap (λ n. n == 2) (and_assoc 2 h.flags.0 1 ∙ and_zero_r h.flags.0)
 
 module _ (g : Aim) (f : Facts) (whole : Past) (k : IsAim g f whole) where
@@ -142,21 +145,25 @@ module _ (g : Aim) (f : Facts) (whole : Past) (k : IsAim g f whole) where
   stands_sent h s b w good = sent_so _ _ h s b w good
 
   -- ---- the rules, from the first on
-  by_destination_so : (here : Bool) (row : Option Row) (h : Past) (s : State) (p : Arrival) (next : Arrival → Told) → g.hears p.buffer → Stands g f h s.ports s.out → (here ≡ true → Quietly h (next p)) → Quietly h (onward (by_destination here row s p) next)
-  by_destination_so false None h s p next hears w rest = stands_discarded h s why.NoRoute p.buffer w
-  by_destination_so false (Some row) h s p next hears w rest = by_back (row.iface == p.mark)
+  forwarded_so : (row : Option Row) (h : Past) (s : State) (p : Arrival) → g.hears p.buffer → Stands g f h s.ports s.out → Quietly h (forwarded row s p)
+  forwarded_so None h s p hears w = stands_discarded h s why.NoRoute p.buffer w
+  forwarded_so (Some row) h s p hears w = by_back (row.iface == p.mark)
     where
-      by_back : (back : Bool) → Quietly h (onward (Err (by_way back row s p)) next)
+      by_back : (back : Bool) → Quietly h (if back then discarded s why.BackOut p.buffer else leaving s (by_row row p.buffer))
       by_back true = stands_discarded h s why.BackOut p.buffer w
       by_back false = stands_leaving h s (by_row row p.buffer) w (inr hears)
-  by_destination_so true row h s p next hears w rest = rest refl
 
-  by_security_so : (secured : Bool) (h : Past) (s : State) (p : Arrival) (next : Arrival → Told) → Stands g f h s.ports s.out → Quietly h (next p) → Quietly h (onward (by_security secured s p) next)
-  by_security_so true h s p next w rest = stands_discarded h (counting s p.mark count.AuthErrors 1) why.Refused p.buffer w
-  by_security_so false h s p next w rest = rest
+  for_this_node_so : (here : Bool) (t : Told) (h : Past) (p : Arrival) (next : Arrival → Told) → Quietly h t → (here ≡ true → Quietly h (next p)) → Quietly h ((if here then Left p else Decided t) >>= next)
+  for_this_node_so false t h p next told rest = told
+  for_this_node_so true t h p next told rest = rest refl
+
+  -- a rule of one test
+  by_test_so : (decides : Bool) (t : Told) (h : Past) (p : Arrival) (next : Arrival → Told) → Quietly h t → Quietly h (next p) → Quietly h ((if decides then Decided t else Left p) >>= next)
+  by_test_so true t h p next told rest = told
+  by_test_so false t h p next told rest = rest
 
   by_checksum_so : (checked : Bool) (o : Option (List ℕ)) (h : Past) (s : State) (p : Arrival) (next : Arrival → Told) → payload_of p.buffer.payload ≡ o → Stands g f h s.ports s.out
-      → ((bytes : List ℕ) → unwrapped checked p.buffer.payload ≡ Some bytes → Quietly h (next (record p { buffer = record p.buffer { payload = bytes } }))) → Quietly h (onward (by_checksum checked o s p) next)
+      → ((bytes : List ℕ) → unwrapped checked p.buffer.payload ≡ Some bytes → Quietly h (next (record p { buffer = record p.buffer { payload = bytes } }))) → Quietly h ((if checked then with_payload o s p else Left p) >>= next)
   by_checksum_so true None h s p next e w rest = stands_discarded h (counting s p.mark count.ReceiveErrors 1) why.CrcWrong p.buffer w
   by_checksum_so true (Some bytes) h s p next e w rest = rest bytes e
   by_checksum_so false o h s p next e w rest = rest p.buffer.payload refl
@@ -165,14 +172,14 @@ module _ (g : Aim) (f : Facts) (whole : Past) (k : IsAim g f whole) where
   abbrev after_checksum : ℕ → Content → List ℕ → Arrival
   after_checksum mark b bytes = record { mark = mark; head = header_at b.header; buffer = record b { payload = bytes } }
 
-  plain_opened : (h : Past) (s : State) (w : Stands g f h s.ports s.out) (c : Connection) (app slot : ℕ) → IsFound s.ports.conns c app slot → are_reliable (terms_at s.ports app slot).flags ≡ false → (w.books app slot).opened ≡ Some (None, None)
+  plain_opened : (h : Past) (s : State) (w : Stands g f h s.ports s.out) (c : Connection) (app slot : ℕ) → IsFound s.ports.conns c app slot → is_reliable (terms_at s.ports app slot).flags ≡ false → (w.books app slot).opened ≡ Some (None, None)
   plain_opened h s w c app slot x plain =
       let one = w.good.slots app slot x.app_there x.slot_there in
       let used = subst (λ o. IsSlot g.is o (terms_at s.ports app slot) w.numbering app slot (now_at s.ports w.books app slot)) x.is_open one in
       (subst (λ r. IsInUse g.is r w.numbering app slot (now_at s.ports w.books app slot)) plain used).opened
 
-  to_machine_so : (o : Option (List ℕ × RdpHead)) (h : Past) (s : State) (app slot time mark : ℕ) (b : Content) (bytes : List ℕ) → parted bytes ≡ o → g.hears b → is_here f.addr (header_at b.header) ≡ true → is_reliable (header_at b.header) ≡ true → unwrapped (is_checked (header_at b.header)) b.payload ≡ Some bytes
-      → IsFound s.ports.conns (connection_of (header_at b.header)) app slot → are_reliable (terms_at s.ports app slot).flags ≡ true → Stands g f h s.ports s.out → Quietly h (to_machine o s app slot time (after_checksum mark b bytes))
+  to_machine_so : (o : Option (List ℕ × RdpHead)) (h : Past) (s : State) (app slot time mark : ℕ) (b : Content) (bytes : List ℕ) → parted bytes ≡ o → g.hears b → is_here f.addr (header_at b.header) ≡ true → is_reliable (header_at b.header).flags.0 ≡ true → unwrapped (is_checked (header_at b.header)) b.payload ≡ Some bytes
+      → IsFound s.ports.conns (connection_of (header_at b.header)) app slot → is_reliable (terms_at s.ports app slot).flags ≡ true → Stands g f h s.ports s.out → Quietly h (to_machine o s app slot time (after_checksum mark b bytes))
   to_machine_so None h s app slot time mark b bytes e hears here rdp un x reliable w = stands_discarded h s why.Malformed (record b { payload = bytes }) w
   to_machine_so (Some read) h s app slot time mark b bytes e hears here rdp un x reliable w = λ fresh.
       stands_comes g f h s.ports s.out w w.numbering (handing s.ports app slot read.1 (record b { payload = read.0 }) time) (record { more = omega arith; same = λ n lt. refl }) k.grows
@@ -181,25 +188,31 @@ module _ (g : Aim) (f : Facts) (whole : Past) (k : IsAim g f whole) where
       (subst (λ o. g.coming.fed (connection_in o) (machine_at s.ports app slot) read.1 b.trace.tag read.0) (sym x.is_open)
       (k.feeds b bytes (machine_at s.ports app slot) read hears (record { here = here; reliable = rdp; is_unwrapped = un; is_parted = e }) fresh.0)) w.good)
 
-  to_connection_so : (reliable : Bool) (h : Past) (s : State) (app slot time mark : ℕ) (b : Content) (bytes : List ℕ) → is_reliable (header_at b.header) ≡ reliable → g.hears b → is_here f.addr (header_at b.header) ≡ true → unwrapped (is_checked (header_at b.header)) b.payload ≡ Some bytes
-      → IsFound s.ports.conns (connection_of (header_at b.header)) app slot → differs reliable (terms_at s.ports app slot).flags ≡ false → Stands g f h s.ports s.out → Quietly h (to_connection reliable s app slot time (after_checksum mark b bytes))
+  to_connection_so : (reliable : Bool) (h : Past) (s : State) (app slot time mark : ℕ) (b : Content) (bytes : List ℕ) → is_reliable (header_at b.header).flags.0 ≡ reliable → g.hears b → is_here f.addr (header_at b.header) ≡ true → unwrapped (is_checked (header_at b.header)) b.payload ≡ Some bytes
+      → IsFound s.ports.conns (connection_of (header_at b.header)) app slot → differs reliable (is_reliable (terms_at s.ports app slot).flags) ≡ false → Stands g f h s.ports s.out
+      → Quietly h (if reliable then to_machine (parted bytes) s app slot time (after_checksum mark b bytes) else leaving s (to_slot app slot (record b { payload = bytes })))
   to_connection_so false h s app slot time mark b bytes rdp hears here un x same w =
       stands_leaving h s (to_slot app slot (record b { payload = bytes })) w (subst (λ a. app < a) w.apps x.app_there, x.slot_there, plain_opened h s w (connection_of (header_at b.header)) app slot x same)
   to_connection_so true h s app slot time mark b bytes rdp hears here un x same w =
-      to_machine_so (parted bytes) h s app slot time mark b bytes refl hears here rdp un x (not_false (are_reliable (terms_at s.ports app slot).flags) same) w
+      to_machine_so (parted bytes) h s app slot time mark b bytes refl hears here rdp un x (not_false (is_reliable (terms_at s.ports app slot).flags) same) w
     where
       not_false : (t : Bool) → not t ≡ false → t ≡ true
       not_false true e = refl
       not_false false e = absurd cc
 
-  by_connection_so : (at : Option (ℕ × ℕ)) (mixed short : Bool) (h : Past) (s : State) (time mark : ℕ) (b : Content) (bytes : List ℕ) (next : Arrival → Told) → g.hears b → is_here f.addr (header_at b.header) ≡ true → unwrapped (is_checked (header_at b.header)) b.payload ≡ Some bytes
-      → slot_of s (after_checksum mark b bytes) ≡ at → is_mixed s.ports at (header_at b.header) ≡ mixed → Stands g f h s.ports s.out → Quietly h (next (after_checksum mark b bytes))
-      → Quietly h (onward (by_connection at mixed short s time (after_checksum mark b bytes)) next)
-  by_connection_so None mixed short h s time mark b bytes next hears here un e same w rest = rest
-  by_connection_so (Some at) true short h s time mark b bytes next hears here un e same w rest = stands_discarded h s why.Mixed (record b { payload = bytes }) w
-  by_connection_so (Some at) false true h s time mark b bytes next hears here un e same w rest = stands_discarded h s why.Required (record b { payload = bytes }) w
-  by_connection_so (Some at) false false h s time mark b bytes next hears here un e same w rest =
-      to_connection_so (is_reliable (header_at b.header)) h s at.0 at.1 time mark b bytes refl hears here un (found_there s.ports.conns (connection_of (header_at b.header)) at w.good.conns e) same w
+  at_connection_so : (mixed lacking : Bool) (at : ℕ × ℕ) (h : Past) (s : State) (time mark : ℕ) (b : Content) (bytes : List ℕ) → is_mixed s at (after_checksum mark b bytes) ≡ mixed → Stands g f h s.ports s.out
+      → (is_mixed s at (after_checksum mark b bytes) ≡ false → Quietly h (to_connection s at.0 at.1 time (after_checksum mark b bytes)))
+      → Quietly h (if mixed then discarded s why.Mixed (record b { payload = bytes }) else if lacking then discarded s why.Required (record b { payload = bytes }) else to_connection s at.0 at.1 time (after_checksum mark b bytes))
+  at_connection_so true lacking at h s time mark b bytes e w rest = stands_discarded h s why.Mixed (record b { payload = bytes }) w
+  at_connection_so false true at h s time mark b bytes e w rest = stands_discarded h s why.Required (record b { payload = bytes }) w
+  at_connection_so false false at h s time mark b bytes e w rest = rest e
+
+  by_connection_so : (at : Option (ℕ × ℕ)) (h : Past) (s : State) (time mark : ℕ) (b : Content) (bytes : List ℕ) (next : Arrival → Told) → g.hears b → is_here f.addr (header_at b.header) ≡ true → unwrapped (is_checked (header_at b.header)) b.payload ≡ Some bytes
+      → slot_of s (after_checksum mark b bytes) ≡ at → Stands g f h s.ports s.out → Quietly h (next (after_checksum mark b bytes)) → Quietly h (by_connection at s time (after_checksum mark b bytes) >>= next)
+  by_connection_so None h s time mark b bytes next hears here un e w rest = rest
+  by_connection_so (Some at) h s time mark b bytes next hears here un e w rest =
+      at_connection_so (is_mixed s at (after_checksum mark b bytes)) (is_lacking s (after_checksum mark b bytes)) at h s time mark b bytes refl w λ same.
+      (to_connection_so (is_reliable (header_at b.header).flags.0) h s at.0 at.1 time mark b bytes refl hears here un (found_there s.ports.conns (connection_of (header_at b.header)) at w.good.conns e) same w)
 
   -- ---- 5. a packet to a bound port
   free_blank : (h : Past) (s : State) (w : Stands g f h s.ports s.out) (app slot : ℕ) → app < s.ports.conns.apps → slot < SLOTS → slot_at s.ports.conns app slot ≡ has.Free → (w.books app slot).opened ≡ None
@@ -207,7 +220,7 @@ module _ (g : Aim) (f : Facts) (whole : Past) (k : IsAim g f whole) where
       let vacant = subst (λ o. IsSlot g.is o (terms_at s.ports app slot) w.numbering app slot (now_at s.ports w.books app slot)) free (w.good.slots app slot few low) in
       ap (λ (b : Book). b.opened) vacant.0.book
 
-  accepting_so : (o : Option ℕ) (h : Past) (s : State) (app : ℕ) (p : Arrival) → first_free s.ports.conns app ≡ o → app < s.ports.conns.apps → is_reliable p.head ≡ false → Stands g f h s.ports s.out → Quietly h (accepting o s app p)
+  accepting_so : (o : Option ℕ) (h : Past) (s : State) (app : ℕ) (p : Arrival) → first_free s.ports.conns app ≡ o → app < s.ports.conns.apps → is_reliable p.head.flags.0 ≡ false → Stands g f h s.ports s.out → Quietly h (accepting o s app p)
   accepting_so None h s app p e few plain w = stands_discarded h s why.NoSlot p.buffer w
   accepting_so (Some slot) h s app p e few plain w = λ fresh.
       let there = free_there s.ports.conns app slot e in
@@ -235,12 +248,12 @@ module _ (g : Aim) (f : Facts) (whole : Past) (k : IsAim g f whole) where
   asked_by_so true true b bytes read e hears known = tt
   asked_by_so true false b bytes read e hears known = asked_with_so (header_at b.header) (judged read.0) read.1 b.trace.tag e (k.asks b bytes read hears known e)
 
-  invitation_so : (o : Option (List ℕ × RdpHead)) (b : Content) (bytes : List ℕ) → parted bytes ≡ o → g.hears b → is_here f.addr (header_at b.header) ≡ true → is_reliable (header_at b.header) ≡ true → unwrapped (is_checked (header_at b.header)) b.payload ≡ Some bytes → IsAsked (header_at b.header) (invitation_in o b.trace.tag)
+  invitation_so : (o : Option (List ℕ × RdpHead)) (b : Content) (bytes : List ℕ) → parted bytes ≡ o → g.hears b → is_here f.addr (header_at b.header) ≡ true → is_reliable (header_at b.header).flags.0 ≡ true → unwrapped (is_checked (header_at b.header)) b.payload ≡ Some bytes → IsAsked (header_at b.header) (invitation_in o b.trace.tag)
   invitation_so None b bytes q hears here rdp un = tt
   invitation_so (Some read) b bytes q hears here rdp un =
       asked_by_so (has_flag read.1 SYN) (has_flag read.1 ACK || has_flag read.1 RST) b bytes read refl hears (record { here = here; reliable = rdp; is_unwrapped = un; is_parted = q })
 
-  inviting_so : (r : Result Invitation Discard) (o : Option ℕ) (h : Past) (s : State) (app time : ℕ) (p : Arrival) → IsAsked p.head r → first_free s.ports.conns app ≡ o → app < s.ports.conns.apps → is_reliable p.head ≡ true → Stands g f h s.ports s.out
+  inviting_so : (r : Result Invitation Discard) (o : Option ℕ) (h : Past) (s : State) (app time : ℕ) (p : Arrival) → IsAsked p.head r → first_free s.ports.conns app ≡ o → app < s.ports.conns.apps → is_reliable p.head.flags.0 ≡ true → Stands g f h s.ports s.out
       → Quietly h (inviting r o f s app time p)
   inviting_so (Err reason) o h s app time p so e few reliable w = stands_discarded h s reason p.buffer w
   inviting_so (Ok i) None h s app time p so e few reliable w = stands_discarded h s why.NoSlot p.buffer w
@@ -250,20 +263,25 @@ module _ (g : Aim) (f : Facts) (whole : Past) (k : IsAim g f whole) where
       let done = k.ports.invites w.numbering h.ends w.books s.ports app slot (connection_of p.head) p.head.prio (answer_flags p.head) i time few there.0 there.1 (answer_reliable p.head ∙ reliable) so.0 so.1 w.good in
       stands_comes g f h s.ports s.out w done.after c done.goes_on k.grows done.comes
 
-  at_socket_so : (reliable : Bool) (h : Past) (s : State) (app time mark : ℕ) (b : Content) (bytes : List ℕ) → is_reliable (header_at b.header) ≡ reliable → g.hears b → is_here f.addr (header_at b.header) ≡ true → unwrapped (is_checked (header_at b.header)) b.payload ≡ Some bytes
-      → app < s.ports.conns.apps → Stands g f h s.ports s.out → Quietly h (at_socket reliable (first_free s.ports.conns app) f s app time (after_checksum mark b bytes))
-  at_socket_so false h s app time mark b bytes e hears here un few w = accepting_so (first_free s.ports.conns app) h s app (after_checksum mark b bytes) refl few e w
-  at_socket_so true h s app time mark b bytes e hears here un few w =
+  opening_so : (reliable : Bool) (h : Past) (s : State) (app time mark : ℕ) (b : Content) (bytes : List ℕ) → is_reliable (header_at b.header).flags.0 ≡ reliable → g.hears b → is_here f.addr (header_at b.header) ≡ true → unwrapped (is_checked (header_at b.header)) b.payload ≡ Some bytes
+      → app < s.ports.conns.apps → Stands g f h s.ports s.out
+      → Quietly h (if reliable then inviting (invitation_in (parted bytes) b.trace.tag) (first_free s.ports.conns app) f s app time (after_checksum mark b bytes) else accepting (first_free s.ports.conns app) s app (after_checksum mark b bytes))
+  opening_so false h s app time mark b bytes e hears here un few w = accepting_so (first_free s.ports.conns app) h s app (after_checksum mark b bytes) refl few e w
+  opening_so true h s app time mark b bytes e hears here un few w =
       inviting_so (invitation_in (parted bytes) b.trace.tag) (first_free s.ports.conns app) h s app time (after_checksum mark b bytes) (invitation_so (parted bytes) b bytes refl hears here e un) refl few e w
 
-  by_socket_so : (owner : Option (ℕ × ℕ)) (short : Bool) (h : Past) (s : State) (time mark : ℕ) (b : Content) (bytes : List ℕ) (next : Arrival → Told) → owner_of s.ports.bound (header_at b.header).dport ≡ owner → g.hears b → is_here f.addr (header_at b.header) ≡ true
-      → unwrapped (is_checked (header_at b.header)) b.payload ≡ Some bytes → Stands g f h s.ports s.out → Quietly h (next (after_checksum mark b bytes))
-      → Quietly h (onward (by_socket owner short (slot_for s.ports owner) f s time (after_checksum mark b bytes)) next)
-  by_socket_so None short h s time mark b bytes next e hears here un w rest = rest
-  by_socket_so (Some owner) true h s time mark b bytes next e hears here un w rest = stands_discarded h s why.Required (record b { payload = bytes }) w
-  by_socket_so (Some owner) false h s time mark b bytes next e hears here un w rest =
+  at_socket_so : (lacking : Bool) (h : Past) (s : State) (app time mark : ℕ) (b : Content) (bytes : List ℕ) → Stands g f h s.ports s.out → Quietly h (opening app f s time (after_checksum mark b bytes))
+      → Quietly h (if lacking then discarded s why.Required (record b { payload = bytes }) else opening app f s time (after_checksum mark b bytes))
+  at_socket_so true h s app time mark b bytes w rest = stands_discarded h s why.Required (record b { payload = bytes }) w
+  at_socket_so false h s app time mark b bytes w rest = rest
+
+  by_socket_so : (owner : Option (ℕ × ℕ)) (h : Past) (s : State) (time mark : ℕ) (b : Content) (bytes : List ℕ) (next : Arrival → Told) → owner_of s.ports.bound (header_at b.header).dport ≡ owner → g.hears b → is_here f.addr (header_at b.header) ≡ true
+      → unwrapped (is_checked (header_at b.header)) b.payload ≡ Some bytes → Stands g f h s.ports s.out → Quietly h (next (after_checksum mark b bytes)) → Quietly h (by_socket owner f s time (after_checksum mark b bytes) >>= next)
+  by_socket_so None h s time mark b bytes next e hears here un w rest = rest
+  by_socket_so (Some owner) h s time mark b bytes next e hears here un w rest =
       let few : owner.0 < s.ports.conns.apps = subst (λ o. IfSome o (λ x. x.0 < s.ports.conns.apps)) e (w.good.owners (header_at b.header).dport) in
-      at_socket_so (is_reliable (header_at b.header)) h s owner.0 time mark b bytes refl hears here un few w
+      at_socket_so (is_lacking s (after_checksum mark b bytes)) h s owner.0 time mark b bytes w
+      (opening_so (is_reliable (header_at b.header).flags.0) h s owner.0 time mark b bytes refl hears here un few w)
 
   -- ---- 6. a request to a service
   by_answer_so : (o : Served) (reply : List ℕ) (h : Past) (s : State) (p : Arrival) → IsMute o → Stands g f h s.ports s.out → Quietly h (by_answer o reply f s p)
@@ -272,18 +290,15 @@ module _ (g : Aim) (f : Facts) (whole : Past) (k : IsAim g f whole) where
   by_answer_so (Refused error) reply h s p mute w = stands_discarded h s why.Malformed p.buffer w
   by_answer_so NoService reply h s p mute w = stands_discarded h s why.NoSocket p.buffer w
 
-  by_transport_so : (reliable : Bool) (h : Past) (s : State) (p : Arrival) (next : Arrival → Told) → Stands g f h s.ports s.out → Quietly h (next p) → Quietly h (onward (by_transport reliable s p) next)
-  by_transport_so true h s p next w rest = stands_discarded h s why.NoSocket p.buffer w
-  by_transport_so false h s p next w rest = rest
-
   -- ---- all rules
   pub stands_heard : (h : Past) (s : State) (time mark : ℕ) (b : Content) → ((port : ℕ) (request : List ℕ) (time : ℕ) (facts : PlainFacts) → IsMute (answered port request facts time).served) → g.hears b → Stands g f h s.ports s.out → Quietly h (heard f s time (arrival mark b))
   stands_heard h s time mark b mute hears w =
-      by_destination_so _ _ h s (arrival mark b) (λ p. heard_here f s time p) hears w λ here.
-      (by_security_so (is_secured (header_at b.header)) h s (arrival mark b) (λ p. onward (by_checksum (is_checked p.head) (payload_of p.buffer.payload) s p) (λ q. heard_at_port f s time q)) w
+      let way = route_of s.routes (header_at b.header).dst in
+      for_this_node_so (is_here f.addr (header_at b.header)) (forwarded way s (arrival mark b)) h (arrival mark b) (λ p. heard_here f s time p) (forwarded_so way h s (arrival mark b) hears w) λ here.
+      (by_test_so (is_secured (header_at b.header)) (discarded (counting s mark count.AuthErrors 1) why.Refused b) h (arrival mark b) (λ p. by_rest f s time p) (stands_discarded h (counting s mark count.AuthErrors 1) why.Refused b w)
       (by_checksum_so (is_checked (header_at b.header)) (payload_of b.payload) h s (arrival mark b) (λ q. heard_at_port f s time q) refl w (λ bytes un.
-      by_connection_so _ _ (lacks (owner_for s (after_checksum mark b bytes)) (header_at b.header)) h s time mark b bytes (λ p. heard_at_socket f s time p) hears here un refl refl w
-      (by_socket_so _ _ h s time mark b bytes (λ p. heard_elsewhere f s time p) refl hears here un w
-      (by_transport_so _ h s (after_checksum mark b bytes) (λ p. by_service f s time p) w
+      by_connection_so (slot_of s (after_checksum mark b bytes)) h s time mark b bytes (λ p. heard_at_socket f s time p) hears here un refl w
+      (by_socket_so (owner_of s.ports.bound (header_at b.header).dport) h s time mark b bytes (λ p. heard_elsewhere f s time p) refl hears here un w
+      (by_test_so (is_reliable (header_at b.header).flags.0) (discarded s why.NoSocket (record b { payload = bytes })) h (after_checksum mark b bytes) (λ p. by_service f s time p) (stands_discarded h s why.NoSocket (record b { payload = bytes }) w)
       (let o = answered (header_at b.header).dport bytes (facts_of f s) time in
       by_answer_so o.served o.reply h (with_facts s o.facts) (after_checksum mark b bytes) (mute (header_at b.header).dport bytes time (facts_of f s)) w))))))

@@ -23,7 +23,7 @@ use Rattle.csp_log.specs.declared.shown.ItemShown.{ItemShown}
 use Rattle.csp_log.specs.declared.shown.ItemShown.TheVariants as item
 use Rattle.csp_log.specs.declared.shown.OpShown.TheVariants as op
 use Rattle.csp_ports.specs.Asking.{bind, bind_by, close, connect}
-use Rattle.csp_ports.specs.Asking.{is_reliable as are_reliable}
+use Rattle.csp_ports.specs.Asking.{is_reliable}
 use Rattle.csp_ports.specs.Came.{Came}
 use Rattle.csp_ports.specs.Packets.{submitting}
 use Rattle.csp_ports.specs.PlainPorts.{PlainPorts, machine_at, stalled_at, terms_at}
@@ -40,7 +40,7 @@ use Rattle.csp_route.specs.declared.row.Row.{Row}
 use Rattle.csp_header.specs.Word.{header_at}
 use Rattle.csp_socket.specs.Bound.{owner_of}
 use Rattle.csp_socket.specs.declared.sockets.TheConstants.{BINDABLE_PORTS}
-use Rattle.csp_stack.specs.Readings.{is_checked, is_reliable}
+use Rattle.csp_stack.specs.Readings.{is_checked}
 use Rattle.csp_stack.specs.Router.{Facts, State, origin_of}
 use Rattle.csp_stack.specs.Rules.{addressed, by_mark, by_slot, header_for, on_connection, requested, sent, sent_by, served}
 use Rattle.csp_stack.specs.Told.{Told, discarded}
@@ -84,7 +84,7 @@ addressed_untraced : (f : Facts) (c : Connection) (t : Terms) (i : ℕ) (b : Con
 addressed_untraced f c t i b e = ap (λ x. x.tag) (protected_trace (is_checked (header_for f c t)) b) ∙ ap (λ x. x.tag) e
 
 -- and one of a plain connection is not of the reliable transport
-addressed_unreliable : (f : Facts) (c : Connection) (t : Terms) (b : Content) → are_reliable t.flags ≡ false → is_reliable (header_at (addressed f c t b).header) ≡ false
+addressed_unreliable : (f : Facts) (c : Connection) (t : Terms) (b : Content) → is_reliable t.flags ≡ false → is_reliable (header_at (addressed f c t b).header).flags.0 ≡ false
 addressed_unreliable f c t b plain = reliable_flag (header_for f c t) ∙ plain
 
 open_or : (s : MachineState) → (s ≡ state.Open) ⊎ (s ≢ state.Open)
@@ -123,7 +123,7 @@ module _ (g : Aim) (f : Facts) (whole : Past) (k : IsAim g f whole) where
   sent_off false (Some row) s b empty good = record { ports = refl; leaves = λ books. inl good; unsent = unsent_none; none = λ app ends. refl }
 
   -- ---- a packet for a slot
-  by_connection_so : (reliable : Bool) (c : Connection) (h : Past) (s : State) (app slot time : ℕ) (b : Content) → slot_at s.ports.conns app slot ≡ has.Open c → are_reliable (terms_at s.ports app slot).flags ≡ reliable
+  by_connection_so : (reliable : Bool) (c : Connection) (h : Past) (s : State) (app slot time : ℕ) (b : Content) → slot_at s.ports.conns app slot ≡ has.Open c → is_reliable (terms_at s.ports app slot).flags ≡ reliable
       → app < s.ports.conns.apps → slot < SLOTS → stalled_at s.ports app ≡ None → s.out ≡ None → IsUntraced (item.Packet slot b) → Stands g f h s.ports s.out → Serves h app (item.Packet slot b) (on_connection reliable c f s app slot time b)
   by_connection_so false c h s app slot time b there plain few low free empty untraced w =
       let told : ℕ = (terms_at s.ports app slot).ordinal in
@@ -182,7 +182,7 @@ module _ (g : Aim) (f : Facts) (whole : Past) (k : IsAim g f whole) where
       → IsUntraced (item.Packet slot b) → Stands g f h s.ports s.out → Serves h app (item.Packet slot b) (by_slot o f s app slot time b)
   by_slot_so has.Free h s app slot time b there few low free empty untraced w = quiet_packet h app slot b (discarded s why.NoConn b) (discarded_unsent why.NoConn) (stands_discarded g f whole k h s why.NoConn b w)
   by_slot_so has.Held h s app slot time b there few low free empty untraced w = quiet_packet h app slot b (discarded s why.NoConn b) (discarded_unsent why.NoConn) (stands_discarded g f whole k h s why.NoConn b w)
-  by_slot_so (has.Open c) h s app slot time b there few low free empty untraced w = by_connection_so (are_reliable (terms_at s.ports app slot).flags) c h s app slot time b there refl few low free empty untraced w
+  by_slot_so (has.Open c) h s app slot time b there few low free empty untraced w = by_connection_so (is_reliable (terms_at s.ports app slot).flags) c h s app slot time b there refl few low free empty untraced w
 
   by_mark_so : (unmarked : Bool) (h : Past) (s : State) (app mark time : ℕ) (b : Content) → (mark == UNMARKED) ≡ unmarked → app < s.ports.conns.apps → IsUpItem (item.Packet mark b) → stalled_at s.ports app ≡ None → s.out ≡ None
       → IsUntraced (item.Packet mark b) → g.comes (item.Packet mark b) → Stands g f h s.ports s.out → Serves h app (item.Packet mark b) (by_mark unmarked f s app mark time b)

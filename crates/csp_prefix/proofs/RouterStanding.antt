@@ -13,7 +13,7 @@ use Rattle.csp_log.specs.declared.event.Event.{Event}
 use Rattle.csp_log.specs.declared.event.Event.TheVariants as event
 use Rattle.csp_log.specs.declared.places.QueueId.{QueueId}
 use Rattle.csp_log.specs.declared.places.QueueId.TheVariants as queue
-use Rattle.csp_ports.specs.Asking.{is_reliable as are_reliable}
+use Rattle.csp_ports.specs.Asking.{is_reliable}
 use Rattle.csp_ports.specs.Came.{Came}
 use Rattle.csp_ports.specs.Packets.{handing_event}
 use Rattle.csp_ports.specs.PlainPorts.{PlainPorts, machine_at, stalled_at, terms_at}
@@ -26,7 +26,7 @@ use Rattle.csp_rdp_header.specs.Head.{has_flag, parted}
 use Rattle.csp_rdp_header.specs.declared.head.RdpHead.{RdpHead}
 use Rattle.csp_rdp_header.specs.declared.head.TheConstants.{SYN}
 use Rattle.csp_record.specs.declared.connections.Opening.{Opening}
-use Rattle.csp_stack.specs.Readings.{is_checked, is_here, is_reliable}
+use Rattle.csp_stack.specs.Readings.{is_checked, is_here}
 use Rattle.csp_stack.specs.Router.{Facts, Leaving, origin_of}
 use Rattle.csp_stack.specs.Rules.{addressed, answer_flags, connection_of}
 use Rattle.csp_prefix.specs.Ports.{AreGood, AreNew, ArePortsKept, Books, Comes, IsAskedSo, IsInUse, IsNew, IsSlot, Ordinals, connection_in, noted, noted_by, now_at, waiting_on, with_book}
@@ -64,7 +64,7 @@ pub record IsPart (h whole : Past) : Type 0 where
 -- a packet of the reliable transport was heard by its node: its payload, and what stands before its head
 pub record IsRead (f : Facts) (b : Content) (payload : List ℕ) (read : List ℕ × RdpHead) : Type 0 where
   pub here : is_here f.addr (header_at b.header) ≡ true
-  pub reliable : is_reliable (header_at b.header) ≡ true
+  pub reliable : is_reliable (header_at b.header).flags.0 ≡ true
   pub is_unwrapped : unwrapped (is_checked (header_at b.header)) b.payload ≡ Some payload
   pub is_parted : parted payload ≡ Some read
 
@@ -75,7 +75,7 @@ pub record IsAim (g : Aim) (f : Facts) (whole : Past) : Type 0 where
   pub grows : (m m' : Numbering) (app : ℕ) (x : Opening) (down : List (List ℕ)) → GoesOn m m' → g.over m app x down → g.over m' app x down
   pub never_plain : (m : Numbering) (app slot : ℕ) (n : Now) → g.is m app slot n → n.book.opened ≡ Some (None, None) → ⊥
   pub unmarked : (mark : ℕ) (b : Content) → (mark == UNMARKED) ≡ true → b.trace.tag ≡ None → g.comes (item.Packet mark b) → g.good b
-  pub unreliable : (b : Content) → b.trace.tag ≡ None → is_reliable (header_at b.header) ≡ false → g.good b
+  pub unreliable : (b : Content) → b.trace.tag ≡ None → is_reliable (header_at b.header).flags.0 ≡ false → g.good b
   pub wishes : (p : PlainPorts) (r : Request) → g.comes (item.Note (note.Connect r.slot r.dest r.port r.prio r.flags r.from)) → IsAskedSo g.coming p r
   pub makes : (h : Past) (m : Numbering) (books : Books) (p : PlainPorts) (app slot time : ℕ) (j : Job) (b : Content) (c : Connection) → IsPart h whole → Tells g.over f.apps m h books
       → (terms_at p app slot).ordinal ≡ h.ends app slot → slot_at p.conns app slot ≡ has.Open c → g.is m app slot (now_at p books app slot) → g.at (machine_at p app slot) → job_of time (machine_at p app slot) ≡ Some j
@@ -127,7 +127,7 @@ module _ (g : Aim) (f : Facts) (whole : Past) (k : IsAim g f whole) where
   over_slot : (s : Slot) (t : Terms) (m : Numbering) (app slot : ℕ) (n : Now) (how : Option ℕ × Option (ℕ × ℕ)) → IsSlot g.is s t m app slot n → n.book.opened ≡ Some how → g.over m app (opening_on slot n.ordinal how) n.book.down
   over_slot has.Free t m app slot n how is e = absurd (blank_unopened n.book how is.0.book e)
   over_slot has.Held t m app slot n how is e = absurd (blank_unopened n.book how is.book e)
-  over_slot (has.Open c) t m app slot n how is e = over_in_use (are_reliable t.flags) m app slot n how is e
+  over_slot (has.Open c) t m app slot n how is e = over_in_use (is_reliable t.flags) m app slot n how is e
 
   -- what is to be known of the present connection of a slot
   pub over_present : (h : Past) (m : Numbering) (books : Books) (p : PlainPorts) (app slot : ℕ) (how : Option ℕ × Option (ℕ × ℕ)) → AreGood g.is m h.ends books p → app < p.conns.apps → slot < SLOTS
@@ -143,7 +143,7 @@ module _ (g : Aim) (f : Facts) (whole : Past) (k : IsAim g f whole) where
   plain_slot : (s : Slot) (t : Terms) (m : Numbering) (app slot : ℕ) (n : Now) (b : Book) → IsSlot g.is s t m app slot n → n.book.opened ≡ Some (None, None) → b.opened ≡ n.book.opened → IsSlot g.is s t m app slot (record n { book = b })
   plain_slot has.Free t m app slot n b is e same = absurd (blank_unopened n.book (None, None) is.0.book e)
   plain_slot has.Held t m app slot n b is e same = absurd (blank_unopened n.book (None, None) is.book e)
-  plain_slot (has.Open c) t m app slot n b is e same = plain_in_use (are_reliable t.flags) m app slot n b is e same
+  plain_slot (has.Open c) t m app slot n b is e same = plain_in_use (is_reliable t.flags) m app slot n b is e same
 
   -- of a plain connection nothing is known but that it is open
   pub good_plain : (m : Numbering) (ordinals : Ordinals) (books : Books) (p : PlainPorts) (app slot : ℕ) (b : Book) → (books app slot).opened ≡ Some (None, None) → b.opened ≡ (books app slot).opened

@@ -17,7 +17,7 @@ use Rattle.csp_log.specs.declared.event.Event.TheVariants as event
 use Rattle.csp_log.specs.declared.note.Note.{Note}
 use Rattle.csp_log.specs.declared.note.Note.TheVariants as note
 use Rattle.csp_ports.specs.Asking.{answered, bind, close, connect}
-use Rattle.csp_ports.specs.Asking.{is_reliable as are_reliable}
+use Rattle.csp_ports.specs.Asking.{is_reliable}
 use Rattle.csp_ports.specs.Came.{Came}
 use Rattle.csp_ports.specs.Kept.{IsOwed}
 use Rattle.csp_ports.specs.Packets.{accepted, handing, invited, submitting}
@@ -123,7 +123,7 @@ pub record IsPlain (n : Now) : Type 0 where
   pub opened : n.book.opened ≡ Some (None, None)
 
 -- of a reliable one the predicate is known
-abbrev pub IsInUse : (Numbering → ℕ → ℕ → Now → Type 0) → (are_reliable : Bool) → Numbering → ℕ → ℕ → Now → Type 0
+abbrev pub IsInUse : (Numbering → ℕ → ℕ → Now → Type 0) → (is_reliable : Bool) → Numbering → ℕ → ℕ → Now → Type 0
 IsInUse Is true m app slot n = Is m app slot n
 IsInUse Is false m app slot n = IsPlain n
 
@@ -131,7 +131,7 @@ IsInUse Is false m app slot n = IsPlain n
 abbrev pub IsSlot : (Numbering → ℕ → ℕ → Now → Type 0) → Slot → Terms → Numbering → ℕ → ℕ → Now → Type 0
 IsSlot Is has.Free t m app slot n = IsVacant n × (t.wish ≡ wish.Nothing)
 IsSlot Is has.Held t m app slot n = IsVacant n
-IsSlot Is (has.Open c) t m app slot n = IsInUse Is (are_reliable t.flags) m app slot n
+IsSlot Is (has.Open c) t m app slot n = IsInUse Is (is_reliable t.flags) m app slot n
 
 -- a note is the answer to the close of a slot; it is owed to an application
 abbrev pub is_end : ℕ → Note → Bool
@@ -181,7 +181,7 @@ pub record ComesWith (Is : Numbering → ℕ → ℕ → Now → Type 0) (m : Nu
 pub record IsReliableOn (p : PlainPorts) (app slot : ℕ) : Type 0 where
   pub connection : Connection
   pub there : slot_at p.conns app slot ≡ has.Open connection
-  pub reliable : are_reliable (terms_at p app slot).flags ≡ true
+  pub reliable : is_reliable (terms_at p app slot).flags ≡ true
 
 -- a packet of an application on such a connection is sent, and the log tells so; or nothing comes of it
 pub record Submits (Is : Numbering → ℕ → ℕ → Now → Type 0) (m : Numbering) (ordinals : Ordinals) (books : Books) (p : PlainPorts) (app slot : ℕ) (b : Content) (c : Came) : Type 0 where
@@ -207,7 +207,7 @@ pub record Answers (Is : Numbering → ℕ → ℕ → Now → Type 0) (m : Numb
 
 -- a reliable connection that an application asks for is so, whatever own port it is given
 abbrev pub IsAskedSo : Coming → PlainPorts → Request → Type 0
-IsAskedSo C p r = are_reliable r.flags ≡ true → (own : ℕ) → own_port_of p.conns r.dest r.from ≡ Some own → C.asked (between r.dest r.port own) r.flags
+IsAskedSo C p r = is_reliable r.flags ≡ true → (own : ℕ) → own_port_of p.conns r.dest r.from ≡ Some own → C.asked (between r.dest r.port own) r.flags
 
 -- ---- every step of the ports keeps it
 
@@ -222,10 +222,10 @@ pub record ArePortsKept (o : Origin) (C : Coming) (Is : Numbering → ℕ → �
   pub closes : (m : Numbering) (ordinals : Ordinals) (books : Books) (p : PlainPorts) (app slot time : ℕ) → app < p.conns.apps → slot < SLOTS → stalled_at p app ≡ None
       → AreGood Is m ordinals books p → Comes Is m ordinals books p.conns.apps (close p app slot time)
   pub accepts : (m : Numbering) (ordinals : Ordinals) (books : Books) (p : PlainPorts) (app slot : ℕ) (c : Connection) (prio : Prio) (flags : ℕ) → app < p.conns.apps → slot < SLOTS
-      → slot_at p.conns app slot ≡ has.Free → are_reliable flags ≡ false
+      → slot_at p.conns app slot ≡ has.Free → is_reliable flags ≡ false
       → AreGood Is m ordinals books p → AreGood Is m ordinals (with_opened app slot (None, None) books) (accepted p app slot c prio flags)
   pub invites : (m : Numbering) (ordinals : Ordinals) (books : Books) (p : PlainPorts) (app slot : ℕ) (c : Connection) (prio : Prio) (flags : ℕ) (i : Invitation) (time : ℕ) → app < p.conns.apps → slot < SLOTS
-      → slot_at p.conns app slot ≡ has.Free → are_reliable flags ≡ true → has_flag i.head SYN ≡ true → C.invites c flags i.head i.tag
+      → slot_at p.conns app slot ≡ has.Free → is_reliable flags ≡ true → has_flag i.head SYN ≡ true → C.invites c flags i.head i.tag
       → AreGood Is m ordinals books p → ComesWith Is m ordinals books p.conns.apps (invited o p app slot c prio flags i time)
   pub hands : (m : Numbering) (ordinals : Ordinals) (books : Books) (p : PlainPorts) (app slot : ℕ) (h : RdpHead) (b : Content) (time : ℕ) → app < p.conns.apps → slot < SLOTS
       → IsReliableOn p app slot → C.fed (connection_in (slot_at p.conns app slot)) (machine_at p app slot) h b.trace.tag b.payload

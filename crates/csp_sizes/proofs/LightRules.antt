@@ -11,6 +11,7 @@ use Rattle.std.specs.Prelude.{◌==◌, ◌||◌, IfOk, IfSome, if◌then◌else
 use Rattle.csp_base.specs.Trace.{no_trace}
 use Rattle.csp_base.specs.declared.traces.Tag.{Tag}
 use Rattle.csp_buffer.specs.Content.{Content}
+use Rattle.csp_conn.specs.Opening.{first_free}
 use Rattle.csp_conn.specs.PlainConns.{slot_at}
 use Rattle.csp_conn.specs.declared.slot.Connection.{Connection}
 use Rattle.csp_conn.specs.declared.slot.Slot.TheVariants as slot
@@ -21,6 +22,7 @@ use Rattle.csp_header.specs.Word.{header_at}
 use Rattle.csp_header.specs.declared.word.Header.{Header}
 use Rattle.csp_log.specs.Weights.{item_bytes}
 use Rattle.csp_log.specs.declared.event.Discard.{Discard}
+use Rattle.csp_log.specs.declared.event.Discard.TheVariants as why
 use Rattle.csp_log.specs.declared.note.Note.TheVariants as note
 use Rattle.csp_log.specs.declared.note.Note.{Note}
 use Rattle.csp_log.specs.declared.places.QueueId.TheVariants as queue
@@ -29,7 +31,7 @@ use Rattle.csp_log.specs.declared.places.TheConstants.{UNMARKED}
 use Rattle.csp_log.specs.declared.shown.ItemShown.TheVariants as item
 use Rattle.csp_log.specs.declared.shown.ItemShown.{ItemShown}
 use Rattle.csp_ports.proofs.Counting.{all_or}
-use Rattle.csp_ports.specs.Asking.{close, connect, is_reliable as are_reliable, bind_by}
+use Rattle.csp_ports.specs.Asking.{close, connect, is_reliable, bind_by}
 use Rattle.csp_ports.specs.Came.{Came}
 use Rattle.csp_ports.specs.Packets.{handing, invited, submitting}
 use Rattle.csp_ports.specs.PlainPorts.{PlainPorts, terms_at}
@@ -60,13 +62,15 @@ use Rattle.csp_sizes.specs.Light.{AreFacts, ArePorts, IsData, IsFew, IsHeld, IsL
 use Rattle.csp_socket.specs.Bound.{owner_of}
 use Rattle.csp_socket.specs.declared.sockets.TheConstants.{BINDABLE_PORTS}
 use Rattle.csp_stack.specs.Counting.{counting, came_in, refused_by, sent_to, was_full, went_out}
-use Rattle.csp_stack.specs.Readings.{is_checked, is_here, is_reliable, is_secured, lacks}
+use Rattle.csp_stack.proofs.Unmoved.{by_rest, heard_here}
+use Rattle.csp_stack.specs.Comes.{heard_at_port, heard_at_socket, heard_elsewhere}
+use Rattle.csp_stack.specs.Readings.{is_checked, is_here, is_secured}
 use Rattle.csp_stack.specs.Router.{Facts, Leaving, State, origin_of}
 use Rattle.csp_stack.specs.Rules as rules
-use Rattle.csp_stack.specs.Rules.{Arrival, Ruling}
+use Rattle.csp_stack.specs.Rules.{◌>>=◌, Arrival, Ruling, Decided, Left}
 use Rattle.csp_stack.specs.Sending.{headed, protected}
 use Rattle.csp_stack.specs.Serving.{facts_of, reply_header, reply_in, with_facts}
-use Rattle.csp_stack.specs.Told.{Told, ported, with_ports}
+use Rattle.csp_stack.specs.Told.{Told, discarded, leaving, ported, with_ports}
 
 abbrev pub IsTold : Told → Type 0
 IsTold t = IsLightState t.state
@@ -181,30 +185,36 @@ record IsCut (p : Arrival) : Type 0 where
   short : is_checked p.head ≡ true → length p.buffer.payload ≤ 527
 
 abbrev IsRuled : (Arrival → Type 0) → Ruling → Type 0
-IsRuled P (Ok p) = P p
-IsRuled P (Err t) = IsTold t
+IsRuled P (Left p) = P p
+IsRuled P (Decided t) = IsTold t
 
-go_on : (P : Arrival → Type 0) (r : Ruling) (next : Arrival → Told) → IsRuled P r → ((p : Arrival) → P p → IsTold (next p)) → IsTold (rules.onward r next)
-go_on P (Ok p) next h each = each p h
-go_on P (Err t) next h each = h
+go_on : (P : Arrival → Type 0) (r : Ruling) (next : Arrival → Told) → IsRuled P r → ((p : Arrival) → P p → IsTold (next p)) → IsTold (r >>= next)
+go_on P (Left p) next h each = each p h
+go_on P (Decided t) next h each = h
+
+-- of two, the one that a test chooses
+either : (b : Bool) (t u : Told) → IsTold t → IsTold u → IsTold (if b then t else u)
+either true t u one other = one
+either false t u one other = other
+
+-- a rule of one test
+go_if : (P : Arrival → Type 0) (b : Bool) (t : Told) (p : Arrival) → IsTold t → P p → IsRuled P (if b then Decided t else Left p)
+go_if P true t p told left = told
+go_if P false t p told left = left
 
 abbrev Arrives : Arrival → Type 0
 Arrives p = IsLight p.buffer
 
-way_light : (back : Bool) (row : Row) (s : State) (p : Arrival) → Arrives p → IsLightState s → IsTold (rules.by_way back row s p)
-way_light true row s p light h = trashed s p.buffer light h
-way_light false row s p light h = leaves s (rules.by_row row p.buffer) light h
+forwarded_light : (row : Option Row) (s : State) (p : Arrival) → Arrives p → IsLightState s → IsTold (rules.forwarded row s p)
+forwarded_light None s p light h = trashed s p.buffer light h
+forwarded_light (Some row) s p light h =
+    either (row.iface == p.mark) (discarded s why.BackOut p.buffer) (leaving s (rules.by_row row p.buffer)) (trashed s p.buffer light h) (leaves s (rules.by_row row p.buffer) light h)
 
-go_destination : (here : Bool) (row : Option Row) (s : State) (p : Arrival) → Arrives p → IsLightState s → IsRuled Arrives (rules.by_destination here row s p)
-go_destination false None s p light h = trashed s p.buffer light h
-go_destination false (Some row) s p light h = way_light (row.iface == p.mark) row s p light h
-go_destination true row s p light h = light
+go_destination : (here : Bool) (t : Told) (p : Arrival) → Arrives p → IsTold t → IsRuled Arrives (if here then Left p else Decided t)
+go_destination true t p light told = light
+go_destination false t p light told = told
 
-go_security : (secured : Bool) (s : State) (p : Arrival) → Arrives p → IsLightState s → IsRuled Arrives (rules.by_security secured s p)
-go_security true s p light h = trashed (counting s p.mark count.AuthErrors 1) p.buffer light (counting_light s p.mark count.AuthErrors 1 h)
-go_security false s p light h = light
-
-go_checksum : (c : Bool) (o : Option (List ℕ)) (s : State) (p : Arrival) → is_checked p.head ≡ c → payload_of p.buffer.payload ≡ o → Arrives p → IsLightState s → IsRuled IsCut (rules.by_checksum c o s p)
+go_checksum : (c : Bool) (o : Option (List ℕ)) (s : State) (p : Arrival) → is_checked p.head ≡ c → payload_of p.buffer.payload ≡ o → Arrives p → IsLightState s → IsRuled IsCut (if c then rules.with_payload o s p else Left p)
 go_checksum true None s p e cut light h = trashed (counting s p.mark count.ReceiveErrors 1) p.buffer light (counting_light s p.mark count.ReceiveErrors 1 h)
 go_checksum true (Some payload) s p e cut light h = let less = cut_short p.buffer.payload payload cut in record { light = omega (arith, less, light); short = λ e. omega (arith, less, light) }
 go_checksum false o s p e cut light h = record { light = light; short = λ is. absurd (false≢true (sym e ∙ is)) }
@@ -215,15 +225,17 @@ go_machine (Some read) s app number time p less light h =
     ported_light s (handing s.ports app number read.1 (record p.buffer { payload = read.0 }) time)
     (handing_light s.ports app number read.1 (record p.buffer { payload = read.0 }) time (omega (arith, less, light)) h.ports) h
 
-go_connection : (reliable : Bool) (s : State) (app number time : ℕ) (p : Arrival) → Arrives p → IsLightState s → IsTold (rules.to_connection reliable s app number time p)
-go_connection false s app number time p light h = leaves s (rules.to_slot app number p.buffer) light h
-go_connection true s app number time p light h = go_machine (parted p.buffer.payload) s app number time p (parted_short p.buffer.payload) light h
+go_connection : (s : State) (app number time : ℕ) (p : Arrival) → Arrives p → IsLightState s → IsTold (rules.to_connection s app number time p)
+go_connection s app number time p light h =
+    either (is_reliable p.head.flags.0) (rules.to_machine (parted p.buffer.payload) s app number time p) (leaving s (rules.to_slot app number p.buffer))
+    (go_machine (parted p.buffer.payload) s app number time p (parted_short p.buffer.payload) light h) (leaves s (rules.to_slot app number p.buffer) light h)
 
-go_by_connection : (at : Option (ℕ × ℕ)) (mixed lacking : Bool) (s : State) (time : ℕ) (p : Arrival) → IsCut p → IsLightState s → IsRuled IsCut (rules.by_connection at mixed lacking s time p)
-go_by_connection None mixed lacking s time p cut h = cut
-go_by_connection (Some at) true lacking s time p cut h = trashed s p.buffer cut.light h
-go_by_connection (Some at) false true s time p cut h = trashed s p.buffer cut.light h
-go_by_connection (Some at) false false s time p cut h = go_connection (is_reliable p.head) s at.0 at.1 time p cut.light h
+go_by_connection : (at : Option (ℕ × ℕ)) (s : State) (time : ℕ) (p : Arrival) → IsCut p → IsLightState s → IsRuled IsCut (rules.by_connection at s time p)
+go_by_connection None s time p cut h = cut
+go_by_connection (Some at) s time p cut h =
+    let required = if rules.is_lacking s p then discarded s why.Required p.buffer else rules.to_connection s at.0 at.1 time p in
+    either (rules.is_mixed s at p) (discarded s why.Mixed p.buffer) required (trashed s p.buffer cut.light h)
+    (either (rules.is_lacking s p) (discarded s why.Required p.buffer) (rules.to_connection s at.0 at.1 time p) (trashed s p.buffer cut.light h) (go_connection s at.0 at.1 time p cut.light h))
 
 go_accepting : (free : Option ℕ) (s : State) (app : ℕ) (p : Arrival) → Arrives p → IsLightState s → IsTold (rules.accepting free s app p)
 go_accepting None s app p light h = trashed s p.buffer light h
@@ -268,18 +280,16 @@ go_inviting (Ok i) (Some number) f s app time p narrow light h =
     let came = invited_light (origin_of f) s.ports app number (rules.connection_of p.head) p.head.prio (rules.answer_flags p.head) i time narrow h.ports in
     trashed (ported s c).state p.buffer light (ported_light s c came h)
 
-go_socket : (reliable : Bool) (free : Option ℕ) (f : Facts) (s : State) (app time : ℕ) (p : Arrival) → Arrives p → IsLightState s → IsTold (rules.at_socket reliable free f s app time p)
-go_socket false free f s app time p light h = go_accepting free s app p light h
-go_socket true free f s app time p light h = go_inviting (rules.invitation_of p.buffer) free f s app time p (invitation_in_narrow (parted p.buffer.payload) p.buffer.trace.tag) light h
+go_opening : (app : ℕ) (f : Facts) (s : State) (time : ℕ) (p : Arrival) → Arrives p → IsLightState s → IsTold (rules.opening app f s time p)
+go_opening app f s time p light h =
+    let free = first_free s.ports.conns app in
+    either (is_reliable p.head.flags.0) (rules.inviting (rules.invitation_of p.buffer) free f s app time p) (rules.accepting free s app p)
+    (go_inviting (rules.invitation_of p.buffer) free f s app time p (invitation_in_narrow (parted p.buffer.payload) p.buffer.trace.tag) light h) (go_accepting free s app p light h)
 
-go_by_socket : (owner : Option (ℕ × ℕ)) (lacking : Bool) (free : Option ℕ) (f : Facts) (s : State) (time : ℕ) (p : Arrival) → IsCut p → IsLightState s → IsRuled IsCut (rules.by_socket owner lacking free f s time p)
-go_by_socket None lacking free f s time p cut h = cut
-go_by_socket (Some owner) true free f s time p cut h = trashed s p.buffer cut.light h
-go_by_socket (Some owner) false free f s time p cut h = go_socket (is_reliable p.head) free f s owner.0 time p cut.light h
-
-go_transport : (reliable : Bool) (s : State) (p : Arrival) → IsCut p → IsLightState s → IsRuled IsCut (rules.by_transport reliable s p)
-go_transport true s p cut h = trashed s p.buffer cut.light h
-go_transport false s p cut h = cut
+go_by_socket : (owner : Option (ℕ × ℕ)) (f : Facts) (s : State) (time : ℕ) (p : Arrival) → IsCut p → IsLightState s → IsRuled IsCut (rules.by_socket owner f s time p)
+go_by_socket None f s time p cut h = cut
+go_by_socket (Some owner) f s time p cut h =
+    either (rules.is_lacking s p) (discarded s why.Required p.buffer) (rules.opening owner.0 f s time p) (trashed s p.buffer cut.light h) (go_opening owner.0 f s time p cut.light h)
 
 go_answer : (served : Served) (reply : List ℕ) (f : Facts) (s : State) (p : Arrival) → (is_checked p.head ≡ true → length reply ≤ 527) → length reply ≤ 531 → Arrives p → IsLightState s
     → IsTold (rules.by_answer served reply f s p)
@@ -299,36 +309,18 @@ go_service f s time p are cut h =
     cut.light
     (record { ports = h.ports; trash = h.trash; out = h.out; stats = answered_few p.head.dport p.buffer.payload (facts_of f s) time are.name h.stats cut.light })
 
-go_elsewhere : (f : Facts) (s : State) (time : ℕ) (p : Arrival) → AreFacts f → IsCut p → IsLightState s → IsTold (rules.heard_elsewhere f s time p)
-go_elsewhere f s time p are cut h =
-    go_on IsCut (rules.by_transport (is_reliable p.head) s p) (λ x. rules.by_service f s time x) (go_transport (is_reliable p.head) s p cut h) (λ x c. go_service f s time x are c h)
-
-go_at_socket : (f : Facts) (s : State) (time : ℕ) (p : Arrival) → AreFacts f → IsCut p → IsLightState s → IsTold (rules.heard_at_socket f s time p)
-go_at_socket f s time p are cut h =
-    let owner = rules.owner_for s p in
-    go_on IsCut (rules.by_socket owner (lacks owner p.head) (rules.slot_for s.ports owner) f s time p) (λ x. rules.heard_elsewhere f s time x)
-    (go_by_socket owner (lacks owner p.head) (rules.slot_for s.ports owner) f s time p cut h) (λ x c. go_elsewhere f s time x are c h)
-
-go_at_port : (f : Facts) (s : State) (time : ℕ) (p : Arrival) → AreFacts f → IsCut p → IsLightState s → IsTold (rules.heard_at_port f s time p)
-go_at_port f s time p are cut h =
-    let at = rules.slot_of s p in
-    let lacking = lacks (rules.owner_for s p) p.head in
-    go_on IsCut (rules.by_connection at (rules.is_mixed s.ports at p.head) lacking s time p) (λ x. rules.heard_at_socket f s time x)
-    (go_by_connection at (rules.is_mixed s.ports at p.head) lacking s time p cut h) (λ x c. go_at_socket f s time x are c h)
-
-go_here : (f : Facts) (s : State) (time : ℕ) (p : Arrival) → AreFacts f → Arrives p → IsLightState s → IsTold (rules.heard_here f s time p)
-go_here f s time p are light h =
-    go_on Arrives (rules.by_security (is_secured p.head) s p) (λ x. rules.onward (rules.by_checksum (is_checked x.head) (payload_of x.buffer.payload) s x) (λ y. rules.heard_at_port f s time y))
-    (go_security (is_secured p.head) s p light h)
-    (λ x l. go_on IsCut (rules.by_checksum (is_checked x.head) (payload_of x.buffer.payload) s x) (λ y. rules.heard_at_port f s time y)
-    (go_checksum (is_checked x.head) (payload_of x.buffer.payload) s x refl refl l h) (λ y c. go_at_port f s time y are c h))
-
 pub heard_light : (f : Facts) (s : State) (time : ℕ) (p : Arrival) → AreFacts f → IsLight p.buffer → IsLightState s → IsTold (rules.heard f (came_in s p.mark p.buffer) time p)
 heard_light f s time p are light h =
     let t = came_in s p.mark p.buffer in
     let g = came_in_light s p.mark p.buffer h in
-    go_on Arrives (rules.by_destination (is_here f.addr p.head) (route_of t.routes p.head.dst) t p) (λ x. rules.heard_here f t time x)
-    (go_destination (is_here f.addr p.head) (route_of t.routes p.head.dst) t p light g) (λ x l. go_here f t time x are l g)
+    go_on Arrives (rules.for_this_node f t p) (λ p. heard_here f t time p) (go_destination (is_here f.addr p.head) (rules.forwarded (route_of t.routes p.head.dst) t p) p light (forwarded_light (route_of t.routes p.head.dst) t p light g)) (λ p l.
+    go_on Arrives (rules.not_secured t p) (λ p. by_rest f t time p)
+    (go_if Arrives (is_secured p.head) (discarded (counting t p.mark count.AuthErrors 1) why.Refused p.buffer) p (trashed (counting t p.mark count.AuthErrors 1) p.buffer l (counting_light t p.mark count.AuthErrors 1 g)) l) (λ p l.
+    go_on IsCut (rules.without_checksum t p) (λ p. heard_at_port f t time p) (go_checksum (is_checked p.head) (payload_of p.buffer.payload) t p refl refl l g) (λ p c.
+    go_on IsCut (rules.of_no_connection t time p) (λ p. heard_at_socket f t time p) (go_by_connection (rules.slot_of t p) t time p c g) (λ p c.
+    go_on IsCut (rules.to_no_socket f t time p) (λ p. heard_elsewhere f t time p) (go_by_socket (rules.owner_for t p) f t time p c g) (λ p c.
+    go_on IsCut (rules.not_reliable t p) (λ p. rules.by_service f t time p) (go_if IsCut (is_reliable p.head.flags.0) (discarded t why.NoSocket p.buffer) p (trashed t p.buffer c.light g) c) (λ p c.
+    go_service f t time p are c g))))))
 
 -- ---- from an application
 
@@ -339,7 +331,7 @@ go_on_connection true c f s app number time b data' h = ported_light s (submitti
 go_slot : (x : Slot) (f : Facts) (s : State) (app number time : ℕ) (b : Content) → IsData b → IsLightState s → IsTold (rules.by_slot x f s app number time b)
 go_slot slot.Free f s app number time b data' h = trashed s b (omega (arith, data')) h
 go_slot slot.Held f s app number time b data' h = trashed s b (omega (arith, data')) h
-go_slot (slot.Open c) f s app number time b data' h = go_on_connection (are_reliable (terms_at s.ports app number).flags) c f s app number time b data' h
+go_slot (slot.Open c) f s app number time b data' h = go_on_connection (is_reliable (terms_at s.ports app number).flags) c f s app number time b data' h
 
 go_mark : (unmarked : Bool) (f : Facts) (s : State) (app mark time : ℕ) (b : Content) → IsData b → IsLightState s → IsTold (rules.by_mark unmarked f s app mark time b)
 go_mark true f s app mark time b data' h = sent_light f s b (omega (arith, data')) h

@@ -9,7 +9,7 @@ use Rattle.csp_ports.specs.Held.{held}
 use Rattle.csp_rdp_header.specs.declared.options.TheConstants.{MAX_WINDOW}
 use Rattle.csp_route.specs.Routes.{IsWithin}
 use Rattle.csp_stack.specs.Router.{Facts, Leaving, State, StateAt}
-use Rattle.csp_stack.specs.Rules.{Arrival, Ruling, onward}
+use Rattle.csp_stack.specs.Rules.{◌>>=◌, Arrival, Ruling, by_service, not_reliable, of_no_connection, to_no_socket}
 use Rattle.csp_stack.specs.Told.{Told}
 use Rattle.csp_stack.specs.declared.outgoing.Outgoing.{Outgoing}
 use Rattle.csp_stack.specs.declared.packet.Packet.{Packet}
@@ -41,9 +41,21 @@ pub record ComesTo (old new : StateAt) (before after : List Event) (told : Told)
 
 -- what a ruling comes to: without a packet that is left it has decided, whatever the next rules say; else nothing changed, and they decide
 abbrev pub Rules : Option Packet → StateAt → StateAt → List Event → List Event → Ruling → Type 0
-Rules None old new before after ruling = (next : Arrival → Told) → ComesTo old new before after (onward ruling next)
+Rules None old new before after ruling = (next : Arrival → Told) → ComesTo old new before after (ruling >>= next)
 Rules (Some p) old new before after ruling =
-    ((next : Arrival → Told) → onward ruling next ≡ next (arrival_of p)) × (p.buffer.region ≡ old.region) × (new ≡ old) × (after ≡ before)
+    ((next : Arrival → Told) → (ruling >>= next) ≡ next (arrival_of p)) × (p.buffer.region ≡ old.region) × (new ≡ old) × (after ≡ before)
+
+-- the rules that are left to a packet: the sixth; from the fifth on; from the fourth on
+abbrev pub heard_elsewhere : Facts → State → ℕ → Arrival → Told
+heard_elsewhere f s time p = not_reliable s p >>= (λ p. by_service f s time p)
+
+-- a packet of no connection
+abbrev pub heard_at_socket : Facts → State → ℕ → Arrival → Told
+heard_at_socket f s time p = to_no_socket f s time p >>= (λ p. heard_elsewhere f s time p)
+
+-- a packet at its port
+abbrev pub heard_at_port : Facts → State → ℕ → Arrival → Told
+heard_at_port f s time p = of_no_connection s time p >>= (λ p. heard_at_socket f s time p)
 
 -- nothing is to go out and there is no trash, so that a packet has its place, and the report has room
 pub record IsFree (s : State) (report : List Event) : Type 0 where

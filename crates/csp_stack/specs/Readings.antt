@@ -28,10 +28,6 @@ is_secured h = has_flag 0x08 h || has_flag 0x04 h
 abbrev pub is_checked : Header → Bool
 is_checked h = has_flag 0x01 h
 
--- a packet is of the reliable transport (RDP)
-abbrev pub is_reliable : Header → Bool
-is_reliable h = has_flag 0x02 h
-
 -- a packet lacks a flag of those that its port needs, where an application has bound the port
 abbrev pub lacks : Option (ℕ × ℕ) → Header → Bool
 lacks None h = false

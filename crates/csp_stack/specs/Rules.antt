@@ -1,5 +1,5 @@
--- what a node does with a packet; where a rule asks a question, the answer is its first argument
-use Rattle.std.specs.Prelude.{ℕ, ◌==◌, ◌||◌, not, Bool, true, false, List, Option, None, Some, Result, Ok, Err}
+-- what a node does with a packet
+use Rattle.std.specs.Prelude.{ℕ, ◌==◌, ◌||◌, not, if◌then◌else◌, Bool, true, false, List, Option, None, Some, Result, Ok, Err}
 use Rattle.std.specs.Int.RustNames.{bit_and}
 use Rattle.csp_buffer.specs.Content.{Content}
 use Rattle.csp_conn.specs.Opening.{first_free, found}
@@ -29,10 +29,9 @@ use Rattle.csp_service.specs.declared.answers.Served.TheVariants.{NoService, Ref
 use Rattle.csp_service.specs.declared.stats.Count.TheVariants as count
 use Rattle.csp_socket.specs.Bound.{owner_of}
 use Rattle.csp_stack.specs.Counting.{counting}
-use Rattle.csp_ports.specs.Asking.{bind, close, connect}
-use Rattle.csp_ports.specs.Asking.{is_reliable as are_reliable}
+use Rattle.csp_ports.specs.Asking.{bind, close, connect, is_reliable}
 use Rattle.csp_ports.specs.Packets.{accepted, handing, invited, submitting}
-use Rattle.csp_ports.specs.PlainPorts.{PlainPorts, terms_at}
+use Rattle.csp_ports.specs.PlainPorts.{terms_at}
 use Rattle.csp_ports.specs.Tasks.{made_in, making}
 use Rattle.csp_ports.specs.declared.handing.Invitation.{Invitation}
 use Rattle.csp_ports.specs.declared.request.Request.{Request}
@@ -44,7 +43,7 @@ use Rattle.csp_rdp_header.specs.declared.errors.OptionError.{OptionError}
 use Rattle.csp_rdp_header.specs.declared.head.RdpHead.{RdpHead}
 use Rattle.csp_rdp_header.specs.declared.head.TheConstants.{ACK, RST, SYN}
 use Rattle.csp_rdp_header.specs.declared.options.Options.{Options}
-use Rattle.csp_stack.specs.Readings.{is_checked, is_here, is_reliable, is_secured, lacks, mark_of}
+use Rattle.csp_stack.specs.Readings.{is_checked, is_here, is_secured, lacks, mark_of}
 use Rattle.csp_stack.specs.Router.{Facts, Leaving, State, origin_of}
 use Rattle.csp_stack.specs.Sending.{headed}
 use Rattle.csp_stack.specs.Serving.{facts_of, reply_in, with_facts}
@@ -70,10 +69,6 @@ sent_by false (Some row) s b = leaving s (by_row row b)
 abbrev pub sent : Facts → State → Content → Told
 sent f s b = let to = (header_at b.header).dst in sent_by (to == f.addr) (route_of s.routes to) s b
 
--- a packet that its queue has no room for is Full
-abbrev pub unsent : State → Content → Told
-unsent s b = discarded s why.Full b
-
 -- ---- from the inbox
 
 -- a packet with the number of the interface that it came in on, or unmarked where the node sent it to itself, and its header
@@ -93,31 +88,42 @@ packet_in (Some (item.Packet mark b)) = Some (arrival mark b)
 packet_in (Some (item.Note _)) = None
 packet_in (Some (item.Frame _)) = None
 
--- a rule decides what becomes of a packet (`Err`), or leaves the packet to the next rule (`Ok`)
-abbrev pub Ruling : Type 0
-Ruling = Result Arrival Told
+-- a rule decides what becomes of a packet, or leaves the packet to the next rule
+pub data Ruling : Type 0 where
+  Decided : Told → Ruling
+  Left : Arrival → Ruling
 
--- 1. a packet for another node goes out by the row of its route, as it is: no row is NoRoute, a row to where it came in is BackOut
-abbrev pub by_way : (is_back : Bool) → Row → State → Arrival → Told
-by_way true row s p = discarded s why.BackOut p.buffer
-by_way false row s p = leaving s (by_row row p.buffer)
+infixl 10 ◌>>=◌
+-- the first rule that decides ends the judgement
+abbrev pub ◌>>=◌ : Ruling → (Arrival → Told) → Told
+◌>>=◌ (Decided told) next = told
+◌>>=◌ (Left p) next = next p
 
--- a packet for another node is forwarded, or discarded where no route leads; one for this node goes on
-abbrev pub by_destination : (is_here : Bool) → Option Row → State → Arrival → Ruling
-by_destination false None s p = Err (discarded s why.NoRoute p.buffer)
-by_destination false (Some row) s p = Err (by_way (row.iface == p.mark) row s p)
-by_destination true row s p = Ok p
+-- a packet goes on as it is by the row of its route, but not to where it came in: that is BackOut
+abbrev pub by_way : Row → State → Arrival → Told
+by_way row s p = if row.iface == p.mark then discarded s why.BackOut p.buffer else leaving s (by_row row p.buffer)
+
+-- a packet that no route leads on is NoRoute
+abbrev pub forwarded : Option Row → State → Arrival → Told
+forwarded None s p = discarded s why.NoRoute p.buffer
+forwarded (Some row) s p = by_way row s p
+
+-- 1. a packet for another node goes out by the row of its route: no row is NoRoute, a row to where it came in is BackOut
+abbrev pub for_this_node : Facts → State → Arrival → Ruling
+for_this_node f s p = if is_here f.addr p.head then Left p else Decided (forwarded (route_of s.routes p.head.dst) s p)
 
 -- 2. an authenticated or encrypted packet is Refused, which counts for the interface that it came in on
-abbrev pub by_security : (is_secured : Bool) → State → Arrival → Ruling
-by_security true s p = Err (discarded (counting s p.mark count.AuthErrors 1) why.Refused p.buffer)
-by_security false s p = Ok p
+abbrev pub not_secured : State → Arrival → Ruling
+not_secured s p = if is_secured p.head then Decided (discarded (counting s p.mark count.AuthErrors 1) why.Refused p.buffer) else Left p
 
--- 3. of a packet with a checksum the checksum is cut off: one that is missing or wrong is CrcWrong, which counts for the interface that it came in on
-abbrev pub by_checksum : (is_checked : Bool) → (payload : Option (List ℕ)) → State → Arrival → Ruling
-by_checksum true None s p = Err (discarded (counting s p.mark count.ReceiveErrors 1) why.CrcWrong p.buffer)
-by_checksum true (Some payload) s p = Ok (record p { buffer = record p.buffer { payload = payload } })
-by_checksum false payload s p = Ok p
+-- a packet without its checksum; where none could be cut off it is CrcWrong, which counts for the interface that it came in on
+abbrev pub with_payload : (payload : Option (List ℕ)) → State → Arrival → Ruling
+with_payload None s p = Decided (discarded (counting s p.mark count.ReceiveErrors 1) why.CrcWrong p.buffer)
+with_payload (Some payload) s p = Left (record p { buffer = record p.buffer { payload = payload } })
+
+-- 3. of a packet with a checksum the checksum is cut off: one that is missing or wrong is CrcWrong
+abbrev pub without_checksum : State → Arrival → Ruling
+without_checksum s p = if is_checked p.head then with_payload (payload_of p.buffer.payload) s p else Left p
 
 -- a packet goes to the application that has its connection, marked with the slot
 abbrev pub to_slot : ℕ → ℕ → Content → Leaving
@@ -128,52 +134,61 @@ abbrev pub to_machine : Option (List ℕ × RdpHead) → State → ℕ → ℕ �
 to_machine None s app slot time p = discarded s why.Malformed p.buffer
 to_machine (Some read) s app slot time p = ported s (handing s.ports app slot read.1 (record p.buffer { payload = read.0 }) time)
 
--- a packet of a slot: to the application, or to the machine of a reliable connection
-abbrev pub to_connection : (is_reliable : Bool) → State → ℕ → ℕ → ℕ → Arrival → Told
-to_connection false s app slot time p = leaving s (to_slot app slot p.buffer)
-to_connection true s app slot time p = to_machine (parted p.buffer.payload) s app slot time p
+-- a packet of a slot: to the machine of a reliable connection, or to the application
+abbrev pub to_connection : State → ℕ → ℕ → ℕ → Arrival → Told
+to_connection s app slot time p = if is_reliable p.head.flags.0 then to_machine (parted p.buffer.payload) s app slot time p else leaving s (to_slot app slot p.buffer)
 
--- whether a packet is of the reliable transport and its connection is not, or the other way round
-abbrev pub differs : (is_reliable : Bool) → (flags : ℕ) → Bool
-differs true flags = not (are_reliable flags)
-differs false flags = are_reliable flags
+-- one is of the reliable transport, and the other is not
+abbrev pub differs : (one other : Bool) → Bool
+differs true other = not other
+differs false other = other
 
--- a packet does not fit the kind of its connection
-abbrev pub is_mixed : PlainPorts → Option (ℕ × ℕ) → Header → Bool
-is_mixed ports None h = false
-is_mixed ports (Some at) h = differs (is_reliable h) (terms_at ports at.0 at.1).flags
+-- a packet is of another transport than the connection on a slot
+abbrev pub is_mixed : State → (at : ℕ × ℕ) → Arrival → Bool
+is_mixed s at p = differs (is_reliable p.head.flags.0) (is_reliable (terms_at s.ports at.0 at.1).flags)
 
--- 4. a packet of a connection in use: of another transport than the connection it is Mixed, and without a flag that its own port needs
--- Required; a plain one goes to the connection's application, and one of the reliable transport to the connection's machine
-abbrev pub by_connection : (at : Option (ℕ × ℕ)) → (is_mixed lacks : Bool) → State → ℕ → Arrival → Ruling
-by_connection None mixed lacks s time p = Ok p
-by_connection (Some at) true lacks s time p = Err (discarded s why.Mixed p.buffer)
-by_connection (Some at) false true s time p = Err (discarded s why.Required p.buffer)
-by_connection (Some at) false false s time p = Err (to_connection (is_reliable p.head) s at.0 at.1 time p)
+-- who bound the port that a packet has come to
+abbrev pub owner_for : State → Arrival → Option (ℕ × ℕ)
+owner_for s p = owner_of s.ports.bound p.head.dport
+
+-- a packet lacks a flag that its own port needs
+abbrev pub is_lacking : State → Arrival → Bool
+is_lacking s p = lacks (owner_for s p) p.head
+
+-- a packet of a connection: of another transport it is Mixed, and without a flag that its own port needs Required; else it is the connection's
+abbrev pub at_connection : (at : ℕ × ℕ) → State → ℕ → Arrival → Told
+at_connection at s time p =
+    if is_mixed s at p then discarded s why.Mixed p.buffer
+    else if is_lacking s p then discarded s why.Required p.buffer
+    else to_connection s at.0 at.1 time p
+
+-- a packet is its connection's, where there is one
+abbrev pub by_connection : (at : Option (ℕ × ℕ)) → State → ℕ → Arrival → Ruling
+by_connection None s time p = Left p
+by_connection (Some at) s time p = Decided (at_connection at s time p)
 
 -- the connection of a packet that has come: with the node and the port that it came from, by the port that it came to
 abbrev pub connection_of : Header → Connection
 connection_of h = between h.src h.sport h.dport
 
+-- the slot whose connection a packet is of
+abbrev pub slot_of : State → Arrival → Option (ℕ × ℕ)
+slot_of s p = found s.ports.conns (connection_of p.head)
+
+-- 4. a packet of a connection in use is Mixed, is Required, or goes to its connection
+abbrev pub of_no_connection : State → ℕ → Arrival → Ruling
+of_no_connection s time p = by_connection (slot_of s p) s time p
+
 -- the flags of a packet that those are for which its connection sends: a checksum, the reliable transport
 abbrev pub answer_flags : Header → ℕ
 answer_flags h = bit_and h.flags.0 0x03
 
--- a packet opens a connection on a slot, and goes to the slot's application
-abbrev pub opened_by : State → ℕ → ℕ → Arrival → Told
-opened_by s app slot p =
-    reporting (event.Opened app slot None None)
-    (leaving (with_ports s (accepted s.ports app slot (connection_of p.head) p.head.prio (answer_flags p.head))) (to_slot app slot p.buffer))
-
--- a packet opens a connection in the least free slot of an application; where all are in use it is NoSlot
+-- a packet opens a connection in the least free slot of an application, and goes there; where all are in use it is NoSlot
 abbrev pub accepting : (slot : Option ℕ) → State → ℕ → Arrival → Told
 accepting None s app p = discarded s why.NoSlot p.buffer
-accepting (Some slot) s app p = opened_by s app slot p
-
--- the least free slot of the application that bound a port
-abbrev pub slot_for : PlainPorts → Option (ℕ × ℕ) → Option ℕ
-slot_for ports None = None
-slot_for ports (Some owner) = first_free ports.conns owner.0
+accepting (Some slot) s app p =
+    reporting (event.Opened app slot None None)
+    (leaving (with_ports s (accepted s.ports app slot (connection_of p.head) p.head.prio (answer_flags p.head))) (to_slot app slot p.buffer))
 
 -- a packet asks for a reliable connection where it is a SYN, neither ACK nor RST, with options that are each in its range. A packet that
 -- is shorter than a head is Malformed, another one than a SYN is NoConn, and one with other options is Malformed
@@ -203,21 +218,24 @@ inviting (Ok i) None f s app time p = discarded s why.NoSlot p.buffer
 inviting (Ok i) (Some slot) f s app time p =
     absorbed p.buffer (ported s (invited (origin_of f) s.ports app slot (connection_of p.head) p.head.prio (answer_flags p.head) i time))
 
--- a packet comes to a bound port: it opens a plain connection, or asks for a reliable one
-abbrev pub at_socket : (is_reliable : Bool) → (slot : Option ℕ) → Facts → State → ℕ → ℕ → Arrival → Told
-at_socket false slot f s app time p = accepting slot s app p
-at_socket true slot f s app time p = inviting (invitation_of p.buffer) slot f s app time p
+-- a packet that may come to a port asks for a reliable connection of the port's application, or opens a plain one
+abbrev pub opening : (app : ℕ) → Facts → State → ℕ → Arrival → Told
+opening app f s time p =
+    if is_reliable p.head.flags.0 then inviting (invitation_of p.buffer) (first_free s.ports.conns app) f s app time p
+    else accepting (first_free s.ports.conns app) s app p
 
--- 5. a packet to a bound port opens a connection of the port's application; without a flag that the port needs it is Required
-abbrev pub by_socket : (owner : Option (ℕ × ℕ)) → (lacks : Bool) → (slot : Option ℕ) → Facts → State → ℕ → Arrival → Ruling
-by_socket None lacks slot f s time p = Ok p
-by_socket (Some owner) true slot f s time p = Err (discarded s why.Required p.buffer)
-by_socket (Some owner) false slot f s time p = Err (at_socket (is_reliable p.head) slot f s owner.0 time p)
+-- a packet to a bound port: without a flag that the port needs it is Required; else it may open a connection
+abbrev pub by_socket : (owner : Option (ℕ × ℕ)) → Facts → State → ℕ → Arrival → Ruling
+by_socket None f s time p = Left p
+by_socket (Some owner) f s time p = Decided (if is_lacking s p then discarded s why.Required p.buffer else opening owner.0 f s time p)
+
+-- 5. a packet to a bound port is Required, NoSlot, Malformed or NoConn, or opens a connection of the port's application
+abbrev pub to_no_socket : Facts → State → ℕ → Arrival → Ruling
+to_no_socket f s time p = by_socket (owner_for s p) f s time p
 
 -- 6. elsewhere a packet of the reliable transport is NoSocket
-abbrev pub by_transport : (is_reliable : Bool) → State → Arrival → Ruling
-by_transport true s p = Err (discarded s why.NoSocket p.buffer)
-by_transport false s p = Ok p
+abbrev pub not_reliable : State → Arrival → Ruling
+not_reliable s p = if is_reliable p.head.flags.0 then Decided (discarded s why.NoSocket p.buffer) else Left p
 
 -- what a service made of a request: a reply is sent; without one the node has this to report; a refused request is Malformed; and without a service a packet is NoSocket
 abbrev pub by_answer : Served → (reply : List ℕ) → Facts → State → Arrival → Told
@@ -234,45 +252,16 @@ by_outcome o f s p = by_answer o.served o.reply f (with_facts s o.facts) p
 abbrev pub by_service : Facts → State → ℕ → Arrival → Told
 by_service f s time p = by_outcome (answered p.head.dport p.buffer.payload (facts_of f s) time) f s p
 
--- what the next rules make of a packet that is left to them
-abbrev pub onward : Ruling → (Arrival → Told) → Told
-onward (Ok p) next = next p
-onward (Err told) next = told
-
--- who bound the port that a packet has come to
-abbrev pub owner_for : State → Arrival → Option (ℕ × ℕ)
-owner_for s p = owner_of s.ports.bound p.head.dport
-
--- the rules from the sixth on, from the fifth on, from the fourth on, from the second on, and all: the first rule that decides
-abbrev pub heard_elsewhere : Facts → State → ℕ → Arrival → Told
-heard_elsewhere f s time p = onward (by_transport (is_reliable p.head) s p) (λ p. by_service f s time p)
-
--- a packet of no connection: to a bound port, and else elsewhere
-abbrev pub heard_at_socket : Facts → State → ℕ → Arrival → Told
-heard_at_socket f s time p =
-    onward (by_socket (owner_for s p) (lacks (owner_for s p) p.head) (slot_for s.ports (owner_for s p)) f s time p) (λ p.
-    heard_elsewhere f s time p)
-
--- the slot whose connection a packet is of
-abbrev pub slot_of : State → Arrival → Option (ℕ × ℕ)
-slot_of s p = found s.ports.conns (connection_of p.head)
-
--- a packet of this node: to its connection, and else to a bound port
-abbrev pub heard_at_port : Facts → State → ℕ → Arrival → Told
-heard_at_port f s time p =
-    onward (by_connection (slot_of s p) (is_mixed s.ports (slot_of s p) p.head) (lacks (owner_for s p) p.head) s time p) (λ p.
-    heard_at_socket f s time p)
-
--- a packet for this node: its security, then its checksum, then its port
-abbrev pub heard_here : Facts → State → ℕ → Arrival → Told
-heard_here f s time p =
-    onward (by_security (is_secured p.head) s p) (λ p.
-    onward (by_checksum (is_checked p.head) (payload_of p.buffer.payload) s p) (λ p.
-    heard_at_port f s time p))
-
--- a packet of the inbox: its destination first
+-- what becomes of a packet from the inbox: the first rule that decides, and else the service of its port
 abbrev pub heard : Facts → State → ℕ → Arrival → Told
-heard f s time p = onward (by_destination (is_here f.addr p.head) (route_of s.routes p.head.dst) s p) (λ p. heard_here f s time p)
+heard f s time p = do
+  p ← for_this_node f s p
+  p ← not_secured s p
+  p ← without_checksum s p
+  p ← of_no_connection s time p
+  p ← to_no_socket f s time p
+  p ← not_reliable s p
+  by_service f s time p
 
 -- ---- from an application
 
@@ -294,7 +283,7 @@ on_connection true c f s app number time b = ported s (submitting s.ports app nu
 abbrev pub by_slot : Slot → Facts → State → ℕ → ℕ → ℕ → Content → Told
 by_slot slot.Free f s app number time b = discarded s why.NoConn b
 by_slot slot.Held f s app number time b = discarded s why.NoConn b
-by_slot (slot.Open c) f s app number time b = on_connection (are_reliable (terms_at s.ports app number).flags) c f s app number time b
+by_slot (slot.Open c) f s app number time b = on_connection (is_reliable (terms_at s.ports app number).flags) c f s app number time b
 
 -- an unmarked packet is sent as it is, and one for a slot by its connection
 abbrev pub by_mark : (is_unmarked : Bool) → Facts → State → ℕ → ℕ → ℕ → Content → Told

@@ -1,6 +1,7 @@
 -- the turns of a router: what one is, what is asked in it, and what the answer comes to
 use Rattle.std.specs.Prelude.{ℕ, ◌+◌, Bool, true, false, List, [], ◌∷◌, ◌++◌, drop, length, Option, None, Some}
 use Rattle.csp_buffer.specs.Content.{Content}
+use Rattle.csp_log.specs.declared.event.Discard.TheVariants as why
 use Rattle.csp_log.specs.declared.places.QueueId.{QueueId}
 use Rattle.csp_log.specs.declared.places.QueueId.TheVariants as queue
 use Rattle.csp_log.specs.declared.shown.AnswerShown.{AnswerShown}
@@ -24,9 +25,9 @@ use Rattle.csp_rdp.specs.Jobs.{delivery}
 use Rattle.csp_rdp.specs.declared.jobs.Job.{Job}
 use Rattle.csp_stack.specs.Readings.{buffer_in, is_pushed, item_in}
 use Rattle.csp_stack.specs.Router.{Facts, Leaving, State, at_rest}
-use Rattle.csp_stack.specs.Rules.{Arrival, packet_in, heard, made_on, served, unsent}
+use Rattle.csp_stack.specs.Rules.{Arrival, packet_in, heard, made_on, served}
 use Rattle.csp_stack.specs.Sources.{source_at, place_with_work, place_past}
-use Rattle.csp_stack.specs.Told.{Told, after_all, unchanged, kept, ported, with_ports}
+use Rattle.csp_stack.specs.Told.{Told, after_all, discarded, unchanged, kept, ported, with_ports}
 use Rattle.csp_stack.specs.declared.plan.Plan.{Plan}
 use Rattle.csp_stack.specs.declared.plan.Plan.TheVariants as plan
 use Rattle.csp_stack.specs.declared.sources.Source.{Source}
@@ -146,7 +147,7 @@ told_giving s (Some b) = kept s b
 -- the queue has no room: the packet comes back
 abbrev pub told_pushing : State → Option Arrival → Told
 told_pushing s None = unchanged s
-told_pushing s (Some p) = unsent s p.buffer
+told_pushing s (Some p) = discarded s why.Full p.buffer
 
 -- a packet was pushed to its queue, or the queue had no room: either is counted
 abbrev pub told_sending : (is_pushed : Bool) → QueueId → ℕ → State → Option Arrival → Told

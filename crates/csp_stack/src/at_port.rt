@@ -5,13 +5,12 @@ ghost use Rattle.csp_base.specs.declared.limits.TheConstants.{MAX_PAYLOAD};
 ghost use Rattle.csp_conn.specs.Opening.{first_free};
 ghost use Rattle.csp_conn.specs.PlainConns.{IsThere};
 ghost use Rattle.csp_ports.specs.Counts.{IsCountable};
-ghost use Rattle.csp_ports.specs.PlainPorts.{terms_at};
 ghost use Rattle.csp_rdp_header.specs.Head.{parted};
-ghost use Rattle.csp_stack.specs.Comes.{ComesTo, IsFree, IsServing, Rules, arrival_of};
+ghost use Rattle.csp_stack.specs.Comes.{ComesTo, IsFree, IsServing, Rules, arrival_of, heard_at_port, heard_at_socket, heard_elsewhere};
 ghost use Rattle.csp_stack.specs.Keeps.{Keeps};
 ghost use Rattle.csp_stack.specs.Party.{IsSendable};
-ghost use Rattle.csp_stack.specs.Readings.{is_checked, is_reliable, lacks};
-ghost use Rattle.csp_stack.specs.Rules.{accepting, at_socket, by_connection, by_socket, by_transport, differs, heard_at_port, heard_at_socket, heard_elsewhere, inviting, invitation_of, is_mixed, owner_for, slot_for, slot_of, to_connection, to_machine, to_slot};
+ghost use Rattle.csp_stack.specs.Readings.{is_checked};
+ghost use Rattle.csp_stack.specs.Rules.{accepting, inviting, invitation_of, is_mixed, of_no_connection, opening, to_connection, to_machine, to_no_socket, to_slot};
 ghost use Rattle.csp_stack.specs.Told.{leaving};
 
 use crate::Outgoing;
@@ -89,7 +88,7 @@ fn judge_connection(
     requires unwritten { report.old.items ≡ [] }
     requires of_it { packet.buffer.region ≡ state.old.region }
     requires countable { IsCountable state.old.state.ports }
-    ensures told { Rules result state.old state.new report.old.items report.new.items (by_connection (slot_of state.old.state (arrival_of packet)) (is_mixed state.old.state.ports (slot_of state.old.state (arrival_of packet)) packet.header) (lacks (owner_for state.old.state (arrival_of packet)) packet.header) state.old.state now (arrival_of packet)) }
+    ensures told { Rules result state.old state.new report.old.items report.new.items (of_no_connection state.old.state now (arrival_of packet)) }
     ensures same { IfSome result (λ p. p ≡ packet) }
     ensures sendable { IsSendable facts.now state.new.state.out }
     ensures keeps { MatchOption result (Keeps (length facts.now.ifaces) state.old.state state.new.state (packet.buffer.picture.number ∷ [])) (λ _. ⊤) }
@@ -111,7 +110,7 @@ fn judge_connection(
 /// Whether a packet is of the reliable transport and the connection on a slot is not, or the other way round.
 fn is_apart(state: &State, app: u8, slot: u8, packet: &Packet) -> bool
     requires there { IsThere state.now.state.ports.conns app slot }
-    ensures { result ≡ differs (is_reliable packet.now.header) (terms_at state.now.state.ports app slot).flags }
+    ensures { result ≡ is_mixed state.now.state (app, slot) (arrival_of packet.now) }
 {
     let flags = state.ports.terms(app, slot).flags;
     if is_packet_reliable(&packet.header) {
@@ -136,7 +135,7 @@ fn hear_on(
     requires there { IsThere state.old.state.ports.conns app slot }
     requires of_it { packet.buffer.region ≡ state.old.region }
     requires countable { IsCountable state.old.state.ports }
-    ensures told { ComesTo state.old state.new report.old.items report.new.items (to_connection (is_reliable packet.header) state.old.state app slot now (arrival_of packet)) }
+    ensures told { ComesTo state.old state.new report.old.items report.new.items (to_connection state.old.state app slot now (arrival_of packet)) }
     ensures sendable { IsSendable facts.now state.new.state.out }
     ensures keeps { Keeps (length facts.now.ifaces) state.old.state state.new.state (packet.buffer.picture.number ∷ []) }
 {
@@ -198,7 +197,7 @@ fn judge_socket(
     requires unwritten { report.old.items ≡ [] }
     requires of_it { packet.buffer.region ≡ state.old.region }
     requires countable { IsCountable state.old.state.ports }
-    ensures told { Rules result state.old state.new report.old.items report.new.items (by_socket (owner_for state.old.state (arrival_of packet)) (lacks (owner_for state.old.state (arrival_of packet)) packet.header) (slot_for state.old.state.ports (owner_for state.old.state (arrival_of packet))) facts.now state.old.state now (arrival_of packet)) }
+    ensures told { Rules result state.old state.new report.old.items report.new.items (to_no_socket facts.now state.old.state now (arrival_of packet)) }
     ensures same { IfSome result (λ p. p ≡ packet) }
     ensures sendable { IsSendable facts.now state.new.state.out }
     ensures keeps { MatchOption result (Keeps (length facts.now.ifaces) state.old.state state.new.state (packet.buffer.picture.number ∷ [])) (λ _. ⊤) }
@@ -223,7 +222,7 @@ fn hear_at(facts: &Facts, state: &mut State, app: u8, now: u64, packet: Packet, 
     requires of_it { packet.buffer.region ≡ state.old.region }
     requires countable { IsCountable state.old.state.ports }
     requires app { app < facts.now.apps }
-    ensures told { ComesTo state.old state.new report.old.items report.new.items (at_socket (is_reliable packet.header) (first_free state.old.state.ports.conns app) facts.now state.old.state app now (arrival_of packet)) }
+    ensures told { ComesTo state.old state.new report.old.items report.new.items (opening app facts.now state.old.state now (arrival_of packet)) }
     ensures sendable { IsSendable facts.now state.new.state.out }
     ensures keeps { Keeps (length facts.now.ifaces) state.old.state state.new.state (packet.buffer.picture.number ∷ []) }
 {

@@ -1,15 +1,14 @@
 //! What becomes of a packet from the inbox: the rules, in their order.
 
-ghost use Rattle.std.specs.Prelude.{◌≡◌, ◌==◌, ◌+◌, ◌<◌, ◌≤◌, ◌^◌, ℕ, ⊤, [], ◌∷◌, None, true, IfSome, MatchOption, length};
+ghost use Rattle.std.specs.Prelude.{◌≡◌, ◌+◌, ◌<◌, ◌≤◌, ◌^◌, ℕ, ⊤, [], ◌∷◌, None, true, IfSome, MatchOption, length};
 ghost use Rattle.csp_base.specs.declared.limits.TheConstants.{MAX_PAYLOAD};
-ghost use Rattle.csp_crc.specs.Check.{payload_of};
-ghost use Rattle.csp_route.specs.Routes.{IsWithin, route_of};
+ghost use Rattle.csp_route.specs.Routes.{IsWithin};
 ghost use Rattle.csp_ports.specs.Counts.{IsCountable};
 ghost use Rattle.csp_stack.specs.Comes.{ComesTo, IsFree, IsServing, Rules, arrival_of};
 ghost use Rattle.csp_stack.specs.Keeps.{Keeps};
 ghost use Rattle.csp_stack.specs.Party.{IsSendable};
-ghost use Rattle.csp_stack.specs.Readings.{is_checked, is_here, is_secured};
-ghost use Rattle.csp_stack.specs.Rules.{by_checksum, by_destination, by_security, by_way, heard};
+ghost use Rattle.csp_stack.specs.Readings.{is_checked};
+ghost use Rattle.csp_stack.specs.Rules.{by_way, for_this_node, heard, not_secured, without_checksum};
 
 use crate::Outgoing;
 use crate::at_port::hear_at_port;
@@ -55,7 +54,7 @@ fn judge_destination(
     requires free { IsFree state.old.state report.old.items }
     requires of_it { packet.buffer.region ≡ state.old.region }
     requires within { IsWithin (length facts.now.ifaces) state.old.state.routes }
-    ensures told { Rules result state.old state.new report.old.items report.new.items (by_destination (is_here facts.now.addr packet.header) (route_of state.old.state.routes packet.header.dst) state.old.state (arrival_of packet)) }
+    ensures told { Rules result state.old state.new report.old.items report.new.items (for_this_node facts.now state.old.state (arrival_of packet)) }
     ensures same { IfSome result (λ p. p ≡ packet) }
     ensures sendable { IsSendable facts.now state.new.state.out }
     ensures keeps { MatchOption result (Keeps (length facts.now.ifaces) state.old.state state.new.state (packet.buffer.picture.number ∷ [])) (λ _. ⊤) }
@@ -76,7 +75,7 @@ fn forward(facts: &Facts, state: &mut State, row: Row, packet: Packet, report: &
     requires free { IsFree state.old.state report.old.items }
     requires of_it { packet.buffer.region ≡ state.old.region }
     requires way { row.iface < length facts.now.ifaces }
-    ensures told { ComesTo state.old state.new report.old.items report.new.items (by_way (row.iface == packet.mark) row state.old.state (arrival_of packet)) }
+    ensures told { ComesTo state.old state.new report.old.items report.new.items (by_way row state.old.state (arrival_of packet)) }
     ensures sendable { IsSendable facts.now state.new.state.out }
     ensures keeps { Keeps (length facts.now.ifaces) state.old.state state.new.state (packet.buffer.picture.number ∷ []) }
 {
@@ -91,7 +90,7 @@ fn forward(facts: &Facts, state: &mut State, row: Row, packet: Packet, report: &
 fn judge_security(state: &mut State, packet: Packet, report: &mut Events) -> Option<Packet>
     requires free { IsFree state.old.state report.old.items }
     requires of_it { packet.buffer.region ≡ state.old.region }
-    ensures told { Rules result state.old state.new report.old.items report.new.items (by_security (is_secured packet.header) state.old.state (arrival_of packet)) }
+    ensures told { Rules result state.old state.new report.old.items report.new.items (not_secured state.old.state (arrival_of packet)) }
     ensures same { IfSome result (λ p. p ≡ packet) }
     ensures none { state.new.state.out ≡ None }
     ensures keeps { MatchOption result ((ifaces : ℕ) → Keeps ifaces state.old.state state.new.state (packet.buffer.picture.number ∷ [])) (λ _. ⊤) }
@@ -108,7 +107,7 @@ fn judge_security(state: &mut State, packet: Packet, report: &mut Events) -> Opt
 fn judge_checksum(state: &mut State, packet: Packet, report: &mut Events) -> Option<Packet>
     requires free { IsFree state.old.state report.old.items }
     requires of_it { packet.buffer.region ≡ state.old.region }
-    ensures told { Rules result state.old state.new report.old.items report.new.items (by_checksum (is_checked packet.header) (payload_of packet.buffer.picture.payload) state.old.state (arrival_of packet)) }
+    ensures told { Rules result state.old state.new report.old.items report.new.items (without_checksum state.old.state (arrival_of packet)) }
     ensures room { IfSome result (λ p. is_checked p.header ≡ true → length p.buffer.picture.payload + 4 ≤ MAX_PAYLOAD) }
     ensures none { state.new.state.out ≡ None }
     ensures keeps { MatchOption result ((ifaces : ℕ) → Keeps ifaces state.old.state state.new.state (packet.buffer.picture.number ∷ [])) (λ p. p.buffer.picture.number ≡ packet.buffer.picture.number) }

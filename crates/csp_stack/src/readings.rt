@@ -1,8 +1,8 @@
 //! What the rules read off a packet's header.
 
 ghost use Rattle.std.specs.Prelude.{◌≡◌};
-ghost use Rattle.csp_ports.specs.Asking.{is_reliable as are_reliable};
-ghost use Rattle.csp_stack.specs.Readings.{is_checked, is_here, is_reliable, is_secured, lacks};
+ghost use Rattle.csp_ports.specs.Asking.{is_reliable};
+ghost use Rattle.csp_stack.specs.Readings.{is_checked, is_here, is_secured, lacks};
 
 use bitflags::Flags;
 use csp_base::Addr;
@@ -35,14 +35,14 @@ pub fn is_packet_checked(header: &Header) -> bool
 
 /// Whether a packet is of the reliable transport (RDP).
 pub fn is_packet_reliable(header: &Header) -> bool
-    ensures { result ≡ is_reliable header.now }
+    ensures { result ≡ is_reliable header.now.flags.0 }
 {
     header.flags.contains(FlagSet::RDP)
 }
 
 /// Whether these flags are those of the reliable transport (RDP).
 pub fn are_flags_reliable(flags: u8) -> bool
-    ensures { result ≡ are_reliable flags }
+    ensures { result ≡ is_reliable flags }
 {
     FlagSet(flags).contains(FlagSet::RDP)
 }

@@ -7,7 +7,7 @@ ghost use Rattle.csp_deck.specs.Regions.{IsItemOf};
 ghost use Rattle.csp_deck.specs.Step.{item_numbers};
 ghost use Rattle.csp_log.specs.Pictures.{shown_item};
 ghost use Rattle.csp_ports.specs.Asking.{bind};
-ghost use Rattle.csp_ports.specs.Asking.{is_reliable as are_reliable};
+ghost use Rattle.csp_ports.specs.Asking.{is_reliable};
 ghost use Rattle.csp_ports.specs.Counts.{IsCountable};
 ghost use Rattle.csp_ports.specs.PlainPorts.{stalled_at, terms_at, waiting};
 ghost use Rattle.csp_stack.specs.Comes.{ComesTo, IsServing};
@@ -123,7 +123,7 @@ fn serve_connection(
     requires room { length buffer.picture.payload ≤ MAX_DATA }
     requires alone { stalled_at state.old.state.ports app ≡ None }
     requires countable { IsCountable state.old.state.ports }
-    ensures told { ComesTo state.old state.new report.old.items report.new.items (on_connection (are_reliable (terms_at state.old.state.ports app slot).flags) connection facts.now state.old.state app slot now buffer.picture) }
+    ensures told { ComesTo state.old state.new report.old.items report.new.items (on_connection (is_reliable (terms_at state.old.state.ports app slot).flags) connection facts.now state.old.state app slot now buffer.picture) }
     ensures sendable { IsSendable facts.now state.new.state.out }
     ensures keeps { Keeps (length facts.now.ifaces) state.old.state state.new.state (buffer.picture.number ∷ []) }
 {

@@ -1,4 +1,4 @@
-use Rattle.csp_stack.specs.Rules.{heard_at_socket}
+use Rattle.csp_stack.specs.Comes.{heard_at_socket}
 use Rattle.csp_stack.proofs.at_port.hear_at_port.Goals as goal
 
 pub returns-in_default-clause-told : goal.returns-in_default-clause-told

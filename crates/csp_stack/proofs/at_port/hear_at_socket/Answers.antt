@@ -1,4 +1,4 @@
-use Rattle.csp_stack.specs.Rules.{heard_elsewhere}
+use Rattle.csp_stack.specs.Comes.{heard_elsewhere}
 use Rattle.csp_stack.proofs.at_port.hear_at_socket.Goals as goal
 
 pub returns-in_default-clause-told : goal.returns-in_default-clause-told

@@ -1,8 +1,7 @@
 use Rattle.std.proofs.Common.{length, ◌∙◌}
 use Rattle.csp_stack.proofs.Keeping.{stayed}
-use Rattle.csp_stack.proofs.Unmoved.{by_rest, unmoved}
-use Rattle.csp_stack.specs.Comes.{arrival_of}
-use Rattle.csp_stack.specs.Rules.{heard_at_port, heard_here}
+use Rattle.csp_stack.proofs.Unmoved.{by_rest, heard_here, unmoved}
+use Rattle.csp_stack.specs.Comes.{arrival_of, heard_at_port}
 use Rattle.csp_stack.proofs.inbox.hear.Goals as goal
 
 pub returns-in_default-clause-told : goal.returns-in_default-clause-told
