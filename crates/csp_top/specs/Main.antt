@@ -4,10 +4,15 @@ use Rattle.csp_base.specs.Transfer.{WrotePrefix}
 use Rattle.std.specs.Io.KnownBytes.{Appends}
 use Rattle.csp_scene.specs.Scene.{PlainScene}
 use Rattle.csp_scene.specs.Judge.{scene_of}
+use Rattle.csp_record.specs.Passed.{passed}
 use Rattle.csp_record.specs.Record.{PlainRecord}
-use Rattle.csp_world.specs.Record.{sim_record}
+use Rattle.csp_record.specs.Stale.{stale}
+use Rattle.csp_world.specs.Reached.{IsReached}
+use Rattle.csp_world.specs.Record.{record_of, sim_record}
+use Rattle.csp_world.specs.World.{PlainWorld}
 use Rattle.csp_ordinary.specs.Ordinary.{HasNoFlips, HasNumbersForAll, IsOrdinary}
 use Rattle.csp_peers.specs.Clear.{HasClearFlows}
+use Rattle.csp_peers.specs.Window.{LastIsWithinWindow}
 use Rattle.csp_prefix.specs.Prefix.{IsReliablePrefix}
 use Rattle.csp_told.specs.LastLines.{EndsUnchanged}
 use Rattle.csp_told.specs.WithinNumbers.{SendsWithinNumbers}
@@ -35,14 +40,28 @@ pub record EndsAsOrdinary (scene : PlainScene) (run : PlainRecord) (bytes : List
 unfoldable pub IsUncountedIfOrdinary : PlainScene → PlainRecord → List ℕ → Type 0
 IsUncountedIfOrdinary scene run bytes = EndsAsOrdinary scene run bytes
 
--- the text states a scene, whose run ends before its logs are full; its record is consistent with the scene, and these bytes are its report. Where
--- the run was ordinary, they end with `passed 0`, and where its flows were clear besides, with `stale 0` before that
+-- what is known of a scene's record so far, at any time of a run: it is consistent with the scene; and where it counts no stale copy and no changed
+-- packet, what was taken on each reliable connection with a peer is a beginning of what the peer sent, and what the last turns handed to such
+-- connections is within their senders' windows
+pub record IsReliableSoFar (scene : PlainScene) (run : PlainRecord) : Type 0 where
+  pub consistent : IsConsistent scene run
+  pub prefix : stale run ≡ 0 → passed run ≡ 0 → IsReliablePrefix run
+  pub window : stale run ≡ 0 → passed run ≡ 0 → LastIsWithinWindow scene run
+
+-- so it is in each world that turns and ticks make of the scene's opening, in whatever order
+unfoldable pub StaysReliable : PlainScene → Type 0
+StaysReliable scene = (w : PlainWorld) → IsReached scene w → IsReliableSoFar scene (record_of w)
+
+-- the text states a scene, whose run ends before its logs are full; its record is consistent with the scene, and these bytes are its report. In whatever
+-- order its turns and ticks had come, the record was reliable after each of them. Where the run was ordinary, they end with `passed 0`, and where its
+-- flows were clear besides, with `stale 0` before that
 pub record IsReportOf (text bytes : List ℕ) : Type 0 where
   pub scene : PlainScene
   pub run : PlainRecord
   pub stated : scene_of text ≡ Ok scene
   pub ran : sim_record scene ≡ Some run
   pub consistent : IsConsistent scene run
+  pub stays : StaysReliable scene
   pub reported : bytes ≡ report scene run
   pub ordinary : IsUncountedIfOrdinary scene run bytes
 

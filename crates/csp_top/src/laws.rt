@@ -15,6 +15,7 @@ ghost use Rattle.csp_scene.specs.Kept.{AreLinksAfter};
 ghost use Rattle.csp_scene.specs.Naming.{AreNamedApart};
 ghost use Rattle.csp_scene.specs.Ranges.{IsScene};
 ghost use Rattle.csp_scene.specs.Scene.{PlainScene};
+ghost use Rattle.csp_top.specs.Main.{StaysReliable};
 ghost use Rattle.csp_top.specs.Prefix.{AreReadable, TellsNumbered};
 ghost use Rattle.csp_world.specs.Reached.{IsReached};
 ghost use Rattle.csp_world.specs.Record.{record_of};
@@ -51,4 +52,13 @@ pub fn stays_within_window()
 {
     is_consistent();
     keeps_window();
+}
+
+/// So the record of a scene's run, whatever the order of its turns and ticks, is consistent and reliable after each of them.
+pub(crate) fn stays_reliable_throughout()
+    ensures { (scene : PlainScene) → IsScene scene → AreLinksAfter (length scene.nodes) [] scene.links → StaysReliable scene }
+{
+    is_consistent();
+    stays_reliable();
+    stays_within_window();
 }

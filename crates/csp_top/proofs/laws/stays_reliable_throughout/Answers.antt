@@ -1,0 +1,10 @@
+use Rattle.csp_top.specs.Main.{StaysReliable}
+use Rattle.csp_top.proofs.laws.stays_reliable_throughout.Goals as goal
+
+pub returns : goal.returns
+unfolding StaysReliable
+returns c = λ scene ranges ends w reached. record {
+  consistent = c.is_consistent.ensures scene w ranges ends reached;
+  prefix = c.stays_reliable.ensures scene w ranges ends reached;
+  window = c.stays_within_window.ensures scene w ranges ends reached;
+}
