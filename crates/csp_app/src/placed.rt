@@ -9,7 +9,7 @@ use crate::step::Step;
 use csp_base::{Addr, Port, Prio};
 
 /// Where the bytes of a step's packet stand in the list of a script.
-#[derive(Clone, Copy, Debug)]
+#[derive(Clone, Copy)]
 pub struct Place {
     pub first: usize,
     pub len: u16,
@@ -26,7 +26,7 @@ impl Place {
 }
 
 /// A step as a script keeps it: as `Step`, its packet's bytes named by their place.
-#[derive(Clone, Copy, Debug)]
+#[derive(Clone, Copy)]
 pub enum Placed {
     Take,
     Give,

@@ -13,7 +13,7 @@ use std::marker::Model;
 
 /// The steps of an application in order. The bytes of their packets stand in one list, one after the other, and
 /// each step names its own by their place. Contracts see a list of steps, each with its bytes.
-#[derive(Debug, Drop)]
+#[derive(Drop)]
 pub struct Script {
     steps: Vec<Placed>,
     bytes: Vec<u8>,

@@ -9,7 +9,7 @@ ghost use Rattle.csp_log.specs.Pictures.{shown_item};
 use csp_log::{Event, Item, ItemShown, Note, SLOTS};
 
 /// One slot for a connection.
-#[derive(Clone, Copy, PartialEq, Eq, Debug)]
+#[derive(Clone, Copy, PartialEq, Eq)]
 pub struct Slot {
     /// How many of its connections were closed.
     pub ordinal: u32,

@@ -6,7 +6,7 @@ use csp_scene::SceneKind;
 pub const MAX_SCENARIO: usize = 1_048_576;
 
 /// Which limit was reached.
-#[derive(Clone, Copy, PartialEq, Eq, Debug)]
+#[derive(Clone, Copy, PartialEq, Eq)]
 pub enum LimitKind {
     /// The bytes of a scenario, `MAX_SCENARIO`.
     Bytes,
@@ -15,7 +15,7 @@ pub enum LimitKind {
 }
 
 /// How a call of the program ends. The exit statuses are 0 to 6 in the order of the variants.
-#[derive(Clone, Copy, PartialEq, Eq, Debug)]
+#[derive(Clone, Copy, PartialEq, Eq)]
 pub enum Status {
     /// The source was read to its end, for `gen` not at all, and the whole report, summary or other text was written.
     Done,

@@ -4,7 +4,7 @@ use crate::texts::expanded;
 use std::alloc::{AllocError, AllocFailed, Global};
 
 /// Why a case has no answer.
-#[derive(Clone, Copy, PartialEq, Eq, Debug)]
+#[derive(Clone, Copy, PartialEq, Eq)]
 pub enum CaseError {
     /// Memory was wanting.
     NoMemory,

@@ -10,7 +10,7 @@ use csp_scene::{Scene, SceneLink, SceneNode};
 use std::marker::Model;
 
 /// How the frames that an end put on its link are written.
-#[derive(Clone, Copy, PartialEq, Eq, Debug)]
+#[derive(Clone, Copy, PartialEq, Eq)]
 pub enum Form {
     /// As the bytes that they are, one frame after the other: on a KISS link.
     Kiss,
@@ -19,7 +19,7 @@ pub enum Form {
 }
 
 /// Names an end of a link. Contracts see it as its two names.
-#[derive(Drop, Debug)]
+#[derive(Drop)]
 pub struct EndName<'a> {
     /// The name of the link.
     pub link: &'a str,

@@ -4,7 +4,7 @@ use crate::{ItemShown, Place, QueueId};
 use std::marker::Model;
 
 /// What was left in one queue of a node.
-#[derive(Drop, Debug)]
+#[derive(Drop)]
 pub struct Left {
     /// The place of the node among the nodes.
     pub node: u8,
@@ -25,7 +25,7 @@ impl Model for Left {
 }
 
 /// Which buffers one place of a node held.
-#[derive(Drop, Debug)]
+#[derive(Drop)]
 pub struct HeldBy {
     /// The place of the node among the nodes.
     pub node: u8,

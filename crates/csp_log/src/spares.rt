@@ -11,7 +11,7 @@ use std::marker::Model;
 
 /// A frame in an allocation of its own, so that an item is small whatever a link carries. Contracts see
 /// it as the frame.
-#[derive(Drop, Debug)]
+#[derive(Drop)]
 pub struct BoxedFrame {
     frame: Box<Frame>,
 }

@@ -12,7 +12,7 @@ use std::collections::BTreeMap;
 use std::marker::Model;
 
 /// A window of rounds: from the one to the other, both included.
-#[derive(Clone, Copy, PartialEq, Eq, Debug)]
+#[derive(Clone, Copy, PartialEq, Eq)]
 pub struct Window {
     /// The first round.
     pub from: u64,
@@ -21,14 +21,14 @@ pub struct Window {
 }
 
 /// What an interface transmitted: its packet, where that is known, and whether it was again.
-#[derive(Clone, Copy, Debug)]
+#[derive(Clone, Copy)]
 pub(crate) struct Sent {
     pub packet: Option<Parcel>,
     pub again: bool,
 }
 
 /// Where a link took the frame that opens a transmission: in which row, and the colour of its fate.
-#[derive(Clone, Copy, PartialEq, Eq, Debug)]
+#[derive(Clone, Copy, PartialEq, Eq)]
 pub(crate) struct Start {
     pub row: u32,
     pub colour: Colour,

@@ -7,7 +7,7 @@ use csp_log::Place;
 
 /// Whose log it is: by the place of its node among the nodes, and its number there. A link belongs to no
 /// node.
-#[derive(Clone, Copy, PartialEq, Eq, Debug)]
+#[derive(Clone, Copy, PartialEq, Eq)]
 pub enum Who {
     /// The router of this node.
     Router(u8),

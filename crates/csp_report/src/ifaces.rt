@@ -20,7 +20,7 @@ use csp_scene::{SceneLink, SceneNode};
 use std::alloc::AllocError;
 
 /// A count in an interface's line, by the word before it.
-#[derive(Clone, Copy, PartialEq, Eq, Debug)]
+#[derive(Clone, Copy, PartialEq, Eq)]
 pub(crate) enum IfaceCount {
     /// `sent`: transmissions.
     Sent,

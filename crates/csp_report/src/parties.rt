@@ -8,7 +8,7 @@ use csp_log::Event;
 use csp_record::{PartyLog, Who};
 
 /// Which party: by the place of its node among a scene's nodes, and its number there.
-#[derive(Clone, Copy, PartialEq, Eq, Debug)]
+#[derive(Clone, Copy, PartialEq, Eq)]
 pub(crate) enum Seat {
     /// The router of this node.
     Router(usize),

@@ -29,7 +29,7 @@ const ROOM: usize = 65_536;
 const MOST: u64 = 10_000;
 
 /// Which calls fail, one in a run.
-#[derive(Clone, Copy, PartialEq, Eq, Debug)]
+#[derive(Clone, Copy, PartialEq, Eq)]
 enum Calls {
     /// Those that read.
     Reads,

@@ -25,7 +25,7 @@ pub(crate) struct Case<'a> {
 }
 
 /// Whether a run said what it should.
-#[derive(Clone, Copy, PartialEq, Eq, Debug)]
+#[derive(Clone, Copy, PartialEq, Eq)]
 pub(crate) enum Verdict {
     /// It did.
     AsWanted,

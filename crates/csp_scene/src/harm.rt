@@ -6,7 +6,7 @@ ghost use Rattle.csp_scene.specs.Faults.{harm_of};
 use csp_link::FaultKind;
 
 /// What a fault does to its frame.
-#[derive(Clone, Copy, PartialEq, Eq, PartialOrd, Ord, Debug)]
+#[derive(Clone, Copy, PartialEq, Eq, PartialOrd, Ord)]
 pub(crate) enum Harm {
     /// It is lost.
     Lose,

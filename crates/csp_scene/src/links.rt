@@ -15,7 +15,7 @@ use std::collections::BTreeSet;
 use std::marker::Model;
 
 /// What a fault is of: no two faults of a link are of the same.
-#[derive(Clone, Copy, PartialEq, Eq, PartialOrd, Ord, Debug)]
+#[derive(Clone, Copy, PartialEq, Eq, PartialOrd, Ord)]
 pub(crate) struct Stated {
     frame: u64,
     dir: u8,

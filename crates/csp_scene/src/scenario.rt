@@ -13,7 +13,7 @@ use csp_route::Table;
 use std::marker::Model;
 
 /// An application of a node, with its steps in order.
-#[derive(Debug, Drop)]
+#[derive(Drop)]
 pub struct SceneApp {
     /// Its name, which no other application of the node has, and no link of the node.
     pub name: Name,
@@ -30,7 +30,7 @@ impl Model for SceneApp {
 }
 
 /// A node of the network, or a bridge between two links.
-#[derive(Debug, Drop)]
+#[derive(Drop)]
 pub struct SceneNode {
     /// Its name, which no other node, bridge or link has.
     pub name: Name,
@@ -131,7 +131,7 @@ pub enum Schedule {
 }
 
 /// What a scenario states.
-#[derive(Debug, Drop)]
+#[derive(Drop)]
 pub struct Scene {
     /// After how many rounds the run stops, 1 to `MAX_UNTIL`.
     pub until: u32,

@@ -13,7 +13,7 @@ use csp_rdp_header::MAX_WINDOW;
 use std::alloc::{AllocError, Global};
 
 /// A line form.
-#[derive(Clone, Copy, PartialEq, Eq, Debug)]
+#[derive(Clone, Copy, PartialEq, Eq)]
 pub(crate) enum Form {
     /// `until N`
     Until,
@@ -68,7 +68,7 @@ pub(crate) enum Form {
 }
 
 /// A fixed word that stands after the first.
-#[derive(Clone, Copy, PartialEq, Eq, Debug)]
+#[derive(Clone, Copy, PartialEq, Eq)]
 pub(crate) enum Keyword {
     /// `buffers`
     Buffers,
@@ -115,7 +115,7 @@ pub(crate) enum Keyword {
 }
 
 /// What stands in one place of a line.
-#[derive(Clone, Copy, PartialEq, Eq, Debug)]
+#[derive(Clone, Copy, PartialEq, Eq)]
 pub(crate) enum Part {
     /// This word itself.
     Fixed(Keyword),
@@ -136,7 +136,7 @@ pub(crate) enum Part {
 }
 
 /// Words at a line's end that may be left out together.
-#[derive(Clone, Copy, PartialEq, Eq, Debug)]
+#[derive(Clone, Copy, PartialEq, Eq)]
 pub(crate) enum Group {
     /// This word.
     Flag(Keyword),

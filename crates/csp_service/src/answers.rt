@@ -26,7 +26,7 @@ pub const REBOOT: u32 = 0x8007_8007;
 pub const SHUTDOWN: u32 = 0xD1E5_529A;
 
 /// What comes of a request.
-#[derive(Clone, Copy, PartialEq, Eq, Debug)]
+#[derive(Clone, Copy, PartialEq, Eq)]
 pub enum Served {
     /// A reply was written.
     Reply,

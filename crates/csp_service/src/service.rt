@@ -6,7 +6,7 @@ ghost use Rattle.csp_service.specs.Services.{service_at};
 use csp_base::Port;
 
 /// A service of a node.
-#[derive(Clone, Copy, PartialEq, Eq, Debug)]
+#[derive(Clone, Copy, PartialEq, Eq)]
 pub enum Service {
     /// The management protocol, at port 0.
     Cmp,

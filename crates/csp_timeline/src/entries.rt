@@ -9,7 +9,7 @@ use crate::kinds::Piece;
 use csp_log::{AnswerShown, Entry, Frame, ItemShown, Log, Moved, Noted, OpShown, QueueId};
 
 /// The frame that a turn moved between its party and a queue.
-#[derive(Clone, Copy, Debug)]
+#[derive(Clone, Copy)]
 pub(crate) enum Framed {
     /// This frame, into this queue.
     Pushed(QueueId, Piece),

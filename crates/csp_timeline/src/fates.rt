@@ -7,7 +7,7 @@ use csp_link::FaultKind;
 use std::marker::Model;
 
 /// What becomes of a frame, by the plan of its link. Contracts see it as a link's own fate of a frame.
-#[derive(Clone, Copy, Debug)]
+#[derive(Clone, Copy)]
 pub struct Fate {
     /// It is lost.
     pub lost: bool,

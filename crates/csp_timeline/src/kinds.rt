@@ -7,7 +7,7 @@ use csp_log::{Event, Note};
 use csp_record::Who;
 
 /// What a packet is to its reliable connection.
-#[derive(Clone, Copy, PartialEq, Eq, Debug)]
+#[derive(Clone, Copy, PartialEq, Eq)]
 pub enum Kind {
     /// It opens the connection.
     Syn,
@@ -24,7 +24,7 @@ pub enum Kind {
 }
 
 /// What is told of a packet.
-#[derive(Clone, Copy, Debug)]
+#[derive(Clone, Copy)]
 pub struct Parcel {
     /// Its header word.
     pub header: u32,
@@ -37,7 +37,7 @@ pub struct Parcel {
 }
 
 /// What is told of a frame.
-#[derive(Clone, Copy, Debug)]
+#[derive(Clone, Copy)]
 pub struct Piece {
     /// Its identifier on a CAN link.
     pub can: Option<u32>,
@@ -48,7 +48,7 @@ pub struct Piece {
 }
 
 /// What happened.
-#[derive(Clone, Copy, Debug)]
+#[derive(Clone, Copy)]
 pub enum What {
     /// An application asked this of its router.
     Asked(Note),
@@ -98,7 +98,7 @@ pub enum What {
 }
 
 /// One thing that happened, in a turn of this party at this time, which is the number of rounds completed before.
-#[derive(Clone, Copy, Debug)]
+#[derive(Clone, Copy)]
 pub struct Happening {
     /// When.
     pub time: u64,

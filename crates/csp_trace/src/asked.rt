@@ -15,7 +15,7 @@ use csp_timeline::timeline;
 use std::alloc::{AllocError, Global};
 
 /// What is asked of a scene.
-#[derive(Drop, Debug)]
+#[derive(Drop)]
 pub enum Asked<'a> {
     /// What happened, line by line.
     Timeline,

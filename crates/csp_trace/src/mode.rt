@@ -9,7 +9,7 @@ use csp_picture::Window;
 use csp_text::number;
 
 /// What is to be told of a run.
-#[derive(Drop, Debug)]
+#[derive(Drop)]
 pub enum Mode<'a> {
     /// What happened, line by line: `timeline`.
     Timeline,

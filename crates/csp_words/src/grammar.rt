@@ -9,7 +9,7 @@ pub const MAX_WORKERS: u32 = 8;
 pub const DEFAULT_WORKERS: u32 = 4;
 
 /// A command of the program.
-#[derive(Clone, Copy, PartialEq, Eq, Debug)]
+#[derive(Clone, Copy, PartialEq, Eq)]
 pub enum Command {
     /// To run a scenario by its schedule: `sim`.
     Sim,

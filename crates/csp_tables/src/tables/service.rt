@@ -8,6 +8,7 @@ use csp_base::{Addr, Name, Port};
 use csp_cases::CaseError::Unread;
 use csp_cases::{CaseError, Steps, Words, long_of, plain, shown, small_of, stepped};
 use csp_cmp::{CmpReply, MAX_REPLY, decode};
+use csp_log::Event;
 use csp_route::{Row, Table};
 use csp_service::{Names, Served, ServiceError, Services};
 use std::alloc::Global;
@@ -114,7 +115,9 @@ fn served_text(alloc: Global, served: Served, reply: &[u8]) -> Result<String, Ca
             let reply = hex(alloc, reply)?;
             Ok(format!(in alloc; "reply {reply}")?)
         }
-        Served::Silent(event) => Ok(format!(in alloc; "silent {event:?}")?),
+        Served::Silent(Event::Reboot) => plain(alloc, "silent Reboot"),
+        Served::Silent(Event::Shutdown) => plain(alloc, "silent Shutdown"),
+        Served::Silent(_) => Err(Unread),
         Served::Refused(ServiceError::Cmp(error)) => Ok(format!(in alloc; "refused {error:?}")?),
         Served::Refused(error) => Ok(format!(in alloc; "refused {error:?}")?),
         Served::NoService => plain(alloc, "no service"),
