@@ -68,7 +68,8 @@ impl Collector {
     /// The blob that became whole by the last piece, until the next call of `piece` or `reset`. Else what was gathered
     /// of the one under way.
     pub fn blob(&self) -> &[u8]
-        ensures { result.now ≡ self.now.bytes }
+        ensures bytes { result.now ≡ self.now.bytes }
+        ensures fits { length self.now.bytes ≤ MAX_BLOB }
     {
         self.bytes.as_slice()
     }

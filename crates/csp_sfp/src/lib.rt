@@ -12,4 +12,4 @@ pub use collector::{Collector, SfpAnswer};
 pub use errors::SfpError;
 pub use laws::{collects_a_prefix, gathers_pieces, joins_data};
 pub use pieces::{MAX_PIECE, MAX_SIZE, Pieces};
-pub use trailer::{MAX_BLOB, TRAILER_LEN};
+pub use trailer::{MAX_BLOB, TRAILER_LEN, trailer_bytes};

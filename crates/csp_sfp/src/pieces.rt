@@ -3,7 +3,7 @@
 ghost use Rattle.std.specs.Prelude.{◌≡◌, ◌<◌, ◌≤◌, length, map};
 ghost use Rattle.csp_sfp.specs.Pieces.{CanBeCut, held, piece_at, pieces_of};
 
-use crate::trailer::{TRAILER_LEN, trailer};
+use crate::trailer::{TRAILER_LEN, trailer_bytes};
 use arrayvec::ArrayVec;
 use std::marker::Model;
 
@@ -86,7 +86,7 @@ fn piece(blob: &[u8], size: usize, offset: usize) -> ArrayVec<u8, MAX_PIECE>
         .try_extend_from_slice(&rest[..rest.len().min(size)])
         .unwrap();
     bytes
-        .try_extend_from_slice(&trailer(offset as u32, blob.len() as u32))
+        .try_extend_from_slice(&trailer_bytes(offset as u32, blob.len() as u32))
         .unwrap();
     bytes
 }

@@ -37,7 +37,7 @@ impl<'a> Piece<'a> {
 }
 
 /// The eight bytes of a trailer.
-pub(crate) fn trailer(offset: u32, total: u32) -> [u8; 8]
+pub fn trailer_bytes(offset: u32, total: u32) -> [u8; 8]
     ensures { result ≡ trailer_bytes offset total }
 {
     let [o0, o1, o2, o3] = offset.to_be_bytes();
