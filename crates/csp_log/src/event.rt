@@ -3,6 +3,7 @@
 use crate::Why;
 use arrayvec::ArrayVec;
 use csp_base::Tag;
+use csp_sfp::SfpError;
 
 /// The most events of one turn.
 pub const MAX_EVENTS: usize = 8;
@@ -27,6 +28,19 @@ pub enum Event {
     Took {
         slot: u8,
         ordinal: u32,
+    },
+    /// A blob of this slot's connection is whole by the packet that was taken: its length in bytes, and its CRC-32C.
+    BlobTook {
+        slot: u8,
+        ordinal: u32,
+        len: u32,
+        crc: u32,
+    },
+    /// The packet that was taken is not the next piece of a blob, for this reason.
+    BlobRefused {
+        slot: u8,
+        ordinal: u32,
+        why: SfpError,
     },
     /// A step's request was refused.
     Refused {
