@@ -28,10 +28,3 @@ burst_joined a (suc b) j =
 
 pub burst_length : (len j : ℕ) → length (burst_bytes len j) ≡ len
 burst_length len j = length-map-range_with_len (λ i. (j + i) % 256) 0 len
-
--- what a step that can be has made, `Up` carries
-pub up_carries : (x : PlainStep) (j : ℕ) (b : Content) → IsStep x → IsUpItem (item.Packet (batch_of x).mark (filled (batch_of x) j b))
-up_carries (step.Send slot bytes) j b h = λ _. h
-up_carries (step.Burst slot count len) j b h = λ _. (h.0, rw (burst_length len j) h.2, rw (burst_length len j) h.3)
-up_carries step.Take j b h = λ ne. absurd (ne refl)
-up_carries _ j b h = λ ne. absurd (ne refl)

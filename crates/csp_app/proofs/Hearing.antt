@@ -8,6 +8,7 @@ use Rattle.std.proofs.Math.Bool.{and-true}
 use Rattle.std.proofs.lemmas.Option.{slice_get_within, get_or_from_slice_get}
 use Rattle.csp_app.specs.PlainApp.{PlainApp, AppAt, has_ended, uses}
 use Rattle.csp_app.specs.Asking.{handed, asked}
+use Rattle.csp_app.specs.Collecting.{Collectors}
 use Rattle.csp_app.specs.Room.{IsStep, CanHear, IsReady, lent, plain_app, app_at, take_steps}
 use Rattle.csp_app.specs.Slots.{slot_at}
 use Rattle.csp_app.specs.Steps.{first_rule, note_plan, recv_plan, step_plan, plan_of, turn_of}
@@ -70,26 +71,29 @@ recv_hears s now slot packets rounds None false free few more e = record { hears
 recv_hears s now slot packets rounds (Some _) true free few more e = record { hears = (more, free, few); room = omega arith; kind = refl; served = down_served s.number }
 recv_hears s now slot packets rounds (Some _) false free few more e = record { hears = (more, free, few); room = omega arith; kind = refl; served = down_served s.number }
 
-own_hears : (number : ℕ) (steps : List PlainStep) (done : ℕ) (since : Option ℕ) (asked : Bool) (sent : ℕ) (refused : Bool) (taken made : Option Content) (mark : ℕ) (held : List Content) (slots : List Slot) (doing : Plan) (now : ℕ) (found : Option PlainStep)
-    → let s : PlainApp = record { number = number; steps = steps; done = done; since = since; asked = asked; sent = sent; refused = refused; taken = taken; made = made; mark = mark; held = held; slots = slots; doing = doing } in
+own_hears : (number : ℕ) (steps : List PlainStep) (done : ℕ) (since : Option ℕ) (asked : Bool) (sent : ℕ) (refused : Bool) (taken made : Option Content) (mark : ℕ) (held : List Content) (slots : List Slot) (collectors : Collectors) (doing : Plan) (now : ℕ) (found : Option PlainStep)
+    → let s : PlainApp = record { number = number; steps = steps; done = done; since = since; asked = asked; sent = sent; refused = refused; taken = taken; made = made; mark = mark; held = held; slots = slots; collectors = collectors; doing = doing } in
     slice_get steps done ≡ found → IfSome found IsStep → IsFit s → (taken ≡ None → done < length steps) → Heard s now (own s found)
-own_hears number steps done since asked sent refused (Some b) made mark held slots doing now found e ok up more = record { hears = refl; room = omega arith; kind = refl; served = tt }
-own_hears number steps done since asked sent true None made mark held slots doing now found e ok up more = record { hears = refl; room = omega arith; kind = refl; served = down_served number }
-own_hears number steps done since asked sent false None made mark held slots doing now None e ok up more = record { hears = tt; room = omega arith; kind = refl; served = tt }
-own_hears number steps done since asked sent false None made mark held slots doing now (Some step.Take) e ok up more = record { hears = e; room = omega arith; kind = refl; served = tt }
-own_hears number steps done since asked sent false None made mark [] slots doing now (Some step.Give) e ok up more = record { hears = more refl; room = omega arith; kind = refl; served = tt }
-own_hears number steps done since asked sent false None made mark (b ∷ bs) slots doing now (Some step.Give) e ok up more = record { hears = more refl; room = omega arith; kind = refl; served = tt }
-own_hears number steps done since asked sent false None made mark held slots doing now (Some (step.Bind port need)) e ok up more = note_hears _ now asked _ refl (more refl) tt
-own_hears number steps done since asked sent false None made mark held slots doing now (Some (step.Connect slot dest port prio flags from)) e ok up more = note_hears _ now asked _ refl (more refl) ok
-own_hears number steps done since asked sent false None made mark held slots doing now (Some (step.Close slot)) e ok up more = note_hears _ now asked _ refl (more refl) ok
-own_hears number steps done since asked sent false None None mark held slots doing now (Some (step.Send _ _)) e ok up more = record { hears = (more refl, refl); room = omega arith; kind = refl; served = tt }
-own_hears number steps done since asked sent false None (Some b) mark held slots doing now (Some (step.Send _ _)) e ok up more = record { hears = (more refl, refl); room = omega arith; kind = refl; served = up_served number (item.Packet mark b) up }
-own_hears number steps done since asked sent false None None mark held slots doing now (Some (step.Burst _ _ _)) e ok up more = record { hears = (more refl, refl); room = omega arith; kind = refl; served = tt }
-own_hears number steps done since asked sent false None (Some b) mark held slots doing now (Some (step.Burst _ _ _)) e ok up more = record { hears = (more refl, refl); room = omega arith; kind = refl; served = up_served number (item.Packet mark b) up }
-own_hears number steps done since asked sent false None None mark held slots doing now (Some (step.Raw _ _)) e ok up more = record { hears = (more refl, refl); room = omega arith; kind = refl; served = tt }
-own_hears number steps done since asked sent false None (Some b) mark held slots doing now (Some (step.Raw _ _)) e ok up more = record { hears = (more refl, refl); room = omega arith; kind = refl; served = up_served number (item.Packet mark b) up }
-own_hears number steps done since asked sent false None made mark held slots doing now (Some (step.Recv slot packets rounds)) e ok up more = recv_hears _ now slot packets rounds since _ refl ok (more refl) refl
-own_hears number steps done since asked sent false None made mark held slots doing now (Some (step.Wait rounds)) e ok up more = record { hears = (more refl, refl); room = omega arith; kind = refl; served = down_served number }
+own_hears number steps done since asked sent refused (Some b) made mark held slots collectors doing now found e ok up more = record { hears = refl; room = omega arith; kind = refl; served = tt }
+own_hears number steps done since asked sent true None made mark held slots collectors doing now found e ok up more = record { hears = refl; room = omega arith; kind = refl; served = down_served number }
+own_hears number steps done since asked sent false None made mark held slots collectors doing now None e ok up more = record { hears = tt; room = omega arith; kind = refl; served = tt }
+own_hears number steps done since asked sent false None made mark held slots collectors doing now (Some step.Take) e ok up more = record { hears = e; room = omega arith; kind = refl; served = tt }
+own_hears number steps done since asked sent false None made mark [] slots collectors doing now (Some step.Give) e ok up more = record { hears = more refl; room = omega arith; kind = refl; served = tt }
+own_hears number steps done since asked sent false None made mark (b ∷ bs) slots collectors doing now (Some step.Give) e ok up more = record { hears = more refl; room = omega arith; kind = refl; served = tt }
+own_hears number steps done since asked sent false None made mark held slots collectors doing now (Some (step.Bind port need)) e ok up more = note_hears _ now asked _ refl (more refl) tt
+own_hears number steps done since asked sent false None made mark held slots collectors doing now (Some (step.Connect slot dest port prio flags from)) e ok up more = note_hears _ now asked _ refl (more refl) ok
+own_hears number steps done since asked sent false None made mark held slots collectors doing now (Some (step.Close slot)) e ok up more = note_hears _ now asked _ refl (more refl) ok
+own_hears number steps done since asked sent false None None mark held slots collectors doing now (Some (step.Send _ _)) e ok up more = record { hears = (more refl, refl); room = omega arith; kind = refl; served = tt }
+own_hears number steps done since asked sent false None (Some b) mark held slots collectors doing now (Some (step.Send _ _)) e ok up more = record { hears = (more refl, refl); room = omega arith; kind = refl; served = up_served number (item.Packet mark b) up }
+own_hears number steps done since asked sent false None None mark held slots collectors doing now (Some (step.Burst _ _ _)) e ok up more = record { hears = (more refl, refl); room = omega arith; kind = refl; served = tt }
+own_hears number steps done since asked sent false None (Some b) mark held slots collectors doing now (Some (step.Burst _ _ _)) e ok up more = record { hears = (more refl, refl); room = omega arith; kind = refl; served = up_served number (item.Packet mark b) up }
+own_hears number steps done since asked sent false None None mark held slots collectors doing now (Some (step.Blob _ _ _)) e ok up more = record { hears = (more refl, refl); room = omega arith; kind = refl; served = tt }
+own_hears number steps done since asked sent false None (Some b) mark held slots collectors doing now (Some (step.Blob _ _ _)) e ok up more = record { hears = (more refl, refl); room = omega arith; kind = refl; served = up_served number (item.Packet mark b) up }
+own_hears number steps done since asked sent false None None mark held slots collectors doing now (Some (step.Raw _ _)) e ok up more = record { hears = (more refl, refl); room = omega arith; kind = refl; served = tt }
+own_hears number steps done since asked sent false None (Some b) mark held slots collectors doing now (Some (step.Raw _ _)) e ok up more = record { hears = (more refl, refl); room = omega arith; kind = refl; served = up_served number (item.Packet mark b) up }
+own_hears number steps done since asked sent false None made mark held slots collectors doing now (Some (step.Recv slot packets rounds)) e ok up more = recv_hears _ now slot packets rounds since _ refl ok (more refl) refl
+own_hears number steps done since asked sent false None made mark held slots collectors doing now (Some (step.Collect slot blobs rounds)) e ok up more = recv_hears _ now slot blobs rounds since _ refl ok (more refl) refl
+own_hears number steps done since asked sent false None made mark held slots collectors doing now (Some (step.Wait rounds)) e ok up more = record { hears = (more refl, refl); room = omega arith; kind = refl; served = down_served number }
 
 found_step : (steps : List PlainStep) (n : ℕ) (found : Option PlainStep) → All IsStep steps → slice_get steps n ≡ found → IfSome found IsStep
 found_step steps n None all e = tt
@@ -100,7 +104,7 @@ goes_on len done None h e = leb-false len done (sym (and-true (nat_le len done))
 goes_on len done (Some _) h e = absurd cc
 
 pub asked_hears : (s : PlainApp) (now : ℕ) → All IsStep s.steps → IsFit s → has_ended s ≡ false → Heard s now (plan_of s)
-asked_hears s now all up goes = own_hears s.number s.steps s.done s.since s.asked s.sent s.refused s.taken s.made s.mark s.held s.slots s.doing now _ refl (found_step s.steps s.done _ all refl) up (goes_on (length s.steps) s.done s.taken goes)
+asked_hears s now all up goes = own_hears s.number s.steps s.done s.since s.asked s.sent s.refused s.taken s.made s.mark s.held s.slots s.collectors s.doing now _ refl (found_step s.steps s.done _ all refl) up (goes_on (length s.steps) s.done s.taken goes)
 
 -- what stays while it asks
 pub record Stays (s t : PlainApp) : Type 0 where

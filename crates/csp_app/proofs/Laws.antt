@@ -1,11 +1,12 @@
 -- the laws of a step: no buffer is lost or made, and the numbers that turns raise are raised by one at most
-use Rattle.std.proofs.Common.{◌≡◌, ℕ, zero, suc, ◌+◌, ◌-◌, ◌≤◌, Bool, true, false, Option, Some, None, List, [], ◌∷◌, ◌++◌, drop, refl, sym, ap, ◌∙◌, arith}
+use Rattle.std.proofs.Common.{◌≡◌, ℕ, zero, suc, ◌+◌, ◌-◌, ◌≤◌, Bool, true, false, Option, Some, None, Result, Ok, Err, List, [], ◌∷◌, ◌++◌, drop, refl, sym, ap, ◌∙◌, arith}
 use Rattle.std.specs.List.{slice_get, slice_set}
 use Rattle.std.specs.Option.{option_to_list, option_map}
 use Rattle.std.specs.Prelude.{◌==◌, if◌then◌else◌, nat_lt}
 use Rattle.std.proofs.lemmas.List.Sums.{sum_by-cons}
 use Rattle.csp_app.proofs.Counting.{among, among_cons, among_append, holds_times}
 use Rattle.csp_app.proofs.Popping.{Fitting}
+use Rattle.csp_app.specs.Collecting.{Collectors, answer_of, collector_at, collectors_after, counts}
 use Rattle.csp_app.specs.PlainApp.{PlainApp, uses, holds, buffers}
 use Rattle.csp_app.specs.Asking.{handed}
 use Rattle.csp_app.specs.Making.{packet_in, mark_in, note_in, filled}
@@ -30,6 +31,9 @@ use Rattle.csp_log.specs.declared.places.Carries.TheVariants as lane
 use Rattle.csp_log.specs.declared.places.QueueId.{QueueId}
 use Rattle.csp_log.specs.declared.places.QueueId.TheVariants as queue
 use Rattle.csp_log.specs.declared.places.Rule.TheVariants as rule
+use Rattle.csp_sfp.specs.declared.collector.SfpAnswer.{SfpAnswer}
+use Rattle.csp_sfp.specs.declared.collector.SfpAnswer.TheVariants.{Part, Whole}
+use Rattle.csp_sfp.specs.declared.errors.SfpError.{SfpError}
 
 given_numbers : (k : ℕ) (t : Option Content) → times k (op_numbers (giving_op t)) ≡ among k (option_to_list t)
 given_numbers k None = refl
@@ -69,10 +73,19 @@ noted_counted (note.Closed k) slots = set_counted (λ s. record s { ordinal = s.
 noted_counted (note.Down k) slots = omega (arith, set_counted (λ s. record s { down = true }) 0 (λ s. omega arith) slots k)
 noted_counted _ slots = omega arith
 
-after_counted : (i : ItemShown) (slots : List Slot) → counted (slots_after i slots) ≤ counted slots + 1
-after_counted (item.Packet k _) slots = set_counted (λ s. record s { unused = s.unused + 1 }) 1 (λ s. omega arith) slots k
-after_counted (item.Note n) slots = noted_counted n slots
-after_counted (item.Frame _) slots = omega arith
+-- a packet is one thing to be waited for at most
+counts_one : (a : Option (Result SfpAnswer SfpError)) → counts a ≤ 1
+counts_one None = omega arith
+counts_one (Some (Ok Whole)) = omega arith
+counts_one (Some (Ok Part)) = omega arith
+counts_one (Some (Err why)) = omega arith
+
+after_counted : (i : ItemShown) (collectors : Collectors) (slots : List Slot) → counted (slots_after i collectors slots) ≤ counted slots + 1
+after_counted (item.Packet k b) collectors slots =
+    let more : ℕ = counts (answer_of (collector_at collectors k) b.payload) in
+    omega (arith, set_counted (λ s. record s { unused = s.unused + more }) more (λ s. omega arith) slots k, counts_one (answer_of (collector_at collectors k) b.payload))
+after_counted (item.Note n) collectors slots = noted_counted n slots
+after_counted (item.Frame _) collectors slots = omega arith
 
 -- a step that goes on or ends leaves the buffers and the number, and raises none of the numbers that turns raise
 record Passes (s t : PlainApp) : Type 0 where
@@ -115,11 +128,11 @@ waited_passes : (rounds now : ℕ) (s : PlainApp) → Passes s (waited rounds no
 waited_passes rounds now s = wait_end_passes (has_passed rounds now s) s
 
 -- an item is popped, and then a step goes on or ends
-pop_law : (k : ℕ) (s : PlainApp) (t : Option Content) (slots : List Slot) → s.taken ≡ None → times k (holds (record s { taken = t; slots = slots })) ≡ times k (holds s) + among k (option_to_list t)
-pop_law k s t slots e = omega (arith, holds_times k s, holds_times k (record s { taken = t; slots = slots }), ap (λ (o : Option Content). among k (option_to_list o)) e)
+pop_law : (k : ℕ) (s : PlainApp) (t : Option Content) (slots : List Slot) (collectors : Collectors) → s.taken ≡ None → times k (holds (record s { taken = t; slots = slots; collectors = collectors })) ≡ times k (holds s) + among k (option_to_list t)
+pop_law k s t slots collectors e = omega (arith, holds_times k s, holds_times k (record s { taken = t; slots = slots; collectors = collectors }), ap (λ (o : Option Content). among k (option_to_list o)) e)
 
 popped_law : (k : ℕ) (s t : PlainApp) (i : ItemShown) → s.taken ≡ None → Passes (popped i s) t → times k (holds t) ≡ times k (holds s) + times k (item_numbers i)
-popped_law k s t i e p = ap (among k) p.same ∙ (pop_law k s (packet_in i) (slots_after i s.slots) e ∙ ap (λ (n : ℕ). times k (holds s) + n) (sym (item_law k i)))
+popped_law k s t i e p = ap (among k) p.same ∙ (pop_law k s (packet_in i) (slots_after i s.collectors s.slots) (collectors_after i s.collectors) e ∙ ap (λ (n : ℕ). times k (holds s) + n) (sym (item_law k i)))
 
 stays_law : (k : ℕ) (s t : PlainApp) → Passes s t → times k (holds t) ≡ times k (holds s) + 0
 stays_law k s t p = ap (among k) p.same ∙ omega arith
@@ -132,7 +145,7 @@ pub told_law : (s : PlainApp) (now : ℕ) (p : Plan) (a : AnswerShown) → Fitti
     → (k : ℕ) → times k (holds (told_by (at_rest s) now p a).state) ≡ times k (holds s) + times k (answer_numbers a)
 told_law s now plan.Rest answer.Nothing h c k = omega arith
 told_law s now plan.Return answer.Given h c k = omega arith
-told_law s now plan.Return (answer.PoolFull b) h c k = pop_law k s (Some b) s.slots c
+told_law s now plan.Return (answer.PoolFull b) h c k = pop_law k s (Some b) s.slots s.collectors c
 told_law s now plan.Look (answer.Popped i) h c k = popped_law k s _ i c (stays _)
 told_law s now plan.Look answer.Empty h c k = omega arith
 told_law s now plan.Take (answer.Taken b) h c k = omega (arith, holds_times k s, holds_times k (record s { held = s.held ++ b ∷ [] }), among_append k s.held (b ∷ []))
@@ -141,7 +154,7 @@ told_law s now plan.Give answer.Given h c k = omega arith
 told_law s now plan.Give (answer.PoolFull b) h c k = omega (arith, holds_times k s, holds_times k (record s { held = b ∷ s.held }), among_cons k b s.held)
 told_law s now plan.Skip answer.Nothing h c k = omega arith
 told_law s now (plan.Ask n) answer.Pushed h c k = omega arith
-told_law s now (plan.Ask n) (answer.Full i) h c k = pop_law k s (packet_in i) s.slots c ∙ ap (λ (n : ℕ). times k (holds s) + n) (sym (item_law k i))
+told_law s now (plan.Ask n) (answer.Full i) h c k = pop_law k s (packet_in i) s.slots s.collectors c ∙ ap (λ (n : ℕ). times k (holds s) + n) (sym (item_law k i))
 told_law s now plan.Await (answer.Popped i) h c k = popped_law k (at_rest s) _ i c.1 (answered_passes (note_in i) (popped i (at_rest s)))
 told_law s now plan.Await answer.Empty h c k = omega arith
 told_law s now plan.Fill (answer.Taken b) h c k = made_law k (batch s).mark s (Some (filled (batch s) s.sent b)) c.1
@@ -164,7 +177,7 @@ passed : (s t : PlainApp) → Passes s t → Raises s t
 passed s t p = record { number = p.number; count = omega (arith, p.no_more) }
 
 popped_passed : (s t : PlainApp) (i : ItemShown) → Passes (popped i s) t → Raises s t
-popped_passed s t i p = record { number = p.number; count = omega (arith, p.no_more, after_counted i s.slots) }
+popped_passed s t i p = record { number = p.number; count = omega (arith, p.no_more, after_counted i s.collectors s.slots) }
 
 pub told_raises : (s : PlainApp) (now : ℕ) (p : Plan) (a : AnswerShown) → Raises (at_rest s) (told_by (at_rest s) now p a).state
 told_raises s now plan.Look (answer.Popped i) = popped_passed (at_rest s) (popped i (at_rest s)) i (stays _)

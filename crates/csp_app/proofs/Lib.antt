@@ -1,4 +1,6 @@
+pub mod Blobs
 pub mod Bursts
+pub mod Collectors
 pub mod Counting
 pub mod Hearing
 pub mod Laws

@@ -43,7 +43,7 @@ popped_hears s _ i h c = absurd h
 
 -- the item is noted, and then the step looks
 pub popped_comes : (s : PlainApp) (now : ℕ) (p : Plan) (i : ItemShown) → Fitting s p (answer.Popped i)
-    → told_by (at_rest s) now p (answer.Popped i) ≡ after (took i s.slots) (looked (turn_of (popped i (at_rest s)) now p) (note_in i) (popped i (at_rest s)))
+    → told_by (at_rest s) now p (answer.Popped i) ≡ after (took i s.collectors s.slots) (looked (turn_of (popped i (at_rest s)) now p) (note_in i) (popped i (at_rest s)))
 popped_comes s now plan.Look i h = refl
 popped_comes s now plan.Await i h = refl
 popped_comes s now (plan.Receive _ _ _) i h = refl

@@ -1,12 +1,14 @@
 -- the bytes of a script's packets stay where they are when a step is added
 use Rattle.std.proofs.Common.{◌≡◌, ℕ, zero, suc, ◌+◌, ◌<◌, ◌≤◌, Bool, List, [], ◌∷◌, ◌++◌, length, get_or, map, take, drop, cond, refl, ap, ap₂, ◌∙◌, arith, length-append}
-use Rattle.std.specs.Prelude.{count_by}
+use Rattle.std.specs.Prelude.{◌||◌, count_by}
+use Rattle.std.specs.List.{list_any}
 use Rattle.std.proofs.Math.Seq.{drop-append_seam}
 use Rattle.std.proofs.lemmas.List.{take-append-le, drop-append-le, take_all, length-drop, map-append}
 use Rattle.std.proofs.lemmas.List.Sums.{sum_by-cons}
 use Rattle.csp_app.specs.PlainStep.{PlainStep}
 use Rattle.csp_app.specs.PlainStep as plain
 use Rattle.csp_app.specs.Placing.{part, place_after, placed_step, IsWithin, AreWithin}
+use Rattle.csp_app.specs.Collecting.{collects_on}
 use Rattle.csp_app.specs.Room.{is_take, take_steps}
 use Rattle.csp_app.specs.declared.placed.Place.{Place}
 use Rattle.csp_app.specs.declared.placed.Placed.{Placed}
@@ -60,8 +62,10 @@ same_take bytes (placed.Bind _ _) = refl
 same_take bytes (placed.Connect _ _ _ _ _ _) = refl
 same_take bytes (placed.Send _ _) = refl
 same_take bytes (placed.Burst _ _ _) = refl
+same_take bytes (placed.Blob _ _ _) = refl
 same_take bytes (placed.Raw _ _) = refl
 same_take bytes (placed.Recv _ _ _) = refl
+same_take bytes (placed.Collect _ _ _) = refl
 same_take bytes (placed.Close _) = refl
 same_take bytes (placed.Wait _) = refl
 
@@ -74,3 +78,22 @@ same_takes bytes [] = refl
 same_takes bytes (x ∷ xs) =
     let one : ones (is_take (placed_step bytes x)) ≡ ones (is_take (placed_step [] x)) = ap ones (same_take bytes x) in
     omega (arith, sum_by-cons (λ y. cond (is_take y) 1 0) (placed_step bytes x) (map (placed_step bytes) xs), sum_by-cons (λ y. cond (is_take (placed_step [] y)) 1 0) x xs, one, same_takes bytes xs)
+
+same_collect : (slot : ℕ) (bytes : List ℕ) (x : Placed) → collects_on slot (placed_step bytes x) ≡ collects_on slot (placed_step [] x)
+same_collect slot bytes placed.Take = refl
+same_collect slot bytes placed.Give = refl
+same_collect slot bytes (placed.Bind _ _) = refl
+same_collect slot bytes (placed.Connect _ _ _ _ _ _) = refl
+same_collect slot bytes (placed.Send _ _) = refl
+same_collect slot bytes (placed.Burst _ _ _) = refl
+same_collect slot bytes (placed.Blob _ _ _) = refl
+same_collect slot bytes (placed.Raw _ _) = refl
+same_collect slot bytes (placed.Recv _ _ _) = refl
+same_collect slot bytes (placed.Collect _ _ _) = refl
+same_collect slot bytes (placed.Close _) = refl
+same_collect slot bytes (placed.Wait _) = refl
+
+-- a slot is collected on, wherever the bytes of the steps stand
+pub same_collects : (slot : ℕ) (bytes : List ℕ) (xs : List Placed) → list_any (collects_on slot) (map (placed_step bytes) xs) ≡ list_any (λ x. collects_on slot (placed_step [] x)) xs
+same_collects slot bytes [] = refl
+same_collects slot bytes (x ∷ xs) = ap₂ (λ a b. a || b) (same_collect slot bytes x) (same_collects slot bytes xs)

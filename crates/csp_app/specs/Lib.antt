@@ -1,4 +1,5 @@
 pub mod Asking
+pub mod Collecting
 pub mod Drained
 pub mod Making
 pub mod Placing

@@ -1,14 +1,16 @@
 -- the packets that steps send, and what an item has in it
-use Rattle.std.specs.Prelude.{ℕ, ◌+◌, ◌%◌, List, [], map, Option, Some, None}
+use Rattle.std.specs.Prelude.{ℕ, ◌+◌, ◌*◌, ◌%◌, List, [], map, Option, Some, None}
 use Rattle.std.specs.List.{range_with_len}
 use Rattle.csp_app.specs.PlainStep.{PlainStep}
 use Rattle.csp_app.specs.PlainStep as step
+use Rattle.csp_app.specs.declared.packets.TheConstants.{FIRST_BYTE}
 use Rattle.csp_base.specs.Trace.{no_trace}
 use Rattle.csp_buffer.specs.Content.{Content}
 use Rattle.csp_log.specs.declared.note.Note.{Note}
 use Rattle.csp_log.specs.declared.places.TheConstants.{UNMARKED}
 use Rattle.csp_log.specs.declared.shown.ItemShown.{ItemShown}
 use Rattle.csp_log.specs.declared.shown.ItemShown.TheVariants as item
+use Rattle.csp_sfp.specs.Pieces.{piece_at, piece_count}
 
 -- the packets of one step: their mark and header word, how many they are, and the bytes of each by its number from 0
 pub record Batch : Type 0 where
@@ -33,6 +35,14 @@ no_packets = record { mark = UNMARKED; header = 0; count = 0; bytes = λ _. [] }
 abbrev pub burst_bytes : ℕ → ℕ → List ℕ
 burst_bytes len j = map (λ i. (j + i) % 256) (range_with_len 0 len)
 
+-- the bytes of a blob of this length: FIRST_BYTE + i mod 256 for i from 0 up
+abbrev pub blob_bytes : (len : ℕ) → List ℕ
+blob_bytes len = burst_bytes len FIRST_BYTE
+
+-- packet j of a blob is its j-th piece
+abbrev pub blob_piece : (len size j : ℕ) → List ℕ
+blob_piece len size j = piece_at (blob_bytes len) size (j * size)
+
 -- what each step sends
 abbrev pub batch_of : PlainStep → Batch
 batch_of step.Take = no_packets
@@ -41,8 +51,10 @@ batch_of (step.Bind _ _) = no_packets
 batch_of (step.Connect _ _ _ _ _ _) = no_packets
 batch_of (step.Send slot bytes) = to_slot slot 1 (λ _. bytes)
 batch_of (step.Burst slot count len) = to_slot slot count (burst_bytes len)
+batch_of (step.Blob slot len size) = to_slot slot (piece_count len size) (blob_piece len size)
 batch_of (step.Raw header bytes) = as_it_is header bytes
 batch_of (step.Recv _ _ _) = no_packets
+batch_of (step.Collect _ _ _) = no_packets
 batch_of (step.Close _) = no_packets
 batch_of (step.Wait _) = no_packets
 

@@ -17,8 +17,10 @@ plain_step (step.Bind port need) = plain.Bind port need
 plain_step (step.Connect slot dest port prio flags from) = plain.Connect slot dest port prio flags from
 plain_step (step.Send slot bytes) = plain.Send slot bytes.now
 plain_step (step.Burst slot count len) = plain.Burst slot count len
+plain_step (step.Blob slot len size) = plain.Blob slot len size
 plain_step (step.Raw header bytes) = plain.Raw header bytes.now
 plain_step (step.Recv slot count rounds) = plain.Recv slot count rounds
+plain_step (step.Collect slot count rounds) = plain.Collect slot count rounds
 plain_step (step.Close slot) = plain.Close slot
 plain_step (step.Wait rounds) = plain.Wait rounds
 
@@ -38,8 +40,10 @@ placed_step bytes (placed.Bind port need) = plain.Bind port need
 placed_step bytes (placed.Connect slot dest port prio flags from) = plain.Connect slot dest port prio flags from
 placed_step bytes (placed.Send slot place) = plain.Send slot (part bytes place)
 placed_step bytes (placed.Burst slot count len) = plain.Burst slot count len
+placed_step bytes (placed.Blob slot len size) = plain.Blob slot len size
 placed_step bytes (placed.Raw header place) = plain.Raw header (part bytes place)
 placed_step bytes (placed.Recv slot count rounds) = plain.Recv slot count rounds
+placed_step bytes (placed.Collect slot count rounds) = plain.Collect slot count rounds
 placed_step bytes (placed.Close slot) = plain.Close slot
 placed_step bytes (placed.Wait rounds) = plain.Wait rounds
 
@@ -51,8 +55,10 @@ IsWithin bytes (placed.Bind _ _) = ⊤
 IsWithin bytes (placed.Connect _ _ _ _ _ _) = ⊤
 IsWithin bytes (placed.Send _ place) = place.first + place.len ≤ length bytes
 IsWithin bytes (placed.Burst _ _ _) = ⊤
+IsWithin bytes (placed.Blob _ _ _) = ⊤
 IsWithin bytes (placed.Raw _ place) = place.first + place.len ≤ length bytes
 IsWithin bytes (placed.Recv _ _ _) = ⊤
+IsWithin bytes (placed.Collect _ _ _) = ⊤
 IsWithin bytes (placed.Close _) = ⊤
 IsWithin bytes (placed.Wait _) = ⊤
 

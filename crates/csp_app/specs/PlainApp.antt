@@ -1,6 +1,7 @@
 -- what an application is: its script, how far it has come, and the buffers that it has
 use Rattle.std.specs.Prelude.{ℕ, ◌+◌, ◌==◌, ◌&&◌, Bool, false, Option, Some, None, is_none, List, [], ◌++◌, length, replicate, nat_le, if◌then◌else◌}
 use Rattle.std.specs.Option.{option_to_list}
+use Rattle.csp_app.specs.Collecting.{Collectors, collectors_for}
 use Rattle.csp_app.specs.Slots.{fresh, counted}
 use Rattle.csp_app.specs.declared.plan.Plan.{Plan}
 use Rattle.csp_app.specs.declared.plan.Plan.TheVariants as plan
@@ -38,8 +39,9 @@ pub record PlainApp : Type 0 where
   pub mark : ℕ
   -- the buffers got by `take`, the oldest first
   pub held : List Content
-  -- what it knows of its slots
+  -- what it knows of its slots, and the collectors of those that collect
   pub slots : List Slot
+  pub collectors : Collectors
   -- what this turn is, from the operation to its answer
   pub doing : Plan
 
@@ -67,6 +69,7 @@ opening number steps = record {
   mark = UNMARKED;
   held = [];
   slots = replicate SLOTS fresh;
+  collectors = collectors_for steps;
   doing = plan.Rest;
 }
 

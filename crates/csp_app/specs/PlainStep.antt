@@ -11,8 +11,10 @@ pub data PlainStep : Type 0 where
   Connect : (slot dest port : ℕ) → (prio : Prio) → (flags : ℕ) → (from : Option ℕ) → PlainStep
   Send : (slot : ℕ) → (bytes : List ℕ) → PlainStep
   Burst : (slot count len : ℕ) → PlainStep
+  Blob : (slot len size : ℕ) → PlainStep
   Raw : (header : ℕ) → (bytes : List ℕ) → PlainStep
   Recv : (slot count : ℕ) → (rounds : Option ℕ) → PlainStep
+  Collect : (slot count : ℕ) → (rounds : Option ℕ) → PlainStep
   Close : (slot : ℕ) → PlainStep
   Wait : (rounds : ℕ) → PlainStep
 
@@ -25,7 +27,9 @@ bytes_of Give = []
 bytes_of (Bind _ _) = []
 bytes_of (Connect _ _ _ _ _ _) = []
 bytes_of (Burst _ _ _) = []
+bytes_of (Blob _ _ _) = []
 bytes_of (Recv _ _ _) = []
+bytes_of (Collect _ _ _) = []
 bytes_of (Close _) = []
 bytes_of (Wait _) = []
 

@@ -11,6 +11,8 @@ use Rattle.csp_base.specs.declared.limits.TheConstants.{MAX_PAYLOAD}
 use Rattle.csp_log.specs.declared.places.TheConstants.{SLOTS, MAX_DATA}
 use Rattle.csp_log.specs.declared.shown.ItemShown.TheVariants as item
 use Rattle.csp_deck.specs.Carried.{IsUpItem}
+use Rattle.csp_sfp.specs.declared.pieces.TheConstants.{MAX_SIZE}
+use Rattle.csp_sfp.specs.declared.trailer.TheConstants.{MAX_BLOB}
 
 -- an application's fields as contracts see them
 abbrev pub plain_app : Inside → PlainApp
@@ -27,6 +29,7 @@ plain_app a = record {
   mark = a.mark;
   held = a.held.contents;
   slots = a.slots;
+  collectors = a.collectors;
   doing = a.doing;
 }
 
@@ -42,8 +45,10 @@ IsStep (step.Bind _ _) = ⊤
 IsStep (step.Connect slot _ _ _ _ _) = slot < SLOTS
 IsStep (step.Send slot bytes) = (slot < SLOTS) × (1 ≤ length bytes) × (length bytes ≤ MAX_DATA)
 IsStep (step.Burst slot count len) = (slot < SLOTS) × (1 ≤ count) × (1 ≤ len) × (len ≤ MAX_DATA)
+IsStep (step.Blob slot len size) = (slot < SLOTS) × (1 ≤ len) × (len ≤ MAX_BLOB) × (1 ≤ size) × (size ≤ MAX_SIZE)
 IsStep (step.Raw _ bytes) = length bytes ≤ MAX_PAYLOAD
 IsStep (step.Recv slot _ _) = slot < SLOTS
+IsStep (step.Collect slot _ _) = slot < SLOTS
 IsStep (step.Close slot) = slot < SLOTS
 IsStep (step.Wait _) = ⊤
 
@@ -55,8 +60,10 @@ is_take (step.Bind _ _) = false
 is_take (step.Connect _ _ _ _ _ _) = false
 is_take (step.Send _ _) = false
 is_take (step.Burst _ _ _) = false
+is_take (step.Blob _ _ _) = false
 is_take (step.Raw _ _) = false
 is_take (step.Recv _ _ _) = false
+is_take (step.Collect _ _ _) = false
 is_take (step.Close _) = false
 is_take (step.Wait _) = false
 

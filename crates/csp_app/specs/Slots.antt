@@ -1,5 +1,6 @@
 -- what an application knows of its slots
 use Rattle.std.specs.Prelude.{ℕ, ◌+◌, ◌-◌, ◌∷◌, [], true, false, List, slice_index_or, slice_set, sum_by}
+use Rattle.csp_app.specs.Collecting.{Collectors, answer_of, blobs_told, collector_at, counts}
 use Rattle.csp_app.specs.declared.slot.Slot.{Slot}
 use Rattle.csp_log.specs.declared.event.Event.{Event}
 use Rattle.csp_log.specs.declared.event.Event.TheVariants as event
@@ -16,11 +17,11 @@ fresh = record { ordinal = 0; unused = 0; down = false }
 abbrev pub slot_at : List Slot → ℕ → Slot
 slot_at slots k = slice_index_or slots k fresh
 
--- a packet was taken on this slot
-abbrev pub taken_on : ℕ → List Slot → List Slot
-taken_on k slots = slice_set slots k (record (slot_at slots k) { unused = (slot_at slots k).unused + 1 })
+-- so many more packets, or blobs, of this slot are there
+abbrev pub taken_on : (k more : ℕ) → List Slot → List Slot
+taken_on k more slots = slice_set slots k (record (slot_at slots k) { unused = (slot_at slots k).unused + more })
 
--- a slot of which so many packets that were taken are used
+-- a slot of which so many packets or blobs that were taken are used
 abbrev pub used_on : ℕ → ℕ → List Slot → List Slot
 used_on k count slots = slice_set slots k (record (slot_at slots k) { unused = (slot_at slots k).unused - count })
 
@@ -43,17 +44,17 @@ noted note.Bound slots = slots
 noted (note.Connected _) slots = slots
 noted (note.Refused _) slots = slots
 
--- the slots after an item was popped
-abbrev pub slots_after : ItemShown → List Slot → List Slot
-slots_after (item.Packet k _) slots = taken_on k slots
-slots_after (item.Note n) slots = noted n slots
-slots_after (item.Frame _) slots = slots
+-- the slots after an item was popped: a packet counts for itself, and on a slot that collects by the blob that is whole by it
+abbrev pub slots_after : ItemShown → Collectors → List Slot → List Slot
+slots_after (item.Packet k b) collectors slots = taken_on k (counts (answer_of (collector_at collectors k) b.payload)) slots
+slots_after (item.Note n) collectors slots = noted n slots
+slots_after (item.Frame _) collectors slots = slots
 
--- what is reported of an item that was popped: a packet is taken on its slot's present connection
-abbrev pub took : ItemShown → List Slot → List Event
-took (item.Packet k _) slots = event.Took k (slot_at slots k).ordinal ∷ []
-took (item.Note _) slots = []
-took (item.Frame _) slots = []
+-- what is reported of an item that was popped: a packet is taken on its slot's present connection, and goes to the slot's collector
+abbrev pub took : ItemShown → Collectors → List Slot → List Event
+took (item.Packet k b) collectors slots = event.Took k (slot_at slots k).ordinal ∷ blobs_told k (slot_at slots k).ordinal (collector_at collectors k) b.payload
+took (item.Note _) collectors slots = []
+took (item.Frame _) collectors slots = []
 
 -- the numbers that turns raise, added up
 abbrev pub counted : List Slot → ℕ

@@ -40,13 +40,13 @@ abbrev pub packet_plan : (made : Option Content) → Plan
 packet_plan None = plan.Fill
 packet_plan (Some _) = plan.Push
 
--- `recv` does nothing once where there are enough packets at its start
+-- `recv` does nothing once where there are enough packets at its start; and so does `collect`, where there are enough blobs
 abbrev pub recv_plan : (slot packets : ℕ) → (rounds since : Option ℕ) → (is_enough : Bool) → Plan
 recv_plan slot packets rounds None true = plan.Use slot packets
 recv_plan slot packets rounds None false = plan.Receive slot packets rounds
 recv_plan slot packets rounds (Some _) _ = plan.Receive slot packets rounds
 
--- so many packets of a slot are there that no `recv` has used
+-- so many packets of a slot are there that no `recv` has used; or blobs that no `collect` has
 abbrev pub is_enough : ℕ → ℕ → PlainApp → Bool
 is_enough slot packets s = nat_le packets (slot_at s.slots slot).unused
 
@@ -58,8 +58,10 @@ step_plan s (Some (step.Bind port need)) = note_plan s.asked (note.Bind port nee
 step_plan s (Some (step.Connect slot dest port prio flags from)) = note_plan s.asked (note.Connect slot dest port prio flags from)
 step_plan s (Some (step.Send _ _)) = packet_plan s.made
 step_plan s (Some (step.Burst _ _ _)) = packet_plan s.made
+step_plan s (Some (step.Blob _ _ _)) = packet_plan s.made
 step_plan s (Some (step.Raw _ _)) = packet_plan s.made
 step_plan s (Some (step.Recv slot packets rounds)) = recv_plan slot packets rounds s.since (is_enough slot packets s)
+step_plan s (Some (step.Collect slot blobs rounds)) = recv_plan slot blobs rounds s.since (is_enough slot blobs s)
 step_plan s (Some (step.Close slot)) = note_plan s.asked (note.Close slot)
 step_plan s (Some (step.Wait rounds)) = plan.Wait rounds
 step_plan s None = plan.Rest
@@ -159,10 +161,10 @@ turn_of s now plan.Skip = rests (over s)
 -- (a note has no buffer; one that came back in its place would be given back)
 turn_of s now (plan.Ask n) = pushes (Some (item.Note n)) s (still (record s { asked = true })) (λ i. put_off (record s { taken = packet_in i }))
 turn_of s now plan.Await = pops s answered
--- send, burst, raw: a buffer is taken and filled, and pushed; what comes back is kept for the next try
+-- send, burst, blob, raw: a buffer is taken and filled, and pushed; what comes back is kept for the next try
 turn_of s now plan.Fill = takes (λ b. still (making (batch s) b s)) (put_off s)
 turn_of s now plan.Push = pushes (packet_made s) (record s { made = None }) (pushed_one (nat_lt (s.sent + 1) (batch s).count) s) (λ i. put_off (record s { made = packet_in i; mark = mark_in i }))
--- recv: satisfied at its start it does nothing once; else `Down` is popped until it has its packets, or ends without them
+-- recv, collect: satisfied at its start it does nothing once; else `Down` is popped until it has its packets, or blobs, or ends without them
 turn_of s now (plan.Use slot packets) = rests (satisfied slot packets s)
 turn_of s now (plan.Receive slot packets rounds) = pops (timed now s) (λ _ s. received slot packets rounds now s)
 -- wait: `Down` is popped until the rounds have passed

@@ -1,5 +1,6 @@
 -- one turn: what it asks, what the application is until the answer, and what each answer comes to
 use Rattle.std.specs.Prelude.{ℕ, Option, Some, None}
+use Rattle.csp_app.specs.Collecting.{collectors_after}
 use Rattle.csp_app.specs.Making.{packet_in, note_in}
 use Rattle.csp_app.specs.PlainApp.{PlainApp}
 use Rattle.csp_app.specs.Slots.{slots_after, took}
@@ -61,9 +62,9 @@ until_told s (gives _ until _ _) = until
 until_told s (pushes _ until _ _) = until
 until_told s (pops until _) = until
 
--- an item was popped: a packet is taken on its slot, and is to be given back
+-- an item was popped: a packet is taken on its slot, goes to the slot's collector, and is to be given back
 abbrev pub popped : ItemShown → PlainApp → PlainApp
-popped i s = record s { taken = packet_in i; slots = slots_after i s.slots }
+popped i s = record s { taken = packet_in i; slots = slots_after i s.collectors s.slots; collectors = collectors_after i s.collectors }
 
 -- what it looks for when `Down` was popped
 abbrev pub looked : Turn → Option Note → PlainApp → Told
@@ -82,7 +83,7 @@ told_of s (gives _ _ given back) answer.Given = given
 told_of s (gives _ _ given back) (answer.PoolFull b) = back b
 told_of s (pushes _ _ pushed back) answer.Pushed = pushed
 told_of s (pushes _ _ pushed back) (answer.Full i) = back i
-told_of s (pops _ look) (answer.Popped i) = after (took i s.slots) (look (note_in i) (popped i s))
+told_of s (pops _ look) (answer.Popped i) = after (took i s.collectors s.slots) (look (note_in i) (popped i s))
 told_of s (pops _ look) answer.Empty = look None s
 -- an answer to another operation
 told_of s _ _ = not_an_answer s

@@ -4,6 +4,7 @@ ghost use Rattle.std.specs.Prelude.{◌≡◌, ◌+◌, ◌^◌, ◌<◌, ◌≤
 ghost use Rattle.csp_deck.specs.Keeping.{number_in};
 ghost use Rattle.csp_deck.specs.Step.{times};
 
+use crate::collecting::{Collectors, SLOT_COUNT};
 use crate::plan::Plan;
 use crate::progress::Progress;
 use crate::script::Script;
@@ -11,11 +12,9 @@ use crate::slot::{Slot, fresh_slot};
 use csp_arena::RegionToken;
 use csp_buffer::Buffer;
 use csp_deck::{Hand, Pile};
-use csp_log::{SLOTS, UNMARKED};
+use csp_log::UNMARKED;
 use std::alloc::{AllocError, Global};
 use std::marker::Model;
-
-const SLOT_COUNT: usize = SLOTS as usize;
 
 /// An application: a party that takes the steps of its script, and pops its `Down` for the packets
 /// that come. Contracts see it as plain lists and numbers, and the region that its buffers are of.
@@ -31,6 +30,7 @@ pub struct App {
     pub(crate) mark: u8,
     pub(crate) held: Pile,
     pub(crate) slots: [Slot; SLOT_COUNT],
+    pub(crate) collectors: Collectors,
     pub(crate) doing: Plan,
 }
 
@@ -48,13 +48,15 @@ impl Model for App {
 
 impl App {
     ghost use Rattle.csp_app.specs.PlainApp.{opening, present_step, has_ended};
+    ghost use Rattle.csp_app.specs.Collecting.{collectors_for, CollectsNothing};
     ghost use Rattle.csp_app.specs.Room.{IsStep};
 
-    /// The application of this number at the start of its script, with room for as many buffers as
-    /// the script has `take` steps, all of this region.
+    /// The application of this number at the start of its script, none of whose steps collects, with room for as many
+    /// buffers as the script has `take` steps, all of this region.
     ///
     /// # Errors
     /// Want of memory.
+    #[tactic(auto, using(crate::proofs::Collectors::without_collectors))]
     pub fn open(
         alloc: Global,
         number: u8,
@@ -63,6 +65,27 @@ impl App {
     ) -> Result<App, AllocError>
         requires few { length script + 1 < 2 ^ 32 }
         requires slots { All IsStep script }
+        requires none { All CollectsNothing script }
+        ensures { IfOk result (λ a. a ≡ record { region = region.name; app = opening number script }) }
+    {
+        App::with_sfp(alloc, number, script, region, [None, None, None, None])
+    }
+
+    /// The application of this number at the start of its script, with room for as many buffers as the script has
+    /// `take` steps, all of this region, and with a collector for each slot that the script collects on, as it opened.
+    ///
+    /// # Errors
+    /// Want of memory.
+    pub fn with_sfp(
+        alloc: Global,
+        number: u8,
+        script: Script,
+        region: RegionToken,
+        collectors: Collectors,
+    ) -> Result<App, AllocError>
+        requires few { length script + 1 < 2 ^ 32 }
+        requires slots { All IsStep script }
+        requires collectors { collectors ≡ collectors_for script }
         ensures { IfOk result (λ a. a ≡ record { region = region.name; app = opening number script }) }
     {
         let held = Pile::open(alloc, region.copy(), script.takes())?;
@@ -76,6 +99,7 @@ impl App {
             mark: UNMARKED,
             held,
             slots: [fresh_slot(); SLOT_COUNT],
+            collectors,
             doing: Plan::Rest,
         })
     }
@@ -148,6 +172,7 @@ impl App {
             mark: _,
             held,
             slots: _,
+            collectors: _,
             doing: _,
         } = self;
         taken.end();

@@ -55,8 +55,15 @@ impl App {
                 flags,
                 from,
             }),
-            Step::Send { .. } | Step::Burst { .. } | Step::Raw { .. } => self.packet_plan(),
+            Step::Send { .. } | Step::Burst { .. } | Step::Blob { .. } | Step::Raw { .. } => {
+                self.packet_plan()
+            }
             Step::Recv {
+                slot,
+                count,
+                rounds,
+            } => self.recv_plan(slot, count, rounds),
+            Step::Collect {
                 slot,
                 count,
                 rounds,

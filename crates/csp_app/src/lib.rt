@@ -3,6 +3,7 @@
 
 mod app;
 mod asking;
+mod collecting;
 mod items;
 mod packets;
 mod party;
@@ -15,5 +16,6 @@ mod step;
 mod telling;
 
 pub use app::App;
+pub use collecting::{Collectors, open_collectors};
 pub use script::Script;
 pub use step::Step;

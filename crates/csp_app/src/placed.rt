@@ -3,6 +3,7 @@
 ghost use Rattle.std.specs.Prelude.{◌≡◌, ◌+◌, ◌≤◌, [], List, ℕ, length};
 ghost use Rattle.csp_app.specs.PlainStep.{bytes_of};
 ghost use Rattle.csp_app.specs.Placing.{plain_step, part, placed_step, IsWithin};
+ghost use Rattle.csp_app.specs.Collecting.{collects_on};
 ghost use Rattle.csp_app.specs.Room.{is_take};
 
 use crate::step::Step;
@@ -51,11 +52,21 @@ pub enum Placed {
         count: u32,
         len: u16,
     },
+    Blob {
+        slot: u8,
+        len: u32,
+        size: u16,
+    },
     Raw {
         header: u32,
         place: Place,
     },
     Recv {
+        slot: u8,
+        count: u32,
+        rounds: Option<u32>,
+    },
+    Collect {
         slot: u8,
         count: u32,
         rounds: Option<u32>,
@@ -95,12 +106,22 @@ impl Placed {
             },
             Step::Send { slot, .. } => Placed::Send { slot, place },
             Step::Burst { slot, count, len } => Placed::Burst { slot, count, len },
+            Step::Blob { slot, len, size } => Placed::Blob { slot, len, size },
             Step::Raw { header, .. } => Placed::Raw { header, place },
             Step::Recv {
                 slot,
                 count,
                 rounds,
             } => Placed::Recv {
+                slot,
+                count,
+                rounds,
+            },
+            Step::Collect {
+                slot,
+                count,
+                rounds,
+            } => Placed::Collect {
                 slot,
                 count,
                 rounds,
@@ -121,6 +142,28 @@ impl Placed {
             | Placed::Connect { .. }
             | Placed::Send { .. }
             | Placed::Burst { .. }
+            | Placed::Blob { .. }
+            | Placed::Raw { .. }
+            | Placed::Recv { .. }
+            | Placed::Collect { .. }
+            | Placed::Close { .. }
+            | Placed::Wait { .. } => false,
+        }
+    }
+
+    /// Whether it collects the blobs of this slot.
+    pub fn collects_on(&self, number: u8) -> bool
+        ensures { result ≡ collects_on number (placed_step [] self.now) }
+    {
+        match self {
+            Placed::Collect { slot, .. } => *slot == number,
+            Placed::Take
+            | Placed::Give
+            | Placed::Bind { .. }
+            | Placed::Connect { .. }
+            | Placed::Send { .. }
+            | Placed::Burst { .. }
+            | Placed::Blob { .. }
             | Placed::Raw { .. }
             | Placed::Recv { .. }
             | Placed::Close { .. }
@@ -158,6 +201,7 @@ impl Placed {
                 bytes: place.of(bytes),
             },
             Placed::Burst { slot, count, len } => Step::Burst { slot, count, len },
+            Placed::Blob { slot, len, size } => Step::Blob { slot, len, size },
             Placed::Raw { header, place } => Step::Raw {
                 header,
                 bytes: place.of(bytes),
@@ -167,6 +211,15 @@ impl Placed {
                 count,
                 rounds,
             } => Step::Recv {
+                slot,
+                count,
+                rounds,
+            },
+            Placed::Collect {
+                slot,
+                count,
+                rounds,
+            } => Step::Collect {
                 slot,
                 count,
                 rounds,

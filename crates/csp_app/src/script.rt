@@ -2,8 +2,10 @@
 
 ghost use Rattle.std.specs.Prelude.{◌≡◌, ◌^◌, ◌<◌, ◌++◌, ◌∷◌, [], IfOk, OnErr, MatchResult, length, slice_index_or};
 ghost use Rattle.csp_app.specs.PlainStep.{bytes_of, IsOfPacket};
-ghost use Rattle.csp_app.specs.Placing.{plain_step, place_after};
+ghost use Rattle.csp_app.specs.Placing.{plain_step, place_after, placed_step};
+ghost use Rattle.csp_app.specs.Collecting.{collects_on};
 ghost use Rattle.csp_app.specs.Room.{take_steps};
+ghost use Rattle.std.specs.List.{list_any};
 
 use crate::placed::{Place, Placed};
 use crate::step::Step;
@@ -57,6 +59,14 @@ impl Script {
         self.steps.iter().filter(|step| step.is_take()).count()
     }
 
+    /// Whether one of its steps collects the blobs of this slot.
+    #[tactic(auto, using(crate::proofs::Scripts::same_collects))]
+    pub(crate) fn collects_on(&self, slot: u8) -> bool
+        ensures { result ≡ list_any (collects_on slot) self.now }
+    {
+        any_collects(&self.steps, slot)
+    }
+
     /// The step with this number, from 0.
     #[tactic(auto, using(crate::proofs::Scripts::within_at, crate::proofs::Scripts::placed_at))]
     #[inline(always)]
@@ -97,6 +107,13 @@ impl Script {
     }
 }
 
+/// Whether one of these steps collects the blobs of this slot.
+fn any_collects(steps: &[Placed], slot: u8) -> bool
+    ensures { result ≡ list_any (λ x. collects_on slot (placed_step [] x)) steps.now }
+{
+    steps.iter().any(|step| step.collects_on(slot))
+}
+
 /// The bytes that a step gives for its packet, or none.
 fn bytes_of<'a>(step: &Step<'a>) -> &'a [u8]
     ensures { result.now ≡ bytes_of (plain_step step.now) }
@@ -108,7 +125,9 @@ fn bytes_of<'a>(step: &Step<'a>) -> &'a [u8]
         | Step::Bind { .. }
         | Step::Connect { .. }
         | Step::Burst { .. }
+        | Step::Blob { .. }
         | Step::Recv { .. }
+        | Step::Collect { .. }
         | Step::Close { .. }
         | Step::Wait { .. } => &[],
     }

@@ -1,19 +1,23 @@
 //! What an application knows of its slots.
 
 ghost use Rattle.std.specs.Prelude.{◌≡◌, ◌+◌, ◌-◌, ◌^◌, ◌<◌, ◌≤◌, [], ◌∷◌, length, sum_by};
-ghost use Rattle.csp_app.specs.Slots.{fresh, slot_at, slots_after, took, used_on, counted};
+ghost use Rattle.csp_app.specs.Collecting.{collectors_after};
+ghost use Rattle.csp_app.specs.Slots.{fresh, slot_at, slots_after, noted, took, used_on, counted};
 ghost use Rattle.csp_deck.specs.Carried.{IsDownItem};
 ghost use Rattle.std.specs.Option.{option_to_list};
 ghost use Rattle.csp_log.specs.Pictures.{shown_item};
 
-use csp_log::{Event, Item, ItemShown, Note, SLOTS};
+use crate::collecting::{note_end, note_piece};
+use csp_log::{Event, Events, Item, ItemShown, Note, SLOTS};
+use csp_sfp::Collector;
 
 /// One slot for a connection.
 #[derive(Clone, Copy, PartialEq, Eq)]
 pub struct Slot {
     /// How many of its connections were closed.
     pub ordinal: u32,
-    /// How many packets were taken on it that no `recv` has used.
+    /// How many packets were taken on it that no `recv` has used. On a slot that collects, how many blobs that no
+    /// `collect` has used.
     pub unused: u32,
     /// Whether its present connection is down.
     pub down: bool,
@@ -30,28 +34,41 @@ pub fn fresh_slot() -> Slot
     }
 }
 
-/// An item was popped. Gives what is to be reported of it.
-pub fn note_item(slots: &mut [Slot], item: &Item) -> Option<Event>
+/// An item was popped. Reports what there is to report of it.
+pub fn note_item(
+    slots: &mut [Slot],
+    collectors: &mut [Option<Collector>],
+    item: &Item,
+    report: &mut Events,
+)
     requires slots { length slots.old ≡ SLOTS }
+    requires collectors { length collectors.old ≡ SLOTS }
     requires item { IsDownItem (shown_item item.now) }
     requires room { counted slots.old < 2 ^ 32 - 1 }
-    ensures slots { slots.new ≡ slots_after (shown_item item.now) slots.old }
-    ensures event { option_to_list result ≡ took (shown_item item.now) slots.old }
+    requires unwritten { report.old.items ≡ [] }
+    ensures slots { slots.new ≡ slots_after (shown_item item.now) collectors.old slots.old }
+    ensures collectors { collectors.new ≡ collectors_after (shown_item item.now) collectors.old }
+    ensures events { report.new.items ≡ took (shown_item item.now) collectors.old slots.old }
 {
     match item {
-        Item::Packet { mark, .. } => {
+        Item::Packet { mark, buffer } => {
             let slot = &mut slots[*mark as usize];
-            slot.unused += 1;
-            Some(Event::Took {
+            let ordinal = slot.ordinal;
+            report.push(Event::Took {
                 slot: *mark,
-                ordinal: slot.ordinal,
-            })
+                ordinal,
+            });
+            let piece = note_piece(collectors, *mark, ordinal, buffer.payload());
+            slot.unused += piece.count;
+            if let Some(event) = piece.event {
+                report.push(event);
+            }
         }
         Item::Note(note) => {
             note_note(slots, note);
-            None
+            note_end(collectors, note);
         }
-        Item::Frame(_) => None,
+        Item::Frame(_) => {}
     }
 }
 
@@ -60,7 +77,7 @@ fn note_note(slots: &mut [Slot], note: &Note)
     requires slots { length slots.old ≡ SLOTS }
     requires item { IsDownItem (ItemShown.Note note.now) }
     requires room { counted slots.old < 2 ^ 32 - 1 }
-    ensures { slots.new ≡ slots_after (ItemShown.Note note.now) slots.old }
+    ensures { slots.new ≡ noted note.now slots.old }
 {
     match note {
         Note::Closed { slot } => {

@@ -36,6 +36,12 @@ pub enum Step<'a> {
         count: u32,
         len: u16,
     },
+    /// Sends a blob of this length on a slot, in pieces of this size. Byte `i` of the blob is `(49 + i) % 256`.
+    Blob {
+        slot: u8,
+        len: u32,
+        size: u16,
+    },
     /// Sends a packet of this header word and these bytes as it is.
     Raw {
         header: u32,
@@ -43,6 +49,13 @@ pub enum Step<'a> {
     },
     /// Waits for so many packets of a slot, at most so many rounds where `rounds` says so.
     Recv {
+        slot: u8,
+        count: u32,
+        rounds: Option<u32>,
+    },
+    /// Waits for so many whole blobs of a slot, at most so many rounds where `rounds` says so. An application that
+    /// has such a step makes blobs of the packets of its slot.
+    Collect {
         slot: u8,
         count: u32,
         rounds: Option<u32>,

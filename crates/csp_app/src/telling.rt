@@ -237,9 +237,7 @@ impl App {
         let plan = self.doing;
         let note = note_in(&item);
         self.doing = Plan::Rest;
-        if let Some(event) = note_item(&mut self.slots, &item) {
-            report.push(event);
-        }
+        note_item(&mut self.slots, &mut self.collectors, &item, report);
         put_packet(&mut self.taken, item);
         if let Some(event) = self.look_on(plan, note, now) {
             report.push(event);

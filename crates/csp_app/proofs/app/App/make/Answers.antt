@@ -7,7 +7,7 @@ use Rattle.csp_app.specs.declared.app.App.TheInside.{Inside}
 use Rattle.csp_app.specs.declared.plan.Plan.TheVariants as plan
 use Rattle.csp_app.specs.PlainStep.{PlainStep}
 use Rattle.csp_app.specs.Placing.{plain_step}
-use Rattle.csp_app.proofs.Bursts.{up_carries}
+use Rattle.csp_app.proofs.Blobs.{up_carries}
 use Rattle.csp_app.proofs.app.App.make.Goals as goal
 
 -- the present step, whose packet is to be made
