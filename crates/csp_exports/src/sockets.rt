@@ -32,8 +32,10 @@ fn binds(step: &Step<'_>, port: u8) -> bool
         | Step::Connect { .. }
         | Step::Send { .. }
         | Step::Burst { .. }
+        | Step::Blob { .. }
         | Step::Raw { .. }
         | Step::Recv { .. }
+        | Step::Collect { .. }
         | Step::Close { .. }
         | Step::Wait { .. } => false,
     }

@@ -1,6 +1,7 @@
 -- The numbers of a scene in the making stay in their ranges as lines add to it.
-use Rattle.std.proofs.Common.{◌≡◌, ◌≢◌, ℕ, ◌+◌, ◌-◌, ◌≤◌, ◌<◌, List, [], ◌∷◌, ◌++◌, length, set, Option, Some, None, IsTrue, IfSome, zero, suc, arith, refl, ap, sym, subst, length-append}
+use Rattle.std.proofs.Common.{◌≡◌, ◌≢◌, ℕ, ◌+◌, ◌-◌, ◌≤◌, ◌<◌, List, [], ◌∷◌, ◌++◌, length, set, false, Option, Some, None, IsTrue, IfSome, zero, suc, arith, refl, ap, sym, subst, length-append}
 use Rattle.std.proofs.Math.ListN.{length-set}
+use Rattle.std.specs.List.{list_any}
 use Rattle.std.specs.FinMap as finite
 use Rattle.std.proofs.lemmas.List.{get_or-set_same}
 use Rattle.std.proofs.lemmas.List.Elements.{All-nil}
@@ -15,6 +16,7 @@ use Rattle.csp_text.specs.Names.{is_name}
 use Rattle.csp_scene.specs.declared.limits.TheConstants.{MAX_UNTIL, MAX_NODES, MAX_LINKS, MAX_APPS, MAX_STEPS, MAX_FAULTS}
 use Rattle.csp_scene.specs.Scene.{PlainApp, PlainNode, PlainLink, PlainSchedule}
 use Rattle.csp_scene.specs.Links.{links_at, node_at, fault_count}
+use Rattle.csp_scene.specs.Sharing.{excludes}
 use Rattle.csp_scene.specs.Ranges.{IsStep, AreOptions, IsApp, IsNode, IsMtu, IsPlanned, IsSchedule}
 use Rattle.csp_scene.specs.Draft.{PlainDraft, no_draft, with_node, with_link}
 use Rattle.csp_scene.specs.Nodes.{with_app, with_app_at, last_app, with_step, with_last_step, with_step_at}
@@ -24,6 +26,7 @@ use Rattle.csp_scene.specs.Faults.{with_fault, with_fault_at, link_at, no_link}
 use Rattle.csp_scene.specs.Kept.{IsDraft, IsHost, IsLinkAfter}
 use Rattle.csp_scene.proofs.Lists.{AllByRecursion-push, AllByRecursion-set, AllByRecursion-at}
 use Rattle.csp_scene.proofs.Tables.{empty_within, within_more}
+use Rattle.csp_scene.proofs.Unmixed.{unmixed_push}
 use Rattle.csp_scene.proofs.Growing.{Grows, links_at-push, schedule_grows, links_alike, links_push, links_fault, alike_set}
 
 -- what is the same as a scene in the making is one
@@ -199,15 +202,16 @@ step_of_packet (step.Raw header bytes) is = is.1
 step_of_packet _ is = omega arith
 
 -- a step
-IsApp-step : (app : PlainApp) (step : PlainStep) → IsApp app → IsStep step → length app.steps < MAX_STEPS → IsApp (with_step step app)
-IsApp-step app step is here room = record {
+IsApp-step : (app : PlainApp) (step : PlainStep) → IsApp app → IsStep step → list_any (excludes step) app.steps ≡ false → length app.steps < MAX_STEPS → IsApp (with_step step app)
+IsApp-step app step is here apart room = record {
   name = is.name;
   steps = omega (arith, room, length-append app.steps (step ∷ []));
   ranges = AllByRecursion-push IsStep app.steps step is.ranges here;
+  unmixed = unmixed_push app.steps step is.unmixed apart;
 }
 
-IsNode-step : (node : PlainNode) (step : PlainStep) → IsNode node → 1 ≤ length node.apps → IsStep step → length (last_app node).steps < MAX_STEPS → IsNode (with_last_step step node)
-IsNode-step node step is some here room = record {
+IsNode-step : (node : PlainNode) (step : PlainStep) → IsNode node → 1 ≤ length node.apps → IsStep step → list_any (excludes step) (last_app node).steps ≡ false → length (last_app node).steps < MAX_STEPS → IsNode (with_last_step step node)
+IsNode-step node step is some here apart room = record {
   name = is.name;
   addr = is.addr;
   bridge = λ none. absurd (omega (arith, some, ap length (is.bridge none).apps));
@@ -217,16 +221,16 @@ IsNode-step node step is some here room = record {
   some_inbox = is.some_inbox;
   most_inbox = is.most_inbox;
   options = is.options;
-  apps = AllByRecursion-set IsApp node.apps (length node.apps - 1) (with_step step (last_app node)) is.apps (IsApp-step (last_app node) step (AllByRecursion-at IsApp node.apps (length node.apps - 1) _ is.apps (omega arith)) here room);
+  apps = AllByRecursion-set IsApp node.apps (length node.apps - 1) (with_step step (last_app node)) is.apps (IsApp-step (last_app node) step (AllByRecursion-at IsApp node.apps (length node.apps - 1) _ is.apps (omega arith)) here apart room);
   few = omega (arith, is.few, length-set node.apps (length node.apps - 1) (with_step step (last_app node)));
 }
 
-pub IsDraft-step : (d : PlainDraft) (place : ℕ) (step : PlainStep) → IsDraft d → place < length d.nodes → 1 ≤ length (node_at d.nodes place).apps → IsStep step → length (last_app (node_at d.nodes place)).steps < MAX_STEPS → IsDraft (with_step_at place step d)
-IsDraft-step d place step is within some here room =
+pub IsDraft-step : (d : PlainDraft) (place : ℕ) (step : PlainStep) → IsDraft d → place < length d.nodes → 1 ≤ length (node_at d.nodes place).apps → IsStep step → list_any (excludes step) (last_app (node_at d.nodes place)).steps ≡ false → length (last_app (node_at d.nodes place)).steps < MAX_STEPS → IsDraft (with_step_at place step d)
+IsDraft-step d place step is within some here apart room =
     let node = node_at d.nodes place in
     let next = with_last_step step node in
     let many : length next.apps ≡ length node.apps = length-set node.apps (length node.apps - 1) (with_step step (last_app node)) in
-    replaced d place next d.host is (omega (arith, many)) (IsNode-step node step (AllByRecursion-at IsNode d.nodes place _ is.nodes within) some here room) (is.routes.each place)
+    replaced d place next d.host is (omega (arith, many)) (IsNode-step node step (AllByRecursion-at IsNode d.nodes place _ is.nodes within) some here apart room) (is.routes.each place)
     (host_grows d.nodes d.links (set d.nodes place next) d.links d.host (grows_set d place next (omega (arith, many))) is.host)
 
 -- routes

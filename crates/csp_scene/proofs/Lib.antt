@@ -4,6 +4,7 @@ pub mod Lists
 pub mod Texts
 pub mod Tables
 pub mod Growing
+pub mod Unmixed
 pub mod Drafts
 pub mod Stated
 pub mod Scenes

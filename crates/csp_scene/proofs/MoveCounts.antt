@@ -1,5 +1,5 @@
 -- A text states no more moves than it has bytes.
-use Rattle.std.proofs.Common.{◌≡◌, ℕ, ◌+◌, ◌-◌, ◌≤◌, Bool, true, false, cond, not, leb, ltb, eqb, List, [], ◌∷◌, ◌++◌, length, drop, filter, take, slice_index, Option, Some, None, Result, Ok, Err, arith, refl, ap, subst, length-append, length-drop, length-take}
+use Rattle.std.proofs.Common.{◌≡◌, ℕ, ◌+◌, ◌-◌, ◌≤◌, Bool, true, false, cond, not, leb, eqb, List, [], ◌∷◌, ◌++◌, length, drop, filter, take, slice_index, Option, Some, None, Result, Ok, Err, arith, refl, ap, subst, length-append, length-drop, length-take}
 use Rattle.std.specs.Option.{unwrap_or, is_some, is_none}
 use Rattle.std.specs.List.{filter_map, cons_option, slice_split, join_with_byte, list_all}
 use Rattle.std.specs.FinMap as finite
@@ -17,7 +17,7 @@ use Rattle.csp_route.specs.Text.{parsed}
 use Rattle.csp_route.specs.declared.error.RouteError.{RouteError}
 use Rattle.csp_route.specs.declared.table.TheConstants.{MAX_ROWS}
 use Rattle.csp_text.specs.Cut.{lines_of, words_of, without_line_feed}
-use Rattle.csp_scene.specs.declared.limits.TheConstants.{MAX_LINE, MAX_STEPS}
+use Rattle.csp_scene.specs.declared.limits.TheConstants.{MAX_LINE}
 use Rattle.csp_scene.specs.declared.refusal.SceneKind.{SceneKind}
 use Rattle.csp_scene.specs.declared.refusal.SceneKind.TheVariants as kind
 use Rattle.csp_scene.specs.declared.scenario.Move.{Move}
@@ -28,9 +28,9 @@ use Rattle.csp_scene.specs.Scene.{PlainNode, PlainSchedule, PlainScene, in_round
 use Rattle.csp_scene.specs.Links.{node_at}
 use Rattle.csp_scene.specs.Naming.{node_named, router_named, link_named}
 use Rattle.csp_scene.specs.Arguments.{word_at, number_at, text_from}
-use Rattle.csp_scene.specs.Steps.{bind_step, connect_step, send_step, burst_step, raw_step, recv_step, close_step, wait_step}
+use Rattle.csp_scene.specs.Steps.{bind_step, connect_step, send_step, burst_step, blob_step, raw_step, recv_step, collect_step, close_step, wait_step}
 use Rattle.csp_scene.specs.Draft.{PlainDraft, no_draft, demand, and_then, with_node, with_link}
-use Rattle.csp_scene.specs.Nodes.{state_until, new_node, new_bridge, may_add_node, state_node, new_app, may_add_app, with_app_at, state_app_at, state_app, last_app, with_step_at, state_step_at, state_step}
+use Rattle.csp_scene.specs.Nodes.{state_until, new_node, new_bridge, may_add_node, state_node, new_app, may_add_app, with_app_at, state_app_at, state_app, last_app, with_step_at, may_add_step, state_step_at, state_step}
 use Rattle.csp_scene.specs.Transport.{given_options, is_tuned, with_rdp_at, state_rdp_at, state_rdp}
 use Rattle.csp_scene.specs.Joining.{kiss_kind, mtu_of, new_link, may_add_link, state_link_between, state_link, kind_of, known_ifaces, with_routes, add_routes, routed, state_route}
 use Rattle.csp_scene.specs.Faults.{planned, may_add_fault, with_fault_at, state_fault_at, state_fault}
@@ -76,7 +76,7 @@ app_has d word (Some place) =
 step_has : (d : PlainDraft) (step : PlainStep) (place : Option ℕ) → HasAtMost (move_count d) (state_step_at d step place)
 step_has d step None = err_has (move_count d) kind.Place
 step_has d step (Some place) =
-    demanded (move_count d) (ltb (length (last_app (node_at d.nodes place)).steps) MAX_STEPS) kind.Full (Ok (with_step_at place step d)) (ok_has (move_count d) (with_step_at place step d) (omega arith))
+    then_has (move_count d) (may_add_step (last_app (node_at d.nodes place)).steps step) (λ _. Ok (with_step_at place step d)) (λ _. ok_has (move_count d) (with_step_at place step d) (omega arith))
 
 rdp_has : (d : PlainDraft) (options : Options) (place : Option ℕ) → HasAtMost (move_count d) (state_rdp_at d options place)
 rdp_has d options None = err_has (move_count d) kind.Unknown
@@ -169,8 +169,10 @@ state_has form.Bind shape d args = step_line d args (bind_step shape args)
 state_has form.Connect shape d args = step_line d args (connect_step shape args)
 state_has form.Send shape d args = step_line d args (send_step args)
 state_has form.Burst shape d args = step_line d args (burst_step args)
+state_has form.Blob shape d args = step_line d args (blob_step args)
 state_has form.Raw shape d args = step_line d args (raw_step args)
 state_has form.Recv shape d args = step_line d args (recv_step shape args)
+state_has form.Collect shape d args = step_line d args (collect_step shape args)
 state_has form.Close shape d args = step_line d args (close_step args)
 state_has form.Wait shape d args = step_line d args (wait_step args)
 

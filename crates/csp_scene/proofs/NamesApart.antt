@@ -18,7 +18,7 @@ use Rattle.csp_route.specs.Text.{parsed}
 use Rattle.csp_route.specs.declared.error.RouteError.{RouteError}
 use Rattle.csp_route.specs.declared.table.TheConstants.{MAX_ROWS}
 use Rattle.csp_text.specs.Cut.{lines_of, words_of}
-use Rattle.csp_scene.specs.declared.limits.TheConstants.{MAX_LINE, MAX_NODES, MAX_STEPS}
+use Rattle.csp_scene.specs.declared.limits.TheConstants.{MAX_LINE, MAX_NODES}
 use Rattle.csp_scene.specs.declared.refusal.SceneKind.{SceneKind}
 use Rattle.csp_scene.specs.declared.refusal.SceneKind.TheVariants as kind
 use Rattle.csp_scene.specs.declared.scenario.Move.{Move}
@@ -29,9 +29,9 @@ use Rattle.csp_scene.specs.Scene.{PlainNode, PlainSchedule, PlainScene, in_round
 use Rattle.csp_scene.specs.Links.{node_at}
 use Rattle.csp_scene.specs.Naming.{has_name, is_link_called, is_addr_taken, node_named, router_named, link_named, AreNamedApart}
 use Rattle.csp_scene.specs.Arguments.{word_at, number_at, text_from}
-use Rattle.csp_scene.specs.Steps.{bind_step, connect_step, send_step, burst_step, raw_step, recv_step, close_step, wait_step}
+use Rattle.csp_scene.specs.Steps.{bind_step, connect_step, send_step, burst_step, blob_step, raw_step, recv_step, collect_step, close_step, wait_step}
 use Rattle.csp_scene.specs.Draft.{PlainDraft, no_draft, demand, and_then, with_node, with_link}
-use Rattle.csp_scene.specs.Nodes.{state_until, new_node, new_bridge, state_node, new_app, with_app, may_add_app, with_app_at, state_app_at, last_app, with_last_step, with_step_at, state_step_at}
+use Rattle.csp_scene.specs.Nodes.{state_until, new_node, new_bridge, state_node, new_app, with_app, may_add_app, with_app_at, state_app_at, last_app, with_last_step, with_step_at, may_add_step, state_step_at}
 use Rattle.csp_scene.specs.Transport.{given_options, is_tuned, with_rdp, with_rdp_at, state_rdp_at}
 use Rattle.csp_scene.specs.Joining.{kiss_kind, mtu_of, new_link, may_add_link, state_link_between, kind_of, known_ifaces, with_routes, add_routes, routed}
 use Rattle.csp_scene.specs.Faults.{planned, may_add_fault, with_fault_at, state_fault_at}
@@ -139,8 +139,8 @@ module _ (d : PlainDraft) (differ : Differ (names_of d.nodes)) where
   step_leaves : (step : PlainStep) (place : Option ℕ) → LeavesApart (state_step_at d step place)
   step_leaves step None = err_leaves kind.Place
   step_leaves step (Some place) =
-      demanded (ltb (length (last_app (node_at d.nodes place)).steps) MAX_STEPS) kind.Full (Ok (with_step_at place step d))
-      (ok_leaves (with_step_at place step d) (changed place (with_last_step step (node_at d.nodes place)) refl))
+      then_leaves (may_add_step (last_app (node_at d.nodes place)).steps step) (λ _. Ok (with_step_at place step d))
+      (λ _. ok_leaves (with_step_at place step d) (changed place (with_last_step step (node_at d.nodes place)) refl))
 
   rdp_leaves : (options : Options) (place : Option ℕ) → LeavesApart (state_rdp_at d options place)
   rdp_leaves options None = err_leaves kind.Unknown
@@ -216,8 +216,10 @@ module _ (d : PlainDraft) (differ : Differ (names_of d.nodes)) where
   state_leaves form.Connect shape args = step_leaves (connect_step shape args) d.host
   state_leaves form.Send shape args = step_leaves (send_step args) d.host
   state_leaves form.Burst shape args = step_leaves (burst_step args) d.host
+  state_leaves form.Blob shape args = step_leaves (blob_step args) d.host
   state_leaves form.Raw shape args = step_leaves (raw_step args) d.host
   state_leaves form.Recv shape args = step_leaves (recv_step shape args) d.host
+  state_leaves form.Collect shape args = step_leaves (collect_step shape args) d.host
   state_leaves form.Close shape args = step_leaves (close_step args) d.host
   state_leaves form.Wait shape args = step_leaves (wait_step args) d.host
 

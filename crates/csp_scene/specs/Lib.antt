@@ -1,5 +1,6 @@
 pub mod Scene
 pub mod Links
+pub mod Sharing
 pub mod Ranges
 pub mod Table
 pub mod Naming

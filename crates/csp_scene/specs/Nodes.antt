@@ -12,6 +12,7 @@ use Rattle.csp_scene.specs.declared.refusal.SceneKind.{SceneKind}
 use Rattle.csp_scene.specs.declared.refusal.SceneKind.TheVariants as kind
 use Rattle.csp_scene.specs.Scene.{PlainApp, PlainNode, PlainLink}
 use Rattle.csp_scene.specs.Links.{node_at}
+use Rattle.csp_scene.specs.Sharing.{excludes}
 use Rattle.csp_scene.specs.Naming.{is_called, is_link_called, router_named, is_name_taken, is_addr_taken}
 use Rattle.csp_scene.specs.Arguments.{word_at, number_at, setting}
 use Rattle.csp_scene.specs.Draft.{PlainDraft, demand, and_then, with_node}
@@ -101,12 +102,17 @@ with_last_step step node = record node { apps = slice_set node.apps (length node
 abbrev pub with_step_at : ℕ → PlainStep → PlainDraft → PlainDraft
 with_step_at place step d = record d { nodes = slice_set d.nodes place (with_last_step step (node_at d.nodes place)) }
 
+-- a step never stands together with those before it that it excludes, and there is room for it
+abbrev pub may_add_step : List PlainStep → PlainStep → Result (Unit {0}) SceneKind
+may_add_step steps step =
+    demand (not (list_any (excludes step) steps)) kind.Twice
+    (demand (nat_lt (length steps) MAX_STEPS) kind.Full
+    (Ok tt))
+
 -- a step line: one more step of the application of the last `app` line
 abbrev pub state_step_at : PlainDraft → PlainStep → Option ℕ → Result PlainDraft SceneKind
 state_step_at d step None = Err kind.Place
-state_step_at d step (Some place) =
-    demand (nat_lt (length (last_app (node_at d.nodes place)).steps) MAX_STEPS) kind.Full
-    (Ok (with_step_at place step d))
+state_step_at d step (Some place) = and_then (may_add_step (last_app (node_at d.nodes place)).steps step) (λ _. Ok (with_step_at place step d))
 
 -- what a step line adds
 abbrev pub state_step : PlainDraft → PlainStep → Result PlainDraft SceneKind

@@ -1,5 +1,5 @@
 -- The ranges of a scene's numbers.
-use Rattle.std.specs.Prelude.{ℕ, ◌+◌, ◌≡◌, ◌≢◌, ◌≤◌, ◌<◌, ◌^◌, ⊤, List, [], ◌∷◌, length, Some, None, slice_get, IsTrue, IfSome}
+use Rattle.std.specs.Prelude.{ℕ, ◌+◌, ◌≡◌, ◌≢◌, ◌≤◌, ◌<◌, ◌^◌, ◌*◌, ◌%◌, ⊤, List, [], ◌∷◌, length, Some, None, slice_get, IsTrue, IfSome}
 use Rattle.std.specs.List.{All, AllByRecursion}
 use Rattle.std.specs.FinMap as finite
 use Rattle.csp_app.specs.PlainStep.{PlainStep}
@@ -14,13 +14,16 @@ use Rattle.csp_log.specs.declared.places.TheConstants.{MAX_DATA, SLOTS}
 use Rattle.csp_rdp_header.specs.declared.options.Options.{Options}
 use Rattle.csp_rdp_header.specs.declared.options.TheConstants.{MAX_WINDOW}
 use Rattle.csp_route.specs.Routes.{IsWithin}
+use Rattle.csp_sfp.specs.declared.pieces.TheConstants.{MAX_SIZE}
+use Rattle.csp_sfp.specs.declared.trailer.TheConstants.{MAX_BLOB}
 use Rattle.csp_text.specs.Names.{is_name}
-use Rattle.csp_scene.specs.declared.limits.TheConstants.{MAX_UNTIL, MAX_ADDR, MAX_NODES, MAX_LINKS, BRIDGE_LINKS, MAX_APPS, MAX_STEPS, MIN_BUFFERS, MAX_SEED, MIN_INBOX, MAX_INBOX, MAX_PORT, FIRST_OWN_PORT, MAX_DEST, CRC_FLAG, RDP_FLAG, MAX_COUNT, MAX_ROUNDS, MAX_FAULTS, LAST_FRAME, MAX_DELAY, MAX_FLIP, MAX_SHUFFLE, MAX_OPTION, MIN_MTU, MAX_MTU}
+use Rattle.csp_scene.specs.declared.limits.TheConstants.{MAX_UNTIL, MAX_ADDR, MAX_NODES, MAX_LINKS, BRIDGE_LINKS, MAX_APPS, MAX_STEPS, MIN_BUFFERS, MAX_SEED, MIN_INBOX, MAX_INBOX, MAX_PORT, FIRST_OWN_PORT, MAX_DEST, CRC_FLAG, RDP_FLAG, FRAG_FLAG, MAX_COUNT, MAX_ROUNDS, MAX_FAULTS, LAST_FRAME, MAX_DELAY, MAX_FLIP, MAX_SHUFFLE, MAX_OPTION, MIN_MTU, MAX_MTU}
 use Rattle.csp_log.specs.declared.places.End.{End}
 use Rattle.csp_scene.specs.declared.scenario.Move.{Move}
 use Rattle.csp_scene.specs.declared.scenario.Move.TheVariants as move
 use Rattle.csp_scene.specs.Scene.{PlainApp, PlainNode, PlainLink, PlainSchedule, PlainScene, in_rounds, shuffled, stepwise}
 use Rattle.csp_scene.specs.Links.{links_at, node_at, fault_count}
+use Rattle.csp_scene.specs.Sharing.{AreUnmixed}
 
 -- so many rounds as a step may wait
 abbrev pub IsWait : ℕ → Type 0
@@ -30,29 +33,37 @@ IsWait rounds = (1 ≤ rounds) × (rounds ≤ MAX_ROUNDS)
 abbrev pub AreFlags : ℕ → Type 0
 AreFlags flags = flags ≤ CRC_FLAG + RDP_FLAG
 
+-- flags that a connection's packets may have: those, and that of pieces of blobs
+abbrev pub AreConnectFlags : ℕ → Type 0
+AreConnectFlags flags = AreFlags (flags % FRAG_FLAG) × (flags < 2 * FRAG_FLAG)
+
 -- a port is one of those that connections are given
 abbrev pub IsOwnPort : ℕ → Type 0
 IsOwnPort port = (FIRST_OWN_PORT ≤ port) × (port ≤ MAX_PORT)
 
--- a step's numbers: ports, addresses and flags of the header, a header word, as many bytes as a packet has; a slot that there
--- is, a number of packets, of rounds
+-- a step's numbers: ports, addresses and flags of the header, a header word, as many bytes as a packet, a blob or a piece has; a slot
+-- that there is, a number of packets, of blobs, of rounds
 abbrev pub IsStep : PlainStep → Type 0
 IsStep step.Take = ⊤
 IsStep step.Give = ⊤
 IsStep (step.Bind port need) = (port ≤ MAX_PORT) × AreFlags need
-IsStep (step.Connect slot dest port prio flags from) = (slot < SLOTS) × (dest ≤ MAX_DEST) × (port ≤ MAX_PORT) × AreFlags flags × IfSome from IsOwnPort
+IsStep (step.Connect slot dest port prio flags from) = (slot < SLOTS) × (dest ≤ MAX_DEST) × (port ≤ MAX_PORT) × AreConnectFlags flags × IfSome from IsOwnPort
 IsStep (step.Send slot bytes) = (slot < SLOTS) × (1 ≤ length bytes) × (length bytes ≤ MAX_DATA)
 IsStep (step.Burst slot count len) = (slot < SLOTS) × (1 ≤ count) × (count ≤ MAX_COUNT) × (1 ≤ len) × (len ≤ MAX_DATA)
+IsStep (step.Blob slot len size) = (slot < SLOTS) × (1 ≤ len) × (len ≤ MAX_BLOB) × (1 ≤ size) × (size ≤ MAX_SIZE)
 IsStep (step.Raw header bytes) = (header < 2 ^ 32) × (length bytes ≤ MAX_PAYLOAD)
 IsStep (step.Recv slot count rounds) = (slot < SLOTS) × (1 ≤ count) × (count ≤ MAX_COUNT) × IfSome rounds IsWait
+IsStep (step.Collect slot count rounds) = (slot < SLOTS) × (1 ≤ count) × (count ≤ MAX_COUNT) × IfSome rounds IsWait
 IsStep (step.Close slot) = slot < SLOTS
 IsStep (step.Wait rounds) = IsWait rounds
 
--- an application has a name, and no more steps than an application may have, each with its numbers in their ranges
+-- an application has a name, and no more steps than an application may have, each with its numbers in their ranges; packets and blobs
+-- are not mixed on a slot
 pub record IsApp (app : PlainApp) : Type 0 where
   pub name : IsTrue (is_name app.name)
   pub steps : length app.steps ≤ MAX_STEPS
   pub ranges : AllByRecursion IsStep app.steps
+  pub unmixed : AreUnmixed app.steps
 
 -- a bridge has no application and no route
 pub record IsBridge (node : PlainNode) : Type 0 where

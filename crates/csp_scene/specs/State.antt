@@ -13,7 +13,7 @@ use Rattle.csp_scene.specs.declared.refusal.SceneKind.TheVariants as kind
 use Rattle.csp_scene.specs.Scene.{PlainNode, PlainLink, PlainScene, in_rounds, shuffled}
 use Rattle.csp_scene.specs.Links.{links_at}
 use Rattle.csp_scene.specs.Arguments.{number_at}
-use Rattle.csp_scene.specs.Steps.{bind_step, connect_step, send_step, burst_step, raw_step, recv_step, close_step, wait_step}
+use Rattle.csp_scene.specs.Steps.{bind_step, connect_step, send_step, burst_step, blob_step, raw_step, recv_step, collect_step, close_step, wait_step}
 use Rattle.csp_scene.specs.Draft.{PlainDraft, demand}
 use Rattle.csp_scene.specs.Nodes.{state_until, new_node, new_bridge, state_node, state_app, state_step}
 use Rattle.csp_scene.specs.Transport.{state_rdp}
@@ -44,8 +44,10 @@ state form.Bind shape d args = state_step d (bind_step shape args)
 state form.Connect shape d args = state_step d (connect_step shape args)
 state form.Send shape d args = state_step d (send_step args)
 state form.Burst shape d args = state_step d (burst_step args)
+state form.Blob shape d args = state_step d (blob_step args)
 state form.Raw shape d args = state_step d (raw_step args)
 state form.Recv shape d args = state_step d (recv_step shape args)
+state form.Collect shape d args = state_step d (collect_step shape args)
 state form.Close shape d args = state_step d (close_step args)
 state form.Wait shape d args = state_step d (wait_step args)
 

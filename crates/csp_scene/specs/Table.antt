@@ -3,6 +3,8 @@ use Rattle.std.specs.Prelude.{ℕ, Bool, true, false, List, [], ◌∷◌, ◌++
 use Rattle.csp_scene.specs.declared.limits.TheConstants.{MAX_UNTIL, MAX_SHUFFLE, MAX_ADDR, MIN_BUFFERS, MAX_SEED, MIN_INBOX, MAX_INBOX, LAST_FRAME, MAX_COPIES, MAX_DELAY, MAX_FLIP, MAX_SLOT, MAX_PORT, FIRST_OWN_PORT, MAX_DEST, MAX_PRIO, MAX_COUNT, MAX_ROUNDS, MAX_SEND, MAX_RAW, MAX_OPTION, MIN_MTU, MAX_MTU}
 use Rattle.csp_base.specs.declared.limits.TheConstants.{MAX_BUFFERS}
 use Rattle.csp_rdp_header.specs.declared.options.TheConstants.{MAX_WINDOW}
+use Rattle.csp_sfp.specs.declared.pieces.TheConstants.{MAX_SIZE}
+use Rattle.csp_sfp.specs.declared.trailer.TheConstants.{MAX_BLOB}
 use Rattle.csp_scene.specs.declared.table.Form.{Form}
 use Rattle.csp_scene.specs.declared.table.Form.TheVariants as form
 use Rattle.csp_scene.specs.declared.table.Keyword.{Keyword}
@@ -34,6 +36,7 @@ keyword_text keyword.Flip = codes "flip"
 keyword_text keyword.Prio = codes "prio"
 keyword_text keyword.Crc = codes "crc"
 keyword_text keyword.Rdp = codes "rdp"
+keyword_text keyword.Frag = codes "frag"
 keyword_text keyword.From = codes "from"
 
 -- the first word of a form's lines
@@ -59,8 +62,10 @@ first_word form.Bind = codes "bind"
 first_word form.Connect = codes "connect"
 first_word form.Send = codes "send"
 first_word form.Burst = codes "burst"
+first_word form.Blob = codes "blob"
 first_word form.Raw = codes "raw"
 first_word form.Recv = codes "recv"
+first_word form.Collect = codes "collect"
 first_word form.Close = codes "close"
 first_word form.Wait = codes "wait"
 
@@ -92,8 +97,10 @@ fixed_of form.Bind = Number 0 MAX_PORT ∷ []
 fixed_of form.Connect = Number 0 MAX_SLOT ∷ Number 0 MAX_DEST ∷ Number 0 MAX_PORT ∷ []
 fixed_of form.Send = Number 0 MAX_SLOT ∷ Bytes 1 MAX_SEND ∷ []
 fixed_of form.Burst = Number 0 MAX_SLOT ∷ Number 1 MAX_COUNT ∷ Number 1 MAX_SEND ∷ []
+fixed_of form.Blob = Number 0 MAX_SLOT ∷ Number 1 MAX_BLOB ∷ Number 1 MAX_SIZE ∷ []
 fixed_of form.Raw = Word ∷ Bytes 0 MAX_RAW ∷ []
 fixed_of form.Recv = Number 0 MAX_SLOT ∷ Number 1 MAX_COUNT ∷ []
+fixed_of form.Collect = Number 0 MAX_SLOT ∷ Number 1 MAX_COUNT ∷ []
 fixed_of form.Close = Number 0 MAX_SLOT ∷ []
 fixed_of form.Wait = Number 1 MAX_ROUNDS ∷ []
 
@@ -117,11 +124,13 @@ optional_of form.App = []
 optional_of form.Take = []
 optional_of form.Give = []
 optional_of form.Bind = Flag keyword.Crc ∷ Flag keyword.Rdp ∷ []
-optional_of form.Connect = Setting keyword.Prio 0 MAX_PRIO ∷ Flag keyword.Crc ∷ Flag keyword.Rdp ∷ Setting keyword.From FIRST_OWN_PORT MAX_PORT ∷ []
+optional_of form.Connect = Setting keyword.Prio 0 MAX_PRIO ∷ Flag keyword.Crc ∷ Flag keyword.Rdp ∷ Flag keyword.Frag ∷ Setting keyword.From FIRST_OWN_PORT MAX_PORT ∷ []
 optional_of form.Send = []
 optional_of form.Burst = []
+optional_of form.Blob = []
 optional_of form.Raw = []
 optional_of form.Recv = Setting keyword.For 1 MAX_ROUNDS ∷ []
+optional_of form.Collect = Setting keyword.For 1 MAX_ROUNDS ∷ []
 optional_of form.Close = []
 optional_of form.Wait = []
 
@@ -148,8 +157,10 @@ is_step form.Bind = true
 is_step form.Connect = true
 is_step form.Send = true
 is_step form.Burst = true
+is_step form.Blob = true
 is_step form.Raw = true
 is_step form.Recv = true
+is_step form.Collect = true
 is_step form.Close = true
 is_step form.Wait = true
 
@@ -158,7 +169,7 @@ abbrev pub all_forms : List Form
 all_forms =
     form.Until ∷ form.Rounds ∷ form.Shuffle ∷ form.Moves ∷ form.Node ∷ form.Bridge ∷ form.Rdp ∷ form.KissLink ∷ form.CanLink ∷ form.Route
     ∷ form.Lose ∷ form.Repeat ∷ form.Delay ∷ form.Flip ∷ form.App ∷ form.Take ∷ form.Give
-    ∷ form.Bind ∷ form.Connect ∷ form.Send ∷ form.Burst ∷ form.Raw ∷ form.Recv ∷ form.Close ∷ form.Wait ∷ []
+    ∷ form.Bind ∷ form.Connect ∷ form.Send ∷ form.Burst ∷ form.Blob ∷ form.Raw ∷ form.Recv ∷ form.Collect ∷ form.Close ∷ form.Wait ∷ []
 
 -- the words of an optional group
 abbrev pub group_of : Group → List Part

@@ -15,7 +15,9 @@ use crate::naming::iface_count;
 use crate::nodes::{new_bridge, new_node};
 use crate::refusal::SceneKind;
 use crate::scenario::{Scene, SceneLink, SceneNode, Schedule};
-use crate::steps::{bind_step, burst_step, close_step, connect_step, recv_step, wait_step};
+use crate::steps::{
+    bind_step, blob_step, burst_step, close_step, collect_step, connect_step, recv_step, wait_step,
+};
 use crate::table::{Form, Part};
 use csp_app::Step;
 use csp_link::FaultKind;
@@ -156,8 +158,10 @@ impl Draft {
             Form::Connect => self.state_step(&connect_step(shape, args)),
             Form::Send => self.state_send(alloc, args),
             Form::Burst => self.state_step(&burst_step(args)),
+            Form::Blob => self.state_step(&blob_step(args)),
             Form::Raw => self.state_raw(alloc, args),
             Form::Recv => self.state_step(&recv_step(shape, args)),
+            Form::Collect => self.state_step(&collect_step(shape, args)),
             Form::Close => self.state_step(&close_step(args)),
             Form::Wait => self.state_step(&wait_step(args)),
         }

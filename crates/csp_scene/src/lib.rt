@@ -20,6 +20,7 @@ mod refusal;
 mod rows;
 mod scenario;
 mod schedule;
+mod sharing;
 mod step_words;
 mod steps;
 mod table;
@@ -29,11 +30,12 @@ pub use csp_app::{Script, Step};
 pub use csp_link::{Fault, FaultKind};
 pub use csp_log::{End, LinkKind};
 pub use csp_rdp_header::{MAX_WINDOW, Options};
+pub use csp_sfp::{MAX_BLOB, MAX_SIZE};
 pub use limits::{
     BRIDGE_LINKS, CRC_FLAG, DEFAULT_INBOX, DEFAULT_MTU, DEFAULT_PRIO, DEFAULT_SEED, FIRST_OWN_PORT,
-    LAST_FRAME, MAX_ADDR, MAX_APPS, MAX_COPIES, MAX_COUNT, MAX_DELAY, MAX_DEST, MAX_FAULTS,
-    MAX_FLIP, MAX_INBOX, MAX_LINE, MAX_LINKS, MAX_MTU, MAX_NODES, MAX_OPTION, MAX_PORT, MAX_PRIO,
-    MAX_RAW, MAX_ROUNDS, MAX_SEED, MAX_SEND, MAX_SHUFFLE, MAX_SLOT, MAX_STEPS, MAX_UNTIL,
+    FRAG_FLAG, LAST_FRAME, MAX_ADDR, MAX_APPS, MAX_COPIES, MAX_COUNT, MAX_DELAY, MAX_DEST,
+    MAX_FAULTS, MAX_FLIP, MAX_INBOX, MAX_LINE, MAX_LINKS, MAX_MTU, MAX_NODES, MAX_OPTION, MAX_PORT,
+    MAX_PRIO, MAX_RAW, MAX_ROUNDS, MAX_SEED, MAX_SEND, MAX_SHUFFLE, MAX_SLOT, MAX_STEPS, MAX_UNTIL,
     MIN_BUFFERS, MIN_INBOX, MIN_MTU, RDP_FLAG,
 };
 pub use reading::parse;

@@ -101,7 +101,10 @@ pub const CRC_FLAG: u8 = 0x01;
 /// The header's flag of the reliable transport.
 pub const RDP_FLAG: u8 = 0x02;
 
-/// The most packets that a step may send, or wait for.
+/// The header's flag of a packet that is a piece of a blob.
+pub const FRAG_FLAG: u8 = 0x10;
+
+/// The most packets that a step may send, and the most packets or blobs that it may wait for.
 pub const MAX_COUNT: u32 = 32_767;
 
 /// The most rounds that a step may wait.

@@ -1,14 +1,15 @@
 //! What `until`, `node`, `bridge`, `app` and step lines state.
 
-ghost use Rattle.std.specs.Prelude.{◌≡◌, ◌<◌, ◌≤◌, ◌+◌, ◌||◌, ◌≢◌, [], Some, None, map, IsTrue, OnOk, Ok, length};
+ghost use Rattle.std.specs.Prelude.{◌≡◌, ◌<◌, ◌≤◌, ◌+◌, ◌||◌, ◌≢◌, false, [], Some, None, map, IsTrue, OnOk, Ok, length};
 ghost use Rattle.std.specs.List.{list_any};
 ghost use Rattle.std.specs.FinMap as finite;
 ghost use Rattle.csp_text.specs.Names.{is_name};
 ghost use Rattle.csp_app.specs.Placing.{plain_step};
 ghost use Rattle.csp_scene.specs.Ranges.{IsStep, IsNode, IsApp};
 ghost use Rattle.csp_scene.specs.Links.{node_at};
+ghost use Rattle.csp_scene.specs.Sharing.{excludes, AreUnmixed};
 ghost use Rattle.csp_scene.specs.Draft.{with_node};
-ghost use Rattle.csp_scene.specs.Nodes.{state_until, new_node, new_bridge, may_add_node, state_node, new_app, may_add_app, with_app_at, state_app, last_app, with_step_at, state_step};
+ghost use Rattle.csp_scene.specs.Nodes.{state_until, new_node, new_bridge, may_add_node, state_node, new_app, may_add_app, with_app_at, state_app, last_app, with_step_at, may_add_step, state_step};
 ghost use Rattle.csp_scene.specs.Steps.{send_step, raw_step};
 ghost use Rattle.csp_scene.specs.Kept.{IsDraft, Fits, FitsShape, Judged};
 
@@ -19,6 +20,7 @@ use crate::links::LinkDraft;
 use crate::naming::{is_addr_taken, is_called, is_link_name, is_name_taken, router_named};
 use crate::refusal::SceneKind;
 use crate::scenario::{SceneApp, SceneNode};
+use crate::sharing::is_excluded;
 use crate::steps::{raw_step, send_step};
 use crate::table::{Form, Keyword, Part};
 use csp_app::{Script, Step};
@@ -78,6 +80,23 @@ fn may_add_app(apps: &[SceneApp], links: &[LinkDraft], name: &Name) -> Result<()
         return Err(SceneKind::Twice);
     }
     if apps.len() >= MAX_APPS {
+        return Err(SceneKind::Full);
+    }
+    Ok(())
+}
+
+/// Whether a step may join these: Twice where it never stands together with one of them, then
+/// Full.
+fn may_add_step(script: &Script, step: &Step<'_>) -> Result<(), SceneKind>
+    requires unmixed { AreUnmixed script.now }
+    ensures value { result ≡ may_add_step script.now (plain_step step.now) }
+    ensures apart { OnOk result (list_any (excludes (plain_step step.now)) script.now ≡ false) }
+    ensures room { OnOk result (length script.now < MAX_STEPS) }
+{
+    if is_excluded(script, step) {
+        return Err(SceneKind::Twice);
+    }
+    if script.len() >= MAX_STEPS {
         return Err(SceneKind::Full);
     }
     Ok(())
@@ -185,6 +204,7 @@ impl Draft {
         requires node { place < length self.old.nodes }
         requires app { 1 ≤ length (node_at self.old.nodes place).apps }
         requires step { IsStep (plain_step step.now) }
+        requires apart { list_any (excludes (plain_step step.now)) (last_app (node_at self.old.nodes place)).steps ≡ false }
         requires room { length (last_app (node_at self.old.nodes place)).steps < MAX_STEPS }
         ensures answer { Judged result self.new (Ok (with_step_at place (plain_step step.now) self.old)) }
         ensures kept { OnOk result (IsDraft self.new) }
@@ -207,11 +227,12 @@ impl Draft {
             return Err(LineError::Kind(SceneKind::Place));
         };
         let apps = &self.nodes[place].apps;
-        if apps[apps.len() - 1].script.len() >= MAX_STEPS {
-            return Err(LineError::Kind(SceneKind::Full));
+        match may_add_step(&apps[apps.len() - 1].script, step) {
+            Ok(()) => self.push_step(place, step),
+            Err(kind) => Err(LineError::Kind(kind)),
         }
-        self.push_step(place, step)
     }
+
     /// A `send` line.
     #[inline(never)]
     pub(crate) fn state_send(&mut self, alloc: Global, args: &[&[u8]]) -> Result<(), LineError>

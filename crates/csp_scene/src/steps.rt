@@ -6,12 +6,12 @@ ghost use Rattle.csp_base.specs.Priority.{prio_of};
 ghost use Rattle.csp_app.specs.Placing.{plain_step};
 ghost use Rattle.csp_text.specs.Hexadecimal.{bytes_of};
 ghost use Rattle.csp_scene.specs.Arguments.{word_at, setting};
-ghost use Rattle.csp_scene.specs.Ranges.{AreFlags, IsOwnPort, IsStep};
-ghost use Rattle.csp_scene.specs.Steps.{flag_of, flags_of, bind_step, connect_step, send_step, burst_step, raw_step, recv_step, close_step, wait_step};
+ghost use Rattle.csp_scene.specs.Ranges.{AreFlags, AreConnectFlags, IsOwnPort, IsStep};
+ghost use Rattle.csp_scene.specs.Steps.{flag_of, flags_of, connect_flags, bind_step, connect_step, send_step, burst_step, blob_step, raw_step, recv_step, collect_step, close_step, wait_step};
 ghost use Rattle.csp_scene.specs.Kept.{Fits, FitsShape};
 
 use crate::arguments::{has_keyword, number_at, setting, word_at};
-use crate::limits::{CRC_FLAG, DEFAULT_PRIO, MAX_DEST, MAX_PORT, MAX_PRIO, RDP_FLAG};
+use crate::limits::{CRC_FLAG, DEFAULT_PRIO, FRAG_FLAG, MAX_DEST, MAX_PORT, MAX_PRIO, RDP_FLAG};
 use crate::table::{Form, Keyword, Part};
 use csp_app::Step;
 use csp_base::{Addr, Port, Prio};
@@ -31,6 +31,18 @@ fn flags_of(shape: &[Part]) -> u8
     ensures range { AreFlags result }
 {
     flag_of(Keyword::Crc, CRC_FLAG, shape) + flag_of(Keyword::Rdp, RDP_FLAG, shape)
+}
+
+/// Those of a connection's packets: with the word `frag` they are pieces of blobs.
+fn connect_flags(shape: &[Part]) -> u8
+    ensures value { result ≡ connect_flags shape.now }
+    ensures range { AreConnectFlags result }
+{
+    if has_keyword(Keyword::Frag, shape) {
+        flags_of(shape) + FRAG_FLAG
+    } else {
+        flags_of(shape)
+    }
 }
 
 /// The port with this number.
@@ -112,7 +124,7 @@ pub(crate) fn connect_step(shape: &[Part], args: &[&[u8]]) -> Step<'static>
         dest: dest_of(number_at(Form::Connect, args, 1)),
         port: port_of(number_at(Form::Connect, args, 2)),
         prio: given_prio(shape, args),
-        flags: flags_of(shape),
+        flags: connect_flags(shape),
         from: own_port(shape, args),
     }
 }
@@ -143,6 +155,19 @@ pub(crate) fn burst_step(args: &[&[u8]]) -> Step<'static>
     }
 }
 
+/// The step of a `blob` line.
+pub(crate) fn blob_step(args: &[&[u8]]) -> Step<'static>
+    requires { Fits Form.Blob (map (λ word. word.now) args.now) }
+    ensures value { plain_step result ≡ blob_step (map (λ word. word.now) args.now) }
+    ensures kept { IsStep (plain_step result) }
+{
+    Step::Blob {
+        slot: number_at(Form::Blob, args, 0) as u8,
+        len: number_at(Form::Blob, args, 1),
+        size: number_at(Form::Blob, args, 2) as u16,
+    }
+}
+
 /// The step of a `raw` line.
 pub(crate) fn raw_step<'a>(args: &[&[u8]], bytes: &'a [u8]) -> Step<'a>
     requires bytes { bytes.now ≡ bytes_of (word_at (map (λ word. word.now) args.now) 1) }
@@ -167,6 +192,20 @@ pub(crate) fn recv_step(shape: &[Part], args: &[&[u8]]) -> Step<'static>
         slot: number_at(Form::Recv, args, 0) as u8,
         count: number_at(Form::Recv, args, 1),
         rounds: setting(Form::Recv, Keyword::For, shape, args),
+    }
+}
+
+/// The step of a `collect` line.
+pub(crate) fn collect_step(shape: &[Part], args: &[&[u8]]) -> Step<'static>
+    requires fits { Fits Form.Collect (map (λ word. word.now) args.now) }
+    requires shape { FitsShape Form.Collect shape.now (map (λ word. word.now) args.now) }
+    ensures value { plain_step result ≡ collect_step shape.now (map (λ word. word.now) args.now) }
+    ensures kept { IsStep (plain_step result) }
+{
+    Step::Collect {
+        slot: number_at(Form::Collect, args, 0) as u8,
+        count: number_at(Form::Collect, args, 1),
+        rounds: setting(Form::Collect, Keyword::For, shape, args),
     }
 }
 

@@ -10,6 +10,7 @@ use crate::limits::{
 };
 use csp_base::MAX_BUFFERS;
 use csp_rdp_header::MAX_WINDOW;
+use csp_sfp::{MAX_BLOB, MAX_SIZE};
 use std::alloc::{AllocError, Global};
 
 /// A line form.
@@ -51,16 +52,20 @@ pub(crate) enum Form {
     Give,
     /// `bind PORT [crc] [rdp]`
     Bind,
-    /// `connect SLOT ADDR PORT [prio P] [crc] [rdp] [from Q]`
+    /// `connect SLOT ADDR PORT [prio P] [crc] [rdp] [frag] [from Q]`
     Connect,
     /// `send SLOT HEX`
     Send,
     /// `burst SLOT COUNT LEN`
     Burst,
+    /// `blob SLOT LEN SIZE`
+    Blob,
     /// `raw HEADER HEX`
     Raw,
     /// `recv SLOT COUNT [for R]`
     Recv,
+    /// `collect SLOT COUNT [for R]`
+    Collect,
     /// `close SLOT`
     Close,
     /// `wait R`
@@ -110,6 +115,8 @@ pub(crate) enum Keyword {
     Crc,
     /// `rdp`
     Rdp,
+    /// `frag`
+    Frag,
     /// `from`
     From,
 }
@@ -149,7 +156,7 @@ pub(crate) enum Group {
 }
 
 /// The line forms, in the order of the table.
-pub(crate) static FORMS: [Form; 25] = [
+pub(crate) static FORMS: [Form; 27] = [
     Form::Until,
     Form::Rounds,
     Form::Shuffle,
@@ -171,8 +178,10 @@ pub(crate) static FORMS: [Form; 25] = [
     Form::Connect,
     Form::Send,
     Form::Burst,
+    Form::Blob,
     Form::Raw,
     Form::Recv,
+    Form::Collect,
     Form::Close,
     Form::Wait,
 ];
@@ -370,7 +379,7 @@ static CONNECT: [Part; 3] = [
     },
 ];
 
-static CONNECT_OPTIONS: [Group; 4] = [
+static CONNECT_OPTIONS: [Group; 5] = [
     Group::Setting {
         keyword: Keyword::Prio,
         low: 0,
@@ -378,6 +387,7 @@ static CONNECT_OPTIONS: [Group; 4] = [
     },
     Group::Flag(Keyword::Crc),
     Group::Flag(Keyword::Rdp),
+    Group::Flag(Keyword::Frag),
     Group::Setting {
         keyword: Keyword::From,
         low: FIRST_OWN_PORT,
@@ -411,6 +421,21 @@ static BURST: [Part; 3] = [
     },
 ];
 
+static BLOB: [Part; 3] = [
+    Part::Number {
+        low: 0,
+        high: MAX_SLOT,
+    },
+    Part::Number {
+        low: 1,
+        high: MAX_BLOB as u32,
+    },
+    Part::Number {
+        low: 1,
+        high: MAX_SIZE as u32,
+    },
+];
+
 static RAW: [Part; 2] = [
     Part::Word,
     Part::Bytes {
@@ -431,6 +456,23 @@ static RECV: [Part; 2] = [
 ];
 
 static RECV_OPTIONS: [Group; 1] = [Group::Setting {
+    keyword: Keyword::For,
+    low: 1,
+    high: MAX_ROUNDS,
+}];
+
+static COLLECT: [Part; 2] = [
+    Part::Number {
+        low: 0,
+        high: MAX_SLOT,
+    },
+    Part::Number {
+        low: 1,
+        high: MAX_COUNT,
+    },
+];
+
+static COLLECT_OPTIONS: [Group; 1] = [Group::Setting {
     keyword: Keyword::For,
     low: 1,
     high: MAX_ROUNDS,
@@ -472,6 +514,7 @@ impl Keyword {
             Keyword::Prio => b"prio",
             Keyword::Crc => b"crc",
             Keyword::Rdp => b"rdp",
+            Keyword::Frag => b"frag",
             Keyword::From => b"from",
         }
     }
@@ -498,8 +541,10 @@ impl Form {
             Form::Connect => b"connect",
             Form::Send => b"send",
             Form::Burst => b"burst",
+            Form::Blob => b"blob",
             Form::Raw => b"raw",
             Form::Recv => b"recv",
+            Form::Collect => b"collect",
             Form::Close => b"close",
             Form::Wait => b"wait",
         }
@@ -516,8 +561,10 @@ impl Form {
             | Form::Connect
             | Form::Send
             | Form::Burst
+            | Form::Blob
             | Form::Raw
             | Form::Recv
+            | Form::Collect
             | Form::Close
             | Form::Wait => true,
             _ => false,
@@ -549,8 +596,10 @@ impl Form {
             Form::Connect => &CONNECT,
             Form::Send => &SEND,
             Form::Burst => &BURST,
+            Form::Blob => &BLOB,
             Form::Raw => &RAW,
             Form::Recv => &RECV,
+            Form::Collect => &COLLECT,
             Form::Close => &CLOSE,
             Form::Wait => &WAIT,
         }
@@ -568,6 +617,7 @@ impl Form {
             Form::Bind => &BIND_OPTIONS,
             Form::Connect => &CONNECT_OPTIONS,
             Form::Recv => &RECV_OPTIONS,
+            Form::Collect => &COLLECT_OPTIONS,
             _ => &[],
         }
     }

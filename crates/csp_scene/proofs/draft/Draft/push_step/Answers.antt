@@ -8,5 +8,5 @@ use Rattle.csp_scene.proofs.draft.Draft.push_step.Goals as goal
 pub returns-clause-kept : goal.returns-clause-kept
 returns-clause-kept c =
     kept_of (with_step_at c.args.place (plain_step c.args.step.now) c.args.self.now) _
-    (IsDraft-step c.args.self.now c.args.place (plain_step c.args.step.now) c.requires.kept c.requires.node c.requires.app c.requires.step c.requires.room)
+    (IsDraft-step c.args.self.now c.args.place (plain_step c.args.step.now) c.requires.kept c.requires.node c.requires.app c.requires.step c.requires.apart c.requires.room)
     (first_of (search rules, grind (arith, common_steps)))
