@@ -1,11 +1,13 @@
 //! A party with all that its opening needs.
 
-ghost use Rattle.std.specs.Prelude.{◌≡◌, IfOk, IsSome};
+ghost use Rattle.std.specs.Prelude.{◌≡◌, ◌+◌, ◌<◌, ◌^◌, All, IfOk, IsSome, length};
+ghost use Rattle.csp_app.specs.PlainApp.{opening};
+ghost use Rattle.csp_app.specs.Room.{IsStep};
 ghost use Rattle.csp_party.specs.Any.{plain};
 ghost use Rattle.csp_record.specs.Who.{node_of};
 ghost use Rattle.csp_topology.specs.Opening.{CanOpen, IsOfRegion, opening_of};
 
-use csp_app::{App, Script};
+use csp_app::{App, Script, open_collectors};
 use csp_arena::RegionToken;
 use csp_bridge::Bridge;
 use csp_iface::Iface;
@@ -100,7 +102,7 @@ impl Opening {
                     script,
                 },
                 Some(region),
-            ) => Ok(AnyParty::App(App::open(alloc, number, script, region)?)),
+            ) => Ok(AnyParty::App(open_app(alloc, number, script, region)?)),
             (
                 Opening::Link {
                     number: _,
@@ -112,4 +114,19 @@ impl Opening {
             _ => unreachable!(),
         }
     }
+}
+
+/// Opens an application, with a collector for each slot that its script collects on.
+fn open_app(
+    alloc: Global,
+    number: u8,
+    script: Script,
+    region: RegionToken,
+) -> Result<App, AllocError>
+    requires few { length script + 1 < 2 ^ 32 }
+    requires slots { All IsStep script }
+    ensures { IfOk result (λ a. a ≡ record { region = region.name; app = opening number script }) }
+{
+    let collectors = open_collectors(alloc, &script)?;
+    App::with_sfp(alloc, number, script, region, collectors)
 }
