@@ -27,14 +27,14 @@ use Rattle.csp_scene.specs.Judge.{fit, row_for, is_comment, judge_words, judge, 
 use Rattle.csp_scene.specs.Links.{node_at}
 use Rattle.csp_scene.specs.Moves.{move_of}
 use Rattle.csp_scene.specs.Naming.{has_addr, is_name_taken, is_addr_taken, node_named, router_named, link_named}
-use Rattle.csp_scene.specs.Nodes.{state_until, new_node, new_bridge, state_node, new_app, with_app, may_add_app, with_app_at, state_app_at, last_app, with_last_step, with_step_at, state_step_at}
+use Rattle.csp_scene.specs.Nodes.{state_until, new_node, new_bridge, state_node, new_app, with_app, may_add_app, with_app_at, state_app_at, last_app, with_last_step, with_step_at, may_add_step, state_step_at}
 use Rattle.csp_scene.specs.Rows.{PlainRow, all_rows, has_choice, row_of, rows_of}
 use Rattle.csp_scene.specs.Scene.{PlainNode, PlainSchedule, PlainScene, in_rounds, shuffled, stepwise}
 use Rattle.csp_scene.specs.Schedule.{state_schedule, add_moves, state_moves}
 use Rattle.csp_scene.specs.State.{state, are_joined, finish, finish_with}
-use Rattle.csp_scene.specs.Steps.{bind_step, connect_step, send_step, burst_step, raw_step, recv_step, close_step, wait_step}
+use Rattle.csp_scene.specs.Steps.{bind_step, connect_step, send_step, burst_step, blob_step, raw_step, recv_step, collect_step, close_step, wait_step}
 use Rattle.csp_scene.specs.Transport.{given_options, is_tuned, with_rdp, with_rdp_at, state_rdp_at}
-use Rattle.csp_scene.specs.declared.limits.TheConstants.{MAX_NODES, MAX_STEPS}
+use Rattle.csp_scene.specs.declared.limits.TheConstants.{MAX_NODES}
 use Rattle.csp_scene.specs.declared.refusal.SceneKind.{SceneKind}
 use Rattle.csp_scene.specs.declared.refusal.SceneKind.TheVariants as kind
 use Rattle.csp_scene.specs.declared.scenario.Move.{Move}
@@ -156,8 +156,8 @@ module _ (d : PlainDraft) (differ : Differ (addresses_of d.nodes)) where
   step_leaves : (step : PlainStep) (place : Option ℕ) → LeavesApart (state_step_at d step place)
   step_leaves step None = err_leaves kind.Place
   step_leaves step (Some place) =
-      demanded (ltb (length (last_app (node_at d.nodes place)).steps) MAX_STEPS) kind.Full (Ok (with_step_at place step d))
-      (ok_leaves (with_step_at place step d) (changed place (with_last_step step (node_at d.nodes place)) refl))
+      then_leaves (may_add_step (last_app (node_at d.nodes place)).steps step) (λ _. Ok (with_step_at place step d))
+      (λ _. ok_leaves (with_step_at place step d) (changed place (with_last_step step (node_at d.nodes place)) refl))
 
   rdp_leaves : (options : Options) (place : Option ℕ) → LeavesApart (state_rdp_at d options place)
   rdp_leaves options None = err_leaves kind.Unknown
@@ -256,8 +256,10 @@ forms_leave =
     ▸ (λ shape d args h. step_leaves d h (connect_step shape args) d.host)
     ▸ (λ shape d args h. step_leaves d h (send_step args) d.host)
     ▸ (λ shape d args h. step_leaves d h (burst_step args) d.host)
+    ▸ (λ shape d args h. step_leaves d h (blob_step args) d.host)
     ▸ (λ shape d args h. step_leaves d h (raw_step args) d.host)
     ▸ (λ shape d args h. step_leaves d h (recv_step shape args) d.host)
+    ▸ (λ shape d args h. step_leaves d h (collect_step shape args) d.host)
     ▸ (λ shape d args h. step_leaves d h (close_step args) d.host)
     ▸ (λ shape d args h. step_leaves d h (wait_step args) d.host)
     ▸ tt

@@ -97,8 +97,10 @@ module _ (P : ItemShown → Type 0) where
   step_so s (Some (step.Connect slot dest port prio flags from)) h = note_so s.asked (note.Connect slot dest port prio flags from) h.1
   step_so s (Some (step.Send slot bytes)) h = packet_so s.made
   step_so s (Some (step.Burst slot count len)) h = packet_so s.made
+  step_so s (Some (step.Blob slot len size)) h = packet_so s.made
   step_so s (Some (step.Raw header bytes)) h = packet_so s.made
   step_so s (Some (step.Recv slot count rounds)) h = recv_so slot count rounds s.since (is_enough slot count s)
+  step_so s (Some (step.Collect slot count rounds)) h = recv_so slot count rounds s.since (is_enough slot count s)
   step_so s (Some (step.Close slot)) h = note_so s.asked (note.Close slot) h.1
   step_so s (Some (step.Wait rounds)) h = tt
 

@@ -87,6 +87,8 @@ module _ (f : Facts) (es : List Entry) (top bound : ℕ) (flows : Flows) (R : Co
   event_fresh h p o w x a (event.Sent slot ordinal) part heard shows = refl
   event_fresh h p o w x a (event.TookEmpty step) part heard shows = refl
   event_fresh h p o w x a (event.Took slot ordinal) part heard shows = refl
+  event_fresh h p o w x a (event.BlobTook slot ordinal len crc) part heard shows = refl
+  event_fresh h p o w x a (event.BlobRefused slot ordinal reason) part heard shows = refl
   event_fresh h p o w x a (event.Refused step reason) part heard shows = refl
   event_fresh h p o w x a (event.GaveUp step) part heard shows = refl
   event_fresh h p o w x a (event.SlotDown step) part heard shows = refl

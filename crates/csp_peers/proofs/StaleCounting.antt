@@ -4,6 +4,7 @@ use Rattle.std.proofs.lemmas.List.Sums.{sum_by-cons}
 use Rattle.std.specs.List.{AllByRecursion}
 use Rattle.std.specs.Prelude.{if◌then◌else◌, ⊤}
 use Rattle.csp_app.specs.Asking as app_asking
+use Rattle.csp_app.specs.Collecting.{collector_at}
 use Rattle.csp_app.specs.PlainApp.{PlainApp}
 use Rattle.csp_app.specs.Slots.{slot_at, took}
 use Rattle.csp_app.specs.Steps.{answered, batch, gives_up, has_passed, is_enough, pushed_one, recv_end, turn_of, wait_end}
@@ -34,6 +35,7 @@ use Rattle.csp_log.specs.declared.shown.AnswerShown.TheVariants as answer
 use Rattle.csp_log.specs.declared.shown.ItemShown.{ItemShown}
 use Rattle.csp_log.specs.declared.shown.ItemShown.TheVariants as item
 use Rattle.csp_party.specs.Any.{PlainParty, a_bridge, a_link, a_router, an_app, an_iface, asked, events, tells}
+use Rattle.csp_prefix.proofs.AppTurns.{blobs_so}
 use Rattle.csp_record.specs.Record.{PlainPartyLog, PlainRecord}
 use Rattle.csp_record.specs.Stale.{is_stale, stale}
 use Rattle.csp_record.specs.declared.who.Who.{Who}
@@ -165,8 +167,8 @@ table_clear s now (app_plan.Use slot packets) = tt
 table_clear s now (app_plan.Receive slot packets rounds) = λ n x. received_clear slot packets (is_enough slot packets x) (gives_up rounds now x) (slot_at x.slots slot).down x
 table_clear s now (app_plan.Wait rounds) = λ n x. waited_clear (has_passed rounds now x) x
 
-took_clear : (i : ItemShown) (s : PlainApp) → AreClear (took i s.slots)
-took_clear (item.Packet k b) s = (refl, tt)
+took_clear : (i : ItemShown) (s : PlainApp) → AreClear (took i s.collectors s.slots)
+took_clear (item.Packet k b) s = (refl, blobs_so IsClear (λ slot ordinal len crc. refl) (λ slot ordinal why. refl) k (slot_at s.slots k).ordinal (collector_at s.collectors k) b.payload)
 took_clear (item.Note n) s = tt
 took_clear (item.Frame f) s = tt
 
@@ -178,7 +180,7 @@ turn_clear s (gives _ _ given back) answer.Given h = h.0
 turn_clear s (gives _ _ given back) (answer.PoolFull b) h = h.1 b
 turn_clear s (pushes _ _ pushed back) answer.Pushed h = h.0
 turn_clear s (pushes _ _ pushed back) (answer.Full i) h = h.1 i
-turn_clear s (pops _ look) (answer.Popped i) h = AllByRecursion-append IsClear (took i s.slots) _ (took_clear i s) (h _ _)
+turn_clear s (pops _ look) (answer.Popped i) h = AllByRecursion-append IsClear (took i s.collectors s.slots) _ (took_clear i s) (h _ _)
 turn_clear s (pops _ look) answer.Empty h = h None s
 turn_clear s _ _ h = tt
 

@@ -4,7 +4,7 @@ use Rattle.std.specs.Prelude.{nat_lt, slice_get, if◌then◌else◌, IfSome, Is
 use Rattle.std.specs.List.{All, AllByRecursion}
 use Rattle.std.proofs.lemmas.List.Elements.{All-from_recursion}
 use Rattle.std.proofs.lemmas.Option.{get_or_from_slice_get, slice_get_within}
-use Rattle.csp_app.proofs.Bursts.{up_carries}
+use Rattle.csp_app.proofs.Blobs.{up_carries}
 use Rattle.csp_app.proofs.Hearing.{IsFit, asked_hears}
 use Rattle.csp_app.specs.Asking.{asked, asks}
 use Rattle.csp_app.specs.Making.{batch_at, filled, mark_in, note_in, packet_in}
@@ -49,8 +49,10 @@ in_range (step.Bind _ _) h = tt
 in_range (step.Connect slot dest port prio flags from) h = h.0
 in_range (step.Send slot bytes) h = h
 in_range (step.Burst slot count len) h = (h.0, h.1, h.3, h.4)
+in_range (step.Blob slot len size) h = h
 in_range (step.Raw header bytes) h = h.1
 in_range (step.Recv slot count rounds) h = h.0
+in_range (step.Collect slot count rounds) h = h.0
 in_range (step.Close slot) h = h
 in_range (step.Wait rounds) h = tt
 

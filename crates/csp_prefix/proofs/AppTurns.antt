@@ -1,9 +1,10 @@
 -- What the turns of an application show: it pushes packets without a trace, and tells once of each packet that it pops.
-use Rattle.std.proofs.Common.{◌≡◌, ℕ, ◌+◌, Bool, true, false, Option, Some, None, List, [], ◌∷◌, refl, sym, subst}
+use Rattle.std.proofs.Common.{◌≡◌, ℕ, ◌+◌, Bool, true, false, Option, Some, None, Result, Ok, Err, List, [], ◌∷◌, ◌++◌, length, refl, sym, subst}
 use Rattle.std.specs.Prelude.{nat_lt, slice_get, IfSome, ⊤}
 use Rattle.std.specs.List.{AllByRecursion}
 use Rattle.std.specs.Option.{option_map}
 use Rattle.csp_app.specs.Asking.{asked, asks}
+use Rattle.csp_app.specs.Collecting.{blobs_told, collector_at, piece_told}
 use Rattle.csp_app.specs.PlainApp.{PlainApp, opening}
 use Rattle.csp_app.specs.Making.{note_in, packet_in}
 use Rattle.csp_app.specs.Slots.{slot_at}
@@ -14,10 +15,12 @@ use Rattle.csp_app.specs.declared.plan.Plan.{Plan}
 use Rattle.csp_app.specs.declared.plan.Plan.TheVariants as plan
 use Rattle.csp_base.specs.Trace.{no_trace}
 use Rattle.csp_buffer.specs.Content.{Content}
+use Rattle.csp_crc.specs.Crc.{crc_of}
 use Rattle.csp_deck.specs.Runs.{IsRun, step_after}
 use Rattle.csp_log.specs.Pictures.{Fits}
 use Rattle.csp_log.specs.declared.entry.Entry.{Entry}
 use Rattle.csp_log.specs.declared.event.Event.{Event}
+use Rattle.csp_log.specs.declared.event.Event.TheVariants as event
 use Rattle.csp_log.specs.declared.note.Note.{Note}
 use Rattle.csp_log.specs.declared.note.Note.TheVariants as note
 use Rattle.csp_log.specs.declared.places.QueueId.{QueueId}
@@ -27,6 +30,10 @@ use Rattle.csp_log.specs.declared.shown.ItemShown.TheVariants as item
 use Rattle.csp_log.specs.declared.shown.AnswerShown.{AnswerShown}
 use Rattle.csp_log.specs.declared.shown.AnswerShown.TheVariants as answer
 use Rattle.csp_scene.proofs.Lists.{AllByRecursion-append}
+use Rattle.csp_sfp.specs.Gathering.{Gathering, after, answer as answer_to}
+use Rattle.csp_sfp.specs.declared.collector.SfpAnswer.{SfpAnswer}
+use Rattle.csp_sfp.specs.declared.collector.SfpAnswer.TheVariants.{Part, Whole}
+use Rattle.csp_sfp.specs.declared.errors.SfpError.{SfpError}
 use Rattle.csp_prefix.specs.Apps.{AreTrueApps, app_steps}
 use Rattle.csp_consistent.specs.Reading.{is_queue, put_by, puts}
 use Rattle.csp_prefix.specs.Routers.{IsUntraced}
@@ -221,6 +228,18 @@ alike : (s t : PlainApp) (now : ℕ) (p : Plan) → IsPopLike (turn_of s now p) 
 alike s t now plan.Rest = tt
 alike s t now _ = tt
 
+-- what holds of each event of a blob holds of what a slot's collector, if there is one, reports of a payload
+piece_so : (P : Event → Type 0) (whole : (slot ordinal len crc : ℕ) → P (event.BlobTook slot ordinal len crc)) (refused : (slot ordinal : ℕ) (why : SfpError) → P (event.BlobRefused slot ordinal why))
+    → (slot ordinal : ℕ) (a : Result SfpAnswer SfpError) (g : Gathering) → AllByRecursion P (piece_told slot ordinal a g)
+piece_so P whole refused slot ordinal (Ok Whole) g = (whole slot ordinal (length g.bytes) (crc_of g.bytes), tt)
+piece_so P whole refused slot ordinal (Ok Part) g = tt
+piece_so P whole refused slot ordinal (Err why) g = (refused slot ordinal why, tt)
+
+pub blobs_so : (P : Event → Type 0) (whole : (slot ordinal len crc : ℕ) → P (event.BlobTook slot ordinal len crc)) (refused : (slot ordinal : ℕ) (why : SfpError) → P (event.BlobRefused slot ordinal why))
+    → (slot ordinal : ℕ) (collector : Option Gathering) (payload : List ℕ) → AllByRecursion P (blobs_told slot ordinal collector payload)
+blobs_so P whole refused slot ordinal None payload = tt
+blobs_so P whole refused slot ordinal (Some g) payload = piece_so P whole refused slot ordinal (answer_to g payload) (after g payload)
+
 giving_tells : (c : Option Content) (a : AnswerShown) (es : List Event) → TellsTook (giving_op c) a es
 giving_tells None a es = tt
 giving_tells (Some b) a es = tt
@@ -234,12 +253,17 @@ turn_tells number (rests _) u rest a l k = tt
 turn_tells number (takes _ _) u rest a l k = tt
 turn_tells number (gives c _ _ _) u rest a l k = giving_tells c a (told_of rest u a).events
 turn_tells number (pushes c _ _ _) u rest a l k = pushing_tells number c a (told_of rest u a).events
-turn_tells number (pops _ _) (pops until look) rest (answer.Popped (item.Packet mark b)) l k = record {
-  ordinal = (slot_at rest.slots mark).ordinal;
-  rest = (look None (popped (item.Packet mark b) rest)).events;
-  events = refl;
-  once = k None (popped (item.Packet mark b) rest);
-}
+turn_tells number (pops _ _) (pops until look) rest (answer.Popped (item.Packet mark b)) l k =
+    let ordinal : ℕ = (slot_at rest.slots mark).ordinal in
+    let collector : Option Gathering = collector_at rest.collectors mark in
+    let blobs : List Event = blobs_told mark ordinal collector b.payload in
+    let last : PlainApp = popped (item.Packet mark b) rest in
+    record {
+      ordinal = ordinal;
+      rest = blobs ++ (look None last).events;
+      events = refl;
+      once = AllByRecursion-append IsNoTook blobs (look None last).events (blobs_so IsNoTook (λ s o len crc. tt) (λ s o why. tt) mark ordinal collector b.payload) (k None last);
+    }
 turn_tells number (pops _ _) (pops until look) rest (answer.Popped (item.Frame f)) l k = tt
 turn_tells number (pops _ _) (pops until look) rest (answer.Popped (item.Note n)) l k = tt
 turn_tells number (pops _ _) (pops until look) rest _ l k = tt

@@ -225,6 +225,8 @@ module _ (Over : Numbering → ℕ → Opening → List (List ℕ) → Type 0) (
   tells_event h books (event.Sent slot ordinal) new t = absurd new
   tells_event h books (event.TookEmpty step) new t = tells_other h books (event.TookEmpty step) (λ app ends. refl) t
   tells_event h books (event.Took slot ordinal) new t = tells_other h books (event.Took slot ordinal) (λ app ends. refl) t
+  tells_event h books (event.BlobTook slot ordinal len crc) new t = tells_other h books (event.BlobTook slot ordinal len crc) (λ app ends. refl) t
+  tells_event h books (event.BlobRefused slot ordinal reason) new t = tells_other h books (event.BlobRefused slot ordinal reason) (λ app ends. refl) t
   tells_event h books (event.Refused step reason) new t = tells_other h books (event.Refused step reason) (λ app ends. refl) t
   tells_event h books (event.GaveUp step) new t = tells_other h books (event.GaveUp step) (λ app ends. refl) t
   tells_event h books (event.SlotDown step) new t = tells_other h books (event.SlotDown step) (λ app ends. refl) t
