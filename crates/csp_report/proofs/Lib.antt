@@ -1,4 +1,5 @@
 mod Adding
+mod BlobLines
 mod ConnLines
 mod Cutting
 mod Feeds

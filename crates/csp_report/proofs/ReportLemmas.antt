@@ -3,6 +3,7 @@ use Rattle.std.proofs.Common.{◌≡◌, ℕ, zero, suc, ◌+◌, Bool, true, fa
 use Rattle.std.specs.Prelude.{⊤, codes, count_by, slice_get, IsTrue}
 use Rattle.std.specs.List.{AllByRecursion, flat_map, enumerate_from, join_with_byte}
 use Rattle.std.specs.Fmt.{decimal}
+use Rattle.std.specs.Int.{w32, to_be_bytes}
 use Rattle.std.specs.Option.{option_map}
 use Rattle.std.proofs.lemmas.List.Concat.{flat_map-append}
 use Rattle.std.proofs.lemmas.Option.{slice_get-map}
@@ -27,10 +28,14 @@ use Rattle.csp_report.specs.declared.ifaces.IfaceCount.TheVariants as count
 use Rattle.csp_report.specs.declared.parties.Seat.TheVariants as seat
 use Rattle.csp_report.specs.declared.places.PlaceKind.TheVariants as kind
 use Rattle.csp_report.specs.declared.text.TheConstants.{VERSION}
-use Rattle.csp_report.specs.Lines.{Line, ended_line, text_of}
+use Rattle.csp_sfp.specs.declared.errors.SfpError.{SfpError}
+use Rattle.csp_sfp.specs.declared.errors.SfpError.TheVariants as sfp
+use Rattle.csp_report.specs.declared.blobs.Blob.{Blob}
+use Rattle.csp_report.specs.Blobs.{word_of_bad_piece, crc_word, blobs_on, refusals_on, blob_line, blob_lines, badblob_line, collected_lines}
+use Rattle.csp_report.specs.Lines.{Line, ended_line, text_of, conn_words}
 use Rattle.csp_report.specs.Parties.{party_at, entries_at, events_at}
 use Rattle.csp_report.specs.Places.{held_in}
-use Rattle.csp_report.specs.Conns.{conn_words, peer_flow, kind_words, opening_line, bytes_word, payload_lines, Traffics, opening_lines, slot_lines, all_slots, traffic_of, conn_lines}
+use Rattle.csp_report.specs.Conns.{peer_flow, kind_words, opening_line, bytes_word, payload_lines, Traffics, opening_lines, slot_lines, all_slots, traffic_of, conn_lines}
 use Rattle.csp_record.specs.declared.connections.Opening.{Opening}
 use Rattle.csp_record.specs.Connections.{openings}
 use Rattle.csp_report.specs.Events.{is_discard, all_discards, discard_words, word_of, word_of_refusal, asked_lines, entry_lines, step_line, refused_line, event_lines}
@@ -160,6 +165,14 @@ refusal_lacks why.PortBusy = plain (codes "portbusy") refl
 refusal_lacks why.Timeout = plain (codes "timeout") refl
 refusal_lacks why.Reset = plain (codes "reset") refl
 
+piece_lacks : (reason : SfpError) → Lacks 10 (word_of_bad_piece reason)
+piece_lacks sfp.Short = plain (codes "short") refl
+piece_lacks sfp.NoData = plain (codes "nodata") refl
+piece_lacks (sfp.BadTotal total) = plain (codes "badtotal") refl
+piece_lacks (sfp.WrongTotal kept found) = plain (codes "wrongtotal") refl
+piece_lacks (sfp.WrongOffset expected found) = plain (codes "wrongoffset") refl
+piece_lacks (sfp.TooMuch total) = plain (codes "toomuch") refl
+
 discards_lack : (events : List Event) (reasons : List Discard) → AllByRecursion (Lacks 10) (discard_words events reasons)
 discards_lack events [] = tt
 discards_lack events (why ∷ reasons) = (word_lacks why, (number (count_by (is_discard why) events), discards_lack events reasons))
@@ -213,6 +226,8 @@ good_asked node round is event.Shutdown = (other (codes "event" ∷ node ∷ cod
 good_asked node round is (event.TookEmpty step) = tt
 good_asked node round is (event.Sent slot ordinal) = tt
 good_asked node round is (event.Took slot ordinal) = tt
+good_asked node round is (event.BlobTook slot ordinal len crc) = tt
+good_asked node round is (event.BlobRefused slot ordinal reason) = tt
 good_asked node round is (event.Refused step reason) = tt
 good_asked node round is (event.GaveUp step) = tt
 good_asked node round is (event.SlotDown step) = tt
@@ -283,6 +298,8 @@ module _ (node app : List ℕ) (node_is : IsTrue (is_name node)) (app_is : IsTru
   good_event (event.SlotDown step) = (step_good (codes "down") step (plain (codes "down") refl) refl, tt)
   good_event (event.Sent slot ordinal) = tt
   good_event (event.Took slot ordinal) = tt
+  good_event (event.BlobTook slot ordinal len crc) = tt
+  good_event (event.BlobRefused slot ordinal reason) = tt
   good_event (event.Discarded reason) = tt
   good_event (event.Handed nth peer tag cur una) = tt
   good_event (event.Opened number slot nth peer) = tt
@@ -312,15 +329,40 @@ module _ (node app : List ℕ) (node_is : IsTrue (is_name node)) (app_is : IsTru
     good_payloads word slot ordinal (k + 1) payloads lacks starts,
   )
 
+  good_blobs : (slot ordinal k : ℕ) (blobs : List Blob) → AllByRecursion IsGood (map (λ blob. blob_line node app slot ordinal (blob.0 + 1) blob.1) (enumerate_from k blobs))
+  good_blobs slot ordinal k [] = tt
+  good_blobs slot ordinal k (blob ∷ blobs) = (
+    other (blob_line node app slot ordinal (k + 1) blob)
+        (all_joined (Lacks 10) (conn_words (codes "blob") node app slot ordinal) (decimal (k + 1) ∷ decimal blob.len ∷ crc_word blob.crc ∷ [])
+        (numbers_lack (codes "blob") slot ordinal (plain (codes "blob") refl)) (number (k + 1), (number blob.len, (Lacks-hex (to_be_bytes w32 blob.crc), tt))))
+        refl,
+    good_blobs slot ordinal (k + 1) blobs,
+  )
+
+  good_refusals : (slot ordinal : ℕ) (reasons : List SfpError) → AllByRecursion IsGood (map (badblob_line node app slot ordinal) reasons)
+  good_refusals slot ordinal [] = tt
+  good_refusals slot ordinal (reason ∷ reasons) = (
+    other (badblob_line node app slot ordinal reason)
+        (all_joined (Lacks 10) (conn_words (codes "badblob") node app slot ordinal) (word_of_bad_piece reason ∷ []) (numbers_lack (codes "badblob") slot ordinal (plain (codes "badblob") refl)) (piece_lacks reason, tt))
+        refl,
+    good_refusals slot ordinal reasons,
+  )
+
+  good_collected : (slot ordinal : ℕ) (events : List Event) → AllByRecursion IsGood (collected_lines node app slot ordinal events)
+  good_collected slot ordinal events =
+      all_joined IsGood (blob_lines node app slot ordinal (blobs_on slot ordinal events)) _ (good_blobs slot ordinal 0 (blobs_on slot ordinal events)) (good_refusals slot ordinal (refusals_on slot ordinal events))
+
   module _ (nodes : List PlainNode) (nodes_are : AllByRecursion IsNode nodes) where
     good_opening : (traffic : Traffics) (o : Opening) → AllByRecursion IsGood (opening_lines nodes node app traffic o)
     good_opening traffic o = (
       other (opening_line nodes node app o)
           (all_joined (Lacks 10) (conn_words (codes "conn") node app o.slot o.ordinal) (kind_words o.nth (peer_flow nodes o.peer)) (numbers_lack (codes "conn") o.slot o.ordinal (plain (codes "conn") refl)) (kind_lacks o.nth (peer_flow nodes o.peer) (peer_lacks nodes nodes_are o.peer)))
           refl,
-      all_joined IsGood (payload_lines (codes "sent") node app o.slot o.ordinal (traffic.sent_on o.slot o.ordinal)) _
+      all_joined IsGood (payload_lines (codes "sent") node app o.slot o.ordinal (traffic.sent_on o.slot o.ordinal) ++ payload_lines (codes "took") node app o.slot o.ordinal (traffic.took_on o.slot o.ordinal)) _
+          (all_joined IsGood (payload_lines (codes "sent") node app o.slot o.ordinal (traffic.sent_on o.slot o.ordinal)) _
           (good_payloads (codes "sent") o.slot o.ordinal 0 (traffic.sent_on o.slot o.ordinal) (plain (codes "sent") refl) (λ i payload. refl))
-          (good_payloads (codes "took") o.slot o.ordinal 0 (traffic.took_on o.slot o.ordinal) (plain (codes "took") refl) (λ i payload. refl)),
+          (good_payloads (codes "took") o.slot o.ordinal 0 (traffic.took_on o.slot o.ordinal) (plain (codes "took") refl) (λ i payload. refl)))
+          (good_collected o.slot o.ordinal traffic.told),
     )
 
     good_slot : (traffic : Traffics) (opened : List Opening) (slot : ℕ) → AllByRecursion IsGood (slot_lines nodes node app traffic opened slot)

@@ -18,10 +18,13 @@ use Rattle.csp_record.specs.declared.connections.Opening.{Opening}
 use Rattle.csp_scene.specs.Links.{links_at}
 use Rattle.csp_scene.specs.Ranges.{IsNode, IsApp}
 use Rattle.csp_scene.specs.Scene.{PlainNode, PlainApp, PlainLink}
-use Rattle.csp_report.specs.Conns.{conn_words, peer_flow, kind_words, opening_line, bytes_word, payload_lines, Traffics, opening_lines, slot_lines, all_slots, traffic_of, conn_lines}
+use Rattle.csp_report.specs.Conns.{peer_flow, kind_words, opening_line, bytes_word, payload_lines, Traffics, opening_lines, slot_lines, all_slots, traffic_of, conn_lines}
 use Rattle.csp_report.specs.Events.{asked_lines, entry_lines, event_lines}
 use Rattle.csp_report.specs.Ifaces.{iface_line}
-use Rattle.csp_report.specs.Lines.{Line}
+use Rattle.csp_sfp.specs.declared.errors.SfpError.{SfpError}
+use Rattle.csp_report.specs.declared.blobs.Blob.{Blob}
+use Rattle.csp_report.specs.Blobs.{blobs_on, refusals_on, blob_line, blob_lines, badblob_line, collected_lines}
+use Rattle.csp_report.specs.Lines.{Line, conn_words}
 use Rattle.csp_report.specs.Parties.{party_at, entries_at}
 use Rattle.csp_report.specs.ReliablePrefix.{is_conn, is_on, text_in, Told}
 use Rattle.csp_report.specs.Report.{title_line, end_line, node_line, router_words, router_line, node_iface_lines, node_event_lines, state_line, app_lines, node_app_lines, count_lines, report_lines}
@@ -154,6 +157,19 @@ module _ (nodes : List PlainNode) (nodes_are : AllByRecursion IsNode nodes) (nod
       four (bytes_eq node node) (bytes_eq app app) (bytes_eq (decimal slot) (decimal slot)) (bytes_eq (decimal ordinal) (decimal ordinal))
       (same node) (same app) (same (decimal slot)) (same (decimal ordinal))
 
+  -- the lines of blobs tell of no payload
+  blobs_other : (slot ordinal k : ℕ) (blobs : List Blob) → AllByRecursion (λ l. IsOther (recut l)) (map (λ blob. blob_line node app slot ordinal (blob.0 + 1) blob.1) (enumerate_from k blobs))
+  blobs_other slot ordinal k [] = tt
+  blobs_other slot ordinal k (blob ∷ blobs) = (record { no_conn = refl; breaks = record { no_sent = refl; no_took = refl } }, blobs_other slot ordinal (k + 1) blobs)
+
+  refusals_other : (slot ordinal : ℕ) (reasons : List SfpError) → AllByRecursion (λ l. IsOther (recut l)) (map (badblob_line node app slot ordinal) reasons)
+  refusals_other slot ordinal [] = tt
+  refusals_other slot ordinal (reason ∷ reasons) = (record { no_conn = refl; breaks = record { no_sent = refl; no_took = refl } }, refusals_other slot ordinal reasons)
+
+  collected_other : (slot ordinal : ℕ) (events : List Event) → AllByRecursion (λ l. IsOther (recut l)) (collected_lines node app slot ordinal events)
+  collected_other slot ordinal events =
+      all_joined (λ l. IsOther (recut l)) (blob_lines node app slot ordinal (blobs_on slot ordinal events)) _ (blobs_other slot ordinal 0 (blobs_on slot ordinal events)) (refusals_other slot ordinal (refusals_on slot ordinal events))
+
   module _ (traffic : Traffics) where
     block : (o : Opening)
         → IsBlock (opening_line nodes node app o) (payload_lines (codes "sent") node app o.slot o.ordinal (traffic.sent_on o.slot o.ordinal)) (payload_lines (codes "took") node app o.slot o.ordinal (traffic.took_on o.slot o.ordinal))
@@ -181,10 +197,22 @@ module _ (nodes : List PlainNode) (nodes_are : AllByRecursion IsNode nodes) (nod
         (texts_are (codes "sent") o.slot o.ordinal 0 (traffic.sent_on o.slot o.ordinal))
         ∙ ap (λ (ts : List (List ℕ)). record { line = opening_line nodes node app o; sent = map bytes_word (traffic.sent_on o.slot o.ordinal); took = ts }) (texts_are (codes "took") o.slot o.ordinal 0 (traffic.took_on o.slot o.ordinal))
 
+    -- its line, and those of what was sent and taken on it
+    abbrev traffic_lines : Opening → List Line
+    traffic_lines o =
+        opening_line nodes node app o
+        ∷ payload_lines (codes "sent") node app o.slot o.ordinal (traffic.sent_on o.slot o.ordinal)
+        ++ payload_lines (codes "took") node app o.slot o.ordinal (traffic.took_on o.slot o.ordinal)
+
+    traffic_tells : (o : Opening) → Tells (traffic_lines o) (told_of nodes node app traffic o ∷ [])
+    traffic_tells o =
+        subst (λ (x : Told). Tells (traffic_lines o) (x ∷ [])) (texts_told o)
+        (tells_block (opening_line nodes node app o) (payload_lines (codes "sent") node app o.slot o.ordinal (traffic.sent_on o.slot o.ordinal)) (payload_lines (codes "took") node app o.slot o.ordinal (traffic.took_on o.slot o.ordinal)) (block o))
+
     opening_tells : (o : Opening) → Tells (opening_lines nodes node app traffic o) (told_of nodes node app traffic o ∷ [])
     opening_tells o =
-        subst (λ (x : Told). Tells (opening_lines nodes node app traffic o) (x ∷ [])) (texts_told o)
-        (tells_block (opening_line nodes node app o) (payload_lines (codes "sent") node app o.slot o.ordinal (traffic.sent_on o.slot o.ordinal)) (payload_lines (codes "took") node app o.slot o.ordinal (traffic.took_on o.slot o.ordinal)) (block o))
+        tells_both (traffic_lines o) (collected_lines node app o.slot o.ordinal traffic.told) (told_of nodes node app traffic o ∷ []) []
+        (traffic_tells o) (tells_nothing (collected_lines node app o.slot o.ordinal traffic.told) (collected_other o.slot o.ordinal traffic.told))
 
     tells_if : (t : Bool) (lines : List Line) (told : List Told) → Tells lines told → Tells (cond t lines []) (cond t told [])
     tells_if true lines told tells = tells
@@ -212,6 +240,8 @@ module _ (nodes : List PlainNode) (nodes_are : AllByRecursion IsNode nodes) (nod
   event_other (event.SlotDown step) = (record { no_conn = refl; breaks = record { no_sent = refl; no_took = refl } }, tt)
   event_other (event.Sent slot ordinal) = tt
   event_other (event.Took slot ordinal) = tt
+  event_other (event.BlobTook slot ordinal len crc) = tt
+  event_other (event.BlobRefused slot ordinal reason) = tt
   event_other (event.Discarded reason) = tt
   event_other (event.Handed nth peer tag cur una) = tt
   event_other (event.Opened number' slot nth peer) = tt
@@ -276,6 +306,8 @@ asked_other node round event.Shutdown = (record { no_conn = refl; breaks = recor
 asked_other node round (event.TookEmpty step) = tt
 asked_other node round (event.Sent slot ordinal) = tt
 asked_other node round (event.Took slot ordinal) = tt
+asked_other node round (event.BlobTook slot ordinal len crc) = tt
+asked_other node round (event.BlobRefused slot ordinal reason) = tt
 asked_other node round (event.Refused step reason) = tt
 asked_other node round (event.GaveUp step) = tt
 asked_other node round (event.SlotDown step) = tt

@@ -4,16 +4,15 @@ use Rattle.std.specs.List.{flat_map, enumerate_from}
 use Rattle.std.specs.Option.{option_map, option_and_then}
 use Rattle.std.specs.Fmt.{decimal}
 use Rattle.hex.specs.Hex.{encode_lower}
+use Rattle.csp_log.specs.PlainLog.{all_events}
 use Rattle.csp_log.specs.declared.entry.Entry.{Entry}
+use Rattle.csp_log.specs.declared.event.Event.{Event}
 use Rattle.csp_scene.specs.Scene.{PlainNode}
 use Rattle.csp_record.specs.declared.connections.Opening.{Opening}
 use Rattle.csp_record.specs.Connections.{openings}
 use Rattle.csp_record.specs.Payloads.{sent, took}
-use Rattle.csp_report.specs.Lines.{Line}
-
--- the first words of a line on a connection: `WORD NODE APP SLOT ORD`
-abbrev pub conn_words : List ℕ → List ℕ → List ℕ → ℕ → ℕ → Line
-conn_words word node app slot ordinal = word ∷ node ∷ app ∷ decimal slot ∷ decimal ordinal ∷ []
+use Rattle.csp_report.specs.Blobs.{collected_lines}
+use Rattle.csp_report.specs.Lines.{Line, conn_words}
 
 -- a peer's flow: the name of its node, and its number there; none where there is no peer, and where no node has that place
 abbrev pub peer_flow : List PlainNode → Option (ℕ × ℕ) → Option (List ℕ × ℕ)
@@ -43,17 +42,19 @@ abbrev pub payload_lines : List ℕ → List ℕ → List ℕ → ℕ → ℕ �
 payload_lines word node app slot ordinal payloads =
     map (λ payload. conn_words word node app slot ordinal ++ decimal (payload.0 + 1) ∷ bytes_word payload.1 ∷ []) (enumerate_from 0 payloads)
 
--- what went each way on the connections, by slot and ordinal
+-- what went each way on the connections, by slot and ordinal; and the events by which the application tells of blobs
 pub record Traffics : Type 0 where
   pub sent_on : ℕ → ℕ → List (List ℕ)
   pub took_on : ℕ → ℕ → List (List ℕ)
+  pub told : List Event
 
--- the lines of a connection that became open: what was sent on it stands before what was taken
+-- the lines of a connection that became open: what was sent on it, then what was taken, then the blobs that were collected
 abbrev pub opening_lines : List PlainNode → List ℕ → List ℕ → Traffics → Opening → List Line
 opening_lines nodes node app traffic opening =
     opening_line nodes node app opening
     ∷ payload_lines (codes "sent") node app opening.slot opening.ordinal (traffic.sent_on opening.slot opening.ordinal)
     ++ payload_lines (codes "took") node app opening.slot opening.ordinal (traffic.took_on opening.slot opening.ordinal)
+    ++ collected_lines node app opening.slot opening.ordinal traffic.told
 
 -- the lines of a slot: those of its openings, in order of time and so of their ordinals
 abbrev pub slot_lines : List PlainNode → List ℕ → List ℕ → Traffics → List Opening → ℕ → List Line
@@ -65,7 +66,7 @@ all_slots = 0 ∷ 1 ∷ 2 ∷ 3 ∷ []
 
 -- what the log of its router and its own log tell of the connections of the application with this number
 abbrev pub traffic_of : ℕ → List Entry → List Entry → Traffics
-traffic_of number router own = record { sent_on = λ slot ordinal. sent number slot ordinal router; took_on = λ slot ordinal. took number slot ordinal own }
+traffic_of number router own = record { sent_on = λ slot ordinal. sent number slot ordinal router; took_on = λ slot ordinal. took number slot ordinal own; told = all_events own }
 
 -- the lines of all its connections, by these logs
 abbrev pub conn_lines : List PlainNode → List ℕ → List ℕ → ℕ → List Entry → List Entry → List Line

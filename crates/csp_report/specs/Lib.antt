@@ -1,5 +1,6 @@
 pub mod Lines
 pub mod Parties
+pub mod Blobs
 pub mod Conns
 pub mod Events
 pub mod Ifaces

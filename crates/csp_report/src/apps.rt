@@ -109,6 +109,8 @@ fn push_event(out: &mut String, node: &str, app: &str, event: Event) -> Result<(
         Event::SlotDown { step } => push_step(out, "down", node, app, step),
         Event::Sent { .. }
         | Event::Took { .. }
+        | Event::BlobTook { .. }
+        | Event::BlobRefused { .. }
         | Event::Discarded(_)
         | Event::Handed { .. }
         | Event::Opened { .. }

@@ -1,4 +1,4 @@
-//! The lines of the connections of an application: what was sent and taken on each.
+//! The lines of the connections of an application: what was sent, taken and collected on each.
 
 ghost use Rattle.std.specs.Prelude.{◌≡◌, ◌==◌, ◌++◌, ◌∷◌, [], if◌then◌else◌, OnOk};
 ghost use Rattle.std.specs.Option.{option_map};
@@ -6,11 +6,13 @@ ghost use Rattle.std.specs.String.{string_bytes};
 ghost use Rattle.std.specs.Fmt.{decimal};
 ghost use Rattle.std.specs.List.{flat_map, join_with_byte};
 ghost use Rattle.csp_record.specs.Traffic.{payloads_on};
-ghost use Rattle.csp_report.specs.Lines.{ended_line, text_of};
-ghost use Rattle.csp_report.specs.Conns.{conn_words, peer_flow, rdp_words, kind_words, opening_line, bytes_word, payload_lines, opening_lines, slot_lines, conn_lines};
+ghost use Rattle.csp_report.specs.Lines.{ended_line, text_of, conn_words};
+ghost use Rattle.csp_report.specs.Conns.{peer_flow, rdp_words, kind_words, opening_line, bytes_word, payload_lines, opening_lines, slot_lines, conn_lines};
 
-use crate::lines::{begin_line, end_line, push_count, push_counted, push_word};
-use csp_log::Log;
+use crate::blobs::{of_blobs, push_collected};
+use crate::lines::{end_line, push_count, push_counted, push_word};
+use crate::named::{Named, push_named};
+use csp_log::{Event, Log};
 use csp_record::{Opening, Payload, Traffic, openings, sent, took};
 use csp_scene::SceneNode;
 use csp_text::push_hex;
@@ -19,16 +21,7 @@ use std::alloc::{AllocError, Global};
 /// The slots, in their order.
 const ALL_SLOTS: [u8; 4] = [0, 1, 2, 3];
 
-/// A connection of an application, by the words that name it.
-#[derive(Drop)]
-struct Named<'a> {
-    node: &'a str,
-    app: &'a str,
-    slot: u8,
-    ordinal: u64,
-}
-
-/// An application, and what went each way on its connections.
+/// An application, what went each way on its connections, and the events by which it tells of blobs.
 #[derive(Drop)]
 struct Talk<'a> {
     nodes: &'a [SceneNode],
@@ -36,17 +29,7 @@ struct Talk<'a> {
     app: &'a str,
     sent: Traffic<'a>,
     took: Traffic<'a>,
-}
-
-/// Appends the first words of a line on a connection: `WORD NODE APP SLOT ORD`.
-fn push_named(out: &mut String, word: &str, named: &Named) -> Result<(), AllocError>
-    ensures { OnOk result (string_bytes out.new ≡ string_bytes out.old ++ join_with_byte 32 (conn_words word.now named.now.node.now named.now.app.now named.now.slot named.now.ordinal)) }
-{
-    begin_line(out, word)?;
-    push_word(out, named.node)?;
-    push_word(out, named.app)?;
-    push_count(out, u64::from(named.slot))?;
-    push_count(out, named.ordinal)
+    told: Vec<Event>,
 }
 
 /// The name of the node of a peer, and the number of its flow there.
@@ -166,7 +149,7 @@ fn push_opening(
     talk: &Talk,
     opening: &Opening,
 ) -> Result<(), AllocError>
-    ensures { OnOk result (string_bytes out.new ≡ string_bytes out.old ++ text_of (opening_lines talk.now.nodes.now talk.now.node.now talk.now.app.now (record { sent_on = payloads_on talk.now.sent; took_on = payloads_on talk.now.took }) opening.now)) }
+    ensures { OnOk result (string_bytes out.new ≡ string_bytes out.old ++ text_of (opening_lines talk.now.nodes.now talk.now.node.now talk.now.app.now (record { sent_on = payloads_on talk.now.sent; took_on = payloads_on talk.now.took; told = talk.now.told.items }) opening.now)) }
 {
     let named = Named {
         node: talk.node,
@@ -176,7 +159,8 @@ fn push_opening(
     };
     push_opened(out, talk.nodes, &named, opening)?;
     push_traffic(alloc, out, "sent", &named, &talk.sent)?;
-    push_traffic(alloc, out, "took", &named, &talk.took)
+    push_traffic(alloc, out, "took", &named, &talk.took)?;
+    push_collected(alloc, out, &named, talk.told.as_slice())
 }
 
 /// Appends the lines of a connection, where it is of this slot.
@@ -187,7 +171,7 @@ fn push_of_slot(
     opening: &Opening,
     slot: u8,
 ) -> Result<(), AllocError>
-    ensures { OnOk result (string_bytes out.new ≡ string_bytes out.old ++ text_of (if opening.now.slot == slot then opening_lines talk.now.nodes.now talk.now.node.now talk.now.app.now (record { sent_on = payloads_on talk.now.sent; took_on = payloads_on talk.now.took }) opening.now else [])) }
+    ensures { OnOk result (string_bytes out.new ≡ string_bytes out.old ++ text_of (if opening.now.slot == slot then opening_lines talk.now.nodes.now talk.now.node.now talk.now.app.now (record { sent_on = payloads_on talk.now.sent; took_on = payloads_on talk.now.took; told = talk.now.told.items }) opening.now else [])) }
 {
     if opening.slot == slot {
         push_opening(alloc, out, talk, opening)
@@ -204,7 +188,7 @@ fn push_slot(
     openings: &[Opening],
     slot: u8,
 ) -> Result<(), AllocError>
-    ensures { OnOk result (string_bytes out.new ≡ string_bytes out.old ++ text_of (slot_lines talk.now.nodes.now talk.now.node.now talk.now.app.now (record { sent_on = payloads_on talk.now.sent; took_on = payloads_on talk.now.took }) openings.now slot)) }
+    ensures { OnOk result (string_bytes out.new ≡ string_bytes out.old ++ text_of (slot_lines talk.now.nodes.now talk.now.node.now talk.now.app.now (record { sent_on = payloads_on talk.now.sent; took_on = payloads_on talk.now.took; told = talk.now.told.items }) openings.now slot)) }
 {
     for opening in openings {
         push_of_slot(alloc, out, talk, opening, slot)?;
@@ -220,7 +204,7 @@ fn push_slots(
     openings: &[Opening],
     slots: &[u8],
 ) -> Result<(), AllocError>
-    ensures { OnOk result (string_bytes out.new ≡ string_bytes out.old ++ text_of (flat_map (slot_lines talk.now.nodes.now talk.now.node.now talk.now.app.now (record { sent_on = payloads_on talk.now.sent; took_on = payloads_on talk.now.took }) openings.now) slots.now)) }
+    ensures { OnOk result (string_bytes out.new ≡ string_bytes out.old ++ text_of (flat_map (slot_lines talk.now.nodes.now talk.now.node.now talk.now.app.now (record { sent_on = payloads_on talk.now.sent; took_on = payloads_on talk.now.took; told = talk.now.told.items }) openings.now) slots.now)) }
 {
     for slot in slots {
         push_slot(alloc, out, talk, openings, *slot)?;
@@ -252,6 +236,7 @@ pub(crate) fn push_conns(
         app,
         sent: sent(alloc, router, number)?,
         took: took(alloc, own, number)?,
+        told: of_blobs(alloc, own.all_events())?,
     };
     push_slots(alloc, out, &talk, opened.as_slice(), &ALL_SLOTS)?;
     Ok(())

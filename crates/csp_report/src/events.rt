@@ -59,6 +59,8 @@ fn push_event(
         Event::TookEmpty { .. }
         | Event::Sent { .. }
         | Event::Took { .. }
+        | Event::BlobTook { .. }
+        | Event::BlobRefused { .. }
         | Event::Refused { .. }
         | Event::GaveUp { .. }
         | Event::SlotDown { .. }

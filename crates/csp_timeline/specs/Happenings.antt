@@ -161,11 +161,13 @@ is_again node before packet = option_map_or (was_sent node before) (option_and_t
 
 -- ---- what is reported
 
--- an event, with the packet that its turn moved; what an application sent and took is told of its own turns
+-- an event, with the packet that its turn moved; what an application sent and took is told of its own turns, and so is the packet by which a blob is whole, or which is no next piece of one
 abbrev pub reported_by : (again : Bool) → Option Parcel → Event → List What
 reported_by again packet (event.Transmitted serial) = what.Transmitted serial again packet ∷ []
 reported_by again packet (event.Sent slot ordinal) = []
 reported_by again packet (event.Took slot ordinal) = []
+reported_by again packet (event.BlobTook slot ordinal len crc) = what.Reported (event.BlobTook slot ordinal len crc) None ∷ []
+reported_by again packet (event.BlobRefused slot ordinal reason) = what.Reported (event.BlobRefused slot ordinal reason) None ∷ []
 reported_by again packet e = what.Reported e packet ∷ []
 
 -- events, each put so

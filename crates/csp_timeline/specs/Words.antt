@@ -19,8 +19,10 @@ use Rattle.csp_log.specs.declared.note.Note.{Note}
 use Rattle.csp_log.specs.declared.note.Note.TheVariants as note
 use Rattle.csp_log.specs.declared.note.Why.{Why}
 use Rattle.csp_log.specs.declared.places.TheConstants.{UNMARKED}
+use Rattle.csp_report.specs.Blobs.{crc_word, word_of_bad_piece}
 use Rattle.csp_report.specs.Events.{word_of, word_of_refusal}
 use Rattle.csp_scene.specs.Scene.{PlainScene}
+use Rattle.csp_sfp.specs.declared.errors.SfpError.{SfpError}
 use Rattle.csp_timeline.specs.Labels.{node_name, iface_label, app_name}
 use Rattle.csp_timeline.specs.declared.kinds.Kind.{Kind}
 use Rattle.csp_timeline.specs.declared.kinds.Kind.TheVariants as kind
@@ -189,11 +191,21 @@ number_words verb n = verb ++ word (decimal n)
 abbrev pub refused_words : (step : ℕ) → Why → List ℕ
 refused_words step why = step_words (codes "refused") step ++ word (word_of_refusal why)
 
+-- a blob of a slot that is whole: its length in bytes, and its CRC-32C in eight hexadecimal digits
+abbrev pub blob_words : (slot len crc : ℕ) → List ℕ
+blob_words slot len crc = slot_words (codes "blob") slot ++ (numbered (codes "len") len ++ (word (codes "crc") ++ word (crc_word crc)))
+
+-- a piece of a blob that was refused on a slot
+abbrev pub bad_piece_words : (slot : ℕ) → SfpError → List ℕ
+bad_piece_words slot reason = slot_words (codes "badblob") slot ++ word (word_of_bad_piece reason)
+
 -- what a party of the node in this place reports
 abbrev pub event_words : PlainScene → (node : ℕ) → Event → List ℕ
 event_words scene node (event.TookEmpty step) = step_words (codes "empty") step
 event_words scene node (event.Sent slot ordinal) = slot_words (codes "sent") slot
 event_words scene node (event.Took slot ordinal) = slot_words (codes "took") slot
+event_words scene node (event.BlobTook slot ordinal len crc) = blob_words slot len crc
+event_words scene node (event.BlobRefused slot ordinal reason) = bad_piece_words slot reason
 event_words scene node (event.Refused step why) = refused_words step why
 event_words scene node (event.GaveUp step) = step_words (codes "gaveup") step
 event_words scene node (event.SlotDown step) = step_words (codes "slotdown") step

@@ -2,13 +2,16 @@
 
 ghost use Rattle.std.specs.Prelude.{◌≡◌, ◌++◌, OnOk};
 ghost use Rattle.std.specs.String.{string_bytes};
-ghost use Rattle.csp_timeline.specs.Words.{peer_words, opened_words, event_words, hands_words, opens_words, step_words, refused_words, slot_words, number_words};
+ghost use Rattle.csp_timeline.specs.Words.{peer_words, opened_words, event_words, hands_words, opens_words, step_words, refused_words, slot_words, blob_words, bad_piece_words, number_words};
 
 use crate::labels::{app_name, node_name};
 use csp_log::{Event, Why};
-use csp_report::{push_count, push_counted, push_word, word_of, word_of_refusal};
+use csp_report::{
+    push_count, push_counted, push_crc, push_word, word_of, word_of_bad_piece, word_of_refusal,
+};
 use csp_scene::Scene;
-use std::alloc::AllocError;
+use csp_sfp::SfpError;
+use std::alloc::{AllocError, Global};
 
 /// Appends the peer's flow, if there is one.
 fn push_peer(out: &mut String, scene: &Scene, peer: Option<(u8, u32)>) -> Result<(), AllocError>
@@ -91,6 +94,30 @@ fn push_slot(out: &mut String, verb: &str, slot: u8) -> Result<(), AllocError>
     push_counted(out, "slot", u64::from(slot))
 }
 
+/// Appends that a blob of a slot is whole.
+fn push_blob(
+    alloc: Global,
+    out: &mut String,
+    slot: u8,
+    len: u32,
+    crc: u32,
+) -> Result<(), AllocError>
+    ensures { OnOk result (string_bytes out.new ≡ string_bytes out.old ++ blob_words slot len crc) }
+{
+    push_slot(out, "blob", slot)?;
+    push_counted(out, "len", u64::from(len))?;
+    push_word(out, "crc")?;
+    push_crc(alloc, out, crc)
+}
+
+/// Appends that a piece of a blob was refused on a slot.
+fn push_bad_piece(out: &mut String, slot: u8, why: SfpError) -> Result<(), AllocError>
+    ensures { OnOk result (string_bytes out.new ≡ string_bytes out.old ++ bad_piece_words slot why) }
+{
+    push_slot(out, "badblob", slot)?;
+    push_word(out, word_of_bad_piece(why))
+}
+
 /// Appends a verb and a number.
 fn push_numbered(out: &mut String, verb: &str, number: u64) -> Result<(), AllocError>
     ensures { OnOk result (string_bytes out.new ≡ string_bytes out.old ++ number_words verb.now number) }
@@ -101,6 +128,7 @@ fn push_numbered(out: &mut String, verb: &str, number: u64) -> Result<(), AllocE
 
 /// Appends what a party of the node in this place reports.
 pub(crate) fn push_event(
+    alloc: Global,
     out: &mut String,
     scene: &Scene,
     node: u8,
@@ -112,6 +140,8 @@ pub(crate) fn push_event(
         Event::TookEmpty { step } => push_step(out, "empty", step),
         Event::Sent { slot, .. } => push_slot(out, "sent", slot),
         Event::Took { slot, .. } => push_slot(out, "took", slot),
+        Event::BlobTook { slot, len, crc, .. } => push_blob(alloc, out, slot, len, crc),
+        Event::BlobRefused { slot, why, .. } => push_bad_piece(out, slot, why),
         Event::Refused { step, why } => push_refused(out, step, why),
         Event::GaveUp { step } => push_step(out, "gaveup", step),
         Event::SlotDown { step } => push_step(out, "slotdown", step),

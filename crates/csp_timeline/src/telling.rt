@@ -166,6 +166,16 @@ fn tell_event(
             )
         }
         Event::Sent { .. } | Event::Took { .. } => Ok(()),
+        Event::BlobTook { .. } | Event::BlobRefused { .. } => {
+            push(
+                list,
+                turn,
+                What::Reported {
+                    event,
+                    packet: None,
+                },
+            )
+        }
         _ => push(list, turn, What::Reported { event, packet }),
     }
 }

@@ -152,7 +152,7 @@ fn push_what(
             push_frame(alloc, out, scene, frame)
         }
         What::Reported { event, packet } => {
-            push_event(out, scene, node, *event)?;
+            push_event(alloc, out, scene, node, *event)?;
             push_some_packet(alloc, out, scene, *packet)
         }
     }

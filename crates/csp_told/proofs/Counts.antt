@@ -12,6 +12,7 @@ use Rattle.csp_log.specs.declared.note.Why.{Why}
 use Rattle.csp_record.specs.Record.{PlainPartyLog, PlainRecord}
 use Rattle.csp_record.specs.declared.who.Who.{Who}
 use Rattle.csp_record.specs.declared.who.Who.TheVariants as who
+use Rattle.csp_sfp.specs.declared.errors.SfpError.{SfpError}
 use Rattle.csp_scene.specs.Scene.{PlainScene}
 use Rattle.csp_topology.specs.Parties.{PlainOpening, parties_of}
 use Rattle.csp_consistent.proofs.Names.{HasNone, AreApart, entries_in, none_there, who_is, are_apart}
@@ -28,6 +29,8 @@ pub event_alike : (weight : Event → ℕ)
     → ((step : ℕ) → weight (event.TookEmpty step) ≡ 0)
     → ((slot ordinal : ℕ) → weight (event.Sent slot ordinal) ≡ 0)
     → ((slot ordinal : ℕ) → weight (event.Took slot ordinal) ≡ 0)
+    → ((slot ordinal len crc : ℕ) → weight (event.BlobTook slot ordinal len crc) ≡ 0)
+    → ((slot ordinal : ℕ) (reason : SfpError) → weight (event.BlobRefused slot ordinal reason) ≡ 0)
     → ((step : ℕ) (reason : Why) → weight (event.Refused step reason) ≡ 0)
     → ((step : ℕ) → weight (event.GaveUp step) ≡ 0)
     → ((step : ℕ) → weight (event.SlotDown step) ≡ 0)
@@ -37,22 +40,24 @@ pub event_alike : (weight : Event → ℕ)
     → ((frames : ℕ) → weight (event.Bad frames) ≡ 0)
     → weight event.Starved ≡ 0 → weight event.InboxFull ≡ 0 → weight event.TooBig ≡ 0 → weight event.Reboot ≡ 0 → weight event.Shutdown ≡ 0
     → (e : Event) → weight e ≡ cond (is_transmission e) 1 0
-event_alike weight a b c d e f g h i j k l m n o p (event.Transmitted serial) = a serial
-event_alike weight a b c d e f g h i j k l m n o p (event.TookEmpty step) = b step
-event_alike weight a b c d e f g h i j k l m n o p (event.Sent slot ordinal) = c slot ordinal
-event_alike weight a b c d e f g h i j k l m n o p (event.Took slot ordinal) = d slot ordinal
-event_alike weight a b c d e f g h i j k l m n o p (event.Refused step reason) = e step reason
-event_alike weight a b c d e f g h i j k l m n o p (event.GaveUp step) = f step
-event_alike weight a b c d e f g h i j k l m n o p (event.SlotDown step) = g step
-event_alike weight a b c d e f g h i j k l m n o p (event.Discarded reason) = h reason
-event_alike weight a b c d e f g h i j k l m n o p (event.Handed nth peer tag cur una) = i nth peer tag cur una
-event_alike weight a b c d e f g h i j k l m n o p (event.Opened number slot nth peer) = j number slot nth peer
-event_alike weight a b c d e f g h i j k l m n o p (event.Bad frames) = k frames
-event_alike weight a b c d e f g h i j k l m n o p event.Starved = l
-event_alike weight a b c d e f g h i j k l m n o p event.InboxFull = m
-event_alike weight a b c d e f g h i j k l m n o p event.TooBig = n
-event_alike weight a b c d e f g h i j k l m n o p event.Reboot = o
-event_alike weight a b c d e f g h i j k l m n o p event.Shutdown = p
+event_alike weight a b c d e f g h i j k l m n o p q r (event.Transmitted serial) = a serial
+event_alike weight a b c d e f g h i j k l m n o p q r (event.TookEmpty step) = b step
+event_alike weight a b c d e f g h i j k l m n o p q r (event.Sent slot ordinal) = c slot ordinal
+event_alike weight a b c d e f g h i j k l m n o p q r (event.Took slot ordinal) = d slot ordinal
+event_alike weight a b c d e f g h i j k l m n o p q r (event.BlobTook slot ordinal len crc) = e slot ordinal len crc
+event_alike weight a b c d e f g h i j k l m n o p q r (event.BlobRefused slot ordinal reason) = f slot ordinal reason
+event_alike weight a b c d e f g h i j k l m n o p q r (event.Refused step reason) = g step reason
+event_alike weight a b c d e f g h i j k l m n o p q r (event.GaveUp step) = h step
+event_alike weight a b c d e f g h i j k l m n o p q r (event.SlotDown step) = i step
+event_alike weight a b c d e f g h i j k l m n o p q r (event.Discarded reason) = j reason
+event_alike weight a b c d e f g h i j k l m n o p q r (event.Handed nth peer tag cur una) = k nth peer tag cur una
+event_alike weight a b c d e f g h i j k l m n o p q r (event.Opened number slot nth peer) = l number slot nth peer
+event_alike weight a b c d e f g h i j k l m n o p q r (event.Bad frames) = m frames
+event_alike weight a b c d e f g h i j k l m n o p q r event.Starved = n
+event_alike weight a b c d e f g h i j k l m n o p q r event.InboxFull = o
+event_alike weight a b c d e f g h i j k l m n o p q r event.TooBig = p
+event_alike weight a b c d e f g h i j k l m n o p q r event.Reboot = q
+event_alike weight a b c d e f g h i j k l m n o p q r event.Shutdown = r
 
 sum_is : (weight : Event → ℕ) → ((e : Event) → weight e ≡ cond (is_transmission e) 1 0) → (events : List Event) → sum_by weight events ≡ count_by is_transmission events
 sum_is weight each [] = refl

@@ -94,7 +94,7 @@ of_iface P Q scene run are all place number n l there on follows =
     follows _ _ _ _ _ _
     (counted_is scene run are (who.Iface place number) _
     (party_alike _ (who.Iface place number) (λ m es k. refl) (λ m es k. refl) (λ m i es k. refl) (λ m i es k. refl) (λ i es k. refl)) _
-    (event_alike _ (λ s. refl) (λ s. refl) (λ s o. refl) (λ s o. refl) (λ s y. refl) (λ s. refl) (λ s. refl) (λ y. refl) (λ h q t c u. refl) (λ a s h q. refl) (λ c. refl) refl refl refl refl refl))
+    (event_alike _ (λ s. refl) (λ s. refl) (λ s o. refl) (λ s o. refl) (λ s o l c. refl) (λ s o y. refl) (λ s y. refl) (λ s. refl) (λ s. refl) (λ y. refl) (λ h q t c u. refl) (λ a s h q. refl) (λ c. refl) refl refl refl refl refl))
     (link_at P _ (links_at place scene.links) (of_node P scene.nodes scene.links run all place n there) number l on)
 
 -- ---- the words of such a line

@@ -2,8 +2,8 @@ use Rattle.std.proofs.Common.{◌≡◌, ◌+◌, [], ◌∷◌, ◌++◌, map, 
 use Rattle.std.specs.List.{enumerate_from}
 use Rattle.std.specs.String.{string_bytes}
 use Rattle.std.specs.Fmt.{decimal}
-use Rattle.csp_report.specs.Lines.{text_of}
-use Rattle.csp_report.specs.Conns.{conn_words, bytes_word, payload_lines}
+use Rattle.csp_report.specs.Lines.{text_of, conn_words}
+use Rattle.csp_report.specs.Conns.{bytes_word, payload_lines}
 use Rattle.csp_report.proofs.conns.push_payloads.Given as goal
 
 -- the text so far, then the lines that are still to come, are those of all these payloads
