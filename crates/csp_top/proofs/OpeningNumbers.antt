@@ -57,6 +57,8 @@ module _ (app : ℕ) (ends : Ends) where
   one_opened (event.TookEmpty step) h = tt
   one_opened (event.Sent slot ordinal) h = tt
   one_opened (event.Took slot ordinal) h = tt
+  one_opened (event.BlobTook slot ordinal len crc) h = tt
+  one_opened (event.BlobRefused slot ordinal why) h = tt
   one_opened (event.Refused step why) h = tt
   one_opened (event.GaveUp step) h = tt
   one_opened (event.SlotDown step) h = tt

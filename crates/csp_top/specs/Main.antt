@@ -2,6 +2,7 @@
 use Rattle.std.specs.Prelude.{ℕ, ◌≡◌, List, ◌++◌, Option, Some, Ok, IfSome, ⊤}
 use Rattle.csp_base.specs.Transfer.{WrotePrefix}
 use Rattle.std.specs.Io.KnownBytes.{Appends}
+use Rattle.csp_blobs.specs.Blobs.{IsBlobPrefix}
 use Rattle.csp_scene.specs.Scene.{PlainScene}
 use Rattle.csp_scene.specs.Judge.{scene_of}
 use Rattle.csp_record.specs.Passed.{passed}
@@ -26,7 +27,7 @@ use Rattle.csp_bench.specs.declared.status.Status.TheVariants as status
 -- what is known of the bytes of a report where its run was ordinary: their last line is `passed 0`. So it is where no line of the scenario flips a bit
 -- and no bus wore out its numbers, be that by the record or by the report's own lines. Where besides the run's flows are clear the last two lines are
 -- `stale 0` and `passed 0`, and what was taken on each reliable connection with a peer is a beginning of what the peer sent, by the record and by the
--- report's own lines
+-- report's own lines; and of blobs whose pieces the peer sent a beginning is told
 pub record EndsAsOrdinary (scene : PlainScene) (run : PlainRecord) (bytes : List ℕ) : Type 0 where
   pub passes : IsOrdinary scene run → EndsUnchanged bytes
   pub unflipped : HasNoFlips scene → HasNumbersForAll scene run → EndsUnchanged bytes
@@ -35,18 +36,25 @@ pub record EndsAsOrdinary (scene : PlainScene) (run : PlainRecord) (bytes : List
   pub clear_by_report : HasNoFlips scene → SendsWithinNumbers scene bytes → HasClearFlows scene run → IsUndisturbed bytes
   pub prefix : IsOrdinary scene run → HasClearFlows scene run → IsReliablePrefix run
   pub texts : IsOrdinary scene run → HasClearFlows scene run → HavePeersTexts (all_told (word_lines bytes))
+  pub blobs : IsOrdinary scene run → HasClearFlows scene run → IsBlobPrefix scene run
 
 -- the same, unfolded only where it is needed
 unfoldable pub IsUncountedIfOrdinary : PlainScene → PlainRecord → List ℕ → Type 0
 IsUncountedIfOrdinary scene run bytes = EndsAsOrdinary scene run bytes
 
+-- where a record counts no stale copy and no changed packet: of blobs whose pieces were sent on a reliable connection an application that collects on its
+-- peer's slot tells a beginning, each once and whole, and refuses nothing
+abbrev pub HasBlobPrefix : PlainScene → PlainRecord → Type 0
+HasBlobPrefix scene run = stale run ≡ 0 → passed run ≡ 0 → IsBlobPrefix scene run
+
 -- what is known of a scene's record so far, at any time of a run: it is consistent with the scene; and where it counts no stale copy and no changed
 -- packet, what was taken on each reliable connection with a peer is a beginning of what the peer sent, and what the last turns handed to such
--- connections is within their senders' windows
+-- connections is within their senders' windows; and it has the prefix of blobs
 pub record IsReliableSoFar (scene : PlainScene) (run : PlainRecord) : Type 0 where
   pub consistent : IsConsistent scene run
   pub prefix : stale run ≡ 0 → passed run ≡ 0 → IsReliablePrefix run
   pub window : stale run ≡ 0 → passed run ≡ 0 → LastIsWithinWindow scene run
+  pub blobs : HasBlobPrefix scene run
 
 -- so it is in each world that turns and ticks make of the scene's opening, in whatever order
 unfoldable pub StaysReliable : PlainScene → Type 0
@@ -62,6 +70,7 @@ pub record IsReportOf (text bytes : List ℕ) : Type 0 where
   pub ran : sim_record scene ≡ Some run
   pub consistent : IsConsistent scene run
   pub stays : StaysReliable scene
+  pub blobs : HasBlobPrefix scene run
   pub reported : bytes ≡ report scene run
   pub ordinary : IsUncountedIfOrdinary scene run bytes
 

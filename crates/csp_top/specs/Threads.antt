@@ -10,7 +10,7 @@ use Rattle.csp_report.specs.Report.{report}
 use Rattle.csp_scene.specs.Judge.{scene_of}
 use Rattle.csp_scene.specs.Scene.{PlainScene}
 use Rattle.csp_world.specs.declared.limits.TheConstants.{MAX_ENTRIES}
-use Rattle.csp_top.specs.Main.{IsUncountedIfOrdinary}
+use Rattle.csp_top.specs.Main.{HasBlobPrefix, IsUncountedIfOrdinary}
 use Rattle.csp_bench.specs.declared.status.Status.{Status}
 use Rattle.csp_bench.specs.declared.status.Status.TheVariants as status
 use Rattle.csp_bench.specs.declared.status.TheConstants.{MAX_SCENARIO}
@@ -23,6 +23,7 @@ pub record IsRunReportOf (text bytes : List ℕ) : Type 0 where
   pub stated : scene_of text ≡ Ok scene
   pub threaded : IsThreaded scene run
   pub stopped : HasStopped scene.until MAX_ENTRIES run
+  pub blobs : HasBlobPrefix scene run
   pub reported : bytes ≡ report scene run
   pub ordinary : IsUncountedIfOrdinary scene run bytes
 

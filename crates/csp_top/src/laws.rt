@@ -22,6 +22,7 @@ ghost use Rattle.csp_world.specs.Record.{record_of};
 ghost use Rattle.csp_world.specs.World.{PlainWorld};
 ghost use Rattle.std.specs.List.{AllByRecursion};
 
+use csp_blobs::collects_a_prefix_of_blobs;
 use csp_peers::keeps_window;
 use csp_prefix::takes_a_prefix;
 use csp_report::tells_prefix;
@@ -61,4 +62,5 @@ pub(crate) fn stays_reliable_throughout()
     is_consistent();
     stays_reliable();
     stays_within_window();
+    collects_a_prefix_of_blobs();
 }

@@ -15,7 +15,7 @@ ghost use Rattle.csp_scene.specs.Kept.{AreLinksAfter};
 ghost use Rattle.csp_scene.specs.Naming.{AreNamedApart};
 ghost use Rattle.csp_scene.specs.Ranges.{IsScene};
 ghost use Rattle.csp_scene.specs.declared.refusal.SceneKind.{SceneKind};
-ghost use Rattle.csp_top.specs.Main.{IsUncountedIfOrdinary, WroteReport, WrotePart, WroteReliably, WroteWhole, IsReportOf, IsDoneOrNoMemory};
+ghost use Rattle.csp_top.specs.Main.{HasBlobPrefix, IsUncountedIfOrdinary, WroteReport, WrotePart, WroteReliably, WroteWhole, IsReportOf, IsDoneOrNoMemory};
 ghost use Rattle.csp_report.specs.PlacesAddUp.{PlacesAddUp};
 ghost use Rattle.csp_report.specs.ReliablePrefix.{HasReliablePrefix};
 
@@ -23,6 +23,7 @@ use crate::laws::{stays_reliable_throughout, tells_reliable_prefix};
 use crate::numbers::hold_numbers;
 use csp_base::{Sink, Source, read_up_to, write_whole};
 use csp_bench::{LimitKind, MAX_SCENARIO, Refusal, Status, read_scene, read_status, run_of};
+use csp_blobs::collects_a_prefix_of_blobs;
 use csp_ordinary::{hold_words, passes_nothing, undamaged_without_flips};
 use csp_peers::{addresses_differ, counts_no_stale};
 use csp_prefix::{opens_on_slots, takes_a_prefix};
@@ -104,9 +105,11 @@ pub(crate) fn told(alloc: Global, run: &Record, scene: &Scene) -> Result<Vec<u8>
     ensures places { IfOk result (λ bytes. PlacesAddUp bytes.items) }
     ensures reliable { IfOk result (λ bytes. HasReliablePrefix bytes.items) }
     ensures ordinary { IfOk result (λ bytes. IsUncountedIfOrdinary scene.now run.now bytes.items) }
+    ensures blobs { IfOk result (λ bytes. HasBlobPrefix scene.now run.now) }
     ensures refused { IfErr result (λ why. why ≡ Refusal.NoMemory) }
 {
     takes_a_prefix();
+    collects_a_prefix_of_blobs();
     opens_on_slots();
     tells_reliable_prefix();
     passes_nothing();

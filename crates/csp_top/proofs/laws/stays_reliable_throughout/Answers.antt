@@ -1,3 +1,4 @@
+use Rattle.csp_world.specs.Record.{record_of}
 use Rattle.csp_top.specs.Main.{StaysReliable}
 use Rattle.csp_top.proofs.laws.stays_reliable_throughout.Goals as goal
 
@@ -7,4 +8,5 @@ returns c = λ scene ranges ends w reached. record {
   consistent = c.is_consistent.ensures scene w ranges ends reached;
   prefix = c.stays_reliable.ensures scene w ranges ends reached;
   window = c.stays_within_window.ensures scene w ranges ends reached;
+  blobs = c.collects_a_prefix_of_blobs.ensures scene (record_of w) ranges (c.is_consistent.ensures scene w ranges ends reached);
 }
