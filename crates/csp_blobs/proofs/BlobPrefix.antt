@@ -35,7 +35,7 @@ same_app scene node app p home own there of_it at =
     let same : at.node ≡ home = ap (λ o. unwrap_or o home) (sym at.there ∙ there) in
     ap (λ o. unwrap_or o own) (sym at.of_it ∙ ap (λ (n : PlainNode). slice_get n.apps app) same ∙ of_it)
 
-app_log : (scene : PlainScene) (r : PlainRecord) (node app : ℕ) (home : PlainNode) (own : PlainApp) → AreLogsOf (parties_of scene) r.parties → slice_get scene.nodes node ≡ Some home
+pub app_log : (scene : PlainScene) (r : PlainRecord) (node app : ℕ) (home : PlainNode) (own : PlainApp) → AreLogsOf (parties_of scene) r.parties → slice_get scene.nodes node ≡ Some home
     → slice_get home.apps app ≡ Some own → IsAppLog app own.steps (entries_of r (who.App node app))
 app_log scene r node app home own are there of_it = by (logged scene r (who.App node app) are)
   where

@@ -1,4 +1,13 @@
+mod AnswerItems
+mod AnswerPorts
+mod AnswerTurns
 mod AppTurns
+mod AskedBlobs
+mod AskedCuts
+mod AskingEvents
+mod AskingSends
+mod AskingShut
+mod AskingTurns
 mod BlobPrefix
 mod ItemReads
 mod SendingNotes
@@ -6,3 +15,4 @@ mod SendingPieces
 mod SendingRuns
 mod SendingSteps
 mod SendingTurns
+mod WaitingTurns

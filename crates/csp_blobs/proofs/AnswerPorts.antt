@@ -1,0 +1,372 @@
+-- What a step of a node's ports leaves due to an application: the answers that it is owed, and those that are still to come at its slots. No step leaves more
+-- but one that the application asked for, which leaves one more at most; and the push of an answer leaves one less.
+use Rattle.std.proofs.Common.{◌≡◌, ℕ, zero, suc, ◌+◌, ◌*◌, ◌/◌, ◌%◌, ◌<◌, ◌≤◌, ◌==◌, Bool, true, false, cond, nat_lt, Option, Some, None, List, [], ◌∷◌, ◌++◌, drop, get_or, take, refl, sym, ap, ◌∙◌, subst, arith}
+use Rattle.std.specs.Prelude.{slice_set, sum_by}
+use Rattle.std.specs.List.{range_with_len}
+use Rattle.std.proofs.lemmas.Bool.{eqb-false, eqb-true, ltb-false, ltb-true}
+use Rattle.std.proofs.lemmas.List.Sums.{sum_by-cons, sum_by_push}
+use Rattle.csp_base.specs.declared.priority.Prio.{Prio}
+use Rattle.csp_buffer.specs.Content.{Content}
+use Rattle.csp_conn.specs.PlainConns.{place_of, slot_at}
+use Rattle.csp_conn.specs.Slots.{is_free}
+use Rattle.csp_conn.specs.declared.conns.TheConstants.{SLOTS}
+use Rattle.csp_conn.specs.declared.slot.Connection.{Connection}
+use Rattle.csp_conn.specs.declared.slot.Slot.{Slot}
+use Rattle.csp_conn.specs.declared.slot.Slot.TheVariants as has
+use Rattle.csp_log.specs.declared.note.Note.{Note}
+use Rattle.csp_log.specs.declared.note.Note.TheVariants as note
+use Rattle.csp_log.specs.declared.note.Why.TheVariants as reason
+use Rattle.csp_ports.specs.Asking.{answered, answered_by, bind_by, close_by, connect_by, ended_by, ending_in, held_by, is_reliable, joined}
+use Rattle.csp_ports.specs.Kept.{wished, wishes}
+use Rattle.csp_ports.specs.Packets.{accepted, admitting_by, handing, invited, submitting_in}
+use Rattle.csp_ports.specs.PlainPorts.{PlainPorts, PlainStalled, anywhere, fresh, machine_at, owing, stalled_at, terms_at, waiting, with_terms}
+use Rattle.csp_ports.specs.Steps.{changed, closed_by, connected_by, dropped, dropped_in, dropped_of, dropped_on, has_room, reason_of, refused_by, settled, settled_by, settled_on, stepped, timed, timed_at, timed_in, vacated, went}
+use Rattle.csp_ports.specs.Tasks.{delivered, told_down}
+use Rattle.csp_ports.specs.declared.handing.Invitation.{Invitation}
+use Rattle.csp_ports.specs.declared.origin.Origin.{Origin}
+use Rattle.csp_ports.specs.declared.owed.Owed.{Owed}
+use Rattle.csp_ports.specs.declared.request.Request.{Request}
+use Rattle.csp_ports.specs.declared.terms.Terms.{Terms}
+use Rattle.csp_ports.specs.declared.terms.Wish.{Wish}
+use Rattle.csp_ports.specs.declared.terms.Wish.TheVariants as wish
+use Rattle.csp_ports.proofs.Wishing.{wishes_earlier, wishes_later}
+use Rattle.csp_rdp.specs.Changes.{change_between}
+use Rattle.csp_rdp.specs.Jobs as jobs
+use Rattle.csp_rdp.specs.Machine.{PlainRdp}
+use Rattle.csp_rdp.specs.Table.{handed}
+use Rattle.csp_rdp.specs.declared.answers.Change.{Change}
+use Rattle.csp_rdp.specs.declared.answers.Change.TheVariants as change
+use Rattle.csp_rdp.specs.declared.answers.State.{State}
+use Rattle.csp_rdp.specs.declared.answers.State.TheVariants as state
+use Rattle.csp_rdp.specs.declared.answers.Why.{Why as MachineWhy}
+use Rattle.csp_rdp.specs.declared.answers.Why.TheVariants as machine_why
+use Rattle.csp_rdp_header.specs.declared.head.RdpHead.{RdpHead}
+
+-- ---- what is due
+
+abbrev pub due : (app : ℕ) → PlainPorts → ℕ
+due app p = waiting app p.owed + wishes app p.terms
+
+-- no more is due to any application after than before
+abbrev pub NoMore : (before after : PlainPorts) → Type 0
+NoMore p q = (a : ℕ) → due a q ≤ due a p
+
+-- but one more at most to this one
+abbrev pub OneMore : (app : ℕ) (before after : PlainPorts) → Type 0
+OneMore app p q = (a : ℕ) → due a q ≤ due a p + cond (app == a) 1 0
+
+pub stays : (p : PlainPorts) → NoMore p p
+stays p a = omega arith
+
+pub both : (p q r : PlainPorts) → NoMore p q → NoMore q r → NoMore p r
+both p q r f g a = omega (arith, f a, g a)
+
+none_more : (app : ℕ) (p q : PlainPorts) → NoMore p q → OneMore app p q
+none_more app p q f a = omega (arith, f a)
+
+none_then_one : (app : ℕ) (p q r : PlainPorts) → NoMore p q → OneMore app q r → OneMore app p r
+none_then_one app p q r f g a = omega (arith, f a, g a)
+
+-- ---- another element in a place of a list, and the sum over a stretch of it
+
+-- one that weighs no more
+lighter : {X : Type 0} → (f : X → ℕ) (xs : List X) (k s n : ℕ) (v d : X) → f v ≤ f (get_or xs k d)
+    → sum_by f (take n (drop s (slice_set xs k v))) ≤ sum_by f (take n (drop s xs))
+lighter f [] k s n v d h = omega arith
+lighter f (x ∷ xs) zero zero zero v d h = omega arith
+lighter f (x ∷ xs) zero zero (suc n) v d h = omega (arith, sum_by-cons f v (take n xs), sum_by-cons f x (take n xs), h)
+lighter f (x ∷ xs) zero (suc s) n v d h = omega arith
+lighter f (x ∷ xs) (suc k) zero zero v d h = omega arith
+lighter f (x ∷ xs) (suc k) zero (suc n) v d h =
+    omega (arith, sum_by-cons f x (take n (slice_set xs k v)), sum_by-cons f x (take n xs), lighter f xs k zero n v d h)
+lighter f (x ∷ xs) (suc k) (suc s) n v d h = lighter f xs k s n v d h
+
+-- any one, in the stretch
+changed_in : {X : Type 0} → (f : X → ℕ) (xs : List X) (k s n : ℕ) (v d : X) → f d ≡ 0 → s ≤ k → k < s + n
+    → sum_by f (take n (drop s (slice_set xs k v))) + f (get_or xs k d) ≤ sum_by f (take n (drop s xs)) + f v
+changed_in f [] k s n v d e low high = omega (arith, e)
+changed_in f (x ∷ xs) zero zero zero v d e low high = absurd (omega (arith, high))
+changed_in f (x ∷ xs) zero zero (suc n) v d e low high = omega (arith, sum_by-cons f v (take n xs), sum_by-cons f x (take n xs))
+changed_in f (x ∷ xs) zero (suc s) n v d e low high = absurd (omega (arith, low))
+changed_in f (x ∷ xs) (suc k) zero zero v d e low high = absurd (omega (arith, high))
+changed_in f (x ∷ xs) (suc k) zero (suc n) v d e low high =
+    omega (arith, sum_by-cons f x (take n (slice_set xs k v)), sum_by-cons f x (take n xs), changed_in f xs k zero n v d e (omega arith) (omega (arith, high)))
+changed_in f (x ∷ xs) (suc k) (suc s) n v d e low high = changed_in f xs k s n v d e (omega (arith, low)) (omega (arith, high))
+
+-- ---- other terms of a slot
+
+abbrev weight : Terms → ℕ
+weight t = wished t.wish
+
+few_wished : (w : Wish) → wished w ≤ 1
+few_wished wish.Nothing = omega arith
+few_wished wish.Connection = omega arith
+few_wished wish.End = omega arith
+few_wished wish.Ended = omega arith
+
+least : (n : ℕ) → 0 ≤ n
+least n = omega arith
+
+alike : (n : ℕ) → n ≤ n
+alike n = omega arith
+
+no_heavier : (a app slot : ℕ) (ts : List Terms) (t : Terms) → weight t ≤ weight (get_or ts (place_of app slot) fresh)
+    → wishes a (slice_set ts (place_of app slot) t) ≤ wishes a ts
+no_heavier a app slot ts t h = lighter weight ts (place_of app slot) (place_of a 0) SLOTS t fresh h
+
+-- what they weighed and weigh counts for the application of the slot alone
+moved : (a app slot : ℕ) (ts : List Terms) (t : Terms) → slot < SLOTS
+    → wishes a (slice_set ts (place_of app slot) t) + cond (app == a) (weight (get_or ts (place_of app slot) fresh)) 0
+    ≤ wishes a ts + cond (app == a) (weight t) 0
+moved a app slot ts t low = by_app (app == a) refl
+  where
+    own : wishes app (slice_set ts (place_of app slot) t) + weight (get_or ts (place_of app slot) fresh) ≤ wishes app ts + weight t
+    own = changed_in weight ts (place_of app slot) (place_of app 0) SLOTS t fresh refl (omega arith) (omega (arith, low))
+
+    by_order : (b : Bool) → nat_lt a app ≡ b → (app == a) ≡ false → wishes a (slice_set ts (place_of app slot) t) + 0 ≤ wishes a ts + 0
+    by_order true q e = omega (arith, wishes_later app a slot ts t low (ltb-true a app q))
+    by_order false q e = omega (arith, wishes_earlier app a slot ts t low (omega (arith, ltb-false a app q, eqb-false app a e)))
+
+    by_app : (b : Bool) → (app == a) ≡ b
+        → wishes a (slice_set ts (place_of app slot) t) + cond b (weight (get_or ts (place_of app slot) fresh)) 0 ≤ wishes a ts + cond b (weight t) 0
+    by_app true e =
+        subst (λ b. wishes b (slice_set ts (place_of app slot) t) + weight (get_or ts (place_of app slot) fresh) ≤ wishes b ts + weight t) (eqb-true app a e)
+        own
+    by_app false e = by_order (nat_lt a app) refl e
+
+cond_none : (b : Bool) (n : ℕ) → n ≡ 0 → cond b n 0 ≡ 0
+cond_none true n e = e
+cond_none false n e = refl
+
+cond_one : (b : Bool) (n : ℕ) → n ≡ 1 → cond b n 0 ≡ cond b 1 0
+cond_one true n e = e
+cond_one false n e = refl
+
+cond_few : (b : Bool) (n : ℕ) → n ≤ 1 → cond b n 0 ≤ cond b 1 0
+cond_few true n h = h
+cond_few false n h = omega arith
+
+-- ---- one more answer is owed
+
+waits_more : (a app : ℕ) (os : List Owed) (n : Note) → waiting a (os ++ record { app = app; note = n } ∷ []) ≡ waiting a os + cond (app == a) 1 0
+waits_more a app os n = sum_by_push (λ (o : Owed). cond (o.app == a) 1 0) os (record { app = app; note = n })
+
+owes : (p : PlainPorts) (app : ℕ) (n : Note) → OneMore app p (owing p app n)
+owes p app n a = omega (arith, waits_more a app p.owed n)
+
+-- other terms at a slot, of which no more is to come; or of which something is; and so with an answer
+sets : (p : PlainPorts) (app slot : ℕ) (t : Terms) → weight t ≤ weight (terms_at p app slot) → NoMore p (with_terms p app slot t)
+sets p app slot t h a = omega (arith, no_heavier a app slot p.terms t h)
+
+sets_more : (p : PlainPorts) (app slot : ℕ) (t : Terms) → slot < SLOTS → OneMore app p (with_terms p app slot t)
+sets_more p app slot t low a = omega (arith, moved a app slot p.terms t low, cond_few (app == a) (weight t) (few_wished t.wish))
+
+owes_and_sets : (p : PlainPorts) (app slot : ℕ) (t : Terms) (n : Note) → weight t ≤ weight (terms_at p app slot)
+    → OneMore app p (owing (with_terms p app slot t) app n)
+owes_and_sets p app slot t n h a = omega (arith, waits_more a app p.owed n, no_heavier a app slot p.terms t h)
+
+-- the answer that was to come at the slot is owed
+answers_slot : (p : PlainPorts) (app slot : ℕ) (t : Terms) (n : Note) (w : Wish) → slot < SLOTS → (terms_at p app slot).wish ≡ w → wished w ≡ 1 → weight t ≡ 0
+    → NoMore p (owing (with_terms p app slot t) app n)
+answers_slot p app slot t n w low is one none a =
+    omega (
+      arith,
+      waits_more a app p.owed n,
+      moved a app slot p.terms t low,
+      cond_none (app == a) (weight t) none,
+      cond_one (app == a) (weight (terms_at p app slot)) (ap wished is ∙ one),
+    )
+
+-- ---- what a change of a connection comes to
+
+-- a slot that is free
+vacates : (ordinal app slot : ℕ) (p : PlainPorts) → NoMore p (vacated ordinal app slot p).ports
+vacates ordinal app slot p =
+    sets p app slot (record (terms_at p app slot) { wish = wish.Nothing; is_down = false; ordinal = ordinal }) (least (weight (terms_at p app slot)))
+
+connects_by : (w : Wish) (app slot : ℕ) (p : PlainPorts) → slot < SLOTS → (terms_at p app slot).wish ≡ w → NoMore p (connected_by w app slot p)
+connects_by wish.Connection app slot p low e =
+    answers_slot p app slot (record (terms_at p app slot) { wish = wish.Nothing }) (note.Connected slot) wish.Connection low e refl refl
+connects_by wish.Nothing app slot p low e = stays p
+connects_by wish.End app slot p low e = stays p
+connects_by wish.Ended app slot p low e = stays p
+
+refuses_by : (w : Wish) (why : MachineWhy) (app slot : ℕ) (p : PlainPorts) → slot < SLOTS → (terms_at p app slot).wish ≡ w
+    → NoMore p (refused_by w why app slot p).ports
+refuses_by wish.Connection why app slot p low e =
+    answers_slot p app slot (record (terms_at p app slot) { wish = wish.Nothing; is_down = false }) (note.Refused (reason_of why)) wish.Connection low e refl
+    refl
+refuses_by wish.Nothing why app slot p low e = vacates (terms_at p app slot).ordinal app slot p
+refuses_by wish.End why app slot p low e = vacates (terms_at p app slot).ordinal app slot p
+refuses_by wish.Ended why app slot p low e = vacates (terms_at p app slot).ordinal app slot p
+
+closes_by : (w : Wish) (was_open : Bool) (app slot : ℕ) (p : PlainPorts) → slot < SLOTS → (terms_at p app slot).wish ≡ w
+    → NoMore p (closed_by w was_open app slot p).ports
+closes_by wish.End was_open app slot p low e =
+    answers_slot p app slot (record (terms_at p app slot) { wish = wish.Ended }) (note.Closed slot) wish.End low e refl refl
+closes_by wish.Nothing true app slot p low e = stays p
+closes_by wish.Nothing false app slot p low e = vacates (terms_at p app slot).ordinal app slot p
+closes_by wish.Connection was_open app slot p low e = stays p
+closes_by wish.Ended was_open app slot p low e = stays p
+
+changes : (c : Change) (app slot : ℕ) (p : PlainPorts) → slot < SLOTS → NoMore p (changed c app slot p).ports
+changes change.None app slot p low = stays p
+changes change.Opened app slot p low = connects_by (terms_at p app slot).wish app slot p low refl
+changes (change.Refused why) app slot p low = refuses_by (terms_at p app slot).wish why app slot p low refl
+changes change.Down app slot p low = sets p app slot (record (terms_at p app slot) { is_down = true }) (alike (weight (terms_at p app slot)))
+changes change.Closed app slot p low = closes_by (terms_at p app slot).wish (machine_at p app slot).was_open app slot p low refl
+
+-- the machine of a slot makes a step
+goes : (before : State) (why : MachineWhy) (app slot : ℕ) (r : PlainRdp) (p : PlainPorts) → slot < SLOTS → NoMore p (went before why app slot r p).ports
+goes before why app slot r p low = changes (change_between before r.state why) app slot (stepped app slot r p).ports low
+
+-- ---- packets that wait
+
+settles_by : (room : Bool) (time app : ℕ) (s : PlainStalled) (p : PlainPorts) → NoMore p (settled_by room time app s p)
+settles_by true time app s p = stays p
+settles_by false time app s p = stays p
+
+settles_on : (o : Option PlainStalled) (time app : ℕ) (p : PlainPorts) → NoMore p (settled_on o time app p)
+settles_on None time app p = stays p
+settles_on (Some s) time app p = settles_by (has_room (machine_at p app s.slot)) time app s p
+
+settles : (time app : ℕ) (p : PlainPorts) → NoMore p (settled time app p)
+settles time app p = settles_on (stalled_at p app) time app p
+
+drops_in : (st : State) (app : ℕ) (s : PlainStalled) (p : PlainPorts) → NoMore p (dropped_in st app s p).ports
+drops_in state.Open app s p = stays p
+drops_in state.SynSent app s p = stays p
+drops_in state.SynRcvd app s p = stays p
+drops_in state.CloseWait app s p = stays p
+drops_in state.Closed app s p = stays p
+
+drops_on : (o : Option PlainStalled) (app : ℕ) (p : PlainPorts) → NoMore p (dropped_on o app p).ports
+drops_on None app p = stays p
+drops_on (Some s) app p = drops_in (machine_at p app s.slot).state app s p
+
+drops : (app : ℕ) (p : PlainPorts) → NoMore p (dropped app p).ports
+drops app p = drops_on (stalled_at p app) app p
+
+-- ---- the timers
+
+times_at : (time app slot : ℕ) (p : PlainPorts) → slot < SLOTS → NoMore p (timed_at time app slot p).ports
+times_at time app slot p low = goes (machine_at p app slot).state machine_why.Timeout app slot (jobs.ticked time (machine_at p app slot)) p low
+
+times_in : (time : ℕ) (ks : List ℕ) (p : PlainPorts) → NoMore p (timed_in time ks p).ports
+times_in time [] p = stays p
+times_in time (k ∷ ks) p =
+    let q : PlainPorts = (timed_at time (k / SLOTS) (k % SLOTS) p).ports in
+    both p q (timed_in time ks q).ports (times_at time (k / SLOTS) (k % SLOTS) p (omega arith)) (times_in time ks q)
+
+drops_of : (apps : List ℕ) (p : PlainPorts) → NoMore p (dropped_of apps p).ports
+drops_of [] p = stays p
+drops_of (app ∷ apps) p =
+    let q : PlainPorts = (dropped app p).ports in
+    both p q (dropped_of apps q).ports (drops app p) (drops_of apps q)
+
+pub times : (time : ℕ) (p : PlainPorts) → NoMore p (timed time p).ports
+times time p =
+    let q : PlainPorts = (timed_in time (range_with_len 0 (p.conns.apps * SLOTS)) p).ports in
+    both p q (dropped_of (range_with_len 0 q.conns.apps) q).ports (times_in time (range_with_len 0 (p.conns.apps * SLOTS)) p)
+    (drops_of (range_with_len 0 q.conns.apps) q)
+
+-- ---- packets
+
+pub accepts : (p : PlainPorts) (app slot : ℕ) (c : Connection) (prio : Prio) (flags : ℕ) → NoMore p (accepted p app slot c prio flags)
+accepts p app slot c prio flags =
+    sets p app slot (record (terms_at p app slot) { prio = prio; flags = flags; wish = wish.Nothing; is_down = false }) (least (weight (terms_at p app slot)))
+
+pub invites : (o : Origin) (p : PlainPorts) (app slot : ℕ) (c : Connection) (prio : Prio) (flags : ℕ) (i : Invitation) (time : ℕ)
+    → NoMore p (invited o p app slot c prio flags i time).ports
+invites o p app slot c prio flags i time = accepts p app slot c prio flags
+
+pub hands : (p : PlainPorts) (app slot : ℕ) (h : RdpHead) (b : Content) (time : ℕ) → slot < SLOTS → NoMore p (handing p app slot h b time).ports
+hands p app slot h b time low =
+    let r : PlainRdp = machine_at p app slot in
+    let next : PlainRdp = handed h b.trace.tag (anywhere b) time r in
+    let q : PlainPorts = (went r.state machine_why.Reset app slot next p).ports in
+    let d : PlainPorts = (dropped app q).ports in
+    both p q (settled time app d) (goes r.state machine_why.Reset app slot next p low) (both q d (settled time app d) (drops app q) (settles time app d))
+
+pub delivers : (time app slot : ℕ) (p : PlainPorts) → slot < SLOTS → NoMore p (delivered time app slot p).ports
+delivers time app slot p low =
+    let r : PlainRdp = machine_at p app slot in
+    let q : PlainPorts = (went r.state machine_why.Reset app slot (jobs.delivering time r) p).ports in
+    both p q (dropped app q).ports (goes r.state machine_why.Reset app slot (jobs.delivering time r) p low) (drops app q)
+
+admits_by : (room : Bool) (p : PlainPorts) (app slot : ℕ) (b : Content) (time : ℕ) → NoMore p (admitting_by room p app slot b time)
+admits_by true p app slot b time = stays p
+admits_by false p app slot b time = stays p
+
+pub submits_in : (st : State) (p : PlainPorts) (app slot : ℕ) (b : Content) (time : ℕ) → NoMore p (submitting_in st p app slot b time).ports
+submits_in state.Open p app slot b time = admits_by (has_room (machine_at p app slot)) p app slot b time
+submits_in state.SynSent p app slot b time = stays p
+submits_in state.SynRcvd p app slot b time = stays p
+submits_in state.CloseWait p app slot b time = stays p
+submits_in state.Closed p app slot b time = stays p
+
+-- a Down note was pushed
+pub tells : (app slot : ℕ) (p : PlainPorts) → NoMore p (told_down app slot p)
+tells app slot p = sets p app slot (record (terms_at p app slot) { is_down = false }) (alike (weight (terms_at p app slot)))
+
+-- ---- what an application asks
+
+pub binds_by : (bindable : Bool) (owner : Option (ℕ × ℕ)) (p : PlainPorts) (app port need : ℕ) → OneMore app p (bind_by bindable owner p app port need)
+binds_by false owner p app port need = owes p app (note.Refused reason.NotBindable)
+binds_by true (Some owner) p app port need = owes p app (note.Refused reason.InUse)
+binds_by true None p app port need = owes p app note.Bound
+
+joins : (reliable : Bool) (o : Origin) (p : PlainPorts) (app : ℕ) (r : Request) (own time : ℕ) → r.slot < SLOTS
+    → OneMore app p (joined reliable o p app r own time).ports
+joins false o p app r own time low =
+    owes_and_sets p app r.slot (record (terms_at p app r.slot) { prio = r.prio; flags = r.flags; wish = wish.Nothing; is_down = false }) (note.Connected r.slot)
+    (least (weight (terms_at p app r.slot)))
+joins true o p app r own time low =
+    sets_more p app r.slot (record (terms_at p app r.slot) { prio = r.prio; flags = r.flags; wish = wish.Connection; is_down = false }) low
+
+pub connects_to : (x : Slot) (refused : Bool) (own : Option ℕ) (o : Origin) (p : PlainPorts) (app : ℕ) (r : Request) (time : ℕ) → r.slot < SLOTS
+    → OneMore app p (connect_by x refused own o p app r time).ports
+connects_to has.Free true own o p app r time low = owes p app (note.Refused reason.PortBusy)
+connects_to has.Free false (Some own) o p app r time low = joins (is_reliable r.flags) o p app r own time low
+connects_to has.Free false None o p app r time low = none_more app p p (stays p)
+connects_to has.Held refused own o p app r time low = owes p app (note.Refused reason.Busy)
+connects_to (has.Open c) refused own o p app r time low = owes p app (note.Refused reason.Busy)
+
+holds_by : (free : Bool) (p : PlainPorts) (app slot : ℕ) → NoMore p (held_by free p app slot)
+holds_by true p app slot = stays p
+holds_by false p app slot = stays p
+
+ends_in : (st : State) (app slot : ℕ) (p : PlainPorts) → slot < SLOTS → OneMore app p (ending_in st app slot p)
+ends_in state.Closed app slot p low =
+    owes_and_sets p app slot (record (terms_at p app slot) { wish = wish.Ended }) (note.Closed slot) (least (weight (terms_at p app slot)))
+ends_in state.SynSent app slot p low = sets_more p app slot (record (terms_at p app slot) { wish = wish.End }) low
+ends_in state.SynRcvd app slot p low = sets_more p app slot (record (terms_at p app slot) { wish = wish.End }) low
+ends_in state.Open app slot p low = sets_more p app slot (record (terms_at p app slot) { wish = wish.End }) low
+ends_in state.CloseWait app slot p low = sets_more p app slot (record (terms_at p app slot) { wish = wish.End }) low
+
+pub ends_by : (closing : Bool) (p : PlainPorts) (app slot time : ℕ) → slot < SLOTS → OneMore app p (close_by closing p app slot time).ports
+ends_by true p app slot time low = none_more app p p (stays p)
+ends_by false p app slot time low =
+    let r : PlainRdp = jobs.closing time (machine_at p app slot) in
+    let q : PlainPorts = held_by (is_free (slot_at p.conns app slot)) p app slot in
+    let s : PlainPorts = (stepped app slot r q).ports in
+    none_then_one app p s (ending_in r.state app slot s) (holds_by (is_free (slot_at p.conns app slot)) p app slot) (ends_in r.state app slot s low)
+
+-- ---- the push of an answer
+
+ended_so : (n : Note) (app : ℕ) (p : PlainPorts) → NoMore p (ended_by n app p).ports
+ended_so (note.Closed slot) app p = vacates ((terms_at p app slot).ordinal + 1) app slot p
+ended_so note.Bound app p = stays p
+ended_so (note.Connected slot) app p = stays p
+ended_so (note.Refused why) app p = stays p
+ended_so (note.Down slot) app p = stays p
+ended_so (note.Bind port need) app p = stays p
+ended_so (note.Connect slot dest port prio flags from) app p = stays p
+ended_so (note.Close slot) app p = stays p
+
+pub answers_one : (o : Owed) (os : List Owed) (p : PlainPorts) → p.owed ≡ o ∷ os → (a : ℕ) → due a (answered p).ports + cond (o.app == a) 1 0 ≤ due a p
+answers_one o os p e a =
+    let rest : due a (answered_by (o ∷ os) p).ports ≤ waiting a os + wishes a p.terms = ended_so o.note o.app (record p { owed = os }) a in
+    let first : waiting a p.owed ≡ cond (o.app == a) 1 0 + waiting a os = ap (waiting a) e ∙ sum_by-cons (λ (x : Owed). cond (x.app == a) 1 0) o os in
+    let one : due a (answered_by (o ∷ os) p).ports + cond (o.app == a) 1 0 ≤ due a p = omega (arith, rest, first) in
+    subst (λ xs. due a (answered_by xs p).ports + cond (o.app == a) 1 0 ≤ due a p) (sym e) one
