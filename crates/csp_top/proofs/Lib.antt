@@ -1,3 +1,4 @@
+mod CausalWorlds
 pub mod Generated
 mod OpeningNumbers
 mod Owing

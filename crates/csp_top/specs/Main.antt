@@ -2,7 +2,8 @@
 use Rattle.std.specs.Prelude.{ℕ, ◌≡◌, List, ◌++◌, Option, Some, Ok, IfSome, ⊤}
 use Rattle.csp_base.specs.Transfer.{WrotePrefix}
 use Rattle.std.specs.Io.KnownBytes.{Appends}
-use Rattle.csp_blobs.specs.Blobs.{IsBlobPrefix}
+use Rattle.csp_blobs.specs.Asking.{TellsOfBlobs}
+use Rattle.csp_causal.specs.Causal.{IsCausal}
 use Rattle.csp_scene.specs.Scene.{PlainScene}
 use Rattle.csp_scene.specs.Judge.{scene_of}
 use Rattle.csp_record.specs.Passed.{passed}
@@ -36,22 +37,24 @@ pub record EndsAsOrdinary (scene : PlainScene) (run : PlainRecord) (bytes : List
   pub clear_by_report : HasNoFlips scene → SendsWithinNumbers scene bytes → HasClearFlows scene run → IsUndisturbed bytes
   pub prefix : IsOrdinary scene run → HasClearFlows scene run → IsReliablePrefix run
   pub texts : IsOrdinary scene run → HasClearFlows scene run → HavePeersTexts (all_told (word_lines bytes))
-  pub blobs : IsOrdinary scene run → HasClearFlows scene run → IsBlobPrefix scene run
+  pub blobs : IsOrdinary scene run → HasClearFlows scene run → TellsOfBlobs scene run
 
 -- the same, unfolded only where it is needed
 unfoldable pub IsUncountedIfOrdinary : PlainScene → PlainRecord → List ℕ → Type 0
 IsUncountedIfOrdinary scene run bytes = EndsAsOrdinary scene run bytes
 
 -- where a record counts no stale copy and no changed packet: of blobs whose pieces were sent on a reliable connection an application that collects on its
--- peer's slot tells a beginning, each once and whole, and refuses nothing
+-- peer's slot tells a beginning, each once and whole, and refuses nothing; and where the record is causal, a beginning of the blobs of the steps that
+-- follow the `connect` of the sender
 abbrev pub HasBlobPrefix : PlainScene → PlainRecord → Type 0
-HasBlobPrefix scene run = stale run ≡ 0 → passed run ≡ 0 → IsBlobPrefix scene run
+HasBlobPrefix scene run = stale run ≡ 0 → passed run ≡ 0 → TellsOfBlobs scene run
 
--- what is known of a scene's record so far, at any time of a run: it is consistent with the scene; and where it counts no stale copy and no changed
+-- what is known of a scene's record so far, at any time of a run: it is consistent with the scene, and causal; and where it counts no stale copy and no changed
 -- packet, what was taken on each reliable connection with a peer is a beginning of what the peer sent, and what the last turns handed to such
 -- connections is within their senders' windows; and it has the prefix of blobs
 pub record IsReliableSoFar (scene : PlainScene) (run : PlainRecord) : Type 0 where
   pub consistent : IsConsistent scene run
+  pub causal : IsCausal run
   pub prefix : stale run ≡ 0 → passed run ≡ 0 → IsReliablePrefix run
   pub window : stale run ≡ 0 → passed run ≡ 0 → LastIsWithinWindow scene run
   pub blobs : HasBlobPrefix scene run
@@ -61,8 +64,8 @@ unfoldable pub StaysReliable : PlainScene → Type 0
 StaysReliable scene = (w : PlainWorld) → IsReached scene w → IsReliableSoFar scene (record_of w)
 
 -- the text states a scene, whose run ends before its logs are full; its record is consistent with the scene, and these bytes are its report. In whatever
--- order its turns and ticks had come, the record was reliable after each of them. Where the run was ordinary, they end with `passed 0`, and where its
--- flows were clear besides, with `stale 0` before that
+-- order its turns and ticks had come, the record was causal and reliable after each of them, and so is this one. Where the run was ordinary, they end with
+-- `passed 0`, and where its flows were clear besides, with `stale 0` before that
 pub record IsReportOf (text bytes : List ℕ) : Type 0 where
   pub scene : PlainScene
   pub run : PlainRecord

@@ -1,6 +1,7 @@
 //! What the text of a report says of the record that it is made of, and what holds of every world that a scene's run reaches.
 
 ghost use Rattle.std.specs.Prelude.{◌≡◌, [], length, map};
+ghost use Rattle.csp_causal.specs.Causal.{IsCausal};
 ghost use Rattle.csp_topology.specs.Parties.{parties_of};
 ghost use Rattle.csp_peers.specs.Window.{LastIsWithinWindow};
 ghost use Rattle.csp_prefix.specs.Prefix.{IsReliablePrefix};
@@ -22,7 +23,8 @@ ghost use Rattle.csp_world.specs.Record.{record_of};
 ghost use Rattle.csp_world.specs.World.{PlainWorld};
 ghost use Rattle.std.specs.List.{AllByRecursion};
 
-use csp_blobs::collects_a_prefix_of_blobs;
+use csp_blobs::tells_of_blobs;
+use csp_causal::grows_causal;
 use csp_peers::keeps_window;
 use csp_prefix::takes_a_prefix;
 use csp_report::tells_prefix;
@@ -55,6 +57,14 @@ pub fn stays_within_window()
     keeps_window();
 }
 
+/// After each turn and each tick of a scene's run the record so far is causal.
+pub fn stays_causal()
+    ensures { (scene : PlainScene) (w : PlainWorld) → IsScene scene → AreLinksAfter (length scene.nodes) [] scene.links → IsReached scene w → IsCausal (record_of w) }
+{
+    is_consistent();
+    grows_causal();
+}
+
 /// So the record of a scene's run, whatever the order of its turns and ticks, is consistent and reliable after each of them.
 pub(crate) fn stays_reliable_throughout()
     ensures { (scene : PlainScene) → IsScene scene → AreLinksAfter (length scene.nodes) [] scene.links → StaysReliable scene }
@@ -62,5 +72,6 @@ pub(crate) fn stays_reliable_throughout()
     is_consistent();
     stays_reliable();
     stays_within_window();
-    collects_a_prefix_of_blobs();
+    tells_of_blobs();
+    stays_causal();
 }

@@ -13,6 +13,6 @@ mod threads;
 
 pub use command::csp_main;
 pub use csp_bench::{LimitKind, MAX_SCENARIO, Status, own_words};
-pub use laws::{stays_reliable, stays_within_window, tells_reliable_prefix};
+pub use laws::{stays_causal, stays_reliable, stays_within_window, tells_reliable_prefix};
 pub use saying::say;
 pub use simulation::sim_main;

@@ -23,7 +23,7 @@ use crate::laws::{stays_reliable_throughout, tells_reliable_prefix};
 use crate::numbers::hold_numbers;
 use csp_base::{Sink, Source, read_up_to, write_whole};
 use csp_bench::{LimitKind, MAX_SCENARIO, Refusal, Status, read_scene, read_status, run_of};
-use csp_blobs::collects_a_prefix_of_blobs;
+use csp_blobs::tells_of_blobs;
 use csp_ordinary::{hold_words, passes_nothing, undamaged_without_flips};
 use csp_peers::{addresses_differ, counts_no_stale};
 use csp_prefix::{opens_on_slots, takes_a_prefix};
@@ -109,7 +109,7 @@ pub(crate) fn told(alloc: Global, run: &Record, scene: &Scene) -> Result<Vec<u8>
     ensures refused { IfErr result (λ why. why ≡ Refusal.NoMemory) }
 {
     takes_a_prefix();
-    collects_a_prefix_of_blobs();
+    tells_of_blobs();
     opens_on_slots();
     tells_reliable_prefix();
     passes_nothing();

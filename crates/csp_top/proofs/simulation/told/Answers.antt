@@ -46,8 +46,8 @@ returns-in-Ok-clause-ordinary c =
       clear_by_report = λ none told. calm (unharmed none (within told));
       prefix = λ ordinary clear. c.takes_a_prefix.ensures scene run ranges consistent (fresh ordinary clear) (same ordinary);
       texts = λ ordinary clear. reliable (calm ordinary clear);
-      blobs = λ ordinary clear. c.collects_a_prefix_of_blobs.ensures scene run ranges consistent (fresh ordinary clear) (same ordinary);
+      blobs = λ ordinary clear. c.tells_of_blobs.ensures scene run ranges consistent (fresh ordinary clear) (same ordinary);
     })
 
 pub returns-in-Ok-clause-blobs : goal.returns-in-Ok-clause-blobs
-returns-in-Ok-clause-blobs c = c.collects_a_prefix_of_blobs.ensures c.args.scene.now c.args.run.now c.requires.ranges c.requires.consistent
+returns-in-Ok-clause-blobs c = c.tells_of_blobs.ensures c.args.scene.now c.args.run.now c.requires.ranges c.requires.consistent
