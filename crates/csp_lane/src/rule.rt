@@ -1,20 +1,23 @@
 //! The rule of a lane's queue, and what each step tells.
 
 ghost use Rattle.std.specs.Prelude.{◌≡◌, []};
+ghost use Rattle.std.specs.Option.{option_map};
 ghost use Rattle.crossbeam_queue.specs.Passes.{view, IsSamePass, IsPassOf};
-ghost use Rattle.csp_lane.specs.Relays.{newcomer, writer, reader};
+ghost use Rattle.csp_lane.specs.Relays.{IsLast, bounded, newcomer, no_course, reader, writer};
 
+use crate::cargo::Cargo;
 use crate::hand::Hand;
 use crossbeam_queue::protocol::{Join, Lesson, Outcome, Protocol, Split};
 use crossbeam_queue::{Pass, RuledArrayQueue};
 use csp_arena::RegionToken;
-use csp_deck::{Carries, Item};
+use csp_deck::Carries;
+use csp_tally::{Tally, TallyName};
 use std::marker::{Brand, PhantomData};
 
 /// What was got and then what the queue holds is what was put.
 pub(crate) struct Order;
 
-impl Protocol<Item, Hand> for Order {
+impl Protocol<Cargo, Hand> for Order {
     ghost use Rattle.csp_lane.specs.Relays.{Relays, newcomer};
 
     ghost holds = { Relays };
@@ -23,22 +26,22 @@ impl Protocol<Item, Hand> for Order {
 }
 
 /// The queue of a lane.
-pub(crate) type Queue = RuledArrayQueue<Item, Hand, Order>;
+pub(crate) type Queue = RuledArrayQueue<Cargo, Hand, Order>;
 
 /// A pass of it.
-pub(crate) type Port = Pass<Item, Hand>;
+pub(crate) type Port = Pass<Cargo, Hand>;
 
 /// A put.
 pub(crate) struct Puts;
 
-impl Outcome<Item, Hand> for Puts {
-    ghost use Rattle.csp_lane.specs.Relays.{with_put};
-    ghost use Rattle.csp_log.specs.Pictures.{shown_item};
+impl Outcome<Cargo, Hand> for Puts {
+    ghost use Rattle.csp_lane.specs.Marks.{reached};
+    ghost use Rattle.csp_lane.specs.Relays.{seen_in, with_put};
 
-    ghost then = { λ v x w. w ≡ with_put v (shown_item x) };
+    ghost then = { λ v x w. w ≡ with_put v (seen_in x) (reached x.note) };
 }
 
-impl Lesson<Item, Hand> for Puts {
+impl Lesson<Cargo, Hand> for Puts {
     ghost use Rattle.csp_lane.specs.Relays.{Crammed};
 
     ghost fact = { Crammed };
@@ -47,13 +50,13 @@ impl Lesson<Item, Hand> for Puts {
 /// A get.
 pub(crate) struct Gets;
 
-impl Outcome<Item, Hand> for Gets {
+impl Outcome<Cargo, Hand> for Gets {
     ghost use Rattle.csp_lane.specs.Relays as relays;
 
     ghost then = { relays.Gets };
 }
 
-impl Lesson<Item, Hand> for Gets {
+impl Lesson<Cargo, Hand> for Gets {
     ghost use Rattle.csp_lane.specs.Relays.{Drained};
 
     ghost fact = { Drained };
@@ -62,13 +65,13 @@ impl Lesson<Item, Hand> for Gets {
 /// A get by the pass that knows all.
 pub(crate) struct Empties;
 
-impl Outcome<Item, Hand> for Empties {
+impl Outcome<Cargo, Hand> for Empties {
     ghost use Rattle.csp_lane.specs.Relays as relays;
 
     ghost then = { relays.Gets };
 }
 
-impl Lesson<Item, Hand> for Empties {
+impl Lesson<Cargo, Hand> for Empties {
     ghost use Rattle.csp_lane.specs.Relays.{Accounts};
 
     ghost fact = { Accounts };
@@ -94,11 +97,11 @@ pub(crate) struct Parts<K> {
 
 impl<K: Opening> Split<Hand> for Parts<K> {
     ghost use Rattle.std.specs.Prelude.{[]};
-    ghost use Rattle.csp_lane.specs.Relays.{writer, reader};
+    ghost use Rattle.csp_lane.specs.Relays.{no_course, reader, writer};
 
-    ghost left = { λ _. writer K.terms [] 0 };
+    ghost left = { λ _. writer K.terms no_course 0 };
 
-    ghost right = { λ _. reader K.terms [] 0 };
+    ghost right = { λ _. reader K.terms no_course [] 0 };
 }
 
 /// The producer writes a note.
@@ -110,7 +113,7 @@ impl Split<Hand> for PutNote {
 
     ghost left = { λ v. v };
 
-    ghost right = { λ v. note (length v.put) 0 };
+    ghost right = { λ v. note (length v.put.items) 0 };
 }
 
 /// The consumer reads it.
@@ -132,7 +135,7 @@ impl Split<Hand> for GetNote {
 
     ghost left = { λ v. v };
 
-    ghost right = { λ v. note 0 (length v.got) };
+    ghost right = { λ v. note 0 (length v.got.items) };
 }
 
 /// The producer reads it.
@@ -156,6 +159,30 @@ impl Join<Hand> for Rejoins {
     ghost spent = { note 0 0 };
 }
 
+/// The bound of a mark.
+pub(crate) trait Limit {
+    ghost limit: { ℕ };
+
+    ghost use Rattle.std.specs.Prelude.{ℕ};
+}
+
+impl Limit for Brand {
+    ghost limit = { 0 };
+}
+
+/// The last mark gets its bound.
+pub(crate) struct Heeds<K> {
+    limit: PhantomData<K>,
+}
+
+impl<K: Limit> Split<Hand> for Heeds<K> {
+    ghost use Rattle.csp_lane.specs.Relays.{bounded, note};
+
+    ghost left = { λ v. bounded v K.limit };
+
+    ghost right = { λ _. note 0 0 };
+}
+
 /// Parts the first pass into the ends of a lane on these terms.
 pub(crate) fn part<K: Opening>(
     queue: &Queue,
@@ -163,11 +190,23 @@ pub(crate) fn part<K: Opening>(
     region: &RegionToken,
     carries: Carries,
     room: u16,
+    tally: &Tally,
+    about: &Option<TallyName>,
 ) -> Port
-    requires terms { K.terms ≡ record { region = region.now.name; carries = carries; room = room } }
+    requires terms { K.terms ≡ record { region = region.now.name; carries = carries; room = room; tally = tally.now.name; about = option_map (λ t. t.name) about.now } }
     requires first { IsPassOf queue.now pass.old × (view pass.old ≡ newcomer) }
-    ensures producer { IsSamePass pass.old pass.new × (view pass.new ≡ writer (record { region = region.now.name; carries = carries; room = room }) [] 0) }
-    ensures consumer { IsPassOf queue.now result × (view result ≡ reader (record { region = region.now.name; carries = carries; room = room }) [] 0) }
+    ensures producer { IsSamePass pass.old pass.new × (view pass.new ≡ writer (record { region = region.now.name; carries = carries; room = room; tally = tally.now.name; about = option_map (λ t. t.name) about.now }) no_course 0) }
+    ensures consumer { IsPassOf queue.now result × (view result ≡ reader (record { region = region.now.name; carries = carries; room = room; tally = tally.now.name; about = option_map (λ t. t.name) about.now }) no_course [] 0) }
 {
     queue.another::<Parts<K>>(pass)
+}
+
+/// Bounds the last mark by what this tally has handed out.
+pub(crate) fn heed<K: Limit>(queue: &Queue, pass: &mut Port, tally: &Tally)
+    requires limit { K.limit ≡ tally.now.count }
+    requires pass { IsPassOf queue.now pass.old }
+    requires last { IsLast tally.now.count (view pass.old) }
+    ensures { IsSamePass pass.old pass.new × (view pass.new ≡ bounded (view pass.old) tally.now.count) }
+{
+    let _note = queue.another::<Heeds<K>>(pass);
 }

@@ -1,6 +1,6 @@
 //! A lane alone, and between two threads.
 
-ghost use Rattle.std.specs.Prelude.{◌≡◌, ◌+◌, ◌<◌, ◌≤◌, IfOk, vec_len, vec_capacity};
+ghost use Rattle.std.specs.Prelude.{◌≡◌, ◌+◌, ◌<◌, ◌≤◌, IfOk, None, vec_len, vec_capacity};
 ghost use Rattle.csp_lane.specs.Ends.{IsEndOf};
 ghost use Rattle.csp_log.specs.declared.places.Carries.TheVariants.{Up};
 ghost use Rattle.csp_log.specs.declared.places.TheConstants.{SLOTS};
@@ -27,7 +27,7 @@ fn put_one<R: Wait>(rt: &R, lane: &Lane, producer: &mut Producer, slot: u8) -> b
     requires slot { slot < SLOTS }
     ensures { IsEndOf lane.now producer.new × (producer.new.carries ≡ Up) }
 {
-    match lane.push(rt, producer, Item::Note(Note::Close { slot })) {
+    match lane.push(rt, producer, Item::Note(Note::Close { slot }), None) {
         Ok(()) => true,
         Err(back) => {
             spend(back);
@@ -58,7 +58,7 @@ fn put_all<R: Wait>(rt: &R, lane: &Lane, mut producer: Producer) -> (Producer, u
 
 /// Gets items until it has all, and says how many it got and whether they came in turn.
 fn get_all<R: Wait>(rt: &R, lane: &Lane, mut consumer: Consumer) -> (Consumer, u32, bool)
-    requires { IsEndOf lane.now consumer }
+    requires { IsEndOf lane.now consumer × (consumer.about ≡ None) }
     ensures { IsEndOf lane.now result.0 }
 {
     let mut got: u32 = 0;
@@ -99,6 +99,7 @@ fn relay<R: Threads + Wait + Sync>(
     into: &mut Vec<Item>,
 ) -> (u32, u32, bool)
     requires ends { IsEndOf lane producer × IsEndOf lane consumer × (producer.carries ≡ Up) }
+    requires plain { consumer.about ≡ None }
     requires room { vec_len into.old + lane.room ≤ vec_capacity into.old }
 {
     let line = &lane;
@@ -109,7 +110,7 @@ fn relay<R: Threads + Wait + Sync>(
             ensures { IsEndOf line.entry.now result.0 }
         { put_all(rt, line, producer) },
         move ||
-            requires { IsEndOf line.now consumer }
+            requires { IsEndOf line.now consumer × (consumer.about ≡ None) }
             ensures { IsEndOf line.entry.now result.0 }
         { get_all(rt, line, consumer) },
     );
@@ -140,6 +141,7 @@ fn put_three<R: Wait>(
     into: &mut Vec<Item>,
 ) -> ([bool; 3], Option<u8>)
     requires ends { IsEndOf lane producer × IsEndOf lane consumer × (producer.carries ≡ Up) }
+    requires plain { consumer.about ≡ None }
     requires room { vec_len into.old + lane.room ≤ vec_capacity into.old }
 {
     let had_room = [
@@ -155,13 +157,13 @@ fn put_three<R: Wait>(
 /// A list with room for so many, and a lane for requests with room for as many.
 fn opened(alloc: Global, capacity: u16) -> Result<(Vec<Item>, Lane, Producer, Consumer), AllocError>
     requires { 0 < capacity }
-    ensures { IfOk result (λ p. IsEndOf p.1 p.2 × IsEndOf p.1 p.3 × (p.2.carries ≡ Up) × (vec_len p.0 + p.1.room ≤ vec_capacity p.0)) }
+    ensures { IfOk result (λ p. IsEndOf p.1 p.2 × IsEndOf p.1 p.3 × (p.2.carries ≡ Up) × (p.3.about ≡ None) × (vec_len p.0 + p.1.room ≤ vec_capacity p.0)) }
 {
     let (region, cells) = Region::open(alloc, 1, 260)?;
     let token = RegionToken::of(&region);
     region.close(cells);
     let into = Vec::with_capacity(alloc, usize::from(capacity))?;
-    match Lane::open(alloc, &token, capacity, Carries::Up) {
+    match Lane::open(alloc, &token, capacity, Carries::Up, None) {
         Ok((lane, producer, consumer)) => Ok((into, lane, producer, consumer)),
         Err(error) => {
             into.destroy_empty();
