@@ -43,13 +43,13 @@ at_home nodes d h k o a there done none =
     let room = room_for nodes d.home in
     let same : room ≡ room_among (slice_get nodes h.node) = ap (room_for nodes) there in
     let home : Some k ≡ option_map (home_after room o a) d.home = ap (λ x. Some x) (done ∙ ap (λ n. home_after n o a h) (sym same)) ∙ ap (option_map (home_after room o a)) (sym there) in
-    let sides : map (side_after o a) d.sides ≡ d.sides = sides_still o a d.sides none in
+    let sides : map (side_after d.sides o a) d.sides ≡ d.sides = sides_still d.sides o a d.sides none in
     λ i. record { home = home i; sides = sym sides i }
 
 no_home : (room : ℕ) (d : PlainEnds) (o : OpShown) (a : AnswerShown) → d.home ≡ None → IsAside o a d → d ≡ ends_after room o a d
 no_home room d o a there none =
     let home : d.home ≡ option_map (home_after room o a) d.home = there ∙ ap (option_map (home_after room o a)) (sym there) in
-    let sides : map (side_after o a) d.sides ≡ d.sides = sides_still o a d.sides none in
+    let sides : map (side_after d.sides o a) d.sides ≡ d.sides = sides_still d.sides o a d.sides none in
     λ i. record { home = home i; sides = sym sides i }
 
 -- the pool

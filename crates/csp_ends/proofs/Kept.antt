@@ -7,8 +7,10 @@ use Rattle.std.proofs.lemmas.Option.{slice_get-map}
 use Rattle.csp_arena.specs.Cells.{RegionName}
 use Rattle.csp_consistent.specs.Reading.{is_queue}
 use Rattle.csp_ends.specs.Ends.{PlainNodeQueues, PlainSide, PlainHome, PlainEnds, IsHomeOf, IsSideOf, AreOf, IsWithin, AreApart, AreEnds, region_of, region_or, inbox_of, side_named, rule_of}
+use Rattle.csp_ends.proofs.Backs.{tallies_same}
 use Rattle.csp_ends.specs.Moves.{side_after, hand_after, post_after, home_after, ends_after, room_for}
 use Rattle.csp_ends.specs.Serving.{Serves}
+use Rattle.csp_ends.specs.Sides.{IsBacked}
 use Rattle.csp_ends.proofs.Names.{there_then, some_head}
 use Rattle.csp_inbox.specs.Passes as inbox
 use Rattle.csp_lane.specs.Ends.{IsEndOf}
@@ -56,22 +58,22 @@ home_kept nodes room o a (Some h) of_it =
     posted q None is = tt
     posted q (Some x) is = record { inbox = is.inbox; room = is.room }
 
-side_kept : (nodes : List PlainNodeQueues) (o : OpShown) (a : AnswerShown) (s : PlainSide) → IsSideOf nodes s → IsSideOf nodes (side_after o a s)
-side_kept nodes o a s of_it =
+side_kept : (nodes : List PlainNodeQueues) (all : List PlainSide) (o : OpShown) (a : AnswerShown) (s : PlainSide) → IsSideOf nodes s → IsSideOf nodes (side_after all o a s)
+side_kept nodes all o a s of_it =
     there_then (slice_get nodes s.node)
     (λ (q : PlainNodeQueues). IsSomeAnd (slice_get q.lanes s.lane) (λ l. IsEndOf l s.end))
-    (λ (q : PlainNodeQueues). IsSomeAnd (slice_get q.lanes s.lane) (λ l. IsEndOf l (side_after o a s).end))
-    (λ q. there_then (slice_get q.lanes s.lane) (λ l. IsEndOf l s.end) (λ l. IsEndOf l (side_after o a s).end) (λ l is. record { lane = is.lane; room = is.room })) of_it
+    (λ (q : PlainNodeQueues). IsSomeAnd (slice_get q.lanes s.lane) (λ l. IsEndOf l (side_after all o a s).end))
+    (λ q. there_then (slice_get q.lanes s.lane) (λ l. IsEndOf l s.end) (λ l. IsEndOf l (side_after all o a s).end) (λ l is. record { lane = is.lane; room = is.room; tally = is.tally; about = is.about })) of_it
 
 -- what a turn keeps of each end, it keeps of all
-each_kept : (P : PlainSide → Type 0) (o : OpShown) (a : AnswerShown) → ((s : PlainSide) → P s → P (side_after o a s)) → (sides : List PlainSide) → AllByRecursion P sides → AllByRecursion P (map (side_after o a) sides)
-each_kept P o a keeps [] all = tt
-each_kept P o a keeps (s ∷ sides) all = (keeps s all.0, each_kept P o a keeps sides all.1)
+each_kept : (P Q : PlainSide → Type 0) (all : List PlainSide) (o : OpShown) (a : AnswerShown) → ((s : PlainSide) → P s → Q (side_after all o a s)) → (sides : List PlainSide) → AllByRecursion P sides → AllByRecursion Q (map (side_after all o a) sides)
+each_kept P Q all o a keeps [] each = tt
+each_kept P Q all o a keeps (s ∷ sides) each = (keeps s each.0, each_kept P Q all o a keeps sides each.1)
 
 pub of_it_kept : (nodes : List PlainNodeQueues) (room : ℕ) (o : OpShown) (a : AnswerShown) (e : PlainEnds) → AreOf nodes e → AreOf nodes (ends_after room o a e)
 of_it_kept nodes room o a e of_it = record {
   home = home_kept nodes room o a e.home of_it.home;
-  sides = each_kept (IsSideOf nodes) o a (side_kept nodes o a) e.sides of_it.sides;
+  sides = each_kept (IsSideOf nodes) (IsSideOf nodes) e.sides o a (side_kept nodes e.sides o a) e.sides of_it.sides;
 }
 
 -- that they are what a party may have
@@ -85,35 +87,37 @@ inbox_kept region room o a (Some h) is = posted h.inbox is
     posted (Some x) is = is
 
 -- where an end stands after a turn, one of its name stood before
-stood : (o : OpShown) (a : AnswerShown) (x : Option PlainSide) (t : PlainSide) → option_map (side_after o a) x ≡ Some t → (s : PlainSide) × (x ≡ Some s) × (s.queue ≡ t.queue)
-stood o a None t e = absurd cc
-stood o a (Some s) t e = (s, refl, ap (λ (y : PlainSide). y.queue) (some_head (side_after o a s) t e))
+stood : (all : List PlainSide) (o : OpShown) (a : AnswerShown) (x : Option PlainSide) (t : PlainSide) → option_map (side_after all o a) x ≡ Some t → (s : PlainSide) × (x ≡ Some s) × (s.queue ≡ t.queue)
+stood all o a None t e = absurd cc
+stood all o a (Some s) t e = (s, refl, ap (λ (y : PlainSide). y.queue) (some_head (side_after all o a s) t e))
 
-apart_kept : (o : OpShown) (a : AnswerShown) (sides : List PlainSide) → AreApart sides → AreApart (map (side_after o a) sides)
-apart_kept o a sides apart = λ j k s t first second same.
-    let (x, there, name) = stood o a (slice_get sides j) s (sym (slice_get-map (side_after o a) sides j) ∙ first) in
-    let (y, here, called) = stood o a (slice_get sides k) t (sym (slice_get-map (side_after o a) sides k) ∙ second) in
+apart_kept : (all : List PlainSide) (o : OpShown) (a : AnswerShown) (sides : List PlainSide) → AreApart sides → AreApart (map (side_after all o a) sides)
+apart_kept all o a sides apart = λ j k s t first second same.
+    let (x, there, name) = stood all o a (slice_get sides j) s (sym (slice_get-map (side_after all o a) sides j) ∙ first) in
+    let (y, here, called) = stood all o a (slice_get sides k) t (sym (slice_get-map (side_after all o a) sides k) ∙ second) in
     apart j k x y there here (ap (λ q. is_queue q y.queue) name ∙ ap (is_queue s.queue) called ∙ same)
 
 pub whole_kept : (room : ℕ) (o : OpShown) (a : AnswerShown) (e : PlainEnds) → AreEnds e → AreEnds (ends_after room o a e)
 whole_kept room o a e whole = record {
-  within = subst (λ r. AllByRecursion (IsWithin r) (map (side_after o a) e.sides)) (sym (region_kept room o a e)) (each_kept (IsWithin (region_of e)) o a (λ s is. is) e.sides whole.within);
+  within = subst (λ r. AllByRecursion (IsWithin r) (map (side_after e.sides o a) e.sides)) (sym (region_kept room o a e)) (each_kept (IsWithin (region_of e)) (IsWithin (region_of e)) e.sides o a (λ s is. is) e.sides whole.within);
   inbox = inbox_kept (region_of (ends_after room o a e)) room o a e.home (subst (λ r. IfSome (inbox_of e.home) (λ p. p.role.token.name ≡ r)) (sym (region_kept room o a e)) whole.inbox);
-  lanes = each_kept (λ (s : PlainSide). is_queue queue.Inbox s.queue ≡ false) o a (λ s is. is) e.sides whole.lanes;
-  apart = apart_kept o a e.sides whole.apart;
+  lanes = each_kept (λ (s : PlainSide). is_queue queue.Inbox s.queue ≡ false) (λ (s : PlainSide). is_queue queue.Inbox s.queue ≡ false) e.sides o a (λ s is. is) e.sides whole.lanes;
+  apart = apart_kept e.sides o a e.sides whole.apart;
+  backed = each_kept (IsBacked e.sides) (IsBacked (map (side_after e.sides o a) e.sides)) e.sides o a
+      (λ s is. is ∙ sym (tallies_same (side_after e.sides o a) (λ x. refl) (λ x. refl) (λ x. refl) s e.sides)) e.sides whole.backed;
 }
 
 -- what its queues carry
 abbrev carried_by : Option PlainSide → Option Rule
 carried_by x = option_map (λ s. rule.Lane s.end.carries) x
 
-picked : (o : OpShown) (a : AnswerShown) (b : Bool) (s : PlainSide) (x y : Option PlainSide) → carried_by x ≡ carried_by y → carried_by (cond b (Some (side_after o a s)) x) ≡ carried_by (cond b (Some s) y)
-picked o a true s x y e = refl
-picked o a false s x y e = e
+picked : (all : List PlainSide) (o : OpShown) (a : AnswerShown) (b : Bool) (s : PlainSide) (x y : Option PlainSide) → carried_by x ≡ carried_by y → carried_by (cond b (Some (side_after all o a s)) x) ≡ carried_by (cond b (Some s) y)
+picked all o a true s x y e = refl
+picked all o a false s x y e = e
 
-sides_carry : (q : QueueId) (o : OpShown) (a : AnswerShown) (sides : List PlainSide) → carried_by (side_named q (map (side_after o a) sides)) ≡ carried_by (side_named q sides)
-sides_carry q o a [] = refl
-sides_carry q o a (s ∷ sides) = picked o a (is_queue q s.queue) s (side_named q (map (side_after o a) sides)) (side_named q sides) (sides_carry q o a sides)
+sides_carry : (q : QueueId) (all : List PlainSide) (o : OpShown) (a : AnswerShown) (sides : List PlainSide) → carried_by (side_named q (map (side_after all o a) sides)) ≡ carried_by (side_named q sides)
+sides_carry q all o a [] = refl
+sides_carry q all o a (s ∷ sides) = picked all o a (is_queue q s.queue) s (side_named q (map (side_after all o a) sides)) (side_named q sides) (sides_carry q all o a sides)
 
 posts_carry : (room : ℕ) (o : OpShown) (a : AnswerShown) (h : Option PlainHome) → option_map (λ _. rule.Inbox) (inbox_of (option_map (home_after room o a) h)) ≡ option_map (λ _. rule.Inbox) (inbox_of h)
 posts_carry room o a None = refl
@@ -125,11 +129,11 @@ posts_carry room o a (Some h) = posted h.inbox
 
 pub rules_kept : (room : ℕ) (o : OpShown) (a : AnswerShown) (e : PlainEnds) (q : QueueId) → rule_of (ends_after room o a e) q ≡ rule_of e q
 rules_kept room o a e queue.Inbox = posts_carry room o a e.home
-rules_kept room o a e (queue.Up k) = sides_carry (queue.Up k) o a e.sides
-rules_kept room o a e (queue.Down k) = sides_carry (queue.Down k) o a e.sides
-rules_kept room o a e (queue.Out k) = sides_carry (queue.Out k) o a e.sides
-rules_kept room o a e (queue.Tx k) = sides_carry (queue.Tx k) o a e.sides
-rules_kept room o a e (queue.Rx k) = sides_carry (queue.Rx k) o a e.sides
+rules_kept room o a e (queue.Up k) = sides_carry (queue.Up k) e.sides o a e.sides
+rules_kept room o a e (queue.Down k) = sides_carry (queue.Down k) e.sides o a e.sides
+rules_kept room o a e (queue.Out k) = sides_carry (queue.Out k) e.sides o a e.sides
+rules_kept room o a e (queue.Tx k) = sides_carry (queue.Tx k) e.sides o a e.sides
+rules_kept room o a e (queue.Rx k) = sides_carry (queue.Rx k) e.sides o a e.sides
 
 -- all of these, of one turn
 pub record Keeps (nodes : List PlainNodeQueues) (d e : PlainEnds) : Type 0 where

@@ -7,11 +7,14 @@ use Rattle.csp_base.specs.declared.priority.Prio.{Prio}
 use Rattle.csp_base.specs.declared.priority.Prio.TheVariants.{Critical, High, Normal, Low}
 use Rattle.csp_consistent.specs.Reading.{put_by, got_by, with_priority}
 use Rattle.csp_ends.specs.Ends.{PlainSide, PlainHome, PlainEnds}
-use Rattle.csp_ends.specs.Moves.{moved_by, side_after, hand_after, is_crammed, mail_after, post_after, home_after, ends_after}
+use Rattle.csp_ends.specs.Moves.{moved_by, side_after, side_through, side_with, with_items, hand_after, is_crammed, mail_after, post_after, home_after, ends_after}
+use Rattle.csp_ends.specs.Sides.{beside}
 use Rattle.csp_ends.proofs.Names.{all_from, some_head}
 use Rattle.csp_inbox.specs.Passes as inbox
 use Rattle.csp_inbox.specs.declared.hand.Mail.{Mail}
 use Rattle.csp_inbox.specs.declared.hand.Role.{Role}
+use Rattle.csp_lane.specs.Ends.{end_with}
+use Rattle.csp_lane.specs.Marks.{marks_in}
 use Rattle.csp_log.specs.declared.places.QueueId.{QueueId}
 use Rattle.csp_log.specs.declared.places.QueueId.TheVariants as queue
 use Rattle.csp_log.specs.declared.shown.AnswerShown.{AnswerShown}
@@ -20,31 +23,36 @@ use Rattle.csp_log.specs.declared.shown.OpShown.{OpShown}
 use Rattle.csp_pool.specs.declared.hand.Hand.{Hand}
 
 -- an end through which this went
-pub side_moves : (o : OpShown) (a : AnswerShown) (s : PlainSide) (is : List ItemShown) → moved_by s.puts s.queue o a ≡ is
-    → side_after o a s ≡ record { queue = s.queue; node = s.node; lane = s.lane; puts = s.puts; end = record { lane = s.end.lane; room = s.end.room; region = s.end.region; carries = s.end.carries; items = s.end.items ++ is; known = s.end.known } }
-side_moves o a s is e = λ i. record { queue = s.queue; node = s.node; lane = s.lane; puts = s.puts; end = record { lane = s.end.lane; room = s.end.room; region = s.end.region; carries = s.end.carries; items = s.end.items ++ e i; known = s.end.known } }
+pub side_moves : (all : List PlainSide) (o : OpShown) (a : AnswerShown) (s : PlainSide) (is : List ItemShown) → moved_by s.puts s.queue o a ≡ is
+    → side_after all o a s ≡ side_with s (with_items s.end (beside all s) is)
+side_moves all o a s is e = ap (λ l. side_with s (with_items s.end (beside all s) l)) e
 
-pub side_still : (o : OpShown) (a : AnswerShown) (s : PlainSide) → moved_by s.puts s.queue o a ≡ [] → side_after o a s ≡ s
-side_still o a s none =
-    let items : s.end.items ++ moved_by s.puts s.queue o a ≡ s.end.items = ap (λ l. s.end.items ++ l) none ∙ append-nil s.end.items in
-    λ i. record { queue = s.queue; node = s.node; lane = s.lane; puts = s.puts; end = record { lane = s.end.lane; room = s.end.room; region = s.end.region; carries = s.end.carries; items = items i; known = s.end.known } }
+-- one item
+pub side_moves_one : (all : List PlainSide) (o : OpShown) (a : AnswerShown) (s : PlainSide) (i : ItemShown) → moved_by s.puts s.queue o a ≡ i ∷ [] → side_after all o a s ≡ side_through s i (beside all s)
+side_moves_one all o a s i e =
+    let mark : List ℕ = marks_in s.end.about (beside all s) in
+    side_moves all o a s (i ∷ []) e ∙ ap (λ l. side_with s (end_with s.end (s.end.items ++ i ∷ []) (s.end.marks ++ l) s.end.known)) (append-nil mark)
+
+pub side_still : (all : List PlainSide) (o : OpShown) (a : AnswerShown) (s : PlainSide) → moved_by s.puts s.queue o a ≡ [] → side_after all o a s ≡ s
+side_still all o a s none =
+    side_moves all o a s [] none ∙ (λ i. side_with s (end_with s.end (append-nil s.end.items i) (append-nil s.end.marks i) s.end.known))
 
 -- so do all of them
-pub sides_still : (o : OpShown) (a : AnswerShown) (sides : List PlainSide) → AllByRecursion (λ s. moved_by s.puts s.queue o a ≡ []) sides → map (side_after o a) sides ≡ sides
-sides_still o a [] none = refl
-sides_still o a (s ∷ sides) none = λ i. side_still o a s none.0 i ∷ sides_still o a sides none.1 i
+pub sides_still : (all : List PlainSide) (o : OpShown) (a : AnswerShown) (sides : List PlainSide) → AllByRecursion (λ s. moved_by s.puts s.queue o a ≡ []) sides → map (side_after all o a) sides ≡ sides
+sides_still all o a [] none = refl
+sides_still all o a (s ∷ sides) none = λ i. side_still all o a s none.0 i ∷ sides_still all o a sides none.1 i
 
 -- or all but one
-pub sides_but_one : (o : OpShown) (a : AnswerShown) (sides : List PlainSide) (at : ℕ) (s t : PlainSide) → slice_get sides at ≡ Some s → side_after o a s ≡ t
-    → ((k : ℕ) (x : PlainSide) → slice_get sides k ≡ Some x → (k ≡ at → ⊥) → moved_by x.puts x.queue o a ≡ []) → slice_set sides at t ≡ map (side_after o a) sides
-sides_but_one o a [] at s t there moved others = absurd cc
-sides_but_one o a (x ∷ xs) zero s t there moved others =
-    let here : t ≡ side_after o a x = sym moved ∙ ap (side_after o a) (sym (some_head x s there)) in
-    let rest : map (side_after o a) xs ≡ xs = sides_still o a xs (all_from (λ (y : PlainSide). moved_by y.puts y.queue o a ≡ []) xs (λ k y e. others (suc k) y e (λ f. omega (arith, f)))) in
+pub sides_but_one : (all : List PlainSide) (o : OpShown) (a : AnswerShown) (sides : List PlainSide) (at : ℕ) (s t : PlainSide) → slice_get sides at ≡ Some s → side_after all o a s ≡ t
+    → ((k : ℕ) (x : PlainSide) → slice_get sides k ≡ Some x → (k ≡ at → ⊥) → moved_by x.puts x.queue o a ≡ []) → slice_set sides at t ≡ map (side_after all o a) sides
+sides_but_one all o a [] at s t there moved others = absurd cc
+sides_but_one all o a (x ∷ xs) zero s t there moved others =
+    let here : t ≡ side_after all o a x = sym moved ∙ ap (side_after all o a) (sym (some_head x s there)) in
+    let rest : map (side_after all o a) xs ≡ xs = sides_still all o a xs (all_from (λ (y : PlainSide). moved_by y.puts y.queue o a ≡ []) xs (λ k y e. others (suc k) y e (λ f. omega (arith, f)))) in
     λ i. here i ∷ sym rest i
-sides_but_one o a (x ∷ xs) (suc at) s t there moved others =
-    let first : x ≡ side_after o a x = sym (side_still o a x (others 0 x refl (λ e. omega (arith, e)))) in
-    let rest : slice_set xs at t ≡ map (side_after o a) xs = sides_but_one o a xs at s t there moved (λ k y e apart. others (suc k) y e (λ f. apart (omega (arith, f)))) in
+sides_but_one all o a (x ∷ xs) (suc at) s t there moved others =
+    let first : x ≡ side_after all o a x = sym (side_still all o a x (others 0 x refl (λ e. omega (arith, e)))) in
+    let rest : slice_set xs at t ≡ map (side_after all o a) xs = sides_but_one all o a xs at s t there moved (λ k y e apart. others (suc k) y e (λ f. apart (omega (arith, f)))) in
     λ i. first i ∷ rest i
 
 -- the mail of a priority to which this was added, whether or not it was crammed
@@ -88,5 +96,5 @@ home_still room o a (Some h) e hand =
 pub ends_still : (room : ℕ) (o : OpShown) (a : AnswerShown) (e : PlainEnds) → IsElsewhere o a → ((v : Hand) → hand_after room o a v ≡ v) → ((way : Bool) (q : QueueId) → moved_by way q o a ≡ []) → ends_after room o a e ≡ e
 ends_still room o a e elsewhere hand none =
     let home : option_map (home_after room o a) e.home ≡ e.home = home_still room o a e.home elsewhere hand in
-    let sides : map (side_after o a) e.sides ≡ e.sides = sides_still o a e.sides (all_from (λ (s : PlainSide). moved_by s.puts s.queue o a ≡ []) e.sides (λ k s there. none s.puts s.queue)) in
+    let sides : map (side_after e.sides o a) e.sides ≡ e.sides = sides_still e.sides o a e.sides (all_from (λ (s : PlainSide). moved_by s.puts s.queue o a ≡ []) e.sides (λ k s there. none s.puts s.queue)) in
     λ i. record { home = home i; sides = sides i }

@@ -13,8 +13,10 @@ use Rattle.csp_ends.specs.Causes.{CauseOf, HasEnd, HasNoRoomAt, HasNothingAt}
 use Rattle.csp_ends.specs.Ends.{PlainNodeQueues, PlainSide, PlainEnds, AreEnds, IsWithin, region_of, rule_of, side_named}
 use Rattle.csp_ends.specs.Moves.{moved_by, side_after, side_through, is_crammed, home_after, room_for}
 use Rattle.csp_ends.specs.Serving.{Serves}
+use Rattle.csp_ends.specs.Sides.{beside}
 use Rattle.csp_ends.proofs.Names.{queue_is, queue_turned, never, some_head, there_of, all_at, all_from, all_then}
-use Rattle.csp_ends.proofs.Still.{IsElsewhere, home_still, ends_still, side_moves, sides_but_one}
+use Rattle.csp_ends.proofs.Splits.{set_same}
+use Rattle.csp_ends.proofs.Still.{IsElsewhere, home_still, ends_still, side_moves_one, sides_but_one}
 use Rattle.csp_inbox.specs.declared.hand.Role.{Role}
 use Rattle.csp_lane.specs.Ends.{IsFor, HadNothing, HadNoRoom}
 use Rattle.csp_lists.specs.PlainDeck.{IsLinkRule}
@@ -112,12 +114,9 @@ pub record Stands (d : PlainEnds) (q : QueueId) (at : ℕ) (s : PlainSide) : Typ
   pub named : is_queue q s.queue ≡ true
   pub first : side_named q d.sides ≡ Some s
 
-pub stands_by : (d : PlainEnds) (q : QueueId) (at : ℕ) (t : PlainSide) → ((s : PlainSide) × (slice_get d.sides at ≡ Some s) × (is_queue q s.queue ≡ true) × (side_named q d.sides ≡ Some s)) → t ≡ get_or d.sides at t → Stands d q at t
-stands_by d q at t found read =
-    let (s, there, named, first) = found in
-    let here : slice_get d.sides at ≡ Some t = slice_get-get_or d.sides at t (slice_get_within d.sides at s there) ∙ ap (λ x. Some x) (sym read) in
-    let same : s ≡ t = some_head s t (sym there ∙ here) in
-    record { there = here; named = subst (λ (x : PlainSide). is_queue q x.queue ≡ true) same named; first = first ∙ ap (λ x. Some x) same }
+-- as a search found it
+pub stands_as : (d : PlainEnds) (q : QueueId) (at : ℕ) (found : (s : PlainSide) × (slice_get d.sides at ≡ Some s) × (is_queue q s.queue ≡ true) × (side_named q d.sides ≡ Some s)) → Stands d q at found.0
+stands_as d q at found = record { there = found.1; named = found.2; first = found.3 }
 
 same_place : (d : PlainEnds) (q : QueueId) (at : ℕ) (s : PlainSide) → AreEnds d → Stands d q at s → (k : ℕ) (x : PlainSide) → slice_get d.sides k ≡ Some x → is_queue q x.queue ≡ true → k ≡ at
 same_place d q at s whole stands k x here called =
@@ -138,20 +137,15 @@ others_apart d q at s whole stands k x here apart = never (is_queue x.queue q) (
 abbrev pub with_side : PlainEnds → ℕ → PlainSide → PlainEnds
 with_side d at t = record { home = d.home; sides = slice_set d.sides at t }
 
-set_same : (sides : List PlainSide) (at : ℕ) (s : PlainSide) → slice_get sides at ≡ Some s → slice_set sides at s ≡ sides
-set_same [] at s there = refl
-set_same (x ∷ xs) zero s there = ap (λ y. y ∷ xs) (sym (some_head x s there))
-set_same (x ∷ xs) (suc at) s there = ap (λ ys. x ∷ ys) (set_same xs at s there)
-
 -- a push that went through
 served_put : (nodes : List PlainNodeQueues) (d : PlainEnds) (q : QueueId) (at : ℕ) (s : PlainSide) (i : ItemShown) → AreEnds d → is_queue queue.Inbox q ≡ false → Stands d q at s → s.puts ≡ true → IsCarried (rule.Lane s.end.carries) i
-    → Serves nodes d (op.Push q i) answer.Pushed (with_side d at (side_through s i))
+    → Serves nodes d (op.Push q i) answer.Pushed (with_side d at (side_through s i (beside d.sides s)))
 served_put nodes d q at s i whole out stands puts carried =
     let room = room_for nodes d.home in
     let home : option_map (home_after room (op.Push q i) answer.Pushed) d.home ≡ d.home = home_still room (op.Push q i) answer.Pushed d.home (put_elsewhere q i out) (λ v. refl) in
-    let sides : slice_set d.sides at (side_through s i) ≡ map (side_after (op.Push q i) answer.Pushed) d.sides =
-    sides_but_one (op.Push q i) answer.Pushed d.sides at s (side_through s i) stands.there
-    (side_moves (op.Push q i) answer.Pushed s (i ∷ []) (put_here s.puts s.queue q i puts (queue_turned q s.queue stands.named)))
+    let sides : slice_set d.sides at (side_through s i (beside d.sides s)) ≡ map (side_after d.sides (op.Push q i) answer.Pushed) d.sides =
+    sides_but_one d.sides (op.Push q i) answer.Pushed d.sides at s (side_through s i (beside d.sides s)) stands.there
+    (side_moves_one d.sides (op.Push q i) answer.Pushed s i (put_here s.puts s.queue q i puts (queue_turned q s.queue stands.named)))
     (λ k x here apart. put_else x.puts x.queue q i (others_apart d q at s whole stands k x here apart)) in
     record {
       ends = λ j. record { home = sym home j; sides = sides j };
@@ -164,31 +158,32 @@ served_full nodes d q i j out full = record {
   cause = cause_full d q i j out full;
 }
 
--- what an end says of a push
-abbrev pub Puts : PlainSide → Item → Result (Unit {0}) Item → PlainSide → Type 0
-Puts s i r t = MatchResult r (λ _. (s.puts ≡ true) × (t ≡ side_through s (shown_item i))) (λ _. (t ≡ s) × (s.puts ≡ true → HadNoRoom s.end))
+-- what an end says of a push of an item that tells of so many of another lane
+abbrev pub Puts : ℕ → PlainSide → Item → Result (Unit {0}) Item → PlainSide → Type 0
+Puts n s i r t = MatchResult r (λ _. (s.puts ≡ true) × (t ≡ side_through s (shown_item i) n)) (λ _. (t ≡ s) × (s.puts ≡ true → HadNoRoom s.end))
 
-pub puts_full : (d : PlainEnds) (q : QueueId) (at : ℕ) (s t : PlainSide) (i : Item) (r : Result (Unit {0}) Item) → AreEnds d → Stands d q at s → Puts s i r t → IfErr r (λ _. AllByRecursion (HasNoRoomAt q) d.sides)
-puts_full d q at s t i (Ok u) whole stands puts = tt
-puts_full d q at s t i (Err j) whole stands puts = the_only d q at s (λ (x : PlainSide). x.puts ≡ true → HadNoRoom x.end) whole stands puts.1
+pub puts_full : (d : PlainEnds) (q : QueueId) (at n : ℕ) (s t : PlainSide) (i : Item) (r : Result (Unit {0}) Item) → AreEnds d → Stands d q at s → Puts n s i r t → IfErr r (λ _. AllByRecursion (HasNoRoomAt q) d.sides)
+puts_full d q at n s t i (Ok u) whole stands puts = tt
+puts_full d q at n s t i (Err j) whole stands puts = the_only d q at s (λ (x : PlainSide). x.puts ≡ true → HadNoRoom x.end) whole stands puts.1
 
-pub puts_served : (nodes : List PlainNodeQueues) (d : PlainEnds) (q : QueueId) (at : ℕ) (s t : PlainSide) (i : Item) (r : Result (Unit {0}) Item) → AreEnds d → is_queue queue.Inbox q ≡ false → Stands d q at s → Puts s i r t → IsFor s.end.region s.end.carries i
+pub puts_served : (nodes : List PlainNodeQueues) (d : PlainEnds) (q : QueueId) (at n : ℕ) (s t : PlainSide) (i : Item) (r : Result (Unit {0}) Item) → AreEnds d → is_queue queue.Inbox q ≡ false → Stands d q at s → Puts n s i r t
+    → (s.puts ≡ true → n ≡ beside d.sides s) → IsFor s.end.region s.end.carries i
     → MatchResult r (λ _. Serves nodes d (op.Push q (shown_item i)) answer.Pushed (with_side d at t)) (λ j. Serves nodes d (op.Push q (shown_item i)) (answer.Full (shown_item j)) (with_side d at t))
-puts_served nodes d q at s t i (Ok u) whole out stands puts fits =
-    subst (λ x. Serves nodes d (op.Push q (shown_item i)) answer.Pushed (with_side d at x)) (sym puts.1) (served_put nodes d q at s (shown_item i) whole out stands puts.0 fits.carried)
-puts_served nodes d q at s t i (Err j) whole out stands puts fits =
+puts_served nodes d q at n s t i (Ok u) whole out stands puts count fits =
+    subst (λ x. Serves nodes d (op.Push q (shown_item i)) answer.Pushed (with_side d at x)) (sym (puts.1 ∙ ap (side_through s (shown_item i)) (count puts.0))) (served_put nodes d q at s (shown_item i) whole out stands puts.0 fits.carried)
+puts_served nodes d q at n s t i (Err j) whole out stands puts count fits =
     let same : d ≡ with_side d at t = λ k. record { home = d.home; sides = (sym (set_same d.sides at s stands.there) ∙ ap (slice_set d.sides at) (sym puts.0)) k } in
-    subst (Serves nodes d (op.Push q (shown_item i)) (answer.Full (shown_item j))) same (served_full nodes d q (shown_item i) (shown_item j) out (puts_full d q at s t i (Err j) whole stands puts))
+    subst (Serves nodes d (op.Push q (shown_item i)) (answer.Full (shown_item j))) same (served_full nodes d q (shown_item i) (shown_item j) out (puts_full d q at n s t i (Err j) whole stands puts))
 
 -- a pop that brought something
 served_got : (nodes : List PlainNodeQueues) (d : PlainEnds) (q : QueueId) (at : ℕ) (s : PlainSide) (i : ItemShown) → AreEnds d → is_queue queue.Inbox q ≡ false → Stands d q at s → s.puts ≡ false → IsCarried (rule.Lane s.end.carries) i
-    → Serves nodes d (op.Pop q) (answer.Popped i) (with_side d at (side_through s i))
+    → Serves nodes d (op.Pop q) (answer.Popped i) (with_side d at (side_through s i (beside d.sides s)))
 served_got nodes d q at s i whole out stands gets carried =
     let room = room_for nodes d.home in
     let home : option_map (home_after room (op.Pop q) (answer.Popped i)) d.home ≡ d.home = home_still room (op.Pop q) (answer.Popped i) d.home (got_elsewhere q i out) (λ v. refl) in
-    let sides : slice_set d.sides at (side_through s i) ≡ map (side_after (op.Pop q) (answer.Popped i)) d.sides =
-    sides_but_one (op.Pop q) (answer.Popped i) d.sides at s (side_through s i) stands.there
-    (side_moves (op.Pop q) (answer.Popped i) s (i ∷ []) (got_here s.puts s.queue q i gets (queue_turned q s.queue stands.named)))
+    let sides : slice_set d.sides at (side_through s i (beside d.sides s)) ≡ map (side_after d.sides (op.Pop q) (answer.Popped i)) d.sides =
+    sides_but_one d.sides (op.Pop q) (answer.Popped i) d.sides at s (side_through s i (beside d.sides s)) stands.there
+    (side_moves_one d.sides (op.Pop q) (answer.Popped i) s i (got_here s.puts s.queue q i gets (queue_turned q s.queue stands.named)))
     (λ k x here apart. got_else x.puts x.queue q i (others_apart d q at s whole stands k x here apart)) in
     record {
       ends = λ j. record { home = sym home j; sides = sides j };
@@ -201,21 +196,26 @@ served_empty nodes d q out empty = record {
   cause = cause_empty d q out empty;
 }
 
--- what an end says of a pop
-abbrev pub Gets : PlainSide → Option Item → PlainSide → Type 0
-Gets s r t = MatchOption r ((t ≡ s) × (s.puts ≡ false → HadNothing s.end)) (λ i. (s.puts ≡ false) × (t ≡ side_through s (shown_item i)))
+-- the ends with these of lanes
+abbrev pub with_sides : PlainEnds → List PlainSide → PlainEnds
+with_sides d sides = record { home = d.home; sides = sides }
 
-pub gets_empty : (d : PlainEnds) (q : QueueId) (at : ℕ) (s t : PlainSide) (r : Option Item) → AreEnds d → Stands d q at s → Gets s r t → MatchOption r (AllByRecursion (HasNothingAt q) d.sides) (λ _. ⊤)
-gets_empty d q at s t None whole stands gets = the_only d q at s (λ (x : PlainSide). x.puts ≡ false → HadNothing x.end) whole stands gets.1
-gets_empty d q at s t (Some i) whole stands gets = tt
+-- what an end at a place says of a pop, after which there are these
+abbrev pub Gets : List PlainSide → ℕ → PlainSide → Option Item → List PlainSide → Type 0
+Gets sides at s r after =
+    MatchOption r ((after ≡ sides) × (s.puts ≡ false → HadNothing s.end)) (λ i. (s.puts ≡ false) × (after ≡ slice_set sides at (side_through s (shown_item i) (beside sides s))))
 
-pub gets_served : (nodes : List PlainNodeQueues) (d : PlainEnds) (q : QueueId) (at : ℕ) (s t : PlainSide) (r : Option Item) → AreEnds d → is_queue queue.Inbox q ≡ false → Stands d q at s → Gets s r t → IfSome r (λ i. IsFor s.end.region s.end.carries i)
-    → MatchOption r (Serves nodes d (op.Pop q) answer.Empty (with_side d at t)) (λ i. Serves nodes d (op.Pop q) (answer.Popped (shown_item i)) (with_side d at t))
-gets_served nodes d q at s t None whole out stands gets fits =
-    let same : d ≡ with_side d at t = λ k. record { home = d.home; sides = (sym (set_same d.sides at s stands.there) ∙ ap (slice_set d.sides at) (sym gets.0)) k } in
-    subst (Serves nodes d (op.Pop q) answer.Empty) same (served_empty nodes d q out (gets_empty d q at s t None whole stands gets))
-gets_served nodes d q at s t (Some i) whole out stands gets fits =
-    subst (λ x. Serves nodes d (op.Pop q) (answer.Popped (shown_item i)) (with_side d at x)) (sym gets.1) (served_got nodes d q at s (shown_item i) whole out stands gets.0 fits.carried)
+pub gets_empty : (d : PlainEnds) (q : QueueId) (at : ℕ) (s : PlainSide) (after : List PlainSide) (r : Option Item) → AreEnds d → Stands d q at s → Gets d.sides at s r after → MatchOption r (AllByRecursion (HasNothingAt q) d.sides) (λ _. ⊤)
+gets_empty d q at s after None whole stands gets = the_only d q at s (λ (x : PlainSide). x.puts ≡ false → HadNothing x.end) whole stands gets.1
+gets_empty d q at s after (Some i) whole stands gets = tt
+
+pub gets_served : (nodes : List PlainNodeQueues) (d : PlainEnds) (q : QueueId) (at : ℕ) (s : PlainSide) (after : List PlainSide) (r : Option Item) → AreEnds d → is_queue queue.Inbox q ≡ false → Stands d q at s → Gets d.sides at s r after
+    → IfSome r (λ i. IsFor s.end.region s.end.carries i)
+    → MatchOption r (Serves nodes d (op.Pop q) answer.Empty (with_sides d after)) (λ i. Serves nodes d (op.Pop q) (answer.Popped (shown_item i)) (with_sides d after))
+gets_served nodes d q at s after None whole out stands gets fits =
+    subst (λ l. Serves nodes d (op.Pop q) answer.Empty (with_sides d l)) (sym gets.0) (served_empty nodes d q out (gets_empty d q at s after None whole stands gets))
+gets_served nodes d q at s after (Some i) whole out stands gets fits =
+    subst (λ l. Serves nodes d (op.Pop q) (answer.Popped (shown_item i)) (with_sides d l)) (sym gets.1) (served_got nodes d q at s (shown_item i) whole out stands gets.0 fits.carried)
 
 -- what a lane carries, by its end
 pub rule_there : (d : PlainEnds) (q : QueueId) (s : PlainSide) → is_queue queue.Inbox q ≡ false → side_named q d.sides ≡ Some s → rule_of d q ≡ Some (rule.Lane s.end.carries)

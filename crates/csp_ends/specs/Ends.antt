@@ -5,8 +5,10 @@ use Rattle.std.specs.Option.{option_map}
 use Rattle.csp_arena.specs.Cells.{RegionName}
 use Rattle.csp_consistent.specs.Reading.{is_queue}
 use Rattle.csp_deck.specs.Regions.{nowhere}
+pub use Rattle.csp_ends.specs.Sides.{PlainSide}
+use Rattle.csp_ends.specs.Sides.{IsBacked}
 use Rattle.csp_inbox.specs.Passes as inbox
-use Rattle.csp_lane.specs.Ends.{PlainLane, PlainEnd, IsEndOf}
+use Rattle.csp_lane.specs.Ends.{PlainLane, IsEndOf}
 use Rattle.csp_lists.specs.PlainDeck.{IsLinkRule}
 use Rattle.csp_log.specs.declared.places.QueueId.{QueueId}
 use Rattle.csp_log.specs.declared.places.QueueId.TheVariants as queue
@@ -19,15 +21,6 @@ pub record PlainNodeQueues : Type 0 where
   pub pool : pool.PlainPool
   pub inbox : inbox.PlainInbox
   pub lanes : List PlainLane
-
--- an end of a lane in a party's hand: what the party calls the lane, of which node it is and which of that node's lanes, whether it is the
--- end that puts, and what went through it
-pub record PlainSide : Type 0 where
-  pub queue : QueueId
-  pub node : ℕ
-  pub lane : ℕ
-  pub puts : Bool
-  pub end : PlainEnd
 
 -- a party's passes of its own node: which node that is, its pass of the pool, and, of a router, a bridge or an interface, its pass of the inbox
 pub record PlainHome : Type 0 where
@@ -84,9 +77,11 @@ IsWithin region s = (IsLinkRule s.end.carries → ⊥) → s.end.region ≡ regi
 abbrev pub AreApart : List PlainSide → Type 0
 AreApart sides = (a b : ℕ) (s t : PlainSide) → slice_get sides a ≡ Some s → slice_get sides b ≡ Some t → is_queue s.queue t.queue ≡ true → a ≡ b
 
--- what is true of every party's ends: all buffers that go through them are of one region; each end is called by the name of a lane, no two by one
+-- what is true of every party's ends: all buffers that go through them are of one region; each end is called by the name of a lane, no two by one; and
+-- the marks of each tell of the party's end of that other lane, where there is one
 pub record AreEnds (e : PlainEnds) : Type 0 where
   pub within : AllByRecursion (IsWithin (region_of e)) e.sides
   pub inbox : IfSome (inbox_of e.home) (λ p. p.role.token.name ≡ region_of e)
   pub lanes : AllByRecursion (λ s. is_queue queue.Inbox s.queue ≡ false) e.sides
   pub apart : AreApart e.sides
+  pub backed : AllByRecursion (IsBacked e.sides) e.sides

@@ -5,11 +5,13 @@ use Rattle.csp_base.specs.declared.priority.Prio.{Prio}
 use Rattle.csp_base.specs.declared.priority.Prio.TheVariants.{Critical, High, Normal, Low}
 use Rattle.csp_consistent.specs.Reading.{put_by, got_by, with_priority}
 use Rattle.csp_ends.specs.Ends.{PlainNodeQueues, PlainSide, PlainHome, PlainEnds}
+use Rattle.csp_ends.specs.Sides.{beside}
 use Rattle.csp_inbox.specs.Marks.{mark_of}
 use Rattle.csp_inbox.specs.Passes as inbox
 use Rattle.csp_inbox.specs.declared.hand.Mail.{Mail}
 use Rattle.csp_inbox.specs.declared.hand.Role.{Role}
-use Rattle.csp_lane.specs.Ends.{PlainEnd, with_item}
+use Rattle.csp_lane.specs.Ends.{PlainEnd, end_with, with_item}
+use Rattle.csp_lane.specs.Marks.{marks_in}
 use Rattle.csp_log.specs.declared.entry.Entry.{Entry}
 use Rattle.csp_log.specs.declared.places.QueueId.{QueueId}
 use Rattle.csp_log.specs.declared.places.QueueId.TheVariants as queue
@@ -27,17 +29,26 @@ abbrev pub moved_by : Bool → QueueId → OpShown → AnswerShown → List Item
 moved_by true q o a = put_by q o a
 moved_by false q o a = got_by q o a
 
--- an end of a lane through which these items went besides
-abbrev pub with_items : PlainEnd → List ItemShown → PlainEnd
-with_items e is = record { lane = e.lane; room = e.room; region = e.region; carries = e.carries; items = e.items ++ is; known = e.known }
+-- the marks of these items, each of which tells of so many of another lane
+abbrev pub marks_along : Option ℕ → ℕ → List ItemShown → List ℕ
+marks_along about n [] = []
+marks_along about n (i ∷ is) = marks_in about n ++ marks_along about n is
 
--- an end after a turn
-abbrev pub side_after : OpShown → AnswerShown → PlainSide → PlainSide
-side_after o a s = record { queue = s.queue; node = s.node; lane = s.lane; puts = s.puts; end = with_items s.end (moved_by s.puts s.queue o a) }
+-- an end of a lane through which these items went besides, when so many had gone through the other lane of which its marks tell
+abbrev pub with_items : PlainEnd → ℕ → List ItemShown → PlainEnd
+with_items e n is = end_with e (e.items ++ is) (e.marks ++ marks_along e.about n is) e.known
 
--- an end through which this item went besides
-abbrev pub side_through : PlainSide → ItemShown → PlainSide
-side_through s i = record { queue = s.queue; node = s.node; lane = s.lane; puts = s.puts; end = with_item s.end i }
+-- an end with another in its place that is called so
+abbrev pub side_with : PlainSide → PlainEnd → PlainSide
+side_with s e = record { queue = s.queue; node = s.node; lane = s.lane; puts = s.puts; end = e }
+
+-- an end after a turn of the party that has these
+abbrev pub side_after : List PlainSide → OpShown → AnswerShown → PlainSide → PlainSide
+side_after sides o a s = side_with s (with_items s.end (beside sides s) (moved_by s.puts s.queue o a))
+
+-- an end through which this item went besides, when so many had gone through that other lane
+abbrev pub side_through : PlainSide → ItemShown → ℕ → PlainSide
+side_through s i n = side_with s (with_item s.end i n)
 
 -- a party's passes of its own node, where that of the pool did and knows this
 abbrev pub with_hand : PlainHome → Hand → PlainHome
@@ -86,7 +97,7 @@ home_after room o a h = record { node = h.node; pool = pass_after room o a h.poo
 
 -- all that a party has in hand after a turn, where the pool of its node has room for so many buffers
 abbrev pub ends_after : ℕ → OpShown → AnswerShown → PlainEnds → PlainEnds
-ends_after room o a e = record { home = option_map (home_after room o a) e.home; sides = map (side_after o a) e.sides }
+ends_after room o a e = record { home = option_map (home_after room o a) e.home; sides = map (side_after e.sides o a) e.sides }
 
 -- and after the turns of these entries
 abbrev pub ends_after_all : ℕ → PlainEnds → List Entry → PlainEnds

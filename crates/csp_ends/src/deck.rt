@@ -3,6 +3,7 @@
 ghost use Rattle.std.proofs.Props.{props};
 ghost use Rattle.std.specs.Prelude.{◌≡◌};
 ghost use Rattle.csp_ends.specs.Ends.{AreOf, AreEnds};
+ghost use Rattle.csp_ends.specs.Sides.{IsBacked-prop};
 
 use crate::ends::Ends;
 use crate::queues::Queues;
@@ -27,7 +28,7 @@ pub struct EndsDeck<'a, R: Wait> {
     /// It is of these queues.
     pub ghost of_it: { AreOf queues.now ends.now } by { Prim.hlevel props },
     /// It is what a party may have.
-    pub ghost whole: { AreEnds ends.now } by { Prim.hlevel props },
+    pub ghost whole: { AreEnds ends.now } by { Prim.hlevel (props, IsBacked-prop) },
 }
 
 impl<'a, R: Wait> EndsDeck<'a, R> {

@@ -1,7 +1,8 @@
 //! How a party uses its ends of lanes.
 
-ghost use Rattle.std.specs.Prelude.{◌≡◌, ℕ, ⊤, true, false, Some, None, slice_get, IfErr, IfSome, MatchOption, MatchResult};
+ghost use Rattle.std.specs.Prelude.{◌≡◌, ◌<◌, ℕ, ⊤, true, false, not, Some, None, length, slice_get, slice_set, IfErr, IfSome, MatchOption, MatchResult};
 ghost use Rattle.std.specs.List.{AllByRecursion};
+ghost use Rattle.std.specs.Option.{option_map};
 ghost use Rattle.csp_consistent.specs.Reading.{is_queue};
 ghost use Rattle.csp_deck.specs.Carried.{IsCarriedIn};
 ghost use Rattle.csp_deck.specs.Regions.{IsItemOf};
@@ -9,7 +10,9 @@ ghost use Rattle.csp_ends.specs.Causes.{HasNothingAt, HasNoRoomAt};
 ghost use Rattle.csp_ends.specs.Ends.{PlainSide, AreOf, AreEnds, IsSideOf, region_of, rule_of, side_named};
 ghost use Rattle.csp_ends.specs.Moves.{side_through};
 ghost use Rattle.csp_ends.specs.Serving.{Serves};
+ghost use Rattle.csp_ends.specs.Sides.{IsBacked, back_of, beside, is_back};
 ghost use Rattle.csp_lane.specs.Ends.{IsFor, HadNoRoom, HadNothing};
+ghost use Rattle.csp_lane.specs.Marks.{reached};
 ghost use Rattle.csp_log.specs.Pictures.{shown_item};
 ghost use Rattle.csp_log.specs.declared.shown.AnswerShown.{AnswerShown};
 ghost use Rattle.csp_log.specs.declared.shown.OpShown.{OpShown};
@@ -17,6 +20,7 @@ ghost use Rattle.csp_log.specs.declared.shown.OpShown.{OpShown};
 use crate::ends::{Ends, LaneEnd, Side};
 use crate::queues::Queues;
 use csp_deck::{Item, QueueId};
+use csp_tally::Witness;
 use std::sync::Wait;
 
 impl Side {
@@ -35,35 +39,99 @@ impl Side {
         }
     }
 
-    /// Puts an item into its lane. `Err`, with the item, where this is the end that gets, and else only where the lane
-    /// was full at a moment of this call.
-    pub(crate) fn put<R: Wait>(&mut self, rt: &R, queues: &Queues, item: Item) -> Result<(), Item>
+    /// Whether it is the end that puts.
+    fn is_putting(&self) -> bool
+        ensures { result ≡ self.now.puts }
+    {
+        match &self.end {
+            LaneEnd::Puts(_) => true,
+            LaneEnd::Gets(_) => false,
+        }
+    }
+
+    /// Whether it is of the lane that the marks of this other end tell of, and goes the other way.
+    fn is_back_of(&self, side: &Side) -> bool
+        ensures { result ≡ is_back side.now self.now }
+    {
+        match side.queue {
+            QueueId::Up(number) => self.is_called(QueueId::Down(number))
+                && self.is_putting() != side.is_putting(),
+            QueueId::Inbox | QueueId::Down(_) | QueueId::Out(_) | QueueId::Tx(_) | QueueId::Rx(_) =>
+                false,
+        }
+    }
+
+    /// What was got last here, as an item of another lane may tell of it: nothing where this is the end that puts.
+    fn heard(&mut self) -> Option<Witness>
+        ensures same { self.new ≡ self.old }
+        ensures name { IfSome result (λ w. w.name ≡ self.old.end.tally) }
+        ensures count { self.old.puts ≡ false → reached result ≡ length self.old.end.items }
+    {
+        match &mut self.end {
+            LaneEnd::Gets(consumer) => consumer.heard(),
+            LaneEnd::Puts(_) => None,
+        }
+    }
+
+    /// Puts an item into its lane, with what it tells of another lane. `Err`, with the item, where this is the end that
+    /// gets, and else only where the lane was full at a moment of this call.
+    pub(crate) fn put<R: Wait>(
+        &mut self,
+        rt: &R,
+        queues: &Queues,
+        item: Item,
+        note: Option<Witness>,
+    ) -> Result<(), Item>
         requires of_it { IsSideOf queues.now self.old }
         requires carried { IsFor self.old.end.region self.old.end.carries item }
+        requires noted { IfSome note (λ w. self.old.end.about ≡ Some w.name) }
         ensures put { MatchResult result
-            (λ _. (self.old.puts ≡ true) × (self.new ≡ side_through self.old (shown_item item)))
+            (λ _. (self.old.puts ≡ true) × (self.new ≡ side_through self.old (shown_item item) (reached note)))
             (λ _. (self.new ≡ self.old) × (self.old.puts ≡ true → HadNoRoom self.old.end)) }
         ensures back { IfErr result (λ i. i ≡ item) }
     {
         let lane = queues.lane(self.node, self.lane);
         match &mut self.end {
-            LaneEnd::Puts(producer) => lane.push(rt, producer, item),
+            LaneEnd::Puts(producer) => lane.push(rt, producer, item, note),
             LaneEnd::Gets(_) => Err(item),
         }
     }
 
-    /// Gets the first item of its lane. `None` where this is the end that puts, and else only where the lane was empty
-    /// at a moment of this call.
+    /// Gets the first item of its lane, which has no marks. `None` where this is the end that puts, and else only where
+    /// the lane was empty at a moment of this call.
     pub(crate) fn get<R: Wait>(&mut self, rt: &R, queues: &Queues) -> Option<Item>
-        requires { IsSideOf queues.now self.old }
+        requires of_it { IsSideOf queues.now self.old }
+        requires plain { self.old.end.about ≡ None }
         ensures got { MatchOption result
             ((self.new ≡ self.old) × (self.old.puts ≡ false → HadNothing self.old.end))
-            (λ i. (self.old.puts ≡ false) × (self.new ≡ side_through self.old (shown_item i))) }
+            (λ i. (self.old.puts ≡ false) × (self.new ≡ side_through self.old (shown_item i) 0)) }
         ensures carried { IfSome result (λ i. IsFor self.old.end.region self.old.end.carries i) }
     {
         let lane = queues.lane(self.node, self.lane);
         match &mut self.end {
             LaneEnd::Gets(consumer) => lane.pop(rt, consumer),
+            LaneEnd::Puts(_) => None,
+        }
+    }
+
+    /// Gets the first item of its lane, whose marks tell of the lane of this other end, which goes the other way. `None`
+    /// as of `get`.
+    fn get_after<R: Wait>(&mut self, rt: &R, queues: &Queues, back: &mut Side) -> Option<Item>
+        requires of_it { IsSideOf queues.now self.old }
+        requires turned { back.old.puts ≡ not self.old.puts }
+        requires about { self.old.end.about ≡ Some back.old.end.tally }
+        ensures got { MatchOption result
+            ((self.new ≡ self.old) × (self.old.puts ≡ false → HadNothing self.old.end))
+            (λ i. (self.old.puts ≡ false) × (self.new ≡ side_through self.old (shown_item i) (length back.old.end.items))) }
+        ensures back { back.new ≡ back.old }
+        ensures carried { IfSome result (λ i. IsFor self.old.end.region self.old.end.carries i) }
+    {
+        let lane = queues.lane(self.node, self.lane);
+        match &mut self.end {
+            LaneEnd::Gets(consumer) => match &mut back.end {
+                LaneEnd::Puts(producer) => lane.pop_after(rt, consumer, producer),
+                LaneEnd::Gets(_) => unreachable!(),
+            },
             LaneEnd::Puts(_) => None,
         }
     }
@@ -93,6 +161,57 @@ fn position(sides: &[Side], queue: QueueId) -> Option<usize>
     None
 }
 
+/// The place of the end that the marks of the end at this place tell of.
+fn back_position(sides: &[Side], at: usize) -> Option<usize>
+    requires { at < length sides.now }
+    ensures within { IfSome result (λ k. k < length sides.now) }
+    ensures missing { (s : PlainSide) → slice_get sides.now at ≡ Some s → MatchOption result (back_of sides.now s ≡ None) (λ _. ⊤) }
+    ensures found { (s : PlainSide) → slice_get sides.now at ≡ Some s → IfSome result (λ k. (t : PlainSide) × (slice_get sides.now k ≡ Some t) × (is_back s t ≡ true) × (back_of sides.now s ≡ Some t)) }
+{
+    for place in 0..sides.len() {
+        if sides[place].is_back_of(&sides[at]) {
+            return Some(place);
+        }
+    }
+    None
+}
+
+/// What an item tells that is put by the end at this place.
+fn note_of(sides: &mut [Side], at: usize) -> Option<Witness>
+    requires { at < length sides.old }
+    ensures same { sides.new ≡ sides.old }
+    ensures name { (s : PlainSide) → slice_get sides.old at ≡ Some s → IfSome result (λ w. option_map (λ t. t.end.tally) (back_of sides.old s) ≡ Some w.name) }
+    ensures count { (s : PlainSide) → slice_get sides.old at ≡ Some s → s.puts ≡ true → reached result ≡ beside sides.old s }
+{
+    match back_position(sides, at) {
+        Some(place) => sides[place].heard(),
+        None => None,
+    }
+}
+
+/// Gets from the end at this place.
+fn get_at<R: Wait>(rt: &R, queues: &Queues, sides: &mut [Side], at: usize) -> Option<Item>
+    requires there { at < length sides.old }
+    requires of_it { (s : PlainSide) → slice_get sides.old at ≡ Some s → IsSideOf queues.now s }
+    requires backed { (s : PlainSide) → slice_get sides.old at ≡ Some s → IsBacked sides.old s }
+    ensures count { length sides.new ≡ length sides.old }
+    ensures got { (s : PlainSide) → slice_get sides.old at ≡ Some s → MatchOption result
+        ((sides.new ≡ sides.old) × (s.puts ≡ false → HadNothing s.end))
+        (λ i. (s.puts ≡ false) × (sides.new ≡ slice_set sides.old at (side_through s (shown_item i) (beside sides.old s)))) }
+    ensures carried { (s : PlainSide) → slice_get sides.old at ≡ Some s → IfSome result (λ i. IsFor s.end.region s.end.carries i) }
+{
+    match back_position(sides, at) {
+        Some(back) => if back < at {
+            let (front, rest) = sides.split_at_mut(at);
+            rest[0].get_after(rt, queues, &mut front[back])
+        } else {
+            let (front, rest) = sides.split_at_mut(back);
+            front[at].get_after(rt, queues, &mut rest[0])
+        },
+        None => sides[at].get(rt, queues),
+    }
+}
+
 /// Serves a push to a lane.
 pub(crate) fn put<R: Wait>(
     rt: &R,
@@ -113,7 +232,10 @@ pub(crate) fn put<R: Wait>(
     ensures back { IfErr result (λ i. i ≡ item) }
 {
     match position(ends.sides.as_slice(), queue) {
-        Some(at) => ends.sides[at].put(rt, queues, item),
+        Some(at) => {
+            let note = note_of(ends.sides.as_mut_slice(), at);
+            ends.sides[at].put(rt, queues, item, note)
+        }
         None => Err(item),
     }
 }
@@ -131,7 +253,7 @@ pub(crate) fn get<R: Wait>(rt: &R, queues: &Queues, ends: &mut Ends, queue: Queu
     ensures within { IfSome result (λ i. IsItemOf (region_of ends.old) i) }
 {
     match position(ends.sides.as_slice(), queue) {
-        Some(at) => ends.sides[at].get(rt, queues),
+        Some(at) => get_at(rt, queues, ends.sides.as_mut_slice(), at),
         None => None,
     }
 }

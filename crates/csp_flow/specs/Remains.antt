@@ -8,6 +8,7 @@ use Rattle.csp_deck.specs.Step.{times}
 use Rattle.csp_ends.specs.Ends.{PlainSide, PlainHome}
 use Rattle.csp_inbox.specs.Marks.{with_mark}
 use Rattle.csp_inbox.specs.Passes as inbox
+use Rattle.csp_lane.specs.Marks.{AreHeeded}
 use Rattle.csp_lists.specs.PlainDeck.{numbers_of}
 use Rattle.csp_log.specs.declared.places.Rule.TheVariants as rule
 use Rattle.csp_log.specs.declared.shown.ItemShown.{ItemShown}
@@ -57,7 +58,7 @@ abbrev pub taken_at : ℕ → List PlainPost → List ℕ
 taken_at node posts = flat_map (λ s. if is_home node s.ends.home then taken_from s.ends.home else []) posts
 
 -- what was left in a lane of a node: two posts have its ends, and what the one put is what the other got and then what was left, which the lane carries,
--- no more than it has room for
+-- no more than it has room for; and the marks of what was got keep to their bounds
 pub record IsLaneLeft (posts : List PlainPost) (node lane : ℕ) (left : List ItemShown) : Type 0 where
   pub i : ℕ
   pub j : ℕ
@@ -71,6 +72,7 @@ pub record IsLaneLeft (posts : List PlainPost) (node lane : ℕ) (left : List It
   pub order : x.end.items ≡ y.end.items ++ left
   pub carried : AllByRecursion (IsCarried (rule.Lane x.end.carries)) left
   pub few : length left ≤ x.end.room
+  pub heeded : AreHeeded x.end.marks y.end.marks
 
 -- what was left in the inbox of a node, of a priority: under each mark, what the parties put is what its reader got and then what was left; all that
 -- was left is of this priority; and there were as many puts as any pass was told that there must be

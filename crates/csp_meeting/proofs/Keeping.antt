@@ -1,13 +1,14 @@
 -- What meetings keep.
 use Rattle.std.proofs.Common.{◌≡◌, ℕ, zero, suc, Bool, true, false, List, [], ◌∷◌, Option, None, Some, refl, sym, ap, ◌∙◌, subst, le_trans, le_refl, true≢false}
-use Rattle.std.specs.Prelude.{IfSome, IsSomeAnd, if◌then◌else◌, slice_get}
+use Rattle.std.specs.Prelude.{IfSome, IsSome, IsSomeAnd, ◌&&◌, not, if◌then◌else◌, slice_get}
 use Rattle.std.specs.List.{AllByRecursion, AllZip}
 use Rattle.std.specs.Option.{option_map}
 use Rattle.csp_arena.specs.Cells.{RegionName}
 use Rattle.csp_base.specs.declared.priority.Prio.{Prio}
 use Rattle.csp_consistent.specs.Reading.{is_queue}
 use Rattle.csp_ends.specs.Ends.{PlainNodeQueues, PlainSide, PlainHome, PlainEnds, AreApart, AreEnds, AreOf, IsHomeOf, IsWithin, inbox_of, region_of, region_or, rule_of, side_named}
-use Rattle.csp_ends.specs.Traced.{AreTraced, IsHomeTraced, IsMailTraced, IsSideTraced, moved}
+use Rattle.csp_ends.specs.Sides.{IsBacked, back_name, back_of, is_back, is_back_by}
+use Rattle.csp_ends.specs.Traced.{AreMarked, AreTraced, IsHomeTraced, IsMailTraced, IsSideMarked, IsSideTraced, moved, told_of}
 use Rattle.csp_inbox.specs.Passes.{PlainPass as Post, mail_at}
 use Rattle.csp_inbox.specs.Passes as inbox
 use Rattle.csp_lane.specs.Ends.{PlainEnd}
@@ -101,6 +102,35 @@ token_stays r s (Some g) (Some h) same m k = by g.inbox h.inbox m.inbox k where
 token_stays r s None (Some h) same m k = absurd m
 token_stays r s (Some g) None same m k = absurd m
 
+-- which end the marks of another tell of stays
+back_by_stays : (o : Option QueueId) (x y z w : PlainSide) → z.puts ≡ x.puts → w.puts ≡ y.puts → w.queue ≡ y.queue → is_back_by o z w ≡ is_back_by o x y
+back_by_stays None x y z w first second name = refl
+back_by_stays (Some q) x y z w first second name = λ i. is_queue q (name i) && (if first i then not (second i) else second i)
+
+back_stays : (x y z w : PlainSide) → KnowsMoreAt x z → KnowsMoreAt y w → is_back z w ≡ is_back x y
+back_stays x y z w m n = ap (λ q. is_back_by (back_name q) z w) m.queue ∙ back_by_stays (back_name x.queue) x y z w m.puts n.puts n.queue
+
+abbrev tally_of : Option PlainSide → Option ℕ
+tally_of o = option_map (λ t. t.end.tally) o
+
+picked : (y w : PlainSide) (a b : Bool) (ys ws : Option PlainSide) → KnowsMoreAt y w → b ≡ a → tally_of ws ≡ tally_of ys → tally_of (if b then Some w else ws) ≡ tally_of (if a then Some y else ys)
+picked y w true true ys ws m same rest = ap (λ (e : PlainEnd). Some e.tally) m.end
+picked y w false false ys ws m same rest = rest
+picked y w true false ys ws m same rest = absurd (true≢false (sym same))
+picked y w false true ys ws m same rest = absurd (true≢false same)
+
+back_found : (x z : PlainSide) (ys ws : List PlainSide) → KnowsMoreAt x z → AllZip KnowsMoreAt ys ws → tally_of (back_of ws z) ≡ tally_of (back_of ys x)
+back_found x z [] [] f m = refl
+back_found x z (y ∷ ys) (w ∷ ws) f m = picked y w (is_back x y) (is_back z w) (back_of ys x) (back_of ws z) m.0 (back_stays x y z w f m.0) (back_found x z ys ws f m.1)
+back_found x z [] (w ∷ ws) f m = absurd m
+back_found x z (y ∷ ys) [] f m = absurd m
+
+all_backed : (ds es xs ys : List PlainSide) → AllZip KnowsMoreAt ds es → AllZip KnowsMoreAt xs ys → AllByRecursion (IsBacked ds) xs → AllByRecursion (IsBacked es) ys
+all_backed ds es [] [] f m h = tt
+all_backed ds es (x ∷ xs) (y ∷ ys) f m h = (ap (λ (e : PlainEnd). e.about) m.0.end ∙ h.0 ∙ sym (back_found x y ds es m.0 f), all_backed ds es xs ys f m.1 h.1)
+all_backed ds es [] (y ∷ ys) f m h = absurd m
+all_backed ds es (x ∷ xs) [] f m h = absurd m
+
 pub whole : (d e : PlainEnds) → KnowsMore d e → AreEnds d → AreEnds e
 whole d e m h =
     let same = region d e m in
@@ -109,6 +139,7 @@ whole d e m h =
       inbox = token_stays (region_of d) (region_of e) d.home e.home same m.home h.inbox;
       lanes = all_lanes d.sides e.sides m.sides h.lanes;
       apart = apart_stays d.sides e.sides m.sides h.apart;
+      backed = all_backed d.sides e.sides d.sides e.sides m.sides m.sides h.backed;
     }
 
 -- its queues carry the same
@@ -169,6 +200,22 @@ home_traced opened es (Some g) None m k = absurd m
 
 pub traced : (d e : PlainEnds) (opened : List ℕ) (es : List Entry) → KnowsMore d e → AreTraced opened es d → AreTraced opened es e
 traced d e opened es m h = record { home = home_traced opened es d.home e.home m.home h.home; sides = sides_traced es d.sides e.sides m.sides h.sides }
+
+-- so are their marks
+side_marked : (es : List Entry) (x y : PlainSide) → KnowsMoreAt x y → IsSideMarked es x → IsSideMarked es y
+side_marked es x y m h =
+    subst (λ (e : PlainEnd). IsSome e.about → IfSome (back_name y.queue) (λ other. e.marks ≡ told_of y.puts y.queue other es)) (sym m.end)
+    (subst (λ p. IsSome x.end.about → IfSome (back_name y.queue) (λ other. x.end.marks ≡ told_of p y.queue other es)) (sym m.puts)
+    (subst (λ q. IsSome x.end.about → IfSome (back_name q) (λ other. x.end.marks ≡ told_of x.puts q other es)) (sym m.queue) h))
+
+sides_marked : (es : List Entry) (xs ys : List PlainSide) → AllZip KnowsMoreAt xs ys → AreMarked es xs → AreMarked es ys
+sides_marked es [] [] m h = tt
+sides_marked es (x ∷ xs) (y ∷ ys) m h = (side_marked es x y m.0 h.0, sides_marked es xs ys m.1 h.1)
+sides_marked es [] (y ∷ ys) m h = absurd m
+sides_marked es (x ∷ xs) [] m h = absurd m
+
+pub marked : (d e : PlainEnds) (es : List Entry) → KnowsMore d e → AreMarked es d.sides → AreMarked es e.sides
+marked d e es m h = sides_marked es d.sides e.sides m.sides h
 
 -- meetings one after the other
 tally_none : (t : Tally) → KnowsMoreOf t t

@@ -36,7 +36,12 @@ all_trans (x ∷ xs) [] zs f g = absurd f
 all_trans (x ∷ xs) (y ∷ ys) [] f g = absurd g
 
 of_end : (l : PlainLane) (e d : PlainEnd) (n : ℕ) → d ≡ knowing e n → IsEndOf l e → IsEndOf l d
-of_end l e d n is h = record { lane = ap (λ (x : PlainEnd). x.lane) is ∙ h.lane; room = ap (λ (x : PlainEnd). x.room) is ∙ h.room }
+of_end l e d n is h = record {
+  lane = ap (λ (x : PlainEnd). x.lane) is ∙ h.lane;
+  room = ap (λ (x : PlainEnd). x.room) is ∙ h.room;
+  tally = ap (λ (x : PlainEnd). x.tally) is ∙ h.tally;
+  about = ap (λ (x : PlainEnd). x.about) is ∙ h.about;
+}
 
 of_lane : (o : Option PlainLane) (e d : PlainEnd) (n : ℕ) → d ≡ knowing e n → IsSomeAnd o (λ l. IsEndOf l e) → IsSomeAnd o (λ l. IsEndOf l d)
 of_lane (Some l) e d n is h = of_end l e d n is h

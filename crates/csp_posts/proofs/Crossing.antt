@@ -24,7 +24,7 @@ use Rattle.csp_log.specs.declared.shown.OpShown.TheVariants as op
 use Rattle.csp_posts.proofs.Flowing.{queue_is, queue_turned, inbox_apart}
 use Rattle.csp_posts.proofs.Turning.{items_joined, turns_still}
 use Rattle.csp_posts.specs.Posts.{PlainPost, AreTurns}
-use Rattle.csp_posts.specs.Still.{still_side, still}
+use Rattle.csp_posts.specs.Still.{still_side}
 use Rattle.csp_posts.specs.Through.{IsThrough, WasCrammed}
 
 -- what holds of each holds at a place, and the other way round
@@ -94,10 +94,10 @@ before_at f xs k y at = by (slice_get xs k) refl (sym (slice_get-map f xs k) ∙
   by (Some x) there e = (x, there, same_Some (f x) y e)
 
 through_one : (room : ℕ) (e : PlainEnds) (o : OpShown) (a : AnswerShown) → AreEnds e → CauseOf e o a → AllByRecursion IsThrough e.sides → AllByRecursion IsThrough (ends_after room o a e).sides
-through_one room e o a ends cause all = all_from IsThrough (map (side_after o a) e.sides) each where
-  each : (k : ℕ) (y : PlainSide) → slice_get (map (side_after o a) e.sides) k ≡ Some y → IsThrough y
+through_one room e o a ends cause all = all_from IsThrough (map (side_after e.sides o a) e.sides) each where
+  each : (k : ℕ) (y : PlainSide) → slice_get (map (side_after e.sides o a) e.sides) k ≡ Some y → IsThrough y
   each k y at =
-      let (x, there, is) = before_at (side_after o a) e.sides k y at in
+      let (x, there, is) = before_at (side_after e.sides o a) e.sides k y at in
       subst IsThrough is (items_joined (Carried x) x.end.items (moved_by x.puts x.queue o a) (all_at IsThrough e.sides k x there all) (moved_carried e o a k x x.puts ends there cause))
 
 through_all : (room : ℕ) (e : PlainEnds) (es : List Entry) → AreEnds e → HaveCauses room e es → AllByRecursion IsThrough e.sides → AllByRecursion IsThrough (ends_after_all room e es).sides
@@ -132,8 +132,8 @@ pub pushes : (room least : ℕ) (more : List Entry) (e : PlainEnds) (b : ℕ) (x
 pushes room least [] e b x before at way items knows causes = tt
 pushes room least (m ∷ more) e b x before at way items knows causes = (
   refused_here least m.op m.answer e b x before at way items knows causes.0,
-  pushes room least more (ends_after room m.op m.answer e) b (side_after m.op m.answer x) (before ++ m ∷ [])
-      (slice_get-map (side_after m.op m.answer) e.sides b ∙ ap (option_map (side_after m.op m.answer)) at) way
+  pushes room least more (ends_after room m.op m.answer e) b (side_after e.sides m.op m.answer x) (before ++ m ∷ [])
+      (slice_get-map (side_after e.sides m.op m.answer) e.sides b ∙ ap (option_map (side_after e.sides m.op m.answer)) at) way
       (ap (λ p. x.end.items ++ moved_by p x.queue m.op m.answer) way ∙ ap (λ is. is ++ put_by x.queue m.op m.answer) items ∙ sym (puts_push x.queue before m))
       knows causes.1,
 )

@@ -137,14 +137,14 @@ sum_one f (y ∷ xs) (suc at) x there others =
     by b z (inr e) = inr e
 
 -- what went through an end, after a turn
-put_one : (k : ℕ) (o : OpShown) (a : AnswerShown) (s : PlainSide) → times_put k (side_after o a s) ≡ times_put k s + through true k o a s
-put_one k o a s = by s.puts where
+put_one : (ends : List PlainSide) (k : ℕ) (o : OpShown) (a : AnswerShown) (s : PlainSide) → times_put k (side_after ends o a s) ≡ times_put k s + through true k o a s
+put_one ends k o a s = by s.puts where
   by : (puts : Bool) → (if puts then count k (s.end.items ++ moved_by puts s.queue o a) else 0) ≡ (if puts then count k s.end.items else 0) + part true puts (count k (moved_by true s.queue o a))
   by true = count_joined k s.end.items (put_by s.queue o a)
   by false = refl
 
-got_one : (k : ℕ) (o : OpShown) (a : AnswerShown) (s : PlainSide) → times_got k (side_after o a s) ≡ times_got k s + through false k o a s
-got_one k o a s = by s.puts where
+got_one : (ends : List PlainSide) (k : ℕ) (o : OpShown) (a : AnswerShown) (s : PlainSide) → times_got k (side_after ends o a s) ≡ times_got k s + through false k o a s
+got_one ends k o a s = by s.puts where
   by : (puts : Bool) → (if puts then 0 else count k (s.end.items ++ moved_by puts s.queue o a)) ≡ (if puts then 0 else count k s.end.items) + part false puts (count k (moved_by false s.queue o a))
   by true = refl
   by false = count_joined k s.end.items (got_by s.queue o a)
@@ -410,8 +410,8 @@ flows k _ _ e ends fits cause = absurd fits
 flows_after : (room k : ℕ) (o : OpShown) (a : AnswerShown) (e : PlainEnds) → AreEnds e → Fits o a → CauseOf e o a
     → times_out k (ends_after room o a e) + times k (answer_numbers a) + times_in k e ≡ times_in k (ends_after room o a e) + times k (op_numbers o) + times_out k e
 flows_after room k o a e ends fits cause =
-    let put = sum_more (times_put k) (through true k o a) (side_after o a) (put_one k o a) e.sides in
-    let got = sum_more (times_got k) (through false k o a) (side_after o a) (got_one k o a) e.sides in
+    let put = sum_more (times_put k) (through true k o a) (side_after e.sides o a) (put_one e.sides k o a) e.sides in
+    let got = sum_more (times_got k) (through false k o a) (side_after e.sides o a) (got_one e.sides k o a) e.sides in
     let into = into_after room k o a e.home in
     let from = from_after room k o a e.home fits in
     let law = flows k o a e ends fits cause in

@@ -1,6 +1,7 @@
 pub mod Books
 pub mod Crossing
 pub mod Flowing
+pub mod Marking
 pub mod Parties
 pub mod Running
 pub mod Staying

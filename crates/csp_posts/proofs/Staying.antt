@@ -40,15 +40,15 @@ home_still room o a (Some h) = ap (λ (k : PlainHome). Some k)
     (ap (λ (v : Hand). let k : PlainHome = record { node = h.node; pool = record { pool = h.pool.pool; hand = v }; inbox = option_map still_inbox (option_map (post_after o a) h.inbox) } in k) (hand_still room o a h.pool.hand)
     ∙ ap (λ (x : Option inbox.PlainPass). let k : PlainHome = record { node = h.node; pool = record { pool = h.pool.pool; hand = still_hand h.pool.hand }; inbox = x } in k) (inbox_still o a h.inbox))
 
-sides_still : (o : OpShown) (a : AnswerShown) (ss : List PlainSide) → map still_side (map (side_after o a) ss) ≡ map still_side ss
-sides_still o a [] = refl
-sides_still o a (s ∷ ss) = ap (λ (rest : List PlainSide). still_side s ∷ rest) (sides_still o a ss)
+sides_still : (ends : List PlainSide) (o : OpShown) (a : AnswerShown) (ss : List PlainSide) → map still_side (map (side_after ends o a) ss) ≡ map still_side ss
+sides_still ends o a [] = refl
+sides_still ends o a (s ∷ ss) = ap (λ (rest : List PlainSide). still_side s ∷ rest) (sides_still ends o a ss)
 
 -- all of it, after one turn
 still_after : (room : ℕ) (o : OpShown) (a : AnswerShown) (e : PlainEnds) → still (ends_after room o a e) ≡ still e
 still_after room o a e =
-    ap (λ (h : Option PlainHome). let k : PlainEnds = record { home = h; sides = map still_side (map (side_after o a) e.sides) } in k) (home_still room o a e.home)
-    ∙ ap (λ (ss : List PlainSide). let k : PlainEnds = record { home = option_map still_home e.home; sides = ss } in k) (sides_still o a e.sides)
+    ap (λ (h : Option PlainHome). let k : PlainEnds = record { home = h; sides = map still_side (map (side_after e.sides o a) e.sides) } in k) (home_still room o a e.home)
+    ∙ ap (λ (ss : List PlainSide). let k : PlainEnds = record { home = option_map still_home e.home; sides = ss } in k) (sides_still e.sides o a e.sides)
 
 -- and after many
 pub still_after_all : (room : ℕ) (e : PlainEnds) (es : List Entry) → still (ends_after_all room e es) ≡ still e

@@ -33,9 +33,9 @@ moved_more true q es e = push (λ x. put_by q x.op x.answer) es e
 moved_more false q es e = push (λ x. got_by q x.op x.answer) es e
 
 -- the ends of lanes
-sides_more : (es : List Entry) (e : Entry) (ss : List PlainSide) → AllByRecursion (IsSideTraced es) ss → AllByRecursion (IsSideTraced (es ++ e ∷ [])) (map (side_after e.op e.answer) ss)
-sides_more es e [] h = tt
-sides_more es e (s ∷ ss) h = (ap (λ (is : List ItemShown). is ++ moved_by s.puts s.queue e.op e.answer) h.0 ∙ sym (moved_more s.puts s.queue es e), sides_more es e ss h.1)
+sides_more : (ends : List PlainSide) (es : List Entry) (e : Entry) (ss : List PlainSide) → AllByRecursion (IsSideTraced es) ss → AllByRecursion (IsSideTraced (es ++ e ∷ [])) (map (side_after ends e.op e.answer) ss)
+sides_more ends es e [] h = tt
+sides_more ends es e (s ∷ ss) h = (ap (λ (is : List ItemShown). is ++ moved_by s.puts s.queue e.op e.answer) h.0 ∙ sym (moved_more s.puts s.queue es e), sides_more ends es e ss h.1)
 
 -- the pass of the pool
 pub put_more : (room : ℕ) (o : OpShown) (a : AnswerShown) (v : Hand) → (hand_after room o a v).put ≡ v.put ++ given_by o a
@@ -106,8 +106,8 @@ home_more room opened es e (Some h) fits g = record {
 }
 
 -- after one turn, and after many
-traced_after : (room : ℕ) (opened : List ℕ) (es : List Entry) (e : Entry) (d : PlainEnds) → Fits e.op e.answer → AreTraced opened es d → AreTraced opened (es ++ e ∷ []) (ends_after room e.op e.answer d)
-traced_after room opened es e d fits h = record { home = home_more room opened es e d.home fits h.home; sides = sides_more es e d.sides h.sides }
+pub traced_after : (room : ℕ) (opened : List ℕ) (es : List Entry) (e : Entry) (d : PlainEnds) → Fits e.op e.answer → AreTraced opened es d → AreTraced opened (es ++ e ∷ []) (ends_after room e.op e.answer d)
+traced_after room opened es e d fits h = record { home = home_more room opened es e d.home fits h.home; sides = sides_more d.sides es e d.sides h.sides }
 
 pub traced_after_all : (room : ℕ) (opened : List ℕ) (es more : List Entry) (d : PlainEnds) → AllByRecursion (λ x. Fits x.op x.answer) more → AreTraced opened es d → AreTraced opened (es ++ more) (ends_after_all room d more)
 traced_after_all room opened es [] d fits h = rw (append-nil es) h

@@ -10,7 +10,7 @@ use Rattle.csp_deck.specs.Runs.{Runs, IsRun, state_after, last_time}
 use Rattle.csp_ends.specs.Causes.{CauseOf, HaveCauses, HasPassedOver}
 use Rattle.csp_ends.specs.Ends.{PlainNodeQueues, PlainEnds, AreOf, AreEnds, inbox_of}
 use Rattle.csp_ends.specs.Moves.{ends_after, ends_after_all, room_for}
-use Rattle.csp_ends.specs.Traced.{AreTraced}
+use Rattle.csp_ends.specs.Traced.{AreMarked, AreTraced}
 use Rattle.csp_inbox.specs.Passes as inbox
 use Rattle.csp_log.specs.declared.entry.Entry.{Entry}
 use Rattle.csp_log.specs.declared.places.QueueId.TheVariants as queue
@@ -27,6 +27,7 @@ use Rattle.csp_posts.specs.Posts.{PlainPost, AreTurns}
 use Rattle.csp_posts.specs.Still.{still, IsPostFrom}
 use Rattle.csp_topology.specs.Parties.{party_steps}
 use Rattle.csp_posts.proofs.Flowing.{flows_after_all}
+use Rattle.csp_posts.proofs.Marking.{marked_after_all}
 use Rattle.csp_posts.proofs.Running.{state_joined, run_joined, last_at, last_joined, run_fits, handed_joined, received_joined}
 use Rattle.csp_posts.proofs.Staying.{still_after_all, room_after, of_it_after_all, are_ends_after_all}
 use Rattle.csp_posts.proofs.Tracing.{traced_after_all}
@@ -121,6 +122,13 @@ turns_traced nodes time count opened s t f h =
     let after = traced_after_all room opened s.entries f.more s.ends (run_fits party_steps time s.party f.more f.run) h in
     subst (λ (es : List Entry). AreTraced opened es t.ends) (sym f.entries) (subst (AreTraced opened (s.entries ++ f.more)) (sym f.ends) after)
 
+pub turns_marked : (nodes : List PlainNodeQueues) (time count : ℕ) (opened : List ℕ) (s t : PlainPost) → AreTurns nodes time count s t → AreEnds s.ends → AreTraced opened s.entries s.ends
+    → AreMarked s.entries s.ends.sides → AreMarked t.entries t.ends.sides
+turns_marked nodes time count opened s t f ends traced h =
+    let room = room_for nodes s.ends.home in
+    let after = marked_after_all room opened s.entries f.more s.ends (run_fits party_steps time s.party f.more f.run) ends traced h in
+    subst (λ (es : List Entry). AreMarked es t.ends.sides) (sym f.entries) (subst (λ (e : PlainEnds). AreMarked (s.entries ++ f.more) e.sides) (sym f.ends) after)
+
 pub turns_balanced : (nodes : List PlainNodeQueues) (time count : ℕ) (opened : List ℕ) (s t : PlainPost) → AreTurns nodes time count s t → AreEnds s.ends → IsBalanced opened s → IsBalanced opened t
 turns_balanced nodes time count opened s t f ends h = λ k.
     let room = room_for nodes s.ends.home in
@@ -193,5 +201,6 @@ turns_post nodes time count opening opened s t f late h = record {
   of_it = turns_of_it nodes time count s t f h.of_it;
   ends = turns_ends nodes time count s t f h.ends;
   traced = turns_traced nodes time count opened s t f h.traced;
+  marked = turns_marked nodes time count opened s t f h.ends h.traced h.marked;
   balanced = turns_balanced nodes time count opened s t f h.ends h.balanced;
 }

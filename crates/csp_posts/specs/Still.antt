@@ -3,8 +3,9 @@ use Rattle.std.specs.Prelude.{ℕ, List, [], map}
 use Rattle.std.specs.Option.{option_map}
 use Rattle.csp_deck.specs.Runs.{Runs}
 use Rattle.csp_ends.specs.Ends.{PlainNodeQueues, PlainSide, PlainHome, PlainEnds, AreOf, AreEnds}
-use Rattle.csp_ends.specs.Traced.{AreTraced}
+use Rattle.csp_ends.specs.Traced.{AreMarked, AreTraced}
 use Rattle.csp_inbox.specs.Passes as inbox
+use Rattle.csp_lane.specs.Ends.{end_with}
 use Rattle.csp_party.specs.Any.{PlainParty}
 use Rattle.csp_pool.specs.PlainPool as pool
 use Rattle.csp_pool.specs.Tallies.{blank}
@@ -20,7 +21,7 @@ still_side s = record {
   node = s.node;
   lane = s.lane;
   puts = s.puts;
-  end = record { lane = s.end.lane; room = s.end.room; region = s.end.region; carries = s.end.carries; items = []; known = 0 };
+  end = end_with s.end [] [] 0;
 }
 
 -- the hand of a pass of a pool, but for what it did and knows
@@ -45,10 +46,11 @@ abbrev pub still : PlainEnds → PlainEnds
 still e = record { home = option_map still_home e.home; sides = map still_side e.sides }
 
 -- it is of a party that opened so, whose pass of the pool put these numbers at the opening: its log is a run from there; what it has in hand is of the
--- queues of these nodes, and tells what the log says; and no buffer was lost or made
+-- queues of these nodes, and tells what the log says, its marks too; and no buffer was lost or made
 pub record IsPostFrom (nodes : List PlainNodeQueues) (opening : PlainParty) (opened : List ℕ) (s : PlainPost) : Type 0 where
   pub runs : Runs party_steps opening s.entries s.party
   pub of_it : AreOf nodes s.ends
   pub ends : AreEnds s.ends
   pub traced : AreTraced opened s.entries s.ends
+  pub marked : AreMarked s.entries s.ends.sides
   pub balanced : IsBalanced opened s

@@ -6,7 +6,7 @@ ghost use Rattle.csp_consistent.specs.Reading.{gets};
 ghost use Rattle.csp_deck.specs.Carried.{IsCarried};
 ghost use Rattle.csp_deck.specs.Runs.{Runs, last_time};
 ghost use Rattle.csp_ends.specs.Ends.{PlainNodeQueues, AreOf, AreEnds};
-ghost use Rattle.csp_ends.specs.Traced.{AreTraced};
+ghost use Rattle.csp_ends.specs.Traced.{AreMarked, AreTraced};
 ghost use Rattle.csp_log.specs.declared.places.QueueId.TheVariants as queue;
 ghost use Rattle.csp_log.specs.declared.places.Rule.TheVariants as rule;
 ghost use Rattle.csp_party.specs.Any.{PlainParty};
@@ -29,12 +29,13 @@ pub fn turns_leave_ends()
     ensures ends { (nodes : List PlainNodeQueues) (time count : ℕ) (s t : PlainPost) → AreTurns nodes time count s t → AreEnds s.ends → AreEnds t.ends }
 {}
 
-/// Where what a party has in hand told what its log says, it still does after turns; where no buffer was lost or made in its hands, none is by turns;
+/// Where what a party has in hand told what its log says, its marks too, it still does after turns; where no buffer was lost or made in its hands, none is by turns;
 /// and where its log was a run from an opening, it is one with turns that come no earlier. Where all that came from the inbox was what an inbox
 /// carries, it still is, and all that went through an end is what its lane carries; a push is refused only where there is no room; and what is said
 /// of all times, it keeps at one of which it is true.
 pub fn turns_keep_post()
     ensures traced { (nodes : List PlainNodeQueues) (time count : ℕ) (opened : List ℕ) (s t : PlainPost) → AreTurns nodes time count s t → AreTraced opened s.entries s.ends → AreTraced opened t.entries t.ends }
+    ensures marked { (nodes : List PlainNodeQueues) (time count : ℕ) (opened : List ℕ) (s t : PlainPost) → AreTurns nodes time count s t → AreEnds s.ends → AreTraced opened s.entries s.ends → AreMarked s.entries s.ends.sides → AreMarked t.entries t.ends.sides }
     ensures balanced { (nodes : List PlainNodeQueues) (time count : ℕ) (opened : List ℕ) (s t : PlainPost) → AreTurns nodes time count s t → AreEnds s.ends → IsBalanced opened s → IsBalanced opened t }
     ensures runs { (nodes : List PlainNodeQueues) (time count : ℕ) (opening : PlainParty) (s t : PlainPost) → AreTurns nodes time count s t → last_time 0 s.entries ≤ time → Runs party_steps opening s.entries s.party → Runs party_steps opening t.entries t.party }
     ensures all { (nodes : List PlainNodeQueues) (time count : ℕ) (opening : PlainParty) (opened : List ℕ) (s t : PlainPost) → AreTurns nodes time count s t → last_time 0 s.entries ≤ time → IsPostFrom nodes opening opened s → IsPostFrom nodes opening opened t }

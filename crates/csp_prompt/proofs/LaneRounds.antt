@@ -57,8 +57,8 @@ looks : (room earlier : ℕ) (more : List Entry) (e : PlainEnds) (b : ℕ) (y : 
 looks room earlier [] e b y before at way items knows causes = tt
 looks room earlier (m ∷ more) e b y before at way items knows causes = (
   missed_here earlier m.op m.answer e b y before at way items knows causes.0,
-  looks room earlier more (ends_after room m.op m.answer e) b (side_after m.op m.answer y) (before ++ m ∷ [])
-      (slice_get-map (side_after m.op m.answer) e.sides b ∙ ap (option_map (side_after m.op m.answer)) at) way
+  looks room earlier more (ends_after room m.op m.answer e) b (side_after e.sides m.op m.answer y) (before ++ m ∷ [])
+      (slice_get-map (side_after e.sides m.op m.answer) e.sides b ∙ ap (option_map (side_after e.sides m.op m.answer)) at) way
       (ap (λ p. y.end.items ++ moved_by p y.queue m.op m.answer) way ∙ ap (λ is. is ++ got_by y.queue m.op m.answer) items ∙ sym (gets_push y.queue before m))
       knows causes.1,
 )

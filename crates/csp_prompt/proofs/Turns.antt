@@ -27,9 +27,9 @@ pub side_before : (room : ℕ) (more : List Entry) (e : PlainEnds) (a : ℕ) (y 
     → (x : PlainSide) × (slice_get e.sides a ≡ Some x) × IsSideAfter x y
 side_before room [] e a y at = (y, at, record { queue = refl; node = refl; lane = refl; puts = refl; room = refl })
 side_before room (m ∷ more) e a y at =
-    let later : (z : PlainSide) × (slice_get (map (side_after m.op m.answer) e.sides) a ≡ Some z) × IsSideAfter z y = side_before room more (ends_after room m.op m.answer e) a y at in
-    let first : (x : PlainSide) × (slice_get e.sides a ≡ Some x) × (side_after m.op m.answer x ≡ later.0) = mapped_at (side_after m.op m.answer) e.sides a later.0 later.1 in
-    let rest : IsSideAfter (side_after m.op m.answer first.0) y = subst (λ z. IsSideAfter z y) (sym first.2) later.2 in
+    let later : (z : PlainSide) × (slice_get (map (side_after e.sides m.op m.answer) e.sides) a ≡ Some z) × IsSideAfter z y = side_before room more (ends_after room m.op m.answer e) a y at in
+    let first : (x : PlainSide) × (slice_get e.sides a ≡ Some x) × (side_after e.sides m.op m.answer x ≡ later.0) = mapped_at (side_after e.sides m.op m.answer) e.sides a later.0 later.1 in
+    let rest : IsSideAfter (side_after e.sides m.op m.answer first.0) y = subst (λ z. IsSideAfter z y) (sym first.2) later.2 in
     (first.0, first.1, record { queue = rest.queue; node = rest.node; lane = rest.lane; puts = rest.puts; room = rest.room })
 
 -- a pass of an inbox after turns

@@ -11,10 +11,10 @@ use Rattle.csp_deck.specs.Carried.{IsCarried}
 use Rattle.csp_deck.specs.Runs.{Runs}
 use Rattle.csp_deck.specs.Step.{times}
 use Rattle.csp_ends.specs.Ends.{PlainNodeQueues, PlainSide, PlainHome, PlainEnds}
-use Rattle.csp_ends.specs.Traced.{AreTraced}
+use Rattle.csp_ends.specs.Traced.{AreMarked, AreTraced}
 use Rattle.csp_inbox.specs.Passes as inbox
 use Rattle.csp_inbox.specs.declared.hand.Mail.{Mail}
-use Rattle.csp_lane.specs.Ends.{PlainEnd}
+use Rattle.csp_lane.specs.Ends.{PlainEnd, end_with}
 use Rattle.csp_lists.specs.PlainDeck.{numbers_of}
 use Rattle.csp_log.specs.declared.entry.Entry.{Entry}
 use Rattle.csp_log.specs.declared.places.QueueId.TheVariants as queue
@@ -42,7 +42,7 @@ side_stays x y m = λ i. record {
   node = m.node i;
   lane = m.lane i;
   puts = m.puts i;
-  end = record { lane = (m.end i).lane; room = (m.end i).room; region = (m.end i).region; carries = (m.end i).carries; items = []; known = 0 };
+  end = end_with (m.end i) [] [] 0;
 }
 
 sides_stay : (xs ys : List PlainSide) → AllZip KnowsMoreAt xs ys → map still_side ys ≡ map still_side xs
@@ -148,6 +148,7 @@ from_met nodes opening opened s t m h = record {
   of_it = keeping.of_it nodes s.plain.ends t.plain.ends m.ends h.of_it;
   ends = keeping.whole s.plain.ends t.plain.ends m.ends h.ends;
   traced = subst (λ (es : List Entry). AreTraced opened es t.plain.ends) (sym m.entries) (keeping.traced s.plain.ends t.plain.ends opened s.plain.entries m.ends h.traced);
+  marked = subst (λ (es : List Entry). AreMarked es t.plain.ends.sides) (sym m.entries) (keeping.marked s.plain.ends t.plain.ends s.plain.entries m.ends h.marked);
   balanced = balanced_met opened s t m h.balanced;
 }
 
