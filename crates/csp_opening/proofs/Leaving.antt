@@ -11,8 +11,9 @@ use Rattle.csp_base.specs.declared.priority.Prio.TheVariants.{Critical, High, No
 use Rattle.csp_ends.specs.Ends.{PlainHome, PlainSide}
 use Rattle.csp_inbox.specs.Passes as mails
 use Rattle.csp_lane.specs.Ends as ways
+use Rattle.csp_opening.proofs.Backs.{told_more}
 use Rattle.csp_opening.specs.Handed.{AreHanded, HaveRoom, handed_from, list_at, room_at}
-use Rattle.csp_opening.specs.Opened.{AreLanes, AreNodesWith, AreUnused, CanLeave, HasLaneMore, IsMail, IsNodeOf, IsUnused, ends_in, pair_of, pairs_on}
+use Rattle.csp_opening.specs.Opened.{AreLanes, AreNodesWith, AreTold, AreUnused, CanLeave, HasLaneMore, IsMail, IsNodeOf, IsUnused, ends_in, pair_of, pairs_on}
 use Rattle.csp_opening.specs.Parted.{home_with, leads_past}
 use Rattle.csp_opening.specs.Posted.{CanPost, CanPostAll, CanPostFrom, ends_with, post_with, posts_from, posts_with}
 use Rattle.csp_opening.specs.declared.homes.Lead.{Lead}
@@ -29,7 +30,7 @@ pub unused_on : (region : RegionName) (ws : List Wire) (ls : List ways.PlainLane
     → AreUnused ls (map (λ (w : Wire). w.room) ws) (pairs_on region ws ls)
 unused_on region [] [] e = tt
 unused_on region (w ∷ ws) (l ∷ ls) e = (
-  record { producer = record { lane = refl; room = refl }; consumer = record { lane = refl; room = refl }; none = refl; room = (let same = first l.room w.room e in omega (arith, same)) },
+  record { producer = record { lane = refl; room = refl; tally = refl; about = refl }; consumer = record { lane = refl; room = refl; tally = refl; about = refl }; none = refl; room = (let same = first l.room w.room e in omega (arith, same)) },
   unused_on region ws ls (ap rest e),
 ) where
   rest : List ℕ → List ℕ
@@ -81,6 +82,7 @@ lanes_more region ws w a b h more = record {
   ends = more.ends ∙ ap (λ es. es ++ pair_of region w more.lane ∷ []) h.ends
       ∙ sym (pairs_more region ws a.lanes.items w more.lane (sym (length-map a.lanes.items (λ (x : ways.PlainLane). x.room)) ∙ ap (λ (ks : List ℕ). length ks) h.rooms ∙ length-map ws (λ (v : Wire). v.room)))
       ∙ ap (pairs_on region (ws ++ w ∷ [])) (sym more.lanes);
+  told = subst (λ ps. AreTold [] ps) (sym more.ends) (told_more [] a.ends.items (pair_of region w more.lane) h.told more.about);
 }
 
 -- one node more

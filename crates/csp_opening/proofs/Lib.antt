@@ -1,6 +1,8 @@
 mod Assembly
+mod Backs
 mod Counts
 mod Fabrics
+mod Finding
 mod Finish
 mod Given
 mod Leaving

@@ -21,7 +21,7 @@ use Rattle.csp_topology.specs.Wiring.{IsEndOf, IsWireOf}
 use Rattle.csp_topology.specs.declared.wire.Wire.{Wire}
 use Rattle.csp_topology.specs.declared.wire.WireEnd.{WireEnd}
 
-both_true : (a b : Bool) → (a && b) ≡ true → (a ≡ true) × (b ≡ true)
+pub both_true : (a b : Bool) → (a && b) ≡ true → (a ≡ true) × (b ≡ true)
 both_true true b e = (refl, e)
 both_true false b e = absurd cc
 
@@ -57,7 +57,7 @@ who_is (who.Link k) (who.Bridge m) e = absurd cc
 who_is (who.Link k) (who.Iface m j) e = absurd cc
 who_is (who.Link k) (who.App m j) e = absurd cc
 
-both_same : (a b : Bool) → a ≡ true → b ≡ true → (a && b) ≡ true
+pub both_same : (a b : Bool) → a ≡ true → b ≡ true → (a && b) ≡ true
 both_same true b e f = f
 both_same false b e f = e
 

@@ -11,16 +11,18 @@ use Rattle.csp_deck.specs.Step.{times}
 use Rattle.csp_ends.specs.Ends.{AreEnds, PlainEnds, PlainHome, PlainNodeQueues, PlainSide, rule_of}
 use Rattle.csp_ends.specs.Ends as hands
 use Rattle.csp_deck.specs.Carried.{IsCarried}
-use Rattle.csp_ends.specs.Traced.{IsSideTraced, moved}
+use Rattle.csp_ends.specs.Sides.{back_name}
+use Rattle.csp_ends.specs.Traced.{IsSideMarked, IsSideTraced, moved, told_of}
 use Rattle.csp_lists.specs.PlainDeck.{numbers_of}
 use Rattle.csp_log.specs.declared.places.QueueId.{QueueId}
 use Rattle.csp_log.specs.declared.places.Rule.{Rule}
 use Rattle.csp_log.specs.declared.places.Rule.TheVariants as rule
+use Rattle.csp_opening.proofs.Backs.{EndsApart}
 use Rattle.csp_opening.proofs.NewHomes.{IsHomeNew, home_new}
 use Rattle.csp_opening.proofs.Named.{IsPairRow, NamedApart, named_from}
 use Rattle.csp_opening.proofs.Ordered.{home_in}
 use Rattle.csp_opening.proofs.Rows.{all_called}
-use Rattle.csp_opening.proofs.Serving.{AllHome, EndsApart, are_ends, is_served}
+use Rattle.csp_opening.proofs.Serving.{AllHome, are_ends, is_served}
 use Rattle.csp_opening.proofs.NewSides.{IsSideNew, sides_new}
 use Rattle.csp_opening.proofs.Spread.{handed_apart}
 use Rattle.csp_opening.specs.Handed.{handed_from}
@@ -75,12 +77,13 @@ pub party_new : (scene : PlainScene) (wires : List (List Wire)) (xs : List Node)
     → slice_get (map (λ (o : PlainOpening). o.who) (parties_of scene)) p ≡ Some w → IfSome (node_of w) (λ m. m < length scene.nodes) → IsPartyNew scene xs ws p w
 party_new scene wires xs ws p w laws nodes rows pairs named at low =
     let home = home_new scene wires xs ws w nodes low in
-    let sides = sides_new scene wires xs p w at nodes rows in
+    let sides = sides_new scene wires xs p w laws.apart at nodes rows in
+    let names = named_from (map (λ (o : PlainOpening). o.who) (parties_of scene)) named p w at 0 (wires_of scene) (map ends_in xs) pairs in
     record {
       home = home;
       sides = sides;
-      ends = are_ends scene (map queues_in xs) (map region_in xs) w (opened_in scene w) (its_home xs ws w) (handed_from p 0 (map ends_in xs)) laws.apart laws.stays (all_called scene) home sides (handed_apart p (map ends_in xs));
-      names = named_from (map (λ (o : PlainOpening). o.who) (parties_of scene)) named p w at 0 (wires_of scene) (map ends_in xs) pairs;
+      ends = are_ends scene (map queues_in xs) (map region_in xs) w (opened_in scene w) (its_home xs ws w) (handed_from p 0 (map ends_in xs)) laws.apart laws.stays (all_called scene) home sides names (handed_apart p (map ends_in xs));
+      names = names;
     }
 
 -- the region of a party's buffers is that of its home
@@ -142,6 +145,7 @@ is_post scene xs ws p s o same seated new = subst (λ (z : PlainOpening). IsPost
     of_it = record { home = new.home.of_it; sides = each (λ (x : PlainSide). hands.IsSideOf (map queues_in xs) x) (λ x h. h.of_it) };
     ends = new.ends;
     traced = record { home = new.home.traced; sides = each (IsSideTraced []) (λ x h. traced x.puts x h.none) };
+    marked = each (IsSideMarked []) (λ x h about. marked x (back_name x.queue) h.marks);
     balanced = λ k. (
         let held = ap (times k) seated.party.holds in
         let out = none_put k (handed_from p 0 (map ends_in xs)) empty in
@@ -167,6 +171,10 @@ is_post scene xs ws p s o same seated new = subst (λ (z : PlainOpening). IsPost
   traced : (b : Bool) (x : PlainSide) → x.end.items ≡ [] → x.end.items ≡ moved b x.queue []
   traced true x e = e
   traced false x e = e
+
+  marked : (x : PlainSide) (o : Option QueueId) → x.end.marks ≡ [] → IfSome o (λ other. x.end.marks ≡ told_of x.puts x.queue other [])
+  marked x None e = tt
+  marked x (Some q) e = e
 
   through : (x : PlainSide) → x.end.items ≡ [] → IsThrough x
   through x e = subst (λ is. AllByRecursion (IsCarried (rule.Lane x.end.carries)) is) (sym e) tt

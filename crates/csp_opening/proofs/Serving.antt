@@ -1,21 +1,25 @@
 -- What a party has in hand before its first turn is what it uses.
 use Rattle.std.proofs.Common.{◌≡◌, ◌≢◌, ◌+◌, ◌⊎◌, inl, inr, ℕ, zero, suc, Bool, true, false, true≢false, List, [], ◌∷◌, ◌++◌, Option, None, Some, cond, length, map, refl, sym, ap, ◌∙◌, subst, arith}
-use Rattle.std.specs.Prelude.{⊤, IfSome, slice_get, if◌then◌else◌}
+use Rattle.std.specs.Prelude.{⊤, IfSome, IsSomeAnd, not, slice_get, if◌then◌else◌}
 use Rattle.std.specs.List.{AllByRecursion, find}
 use Rattle.std.specs.Option.{option_and_then, option_map}
 use Rattle.std.proofs.lemmas.Bool.{eq-eqb, eqb-true}
 use Rattle.std.proofs.lemmas.Option.{same_Some, slice_get-map}
 use Rattle.csp_arena.specs.Cells.{RegionName}
 use Rattle.csp_consistent.specs.Reading.{is_queue, is_who}
-use Rattle.csp_ends.specs.Ends.{AreEnds, IsWithin, PlainEnds, PlainHome, PlainNodeQueues, PlainSide, inbox_of, region_of, region_or, rule_of, side_named}
+use Rattle.csp_ends.specs.Ends.{AreApart, AreEnds, IsWithin, PlainEnds, PlainHome, PlainNodeQueues, PlainSide, inbox_of, region_of, region_or, rule_of, side_named}
+use Rattle.csp_ends.specs.Sides.{IsBacked, back_name, is_back_by, is_turned}
+use Rattle.csp_lane.specs.Ends as ways
 use Rattle.csp_lists.specs.PlainDeck.{IsLinkRule}
 use Rattle.csp_log.specs.declared.places.Carries.{Carries}
 use Rattle.csp_log.specs.declared.places.QueueId.{QueueId}
 use Rattle.csp_log.specs.declared.places.QueueId.TheVariants as queue
 use Rattle.csp_log.specs.declared.places.Rule.{Rule}
 use Rattle.csp_log.specs.declared.places.Rule.TheVariants as rule
+use Rattle.csp_opening.proofs.Backs.{EndsApart, TellsOf, named_end}
+use Rattle.csp_opening.proofs.Finding.{none_of, only_of, queue_is, queue_same}
 use Rattle.csp_opening.proofs.NewHomes.{IsHomeNew}
-use Rattle.csp_opening.proofs.Named.{same_who}
+use Rattle.csp_opening.proofs.Named.{both_same, both_true, same_who}
 use Rattle.csp_opening.proofs.NewSides.{IsSideNew, side_by}
 use Rattle.csp_opening.proofs.Spread.{SameSpot}
 use Rattle.csp_opening.proofs.Zipped.{placed_at}
@@ -94,29 +98,7 @@ named_side sides name i = by (slice_get sides i.place) refl (sym (slice_get-map 
   by (Some x) at e = record { place = i.place; side = x; at = at; named = same_Some (name_of x) name e }
   by None at e = absurd cc
 
--- a queue is the one of its own name, and of no other
-queue_same : (q : QueueId) → is_queue q q ≡ true
-queue_same queue.Inbox = refl
-queue_same (queue.Up k) = eq-eqb k k refl
-queue_same (queue.Down k) = eq-eqb k k refl
-queue_same (queue.Out k) = eq-eqb k k refl
-queue_same (queue.Tx k) = eq-eqb k k refl
-queue_same (queue.Rx k) = eq-eqb k k refl
-
-queue_is : (q r : QueueId) → is_queue q r ≡ true → q ≡ r
-queue_is queue.Inbox queue.Inbox e = refl
-queue_is (queue.Up number) (queue.Up k) e = ap queue.Up (sym (eqb-true k number e))
-queue_is (queue.Down number) (queue.Down k) e = ap queue.Down (sym (eqb-true k number e))
-queue_is (queue.Out number) (queue.Out k) e = ap queue.Out (sym (eqb-true k number e))
-queue_is (queue.Tx number) (queue.Tx k) e = ap queue.Tx (sym (eqb-true k number e))
-queue_is (queue.Rx number) (queue.Rx k) e = ap queue.Rx (sym (eqb-true k number e))
-queue_is _ _ e = absurd cc
-
--- what csp_topology says of names of ends
-abbrev pub EndsApart : PlainScene → Type 0
-EndsApart scene = (n m k j : ℕ) (l o : PlainLane) (s t : wired.Side) → wire_at scene n k ≡ Some l → wire_at scene m j ≡ Some o → wired.end_on s l ≡ wired.end_on t o → (n ≡ m) × (k ≡ j) × (s ≡ t)
-
--- of where lanes are
+-- what csp_topology says of where lanes are
 abbrev pub AllHome : PlainScene → Type 0
 AllHome scene = (node k : ℕ) (l : PlainLane) → wire_at scene node k ≡ Some l → wired.StaysHome scene node l
 
@@ -124,11 +106,12 @@ AllHome scene = (node k : ℕ) (l : PlainLane) → wire_at scene node k ≡ Some
 abbrev pub AllCalled : PlainScene → Type 0
 AllCalled scene = (node k : ℕ) (l : PlainLane) (s : wired.Side) → wire_at scene node k ≡ Some l → is_queue queue.Inbox (wired.end_on s l).queue ≡ false
 
+puts_back : (c : Bool) → puts_on (side_by c) ≡ c
+puts_back true = refl
+puts_back false = refl
+
 puts_same : (a b : Bool) → side_by a ≡ side_by b → a ≡ b
-puts_same a b e = sym (back a) ∙ ap puts_on e ∙ back b where
-  back : (c : Bool) → puts_on (side_by c) ≡ c
-  back true = refl
-  back false = refl
+puts_same a b e = sym (puts_back a) ∙ ap puts_on e ∙ puts_back b
 
 -- two ends of one name are of one spot
 one_spot : (scene : PlainScene) (nodes : List PlainNodeQueues) (regions : List RegionName) (w : Who) (s t : PlainSide) → EndsApart scene → IsSideNew scene nodes regions w s → IsSideNew scene nodes regions w t
@@ -159,31 +142,59 @@ within_home scene nodes regions w opened home s stays new is = λ plain. by plai
       let its : slice_get regions h.0.node ≡ Some h.0.pool.hand.region = subst (λ o. IfSome o (λ x. slice_get regions x.node ≡ Some x.pool.hand.region)) h.1 new.among.region in
       same_Some s.end.region h.0.pool.hand.region (sym is.among ∙ ap (slice_get regions) (sym h.2) ∙ its) ∙ ap region_or (sym h.1)
 
+-- the other end of the lane that goes the other way is the same party's
+end_back : (b : Bool) (w : Who) (p q : QueueId) (wire back : PlainLane) → wired.end_on (side_by b) wire ≡ named_end w p → back.from ≡ named_end wire.to.who q → back.to ≡ named_end wire.from.who q
+    → wired.end_on (side_by (not b)) back ≡ named_end w q
+end_back true w p q wire back called from to = to ∙ ap (λ (e : PlainEnd). named_end e.who q) called
+end_back false w p q wire back called from to = from ∙ ap (λ (e : PlainEnd). named_end e.who q) called
+
+turned : (a b : Bool) → b ≡ not a → (if a then not b else b) ≡ true
+turned true b e = ap not e
+turned false b e = e
+
+-- the marks of an end tell of the party's end of that other lane
+is_backed : (scene : PlainScene) (nodes : List PlainNodeQueues) (regions : List RegionName) (w : Who) (sides : List PlainSide) (s : PlainSide) (is : IsSideNew scene nodes regions w s) → map name_of sides ≡ sides_of scene w → AreApart sides
+    → AllByRecursion (IsSideNew scene nodes regions w) sides → IsBacked sides s
+is_backed scene nodes regions w sides s is names apart all = by (back_name s.queue) is.told where
+  by : (o : Option QueueId) → TellsOf scene nodes s.node is.wire s.end.about o → s.end.about ≡ option_map (λ (t : PlainSide). t.end.tally) (find (is_back_by o s) sides)
+  by None told = told ∙ ap (option_map (λ (t : PlainSide). t.end.tally)) (sym (none_of (is_back_by None s) sides (λ k t e. refl)))
+  by (Some q) told =
+      let d = side_by (not s.puts) in
+      let end = end_back s.puts w s.queue q is.wire told.back is.called told.from told.to in
+      let name = called_end s.node told.place told.back d in
+      let who : (wired.end_on d told.back).who ≡ w = ap (λ (x : PlainEnd). x.who) end in
+      let x = named_side sides name (subst (λ ns. IsIn ns name) (sym names) (in_nodes w 0 (wires_of scene) s.node told.place told.back name told.at
+      (subst (λ m. IsIn (sides_at w m told.place told.back) name) (omega arith) (in_lane w s.node told.place told.back d who)))) in
+      let t : PlainSide = x.side in
+      let queue_at : t.queue ≡ q = ap (λ (n : SideName). n.queue) x.named ∙ ap (λ (e : PlainEnd). e.queue) end in
+      let called : is_queue q t.queue ≡ true = ap (is_queue q) queue_at ∙ queue_same q in
+      let puts : t.puts ≡ not s.puts = ap (λ (n : SideName). n.puts) x.named ∙ puts_back (not s.puts) in
+      let node : t.node ≡ s.node = ap (λ (n : SideName). n.node) x.named in
+      let lane : t.lane ≡ told.place = ap (λ (n : SideName). n.lane) x.named in
+      let found = only_of (is_back_by (Some q) s) sides x.place t x.at (both_same (is_queue q t.queue) (is_turned s t) called (turned s.puts t.puts puts)) (λ j y f same.
+      let name_is = (both_true (is_queue q y.queue) (is_turned s y) same).0 in
+      apart j x.place y t f x.at (ap (λ z. is_queue z t.queue) (sym (queue_is q y.queue name_is)) ∙ called)) in
+      let its = (all_at (IsSideNew scene nodes regions w) sides x.place t all x.at).of_it in
+      let there = subst (λ n. IsSomeAnd (slice_get nodes n) (λ (z : PlainNodeQueues). IsSomeAnd (slice_get z.lanes told.place) (λ l. ways.IsEndOf l t.end))) node
+      (subst (λ k. IsSomeAnd (slice_get nodes t.node) (λ (z : PlainNodeQueues). IsSomeAnd (slice_get z.lanes k) (λ l. ways.IsEndOf l t.end))) lane its) in
+      told.tally t.end there ∙ ap (option_map (λ (z : PlainSide). z.end.tally)) (sym found)
+
 -- what a party has in hand is what a party may have
 pub are_ends : (scene : PlainScene) (nodes : List PlainNodeQueues) (regions : List RegionName) (w : Who) (opened : List ℕ) (home : Option PlainHome) (sides : List PlainSide) → EndsApart scene → AllHome scene → AllCalled scene
-    → IsHomeNew nodes regions w opened home → AllByRecursion (IsSideNew scene nodes regions w) sides
+    → IsHomeNew nodes regions w opened home → AllByRecursion (IsSideNew scene nodes regions w) sides → map name_of sides ≡ sides_of scene w
     → ((a b : ℕ) (s t : PlainSide) → slice_get sides a ≡ Some s → slice_get sides b ≡ Some t → SameSpot s t → a ≡ b) → AreEnds (record { home = home; sides = sides })
-are_ends scene nodes regions w opened home sides apart stays called new all spots = record {
+are_ends scene nodes regions w opened home sides apart stays called new all names spots = record {
   within = all_from (IsWithin (region_or home)) sides (λ k s e. within_home scene nodes regions w opened home s stays new (all_at (IsSideNew scene nodes regions w) sides k s all e));
   inbox = new.token;
   lanes = all_from (λ (s : PlainSide). is_queue queue.Inbox s.queue ≡ false) sides (λ k s e.
       let is = all_at (IsSideNew scene nodes regions w) sides k s all e in
       ap (is_queue queue.Inbox) (sym (ap (λ (x : PlainEnd). x.queue) is.called)) ∙ called s.node s.lane is.wire (side_by s.puts) is.at);
-  apart = λ a b s t e f same.
-      spots a b s t e f (one_spot scene nodes regions w s t apart (all_at (IsSideNew scene nodes regions w) sides a s all e) (all_at (IsSideNew scene nodes regions w) sides b t all f) same);
-}
-
-never : (b : Bool) → (b ≡ true → ⊥) → b ≡ false
-never false wrong = refl
-never true wrong = absurd (wrong refl)
-
--- the end that a party calls so is the first of that name
-found : (q : QueueId) (sides : List PlainSide) (k : ℕ) (s : PlainSide) → slice_get sides k ≡ Some s → is_queue q s.queue ≡ true → ((j : ℕ) (t : PlainSide) → slice_get sides j ≡ Some t → is_queue q t.queue ≡ true → j ≡ k) → side_named q sides ≡ Some s
-found q [] k s e is one = absurd cc
-found q (x ∷ sides) zero s e is one = ap (λ b. cond b (Some x) (side_named q sides)) (ap (λ (z : PlainSide). is_queue q z.queue) (same_Some x s e) ∙ is) ∙ e
-found q (x ∷ sides) (suc k) s e is one =
-    ap (λ b. cond b (Some x) (side_named q sides)) (never (is_queue q x.queue) (λ t. (let wrong = one 0 x refl t in omega (arith, wrong))))
-    ∙ found q sides k s e is (λ j t g same. (let late = one (suc j) t g same in omega (arith, late)))
+  apart = no_two;
+  backed = all_from (IsBacked sides) sides (λ k s e. is_backed scene nodes regions w sides s (all_at (IsSideNew scene nodes regions w) sides k s all e) names no_two all);
+} where
+  no_two : AreApart sides
+  no_two a b s t e f same =
+      spots a b s t e f (one_spot scene nodes regions w s t apart (all_at (IsSideNew scene nodes regions w) sides a s all e) (all_at (IsSideNew scene nodes regions w) sides b t all f) same)
 
 -- a lane of this name carries what the party takes it to carry
 lane_served : (scene : PlainScene) (w : Who) (e : PlainEnds) (q : QueueId) (r : Rule) → map name_of e.sides ≡ sides_of scene w → AreEnds e → wired.HasLane scene w q r → rule_of e q ≡ Some r
@@ -195,7 +206,7 @@ lane_served scene w e q r names ends h =
     (subst (λ m. IsIn (sides_at w m h.place h.wire) name) (omega arith) (in_lane w h.node h.place h.wire h.side who)))) in
     let queue_at : x.side.queue ≡ q = ap (λ (n : SideName). n.queue) x.named ∙ its in
     let is : is_queue q x.side.queue ≡ true = ap (is_queue q) queue_at ∙ queue_same q in
-    let there = found q e.sides x.place x.side x.at is (λ j t f same. ends.apart j x.place t x.side f x.at (ap (λ z. is_queue z x.side.queue) (sym (queue_is q t.queue same)) ∙ is)) in
+    let there = only_of (λ (z : PlainSide). is_queue q z.queue) e.sides x.place x.side x.at is (λ j t f same. ends.apart j x.place t x.side f x.at (ap (λ z. is_queue z x.side.queue) (sym (queue_is q t.queue same)) ∙ is)) in
     let rule_is : rule.Lane x.side.end.carries ≡ r = ap (λ (n : SideName). rule.Lane n.carries) x.named ∙ sym h.carries in
     by q (all_at (λ (s : PlainSide). is_queue queue.Inbox s.queue ≡ false) e.sides x.place x.side ends.lanes x.at) queue_at there rule_is where
       by : (p : QueueId) → {s : PlainSide} → is_queue queue.Inbox s.queue ≡ false → s.queue ≡ p → side_named p e.sides ≡ Some s → rule.Lane s.end.carries ≡ r → rule_of e p ≡ Some r

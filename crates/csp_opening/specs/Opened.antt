@@ -1,12 +1,16 @@
 -- The memory and the queues of nodes, of which nothing was handed out yet.
-use Rattle.std.specs.Prelude.{◌≡◌, ◌+◌, ◌*◌, ◌<◌, ◌≤◌, ⊤, ℕ, List, [], ◌∷◌, ◌++◌, length, map, vec_capacity}
+use Rattle.std.specs.Prelude.{◌≡◌, ◌+◌, ◌*◌, ◌<◌, ◌≤◌, ⊤, ℕ, Option, List, [], ◌∷◌, ◌++◌, length, map, vec_capacity}
 use Rattle.std.specs.Global.{Vec}
-use Rattle.std.specs.List.{AllByRecursion, range_with_len, sum_by}
+use Rattle.std.specs.List.{AllByRecursion, find, range_with_len, sum_by}
+use Rattle.std.specs.Option.{option_and_then, option_map}
 use Rattle.csp_arena.specs.Cells.{RegionName}
 use Rattle.csp_base.specs.declared.priority.Prio.{Prio}
+use Rattle.csp_consistent.specs.Reading.{is_queue}
 use Rattle.csp_ends.specs.Ends.{PlainNodeQueues}
+use Rattle.csp_ends.specs.Sides.{back_name}
 use Rattle.csp_inbox.specs.Passes as mails
 use Rattle.csp_lane.specs.Ends as ways
+use Rattle.csp_log.specs.declared.places.QueueId.{QueueId}
 use Rattle.csp_opening.specs.declared.bases.Base.{Base}
 use Rattle.csp_opening.specs.declared.homes.Lead.{Lead}
 use Rattle.csp_opening.specs.declared.lanes.Lanes.{Lanes}
@@ -43,16 +47,31 @@ pairs_on region [] lanes = []
 pairs_on region (w ∷ wires) [] = []
 pairs_on region (w ∷ wires) (l ∷ lanes) = pair_of region w l ∷ pairs_on region wires lanes
 
--- the lanes of these wires, as they were opened: each has its room, and so has its end
+-- the tally of the first of these lanes that has this name
+abbrev pub tally_named : QueueId → List Pair → Option ℕ
+tally_named q pairs = option_map (λ (x : Pair). x.consumer.tally) (find (λ (x : Pair). is_queue q x.wire.queue) pairs)
+
+-- the tally that the marks of the lane of this name tell of, where these were opened before it
+abbrev pub told_tally : QueueId → List Pair → Option ℕ
+told_tally q before = option_and_then (λ other. tally_named other before) (back_name q)
+
+-- the marks of each of these lanes tell of the tally of that other lane, among those that were opened before it
+abbrev pub AreTold : (before pairs : List Pair) → Type 0
+AreTold before [] = ⊤
+AreTold before (x ∷ pairs) = (x.producer.about ≡ told_tally x.wire.queue before) × AreTold (before ++ x ∷ []) pairs
+
+-- the lanes of these wires, as they were opened: each has its room, and so has its end; and the marks of each tell of the lane that they are to tell of
 pub record AreLanes (region : RegionName) (wires : List Wire) (l : Lanes) : Type 0 where
   pub rooms : map (λ (x : ways.PlainLane). x.room) l.lanes.items ≡ map (λ (w : Wire). w.room) wires
   pub spare : l.rooms.items ≡ map (λ (w : Wire). w.room) wires
   pub ends : l.ends.items ≡ pairs_on region wires l.lanes.items
+  pub told : AreTold [] l.ends.items
 
 -- the lanes with that of one wire more
 pub record HasLaneMore (region : RegionName) (w : Wire) (a b : Lanes) : Type 0 where
   pub lane : ways.PlainLane
   pub room : lane.room ≡ w.room
+  pub about : lane.about ≡ told_tally w.queue a.ends.items
   pub lanes : b.lanes.items ≡ a.lanes.items ++ lane ∷ []
   pub rooms : b.rooms.items ≡ a.rooms.items ++ w.room ∷ []
   pub ends : b.ends.items ≡ a.ends.items ++ pair_of region w lane ∷ []

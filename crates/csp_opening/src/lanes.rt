@@ -2,12 +2,16 @@
 
 ghost use Rattle.std.specs.Prelude.{◌≡◌, ◌<◌, ◌≤◌, [], IfOk, OnErr, OnOk, vec_len, vec_capacity};
 ghost use Rattle.std.specs.List.{AllByRecursion};
-ghost use Rattle.csp_opening.specs.Opened.{AreLanes, AreUnused, HasLaneMore};
+ghost use Rattle.std.specs.Option.{option_map};
+ghost use Rattle.csp_consistent.specs.Reading.{is_queue};
+ghost use Rattle.csp_opening.specs.Opened.{AreLanes, AreUnused, HasLaneMore, tally_named, told_tally};
 
 use crate::next::next;
 use csp_arena::RegionToken;
 use csp_ending::LaneRoom;
 use csp_lane::{Consumer, Lane, Producer};
+use csp_log::QueueId;
+use csp_tally::TallyName;
 use csp_topology::Wire;
 use std::alloc::{AllocError, Global};
 use std::collections::VecDeque;
@@ -77,7 +81,7 @@ impl Lanes {
         }
     }
 
-    /// Adds the lane of a wire.
+    /// Adds the lane of a wire. Its marks tell of the lane that goes down to the application from which it goes up.
     fn add(&mut self, alloc: Global, region: &RegionToken, wire: &Wire) -> Result<(), AllocError>
         requires wire { 0 < wire.now.room }
         requires lanes_room { vec_len self.old.lanes < vec_capacity self.old.lanes }
@@ -90,7 +94,8 @@ impl Lanes {
         ensures ends_capacity { vec_capacity self.new.ends ≡ vec_capacity self.old.ends }
     {
         let room = LaneRoom::open(alloc, usize::from(wire.room))?;
-        match Lane::open(alloc, region, wire.room, wire.carries) {
+        let about = told_tally(wire.queue, &self.ends);
+        match Lane::open(alloc, region, wire.room, wire.carries, about) {
             Ok((lane, producer, consumer)) => {
                 self.lanes.push_reserved(lane);
                 self.rooms.push_reserved(room);
@@ -122,5 +127,39 @@ impl Lanes {
         }
         lanes.destroy_empty();
         rooms.destroy_empty();
+    }
+}
+
+/// The tally of the lane, among these, that the marks of the lane of this name tell of.
+fn told_tally(queue: QueueId, before: &[Pair]) -> Option<TallyName>
+    ensures { option_map (λ t. t.name) result ≡ told_tally queue before.now }
+{
+    match queue {
+        QueueId::Up(number) => down_tally(number, before),
+        QueueId::Inbox | QueueId::Down(_) | QueueId::Out(_) | QueueId::Tx(_) | QueueId::Rx(_) =>
+            None,
+    }
+}
+
+/// The tally of the first of these lanes that goes down to the application of this number.
+fn down_tally(number: u8, pairs: &[Pair]) -> Option<TallyName>
+    ensures { option_map (λ t. t.name) result ≡ tally_named (QueueId.Down number) pairs.now }
+{
+    for at in 0..pairs.len() {
+        if goes_down(pairs[at].wire.queue, number) {
+            return Some(pairs[at].consumer.tally());
+        }
+    }
+    None
+}
+
+/// Whether this is the name of the lane that goes down to the application of this number.
+fn goes_down(queue: QueueId, number: u8) -> bool
+    ensures { result ≡ is_queue (QueueId.Down number) queue }
+{
+    match queue {
+        QueueId::Down(k) => k == number,
+        QueueId::Inbox | QueueId::Up(_) | QueueId::Out(_) | QueueId::Tx(_) | QueueId::Rx(_) =>
+            false,
     }
 }
