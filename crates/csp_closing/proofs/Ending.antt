@@ -25,6 +25,7 @@ use Rattle.csp_flow.specs.Closed.{inbox_notes}
 use Rattle.csp_flow.specs.Remains.{PlainRemains, inbox_numbers}
 use Rattle.csp_inbox.specs.Passes as inbox
 use Rattle.csp_lane.specs.Ends.{PlainEnd, PlainLane}
+use Rattle.csp_lane.specs.Marks.{AreHeeded}
 use Rattle.csp_lists.specs.PlainDeck.{numbers_of}
 use Rattle.csp_log.specs.Remains.{PlainHeld, PlainLeft}
 use Rattle.csp_log.specs.declared.places.Place.{Place}
@@ -79,6 +80,7 @@ lane_ended sides w l region node number m n s t p c next is_p is_c h = record {
     order = ap (λ (e : PlainEnd). e.items) (sym is_p) ∙ h.whole.order ∙ ap (λ (e : PlainEnd). e.items ++ h.left) is_c;
     carried = subst (λ (e : PlainEnd). AllByRecursion (IsCarried (rule.Lane e.carries)) h.left) is_p h.whole.carried;
     few = (let few = h.whole.few in let room = next.x_there.of_it.room in omega (arith, few, room));
+    heeded = subst (λ (e : PlainEnd). AreHeeded e.marks next.y.end.marks) is_p (subst (λ (e : PlainEnd). AreHeeded p.marks e.marks) is_c h.whole.heeded);
   };
   noted = h.noted ∙ ap (λ (a : Place). with_queue m node w.queue 0 a h.left n.queues) (sym next.named);
   rooms = h.rooms;

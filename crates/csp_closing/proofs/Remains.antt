@@ -62,6 +62,7 @@ lane_left posts node number left h =
       order = h.order;
       carried = h.carried;
       few = h.few;
+      heeded = h.heeded;
     }
 
 lanes_left : (posts : List PlainPost) (node number : ℕ) (lefts : List (List ItemShown)) → AreLeftAmong (sides_of posts) node number lefts → (k : ℕ) (left : List ItemShown) → slice_get lefts k ≡ Some left

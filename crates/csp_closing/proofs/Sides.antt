@@ -294,6 +294,7 @@ left_before sides before node number left later h =
       order = h.order;
       carried = h.carried;
       few = h.few;
+      heeded = h.heeded;
     }
 
 pub all_before : (sides before : List (List PlainSide)) (node number : ℕ) (lefts : List (List ItemShown)) → IsLater sides before → AreLeftAmong sides node number lefts → AreLeftAmong before node number lefts

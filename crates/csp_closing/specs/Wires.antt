@@ -8,6 +8,7 @@ use Rattle.csp_ending.specs.Notes.{PlainNotes, left_note}
 use Rattle.csp_ending.specs.Stores.{PlainStore, TakesBack}
 use Rattle.csp_ends.specs.Ends.{PlainSide}
 use Rattle.csp_lane.specs.Ends.{PlainLane, IsEndOf}
+use Rattle.csp_lane.specs.Marks.{AreHeeded}
 use Rattle.csp_lists.specs.PlainDeck.{numbers_of}
 use Rattle.csp_log.specs.Remains.{PlainLeft}
 use Rattle.csp_log.specs.declared.places.Place.TheVariants as place
@@ -73,7 +74,7 @@ rooms_in [] = 0
 rooms_in (l ∷ lanes) = l.room + rooms_in lanes
 
 -- what was left in a lane of a node, by the ends of all parties: what the one put is what the other got and then what was left, which the lane carries, no more
--- than it has room for
+-- than it has room for; and the marks of what was got keep to their bounds
 pub record IsLeftAmong (sides : List (List PlainSide)) (node lane : ℕ) (left : List ItemShown) : Type 0 where
   pub i : ℕ
   pub j : ℕ
@@ -97,6 +98,7 @@ pub record IsLeftAmong (sides : List (List PlainSide)) (node lane : ℕ) (left :
   pub order : x.end.items ≡ y.end.items ++ left
   pub carried : AllByRecursion (IsCarried (rule.Lane x.end.carries)) left
   pub few : length left ≤ x.end.room
+  pub heeded : AreHeeded x.end.marks y.end.marks
 
 -- the notes with these on queues, and what the queues held by them
 abbrev pub with_notes : PlainNotes → List PlainLeft → ℕ → PlainNotes

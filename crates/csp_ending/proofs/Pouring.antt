@@ -48,7 +48,7 @@ lane_ends l p c node q m n s t before after left old new of_it e h none blank it
     let shown : new ≡ map shown_item left = items ∙ ap (λ xs. xs ++ map shown_item after) blank ∙ ap (map shown_item) same in
     record {
       left = map shown_item left;
-      whole = record { order = h.order; carried = carried p.region p.carries left h.carried; few = (let few = h.few in let long = length-map left shown_item in let room = of_it.room in omega (arith, few, long, room)) };
+      whole = record { order = h.order; carried = carried p.region p.carries left h.carried; few = (let few = h.few in let long = length-map left shown_item in let room = of_it.room in omega (arith, few, long, room)); heeded = h.heeded };
       rooms = rooms;
       noted = noted ∙ ap (λ xs. with_queue m node q 0 (place.Lane q) xs n.queues) shown;
       back = subst (λ ns. TakesBack s ns t) (ap (λ xs. numbers_of (map shown_item xs)) same) back;

@@ -10,6 +10,7 @@ use Rattle.csp_inbox.specs.Marks.{with_mark}
 use Rattle.csp_inbox.specs.Passes as inbox
 use Rattle.csp_inbox.specs.declared.hand.Mail.{Mail}
 use Rattle.csp_lane.specs.Ends as lane
+use Rattle.csp_lane.specs.Marks.{AreHeeded}
 use Rattle.csp_lists.specs.PlainDeck.{numbers_of}
 use Rattle.csp_log.specs.declared.places.Place.TheVariants as place
 use Rattle.csp_log.specs.declared.places.QueueId.{QueueId}
@@ -19,11 +20,13 @@ use Rattle.csp_log.specs.declared.shown.ItemShown.{ItemShown}
 use Rattle.csp_pool.specs.Fairness.{Closes}
 use Rattle.csp_pool.specs.declared.hand.Hand.{Hand}
 
--- what was put into a lane is what was got from it and then what was left, which the lane carries, no more than it has room for
+-- what was put into a lane is what was got from it and then what was left, which the lane carries, no more than it has room for; and the marks of what
+-- was got keep to their bounds
 pub record IsLeftIn (l : lane.PlainLane) (p c : lane.PlainEnd) (left : List ItemShown) : Type 0 where
   pub order : p.items ≡ c.items ++ left
   pub carried : AllByRecursion (IsCarried (rule.Lane p.carries)) left
   pub few : length left ≤ l.room
+  pub heeded : AreHeeded p.marks c.marks
 
 -- the end of a lane of a node: what was left in it is noted, and its buffers are back
 pub record LaneEnds (l : lane.PlainLane) (p c : lane.PlainEnd) (node : ℕ) (q : QueueId) (m n : PlainNotes) (s t : PlainStore) : Type 0 where

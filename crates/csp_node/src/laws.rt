@@ -2,6 +2,7 @@
 
 ghost use Rattle.std.specs.Prelude.{◌≡◌, ◌+◌, ◌^◌, ◌<◌, ◌≤◌, ℕ, [], false, IfSome, List, length, map};
 ghost use Rattle.std.specs.List.{AllByRecursion, AllZip};
+ghost use Rattle.csp_causal.specs.Causal.{IsCausal};
 ghost use Rattle.csp_consistent.specs.Threaded.{IsThreaded};
 ghost use Rattle.csp_fabric.specs.Fabrics.{IsFabricOf};
 ghost use Rattle.csp_fabric.specs.declared.fabric.Fabric.{Fabric};
@@ -28,7 +29,7 @@ use csp_standing::{
     leads_nodes, meetings_keep_network, opens_books, runs_parties, stands_in_scene, traces_posts,
     turns_keep_network,
 };
-use csp_telling::{closes_consistent, closes_reached, closes_whole};
+use csp_telling::{closes_causal, closes_consistent, closes_reached, closes_whole};
 
 /// A network in which nothing has happened is one before its first round.
 pub(crate) fn starts_rounds()
@@ -63,13 +64,15 @@ pub(crate) fn makes_rounds()
     makes_a_round();
 }
 
-/// The record of a network that has been run is one of a run in threads; the places of each node hold together just its buffers, each once; and it
-/// tells why the run stopped.
+/// The record of a network that has been run is one of a run in threads, and causal; the places of each node hold together just its buffers, each once;
+/// and it tells why the run stopped.
 pub(crate) fn tells_run()
     ensures threaded { (scene : PlainScene) (f : Fabric) (limit : ℕ) (posts : List SeenPost) (r : PlainRecord) → IsScene scene → AreLinksAfter (length scene.nodes) [] scene.links → HasRun scene f limit posts → IsClosed scene (plains posts) r → IsThreaded scene r }
     ensures whole { (scene : PlainScene) (f : Fabric) (limit : ℕ) (posts : List SeenPost) (r : PlainRecord) → IsScene scene → AreLinksAfter (length scene.nodes) [] scene.links → HasRun scene f limit posts → IsClosed scene (plains posts) r → IsWhole (map (λ n. n.buffers) scene.nodes) r }
+    ensures causal { (scene : PlainScene) (f : Fabric) (limit : ℕ) (posts : List SeenPost) (r : PlainRecord) → IsScene scene → AreLinksAfter (length scene.nodes) [] scene.links → HasRun scene f limit posts → IsClosed scene (plains posts) r → IsCausal r }
     ensures stopped { (scene : PlainScene) (f : Fabric) (limit : ℕ) (posts : List SeenPost) (r : PlainRecord) → HasRun scene f limit posts → IsClosed scene (plains posts) r → HasStopped scene.until limit r }
 {
+    closes_causal();
     closes_consistent();
     closes_reached();
     closes_whole();

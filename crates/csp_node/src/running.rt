@@ -2,6 +2,7 @@
 
 ghost use Rattle.std.specs.Prelude.{◌≡◌, ◌+◌, ◌^◌, ◌<◌, ◌≤◌, ℕ, [], false, IfOk, OnOk, length, map};
 ghost use Rattle.std.specs.List.{AllByRecursion};
+ghost use Rattle.csp_causal.specs.Causal.{IsCausal};
 ghost use Rattle.csp_consistent.specs.Threaded.{IsThreaded};
 ghost use Rattle.csp_fabric.specs.Fabrics.{IsFabricOf};
 ghost use Rattle.csp_node.specs.Rounds.{HasRun, IsBetween, plains, weight};
@@ -42,6 +43,7 @@ pub fn run<R: Threads + Wait + Sync, G: Gate>(
     requires workers { 1 ≤ workers }
     requires limit { limit ≤ 2 ^ 31 }
     ensures threaded { IfOk result (λ r. IsThreaded scene.now r) }
+    ensures causal { IfOk result IsCausal }
     ensures whole { IfOk result (λ r. IsWhole (map (λ n. n.buffers) scene.now.nodes) r) }
     ensures stopped { IfOk result (λ r. HasStopped scene.now.until limit r) }
 {

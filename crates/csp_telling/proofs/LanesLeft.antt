@@ -88,6 +88,12 @@ wire_there scene node k l e = by (slice_get (wires_of scene) node) refl e where
   by (Some ls) at there = record { lanes = ls; at = at; there = there }
   by None at there = absurd cc
 
+-- what was left in a lane, which stands at this place of its node, and what the record says of it
+pub record HasLeft (posts : List PlainPost) (r : PlainRecord) (l : PlainLane) (place : ℕ) : Type 0 where
+  pub left : List ItemShown
+  pub is : IsLaneLeft posts l.node place left
+  pub noted : left_in r l.node l.queue 0 ≡ left
+
 module _ (scene : PlainScene) (n : PlainNetwork) (posts : List PlainPost) (r : PlainRecord) (ended : IsEnded scene n posts r) where
   -- the entries of the name of a post are its own
   pub own_entries : (i : ℕ) (s : PlainPost) (w : Who) → slice_get posts i ≡ Some s → s.who ≡ w → s.entries ≡ entries_of r w
@@ -117,22 +123,22 @@ module _ (scene : PlainScene) (n : PlainNetwork) (posts : List PlainPost) (r : P
     to_same = wire_of is.y getter.party.who to_wire (is.joined.node ∙ is.node_is) (is.joined.lane ∙ is.lane_is)
 
     -- the parties of the ends, and what they call the lane
-    from_who : is.s.who ≡ l.from.who
+    pub from_who : is.s.who ≡ l.from.who
     from_who = putter.post.who ∙ sym (from_wire.end.from is.joined.puts).0 ∙ ap (λ (z : PlainLane). z.from.who) from_same
 
-    to_who : is.t.who ≡ l.to.who
+    pub to_who : is.t.who ≡ l.to.who
     to_who = getter.post.who ∙ sym (to_wire.end.to is.joined.gets).0 ∙ ap (λ (z : PlainLane). z.to.who) to_same
 
-    from_called : is.x.queue ≡ l.from.queue
+    pub from_called : is.x.queue ≡ l.from.queue
     from_called = sym (from_wire.end.from is.joined.puts).1 ∙ ap (λ (z : PlainLane). z.from.queue) from_same
 
-    to_called : is.y.queue ≡ l.to.queue
+    pub to_called : is.y.queue ≡ l.to.queue
     to_called = sym (to_wire.end.to is.joined.gets).1 ∙ ap (λ (z : PlainLane). z.to.queue) to_same
 
-    from_entries : is.s.entries ≡ entries_of r l.from.who
+    pub from_entries : is.s.entries ≡ entries_of r l.from.who
     from_entries = own_entries is.i is.s l.from.who is.joined.first from_who
 
-    to_entries : is.t.entries ≡ entries_of r l.to.who
+    pub to_entries : is.t.entries ≡ entries_of r l.to.who
     to_entries = own_entries is.j is.t l.to.who is.joined.second to_who
 
     -- what went through them
@@ -168,15 +174,24 @@ module _ (scene : PlainScene) (n : PlainNetwork) (posts : List PlainPost) (r : P
       full = crammed (lane_room l.queue) (room ls);
     }
 
-  lane_in_order : (l : PlainLane) → IsWire scene l → IsInOrder r l
-  lane_in_order l w =
+  -- what was left in a lane of the scene
+  pub left_of : (l : PlainLane) (w : IsWire scene l) → HasLeft posts r l w.place
+  left_of l w =
       let ls = wire_there scene l.node w.place l w.at in
       let c = there_too (wires_of scene) scene.nodes l.node ls.lanes ended.counted ls.at in
       let x : IsAtNode scene posts ended.closed.all l.node = at_scene scene n posts r ended l.node c.0 c.1 in
       let here : slice_get x.lanes w.place ≡ Some l = ap (λ zs. slice_get zs w.place) (same_Some x.lanes ls.lanes (sym x.at ∙ ls.at)) ∙ ls.there in
       let left = there_too x.lanes x.has.remains.lanes w.place l (sym x.has.many) here in
-      in_order l w left.0 (x.has.left.lanes w.place left.0 left.1) ls
-      (lane_left r (wires_of scene) ended.closed.all ended.closed.told.left l.node x.lanes x.has.remains x.at x.has.there x.names w.place l left.0 here left.1)
+      record {
+        left = left.0;
+        is = x.has.left.lanes w.place left.0 left.1;
+        noted = lane_left r (wires_of scene) ended.closed.all ended.closed.told.left l.node x.lanes x.has.remains x.at x.has.there x.names w.place l left.0 here left.1;
+      }
+
+  lane_in_order : (l : PlainLane) → IsWire scene l → IsInOrder r l
+  lane_in_order l w =
+      let h = left_of l w in
+      in_order l w h.left h.is (wire_there scene l.node w.place l w.at) h.noted
 
   pub lanes_in_order : IsKnown scene r → AreInOrder scene r
   lanes_in_order known = AllByRecursion-map (IsWire scene) (IsInOrder r) (lanes_of scene) lane_in_order known.wires

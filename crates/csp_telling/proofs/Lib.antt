@@ -1,3 +1,5 @@
+mod CausesLeft
+mod Heeded
 mod InboxesLeft
 mod LaneNotes
 mod LanesLeft

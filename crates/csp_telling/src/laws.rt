@@ -1,6 +1,7 @@
 //! What follows for the record of a network's run.
 
 ghost use Rattle.std.specs.Prelude.{[], List, length, map};
+ghost use Rattle.csp_causal.specs.Causal.{IsCausal};
 ghost use Rattle.csp_consistent.specs.Consistent.{IsConsistent};
 ghost use Rattle.csp_flow.specs.Closed.{IsClosed};
 ghost use Rattle.csp_posts.specs.Posts.{PlainPost};
@@ -43,4 +44,13 @@ pub fn closes_whole()
     orders_wires();
     weighs();
     returns_all();
+}
+
+/// It is causal: no application and its router had both got of the other, at two moments, what the other had yet to put.
+pub fn closes_causal()
+    ensures { (scene : PlainScene) (n : PlainNetwork) (posts : List PlainPost) (r : PlainRecord) → IsScene scene → AreLinksAfter (length scene.nodes) [] scene.links → IsNetworkOf scene n posts → IsClosed scene posts r → IsCausal r }
+{
+    names_parties_apart();
+    orders_wires();
+    wires_lanes();
 }

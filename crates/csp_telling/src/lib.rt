@@ -3,4 +3,4 @@
 
 mod laws;
 
-pub use laws::{closes_consistent, closes_reached, closes_whole};
+pub use laws::{closes_causal, closes_consistent, closes_reached, closes_whole};

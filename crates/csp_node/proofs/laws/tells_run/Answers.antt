@@ -22,5 +22,8 @@ returns-clause-threaded c = λ scene f limit posts r ranges links run closed.
 pub returns-clause-whole : goal.returns-clause-whole
 returns-clause-whole c = λ scene f limit posts r ranges links run closed. c.closes_whole.ensures scene (network_of f) (plains posts) r ranges links run.between.fabric.network closed
 
+pub returns-clause-causal : goal.returns-clause-causal
+returns-clause-causal c = λ scene f limit posts r ranges links run closed. c.closes_causal.ensures scene (network_of f) (plains posts) r ranges links run.between.fabric.network closed
+
 pub returns-clause-stopped : goal.returns-clause-stopped
 returns-clause-stopped c = stopped

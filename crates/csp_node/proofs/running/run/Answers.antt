@@ -42,6 +42,15 @@ returns-in-Ok-ran-clause-whole g c =
     c.tells_run.ensures.whole c.args.scene.now f c.args.limit news c.close-record.result c.requires.scene c.requires.links c.in-Ok-ran.ensures.run
     (subst (λ posts. IsClosed c.args.scene.now (plains posts) c.close-record.result) back (c.close-record.ensures c.args.scene.now c.requires.scene c.requires.links (rw back c.in-Ok-ran.ensures.fabric)))
 
+pub returns-in-Ok-ran-clause-causal : goal.returns-in-Ok-ran-clause-causal
+returns-in-Ok-ran-clause-causal g c =
+    let f = c.in-Ok.opened.0.fabric in
+    let news = c.make_rounds-ran.new.posts in
+    let many = same_count c.args.scene.now f c.in-Ok.opened.1.items news c.in-Ok.ensures.fabric c.in-Ok-ran.ensures.fabric in
+    let back = written c.in-Ok.opened.1.len news c.in-Ok.opened.1.items (omega (arith, many)) in
+    c.tells_run.ensures.causal c.args.scene.now f c.args.limit news c.close-record.result c.requires.scene c.requires.links c.in-Ok-ran.ensures.run
+    (subst (λ posts. IsClosed c.args.scene.now (plains posts) c.close-record.result) back (c.close-record.ensures c.args.scene.now c.requires.scene c.requires.links (rw back c.in-Ok-ran.ensures.fabric)))
+
 pub returns-in-Ok-ran-clause-stopped : goal.returns-in-Ok-ran-clause-stopped
 returns-in-Ok-ran-clause-stopped g c =
     let f = c.in-Ok.opened.0.fabric in
