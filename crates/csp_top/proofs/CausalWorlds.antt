@@ -3,7 +3,8 @@ use Rattle.std.proofs.Common.{◌≡◌, ◌⊎◌, inl, inr, ℕ, ◌+◌, ◌�
 use Rattle.std.specs.Prelude.{if◌then◌else◌}
 use Rattle.std.specs.List.{AllByRecursion}
 use Rattle.std.proofs.lemmas.Grind.{flat_map-append}
-use Rattle.std.proofs.lemmas.Option.{slice_get_within}
+use Rattle.std.proofs.lemmas.Option.{same_Some, slice_get_within}
+use Rattle.std.specs.Option.{option_map}
 use Rattle.csp_causal.specs.Causal.{AreCausal, IsCausal}
 use Rattle.csp_consistent.proofs.Names.{Logged, are_apart, entries_in}
 use Rattle.csp_consistent.proofs.Owners.{IsAppAt, IsOf, IsRouterAt}
@@ -31,7 +32,8 @@ use Rattle.csp_world.proofs.LoggedLemmas.{AreLogged, logged_tick, logged_turn}
 use Rattle.csp_world.proofs.OpenedLemmas.{members_opened, opening_logged}
 use Rattle.csp_world.specs.Opening.{opening}
 use Rattle.csp_world.specs.Reached.{Happening, IsReached, a_tick, a_turn, world_after}
-use Rattle.csp_world.specs.Record.{member_log, record_of}
+use Rattle.csp_world.specs.Record.{member_log, record_of, sim_record}
+use Rattle.csp_world.specs.Schedule.{run}
 use Rattle.csp_world.specs.World.{PlainMember, PlainWorld, answered, told, turn, turn_at, turned}
 
 -- ---- without turns
@@ -187,3 +189,12 @@ module _ (first_grows : FirstGrows) (second_grows : SecondGrows) where
 
     pub reached_causal : (w : PlainWorld) → IsReached scene w → IsCausal (record_of w)
     reached_causal w reached = subst (λ v. IsCausal (record_of v)) (sym reached.there) (causal_after reached.happenings)
+
+-- ---- the last world
+
+pub ended_causal : (scene : PlainScene) (r : PlainRecord) → ((w : PlainWorld) → IsReached scene w → IsCausal (record_of w)) → ((w : PlainWorld) → run scene ≡ Some w → IsReached scene w) → sim_record scene ≡ Some r → IsCausal r
+unfolding sim_record
+ended_causal scene r causal reached e = by (run scene) refl e where
+  by : (o : Option PlainWorld) → run scene ≡ o → option_map record_of o ≡ Some r → IsCausal r
+  by None at f = absurd cc
+  by (Some w) at f = subst IsCausal (same_Some (record_of w) r f) (causal w (reached w at))

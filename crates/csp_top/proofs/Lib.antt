@@ -4,3 +4,4 @@ mod OpeningNumbers
 mod Owing
 mod Prefix
 mod Untaken
+mod Reported

@@ -72,6 +72,7 @@ pub record IsReportOf (text bytes : List ℕ) : Type 0 where
   pub stated : scene_of text ≡ Ok scene
   pub ran : sim_record scene ≡ Some run
   pub consistent : IsConsistent scene run
+  pub causal : IsCausal run
   pub stays : StaysReliable scene
   pub blobs : HasBlobPrefix scene run
   pub reported : bytes ≡ report scene run

@@ -3,6 +3,7 @@ use Rattle.std.specs.Prelude.{ℕ, ◌≡◌, ◌≤◌, List, length, Option, O
 use Rattle.std.specs.Io.KnownBytes.{Appends}
 use Rattle.csp_base.specs.Faults.{Rose}
 use Rattle.csp_base.specs.Transfer.{WrotePrefix}
+use Rattle.csp_causal.specs.Causal.{IsCausal}
 use Rattle.csp_consistent.specs.Threaded.{IsThreaded}
 use Rattle.csp_node.specs.Runs.{HasStopped}
 use Rattle.csp_record.specs.Record.{PlainRecord}
@@ -15,13 +16,14 @@ use Rattle.csp_bench.specs.declared.status.Status.{Status}
 use Rattle.csp_bench.specs.declared.status.Status.TheVariants as status
 use Rattle.csp_bench.specs.declared.status.TheConstants.{MAX_SCENARIO}
 
--- the text states a scene, and these bytes are the report of a record that can be one of its run in threads and tells why that stopped. Where the run
--- was ordinary, they end with `passed 0`, and where its flows were clear besides, with `stale 0` before that
+-- the text states a scene, and these bytes are the report of a record that can be one of its run in threads, is causal, and tells why that stopped. Where
+-- the run was ordinary, they end with `passed 0`, and where its flows were clear besides, with `stale 0` before that
 pub record IsRunReportOf (text bytes : List ℕ) : Type 0 where
   pub scene : PlainScene
   pub run : PlainRecord
   pub stated : scene_of text ≡ Ok scene
   pub threaded : IsThreaded scene run
+  pub causal : IsCausal run
   pub stopped : HasStopped scene.until MAX_ENTRIES run
   pub blobs : HasBlobPrefix scene run
   pub reported : bytes ≡ report scene run

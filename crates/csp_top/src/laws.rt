@@ -1,6 +1,6 @@
 //! What the text of a report says of the record that it is made of, and what holds of every world that a scene's run reaches.
 
-ghost use Rattle.std.specs.Prelude.{◌≡◌, [], length, map};
+ghost use Rattle.std.specs.Prelude.{◌≡◌, Some, [], length, map};
 ghost use Rattle.csp_causal.specs.Causal.{IsCausal};
 ghost use Rattle.csp_topology.specs.Parties.{parties_of};
 ghost use Rattle.csp_peers.specs.Window.{LastIsWithinWindow};
@@ -19,7 +19,7 @@ ghost use Rattle.csp_scene.specs.Scene.{PlainScene};
 ghost use Rattle.csp_top.specs.Main.{StaysReliable};
 ghost use Rattle.csp_top.specs.Prefix.{AreReadable, TellsNumbered};
 ghost use Rattle.csp_world.specs.Reached.{IsReached};
-ghost use Rattle.csp_world.specs.Record.{record_of};
+ghost use Rattle.csp_world.specs.Record.{record_of, sim_record};
 ghost use Rattle.csp_world.specs.World.{PlainWorld};
 ghost use Rattle.std.specs.List.{AllByRecursion};
 
@@ -28,7 +28,7 @@ use csp_causal::grows_causal;
 use csp_peers::keeps_window;
 use csp_prefix::takes_a_prefix;
 use csp_report::tells_prefix;
-use csp_world::is_consistent;
+use csp_world::{is_consistent, reaches};
 
 /// Where a record of a scene's parties has, if it counts neither stale copies nor changed packets, the reliable
 /// prefix, the text of its report has it.
@@ -63,6 +63,14 @@ pub fn stays_causal()
 {
     is_consistent();
     grows_causal();
+}
+
+/// So is the record of a scene's run by its schedule.
+pub(crate) fn ends_causal()
+    ensures { (scene : PlainScene) (r : PlainRecord) → IsScene scene → AreLinksAfter (length scene.nodes) [] scene.links → sim_record scene ≡ Some r → IsCausal r }
+{
+    reaches();
+    stays_causal();
 }
 
 /// So the record of a scene's run, whatever the order of its turns and ticks, is consistent and reliable after each of them.

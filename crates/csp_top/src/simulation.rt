@@ -19,7 +19,7 @@ ghost use Rattle.csp_top.specs.Main.{HasBlobPrefix, IsUncountedIfOrdinary, Wrote
 ghost use Rattle.csp_report.specs.PlacesAddUp.{PlacesAddUp};
 ghost use Rattle.csp_report.specs.ReliablePrefix.{HasReliablePrefix};
 
-use crate::laws::{stays_reliable_throughout, tells_reliable_prefix};
+use crate::laws::{ends_causal, stays_reliable_throughout, tells_reliable_prefix};
 use crate::numbers::hold_numbers;
 use csp_base::{Sink, Source, read_up_to, write_whole};
 use csp_bench::{LimitKind, MAX_SCENARIO, Refusal, Status, read_scene, read_status, run_of};
@@ -86,6 +86,7 @@ pub(crate) fn report_of(alloc: Global, text: &[u8]) -> Result<Vec<u8>, Refusal>
         Err(refusal) => return Err(refusal),
     };
     addresses_differ();
+    ends_causal();
     stays_reliable_throughout();
     match run_of(alloc, &scene) {
         Ok(run) => told(alloc, &run, &scene),
