@@ -7,11 +7,12 @@ use Rattle.csp_base.specs.declared.traces.Trace.{Trace}
 use Rattle.csp_buffer.specs.Content.{Content}
 use Rattle.csp_deck.specs.Runs.{IsRun}
 use Rattle.csp_iface.specs.Asking.{asks, asked, op_of, handed, given, delivered, transmitted}
+use Rattle.csp_iface.specs.Heeding.{is_for}
 use Rattle.csp_iface.specs.PlainIface.{PlainIface, opening}
 use Rattle.csp_iface.specs.Links.{receiver_for}
 use Rattle.csp_iface.specs.Planning.{plan_of, first_rule, side_plan}
 use Rattle.csp_iface.specs.Receiving.{Heard, arrived, heard, read_further}
-use Rattle.csp_iface.specs.Telling.{told_by, fetched, caught, pushed, kept, filled, going_on, has_packet, is_too_big, read_after, taken_up, tells, resting}
+use Rattle.csp_iface.specs.Telling.{told_by, fetched, caught, hearing, pushed, kept, filled, going_on, has_packet, is_too_big, read_after, taken_up, tells, resting, unmoved}
 use Rattle.csp_iface.specs.declared.packet.Packet.{Packet}
 use Rattle.csp_iface.specs.declared.plan.Plan.{Plan}
 use Rattle.csp_iface.specs.declared.plan.Plan.TheVariants as plan
@@ -149,10 +150,15 @@ module _ (W : ℕ → List ℕ → Trace → Type 0) (K : Receiver → Type 0) (
 
   heard_holding : (s : PlainIface) (now : ℕ) (f : Frame) → s.accepted ≡ None → IsHolding s → G f → IsHolding (read_on_in (told s now plan.Receive (answer.Popped (item.Frame f))))
   heard_holding s now f none h here =
-      let t : PlainIface = told s now plan.Receive (answer.Popped (item.Frame f)) in
-      let new : IsHeardSo W K (going_on (has_packet t) t) =
-      reads_heard (is_some (heard now s.receiver f).whole) (is_some s.accepted) (heard now s.receiver f) (waiting s plan.Receive) (ap is_some none) (hears now s.receiver f h.2 here) in
-      (new.1, h.1, new.0)
+      by (is_for s.heeds f)
+    where
+      by : (b : Bool) → IsHolding (read_on_in (hearing (if b then heard now s.receiver f else unmoved s) (waiting s plan.Receive)).iface)
+      by true =
+          let t : PlainIface = (hearing (heard now s.receiver f) (waiting s plan.Receive)).iface in
+          let new : IsHeardSo W K (going_on (has_packet t) t) =
+          reads_heard (is_some (heard now s.receiver f).whole) (is_some s.accepted) (heard now s.receiver f) (waiting s plan.Receive) (ap is_some none) (hears now s.receiver f h.2 here) in
+          (new.1, h.1, new.0)
+      by false = reads (waiting s plan.Receive) h
 
   told_holding : (s : PlainIface) (now : ℕ) (p : Plan) (a : AnswerShown) → (p ≡ plan.Take → (k : Packet) × (s.whole ≡ Some k)) → (p ≡ plan.Receive → s.accepted ≡ None) → IsHolding s
       → AllByRecursion (IsSuchFrame G) (got_by (queue.Rx s.number) (op_of s p) a) → IsHolding (read_on_in (told s now p a))

@@ -1,6 +1,7 @@
 pub mod Asking
 pub mod Circling
 pub mod Drained
+pub mod Heeding
 pub mod Keeping
 pub mod Kept
 pub mod Links

@@ -5,6 +5,7 @@ use Rattle.csp_arena.specs.Cells.{RegionName}
 use Rattle.csp_buffer.specs.Content.{Content}
 use Rattle.csp_deck.specs.Keeping.{numbers_of}
 use Rattle.csp_iface.specs.Links.{receiver_for}
+use Rattle.csp_iface.specs.declared.iface.TheConstants.{HUB_MTU}
 use Rattle.csp_iface.specs.declared.packet.Packet.{Packet}
 use Rattle.csp_iface.specs.declared.plan.Plan.{Plan}
 use Rattle.csp_iface.specs.declared.plan.Plan.TheVariants as plan
@@ -15,6 +16,7 @@ use Rattle.csp_log.specs.Kinds.{carried_on}
 use Rattle.csp_log.specs.declared.frame.Frame.{Frame}
 use Rattle.csp_log.specs.declared.places.Carries.TheVariants as lane
 use Rattle.csp_log.specs.declared.places.LinkKind.{LinkKind}
+use Rattle.csp_log.specs.declared.places.LinkKind.TheVariants as link
 use Rattle.csp_log.specs.declared.places.QueueId.{QueueId}
 use Rattle.csp_log.specs.declared.places.QueueId.TheVariants as queue
 use Rattle.csp_log.specs.declared.places.Rule.{Rule}
@@ -29,6 +31,8 @@ pub record PlainIface : Type 0 where
   pub kind : LinkKind
   -- how many payload bytes a packet on it has at most
   pub mtu : ℕ
+  -- on a hub the address of its node: it takes frames for that and for every node, and no other; elsewhere it takes each
+  pub heeds : Option ℕ
   -- the side whose turn comes next
   pub side : Side
   -- a buffer that is to be given back
@@ -63,6 +67,7 @@ opening node number kind mtu = record {
   number = number;
   kind = kind;
   mtu = mtu;
+  heeds = None;
   side = side.Sending;
   back = None;
   sending = None;
@@ -73,6 +78,10 @@ opening node number kind mtu = record {
   accepted = None;
   doing = plan.Rest;
 }
+
+-- an interface on a hub at its opening: as on a CAN bus, but it heeds this address
+abbrev pub opening_on_hub : (node number addr : ℕ) → PlainIface
+opening_on_hub node number addr = record (opening node number link.Can HUB_MTU) { heeds = Some addr }
 
 -- the buffers that it holds: one to be given back, one that is sent, one accepted
 abbrev pub buffers : PlainIface → List Content

@@ -18,6 +18,7 @@ plain_iface a = record {
   number = a.number;
   kind = a.kind;
   mtu = a.mtu;
+  heeds = a.heeds;
   side = a.side;
   back = a.back.content;
   sending = a.sender.packet;

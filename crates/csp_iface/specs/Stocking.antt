@@ -1,6 +1,7 @@
 -- what a turn of an interface leaves of its stock of boxes
 use Rattle.std.specs.Prelude.{ℕ, ◌==◌, Bool, true, false, List, [], ◌∷◌, if◌then◌else◌}
 use Rattle.csp_iface.specs.Circling.{all_read}
+use Rattle.csp_iface.specs.Heeding.{is_for}
 use Rattle.csp_iface.specs.PlainIface.{PlainIface}
 use Rattle.csp_iface.specs.Telling.{answered, begun, has_packet, is_too_big}
 use Rattle.csp_iface.specs.declared.plan.Plan.{Plan}
@@ -54,17 +55,17 @@ fetched_stock i (item.Packet mark b) s = if is_too_big i b then s else made_stoc
 fetched_stock i (item.Frame _) s = s
 fetched_stock i (item.Note _) s = s
 
--- an item of `Rx`
-abbrev pub caught_stock : Receiver → ItemShown → PlainSpares → PlainSpares
-caught_stock r (item.Frame f) s = heard_stock r f s
-caught_stock r (item.Packet _ _) s = s
-caught_stock r (item.Note _) s = s
+-- an item of `Rx`: a frame for another node of a hub is used up at once
+abbrev pub caught_stock : PlainIface → ItemShown → PlainSpares → PlainSpares
+caught_stock i (item.Frame f) s = if is_for i.heeds f then heard_stock i.receiver f s else with_box s
+caught_stock i (item.Packet _ _) s = s
+caught_stock i (item.Note _) s = s
 
 -- what each answer makes of it: once a frame is pushed the next is made
 abbrev pub answered_stock : PlainIface → Plan → AnswerShown → PlainSpares → PlainSpares
 answered_stock i plan.Transmit answer.Pushed s = made_stock i.frames s
 answered_stock i plan.Fetch (answer.Popped x) s = fetched_stock i x s
-answered_stock i plan.Receive (answer.Popped x) s = caught_stock i.receiver x s
+answered_stock i plan.Receive (answer.Popped x) s = caught_stock i x s
 answered_stock i _ _ s = s
 
 -- what is left once the frame in hand is read on

@@ -2,6 +2,7 @@
 use Rattle.std.specs.Prelude.{ℕ, ◌+◌, ◌==◌, ◌||◌, Bool, true, false, nat_lt, if◌then◌else◌, Option, Some, None, List, [], ◌∷◌, ◌++◌, length}
 use Rattle.std.specs.Option.{is_some}
 use Rattle.csp_buffer.specs.Content.{Content}
+use Rattle.csp_iface.specs.Heeding.{is_for}
 use Rattle.csp_iface.specs.PlainIface.{PlainIface}
 use Rattle.csp_iface.specs.Receiving.{Heard, heard, read_further}
 use Rattle.csp_iface.specs.Sending.{sent_trace, next_node, frames_of}
@@ -79,9 +80,13 @@ fetched (item.Note _) s = quiet s
 abbrev pub hearing : Heard → PlainIface → Outcome
 hearing h s = record { iface = record s { receiver = h.receiver; whole = h.whole }; events = []; refused = h.refused }
 
--- an item of `Rx`
+-- nothing was heard
+abbrev pub unmoved : PlainIface → Heard
+unmoved s = record { receiver = s.receiver; whole = s.whole; refused = 0 }
+
+-- an item of `Rx`: a frame for the interface is heard, and one for another node of a hub is used up at once
 abbrev pub caught : ℕ → ItemShown → PlainIface → Outcome
-caught now (item.Frame f) s = hearing (heard now s.receiver f) s
+caught now (item.Frame f) s = hearing (if is_for s.heeds f then heard now s.receiver f else unmoved s) s
 caught now (item.Packet _ _) s = quiet s
 caught now (item.Note _) s = quiet s
 
@@ -114,7 +119,7 @@ has_packet s = is_some s.whole || is_some s.accepted
 
 -- after its operation an interface reads on in the frame in hand, but nothing while a packet is in hand
 abbrev pub going_on : Bool → PlainIface → Heard
-going_on true s = record { receiver = s.receiver; whole = s.whole; refused = 0 }
+going_on true s = unmoved s
 going_on false s = read_further s.receiver
 
 -- the interface once it has read on, to the next packet or the frame's end

@@ -8,11 +8,14 @@ use crate::plan::{Plan, Side};
 use crate::receiver::Receiver;
 use crate::sender::Sender;
 use csp_arena::RegionToken;
-use csp_base::MAX_PAYLOAD;
+use csp_base::{Addr, MAX_PAYLOAD};
 use csp_buffer::Buffer;
 use csp_deck::Hand;
 use csp_log::{IFACES, LinkKind};
 use std::marker::Model;
+
+/// How many payload bytes a packet on a hub has at most.
+pub const HUB_MTU: u16 = 256;
 
 /// An interface: a party that sends packets as frames and receives frames as packets, the two sides in
 /// turn. Contracts see it as plain lists and numbers, and the region that its buffers are of.
@@ -23,6 +26,8 @@ pub struct Iface {
     pub(crate) number: u8,
     pub(crate) kind: LinkKind,
     pub(crate) mtu: u16,
+    /// On a hub the address of its node.
+    pub(crate) heeds: Option<Addr>,
     pub(crate) side: Side,
     pub(crate) back: Hand,
     pub(crate) sender: Sender,
@@ -47,7 +52,7 @@ impl Model for Iface {
 
 impl Iface {
     ghost use Rattle.csp_iface.specs.Drained.{drained};
-    ghost use Rattle.csp_iface.specs.PlainIface.{opening, buffers, holds, with_iface};
+    ghost use Rattle.csp_iface.specs.PlainIface.{opening, opening_on_hub, buffers, holds, with_iface};
 
     /// The interface of this number of a node, on a link of this kind, at its opening. It sends and takes packets
     /// of at most `mtu` payload bytes. Its buffers are of this region. It takes no memory.
@@ -61,6 +66,7 @@ impl Iface {
             number,
             kind,
             mtu,
+            heeds: None,
             side: Side::Sending,
             back: Hand::empty(region.copy()),
             sender: Sender::idle(region.copy()),
@@ -70,6 +76,17 @@ impl Iface {
             accepted: Hand::empty(region),
             doing: Plan::Rest,
         }
+    }
+
+    /// The interface of this number of a node of this address, on a hub, at its opening. As on a CAN bus, but it takes
+    /// only the frames for that address and for every node. It takes no memory.
+    pub fn hub(node: u8, number: u8, addr: Addr, region: RegionToken) -> Iface
+        requires { number < IFACES }
+        ensures { result ≡ record { region = region.name; iface = opening_on_hub node number addr } }
+    {
+        let mut iface = Iface::new(node, number, LinkKind::Can, HUB_MTU, region);
+        iface.heeds = Some(addr);
+        iface
     }
 
     /// Whether it holds the buffer of this number.
@@ -104,6 +121,7 @@ impl Iface {
             number: _,
             kind: _,
             mtu: _,
+            heeds: _,
             side: _,
             back,
             sender,

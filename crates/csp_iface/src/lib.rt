@@ -3,6 +3,7 @@
 #![tactic(auto)]
 
 mod asking;
+mod heeding;
 mod iface;
 mod packet;
 mod party;

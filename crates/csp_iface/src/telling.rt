@@ -10,18 +10,20 @@ ghost use Rattle.csp_iface.specs.Telling.{packet_in};
 ghost use Rattle.csp_log.specs.Pictures.{shown_answer, shown_item};
 
 use crate::Iface;
+use crate::heeding::is_for;
 use crate::plan::Plan;
 use csp_base::{Addr, MAX_FRAME, Origin};
 use csp_buffer::Buffer;
 use csp_deck::{Hand, Spares};
 use csp_header::Header;
-use csp_log::{Answer, AnswerShown, Event, Events, Item, ItemShown, UNMARKED};
+use csp_log::{Answer, AnswerShown, BoxedFrame, Event, Events, Item, ItemShown, UNMARKED};
 
 impl Iface {
     ghost use Rattle.csp_iface.specs.PlainIface.{uses, with_iface};
     ghost use Rattle.csp_iface.specs.Asking.{awaits};
-    ghost use Rattle.csp_iface.specs.Stocking.{answered_stock, fetched_stock, made_stock, read_after_stock, stocks};
-    ghost use Rattle.csp_iface.specs.Telling.{tells, events, answered, read_after, begun, fetched, resting, pushed};
+    ghost use Rattle.csp_iface.specs.Links.{IsFrameOn};
+    ghost use Rattle.csp_iface.specs.Stocking.{answered_stock, caught_stock, fetched_stock, made_stock, read_after_stock, stocks};
+    ghost use Rattle.csp_iface.specs.Telling.{tells, events, answered, read_after, begun, caught, fetched, resting, pushed};
 
     /// Ends the turn with its answer: what the answer makes of the interface, and what it reads on then.
     pub(crate) fn told_now(
@@ -267,15 +269,31 @@ impl Iface {
                 self.fetch(mark, buffer, report, spares);
                 0
             }
-            Item::Frame(frame) => {
-                self.doing = Plan::Rest;
-                self.receiver.hear(frame, now, &mut self.whole, spares)
-            }
+            Item::Frame(frame) => self.catch(frame, now, spares),
             Item::Note(_) => {
                 self.doing = Plan::Rest;
                 0
             }
         }
+    }
+
+    /// A frame: it is heard, or is for another node of a hub and used up at once. Gives how many frames were refused.
+    fn catch(&mut self, frame: BoxedFrame, now: u64, spares: &mut Spares) -> u32
+        requires doing { self.old.iface.doing ≡ Plan.Receive }
+        requires carried { IsFrameOn self.old.iface.kind frame }
+        ensures refused { result ≡ (caught now (ItemShown.Frame frame) (resting self.old.iface)).refused }
+        ensures state { self.new ≡ with_iface self.old (caught now (ItemShown.Frame frame) (resting self.old.iface)).iface }
+        ensures few { result ≤ 1 }
+        ensures stock { spares.new ≡ caught_stock self.old.iface (ItemShown.Frame frame) spares.old }
+        ensures least { spares.old.boxes ≤ spares.new.boxes }
+        ensures most { spares.new.boxes ≤ spares.old.boxes + 1 }
+    {
+        self.doing = Plan::Rest;
+        if is_for(self.heeds, frame.frame()) {
+            return self.receiver.hear(frame, now, &mut self.whole, spares);
+        }
+        spares.keep(frame);
+        0
     }
 
     /// A packet that is to be sent: its transmission begins, or it is too big for the link, and its buffer is to be

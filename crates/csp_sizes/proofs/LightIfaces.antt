@@ -11,6 +11,7 @@ use Rattle.csp_can.specs.Identifiers.{identifier_of}
 use Rattle.csp_can.specs.Listening.{Listening}
 use Rattle.csp_can.specs.Rules.{Arrival, arrival}
 use Rattle.csp_iface.specs.Asking.{asked, asks, delivered, given, handed, op_of, transmitted}
+use Rattle.csp_iface.specs.Heeding.{is_for}
 use Rattle.csp_iface.specs.Links.{receiver_for}
 use Rattle.csp_iface.specs.PlainIface.{PlainIface, opening}
 use Rattle.csp_iface.specs.Planning.{plan_of}
@@ -134,8 +135,13 @@ heard_light now r f h = go (f.trace.hops == MAX_HOPS)
 
 caught_light : (now : ℕ) (i : ItemShown) (s : PlainIface) → IsLightIface s → IsLightIface (telling.caught now i s).iface
 caught_light now (item.Frame f) s h =
-    let x = heard_light now s.receiver f h.receiver in
-    record { mtu = h.mtu; back = h.back; sending = h.sending; frames = h.frames; receiver = x.receiver; whole = x.whole; accepted = h.accepted }
+    by (is_for s.heeds f)
+  where
+    by : (b : Bool) → IsLightIface (telling.hearing (if b then heard now s.receiver f else telling.unmoved s) s).iface
+    by true =
+        let x = heard_light now s.receiver f h.receiver in
+        record { mtu = h.mtu; back = h.back; sending = h.sending; frames = h.frames; receiver = x.receiver; whole = x.whole; accepted = h.accepted }
+    by false = h
 caught_light now (item.Packet mark b) s h = h
 caught_light now (item.Note n) s h = h
 
