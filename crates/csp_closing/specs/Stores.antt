@@ -39,7 +39,7 @@ back_at at ns [] = []
 back_at zero ns (s ∷ piles) = with_back ns s ∷ piles
 back_at (suc at) ns (s ∷ piles) = s ∷ back_at at ns piles
 
--- to the node of a party: a link has none
+-- to the node of a party: a link or a hub has none
 abbrev pub back_to : Option ℕ → List ℕ → List PlainPile → List PlainPile
 back_to None ns piles = piles
 back_to (Some node) ns piles = back_at node ns piles
@@ -53,7 +53,7 @@ abbrev pub parties_back : List PlainRest → List PlainPile → List PlainPile
 parties_back [] piles = piles
 parties_back (r ∷ rest) piles = parties_back rest (party_back r piles)
 
--- the memory of a party's node has room for what the party holds, which is of its region; a link holds nothing
+-- the memory of a party's node has room for what the party holds, which is of its region; a link or a hub holds nothing
 abbrev pub HasPile : Option ℕ → PlainRest → List PlainPile → Type 0
 HasPile None r piles = holds (plain r.party) ≡ []
 HasPile (Some node) r piles = IsSomeAnd (slice_get piles node) (λ s. (region_of r.party ≡ s.store.region) × HasRoom s.store (length (holds (plain r.party))))

@@ -9,12 +9,12 @@ ghost use Rattle.csp_scene.specs.Scene.{PlainScene};
 
 use crate::parties::{end_parties, end_stores};
 use crate::queues::end_queues;
-use crate::retiring::{are_finished, retire};
+use crate::retiring::retire;
 use crate::times::rounds_of;
 use csp_fabric::Fabric;
 use csp_flow::returns_all;
 use csp_lists::weighs;
-use csp_posts::Post;
+use csp_posts::{Post, are_finished};
 use csp_record::Record;
 use csp_topology::{joins_parties, leads_with_hubs, names_parties_apart, stays_home};
 use std::sync::Wait;

@@ -1,19 +1,10 @@
 //! Parties that take no turn any more.
 
-ghost use Rattle.std.specs.Prelude.{◌≡◌, ◌≤◌, [], All, length, map, not, vec_capacity};
-ghost use Rattle.std.specs.List.{list_all};
+ghost use Rattle.std.specs.Prelude.{◌≡◌, ◌≤◌, [], All, length, map, vec_capacity};
 ghost use Rattle.csp_closing.specs.Retired.{IsFresh, retired_of, to_retire};
-ghost use Rattle.csp_posts.specs.Ready.{is_unfinished};
 
 use csp_posts::{Post, Retired};
 use std::collections::VecDeque;
-
-/// Whether each application has ended.
-pub(crate) fn are_finished(posts: &[Post]) -> bool
-    ensures { result ≡ list_all (λ s. not (is_unfinished s.plain.party)) posts.now }
-{
-    posts.iter().all(|post| !post.unfinished())
-}
 
 /// Takes these parties out of their run, to those that are.
 pub(crate) fn retire(posts: Vec<Post>, retired: &mut Vec<Retired>)

@@ -31,7 +31,7 @@ use Rattle.csp_topology.specs.Lanes.{PlainLane, end_lanes, lanes_on, link_lanes,
 use Rattle.csp_consistent.specs.Links.{IsPlanned}
 use Rattle.csp_consistent.specs.Reading.{entries_of, is_queue, put_by, got_by, puts, gets, left_in}
 use Rattle.csp_consistent.proofs.Each.{each_first, each_last, each_if, each_permuted}
-use Rattle.csp_consistent.proofs.Received.{IsFrameOf, IsSuchFrame}
+use Rattle.csp_consistent.proofs.Received.{IsSuchFrame}
 
 -- the frames that a link popped
 popped_frame : (Q : Frame → Type 0) (b : Bool) (f : Frame) → AllByRecursion (IsSuchFrame Q) (if b then item.Frame f ∷ [] else []) → AllByRecursion Q (if b then f ∷ [] else [])

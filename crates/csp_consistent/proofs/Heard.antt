@@ -10,7 +10,6 @@ use Rattle.csp_can.specs.Open.{counters, fresh, standing, without, ruling, done,
 use Rattle.csp_can.specs.Rules.{Arrival, arrival, Deed, leaves, ends, opens, goes_on, Ruling, refused, opened_partial, grown_partial, measured, begin_ruling, more_ruling, ruling_of}
 use Rattle.csp_can.specs.declared.answers.CanEvent.{CanEvent}
 use Rattle.csp_can.specs.declared.answers.CanEvent.TheVariants as can
-use Rattle.csp_can.specs.declared.identifiers.Key.{Key}
 use Rattle.csp_can.specs.declared.identifiers.Kind.{Kind}
 use Rattle.csp_can.specs.declared.identifiers.Kind.TheVariants.{Begin, More}
 use Rattle.csp_can.specs.declared.partials.Partial.{Partial}

@@ -8,6 +8,7 @@ pub mod Names
 pub mod OwnQueues
 pub mod Owners
 pub mod Planned
+pub mod QueueNames
 pub mod Received
 pub mod RouterQueues
 pub mod Transmitted

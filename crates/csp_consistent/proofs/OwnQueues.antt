@@ -11,12 +11,14 @@ use Rattle.csp_topology.specs.Parties.{PlainOpening, apps_from, hub_by, ifaces_f
 use Rattle.csp_consistent.specs.Queues.{MayAsk, UseTheirQueues, UsesItsQueues}
 use Rattle.csp_consistent.specs.Runs.{AreLogsOf, IsLogOf}
 use Rattle.csp_deck.specs.Runs.{IsRun}
+use Rattle.csp_hub.specs.Asking as hub_asking
+use Rattle.csp_hub.specs.Planning as hub_plan
 use Rattle.csp_link.specs.Asking as link_asking
 use Rattle.csp_link.specs.Planning as link_plan
 use Rattle.csp_link.specs.declared.way.Way.{Way}
 use Rattle.csp_log.specs.declared.entry.Entry.{Entry}
 use Rattle.csp_log.specs.declared.shown.AnswerShown.{AnswerShown}
-use Rattle.csp_party.specs.Any.{PlainParty, a_router, a_bridge, an_iface, an_app, a_link, asked, asks, tells}
+use Rattle.csp_party.specs.Any.{PlainParty, a_router, a_bridge, an_iface, an_app, a_link, a_hub, asked, asks, tells}
 use Rattle.csp_record.specs.Record.{PlainPartyLog}
 use Rattle.csp_record.specs.declared.who.Who.{Who}
 use Rattle.csp_record.specs.declared.who.Who.TheVariants as who
@@ -30,6 +32,7 @@ IsOwn (who.Bridge node) (a_bridge b) = ⊤
 IsOwn (who.Iface node number) (an_iface i) = i.number ≡ number
 IsOwn (who.App node number) (an_app a) = a.number ≡ number
 IsOwn (who.Link number) (a_link l) = ⊤
+IsOwn (who.Link number) (a_hub h) = ⊤
 IsOwn _ _ = ⊥
 
 bridge_asks : (node : ℕ) (p : bridge_plan.Plan) → MayAsk (who.Bridge node) (bridge_asking.op_of p)
@@ -42,6 +45,11 @@ link_asks number way (link_plan.push place h) = tt
 link_asks number way link_plan.pop = tt
 link_asks number way link_plan.wait = tt
 
+hub_asks : (number end : ℕ) (p : link_plan.Plan) → MayAsk (who.Link number) (hub_asking.op_of end p)
+hub_asks number end (link_plan.push place h) = tt
+hub_asks number end link_plan.pop = tt
+hub_asks number end link_plan.wait = tt
+
 -- it asks what it may
 pub own_asks : (w : Who) (p : PlainParty) (time : ℕ) → IsOwn w p → MayAsk w (asks p time)
 own_asks (who.Router n) (a_router r) time own = router_asks n r.facts r.state time own
@@ -49,26 +57,31 @@ own_asks (who.Router n) (a_bridge b) time own = absurd own
 own_asks (who.Router n) (an_iface i) time own = absurd own
 own_asks (who.Router n) (an_app p) time own = absurd own
 own_asks (who.Router n) (a_link l) time own = absurd own
+own_asks (who.Router n) (a_hub h) time own = absurd own
 own_asks (who.Bridge n) (a_router r) time own = absurd own
 own_asks (who.Bridge n) (a_bridge b) time own = bridge_asks n (bridge_plan.plan_of b)
 own_asks (who.Bridge n) (an_iface i) time own = absurd own
 own_asks (who.Bridge n) (an_app p) time own = absurd own
 own_asks (who.Bridge n) (a_link l) time own = absurd own
+own_asks (who.Bridge n) (a_hub h) time own = absurd own
 own_asks (who.Iface n k) (a_router r) time own = absurd own
 own_asks (who.Iface n k) (a_bridge b) time own = absurd own
 own_asks (who.Iface n k) (an_iface i) time own = iface_asks n k i time own
 own_asks (who.Iface n k) (an_app p) time own = absurd own
 own_asks (who.Iface n k) (a_link l) time own = absurd own
+own_asks (who.Iface n k) (a_hub h) time own = absurd own
 own_asks (who.App n k) (a_router r) time own = absurd own
 own_asks (who.App n k) (a_bridge b) time own = absurd own
 own_asks (who.App n k) (an_iface i) time own = absurd own
 own_asks (who.App n k) (an_app p) time own = app_asks n k p time own
 own_asks (who.App n k) (a_link l) time own = absurd own
+own_asks (who.App n k) (a_hub h) time own = absurd own
 own_asks (who.Link k) (a_router r) time own = absurd own
 own_asks (who.Link k) (a_bridge b) time own = absurd own
 own_asks (who.Link k) (an_iface i) time own = absurd own
 own_asks (who.Link k) (an_app p) time own = absurd own
 own_asks (who.Link k) (a_link l) time own = link_asks k l.way (link_plan.plan_of l time)
+own_asks (who.Link k) (a_hub h) time own = hub_asks k h.serving (hub_plan.plan_of h time)
 
 -- and stays so
 pub own_told : (w : Who) (p : PlainParty) (time : ℕ) (a : AnswerShown) → IsOwn w p → IsOwn w (tells (asked p time) time a)
@@ -77,26 +90,31 @@ own_told (who.Router n) (a_bridge b) time a own = absurd own
 own_told (who.Router n) (an_iface i) time a own = absurd own
 own_told (who.Router n) (an_app p) time a own = absurd own
 own_told (who.Router n) (a_link l) time a own = absurd own
+own_told (who.Router n) (a_hub h) time a own = absurd own
 own_told (who.Bridge n) (a_router r) time a own = absurd own
 own_told (who.Bridge n) (a_bridge b) time a own = tt
 own_told (who.Bridge n) (an_iface i) time a own = absurd own
 own_told (who.Bridge n) (an_app p) time a own = absurd own
 own_told (who.Bridge n) (a_link l) time a own = absurd own
+own_told (who.Bridge n) (a_hub h) time a own = absurd own
 own_told (who.Iface n k) (a_router r) time a own = absurd own
 own_told (who.Iface n k) (a_bridge b) time a own = absurd own
 own_told (who.Iface n k) (an_iface i) time a own = iface_number i time a ∙ own
 own_told (who.Iface n k) (an_app p) time a own = absurd own
 own_told (who.Iface n k) (a_link l) time a own = absurd own
+own_told (who.Iface n k) (a_hub h) time a own = absurd own
 own_told (who.App n k) (a_router r) time a own = absurd own
 own_told (who.App n k) (a_bridge b) time a own = absurd own
 own_told (who.App n k) (an_iface i) time a own = absurd own
 own_told (who.App n k) (an_app p) time a own = app_number k p time a own
 own_told (who.App n k) (a_link l) time a own = absurd own
+own_told (who.App n k) (a_hub h) time a own = absurd own
 own_told (who.Link k) (a_router r) time a own = absurd own
 own_told (who.Link k) (a_bridge b) time a own = absurd own
 own_told (who.Link k) (an_iface i) time a own = absurd own
 own_told (who.Link k) (an_app p) time a own = absurd own
 own_told (who.Link k) (a_link l) time a own = tt
+own_told (who.Link k) (a_hub h) time a own = tt
 
 -- so it is with each of its turns
 own_run : (w : Who) (time : ℕ) (p : PlainParty) (es : List Entry) → IsOwn w p → IsRun party_steps time p es → AllByRecursion (λ e. MayAsk w e.op) es

@@ -13,7 +13,7 @@ use Rattle.csp_record.specs.declared.who.Who.{Who}
 use Rattle.csp_record.specs.declared.who.Who.TheVariants as who
 
 -- a router pushes to its applications and its interfaces, and without a mark to its own inbox; a bridge to its interfaces; an interface with
--- its number as the mark to the inbox, and to its link; an application to its `Up`; a link to the `Rx` at its ends
+-- its number as the mark to the inbox, and to its link; an application to its `Up`; a link or a hub to the `Rx` at its ends
 abbrev pub MayPush : Who → QueueId → ItemShown → Type 0
 MayPush (who.Router node) queue.Inbox (item.Packet mark b) = mark ≡ UNMARKED
 MayPush (who.Router node) (queue.Down k) i = ⊤
@@ -25,8 +25,8 @@ MayPush (who.App node number) (queue.Up k) i = k ≡ number
 MayPush (who.Link number) (queue.Rx k) i = ⊤
 MayPush _ _ _ = ⊥
 
--- a router pops its inbox and its applications, a bridge its inbox, an interface its `Out` and its link, an application its `Down`, a link the
--- `Tx` at its ends
+-- a router pops its inbox and its applications, a bridge its inbox, an interface its `Out` and its link, an application its `Down`, a link or a
+-- hub the `Tx` at its ends
 abbrev pub MayPop : Who → QueueId → Type 0
 MayPop (who.Router node) queue.Inbox = ⊤
 MayPop (who.Router node) (queue.Up k) = ⊤

@@ -3,7 +3,7 @@ use Rattle.std.specs.Prelude.{◌≡◌, ℕ, ◌+◌, ◌<◌, ◌≤◌, ◌==
 use Rattle.std.specs.List.{AllByRecursion, AllZip, filter}
 use Rattle.csp_deck.specs.Runs.{state_after}
 use Rattle.csp_log.specs.declared.entry.Entry.{Entry}
-use Rattle.csp_party.specs.Any.{PlainParty, a_router, a_bridge, an_iface, an_app, a_link, has_ended}
+use Rattle.csp_party.specs.Any.{PlainParty, a_router, a_bridge, an_iface, an_app, a_link, a_hub, has_ended, is_done}
 use Rattle.csp_record.specs.Record.{PlainPartyLog, PlainRecord}
 use Rattle.csp_scene.specs.Scene.{PlainScene}
 use Rattle.csp_topology.specs.Parties.{PlainOpening, parties_of, party_steps}
@@ -38,14 +38,7 @@ is_app (a_bridge _) = false
 is_app (an_iface _) = false
 is_app (an_app _) = true
 is_app (a_link _) = false
-
--- an application that has ended, or a party that is no application
-abbrev pub is_done : PlainParty → Bool
-is_done (a_router _) = true
-is_done (a_bridge _) = true
-is_done (an_iface _) = true
-is_done (an_app a) = has_ended (an_app a)
-is_done (a_link _) = true
+is_app (a_hub _) = false
 
 -- how many turns the applications made in a round
 abbrev pub app_turns : ℕ → List PlainOpening → List (List Entry) → ℕ

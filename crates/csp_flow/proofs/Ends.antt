@@ -3,8 +3,8 @@ use Rattle.std.proofs.Common.{◌≡◌, ◌⊎◌, inl, inr, ◌<◌, ℕ, true
 use Rattle.std.specs.Prelude.{slice_get}
 use Rattle.std.specs.List.{AllByRecursion}
 use Rattle.std.specs.Option.{option_and_then, option_map}
-use Rattle.std.proofs.lemmas.Bool.{eq-eqb}
 use Rattle.std.proofs.lemmas.Option.{same_Some, slice_get-map, slice_get_within}
+use Rattle.csp_consistent.proofs.QueueNames.{queue_same}
 use Rattle.csp_consistent.specs.Reading.{is_queue}
 use Rattle.csp_deck.specs.Carried.{IsCarried}
 use Rattle.csp_deck.specs.Step.{item_numbers}
@@ -16,7 +16,6 @@ use Rattle.csp_flow.specs.Remains.{AreRemains, PlainRemains}
 use Rattle.csp_lists.specs.PlainDeck.{IsLinkRule, numbers_of}
 use Rattle.csp_log.specs.declared.places.Carries.{Carries}
 use Rattle.csp_log.specs.declared.places.Carries.TheVariants as lane
-use Rattle.csp_log.specs.declared.places.QueueId.{QueueId}
 use Rattle.csp_log.specs.declared.places.QueueId.TheVariants as queue
 use Rattle.csp_log.specs.declared.places.Rule.TheVariants as rule
 use Rattle.csp_log.specs.declared.shown.ItemShown.{ItemShown}
@@ -37,14 +36,6 @@ use Rattle.csp_topology.specs.Wires.{wire_at, wires_of}
 -- what csp_topology says of each lane
 abbrev pub AllStay : PlainScene → Type 0
 AllStay scene = (node k : ℕ) (l : PlainLane) → wire_at scene node k ≡ Some l → StaysHome scene node l
-
-queue_same : (q : QueueId) → is_queue q q ≡ true
-queue_same queue.Inbox = refl
-queue_same (queue.Up n) = eq-eqb n n refl
-queue_same (queue.Down n) = eq-eqb n n refl
-queue_same (queue.Out n) = eq-eqb n n refl
-queue_same (queue.Tx n) = eq-eqb n n refl
-queue_same (queue.Rx n) = eq-eqb n n refl
 
 -- what goes through a lane to or from a link has no buffers
 no_number : (c : Carries) (i : ItemShown) → IsLinkRule c → IsCarried (rule.Lane c) i → item_numbers i ≡ []

@@ -1,6 +1,6 @@
 -- The record of a network's run.
-use Rattle.std.specs.Prelude.{◌≡◌, ◌+◌, ◌++◌, ℕ, Bool, Option, List, [], ◌∷◌, map, max, not}
-use Rattle.std.specs.List.{flat_map, list_all}
+use Rattle.std.specs.Prelude.{◌≡◌, ◌+◌, ◌++◌, ℕ, List, [], ◌∷◌, map, max}
+use Rattle.std.specs.List.{flat_map}
 use Rattle.std.specs.Option.{option_map, option_to_list}
 use Rattle.csp_base.specs.declared.priority.Prio.{Prio}
 use Rattle.csp_base.specs.declared.priority.Prio.TheVariants.{Critical, High, Normal, Low}
@@ -13,7 +13,7 @@ use Rattle.csp_log.specs.declared.places.QueueId.TheVariants as queue
 use Rattle.csp_log.specs.declared.shown.ItemShown.{ItemShown}
 use Rattle.csp_party.specs.Any.{holds, present_step}
 use Rattle.csp_posts.specs.Posts.{PlainPost}
-use Rattle.csp_posts.specs.Ready.{is_unfinished}
+use Rattle.csp_prompt.specs.Played.{are_done}
 use Rattle.csp_record.specs.Record.{PlainPartyLog, PlainRecord}
 use Rattle.csp_record.specs.Who.{home_of}
 use Rattle.csp_scene.specs.Scene.{PlainScene}
@@ -58,10 +58,6 @@ abbrev pub rounds_of : List PlainPost → ℕ
 rounds_of [] = 0
 rounds_of (s ∷ posts) = max (rounds_in s.entries) (rounds_of posts)
 
--- each application has ended
-abbrev pub are_finished : List PlainPost → Bool
-are_finished posts = list_all (λ s. not (is_unfinished s.party)) posts
-
 -- the record of posts in whose queues these were left: it has their logs; of each queue what was left there; of each place what it held, the queues
 -- first, then the parties, then the pools; the rounds that they made, and whether every application had ended
 pub record IsRecordOf (scene : PlainScene) (posts : List PlainPost) (all : List PlainRemains) (r : PlainRecord) : Type 0 where
@@ -69,7 +65,7 @@ pub record IsRecordOf (scene : PlainScene) (posts : List PlainPost) (all : List 
   pub left : r.left ≡ all_notes 0 (wires_of scene) all
   pub held : r.held ≡ map left_held r.left ++ (flat_map post_held posts ++ pools_held 0 (map (λ (m : PlainRemains). m.pool) all))
   pub rounds : r.rounds ≡ rounds_of posts
-  pub finished : r.finished ≡ are_finished posts
+  pub finished : r.finished ≡ are_done posts
 
 -- it is the record of these posts, with what was left in the queues of each node
 pub record IsClosed (scene : PlainScene) (posts : List PlainPost) (r : PlainRecord) : Type 0 where

@@ -1,16 +1,18 @@
 -- what a turn leaves of the ends of a hub as it was
 use Rattle.std.proofs.Common.{◌≡◌, ℕ, zero, suc, ◌+◌, ◌≤◌, List, [], ◌∷◌, map, length, Option, Some, None, refl, sym, ap, ◌∙◌, arith, sum}
 use Rattle.std.specs.Prelude.{slice_set, sum_by}
+use Rattle.std.specs.List.{range_with_len}
 use Rattle.std.proofs.lemmas.List.{length-map}
 use Rattle.std.proofs.lemmas.List.Sums.{sum_by-cons, sum-map}
 use Rattle.csp_hub.specs.Asking.{asked, without}
-use Rattle.csp_hub.specs.PlainHub.{PlainEnd, PlainHub, count, end_at, served, uses, with_served}
+use Rattle.csp_hub.specs.PlainHub.{PlainEnd, PlainHub, count, end_at, opening, opening_end, served, uses, with_served}
 use Rattle.csp_hub.specs.Telling.{fate_of_next, heard, heard_by_others, kept, sent, taken, tells, told_by}
 use Rattle.csp_hub.specs.declared.doing.Doing.{Doing}
 use Rattle.csp_hub.specs.declared.doing.Doing.TheVariants as doing
 use Rattle.csp_link.specs.Copies.{held_copies}
 use Rattle.csp_link.specs.Holding.{first_due}
 use Rattle.csp_link.specs.Telling.{frame_in}
+use Rattle.csp_link.specs.declared.fault.Fault.{Fault}
 use Rattle.csp_link.specs.declared.held.Held.{Held}
 use Rattle.csp_log.specs.declared.frame.Frame.{Frame}
 use Rattle.csp_log.specs.declared.places.QueueId.{QueueId}
@@ -123,3 +125,11 @@ count_told h now _ _ = omega arith
 
 pub count_tells : (h : PlainHub) (now : ℕ) (a : AnswerShown) → count (tells h now a) ≤ count h + 1
 count_tells h now a = count_told h now h.doing a
+
+-- none was as it opens
+none_popped : (plan : List Fault) (numbers : List ℕ) → sum_by (λ (e : PlainEnd). e.popped) (map (opening_end plan) numbers) ≡ 0
+none_popped plan [] = refl
+none_popped plan (k ∷ ks) = omega (arith, sum_by-cons (λ (e : PlainEnd). e.popped) (opening_end plan k) (map (opening_end plan) ks), none_popped plan ks)
+
+pub count_opening : (ends : ℕ) (plan : List Fault) → count (opening ends plan) ≡ 0
+count_opening ends plan = none_popped plan (range_with_len 0 ends)

@@ -5,7 +5,7 @@ use Rattle.csp_fabric.specs.declared.fabric.Fabric.{Fabric}
 use Rattle.csp_flow.specs.Closed.{IsClosed, log_of}
 use Rattle.csp_log.specs.Weights.{weight_of_all}
 use Rattle.csp_node.proofs.Entries.{sum_mapped}
-use Rattle.csp_node.proofs.Rounds.{finished_done, rounds_made}
+use Rattle.csp_node.proofs.Rounds.{rounds_made}
 use Rattle.csp_node.specs.Rounds.{HasRun, plains, weight, weight_early}
 use Rattle.csp_node.specs.Runs.{HasStopped, weight_before, weight_in}
 use Rattle.csp_posts.specs.Seen.{SeenPost}
@@ -22,7 +22,7 @@ module _ (scene : PlainScene) (f : Fabric) (limit : ℕ) (posts : List SeenPost)
   made = subst (λ (n : ℕ). HaveMadeRounds n (parties_of scene) (logs_of (plains posts))) (sym same_rounds) run.between.made
 
   pub finished : r.finished ≡ are_done (plains posts)
-  finished = closed.told.finished ∙ finished_done (plains posts)
+  finished = closed.told.finished
 
   weight_same : weight_in r ≡ weight (plains posts)
   weight_same = ap (sum_by (λ (log : PlainPartyLog). weight_of_all log.entries)) closed.told.parties ∙ sum_mapped (λ (log : PlainPartyLog). weight_of_all log.entries) log_of (plains posts)

@@ -1,14 +1,13 @@
 -- The rounds that were made, read off the logs: the greatest time is that of the last round.
-use Rattle.std.proofs.Common.{◌≡◌, ◌⊎◌, inl, inr, ℕ, zero, suc, ◌+◌, ◌<◌, ◌≤◌, ◌==◌, ◌&&◌, Bool, true, false, cond, not, List, [], ◌∷◌, length, filter, max, refl, ap, ◌∙◌, arith, eqb-true}
+use Rattle.std.proofs.Common.{◌≡◌, ◌⊎◌, inl, inr, ℕ, zero, suc, ◌+◌, ◌<◌, ◌≤◌, ◌==◌, ◌&&◌, Bool, true, false, cond, List, [], ◌∷◌, length, filter, max, refl, ap, arith, eqb-true}
 use Rattle.std.specs.Prelude.{if◌then◌else◌}
 use Rattle.std.specs.List.{AllByRecursion, list_all}
-use Rattle.csp_consistent.specs.Rounds.{HaveMadeRounds, app_turns, is_app, is_done, turns_in}
-use Rattle.csp_flow.specs.Closed.{are_finished, rounds_in, rounds_of}
+use Rattle.csp_consistent.specs.Rounds.{HaveMadeRounds, app_turns, is_app, turns_in}
+use Rattle.csp_flow.specs.Closed.{rounds_in, rounds_of}
 use Rattle.csp_log.specs.declared.entry.Entry.{Entry}
 use Rattle.csp_node.specs.Rounds.{plains}
-use Rattle.csp_party.specs.Any.{PlainParty, a_router, a_bridge, an_iface, an_app, a_link, has_ended}
+use Rattle.csp_party.specs.Any.{is_done}
 use Rattle.csp_posts.specs.Posts.{PlainPost}
-use Rattle.csp_posts.specs.Ready.{is_unfinished}
 use Rattle.csp_posts.specs.Seen.{SeenPost}
 use Rattle.csp_prompt.specs.Played.{are_done, logs_of}
 use Rattle.csp_topology.specs.Parties.{PlainOpening}
@@ -62,22 +61,7 @@ pub rounds_made : (os : List PlainOpening) (posts : List PlainPost) (rounds : �
 rounds_made os posts zero made times = omega (arith, within_all 0 posts times)
 rounds_made os posts (suc last) made times = omega (arith, within_all (suc last) posts times, turned_among last os posts (made.used last (omega arith)))
 
--- and it finds an application that has not ended where there is one
-done_or_not : (p : PlainParty) → not (is_unfinished p) ≡ is_done p
-done_or_not (a_router r) = refl
-done_or_not (a_bridge b) = refl
-done_or_not (an_iface i) = refl
-done_or_not (an_app a) = twice (has_ended (an_app a))
-  where
-    twice : (b : Bool) → not (not b) ≡ b
-    twice true = refl
-    twice false = refl
-done_or_not (a_link l) = refl
-
-pub finished_done : (posts : List PlainPost) → are_finished posts ≡ are_done posts
-finished_done [] = refl
-finished_done (s ∷ posts) = ap (λ b. b && are_finished posts) (done_or_not s.party) ∙ ap (λ b. is_done s.party && b) (finished_done posts)
-
-pub finished_plain : (posts : List SeenPost) → list_all (λ s. not (is_unfinished s.plain.party)) posts ≡ are_done (plains posts)
+-- it finds that each application has ended where that is so
+pub finished_plain : (posts : List SeenPost) → list_all (λ s. is_done s.plain.party) posts ≡ are_done (plains posts)
 finished_plain [] = refl
-finished_plain (s ∷ posts) = ap (λ b. b && list_all (λ (t : SeenPost). not (is_unfinished t.plain.party)) posts) (done_or_not s.plain.party) ∙ ap (λ b. is_done s.plain.party && b) (finished_plain posts)
+finished_plain (s ∷ posts) = ap (λ b. is_done s.plain.party && b) (finished_plain posts)

@@ -1,20 +1,12 @@
 //! The logs of posts: what their entries weigh, and room for those of a round.
 
-ghost use Rattle.std.specs.Prelude.{◌≡◌, ◌+◌, ◌-◌, ◌^◌, ◌<◌, ◌≤◌, OnOk, length, not};
-ghost use Rattle.std.specs.List.{AllByRecursion, AllZip, list_all};
+ghost use Rattle.std.specs.Prelude.{◌≡◌, ◌+◌, ◌-◌, ◌^◌, ◌<◌, ◌≤◌, OnOk, length};
+ghost use Rattle.std.specs.List.{AllByRecursion, AllZip};
 ghost use Rattle.csp_node.specs.Rounds.{IsStill, plains, weight};
-ghost use Rattle.csp_posts.specs.Ready.{is_unfinished};
 
 use csp_posts::{Post, ROUND_TURNS};
 use csp_topology::MAX_PARTIES;
 use std::alloc::AllocError;
-
-/// Whether each application has ended.
-pub(crate) fn are_finished(posts: &[Post]) -> bool
-    ensures { result ≡ list_all (λ s. not (is_unfinished s.plain.party)) posts.now }
-{
-    posts.iter().all(|post| !post.unfinished())
-}
 
 /// What the entries of all logs weigh together.
 pub(crate) fn weight(posts: &[Post]) -> u64

@@ -15,8 +15,8 @@ ghost use Rattle.csp_scene.specs.Scene.{PlainScene};
 
 use crate::Network;
 use crate::laws::{makes_rounds, meets_ready, starts_rounds, tells_run};
-use crate::logs::{are_finished, make_room, weight};
-use csp_posts::{Post, ROUND_TURNS};
+use crate::logs::{make_room, weight};
+use csp_posts::{Post, ROUND_TURNS, are_finished};
 use csp_record::Record;
 use csp_rounds::{Gate, rounds};
 use csp_scene::{MAX_UNTIL, Scene};

@@ -42,7 +42,7 @@ abbrev pub count_at : List Node → Option ℕ → ℕ
 count_at nodes None = 0
 count_at nodes (Some k) = count_or (slice_get nodes k)
 
--- a party of one of these nodes, or a link, as it was opened: its buffers are of its node's region, and it can note the numbers of them all
+-- a party of one of these nodes, or a link or a hub, as it was opened: its buffers are of its node's region, and it can note the numbers of them all
 pub record IsSeated (nodes : List Node) (s : Seat) : Type 0 where
   pub party : IsNewParty (plain s.party)
   pub region : region_of s.party ≡ region_at nodes (node_of s.who)

@@ -29,7 +29,7 @@ pub(crate) struct Seat {
 }
 
 impl Seat {
-    /// Opens a party of a node with so many buffers, of this region; or a link.
+    /// Opens a party of a node with so many buffers, of this region; or a link or a hub.
     fn open(
         alloc: Global,
         opening: Opening,
@@ -55,7 +55,7 @@ impl Seat {
         })
     }
 
-    /// Opens a party of one of these nodes, or a link.
+    /// Opens a party of one of these nodes, or a link or a hub.
     fn open_at(alloc: Global, opening: Opening, nodes: &[Node]) -> Result<Seat, AllocError>
         requires ready { CanOpen opening }
         requires there { IfSome (node_of (opening_of opening).who) (λ node. node < length nodes.now) }

@@ -1,5 +1,5 @@
 -- The parties of a run as one who takes turns: each word is that of the party it is.
-use Rattle.std.specs.Prelude.{ℕ, ◌≡◌, ⊤, Bool, false, List, [], Option}
+use Rattle.std.specs.Prelude.{ℕ, ◌≡◌, ⊤, Bool, true, false, List, [], Option}
 use Rattle.csp_app.specs.Asking as app_asking
 use Rattle.csp_app.specs.PlainApp as plain_app
 use Rattle.csp_app.specs.PlainApp.{PlainApp, AppAt}
@@ -13,6 +13,11 @@ use Rattle.csp_bridge.specs.Drained as bridge_drained
 use Rattle.csp_bridge.specs.Telling as bridge_telling
 use Rattle.csp_deck.specs.Regions.{nowhere}
 use Rattle.csp_deck.specs.Step.{Kind}
+use Rattle.csp_hub.specs.Asking as hub_asking
+use Rattle.csp_hub.specs.PlainHub as plain_hub
+use Rattle.csp_hub.specs.PlainHub.{PlainHub}
+use Rattle.csp_hub.specs.Stocking as hub_stocking
+use Rattle.csp_hub.specs.Telling as hub_telling
 use Rattle.csp_iface.specs.Asking as iface_asking
 use Rattle.csp_iface.specs.PlainIface as plain_iface
 use Rattle.csp_iface.specs.PlainIface.{PlainIface, IfaceAt}
@@ -44,6 +49,7 @@ pub data PlainParty : Type 0 where
   an_iface : PlainIface → PlainParty
   an_app : PlainApp → PlainParty
   a_link : PlainLink → PlainParty
+  a_hub : PlainHub → PlainParty
 
 -- the state of a party, without the region of its buffers
 abbrev pub plain : AnyParty → PlainParty
@@ -52,14 +58,16 @@ plain (party.Bridge b) = a_bridge b.bridge
 plain (party.Iface i) = an_iface i.iface
 plain (party.App a) = an_app a.app
 plain (party.Link l) = a_link l
+plain (party.Hub h) = a_hub h
 
--- the region of its buffers: a link has none
+-- the region of its buffers: a link or a hub has none
 abbrev pub region_of : AnyParty → RegionName
 region_of (party.Router r) = r.region
 region_of (party.Bridge b) = b.region
 region_of (party.Iface i) = i.region
 region_of (party.App a) = a.region
 region_of (party.Link l) = nowhere
+region_of (party.Hub h) = nowhere
 
 -- a party can be asked at this time, and told once it was: an interface between two turns, any other always
 abbrev pub is_ready : PlainParty → ℕ → Type 0
@@ -68,6 +76,7 @@ is_ready (a_bridge b) time = ⊤
 is_ready (an_iface i) time = i.doing ≡ iface_plan.Rest
 is_ready (an_app a) time = ⊤
 is_ready (a_link l) time = ⊤
+is_ready (a_hub h) time = ⊤
 
 -- a party was asked at this time, and can be told: a router as it says, any other always
 abbrev pub is_waiting : PlainParty → ℕ → Type 0
@@ -76,6 +85,7 @@ is_waiting (a_bridge b) time = ⊤
 is_waiting (an_iface i) time = ⊤
 is_waiting (an_app a) time = ⊤
 is_waiting (a_link l) time = ⊤
+is_waiting (a_hub h) time = ⊤
 
 -- what kind of operation it waits to be answered
 abbrev pub awaits : PlainParty → Kind
@@ -84,6 +94,7 @@ awaits (a_bridge b) = bridge_asking.awaits b
 awaits (an_iface i) = iface_asking.awaits i
 awaits (an_app a) = app_asking.awaits a
 awaits (a_link l) = link_asking.awaits l
+awaits (a_hub h) = hub_asking.awaits h
 
 -- a party takes no turn any more: none but an application ever ends
 abbrev pub has_ended : PlainParty → Bool
@@ -92,6 +103,16 @@ has_ended (a_bridge b) = false
 has_ended (an_iface i) = false
 has_ended (an_app a) = plain_app.has_ended a
 has_ended (a_link l) = false
+has_ended (a_hub h) = false
+
+-- a party is done: an application that has ended, or a party that is none
+abbrev pub is_done : PlainParty → Bool
+is_done (a_router r) = true
+is_done (a_bridge b) = true
+is_done (an_iface i) = true
+is_done (an_app a) = plain_app.has_ended a
+is_done (a_link l) = true
+is_done (a_hub h) = true
 
 -- the queues that it uses, and what they carry
 abbrev pub uses : PlainParty → QueueId → Option Rule
@@ -100,6 +121,7 @@ uses (a_bridge b) queue = plain_bridge.uses b queue
 uses (an_iface i) queue = plain_iface.uses i queue
 uses (an_app a) queue = plain_app.uses a queue
 uses (a_link l) queue = plain_link.uses l queue
+uses (a_hub h) queue = plain_hub.uses h queue
 
 -- the greatest of the numbers that its turns raise
 abbrev pub count : PlainParty → ℕ
@@ -108,6 +130,7 @@ count (a_bridge b) = 0
 count (an_iface i) = i.serial
 count (an_app a) = plain_app.count a
 count (a_link l) = plain_link.count l
+count (a_hub h) = plain_hub.count h
 
 -- how many frames a turn makes at most
 abbrev pub needs : PlainParty → ℕ
@@ -116,6 +139,7 @@ needs (a_bridge b) = 0
 needs (an_iface i) = 1
 needs (an_app a) = 0
 needs (a_link l) = link_stocking.needs l
+needs (a_hub h) = hub_stocking.needs h
 
 -- what is left of its stock of boxes once it was told this answer
 abbrev pub stocks : PlainParty → ℕ → AnswerShown → PlainSpares → PlainSpares
@@ -124,6 +148,7 @@ stocks (a_bridge b) time answer s = s
 stocks (an_iface i) time answer s = iface_stocking.stocks i time answer s
 stocks (an_app a) time answer s = s
 stocks (a_link l) time answer s = link_stocking.stocks l time answer s
+stocks (a_hub h) time answer s = hub_stocking.stocks h time answer s
 
 -- what a party asks at this time
 abbrev pub asks : PlainParty → ℕ → OpShown
@@ -132,6 +157,7 @@ asks (a_bridge b) time = bridge_asking.asks b
 asks (an_iface i) time = iface_asking.asks i time
 asks (an_app a) time = app_asking.asks a time
 asks (a_link l) time = link_asking.asks l time
+asks (a_hub h) time = hub_asking.asks h time
 
 -- what a party is once it has asked
 abbrev pub asked : PlainParty → ℕ → PlainParty
@@ -140,6 +166,7 @@ asked (a_bridge b) time = a_bridge (bridge_asking.asked b)
 asked (an_iface i) time = an_iface (iface_asking.asked i time)
 asked (an_app a) time = an_app (app_asking.asked a time)
 asked (a_link l) time = a_link (link_asking.asked l time)
+asked (a_hub h) time = a_hub (hub_asking.asked h time)
 
 -- what a party is once it was told this answer
 abbrev pub tells : PlainParty → ℕ → AnswerShown → PlainParty
@@ -148,6 +175,7 @@ tells (a_bridge b) time a = a_bridge (bridge_telling.tells b a)
 tells (an_iface i) time a = an_iface (iface_telling.tells i time a)
 tells (an_app p) time a = an_app (app_telling.tells p time a)
 tells (a_link l) time a = a_link (link_telling.tells l time a)
+tells (a_hub h) time a = a_hub (hub_telling.tells h time a)
 
 -- what a party reports when it is told this answer
 abbrev pub events : PlainParty → ℕ → AnswerShown → List Event
@@ -156,14 +184,16 @@ events (a_bridge b) time a = bridge_telling.events b a
 events (an_iface i) time a = iface_telling.events i time a
 events (an_app p) time a = app_telling.events p time a
 events (a_link l) time a = link_telling.events l time a
+events (a_hub h) time a = hub_telling.events h time a
 
--- the numbers of the buffers that it holds: a link holds none
+-- the numbers of the buffers that it holds: a link or a hub holds none
 abbrev pub holds : PlainParty → List ℕ
 holds (a_router r) = plain_router.holds r.state
 holds (a_bridge b) = plain_bridge.holds b
 holds (an_iface i) = plain_iface.holds i
 holds (an_app a) = plain_app.holds a
 holds (a_link l) = []
+holds (a_hub h) = []
 
 -- the number of an application's present step, from 1; 0 where it has ended, and for every other party
 abbrev pub present_step : PlainParty → ℕ
@@ -172,6 +202,7 @@ present_step (a_bridge b) = 0
 present_step (an_iface i) = 0
 present_step (an_app a) = plain_app.present_step a
 present_step (a_link l) = 0
+present_step (a_hub h) = 0
 
 -- the party with this state, where it is a state of such a party; its region stays
 abbrev pub with_plain : AnyParty → PlainParty → AnyParty
@@ -180,6 +211,7 @@ with_plain (party.Bridge b) (a_bridge s) = party.Bridge (plain_bridge.with_bridg
 with_plain (party.Iface i) (an_iface s) = party.Iface (plain_iface.with_iface i s)
 with_plain (party.App a) (an_app s) = party.App (plain_app.with_app a s)
 with_plain (party.Link l) (a_link s) = party.Link s
+with_plain (party.Hub h) (a_hub s) = party.Hub s
 with_plain p s = p
 
 -- without the first of its buffers, as it is emptied at the end of a run
@@ -189,3 +221,4 @@ drained (a_bridge b) = a_bridge (bridge_drained.drained b)
 drained (an_iface i) = an_iface (iface_drained.drained i)
 drained (an_app a) = an_app (app_drained.drained a)
 drained (a_link l) = a_link l
+drained (a_hub h) = a_hub h

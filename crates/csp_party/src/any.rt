@@ -1,19 +1,20 @@
-//! A router, a bridge, an interface, an application or a link.
+//! A router, a bridge, an interface, an application, a link or a hub.
 
 ghost use Rattle.std.specs.Prelude.{◌≡◌, ◌<◌, ◌↔◌, [], ◌∷◌, ◌-◌, IfSome, MatchOption, IsTrue};
 ghost use Rattle.csp_deck.specs.Step.{times};
-ghost use Rattle.csp_party.specs.Any.{plain, region_of, holds, drained, present_step};
+ghost use Rattle.csp_party.specs.Any.{plain, region_of, holds, drained, is_done, present_step};
 
 use csp_app::App;
 use csp_bridge::Bridge;
 use csp_buffer::Buffer;
 use csp_deck::{Answer, Circle, Events, Op, Party, QueueId, Spares};
+use csp_hub::Hub;
 use csp_iface::Iface;
 use csp_link::Link;
 use csp_stack::Stack;
 
 /// A party of a node, its router or bridge, one of its interfaces or of its applications; or a link
-/// between two nodes. A turn is the turn of that party.
+/// between two nodes, or a hub between two to eight. A turn is the turn of that party.
 pub enum AnyParty {
     /// The router.
     Router(Stack),
@@ -25,6 +26,8 @@ pub enum AnyParty {
     App(App),
     /// A link.
     Link(Link),
+    /// A hub.
+    Hub(Hub),
 }
 
 impl Party for AnyParty {
@@ -66,6 +69,7 @@ impl Party for AnyParty {
             AnyParty::Iface(iface) => iface.ask(now),
             AnyParty::App(app) => app.ask(now),
             AnyParty::Link(link) => link.ask(now),
+            AnyParty::Hub(hub) => hub.ask(now),
         }
     }
 
@@ -76,6 +80,7 @@ impl Party for AnyParty {
             AnyParty::Iface(iface) => iface.look(now),
             AnyParty::App(app) => app.look(now),
             AnyParty::Link(link) => link.look(now),
+            AnyParty::Hub(hub) => hub.look(now),
         }
     }
 
@@ -86,6 +91,7 @@ impl Party for AnyParty {
             AnyParty::Iface(iface) => iface.circle(now),
             AnyParty::App(app) => app.circle(now),
             AnyParty::Link(link) => link.circle(now),
+            AnyParty::Hub(hub) => hub.circle(now),
         }
     }
 
@@ -96,6 +102,7 @@ impl Party for AnyParty {
             AnyParty::Iface(iface) => iface.told(answer, now, report, spares),
             AnyParty::App(app) => app.told(answer, now, report, spares),
             AnyParty::Link(link) => link.told(answer, now, report, spares),
+            AnyParty::Hub(hub) => hub.told(answer, now, report, spares),
         }
     }
 
@@ -106,6 +113,7 @@ impl Party for AnyParty {
             AnyParty::Iface(iface) => iface.miss(now, report, spares),
             AnyParty::App(app) => app.miss(now, report, spares),
             AnyParty::Link(link) => link.miss(now, report, spares),
+            AnyParty::Hub(hub) => hub.miss(now, report, spares),
         }
     }
 
@@ -116,6 +124,7 @@ impl Party for AnyParty {
             AnyParty::Iface(iface) => iface.ended(),
             AnyParty::App(app) => app.ended(),
             AnyParty::Link(link) => link.ended(),
+            AnyParty::Hub(hub) => hub.ended(),
         }
     }
 
@@ -126,6 +135,7 @@ impl Party for AnyParty {
             AnyParty::Iface(iface) => iface.boxes(),
             AnyParty::App(app) => app.boxes(),
             AnyParty::Link(link) => link.boxes(),
+            AnyParty::Hub(hub) => hub.boxes(),
         }
     }
 }
@@ -141,6 +151,7 @@ impl AnyParty {
             AnyParty::Iface(iface) => iface.holds(number),
             AnyParty::App(app) => app.holds(number),
             AnyParty::Link(link) => link.holds(number),
+            AnyParty::Hub(hub) => hub.holds(number),
         }
     }
 
@@ -157,6 +168,7 @@ impl AnyParty {
             AnyParty::Iface(iface) => iface.drain(),
             AnyParty::App(app) => app.drain(),
             AnyParty::Link(link) => link.drain(),
+            AnyParty::Hub(hub) => hub.drain(),
         }
     }
 
@@ -170,6 +182,21 @@ impl AnyParty {
             AnyParty::Iface(iface) => iface.end(),
             AnyParty::App(app) => app.end(),
             AnyParty::Link(link) => link.end(),
+            AnyParty::Hub(hub) => hub.end(),
+        }
+    }
+
+    /// Whether it is no application, or one that has ended.
+    pub fn is_done(&self) -> bool
+        ensures { result ≡ is_done (plain self.now) }
+    {
+        match self {
+            AnyParty::App(_) => self.ended(),
+            AnyParty::Router(_)
+            | AnyParty::Bridge(_)
+            | AnyParty::Iface(_)
+            | AnyParty::Link(_)
+            | AnyParty::Hub(_) => true,
         }
     }
 
@@ -179,7 +206,11 @@ impl AnyParty {
     {
         match self {
             AnyParty::App(app) => app.step(),
-            AnyParty::Router(_) | AnyParty::Bridge(_) | AnyParty::Iface(_) | AnyParty::Link(_) => 0,
+            AnyParty::Router(_)
+            | AnyParty::Bridge(_)
+            | AnyParty::Iface(_)
+            | AnyParty::Link(_)
+            | AnyParty::Hub(_) => 0,
         }
     }
 }

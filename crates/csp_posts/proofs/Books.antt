@@ -61,18 +61,21 @@ zip_from R [] [] k x m e = absurd cc
 zip_from R [] (y ∷ ys) k x m e = absurd m
 zip_from R (w ∷ xs) [] k x m e = absurd m
 
+-- what stands on the other side, where there is something on one
+pub before_some : {X : Type 0} (R : Option X → Option X → Type 0) → ((k : X) → R None (Some k) → ⊥) → (g h : Option X) (k : X) → R g h → h ≡ Some k → (j : X) × (g ≡ Some j) × R (Some j) (Some k)
+before_some R none (Some g) h k m e = (g, refl, subst (R (Some g)) e m)
+before_some R none None h k m e = absurd (none k (subst (R None) e m))
+
+pub after_some : {X : Type 0} (R : Option X → Option X → Type 0) → ((k : X) → R (Some k) None → ⊥) → (g h : Option X) (j : X) → R g h → g ≡ Some j → (k : X) × (h ≡ Some k) × R (Some j) (Some k)
+after_some R none g (Some h) j m e = (h, refl, subst (λ o. R o (Some h)) e m)
+after_some R none g None j m e = absurd (none j (subst (λ o. R o None) e m))
+
 -- a home before a meeting, and after it
 home_from : (g h : Option PlainHome) (k : PlainHome) → KnowsMoreHomes g h → h ≡ Some k → (j : PlainHome) × (g ≡ Some j) × KnowsMoreHome j k
-home_from (Some g) (Some h) k m e = (g, refl, subst (KnowsMoreHome g) (same_Some h k e) m)
-home_from None None k m e = absurd cc
-home_from None (Some h) k m e = absurd m
-home_from (Some g) None k m e = absurd m
+home_from = before_some KnowsMoreHomes (λ k m. m)
 
 home_to : (g h : Option PlainHome) (j : PlainHome) → KnowsMoreHomes g h → g ≡ Some j → (k : PlainHome) × (h ≡ Some k) × KnowsMoreHome j k
-home_to (Some g) (Some h) j m e = (h, refl, subst (λ x. KnowsMoreHome x h) (same_Some g j e) m)
-home_to None None j m e = absurd cc
-home_to None (Some h) j m e = absurd m
-home_to (Some g) None j m e = absurd m
+home_to = after_some KnowsMoreHomes (λ k m. m)
 
 leads_still : (g h : PlainHome) → KnowsMoreHome g h → leads h ≡ leads g
 leads_still g h m = reads_stay g.inbox h.inbox m.inbox

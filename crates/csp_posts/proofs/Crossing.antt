@@ -1,13 +1,15 @@
 -- What goes through the ends of lanes in turns is what the lanes carry, and a push is refused only after as many puts as there is room for.
-use Rattle.std.proofs.Common.{◌≡◌, ℕ, zero, suc, ◌+◌, ◌≤◌, Bool, true, false, Option, None, Some, List, [], ◌∷◌, ◌++◌, length, map, option_map, slice_get, refl, sym, ap, ◌∙◌, subst, arith, append-nil, append_assoc, le_trans}
+use Rattle.std.proofs.Common.{◌≡◌, ℕ, ◌+◌, ◌≤◌, Bool, true, false, Option, None, Some, List, [], ◌∷◌, ◌++◌, length, map, option_map, slice_get, refl, sym, ap, ◌∙◌, subst, arith, append-nil, append_assoc, le_trans}
 use Rattle.std.specs.Prelude.{if◌then◌else◌}
 use Rattle.std.specs.List.{AllByRecursion}
 use Rattle.std.proofs.lemmas.Grind.{flat_map-append}
 use Rattle.std.proofs.lemmas.Option.{same_Some, slice_get-map}
+use Rattle.csp_consistent.proofs.QueueNames.{queue_apart, queue_is, queue_turned}
 use Rattle.csp_consistent.specs.Prompt.{AllAfter, HadNoRoom}
 use Rattle.csp_consistent.specs.Reading.{is_queue, put_by, got_by, puts}
 use Rattle.csp_deck.specs.Carried.{IsCarried}
 use Rattle.csp_ends.proofs.Kept.{whole_kept}
+use Rattle.csp_ends.proofs.Lists.{all_at, all_from}
 use Rattle.csp_ends.specs.Causes.{CauseOf, HasEnd, HasNoRoomAt, HaveCauses}
 use Rattle.csp_ends.specs.Ends.{PlainNodeQueues, PlainSide, PlainEnds, AreEnds}
 use Rattle.csp_ends.specs.Moves.{ends_after, ends_after_all, moved_by, room_for, side_after}
@@ -21,21 +23,10 @@ use Rattle.csp_log.specs.declared.shown.AnswerShown.TheVariants as answer
 use Rattle.csp_log.specs.declared.shown.ItemShown.{ItemShown}
 use Rattle.csp_log.specs.declared.shown.OpShown.{OpShown}
 use Rattle.csp_log.specs.declared.shown.OpShown.TheVariants as op
-use Rattle.csp_posts.proofs.Flowing.{queue_is, queue_turned, inbox_apart}
 use Rattle.csp_posts.proofs.Turning.{items_joined, turns_still}
 use Rattle.csp_posts.specs.Posts.{PlainPost, AreTurns}
 use Rattle.csp_posts.specs.Still.{still_side}
 use Rattle.csp_posts.specs.Through.{IsThrough, WasCrammed}
-
--- what holds of each holds at a place, and the other way round
-all_at : {X : Type 0} (P : X → Type 0) (xs : List X) (k : ℕ) (x : X) → slice_get xs k ≡ Some x → AllByRecursion P xs → P x
-all_at P [] k x e all = absurd cc
-all_at P (y ∷ ys) zero x e all = subst P (same_Some y x e) all.0
-all_at P (y ∷ ys) (suc k) x e all = all_at P ys k x e all.1
-
-all_from : {X : Type 0} (P : X → Type 0) (xs : List X) → ((k : ℕ) (x : X) → slice_get xs k ≡ Some x → P x) → AllByRecursion P xs
-all_from P [] h = tt
-all_from P (x ∷ xs) h = (h 0 x refl, all_from P xs (λ k. h (suc k)))
 
 -- what the lane of an end carries
 abbrev Carried : PlainSide → ItemShown → Type 0
@@ -44,7 +35,7 @@ Carried x i = IsCarried (rule.Lane x.end.carries) i
 -- the one end of a name
 same_end : (e : PlainEnds) (way : Bool) (q : QueueId) (i : ItemShown) (b : ℕ) (x : PlainSide) → AreEnds e → HasEnd way q i e → slice_get e.sides b ≡ Some x → is_queue x.queue q ≡ true → Carried x i
 same_end e way q i b x ends h at named =
-    let called : is_queue h.side.queue x.queue ≡ true = subst (λ r. is_queue h.side.queue r ≡ true) (queue_is x.queue q named) (queue_turned q h.side.queue h.named) in
+    let called : is_queue h.side.queue x.queue ≡ true = subst (λ r. is_queue h.side.queue r ≡ true) (sym (queue_is x.queue q named)) (queue_turned q h.side.queue h.named) in
     let same : h.at ≡ b = ends.apart h.at b h.side x h.there at called in
     subst (λ (y : PlainSide). Carried y i) (same_Some h.side x (sym h.there ∙ ap (slice_get e.sides) same ∙ at)) h.carried
 
@@ -57,7 +48,7 @@ moved_there e way q i b x ends h at = by (is_queue x.queue q) refl where
 
 -- nothing is moved through an end of a lane by what concerns the inbox
 inbox_not : (x : PlainSide) (i : ItemShown) → is_queue queue.Inbox x.queue ≡ false → AllByRecursion (Carried x) (if is_queue x.queue queue.Inbox then i ∷ [] else [])
-inbox_not x i out = by (is_queue x.queue queue.Inbox) (inbox_apart x.queue out) where
+inbox_not x i out = by (is_queue x.queue queue.Inbox) (queue_apart queue.Inbox x.queue out) where
   by : (is : Bool) → is ≡ false → AllByRecursion (Carried x) (if is then i ∷ [] else [])
   by true e = absurd cc
   by false e = tt

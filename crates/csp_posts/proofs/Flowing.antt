@@ -3,7 +3,6 @@ use Rattle.std.proofs.Common.{◌≡◌, ◌⊎◌, inl, inr, ℕ, zero, suc, �
 use Rattle.std.specs.Prelude.{slice_get, if◌then◌else◌, IsSome, IsSomeAnd}
 use Rattle.std.specs.List.{AllByRecursion}
 use Rattle.std.specs.Option.{option_map}
-use Rattle.std.proofs.lemmas.Bool.{eqb-true}
 use Rattle.std.proofs.lemmas.Grind.{flat_map-append}
 use Rattle.std.proofs.lemmas.List.{append-nil}
 use Rattle.std.proofs.lemmas.List.Sums.{sum_by-cons}
@@ -12,6 +11,7 @@ use Rattle.csp_base.specs.Priority.{prio_number}
 use Rattle.csp_base.specs.declared.priority.Prio.{Prio}
 use Rattle.csp_base.specs.declared.priority.Prio.TheVariants.{Critical, High, Normal, Low}
 use Rattle.csp_buffer.specs.Content.{Content}
+use Rattle.csp_consistent.proofs.QueueNames.{queue_apart, queue_is, queue_turned}
 use Rattle.csp_consistent.specs.Pools.{given_by, taken_by}
 use Rattle.csp_consistent.specs.Reading.{is_queue, put_by, got_by, of_priority, with_priority}
 use Rattle.csp_deck.proofs.Keeping.{times-append}
@@ -46,29 +46,6 @@ count_joined k xs ys = ap (times k) (flat_map-append item_numbers xs ys) ∙ tim
 
 count_one : (k : ℕ) (i : ItemShown) → count k (i ∷ []) ≡ times k (item_numbers i)
 count_one k i = ap (times k) (append-nil (item_numbers i))
-
--- names of queues
-pub queue_is : (q r : QueueId) → is_queue q r ≡ true → r ≡ q
-queue_is queue.Inbox queue.Inbox e = refl
-queue_is (queue.Up n) (queue.Up k) e = ap queue.Up (eqb-true k n e)
-queue_is (queue.Down n) (queue.Down k) e = ap queue.Down (eqb-true k n e)
-queue_is (queue.Out n) (queue.Out k) e = ap queue.Out (eqb-true k n e)
-queue_is (queue.Tx n) (queue.Tx k) e = ap queue.Tx (eqb-true k n e)
-queue_is (queue.Rx n) (queue.Rx k) e = ap queue.Rx (eqb-true k n e)
-queue_is _ _ e = absurd cc
-
-pub queue_turned : (q r : QueueId) → is_queue q r ≡ true → is_queue r q ≡ true
-queue_turned q r e =
-    let same = queue_is q r e in
-    ap (λ (x : QueueId). is_queue x q) same ∙ ap (is_queue q) (sym same) ∙ e
-
-pub inbox_apart : (q : QueueId) → is_queue queue.Inbox q ≡ false → is_queue q queue.Inbox ≡ false
-inbox_apart queue.Inbox e = absurd cc
-inbox_apart (queue.Up n) e = refl
-inbox_apart (queue.Down n) e = refl
-inbox_apart (queue.Out n) e = refl
-inbox_apart (queue.Tx n) e = refl
-inbox_apart (queue.Rx n) e = refl
 
 -- a number where an end is of this way
 abbrev part : (way puts : Bool) → ℕ → ℕ
@@ -175,7 +152,7 @@ one_lane way k o a q i e moved apart h =
     named false e = absurd cc
 
     here : (b : ℕ) (y : PlainSide) → slice_get e.sides b ≡ Some y → is_queue y.queue q ≡ true → b ≡ h.at
-    here b y got is = sym (apart h.at b h.side y h.there got (ap (is_queue h.side.queue) (sym (queue_is y.queue q is)) ∙ own))
+    here b y got is = sym (apart h.at b h.side y h.there got (ap (is_queue h.side.queue) (queue_is y.queue q is) ∙ own))
 
     away : (y : PlainSide) → is_queue y.queue q ≡ false → through way k o a y ≡ 0
     away y is = ap (λ (is : List ItemShown). part way y.puts (count k is)) (moved y.queue ∙ none (is_queue y.queue q) is) ∙ part_none way y.puts where
@@ -319,7 +296,7 @@ Flows k o a e = goes k o a e + times k (answer_numbers a) ≡ comes k o a e + ti
 lanes_none : (way : Bool) (o : OpShown) (a : AnswerShown) (ss : List PlainSide) → ((q : QueueId) → is_queue q queue.Inbox ≡ false → moved_by way q o a ≡ [])
     → AllByRecursion (λ s. is_queue queue.Inbox s.queue ≡ false) ss → AllByRecursion (λ s. moved_by way s.queue o a ≡ []) ss
 lanes_none way o a [] none lanes = tt
-lanes_none way o a (s ∷ ss) none lanes = (none s.queue (inbox_apart s.queue lanes.0), lanes_none way o a ss none lanes.1)
+lanes_none way o a (s ∷ ss) none lanes = (none s.queue (queue_apart queue.Inbox s.queue lanes.0), lanes_none way o a ss none lanes.1)
 
 if_false : (i : ItemShown) (b : Bool) → b ≡ false → (if b then i ∷ [] else []) ≡ []
 if_false i true e = absurd cc

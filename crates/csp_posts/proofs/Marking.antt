@@ -1,10 +1,13 @@
 -- Turns keep that the marks of what went through the ends of lanes are what the log says.
-use Rattle.std.proofs.Common.{◌≡◌, ℕ, ◌+◌, Bool, true, false, true≢false, cond, Option, None, Some, List, [], ◌∷◌, ◌++◌, length, map, refl, sym, ap, ◌∙◌, subst, append_assoc, length-append, arith}
-use Rattle.std.specs.Prelude.{◌&&◌, not, if◌then◌else◌, IfSome, IsSome}
+use Rattle.std.proofs.Common.{◌≡◌, ℕ, ◌+◌, Bool, true, false, cond, Option, None, Some, List, [], ◌∷◌, ◌++◌, length, map, refl, sym, ap, ◌∙◌, subst, append_assoc, length-append, arith}
+use Rattle.std.specs.Prelude.{not, IfSome, IsSome}
 use Rattle.std.specs.List.{AllByRecursion, find}
 use Rattle.std.specs.Option.{option_map}
+use Rattle.std.proofs.lemmas.Bool.{and_parts}
 use Rattle.std.proofs.lemmas.List.{append-nil}
+use Rattle.csp_consistent.proofs.QueueNames.{queue_is}
 use Rattle.csp_consistent.specs.Reading.{is_queue}
+use Rattle.csp_ends.proofs.Backs.{back_turned}
 use Rattle.csp_ends.proofs.Kept.{whole_kept}
 use Rattle.csp_ends.specs.Ends.{PlainSide, PlainEnds, AreEnds}
 use Rattle.csp_ends.specs.Moves.{marks_along, moved_by, side_after, ends_after, ends_after_all}
@@ -14,7 +17,6 @@ use Rattle.csp_log.specs.Pictures.{Fits}
 use Rattle.csp_log.specs.declared.entry.Entry.{Entry}
 use Rattle.csp_log.specs.declared.places.QueueId.{QueueId}
 use Rattle.csp_log.specs.declared.shown.ItemShown.{ItemShown}
-use Rattle.csp_posts.proofs.Flowing.{queue_is}
 use Rattle.csp_posts.proofs.Tracing.{traced_after}
 
 -- one mark for each item
@@ -60,25 +62,6 @@ found P test (s ∷ ss) all h = by (test s) (find test ss) (found P test ss all.
   by true rest later same g = record { side = s; is = refl; holds = all.0; tested = same }
   by false rest later same g = later g
 
--- the other end goes the other way
-turned : (p q : Bool) → (if p then not q else q) ≡ true → q ≡ not p
-turned true false e = refl
-turned false true e = refl
-turned true true e = absurd (true≢false (sym e))
-turned false false e = absurd (true≢false (sym e))
-
-first_true : (a b : Bool) → (a && b) ≡ true → a ≡ true
-first_true true b e = refl
-first_true false b e = absurd (true≢false (sym e))
-
-second_true : (a b : Bool) → (a && b) ≡ true → b ≡ true
-second_true true b e = e
-second_true false b e = absurd (true≢false (sym e))
-
-back_is : (other : QueueId) (s t : PlainSide) → is_back_by (Some other) s t ≡ true → (other ≡ t.queue) × (t.puts ≡ not s.puts)
-back_is other s t e =
-    (sym (queue_is other t.queue (first_true (is_queue other t.queue) (is_turned s t) e)), turned s.puts t.puts (second_true (is_queue other t.queue) (is_turned s t) e))
-
 some_mapped : (tally : Option ℕ) (o : Option PlainSide) → tally ≡ option_map (λ t. t.end.tally) o → IsSome tally → IsSome o
 some_mapped tally None same h = subst IsSome same h
 some_mapped tally (Some t) same h = refl
@@ -89,11 +72,11 @@ beside_is : (es : List Entry) (ends : List PlainSide) (s : PlainSide) (other : Q
 beside_is es ends s other traced named there =
     let f = found (IsSideTraced es) (is_back s) ends traced there in
     let t = f.side in
-    let back = back_is other s t (ap (λ o. is_back_by o s t) (sym named) ∙ f.tested) in
+    let called = queue_is other t.queue (and_parts (is_queue other t.queue) (is_turned s t) (ap (λ o. is_back_by o s t) (sym named) ∙ f.tested)).0 in
     ap count_through f.is
     ∙ ap (λ (is : List ItemShown). length is) f.holds
-    ∙ ap (λ p. length (moved p t.queue es)) back.1
-    ∙ ap (λ q. length (moved (not s.puts) q es)) (sym back.0)
+    ∙ ap (λ p. length (moved p t.queue es)) (back_turned s t f.tested)
+    ∙ ap (λ q. length (moved (not s.puts) q es)) (sym called)
 
 -- the marks of an end after a turn
 side_marked : (es : List Entry) (e : Entry) (ends : List PlainSide) (s : PlainSide) → AllByRecursion (IsSideTraced es) ends → IsBacked ends s → IsSideMarked es s → IsSideMarked (es ++ e ∷ []) (side_after ends e.op e.answer s)

@@ -7,7 +7,7 @@ use Rattle.csp_ends.specs.Ends.{PlainNodeQueues}
 use Rattle.csp_ends.specs.Moves.{ends_after, room_for}
 use Rattle.csp_log.specs.Pictures.{Fits}
 use Rattle.csp_log.specs.declared.shown.AnswerShown.{AnswerShown}
-use Rattle.csp_party.specs.Any.{PlainParty, a_router, a_bridge, an_iface, an_app, a_link, plain, with_plain, is_ready, has_ended, asks, asked, tells, events, holds}
+use Rattle.csp_party.specs.Any.{PlainParty, a_router, a_bridge, an_iface, an_app, a_link, a_hub, plain, with_plain, is_ready, has_ended, asks, asked, tells, events, holds}
 use Rattle.csp_party.specs.declared.any.AnyParty.{AnyParty}
 use Rattle.csp_party.specs.declared.any.AnyParty.TheVariants as party
 use Rattle.csp_posts.specs.Posts.{PlainPost, AreTurns}
@@ -19,6 +19,7 @@ any_time (a_bridge r) a b h = h
 any_time (an_iface i) a b h = h
 any_time (an_app p) a b h = h
 any_time (a_link l) a b h = h
+any_time (a_hub u) a b h = h
 
 -- what a party's turn makes of its state, and what it reports
 pub plain_told : (p : AnyParty) (time : ℕ) (a : AnswerShown) → plain (with_plain (with_plain p (asked (plain p) time)) (tells (plain (with_plain p (asked (plain p) time))) time a)) ≡ tells (asked (plain p) time) time a
@@ -27,6 +28,7 @@ plain_told (party.Bridge b) time a = refl
 plain_told (party.Iface i) time a = refl
 plain_told (party.App p) time a = refl
 plain_told (party.Link l) time a = refl
+plain_told (party.Hub h) time a = refl
 
 pub events_told : (p : AnyParty) (time : ℕ) (a : AnswerShown) → events (plain (with_plain p (asked (plain p) time))) time a ≡ events (asked (plain p) time) time a
 events_told (party.Router r) time a = refl
@@ -34,6 +36,7 @@ events_told (party.Bridge b) time a = refl
 events_told (party.Iface i) time a = refl
 events_told (party.App p) time a = refl
 events_told (party.Link l) time a = refl
+events_told (party.Hub h) time a = refl
 
 -- the boxes of one turn less serve one turn less
 pub stock_left : (needs spare stock left : ℕ) → 0 < spare → needs * spare ≤ stock → stock ≤ left + needs → needs * (spare - 1) ≤ left

@@ -9,7 +9,7 @@ use Rattle.csp_inbox.specs.Marks.{with_mark}
 use Rattle.csp_inbox.specs.Passes.{PlainPass as Post, mail_at, known_gets, known_puts}
 use Rattle.csp_lane.specs.Ends.{PlainEnd}
 use Rattle.csp_log.specs.declared.shown.ItemShown.{ItemShown}
-use Rattle.csp_meeting.specs.Meeting.{HaveMetAtHome, HaveMetEnds, HaveMetHomes, HaveMetInboxes, HaveMetLanes, HaveMetMail, HaveMetSides, KeepCounts, KeepCountsAt, KeepCountsBy, KnowsMore, KnowsMoreAt, KnowsMoreHome, KnowsMoreHomes, KnowsMoreInbox, leads, reads_inbox}
+use Rattle.csp_meeting.specs.Meeting.{HaveMetHomes, HaveMetInboxes, HaveMetLanes, HaveMetSides, KeepCounts, KeepCountsAt, KeepCountsBy, KnowsMore, KnowsMoreAt, KnowsMoreHome, KnowsMoreHomes, KnowsMoreInbox, leads, reads_inbox}
 use Rattle.csp_meeting.specs.Meeting as ends
 use Rattle.csp_pool.specs.Tallies.{known_total}
 use Rattle.csp_posts.specs.Between.{is_home, over_home}
@@ -205,27 +205,24 @@ kept_by f node g h i j true true at k = at refl k
 kept_by f node g h i j true false at k = same_both f node (Some g) (Some h) (Some i) (Some j) (ap Some k.0) (ap Some k.1)
 kept_by f node g h i j false lead at k = same_both f node (Some g) (Some h) (Some i) (Some j) (ap Some k.0) (ap Some k.1)
 
+stay_by : (f : Option PlainHome → ℕ) (node : ℕ)
+    → ((g h i j : PlainHome) → KnowsMoreHome g i → KnowsMoreHome h j → g.node ≡ h.node → KeepCountsAt g h i j → Same f node (Some g) (Some h) (Some i) (Some j))
+    → (g h i j : Option PlainHome) → KnowsMoreHomes g i → KnowsMoreHomes h j → KeepCounts g h i j → Same f node g h i j
+stay_by f node met (Some g) (Some h) (Some i) (Some j) more also k = kept_by f node g h i j (g.node == h.node) (leads g) (λ same at. met g h i j more also (eqb-true g.node h.node same) at) k
+stay_by f node met None h i j more also k = by i h j more k where
+  by : (i h j : Option PlainHome) → KnowsMoreHomes None i → KeepCounts None h i j → Same f node None h i j
+  by None h j more k = same_both f node None h None j k.0 k.1
+  by (Some i) h j more k = absurd more
+stay_by f node met (Some g) None (Some i) None more also k = same_both f node (Some g) None (Some i) None k.0 k.1
+stay_by f node met (Some g) None (Some i) (Some j) more also k = absurd also
+stay_by f node met (Some g) h None j more also k = absurd more
+stay_by f node met (Some g) (Some h) (Some i) None more also k = absurd also
+
 pub puts_stay : (node : ℕ) (g h i j : Option PlainHome) → KnowsMoreHomes g i → KnowsMoreHomes h j → KeepCounts g h i j → Same puts_for node g h i j
-puts_stay node (Some g) (Some h) (Some i) (Some j) f m k = kept_by puts_for node g h i j (g.node == h.node) (leads g) (λ same at. met_puts node g h i j f m (eqb-true g.node h.node same) at) k
-puts_stay node None h i j f m k = by i h j f k where
-  by : (i h j : Option PlainHome) → KnowsMoreHomes None i → KeepCounts None h i j → Same puts_for node None h i j
-  by None h j f k = same_both puts_for node None h None j k.0 k.1
-  by (Some i) h j f k = absurd f
-puts_stay node (Some g) None (Some i) None f m k = same_both puts_for node (Some g) None (Some i) None k.0 k.1
-puts_stay node (Some g) None (Some i) (Some j) f m k = absurd m
-puts_stay node (Some g) h None j f m k = absurd f
-puts_stay node (Some g) (Some h) (Some i) None f m k = absurd m
+puts_stay node = stay_by puts_for node (met_puts node)
 
 pub takes_stay : (node : ℕ) (g h i j : Option PlainHome) → KnowsMoreHomes g i → KnowsMoreHomes h j → KeepCounts g h i j → Same takes_for node g h i j
-takes_stay node (Some g) (Some h) (Some i) (Some j) f m k = kept_by takes_for node g h i j (g.node == h.node) (leads g) (λ same at. met_takes node g h i j f m (eqb-true g.node h.node same) at) k
-takes_stay node None h i j f m k = by i h j f k where
-  by : (i h j : Option PlainHome) → KnowsMoreHomes None i → KeepCounts None h i j → Same takes_for node None h i j
-  by None h j f k = same_both takes_for node None h None j k.0 k.1
-  by (Some i) h j f k = absurd f
-takes_stay node (Some g) None (Some i) None f m k = same_both takes_for node (Some g) None (Some i) None k.0 k.1
-takes_stay node (Some g) None (Some i) (Some j) f m k = absurd m
-takes_stay node (Some g) h None j f m k = absurd f
-takes_stay node (Some g) (Some h) (Some i) None f m k = absurd m
+takes_stay node = stay_by takes_for node (met_takes node)
 
 -- and all together
 pub two_then : (f : Option PlainHome → ℕ) (node : ℕ) (r s t u v : PlainPost) (posts after : List PlainPost)

@@ -31,7 +31,7 @@ use Rattle.csp_posts.specs.Between.{is_home, over_home, pool_puts, pool_takes}
 use Rattle.csp_posts.specs.Books.{AreInBooks, HasBooks, IsMarked}
 use Rattle.csp_posts.specs.Meetings.{puts_for, takes_for}
 use Rattle.csp_posts.specs.Posts.{AreTurns, PlainPost}
-use Rattle.csp_posts.proofs.Books.{zip_at, zip_from}
+use Rattle.csp_posts.proofs.Books.{after_some, before_some, zip_at, zip_from}
 use Rattle.csp_posts.proofs.Sweeping.{over_cons}
 
 -- a hand whose books stay right: what it answers for grows as what it does
@@ -84,24 +84,8 @@ put_marked m p (op.Push queue.Inbox i) a own = by a (own i refl) where
   by : (a : AnswerShown) → (a ≡ answer.Pushed → mark_of i ≡ m) → with_mark m (with_priority p (put_by queue.Inbox (op.Push queue.Inbox i) a)) ≡ with_priority p (put_by queue.Inbox (op.Push queue.Inbox i) a)
   by answer.Pushed h = of_one m p i (h refl)
   by _ h = refl
-put_marked m p (op.Push (queue.Up k) i) a own = none a where
-  none : (a : AnswerShown) → with_mark m (with_priority p (put_by queue.Inbox (op.Push (queue.Up k) i) a)) ≡ with_priority p (put_by queue.Inbox (op.Push (queue.Up k) i) a)
-  none answer.Pushed = refl
-  none _ = refl
-put_marked m p (op.Push (queue.Down k) i) a own = none a where
-  none : (a : AnswerShown) → with_mark m (with_priority p (put_by queue.Inbox (op.Push (queue.Down k) i) a)) ≡ with_priority p (put_by queue.Inbox (op.Push (queue.Down k) i) a)
-  none answer.Pushed = refl
-  none _ = refl
-put_marked m p (op.Push (queue.Out k) i) a own = none a where
-  none : (a : AnswerShown) → with_mark m (with_priority p (put_by queue.Inbox (op.Push (queue.Out k) i) a)) ≡ with_priority p (put_by queue.Inbox (op.Push (queue.Out k) i) a)
-  none answer.Pushed = refl
-  none _ = refl
-put_marked m p (op.Push (queue.Tx k) i) a own = none a where
-  none : (a : AnswerShown) → with_mark m (with_priority p (put_by queue.Inbox (op.Push (queue.Tx k) i) a)) ≡ with_priority p (put_by queue.Inbox (op.Push (queue.Tx k) i) a)
-  none answer.Pushed = refl
-  none _ = refl
-put_marked m p (op.Push (queue.Rx k) i) a own = none a where
-  none : (a : AnswerShown) → with_mark m (with_priority p (put_by queue.Inbox (op.Push (queue.Rx k) i) a)) ≡ with_priority p (put_by queue.Inbox (op.Push (queue.Rx k) i) a)
+put_marked m p (op.Push q i) a own = none a where
+  none : (a : AnswerShown) → with_mark m (with_priority p (put_by queue.Inbox (op.Push q i) a)) ≡ with_priority p (put_by queue.Inbox (op.Push q i) a)
   none answer.Pushed = refl
   none _ = refl
 
@@ -215,16 +199,10 @@ all_right nodes time count [] (y ∷ ys) m = absurd m
 all_right nodes time count (x ∷ xs) [] m = absurd m
 
 right_from : (g h : Option PlainHome) (k : PlainHome) → HomesRight g h → h ≡ Some k → (j : PlainHome) × (g ≡ Some j) × HomeRight j k
-right_from (Some g) (Some h) k m e = (g, refl, subst (HomeRight g) (same_Some h k e) m)
-right_from None None k m e = absurd cc
-right_from None (Some h) k m e = absurd m
-right_from (Some g) None k m e = absurd m
+right_from = before_some HomesRight (λ k m. m)
 
 right_to : (g h : Option PlainHome) (j : PlainHome) → HomesRight g h → g ≡ Some j → (k : PlainHome) × (h ≡ Some k) × HomeRight j k
-right_to (Some g) (Some h) j m e = (h, refl, subst (λ x. HomeRight x h) (same_Some g j e) m)
-right_to None None j m e = absurd cc
-right_to None (Some h) j m e = absurd m
-right_to (Some g) None j m e = absurd m
+right_to = after_some HomesRight (λ k m. m)
 
 books_right : (xs ys : List PlainPost) → AllZip (λ (s t : PlainPost). HomesRight s.ends.home t.ends.home) xs ys → AllByRecursion (λ (s : PlainPost). IfSome s.ends.home HasBooks) xs → AllByRecursion (λ (s : PlainPost). IfSome s.ends.home HasBooks) ys
 books_right [] [] m b = tt

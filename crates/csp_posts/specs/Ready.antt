@@ -1,8 +1,7 @@
 -- When a party of a threaded run can take turns, and what turns leave of it.
-use Rattle.std.specs.Prelude.{◌≡◌, ◌+◌, ◌^◌, ◌<◌, ◌≤◌, ℕ, Bool, false, List, not}
+use Rattle.std.specs.Prelude.{◌≡◌, ◌+◌, ◌^◌, ◌<◌, ◌≤◌, ℕ, List}
 use Rattle.csp_deck.specs.Runs.{last_time}
 use Rattle.csp_ends.specs.Ends.{PlainNodeQueues, AreOf}
-use Rattle.csp_party.specs.Any.{PlainParty, a_router, a_bridge, an_iface, an_app, a_link, has_ended}
 use Rattle.csp_posts.specs.Posts.{AreTurns}
 use Rattle.csp_posts.specs.Seen.{SeenPost}
 
@@ -18,11 +17,3 @@ pub record HasTurned (nodes : List PlainNodeQueues) (time count : ℕ) (s t : Se
   pub turns : AreTurns nodes time count s.plain t.plain
   pub spare : s.spare ≤ t.spare + count
   pub room : t.room ≡ s.room
-
--- it is an application that hasn't ended
-abbrev pub is_unfinished : PlainParty → Bool
-is_unfinished (a_router r) = false
-is_unfinished (a_bridge b) = false
-is_unfinished (an_iface i) = false
-is_unfinished (an_app a) = not (has_ended (an_app a))
-is_unfinished (a_link l) = false

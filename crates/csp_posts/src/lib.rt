@@ -10,5 +10,5 @@ mod retired;
 pub use laws::{turns_add_up, turns_keep_post, turns_leave_ends};
 pub use ledgers::turns_keep_books;
 pub use meeting::meet_all;
-pub use post::{Post, ROUND_TURNS};
+pub use post::{Post, ROUND_TURNS, are_finished};
 pub use retired::Retired;

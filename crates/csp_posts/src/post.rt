@@ -1,6 +1,7 @@
 //! A party of a threaded run: its turns and its rounds.
 
 ghost use Rattle.std.specs.Prelude.{◌≡◌, ◌↔◌, ◌+◌, ◌++◌, ◌∷◌, ◌-◌, ◌<◌, ◌≤◌, ◌^◌, [], true, false, Some, length, max, OnOk, OnErr, vec_capacity};
+ghost use Rattle.std.specs.List.{list_all};
 ghost use Rattle.csp_base.specs.declared.turns.Turn.{Turn};
 ghost use Rattle.csp_ends.specs.Ends.{rule_of, AreEnds};
 ghost use Rattle.csp_ends.specs.Ends as hands;
@@ -9,8 +10,8 @@ ghost use Rattle.csp_log.specs.Weights.{weight_of_all};
 ghost use Rattle.csp_log.specs.declared.entry.Entry.{Entry};
 ghost use Rattle.csp_log.specs.declared.places.QueueId.{QueueId};
 ghost use Rattle.csp_log.specs.declared.places.Rule.{Rule};
-ghost use Rattle.csp_party.specs.Any.{plain, region_of, is_ready, count, uses, has_ended};
-ghost use Rattle.csp_posts.specs.Ready.{CanTurn, HasTurned, is_unfinished};
+ghost use Rattle.csp_party.specs.Any.{plain, region_of, is_ready, is_done, count, uses, has_ended};
+ghost use Rattle.csp_posts.specs.Ready.{CanTurn, HasTurned};
 
 use csp_base::Turn;
 use csp_deck::{Desk, Log, Party, Spares, turn};
@@ -115,15 +116,11 @@ impl Post {
         self.log.weight()
     }
 
-    /// Whether it is an application that hasn't ended.
-    pub fn unfinished(&self) -> bool
-        ensures { result ≡ is_unfinished self.now.plain.party }
+    /// Whether it is no application, or one that has ended.
+    pub fn is_done(&self) -> bool
+        ensures { result ≡ is_done self.now.plain.party }
     {
-        match &self.party {
-            AnyParty::App(_) => !self.party.ended(),
-            AnyParty::Router(_) | AnyParty::Bridge(_) | AnyParty::Iface(_) | AnyParty::Link(_) =>
-                false,
-        }
+        self.party.is_done()
     }
 
     /// One turn: the party asks, the queues serve that one operation, it is told the answer, and its log has one entry more.
@@ -162,4 +159,11 @@ impl Worker for Post {
             let _turn = self.turn(rt, shared, now);
         }
     }
+}
+
+/// Whether each application has ended.
+pub fn are_finished(posts: &[Post]) -> bool
+    ensures { result ≡ list_all (λ s. is_done s.plain.party) posts.now }
+{
+    posts.iter().all(|post| post.is_done())
 }

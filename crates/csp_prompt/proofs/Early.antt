@@ -1,5 +1,5 @@
 -- What is early stays so: turns of a round change nothing of what was early in it or before, and add to what holds after each entry.
-use Rattle.std.proofs.Common.{◌≡◌, ℕ, ◌<◌, ◌≤◌, cond, List, [], ◌∷◌, ◌++◌, ltb, refl, sym, ap, ◌∙◌, subst, arith, append-nil, append_assoc, le-ltb, lt-ltb}
+use Rattle.std.proofs.Common.{◌≡◌, ℕ, ◌<◌, ◌≤◌, cond, List, [], ◌∷◌, ◌++◌, ltb, refl, sym, ap, ◌∙◌, subst, arith, append-nil, le-ltb, lt-ltb}
 use Rattle.std.proofs.lemmas.List.Elements.{filter-append}
 use Rattle.std.specs.List.{AllByRecursion}
 use Rattle.csp_consistent.specs.Prompt.{AllAfter}

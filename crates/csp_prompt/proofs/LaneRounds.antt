@@ -1,10 +1,11 @@
 -- A round keeps a lane prompt: two posts alone.
-use Rattle.std.proofs.Common.{◌≡◌, ℕ, ◌+◌, ◌<◌, ◌≤◌, ◌==◌, true, false, Some, List, [], ◌∷◌, ◌++◌, length, option_map, slice_get, refl, sym, ap, ◌∙◌, subst, arith, append-nil, le_trans, eqb-true, eq-eqb}
+use Rattle.std.proofs.Common.{◌≡◌, ℕ, ◌+◌, ◌<◌, ◌≤◌, true, false, Some, List, [], ◌∷◌, ◌++◌, length, option_map, slice_get, sym, ap, ◌∙◌, subst, arith, append-nil, le_trans}
 use Rattle.std.proofs.lemmas.Grind.{flat_map-append}
 use Rattle.std.proofs.lemmas.Option.{slice_get-map}
 use Rattle.std.specs.List.{AllByRecursion}
+use Rattle.csp_consistent.proofs.QueueNames.{queue_turned}
 use Rattle.csp_consistent.specs.Prompt.{AllAfter, HadNoRoom, IsLanePrompt, MissedNone}
-use Rattle.csp_consistent.specs.Reading.{gets, got_by, is_queue, put_by, puts}
+use Rattle.csp_consistent.specs.Reading.{gets, got_by, is_queue, puts}
 use Rattle.csp_ends.specs.Causes.{CauseOf, HasNothingAt, HaveCauses}
 use Rattle.csp_ends.specs.Ends.{PlainSide, PlainEnds}
 use Rattle.csp_ends.specs.Moves.{ends_after, moved_by, side_after}
@@ -21,19 +22,6 @@ use Rattle.csp_posts.specs.Between.{HaveMetAt}
 use Rattle.csp_prompt.proofs.Early.{after_round}
 use Rattle.csp_prompt.proofs.Places.{each_at}
 
-number_swapped : (a b : ℕ) → (a == b) ≡ true → (b == a) ≡ true
-number_swapped a b e = eq-eqb b a (sym (eqb-true a b e))
-
--- a queue is the other where the other is it
-queue_swapped : (q r : QueueId) → is_queue q r ≡ true → is_queue r q ≡ true
-queue_swapped queue.Inbox queue.Inbox e = refl
-queue_swapped (queue.Up a) (queue.Up b) e = number_swapped b a e
-queue_swapped (queue.Down a) (queue.Down b) e = number_swapped b a e
-queue_swapped (queue.Out a) (queue.Out b) e = number_swapped b a e
-queue_swapped (queue.Tx a) (queue.Tx b) e = number_swapped b a e
-queue_swapped (queue.Rx a) (queue.Rx b) e = number_swapped b a e
-queue_swapped _ _ e = absurd cc
-
 -- with one turn more
 pub gets_push : (q : QueueId) (es : List Entry) (m : Entry) → gets q (es ++ m ∷ []) ≡ gets q es ++ got_by q m.op m.answer
 gets_push q es m = flat_map-append (λ (e : Entry). got_by q e.op e.answer) es (m ∷ []) ∙ ap (λ is. gets q es ++ is) (append-nil (got_by q m.op m.answer))
@@ -42,7 +30,7 @@ nothing_there : (earlier : ℕ) (r : QueueId) (e : PlainEnds) (b : ℕ) (y : Pla
     → slice_get e.sides b ≡ Some y → y.puts ≡ false → y.end.items ≡ gets y.queue before → earlier ≤ y.end.known → AllByRecursion (HasNothingAt r) e.sides
     → is_queue y.queue r ≡ true → earlier ≤ length (gets y.queue before)
 nothing_there earlier r e b y before at way items knows all same =
-    le_trans knows (subst (λ is. y.end.known ≤ length is) items (each_at (HasNothingAt r) e.sides b y all at (queue_swapped y.queue r same) way))
+    le_trans knows (subst (λ is. y.end.known ≤ length is) items (each_at (HasNothingAt r) e.sides b y all at (queue_turned y.queue r same) way))
 
 missed_here : (earlier : ℕ) (o : OpShown) (a : AnswerShown) (e : PlainEnds) (b : ℕ) (y : PlainSide) (before : List Entry)
     → slice_get e.sides b ≡ Some y → y.puts ≡ false → y.end.items ≡ gets y.queue before → earlier ≤ y.end.known → CauseOf e o a → MissedNone y.queue earlier before o a

@@ -1,7 +1,7 @@
 -- A meeting leaves the logs as they were.
 use Rattle.std.proofs.Common.{◌≡◌, ◌&&◌, List, [], ◌∷◌, refl, ap, ◌∙◌}
 use Rattle.std.specs.List.{AllZip}
-use Rattle.csp_consistent.specs.Rounds.{is_done}
+use Rattle.csp_party.specs.Any.{is_done}
 use Rattle.csp_posts.specs.Between.{HasHeard}
 use Rattle.csp_posts.specs.Posts.{PlainPost}
 use Rattle.csp_prompt.specs.Played.{are_done, logs_of}

@@ -3,11 +3,11 @@ use Rattle.std.proofs.Common.{◌≡◌, ◌⊎◌, inl, inr, ℕ, suc, ◌+◌,
 use Rattle.std.proofs.lemmas.List.Elements.{filter-append}
 use Rattle.std.specs.Prelude.{if◌then◌else◌}
 use Rattle.std.specs.List.{AllByRecursion, AllZip}
-use Rattle.csp_consistent.specs.Rounds.{HasMadeRounds, HaveMadeRounds, IsMadeInRounds, IsRound, app_turns, early, have_apps_ended, is_app, is_done, party_after, turns_in}
+use Rattle.csp_consistent.specs.Rounds.{HasMadeRounds, HaveMadeRounds, IsMadeInRounds, IsRound, app_turns, early, have_apps_ended, is_app, party_after, turns_in}
 use Rattle.csp_deck.specs.Runs.{state_after, step_after}
 use Rattle.csp_ends.specs.Ends.{PlainNodeQueues}
 use Rattle.csp_log.specs.declared.entry.Entry.{Entry}
-use Rattle.csp_party.specs.Any.{PlainParty, a_router, a_bridge, an_iface, an_app, a_link, has_ended}
+use Rattle.csp_party.specs.Any.{PlainParty, a_router, a_bridge, an_iface, an_app, a_link, a_hub, has_ended, is_done}
 use Rattle.csp_posts.specs.Posts.{AreTurns, PlainPost}
 use Rattle.csp_prompt.proofs.Early.{all_early, early_before}
 use Rattle.csp_prompt.specs.Played.{HasRunFrom, HaveRunFrom, are_done, logs_of}
@@ -130,6 +130,7 @@ app_step (a_bridge b) e = refl
 app_step (an_iface i) e = refl
 app_step (an_app a) e = refl
 app_step (a_link l) e = refl
+app_step (a_hub h) e = refl
 
 app_kept : (p : PlainParty) (es : List Entry) → is_app (state_after party_steps p es) ≡ is_app p
 app_kept p [] = refl
@@ -142,6 +143,7 @@ undone_app (a_router r) e = absurd cc
 undone_app (a_bridge b) e = absurd cc
 undone_app (an_iface i) e = absurd cc
 undone_app (a_link l) e = absurd cc
+undone_app (a_hub h) e = absurd cc
 
 undone_goes : (p : PlainParty) → is_done p ≡ false → has_ended p ≡ false
 undone_goes (an_app a) e = e
@@ -149,6 +151,7 @@ undone_goes (a_router r) e = absurd cc
 undone_goes (a_bridge b) e = absurd cc
 undone_goes (an_iface i) e = absurd cc
 undone_goes (a_link l) e = absurd cc
+undone_goes (a_hub h) e = absurd cc
 
 -- it makes a turn in the round: had it made none, it would be what it was
 makes_one : (nodes : List PlainNodeQueues) (now : ℕ) (o : PlainOpening) (s t : PlainPost) (d : AreTurns nodes now 8 s t) → HasRunFrom o s → HasRunFrom o t → has_ended s.party ≡ false → 0 < length d.more

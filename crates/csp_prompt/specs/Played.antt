@@ -1,8 +1,9 @@
 -- The rounds that the posts of a threaded run have made.
 use Rattle.std.specs.Prelude.{◌≡◌, Bool, List, map}
 use Rattle.std.specs.List.{AllZip, list_all}
-use Rattle.csp_consistent.specs.Rounds.{is_done, party_after}
+use Rattle.csp_consistent.specs.Rounds.{party_after}
 use Rattle.csp_log.specs.declared.entry.Entry.{Entry}
+use Rattle.csp_party.specs.Any.{is_done}
 use Rattle.csp_posts.specs.Posts.{PlainPost}
 use Rattle.csp_topology.specs.Parties.{PlainOpening}
 

@@ -13,7 +13,7 @@ use Rattle.csp_log.specs.declared.shown.AnswerShown.TheVariants as answer
 use Rattle.csp_log.specs.declared.shown.AnswerShown.{AnswerShown}
 use Rattle.csp_log.specs.declared.shown.OpShown.TheVariants as op
 use Rattle.csp_log.specs.declared.shown.OpShown.{OpShown}
-use Rattle.csp_party.specs.Any.{PlainParty, a_bridge, a_link, a_router, an_app, an_iface, asked, asks, events, has_ended, tells}
+use Rattle.csp_party.specs.Any.{PlainParty, a_bridge, a_hub, a_link, a_router, an_app, an_iface, asked, asks, events, has_ended, tells}
 use Rattle.csp_sizes.proofs.LightAnswers.{room_small}
 use Rattle.csp_sizes.proofs.LightApps as apps
 use Rattle.csp_sizes.proofs.LightDecks.{AreServed, all_there, decks_light}
@@ -32,6 +32,7 @@ party_asks (a_bridge b) time h = absurd h
 party_asks (an_iface i) time h = ifaces.asks_light i time h
 party_asks (an_app a) time h = apps.asks_light a time h
 party_asks (a_link l) time h = links.asks_light l time h
+party_asks (a_hub u) time h = absurd h
 
 party_light : (p : PlainParty) (time : ℕ) (a : AnswerShown) → IsLightParty p → IsLightAnswer (asks p time) a → IsLightParty (tells (asked p time) time a)
 party_light (a_router r) time a h light = routers.router_light r time a h light
@@ -39,6 +40,7 @@ party_light (a_bridge b) time a h light = absurd h
 party_light (an_iface i) time a h light = ifaces.iface_light i time a h light
 party_light (an_app s) time a h light = apps.app_light s time a h light
 party_light (a_link l) time a h light = links.link_light l time a h light
+party_light (a_hub u) time a h light = absurd h
 
 -- ---- its entry
 

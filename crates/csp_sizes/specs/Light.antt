@@ -20,7 +20,7 @@ use Rattle.csp_log.specs.declared.shown.AnswerShown.TheVariants as answer
 use Rattle.csp_log.specs.declared.shown.AnswerShown.{AnswerShown}
 use Rattle.csp_log.specs.declared.shown.OpShown.TheVariants as op
 use Rattle.csp_log.specs.declared.shown.OpShown.{OpShown}
-use Rattle.csp_party.specs.Any.{PlainParty, a_bridge, a_link, a_router, an_app, an_iface}
+use Rattle.csp_party.specs.Any.{PlainParty, a_bridge, a_hub, a_link, a_router, an_app, an_iface}
 use Rattle.csp_ports.specs.PlainPorts.{PlainPorts, PlainStalled}
 use Rattle.csp_rdp.specs.Balance.{IsWhole}
 use Rattle.csp_rdp.specs.Machine.{PlainRdp}
@@ -183,10 +183,11 @@ pub record IsLightLink (l : PlainLink) : Type 0 where
   pub forth : IsLightDirection l.forth
   pub back : IsLightDirection l.back
 
--- a party; a bridge is none of them
+-- a party; a bridge is none of them, nor is a hub
 abbrev pub IsLightParty : PlainParty → Type 0
 IsLightParty (a_router r) = IsLightRouter r
 IsLightParty (a_bridge b) = ⊥
 IsLightParty (an_iface i) = IsLightIface i
 IsLightParty (an_app a) = IsLightApp a
 IsLightParty (a_link l) = IsLightLink l
+IsLightParty (a_hub h) = ⊥

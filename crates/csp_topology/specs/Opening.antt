@@ -4,6 +4,7 @@ use Rattle.csp_app.specs.Room.{IsStep}
 use Rattle.csp_arena.specs.declared.token.RegionToken.{RegionToken}
 use Rattle.csp_base.specs.declared.limits.TheConstants.{MAX_PAYLOAD}
 use Rattle.csp_deck.specs.Regions.{nowhere}
+use Rattle.csp_hub.specs.declared.hub.TheConstants.{MIN_ENDS, MAX_ENDS}
 use Rattle.csp_link.specs.Fates.{IsFault}
 use Rattle.csp_log.specs.declared.places.TheConstants.{IFACES}
 use Rattle.csp_party.specs.Any.{region_of}
@@ -11,7 +12,7 @@ use Rattle.csp_party.specs.declared.any.AnyParty.{AnyParty}
 use Rattle.csp_record.specs.declared.who.Who.TheVariants as who
 use Rattle.csp_scene.specs.Scene.{PlainLink}
 use Rattle.csp_stack.specs.Config.{IsConfig}
-use Rattle.csp_topology.specs.Parties.{PlainOpening, opens, router_for, bridge_at, iface_on, app_with, link_with}
+use Rattle.csp_topology.specs.Parties.{PlainOpening, opens, router_for, bridge_at, iface_on, app_with, link_with, hub_with}
 use Rattle.csp_topology.specs.declared.opening.Opening.{Opening}
 use Rattle.csp_topology.specs.declared.opening.Opening.TheVariants as opening
 
@@ -22,6 +23,7 @@ opening_of (opening.Bridge node) = bridge_at node
 opening_of (opening.Iface node number kind mtu) = iface_on node number kind mtu
 opening_of (opening.App node number script) = app_with node number script
 opening_of (opening.Link number kind plan) = link_with number kind plan.items
+opening_of (opening.Hub number ends plan) = hub_with number ends plan.items
 
 -- the packets of a link fit the buffers of its nodes
 abbrev pub FitsBuffers : PlainLink → Type 0
@@ -34,8 +36,9 @@ CanOpen (opening.Bridge node) = ⊤
 CanOpen (opening.Iface node number kind mtu) = (number < IFACES) × (mtu ≤ MAX_PAYLOAD)
 CanOpen (opening.App node number script) = (length script + 1 < 2 ^ 32) × All IsStep script
 CanOpen (opening.Link number kind plan) = All IsFault plan.items
+CanOpen (opening.Hub number ends plan) = (MIN_ENDS ≤ ends) × (ends ≤ MAX_ENDS) × All IsFault plan.items
 
--- the buffers of a party of a node are to be of this region, and a link has none
+-- the buffers of a party of a node are to be of this region, and a link or a hub has none
 abbrev pub IsOfRegion : Option ℕ → Option RegionToken → AnyParty → Type 0
 IsOfRegion (Some node) (Some region) p = region_of p ≡ region.name
 IsOfRegion (Some node) None p = ⊤

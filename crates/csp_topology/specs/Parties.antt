@@ -4,11 +4,12 @@ use Rattle.csp_app.specs.PlainApp as app
 use Rattle.csp_app.specs.PlainStep.{PlainStep}
 use Rattle.csp_bridge.specs.PlainBridge as bridge
 use Rattle.csp_deck.specs.Runs.{Steps}
+use Rattle.csp_hub.specs.PlainHub as hub
 use Rattle.csp_iface.specs.PlainIface as iface
 use Rattle.csp_link.specs.PlainLink as link
 use Rattle.csp_link.specs.declared.fault.Fault.{Fault}
 use Rattle.csp_log.specs.declared.places.LinkKind.{LinkKind}
-use Rattle.csp_party.specs.Any.{PlainParty, a_router, a_bridge, an_iface, an_app, a_link, has_ended, asks, asked, tells, events}
+use Rattle.csp_party.specs.Any.{PlainParty, a_router, a_bridge, an_iface, an_app, a_link, a_hub, has_ended, asks, asked, tells, events}
 use Rattle.csp_record.specs.declared.who.Who.{Who}
 use Rattle.csp_record.specs.declared.who.Who.TheVariants as who
 use Rattle.csp_scene.specs.Links.{links_at}
@@ -91,6 +92,10 @@ link_at number l = link_with number l.kind l.plan
 abbrev pub links_from : ℕ → List PlainLink → List PlainOpening
 links_from number [] = []
 links_from number (l ∷ links) = link_at number l ∷ links_from (number + 1) links
+
+-- a hub with so many ends before its first turn: it has its place among the links
+abbrev pub hub_with : ℕ → (ends : ℕ) → List Fault → PlainOpening
+hub_with number ends plan = opens (who.Link number) (a_hub (hub.opening ends plan))
 
 -- all: those of each node in order, then the links
 unfoldable pub parties_of : PlainScene → List PlainOpening

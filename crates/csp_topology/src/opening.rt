@@ -10,6 +10,7 @@ ghost use Rattle.csp_topology.specs.Opening.{CanOpen, IsOfRegion, opening_of};
 use csp_app::{App, Script, open_collectors};
 use csp_arena::RegionToken;
 use csp_bridge::Bridge;
+use csp_hub::Hub;
 use csp_iface::Iface;
 use csp_link::{Fault, Link};
 use csp_log::LinkKind;
@@ -55,6 +56,15 @@ pub enum Opening {
         /// What goes wrong on it.
         plan: Vec<Fault>,
     },
+    /// A hub.
+    Hub {
+        /// Its place among the links.
+        number: u8,
+        /// How many ends it has.
+        ends: u8,
+        /// What goes wrong on it.
+        plan: Vec<Fault>,
+    },
 }
 
 impl Opening {
@@ -68,10 +78,11 @@ impl Opening {
             Opening::Iface { node, number, .. } => Who::Iface(*node, *number),
             Opening::App { node, number, .. } => Who::App(*node, *number),
             Opening::Link { number, .. } => Who::Link(*number),
+            Opening::Hub { number, .. } => Who::Link(*number),
         }
     }
 
-    /// Opens the party. Its buffers are to be of this region, that of its node; a link has none.
+    /// Opens the party. Its buffers are to be of this region, that of its node; a link or a hub has none.
     ///
     /// # Errors
     /// Want of memory.
@@ -111,6 +122,14 @@ impl Opening {
                 },
                 _,
             ) => Ok(AnyParty::Link(Link::open(alloc, kind, plan)?)),
+            (
+                Opening::Hub {
+                    number: _,
+                    ends,
+                    plan,
+                },
+                _,
+            ) => Ok(AnyParty::Hub(Hub::open(alloc, ends, plan)?)),
             _ => unreachable!(),
         }
     }

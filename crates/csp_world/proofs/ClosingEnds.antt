@@ -14,7 +14,7 @@ use Rattle.csp_log.specs.Remains.{PlainLeft, PlainHeld}
 use Rattle.csp_nodes.specs.DecksAt.{DecksAt}
 use Rattle.csp_nodes.specs.Emptied.{PlainEmptied, IsComplete, with_gathered}
 use Rattle.csp_nodes.specs.Gathering.{all_left, queues_held, pools_held}
-use Rattle.csp_party.specs.Any.{PlainParty, holds, plain}
+use Rattle.csp_party.specs.Any.{PlainParty, holds, plain, is_done}
 use Rattle.csp_record.specs.Record.{PlainPartyLog, PlainRecord}
 use Rattle.csp_record.specs.Who.{node_of}
 use Rattle.csp_record.specs.declared.who.Who.{Who}
@@ -24,7 +24,7 @@ use Rattle.csp_world.specs.Inside.{world_of, IsCalled, IsFit, AllFit}
 use Rattle.csp_world.specs.Record.{member_held, member_log, record_of}
 use Rattle.csp_world.specs.Seen.{plain_member}
 use Rattle.csp_world.specs.Taking.{IsTakeable}
-use Rattle.csp_world.specs.World.{PlainMember, PlainWorld, is_done}
+use Rattle.csp_world.specs.World.{PlainMember, PlainWorld}
 use Rattle.csp_world.specs.declared.member.Member.{Member}
 use Rattle.csp_world.proofs.ClosingMembers.{own_held, with_members}
 use Rattle.csp_world.proofs.ClosingParts.{emptied_of, numbers_len}

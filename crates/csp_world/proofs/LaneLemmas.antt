@@ -6,6 +6,7 @@ use Rattle.std.proofs.lemmas.Bool.{eq-eqb, lt-ltb}
 use Rattle.std.proofs.lemmas.List.{append_assoc, length-append, length-map}
 use Rattle.csp_base.specs.Priority.{prio_number}
 use Rattle.csp_consistent.proofs.Names.{entries_in}
+use Rattle.csp_consistent.proofs.QueueNames.{queue_is}
 use Rattle.csp_consistent.specs.Lanes.{IsFullAfter, IsInOrder, IsRefused}
 use Rattle.csp_topology.specs.Lanes.{PlainLane, app_lanes, hub_of, lanes_from, lanes_within, out_lane}
 use Rattle.csp_topology.specs.Parties.{PlainOpening}
@@ -38,7 +39,7 @@ use Rattle.csp_scene.specs.Scene.{PlainLink, PlainNode, PlainScene}
 use Rattle.csp_world.proofs.ContentLemmas.{PicksOne, content, is_named}
 use Rattle.csp_world.proofs.InboxLemmas.{IsKnown, entries_step, gets-push, left_is, member_own, member_party, no_content, no_entries, puts-push, right_opening}
 use Rattle.csp_world.proofs.InboxNames.{IsParty, hub_bridge, hub_router}
-use Rattle.csp_world.proofs.LaneNames.{IsPushedTo, IsUser, gets_within, puts_within, queue_is, refused_there}
+use Rattle.csp_world.proofs.LaneNames.{IsPushedTo, IsUser, gets_within, puts_within, refused_there}
 use Rattle.csp_world.proofs.LaneRooms.{IsFull, IsRoomy, as_full, full-push, full_none, left_few, refused_full, roomy_kept, roomy_opened}
 use Rattle.csp_world.proofs.LocalLemmas.{IsLocal, local}
 use Rattle.csp_world.proofs.LoggedLemmas.{AreLogged}
@@ -210,7 +211,7 @@ lane_is q apart (place.Inbox p) h e = by (is_queue q queue.Inbox) (prio_number p
   by : (so other : Bool) → so ≡ false → (so && other) ≡ true → place.Inbox p ≡ place.Lane q
   by true other g f = absurd cc
   by false other g f = absurd cc
-lane_is q apart (place.Lane r) h e = ap place.Lane (queue_is q r (first (is_queue q r) e)) where
+lane_is q apart (place.Lane r) h e = ap place.Lane (sym (queue_is q r (first (is_queue q r) e))) where
   first : (so : Bool) → (so && true) ≡ true → so ≡ true
   first true f = refl
   first false f = f

@@ -2,8 +2,9 @@
 use Rattle.std.proofs.Common.{◌≡◌, ℕ, ◌==◌, Bool, true, false, Option, None, Some, List, [], refl, sym, subst, ap, ◌∙◌}
 use Rattle.std.specs.Prelude.{slice_get, if◌then◌else◌, ⊤}
 use Rattle.std.specs.Option.{option_and_then, option_map}
-use Rattle.std.proofs.lemmas.Bool.{eq-eqb, eqb-true}
+use Rattle.std.proofs.lemmas.Bool.{eqb-true}
 use Rattle.std.proofs.lemmas.Option.{same_Some}
+use Rattle.csp_consistent.proofs.QueueNames.{queue_is, queue_same}
 use Rattle.csp_consistent.specs.Lanes.{IsRefused}
 use Rattle.csp_consistent.specs.Queues.{MayAsk, MayPop, MayPush}
 use Rattle.csp_consistent.specs.Reading.{got_by, is_queue, is_who, put_by}
@@ -26,16 +27,6 @@ use Rattle.csp_record.specs.declared.who.Who.TheVariants as who
 use Rattle.csp_world.proofs.ContentLemmas.{if_named, is_named, popped_out, pushed_in}
 use Rattle.csp_world.proofs.InboxNames.{home_is, if_none, pop_is, push_is}
 use Rattle.csp_world.proofs.MovedLemmas.{got_at, got_there, put_at, put_there}
-
--- queues are known by their names
-pub queue_is : (q r : QueueId) → is_queue q r ≡ true → r ≡ q
-queue_is queue.Inbox queue.Inbox e = refl
-queue_is (queue.Up n) (queue.Up k) e = ap queue.Up (eqb-true k n e)
-queue_is (queue.Down n) (queue.Down k) e = ap queue.Down (eqb-true k n e)
-queue_is (queue.Out n) (queue.Out k) e = ap queue.Out (eqb-true k n e)
-queue_is (queue.Tx n) (queue.Tx k) e = ap queue.Tx (eqb-true k n e)
-queue_is (queue.Rx n) (queue.Rx k) e = ap queue.Rx (eqb-true k n e)
-queue_is _ _ e = absurd cc
 
 -- a lane within a node: no link uses one
 abbrev pub IsWithin : QueueId → Type 0
@@ -119,17 +110,6 @@ popped_apart q h d (queue.Tx k) e = rw e refl
 popped_apart q h d (queue.Rx k) e = rw e refl
 
 -- and one to it, to its own
-same_number : (n : ℕ) → (n == n) ≡ true
-same_number n = eq-eqb n n refl
-
-pub queue_same : (q : QueueId) → is_queue q q ≡ true
-queue_same queue.Inbox = refl
-queue_same (queue.Up n) = same_number n
-queue_same (queue.Down n) = same_number n
-queue_same (queue.Out n) = same_number n
-queue_same (queue.Tx n) = same_number n
-queue_same (queue.Rx n) = same_number n
-
 pub lane_named : (q : QueueId) → is_named q 0 (place.Lane q) ≡ true
 lane_named q = rw (queue_same q) refl
 
@@ -261,7 +241,7 @@ puts_same links q lane node user w away uses (op.Pop r) may a = empty_if (is_who
 puts_same links q lane node user w away uses (op.Push r i) may a = by (is_queue q r) refl where
   by : (so : Bool) → is_queue q r ≡ so → (if is_who user w then put_by q (op.Push r i) a else []) ≡ put_there q 0 node (served links w (op.Push r i)) a
   by true e =
-      let same : r ≡ q = queue_is q r e in
+      let same : r ≡ q = sym (queue_is q r e) in
       subst (λ (x : QueueId). (if is_who user w then put_by q (op.Push x i) a else []) ≡ put_there q 0 node (served links w (op.Push x i)) a) (sym same)
       (push_same links q lane node user w i a (uses i (subst (λ (x : QueueId). MayPush w x i) same may)))
   by false e = put_none q r (is_who user w) i a e ∙ sym (no_put q node _ a (λ t g.
@@ -276,7 +256,7 @@ gets_same links q lane node user w away uses (op.Push r i) may d a = empty_if (i
 gets_same links q lane node user w away uses (op.Pop r) may d a = by (is_queue q r) refl where
   by : (so : Bool) → is_queue q r ≡ so → (if is_who user w then got_by q (op.Pop r) a else []) ≡ got_there q 0 d node (served links w (op.Pop r)) a
   by true e =
-      let same : r ≡ q = queue_is q r e in
+      let same : r ≡ q = sym (queue_is q r e) in
       subst (λ (x : QueueId). (if is_who user w then got_by q (op.Pop x) a else []) ≡ got_there q 0 d node (served links w (op.Pop x)) a) (sym same)
       (pop_same links q lane node user w d a (uses (subst (MayPop w) same may)))
   by false e = got_none q r (is_who user w) a e ∙ sym (no_got q d node _ a (λ t g.
@@ -300,7 +280,7 @@ pub record IsPushedTo (there : Option (ℕ × OpShown)) (node : ℕ) (q : QueueI
 pub refused_there : (links : List (List End)) (q : QueueId) (node : ℕ) (user w : Who) → ((i : ItemShown) → MayPush w q i → IsUser links q node user w) → (o : OpShown) → MayAsk w o → (a : AnswerShown) → is_who user w ≡ true → IsRefused q o a
     → IsPushedTo (served links w o) node q
 refused_there links q node user w uses (op.Push r i) may (answer.Full j) this e =
-    let same : r ≡ q = queue_is q r e in
+    let same : r ≡ q = sym (queue_is q r e) in
     let u : IsUser links q node user w = uses i (subst (λ (x : QueueId). MayPush w x i) same may) in
     let home : u.home ≡ node = eqb-true u.home node (sym u.same ∙ this) in
     record {

@@ -1,4 +1,5 @@
 -- Lemmas on the rounds of a run.
+use Rattle.csp_party.specs.Any.{is_done}
 use Rattle.std.proofs.Common.{◌≡◌, ℕ, zero, suc, ◌+◌, ◌-◌, ◌/◌, ◌<◌, ◌≤◌, true, false, None, Some, [], refl, sym, ◌∙◌, ap, arith, List, ◌∷◌, length, sum_by}
 use Rattle.std.specs.Prelude.{nat_le}
 use Rattle.std.specs.List.{list_all}
@@ -14,7 +15,7 @@ use Rattle.csp_world.specs.declared.rounds.Order.{Order}
 use Rattle.csp_record.specs.Record.{PlainRecord}
 use Rattle.csp_world.specs.Record.{record_of, sim_record}
 use Rattle.csp_world.specs.Schedule.{next_order, round, rounds, run, run_by, run_rounds, run_moves}
-use Rattle.csp_world.specs.World.{PlainMember, PlainWorld, is_done, finished, entries, weight}
+use Rattle.csp_world.specs.World.{PlainMember, PlainWorld, finished, entries, weight}
 use Rattle.csp_world.specs.Opening.{opening}
 
 -- each entry weighs one at least

@@ -17,7 +17,7 @@ use Rattle.csp_log.specs.declared.shown.AnswerShown.{AnswerShown}
 use Rattle.csp_log.specs.declared.shown.OpShown.{OpShown}
 use Rattle.csp_nodes.specs.DecksAt.{DecksAt, IsEmpty, IsFull}
 use Rattle.csp_nodes.specs.Serving.{IsThere, is_served_at, or_none, place_in}
-use Rattle.csp_party.specs.Any.{PlainParty, a_router, a_bridge, an_iface, an_app, a_link, plain, with_plain, asked, tells, events, holds}
+use Rattle.csp_party.specs.Any.{PlainParty, a_router, a_bridge, an_iface, an_app, a_link, a_hub, plain, with_plain, asked, tells, events, holds}
 use Rattle.csp_party.specs.declared.any.AnyParty.{AnyParty}
 use Rattle.csp_party.specs.declared.any.AnyParty.TheVariants as party
 use Rattle.csp_record.specs.Who.{node_of}
@@ -35,6 +35,7 @@ plain_told (party.Bridge b) time a = refl
 plain_told (party.Iface i) time a = refl
 plain_told (party.App p) time a = refl
 plain_told (party.Link l) time a = refl
+plain_told (party.Hub h) time a = refl
 
 pub events_told : (p : AnyParty) (time : ℕ) (a : AnswerShown) → events (plain (with_plain p (asked (plain p) time))) time a ≡ events (asked (plain p) time) time a
 events_told (party.Router r) time a = refl
@@ -42,14 +43,16 @@ events_told (party.Bridge b) time a = refl
 events_told (party.Iface i) time a = refl
 events_told (party.App p) time a = refl
 events_told (party.Link l) time a = refl
+events_told (party.Hub h) time a = refl
 
--- a link stays one
+-- a link stays one, and so does a hub
 link_told : (p : AnyParty) (time : ℕ) (a : AnswerShown) → IsLink (plain p) → IsLink (tells (asked (plain p) time) time a)
 link_told (party.Router r) time a h = absurd h
 link_told (party.Bridge b) time a h = absurd h
 link_told (party.Iface i) time a h = absurd h
 link_told (party.App p) time a h = absurd h
 link_told (party.Link l) time a h = tt
+link_told (party.Hub u) time a h = tt
 
 pub called_told : (w : Who) (p : AnyParty) (time : ℕ) (a : AnswerShown) → IsCalled w (plain p) → IsCalled w (tells (asked (plain p) time) time a)
 called_told (who.Router n) p time a h = tt
@@ -65,6 +68,7 @@ link_holds (a_bridge b) h = absurd h
 link_holds (an_iface i) h = absurd h
 link_holds (an_app a) h = absurd h
 link_holds (a_link l) h = refl
+link_holds (a_hub u) h = refl
 
 -- the boxes of one turn less serve one turn less
 pub stock_left : (needs spare stock left : ℕ) → 0 < spare → needs * spare ≤ stock → stock ≤ left + needs → needs * (spare - 1) ≤ left

@@ -7,7 +7,7 @@ use Rattle.csp_log.specs.declared.places.Rule.{Rule}
 use Rattle.csp_nodes.specs.DecksAt.{DecksAt}
 use Rattle.csp_nodes.specs.Gathering.{queue_count}
 use Rattle.csp_nodes.specs.Serving.{rule_in}
-use Rattle.csp_party.specs.Any.{PlainParty, a_router, a_bridge, an_iface, an_app, a_link, plain, region_of, is_ready, count, needs, uses, has_ended, holds}
+use Rattle.csp_party.specs.Any.{PlainParty, a_router, a_bridge, an_iface, an_app, a_link, a_hub, plain, region_of, is_ready, count, needs, uses, has_ended, holds}
 use Rattle.csp_record.specs.Who.{node_of}
 use Rattle.csp_record.specs.declared.who.Who.{Who}
 use Rattle.csp_record.specs.declared.who.Who.TheVariants as who
@@ -33,15 +33,16 @@ seen_world w = record { plain = world_of w.decks w.members.items w.time; spares 
 abbrev pub rooms : List PlainDeck → List ℕ
 rooms decks = map (λ d. d.pool.room) decks
 
--- a party that is called a link is one
+-- a party that may be called a link: a link or a hub
 abbrev pub IsLink : PlainParty → Type 0
 IsLink (a_router _) = ⊥
 IsLink (a_bridge _) = ⊥
 IsLink (an_iface _) = ⊥
 IsLink (an_app _) = ⊥
 IsLink (a_link _) = ⊤
+IsLink (a_hub _) = ⊤
 
--- who is called a link is one
+-- who is called a link is a link or a hub
 abbrev pub IsCalled : Who → PlainParty → Type 0
 IsCalled (who.Link _) p = IsLink p
 IsCalled (who.Router _) p = ⊤

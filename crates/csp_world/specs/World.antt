@@ -1,5 +1,5 @@
 -- The world: the lists of each node, the ends of each link, every party with its entries, and the time. A step takes one party.
-use Rattle.std.specs.Prelude.{ℕ, ◌+◌, Bool, true, Option, None, Some, List, [], ◌∷◌, ◌++◌, length, sum_by, slice_get, slice_set, if◌then◌else◌}
+use Rattle.std.specs.Prelude.{ℕ, ◌+◌, Bool, Option, None, Some, List, [], ◌∷◌, ◌++◌, length, sum_by, slice_get, slice_set, if◌then◌else◌}
 use Rattle.std.specs.List.{list_all}
 use Rattle.csp_deck.specs.Step.{entry_of}
 use Rattle.csp_lists.specs.PlainDeck.{PlainDeck}
@@ -9,7 +9,7 @@ use Rattle.csp_log.specs.declared.shown.AnswerShown.{AnswerShown}
 use Rattle.csp_log.specs.declared.shown.OpShown.{OpShown}
 use Rattle.csp_log.specs.Weights.{weight_of_all}
 use Rattle.csp_nodes.specs.Serving.{answer_in}
-use Rattle.csp_party.specs.Any.{PlainParty, a_router, a_bridge, an_iface, an_app, a_link, asks, asked, tells, events, has_ended}
+use Rattle.csp_party.specs.Any.{PlainParty, asks, asked, tells, events, has_ended, is_done}
 use Rattle.csp_record.specs.declared.who.Who.{Who}
 
 -- a party of a world: which it is, its state, and its turns so far, the oldest first
@@ -62,14 +62,6 @@ turn w place = turn_at w place (slice_get w.members place)
 -- a round is complete
 abbrev pub tick : PlainWorld → PlainWorld
 tick w = record w { time = w.time + 1 }
-
--- an application that has ended, or a party that is no application
-abbrev pub is_done : PlainParty → Bool
-is_done (a_router _) = true
-is_done (a_bridge _) = true
-is_done (an_iface _) = true
-is_done (an_app a) = has_ended (an_app a)
-is_done (a_link _) = true
 
 -- every application has ended
 abbrev pub finished : PlainWorld → Bool

@@ -7,14 +7,14 @@ ghost use Rattle.csp_lists.specs.PlainDeck.{PlainDeck, numbers_in};
 ghost use Rattle.csp_log.specs.Pictures.{turn_of};
 ghost use Rattle.csp_log.specs.declared.shown.AnswerShown.TheVariants as answer;
 ghost use Rattle.csp_nodes.specs.Emptied.{with_gathered};
-ghost use Rattle.csp_party.specs.Any.{plain, region_of, needs, has_ended, holds};
+ghost use Rattle.csp_party.specs.Any.{plain, region_of, needs, has_ended, holds, is_done};
 ghost use Rattle.csp_world.specs.Holders.{holds_at};
 ghost use Rattle.csp_world.specs.Grown.{IsGrown, IsFullFor};
 ghost use Rattle.csp_world.specs.Inside.{IsFit, rooms};
 ghost use Rattle.csp_consistent.specs.Pools.{held_by};
 ghost use Rattle.csp_world.specs.Record.{member_log};
 ghost use Rattle.csp_world.specs.Seen.{plain_member, has_number};
-ghost use Rattle.csp_world.specs.World.{answered, is_done, told};
+ghost use Rattle.csp_world.specs.World.{answered, told};
 
 use csp_base::Turn;
 use csp_deck::{Desk, Log, Party, Place, Spares, turn};
@@ -96,11 +96,7 @@ impl Member {
     pub(crate) fn is_done(&self) -> bool
         ensures { result ≡ is_done (plain self.now.party) }
     {
-        match &self.party {
-            AnyParty::App(_) => self.party.ended(),
-            AnyParty::Router(_) | AnyParty::Bridge(_) | AnyParty::Iface(_) | AnyParty::Link(_) =>
-                true,
-        }
+        self.party.is_done()
     }
 
     /// Makes room in its log for this many turns, and boxes for them in its stock, of those that no party

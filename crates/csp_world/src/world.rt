@@ -6,7 +6,7 @@ ghost use Rattle.std.specs.Option.{option_map};
 ghost use Rattle.csp_buffer.specs.Content.{Content};
 ghost use Rattle.csp_log.specs.Weights.{weight_of_all};
 ghost use Rattle.csp_log.specs.declared.shown.AnswerShown.TheVariants as answer;
-ghost use Rattle.csp_party.specs.Any.{plain};
+ghost use Rattle.csp_party.specs.Any.{plain, is_done};
 ghost use Rattle.csp_record.specs.Who.{home_of, node_of};
 ghost use Rattle.csp_scene.specs.Scene.{PlainScene};
 ghost use Rattle.csp_world.specs.Holders.{holders, deck_holders, counts, HasOneHolder};
@@ -14,7 +14,7 @@ ghost use Rattle.csp_world.specs.Reached.{IsReached};
 ghost use Rattle.csp_world.specs.Record.{HasConsistentRecord};
 ghost use Rattle.csp_world.specs.Schedule.{names, place_named, turns};
 ghost use Rattle.csp_world.specs.Seen.{has_number, answer_at_place, turn_by, log_len};
-ghost use Rattle.csp_world.specs.World.{turn, tick, finished, weight, is_done};
+ghost use Rattle.csp_world.specs.World.{turn, tick, finished, weight};
 
 mod closing;
 mod opening;

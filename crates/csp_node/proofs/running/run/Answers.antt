@@ -1,23 +1,29 @@
-use Rattle.std.proofs.Common.{◌≡◌, ◌++◌, ℕ, List, length, take, drop, sym, ap, ◌∙◌, subst, arith}
-use Rattle.std.proofs.Math.Seq.{take-append_seam}
+use Rattle.std.proofs.Common.{◌≡◌, List, length, sym, ◌∙◌, subst}
+use Rattle.std.specs.Global.{Vec}
+use Rattle.std.specs.Vec.{with_items}
+use Rattle.std.proofs.lemmas.List.{with_items_is}
 use Rattle.csp_fabric.specs.Fabrics.{IsFabricOf, network_of}
 use Rattle.csp_fabric.specs.declared.fabric.Fabric.{Fabric}
 use Rattle.csp_flow.specs.Closed.{IsClosed}
 use Rattle.csp_node.proofs.Staying.{as_many}
 use Rattle.csp_node.specs.Rounds.{plains}
 use Rattle.csp_posts.specs.Seen.{SeenPost}
+use Rattle.csp_record.specs.Record.{PlainRecord}
 use Rattle.csp_scene.specs.Scene.{PlainScene}
 use Rattle.csp_topology.specs.Parties.{parties_of}
 use Rattle.csp_node.proofs.running.run.Goals as goal
-
--- a list whose front was written whole
-written : (n : ℕ) (news items : List SeenPost) → n ≡ length news → take n (news ++ drop (length news) items) ≡ news
-written n news items same = ap (λ (k : ℕ). take k (news ++ drop (length news) items)) same ∙ take-append_seam news (drop (length news) items)
 
 -- two networks of one scene have as many posts
 same_count : (scene : PlainScene) (f : Fabric) (posts after : List SeenPost) → IsFabricOf scene f posts → IsFabricOf scene f after → length posts ≡ length after
 same_count scene f posts after h g =
     as_many scene (network_of f) (parties_of scene) posts h.network.parties ∙ sym (as_many scene (network_of f) (parties_of scene) after g.network.parties)
+
+-- a network was closed with its posts as they were after the rounds
+closed_after : (scene : PlainScene) (f : Fabric) (opened : Vec SeenPost) (news : List SeenPost) (r : PlainRecord) → IsFabricOf scene f opened.items → IsFabricOf scene f news
+    → (IsFabricOf scene f (with_items opened news).items → IsClosed scene (plains (with_items opened news).items) r) → IsClosed scene (plains news) r
+closed_after scene f opened news r before after closes =
+    let back : (with_items opened news).items ≡ news = with_items_is opened news (sym (opened.ok.0 ∙ same_count scene f opened.items news before after)) in
+    subst (λ posts. IsClosed scene (plains posts) r) back (closes (subst (IsFabricOf scene f) (sym back) after))
 
 pub make_rounds-ran-requires-clause-opened : goal.make_rounds-ran-requires-clause-opened
 make_rounds-ran-requires-clause-opened g c κs within =
@@ -26,36 +32,20 @@ make_rounds-ran-requires-clause-opened g c κs within =
 
 pub returns-in-Ok-ran-clause-threaded : goal.returns-in-Ok-ran-clause-threaded
 returns-in-Ok-ran-clause-threaded g c =
-    let f = c.in-Ok.opened.0.fabric in
-    let news = c.make_rounds-ran.new.posts in
-    let many = same_count c.args.scene.now f c.in-Ok.opened.1.items news c.in-Ok.ensures.fabric c.in-Ok-ran.ensures.fabric in
-    let back = written c.in-Ok.opened.1.len news c.in-Ok.opened.1.items (omega (arith, many)) in
-    c.tells_run.ensures.threaded c.args.scene.now f c.args.limit news c.close-record.result c.requires.scene c.requires.links c.in-Ok-ran.ensures.run
-    (subst (λ posts. IsClosed c.args.scene.now (plains posts) c.close-record.result) back (c.close-record.ensures c.args.scene.now c.requires.scene c.requires.links (rw back c.in-Ok-ran.ensures.fabric)))
+    c.tells_run.ensures.threaded c.args.scene.now c.in-Ok.opened.0.fabric c.args.limit c.make_rounds-ran.new.posts c.close-record.result c.requires.scene c.requires.links c.in-Ok-ran.ensures.run
+    (closed_after c.args.scene.now c.in-Ok.opened.0.fabric c.in-Ok.opened.1 c.make_rounds-ran.new.posts c.close-record.result c.in-Ok.ensures.fabric c.in-Ok-ran.ensures.fabric (c.close-record.ensures c.args.scene.now c.requires.scene c.requires.links))
 
 pub returns-in-Ok-ran-clause-whole : goal.returns-in-Ok-ran-clause-whole
 returns-in-Ok-ran-clause-whole g c =
-    let f = c.in-Ok.opened.0.fabric in
-    let news = c.make_rounds-ran.new.posts in
-    let many = same_count c.args.scene.now f c.in-Ok.opened.1.items news c.in-Ok.ensures.fabric c.in-Ok-ran.ensures.fabric in
-    let back = written c.in-Ok.opened.1.len news c.in-Ok.opened.1.items (omega (arith, many)) in
-    c.tells_run.ensures.whole c.args.scene.now f c.args.limit news c.close-record.result c.requires.scene c.requires.links c.in-Ok-ran.ensures.run
-    (subst (λ posts. IsClosed c.args.scene.now (plains posts) c.close-record.result) back (c.close-record.ensures c.args.scene.now c.requires.scene c.requires.links (rw back c.in-Ok-ran.ensures.fabric)))
+    c.tells_run.ensures.whole c.args.scene.now c.in-Ok.opened.0.fabric c.args.limit c.make_rounds-ran.new.posts c.close-record.result c.requires.scene c.requires.links c.in-Ok-ran.ensures.run
+    (closed_after c.args.scene.now c.in-Ok.opened.0.fabric c.in-Ok.opened.1 c.make_rounds-ran.new.posts c.close-record.result c.in-Ok.ensures.fabric c.in-Ok-ran.ensures.fabric (c.close-record.ensures c.args.scene.now c.requires.scene c.requires.links))
 
 pub returns-in-Ok-ran-clause-causal : goal.returns-in-Ok-ran-clause-causal
 returns-in-Ok-ran-clause-causal g c =
-    let f = c.in-Ok.opened.0.fabric in
-    let news = c.make_rounds-ran.new.posts in
-    let many = same_count c.args.scene.now f c.in-Ok.opened.1.items news c.in-Ok.ensures.fabric c.in-Ok-ran.ensures.fabric in
-    let back = written c.in-Ok.opened.1.len news c.in-Ok.opened.1.items (omega (arith, many)) in
-    c.tells_run.ensures.causal c.args.scene.now f c.args.limit news c.close-record.result c.requires.scene c.requires.links c.in-Ok-ran.ensures.run
-    (subst (λ posts. IsClosed c.args.scene.now (plains posts) c.close-record.result) back (c.close-record.ensures c.args.scene.now c.requires.scene c.requires.links (rw back c.in-Ok-ran.ensures.fabric)))
+    c.tells_run.ensures.causal c.args.scene.now c.in-Ok.opened.0.fabric c.args.limit c.make_rounds-ran.new.posts c.close-record.result c.requires.scene c.requires.links c.in-Ok-ran.ensures.run
+    (closed_after c.args.scene.now c.in-Ok.opened.0.fabric c.in-Ok.opened.1 c.make_rounds-ran.new.posts c.close-record.result c.in-Ok.ensures.fabric c.in-Ok-ran.ensures.fabric (c.close-record.ensures c.args.scene.now c.requires.scene c.requires.links))
 
 pub returns-in-Ok-ran-clause-stopped : goal.returns-in-Ok-ran-clause-stopped
 returns-in-Ok-ran-clause-stopped g c =
-    let f = c.in-Ok.opened.0.fabric in
-    let news = c.make_rounds-ran.new.posts in
-    let many = same_count c.args.scene.now f c.in-Ok.opened.1.items news c.in-Ok.ensures.fabric c.in-Ok-ran.ensures.fabric in
-    let back = written c.in-Ok.opened.1.len news c.in-Ok.opened.1.items (omega (arith, many)) in
-    c.tells_run.ensures.stopped c.args.scene.now f c.args.limit news c.close-record.result c.in-Ok-ran.ensures.run
-    (subst (λ posts. IsClosed c.args.scene.now (plains posts) c.close-record.result) back (c.close-record.ensures c.args.scene.now c.requires.scene c.requires.links (rw back c.in-Ok-ran.ensures.fabric)))
+    c.tells_run.ensures.stopped c.args.scene.now c.in-Ok.opened.0.fabric c.args.limit c.make_rounds-ran.new.posts c.close-record.result c.in-Ok-ran.ensures.run
+    (closed_after c.args.scene.now c.in-Ok.opened.0.fabric c.in-Ok.opened.1 c.make_rounds-ran.new.posts c.close-record.result c.in-Ok.ensures.fabric c.in-Ok-ran.ensures.fabric (c.close-record.ensures c.args.scene.now c.requires.scene c.requires.links))

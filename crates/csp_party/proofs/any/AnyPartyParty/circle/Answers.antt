@@ -22,3 +22,7 @@ returns-in-App-clause-looks c =
 pub returns-in-Link-clause-looks : goal.returns-in-Link-clause-looks
 returns-in-Link-clause-looks c =
     rw (c.in-Link.is) (same_looks _ _ party.Link c.args.now (record { has_ended = λ _. refl; asks = λ _. refl; events = λ _. refl; missed = λ _. refl }) c.circle-in-Link.result.items c.in-Link.link c.in-Link.link c.circle-in-Link.ensures.looks)
+
+pub returns-in-Hub-clause-looks : goal.returns-in-Hub-clause-looks
+returns-in-Hub-clause-looks c =
+    rw (c.in-Hub.is) (same_looks _ _ party.Hub c.args.now (record { has_ended = λ _. refl; asks = λ _. refl; events = λ _. refl; missed = λ _. refl }) c.circle-in-Hub.result.items c.in-Hub.hub c.in-Hub.hub c.circle-in-Hub.ensures.looks)

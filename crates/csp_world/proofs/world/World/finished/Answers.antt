@@ -1,9 +1,9 @@
 use Rattle.std.proofs.Common.{ap, ◌∙◌, sym}
 use Rattle.std.specs.List.{list_all}
 use Rattle.std.proofs.lemmas.List.Folds.{list_all-map}
-use Rattle.csp_party.specs.Any.{plain}
+use Rattle.csp_party.specs.Any.{plain, is_done}
 use Rattle.csp_world.specs.Seen.{plain_member}
-use Rattle.csp_world.specs.World.{PlainMember, is_done, finished}
+use Rattle.csp_world.specs.World.{PlainMember, finished}
 use Rattle.csp_world.proofs.world.World.finished.Goals as goal
 
 pub returns : goal.returns
