@@ -1,0 +1,69 @@
+-- In the lanes between an interface and its link no buffer was left; and what the entries of a name did was on its own queues.
+use Rattle.std.proofs.Common.{◌≡◌, ◌⊎◌, inl, inr, ℕ, ◌+◌, Bool, true, false, Some, List, [], ◌∷◌, length, slice_get, refl, sym, subst, arith}
+use Rattle.std.specs.Prelude.{if◌then◌else◌}
+use Rattle.std.specs.List.{AllByRecursion}
+use Rattle.csp_conserved.proofs.Frames.{rx_bare, tx_bare}
+use Rattle.csp_conserved.proofs.Ifaces.{IsBare}
+use Rattle.csp_consistent.proofs.Across.{AreLanes, link_lanes_of}
+use Rattle.csp_consistent.proofs.Beyond.{IsJoint, joint}
+use Rattle.csp_consistent.proofs.Each.{each_first, each_last}
+use Rattle.csp_consistent.proofs.Names.{entries_in, who_is}
+use Rattle.csp_consistent.specs.Lanes.{AreInOrder, IsInOrder}
+use Rattle.csp_consistent.specs.Queues.{MayAsk, UseTheirQueues}
+use Rattle.csp_consistent.specs.Reading.{entries_of, gets, is_who, left_in, puts}
+use Rattle.csp_consistent.specs.Runs.{AreLogsOf}
+use Rattle.csp_log.specs.Kinds.{carried_on}
+use Rattle.csp_log.specs.declared.entry.Entry.{Entry}
+use Rattle.csp_log.specs.declared.places.End.{End}
+use Rattle.csp_log.specs.declared.places.QueueId.TheVariants as queue
+use Rattle.csp_record.specs.Record.{PlainPartyLog, PlainRecord}
+use Rattle.csp_record.specs.declared.who.Who.{Who}
+use Rattle.csp_scene.proofs.Lists.{AllByRecursion-append}
+use Rattle.csp_scene.specs.Kept.{AreLinksAfter}
+use Rattle.csp_scene.specs.Links.{links_at}
+use Rattle.csp_scene.specs.Scene.{PlainLink, PlainScene}
+use Rattle.csp_topology.specs.Lanes.{PlainLane, end_lanes}
+use Rattle.csp_topology.specs.Parties.{parties_of}
+
+-- nothing with a buffer was left on the way from an interface to its link, and back
+pub record IsBareAt (r : PlainRecord) (node number : ℕ) : Type 0 where
+  pub tx : AllByRecursion IsBare (left_in r node (queue.Tx number) 0)
+  pub rx : AllByRecursion IsBare (left_in r node (queue.Rx number) 0)
+
+lane_bare : (r : PlainRecord) (l : PlainLane) → IsInOrder r l → AllByRecursion IsBare (puts l.from.queue (entries_of r l.from.who)) → AllByRecursion IsBare (left_in r l.node l.queue 0)
+lane_bare r l order all = each_last IsBare (gets l.to.queue (entries_of r l.to.who)) (left_in r l.node l.queue 0) (subst (AllByRecursion IsBare) (sym order.order) all)
+
+module _ (scene : PlainScene) (r : PlainRecord) (are : AreLogsOf (parties_of scene) r.parties) where
+  end_bare : (number at : ℕ) (l : PlainLink) (end : End) → AllByRecursion (IsInOrder r) (end_lanes number (carried_on l.kind) at end) → IsBareAt r end.node end.iface
+  end_bare number at l end lanes = record {
+    tx = lane_bare r _ lanes.0 (tx_bare scene r are end.node end.iface end.iface);
+    rx = lane_bare r _ lanes.1.0 (rx_bare scene r are number at);
+  }
+
+  pub bare_at : (node number : ℕ) (l : PlainLink) → AreLinksAfter (length scene.nodes) [] scene.links → AreInOrder scene r → slice_get (links_at node scene.links) number ≡ Some l → IsBareAt r node number
+  bare_at node number l after order on =
+      let first : 0 + number ≡ number = omega arith in
+      by (subst (λ k. IsJoint scene.links l (record { node = node; iface = k })) first (joint (length scene.nodes) node scene.links [] number l after on))
+    where
+      by : IsJoint scene.links l (record { node = node; iface = number }) → IsBareAt r node number
+      by j = to j.ends
+        where
+          to : (l.ends ≡ record { node = node; iface = number } ∷ j.beyond ∷ []) ⊎ (l.ends ≡ j.beyond ∷ record { node = node; iface = number } ∷ []) → IsBareAt r node number
+          to (inl two) =
+              let end : End = record { node = node; iface = number } in
+              let lanes : AreLanes r j.number (carried_on l.kind) end j.beyond = link_lanes_of scene r j.number l end j.beyond order j.there two in
+              end_bare j.number 0 l end (each_first (IsInOrder r) (end_lanes j.number (carried_on l.kind) 0 end) (end_lanes j.number (carried_on l.kind) 1 j.beyond) lanes)
+          to (inr two) =
+              let end : End = record { node = node; iface = number } in
+              let lanes : AreLanes r j.number (carried_on l.kind) j.beyond end = link_lanes_of scene r j.number l j.beyond end order j.there two in
+              end_bare j.number 1 l end (each_last (IsInOrder r) (end_lanes j.number (carried_on l.kind) 0 j.beyond) (end_lanes j.number (carried_on l.kind) 1 end) lanes)
+
+-- the entries of a name are on queues that it may use
+pub may_in : (w : Who) (logs : List PlainPartyLog) → UseTheirQueues logs → AllByRecursion (λ e. MayAsk w e.op) (entries_in w logs)
+may_in w [] h = tt
+may_in w (log ∷ logs) h =
+    AllByRecursion-append (λ (e : Entry). MayAsk w e.op) (if is_who w log.who then log.entries else []) (entries_in w logs) (by (is_who w log.who) refl) (may_in w logs h.1)
+  where
+    by : (b : Bool) → is_who w log.who ≡ b → AllByRecursion (λ (e : Entry). MayAsk w e.op) (if b then log.entries else [])
+    by true e = subst (λ (v : Who). AllByRecursion (λ (x : Entry). MayAsk v x.op) log.entries) (sym (who_is w log.who e)) h.0
+    by false e = tt

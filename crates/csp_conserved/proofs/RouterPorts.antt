@@ -1,0 +1,128 @@
+-- The steps of a router's ports: none loses a number of a buffer or makes one.
+use Rattle.std.proofs.Common.{◌≡◌, ℕ, ◌+◌, ◌/◌, ◌%◌, ◌<◌, Bool, true, false, nat_lt, Option, None, Some, [], ◌∷◌, ◌++◌, refl, sym, ap, subst, arith}
+use Rattle.std.specs.Option.{option_map}
+use Rattle.std.proofs.lemmas.Bool.{ltb-false, ltb-true}
+use Rattle.std.proofs.lemmas.List.{get_or_past}
+use Rattle.csp_buffer.specs.Content.{Content}
+use Rattle.csp_buffer.specs.PlainBuffer.{PlainBuffer}
+use Rattle.csp_conn.specs.PlainConns.{place_of}
+use Rattle.csp_ports.proofs.Conserving.{flows_none, flows_replaced}
+use Rattle.csp_ports.proofs.Flowing.{Flows, flows_machine, flows_then, machine_later, machine_whole, whole_at}
+use Rattle.csp_ports.proofs.Serving.{flows_handed}
+use Rattle.csp_ports.proofs.Weighing.{tally, tally_append, tally_none, tally_same, weight}
+use Rattle.csp_ports.proofs.Wholes.{sent_whole}
+use Rattle.csp_ports.specs.Came.{Came, come, reporting, then}
+use Rattle.csp_ports.specs.Keeps.{AreWhole}
+use Rattle.csp_ports.specs.Packets.{back_by, handing, handing_event}
+use Rattle.csp_ports.specs.PlainPorts.{PlainPorts, PlainStalled, anywhere, machine_at, stalled_at, with_machine}
+use Rattle.csp_ports.specs.Steps.{dropped, dropped_on, settled, settled_on, went}
+use Rattle.csp_ports.specs.Tasks.{kept_again, making, turned, without_packet}
+use Rattle.csp_rdp.proofs.BalanceLemmas.{delivery-balanced, whole-again, whole-taken}
+use Rattle.csp_rdp.proofs.FarLemmas.{far-taken}
+use Rattle.csp_rdp.specs.Holding.{rdp_buffers, rdp_numbers, rested}
+use Rattle.csp_rdp.specs.Jobs.{delivery, delivery_in, keeping_again, sent, without_delivery}
+use Rattle.csp_rdp.specs.Machine.{PlainRdp, idle}
+use Rattle.csp_rdp.specs.Table.{back_of, handed, is_stray, row_of}
+use Rattle.csp_rdp.specs.declared.answers.State.{State}
+use Rattle.csp_rdp.specs.declared.answers.State.TheVariants.{CloseWait, Closed, Open, SynRcvd, SynSent}
+use Rattle.csp_rdp.specs.declared.answers.Why.TheVariants as machine_why
+use Rattle.csp_rdp.specs.declared.jobs.Job.{Job}
+use Rattle.csp_rdp_header.specs.declared.head.RdpHead.{RdpHead}
+use Rattle.csp_rdp_window.specs.Numbers.{number_in}
+use Rattle.csp_rdp_window.specs.Receiving.{is_kept}
+
+-- ports are whole where the buffers are where they were in whole ones
+pub still_whole : (p q : PlainPorts) → q.conns.apps ≡ p.conns.apps → q.machines ≡ p.machines → q.stalled ≡ p.stalled → AreWhole p → AreWhole q
+still_whole p q a b c h = record { few = rw a h.few; slots = rw b h.slots; machines = rw b h.machines; places = rw c h.places; waits = rw c h.waits }
+
+-- ---- a packet that is handed to the machine of any slot
+
+-- what comes of it, by what the machine is
+abbrev handing_to : PlainRdp → PlainPorts → ℕ → ℕ → RdpHead → Content → ℕ → Came
+handing_to r p app slot h b time =
+    reporting (handing_event r b.trace.tag)
+    (then (back_by (back_of (row_of r h b.payload) (anywhere b)) (is_stray (row_of r h b.payload)) p) (λ p.
+    then (went r.state machine_why.Reset app slot (handed h b.trace.tag (anywhere b) time r) p) (λ p.
+    then (dropped app p) (λ p.
+    come (settled time app p)))))
+
+-- an application that is not there has no packet that waits
+none_dropped : (p : PlainPorts) (app : ℕ) → stalled_at p app ≡ None → AreWhole p → Flows 0 p (dropped app p).ports (dropped app p).loose []
+none_dropped p app none h = subst (λ w. Flows 0 p (dropped_on w app p).ports (dropped_on w app p).loose []) (sym none) (flows_none 0 p h)
+
+none_settled : (time : ℕ) (p : PlainPorts) (app : ℕ) → stalled_at p app ≡ None → AreWhole p → Flows 1 p (settled time app p) [] []
+none_settled time p app none h = subst (λ w. Flows 1 p (settled_on w time app p) [] []) (sym none) (flows_none 1 p h)
+
+none_replaced : (p : PlainPorts) (app slot : ℕ) (b : Content) → machine_at p app slot ≡ idle → AreWhole p → Flows 0 p (with_machine p app slot (rested idle)) (b ∷ []) (b.number ∷ [])
+none_replaced p app slot b none h =
+    let one = flows_replaced p app slot (rested idle) (record { unopened = tt; ordered = tt }) (record { admitted = omega arith; delivered = omega arith }) refl h in
+    let nothing : (o : Option ℕ) → weight o (rdp_buffers (machine_at p app slot)) ≡ tally o [] = λ o. ap (λ r. weight o (rdp_buffers r)) none in
+    record { counts = λ o. omega (arith, one.counts o, nothing o, tally_none o); far = one.far; whole = one.whole }
+
+-- so it has no use for a packet: that joins the trash
+handed_beyond : (p : PlainPorts) (app slot : ℕ) (h : RdpHead) (b : Content) (time : ℕ) → machine_at p app slot ≡ idle → stalled_at p app ≡ None → AreWhole p
+    → Flows 1 p (handing_to idle p app slot h b time).ports (handing_to idle p app slot h b time).loose (b.number ∷ [])
+handed_beyond p app slot h b time none waits w =
+    let q : PlainPorts = with_machine p app slot (rested idle) in
+    let two = dropped app q in
+    let first = none_replaced p app slot b none w in
+    let second = none_dropped q app waits first.whole in
+    let both = flows_then 0 0 0 p q two.ports (b ∷ []) two.loose (b.number ∷ []) (omega arith) first second in
+    flows_then 0 1 1 p two.ports (settled time app two.ports) ((b ∷ []) ++ two.loose) [] (b.number ∷ []) (omega arith) both (none_settled time two.ports app (none_after (stalled_at q app) waits) second.whole)
+  where
+    none_after : (w : Option PlainStalled) → w ≡ None → stalled_at (dropped_on w app (with_machine p app slot (rested idle))).ports app ≡ None
+    none_after None e = waits
+    none_after (Some s) e = absurd cc
+
+pub flows_handing : (p : PlainPorts) (app slot : ℕ) (h : RdpHead) (b : Content) (time : ℕ) → slot < 4 → AreWhole p → Flows 1 p (handing p app slot h b time).ports (handing p app slot h b time).loose (b.number ∷ [])
+flows_handing p app slot h b time low w =
+    by (nat_lt app 4) refl
+  where
+    by : (there : Bool) → nat_lt app 4 ≡ there → Flows 1 p (handing p app slot h b time).ports (handing p app slot h b time).loose (b.number ∷ [])
+    by true e = let few = ltb-true app 4 e in flows_handed p app slot h b time few (omega (arith, few, low)) w
+    by false e =
+        let many = ltb-false app 4 e in
+        let none : machine_at p app slot ≡ idle = get_or_past p.machines (place_of app slot) idle (omega (arith, many, w.slots)) in
+        let waits : stalled_at p app ≡ None = get_or_past p.stalled app None (omega (arith, many, w.places)) in
+        subst (λ r. Flows 1 p (handing_to r p app slot h b time).ports (handing_to r p app slot h b time).loose (b.number ∷ [])) (sym none) (handed_beyond p app slot h b time none waits w)
+
+-- the slot whose connection was found is one of an application's
+pub found_low : (o : Option ℕ) (at : ℕ × ℕ) → option_map (λ place. (place / 4, place % 4)) o ≡ Some at → at.1 < 4
+found_low None at e = absurd cc
+found_low (Some place) at e = let same : (place / 4, place % 4) ≡ at = cc in subst (λ (a : ℕ × ℕ). a.1 < 4) same (omega arith)
+
+-- ---- tasks
+
+pub turned_whole : (p : PlainPorts) (app slot : ℕ) → AreWhole p → AreWhole (turned app slot p)
+turned_whole p app slot h = still_whole p (turned app slot p) refl refl refl h
+
+-- a packet is delivered by an open connection alone
+pub delivers_open : (r : PlainRdp) (b : PlainBuffer) → delivery r ≡ Some b → r.state ≡ Open
+delivers_open r b e = by r.state refl e
+  where
+    by : (s : State) → r.state ≡ s → delivery_in s r ≡ Some b → r.state ≡ Open
+    by Open is e = is
+    by SynSent is e = absurd cc
+    by SynRcvd is e = absurd cc
+    by CloseWait is e = absurd cc
+    by Closed is e = absurd cc
+
+-- it is taken out
+pub flows_taken : (p : PlainPorts) (app slot : ℕ) (b : PlainBuffer) → place_of app slot < 16 → AreWhole p → delivery (machine_at p app slot) ≡ Some b → Flows 0 p (without_packet app slot p) (b.picture ∷ []) []
+flows_taken p app slot b there h e =
+    let r = machine_at p app slot in
+    let whole = whole_at p app slot h in
+    flows_machine 0 p app slot (without_delivery r) (b.picture ∷ []) [] there h (whole-taken r.state r refl whole) (λ n far. machine_later n (n + 0) (without_delivery r) (omega arith) (far-taken n r.state r far))
+    (λ o.
+    let even = tally_same o (rdp_numbers (without_delivery r) ++ number_in (delivery r)) (rdp_numbers r) (delivery-balanced r.state r whole) in
+    let out = ap (λ (d : Option PlainBuffer). tally o (number_in d)) e in
+    omega (arith, tally_none o, even, out, tally_append o (rdp_numbers (without_delivery r)) (number_in (delivery r))))
+
+-- and kept again, where its lane had no room
+pub again_whole : (p : PlainPorts) (app slot : ℕ) (b : Content) → AreWhole p → (machine_at p app slot).state ≡ Open → is_kept (machine_at p app slot).recv ((machine_at p app slot).recv.cur + 1) ≡ false → AreWhole (kept_again app slot b p)
+again_whole p app slot b h opened none =
+    machine_whole p app slot (keeping_again (anywhere b) (machine_at p app slot)) (whole-again (anywhere b) (machine_at p app slot) opened none (whole_at p app slot h)) h
+
+-- a packet is made
+pub made_whole : (j : Job) (p : PlainPorts) (time app slot : ℕ) → AreWhole p → AreWhole (making j time app slot p)
+made_whole j p time app slot h = machine_whole p app slot (sent j time (machine_at p app slot)) (sent_whole j time (machine_at p app slot) (whole_at p app slot h)) h
