@@ -1,9 +1,8 @@
 -- Blobs over a reliable connection that was asked for: what was sent on it are pieces of the blobs of the steps after the `connect`.
-use Rattle.std.proofs.Common.{◌≡◌, ℕ, ◌+◌, ◌<◌, true, Option, Some, List, [], ◌∷◌, ◌++◌, drop, length, slice_get, unwrap_or, refl, sym, ap, ◌∙◌, subst, append_assoc}
+use Rattle.std.proofs.Common.{◌≡◌, ℕ, ◌+◌, ◌<◌, true, Some, List, [], ◌∷◌, ◌++◌, drop, length, slice_get, unwrap_or, refl, sym, ap, ◌∙◌, subst, append_assoc}
 use Rattle.std.specs.List.{AllByRecursion}
 use Rattle.std.proofs.lemmas.Option.{slice_get_within}
 use Rattle.std.proofs.lemmas.Grind.{flat_map-append}
-use Rattle.csp_app.specs.PlainStep.{PlainStep}
 use Rattle.csp_log.specs.declared.entry.Entry.{Entry}
 use Rattle.csp_log.specs.declared.event.Event.TheVariants as event
 use Rattle.csp_log.specs.declared.note.Note.{Note}
@@ -11,13 +10,9 @@ use Rattle.csp_log.specs.declared.note.Note.TheVariants as note
 use Rattle.csp_log.specs.declared.places.QueueId.TheVariants as queue
 use Rattle.csp_log.specs.declared.shown.ItemShown.{ItemShown}
 use Rattle.csp_log.specs.declared.shown.ItemShown.TheVariants as item
-use Rattle.csp_record.specs.Ordinals.{ordinal_at}
 use Rattle.csp_record.specs.Payloads.{sent}
 use Rattle.csp_record.specs.Record.{PlainRecord}
-use Rattle.csp_record.specs.declared.connections.Opening.{Opening}
-use Rattle.csp_record.specs.declared.payloads.Way.TheVariants as way
 use Rattle.csp_record.specs.declared.who.Who.TheVariants as who
-use Rattle.csp_scene.specs.Links.{links_at}
 use Rattle.csp_scene.specs.Ranges.{IsApp, IsNode, IsScene, IsStep}
 use Rattle.csp_scene.specs.Scene.{PlainNode, PlainScene}
 use Rattle.csp_sfp.specs.Collecting.{all_pieces}
@@ -29,13 +24,13 @@ use Rattle.csp_consistent.specs.Reading.{entries_of, gets, left_in, puts}
 use Rattle.csp_prefix.proofs.NodeLanes.{RouterThere, app_lanes_there}
 use Rattle.csp_prefix.proofs.OpeningPlaces.{opener}
 use Rattle.csp_prefix.specs.Apps.{IsAppLog}
-use Rattle.csp_prefix.specs.Prefix.{IsBeginning, IsOfFlow, IsOpened, sent_on}
+use Rattle.csp_prefix.specs.Prefix.{IsBeginning, sent_on}
 use Rattle.csp_topology.specs.Lanes.{app_lanes, hub_of}
 use Rattle.csp_blobs.proofs.AskedCuts.{gets_append, nothing_comes}
 use Rattle.csp_blobs.proofs.BlobPrefix.{AreOnSlots, app_log}
-use Rattle.csp_blobs.specs.Asking.{AnswerNoMore, AreBlobsWhole, IsAskedFor, IsConnect, SendWhatComes, SendsBlobsAt, TellsBlobsSince, WaitForAnswers, asks}
-use Rattle.csp_blobs.specs.Blobs.{CollectsAt, IsBlobPrefix}
-use Rattle.csp_blobs.specs.Sending.{IsAsked, IsSince, SendPieces, SendsPieces, cuts_on, payload_on, pushed_on}
+use Rattle.csp_blobs.specs.Asking.{AnswerNoMore, AreBlobsWhole, IsConnect, SendWhatComes, WaitForAnswers, asks}
+use Rattle.csp_blobs.specs.Blobs.{IsBlobPrefix}
+use Rattle.csp_blobs.specs.Sending.{IsSince, SendPieces, SendsPieces, cuts_on, payload_on, pushed_on}
 
 connect_asks : (slot : ℕ) (n : Note) → IsConnect slot n → asks n ≡ true
 connect_asks slot (note.Connect own dest port prio flags from) is = refl

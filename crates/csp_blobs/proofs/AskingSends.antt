@@ -63,8 +63,11 @@ use Rattle.csp_ports.specs.declared.terms.Terms.{Terms}
 use Rattle.csp_buffer.specs.PlainBuffer.{PlainBuffer}
 use Rattle.csp_blobs.specs.Asking.{SendWhatComes}
 use Rattle.csp_blobs.specs.Sending.{payload_on, pushed_on}
-use Rattle.csp_blobs.proofs.AskingEvents.{AreOfSlot, Begins, IsLost, IsOfSlot, both_so, each_of, events_are, lost_of_slot, packet_of_slot, timed_lost, turn_begins}
-use Rattle.csp_blobs.proofs.AskingTurns.{IsEnded, IsToldOf, ended_said, ends_so, lost_unsent, opening_of, over_aim, senders, senders_aim, since_then, told_of, turns, turns_on, used_on}
+use Rattle.csp_prefix.proofs.RouterKnown.{told_since}
+use Rattle.csp_prefix.proofs.RouterTells.{Tells, entry_tells, events_are, packet_tells, timed_tells, timed_unsent}
+use Rattle.csp_scene.proofs.Lists.{AllByRecursion-append}
+use Rattle.csp_consistent.proofs.Each.{each_at}
+use Rattle.csp_blobs.proofs.AskingTurns.{IsEnded, IsToldOf, ended_said, ends_so, opening_of, over_aim, senders, senders_aim, told_of, turns, turns_on, used_on}
 
 -- ---- a turn that pops from an application
 
@@ -114,10 +117,19 @@ popped_events f s e app mark b step p =
     step.events ∙ events_are f s e.time e.answer (plan.Serve app) is
     ∙ ap (λ a. (ports_timed e.time s.ports).events ++ (told_by (plan.Serve app) f (serving f s e.time app) e.time a).events) p.answered
 
+-- a packet was lost, or one was sent on this slot
+abbrev IsOfSlot : (slot : ℕ) → Event → Type 0
+IsOfSlot slot (event.Discarded reason) = Unit {0}
+IsOfSlot slot (event.Sent own ordinal) = own ≡ slot
+IsOfSlot slot _ = ⊥
+
+abbrev AreOfSlot : ℕ → List Event → Type 0
+AreOfSlot slot es = AllByRecursion (IsOfSlot slot) es
+
 popped_of_slot : (f : Facts) (s : State) (e : Entry) (app mark : ℕ) (b : Content) → IsStep router_steps (record { facts = f; state = s }) e → IsPopped e app mark b → AreOfSlot mark e.events.items
 popped_of_slot f s e app mark b step p =
     subst (AreOfSlot mark) (sym (popped_events f s e app mark b step p))
-    (both_so (IsOfSlot mark) (ports_timed e.time s.ports).events _ (each_of IsLost (IsOfSlot mark) (lost_of_slot mark) (ports_timed e.time s.ports).events (timed_lost e.time s.ports)) (packet_of_slot f (serving f s e.time app) e.time app mark b))
+    (AllByRecursion-append (IsOfSlot mark) (ports_timed e.time s.ports).events _ (timed_tells (IsOfSlot mark) (λ reason. tt) e.time s.ports) (packet_tells (IsOfSlot mark) (λ reason. tt) f (serving f s e.time app) e.time app mark b (λ ordinal. refl)))
 
 -- ---- what an entry tells to be sent on a slot, and what it popped for it
 abbrev told_by_entry : (app slot : ℕ) → Entry → List (List ℕ)
@@ -265,7 +277,7 @@ module _ (f : Facts) (app slot ordinal nth : ℕ) (peer : Option (ℕ × ℕ)) w
     since = ended.since;
     made = ended.made;
     home = ended.home;
-    stands = turns _ f (over_aim f (app, slot, ordinal) nth said) e (since_then ended.since h) s step comes ended.stands;
+    stands = turns _ f (over_aim f (app, slot, ordinal) nth said) e (told_since ended.since h) s step comes ended.stands;
   }
 
   pub ended_same : (es : List Entry) (time : ℕ) (said : List (List ℕ)) (h : Past) (s : State) → IsRun router_steps time (record { facts = f; state = s }) es → AllByRecursion (λ e. ComesSo e.op e.answer) es
@@ -318,7 +330,7 @@ module _ (f : Facts) (app slot ordinal nth : ℕ) (peer : Option (ℕ × ℕ)) w
       ap (λ o. carried way.Sent app (moved_by o e.answer)) p.asked ∙ ap (λ a. carried way.Sent app (moved_by (op.Pop (queue.Up app)) a)) p.answered ∙ ap (λ t. if t then Some b.payload else None) (eq-eqb app app refl) in
       ap (told_on way.Sent slot e.events.items) carries ∙ ap (λ es. told_on way.Sent slot es (Some b.payload)) all
       ∙ flat_map-append (λ v. if is_on way.Sent slot v then b.payload ∷ [] else []) early (sends ∷ [])
-      ∙ ap (λ xs. xs ++ told_on way.Sent slot (sends ∷ []) (Some b.payload)) (lost_unsent early (timed_lost e.time s.ports) slot (Some b.payload))
+      ∙ ap (λ xs. xs ++ told_on way.Sent slot (sends ∷ []) (Some b.payload)) (timed_unsent e.time s.ports slot (Some b.payload))
       ∙ ap (λ t. (if t then b.payload ∷ [] else []) ++ []) (eq-eqb slot slot refl)
 
   -- what is sent by these entries, where so much was sent and popped before
@@ -396,7 +408,7 @@ module _ (f : Facts) (app slot ordinal nth : ℕ) (peer : Option (ℕ × ℕ)) w
             since = ended.since;
             made = ended.made;
             home = ended.home;
-            stands = turns_on _ f (over_aim f (app, slot, ordinal) nth said) e (since_then ended.since h) s run.1 comes.0 ended.stands;
+            stands = turns_on _ f (over_aim f (app, slot, ordinal) nth said) e (told_since ended.since h) s run.1 comes.0 ended.stands;
           } in
           let stays : k.ends app slot ≡ ordinal = ap (λ b. if b then h.ends app slot + 1 else h.ends app slot) (popped_frees e app slot slot b p) ∙ ends in
           begins_with said _ _ (ended_same es e.time said k (next s e) run.2 comes.1 after_it more stays (ended_said f app slot ordinal nth peer said k (next s e).ports (next s e).out after_it more stays))
@@ -445,8 +457,8 @@ nothing_sent f e h s app slot at nth peer step w few low there =
     let t : State = timed s e.time in
     let early : List Event = (ports_timed e.time s.ports).events in
     let v = stands_timed (senders f) f h (senders_aim f h) h s e.time w in
-    let begins : AllByRecursion (Begins t.ports) e.events.items = subst (AllByRecursion (Begins t.ports)) (sym step.events) (turn_begins f s e.time e.answer) in
-    let was : IsEarly (machine_at t.ports app slot).state = not_plain (at_place (Begins t.ports) e.events.items at _ begins there) in
+    let tells = entry_tells (record { facts = f; state = s }) e step in
+    let was : IsEarly (machine_at t.ports app slot).state = not_plain (each_at (Tells f t.ports e.op e.answer) e.events.items at (event.Opened app slot (Some nth) peer) tells there) in
     let n : Now = now_at t.ports v.books app slot in
     let is : n.book ≡ blank = slot_blank f v.numbering app slot n was (slot_at t.ports.conns app slot) (terms_at t.ports app slot) (v.good.slots app slot (subst (λ k. app < k) (sym v.apps) few) low) in
     let before : h.sent app slot (h.ends app slot) ≡ [] = sym (v.tells.sent app slot) ∙ ap (λ (b : Book). b.sent) is in
@@ -454,17 +466,12 @@ nothing_sent f e h s app slot at nth peer step w few low there =
     ap (λ xs. xs ++ (if h.ends app slot == h.ends app slot then told_by_entry app slot e else [])) before
     ∙ chosen_is (h.ends app slot) (h.ends app slot) (told_by_entry app slot e) refl ∙ now
   where
-    at_place : (P : Event → Type 0) (vs : List Event) (i : ℕ) (v : Event) → AllByRecursion P vs → slice_get vs i ≡ Some v → P v
-    at_place P [] i v all e = absurd cc
-    at_place P (u ∷ us) zero v all e = let same : u ≡ v = cc in subst P same all.0
-    at_place P (u ∷ us) (suc i) v all e = at_place P us i v all.1 e
-
     not_plain : {X : Type 0} → (◌≡◌ {A = Option ℕ} (Some nth) None) ⊎ X → X
     not_plain (inl e) = absurd cc
     not_plain (inr early) = early
 
     by : ((b : Content) × IsPopped e app slot b) ⊎ IsIdle app slot e → told_by_entry app slot e ≡ []
-    by (inl p) = absurd (at_place (IsOfSlot slot) e.events.items at _ (popped_of_slot f s e app slot p.0 step p.1) there)
+    by (inl p) = absurd (each_at (IsOfSlot slot) e.events.items at (event.Opened app slot (Some nth) peer) (popped_of_slot f s e app slot p.0 step p.1) there)
     by (inr i) = i.told
 
 -- ---- the whole log

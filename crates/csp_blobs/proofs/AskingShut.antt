@@ -6,7 +6,7 @@ use Rattle.csp_buffer.specs.PlainBuffer.{PlainBuffer}
 use Rattle.csp_ports.specs.PlainPorts.{start_of}
 use Rattle.csp_ports.specs.declared.origin.Origin.{Origin}
 use Rattle.csp_prefix.proofs.MachineHearing.{hears-handed}
-use Rattle.csp_prefix.proofs.MachineOpens.{IsEarly}
+use Rattle.csp_prefix.proofs.MachineOpens.{IsEarly, opens-early}
 use Rattle.csp_prefix.proofs.MachineSender.{sender-kept, sends-over}
 use Rattle.csp_prefix.proofs.MachineSteps.{Delivers, Hears, Ways, answers, delivers, delivers-both, delivers-open, enters, enters_keeping, goes-kept-again, goes-rested, goes-sent, keeps, moves, off, on, over, resets, ways-closing, ways-ticked}
 use Rattle.csp_prefix.proofs.RouterSends.{sender_not}
@@ -20,7 +20,6 @@ use Rattle.csp_rdp.specs.declared.answers.State.{State}
 use Rattle.csp_rdp.specs.declared.answers.State.TheVariants.{Closed, CloseWait, Open, SynRcvd, SynSent}
 use Rattle.csp_rdp_header.specs.declared.head.RdpHead.{RdpHead}
 use Rattle.csp_rdp_window.specs.Receiving.{PlainRecv}
-use Rattle.csp_blobs.proofs.AskingEvents.{opens_early}
 
 -- ---- a machine that is over
 
@@ -174,7 +173,7 @@ module _ (o : Origin) (place : ℕ × ℕ × ℕ) (nth : ℕ) (said : List (List
     opens = λ m app slot n h tag b time fed opening i.
         let r = handed h tag b time n.machine in
         goes m app slot n (after_opening (with_machine r n)) (hears_nth h tag b n.machine r (hears-handed h tag b time n.machine)) refl (λ other k. (sender-kept o).opens other app slot n h tag b time fed opening k)
-        (λ x. absurd (past_early n.machine.state (opens_early n.machine.state r.state opening) x.past)) i;
+        (λ x. absurd (past_early n.machine.state (opens-early n.machine.state r.state opening) x.past)) i;
     admits = λ m app slot n b time is_open room waits i.
         goes m app slot n (after_sending b.picture.payload (with_machine (admitting b time n.machine) n)) refl refl (λ other k. (sender-kept o).admits other app slot n b time is_open room waits k)
         (λ x. absurd (subst IsPast is_open x.past)) i;

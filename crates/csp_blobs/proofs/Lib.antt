@@ -4,7 +4,6 @@ mod AnswerTurns
 mod AppTurns
 mod AskedBlobs
 mod AskedCuts
-mod AskingEvents
 mod AskingSends
 mod AskingShut
 mod AskingTurns

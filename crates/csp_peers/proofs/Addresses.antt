@@ -2,7 +2,7 @@
 use Rattle.std.proofs.Common.{◌≡◌, ℕ, zero, suc, Bool, true, false, cond, not, ◌||◌, leb, ltb, List, [], ◌∷◌, ◌++◌, length, drop, map, slice_get, slice_set, Option, Some, None, unwrap_or, Result, Ok, Err, refl, sym, ap, subst, ◌∙◌}
 use Rattle.std.specs.Option.{is_some, is_none}
 use Rattle.std.specs.Prelude.{find, IfSome}
-use Rattle.std.specs.List.{AllByRecursion, filter_map, flat_map, list_all, list_any}
+use Rattle.std.specs.List.{AllByRecursion, filter_map, list_all, list_any}
 use Rattle.std.specs.FinMap as finite
 use Rattle.std.proofs.lemmas.Bool.{eq-eqb}
 use Rattle.std.proofs.lemmas.List.{map-append}
@@ -17,7 +17,7 @@ use Rattle.csp_route.specs.Routes.{Routes, merged}
 use Rattle.csp_route.specs.Text.{parsed}
 use Rattle.csp_route.specs.declared.error.RouteError.{RouteError}
 use Rattle.csp_route.specs.declared.table.TheConstants.{MAX_ROWS}
-use Rattle.csp_scene.proofs.Lists.{AllByRecursion-append}
+use Rattle.csp_prefix.proofs.PacketLists.{each_flat}
 use Rattle.csp_scene.proofs.MoveCounts.{unlined}
 use Rattle.csp_scene.specs.Arguments.{word_at, number_at, text_from}
 use Rattle.csp_scene.specs.Draft.{PlainDraft, no_draft, demand, and_then, with_node, with_link}
@@ -271,10 +271,6 @@ RowLeaves row = (d : PlainDraft) (args : List (List ℕ)) → Differ (addresses_
 each_map : {X Y : Type 0} (Q : Y → Type 0) (f : X → Y) (xs : List X) → ((x : X) → Q (f x)) → AllByRecursion Q (map f xs)
 each_map Q f [] h = tt
 each_map Q f (x ∷ xs) h = (h x, each_map Q f xs h)
-
-each_flat : {X Y : Type 0} (P : X → Type 0) (Q : Y → Type 0) (f : X → List Y) (xs : List X) → ((x : X) → P x → AllByRecursion Q (f x)) → AllByRecursion P xs → AllByRecursion Q (flat_map f xs)
-each_flat P Q f [] h all = tt
-each_flat P Q f (x ∷ xs) h all = AllByRecursion-append Q (f x) (flat_map f xs) (h x all.0) (each_flat P Q f xs h all.1)
 
 table_leaves : AllByRecursion RowLeaves all_rows
 table_leaves = each_flat (EachLeaves state) RowLeaves rows_of all_forms (λ form leaves. each_map RowLeaves (row_of form) (shapes_of form) leaves) forms_leave

@@ -39,7 +39,7 @@ use Rattle.csp_scene.specs.Scene.{PlainNode, PlainScene}
 use Rattle.csp_stack.specs.Router.{Router}
 use Rattle.csp_topology.specs.Lanes.{app_lanes, hub_of}
 use Rattle.csp_topology.specs.Parties.{config_of, router_for}
-use Rattle.csp_peers.proofs.AppPackets.{PutsSo, app_puts}
+use Rattle.csp_prefix.proofs.AppPuts.{PutsSo, app_puts}
 use Rattle.csp_peers.specs.Unforged.{ComesWell, GetsWell, HasNoBroadcasts, HasNoForgeries, HasSteps, IsToOne, IsUnforged}
 
 -- a packet for a slot is marked with it

@@ -1,8 +1,5 @@
 pub mod Addresses
-pub mod AppPackets
 pub mod AppWishes
-pub mod HandedEvents
-pub mod Handing
 pub mod MachineFollows
 pub mod PacketsMade
 pub mod ReceiverNear

@@ -31,11 +31,10 @@ use Rattle.csp_prefix.proofs.RouterBooks.{Past, past_after, with_openings}
 use Rattle.csp_prefix.proofs.RouterHeard.{IsFound, found_there}
 use Rattle.csp_prefix.proofs.RouterRun.{IsCome, part_of, past_of, past_with, step_stands}
 use Rattle.csp_prefix.proofs.RouterStanding.{Aim, IsAim, IsPart, Stands}
+use Rattle.csp_prefix.proofs.RouterTells.{IsHanding, Tells, entry_tells}
 use Rattle.csp_prefix.proofs.RouterTurn.{HearsSo, stands_timed, timed_part}
 use Rattle.csp_prefix.proofs.RouterTrue.{past}
-use Rattle.csp_peers.proofs.Handing.{IsHanding, ShowsHanding}
 use Rattle.csp_peers.specs.Nearness.{AreShort as AreFlowsShort, HasOnePeer, half}
-use Rattle.csp_peers.proofs.HandedEvents.{shows_handings}
 use Rattle.csp_peers.proofs.ReceiverNear.{not-stale}
 use Rattle.csp_peers.proofs.RouterMakes.{AllowsOne, AreShort, book_short}
 use Rattle.csp_peers.proofs.RouterNear.{AcksWithin, IsOfPeer, IsPeer, peer_aim, peer_is_aim, fed_by}
@@ -70,7 +69,7 @@ module _ (f : Facts) (es : List Entry) (top bound : ℕ) (flows : Flows) (R : Co
       let found = found_there p.conns (connection_of (header_at b.header)) (x.app, x.slot) w.good.conns x.at in
       let n : Now = now_at p w.books x.app x.slot in
       let is : IsPeer top flows R (origin_of f) w.numbering x.app x.slot n = known_there h p o w (connection_of (header_at b.header)) x.app x.slot found x.kind in
-      let fed = fed_by f es top bound flows R hears few allows within one flows_short far known b x.bytes x.read heard (record { here = x.here; reliable = x.reliable; is_unwrapped = x.unwrapped; is_parted = x.parted }) in
+      let fed = fed_by f es top bound flows R hears few allows within one flows_short far known b x.bytes x.parts heard x.read in
       let most = book_short f es top bound some short _ h w.numbering w.books x.app x.slot n part w.tells refl is.0 in
       let admitted = is.0.1.admitted in
       let una = una_within n.machine is.0.1.order in
@@ -80,26 +79,10 @@ module _ (f : Facts) (es : List Entry) (top bound : ℕ) (flows : Flows) (R : Co
       (not-stale flows R bound within one flows_short w.numbering x.app x.slot n b.trace.tag fed.0 is.1 fed.1 (subst (λ c. R c (flow_of fed.0)) same fed.3) fed.4 (omega (arith, ack, within)) (omega (arith, una, admitted, most, within)))
 
   -- nor does any other event tell of a stale copy
-  event_fresh : (h : Past) (p : PlainPorts) (o : Option Leaving) (w : Stands the_aim f h p o) (x : OpShown) (a : AnswerShown) (e : Event) → IsPart h (past es) → HearsSo the_aim x a → ShowsHanding f p x a e → is_stale e ≡ false
-  event_fresh h p o w x a (event.Handed nth peer tag cur una) part heard shows =
-      handing_fresh h p o w shows.packet (event.Handed nth peer tag cur una) part (subst (λ b. HearsSo the_aim (op.Pop queue.Inbox) b) shows.answered (subst (λ y. HearsSo the_aim y a) shows.asked heard)) shows.handing
-  event_fresh h p o w x a (event.Opened app slot nth peer) part heard shows = refl
-  event_fresh h p o w x a (event.Sent slot ordinal) part heard shows = refl
-  event_fresh h p o w x a (event.TookEmpty step) part heard shows = refl
-  event_fresh h p o w x a (event.Took slot ordinal) part heard shows = refl
-  event_fresh h p o w x a (event.BlobTook slot ordinal len crc) part heard shows = refl
-  event_fresh h p o w x a (event.BlobRefused slot ordinal reason) part heard shows = refl
-  event_fresh h p o w x a (event.Refused step reason) part heard shows = refl
-  event_fresh h p o w x a (event.GaveUp step) part heard shows = refl
-  event_fresh h p o w x a (event.SlotDown step) part heard shows = refl
-  event_fresh h p o w x a (event.Discarded reason) part heard shows = refl
-  event_fresh h p o w x a (event.Transmitted serial) part heard shows = refl
-  event_fresh h p o w x a (event.Bad count) part heard shows = refl
-  event_fresh h p o w x a event.Starved part heard shows = refl
-  event_fresh h p o w x a event.InboxFull part heard shows = refl
-  event_fresh h p o w x a event.TooBig part heard shows = refl
-  event_fresh h p o w x a event.Reboot part heard shows = refl
-  event_fresh h p o w x a event.Shutdown part heard shows = refl
+  event_fresh : (h : Past) (p : PlainPorts) (o : Option Leaving) (w : Stands the_aim f h p o) (x : OpShown) (a : AnswerShown) (e : Event) → IsPart h (past es) → HearsSo the_aim x a → Tells f p x a e → is_stale e ≡ false
+  event_fresh h p o w x a (event.Handed nth peer tag cur una) part heard tells =
+      handing_fresh h p o w tells.packet (event.Handed nth peer tag cur una) part (subst (λ b. HearsSo the_aim (op.Pop queue.Inbox) b) tells.answered (subst (λ y. HearsSo the_aim y a) tells.asked heard)) tells.handing
+  event_fresh h p o w x a _ part heard tells = refl
 
   -- so none of a run does
   pub run_fresh : (rest : List Entry) (time : ℕ) (h : Past) (s : State) → IsRun router_steps time (record { facts = f; state = s }) rest → AllByRecursion (IsCome the_aim) rest → IsPart (past_of rest h) (past es) → Stands the_aim f h s.ports s.out
@@ -112,8 +95,7 @@ module _ (f : Facts) (es : List Entry) (top bound : ℕ) (flows : Flows) (R : Co
       ap (λ o. past_after o e.answer e.events.items h) step.op ∙ ap (λ (vs : List Event). past_after (asks_at f s e.time) e.answer vs h) step.events in
       let v = stands_timed the_aim f (past es) the_is_aim h s e.time w in
       let old = timed_part the_aim f (past es) the_is_aim h s e.time e.answer w (subst (λ x. IsPart x (past es)) same here) in
-      let heard = subst (λ o. HearsSo the_aim o e.answer) step.op come.0.hears in
-      let fresh = AllByRecursion-map (ShowsHanding f (timed s e.time).ports (asks_at f s e.time) e.answer) (λ v. is_stale v ≡ false) (told_at f (asked_at f s e.time) e.time e.answer).events
-      (λ x shows. event_fresh (with_openings (ports_timed e.time s.ports).events h) (timed s e.time).ports (timed s e.time).out v (asks_at f s e.time) e.answer x old heard shows) (shows_handings f s e.time e.answer step.fits) in
+      let fresh = AllByRecursion-map (Tells f (timed s e.time).ports e.op e.answer) (λ v. is_stale v ≡ false) e.events.items
+      (λ x tells. event_fresh (with_openings (ports_timed e.time s.ports).events h) (timed s e.time).ports (timed s e.time).out v e.op e.answer x old come.0.hears tells) (entry_tells (record { facts = f; state = s }) e step) in
       let done = step_stands the_aim f (past es) the_is_aim e h s (λ app slot j few low owed. tt) step come.0 here w in
-      (subst (AllByRecursion (λ v. is_stale v ≡ false)) (sym step.events) fresh, run_fresh rest e.time (past_with e h) (told_at f (asked_at f s e.time) e.time e.answer).state run.2 come.1 part done.0)
+      (fresh, run_fresh rest e.time (past_with e h) (told_at f (asked_at f s e.time) e.time e.answer).state run.2 come.1 part done.0)

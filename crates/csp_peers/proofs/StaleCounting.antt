@@ -34,7 +34,7 @@ use Rattle.csp_log.specs.declared.shown.AnswerShown.{AnswerShown}
 use Rattle.csp_log.specs.declared.shown.AnswerShown.TheVariants as answer
 use Rattle.csp_log.specs.declared.shown.ItemShown.{ItemShown}
 use Rattle.csp_log.specs.declared.shown.ItemShown.TheVariants as item
-use Rattle.csp_party.specs.Any.{PlainParty, a_bridge, a_link, a_router, an_app, an_iface, asked, events, tells}
+use Rattle.csp_party.specs.Any.{PlainParty, a_bridge, a_hub, a_link, a_router, an_app, an_iface, asked, events, tells}
 use Rattle.csp_prefix.proofs.AppTurns.{blobs_so}
 use Rattle.csp_record.specs.Record.{PlainPartyLog, PlainRecord}
 use Rattle.csp_record.specs.Stale.{is_stale, stale}
@@ -189,13 +189,14 @@ app_clear s now a = turn_clear (app_telling.at_rest s) (turn_of (app_telling.at_
 
 -- ---- a party that is no router
 
--- a party is a bridge, an interface, an application or a link
+-- a party is a bridge, an interface, an application, a link or a hub
 abbrev IsNoRouter : PlainParty → Type 0
 IsNoRouter (a_router r) = ⊥
 IsNoRouter (a_bridge b) = ⊤
 IsNoRouter (an_iface i) = ⊤
 IsNoRouter (an_app a) = ⊤
 IsNoRouter (a_link l) = ⊤
+IsNoRouter (a_hub h) = ⊤
 
 -- each of its turns tells of none
 turn_tells : (p : PlainParty) (time : ℕ) (a : AnswerShown) → IsNoRouter p → AreClear (events (asked p time) time a)
@@ -204,6 +205,7 @@ turn_tells (a_bridge b) time a other = bridge_reports (bridge_asking.asked b).do
 turn_tells (an_iface i) time a other = iface_clear (iface_asking.asked i time) time a
 turn_tells (an_app p) time a other = app_clear (app_asking.asked p time) time a
 turn_tells (a_link l) time a other = tt
+turn_tells (a_hub h) time a other = tt
 
 -- and leaves it no router
 turn_stays : (p : PlainParty) (time : ℕ) (a : AnswerShown) → IsNoRouter p → IsNoRouter (tells (asked p time) time a)
@@ -212,6 +214,7 @@ turn_stays (a_bridge b) time a other = tt
 turn_stays (an_iface i) time a other = tt
 turn_stays (an_app p) time a other = tt
 turn_stays (a_link l) time a other = tt
+turn_stays (a_hub h) time a other = tt
 
 -- so no entry of a run of it tells of one
 run_tells : (es : List Entry) (time : ℕ) (p : PlainParty) → IsNoRouter p → IsRun party_steps time p es → AllByRecursion IsEntryClear es

@@ -58,11 +58,10 @@ use Rattle.csp_prefix.proofs.RouterTrue.{all_come, each_comes, heard_all, openin
 use Rattle.csp_prefix.proofs.RouterTurn.{stands_timed}
 use Rattle.csp_prefix.proofs.MachineSays.{sender-opens}
 use Rattle.csp_prefix.proofs.MachineSender.{sender-kept}
+use Rattle.csp_prefix.proofs.RouterTells.{IsOfPopped, Tells, entry_tells}
 use Rattle.csp_prefix.proofs.PortKept.{ports_kept}
 use Rattle.csp_prefix.specs.Machines.{IsSender, whatever}
 use Rattle.csp_peers.specs.Window.{HadWindow, HasAsPeer, IsDataHanded, IsDataPacket, IsWithinWindow, LastIsWithinWindow}
-use Rattle.csp_peers.proofs.HandedEvents.{entry_shows}
-use Rattle.csp_peers.proofs.Handing.{IsOfPopped, ShowsHanding}
 use Rattle.csp_peers.proofs.PacketsMade.{get_past, of_kind, sends_both}
 use Rattle.csp_peers.proofs.WindowAcks.{acks_sent, owns_tags}
 use Rattle.csp_peers.proofs.WindowFacts.{Acknowledges, HasHeard, IsAck, IsAllowed, IsAllowedData, IsBefore}
@@ -186,7 +185,7 @@ module _ (scene : PlainScene) (r : PlainRecord) (is : IsScene scene) (con : IsCo
     popped =
         let step : IsStep router_steps last e = run_step 0 (opening_router f t.node.routes) before e [] log.run in
         subst (λ (x : Facts). IsOfPopped x ports e.op e.answer (event.Handed nth (Some peer) (Some tag) cur handed.una)) (facts_stay (opening_router f t.node.routes) before)
-        (each_at (ShowsHanding last.facts ports e.op e.answer) e.events.items handed.at (event.Handed nth (Some peer) (Some tag) cur handed.una) (entry_shows last e step.op step.fits step.events) handed.told)
+        (each_at (Tells last.facts ports e.op e.answer) e.events.items handed.at (event.Handed nth (Some peer) (Some tag) cur handed.una) (entry_tells last e step) handed.told)
 
     abbrev machine : PlainRdp
     machine = machine_at ports popped.handing.app popped.handing.slot

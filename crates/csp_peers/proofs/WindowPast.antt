@@ -1,131 +1,36 @@
 -- The machine of a reliable connection only goes on: what a router's turns found of it earlier had delivered no more, and past its opening had the same peer.
-use Rattle.std.proofs.Common.{◌≡◌, ℕ, ◌<◌, Bool, true, false, Option, None, Some, List, [], ◌∷◌, ◌++◌, refl, sym, ap, ◌∙◌, subst, arith}
-use Rattle.std.specs.Prelude.{⊤}
+use Rattle.std.proofs.Common.{◌≡◌, ℕ, ◌<◌, Option, Some, List, [], ◌∷◌, ◌++◌, refl, sym, ap, ◌∙◌, subst, arith}
 use Rattle.std.specs.List.{AllByRecursion}
-use Rattle.csp_scene.proofs.Lists.{AllByRecursion-map}
 use Rattle.csp_conn.specs.PlainConns.{slot_at}
 use Rattle.csp_conn.specs.declared.conns.TheConstants.{SLOTS}
-use Rattle.csp_conn.specs.declared.slot.Slot.{Slot}
-use Rattle.csp_conn.specs.declared.slot.Slot.TheVariants as has
 use Rattle.csp_deck.specs.Runs.{IsRun, state_after}
 use Rattle.csp_log.specs.declared.entry.Entry.{Entry}
-use Rattle.csp_log.specs.declared.event.Event.{Event}
 use Rattle.csp_log.specs.Pictures.{Fits}
-use Rattle.csp_log.specs.declared.places.QueueId.TheVariants as queue
 use Rattle.csp_log.specs.declared.shown.AnswerShown.{AnswerShown}
-use Rattle.csp_log.specs.declared.shown.AnswerShown.TheVariants as answer
-use Rattle.csp_log.specs.declared.shown.ItemShown.TheVariants as item
-use Rattle.csp_log.specs.declared.shown.OpShown.{OpShown}
-use Rattle.csp_log.specs.declared.shown.OpShown.TheVariants as op
-use Rattle.csp_ports.specs.Asking.{is_reliable}
 use Rattle.csp_ports.specs.PlainPorts.{PlainPorts, machine_at, terms_at}
 use Rattle.csp_ports.specs.Steps.{timed as ports_timed}
-use Rattle.csp_ports.specs.declared.terms.Terms.{Terms}
 use Rattle.csp_rdp.specs.Jobs.{job_of}
 use Rattle.csp_rdp.specs.Machine.{PlainRdp}
 use Rattle.csp_rdp.specs.declared.jobs.Job.{Job}
 use Rattle.csp_route.specs.Routes.{Routes}
 use Rattle.csp_stack.specs.Config.{opening_state}
 use Rattle.csp_stack.specs.Router.{Facts, Leaving, State, at_rest, origin_of}
-use Rattle.csp_stack.specs.Told.{Told}
 use Rattle.csp_stack.specs.Turn.{asked_at, asked_by, asks_at, plan_of, timed, told_at, told_by}
-use Rattle.csp_prefix.specs.Machines.{IsSender, whatever}
-use Rattle.csp_prefix.specs.Ports.{AreGood, Books, IsInUse, IsReliableOn, IsSlot, Ordinals, now_at}
+use Rattle.csp_prefix.specs.Machines.{IsSender}
+use Rattle.csp_prefix.specs.Ports.{IsReliableOn, now_at}
 use Rattle.csp_prefix.specs.Routers.{ComesSo, IsRouterLog, opening_router, router_steps}
-use Rattle.csp_prefix.specs.Slots.{GoesOn, IsKept, Now, Numbering}
+use Rattle.csp_prefix.specs.Slots.{GoesOn, Now, Numbering}
 use Rattle.csp_prefix.proofs.MachineSender.{sender-kept}
 use Rattle.csp_prefix.proofs.PortFacts.{used}
-use Rattle.csp_prefix.proofs.PortKept.{ports_kept}
-use Rattle.csp_prefix.proofs.RouterBooks.{IsTold, Past, no_past, past_after, with_openings}
+use Rattle.csp_prefix.proofs.RouterBooks.{Past, no_past, past_after, with_openings}
+use Rattle.csp_prefix.proofs.RouterKnown.{known_aim, known_is_aim, known_stands, known_turns, told_since}
 use Rattle.csp_prefix.proofs.RouterRun.{AreFound}
 use Rattle.csp_prefix.proofs.RouterSends.{sender_not}
-use Rattle.csp_prefix.proofs.RouterStanding.{Aim, IsAim, Stands}
-use Rattle.csp_prefix.proofs.RouterTrue.{opening_stands, part_all, past}
-use Rattle.csp_prefix.proofs.RouterTurn.{HearsSo, stands_timed, turn_plan}
+use Rattle.csp_prefix.proofs.RouterStanding.{IsAim, Stands}
+use Rattle.csp_prefix.proofs.RouterTrue.{opening_stands, past}
+use Rattle.csp_prefix.proofs.RouterTurn.{stands_timed}
 use Rattle.csp_peers.proofs.MachineFollows.{Follows, IsHomed, IsPast, anywhere-kept, homed-steady, past-steady, steady-kept}
 use Rattle.csp_peers.proofs.WindowFacts.{IsBefore}
-
--- ---- aims about machines alone
-
--- whatever comes and goes, this is known of the connections
-abbrev pub known_aim : (Numbering → ℕ → ℕ → Now → Type 0) → Aim
-known_aim Is = record {
-  is = Is;
-  coming = whatever;
-  over = λ m app x down. ⊤;
-  good = λ b. ⊤;
-  hears = λ b. ⊤;
-  comes = λ i. ⊤;
-  fresh = λ e. ⊤;
-  at = λ r. ⊤;
-}
-
-pub known_is_aim : (Is : Numbering → ℕ → ℕ → Now → Type 0) (f : Facts) (whole : Past) → IsKept (origin_of f) whatever Is → ((m : Numbering) (app slot : ℕ) (n : Now) → Is m app slot n → n.book.opened ≡ Some (None, None) → ⊥) → IsAim (known_aim Is) f whole
-known_is_aim Is f whole kept never = record {
-  ports = ports_kept (origin_of f) whatever Is kept;
-  ended = λ m app slot n how is e. tt;
-  plain = λ m app slot ordinal down. tt;
-  grows = λ m m' app x down on over. tt;
-  never_plain = never;
-  unmarked = λ mark b e none comes. tt;
-  unreliable = λ b none plain. tt;
-  wishes = λ p r comes reliable own chosen. tt;
-  makes = λ h m books p app slot time j b c part tells o there is found job. tt;
-  feeds = λ b payload r read heard known fresh. tt;
-  asks = λ b payload read heard known syn. tt;
-}
-
--- where one thing is known of each connection by a numbering, another is known by another numbering
-in_use_map : (Is Js : Numbering → ℕ → ℕ → Now → Type 0) (reliable : Bool) (m m' : Numbering) (app slot : ℕ) (n : Now) → (Is m app slot n → Js m' app slot n) → IsInUse Is reliable m app slot n → IsInUse Js reliable m' app slot n
-in_use_map Is Js true m m' app slot n more is = more is
-in_use_map Is Js false m m' app slot n more is = record { machine = is.machine; waits = is.waits; opened = is.opened }
-
-slot_map : (Is Js : Numbering → ℕ → ℕ → Now → Type 0) (s : Slot) (t : Terms) (m m' : Numbering) (app slot : ℕ) (n : Now) → (Is m app slot n → Js m' app slot n) → IsSlot Is s t m app slot n → IsSlot Js s t m' app slot n
-slot_map Is Js has.Free t m m' app slot n more is = is
-slot_map Is Js has.Held t m m' app slot n more is = is
-slot_map Is Js (has.Open c) t m m' app slot n more is = in_use_map Is Js (is_reliable t.flags) m m' app slot n more is
-
-module _ (Is Js : Numbering → ℕ → ℕ → Now → Type 0) (m m' : Numbering) (ordinals : Ordinals) (books : Books) (p : PlainPorts) where
-  good_map : m'.made ≡ m.made → ((app slot : ℕ) → app < p.conns.apps → slot < SLOTS → Is m app slot (now_at p books app slot) → Js m' app slot (now_at p books app slot)) → AreGood Is m ordinals books p → AreGood Js m' ordinals books p
-  good_map same more good = record {
-    few = good.few;
-    conns = good.conns;
-    terms = good.terms;
-    machines = good.machines;
-    places = good.places;
-    made = good.made ∙ sym same;
-    owners = good.owners;
-    owed = good.owed;
-    counted = good.counted;
-    waits = good.waits;
-    ends = good.ends;
-    over = good.over;
-    slots = λ app slot few low. slot_map Is Js (slot_at p.conns app slot) (terms_at p app slot) m m' app slot (now_at p books app slot) (more app slot few low) (good.slots app slot few low);
-  }
-
--- what is told, from another numbering on
-abbrev told_since : Numbering → Past → Past
-told_since m h = record h { since = m }
-
-known_stands : (Is Js : Numbering → ℕ → ℕ → Now → Type 0) (f : Facts) (h : Past) (p : PlainPorts) (o : Option Leaving) (w : Stands (known_aim Is) f h p o) (m : Numbering) → m.made ≡ w.numbering.made
-    → ((app slot : ℕ) → app < p.conns.apps → slot < SLOTS → Is w.numbering app slot (now_at p w.books app slot) → Js m app slot (now_at p w.books app slot)) → Stands (known_aim Js) f (told_since m h) p o
-known_stands Is Js f h p o w m same more = record {
-  numbering = m;
-  books = w.books;
-  good = good_map Is Js w.numbering m h.ends w.books p same more w.good;
-  tells = record {
-    told = λ app. AllByRecursion-map (IsTold (λ m app x down. ⊤) f.apps w.numbering h w.books app) (IsTold (λ m app x down. ⊤) f.apps m (told_since m h) w.books app) (h.opened app)
-        (λ x i. record { app_there = i.app_there; slot_there = i.slot_there; reached = i.reached; present = i.present; over = λ lt. tt }) (w.tells.told app);
-    back = w.tells.back;
-    sent = w.tells.sent;
-    down = w.tells.down;
-    later_sent = w.tells.later_sent;
-    later_down = w.tells.later_down;
-    goes_on = record { more = omega arith; same = λ n lt. refl };
-  };
-  apps = w.apps;
-  out = w.out;
-}
 
 -- ---- what holds at all times: each connection is such as one that sends, and is at home
 abbrev HasHome : Facts → Numbering → ℕ → ℕ → Now → Type 0
@@ -200,15 +105,6 @@ read_found f old m p o w made app slot few low on same =
     let follows = is.1.follows few home (sym same) in
     (follows.more, λ past. sym (follows.peer past))
 
-all_any : (es : List Event) → AllByRecursion {X = Event} (λ v. ⊤) es
-all_any [] = tt
-all_any (v ∷ vs) = (tt, all_any vs)
-
-hears_any : (Is : Numbering → ℕ → ℕ → Now → Type 0) (o : OpShown) (a : AnswerShown) → HearsSo (known_aim Is) o a
-hears_any Is (op.Pop queue.Inbox) (answer.Popped (item.Packet mark b)) = tt
-hears_any Is (op.Pop (queue.Up k)) (answer.Popped i) = tt
-hears_any Is _ _ = tt
-
 module _ (Is : Numbering → ℕ → ℕ → Now → Type 0) (f : Facts) (is_aim : (whole : Past) → IsAim (known_aim Is) f whole) (m : Numbering) where
   since_timed : (s : State) (time : ℕ) → StandsSince Is f m s.ports s.out → StandsSince Is f m (timed s time).ports (timed s time).out
   since_timed s time w = record { tells = with_openings (ports_timed time s.ports).events w.tells; stands = stands_timed (known_aim Is) f w.tells (is_aim w.tells) w.tells s time w.stands; since = w.since }
@@ -218,11 +114,9 @@ module _ (Is : Numbering → ℕ → ℕ → Now → Type 0) (f : Facts) (is_aim
       → StandsSince Is f m (told_at f (asked_at f s time) time a).state.ports (told_at f (asked_at f s time) time a).state.out
   since_told s time a fits comes w =
       let t : State = timed s time in
-      let told : Told = told_by (plan_of f t time) f (at_rest (asked_by f t (plan_of f t time))) time a in
-      let later : Past = past_after (asks_at f s time) a told.events w.tells in
       record {
-        tells = later;
-        stands = (turn_plan (known_aim Is) f later (is_aim later) t.trash t.out w.tells t time a (λ app slot j few low owed. tt) refl w.stands fits comes (hears_any Is (asks_at f s time) a) (part_all later) (all_any told.events)).0;
+        tells = past_after (asks_at f s time) a (told_by (plan_of f t time) f (at_rest (asked_by f t (plan_of f t time))) time a).events w.tells;
+        stands = known_turns Is f is_aim w.tells s time a fits comes w.stands;
         since = w.since;
       }
 

@@ -1,4 +1,5 @@
 pub mod AppItems
+pub mod AppPuts
 pub mod AppTurns
 pub mod FlowReads
 pub mod GenuinePackets
@@ -35,6 +36,7 @@ pub mod RouterBytes
 pub mod RouterDelivers
 pub mod RouterEntry
 pub mod RouterHeard
+pub mod RouterKnown
 pub mod RouterLaw
 pub mod RouterMute
 pub mod RouterPlans
@@ -42,6 +44,7 @@ pub mod RouterRun
 pub mod RouterSends
 pub mod RouterServed
 pub mod RouterStanding
+pub mod RouterTells
 pub mod RouterTrue
 pub mod RouterTurn
 pub mod TakenPrefix

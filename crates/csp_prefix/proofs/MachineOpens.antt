@@ -1,5 +1,5 @@
 -- By which steps a reliable connection becomes open.
-use Rattle.std.proofs.Common.{◌≡◌, inl, inr, sym, subst}
+use Rattle.std.proofs.Common.{◌≡◌, inl, inr, refl, sym, ◌∙◌, subst}
 use Rattle.std.specs.Prelude.{◌⊎◌}
 use Rattle.csp_rdp.specs.Machine.{PlainRdp}
 use Rattle.csp_rdp.specs.declared.answers.State.{State}
@@ -25,32 +25,25 @@ opens-sent s z e f = rw (e, f) tt
 pub opens-rcvd : (s z : State) → s ≡ SynRcvd → z ≡ Open → Opens s z
 opens-rcvd s z e f = rw (e, f) tt
 
-same-not : (s : State) → Opens s s → ⊥
-same-not SynSent f = f
-same-not SynRcvd f = f
-same-not Open f = f
-same-not CloseWait f = f
-same-not Closed f = f
+-- only from there, and it is open then
+opens-so : (s z : State) → Opens s z → IsEarly s × (z ≡ Open)
+opens-so SynSent Open f = (tt, refl)
+opens-so SynRcvd Open f = (tt, refl)
+opens-so SynSent _ f = absurd f
+opens-so SynRcvd _ f = absurd f
+opens-so Open Open f = absurd f
+opens-so CloseWait Open f = absurd f
+opens-so Closed Open f = absurd f
+opens-so _ _ f = absurd f
 
-closed-not : (s : State) → Opens s Closed → ⊥
-closed-not SynSent f = f
-closed-not SynRcvd f = f
-closed-not Open f = f
-closed-not CloseWait f = f
-closed-not Closed f = f
-
-waiting-not : (s : State) → Opens s CloseWait → ⊥
-waiting-not SynSent f = f
-waiting-not SynRcvd f = f
-waiting-not Open f = f
-waiting-not CloseWait f = f
-waiting-not Closed f = f
+pub opens-early : (s z : State) → Opens s z → IsEarly s
+opens-early s z f = (opens-so s z f).0
 
 -- not by one that leaves its state
 pub opens-not : (s z : State) → z ≡ s → Opens s z → ⊥
-opens-not s z e f = same-not s (subst (λ y. Opens s y) e f)
+opens-not s z e f = let so = opens-so s z f in subst IsEarly (sym e ∙ so.1) so.0
 
 pub ways-not : (a b : PlainRdp) → Ways a b → Opens a.state b.state → ⊥
 ways-not a b (on g) f = opens-not a.state b.state g.state_is f
-ways-not a b (over g) f = closed-not a.state (subst (λ y. Opens a.state y) g.state_is f)
-ways-not a b (off g) f = waiting-not a.state (subst (λ y. Opens a.state y) g.state_is f)
+ways-not a b (over g) f = let e : Closed ≡ Open = sym g.state_is ∙ (opens-so a.state b.state f).1 in absurd cc
+ways-not a b (off g) f = let e : CloseWait ≡ Open = sym g.state_is ∙ (opens-so a.state b.state f).1 in absurd cc

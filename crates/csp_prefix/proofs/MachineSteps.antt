@@ -108,6 +108,15 @@ ways-closed Closed time r = on (stays r)
 pub ways-closing : (time : ℕ) (r : PlainRdp) → Ways r (closing time r)
 ways-closing time r = ways-closed r.state time r
 
+-- by a reset that waited
+pub ways-reset : (o : Option ℕ) (time : ℕ) (r : PlainRdp) → Ways r (reset_after o time r)
+ways-reset None time r = on (stays r)
+ways-reset (Some t) time r = go (nat_le t (r.recv.cur + 1))
+  where
+    go : (b : Bool) → Ways r (if b then owes_rst (left Closed time r) else r)
+    go true = over (goes-reset time r)
+    go false = on (stays r)
+
 -- what is owed alone changes
 pub owed-else : (a b : PlainRdp) → b ≡ record a { owed = b.owed } → Goes a.state a.recv a b
 owed-else a b e = rw e (record { state_is = refl; was_open = refl; peer = refl; own = record { node = refl; nth = refl; send = same-send a.send }; recv_is = refl })

@@ -43,7 +43,7 @@ pub each_both : {X : Type 0} (P Q R : X → Type 0) (xs : List X) → ((x : X) �
 each_both P Q R [] h ps qs = tt
 each_both P Q R (x ∷ xs) h ps qs = (h x ps.0 qs.0, each_both P Q R xs h ps.1 qs.1)
 
-each_flat : {X Y : Type 0} (P : X → Type 0) (Q : Y → Type 0) (f : X → List Y) (xs : List X) → ((x : X) → P x → AllByRecursion Q (f x)) → AllByRecursion P xs → AllByRecursion Q (flat_map f xs)
+pub each_flat : {X Y : Type 0} (P : X → Type 0) (Q : Y → Type 0) (f : X → List Y) (xs : List X) → ((x : X) → P x → AllByRecursion Q (f x)) → AllByRecursion P xs → AllByRecursion Q (flat_map f xs)
 each_flat P Q f [] h all = tt
 each_flat P Q f (x ∷ xs) h all = AllByRecursion-append Q (f x) (flat_map f xs) (h x all.0) (each_flat P Q f xs h all.1)
 

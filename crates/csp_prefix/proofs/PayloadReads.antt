@@ -115,14 +115,13 @@ took_by app slot ordinal n (op.Push q (item.Note m)) answer.Pushed es t = in_eit
 took_by app slot ordinal n _ _ es t = in_either (n == ordinal)
 
 -- and it ends the slots that it got Closed answers for
+closed_end : (slot n freed : ℕ) (own : Bool) (ends : Ends) → ends slot ≡ n → (if own && freed == slot then ends slot + 1 else ends slot) ≡ ends_in slot n (if own then item.Note (note.Closed freed) ∷ [] else [])
+closed_end slot n freed true ends e = ap (λ x. if freed == slot then x + 1 else x) e
+closed_end slot n freed false ends e = e
+
 heard_end : (app slot n : ℕ) (ends : Ends) (k : ℕ) (m : Note) → ends slot ≡ n
     → ended way.Took app (noted_by (op.Pop (queue.Down k)) (answer.Popped (item.Note m))) ends slot ≡ ends_in slot n (if k == app then item.Note m ∷ [] else [])
-heard_end app slot n ends k (note.Closed freed) e =
-    by (k == app)
-  where
-    by : (c : Bool) → (if c && freed == slot then ends slot + 1 else ends slot) ≡ ends_in slot n (if c then item.Note (note.Closed freed) ∷ [] else [])
-    by true = ap (λ x. if freed == slot then x + 1 else x) e
-    by false = e
+heard_end app slot n ends k (note.Closed freed) e = closed_end slot n freed (k == app) ends e
 heard_end app slot n ends k m e = e ∙ no_end slot n (k == app) (item.Note m) refl
 
 took_end : (app slot n : ℕ) (ends : Ends) (o : OpShown) (a : AnswerShown) → ends slot ≡ n
@@ -190,12 +189,7 @@ delivered_one app slot ordinal n _ _ = in_either (n == ordinal)
 
 told_end : (app slot n : ℕ) (ends : Ends) (k : ℕ) (m : Note) → ends slot ≡ n
     → ended way.Sent app (noted_by (op.Push (queue.Down k) (item.Note m)) answer.Pushed) ends slot ≡ ends_in slot n (if k == app then item.Note m ∷ [] else [])
-told_end app slot n ends k (note.Closed freed) e =
-    by (k == app)
-  where
-    by : (c : Bool) → (if c && freed == slot then ends slot + 1 else ends slot) ≡ ends_in slot n (if c then item.Note (note.Closed freed) ∷ [] else [])
-    by true = ap (λ x. if freed == slot then x + 1 else x) e
-    by false = e
+told_end app slot n ends k (note.Closed freed) e = closed_end slot n freed (k == app) ends e
 told_end app slot n ends k m e = e ∙ no_end slot n (k == app) (item.Note m) refl
 
 delivered_end : (app slot n : ℕ) (ends : Ends) (o : OpShown) (a : AnswerShown) → ends slot ≡ n

@@ -17,7 +17,7 @@ use Rattle.csp_rdp.specs.declared.answers.State.{State}
 use Rattle.csp_rdp.specs.declared.answers.State.TheVariants.{Closed, Open}
 use Rattle.csp_prefix.proofs.PortChanges.{vacant_fine, vacated_but}
 use Rattle.csp_prefix.proofs.PortFacts.{All, fine_of, good_of}
-use Rattle.csp_prefix.proofs.PortSlots.{AreFineBut, IsFine, IsQuiet, IsShaped, and_false, book_but, ordinal_but, whole}
+use Rattle.csp_prefix.proofs.PortSlots.{AreFineBut, IsFine, IsQuiet, IsShaped, and_false, book_but, ordinal_but, reshaped, whole}
 use Rattle.csp_prefix.proofs.PortViews.{alike, ordinal_same, unlike, view}
 use Rattle.csp_prefix.specs.Ports.{Answers, AreGood, Books, Ordinals, ends_due, is_end, is_end_of, with_book, with_ordinal}
 use Rattle.csp_prefix.specs.Slots.{Now, Numbering, blank}
@@ -50,17 +50,7 @@ module _ {Is : Numbering → ℕ → ℕ → Now → Type 0} {m : Numbering} {or
   owed_all = subst (AllByRecursion (IsOwed p.conns.apps)) e g.owed
 
   left_shape : IsShaped m.made left
-  left_shape = record {
-    few = g.few;
-    conns = g.conns;
-    terms = g.terms;
-    machines = g.machines;
-    places = g.places;
-    made = g.made;
-    owners = g.owners;
-    owed = owed_all.1;
-    waits = (fine_of g).shape.waits;
-  }
+  left_shape = reshaped p.conns.slots p.conns.last p.terms p.machines rest refl refl refl owed_all.1 (fine_of g).shape
 
   count_left : (a s : ℕ) (b : Bool) → is_end_of a s (record { app = app; note = answer }) ≡ b → count_by (is_end_of a s) p.owed ≡ cond b 1 0 + count_by (is_end_of a s) rest
   count_left a s b f = ap (count_by (is_end_of a s)) e ∙ count_first (is_end_of a s) (record { app = app; note = answer }) rest b f

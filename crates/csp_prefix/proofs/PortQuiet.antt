@@ -27,7 +27,7 @@ use Rattle.csp_rdp.specs.declared.jobs.Job.TheVariants as job
 use Rattle.csp_socket.specs.Bound.{owner_of, with_owner}
 use Rattle.csp_prefix.proofs.PortChanges.{IsUse, at_view, use_fine}
 use Rattle.csp_prefix.proofs.PortFacts.{All, IsReliable, IsResting, either, fine_of, good_of}
-use Rattle.csp_prefix.proofs.PortSlots.{AreFine, AreFineBut, IsFine, IsQuiet, look, machine_but, none_some, owing_quiet, owing_shape, whole}
+use Rattle.csp_prefix.proofs.PortSlots.{AreFine, AreFineBut, IsFine, IsQuiet, look, machine_but, none_some, owing_quiet, owing_shape, reshaped, whole}
 use Rattle.csp_prefix.proofs.PortViews.{View, now_of, view}
 use Rattle.csp_prefix.specs.Ports.{AreGood, Books, IsReliableOn, IsSlot, Ordinals, ends_due, now_at, waiting_on}
 use Rattle.csp_prefix.specs.Slots.{Coming, IsKept, Now, Numbering, blank}
@@ -74,17 +74,7 @@ module _ {Is : Numbering → ℕ → ℕ → Now → Type 0} {m : Numbering} {or
   told_good app slot =
       let h = fine_of g in
       good_of (record {
-        shape = record {
-          few = g.few;
-          conns = g.conns;
-          terms = length-set p.terms (place_of app slot) (record (terms_at p app slot) { is_down = false }) ∙ g.terms;
-          machines = g.machines;
-          places = g.places;
-          made = g.made;
-          owners = g.owners;
-          owed = g.owed;
-          waits = h.shape.waits;
-        };
+        shape = reshaped p.conns.slots p.conns.last _ p.machines p.owed refl (length-set p.terms (place_of app slot) (record (terms_at p app slot) { is_down = false })) refl g.owed h.shape;
         slots = λ a s k l.
             let f = h.slots a s k l in
             set_all p.terms (place_of app slot) (place_of a s) (record (terms_at p app slot) { is_down = false }) fresh

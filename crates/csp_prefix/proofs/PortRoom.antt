@@ -74,22 +74,10 @@ module _ {o : Origin} {C : Coming} {Is : Numbering → ℕ → ℕ → Now → T
 
     dropped_by : (s : PlainStalled) (b : State) → stalled_at p app ≡ Some s → (machine_at p app s.slot).state ≡ b → Leaves Is Tight m ordinals books p.conns.apps (dropped_in b app s p)
     dropped_by s Open e f = rest_fine (tighten app h wider (λ t g. subst (λ (u : PlainStalled). (machine_at p app u.slot).state ≡ Open) (some_same s t (sym e ∙ g)) f))
-    dropped_by s SynSent e f = discarded_leaves s e (λ g. absurd (sent_open (sym f ∙ g)))
-      where
-        sent_open : SynSent ≡ Open → ⊥
-        sent_open e = cc
-    dropped_by s SynRcvd e f = discarded_leaves s e (λ g. absurd (rcvd_open (sym f ∙ g)))
-      where
-        rcvd_open : SynRcvd ≡ Open → ⊥
-        rcvd_open e = cc
-    dropped_by s CloseWait e f = discarded_leaves s e (λ g. absurd (wait_open (sym f ∙ g)))
-      where
-        wait_open : CloseWait ≡ Open → ⊥
-        wait_open e = cc
-    dropped_by s Closed e f = discarded_leaves s e (λ g. absurd (closed_open (sym f ∙ g)))
-      where
-        closed_open : Closed ≡ Open → ⊥
-        closed_open e = cc
+    dropped_by s SynSent e f = discarded_leaves s e (λ g. cc (f, g))
+    dropped_by s SynRcvd e f = discarded_leaves s e (λ g. cc (f, g))
+    dropped_by s CloseWait e f = discarded_leaves s e (λ g. cc (f, g))
+    dropped_by s Closed e f = discarded_leaves s e (λ g. cc (f, g))
 
     dropped_of_it : (w : Option PlainStalled) → stalled_at p app ≡ w → Leaves Is Tight m ordinals books p.conns.apps (dropped_on w app p)
     dropped_of_it None e = rest_fine (tighten app h wider (λ t g. absurd (none_some t (sym e ∙ g))))

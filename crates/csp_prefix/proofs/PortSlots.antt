@@ -1,7 +1,7 @@
 -- what is known of each slot of a node's ports in the middle of a step, and what a change on one leaves of that
 use Rattle.std.specs.Prelude.{◌==◌, ◌&&◌, Bool, true, false, IfSome, None, Option, Some, count_by, if◌then◌else◌, ⊤}
 use Rattle.std.specs.List.{AllByRecursion}
-use Rattle.std.proofs.Common.{◌≡◌, ℕ, ◌+◌, ◌*◌, ◌<◌, ◌≤◌, List, [], ◌∷◌, ◌++◌, length, arith, ap, refl, sym, subst, ◌∙◌, add-zero}
+use Rattle.std.proofs.Common.{◌≡◌, ℕ, ◌+◌, ◌*◌, ◌<◌, ◌≤◌, List, length, arith, ap, refl, sym, subst, ◌∙◌, add-zero}
 use Rattle.std.proofs.lemmas.Bool.{eq-eqb, eqb-false, eqb-true}
 use Rattle.std.proofs.lemmas.List.{get_or-set_other, get_or-set_same, length-set}
 use Rattle.csp_conn.specs.PlainConns.{place_of, with_slot}
@@ -13,11 +13,13 @@ use Rattle.csp_log.specs.declared.note.Note.{Note}
 use Rattle.csp_log.specs.declared.note.Note.TheVariants as note
 use Rattle.csp_ports.specs.Kept.{IsOwed}
 use Rattle.csp_ports.specs.PlainPorts.{PlainPorts, PlainStalled, fresh, owing, stalled_at, with_machine, with_stalled, with_terms}
+use Rattle.csp_ports.specs.declared.owed.Owed.{Owed}
 use Rattle.csp_ports.specs.declared.places.TheConstants.{ALL_SLOTS}
 use Rattle.csp_ports.specs.declared.terms.Terms.{Terms}
 use Rattle.csp_ports.specs.declared.terms.Wish.TheVariants as wish
 use Rattle.csp_rdp.specs.Machine.{PlainRdp, idle}
 use Rattle.csp_rdp.specs.declared.answers.State.TheVariants.{Closed, Open}
+use Rattle.csp_scene.proofs.Lists.{AllByRecursion-push}
 use Rattle.csp_socket.specs.Bound.{owner_of}
 use Rattle.csp_prefix.proofs.PortViews.{IsOther, View, alike, book_other, book_same, by_slot, count_more, get_other, get_same, now_of, ordinal_other, unlike, view}
 use Rattle.csp_prefix.specs.Ports.{Books, IsSlot, Ordinals, ends_due, is_end, is_end_of, waiting_on, with_book, with_ordinal}
@@ -74,22 +76,24 @@ whole {Is} {Tight} {m} {ordinals} {books} {p} {app} {slot} {v} h fine = record {
 
 -- ---- lists and options
 
-AllByRecursion-more : {X : Type 0} (P : X → Type 0) (xs : List X) (x : X) → AllByRecursion P xs → P x → AllByRecursion P (xs ++ x ∷ [])
-AllByRecursion-more P [] x h k = (k, tt)
-AllByRecursion-more P (y ∷ ys) x h k = (h.0, AllByRecursion-more P ys x h.1 k)
-
-pub owing_shape : {n : ℕ} {p : PlainPorts} (app : ℕ) (answer : Note) → IsShaped n p → app < p.conns.apps → IsReply answer → IsShaped n (owing p app answer)
-owing_shape {n} {p} app answer h here reply = record {
+-- other slots, terms and machines, as many as there were, and other answers that are owed
+pub reshaped : {most : ℕ} {p : PlainPorts} (slots : List Slot) (last : ℕ) (terms : List Terms) (machines : List PlainRdp) (owed : List Owed) → length slots ≡ length p.conns.slots → length terms ≡ length p.terms → length machines ≡ length p.machines
+    → AllByRecursion (IsOwed p.conns.apps) owed → IsShaped most p → IsShaped most (record p { conns = record p.conns { slots = slots; last = last }; terms = terms; machines = machines; owed = owed })
+reshaped slots last terms machines owed one two three all h = record {
   few = h.few;
-  conns = h.conns;
-  terms = h.terms;
-  machines = h.machines;
+  conns = one ∙ h.conns;
+  terms = two ∙ h.terms;
+  machines = three ∙ h.machines;
   places = h.places;
   made = h.made;
   owners = h.owners;
-  owed = AllByRecursion-more (IsOwed p.conns.apps) p.owed (record { app = app; note = answer }) h.owed (record { app = here; reply = reply });
+  owed = all;
   waits = h.waits;
 }
+
+pub owing_shape : {n : ℕ} {p : PlainPorts} (app : ℕ) (answer : Note) → IsShaped n p → app < p.conns.apps → IsReply answer → IsShaped n (owing p app answer)
+owing_shape {n} {p} app answer h here reply =
+    reshaped p.conns.slots p.conns.last p.terms p.machines _ refl refl refl (AllByRecursion-push (IsOwed p.conns.apps) p.owed (record { app = app; note = answer }) h.owed (record { app = here; reply = reply })) h
 
 pub and_false : (x y : Bool) → y ≡ false → (x && y) ≡ false
 and_false true y e = e
@@ -181,17 +185,7 @@ module _ {Is : Numbering → ℕ → ℕ → Now → Type 0} {Tight : ℕ → Ty
   pub machine_but : (r : PlainRdp) → AreFineBut Is Tight m ordinals books (with_machine p app slot r) app slot (record v { machine = r })
   machine_but r =
       moved (with_machine p app slot r) books (record v { machine = r })
-      (record {
-        few = h.shape.few;
-        conns = h.shape.conns;
-        terms = h.shape.terms;
-        machines = length-set p.machines (place_of app slot) r ∙ h.shape.machines;
-        places = h.shape.places;
-        made = h.shape.made;
-        owners = h.shape.owners;
-        owed = h.shape.owed;
-        waits = h.shape.waits;
-      })
+      (reshaped p.conns.slots p.conns.last p.terms _ p.owed refl refl (length-set p.machines (place_of app slot) r) h.shape.owed h.shape)
       refl
       (λ a s l o. ap (λ (r : PlainRdp). record (view p books a s) { machine = r }) (get_other p.machines app slot a s r idle h.there l o))
       (ap (λ (r : PlainRdp). record (view p books app slot) { machine = r }) (get_same p.machines app slot 4 r idle h.shape.machines few_here h.there) ∙ ap (λ (v : View). record v { machine = r }) h.seen)
@@ -200,17 +194,7 @@ module _ {Is : Numbering → ℕ → ℕ → Now → Type 0} {Tight : ℕ → Ty
   pub terms_but : (t : Terms) → AreFineBut Is Tight m ordinals books (with_terms p app slot t) app slot (record v { terms = t })
   terms_but t =
       moved (with_terms p app slot t) books (record v { terms = t })
-      (record {
-        few = h.shape.few;
-        conns = h.shape.conns;
-        terms = length-set p.terms (place_of app slot) t ∙ h.shape.terms;
-        machines = h.shape.machines;
-        places = h.shape.places;
-        made = h.shape.made;
-        owners = h.shape.owners;
-        owed = h.shape.owed;
-        waits = h.shape.waits;
-      })
+      (reshaped p.conns.slots p.conns.last _ p.machines p.owed refl (length-set p.terms (place_of app slot) t) refl h.shape.owed h.shape)
       refl
       (λ a s l o. ap (λ (t : Terms). record (view p books a s) { terms = t }) (get_other p.terms app slot a s t fresh h.there l o))
       (ap (λ (t : Terms). record (view p books app slot) { terms = t }) (get_same p.terms app slot 4 t fresh h.shape.terms few_here h.there) ∙ ap (λ (v : View). record v { terms = t }) h.seen)
@@ -219,17 +203,7 @@ module _ {Is : Numbering → ℕ → ℕ → Now → Type 0} {Tight : ℕ → Ty
   pub slot_but : (what : Slot) (last : ℕ) → AreFineBut Is Tight m ordinals books (record p { conns = record (with_slot p.conns app slot what) { last = last } }) app slot (record v { what = what })
   slot_but what last =
       moved (record p { conns = record (with_slot p.conns app slot what) { last = last } }) books (record v { what = what })
-      (record {
-        few = h.shape.few;
-        conns = length-set p.conns.slots (place_of app slot) what ∙ h.shape.conns;
-        terms = h.shape.terms;
-        machines = h.shape.machines;
-        places = h.shape.places;
-        made = h.shape.made;
-        owners = h.shape.owners;
-        owed = h.shape.owed;
-        waits = h.shape.waits;
-      })
+      (reshaped _ last p.terms p.machines p.owed (length-set p.conns.slots (place_of app slot) what) refl refl h.shape.owed h.shape)
       refl
       (λ a s l o. ap (λ (x : Slot). record (view p books a s) { what = x }) (get_other p.conns.slots app slot a s what has.Free h.there l o))
       (ap (λ (x : Slot). record (view p books app slot) { what = x }) (get_same p.conns.slots app slot p.conns.apps what has.Free h.shape.conns h.here h.there) ∙ ap (λ (v : View). record v { what = what }) h.seen)

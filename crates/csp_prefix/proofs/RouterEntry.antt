@@ -7,7 +7,6 @@ use Rattle.std.proofs.lemmas.List.{append-nil, append_assoc}
 use Rattle.csp_log.specs.Moving.{moved_by}
 use Rattle.csp_log.specs.Noting.{noted_by as note_moved}
 use Rattle.csp_log.specs.declared.event.Event.{Event}
-use Rattle.csp_log.specs.declared.event.Event.TheVariants as event
 use Rattle.csp_log.specs.declared.shown.AnswerShown.{AnswerShown}
 use Rattle.csp_log.specs.declared.shown.OpShown.{OpShown}
 use Rattle.csp_record.specs.Connections.{opened_by}
@@ -15,7 +14,6 @@ use Rattle.csp_record.specs.Ordinals.{frees}
 use Rattle.csp_record.specs.Payloads.{carried, is_on, told_on}
 use Rattle.csp_record.specs.declared.payloads.Way.TheVariants as way
 use Rattle.csp_prefix.specs.Delivered.{delivered_by}
-use Rattle.csp_prefix.specs.Ports.{AreNew, Books, IsNew, noted_by}
 use Rattle.csp_prefix.proofs.RouterBooks.{Past, past_after, past_same, with_openings}
 
 -- a turn that moves no payload of a connection and frees no slot
@@ -39,32 +37,6 @@ quiet_entry o a events h q =
 -- none of these events tells that something was sent
 abbrev pub AreUnsent : List Event → Type 0
 AreUnsent es = (slot : ℕ) (payload : Option (List ℕ)) → told_on way.Sent slot es payload ≡ []
-
-not_sent : (apps slot : ℕ) (books : Books) (e : Event) → IsNew apps e books → is_on way.Sent slot e ≡ false
-not_sent apps slot books (event.Sent s o) new = absurd new
-not_sent apps slot books (event.Opened app s nth peer) new = refl
-not_sent apps slot books (event.TookEmpty step) new = refl
-not_sent apps slot books (event.Took s o) new = refl
-not_sent apps slot books (event.BlobTook s o len crc) new = refl
-not_sent apps slot books (event.BlobRefused s o reason) new = refl
-not_sent apps slot books (event.Refused step reason) new = refl
-not_sent apps slot books (event.GaveUp step) new = refl
-not_sent apps slot books (event.SlotDown step) new = refl
-not_sent apps slot books (event.Discarded reason) new = refl
-not_sent apps slot books (event.Handed nth peer tag cur una) new = refl
-not_sent apps slot books (event.Transmitted serial) new = refl
-not_sent apps slot books (event.Bad count) new = refl
-not_sent apps slot books event.Starved new = refl
-not_sent apps slot books event.InboxFull new = refl
-not_sent apps slot books event.TooBig new = refl
-not_sent apps slot books event.Reboot new = refl
-not_sent apps slot books event.Shutdown new = refl
-
-pub new_unsent : (apps : ℕ) (es : List Event) (books : Books) → AreNew apps es books → AreUnsent es
-new_unsent apps es books new slot None = refl
-new_unsent apps [] books new slot (Some payload) = refl
-new_unsent apps (e ∷ es) books new slot (Some payload) =
-    rw (not_sent apps slot books e new.0) (new_unsent apps es (noted_by e books) new.1 slot (Some payload))
 
 -- events that come first, of which none tells that
 pub split_entry : (o : OpShown) (a : AnswerShown) (es fs : List Event) (h : Past) → AreUnsent es → past_after o a fs (with_openings es h) ≡ past_after o a (es ++ fs) h

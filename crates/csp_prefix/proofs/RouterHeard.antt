@@ -41,7 +41,6 @@ use Rattle.csp_service.specs.Answers.{answered}
 use Rattle.csp_service.specs.declared.answers.Served.{Served}
 use Rattle.csp_service.specs.declared.answers.Served.TheVariants.{NoService, Refused, Reply, Silent}
 use Rattle.csp_socket.specs.Bound.{owner_of}
-use Rattle.csp_service.specs.Facts.{PlainFacts}
 use Rattle.csp_service.specs.declared.stats.Count.TheVariants as count
 use Rattle.csp_stack.specs.Counting.{counting}
 use Rattle.csp_stack.proofs.Unmoved.{by_rest, heard_here}
@@ -57,6 +56,7 @@ use Rattle.csp_prefix.specs.Slots.{Book}
 use Rattle.csp_prefix.proofs.RouterBooks.{Past, book_at, no_openings, no_openings_of, tells_noted, with_openings}
 use Rattle.csp_prefix.proofs.RouterStanding.{Aim, IsAim, IsOut, IsRead, Stands, stands_comes, unwrapped}
 use Rattle.csp_prefix.proofs.RouterBytes.{reliable_flag}
+use Rattle.csp_prefix.proofs.RouterMute.{IsMute, answered_mute, order_opens}
 use Rattle.std.specs.Int.Bits.{and_zero_r}
 
 -- ---- slots that were found
@@ -99,13 +99,6 @@ free_there c app slot e =
 -- ---- the flags of an answer
 answer_reliable : (h : Header) → is_reliable (answer_flags h) ≡ is_reliable h.flags.0
 answer_reliable h = ap (λ n. n == 2) (and_assoc 2 h.flags.0 3)
-
--- ---- what services report opens nothing
-abbrev pub IsMute : Served → Type 0
-IsMute (Silent e) = (app : ℕ) (ends : Ends) → opened_by app ends e ≡ []
-IsMute Reply = Unit {0}
-IsMute (Refused error) = Unit {0}
-IsMute NoService = Unit {0}
 
 pub protected_trace : (checked : Bool) (b : Content) → (protected checked b).trace ≡ b.trace
 protected_trace true b = refl
@@ -286,13 +279,13 @@ module _ (g : Aim) (f : Facts) (whole : Past) (k : IsAim g f whole) where
   -- ---- 6. a request to a service
   by_answer_so : (o : Served) (reply : List ℕ) (h : Past) (s : State) (p : Arrival) → IsMute o → Stands g f h s.ports s.out → Quietly h (by_answer o reply f s p)
   by_answer_so Reply reply h s p mute w = stands_sent h s (reply_in f p.head p.buffer reply) w (k.unreliable (reply_in f p.head p.buffer reply) (reply_untraced f p.head p.buffer reply) (reply_unreliable f p.head p.buffer reply))
-  by_answer_so (Silent e) reply h s p mute w = stands_spent h s e p.buffer mute w
+  by_answer_so (Silent e) reply h s p mute w = stands_spent h s e p.buffer (order_opens e mute) w
   by_answer_so (Refused error) reply h s p mute w = stands_discarded h s why.Malformed p.buffer w
   by_answer_so NoService reply h s p mute w = stands_discarded h s why.NoSocket p.buffer w
 
   -- ---- all rules
-  pub stands_heard : (h : Past) (s : State) (time mark : ℕ) (b : Content) → ((port : ℕ) (request : List ℕ) (time : ℕ) (facts : PlainFacts) → IsMute (answered port request facts time).served) → g.hears b → Stands g f h s.ports s.out → Quietly h (heard f s time (arrival mark b))
-  stands_heard h s time mark b mute hears w =
+  pub stands_heard : (h : Past) (s : State) (time mark : ℕ) (b : Content) → g.hears b → Stands g f h s.ports s.out → Quietly h (heard f s time (arrival mark b))
+  stands_heard h s time mark b hears w =
       let way = route_of s.routes (header_at b.header).dst in
       for_this_node_so (is_here f.addr (header_at b.header)) (forwarded way s (arrival mark b)) h (arrival mark b) (λ p. heard_here f s time p) (forwarded_so way h s (arrival mark b) hears w) λ here.
       (by_test_so (is_secured (header_at b.header)) (discarded (counting s mark count.AuthErrors 1) why.Refused b) h (arrival mark b) (λ p. by_rest f s time p) (stands_discarded h (counting s mark count.AuthErrors 1) why.Refused b w)
@@ -301,4 +294,4 @@ module _ (g : Aim) (f : Facts) (whole : Past) (k : IsAim g f whole) where
       (by_socket_so (owner_of s.ports.bound (header_at b.header).dport) h s time mark b bytes (λ p. heard_elsewhere f s time p) refl hears here un w
       (by_test_so (is_reliable (header_at b.header).flags.0) (discarded s why.NoSocket (record b { payload = bytes })) h (after_checksum mark b bytes) (λ p. by_service f s time p) (stands_discarded h s why.NoSocket (record b { payload = bytes }) w)
       (let o = answered (header_at b.header).dport bytes (facts_of f s) time in
-      by_answer_so o.served o.reply h (with_facts s o.facts) (after_checksum mark b bytes) (mute (header_at b.header).dport bytes time (facts_of f s)) w))))))
+      by_answer_so o.served o.reply h (with_facts s o.facts) (after_checksum mark b bytes) (answered_mute (header_at b.header).dport bytes time (facts_of f s)) w))))))

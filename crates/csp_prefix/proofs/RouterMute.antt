@@ -1,5 +1,5 @@
--- what the services of a router report opens no connection
-use Rattle.std.proofs.Common.{ℕ, ◌+◌, Bool, true, false, Option, None, Some, List, refl}
+-- what the services of a router report of their own is an order to the node, which opens no connection
+use Rattle.std.proofs.Common.{◌≡◌, ℕ, ◌+◌, Bool, true, false, Option, None, Some, List, [], refl}
 use Rattle.std.specs.Prelude.{if◌then◌else◌, nat_lt, slice_range, length, Result, Ok, Err}
 use Rattle.std.specs.Int.{to_be_bytes, w32}
 use Rattle.std.specs.Str.{bytes_eq}
@@ -8,7 +8,10 @@ use Rattle.csp_cmp.specs.Replies.{peek_bytes, same_bytes}
 use Rattle.csp_cmp.specs.declared.errors.CmpError.{CmpError}
 use Rattle.csp_cmp.specs.declared.request.CmpRequest.{CmpRequest}
 use Rattle.csp_cmp.specs.declared.request.CmpRequest.TheVariants.{Ident, RouteSet, Stats, Peek, Poke, Clock}
+use Rattle.csp_log.specs.declared.event.Event.{Event}
 use Rattle.csp_log.specs.declared.event.Event.TheVariants as event
+use Rattle.csp_record.specs.Connections.{opened_by}
+use Rattle.csp_record.proofs.Ordinals.{Ends}
 use Rattle.csp_route.specs.Routes.{key_of, with_row}
 use Rattle.csp_route.specs.declared.row.Row.{Row}
 use Rattle.csp_service.specs.Answers.{Outcome, answered, has_no_room, iface_of, refused, replied, requested, routed, row_asked, served_by, told_stats, overwritten, with_routes, with_services}
@@ -18,10 +21,27 @@ use Rattle.csp_service.specs.declared.answers.ServiceError.{ServiceError}
 use Rattle.csp_service.specs.declared.answers.ServiceError.TheVariants.{BadAddress, BadMagic, Full}
 use Rattle.csp_service.specs.declared.answers.TheConstants.{REBOOT, SHUTDOWN}
 use Rattle.csp_service.specs.declared.facts.TheConstants.{MEMORY}
-use Rattle.csp_service.specs.declared.answers.Served.TheVariants.{Refused, Silent}
+use Rattle.csp_service.specs.declared.answers.Served.{Served}
+use Rattle.csp_service.specs.declared.answers.Served.TheVariants.{NoService, Refused, Reply, Silent}
 use Rattle.csp_service.specs.declared.service.Service.{Service}
 use Rattle.csp_service.specs.declared.service.Service.TheVariants as service
-use Rattle.csp_prefix.proofs.RouterHeard.{IsMute}
+
+-- to reboot, or to shut down
+abbrev pub IsOrder : Event → Type 0
+IsOrder event.Reboot = Unit {0}
+IsOrder event.Shutdown = Unit {0}
+IsOrder _ = ⊥
+
+pub order_opens : (e : Event) → IsOrder e → (app : ℕ) (ends : Ends) → opened_by app ends e ≡ []
+order_opens event.Reboot is app ends = refl
+order_opens event.Shutdown is app ends = refl
+order_opens _ is app ends = absurd is
+
+abbrev pub IsMute : Served → Type 0
+IsMute (Silent e) = IsOrder e
+IsMute Reply = Unit {0}
+IsMute (Refused error) = Unit {0}
+IsMute NoService = Unit {0}
 
 either : (test : Bool) (x y : Outcome) → IsMute x.served → IsMute y.served → IsMute (if test then x else y).served
 either true x y p q = p
@@ -46,8 +66,8 @@ requested_mute (Ok (Poke addr bytes)) facts now =
 requested_mute (Ok (Clock sec nsec)) facts now = tt
 
 rebooted_mute : (one other : Bool) → IsMute (if one then Silent event.Reboot else if other then Silent event.Shutdown else Refused BadMagic)
-rebooted_mute true other = λ app ends. refl
-rebooted_mute false true = λ app ends. refl
+rebooted_mute true other = tt
+rebooted_mute false true = tt
 rebooted_mute false false = tt
 
 served_mute : (o : Option Service) (request : List ℕ) (facts : PlainFacts) (now : ℕ) → IsMute (served_by o request facts now).served

@@ -45,7 +45,7 @@ use Rattle.csp_stack.specs.Router.{Facts, Leaving, State, at_rest}
 use Rattle.csp_stack.specs.Rules.{Arrival, addressed, arrival, heard, made_on, packet_in, sent}
 use Rattle.csp_stack.specs.Sources.{circle, has_work, place_with_work, source_at}
 use Rattle.csp_stack.specs.Told.{Told}
-use Rattle.csp_stack.specs.Turn.{asked_at, asked_by, asks_at, delivering, giving, handed, jobs_by, op_of, plan_by, plan_for, plan_of, pushing, replying, timed, told_at, told_by, told_giving, told_keeping, told_pushing, work_at, work_found}
+use Rattle.csp_stack.specs.Turn.{asked_at, asked_by, asks_at, delivering, giving, jobs_by, op_of, plan_by, plan_for, plan_of, pushing, replying, timed, told_at, told_by, told_giving, told_keeping, told_pushing, work_at, work_found}
 use Rattle.csp_stack.specs.declared.plan.Plan.{Plan}
 use Rattle.csp_stack.specs.declared.plan.Plan.TheVariants as plan
 use Rattle.csp_stack.specs.declared.sources.Source.TheVariants as source
@@ -55,12 +55,12 @@ use Rattle.csp_prefix.specs.Prefix.{IsBeginning}
 use Rattle.csp_prefix.specs.Routers.{ComesSo}
 use Rattle.csp_prefix.specs.Slots.{blank}
 use Rattle.csp_prefix.proofs.RouterBooks.{Past, down_on, freed_on, no_openings, no_openings_of, ordinals_freed, past_after, past_same, tells_down, tells_freed, with_openings}
-use Rattle.csp_prefix.proofs.RouterEntry.{IsQuiet, new_unsent, none_on, quiet_entry, split_entry}
+use Rattle.csp_prefix.proofs.RouterEntry.{IsQuiet, none_on, quiet_entry, split_entry}
 use Rattle.csp_prefix.proofs.RouterHeard.{Quietly, stands_heard, stands_sent}
-use Rattle.csp_prefix.proofs.RouterMute.{answered_mute}
 use Rattle.csp_prefix.proofs.RouterPlans.{IsTask, deliver_job, found_passes, make_job, serves_free, task_there}
 use Rattle.csp_prefix.proofs.RouterServed.{stands_served}
 use Rattle.csp_prefix.proofs.RouterStanding.{Aim, IsAim, IsOut, IsPart, Stands, good_plain, over_present, stands_came, stands_comes}
+use Rattle.csp_prefix.proofs.RouterTells.{events_are, timed_unsent}
 
 -- ---- what is heard, and what is pushed
 abbrev pub HearsSo : Aim → OpShown → AnswerShown → Type 0
@@ -227,7 +227,7 @@ module _ (g : Aim) (f : Facts) (whole : Past) (k : IsAim g f whole) where
   turn_hear h s time (answer.Popped (item.Packet mark b)) w = λ fits comes hears part fresh.
       let t = heard f (came_in (at_rest (asked_by f s plan.Hear)) mark b) time (arrival mark b) in (
         quietly (op.Pop queue.Inbox) (answer.Popped (item.Packet mark b)) h t (record { free = λ app s. refl; sent = λ app s. refl; down = λ app s. refl })
-            (stands_heard g f whole k h (came_in (at_rest (asked_by f s plan.Hear)) mark b) time mark b answered_mute hears w) fresh,
+            (stands_heard g f whole k h (came_in (at_rest (asked_by f s plan.Hear)) mark b) time mark b hears w) fresh,
         tt,
       )
   turn_hear h s time (answer.Popped (item.Frame frame)) w = λ fits comes hears part fresh.
@@ -403,23 +403,9 @@ module _ (g : Aim) (f : Facts) (whole : Past) (k : IsAim g f whole) where
   turn_plan [] None h s time a so e w = turn_place (place_with_work f s time) h s time a so refl e w
 
   -- ---- a whole turn
-  handed_early : (s : State) (p : Plan) → (handed f s p).early ≡ s.early
-  handed_early s plan.Rest = refl
-  handed_early s plan.Give = refl
-  handed_early s (plan.Push q n) = refl
-  handed_early s plan.Hear = refl
-  handed_early s (plan.Serve x) = refl
-  handed_early s (plan.Reply x) = refl
-  handed_early s (plan.Tell app slot) = refl
-  handed_early s (plan.Deliver app slot) = refl
-  handed_early s (plan.Make app slot j) = refl
-
   all_second : {X : Type 0} (P : X → Type 0) (xs ys : List X) → AllByRecursion P (xs ++ ys) → AllByRecursion P ys
   all_second P [] ys all = all
   all_second P (x ∷ xs) ys all = all_second P xs ys all.1
-
-  events_told : (s : State) (time : ℕ) (a : AnswerShown) → (told_at f (asked_at f s time) time a).events ≡ (ports_timed time s.ports).events ++ (after_told (timed s time) time (plan_of f (timed s time) time) a).events
-  events_told s time a = ap (λ es. es ++ (after_told (timed s time) time (plan_of f (timed s time) time) a).events) (handed_early (timed s time) (plan_of f (timed s time) time))
 
   -- the router once its timers were tried
   pub stands_timed : (h : Past) (s : State) (time : ℕ) → Stands g f h s.ports s.out → Stands g f (with_openings (ports_timed time s.ports).events h) (timed s time).ports (timed s time).out
@@ -433,8 +419,7 @@ module _ (g : Aim) (f : Facts) (whole : Past) (k : IsAim g f whole) where
       let c : Came = ports_timed time s.ports in
       let t : State = timed s time in
       let p : Plan = plan_of f t time in
-      let came = k.ports.times w.numbering h.ends w.books s.ports time w.good in
-      split_entry (op_of t p) a c.events (after_told t time p a).events h (new_unsent s.ports.conns.apps c.events w.books came.new) ∙ ap (λ es. past_after (op_of t p) a es h) (sym (events_told s time a))
+      split_entry (op_of t p) a c.events (after_told t time p a).events h (timed_unsent time s.ports) ∙ ap (λ es. past_after (op_of t p) a es h) (sym (events_are f s time a p refl))
 
   -- so what stands then is a part of the whole
   pub timed_part : (h : Past) (s : State) (time : ℕ) (a : AnswerShown) → Stands g f h s.ports s.out → IsPart (past_after (asks_at f s time) a (told_at f (asked_at f s time) time a).events h) whole
@@ -450,5 +435,5 @@ module _ (g : Aim) (f : Facts) (whole : Past) (k : IsAim g f whole) where
       let t : State = timed s time in
       let told : Told = after_told t time (plan_of f t time) a in
       let same = timed_first h s time a w in
-      let done = turn_plan t.trash t.out (with_openings c.events h) t time a so refl (stands_timed h s time w) fits comes hears (subst (λ x. IsPart x whole) (sym same) part) (all_second g.fresh c.events told.events (subst (AllByRecursion g.fresh) (events_told s time a) fresh)) in
+      let done = turn_plan t.trash t.out (with_openings c.events h) t time a so refl (stands_timed h s time w) fits comes hears (subst (λ x. IsPart x whole) (sym same) part) (all_second g.fresh c.events told.events (subst (AllByRecursion g.fresh) (events_are f s time a (plan_of f t time) refl) fresh)) in
       (subst (λ x. Stands g f x told.state.ports told.state.out) same done.0, done.1)

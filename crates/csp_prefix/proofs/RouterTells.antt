@@ -1,0 +1,571 @@
+-- What the events of a router's turn tell: those of its timers, of lost packets alone; those of an application's packet, besides, that it was sent on its slot.
+-- That a packet was handed to a reliable connection a turn tells only of the one that it popped, and that such a connection is open only of one that was
+-- to become so.
+use Rattle.std.proofs.Common.{◌≡◌, ◌⊎◌, inl, inr, ℕ, ◌*◌, ◌/◌, ◌%◌, ◌==◌, not, Bool, true, false, Option, None, Some, List, [], ◌∷◌, ◌++◌, refl, sym, ap, ◌∙◌, subst}
+use Rattle.std.specs.Prelude.{if◌then◌else◌, Result, Ok, Err, ⊤}
+use Rattle.std.specs.List.{AllByRecursion, range_with_len}
+use Rattle.csp_buffer.specs.Content.{Content}
+use Rattle.csp_buffer.specs.PlainBuffer.{PlainBuffer}
+use Rattle.csp_conn.specs.Opening.{first_free, found, is_refused, own_port_of}
+use Rattle.csp_conn.specs.PlainConns.{slot_at}
+use Rattle.csp_conn.specs.declared.conns.TheConstants.{SLOTS}
+use Rattle.csp_conn.specs.declared.slot.Connection.{Connection}
+use Rattle.csp_conn.specs.declared.slot.Slot.{Slot}
+use Rattle.csp_conn.specs.declared.slot.Slot.TheVariants as has
+use Rattle.csp_crc.specs.Check.{payload_of}
+use Rattle.csp_deck.specs.Runs.{IsStep}
+use Rattle.csp_header.specs.Word.{header_at}
+use Rattle.csp_log.specs.Pictures.{Fits}
+use Rattle.csp_log.specs.declared.entry.Entry.{Entry}
+use Rattle.csp_log.specs.declared.event.Discard.{Discard}
+use Rattle.csp_log.specs.declared.event.Discard.TheVariants as why
+use Rattle.csp_log.specs.declared.event.Event.{Event}
+use Rattle.csp_log.specs.declared.event.Event.TheVariants as event
+use Rattle.csp_log.specs.declared.note.Note.{Note}
+use Rattle.csp_log.specs.declared.note.Note.TheVariants as note
+use Rattle.csp_log.specs.declared.places.QueueId.{QueueId}
+use Rattle.csp_log.specs.declared.places.QueueId.TheVariants as queue
+use Rattle.csp_log.specs.declared.places.TheConstants.{UNMARKED}
+use Rattle.csp_log.specs.declared.shown.AnswerShown.{AnswerShown}
+use Rattle.csp_log.specs.declared.shown.AnswerShown.TheVariants as answer
+use Rattle.csp_log.specs.declared.shown.ItemShown.{ItemShown}
+use Rattle.csp_log.specs.declared.shown.ItemShown.TheVariants as item
+use Rattle.csp_log.specs.declared.shown.OpShown.{OpShown}
+use Rattle.csp_log.specs.declared.shown.OpShown.TheVariants as op
+use Rattle.csp_ports.specs.Asking.{answered_by, close_by, connect_by, ended_by, is_reliable, joined}
+use Rattle.csp_ports.specs.Came.{Came, come, then as and_then}
+use Rattle.csp_ports.specs.Packets.{back_by, handing, handing_event, submitting_in}
+use Rattle.csp_ports.specs.PlainPorts.{PlainPorts, PlainStalled, anywhere, is_closing, machine_at, stalled_at, terms_at}
+use Rattle.csp_ports.specs.Steps.{changed, closed_by, dropped, dropped_in, dropped_of, dropped_on, refused_by, settled, stepped, timed as ports_timed, timed_at, timed_in, went}
+use Rattle.csp_ports.specs.Tasks.{delivered}
+use Rattle.csp_ports.specs.declared.handing.Invitation.{Invitation}
+use Rattle.csp_ports.specs.declared.origin.Origin.{Origin}
+use Rattle.csp_ports.specs.declared.owed.Owed.{Owed}
+use Rattle.csp_ports.specs.declared.request.Request.{Request}
+use Rattle.csp_ports.specs.declared.terms.Wish.{Wish}
+use Rattle.csp_ports.specs.declared.terms.Wish.TheVariants as wish
+use Rattle.csp_rdp.specs.Changes.{change_between}
+use Rattle.csp_rdp.specs.Jobs.{delivering, ticked}
+use Rattle.csp_rdp.specs.Machine.{PlainRdp}
+use Rattle.csp_rdp.specs.Table.{back_of, handed as machine_handed, is_stray, row_of}
+use Rattle.csp_rdp.specs.declared.answers.Change.{Change}
+use Rattle.csp_rdp.specs.declared.answers.Change.TheVariants as change
+use Rattle.csp_rdp.specs.declared.answers.State.{State as MachineState}
+use Rattle.csp_rdp.specs.declared.answers.State.TheVariants as state
+use Rattle.csp_rdp.specs.declared.answers.Why.{Why as MachineWhy}
+use Rattle.csp_rdp.specs.declared.answers.Why.TheVariants as machine_why
+use Rattle.csp_rdp.specs.declared.jobs.Job.{Job}
+use Rattle.csp_rdp_header.specs.Head.{parted}
+use Rattle.csp_rdp_header.specs.declared.head.RdpHead.{RdpHead}
+use Rattle.csp_record.specs.Payloads.{is_on}
+use Rattle.csp_record.specs.declared.payloads.Way.TheVariants as way
+use Rattle.csp_route.specs.Routes.{route_of}
+use Rattle.csp_route.specs.declared.row.Row.{Row}
+use Rattle.csp_scene.proofs.Lists.{AllByRecursion-append, AllByRecursion-map}
+use Rattle.csp_service.specs.Answers.{answered}
+use Rattle.csp_service.specs.declared.answers.Served.{Served}
+use Rattle.csp_service.specs.declared.answers.Served.TheVariants.{NoService, Refused, Reply, Silent}
+use Rattle.csp_service.specs.declared.stats.Count.TheVariants as count
+use Rattle.csp_stack.proofs.Unmoved.{by_rest, heard_here}
+use Rattle.csp_stack.specs.Comes.{heard_at_port, heard_at_socket, heard_elsewhere}
+use Rattle.csp_stack.specs.Counting.{came_in, counting}
+use Rattle.csp_stack.specs.Readings.{buffer_in, is_checked, is_here, is_pushed, is_secured, item_in}
+use Rattle.csp_stack.specs.Router.{Facts, Router, State, at_rest, origin_of}
+use Rattle.csp_stack.specs.Rules.{◌>>=◌, Arrival, Decided, Left, accepting, addressed, arrival, by_answer, by_connection, by_mark, by_row, by_service, by_slot, by_socket, connection_of, differs, forwarded, heard, invitation_of, inviting, is_lacking, is_mixed, made_on, on_connection, opening, owner_for, packet_in, requested, sent, sent_by, served, slot_of, to_connection, to_machine, to_slot, with_payload}
+use Rattle.csp_stack.specs.Serving.{facts_of, reply_in, with_facts}
+use Rattle.csp_stack.specs.Told.{Told, discarded, leaving}
+use Rattle.csp_stack.specs.Turn.{asked_at, asked_by, asks_at, handed, op_of, plan_of, timed, told_at, told_by, told_delivering, told_giving, told_hearing, told_keeping, told_making, told_noting, told_pushing, told_replying, told_sending, told_serving}
+use Rattle.csp_stack.specs.declared.plan.Plan.{Plan}
+use Rattle.csp_stack.specs.declared.plan.Plan.TheVariants as plan
+use Rattle.csp_prefix.specs.Routers.{router_steps}
+use Rattle.csp_prefix.specs.Slots.{Opens}
+use Rattle.csp_prefix.proofs.MachineOpens.{IsEarly, opens-early, ways-not}
+use Rattle.csp_prefix.proofs.MachineSteps.{ways-reset, ways-ticked}
+use Rattle.csp_prefix.proofs.RouterEntry.{AreUnsent}
+use Rattle.csp_prefix.proofs.RouterMute.{IsMute, IsOrder, answered_mute}
+use Rattle.csp_prefix.proofs.RouterStanding.{IsRead, unwrapped}
+
+-- ---- what a turn may tell
+
+-- a packet that a router heard was handed to the reliable connection that its header names, which is on one of its slots, and the event tells so
+pub record IsHanding (f : Facts) (p : PlainPorts) (b : Content) (e : Event) : Type 0 where
+  pub app : ℕ
+  pub slot : ℕ
+  pub bytes : List ℕ
+  pub parts : List ℕ × RdpHead
+  pub read : IsRead f b bytes parts
+  pub at : found p.conns (connection_of (header_at b.header)) ≡ Some (app, slot)
+  pub kind : is_reliable (terms_at p app slot).flags ≡ true
+  pub told : e ≡ handing_event (machine_at p app slot) b.trace.tag
+
+-- a turn popped a packet from the inbox, which was handed to its connection, and the event tells so
+pub record IsOfPopped (f : Facts) (p : PlainPorts) (o : OpShown) (a : AnswerShown) (e : Event) : Type 0 where
+  pub mark : ℕ
+  pub packet : Content
+  pub asked : o ≡ op.Pop queue.Inbox
+  pub answered : a ≡ answer.Popped (item.Packet mark packet)
+  pub handing : IsHanding f p packet e
+
+-- what a turn with this operation and this answer may tell
+abbrev pub Tells : Facts → PlainPorts → OpShown → AnswerShown → Event → Type 0
+Tells f p o a (event.Handed nth peer tag cur una) = IsOfPopped f p o a (event.Handed nth peer tag cur una)
+Tells f p o a (event.Opened app slot nth peer) = (nth ≡ None) ⊎ IsEarly (machine_at p app slot).state
+Tells f p o a _ = ⊤
+
+-- no packet is told to be handed to a reliable connection, and none to be open
+abbrev IsCalm : Event → Type 0
+IsCalm (event.Handed nth peer tag cur una) = ⊥
+IsCalm (event.Opened app slot nth peer) = nth ≡ None
+IsCalm _ = ⊤
+
+abbrev AreCalm : List Event → Type 0
+AreCalm es = AllByRecursion IsCalm es
+
+-- so it may be told in any turn
+calm_tells : (f : Facts) (p : PlainPorts) (o : OpShown) (a : AnswerShown) (e : Event) → IsCalm e → Tells f p o a e
+calm_tells f p o a (event.Handed nth peer tag cur una) is = absurd is
+calm_tells f p o a (event.Opened app slot nth peer) is = inl is
+calm_tells f p o a _ is = tt
+
+lost_calm : (reason : Discard) → IsCalm (event.Discarded reason)
+lost_calm reason = tt
+
+-- ---- steps of ports, and packets that are sent: what holds of lost packets holds of what they tell
+
+-- a change that is an opening
+change_opens : (before after : MachineState) (reason : MachineWhy) → change_between before after reason ≡ change.Opened → Opens before after
+change_opens state.SynSent state.Open reason e = tt
+change_opens state.SynRcvd state.Open reason e = tt
+change_opens state.SynSent state.Closed reason e = absurd cc
+change_opens state.SynRcvd state.Closed reason e = absurd cc
+change_opens state.Open state.CloseWait reason e = absurd cc
+change_opens state.Open state.Closed reason e = absurd cc
+change_opens state.CloseWait state.Closed reason e = absurd cc
+change_opens state.Closed state.Closed reason e = absurd cc
+change_opens _ _ reason e = absurd cc
+
+module _ (P : Event → Type 0) (lost : (reason : Discard) → P (event.Discarded reason)) where
+  abbrev Each : List Event → Type 0
+  Each es = AllByRecursion P es
+
+  -- first the one, then the other
+  then_so : (c : Came) (next : PlainPorts → Came) → Each c.events → Each (next c.ports).events → Each (and_then c next).events
+  then_so c next first second = AllByRecursion-append P c.events (next c.ports).events first second
+
+  refused_so : (w : Wish) (reason : MachineWhy) (app slot : ℕ) (p : PlainPorts) → Each (refused_by w reason app slot p).events
+  refused_so wish.Connection reason app slot p = tt
+  refused_so wish.Nothing reason app slot p = tt
+  refused_so wish.End reason app slot p = tt
+  refused_so wish.Ended reason app slot p = tt
+
+  closed_so : (w : Wish) (was_open : Bool) (app slot : ℕ) (p : PlainPorts) → Each (closed_by w was_open app slot p).events
+  closed_so wish.End was_open app slot p = tt
+  closed_so wish.Nothing true app slot p = tt
+  closed_so wish.Nothing false app slot p = tt
+  closed_so wish.Connection was_open app slot p = tt
+  closed_so wish.Ended was_open app slot p = tt
+
+  changed_so : (c : Change) (app slot : ℕ) (p : PlainPorts) → (c ≡ change.Opened → (nth : ℕ) (peer : Option (ℕ × ℕ)) → P (event.Opened app slot (Some nth) peer)) → Each (changed c app slot p).events
+  changed_so change.None app slot p opens = tt
+  changed_so change.Opened app slot p opens = (opens refl (machine_at p app slot).nth (machine_at p app slot).peer, tt)
+  changed_so (change.Refused reason) app slot p opens = refused_so (terms_at p app slot).wish reason app slot p
+  changed_so change.Down app slot p opens = tt
+  changed_so change.Closed app slot p opens = closed_so (terms_at p app slot).wish (machine_at p app slot).was_open app slot p
+
+  -- the step of a machine, which may open its connection
+  went_so : (before : MachineState) (reason : MachineWhy) (app slot : ℕ) (r : PlainRdp) (p : PlainPorts) → (Opens before r.state → (nth : ℕ) (peer : Option (ℕ × ℕ)) → P (event.Opened app slot (Some nth) peer)) → Each (went before reason app slot r p).events
+  went_so before reason app slot r p opens = changed_so (change_between before r.state reason) app slot (stepped app slot r p).ports (λ e. opens (change_opens before r.state reason e))
+
+  -- or never does
+  went_lost : (before : MachineState) (reason : MachineWhy) (app slot : ℕ) (r : PlainRdp) (p : PlainPorts) → (Opens before r.state → ⊥) → Each (went before reason app slot r p).events
+  went_lost before reason app slot r p never = went_so before reason app slot r p (λ o nth peer. absurd (never o))
+
+  dropped_in_so : (x : MachineState) (app : ℕ) (s : PlainStalled) (p : PlainPorts) → Each (dropped_in x app s p).events
+  dropped_in_so state.Open app s p = tt
+  dropped_in_so state.SynSent app s p = (lost why.NoConn, tt)
+  dropped_in_so state.SynRcvd app s p = (lost why.NoConn, tt)
+  dropped_in_so state.CloseWait app s p = (lost why.NoConn, tt)
+  dropped_in_so state.Closed app s p = (lost why.NoConn, tt)
+
+  dropped_on_so : (o : Option PlainStalled) (app : ℕ) (p : PlainPorts) → Each (dropped_on o app p).events
+  dropped_on_so None app p = tt
+  dropped_on_so (Some s) app p = dropped_in_so (machine_at p app s.slot).state app s p
+
+  dropped_so : (app : ℕ) (p : PlainPorts) → Each (dropped app p).events
+  dropped_so app p = dropped_on_so (stalled_at p app) app p
+
+  -- the timers
+  timed_at_so : (time app slot : ℕ) (p : PlainPorts) → Each (timed_at time app slot p).events
+  timed_at_so time app slot p =
+      let r = machine_at p app slot in
+      went_lost r.state machine_why.Timeout app slot (ticked time r) p (ways-not r (ticked time r) (ways-ticked time r))
+
+  timed_in_so : (time : ℕ) (ks : List ℕ) (p : PlainPorts) → Each (timed_in time ks p).events
+  timed_in_so time [] p = tt
+  timed_in_so time (k ∷ ks) p =
+      let c = timed_at time (k / SLOTS) (k % SLOTS) p in
+      then_so c (timed_in time ks) (timed_at_so time (k / SLOTS) (k % SLOTS) p) (timed_in_so time ks c.ports)
+
+  dropped_of_so : (apps : List ℕ) (p : PlainPorts) → Each (dropped_of apps p).events
+  dropped_of_so [] p = tt
+  dropped_of_so (app ∷ apps) p = then_so (dropped app p) (dropped_of apps) (dropped_so app p) (dropped_of_so apps (dropped app p).ports)
+
+  pub timed_tells : (time : ℕ) (p : PlainPorts) → Each (ports_timed time p).events
+  timed_tells time p =
+      let c = timed_in time (range_with_len 0 (p.conns.apps * SLOTS)) p in
+      then_so c (λ q. dropped_of (range_with_len 0 q.conns.apps) q) (timed_in_so time (range_with_len 0 (p.conns.apps * SLOTS)) p) (dropped_of_so (range_with_len 0 c.ports.conns.apps) c.ports)
+
+  -- a packet was delivered
+  delivered_so : (time app slot : ℕ) (p : PlainPorts) → Each (delivered time app slot p).events
+  delivered_so time app slot p =
+      let r = machine_at p app slot in
+      let c = went r.state machine_why.Reset app slot (delivering time r) p in
+      then_so c (dropped app) (went_lost r.state machine_why.Reset app slot (delivering time r) p (ways-not _ (delivering time r) (ways-reset r.reset_at time _))) (dropped_so app c.ports)
+
+  -- a packet is handed to a reliable connection
+  back_so : (back : Option PlainBuffer) (stray : Bool) (p : PlainPorts) → Each (back_by back stray p).events
+  back_so None stray p = tt
+  back_so (Some b) true p = (lost why.Stray, tt)
+  back_so (Some b) false p = tt
+
+  -- the packet that waits is looked at
+  abbrev looked_at : ℕ → ℕ → PlainPorts → Came
+  looked_at app time p = and_then (dropped app p) (λ q. come (settled time app q))
+
+  handing_so : (p : PlainPorts) (app slot : ℕ) (h : RdpHead) (b : Content) (time : ℕ) → (IsEarly (machine_at p app slot).state → (nth : ℕ) (peer : Option (ℕ × ℕ)) → P (event.Opened app slot (Some nth) peer))
+      → P (handing_event (machine_at p app slot) b.trace.tag) → Each (handing p app slot h b time).events
+  handing_so p app slot h b time opens hands =
+      let r = machine_at p app slot in
+      let row = row_of r h b.payload in
+      let new = machine_handed h b.trace.tag (anywhere b) time r in
+      let back = back_by (back_of row (anywhere b)) (is_stray row) p in
+      let c = went r.state machine_why.Reset app slot new p in (
+        hands,
+        then_so back (λ q. and_then (went r.state machine_why.Reset app slot new q) (looked_at app time)) (back_so (back_of row (anywhere b)) (is_stray row) p)
+            (then_so c (looked_at app time) (went_so r.state machine_why.Reset app slot new p (λ o. opens (opens-early r.state new.state o)))
+            (then_so (dropped app c.ports) (λ q. come (settled time app q)) (dropped_so app c.ports) tt)),
+      )
+
+  -- a packet of the node is sent
+  sent_by_so : (own : Bool) (row : Option Row) (s : State) (b : Content) → Each (sent_by own row s b).events
+  sent_by_so true row s b = tt
+  sent_by_so false None s b = (lost why.NoRoute, tt)
+  sent_by_so false (Some row) s b = tt
+
+  sent_so : (f : Facts) (s : State) (b : Content) → Each (sent f s b).events
+  sent_so f s b = let to = (header_at b.header).dst in sent_by_so (to == f.addr) (route_of s.routes to) s b
+
+  -- one of an application, on its slot
+  submitting_so : (x : MachineState) (p : PlainPorts) (app slot : ℕ) (b : Content) (time : ℕ) → ((ordinal : ℕ) → P (event.Sent slot ordinal)) → Each (submitting_in x p app slot b time).events
+  submitting_so state.Open p app slot b time sends = (sends (terms_at p app slot).ordinal, tt)
+  submitting_so state.SynSent p app slot b time sends = (lost why.NoConn, tt)
+  submitting_so state.SynRcvd p app slot b time sends = (lost why.NoConn, tt)
+  submitting_so state.CloseWait p app slot b time sends = (lost why.NoConn, tt)
+  submitting_so state.Closed p app slot b time sends = (lost why.NoConn, tt)
+
+  on_connection_so : (reliable : Bool) (c : Connection) (f : Facts) (s : State) (app slot time : ℕ) (b : Content) → ((ordinal : ℕ) → P (event.Sent slot ordinal)) → Each (on_connection reliable c f s app slot time b).events
+  on_connection_so false c f s app slot time b sends = (sends (terms_at s.ports app slot).ordinal, sent_so f s (addressed f c (terms_at s.ports app slot) b))
+  on_connection_so true c f s app slot time b sends = submitting_so (machine_at s.ports app slot).state s.ports app slot b time sends
+
+  by_slot_so : (x : Slot) (f : Facts) (s : State) (app slot time : ℕ) (b : Content) → ((ordinal : ℕ) → P (event.Sent slot ordinal)) → Each (by_slot x f s app slot time b).events
+  by_slot_so has.Free f s app slot time b sends = (lost why.NoConn, tt)
+  by_slot_so has.Held f s app slot time b sends = (lost why.NoConn, tt)
+  by_slot_so (has.Open c) f s app slot time b sends = on_connection_so (is_reliable (terms_at s.ports app slot).flags) c f s app slot time b sends
+
+  by_mark_so : (unmarked : Bool) (f : Facts) (s : State) (app mark time : ℕ) (b : Content) → ((ordinal : ℕ) → P (event.Sent mark ordinal)) → Each (by_mark unmarked f s app mark time b).events
+  by_mark_so true f s app mark time b sends = sent_so f s b
+  by_mark_so false f s app mark time b sends = by_slot_so (slot_at s.ports.conns app mark) f s app mark time b sends
+
+  pub packet_tells : (f : Facts) (s : State) (time app mark : ℕ) (b : Content) → ((ordinal : ℕ) → P (event.Sent mark ordinal)) → Each (served f s time app (item.Packet mark b)).events
+  packet_tells f s time app mark b sends = by_mark_so (mark == UNMARKED) f s app mark time b sends
+
+-- so timers tell of nothing that was sent
+abbrev IsUnsent : Event → Type 0
+IsUnsent e = (slot : ℕ) → is_on way.Sent slot e ≡ false
+
+each_unsent : (es : List Event) → AllByRecursion IsUnsent es → AreUnsent es
+each_unsent es all slot None = refl
+each_unsent [] all slot (Some payload) = refl
+each_unsent (e ∷ es) all slot (Some payload) = rw (all.0 slot) (each_unsent es all.1 slot (Some payload))
+
+pub timed_unsent : (time : ℕ) (p : PlainPorts) → AreUnsent (ports_timed time p).events
+timed_unsent time p = each_unsent (ports_timed time p).events (timed_tells IsUnsent (λ reason slot. refl) time p)
+
+-- ---- what an application asks, and what a machine makes
+
+joined_calm : (reliable : Bool) (o : Origin) (p : PlainPorts) (app : ℕ) (r : Request) (own time : ℕ) → AreCalm (joined reliable o p app r own time).events
+joined_calm false o p app r own time = (refl, tt)
+joined_calm true o p app r own time = tt
+
+connect_calm : (x : Slot) (refuses : Bool) (own : Option ℕ) (o : Origin) (p : PlainPorts) (app : ℕ) (r : Request) (time : ℕ) → AreCalm (connect_by x refuses own o p app r time).events
+connect_calm has.Free true own o p app r time = tt
+connect_calm has.Free false (Some own) o p app r time = joined_calm (is_reliable r.flags) o p app r own time
+connect_calm has.Free false None o p app r time = tt
+connect_calm has.Held refuses own o p app r time = tt
+connect_calm (has.Open c) refuses own o p app r time = tt
+
+close_calm : (closing : Bool) (p : PlainPorts) (app slot time : ℕ) → AreCalm (close_by closing p app slot time).events
+close_calm true p app slot time = tt
+close_calm false p app slot time = tt
+
+requested_calm : (f : Facts) (s : State) (app time : ℕ) (n : Note) → AreCalm (requested f s app time n).events
+requested_calm f s app time (note.Bind port need) = tt
+requested_calm f s app time (note.Connect slot dest port prio flags from) =
+    connect_calm (slot_at s.ports.conns app slot) (is_refused s.ports.conns dest from) (own_port_of s.ports.conns dest from) (origin_of f) s.ports app
+    (record { slot = slot; dest = dest; port = port; prio = prio; flags = flags; from = from }) time
+requested_calm f s app time (note.Close slot) = close_calm (is_closing (terms_at s.ports app slot).wish) s.ports app slot time
+requested_calm f s app time _ = tt
+
+served_calm : (f : Facts) (s : State) (time app : ℕ) (i : ItemShown) → AreCalm (served f s time app i).events
+served_calm f s time app (item.Packet mark b) = packet_tells IsCalm lost_calm f s time app mark b (λ ordinal. tt)
+served_calm f s time app (item.Note n) = requested_calm f s app time n
+served_calm f s time app (item.Frame frame) = tt
+
+-- an answer was pushed
+ended_calm : (n : Note) (app : ℕ) (p : PlainPorts) → AreCalm (ended_by n app p).events
+ended_calm (note.Closed slot) app p = tt
+ended_calm _ app p = tt
+
+answered_calm : (owed : List Owed) (p : PlainPorts) → AreCalm (answered_by owed p).events
+answered_calm [] p = tt
+answered_calm (o ∷ os) p = ended_calm o.note o.app (record p { owed = os })
+
+made_calm : (x : Slot) (j : Job) (f : Facts) (s : State) (app slot time : ℕ) (b : Content) → AreCalm (made_on x j f s app slot time b).events
+made_calm has.Free j f s app slot time b = tt
+made_calm has.Held j f s app slot time b = tt
+made_calm (has.Open c) j f s app slot time b = sent_by_so IsCalm lost_calm _ _ _ _
+
+-- ---- a packet of no connection
+
+accepting_calm : (o : Option ℕ) (s : State) (app : ℕ) (p : Arrival) → AreCalm (accepting o s app p).events
+accepting_calm None s app p = (tt, tt)
+accepting_calm (Some slot) s app p = (refl, tt)
+
+inviting_calm : (r : Result Invitation Discard) (o : Option ℕ) (f : Facts) (s : State) (app time : ℕ) (p : Arrival) → AreCalm (inviting r o f s app time p).events
+inviting_calm (Err reason) o f s app time p = (tt, tt)
+inviting_calm (Ok i) None f s app time p = (tt, tt)
+inviting_calm (Ok i) (Some slot) f s app time p = tt
+
+-- of two, the one that a test chooses
+chosen_calm : (b : Bool) (t u : Told) → AreCalm t.events → AreCalm u.events → AreCalm (if b then t else u).events
+chosen_calm true t u one other = one
+chosen_calm false t u one other = other
+
+opening_calm : (app : ℕ) (f : Facts) (s : State) (time : ℕ) (p : Arrival) → AreCalm (opening app f s time p).events
+opening_calm app f s time p =
+    let free = first_free s.ports.conns app in
+    let i = invitation_of p.buffer in
+    chosen_calm (is_reliable p.head.flags.0) (inviting i free f s app time p) (accepting free s app p) (inviting_calm i free f s app time p) (accepting_calm free s app p)
+
+by_socket_calm : (owner : Option (ℕ × ℕ)) (f : Facts) (s : State) (time : ℕ) (p : Arrival) (next : Arrival → Told) → AreCalm (next p).events → AreCalm (by_socket owner f s time p >>= next).events
+by_socket_calm None f s time p next rest = rest
+by_socket_calm (Some owner) f s time p next rest = chosen_calm (is_lacking s p) (discarded s why.Required p.buffer) (opening owner.0 f s time p) (tt, tt) (opening_calm owner.0 f s time p)
+
+order_calm : (e : Event) → IsOrder e → IsCalm e
+order_calm event.Reboot is = tt
+order_calm event.Shutdown is = tt
+order_calm _ is = absurd is
+
+by_answer_calm : (o : Served) (reply : List ℕ) (f : Facts) (s : State) (p : Arrival) → IsMute o → AreCalm (by_answer o reply f s p).events
+by_answer_calm Reply reply f s p mute = sent_so IsCalm lost_calm f s (reply_in f p.head p.buffer reply)
+by_answer_calm (Silent e) reply f s p mute = (order_calm e mute, tt)
+by_answer_calm (Refused error) reply f s p mute = (tt, tt)
+by_answer_calm NoService reply f s p mute = (tt, tt)
+
+by_service_calm : (f : Facts) (s : State) (time : ℕ) (p : Arrival) → AreCalm (by_service f s time p).events
+by_service_calm f s time p =
+    let o = answered p.head.dport p.buffer.payload (facts_of f s) time in
+    by_answer_calm o.served o.reply f (with_facts s o.facts) p (answered_mute p.head.dport p.buffer.payload time (facts_of f s))
+
+not_reliable_calm : (reliable : Bool) (s : State) (p : Arrival) (next : Arrival → Told) → AreCalm (next p).events → AreCalm ((if reliable then Decided (discarded s why.NoSocket p.buffer) else Left p) >>= next).events
+not_reliable_calm true s p next rest = (tt, tt)
+not_reliable_calm false s p next rest = rest
+
+at_socket_calm : (f : Facts) (s : State) (time : ℕ) (p : Arrival) → AreCalm (heard_at_socket f s time p).events
+at_socket_calm f s time p =
+    by_socket_calm (owner_for s p) f s time p (λ q. heard_elsewhere f s time q) (not_reliable_calm (is_reliable p.head.flags.0) s p (λ q. by_service f s time q) (by_service_calm f s time p))
+
+-- ---- a packet that was popped from the inbox
+module _ (f : Facts) (s : State) (time mark : ℕ) (b : Content) where
+  abbrev OfPopped : Event → Type 0
+  OfPopped e = Tells f s.ports (op.Pop queue.Inbox) (answer.Popped (item.Packet mark b)) e
+
+  abbrev Shows : Told → Type 0
+  Shows t = AllByRecursion OfPopped t.events
+
+  -- the packet as it comes to its port
+  abbrev at_port : List ℕ → Arrival
+  at_port bytes = record { mark = mark; head = header_at b.header; buffer = record b { payload = bytes } }
+
+  to_machine_shows : (o : Option (List ℕ × RdpHead)) (app slot : ℕ) (bytes : List ℕ) → parted bytes ≡ o → is_here f.addr (header_at b.header) ≡ true → unwrapped (is_checked (header_at b.header)) b.payload ≡ Some bytes
+      → found s.ports.conns (connection_of (header_at b.header)) ≡ Some (app, slot) → is_reliable (header_at b.header).flags.0 ≡ true → is_reliable (terms_at s.ports app slot).flags ≡ true → Shows (to_machine o s app slot time (at_port bytes))
+  to_machine_shows None app slot bytes q here un at reliable kind = (tt, tt)
+  to_machine_shows (Some read) app slot bytes q here un at reliable kind =
+      handing_so OfPopped (λ reason. tt) s.ports app slot read.1 (record b { payload = read.0 }) time (λ early nth peer. inr early) (record {
+        mark = mark;
+        packet = b;
+        asked = refl;
+        answered = refl;
+        handing = record {
+          app = app;
+          slot = slot;
+          bytes = bytes;
+          parts = read;
+          read = record { here = here; reliable = reliable; is_unwrapped = un; is_parted = q };
+          at = at;
+          kind = kind;
+          told = refl;
+        };
+      })
+
+  not_false : (t : Bool) → not t ≡ false → t ≡ true
+  not_false true e = refl
+  not_false false e = absurd cc
+
+  to_connection_shows : (reliable : Bool) (app slot : ℕ) (bytes : List ℕ) → is_reliable (header_at b.header).flags.0 ≡ reliable → is_here f.addr (header_at b.header) ≡ true → unwrapped (is_checked (header_at b.header)) b.payload ≡ Some bytes
+      → found s.ports.conns (connection_of (header_at b.header)) ≡ Some (app, slot) → differs reliable (is_reliable (terms_at s.ports app slot).flags) ≡ false
+      → Shows (if reliable then to_machine (parted bytes) s app slot time (at_port bytes) else leaving s (to_slot app slot (record b { payload = bytes })))
+  to_connection_shows false app slot bytes e here un at same = tt
+  to_connection_shows true app slot bytes e here un at same = to_machine_shows (parted bytes) app slot bytes refl here un at e (not_false (is_reliable (terms_at s.ports app slot).flags) same)
+
+  at_connection_shows : (mixed lacking : Bool) (at : ℕ × ℕ) (bytes : List ℕ) → is_mixed s at (at_port bytes) ≡ mixed → (is_mixed s at (at_port bytes) ≡ false → Shows (to_connection s at.0 at.1 time (at_port bytes)))
+      → Shows (if mixed then discarded s why.Mixed (record b { payload = bytes }) else if lacking then discarded s why.Required (record b { payload = bytes }) else to_connection s at.0 at.1 time (at_port bytes))
+  at_connection_shows true lacking at bytes e rest = (tt, tt)
+  at_connection_shows false true at bytes e rest = (tt, tt)
+  at_connection_shows false false at bytes e rest = rest e
+
+  by_connection_shows : (at : Option (ℕ × ℕ)) (bytes : List ℕ) (next : Arrival → Told) → found s.ports.conns (connection_of (header_at b.header)) ≡ at
+      → is_here f.addr (header_at b.header) ≡ true → unwrapped (is_checked (header_at b.header)) b.payload ≡ Some bytes → Shows (next (at_port bytes)) → Shows (by_connection at s time (at_port bytes) >>= next)
+  by_connection_shows None bytes next e here un rest = rest
+  by_connection_shows (Some at) bytes next e here un rest =
+      at_connection_shows (is_mixed s at (at_port bytes)) (is_lacking s (at_port bytes)) at bytes refl λ same. (to_connection_shows (is_reliable (header_at b.header).flags.0) at.0 at.1 bytes refl here un e same)
+
+  at_port_shows : (bytes : List ℕ) → is_here f.addr (header_at b.header) ≡ true → unwrapped (is_checked (header_at b.header)) b.payload ≡ Some bytes → Shows (heard_at_port f s time (at_port bytes))
+  at_port_shows bytes here un =
+      by_connection_shows (slot_of s (at_port bytes)) bytes (λ q. heard_at_socket f s time q) refl here un
+      (AllByRecursion-map IsCalm OfPopped (heard_at_socket f s time (at_port bytes)).events (calm_tells f s.ports (op.Pop queue.Inbox) (answer.Popped (item.Packet mark b))) (at_socket_calm f s time (at_port bytes)))
+
+  by_checksum_shows : (checked : Bool) (o : Option (List ℕ)) (next : Arrival → Told) → payload_of b.payload ≡ o → ((bytes : List ℕ) → unwrapped checked b.payload ≡ Some bytes → Shows (next (at_port bytes)))
+      → Shows ((if checked then with_payload o s (arrival mark b) else Left (arrival mark b)) >>= next)
+  by_checksum_shows true None next e rest = (tt, tt)
+  by_checksum_shows true (Some bytes) next e rest = rest bytes e
+  by_checksum_shows false o next e rest = rest b.payload refl
+
+  not_secured_shows : (secured : Bool) (x : State) (next : Arrival → Told) → Shows (next (arrival mark b)) → Shows ((if secured then Decided (discarded x why.Refused b) else Left (arrival mark b)) >>= next)
+  not_secured_shows true x next rest = (tt, tt)
+  not_secured_shows false x next rest = rest
+
+  here_shows : is_here f.addr (header_at b.header) ≡ true → Shows (heard_here f s time (arrival mark b))
+  here_shows here =
+      not_secured_shows (is_secured (header_at b.header)) (counting s mark count.AuthErrors 1) (λ p. by_rest f s time p)
+      (by_checksum_shows (is_checked (header_at b.header)) (payload_of b.payload) (λ q. heard_at_port f s time q) refl (λ bytes un. at_port_shows bytes here un))
+
+  forwarded_shows : (row : Option Row) → Shows (forwarded row s (arrival mark b))
+  forwarded_shows None = (tt, tt)
+  forwarded_shows (Some row) = by_back (row.iface == mark)
+    where
+      by_back : (back : Bool) → Shows (if back then discarded s why.BackOut b else leaving s (by_row row b))
+      by_back true = (tt, tt)
+      by_back false = tt
+
+  for_this_node_shows : (here : Bool) (t : Told) (next : Arrival → Told) → Shows t → (here ≡ true → Shows (next (arrival mark b))) → Shows ((if here then Left (arrival mark b) else Decided t) >>= next)
+  for_this_node_shows false t next told rest = told
+  for_this_node_shows true t next told rest = rest refl
+
+  heard_shows : Shows (heard f s time (arrival mark b))
+  heard_shows =
+      let way = route_of s.routes (header_at b.header).dst in
+      for_this_node_shows (is_here f.addr (header_at b.header)) (forwarded way s (arrival mark b)) (λ p. heard_here f s time p) (forwarded_shows way) here_shows
+
+-- ---- what an answer comes to, by the turn's plan
+
+giving_calm : (s : State) (o : Option Content) → AreCalm (told_giving s o).events
+giving_calm s None = tt
+giving_calm s (Some b) = tt
+
+pushing_calm : (s : State) (o : Option Arrival) → AreCalm (told_pushing s o).events
+pushing_calm s None = tt
+pushing_calm s (Some p) = (tt, tt)
+
+sending_calm : (pushed : Bool) (q : QueueId) (bytes : ℕ) (s : State) (o : Option Arrival) → AreCalm (told_sending pushed q bytes s o).events
+sending_calm true q bytes s o = tt
+sending_calm false q bytes s None = tt
+sending_calm false q bytes s (Some p) = (tt, tt)
+
+serving_calm : (f : Facts) (s : State) (time k : ℕ) (o : Option ItemShown) → AreCalm (told_serving f s time k o).events
+serving_calm f s time k None = tt
+serving_calm f s time k (Some i) = served_calm f s time k i
+
+replying_calm : (pushed : Bool) (s : State) (o : Option Arrival) → AreCalm (told_replying pushed s o).events
+replying_calm true s o = answered_calm s.ports.owed s.ports
+replying_calm false s o = pushing_calm s o
+
+noting_calm : (pushed : Bool) (s : State) (app slot : ℕ) (o : Option Arrival) → AreCalm (told_noting pushed s app slot o).events
+noting_calm true s app slot o = tt
+noting_calm false s app slot o = pushing_calm s o
+
+keeping_calm : (s : State) (app slot : ℕ) (o : Option Arrival) → AreCalm (told_keeping s app slot o).events
+keeping_calm s app slot None = tt
+keeping_calm s app slot (Some p) = tt
+
+delivering_calm : (pushed : Bool) (s : State) (app slot time : ℕ) (o : Option Arrival) → AreCalm (told_delivering pushed s app slot time o).events
+delivering_calm true s app slot time o = delivered_so IsCalm lost_calm time app slot s.ports
+delivering_calm false s app slot time o = keeping_calm s app slot o
+
+making_calm : (f : Facts) (s : State) (app slot : ℕ) (j : Job) (time : ℕ) (o : Option Content) → AreCalm (told_making f s app slot j time o).events
+making_calm f s app slot j time None = tt
+making_calm f s app slot j time (Some b) = made_calm (slot_at s.ports.conns app slot) j f s app slot time b
+
+hearing_tells : (f : Facts) (s : State) (time : ℕ) (a : AnswerShown) → Fits (op.Pop queue.Inbox) a → AllByRecursion (Tells f s.ports (op.Pop queue.Inbox) a) (told_hearing f s time (packet_in (item_in a))).events
+hearing_tells f s time (answer.Popped (item.Packet mark b)) fits = heard_shows f (came_in s mark b) time mark b
+hearing_tells f s time (answer.Popped (item.Note n)) fits = tt
+hearing_tells f s time (answer.Popped (item.Frame frame)) fits = tt
+hearing_tells f s time answer.Empty fits = tt
+hearing_tells f s time a fits = absurd fits
+
+-- the events of a plan that hears nothing
+quietly : (q : Plan) (f : Facts) (s : State) (time : ℕ) (a : AnswerShown) → AreCalm (told_by q f (at_rest (asked_by f s q)) time a).events → AllByRecursion (Tells f s.ports (op_of s q) a) (told_by q f (at_rest (asked_by f s q)) time a).events
+quietly q f s time a all = AllByRecursion-map IsCalm (Tells f s.ports (op_of s q) a) (told_by q f (at_rest (asked_by f s q)) time a).events (calm_tells f s.ports (op_of s q) a) all
+
+plan_tells : (q : Plan) (f : Facts) (s : State) (time : ℕ) (a : AnswerShown) → Fits (op_of s q) a → AllByRecursion (Tells f s.ports (op_of s q) a) (told_by q f (at_rest (asked_by f s q)) time a).events
+plan_tells plan.Hear f s time a fits = hearing_tells f (at_rest (asked_by f s plan.Hear)) time a fits
+plan_tells plan.Rest f s time a fits = tt
+plan_tells plan.Give f s time a fits = quietly plan.Give f s time a (giving_calm (at_rest (asked_by f s plan.Give)) (buffer_in a))
+plan_tells (plan.Push q n) f s time a fits = quietly (plan.Push q n) f s time a (sending_calm (is_pushed a) q n (at_rest (asked_by f s (plan.Push q n))) (packet_in (item_in a)))
+plan_tells (plan.Serve k) f s time a fits = quietly (plan.Serve k) f s time a (serving_calm f (at_rest (asked_by f s (plan.Serve k))) time k (item_in a))
+plan_tells (plan.Reply k) f s time a fits = quietly (plan.Reply k) f s time a (replying_calm (is_pushed a) (at_rest (asked_by f s (plan.Reply k))) (packet_in (item_in a)))
+plan_tells (plan.Tell app slot) f s time a fits = quietly (plan.Tell app slot) f s time a (noting_calm (is_pushed a) (at_rest (asked_by f s (plan.Tell app slot))) app slot (packet_in (item_in a)))
+plan_tells (plan.Deliver app slot) f s time a fits =
+    quietly (plan.Deliver app slot) f s time a (delivering_calm (is_pushed a) (at_rest (asked_by f s (plan.Deliver app slot))) app slot time (packet_in (item_in a)))
+plan_tells (plan.Make app slot j) f s time a fits = quietly (plan.Make app slot j) f s time a (making_calm f (at_rest (asked_by f s (plan.Make app slot j))) app slot j time (buffer_in a))
+
+-- ---- a whole turn
+
+handed_early : (f : Facts) (s : State) (q : Plan) → (handed f s q).early ≡ s.early
+handed_early f s plan.Rest = refl
+handed_early f s plan.Give = refl
+handed_early f s (plan.Push q n) = refl
+handed_early f s plan.Hear = refl
+handed_early f s (plan.Serve k) = refl
+handed_early f s (plan.Reply k) = refl
+handed_early f s (plan.Tell app slot) = refl
+handed_early f s (plan.Deliver app slot) = refl
+handed_early f s (plan.Make app slot j) = refl
+
+-- what the turn's events are: those of its timers, then those of its plan
+pub events_are : (f : Facts) (s : State) (time : ℕ) (a : AnswerShown) (q : Plan) → plan_of f (timed s time) time ≡ q
+    → (told_at f (asked_at f s time) time a).events ≡ (ports_timed time s.ports).events ++ (told_by q f (at_rest (asked_by f (timed s time) q)) time a).events
+events_are f s time a q e =
+    let t : State = timed s time in
+    ap (λ p. (handed f t p).early ++ (told_by p f (at_rest (asked_by f t p)) time a).events) e ∙ ap (λ es. es ++ (told_by q f (at_rest (asked_by f t q)) time a).events) (handed_early f t q)
+
+-- what each may tell, by the operation, the answer, and the ports once the timers were tried
+pub entry_tells : (r : Router) (e : Entry) → IsStep router_steps r e → AllByRecursion (Tells r.facts (timed r.state e.time).ports e.op e.answer) e.events.items
+entry_tells r e step =
+    let f : Facts = r.facts in
+    let t : State = timed r.state e.time in
+    let q : Plan = plan_of f t e.time in
+    let Here : OpShown → Event → Type 0 = λ o. Tells f t.ports o e.answer in
+    let first = timed_tells (Here (op_of t q)) (λ reason. tt) e.time r.state.ports in
+    let all = AllByRecursion-append (Here (op_of t q)) (ports_timed e.time r.state.ports).events (told_by q f (at_rest (asked_by f t q)) e.time e.answer).events first (plan_tells q f t e.time e.answer step.fits) in
+    subst (λ o. AllByRecursion (Here o) e.events.items) (sym step.op) (subst (AllByRecursion (Here (asks_at f r.state e.time))) (sym (step.events ∙ events_are f r.state e.time e.answer q refl)) all)
