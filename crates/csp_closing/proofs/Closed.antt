@@ -1,5 +1,5 @@
 -- The end of a network's run.
-use Rattle.std.proofs.Common.{◌≡◌, ◌≤◌, ℕ, Bool, Some, List, [], ◌∷◌, ◌++◌, All, not, ◌&&◌, length, map, take, drop, get_or, refl, sym, ap, ◌∙◌, subst, arith, append_assoc, append-nil}
+use Rattle.std.proofs.Common.{◌≡◌, ◌+◌, ◌≤◌, ℕ, Bool, Some, List, [], ◌∷◌, ◌++◌, All, ◌&&◌, length, map, take, drop, get_or, refl, sym, ap, ◌∙◌, subst, arith, append_assoc, append-nil}
 use Rattle.std.specs.Prelude.{slice_get}
 use Rattle.std.specs.Global.{Vec}
 use Rattle.std.specs.List.{flat_map, list_all}
@@ -22,13 +22,14 @@ use Rattle.csp_ending.specs.Notes.{PlainNotes}
 use Rattle.csp_fabric.specs.Fabrics.{IsFabricOf, network_of}
 use Rattle.csp_fabric.specs.declared.fabric.Fabric.{Fabric}
 use Rattle.csp_fabric.specs.declared.fabric.NodeStore.{NodeStore}
-use Rattle.csp_flow.specs.Closed.{IsClosed, IsRecordOf, are_finished, log_of, post_held}
+use Rattle.csp_flow.specs.Closed.{IsClosed, IsRecordOf, log_of, post_held}
 use Rattle.csp_flow.specs.Remains.{AreRemains, PlainRemains}
 use Rattle.csp_log.specs.Remains.{PlainHeld, PlainLeft}
+use Rattle.csp_party.specs.Any.{is_done}
 use Rattle.csp_posts.specs.Posts.{PlainPost}
-use Rattle.csp_posts.specs.Ready.{is_unfinished}
 use Rattle.csp_posts.specs.Seen.{SeenPost}
 use Rattle.csp_posts.specs.declared.retired.Retired.{Retired}
+use Rattle.csp_prompt.specs.Played.{are_done}
 use Rattle.csp_record.specs.Record.{PlainPartyLog, PlainRecord}
 use Rattle.csp_scene.specs.Kept.{AreLinksAfter}
 use Rattle.csp_scene.specs.Ranges.{IsScene}
@@ -109,6 +110,16 @@ parties_long rs posts e = sym (length-map rs retired_of) ∙ ap (λ l. length l)
 pub rest_long : (xs ys : List Retired) → all_rest xs ≡ all_rest ys → length xs ≡ length ys
 rest_long xs ys e = sym (length-map xs rest_of) ∙ ap (λ (l : List PlainRest). length l) e ∙ length-map ys rest_of
 
+-- there is room for the notes of all parties and of the memory of all nodes
+pub others_room : (scene : PlainScene) (f : Fabric) (posts : List SeenPost) (rs : List Retired) → IsRun scene f posts rs → (n : PlainNotes) (after : List NodeStore) → NodesEnd 0 f.queues (wires_in f) (all_homes rs) (all_sides rs) f.notes n f.stores.items after
+    → length rs + length f.stores.items ≤ n.others
+others_room scene f posts rs run n after ends =
+    let room = run.fabric.others in
+    let same = ap (λ (m : PlainNotes). m.others) ends.noted in
+    let many = parties_long rs posts run.same in
+    let wide = stores_few scene f posts rs run in
+    omega (arith, room, same, many, wide)
+
 -- the memory of each node can be given back
 all_of : {X : Type 0} (P : X → Type 0) (xs : List X) → ((k : ℕ) (x : X) → slice_get xs k ≡ Some x → P x) → All P xs
 all_of P xs f = λ k d within. f k (get_or xs k d) (slice_get-get_or xs k d within)
@@ -144,14 +155,14 @@ held_same [] = refl
 held_same (r ∷ rs) = ap (λ (l : List PlainHeld). rest_held (rest_of r) ++ l) (held_same rs)
 
 -- whether each application had ended
-finished_same : (posts : List SeenPost) → list_all (λ (s : SeenPost). not (is_unfinished s.plain.party)) posts ≡ are_finished (map (λ (s : SeenPost). s.plain) posts)
+finished_same : (posts : List SeenPost) → list_all (λ (s : SeenPost). is_done s.plain.party) posts ≡ are_done (map (λ (s : SeenPost). s.plain) posts)
 finished_same [] = refl
-finished_same (s ∷ posts) = ap (λ (b : Bool). not (is_unfinished s.plain.party) && b) (finished_same posts)
+finished_same (s ∷ posts) = ap (λ (b : Bool). is_done s.plain.party && b) (finished_same posts)
 
 -- the record of the run
 pub closed : (laws : Laws) (scene : PlainScene) (f : Fabric) (posts : List SeenPost) (rs : List Retired) (run : IsRun scene f posts rs) (m n o : PlainNotes) (after : List NodeStore) (ends : NodesEnd 0 f.queues (wires_in f) (all_homes rs) (all_sides rs) f.notes m f.stores.items after)
     (piles : List PlainPile) (r : PlainRecord) → piles ≡ parties_back (all_rest rs) (map pile_of after) → n ≡ with_held m (flat_map rest_held (all_rest rs)) n.others → o ≡ with_held n (pools_held 0 (map pool_part piles)) o.others
-    → r.parties ≡ map rest_log (all_rest rs) → r.left ≡ o.left → r.held ≡ o.held → r.rounds ≡ rounds_among (map rest_log (all_rest rs)) → r.finished ≡ list_all (λ (s : SeenPost). not (is_unfinished s.plain.party)) posts
+    → r.parties ≡ map rest_log (all_rest rs) → r.left ≡ o.left → r.held ≡ o.held → r.rounds ≡ rounds_among (map rest_log (all_rest rs)) → r.finished ≡ list_all (λ (s : SeenPost). is_done s.plain.party) posts
     → IsClosed scene (map (λ (s : SeenPost). s.plain) posts) r
 closed laws scene f posts rs run m n o after ends piles r back parties pools logs left held rounds finished =
     let e = posts_same rs posts run.same in
@@ -175,12 +186,15 @@ closed laws scene f posts rs run m n o after ends piles r back parties pools log
           ∙ ap (λ (l : List PlainHeld). map left_held r.left ++ (l ++ pools_held 0 (map pool_part piles))) of_parties
           ∙ ap (λ (l : List (List ℕ)). map left_held r.left ++ (flat_map post_held ps ++ pools_held 0 l)) of_pools;
       rounds = rounds ∙ ap rounds_among (logs_same rs) ∙ rounds_logged ps;
-      finished = finished ∙ finished_same posts ∙ ap are_finished (sym e);
+      finished = finished ∙ finished_same posts ∙ ap are_done (sym e);
     } in
     subst (λ (l : List PlainPost). IsClosed scene l r) e (record { all = ends.all; remains = left_all laws scene f posts rs run m after ends; told = told })
 
--- a list that was lent, once it came back
-pub lent : {X : Type 0} (len : ℕ) (new old : List X) → len ≡ length old → length new ≡ length old → take len (new ++ drop (length new) old) ≡ new
+-- a list that was lent, as it comes back
+abbrev pub returned : {X : Type 0} → ℕ → List X → List X → List X
+returned len new old = take len (new ++ drop (length new) old)
+
+pub lent : {X : Type 0} (len : ℕ) (new old : List X) → len ≡ length old → length new ≡ length old → returned len new old ≡ new
 lent len new old e f =
     let all : drop (length new) old ≡ [] = drop_all (length new) old (omega (arith, f)) in
     ap (λ xs. take len (new ++ xs)) all ∙ ap (take len) (append-nil new) ∙ take_all len new (omega (arith, e, f))

@@ -27,7 +27,7 @@ use Rattle.csp_flow.specs.Remains.{PlainRemains, held_at, inbox_numbers, returne
 use Rattle.csp_lists.specs.PlainDeck.{numbers_of}
 use Rattle.csp_log.specs.declared.entry.Entry.{Entry}
 use Rattle.csp_log.specs.declared.shown.AnswerShown.{AnswerShown}
-use Rattle.csp_party.specs.Any.{PlainParty, a_bridge, a_link, a_router, an_app, an_iface, holds, plain, region_of}
+use Rattle.csp_party.specs.Any.{PlainParty, a_bridge, a_hub, a_link, a_router, an_app, an_iface, holds, plain, region_of}
 use Rattle.csp_posts.specs.Between.{is_home}
 use Rattle.csp_posts.specs.Posts.{PlainPost}
 use Rattle.csp_posts.specs.Seen.{SeenPost}
@@ -72,7 +72,7 @@ room_same (x ∷ rs) (s ∷ posts) (suc k) r e at =
     room_same rs posts k r later at
 room_same (x ∷ rs) [] k r e at = absurd cc
 
--- a link holds nothing
+-- a link holds nothing, nor does a hub
 state_so : {S : Type 0} (steps : Steps S) (P : S → Type 0) → ((p : S) (time : ℕ) (a : AnswerShown) → P p → P (steps.tells (steps.asked p time) time a)) → (p : S) (es : List Entry) → P p → P (state_after steps p es)
 state_so steps P told p [] own = own
 state_so steps P told p (e ∷ es) own = state_so steps P told _ es (told p e.time e.answer own)
@@ -86,6 +86,7 @@ no_home (who.Bridge k) p e own = absurd cc
 no_home (who.Iface n k) p e own = absurd cc
 no_home (who.App n k) p e own = absurd cc
 no_home (who.Link k) (a_link l) e own = refl
+no_home (who.Link k) (a_hub h) e own = refl
 no_home (who.Link k) (a_router l) e own = absurd own
 no_home (who.Link k) (a_bridge l) e own = absurd own
 no_home (who.Link k) (an_iface l) e own = absurd own

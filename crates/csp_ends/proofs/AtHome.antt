@@ -5,12 +5,13 @@ use Rattle.std.specs.List.{AllByRecursion}
 use Rattle.std.specs.Option.{option_map, is_some}
 use Rattle.csp_buffer.specs.Content.{Content}
 use Rattle.csp_buffer.specs.PlainBuffer.{PlainBuffer}
+use Rattle.csp_consistent.proofs.QueueNames.{queue_apart}
 use Rattle.csp_consistent.specs.Reading.{is_queue}
 use Rattle.csp_ends.specs.Causes.{HasGotEach, HasPassedOver, HasNoRoomAt, OfPass}
 use Rattle.csp_ends.specs.Ends.{PlainNodeQueues, PlainSide, PlainHome, PlainEnds, AreEnds, inbox_of}
 use Rattle.csp_ends.specs.Moves.{moved_by, side_after, hand_after, post_after, home_after, ends_after, with_hand, with_inbox, room_among, room_for}
 use Rattle.csp_ends.specs.Serving.{Serves}
-use Rattle.csp_ends.proofs.Names.{queue_apart, all_from, all_then}
+use Rattle.csp_ends.proofs.Lists.{all_from, all_then}
 use Rattle.csp_ends.proofs.Still.{IsElsewhere, sides_still, inbox_still, ends_still}
 use Rattle.csp_ends.proofs.Ways.{put_else, got_else, full_moves, empty_moves, empty_elsewhere, no_other}
 use Rattle.csp_inbox.specs.Marks.{mark_of}

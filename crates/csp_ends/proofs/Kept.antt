@@ -3,7 +3,7 @@ use Rattle.std.proofs.Common.{◌≡◌, ℕ, Bool, true, false, cond, Option, N
 use Rattle.std.specs.Prelude.{IfSome, IsSomeAnd, MatchOption, MatchResult, Result, Ok, Err}
 use Rattle.std.specs.List.{AllByRecursion}
 use Rattle.std.specs.Option.{option_map}
-use Rattle.std.proofs.lemmas.Option.{slice_get-map}
+use Rattle.std.proofs.lemmas.Option.{same_Some, slice_get-map}
 use Rattle.csp_arena.specs.Cells.{RegionName}
 use Rattle.csp_consistent.specs.Reading.{is_queue}
 use Rattle.csp_ends.specs.Ends.{PlainNodeQueues, PlainSide, PlainHome, PlainEnds, IsHomeOf, IsSideOf, AreOf, IsWithin, AreApart, AreEnds, region_of, region_or, inbox_of, side_named, rule_of}
@@ -11,7 +11,7 @@ use Rattle.csp_ends.proofs.Backs.{tallies_same}
 use Rattle.csp_ends.specs.Moves.{side_after, hand_after, post_after, home_after, ends_after, room_for}
 use Rattle.csp_ends.specs.Serving.{Serves}
 use Rattle.csp_ends.specs.Sides.{IsBacked}
-use Rattle.csp_ends.proofs.Names.{there_then, some_head}
+use Rattle.csp_ends.proofs.Lists.{there_then}
 use Rattle.csp_inbox.specs.Passes as inbox
 use Rattle.csp_lane.specs.Ends.{IsEndOf}
 use Rattle.csp_log.specs.declared.places.QueueId.{QueueId}
@@ -89,7 +89,7 @@ inbox_kept region room o a (Some h) is = posted h.inbox is
 -- where an end stands after a turn, one of its name stood before
 stood : (all : List PlainSide) (o : OpShown) (a : AnswerShown) (x : Option PlainSide) (t : PlainSide) → option_map (side_after all o a) x ≡ Some t → (s : PlainSide) × (x ≡ Some s) × (s.queue ≡ t.queue)
 stood all o a None t e = absurd cc
-stood all o a (Some s) t e = (s, refl, ap (λ (y : PlainSide). y.queue) (some_head (side_after all o a s) t e))
+stood all o a (Some s) t e = (s, refl, ap (λ (y : PlainSide). y.queue) (same_Some (side_after all o a s) t e))
 
 apart_kept : (all : List PlainSide) (o : OpShown) (a : AnswerShown) (sides : List PlainSide) → AreApart sides → AreApart (map (side_after all o a) sides)
 apart_kept all o a sides apart = λ j k s t first second same.

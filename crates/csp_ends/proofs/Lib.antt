@@ -1,9 +1,10 @@
 mod Across
 mod AtHome
 pub mod Backs
+mod Found
 mod Inboxes
 pub mod Kept
-mod Names
+pub mod Lists
 mod Splits
 pub mod Still
 mod Ways

@@ -3,13 +3,14 @@ use Rattle.std.proofs.Common.{◌≡◌, ℕ, ◌+◌, zero, suc, Bool, false, c
 use Rattle.std.specs.List.{AllByRecursion, slice_set}
 use Rattle.std.specs.Option.{option_map}
 use Rattle.std.proofs.lemmas.List.{append-nil}
+use Rattle.std.proofs.lemmas.Option.{same_Some}
 use Rattle.csp_base.specs.declared.priority.Prio.{Prio}
 use Rattle.csp_base.specs.declared.priority.Prio.TheVariants.{Critical, High, Normal, Low}
 use Rattle.csp_consistent.specs.Reading.{put_by, got_by, with_priority}
 use Rattle.csp_ends.specs.Ends.{PlainSide, PlainHome, PlainEnds}
 use Rattle.csp_ends.specs.Moves.{moved_by, side_after, side_through, side_with, with_items, hand_after, is_crammed, mail_after, post_after, home_after, ends_after}
 use Rattle.csp_ends.specs.Sides.{beside}
-use Rattle.csp_ends.proofs.Names.{all_from, some_head}
+use Rattle.csp_ends.proofs.Lists.{all_from}
 use Rattle.csp_inbox.specs.Passes as inbox
 use Rattle.csp_inbox.specs.declared.hand.Mail.{Mail}
 use Rattle.csp_inbox.specs.declared.hand.Role.{Role}
@@ -47,7 +48,7 @@ pub sides_but_one : (all : List PlainSide) (o : OpShown) (a : AnswerShown) (side
     → ((k : ℕ) (x : PlainSide) → slice_get sides k ≡ Some x → (k ≡ at → ⊥) → moved_by x.puts x.queue o a ≡ []) → slice_set sides at t ≡ map (side_after all o a) sides
 sides_but_one all o a [] at s t there moved others = absurd cc
 sides_but_one all o a (x ∷ xs) zero s t there moved others =
-    let here : t ≡ side_after all o a x = sym moved ∙ ap (side_after all o a) (sym (some_head x s there)) in
+    let here : t ≡ side_after all o a x = sym moved ∙ ap (side_after all o a) (sym (same_Some x s there)) in
     let rest : map (side_after all o a) xs ≡ xs = sides_still all o a xs (all_from (λ (y : PlainSide). moved_by y.puts y.queue o a ≡ []) xs (λ k y e. others (suc k) y e (λ f. omega (arith, f)))) in
     λ i. here i ∷ sym rest i
 sides_but_one all o a (x ∷ xs) (suc at) s t there moved others =

@@ -1,11 +1,13 @@
 -- How a turn that goes through a lane is served.
-use Rattle.std.proofs.Common.{◌≡◌, ℕ, zero, suc, Bool, true, false, true≢false, Option, None, Some, Result, Ok, Err, List, [], ◌∷◌, map, slice_get, get_or, refl, sym, ap, subst, ◌∙◌}
+use Rattle.std.proofs.Common.{◌≡◌, ℕ, Bool, true, false, true≢false, Option, None, Some, Result, Ok, Err, List, [], ◌∷◌, map, slice_get, refl, sym, ap, subst, ◌∙◌}
 use Rattle.std.specs.Prelude.{⊤, if◌then◌else◌, IfSome, IfErr, MatchOption, MatchResult}
 use Rattle.std.specs.List.{AllByRecursion, slice_set}
 use Rattle.std.specs.Option.{option_map}
-use Rattle.std.proofs.lemmas.Option.{slice_get_within, slice_get-get_or}
+use Rattle.std.proofs.lemmas.Bool.{false_from_ne_true}
+use Rattle.std.proofs.lemmas.Option.{same_Some}
 use Rattle.csp_arena.specs.Cells.{RegionName}
 use Rattle.csp_base.specs.declared.priority.Prio.{Prio}
+use Rattle.csp_consistent.proofs.QueueNames.{queue_is, queue_turned}
 use Rattle.csp_consistent.specs.Reading.{is_queue}
 use Rattle.csp_deck.specs.Carried.{IsCarried, IsCarriedIn}
 use Rattle.csp_deck.specs.Regions.{IsItemOf}
@@ -14,7 +16,7 @@ use Rattle.csp_ends.specs.Ends.{PlainNodeQueues, PlainSide, PlainEnds, AreEnds, 
 use Rattle.csp_ends.specs.Moves.{moved_by, side_after, side_through, is_crammed, home_after, room_for}
 use Rattle.csp_ends.specs.Serving.{Serves}
 use Rattle.csp_ends.specs.Sides.{beside}
-use Rattle.csp_ends.proofs.Names.{queue_is, queue_turned, never, some_head, there_of, all_at, all_from, all_then}
+use Rattle.csp_ends.proofs.Lists.{there_of, all_at, all_from, all_then}
 use Rattle.csp_ends.proofs.Splits.{set_same}
 use Rattle.csp_ends.proofs.Still.{IsElsewhere, home_still, ends_still, side_moves_one, sides_but_one}
 use Rattle.csp_inbox.specs.declared.hand.Role.{Role}
@@ -114,10 +116,6 @@ pub record Stands (d : PlainEnds) (q : QueueId) (at : ℕ) (s : PlainSide) : Typ
   pub named : is_queue q s.queue ≡ true
   pub first : side_named q d.sides ≡ Some s
 
--- as a search found it
-pub stands_as : (d : PlainEnds) (q : QueueId) (at : ℕ) (found : (s : PlainSide) × (slice_get d.sides at ≡ Some s) × (is_queue q s.queue ≡ true) × (side_named q d.sides ≡ Some s)) → Stands d q at found.0
-stands_as d q at found = record { there = found.1; named = found.2; first = found.3 }
-
 same_place : (d : PlainEnds) (q : QueueId) (at : ℕ) (s : PlainSide) → AreEnds d → Stands d q at s → (k : ℕ) (x : PlainSide) → slice_get d.sides k ≡ Some x → is_queue q x.queue ≡ true → k ≡ at
 same_place d q at s whole stands k x here called =
     whole.apart k at x s here stands.there (subst (λ r. is_queue r s.queue ≡ true) (queue_is q x.queue called) stands.named)
@@ -125,13 +123,13 @@ same_place d q at s whole stands k x here called =
 the_only : (d : PlainEnds) (q : QueueId) (at : ℕ) (s : PlainSide) (P : PlainSide → Type 0) → AreEnds d → Stands d q at s → P s → AllByRecursion (λ x. is_queue q x.queue ≡ true → P x) d.sides
 the_only d q at s P whole stands holds =
     all_from (λ (x : PlainSide). is_queue q x.queue ≡ true → P x) d.sides
-    (λ k x here called. subst P (some_head s x (sym stands.there ∙ ap (slice_get d.sides) (sym (same_place d q at s whole stands k x here called)) ∙ here)) holds)
+    (λ k x here called. subst P (same_Some s x (sym stands.there ∙ ap (slice_get d.sides) (sym (same_place d q at s whole stands k x here called)) ∙ here)) holds)
 
 pub no_other : (d : PlainEnds) (q : QueueId) (P : PlainSide → Type 0) → AllByRecursion (λ s. is_queue q s.queue ≡ false) d.sides → AllByRecursion (λ x. is_queue q x.queue ≡ true → P x) d.sides
 no_other d q P none = all_then (λ (x : PlainSide). is_queue q x.queue ≡ false) (λ (x : PlainSide). is_queue q x.queue ≡ true → P x) (λ x apart called. absurd (true≢false (sym called ∙ apart))) d.sides none
 
 others_apart : (d : PlainEnds) (q : QueueId) (at : ℕ) (s : PlainSide) → AreEnds d → Stands d q at s → (k : ℕ) (x : PlainSide) → slice_get d.sides k ≡ Some x → (k ≡ at → ⊥) → is_queue x.queue q ≡ false
-others_apart d q at s whole stands k x here apart = never (is_queue x.queue q) (λ t. apart (same_place d q at s whole stands k x here (queue_turned x.queue q t)))
+others_apart d q at s whole stands k x here apart = false_from_ne_true (is_queue x.queue q) (λ t. apart (same_place d q at s whole stands k x here (queue_turned x.queue q t)))
 
 -- the ends with this one at a place
 abbrev pub with_side : PlainEnds → ℕ → PlainSide → PlainEnds
@@ -200,6 +198,10 @@ served_empty nodes d q out empty = record {
 abbrev pub with_sides : PlainEnds → List PlainSide → PlainEnds
 with_sides d sides = record { home = d.home; sides = sides }
 
+-- what a pop brings is of the region of its end, and what its lane carries
+abbrev pub Brings : PlainSide → Option Item → Type 0
+Brings s r = IfSome r (λ i. IsFor s.end.region s.end.carries i)
+
 -- what an end at a place says of a pop, after which there are these
 abbrev pub Gets : List PlainSide → ℕ → PlainSide → Option Item → List PlainSide → Type 0
 Gets sides at s r after =
@@ -210,7 +212,7 @@ gets_empty d q at s after None whole stands gets = the_only d q at s (λ (x : Pl
 gets_empty d q at s after (Some i) whole stands gets = tt
 
 pub gets_served : (nodes : List PlainNodeQueues) (d : PlainEnds) (q : QueueId) (at : ℕ) (s : PlainSide) (after : List PlainSide) (r : Option Item) → AreEnds d → is_queue queue.Inbox q ≡ false → Stands d q at s → Gets d.sides at s r after
-    → IfSome r (λ i. IsFor s.end.region s.end.carries i)
+    → Brings s r
     → MatchOption r (Serves nodes d (op.Pop q) answer.Empty (with_sides d after)) (λ i. Serves nodes d (op.Pop q) (answer.Popped (shown_item i)) (with_sides d after))
 gets_served nodes d q at s after None whole out stands gets fits =
     subst (λ l. Serves nodes d (op.Pop q) answer.Empty (with_sides d l)) (sym gets.0) (served_empty nodes d q out (gets_empty d q at s after None whole stands gets))
@@ -243,11 +245,11 @@ for_lane d q at s i whole out stands carried of_it =
     let fits : IsCarried (rule.Lane s.end.carries) (shown_item i) = there_of (rule_of d q) (λ r. IsCarried r (shown_item i)) (rule.Lane s.end.carries) (rule_there d q s out stands.first) carried in
     record { carried = fits; of_it = lane_region (region_of d) s.end.region s.end.carries i (all_at (IsWithin (region_of d)) d.sides at s stands.there whole.within) fits of_it }
 
-pub got_carried : (d : PlainEnds) (q : QueueId) (at : ℕ) (s : PlainSide) (r : Option Item) → is_queue queue.Inbox q ≡ false → Stands d q at s → IfSome r (λ i. IsFor s.end.region s.end.carries i) → IfSome r (λ i. IsCarriedIn (rule_of d q) (shown_item i))
+pub got_carried : (d : PlainEnds) (q : QueueId) (at : ℕ) (s : PlainSide) (r : Option Item) → is_queue queue.Inbox q ≡ false → Stands d q at s → Brings s r → IfSome r (λ i. IsCarriedIn (rule_of d q) (shown_item i))
 got_carried d q at s None out stands carried = tt
 got_carried d q at s (Some i) out stands carried = subst (λ x. IsCarriedIn x (shown_item i)) (sym (rule_there d q s out stands.first)) carried.carried
 
-pub got_within : (d : PlainEnds) (q : QueueId) (at : ℕ) (s : PlainSide) (r : Option Item) → AreEnds d → Stands d q at s → IfSome r (λ i. IsFor s.end.region s.end.carries i) → IfSome r (λ i. IsItemOf (region_of d) i)
+pub got_within : (d : PlainEnds) (q : QueueId) (at : ℕ) (s : PlainSide) (r : Option Item) → AreEnds d → Stands d q at s → Brings s r → IfSome r (λ i. IsItemOf (region_of d) i)
 got_within d q at s None whole stands carried = tt
 got_within d q at s (Some i) whole stands carried =
     lane_region s.end.region (region_of d) s.end.carries i (λ other. sym (all_at (IsWithin (region_of d)) d.sides at s stands.there whole.within other)) carried.carried carried.of_it

@@ -1,6 +1,6 @@
 -- Each step keeps the rule of a lane.
 use Rattle.std.proofs.Math.Nat.{max-le}
-use Rattle.std.proofs.Common.{◌≡◌, ◌≢◌, ℕ, zero, suc, ◌+◌, ◌≤◌, true, false, true≢false, Option, List, [], ◌∷◌, ◌++◌, length, map, All, set, sym, refl, ap, ◌∙◌, subst, ⊎_elim, arith, append_assoc, length-append, max}
+use Rattle.std.proofs.Common.{◌≡◌, ◌≢◌, ℕ, zero, suc, ◌+◌, ◌≤◌, true, false, true≢false, List, [], ◌∷◌, ◌++◌, length, map, All, set, sym, refl, ap, ◌∙◌, subst, ⊎_elim, arith, append_assoc, length-append, max}
 use Rattle.std.proofs.lemmas.List.{map-append}
 use lib.ListN.{length-map}
 use Rattle.std.proofs.lemmas.List.Elements.{All-nil, All-head, All-tail, All-push}
@@ -10,7 +10,7 @@ use Rattle.crossbeam_queue.specs.Fifo.{Pushes, Pops, Forks, Merges, Learns}
 use Rattle.crossbeam_queue.proofs.Lists.{at_set, at_snoc}
 use Rattle.csp_lane.proofs.Marks.{bounds_more, marks_more, marks-append, marks-one}
 use Rattle.csp_lane.specs.Marks.{AreHeeded, marks_in, reached}
-use Rattle.csp_lane.specs.Relays.{Terms, newcomer, course, no_course, writer, reader, note, longer, with_put, with_got, bounded, told, both_hands, terms_of, seen_in, marks_of, AreNumbered, IsCargo, IsLast, IsNumber, FitsIn, Relays, Crammed, Drained, Accounts, Gets}
+use Rattle.csp_lane.specs.Relays.{Terms, newcomer, no_course, writer, reader, note, longer, with_put, with_got, bounded, told, both_hands, terms_of, seen_in, marks_of, AreNumbered, IsCargo, IsLast, IsNumber, FitsIn, Relays, Crammed, Drained, Accounts, Gets}
 use Rattle.csp_lane.specs.declared.cargo.Cargo.{Cargo}
 use Rattle.csp_lane.specs.declared.hand.Course.{Course}
 use Rattle.csp_lane.specs.declared.hand.Hand.{Hand}

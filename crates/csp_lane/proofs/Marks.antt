@@ -1,6 +1,5 @@
 -- Marks and their bounds as both grow.
-use Rattle.std.proofs.Common.{◌≡◌, ℕ, zero, suc, ◌+◌, ◌≤◌, List, [], ◌∷◌, ◌++◌, Option, None, Some, length, refl, sym, ap, ◌∙◌, subst, arith, append_assoc}
-use Rattle.std.specs.Prelude.{⊤}
+use Rattle.std.proofs.Common.{◌≡◌, ℕ, ◌≤◌, List, [], ◌∷◌, ◌++◌, Option, length, refl, sym, ap, ◌∙◌, arith, append_assoc, append-nil}
 use Rattle.csp_lane.specs.Marks.{AreHeeded, marks_in, reached}
 use Rattle.csp_lane.specs.Relays.{marks_of}
 use Rattle.csp_lane.specs.declared.cargo.Cargo.{Cargo}
@@ -25,9 +24,5 @@ marks-append about (x ∷ xs) ys =
     ap (λ l. marks_in about (reached x.note) ++ l) (marks-append about xs ys)
     ∙ sym (append_assoc (marks_in about (reached x.note)) (marks_of about xs) (marks_of about ys))
 
-marks-nil : (l : List ℕ) → l ++ [] ≡ l
-marks-nil [] = refl
-marks-nil (x ∷ xs) = ap (λ l. x ∷ l) (marks-nil xs)
-
 pub marks-one : (about : Option ℕ) (x : Cargo) → marks_of about (x ∷ []) ≡ marks_in about (reached x.note)
-marks-one about x = marks-nil (marks_in about (reached x.note))
+marks-one about x = append-nil (marks_in about (reached x.note))

@@ -1,15 +1,16 @@
 -- What meetings keep.
-use Rattle.std.proofs.Common.{◌≡◌, ℕ, zero, suc, Bool, true, false, List, [], ◌∷◌, Option, None, Some, refl, sym, ap, ◌∙◌, subst, le_trans, le_refl, true≢false}
-use Rattle.std.specs.Prelude.{IfSome, IsSome, IsSomeAnd, ◌&&◌, not, if◌then◌else◌, slice_get}
+use Rattle.std.proofs.Common.{◌≡◌, ℕ, zero, suc, Bool, true, false, cond, List, [], ◌∷◌, Option, None, Some, refl, sym, ap, ◌∙◌, subst, le_trans, le_refl, true≢false}
+use Rattle.std.specs.Prelude.{IfSome, IsSome, IsSomeAnd, if◌then◌else◌, slice_get}
 use Rattle.std.specs.List.{AllByRecursion, AllZip}
 use Rattle.std.specs.Option.{option_map}
 use Rattle.csp_arena.specs.Cells.{RegionName}
 use Rattle.csp_base.specs.declared.priority.Prio.{Prio}
 use Rattle.csp_consistent.specs.Reading.{is_queue}
+use Rattle.csp_ends.proofs.Backs.{back_same, tally_of, tally_picked}
 use Rattle.csp_ends.specs.Ends.{PlainNodeQueues, PlainSide, PlainHome, PlainEnds, AreApart, AreEnds, AreOf, IsHomeOf, IsWithin, inbox_of, region_of, region_or, rule_of, side_named}
-use Rattle.csp_ends.specs.Sides.{IsBacked, back_name, back_of, is_back, is_back_by}
+use Rattle.csp_ends.specs.Sides.{IsBacked, back_name, back_of, is_back}
 use Rattle.csp_ends.specs.Traced.{AreMarked, AreTraced, IsHomeTraced, IsMailTraced, IsSideMarked, IsSideTraced, moved, told_of}
-use Rattle.csp_inbox.specs.Passes.{PlainPass as Post, mail_at}
+use Rattle.csp_inbox.specs.Passes.{PlainPass as Post}
 use Rattle.csp_inbox.specs.Passes as inbox
 use Rattle.csp_lane.specs.Ends.{PlainEnd}
 use Rattle.csp_lists.specs.PlainDeck.{IsLinkRule}
@@ -103,25 +104,11 @@ token_stays r s None (Some h) same m k = absurd m
 token_stays r s (Some g) None same m k = absurd m
 
 -- which end the marks of another tell of stays
-back_by_stays : (o : Option QueueId) (x y z w : PlainSide) → z.puts ≡ x.puts → w.puts ≡ y.puts → w.queue ≡ y.queue → is_back_by o z w ≡ is_back_by o x y
-back_by_stays None x y z w first second name = refl
-back_by_stays (Some q) x y z w first second name = λ i. is_queue q (name i) && (if first i then not (second i) else second i)
-
-back_stays : (x y z w : PlainSide) → KnowsMoreAt x z → KnowsMoreAt y w → is_back z w ≡ is_back x y
-back_stays x y z w m n = ap (λ q. is_back_by (back_name q) z w) m.queue ∙ back_by_stays (back_name x.queue) x y z w m.puts n.puts n.queue
-
-abbrev tally_of : Option PlainSide → Option ℕ
-tally_of o = option_map (λ t. t.end.tally) o
-
-picked : (y w : PlainSide) (a b : Bool) (ys ws : Option PlainSide) → KnowsMoreAt y w → b ≡ a → tally_of ws ≡ tally_of ys → tally_of (if b then Some w else ws) ≡ tally_of (if a then Some y else ys)
-picked y w true true ys ws m same rest = ap (λ (e : PlainEnd). Some e.tally) m.end
-picked y w false false ys ws m same rest = rest
-picked y w true false ys ws m same rest = absurd (true≢false (sym same))
-picked y w false true ys ws m same rest = absurd (true≢false same)
-
 back_found : (x z : PlainSide) (ys ws : List PlainSide) → KnowsMoreAt x z → AllZip KnowsMoreAt ys ws → tally_of (back_of ws z) ≡ tally_of (back_of ys x)
 back_found x z [] [] f m = refl
-back_found x z (y ∷ ys) (w ∷ ws) f m = picked y w (is_back x y) (is_back z w) (back_of ys x) (back_of ws z) m.0 (back_stays x y z w f m.0) (back_found x z ys ws f m.1)
+back_found x z (y ∷ ys) (w ∷ ws) f m =
+    ap (λ b. tally_of (cond b (Some w) (back_of ws z))) (back_same x z y w f.queue f.puts m.0.queue m.0.puts)
+    ∙ tally_picked (is_back x y) y w (back_of ws z) (back_of ys x) (ap (λ (e : PlainEnd). e.tally) m.0.end) (back_found x z ys ws f m.1)
 back_found x z [] (w ∷ ws) f m = absurd m
 back_found x z (y ∷ ys) [] f m = absurd m
 

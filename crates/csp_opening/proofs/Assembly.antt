@@ -1,27 +1,27 @@
 -- What was opened for a scene can be put together.
-use Rattle.std.proofs.Common.{◌≡◌, ◌≢◌, ◌+◌, ◌==◌, ◌<◌, ◌≤◌, ℕ, zero, suc, Bool, true, false, true≢false, List, [], ◌∷◌, ◌++◌, Option, None, Some, cond, length, map, refl, sym, ap, ◌∙◌, subst, arith}
+use Rattle.std.proofs.Common.{◌≡◌, ◌+◌, ◌==◌, ◌<◌, ◌≤◌, ℕ, zero, suc, Bool, true, false, true≢false, List, [], ◌∷◌, ◌++◌, Some, length, map, refl, sym, ap, ◌∙◌, subst, arith}
 use Rattle.std.specs.Global.{Vec}
-use Rattle.std.specs.Prelude.{⊤, IfSome, slice_get, if◌then◌else◌}
-use Rattle.std.specs.List.{AllByRecursion, AllZip, range_with_len, sum_by}
+use Rattle.std.specs.Prelude.{slice_get, if◌then◌else◌}
+use Rattle.std.specs.List.{AllByRecursion, AllZip, sum_by}
 use Rattle.std.specs.Option.{option_map}
 use Rattle.std.proofs.lemmas.List.{length-append, length-map}
 use Rattle.std.proofs.lemmas.List.Sums.{sum_by-cons}
 use Rattle.std.proofs.lemmas.Option.{same_Some, slice_get-map, slice_get_within}
 use Rattle.csp_arena.specs.Cells.{RegionName}
-use Rattle.csp_ends.specs.Ends.{PlainHome, PlainSide}
+use Rattle.csp_ends.specs.Ends.{PlainSide}
 use Rattle.csp_inbox.specs.Marks.{is_in}
 use Rattle.csp_inbox.specs.Passes as mails
 use Rattle.csp_lane.specs.Ends as ways
-use Rattle.csp_log.specs.declared.places.TheConstants.{UNMARKED}
 use Rattle.csp_opening.proofs.Fabrics.{AreOpened, its_new, whos_are}
-use Rattle.csp_opening.proofs.NewSides.{IsPairAt, pair_at}
+use Rattle.csp_opening.proofs.Leaving.{as_many}
+use Rattle.csp_opening.proofs.NewSides.{pair_at}
 use Rattle.csp_opening.proofs.Ordered.{CanPostPlain, InOrder, can_plain, parties_in_order}
-use Rattle.csp_opening.proofs.Parties.{Laws, can_post, its_ends}
-use Rattle.csp_opening.proofs.Passing.{IsReadyFor, NamedApart, all_fixed, can_part_all, homes_same, opening_stays}
+use Rattle.csp_opening.proofs.Parties.{can_post, its_ends}
+use Rattle.csp_opening.proofs.Passing.{IsReadyFor, all_fixed, can_part_all, homes_same, opening_stays}
 use Rattle.csp_opening.proofs.Whos.{all_markable}
 use Rattle.csp_opening.proofs.Zipped.{placed_at}
-use Rattle.csp_opening.specs.Handed.{HaveRoom, IsAmong, ends_among, ends_of, getting, handed_among, handed_from, handed_of, list_at, putting, room_at}
-use Rattle.csp_opening.specs.Opened.{AreNodesWith, IsNodeOf, ends_in, lead_in, pair_of, pairs_on, queues_in, region_in}
+use Rattle.csp_opening.specs.Handed.{IsAmong, ends_among, ends_of, getting, handed_among, handed_from, handed_of, list_at, putting, room_at}
+use Rattle.csp_opening.specs.Opened.{AreNodesWith, ends_in, lead_in, pair_of, pairs_on, queues_in, region_in}
 use Rattle.csp_opening.specs.Parted.{AreLeadsOf, CanPartAll, IsOpening, part_home, part_homes, parts_left}
 use Rattle.csp_opening.specs.Posted.{CanPost}
 use Rattle.csp_opening.specs.Seated.{IsSeated, seat_name}
@@ -83,14 +83,6 @@ ready_for nodes wires [] names h k m l e = absurd cc
 ready_for [] [] (x ∷ xs) names h k m l e = absurd h
 ready_for [] (ws ∷ wires) (x ∷ xs) names h k m l e = absurd h
 ready_for (n ∷ nodes) [] (x ∷ xs) names h k m l e = absurd h
-
-nodes_long : (nodes : List PlainNode) (wires : List (List Wire)) (xs : List Node) → AreNodesWith nodes wires xs → length xs ≡ length nodes
-nodes_long [] [] [] h = refl
-nodes_long (n ∷ nodes) (ws ∷ wires) (x ∷ xs) h = ap suc (nodes_long nodes wires xs h.1)
-nodes_long [] (ws ∷ wires) xs h = absurd h
-nodes_long [] [] (x ∷ xs) h = absurd h
-nodes_long (n ∷ nodes) [] xs h = absurd h
-nodes_long (n ∷ nodes) (ws ∷ wires) [] h = absurd h
 
 -- a row has as many pairs as wires, or lanes if they are fewer
 pairs_few : (region : RegionName) (ws : List Wire) (ls : List ways.PlainLane) → length (pairs_on region ws ls) ≤ length ws
@@ -178,7 +170,7 @@ pub can_assemble : (scene : PlainScene) (wires : List (Vec Wire)) (xs : List Nod
     → ((p : ℕ) → p < length seats → sum_by (λ (ws : Vec Wire). ends_among p ws.items) wires ≤ room_at sides p) → CanAssemble sides xs seats
 can_assemble scene wires xs seats sides is opened few count blank roomy =
     let rows = map (λ (ws : Vec Wire). ws.items) wires in
-    let long = nodes_long scene.nodes rows xs opened.nodes in
+    let long = as_many scene.nodes rows xs opened.nodes in
     let parties : length seats ≡ length (parties_of scene) = sym (length-map seats seat_name) ∙ ap (λ (os : List PlainOpening). length os) opened.names in
     let names = whos_are scene seats opened.names in
     let order = in_order scene seats opened.names in

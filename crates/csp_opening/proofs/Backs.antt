@@ -1,6 +1,6 @@
 -- Of which other lane of its node the marks of each lane tell.
-use Rattle.std.proofs.Common.{◌≡◌, ◌+◌, ◌<◌, ◌==◌, ℕ, zero, suc, Bool, true, false, List, [], ◌∷◌, ◌++◌, Option, None, Some, length, map, take, refl, sym, ap, ◌∙◌, subst, arith}
-use Rattle.std.specs.Prelude.{⊤, IfSome, IsSomeAnd, slice_get}
+use Rattle.std.proofs.Common.{◌≡◌, ◌+◌, ◌<◌, ℕ, zero, suc, true, List, [], ◌∷◌, ◌++◌, Option, None, Some, length, map, take, refl, sym, ap, ◌∙◌, subst, arith}
+use Rattle.std.specs.Prelude.{IfSome, IsSomeAnd, slice_get}
 use Rattle.std.specs.List.{AllByRecursion, range_with_len}
 use Rattle.std.specs.Option.{option_map}
 use Rattle.std.proofs.lemmas.Bool.{eqb-true}
@@ -143,6 +143,20 @@ all_map : {A B : Type 0} → (P : B → Type 0) (f : A → B) → ((x : A) → P
 all_map P f each [] = tt
 all_map P f each (x ∷ xs) = (each x, all_map P f each xs)
 
+-- what holds of each kind of lane holds of all lanes of a node
+pub each_lane : (P : PlainLane → Type 0) (node : ℕ) (hub : Who) (joints : List PlainJoint) (apps : ℕ) → ((j : PlainJoint) → P (rx_lane j)) → ((j : PlainJoint) → P (tx_lane j)) → ((j : PlainJoint) → P (out_lane node hub j.end.iface))
+    → ((k : ℕ) → P (down_lane node hub k)) → ((k : ℕ) → P (up_lane node hub k)) → AllByRecursion P (wires_with node hub joints apps)
+each_lane P node hub joints apps in_rx in_tx in_out in_down in_up =
+    let rx = map rx_lane joints in
+    let tx = map tx_lane joints in
+    let out = map (λ (j : PlainJoint). out_lane node hub j.end.iface) joints in
+    let down = map (down_lane node hub) (range_with_len 0 apps) in
+    let up = map (up_lane node hub) (range_with_len 0 apps) in
+    AllByRecursion-append P rx (tx ++ (out ++ (down ++ up))) (all_map P rx_lane in_rx joints)
+    (AllByRecursion-append P tx (out ++ (down ++ up)) (all_map P tx_lane in_tx joints)
+    (AllByRecursion-append P out (down ++ up) (all_map P (λ (j : PlainJoint). out_lane node hub j.end.iface) in_out joints)
+    (AllByRecursion-append P down up (all_map P (down_lane node hub) in_down (range_with_len 0 apps)) (all_map P (up_lane node hub) in_up (range_with_len 0 apps)))))
+
 is_row : (node : ℕ) (hub : Who) (joints : List PlainJoint) (apps : ℕ) → IsRow (wires_with node hub joints apps)
 is_row node hub joints apps =
     let rx = map rx_lane joints in
@@ -152,13 +166,9 @@ is_row node hub joints apps =
     let up = map (up_lane node hub) (range_with_len 0 apps) in
     record {
       hub = hub;
-      named =
-          AllByRecursion-append (IsNamedLane hub) rx (tx ++ (out ++ (down ++ up))) (all_map (IsNamedLane hub) rx_lane (λ j. record { from = refl; to = refl; down = λ n e. absurd cc }) joints)
-          (AllByRecursion-append (IsNamedLane hub) tx (out ++ (down ++ up)) (all_map (IsNamedLane hub) tx_lane (λ j. record { from = refl; to = refl; down = λ n e. absurd cc }) joints)
-          (AllByRecursion-append (IsNamedLane hub) out (down ++ up) (all_map (IsNamedLane hub) (λ (j : PlainJoint). out_lane node hub j.end.iface) (λ j. record { from = refl; to = refl; down = λ n e. absurd cc }) joints)
-          (AllByRecursion-append (IsNamedLane hub) down up
-          (all_map (IsNamedLane hub) (down_lane node hub) (λ k. record { from = refl; to = refl; down = λ n e. ap (λ m. named_end hub (queue.Down m)) (eqb-true k n e) }) (range_with_len 0 apps))
-          (all_map (IsNamedLane hub) (up_lane node hub) (λ k. record { from = refl; to = refl; down = λ n e. absurd cc }) (range_with_len 0 apps)))));
+      named = each_lane (IsNamedLane hub) node hub joints apps (λ j. record { from = refl; to = refl; down = λ n e. absurd cc }) (λ j. record { from = refl; to = refl; down = λ n e. absurd cc })
+          (λ j. record { from = refl; to = refl; down = λ n e. absurd cc }) (λ k. record { from = refl; to = refl; down = λ n e. ap (λ m. named_end hub (queue.Down m)) (eqb-true k n e) })
+          (λ k. record { from = refl; to = refl; down = λ n e. absurd cc });
       behind =
           past hub rx (tx ++ (out ++ (down ++ up))) (all_map IsMarkless rx_lane (λ j. refl) joints)
           (past hub tx (out ++ (down ++ up)) (all_map IsMarkless tx_lane (λ j. refl) joints)

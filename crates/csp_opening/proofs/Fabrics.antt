@@ -1,16 +1,15 @@
 -- The nodes and the parties that were opened are the network of their scene.
-use Rattle.std.proofs.Common.{◌≡◌, ◌+◌, ◌*◌, ◌<◌, ◌≤◌, ◌⊎◌, inl, inr, ℕ, zero, suc, Bool, true, false, true≢false, List, [], ◌∷◌, ◌++◌, Option, None, Some, cond, length, map, refl, sym, ap, ◌∙◌, subst, arith}
+use Rattle.std.proofs.Common.{◌≡◌, ◌+◌, ◌<◌, ◌≤◌, ◌⊎◌, inl, inr, ℕ, zero, suc, Bool, true, false, true≢false, List, [], ◌∷◌, Option, None, Some, length, map, refl, sym, ap, ◌∙◌, subst, arith}
 use Rattle.std.specs.Global.{Vec}
-use Rattle.std.specs.Prelude.{⊤, IfSome, slice_get, vec_capacity}
+use Rattle.std.specs.Prelude.{IfSome, slice_get, vec_capacity}
 use Rattle.std.specs.List.{AllByRecursion, AllZip, count_by, sum_by}
 use Rattle.std.specs.Option.{option_map}
 use Rattle.std.proofs.lemmas.List.{length-map}
 use Rattle.std.proofs.lemmas.List.Sums.{sum-map, sum_by-cons}
-use Rattle.std.proofs.lemmas.Option.{same_Some, slice_get-map, slice_get_within}
+use Rattle.std.proofs.lemmas.Option.{same_Some, slice_get-map}
 use Rattle.std.proofs.lemmas.Slice.Zip.{AllZip-long}
-use Rattle.csp_arena.specs.Cells.{RegionName}
-use Rattle.csp_ends.specs.Ends.{PlainHome, PlainSide}
-use Rattle.csp_fabric.specs.Fabrics.{AreRoomsOf, AreStoresOf, CanNote, IsFabricOf, IsRoomOf, IsStoreOf, buffers_at, network_of, queues_in as record_queues}
+use Rattle.csp_ends.specs.Ends.{PlainHome}
+use Rattle.csp_fabric.specs.Fabrics.{AreRoomsOf, AreStoresOf, CanNote, IsFabricOf, buffers_at, network_of}
 use Rattle.csp_fabric.specs.declared.fabric.Fabric.{Fabric}
 use Rattle.csp_fabric.specs.declared.fabric.NodeStore.{NodeStore}
 use Rattle.csp_inbox.specs.Marks.{is_in}
@@ -18,56 +17,57 @@ use Rattle.csp_inbox.specs.Passes.{PlainPass}
 use Rattle.csp_lane.specs.Ends as lane
 use Rattle.csp_lists.specs.PlainDeck.{lane_room}
 use Rattle.csp_opening.proofs.Counts.{at_home, hub_at, of_node, one_hub}
+use Rattle.csp_opening.proofs.Leaving.{as_many}
 use Rattle.csp_opening.proofs.Named.{IsNamedIn, IsPairRow}
 use Rattle.csp_opening.proofs.NewHomes.{node_is, node_there}
-use Rattle.csp_opening.proofs.Ordered.{InOrder, home_in, parties_in_order, plain_posts, posts_plain}
+use Rattle.csp_opening.proofs.Ordered.{InOrder, plain_posts, posts_plain}
 use Rattle.csp_opening.proofs.Parties.{IsPartyNew, Laws, is_post, its_ends, its_home, network, party_new}
 use Rattle.csp_opening.proofs.Passing.{HasMark, NamedApart, homes_same, parts_at_node}
 use Rattle.csp_opening.proofs.Whos.{IsThere, node_low, parties_there}
 use Rattle.csp_opening.proofs.Zipped.{row_rooms}
-use Rattle.csp_opening.specs.Handed.{handed_from}
-use Rattle.csp_opening.specs.Opened.{AreNodesWith, IsNodeOf, ends_in, lead_in, queues_in, region_in, room_with}
+use Rattle.csp_opening.specs.Opened.{AreNodesWith, IsNodeOf, ends_in, lead_in, queues_in, region_in}
 use Rattle.csp_opening.specs.Parted.{lead_home, part_home, part_homes, parts_left}
-use Rattle.csp_opening.specs.Posted.{ends_with, post_with}
+use Rattle.csp_opening.specs.Posted.{post_with}
 use Rattle.csp_opening.specs.Seated.{IsSeated, count_at, count_or, seat_name}
 use Rattle.csp_opening.specs.Whole.{posts_of, queue_count, rooms_in, store_in, whos}
-use Rattle.csp_opening.specs.declared.homes.Lead.{Lead}
-use Rattle.csp_opening.specs.declared.lanes.Pair.{Pair}
 use Rattle.csp_opening.specs.declared.nodes.Node.{Node}
 use Rattle.csp_opening.specs.declared.seats.Seat.{Seat}
 use Rattle.csp_ending.specs.Notes.{PlainNotes}
 use Rattle.csp_pool.specs.declared.hand.Hand.{Hand}
-use Rattle.csp_posts.specs.Between.{is_home}
 use Rattle.csp_posts.specs.Books.{IsFresh}
 use Rattle.csp_posts.specs.Posts.{PlainPost}
 use Rattle.csp_posts.specs.Seen.{SeenPost}
 use Rattle.csp_record.specs.Who.{node_of}
 use Rattle.csp_record.specs.declared.who.Who.{Who}
 use Rattle.csp_record.specs.declared.who.Who.TheVariants as who
-use Rattle.csp_scene.specs.Links.{links_at, node_at}
+use Rattle.csp_scene.specs.Links.{links_at}
 use Rattle.csp_scene.specs.Scene.{PlainNode, PlainScene}
-use Rattle.csp_standing.proofs.Places.{all_at, all_from}
-use Rattle.csp_standing.specs.Network.{AreNodesOf, ArePostsOf, IsNetworkOf, IsPostOf, IsShared, PlainNetwork, leads}
+use Rattle.csp_standing.proofs.Places.{all_at}
+use Rattle.csp_standing.specs.Network.{AreNodesOf, ArePostsOf, IsNetworkOf, IsPostOf, IsShared, leads}
 use Rattle.csp_topology.specs.Lanes.{PlainLane}
-use Rattle.csp_topology.specs.Parties.{PlainOpening, links_from, parties_from, parties_of}
+use Rattle.csp_topology.specs.Parties.{PlainOpening, parties_of}
 use Rattle.csp_topology.specs.Wires.{wires_of}
 use Rattle.csp_topology.specs.Wiring.{AreWires, IsWireOf}
 use Rattle.csp_topology.specs.declared.wire.Wire.{Wire}
 
+-- what holds of no node, and of one more with its lanes, holds of all
+row_by_row : (scene : PlainScene) (Q : List PlainNode → List (List PlainLane) → List Node → Type 0) → Q [] [] []
+    → ((n : PlainNode) (row : List PlainLane) (ws : List Wire) (x : Node) (nodes : List PlainNode) (rows : List (List PlainLane)) (xs : List Node) → IsNodeOf n ws x → AllZip (IsWireOf scene) row ws → Q nodes rows xs → Q (n ∷ nodes) (row ∷ rows) (x ∷ xs))
+    → (nodes : List PlainNode) (rows : List (List PlainLane)) (wires : List (List Wire)) (xs : List Node) → AreNodesWith nodes wires xs → AllZip (AllZip (IsWireOf scene)) rows wires → Q nodes rows xs
+row_by_row scene Q none more [] [] [] [] h z = none
+row_by_row scene Q none more (n ∷ nodes) (row ∷ rows) (ws ∷ wires) (x ∷ xs) h z = more n row ws x nodes rows xs h.0 z.0 (row_by_row scene Q none more nodes rows wires xs h.1 z.1)
+row_by_row scene Q none more [] (row ∷ rows) [] xs h z = absurd z
+row_by_row scene Q none more [] rows (ws ∷ wires) xs h z = absurd h
+row_by_row scene Q none more [] [] [] (x ∷ xs) h z = absurd h
+row_by_row scene Q none more (n ∷ nodes) rows [] xs h z = absurd h
+row_by_row scene Q none more (n ∷ nodes) rows (ws ∷ wires) [] h z = absurd h
+row_by_row scene Q none more (n ∷ nodes) [] (ws ∷ wires) (x ∷ xs) h z = absurd z
+
 -- the queues of the nodes are those of the scene
 nodes_of : (scene : PlainScene) (nodes : List PlainNode) (rows : List (List PlainLane)) (wires : List (List Wire)) (xs : List Node) → AreNodesWith nodes wires xs → AllZip (AllZip (IsWireOf scene)) rows wires
     → AreNodesOf nodes rows (map queues_in xs)
-nodes_of scene [] [] [] [] h z = tt
-nodes_of scene (n ∷ nodes) (row ∷ rows) (ws ∷ wires) (x ∷ xs) h z = (
-  record { pool = h.0.base.capacity ∙ h.0.count; inbox = h.0.inbox; lanes = h.0.lanes.rooms ∙ sym (row_rooms scene row ws z.0) },
-  nodes_of scene nodes rows wires xs h.1 z.1,
-)
-nodes_of scene [] (row ∷ rows) [] xs h z = absurd z
-nodes_of scene [] rows (ws ∷ wires) xs h z = absurd h
-nodes_of scene [] [] [] (x ∷ xs) h z = absurd h
-nodes_of scene (n ∷ nodes) rows [] xs h z = absurd h
-nodes_of scene (n ∷ nodes) rows (ws ∷ wires) [] h z = absurd h
-nodes_of scene (n ∷ nodes) [] (ws ∷ wires) (x ∷ xs) h z = absurd z
+nodes_of scene = row_by_row scene (λ nodes rows xs. AreNodesOf nodes rows (map queues_in xs)) tt (λ n row ws x nodes rows xs is z rest.
+    (record { pool = is.base.capacity ∙ is.count; inbox = is.inbox; lanes = is.lanes.rooms ∙ sym (row_rooms scene row ws z) }, rest))
 
 -- the room in the lanes of a row
 row_sum : (scene : PlainScene) (row : List PlainLane) (ws : List Wire) → AllZip (IsWireOf scene) row ws → sum_by (λ (l : PlainLane). lane_room l.queue) row ≡ sum_by (λ (w : Wire). w.room) ws
@@ -75,37 +75,20 @@ row_sum scene row ws z = sym (sum-map (λ (l : PlainLane). lane_room l.queue) ro
 
 stores_of : (scene : PlainScene) (nodes : List PlainNode) (rows : List (List PlainLane)) (wires : List (List Wire)) (xs : List Node) → AreNodesWith nodes wires xs → AllZip (AllZip (IsWireOf scene)) rows wires
     → AreStoresOf nodes rows (map store_in xs)
-stores_of scene [] [] [] [] h z = tt
-stores_of scene (n ∷ nodes) (row ∷ rows) (ws ∷ wires) (x ∷ xs) h z = (
+stores_of scene = row_by_row scene (λ nodes rows xs. AreStoresOf nodes rows (map store_in xs)) tt (λ n row ws x nodes rows xs is z rest. (
   record {
-    count = h.0.count;
-    none = h.0.base.none;
-    room = (let room = h.0.room in let same = row_sum scene row ws z.0 in omega (arith, room, same));
-    unnoted = h.0.unnoted;
-    numbers = h.0.numbers;
+    count = is.count;
+    none = is.base.none;
+    room = (let room = is.room in let same = row_sum scene row ws z in omega (arith, room, same));
+    unnoted = is.unnoted;
+    numbers = is.numbers;
   },
-  stores_of scene nodes rows wires xs h.1 z.1,
-)
-stores_of scene [] (row ∷ rows) [] xs h z = absurd z
-stores_of scene [] rows (ws ∷ wires) xs h z = absurd h
-stores_of scene [] [] [] (x ∷ xs) h z = absurd h
-stores_of scene (n ∷ nodes) rows [] xs h z = absurd h
-stores_of scene (n ∷ nodes) rows (ws ∷ wires) [] h z = absurd h
-stores_of scene (n ∷ nodes) [] (ws ∷ wires) (x ∷ xs) h z = absurd z
+  rest,
+))
 
 rooms_of : (scene : PlainScene) (nodes : List PlainNode) (rows : List (List PlainLane)) (wires : List (List Wire)) (xs : List Node) → AreNodesWith nodes wires xs → AllZip (AllZip (IsWireOf scene)) rows wires
     → AreRoomsOf nodes rows (map rooms_in xs)
-rooms_of scene [] [] [] [] h z = tt
-rooms_of scene (n ∷ nodes) (row ∷ rows) (ws ∷ wires) (x ∷ xs) h z = (
-  record { inbox = h.0.left; lanes = h.0.lanes.spare ∙ sym (row_rooms scene row ws z.0) },
-  rooms_of scene nodes rows wires xs h.1 z.1,
-)
-rooms_of scene [] (row ∷ rows) [] xs h z = absurd z
-rooms_of scene [] rows (ws ∷ wires) xs h z = absurd h
-rooms_of scene [] [] [] (x ∷ xs) h z = absurd h
-rooms_of scene (n ∷ nodes) rows [] xs h z = absurd h
-rooms_of scene (n ∷ nodes) rows (ws ∷ wires) [] h z = absurd h
-rooms_of scene (n ∷ nodes) [] (ws ∷ wires) (x ∷ xs) h z = absurd z
+rooms_of scene = row_by_row scene (λ nodes rows xs. AreRoomsOf nodes rows (map rooms_in xs)) tt (λ n row ws x nodes rows xs is z rest. (record { inbox = is.left; lanes = is.lanes.spare ∙ sym (row_rooms scene row ws z) }, rest))
 
 -- as many queues as a record speaks of
 queues_counted : (scene : PlainScene) (rows : List (List PlainLane)) (wires : List (Vec Wire)) → AllZip (AllZip (IsWireOf scene)) rows (map (λ (ws : Vec Wire). ws.items) wires)
@@ -133,17 +116,10 @@ row_named scene (l ∷ row) [] z = absurd z
 
 pub pair_rows : (scene : PlainScene) (nodes : List PlainNode) (rows : List (List PlainLane)) (wires : List (List Wire)) (xs : List Node) → AreNodesWith nodes wires xs → AllZip (AllZip (IsWireOf scene)) rows wires
     → AllZip (IsPairRow (map (λ (o : PlainOpening). o.who) (parties_of scene))) rows (map ends_in xs)
-pair_rows scene [] [] [] [] h z = tt
-pair_rows scene (n ∷ nodes) (row ∷ rows) (ws ∷ wires) (x ∷ xs) h z = (
-  record { region = region_in x; wires = ws; lanes = x.lanes.lanes.items; is = h.0.lanes.ends; named = row_named scene row ws z.0; long = lanes_long n ws x h.0 },
-  pair_rows scene nodes rows wires xs h.1 z.1,
-)
-pair_rows scene [] (row ∷ rows) [] xs h z = absurd z
-pair_rows scene [] rows (ws ∷ wires) xs h z = absurd h
-pair_rows scene [] [] [] (x ∷ xs) h z = absurd h
-pair_rows scene (n ∷ nodes) rows [] xs h z = absurd h
-pair_rows scene (n ∷ nodes) rows (ws ∷ wires) [] h z = absurd h
-pair_rows scene (n ∷ nodes) [] (ws ∷ wires) (x ∷ xs) h z = absurd z
+pair_rows scene = row_by_row scene (λ nodes rows xs. AllZip (IsPairRow (map (λ (o : PlainOpening). o.who) (parties_of scene))) rows (map ends_in xs)) tt (λ n row ws x nodes rows xs is z rest. (
+  record { region = region_in x; wires = ws; lanes = x.lanes.lanes.items; is = is.lanes.ends; named = row_named scene row ws z; long = lanes_long n ws x is },
+  rest,
+))
 
 -- parties as posts, from this place on, with what each has in hand
 abbrev pub new_posts : List Node → List Who → ℕ → List Seat → List SeenPost
@@ -301,14 +277,6 @@ pub record IsMadeOf (ws : List (Vec Wire)) (xs : List Node) (seats : List Seat) 
   pub retired : f.retired.items ≡ []
   pub retired_room : length seats ≤ vec_capacity f.retired
 
-nodes_long : (nodes : List PlainNode) (wires : List (List Wire)) (xs : List Node) → AreNodesWith nodes wires xs → length xs ≡ length nodes
-nodes_long [] [] [] h = refl
-nodes_long (n ∷ nodes) (ws ∷ wires) (x ∷ xs) h = ap suc (nodes_long nodes wires xs h.1)
-nodes_long [] (ws ∷ wires) xs h = absurd h
-nodes_long [] [] (x ∷ xs) h = absurd h
-nodes_long (n ∷ nodes) [] xs h = absurd h
-nodes_long (n ∷ nodes) (ws ∷ wires) [] h = absurd h
-
 -- it is that of the scene, with these posts
 pub is_fabric : (scene : PlainScene) (wires : List (Vec Wire)) (xs : List Node) (seats : List Seat) (f : Fabric) → AreWires scene (map (λ (ws : Vec Wire). ws.items) wires)
     → AreOpened scene (map (λ (ws : Vec Wire). ws.items) wires) xs seats → IsMadeOf wires xs seats f → IsFabricOf scene f (new_posts xs (whos seats) 0 seats)
@@ -332,7 +300,7 @@ is_fabric scene wires xs seats f are is made =
       unleft = ap (λ (n : PlainNotes). n.left) made.notes;
       unheld = ap (λ (n : PlainNotes). n.held) made.notes;
       queues = (let a = queues_counted scene (wires_of scene) wires is.rows in let b = ap (λ (n : PlainNotes). n.queues) made.notes in omega (arith, a, b));
-      others = (let b = ap (λ (n : PlainNotes). n.others) made.notes in let c = nodes_long scene.nodes rows xs is.nodes in omega (arith, long, b, c));
+      others = (let b = ap (λ (n : PlainNotes). n.others) made.notes in let c = as_many scene.nodes rows xs is.nodes in omega (arith, long, b, c));
       unlogged = made.logs;
       logs = (let room = made.logs_room in omega (arith, long, room));
       none = made.retired;

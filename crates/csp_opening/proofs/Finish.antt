@@ -1,15 +1,12 @@
 -- The opening of a scene's network as a whole.
-use Rattle.std.proofs.Common.{◌≡◌, ◌+◌, ◌<◌, ◌≤◌, ℕ, List, [], ◌∷◌, Option, Some, length, map, refl, sym, ap, ◌∙◌, subst, arith}
+use Rattle.std.proofs.Common.{◌≡◌, ◌<◌, ℕ, List, [], ◌∷◌, Some, length, map, sym, ◌∙◌, subst}
 use Rattle.std.specs.Global.{Vec}
 use Rattle.std.specs.List.{AllByRecursion}
-use Rattle.std.specs.Prelude.{IfSome, slice_get, vec_capacity}
-use Rattle.std.proofs.lemmas.List.{length-map}
-use Rattle.csp_ends.specs.Ends.{PlainSide}
+use Rattle.std.specs.Prelude.{IfSome, slice_get}
 use Rattle.csp_fabric.specs.Fabrics.{IsFabricOf}
 use Rattle.csp_fabric.specs.declared.fabric.Fabric.{Fabric}
 use Rattle.csp_opening.proofs.Assembly.{can_assemble, ordered}
-use Rattle.csp_opening.proofs.Fabrics.{AreOpened, IsMadeOf, all_fresh, is_fabric, new_posts, none_happened, posts_are}
-use Rattle.csp_opening.proofs.Leaving.{as_many}
+use Rattle.csp_opening.proofs.Fabrics.{AreOpened, IsMadeOf, all_fresh, is_fabric, none_happened, posts_are}
 use Rattle.csp_opening.proofs.Parties.{Laws}
 use Rattle.csp_opening.proofs.Rows.{are_wired}
 use Rattle.csp_opening.proofs.Whos.{named_apart, parties_low}
@@ -75,10 +72,17 @@ all_mapped : {A B : Type 0} → (P : B → Type 0) (f : A → B) (xs : List A) �
 all_mapped P f [] h = tt
 all_mapped P f (x ∷ xs) h = (h.0, all_mapped P f xs h.1)
 
-pub can_of : (scene : PlainScene) (wires : List (Vec Wire)) (openings : List Opening) (xs : List Node) (seats : List Seat) (b : Blanks) → IsPlanned scene wires openings → AreOpened scene (rows_of wires) xs seats
-    → AreBlanks (length seats) (length xs) wires b → CanAssemble b.sides.items xs seats
-can_of scene wires openings xs seats b h opened blanks =
-    can_assemble scene wires xs seats b.sides.items h.is opened (all_mapped (λ (ws : List Wire). length ws < 256) (λ (ws : Vec Wire). ws.items) wires (wired_of scene wires openings h).few) blanks.count blanks.sides blanks.side_rooms
+-- what was opened of a planned scene, and the lists for it
+pub record IsReady (scene : PlainScene) (wires : List (Vec Wire)) (openings : List Opening) (xs : List Node) (seats : List Seat) (b : Blanks) (l : Lists) : Type 0 where
+  pub plan : IsPlanned scene wires openings
+  pub opened : AreOpened scene (rows_of wires) xs seats
+  pub blanks : AreBlanks (length seats) (length xs) wires b
+  pub lists : AreLists (length seats) (length xs) l
+
+pub can_of : (scene : PlainScene) (wires : List (Vec Wire)) (openings : List Opening) (xs : List Node) (seats : List Seat) (b : Blanks) (l : Lists) → IsReady scene wires openings xs seats b l → CanAssemble b.sides.items xs seats
+can_of scene wires openings xs seats b l h =
+    can_assemble scene wires xs seats b.sides.items h.plan.is h.opened (all_mapped (λ (ws : List Wire). length ws < 256) (λ (ws : Vec Wire). ws.items) wires (wired_of scene wires openings h.plan).few)
+    h.blanks.count h.blanks.sides h.blanks.side_rooms
 
 -- so the fabric is that of the scene, and nothing has happened
 pub record IsFinished (scene : PlainScene) (f : Fabric) (posts : List SeenPost) : Type 0 where
@@ -86,11 +90,11 @@ pub record IsFinished (scene : PlainScene) (f : Fabric) (posts : List SeenPost) 
   pub new : AllByRecursion (λ (s : SeenPost). s.plain.entries ≡ []) posts
   pub fresh : AllByRecursion (λ (s : SeenPost). IfSome s.plain.ends.home IsFresh) posts
 
-pub finished : (scene : PlainScene) (wires : List (Vec Wire)) (openings : List Opening) (xs : List Node) (seats : List Seat) (f : Fabric) (posts : List SeenPost) → IsPlanned scene wires openings → AreOpened scene (rows_of wires) xs seats
+pub finished : (scene : PlainScene) (wires : List (Vec Wire)) (openings : List Opening) (xs : List Node) (seats : List Seat) (b : Blanks) (l : Lists) (f : Fabric) (posts : List SeenPost) → IsReady scene wires openings xs seats b l
     → IsMadeOf wires xs seats f → posts ≡ posts_of xs seats → IsFinished scene f posts
-finished scene wires openings xs seats f posts h opened made same =
-    subst (IsFinished scene f) (sym (same ∙ posts_are xs seats (ordered scene seats opened.names))) (record {
-      fabric = is_fabric scene wires xs seats f h.are opened made;
+finished scene wires openings xs seats b l f posts h made same =
+    subst (IsFinished scene f) (sym (same ∙ posts_are xs seats (ordered scene seats h.opened.names))) (record {
+      fabric = is_fabric scene wires xs seats f h.plan.are h.opened made;
       new = none_happened xs (whos seats) 0 seats;
-      fresh = all_fresh scene (rows_of wires) xs seats opened;
+      fresh = all_fresh scene (rows_of wires) xs seats h.opened;
     })

@@ -1,13 +1,14 @@
 -- Small facts about the lists that are counted and filled.
-use Rattle.std.proofs.Common.{◌≡◌, ◌+◌, ◌*◌, ◌==◌, ◌<◌, ◌≤◌, ℕ, zero, suc, Bool, true, false, true≢false, List, [], ◌∷◌, ◌++◌, Option, None, Some, length, take, refl, sym, ap, ◌∙◌, subst, arith}
+use Rattle.std.proofs.Common.{◌≡◌, ◌+◌, ◌*◌, ◌==◌, ◌<◌, ◌≤◌, ℕ, zero, suc, Bool, true, false, true≢false, List, [], ◌∷◌, ◌++◌, None, Some, length, take, get_or, refl, sym, ap, ◌∙◌, subst, arith}
 use Rattle.std.specs.Global.{Vec}
 use Rattle.std.specs.Prelude.{Err, IfOk, IsSome, IsSomeAnd, Ok, Result, slice_get, slice_set, if◌then◌else◌, vec_len, vec_capacity}
 use Rattle.std.specs.List.{AllByRecursion, sum_by}
 use Rattle.std.proofs.lemmas.Bool.{eq-eqb, eqb-true}
 use Rattle.std.proofs.lemmas.List.{append-nil, append_assoc}
 use Rattle.std.proofs.lemmas.List.Sums.{sum_by-cons}
-use Rattle.std.proofs.lemmas.Option.{same_Some}
+use Rattle.std.proofs.lemmas.Option.{same_Some, slice_get_read}
 use Rattle.csp_ends.specs.Ends.{PlainNodeQueues, PlainSide}
+use Rattle.csp_hub.proofs.Ends.{count_opening}
 use Rattle.csp_opening.specs.Handed.{AreHanded, HaveRoom, ends_among, ends_of, list_at, room_at}
 use Rattle.csp_opening.specs.Parted.{AreLeadsOf, IsLeadOf, IsOpening, after_app, after_iface, changed, leads_past, others}
 use Rattle.csp_arena.specs.declared.token.RegionToken.{RegionToken}
@@ -34,6 +35,7 @@ new_party (opening.Bridge n) = record { ready = λ e. tt; counted = refl; holds 
 new_party (opening.Iface n k kind mtu) = record { ready = λ e. refl; counted = refl; holds = refl }
 new_party (opening.App n k script) = record { ready = λ e. tt; counted = refl; holds = refl }
 new_party (opening.Link k kind plan) = record { ready = λ e. tt; counted = refl; holds = refl }
+new_party (opening.Hub k ends plan) = record { ready = λ e. tt; counted = count_opening ends plan.items; holds = refl }
 
 two_ends : (p : ℕ) (w : Wire) → ends_of p w ≤ 2
 two_ends p w = by (w.from.party == p) (w.to.party == p) where
@@ -144,6 +146,31 @@ app_stays q l h = record { pool = h.pool; opens = h.opens; inbox = h.inbox; read
 pub iface_stays : (number : ℕ) (q : PlainNodeQueues) (l : Lead) → IsLeadOf q l → IsLeadOf q (after_iface number l)
 iface_stays number q l h = record { pool = h.pool; opens = h.opens; inbox = record { inbox = h.inbox.inbox; room = h.inbox.room }; reads = h.reads }
 
+-- the passes of a node that has queues
+pub record AreRead (qs : List PlainNodeQueues) (leads : List Lead) (node : ℕ) (l : Lead) : Type 0 where
+  pub of_it : AreLeadsOf qs leads
+  pub low : node < length qs
+  pub there : slice_get leads node ≡ Some l
+
+-- what is read at its place is there
+read_at : {X : Type 0} (xs : List X) (k place : ℕ) (x : X) → k ≡ place → place < length xs → x ≡ get_or xs k x → slice_get xs place ≡ Some x
+read_at xs k place x e low is = ap (slice_get xs) (sym e) ∙ slice_get_read xs (length xs) k x refl (omega (arith, e, low)) is
+
+pub are_read : (qs : List PlainNodeQueues) (leads : List Lead) (k node : ℕ) (l : Lead) → AreLeadsOf qs leads → node < length leads → k ≡ node → l ≡ get_or leads k l → AreRead qs leads node l
+are_read qs leads k node l h low e is = record { of_it = h; low = (let long = leads_long qs leads h in omega (arith, low, long)); there = read_at leads k node l e low is }
+
+-- its queues are those of the passes
+pub read_of : (qs inside : List PlainNodeQueues) (leads : List Lead) (k node : ℕ) (q : PlainNodeQueues) (l : Lead) → AreRead qs leads node l → inside ≡ qs → k ≡ node → q ≡ get_or inside k q → IsLeadOf q l
+read_of qs inside leads k node q l h seen e is =
+    lead_is qs leads node q l h.of_it (ap (λ (ns : List PlainNodeQueues). slice_get ns node) (sym seen) ∙ read_at inside k node q e (subst (λ (ns : List PlainNodeQueues). node < length ns) (sym seen) h.low) is) h.there
+
+-- what is left of them is still of it
+pub left_of : (f : Lead → Lead) → ((q : PlainNodeQueues) (l : Lead) → IsLeadOf q l → IsLeadOf q (f l)) → (qs : List PlainNodeQueues) (leads : List Lead) (k node : ℕ) (l m : Lead) → AreRead qs leads node l → k ≡ node → m ≡ f l
+    → (slice_set leads k m ≡ changed node f leads) × AreLeadsOf qs (slice_set leads k m)
+left_of f stays qs leads k node l m h e left =
+    let same : slice_set leads k m ≡ changed node f leads = (λ i. slice_set leads (e i) (left i)) ∙ change_is f node leads l h.there in
+    (same, subst (AreLeadsOf qs) (sym same) (leads_stay f stays node qs leads h.of_it))
+
 -- the first pass is one that opened, and so are the others
 pub opening_past : (leads : List Lead) (w : Who) → AllByRecursion IsOpening leads → AllByRecursion IsOpening (leads_past leads w)
 opening_past leads (who.Router n) h = by leads h where
@@ -164,7 +191,7 @@ set_long (x ∷ sides) zero v = refl
 set_long (x ∷ sides) (suc k) v = ap suc (set_long sides k v)
 
 -- one end handed to the party at a place
-pub handed_one : (sides : List (Vec PlainSide)) (a : ℕ) (v w : Vec PlainSide) (x : PlainSide) → a < length sides → slice_get sides a ≡ Some v → w.items ≡ v.items ++ x ∷ [] → vec_capacity w ≡ vec_capacity v
+handed_one : (sides : List (Vec PlainSide)) (a : ℕ) (v w : Vec PlainSide) (x : PlainSide) → a < length sides → slice_get sides a ≡ Some v → w.items ≡ v.items ++ x ∷ [] → vec_capacity w ≡ vec_capacity v
     → AreHanded sides (λ p. if a == p then x ∷ [] else []) (slice_set sides a w)
 handed_one sides a v w x low at items cap = record {
   count = set_long sides a w;
@@ -189,7 +216,7 @@ handed_two sides first second one two a b = record {
 }
 
 -- there is room for it
-pub room_one : (sides : List (Vec PlainSide)) (a : ℕ) (v : Vec PlainSide) (x : PlainSide) → a < length sides → slice_get sides a ≡ Some v → HaveRoom sides (λ p. length (if a == p then x ∷ [] else [])) → vec_len v < vec_capacity v
+room_one : (sides : List (Vec PlainSide)) (a : ℕ) (v : Vec PlainSide) (x : PlainSide) → a < length sides → slice_get sides a ≡ Some v → HaveRoom sides (λ p. length (if a == p then x ∷ [] else [])) → vec_len v < vec_capacity v
 room_one sides a v x low at room =
     let all = room a low in
     let one = ap (λ b. length (if b then x ∷ [] else [])) (eq-eqb a a refl) in
@@ -197,6 +224,15 @@ room_one sides a v x low at room =
     let space = room_there sides a v at in
     let ok = v.ok.0 in
     omega (arith, all, one, list, space, ok)
+
+-- so it is for the party that was read at a place
+pub room_read : (sides : List (Vec PlainSide)) (k a : ℕ) (v : Vec PlainSide) (x : PlainSide) → k ≡ a → a < length sides → v ≡ get_or sides k v → HaveRoom sides (λ p. length (if a == p then x ∷ [] else [])) → vec_len v < vec_capacity v
+room_read sides k a v x e low is = room_one sides a v x low (read_at sides k a v e low is)
+
+pub handed_read : (sides : List (Vec PlainSide)) (k a : ℕ) (v w : Vec PlainSide) (x : PlainSide) → k ≡ a → a < length sides → v ≡ get_or sides k v → w.items ≡ v.items ++ x ∷ [] → vec_capacity w ≡ vec_capacity v
+    → AreHanded sides (λ p. if a == p then x ∷ [] else []) (slice_set sides k w)
+handed_read sides k a v w x e low is items cap =
+    subst (λ j. AreHanded sides (λ p. if a == p then x ∷ [] else []) (slice_set sides j w)) (sym e) (handed_one sides a v w x low (read_at sides k a v e low is) items cap)
 
 -- a list of empty lists, with one more
 pub list_pushed : (sides : List (Vec PlainSide)) (v : Vec PlainSide) → v.items ≡ [] → ((p : ℕ) → list_at sides p ≡ []) → (p : ℕ) → list_at (sides ++ v ∷ []) p ≡ []
@@ -226,3 +262,17 @@ seated_if nodes o place x region count (Ok s) who at token many name of_it unnot
       numbers = (let all = ap (count_at nodes) its ∙ ap count_or at in omega (arith, all, many, numbers));
     }
 seated_if nodes o place x region count (Err e) who at token many name of_it unnoted numbers = tt
+
+-- a party of none, as it was opened, where it was
+pub seated_apart : {E : Type 0} → (nodes : List Node) (o : Opening) (r : Result Seat E) → node_of (opening_of o).who ≡ None → IfOk r (λ (s : Seat). seat_name s ≡ opening_of o)
+    → IfOk r (λ (s : Seat). IsOfRegion (node_of (opening_of o).who) None s.party) → IfOk r (λ (s : Seat). s.numbers.items ≡ []) → IfOk r (IsSeated nodes)
+seated_apart nodes o (Ok s) who name of_it unnoted =
+    let its : node_of s.who ≡ None = ap (λ (z : PlainOpening). node_of z.who) name ∙ who in
+    let same : region_of s.party ≡ region_at nodes None = subst (λ n. IsOfRegion n None s.party) who of_it in
+    record {
+      party = subst IsNewParty (sym (ap (λ (z : PlainOpening). z.party) name)) (new_party o);
+      region = same ∙ sym (ap (region_at nodes) its);
+      unnoted = unnoted;
+      numbers = (let none : count_at nodes (node_of s.who) ≡ 0 = ap (count_at nodes) its in omega (arith, none));
+    }
+seated_apart nodes o (Err e) who name of_it unnoted = tt

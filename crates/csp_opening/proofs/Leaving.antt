@@ -1,5 +1,5 @@
 -- What was opened can be left, also in the midst of opening more.
-use Rattle.std.proofs.Common.{◌≡◌, ◌+◌, ◌<◌, ◌≤◌, ℕ, zero, suc, List, [], ◌∷◌, ◌++◌, length, map, take, refl, sym, ap, ◌∙◌, subst, arith}
+use Rattle.std.proofs.Common.{◌≡◌, ◌+◌, ◌<◌, ℕ, zero, suc, List, [], ◌∷◌, ◌++◌, length, map, take, refl, sym, ap, ◌∙◌, subst, arith}
 use Rattle.std.specs.Prelude.{Option, Some, slice_get, vec_len}
 use Rattle.std.specs.List.{AllByRecursion}
 use Rattle.std.proofs.lemmas.Option.{same_Some}
@@ -12,8 +12,8 @@ use Rattle.csp_ends.specs.Ends.{PlainHome, PlainSide}
 use Rattle.csp_inbox.specs.Passes as mails
 use Rattle.csp_lane.specs.Ends as ways
 use Rattle.csp_opening.proofs.Backs.{told_more}
-use Rattle.csp_opening.specs.Handed.{AreHanded, HaveRoom, handed_from, list_at, room_at}
-use Rattle.csp_opening.specs.Opened.{AreLanes, AreNodesWith, AreTold, AreUnused, CanLeave, HasLaneMore, IsMail, IsNodeOf, IsUnused, ends_in, pair_of, pairs_on}
+use Rattle.csp_opening.specs.Handed.{AreHanded, HaveRoom, handed_from, list_at}
+use Rattle.csp_opening.specs.Opened.{AreLanes, AreNodesWith, AreTold, AreUnused, CanLeave, HasLaneMore, IsMail, IsNodeOf, ends_in, pair_of, pairs_on}
 use Rattle.csp_opening.specs.Parted.{home_with, leads_past}
 use Rattle.csp_opening.specs.Posted.{CanPost, CanPostAll, CanPostFrom, ends_with, post_with, posts_from, posts_with}
 use Rattle.csp_opening.specs.declared.homes.Lead.{Lead}
@@ -112,22 +112,22 @@ room_rest sides after one more h handed p low =
 pub lists_rest : (sides after : List (Vec PlainSide)) (one more : ℕ → List PlainSide) (p : ℕ) → p < length sides → AreHanded sides one after → list_at after p ++ more p ≡ list_at sides p ++ (one p ++ more p)
 lists_rest sides after one more p low handed = ap (λ xs. xs ++ more p) (handed.lists p low) ∙ append_assoc (list_at sides p) (one p) (more p)
 
+-- what holds of no node, and of one more, holds of all
+pub node_by_node : (Q : List PlainNode → List (List Wire) → List Node → Type 0) → Q [] [] [] → ((n : PlainNode) (ws : List Wire) (x : Node) (ns : List PlainNode) (wires : List (List Wire)) (xs : List Node) → IsNodeOf n ws x → Q ns wires xs → Q (n ∷ ns) (ws ∷ wires) (x ∷ xs))
+    → (ns : List PlainNode) (wires : List (List Wire)) (xs : List Node) → AreNodesWith ns wires xs → Q ns wires xs
+node_by_node Q none more [] [] [] h = none
+node_by_node Q none more (n ∷ ns) (ws ∷ wires) (x ∷ xs) h = more n ws x ns wires xs h.0 (node_by_node Q none more ns wires xs h.1)
+node_by_node Q none more [] (ws ∷ wires) xs h = absurd h
+node_by_node Q none more [] [] (x ∷ xs) h = absurd h
+node_by_node Q none more (n ∷ ns) [] xs h = absurd h
+node_by_node Q none more (n ∷ ns) (ws ∷ wires) [] h = absurd h
+
 -- all of them can
 pub all_leave : (ns : List PlainNode) (wires : List (List Wire)) (xs : List Node) → AreNodesWith ns wires xs → AllByRecursion CanLeave xs
-all_leave [] [] [] h = tt
-all_leave (n ∷ ns) (ws ∷ wires) (x ∷ xs) h = (can_leave n ws x h.0, all_leave ns wires xs h.1)
-all_leave [] (ws ∷ wires) xs h = absurd h
-all_leave [] [] (x ∷ xs) h = absurd h
-all_leave (n ∷ ns) [] xs h = absurd h
-all_leave (n ∷ ns) (ws ∷ wires) [] h = absurd h
+all_leave = node_by_node (λ ns wires xs. AllByRecursion CanLeave xs) tt (λ n ws x ns wires xs is rest. (can_leave n ws x is, rest))
 
 pub as_many : (ns : List PlainNode) (wires : List (List Wire)) (xs : List Node) → AreNodesWith ns wires xs → length xs ≡ length ns
-as_many [] [] [] h = refl
-as_many (n ∷ ns) (ws ∷ wires) (x ∷ xs) h = ap suc (as_many ns wires xs h.1)
-as_many [] (ws ∷ wires) xs h = absurd h
-as_many [] [] (x ∷ xs) h = absurd h
-as_many (n ∷ ns) [] xs h = absurd h
-as_many (n ∷ ns) (ws ∷ wires) [] h = absurd h
+as_many = node_by_node (λ ns wires xs. length xs ≡ length ns) refl (λ n ws x ns wires xs is rest. ap suc rest)
 
 -- the first elements, and one more
 pub take_more : {A : Type 0} → (xs : List A) (k : ℕ) (x : A) → slice_get xs k ≡ Some x → take (k + 1) xs ≡ take k xs ++ x ∷ []

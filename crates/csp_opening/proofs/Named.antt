@@ -1,25 +1,22 @@
 -- The ends that a party is handed are those that the scene gives it.
-use Rattle.std.proofs.Common.{◌≡◌, ◌+◌, ◌==◌, ◌&&◌, ℕ, zero, suc, Bool, true, false, List, [], ◌∷◌, ◌++◌, Option, None, Some, length, map, refl, sym, ap, ◌∙◌, subst, arith}
-use Rattle.std.specs.Prelude.{IsSomeAnd, slice_get, if◌then◌else◌}
+use Rattle.std.proofs.Common.{◌≡◌, ◌+◌, ◌==◌, ◌&&◌, ℕ, Bool, true, false, List, [], ◌∷◌, ◌++◌, Some, length, map, refl, sym, ap, ◌∙◌, arith}
+use Rattle.std.specs.Prelude.{slice_get, if◌then◌else◌}
 use Rattle.std.specs.List.{AllZip}
 use Rattle.std.proofs.lemmas.Bool.{eq-eqb, eqb-true}
 use Rattle.std.proofs.lemmas.List.{map-append}
 use Rattle.std.proofs.lemmas.Option.{same_Some}
 use Rattle.csp_arena.specs.Cells.{RegionName}
 use Rattle.csp_consistent.specs.Reading.{is_who}
-use Rattle.csp_ends.specs.Ends.{PlainSide}
 use Rattle.csp_lane.specs.Ends as lane
 use Rattle.csp_opening.specs.Handed.{getting, handed_among, handed_from, handed_of, putting}
 use Rattle.csp_opening.specs.Opened.{pair_of, pairs_on}
 use Rattle.csp_opening.specs.declared.lanes.Pair.{Pair}
 use Rattle.csp_record.specs.declared.who.Who.{Who}
 use Rattle.csp_record.specs.declared.who.Who.TheVariants as who
-use Rattle.csp_scene.specs.Scene.{PlainScene}
-use Rattle.csp_standing.specs.Network.{SideName, name_of, sides_among, sides_at, sides_from, sides_of}
-use Rattle.csp_topology.specs.Lanes.{PlainEnd, PlainLane}
-use Rattle.csp_topology.specs.Wiring.{IsEndOf, IsWireOf}
+use Rattle.csp_standing.proofs.Sides.{same_who}
+use Rattle.csp_standing.specs.Network.{name_of, sides_among, sides_at, sides_from}
+use Rattle.csp_topology.specs.Lanes.{PlainLane}
 use Rattle.csp_topology.specs.declared.wire.Wire.{Wire}
-use Rattle.csp_topology.specs.declared.wire.WireEnd.{WireEnd}
 
 pub both_true : (a b : Bool) → (a && b) ≡ true → (a ≡ true) × (b ≡ true)
 both_true true b e = (refl, e)
@@ -56,17 +53,6 @@ who_is (who.Link k) (who.Router m) e = absurd cc
 who_is (who.Link k) (who.Bridge m) e = absurd cc
 who_is (who.Link k) (who.Iface m j) e = absurd cc
 who_is (who.Link k) (who.App m j) e = absurd cc
-
-pub both_same : (a b : Bool) → a ≡ true → b ≡ true → (a && b) ≡ true
-both_same true b e f = f
-both_same false b e f = e
-
-pub same_who : (w : Who) → is_who w w ≡ true
-same_who (who.Router node) = eq-eqb node node refl
-same_who (who.Bridge node) = eq-eqb node node refl
-same_who (who.Iface node number) = both_same _ _ (eq-eqb node node refl) (eq-eqb number number refl)
-same_who (who.App node number) = both_same _ _ (eq-eqb node node refl) (eq-eqb number number refl)
-same_who (who.Link number) = eq-eqb number number refl
 
 -- two Booleans that imply each other
 same_bool : (a b : Bool) → (a ≡ true → b ≡ true) → (b ≡ true → a ≡ true) → a ≡ b

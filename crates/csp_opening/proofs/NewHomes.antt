@@ -1,5 +1,5 @@
 -- The passes that the parties of nodes have before their first turn.
-use Rattle.std.proofs.Common.{◌≡◌, ◌+◌, ◌==◌, ◌<◌, ℕ, zero, suc, Bool, true, false, List, [], ◌∷◌, Option, None, Some, length, map, refl, sym, ap, ◌∙◌, subst, arith}
+use Rattle.std.proofs.Common.{◌≡◌, ◌<◌, ℕ, zero, suc, true, List, [], ◌∷◌, Option, None, Some, length, map, refl, sym, ap, ◌∙◌, subst, arith}
 use Rattle.std.specs.Prelude.{⊤, IfSome, IsSomeAnd, slice_get, if◌then◌else◌}
 use Rattle.std.specs.List.{range_with_len}
 use Rattle.std.specs.Option.{option_map}
@@ -14,7 +14,6 @@ use Rattle.csp_ends.specs.Traced.{IsHomeTraced, IsMailTraced}
 use Rattle.csp_inbox.specs.Passes as inbox
 use Rattle.csp_inbox.specs.declared.hand.Mail.{Mail}
 use Rattle.csp_lists.specs.PlainDeck.{numbers_of}
-use Rattle.csp_log.specs.declared.places.Rule.{Rule}
 use Rattle.csp_log.specs.declared.places.Rule.TheVariants as rule
 use Rattle.csp_log.specs.declared.places.TheConstants.{UNMARKED}
 use Rattle.csp_opening.proofs.Ordered.{home_in}

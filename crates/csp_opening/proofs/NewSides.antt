@@ -1,19 +1,21 @@
 -- The ends of lanes that a party has before its first turn.
-use Rattle.std.proofs.Common.{◌≡◌, ◌+◌, ◌<◌, ◌==◌, ◌⊎◌, inl, inr, ℕ, zero, suc, Bool, true, false, List, [], ◌∷◌, ◌++◌, Option, None, Some, length, map, take, refl, sym, ap, ◌∙◌, subst, arith}
-use Rattle.std.specs.Prelude.{⊤, IfSome, IsSomeAnd, slice_get, if◌then◌else◌}
+use Rattle.std.proofs.Common.{◌≡◌, ◌+◌, ◌<◌, ◌==◌, ℕ, zero, suc, Bool, true, false, List, [], ◌∷◌, ◌++◌, Option, None, Some, length, map, take, refl, sym, ap, ◌∙◌, subst, arith}
+use Rattle.std.specs.Prelude.{IfSome, IsSomeAnd, slice_get, if◌then◌else◌}
 use Rattle.std.specs.List.{AllByRecursion, AllZip}
 use Rattle.std.specs.Option.{option_and_then, option_map}
 use Rattle.std.proofs.lemmas.Bool.{eqb-true}
 use Rattle.std.proofs.lemmas.Option.{same_Some, slice_get-map, slice_get_within}
 use Rattle.csp_arena.specs.Cells.{RegionName}
+use Rattle.csp_consistent.proofs.QueueNames.{queue_same}
 use Rattle.csp_consistent.specs.Reading.{is_queue}
+use Rattle.csp_ends.proofs.Lists.{get_within}
 use Rattle.csp_ends.specs.Ends.{IsSideOf, PlainNodeQueues, PlainSide}
 use Rattle.csp_ends.specs.Sides.{back_name}
 use Rattle.csp_lane.specs.Ends as ways
 use Rattle.csp_log.specs.declared.places.QueueId.{QueueId}
 use Rattle.csp_log.specs.declared.places.QueueId.TheVariants as queue
-use Rattle.csp_opening.proofs.Backs.{EndsApart, HasBack, IsBehind, IsNamedLane, IsRow, TellsOf, named_end, rows_are, told_at}
-use Rattle.csp_opening.proofs.Finding.{get_within, only_of, queue_same, take_at, take_from}
+use Rattle.csp_opening.proofs.Backs.{EndsApart, IsBehind, IsNamedLane, IsRow, TellsOf, named_end, rows_are, told_at}
+use Rattle.csp_opening.proofs.Finding.{only_of, take_at, take_from}
 use Rattle.csp_opening.proofs.Zipped.{placed_at}
 use Rattle.csp_opening.specs.Handed.{getting, handed_among, handed_from, handed_of, putting}
 use Rattle.csp_opening.specs.Opened.{AreLanes, AreNodesWith, ends_in, pair_of, pairs_on, queues_in, region_in, tally_named, told_tally}

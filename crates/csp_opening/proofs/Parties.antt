@@ -1,14 +1,12 @@
 -- The parties of a scene before their first turn.
-use Rattle.std.proofs.Common.{◌≡◌, ◌+◌, ◌<◌, ◌≤◌, ℕ, zero, suc, Bool, true, false, List, [], ◌∷◌, ◌++◌, Option, None, Some, length, map, refl, sym, ap, ◌∙◌, subst, arith}
-use Rattle.std.specs.Prelude.{⊤, IfSome, slice_get, if◌then◌else◌}
+use Rattle.std.proofs.Common.{◌≡◌, ◌<◌, ℕ, Bool, true, false, List, [], ◌∷◌, Option, None, Some, length, map, refl, sym, ap, ◌∙◌, subst, arith}
+use Rattle.std.specs.Prelude.{IfSome, slice_get, if◌then◌else◌}
 use Rattle.std.specs.List.{AllByRecursion, AllZip, sum_by}
 use Rattle.std.specs.Option.{option_map}
 use Rattle.std.proofs.lemmas.List.Sums.{sum_by-cons}
 use Rattle.std.proofs.lemmas.Option.{same_Some, slice_get-map}
-use Rattle.csp_arena.specs.Cells.{RegionName}
-use Rattle.csp_deck.specs.Regions.{nowhere}
 use Rattle.csp_deck.specs.Step.{times}
-use Rattle.csp_ends.specs.Ends.{AreEnds, PlainEnds, PlainHome, PlainNodeQueues, PlainSide, rule_of}
+use Rattle.csp_ends.specs.Ends.{AreEnds, PlainEnds, PlainHome, PlainSide}
 use Rattle.csp_ends.specs.Ends as hands
 use Rattle.csp_deck.specs.Carried.{IsCarried}
 use Rattle.csp_ends.specs.Sides.{back_name}
@@ -32,9 +30,8 @@ use Rattle.csp_opening.specs.Posted.{CanPost, ends_with, post_with}
 use Rattle.csp_opening.specs.Seated.{IsSeated, region_at, region_or, seat_name}
 use Rattle.csp_opening.specs.declared.nodes.Node.{Node}
 use Rattle.csp_opening.specs.declared.seats.Seat.{Seat}
-use Rattle.csp_party.specs.Any.{PlainParty, holds, plain, uses}
+use Rattle.csp_party.specs.Any.{holds, plain, uses}
 use Rattle.csp_posts.specs.Balance.{times_got, times_put}
-use Rattle.csp_posts.specs.Posts.{PlainPost}
 use Rattle.csp_posts.specs.Through.{IsThrough, WasCrammed}
 use Rattle.csp_record.specs.Who.{node_of}
 use Rattle.csp_record.specs.declared.who.Who.{Who}
@@ -109,31 +106,25 @@ can_post scene xs ws p s o laws at same seated new = record {
 }
 
 -- nothing went through its ends
+none_through : (f : PlainSide → ℕ) → ((s : PlainSide) → s.end.items ≡ [] → f s ≡ 0) → (sides : List PlainSide) → AllByRecursion (λ (s : PlainSide). s.end.items ≡ []) sides → sum_by f sides ≡ 0
+none_through f none [] h = refl
+none_through f none (s ∷ sides) h =
+    let step = sum_by-cons f s sides in
+    let one = none s h.0 in
+    let rest = none_through f none sides h.1 in
+    omega (arith, step, one, rest)
+
 none_put : (k : ℕ) (sides : List PlainSide) → AllByRecursion (λ (s : PlainSide). s.end.items ≡ []) sides → sum_by (times_put k) sides ≡ 0
-none_put k [] h = refl
-none_put k (s ∷ sides) h =
-    let step = sum_by-cons (times_put k) s sides in
-    let one = by s h.0 in
-    let rest = none_put k sides h.1 in
-    omega (arith, step, one, rest) where
-      by : (t : PlainSide) → t.end.items ≡ [] → times_put k t ≡ 0
-      by t e = two t.puts (ap (λ is. times k (numbers_of is)) e) where
-        two : (c : Bool) {n : ℕ} → n ≡ 0 → (if c then n else 0) ≡ 0
-        two true e = e
-        two false e = refl
+none_put k = none_through (times_put k) (λ s e. by s.puts (ap (λ is. times k (numbers_of is)) e)) where
+  by : (c : Bool) {n : ℕ} → n ≡ 0 → (if c then n else 0) ≡ 0
+  by true e = e
+  by false e = refl
 
 none_got : (k : ℕ) (sides : List PlainSide) → AllByRecursion (λ (s : PlainSide). s.end.items ≡ []) sides → sum_by (times_got k) sides ≡ 0
-none_got k [] h = refl
-none_got k (s ∷ sides) h =
-    let step = sum_by-cons (times_got k) s sides in
-    let one = by s h.0 in
-    let rest = none_got k sides h.1 in
-    omega (arith, step, one, rest) where
-      by : (t : PlainSide) → t.end.items ≡ [] → times_got k t ≡ 0
-      by t e = two t.puts (ap (λ is. times k (numbers_of is)) e) where
-        two : (c : Bool) {n : ℕ} → n ≡ 0 → (if c then 0 else n) ≡ 0
-        two true e = refl
-        two false e = e
+none_got k = none_through (times_got k) (λ s e. by s.puts (ap (λ is. times k (numbers_of is)) e)) where
+  by : (c : Bool) {n : ℕ} → n ≡ 0 → (if c then 0 else n) ≡ 0
+  by true e = refl
+  by false e = e
 
 -- it is a post of its party
 pub is_post : (scene : PlainScene) (xs : List Node) (ws : List Who) (p : ℕ) (s : Seat) (o : PlainOpening) → seat_name s ≡ o → IsSeated xs s → IsPartyNew scene xs ws p s.who

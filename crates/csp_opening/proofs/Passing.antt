@@ -1,12 +1,12 @@
 -- How passes are parted among the parties of nodes.
-use Rattle.std.proofs.Common.{◌≡◌, ◌≢◌, ◌⊎◌, inl, inr, ◌+◌, ◌==◌, ◌<◌, ℕ, zero, suc, Bool, true, false, true≢false, List, [], ◌∷◌, Option, None, Some, cond, length, map, refl, sym, ap, ◌∙◌, subst, arith}
-use Rattle.std.specs.Prelude.{⊤, IsSome, IsSomeAnd, slice_get, if◌then◌else◌}
+use Rattle.std.proofs.Common.{◌≡◌, ◌⊎◌, inl, inr, ◌+◌, ◌==◌, ◌<◌, ℕ, zero, suc, Bool, true, false, true≢false, List, [], ◌∷◌, Option, None, Some, cond, length, map, refl, sym, ap, ◌∙◌, subst, arith}
+use Rattle.std.specs.Prelude.{⊤, IsSome, IsSomeAnd, slice_get}
 use Rattle.std.specs.List.{AllByRecursion, count_by}
 use Rattle.std.specs.Option.{option_map}
-use Rattle.std.proofs.lemmas.Bool.{eq-eqb, eqb-true}
+use Rattle.std.proofs.lemmas.Bool.{eq-eqb, eqb-true, false_from_ne_true}
 use Rattle.std.proofs.lemmas.List.Sums.{sum_by-cons}
 use Rattle.std.proofs.lemmas.Option.{same_Some, slice_get-map, slice_get_within}
-use Rattle.csp_ends.specs.Ends.{PlainHome}
+use Rattle.csp_ends.proofs.Lists.{get_within}
 use Rattle.csp_inbox.specs.Marks.{is_in, with_mark}
 use Rattle.csp_inbox.specs.Passes as inbox
 use Rattle.csp_log.specs.declared.places.TheConstants.{UNMARKED}
@@ -198,15 +198,6 @@ IsMarkable nodes (who.Link k) = ⊤
 abbrev pub NamedApart : List Who → Type 0
 NamedApart ws = (i j : ℕ) (w : Who) → slice_get ws i ≡ Some w → slice_get ws j ≡ Some w → i ≡ j
 
-never : (b : Bool) → (b ≡ true → ⊥) → b ≡ false
-never false wrong = refl
-never true wrong = absurd (wrong refl)
-
-there : (leads : List Lead) (n : ℕ) → n < length leads → (l : Lead) × (slice_get leads n ≡ Some l)
-there [] n low = absurd (omega (arith, low))
-there (l ∷ leads) zero low = (l, refl)
-there (l ∷ leads) (suc n) low = there leads n (omega (arith, low))
-
 changed_long : (f : Lead → Lead) (k : ℕ) (leads : List Lead) → length (changed k f leads) ≡ length leads
 changed_long f k [] = refl
 changed_long f zero (l ∷ leads) = refl
@@ -225,18 +216,18 @@ parts_long leads (w ∷ ws) = parts_long (part_left leads w) ws ∙ left_long le
 
 can_part : (nodes : ℕ) (leads : List Lead) (w : Who) (ws : List Who) → length leads ≡ nodes → IsMarkable nodes w → ((m : ℕ) (l : Lead) → slice_get leads m ≡ Some l → IsReadyFor m (w ∷ ws) l) → CanPart leads w
 can_part nodes leads (who.Iface n k) ws long ok ready =
-    let l = there leads n (let low = ok.0 in omega (arith, low, long)) in
+    let l = get_within leads n (let low = ok.0 in omega (arith, low, long)) in
     let r = ready n l.0 l.1 in
     subst (λ o. IsSomeAnd o (λ x. inbox.IsFree x.inbox k)) (sym l.1) (record {
       other = λ same. (let mark = ok.1 in let is = r.mark in omega (arith, mark, is, same));
-      home = never (is_in l.0.inbox.role.out k) (λ out. r.free k 0 out refl);
+      home = false_from_ne_true (is_in l.0.inbox.role.out k) (λ out. r.free k 0 out refl);
       critical = ap (with_mark k) r.critical;
       high = ap (with_mark k) r.high;
       normal = ap (with_mark k) r.normal;
       low = ap (with_mark k) r.low;
     })
 can_part nodes leads (who.App n k) ws long ok ready =
-    let l = there leads n (omega (arith, ok, long)) in
+    let l = get_within leads n (omega (arith, ok, long)) in
     subst (λ (o : Option Lead). IsSome o) (sym l.1) refl
 can_part nodes leads (who.Router n) ws long ok ready = tt
 can_part nodes leads (who.Bridge n) ws long ok ready = tt
@@ -256,7 +247,7 @@ kept_of l x same m ws r free = record {
 -- of a place of what was changed, what was there before
 back_at : (leads : List Lead) (w : Who) (m : ℕ) (x : Lead) → slice_get (part_left leads w) m ≡ Some x → (l : Lead) × (slice_get leads m ≡ Some l) × IsPast m w l x
 back_at leads w m x at =
-    let l = there leads m (let low = slice_get_within (part_left leads w) m x at in let long = left_long leads w in omega (arith, low, long)) in
+    let l = get_within leads m (let low = slice_get_within (part_left leads w) m x at in let long = left_long leads w in omega (arith, low, long)) in
     let past = left_at leads w m l.0 l.1 in
     (l.0, l.1, subst (IsPast m w l.0) (same_Some past.0 x (sym past.1 ∙ at)) past.2)
 

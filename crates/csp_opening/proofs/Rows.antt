@@ -1,7 +1,7 @@
 -- What is true of the wires of every scene.
-use Rattle.std.proofs.Common.{◌≡◌, ◌+◌, ◌*◌, ◌<◌, ◌≤◌, ℕ, zero, suc, false, List, [], ◌∷◌, ◌++◌, Option, None, Some, length, map, refl, sym, ap, ◌∙◌, subst, arith}
+use Rattle.std.proofs.Common.{◌≡◌, ◌+◌, ◌*◌, ◌<◌, ◌≤◌, ℕ, zero, suc, false, List, [], ◌∷◌, ◌++◌, Some, length, map, refl, sym, ◌∙◌, subst, arith}
 use Rattle.std.specs.Global.{Vec}
-use Rattle.std.specs.Prelude.{⊤, IsSomeAnd, slice_get}
+use Rattle.std.specs.Prelude.{slice_get}
 use Rattle.std.specs.List.{AllByRecursion, AllZip, range_with_len}
 use Rattle.std.proofs.lemmas.List.{length-append, length-map}
 use Rattle.std.proofs.lemmas.List.FromFn.{length-range_with_len}
@@ -11,6 +11,7 @@ use Rattle.csp_lists.specs.PlainDeck.{lane_room}
 use Rattle.csp_log.specs.declared.places.Carries.{Carries}
 use Rattle.csp_log.specs.declared.places.QueueId.{QueueId}
 use Rattle.csp_log.specs.declared.places.QueueId.TheVariants as queue
+use Rattle.csp_opening.proofs.Backs.{each_lane}
 use Rattle.csp_opening.proofs.Serving.{AllCalled, AllHome}
 use Rattle.csp_opening.proofs.Zipped.{placed_at, wire_rows}
 use Rattle.csp_opening.specs.Opened.{AreWired}
@@ -22,7 +23,7 @@ use Rattle.csp_standing.proofs.Places.{all_at}
 use Rattle.csp_topology.proofs.WireSteps.{joints_few}
 use Rattle.csp_topology.specs.Lanes.{PlainLane, hub_of, out_lane}
 use Rattle.csp_topology.specs.Wired as wired
-use Rattle.csp_topology.specs.Wires.{PlainJoint, down_lane, joints_at, joints_from, rx_lane, tx_lane, up_lane, wire_at, wires_at, wires_from, wires_of, wires_with}
+use Rattle.csp_topology.specs.Wires.{PlainJoint, down_lane, joints_at, joints_from, rx_lane, tx_lane, up_lane, wires_from, wires_of, wires_with}
 use Rattle.csp_topology.specs.Wiring.{AreWires, IsWireOf}
 use Rattle.csp_topology.specs.declared.wire.Wire.{Wire}
 
@@ -31,22 +32,9 @@ record IsCalled (l : PlainLane) : Type 0 where
   from : is_queue queue.Inbox l.from.queue ≡ false
   to : is_queue queue.Inbox l.to.queue ≡ false
 
-all_map : {A B : Type 0} → (P : B → Type 0) (f : A → B) → ((x : A) → P (f x)) → (xs : List A) → AllByRecursion P (map f xs)
-all_map P f each [] = tt
-all_map P f each (x ∷ xs) = (each x, all_map P f each xs)
-
 row_called : (node : ℕ) (hub : Who) (joints : List PlainJoint) (apps : ℕ) → AllByRecursion IsCalled (wires_with node hub joints apps)
 row_called node hub joints apps =
-    let rx = map rx_lane joints in
-    let tx = map tx_lane joints in
-    let out = map (λ (j : PlainJoint). out_lane node hub j.end.iface) joints in
-    let down = map (down_lane node hub) (range_with_len 0 apps) in
-    let up = map (up_lane node hub) (range_with_len 0 apps) in
-    AllByRecursion-append IsCalled rx (tx ++ (out ++ (down ++ up))) (all_map IsCalled rx_lane (λ j. record { from = refl; to = refl }) joints)
-    (AllByRecursion-append IsCalled tx (out ++ (down ++ up)) (all_map IsCalled tx_lane (λ j. record { from = refl; to = refl }) joints)
-    (AllByRecursion-append IsCalled out (down ++ up) (all_map IsCalled (λ (j : PlainJoint). out_lane node hub j.end.iface) (λ j. record { from = refl; to = refl }) joints)
-    (AllByRecursion-append IsCalled down up (all_map IsCalled (down_lane node hub) (λ k. record { from = refl; to = refl }) (range_with_len 0 apps))
-    (all_map IsCalled (up_lane node hub) (λ k. record { from = refl; to = refl }) (range_with_len 0 apps)))))
+    each_lane IsCalled node hub joints apps (λ j. record { from = refl; to = refl }) (λ j. record { from = refl; to = refl }) (λ j. record { from = refl; to = refl }) (λ k. record { from = refl; to = refl }) (λ k. record { from = refl; to = refl })
 
 rows_called : (place : ℕ) (nodes : List PlainNode) (joints : List PlainJoint) → AllByRecursion (AllByRecursion IsCalled) (wires_from place nodes joints)
 rows_called place [] joints = tt

@@ -1,25 +1,25 @@
 -- What a party has in hand before its first turn is what it uses.
-use Rattle.std.proofs.Common.{◌≡◌, ◌≢◌, ◌+◌, ◌⊎◌, inl, inr, ℕ, zero, suc, Bool, true, false, true≢false, List, [], ◌∷◌, ◌++◌, Option, None, Some, cond, length, map, refl, sym, ap, ◌∙◌, subst, arith}
-use Rattle.std.specs.Prelude.{⊤, IfSome, IsSomeAnd, not, slice_get, if◌then◌else◌}
+use Rattle.std.proofs.Common.{◌≡◌, ◌+◌, ◌⊎◌, inl, inr, ℕ, zero, suc, Bool, true, false, true≢false, List, [], ◌∷◌, ◌++◌, Option, None, Some, map, refl, sym, ap, ◌∙◌, subst, arith}
+use Rattle.std.specs.Prelude.{IfSome, IsSomeAnd, not, slice_get, if◌then◌else◌}
 use Rattle.std.specs.List.{AllByRecursion, find}
-use Rattle.std.specs.Option.{option_and_then, option_map}
-use Rattle.std.proofs.lemmas.Bool.{eq-eqb, eqb-true}
+use Rattle.std.specs.Option.{option_map}
 use Rattle.std.proofs.lemmas.Option.{same_Some, slice_get-map}
 use Rattle.csp_arena.specs.Cells.{RegionName}
+use Rattle.csp_consistent.proofs.QueueNames.{queue_is, queue_same}
 use Rattle.csp_consistent.specs.Reading.{is_queue, is_who}
-use Rattle.csp_ends.specs.Ends.{AreApart, AreEnds, IsWithin, PlainEnds, PlainHome, PlainNodeQueues, PlainSide, inbox_of, region_of, region_or, rule_of, side_named}
+use Rattle.csp_ends.proofs.Lists.{none_of}
+use Rattle.csp_ends.specs.Ends.{AreApart, AreEnds, IsWithin, PlainEnds, PlainHome, PlainNodeQueues, PlainSide, region_or, rule_of, side_named}
 use Rattle.csp_ends.specs.Sides.{IsBacked, back_name, is_back_by, is_turned}
 use Rattle.csp_lane.specs.Ends as ways
 use Rattle.csp_lists.specs.PlainDeck.{IsLinkRule}
-use Rattle.csp_log.specs.declared.places.Carries.{Carries}
 use Rattle.csp_log.specs.declared.places.QueueId.{QueueId}
 use Rattle.csp_log.specs.declared.places.QueueId.TheVariants as queue
 use Rattle.csp_log.specs.declared.places.Rule.{Rule}
 use Rattle.csp_log.specs.declared.places.Rule.TheVariants as rule
 use Rattle.csp_opening.proofs.Backs.{EndsApart, TellsOf, named_end}
-use Rattle.csp_opening.proofs.Finding.{none_of, only_of, queue_is, queue_same}
+use Rattle.csp_opening.proofs.Finding.{only_of}
 use Rattle.csp_opening.proofs.NewHomes.{IsHomeNew}
-use Rattle.csp_opening.proofs.Named.{both_same, both_true, same_who}
+use Rattle.csp_opening.proofs.Named.{both_true}
 use Rattle.csp_opening.proofs.NewSides.{IsSideNew, side_by}
 use Rattle.csp_opening.proofs.Spread.{SameSpot}
 use Rattle.csp_opening.proofs.Zipped.{placed_at}
@@ -27,26 +27,11 @@ use Rattle.csp_record.specs.Who.{node_of}
 use Rattle.csp_record.specs.declared.who.Who.{Who}
 use Rattle.csp_scene.specs.Scene.{PlainScene}
 use Rattle.csp_standing.proofs.Places.{all_at, all_from, home_named}
+use Rattle.csp_standing.proofs.Sides.{IsIn, both_same, from_end, in_nodes, named_side, to_end}
 use Rattle.csp_standing.specs.Network.{SideName, name_of, sides_among, sides_at, sides_from, sides_of}
 use Rattle.csp_topology.specs.Lanes.{PlainEnd, PlainLane}
 use Rattle.csp_topology.specs.Wired as wired
 use Rattle.csp_topology.specs.Wires.{wire_at, wires_of}
-
--- a place of a list
-record IsIn {X : Type 0} (xs : List X) (x : X) : Type 0 where
-  place : ℕ
-  at : slice_get xs place ≡ Some x
-
-in_first : {X : Type 0} (xs ys : List X) (x : X) → IsIn xs x → IsIn (xs ++ ys) x
-in_first {X = X} xs ys x i = record { place = i.place; at = by xs i.place i.at } where
-  by : (zs : List X) (k : ℕ) → slice_get zs k ≡ Some x → slice_get (zs ++ ys) k ≡ Some x
-  by [] k e = absurd cc
-  by (z ∷ zs) zero e = e
-  by (z ∷ zs) (suc k) e = by zs k e
-
-in_second : {X : Type 0} (xs ys : List X) (y : X) → IsIn ys y → IsIn (xs ++ ys) y
-in_second [] ys y i = i
-in_second (x ∷ xs) ys y i = let r = in_second xs ys y i in record { place = suc r.place; at = r.at }
 
 -- the end of a lane on a side, as a party calls it
 abbrev puts_on : wired.Side → Bool
@@ -58,45 +43,8 @@ called_end node place l s = record { queue = (wired.end_on s l).queue; node = no
 
 -- a party that uses an end of a lane has it
 in_lane : (w : Who) (node place : ℕ) (l : PlainLane) (s : wired.Side) → (wired.end_on s l).who ≡ w → IsIn (sides_at w node place l) (called_end node place l s)
-in_lane w node place l wired.putting at =
-    let its : is_who w l.from.who ≡ true = ap (is_who w) at ∙ same_who w in
-    in_first (if is_who w l.from.who then called_end node place l wired.putting ∷ [] else []) (if is_who w l.to.who then called_end node place l wired.getting ∷ [] else []) (called_end node place l wired.putting)
-    (record { place = 0; at = ap (λ b. slice_get (if b then called_end node place l wired.putting ∷ [] else []) 0) its })
-in_lane w node place l wired.getting at =
-    let its : is_who w l.to.who ≡ true = ap (is_who w) at ∙ same_who w in
-    in_second (if is_who w l.from.who then called_end node place l wired.putting ∷ [] else []) (if is_who w l.to.who then called_end node place l wired.getting ∷ [] else []) (called_end node place l wired.getting)
-    (record { place = 0; at = ap (λ b. slice_get (if b then called_end node place l wired.getting ∷ [] else []) 0) its })
-
-in_lanes : (w : Who) (node base : ℕ) (ls : List PlainLane) (k : ℕ) (l : PlainLane) (name : SideName) → slice_get ls k ≡ Some l → IsIn (sides_at w node (base + k) l) name → IsIn (sides_among w node base ls) name
-in_lanes w node base [] k l name e i = absurd cc
-in_lanes w node base (x ∷ ls) zero l name e i =
-    in_first (sides_at w node base x) (sides_among w node (base + 1) ls) name
-    (subst (λ y. IsIn (sides_at w node base y) name) (sym (same_Some x l e)) (subst (λ m. IsIn (sides_at w node m l) name) (omega arith) i))
-in_lanes w node base (x ∷ ls) (suc k) l name e i =
-    in_second (sides_at w node base x) (sides_among w node (base + 1) ls) name
-    (in_lanes w node (base + 1) ls k l name e (subst (λ m. IsIn (sides_at w node m l) name) (omega arith) i))
-
-in_nodes : (w : Who) (base : ℕ) (wires : List (List PlainLane)) (node k : ℕ) (l : PlainLane) (name : SideName) → placed_at wires node k ≡ Some l → IsIn (sides_at w (base + node) k l) name → IsIn (sides_from w base wires) name
-in_nodes w base [] node k l name e i = absurd cc
-in_nodes w base (ls ∷ wires) zero k l name e i =
-    in_first (sides_among w base 0 ls) (sides_from w (base + 1) wires) name
-    (in_lanes w base 0 ls k l name e (subst (λ m. IsIn (sides_at w m (0 + k) l) name) (omega arith) (subst (λ m. IsIn (sides_at w (base + 0) m l) name) (omega arith) i)))
-in_nodes w base (ls ∷ wires) (suc node) k l name e i =
-    in_second (sides_among w base 0 ls) (sides_from w (base + 1) wires) name
-    (in_nodes w (base + 1) wires node k l name e (subst (λ m. IsIn (sides_at w m k l) name) (omega arith) i))
-
--- the end that has a name
-record IsNamed (sides : List PlainSide) (name : SideName) : Type 0 where
-  place : ℕ
-  side : PlainSide
-  at : slice_get sides place ≡ Some side
-  named : name_of side ≡ name
-
-named_side : (sides : List PlainSide) (name : SideName) → IsIn (map name_of sides) name → IsNamed sides name
-named_side sides name i = by (slice_get sides i.place) refl (sym (slice_get-map name_of sides i.place) ∙ i.at) where
-  by : (o : Option PlainSide) → slice_get sides i.place ≡ o → option_map name_of o ≡ Some name → IsNamed sides name
-  by (Some x) at e = record { place = i.place; side = x; at = at; named = same_Some (name_of x) name e }
-  by None at e = absurd cc
+in_lane w node place l wired.putting at = from_end w node place l at
+in_lane w node place l wired.getting at = to_end w node place l at
 
 -- what csp_topology says of where lanes are
 abbrev pub AllHome : PlainScene → Type 0

@@ -1,12 +1,10 @@
 -- Who the parties of a scene are.
-use Rattle.std.proofs.Common.{◌≡◌, ◌+◌, ◌<◌, ◌≤◌, ℕ, zero, suc, Bool, true, false, cond, List, [], ◌∷◌, ◌++◌, Option, None, Some, length, map, refl, sym, ap, ◌∙◌, subst, arith}
+use Rattle.std.proofs.Common.{◌≡◌, ◌+◌, ◌<◌, ◌≤◌, ℕ, List, [], ◌∷◌, Option, None, Some, length, map, refl, sym, ◌∙◌, arith}
 use Rattle.std.specs.Prelude.{⊤, IfSome, slice_get}
-use Rattle.std.specs.List.{AllByRecursion, count_by, filter}
+use Rattle.std.specs.List.{AllByRecursion}
 use Rattle.std.specs.Option.{option_map}
-use Rattle.std.proofs.lemmas.List.{map-append}
 use Rattle.std.proofs.lemmas.List.Sums.{count_by-le-length, length-filter}
 use Rattle.std.proofs.lemmas.Option.{same_Some, slice_get-map}
-use Rattle.csp_log.specs.declared.places.TheConstants.{UNMARKED}
 use Rattle.csp_opening.proofs.Passing.{IsMarkable, NamedApart}
 use Rattle.csp_record.specs.Who.{node_of}
 use Rattle.csp_record.specs.declared.who.Who.{Who}

@@ -1,14 +1,13 @@
 -- The wires of nodes, row by row.
-use Rattle.std.proofs.Common.{◌≡◌, ◌+◌, ◌<◌, ◌≤◌, ℕ, zero, suc, List, [], ◌∷◌, Option, None, Some, length, map, refl, sym, ap, ◌∙◌, subst, arith}
+use Rattle.std.proofs.Common.{◌≡◌, ℕ, suc, List, [], ◌∷◌, Option, Some, length, map, refl, sym, arith}
 use Rattle.std.specs.Prelude.{IsSomeAnd, slice_get}
-use Rattle.std.specs.List.{AllByRecursion, AllZip, sum_by}
+use Rattle.std.specs.List.{AllZip}
 use Rattle.std.specs.Option.{option_and_then}
-use Rattle.std.proofs.lemmas.Option.{same_Some}
 use Rattle.csp_lists.specs.PlainDeck.{lane_room}
 use Rattle.csp_scene.specs.Scene.{PlainScene}
 use Rattle.csp_topology.specs.Lanes.{PlainLane}
-use Rattle.csp_topology.specs.Wires.{wire_at, wires_of}
-use Rattle.csp_topology.specs.Wiring.{AreWires, IsWireOf, wired_at}
+use Rattle.csp_topology.specs.Wires.{wires_of}
+use Rattle.csp_topology.specs.Wiring.{AreWires, IsWireOf}
 use Rattle.csp_topology.specs.declared.wire.Wire.{Wire}
 
 -- two lists that answer each other place by place

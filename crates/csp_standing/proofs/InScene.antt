@@ -1,26 +1,24 @@
 -- The posts stand in their scene.
-use Rattle.std.proofs.Common.{◌≡◌, ℕ, zero, suc, List, [], ◌∷◌, Option, None, Some, length, refl, sym, ap, ◌∙◌, subst}
+use Rattle.std.proofs.Common.{◌≡◌, ℕ, zero, suc, List, [], ◌∷◌, Option, None, Some, sym, ap, ◌∙◌, subst}
 use Rattle.std.specs.List.{AllByRecursion}
 use Rattle.std.specs.Prelude.{IfSome, IsSomeAnd, slice_get}
 use Rattle.std.specs.Option.{option_map}
 use Rattle.std.proofs.lemmas.Option.{same_Some}
 use Rattle.csp_ends.specs.Ends.{IsHomeOf, PlainHome, PlainNodeQueues}
 use Rattle.csp_inbox.specs.Passes as inbox
-use Rattle.csp_log.specs.declared.places.TheConstants.{UNMARKED}
 use Rattle.csp_pool.specs.PlainPool as pool
 use Rattle.csp_posts.specs.Posts.{PlainPost}
 use Rattle.csp_prompt.specs.Shown.{AreOfScene, HasPassAt, IsReadAt}
 use Rattle.csp_record.specs.Who.{node_of}
-use Rattle.csp_record.specs.declared.who.Who.{Who}
 use Rattle.csp_record.specs.declared.who.Who.TheVariants as who
 use Rattle.csp_scene.specs.Scene.{PlainNode, PlainScene}
-use Rattle.csp_standing.proofs.Leaders.{HasHub, Hubs, home_in, hub_at, pass_marked}
-use Rattle.csp_standing.proofs.Places.{HasPost, IsAt, all_from, home_named, post_at}
+use Rattle.csp_standing.proofs.Leaders.{Hubs, home_in, hub_at, pass_marked}
+use Rattle.csp_standing.proofs.Places.{all_from, home_named, post_at}
 use Rattle.csp_standing.proofs.Sides.{JoinsAll, all_wired}
 use Rattle.csp_standing.proofs.Tracing.{queues_at}
-use Rattle.csp_standing.specs.Network.{AreNodesOf, AreQueuesOf, IsNetworkOf, IsPostOf, PlainNetwork, mark_for}
+use Rattle.csp_standing.specs.Network.{AreNodesOf, IsNetworkOf, PlainNetwork, mark_for}
 use Rattle.csp_topology.specs.Lanes.{PlainLane, hub_of, lanes_of}
-use Rattle.csp_topology.specs.Parties.{PlainOpening, parties_of}
+use Rattle.csp_topology.specs.Parties.{parties_of}
 use Rattle.csp_topology.specs.Wired.{IsWire}
 use Rattle.csp_topology.specs.Wires.{wires_of}
 

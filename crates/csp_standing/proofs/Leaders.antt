@@ -1,5 +1,5 @@
 -- Who leads a node.
-use Rattle.std.proofs.Common.{◌≡◌, ◌≤◌, ℕ, Bool, true, false, true≢false, List, Option, None, Some, refl, sym, ap, ◌∙◌, subst}
+use Rattle.std.proofs.Common.{◌≡◌, ◌≤◌, ℕ, true, true≢false, List, Option, None, Some, refl, sym, ap, ◌∙◌, subst}
 use Rattle.std.specs.Prelude.{IfSome, slice_get}
 use Rattle.std.specs.Option.{option_map}
 use Rattle.std.proofs.lemmas.Option.{same_Some}
@@ -7,14 +7,13 @@ use Rattle.csp_ends.specs.Ends.{PlainHome}
 use Rattle.csp_inbox.specs.Passes.{PlainPass}
 use Rattle.csp_log.specs.declared.places.TheConstants.{UNMARKED}
 use Rattle.csp_meeting.specs.Meeting as meeting
-use Rattle.csp_posts.specs.Books.{IsLed as IsLedThere}
 use Rattle.csp_posts.specs.Posts.{PlainPost}
 use Rattle.csp_record.specs.Who.{node_of}
 use Rattle.csp_record.specs.declared.who.Who.{Who}
 use Rattle.csp_record.specs.declared.who.Who.TheVariants as who
 use Rattle.csp_scene.specs.Scene.{PlainScene, PlainNode}
-use Rattle.csp_standing.proofs.Places.{HasPost, IsAt, home_named, post_at, post_of}
-use Rattle.csp_standing.specs.Network.{IsHomeAmong, IsHomeIn, IsNetworkOf, IsPostOf, PlainNetwork, leads, mark_for}
+use Rattle.csp_standing.proofs.Places.{home_named, post_at, post_of}
+use Rattle.csp_standing.specs.Network.{IsHomeIn, IsNetworkOf, IsPostOf, PlainNetwork, leads, mark_for}
 use Rattle.csp_standing.specs.Standing.{HaveLeaders}
 use Rattle.csp_topology.specs.Lanes.{hub_of}
 use Rattle.csp_topology.specs.Parties.{PlainOpening, parties_of}

@@ -1,10 +1,9 @@
 -- A network of a scene is one after a meeting.
-use Rattle.std.proofs.Common.{◌≡◌, ℕ, ◌+◌, ◌<◌, ◌^◌, Bool, true, false, Option, None, Some, List, [], ◌∷◌, map, sum_by, refl, sym, ap, ◌∙◌, subst, arith}
+use Rattle.std.proofs.Common.{◌≡◌, ℕ, ◌+◌, ◌<◌, ◌^◌, Option, None, Some, List, [], ◌∷◌, map, sum_by, refl, sym, ap, subst, arith}
 use Rattle.std.specs.Prelude.{if◌then◌else◌}
 use Rattle.std.specs.List.{AllByRecursion, AllZip}
 use Rattle.std.specs.Option.{option_map}
 use Rattle.std.proofs.lemmas.List.Sums.{sum_by-cons}
-use Rattle.csp_base.specs.declared.priority.Prio.{Prio}
 use Rattle.csp_base.specs.declared.priority.Prio.TheVariants.{Critical, High, Normal, Low}
 use Rattle.csp_consistent.specs.Reading.{gets}
 use Rattle.csp_deck.specs.Carried.{IsCarried}
@@ -13,20 +12,17 @@ use Rattle.csp_deck.specs.Step.{times}
 use Rattle.csp_ends.specs.Ends.{PlainNodeQueues, PlainSide, PlainHome, PlainEnds}
 use Rattle.csp_ends.specs.Traced.{AreMarked, AreTraced}
 use Rattle.csp_inbox.specs.Passes as inbox
-use Rattle.csp_inbox.specs.declared.hand.Mail.{Mail}
 use Rattle.csp_lane.specs.Ends.{PlainEnd, end_with}
 use Rattle.csp_lists.specs.PlainDeck.{numbers_of}
 use Rattle.csp_log.specs.declared.entry.Entry.{Entry}
 use Rattle.csp_log.specs.declared.places.QueueId.TheVariants as queue
 use Rattle.csp_log.specs.declared.places.Rule.TheVariants as rule
-use Rattle.csp_log.specs.declared.shown.ItemShown.{ItemShown}
 use Rattle.csp_meeting.proofs.Keeping as keeping
-use Rattle.csp_meeting.specs.Meeting.{KnowsMoreAt, KnowsMoreInbox, KnowsMoreHome, KnowsMoreHomes, KnowsMore}
+use Rattle.csp_meeting.specs.Meeting.{KnowsMoreAt, KnowsMoreInbox, KnowsMoreHomes, KnowsMore}
 use Rattle.csp_party.specs.Any.{PlainParty, holds}
 use Rattle.csp_pool.specs.Tallies.{blank}
-use Rattle.csp_posts.specs.Balance.{IsBalanced, times_put, times_got, times_kept, times_taken_out, times_into, times_from, times_out, times_in}
+use Rattle.csp_posts.specs.Balance.{IsBalanced, times_put, times_got, times_kept, times_taken_out, times_into, times_from}
 use Rattle.csp_posts.specs.Meetings.{HasMet}
-use Rattle.csp_posts.specs.Posts.{PlainPost}
 use Rattle.csp_posts.specs.Seen.{SeenPost}
 use Rattle.csp_posts.specs.Still.{still_side, still_inbox, still_home, still, IsPostFrom}
 use Rattle.csp_posts.specs.Through.{IsThrough, WasCrammed}

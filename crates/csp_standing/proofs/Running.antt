@@ -1,5 +1,5 @@
 -- Each post is that of its party.
-use Rattle.std.proofs.Common.{◌≡◌, ℕ, List, [], ◌∷◌}
+use Rattle.std.proofs.Common.{List, [], ◌∷◌}
 use Rattle.csp_posts.specs.Posts.{PlainPost}
 use Rattle.csp_prompt.specs.Played.{HaveRunFrom}
 use Rattle.csp_scene.specs.Scene.{PlainScene}

@@ -1,5 +1,5 @@
 -- The ends that parties have are those of the lanes of their scene.
-use Rattle.std.proofs.Common.{◌≡◌, ◌≢◌, ◌+◌, ◌&&◌, ℕ, zero, suc, Bool, true, false, List, [], ◌∷◌, ◌++◌, Option, None, Some, length, map, refl, sym, ap, ◌∙◌, subst, arith}
+use Rattle.std.proofs.Common.{◌≡◌, ◌+◌, ◌&&◌, ℕ, zero, suc, Bool, true, false, List, [], ◌∷◌, ◌++◌, Option, None, Some, map, refl, sym, ap, ◌∙◌, subst, arith}
 use Rattle.std.specs.Prelude.{IsSomeAnd, slice_get, if◌then◌else◌}
 use Rattle.std.specs.List.{AllByRecursion}
 use Rattle.std.specs.Option.{option_and_then, option_map}
@@ -9,15 +9,14 @@ use Rattle.csp_consistent.specs.Reading.{is_who}
 use Rattle.csp_ends.specs.Ends.{PlainNodeQueues, PlainSide, IsSideOf}
 use Rattle.csp_lane.specs.Ends.{IsEndOf, PlainEnd, PlainLane as Queue}
 use Rattle.csp_lists.specs.PlainDeck.{lane_room}
-use Rattle.csp_posts.specs.Between.{AreJoined}
 use Rattle.csp_posts.specs.Posts.{PlainPost}
 use Rattle.csp_prompt.specs.Shown.{IsWiredAt}
 use Rattle.csp_record.specs.declared.who.Who.{Who}
 use Rattle.csp_record.specs.declared.who.Who.TheVariants as who
 use Rattle.csp_scene.specs.Scene.{PlainNode, PlainScene}
-use Rattle.csp_standing.proofs.Places.{all_at, all_from, post_of}
-use Rattle.csp_standing.specs.Network.{AreNodesOf, IsNetworkOf, PlainNetwork, SideName, name_of, sides_among, sides_at, sides_from, sides_of}
-use Rattle.csp_topology.specs.Lanes.{PlainLane, lanes_of}
+use Rattle.csp_standing.proofs.Places.{all_at, post_of}
+use Rattle.csp_standing.specs.Network.{AreNodesOf, IsNetworkOf, PlainNetwork, SideName, name_of, sides_among, sides_at, sides_from}
+use Rattle.csp_topology.specs.Lanes.{PlainLane}
 use Rattle.csp_topology.specs.Parties.{parties_of}
 use Rattle.csp_topology.specs.Wired.{IsWire, Joins}
 use Rattle.csp_topology.specs.Wires.{wire_at, wires_of}
@@ -38,11 +37,11 @@ in_second : {X : Type 0} (xs ys : List X) (y : X) → IsIn ys y → IsIn (xs ++ 
 in_second [] ys y i = i
 in_second (x ∷ xs) ys y i = let r = in_second xs ys y i in record { place = suc r.place; at = r.at }
 
-both_same : (a b : Bool) → a ≡ true → b ≡ true → (a && b) ≡ true
+pub both_same : (a b : Bool) → a ≡ true → b ≡ true → (a && b) ≡ true
 both_same true b e f = f
 both_same false b e f = e
 
-same_who : (w : Who) → is_who w w ≡ true
+pub same_who : (w : Who) → is_who w w ≡ true
 same_who (who.Router node) = eq-eqb node node refl
 same_who (who.Bridge node) = eq-eqb node node refl
 same_who (who.Iface node number) = both_same _ _ (eq-eqb node node refl) (eq-eqb number number refl)
@@ -57,13 +56,13 @@ abbrev pub getting_end : ℕ → ℕ → PlainLane → SideName
 getting_end node place l = record { queue = l.to.queue; node = node; lane = place; puts = false; carries = l.carries }
 
 -- a party that uses an end of a lane has it
-from_end : (w : Who) (node place : ℕ) (l : PlainLane) → l.from.who ≡ w → IsIn (sides_at w node place l) (putting_end node place l)
+pub from_end : (w : Who) (node place : ℕ) (l : PlainLane) → l.from.who ≡ w → IsIn (sides_at w node place l) (putting_end node place l)
 from_end w node place l at =
     let its : is_who w l.from.who ≡ true = ap (is_who w) at ∙ same_who w in
     in_first (if is_who w l.from.who then putting_end node place l ∷ [] else []) (if is_who w l.to.who then getting_end node place l ∷ [] else []) (putting_end node place l)
     (record { place = 0; at = ap (λ b. slice_get (if b then putting_end node place l ∷ [] else []) 0) its })
 
-to_end : (w : Who) (node place : ℕ) (l : PlainLane) → l.to.who ≡ w → IsIn (sides_at w node place l) (getting_end node place l)
+pub to_end : (w : Who) (node place : ℕ) (l : PlainLane) → l.to.who ≡ w → IsIn (sides_at w node place l) (getting_end node place l)
 to_end w node place l at =
     let its : is_who w l.to.who ≡ true = ap (is_who w) at ∙ same_who w in
     in_second (if is_who w l.from.who then putting_end node place l ∷ [] else []) (if is_who w l.to.who then getting_end node place l ∷ [] else []) (getting_end node place l)
@@ -80,7 +79,7 @@ in_lanes w node base (x ∷ ls) (suc k) l name e i =
     (in_lanes w node (base + 1) ls k l name e (subst (λ m. IsIn (sides_at w node m l) name) (omega arith) i))
 
 -- and among those of all nodes
-in_nodes : (w : Who) (base : ℕ) (wires : List (List PlainLane)) (node k : ℕ) (l : PlainLane) (name : SideName) → option_and_then (λ ls. slice_get ls k) (slice_get wires node) ≡ Some l → IsIn (sides_at w (base + node) k l) name
+pub in_nodes : (w : Who) (base : ℕ) (wires : List (List PlainLane)) (node k : ℕ) (l : PlainLane) (name : SideName) → option_and_then (λ ls. slice_get ls k) (slice_get wires node) ≡ Some l → IsIn (sides_at w (base + node) k l) name
     → IsIn (sides_from w base wires) name
 in_nodes w base [] node k l name e i = absurd cc
 in_nodes w base (ls ∷ wires) zero k l name e i =
@@ -97,7 +96,7 @@ pub record IsNamed (sides : List PlainSide) (name : SideName) : Type 0 where
   pub at : slice_get sides place ≡ Some side
   pub named : name_of side ≡ name
 
-named_side : (sides : List PlainSide) (name : SideName) → IsIn (map name_of sides) name → IsNamed sides name
+pub named_side : (sides : List PlainSide) (name : SideName) → IsIn (map name_of sides) name → IsNamed sides name
 named_side sides name i = by (slice_get sides i.place) refl (sym (slice_get-map name_of sides i.place) ∙ i.at) where
   by : (o : Option PlainSide) → slice_get sides i.place ≡ o → option_map name_of o ≡ Some name → IsNamed sides name
   by (Some x) at e = record { place = i.place; side = x; at = at; named = same_Some (name_of x) name e }

@@ -1,7 +1,7 @@
 -- What the posts have in hand tells what their logs say, from what their leaders put into the pools at the opening.
-use Rattle.std.proofs.Common.{◌≡◌, ◌≢◌, ◌+◌, ◌==◌, ℕ, zero, suc, Bool, true, false, true≢false, List, [], ◌∷◌, Option, None, Some, length, refl, sym, ap, ◌∙◌, subst, arith}
-use Rattle.std.specs.Prelude.{IfSome, if◌then◌else◌, slice_get}
-use Rattle.std.specs.List.{AllByRecursion, range_with_len, sum_by}
+use Rattle.std.proofs.Common.{◌≡◌, ◌≢◌, ◌+◌, ◌==◌, ℕ, zero, suc, Bool, true, false, List, [], ◌∷◌, Option, None, Some, length, refl, sym, ap, ◌∙◌, subst, arith}
+use Rattle.std.specs.Prelude.{if◌then◌else◌, slice_get}
+use Rattle.std.specs.List.{range_with_len, sum_by}
 use Rattle.std.proofs.lemmas.Bool.{eq-eqb, eqb-true}
 use Rattle.std.proofs.lemmas.List.FromFn.{length-range_with_len}
 use Rattle.std.proofs.lemmas.List.Sums.{sum_by-cons}
@@ -16,11 +16,11 @@ use Rattle.csp_record.specs.declared.who.Who.{Who}
 use Rattle.csp_scene.specs.Links.{no_node, node_at}
 use Rattle.csp_scene.specs.Scene.{PlainNode, PlainScene}
 use Rattle.csp_standing.proofs.Leaders.{Apart, HasHub, Hubs, Led, hub_at, hub_leads, hub_node, hub_place_of, leads_hub, node_in}
-use Rattle.csp_standing.proofs.Places.{IsAt, all_from, post_at}
-use Rattle.csp_standing.specs.Network.{AreNodesOf, AreQueuesOf, IsNetworkOf, PlainNetwork, leads, opened_at, opened_by, opened_in}
+use Rattle.csp_standing.proofs.Places.{all_from, post_at}
+use Rattle.csp_standing.specs.Network.{AreNodesOf, IsNetworkOf, PlainNetwork, leads, opened_at, opened_in}
 use Rattle.csp_topology.specs.Lanes.{PlainLane, hub_of}
 use Rattle.csp_topology.specs.Parties.{parties_of}
-use Rattle.csp_topology.specs.Wired.{IsLed, Stands, is_hub}
+use Rattle.csp_topology.specs.Wired.{Stands}
 use Rattle.csp_topology.specs.Wires.{wires_of}
 
 -- nothing adds up to nothing

@@ -6,6 +6,7 @@ use Rattle.std.proofs.lemmas.Option.{same_Some}
 use Rattle.csp_base.specs.Priority.{prio_number}
 use Rattle.csp_base.specs.declared.priority.Prio.TheVariants.{Critical, High, Normal, Low}
 use Rattle.csp_base.specs.declared.priority.Prio.{Prio}
+use Rattle.csp_consistent.proofs.QueueNames.{queue_apart, queue_is, queue_same}
 use Rattle.csp_consistent.specs.Reading.{is_queue, left_here, left_in}
 use Rattle.csp_flow.specs.Closed.{all_notes, inbox_notes, lane_notes}
 use Rattle.csp_flow.specs.Remains.{PlainRemains}
@@ -15,7 +16,6 @@ use Rattle.csp_log.specs.declared.shown.ItemShown.{ItemShown}
 use Rattle.csp_record.specs.Record.{PlainRecord}
 use Rattle.csp_telling.proofs.NodeNotes.{of_node}
 use Rattle.csp_telling.proofs.PlacesApart.{AreNamedApart}
-use Rattle.csp_telling.proofs.QueueNames.{no_inbox_there, queue_is, queue_same}
 use Rattle.csp_topology.specs.Lanes.{PlainLane}
 
 module _ (node : ℕ) (q : QueueId) (prio : ℕ) where
@@ -65,7 +65,7 @@ module _ (r : PlainRecord) (wires : List (List PlainLane)) (all : List PlainRema
   pub lane_left : (k : ℕ) (l : PlainLane) (left : List ItemShown) → slice_get ls k ≡ Some l → slice_get m.lanes k ≡ Some left → left_in r node l.queue 0 ≡ left
   lane_left k l left at_lane at_left =
       here l.queue 0
-      ∙ ap (λ is. flat_map (left_here node l.queue 0) (lane_notes node ls m.lanes) ++ is) (no_inbox node l.queue 0 m.inbox (no_inbox_there l.queue (names.lanes k l at_lane)))
+      ∙ ap (λ is. flat_map (left_here node l.queue 0) (lane_notes node ls m.lanes) ++ is) (no_inbox node l.queue 0 m.inbox (queue_apart queue.Inbox l.queue (names.lanes k l at_lane)))
       ∙ append-nil (flat_map (left_here node l.queue 0) (lane_notes node ls m.lanes))
       ∙ lane_found node l.queue ls m.lanes k l left at_lane at_left (queue_same l.queue) (λ b z e t. names.apart b k z l e at_lane (sym (queue_is l.queue z.queue t)))
 

@@ -10,7 +10,6 @@ mod Nodes
 mod NumbersKept
 mod PlacesApart
 mod PoolsLeft
-mod QueueNames
 mod QueuesNoted
 mod Reached
 mod Together

@@ -1,28 +1,16 @@
-use Rattle.std.proofs.Common.{get_or}
-use Rattle.std.proofs.lemmas.Option.{slice_get-get_or, slice_get_within}
-use Rattle.csp_closing.proofs.Handing.{first_of, homes_stay, rest_stays, taken_sides}
+use Rattle.std.proofs.Common.{set}
+use Rattle.csp_closing.proofs.Handing.{IsTaken, taken_at}
+use Rattle.csp_closing.proofs.lanes.take_consumer.Goals.{After-take_side}
 use Rattle.csp_closing.proofs.lanes.take_consumer.Goals as goal
 
+taken : (c : After-take_side) → IsTaken c.args.parties.now (set c.args.parties.now c.args.place c.take_side.new.party) c.args.place
+taken c = taken_at c.args.parties.now c.args.place c.index-parties-place.result c.take_side.new.party c.take_side.result c.requires.0 c.requires.1 c.take_side.ensures.sides c.take_side.ensures.home c.take_side.ensures.rest
+
 pub returns-clause-sides : goal.returns-clause-sides
-returns-clause-sides c =
-    let all = c.args.parties.now in
-    let found = first_of all c.args.place c.requires.0 c.requires.1 in
-    let r = get_or all c.args.place c.index-parties-place.result in
-    let at = slice_get-get_or all c.args.place c.index-parties-place.result (slice_get_within all c.args.place found.0 found.1) in
-    taken_sides all c.args.place r c.take_side.new.party c.take_side.result at c.take_side.ensures.sides
+returns-clause-sides c = (taken (goal.at.returns-clause-sides c).After-take_side).sides
 
 pub returns-clause-homes : goal.returns-clause-homes
-returns-clause-homes c =
-    let all = c.args.parties.now in
-    let found = first_of all c.args.place c.requires.0 c.requires.1 in
-    let r = get_or all c.args.place c.index-parties-place.result in
-    let at = slice_get-get_or all c.args.place c.index-parties-place.result (slice_get_within all c.args.place found.0 found.1) in
-    homes_stay all c.args.place r c.take_side.new.party at c.take_side.ensures.home
+returns-clause-homes c = (taken (goal.at.returns-clause-homes c).After-take_side).homes
 
 pub returns-clause-rest : goal.returns-clause-rest
-returns-clause-rest c =
-    let all = c.args.parties.now in
-    let found = first_of all c.args.place c.requires.0 c.requires.1 in
-    let r = get_or all c.args.place c.index-parties-place.result in
-    let at = slice_get-get_or all c.args.place c.index-parties-place.result (slice_get_within all c.args.place found.0 found.1) in
-    rest_stays all c.args.place r c.take_side.new.party at c.take_side.ensures.rest
+returns-clause-rest c = (taken (goal.at.returns-clause-rest c).After-take_side).rest

@@ -2,7 +2,7 @@ use Rattle.std.proofs.Common.{◌≡◌, Some, true, false, slice_get, sym, ap, 
 use Rattle.std.proofs.lemmas.Option.{slice_get_within, slice_get-get_or}
 use Rattle.csp_consistent.specs.Reading.{is_queue}
 use Rattle.csp_ends.specs.Ends.{PlainSide}
-use Rattle.csp_ends.proofs.Names.{all_from, first_of, up_to}
+use Rattle.csp_ends.proofs.Lists.{all_from, first_of, up_to}
 use Rattle.csp_ends.proofs.sides.position.Goals as goal
 
 pub returns-then-is_called-clause-found : goal.returns-then-is_called-clause-found

@@ -1,4 +1,4 @@
-use Rattle.std.proofs.Common.{◌≡◌, List, length, map, sym, subst, ap, ◌∙◌}
+use Rattle.std.proofs.Common.{List, length, map, sym, subst, ap, ◌∙◌}
 use Rattle.std.specs.Global.{Vec}
 use Rattle.csp_opening.proofs.Leaving.{all_leave, as_many}
 use Rattle.csp_opening.specs.Seated.{AreParties}

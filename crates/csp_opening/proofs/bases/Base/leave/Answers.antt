@@ -1,4 +1,4 @@
-use Rattle.std.proofs.Common.{◌≡◌, refl, ap}
+use Rattle.std.proofs.Common.{refl, ap}
 use Rattle.csp_opening.proofs.Stores.{all_back}
 use Rattle.csp_pool.specs.declared.hand.Hand.{Hand}
 use Rattle.csp_opening.proofs.bases.Base.leave.Goals as goal

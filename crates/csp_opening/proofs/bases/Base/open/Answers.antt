@@ -1,4 +1,4 @@
-use Rattle.std.proofs.Common.{◌≡◌, ◌<◌, ◌≤◌, List, length, sym, subst, ap, ◌∙◌, arith}
+use Rattle.std.proofs.Common.{List, length, sym, subst, ap, ◌∙◌, arith}
 use Rattle.std.specs.List.{range_with_len}
 use Rattle.csp_buffer.specs.Memory.{AreAllOf, PlainMemory, fresh_all}
 use Rattle.csp_buffer.specs.PlainBuffer.{PlainBuffer}

@@ -1,4 +1,4 @@
-use Rattle.std.proofs.Common.{◌≡◌, ◌+◌, List, length, subst, ap, ◌∙◌, arith}
+use Rattle.std.proofs.Common.{◌≡◌, ◌+◌, List, length, subst, ap, arith}
 use Rattle.csp_opening.proofs.Leaving.{moved}
 use Rattle.csp_opening.specs.Opened.{lead_in, queues_in}
 use Rattle.csp_opening.specs.Whole.{HavePartRoom, rooms_in, store_in}
