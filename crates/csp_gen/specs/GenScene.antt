@@ -1,5 +1,5 @@
 -- The scene that a generated text states.
-use Rattle.std.specs.Prelude.{ℕ, ◌≡◌, List, [], ◌∷◌, Some, None, Ok, codes}
+use Rattle.std.specs.Prelude.{ℕ, ◌≡◌, false, List, [], ◌∷◌, Some, None, Ok, codes}
 use Rattle.std.specs.FinMap as finite
 use Rattle.csp_app.specs.PlainStep.{PlainStep}
 use Rattle.csp_app.specs.PlainStep as step
@@ -41,8 +41,8 @@ nodes station relay payload ops cam = node (codes "ground") 1 65400 station ops 
 -- the two links, of which the first has the faults
 abbrev pub links : List Fault → List PlainLink
 links plan =
-    record { name = codes "radio"; kind = carried.Kiss; mtu = DEFAULT_MTU; ends = record { node = 0; iface = 0 } ∷ record { node = 1; iface = 0 } ∷ []; plan = plan }
-    ∷ record { name = codes "bus"; kind = carried.Can; mtu = DEFAULT_MTU; ends = record { node = 1; iface = 1 } ∷ record { node = 2; iface = 0 } ∷ []; plan = [] } ∷ []
+    record { name = codes "radio"; kind = carried.Kiss; hub = false; mtu = DEFAULT_MTU; ends = record { node = 0; iface = 0 } ∷ record { node = 1; iface = 0 } ∷ []; plan = plan }
+    ∷ record { name = codes "bus"; kind = carried.Can; hub = false; mtu = DEFAULT_MTU; ends = record { node = 1; iface = 1 } ∷ record { node = 2; iface = 0 } ∷ []; plan = [] } ∷ []
 
 -- the two applications, with these steps
 abbrev pub ops : List PlainStep → List PlainApp

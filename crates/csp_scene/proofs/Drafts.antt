@@ -1,14 +1,16 @@
 -- The numbers of a scene in the making stay in their ranges as lines add to it.
-use Rattle.std.proofs.Common.{◌≡◌, ◌≢◌, ℕ, ◌+◌, ◌-◌, ◌≤◌, ◌<◌, List, [], ◌∷◌, ◌++◌, length, set, false, Option, Some, None, IsTrue, IfSome, zero, suc, arith, refl, ap, sym, subst, length-append}
+use Rattle.std.proofs.Common.{◌≡◌, ◌≢◌, ℕ, ◌+◌, ◌-◌, ◌≤◌, ◌<◌, Bool, false, eqb, List, [], ◌∷◌, ◌++◌, length, map, set, slice_get, unwrap_or, Option, Some, None, IsTrue, IfSome, zero, suc, arith, refl, ap, sym, subst, ◌∙◌, length-append}
 use Rattle.std.proofs.Math.ListN.{length-set}
-use Rattle.std.specs.List.{list_any}
+use Rattle.std.specs.List.{All, AllByRecursion, list_any}
 use Rattle.std.specs.FinMap as finite
-use Rattle.std.proofs.lemmas.List.{get_or-set_same}
+use Rattle.std.proofs.lemmas.Bool.{eq-eqb, or_parts, true≢false}
+use Rattle.std.proofs.lemmas.List.{get_or-set_same, length-map}
 use Rattle.std.proofs.lemmas.List.Elements.{All-nil}
 use Rattle.std.proofs.lemmas.List.Sums.{sum_by_push, sum_by-set}
 use Rattle.csp_app.specs.PlainStep.{PlainStep, IsOfPacket}
 use Rattle.csp_app.specs.PlainStep as step
 use Rattle.csp_link.specs.declared.fault.Fault.{Fault}
+use Rattle.csp_log.specs.declared.places.End.{End}
 use Rattle.csp_log.specs.declared.places.LinkKind.{LinkKind}
 use Rattle.csp_rdp_header.specs.declared.options.Options.{Options}
 use Rattle.csp_route.specs.Routes.{Routes, IsWithin}
@@ -17,13 +19,13 @@ use Rattle.csp_scene.specs.declared.limits.TheConstants.{MAX_UNTIL, MAX_NODES, M
 use Rattle.csp_scene.specs.Scene.{PlainApp, PlainNode, PlainLink, PlainSchedule}
 use Rattle.csp_scene.specs.Links.{links_at, node_at, fault_count}
 use Rattle.csp_scene.specs.Sharing.{excludes}
-use Rattle.csp_scene.specs.Ranges.{IsStep, AreOptions, IsApp, IsNode, IsMtu, IsPlanned, IsSchedule}
+use Rattle.csp_scene.specs.Ranges.{AreApart, IsStep, AreOptions, IsApp, IsNode, IsMtu, IsPlanned, IsSchedule}
 use Rattle.csp_scene.specs.Draft.{PlainDraft, no_draft, with_node, with_link}
 use Rattle.csp_scene.specs.Nodes.{with_app, with_app_at, last_app, with_step, with_last_step, with_step_at}
 use Rattle.csp_scene.specs.Transport.{with_rdp, with_rdp_at}
-use Rattle.csp_scene.specs.Joining.{new_link, with_routes}
+use Rattle.csp_scene.specs.Joining.{end_at, has_twice, new_link, with_routes}
 use Rattle.csp_scene.specs.Faults.{with_fault, with_fault_at, link_at, no_link}
-use Rattle.csp_scene.specs.Kept.{IsDraft, IsHost, IsLinkAfter}
+use Rattle.csp_scene.specs.Kept.{MayJoin, IsDraft, IsHost, IsEndAfter, IsLinkAfter}
 use Rattle.csp_scene.proofs.Lists.{AllByRecursion-push, AllByRecursion-set, AllByRecursion-at}
 use Rattle.csp_scene.proofs.Tables.{empty_within, within_more}
 use Rattle.csp_scene.proofs.Unmixed.{unmixed_push}
@@ -280,22 +282,51 @@ IsDraft-rdp d place options is within here =
     (replaced d place next d.host is (omega arith) (IsNode-rdp node options (AllByRecursion-at IsNode d.nodes place _ is.nodes within) here) (is.routes.each place)
     (host_grows d.nodes d.links (set d.nodes place next) d.links d.host (grows_set d place next (omega arith)) is.host))
 
+-- a place that is not among others is that of none of the ends there
+not_among : (links : List PlainLink) (place : ℕ) (places : List ℕ) (j : ℕ) (b : End) → list_any (λ other. eqb other place) places ≡ false → slice_get (map (end_at links) places) j ≡ Some b → b.node ≡ place → ⊥
+not_among links place [] j b none e same = absurd cc
+not_among links place (first ∷ places) zero b none e same =
+    let stands : first ≡ place = ap (λ o. (unwrap_or o (end_at links first)).node) e ∙ same in
+    true≢false (sym (eq-eqb first place stands) ∙ (or_parts (eqb first place) _ none).0)
+not_among links place (first ∷ places) (suc j) b none e same = not_among links place places j b (or_parts (eqb first place) _ none).1 e same
+
+-- the ends at places of which none stands twice are apart
+ends_apart : (links : List PlainLink) (places : List ℕ) → has_twice places ≡ false → AreApart (map (end_at links) places)
+ends_apart links [] once i j a b e f same = absurd cc
+ends_apart links (place ∷ places) once zero zero a b e f same = refl
+ends_apart links (place ∷ places) once zero (suc j) a b e f same =
+    absurd (not_among links place places j b (or_parts (list_any (λ other. eqb other place) places) (has_twice places) once).0 f (sym same ∙ sym (ap (λ o. (unwrap_or o (end_at links place)).node) e)))
+ends_apart links (place ∷ places) once (suc i) zero a b e f same =
+    absurd (not_among links place places i a (or_parts (list_any (λ other. eqb other place) places) (has_twice places) once).0 e (same ∙ sym (ap (λ o. (unwrap_or o (end_at links place)).node) f)))
+ends_apart links (place ∷ places) once (suc i) (suc j) a b e f same =
+    ap suc (ends_apart links places (or_parts (list_any (λ other. eqb other place) places) (has_twice places) once).1 i j a b e f same)
+
+ends_after : (nodes : ℕ) (links : List PlainLink) (places : List ℕ) → All (λ (place : ℕ). place < nodes) places → AllByRecursion (IsEndAfter nodes links) (map (end_at links) places)
+ends_after nodes links [] there = tt
+ends_after nodes links (place ∷ places) there = (
+  record { node = there zero place (omega arith); iface = refl },
+  ends_after nodes links places (λ k d below. there (suc k) d (omega (arith, below))),
+)
+
 -- a link
-pub IsDraft-link : (d : PlainDraft) (word : List ℕ) (kind : LinkKind) (mtu one other : ℕ) → IsDraft d → IsTrue (is_name word) → IsMtu mtu → one < length d.nodes → other < length d.nodes → one ≢ other → length d.links < MAX_LINKS → IsDraft (with_link (new_link d.links word kind mtu one other) d)
-IsDraft-link d word kind mtu one other is named sized there here apart room =
-    let link = new_link d.links word kind mtu one other in
+pub IsDraft-link : (d : PlainDraft) (word : List ℕ) (kind : LinkKind) (hub : Bool) (mtu : ℕ) (places : List ℕ) → IsDraft d → IsTrue (is_name word) → IsMtu mtu → MayJoin (length d.nodes) kind hub mtu places → has_twice places ≡ false → length d.links < MAX_LINKS → IsDraft (with_link (new_link d.links word kind hub mtu places) d)
+IsDraft-link d word kind hub mtu places is named sized may once room =
+    let link = new_link d.links word kind hub mtu places in
     let more : (place : ℕ) → length (links_at place d.links) ≤ length (links_at place (d.links ++ link ∷ [])) = λ (place : ℕ). omega (arith, links_at-push place d.links link) in
     let grows : Grows d.nodes d.links d.nodes (d.links ++ link ∷ []) = record { more_nodes = omega arith; more_apps = λ place. omega arith; more_ifaces = more; more_links = omega (arith, length-append d.links (link ∷ [])) } in
+    let count : length link.ends ≡ length places = length-map places (end_at d.links) in
     let stands : IsLinkAfter (length d.nodes) d.links link = record {
       name = named;
       mtu = sized;
-      first = record { node = one; iface = length (links_at one d.links) };
-      second = record { node = other; iface = length (links_at other d.links) };
-      two = refl;
-      apart = apart;
-      one_end = record { node = there; iface = refl };
-      other_end = record { node = here; iface = refl };
-      plan = All-nil IsPlanned;
+      shape = record {
+        least = omega (arith, count, may.least);
+        most = omega (arith, count, may.most);
+        pair = λ single. count ∙ may.pair single;
+        bus = may.bus;
+        apart = ends_apart d.links places once;
+      };
+      ends = ends_after (length d.nodes) d.links places may.there;
+      plan = All-nil (IsPlanned (length link.ends));
     } in
     record {
       until = is.until;
@@ -310,7 +341,7 @@ IsDraft-link d word kind mtu one other is named sized there here apart room =
     }
 
 -- a fault
-pub IsDraft-fault : (d : PlainDraft) (place : ℕ) (fault : Fault) → IsDraft d → place < length d.links → IsPlanned fault → fault_count d.links < MAX_FAULTS → IsDraft (with_fault_at place fault d)
+pub IsDraft-fault : (d : PlainDraft) (place : ℕ) (fault : Fault) → IsDraft d → place < length d.links → IsPlanned (length (link_at d.links place).ends) fault → fault_count d.links < MAX_FAULTS → IsDraft (with_fault_at place fault d)
 IsDraft-fault d place fault is within planned room =
     let link = link_at d.links place in
     let links = set d.links place (with_fault fault link) in

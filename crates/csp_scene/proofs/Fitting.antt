@@ -1,18 +1,21 @@
 -- What words that fit a form are.
-use Rattle.std.proofs.Common.{◌≡◌, ℕ, ◌+◌, ◌<◌, ◌≤◌, ◌^◌, Bool, true, ◌&&◌, eqb, leb, ltb, List, [], ◌∷◌, length, get_or, IsTrue, zero, suc, inl, inr, Some, sym, ap, ◌∙◌, arith}
+use Rattle.std.proofs.Common.{◌≡◌, ℕ, ◌+◌, ◌-◌, ◌<◌, ◌≤◌, ◌^◌, Bool, true, ◌&&◌, eqb, leb, ltb, List, [], ◌∷◌, length, map, get_or, Bor, IsTrue, zero, suc, inl, inr, Some, sym, ap, subst, ◌∙◌, arith}
 use Rattle.std.specs.List.{list_all}
 use Rattle.std.specs.Option.{option_map_or}
 use Rattle.std.proofs.lemmas.Bool.{and_parts, leb-true, ltb-true, eqb-true}
+use Rattle.std.proofs.lemmas.List.{length-map}
 use Rattle.csp_text.specs.Names.{is_name}
 use Rattle.csp_text.specs.Numbers.{is_decimal, number_of}
+use Rattle.csp_scene.specs.declared.limits.TheConstants.{MAX_HUB_NODES}
 use Rattle.csp_scene.specs.declared.table.Form.{Form}
+use Rattle.csp_scene.specs.declared.table.Form.TheVariants as form
 use Rattle.csp_scene.specs.declared.table.Keyword.{Keyword}
 use Rattle.csp_scene.specs.declared.table.Part.{Part}
 use Rattle.csp_scene.specs.declared.table.Part.TheVariants as part
 use Rattle.csp_scene.specs.declared.checks.Check.{Check}
 use Rattle.csp_scene.specs.declared.checks.Check.TheVariants as check
 use Rattle.csp_scene.specs.Table.{fixed_of, shapes_of}
-use Rattle.csp_scene.specs.Checks.{is_named, is_numbered, passes, all_pass, is_in_range}
+use Rattle.csp_scene.specs.Checks.{is_named, is_numbered, passes, all_pass, has_count, is_in_range}
 use Rattle.csp_scene.specs.Arguments.{word_at, keyword_place}
 use Rattle.csp_scene.specs.Kept.{Fits, IsOneOf, FitsShape, part_at, IsNamePart, IsNumberPart, IsInPart, range_of, is_number_part, is_followed, has_setting}
 
@@ -45,6 +48,7 @@ named_part part.Word word h e = absurd h
 named_part (part.Bytes least most) word h e = absurd h
 named_part part.Moves word h e = absurd h
 named_part part.Text word h e = absurd h
+named_part part.Nodes word h e = absurd h
 
 pub name_fits : (form : Form) (args : List (List ℕ)) (place : ℕ) → Fits form args → IsNamePart (part_at form place) → IsTrue (is_name (word_at args place))
 name_fits form args place fits name =
@@ -80,6 +84,7 @@ numbered_part part.Word word h e = absurd h
 numbered_part (part.Bytes least most) word h e = absurd h
 numbered_part part.Moves word h e = absurd h
 numbered_part part.Text word h e = absurd h
+numbered_part part.Nodes word h e = absurd h
 
 pub number_fits : (form : Form) (args : List (List ℕ)) (place : ℕ) → Fits form args → IsNumberPart (part_at form place) → IsNumberIn (part_at form place) (word_at args place)
 number_fits form args place fits number =
@@ -91,6 +96,20 @@ one_of_all : (test : List Part → Bool) (shapes : List (List Part)) (shape : Li
 one_of_all test [] shape all among = absurd among
 one_of_all test (first ∷ shapes) shape all (inl same) = rw same (and_parts (test first) (list_all test shapes) all).0
 one_of_all test (first ∷ shapes) shape all (inr among) = one_of_all test shapes shape (and_parts (test first) (list_all test shapes) all).1 among
+
+-- a line of a hub has a name and no more nodes than a hub has
+hub_count : (shape : List Part) (count : ℕ) → IsOneOf (shapes_of form.Hub) shape → has_count shape count ≡ true → count ≤ MAX_HUB_NODES + 1
+hub_count shape count (inl same) words =
+    let told : (leb 3 count && leb (count - 3 + 2) MAX_HUB_NODES) ≡ true = subst (λ (one : List Part). has_count one count ≡ true) same words in
+    let more : count - 3 + 2 ≤ MAX_HUB_NODES = leb-true (count - 3 + 2) MAX_HUB_NODES (and_parts (leb 3 count) (leb (count - 3 + 2) MAX_HUB_NODES) told).1 in
+    omega (arith, more)
+hub_count shape count (inr none) words = absurd none
+
+pub hub_words : (shape : List Part) (args : List (Bor (List ℕ))) → FitsShape form.Hub shape (map (λ word. word.now) args) → length args ≤ MAX_HUB_NODES + 1
+hub_words shape args fits =
+    let count : length (map (λ (word : Bor (List ℕ)). word.now) args) ≡ length args = length-map args (λ (word : Bor (List ℕ)). word.now) in
+    let few = hub_count shape (length (map (λ (word : Bor (List ℕ)). word.now) args)) fits.among fits.words in
+    omega (arith, few, count)
 
 -- the number after an optional word is one of its range
 number_after : (low high : ℕ) (one : Part) (word : List ℕ) → is_number_part (low, high) one ≡ true → passes check.Number one word ≡ true → InRange low high word × (high < 2 ^ 32)
@@ -109,6 +128,7 @@ number_after low high part.Word word h e = absurd (cc)
 number_after low high (part.Bytes least most) word h e = absurd (cc)
 number_after low high part.Moves word h e = absurd (cc)
 number_after low high part.Text word h e = absurd (cc)
+number_after low high part.Nodes word h e = absurd (cc)
 
 pub setting_fits : (form : Form) (keyword : Keyword) (shape : List Part) (args : List (List ℕ)) (place : ℕ) → FitsShape form shape args → IsTrue (has_setting form keyword) → keyword_place keyword shape ≡ Some place → InRange (range_of form keyword).0 (range_of form keyword).1 (word_at args (place + 1)) × ((range_of form keyword).1 < 2 ^ 32)
 setting_fits form keyword shape args place fits has found =

@@ -3,13 +3,14 @@ use Rattle.std.proofs.Common.{◌≡◌, ℕ, ◌+◌, ◌≤◌, ◌<◌, Bool,
 use Rattle.std.specs.List.{AllByRecursion, slice_get, list_any}
 use Rattle.std.proofs.lemmas.List.Elements.{filter-append, All-push}
 use Rattle.std.proofs.lemmas.Bool.{eq-eqb}
+use Rattle.std.proofs.Math.Bool.{or-true}
 use Rattle.csp_link.specs.declared.fault.Fault.{Fault}
 use Rattle.csp_log.specs.declared.places.End.{End}
 use Rattle.csp_scene.specs.declared.scenario.Move.{Move}
 use Rattle.csp_scene.specs.declared.scenario.Move.TheVariants as move
 use Rattle.csp_scene.specs.Scene.{PlainNode, PlainLink, PlainSchedule, in_rounds, shuffled, stepwise}
 use Rattle.csp_scene.specs.Links.{touches, links_at, node_at}
-use Rattle.csp_scene.specs.Ranges.{IsPlanned, IsEnd, IsLink, IsMove, IsSchedule}
+use Rattle.csp_scene.specs.Ranges.{HasEnds, IsPlanned, IsEnd, IsLink, IsMove, IsSchedule}
 use Rattle.csp_scene.specs.Faults.{with_fault, link_at}
 use Rattle.csp_scene.specs.Kept.{IsEndAfter, IsLinkAfter, AreLinksAfter}
 use Rattle.csp_scene.proofs.Lists.{AllByRecursion-map, slice_get-seam}
@@ -62,12 +63,8 @@ link_alike : (nodes more : ℕ) (earlier others : List PlainLink) (link : PlainL
 link_alike nodes more earlier others link grown alike is = record {
   name = is.name;
   mtu = is.mtu;
-  first = is.first;
-  second = is.second;
-  two = is.two;
-  apart = is.apart;
-  one_end = end_alike nodes more earlier others is.first grown alike is.one_end;
-  other_end = end_alike nodes more earlier others is.second grown alike is.other_end;
+  shape = is.shape;
+  ends = AllByRecursion-map (IsEndAfter nodes earlier) (IsEndAfter more others) link.ends (λ end. end_alike nodes more earlier others end grown alike) is.ends;
   plan = is.plan;
 }
 
@@ -92,17 +89,13 @@ links_push nodes earlier (first ∷ links) link are is =
     (are.0, links_push nodes (earlier ++ first ∷ []) links link are.1 (subst (λ (before : List PlainLink). IsLinkAfter nodes before link) (sym (append_assoc earlier (first ∷ []) links)) is))
 
 -- one more fault of a link
-fault_link : (nodes : ℕ) (earlier : List PlainLink) (link : PlainLink) (fault : Fault) → IsLinkAfter nodes earlier link → IsPlanned fault → IsLinkAfter nodes earlier (with_fault fault link)
+fault_link : (nodes : ℕ) (earlier : List PlainLink) (link : PlainLink) (fault : Fault) → IsLinkAfter nodes earlier link → IsPlanned (length link.ends) fault → IsLinkAfter nodes earlier (with_fault fault link)
 fault_link nodes earlier link fault is planned = record {
   name = is.name;
   mtu = is.mtu;
-  first = is.first;
-  second = is.second;
-  two = is.two;
-  apart = is.apart;
-  one_end = is.one_end;
-  other_end = is.other_end;
-  plan = All-push IsPlanned link.plan fault is.plan planned;
+  shape = record { least = is.shape.least; most = is.shape.most; pair = is.shape.pair; bus = is.shape.bus; apart = is.shape.apart };
+  ends = is.ends;
+  plan = All-push (IsPlanned (length link.ends)) link.plan fault is.plan planned;
 }
 
 alike_fault : (link : PlainLink) (fault : Fault) → AreAlike (link ∷ []) (with_fault fault link ∷ [])
@@ -112,7 +105,7 @@ alike_fault link fault place = by_test (touches place link)
     by_test true = refl
     by_test false = refl
 
-pub links_fault : (nodes : ℕ) (earlier others links : List PlainLink) (place : ℕ) (fault : Fault) → AreAlike earlier others → AreLinksAfter nodes earlier links → place < length links → IsPlanned fault → AreLinksAfter nodes others (set links place (with_fault fault (link_at links place)))
+pub links_fault : (nodes : ℕ) (earlier others links : List PlainLink) (place : ℕ) (fault : Fault) → AreAlike earlier others → AreLinksAfter nodes earlier links → place < length links → IsPlanned (length (link_at links place).ends) fault → AreLinksAfter nodes others (set links place (with_fault fault (link_at links place)))
 links_fault nodes earlier others [] place fault alike are within planned = tt
 links_fault nodes earlier others (link ∷ links) zero fault alike are within planned = (
   fault_link nodes others link fault (link_alike nodes nodes earlier others link (omega arith) alike are.0) planned,
@@ -122,6 +115,12 @@ links_fault nodes earlier others (link ∷ links) (suc place) fault alike are wi
   link_alike nodes nodes earlier others link (omega arith) alike are.0,
   links_fault nodes (earlier ++ link ∷ []) (others ++ link ∷ []) links place fault (alike_push earlier others link link alike (λ p. refl)) are.1 (omega arith) planned,
 )
+
+-- the ends of a link that stands after earlier ones
+pub link_shape : (nodes : ℕ) (earlier links : List PlainLink) (place : ℕ) → AreLinksAfter nodes earlier links → place < length links → HasEnds (link_at links place)
+link_shape nodes earlier [] place are within = absurd (omega (arith, within))
+link_shape nodes earlier (link ∷ links) zero are within = are.0.shape
+link_shape nodes earlier (link ∷ links) (suc place) are within = link_shape nodes (earlier ++ link ∷ []) links place are.1 (omega (arith, within))
 
 -- a node has as many links after a fault more
 pub alike_set : (links : List PlainLink) (place : ℕ) (fault : Fault) → AreAlike links (set links place (with_fault fault (link_at links place)))
@@ -150,19 +149,17 @@ end_stands nodes earlier rest link end is touched = record {
     split : links_at end.node (earlier ++ link ∷ rest) ≡ links_at end.node earlier ++ link ∷ links_at end.node rest
     split = filter-append (touches end.node) earlier (link ∷ rest) ∙ ap (λ test. links_at end.node earlier ++ cond test (link ∷ links_at end.node rest) (links_at end.node rest)) touched
 
-or_right : (b : Bool) → (b || true) ≡ true
-or_right true = refl
-or_right false = refl
+-- a link touches the node of each of its ends
+end_touches : (before after : List End) (end : End) → list_any (λ (other : End). eqb other.node end.node) (before ++ end ∷ after) ≡ true
+end_touches [] after end = ap (λ b. b || list_any (λ (other : End). eqb other.node end.node) after) (eq-eqb end.node end.node refl)
+end_touches (first ∷ before) after end = ap (λ b. eqb first.node end.node || b) (end_touches before after end) ∙ or-true (eqb first.node end.node)
 
-touches_first : (link : PlainLink) (first second : End) → link.ends ≡ first ∷ second ∷ [] → touches first.node link ≡ true
-touches_first link first second two =
-    ap (λ ends. list_any (λ (end : End). eqb end.node first.node) ends) two ∙ ap (λ b. b || list_any (λ (end : End). eqb end.node first.node) (second ∷ [])) (eq-eqb first.node first.node refl)
-
-touches_second : (link : PlainLink) (first second : End) → link.ends ≡ first ∷ second ∷ [] → touches second.node link ≡ true
-touches_second link first second two =
-    ap (λ ends. list_any (λ (end : End). eqb end.node second.node) ends) two
-    ∙ ap (λ b. eqb first.node second.node || (b || false)) (eq-eqb second.node second.node refl)
-    ∙ or_right (eqb first.node second.node)
+ends_stand : (nodes : List PlainNode) (earlier rest : List PlainLink) (link : PlainLink) (before after : List End) → link.ends ≡ before ++ after → AllByRecursion (IsEndAfter (length nodes) earlier) after → AllByRecursion (IsEnd nodes (earlier ++ link ∷ rest) link) after
+ends_stand nodes earlier rest link before [] e are = tt
+ends_stand nodes earlier rest link before (end ∷ after) e are = (
+  end_stands nodes earlier rest link end are.0 (ap (λ ends. list_any (λ (other : End). eqb other.node end.node) ends) e ∙ end_touches before after end),
+  ends_stand nodes earlier rest link (before ++ end ∷ []) after (e ∙ sym (append_assoc before (end ∷ []) after)) are.1,
+)
 
 pub links_stand : (nodes : List PlainNode) (earlier rest : List PlainLink) (whole : List PlainLink) → whole ≡ earlier ++ rest → AreLinksAfter (length nodes) earlier rest → AllByRecursion (IsLink nodes whole) rest
 links_stand nodes earlier [] whole e are = tt
@@ -171,14 +168,8 @@ links_stand nodes earlier (link ∷ rest) whole e are =
     let here : IsLink nodes (earlier ++ link ∷ rest) link = record {
       name = is.name;
       mtu = is.mtu;
-      ends = record {
-        first = is.first;
-        second = is.second;
-        two = is.two;
-        apart = is.apart;
-        one_end = end_stands nodes earlier rest link is.first is.one_end (touches_first link is.first is.second is.two);
-        other_end = end_stands nodes earlier rest link is.second is.other_end (touches_second link is.first is.second is.two);
-      };
+      shape = is.shape;
+      ends = ends_stand nodes earlier rest link [] link.ends refl is.ends;
       plan = is.plan;
     } in (
       subst (λ (links : List PlainLink). IsLink nodes links link) (sym e) here,

@@ -3,6 +3,7 @@ pub mod Shapes
 pub mod Lists
 pub mod Texts
 pub mod Tables
+pub mod Ends
 pub mod Growing
 pub mod Unmixed
 pub mod Drafts
@@ -10,4 +11,5 @@ pub mod Stated
 pub mod Scenes
 pub mod MoveCounts
 pub mod Moving
+pub mod Places
 pub mod NamesApart

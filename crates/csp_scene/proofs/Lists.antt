@@ -1,5 +1,5 @@
 -- Lists with one more element, or with one of them replaced.
-use Rattle.std.proofs.Common.{◌≡◌, ℕ, ◌≤◌, ◌<◌, Bool, true, false, cond, ltb, List, [], ◌∷◌, ◌++◌, length, get_or, set, Some, None, zero, suc, arith, refl}
+use Rattle.std.proofs.Common.{◌≡◌, ℕ, ◌≤◌, ◌<◌, Bool, true, false, cond, ltb, List, [], ◌∷◌, ◌++◌, length, get_or, set, Some, None, zero, suc, arith, refl, subst}
 use Rattle.std.specs.Option.{unwrap_or}
 use Rattle.std.specs.List.{AllByRecursion, slice_get}
 use Rattle.std.proofs.lemmas.Bool.{ltb-false}
@@ -33,6 +33,11 @@ AllByRecursion-at P (x ∷ xs) (suc i) d all within = AllByRecursion-at P xs i d
 pub AllByRecursion-map : {X : Type 0} (P Q : X → Type 0) (xs : List X) → ((x : X) → P x → Q x) → AllByRecursion P xs → AllByRecursion Q xs
 AllByRecursion-map P Q [] each all = tt
 AllByRecursion-map P Q (x ∷ xs) each all = (each x all.0, AllByRecursion-map P Q xs each all.1)
+
+pub AllByRecursion-get : {X : Type 0} (P : X → Type 0) (xs : List X) (i : ℕ) (x : X) → AllByRecursion P xs → slice_get xs i ≡ Some x → P x
+AllByRecursion-get P [] i x all e = absurd (cc)
+AllByRecursion-get P (y ∷ xs) zero x all e = let same : y ≡ x = cc in subst P same all.0
+AllByRecursion-get P (y ∷ xs) (suc i) x all e = AllByRecursion-get P xs i x all.1 e
 
 pub slice_get-seam : {X : Type 0} (xs : List X) (y : X) (ys : List X) (i : ℕ) → i ≡ length xs → slice_get (xs ++ y ∷ ys) i ≡ Some y
 slice_get-seam [] y ys zero e = refl

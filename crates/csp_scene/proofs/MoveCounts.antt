@@ -1,5 +1,5 @@
 -- A text states no more moves than it has bytes.
-use Rattle.std.proofs.Common.{◌≡◌, ℕ, ◌+◌, ◌-◌, ◌≤◌, Bool, true, false, cond, not, leb, eqb, List, [], ◌∷◌, ◌++◌, length, drop, filter, take, slice_index, Option, Some, None, Result, Ok, Err, arith, refl, ap, subst, length-append, length-drop, length-take}
+use Rattle.std.proofs.Common.{◌≡◌, ℕ, ◌+◌, ◌-◌, ◌≤◌, Bool, true, false, cond, not, leb, eqb, List, [], ◌∷◌, ◌++◌, length, map, drop, filter, take, slice_index, Option, Some, None, Result, Ok, Err, arith, refl, ap, subst, length-append, length-drop, length-take}
 use Rattle.std.specs.Option.{unwrap_or, is_some, is_none}
 use Rattle.std.specs.List.{filter_map, cons_option, slice_split, join_with_byte, list_all}
 use Rattle.std.specs.FinMap as finite
@@ -8,6 +8,7 @@ use Rattle.std.proofs.lemmas.List.Splits.{join_with_byte-slice_split}
 use Rattle.csp_app.specs.PlainStep.{PlainStep}
 use Rattle.csp_app.specs.PlainStep as step
 use Rattle.csp_link.specs.declared.fault.Fault.{Fault}
+use Rattle.csp_link.specs.declared.fault.FaultKind.{FaultKind}
 use Rattle.csp_link.specs.declared.fault.FaultKind.TheVariants as fault
 use Rattle.csp_log.specs.declared.places.LinkKind.{LinkKind}
 use Rattle.csp_log.specs.declared.places.LinkKind.TheVariants as carried
@@ -17,7 +18,7 @@ use Rattle.csp_route.specs.Text.{parsed}
 use Rattle.csp_route.specs.declared.error.RouteError.{RouteError}
 use Rattle.csp_route.specs.declared.table.TheConstants.{MAX_ROWS}
 use Rattle.csp_text.specs.Cut.{lines_of, words_of, without_line_feed}
-use Rattle.csp_scene.specs.declared.limits.TheConstants.{MAX_LINE}
+use Rattle.csp_scene.specs.declared.limits.TheConstants.{MAX_LINE, DEFAULT_MTU}
 use Rattle.csp_scene.specs.declared.refusal.SceneKind.{SceneKind}
 use Rattle.csp_scene.specs.declared.refusal.SceneKind.TheVariants as kind
 use Rattle.csp_scene.specs.declared.scenario.Move.{Move}
@@ -26,14 +27,14 @@ use Rattle.csp_scene.specs.declared.table.Form.TheVariants as form
 use Rattle.csp_scene.specs.declared.table.Part.{Part}
 use Rattle.csp_scene.specs.Scene.{PlainNode, PlainSchedule, PlainScene, in_rounds, shuffled, stepwise, moves_in}
 use Rattle.csp_scene.specs.Links.{node_at}
-use Rattle.csp_scene.specs.Naming.{node_named, router_named, link_named}
+use Rattle.csp_scene.specs.Naming.{node_named, router_named, link_named, is_hub_called}
 use Rattle.csp_scene.specs.Arguments.{word_at, number_at, text_from}
 use Rattle.csp_scene.specs.Steps.{bind_step, connect_step, send_step, burst_step, blob_step, raw_step, recv_step, collect_step, close_step, wait_step}
 use Rattle.csp_scene.specs.Draft.{PlainDraft, no_draft, demand, and_then, with_node, with_link}
 use Rattle.csp_scene.specs.Nodes.{state_until, new_node, new_bridge, may_add_node, state_node, new_app, may_add_app, with_app_at, state_app_at, state_app, last_app, with_step_at, may_add_step, state_step_at, state_step}
 use Rattle.csp_scene.specs.Transport.{given_options, is_tuned, with_rdp_at, state_rdp_at, state_rdp}
-use Rattle.csp_scene.specs.Joining.{kiss_kind, mtu_of, new_link, may_add_link, state_link_between, state_link, kind_of, known_ifaces, with_routes, add_routes, routed, state_route}
-use Rattle.csp_scene.specs.Faults.{planned, may_add_fault, with_fault_at, state_fault_at, state_fault}
+use Rattle.csp_scene.specs.Joining.{kiss_kind, mtu_of, new_link, may_add_link, all_named, state_between, state_link, state_hub, kind_of, known_ifaces, with_routes, add_routes, routed, state_route}
+use Rattle.csp_scene.specs.Faults.{direction_of, planned, link_at, may_add_fault, with_fault_at, state_fault_at, state_fault, end_named, state_fault_from, state_hub_fault_at, state_hub_fault}
 use Rattle.csp_scene.specs.Moves.{move_of}
 use Rattle.csp_scene.specs.Schedule.{state_schedule, add_moves, state_moves}
 use Rattle.csp_scene.specs.State.{state, are_joined, finish, finish_with}
@@ -84,12 +85,11 @@ rdp_has d options (Some place) =
     let next = with_rdp_at place options d in
     demanded (move_count d) (not (is_tuned d place)) kind.Twice (Ok next) (ok_has (move_count d) next (omega arith))
 
-link_has : (d : PlainDraft) (word : List ℕ) (carries : LinkKind) (mtu : ℕ) (one other : Option ℕ) → HasAtMost (move_count d) (state_link_between d word carries mtu one other)
-link_has d word carries mtu None other = err_has (move_count d) kind.Unknown
-link_has d word carries mtu (Some one) None = err_has (move_count d) kind.Unknown
-link_has d word carries mtu (Some one) (Some other) =
-    let next = with_link (new_link d.links word carries mtu one other) d in
-    then_has (move_count d) (may_add_link d word one other) (λ _. Ok next) (λ _. ok_has (move_count d) next (omega arith))
+link_has : (d : PlainDraft) (word : List ℕ) (carries : LinkKind) (hub : Bool) (mtu : ℕ) (places : Option (List ℕ)) → HasAtMost (move_count d) (state_between d word carries hub mtu places)
+link_has d word carries hub mtu None = err_has (move_count d) kind.Unknown
+link_has d word carries hub mtu (Some places) =
+    let next = with_link (new_link d.links word carries hub mtu places) d in
+    then_has (move_count d) (may_add_link d word places) (λ _. Ok next) (λ _. ok_has (move_count d) next (omega arith))
 
 rows_has : (d : PlainDraft) (place : Option ℕ) (more : Routes) → HasAtMost (move_count d) (add_routes d place more)
 rows_has d None more = err_has (move_count d) kind.Unknown
@@ -105,6 +105,14 @@ fault_has : (d : PlainDraft) (fault : Fault) (place : Option ℕ) → HasAtMost 
 fault_has d fault None = err_has (move_count d) kind.Unknown
 fault_has d fault (Some place) =
     then_has (move_count d) (may_add_fault d.links place fault) (λ _. Ok (with_fault_at place fault d)) (λ _. ok_has (move_count d) (with_fault_at place fault d) (omega arith))
+
+from_end_has : (d : PlainDraft) (place : ℕ) (args : List (List ℕ)) (what : FaultKind) (end : Option ℕ) → HasAtMost (move_count d) (state_fault_from d place args what end)
+from_end_has d place args what None = err_has (move_count d) kind.Unknown
+from_end_has d place args what (Some end) = fault_has d (planned end args what) (Some place)
+
+hub_fault_has : (d : PlainDraft) (args : List (List ℕ)) (what : FaultKind) (place : Option ℕ) → HasAtMost (move_count d) (state_hub_fault_at d args what place)
+hub_fault_has d args what None = err_has (move_count d) kind.Unknown
+hub_fault_has d args what (Some place) = from_end_has d place args what (end_named (word_at args 1) d.nodes (link_at d.links place))
 
 schedule_has : (d : PlainDraft) (schedule : PlainSchedule) → length (moves_in schedule) ≤ 0 → HasAtMost (move_count d) (state_schedule d schedule)
 schedule_has d schedule none =
@@ -140,7 +148,16 @@ same_has : (d : PlainDraft) (args : List (List ℕ)) (told : Result PlainDraft S
 same_has d args told h = more_has (move_count d) (move_count d + length args) told (omega arith) h
 
 link_line : (d : PlainDraft) (carries : LinkKind) (mtu : ℕ) (args : List (List ℕ)) → HasAtMost (move_count d + length args) (state_link d carries mtu args)
-link_line d carries mtu args = same_has d args (state_link d carries mtu args) (link_has d (word_at args 0) carries mtu (node_named (word_at args 2) d.nodes) (node_named (word_at args 3) d.nodes))
+link_line d carries mtu args = same_has d args (state_link d carries mtu args) (link_has d (word_at args 0) carries false mtu (all_named (node_named (word_at args 2) d.nodes ∷ node_named (word_at args 3) d.nodes ∷ [])))
+
+hub_line : (d : PlainDraft) (args : List (List ℕ)) → HasAtMost (move_count d + length args) (state_hub d args)
+hub_line d args = same_has d args (state_hub d args) (link_has d (word_at args 0) carried.Can true DEFAULT_MTU (all_named (map (λ word. router_named word d.nodes) (drop 1 args))))
+
+fault_line : (d : PlainDraft) (args : List (List ℕ)) (what : FaultKind) → HasAtMost (move_count d + length args) (state_fault d args what)
+fault_line d args what = same_has d args (state_fault d args what) (fault_has d (planned (direction_of (word_at args 1)) args what) (link_named (word_at args 0) d.links))
+
+hub_fault_line : (d : PlainDraft) (args : List (List ℕ)) (what : FaultKind) → HasAtMost (move_count d + length args) (state_hub_fault d args what)
+hub_fault_line d args what = same_has d args (state_hub_fault d args what) (hub_fault_has d args what (link_named (word_at args 0) d.links))
 
 step_line : (d : PlainDraft) (args : List (List ℕ)) (step : PlainStep) → HasAtMost (move_count d + length args) (state_step d step)
 step_line d args step = same_has d args (state_step d step) (step_has d step d.host)
@@ -155,13 +172,18 @@ state_has form.Bridge shape d args = same_has d args (state_node d (new_bridge s
 state_has form.Rdp shape d args = same_has d args (state_rdp d args) (rdp_has d (given_options args) (router_named (word_at args 0) d.nodes))
 state_has form.KissLink shape d args = link_line d (kiss_kind shape) (mtu_of shape args) args
 state_has form.CanLink shape d args = link_line d carried.Can (mtu_of shape args) args
+state_has form.Hub shape d args = hub_line d args
 state_has form.Route shape d args =
     let place = router_named (word_at args 0) d.nodes in
     same_has d args (state_route d args) (routed_has d place (parsed (known_ifaces d place) (text_from args 1)))
-state_has form.Lose shape d args = same_has d args (state_fault d args fault.Lose) (fault_has d (planned args fault.Lose) (link_named (word_at args 0) d.links))
-state_has form.Repeat shape d args = same_has d args (state_fault d args (fault.Repeat (number_at args 4))) (fault_has d (planned args (fault.Repeat (number_at args 4))) (link_named (word_at args 0) d.links))
-state_has form.Delay shape d args = same_has d args (state_fault d args (fault.Delay (number_at args 4))) (fault_has d (planned args (fault.Delay (number_at args 4))) (link_named (word_at args 0) d.links))
-state_has form.Flip shape d args = same_has d args (state_fault d args (fault.Flip (number_at args 4))) (fault_has d (planned args (fault.Flip (number_at args 4))) (link_named (word_at args 0) d.links))
+state_has form.Lose shape d args = fault_line d args fault.Lose
+state_has form.Repeat shape d args = fault_line d args (fault.Repeat (number_at args 4))
+state_has form.Delay shape d args = fault_line d args (fault.Delay (number_at args 4))
+state_has form.Flip shape d args = fault_line d args (fault.Flip (number_at args 4))
+state_has form.HubLose shape d args = hub_fault_line d args fault.Lose
+state_has form.HubRepeat shape d args = hub_fault_line d args (fault.Repeat (number_at args 4))
+state_has form.HubDelay shape d args = hub_fault_line d args (fault.Delay (number_at args 4))
+state_has form.HubFlip shape d args = hub_fault_line d args (fault.Flip (number_at args 4))
 state_has form.App shape d args = same_has d args (state_app d args) (app_has d (word_at args 1) (router_named (word_at args 0) d.nodes))
 state_has form.Take shape d args = step_line d args step.Take
 state_has form.Give shape d args = step_line d args step.Give
@@ -185,8 +207,8 @@ words_has rows in_app d [] = ok_has (move_count d + 0) d (omega arith)
 words_has rows in_app d (first ∷ args) =
     let most = move_count d + length (first ∷ args) in
     let next : PlainRow → Result PlainDraft SceneKind = λ row. state row.form row.shape d args in
-    by_comment most (is_comment first) (Ok d) (and_then (row_for rows in_app first args) next) (ok_has most d (omega arith))
-    (then_has most (row_for rows in_app first args) next (λ row. more_has (move_count d + length args) most (state row.form row.shape d args) (omega arith) (state_has row.form row.shape d args)))
+    by_comment most (is_comment first) (Ok d) (and_then (row_for rows in_app (is_hub_called (word_at args 0) d.links) first args) next) (ok_has most d (omega arith))
+    (then_has most (row_for rows in_app (is_hub_called (word_at args 0) d.links) first args) next (λ row. more_has (move_count d + length args) most (state row.form row.shape d args) (omega arith) (state_has row.form row.shape d args)))
 
 -- pieces that have a byte are no more than the bytes of all of them with one between each two
 one_piece : (piece : List ℕ) (rest : List (List ℕ)) → length (cond (not (eqb (length piece) 0)) (piece ∷ rest) rest) ≤ length rest + length piece

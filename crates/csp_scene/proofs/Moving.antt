@@ -6,7 +6,7 @@ use Rattle.std.proofs.lemmas.List.{take_more, map-append}
 use Rattle.std.proofs.lemmas.List.Elements.{filter_map-append}
 use Rattle.std.proofs.lemmas.List.Folds.{list_all-append}
 
-words_more : (words : List (Bor (List ℕ))) (i : ℕ) (d : Bor (List ℕ)) → i < length words → map (λ word. word.now) (take (i + 1) words) ≡ map (λ word. word.now) (take i words) ++ (get_or words i d).now ∷ []
+pub words_more : (words : List (Bor (List ℕ))) (i : ℕ) (d : Bor (List ℕ)) → i < length words → map (λ word. word.now) (take (i + 1) words) ≡ map (λ word. word.now) (take i words) ++ (get_or words i d).now ∷ []
 words_more words i d within = ap (λ ws. map (λ (word : Bor (List ℕ)). word.now) ws) (take_more words i d within) ∙ map-append (λ (word : Bor (List ℕ)). word.now) (take i words) (get_or words i d ∷ [])
 
 pub moves_more : {Y : Type 0} (h : List ℕ → Option Y) (words : List (Bor (List ℕ))) (i : ℕ) (d : Bor (List ℕ)) (y : Y) → i < length words → h (get_or words i d).now ≡ Some y → filter_map h (map (λ word. word.now) (take (i + 1) words)) ≡ filter_map h (map (λ word. word.now) (take i words)) ++ y ∷ []

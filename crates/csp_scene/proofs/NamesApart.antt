@@ -9,6 +9,7 @@ use Rattle.std.proofs.lemmas.Slice.Eq.{bytes_eq-Decides}
 use Rattle.csp_app.specs.PlainStep.{PlainStep}
 use Rattle.csp_app.specs.PlainStep as step
 use Rattle.csp_link.specs.declared.fault.Fault.{Fault}
+use Rattle.csp_link.specs.declared.fault.FaultKind.{FaultKind}
 use Rattle.csp_link.specs.declared.fault.FaultKind.TheVariants as fault
 use Rattle.csp_log.specs.declared.places.LinkKind.{LinkKind}
 use Rattle.csp_log.specs.declared.places.LinkKind.TheVariants as carried
@@ -18,7 +19,7 @@ use Rattle.csp_route.specs.Text.{parsed}
 use Rattle.csp_route.specs.declared.error.RouteError.{RouteError}
 use Rattle.csp_route.specs.declared.table.TheConstants.{MAX_ROWS}
 use Rattle.csp_text.specs.Cut.{lines_of, words_of}
-use Rattle.csp_scene.specs.declared.limits.TheConstants.{MAX_LINE, MAX_NODES}
+use Rattle.csp_scene.specs.declared.limits.TheConstants.{MAX_LINE, MAX_NODES, DEFAULT_MTU}
 use Rattle.csp_scene.specs.declared.refusal.SceneKind.{SceneKind}
 use Rattle.csp_scene.specs.declared.refusal.SceneKind.TheVariants as kind
 use Rattle.csp_scene.specs.declared.scenario.Move.{Move}
@@ -27,14 +28,14 @@ use Rattle.csp_scene.specs.declared.table.Form.TheVariants as form
 use Rattle.csp_scene.specs.declared.table.Part.{Part}
 use Rattle.csp_scene.specs.Scene.{PlainNode, PlainSchedule, PlainScene, in_rounds, shuffled, stepwise}
 use Rattle.csp_scene.specs.Links.{node_at}
-use Rattle.csp_scene.specs.Naming.{has_name, is_link_called, is_addr_taken, node_named, router_named, link_named, AreNamedApart}
+use Rattle.csp_scene.specs.Naming.{has_name, is_link_called, is_addr_taken, node_named, router_named, link_named, is_hub_called, AreNamedApart}
 use Rattle.csp_scene.specs.Arguments.{word_at, number_at, text_from}
 use Rattle.csp_scene.specs.Steps.{bind_step, connect_step, send_step, burst_step, blob_step, raw_step, recv_step, collect_step, close_step, wait_step}
 use Rattle.csp_scene.specs.Draft.{PlainDraft, no_draft, demand, and_then, with_node, with_link}
 use Rattle.csp_scene.specs.Nodes.{state_until, new_node, new_bridge, state_node, new_app, with_app, may_add_app, with_app_at, state_app_at, last_app, with_last_step, with_step_at, may_add_step, state_step_at}
 use Rattle.csp_scene.specs.Transport.{given_options, is_tuned, with_rdp, with_rdp_at, state_rdp_at}
-use Rattle.csp_scene.specs.Joining.{kiss_kind, mtu_of, new_link, may_add_link, state_link_between, kind_of, known_ifaces, with_routes, add_routes, routed}
-use Rattle.csp_scene.specs.Faults.{planned, may_add_fault, with_fault_at, state_fault_at}
+use Rattle.csp_scene.specs.Joining.{kiss_kind, mtu_of, new_link, may_add_link, all_named, state_between, kind_of, known_ifaces, with_routes, add_routes, routed}
+use Rattle.csp_scene.specs.Faults.{direction_of, planned, link_at, may_add_fault, with_fault_at, state_fault_at, state_fault, end_named, state_fault_from, state_hub_fault_at, state_hub_fault}
 use Rattle.csp_scene.specs.Moves.{move_of}
 use Rattle.csp_scene.specs.Schedule.{state_schedule, add_moves, state_moves}
 use Rattle.csp_scene.specs.State.{state, are_joined, finish, finish_with}
@@ -148,12 +149,11 @@ module _ (d : PlainDraft) (differ : Differ (names_of d.nodes)) where
       demanded (not (is_tuned d place)) kind.Twice (Ok (with_rdp_at place options d))
       (ok_leaves (with_rdp_at place options d) (changed place (with_rdp options (node_at d.nodes place)) refl))
 
-  link_leaves : (word : List ℕ) (carries : LinkKind) (mtu : ℕ) (one other : Option ℕ) → LeavesApart (state_link_between d word carries mtu one other)
-  link_leaves word carries mtu None other = err_leaves kind.Unknown
-  link_leaves word carries mtu (Some one) None = err_leaves kind.Unknown
-  link_leaves word carries mtu (Some one) (Some other) =
-      let next = with_link (new_link d.links word carries mtu one other) d in
-      then_leaves (may_add_link d word one other) (λ _. Ok next) (λ _. ok_leaves next differ)
+  link_leaves : (word : List ℕ) (carries : LinkKind) (hub : Bool) (mtu : ℕ) (places : Option (List ℕ)) → LeavesApart (state_between d word carries hub mtu places)
+  link_leaves word carries hub mtu None = err_leaves kind.Unknown
+  link_leaves word carries hub mtu (Some places) =
+      let next = with_link (new_link d.links word carries hub mtu places) d in
+      then_leaves (may_add_link d word places) (λ _. Ok next) (λ _. ok_leaves next differ)
 
   rows_leave : (place : Option ℕ) (more : Routes) → LeavesApart (add_routes d place more)
   rows_leave None more = err_leaves kind.Unknown
@@ -170,6 +170,20 @@ module _ (d : PlainDraft) (differ : Differ (names_of d.nodes)) where
   fault_leaves planned None = err_leaves kind.Unknown
   fault_leaves planned (Some place) =
       then_leaves (may_add_fault d.links place planned) (λ _. Ok (with_fault_at place planned d)) (λ _. ok_leaves (with_fault_at place planned d) differ)
+
+  fault_line_leaves : (args : List (List ℕ)) (what : FaultKind) → LeavesApart (state_fault d args what)
+  fault_line_leaves args what = fault_leaves (planned (direction_of (word_at args 1)) args what) (link_named (word_at args 0) d.links)
+
+  from_end_leaves : (place : ℕ) (args : List (List ℕ)) (what : FaultKind) (end : Option ℕ) → LeavesApart (state_fault_from d place args what end)
+  from_end_leaves place args what None = err_leaves kind.Unknown
+  from_end_leaves place args what (Some end) = fault_leaves (planned end args what) (Some place)
+
+  hub_fault_at_leaves : (args : List (List ℕ)) (what : FaultKind) (place : Option ℕ) → LeavesApart (state_hub_fault_at d args what place)
+  hub_fault_at_leaves args what None = err_leaves kind.Unknown
+  hub_fault_at_leaves args what (Some place) = from_end_leaves place args what (end_named (word_at args 1) d.nodes (link_at d.links place))
+
+  hub_fault_leaves : (args : List (List ℕ)) (what : FaultKind) → LeavesApart (state_hub_fault d args what)
+  hub_fault_leaves args what = hub_fault_at_leaves args what (link_named (word_at args 0) d.links)
 
   schedule_leaves : (schedule : PlainSchedule) → LeavesApart (state_schedule d schedule)
   schedule_leaves schedule =
@@ -200,15 +214,20 @@ module _ (d : PlainDraft) (differ : Differ (names_of d.nodes)) where
   state_leaves form.Node shape args = node_leaves (new_node shape args)
   state_leaves form.Bridge shape args = node_leaves (new_bridge shape args)
   state_leaves form.Rdp shape args = rdp_leaves (given_options args) (router_named (word_at args 0) d.nodes)
-  state_leaves form.KissLink shape args = link_leaves (word_at args 0) (kiss_kind shape) (mtu_of shape args) (node_named (word_at args 2) d.nodes) (node_named (word_at args 3) d.nodes)
-  state_leaves form.CanLink shape args = link_leaves (word_at args 0) carried.Can (mtu_of shape args) (node_named (word_at args 2) d.nodes) (node_named (word_at args 3) d.nodes)
+  state_leaves form.KissLink shape args = link_leaves (word_at args 0) (kiss_kind shape) false (mtu_of shape args) (all_named (node_named (word_at args 2) d.nodes ∷ node_named (word_at args 3) d.nodes ∷ []))
+  state_leaves form.CanLink shape args = link_leaves (word_at args 0) carried.Can false (mtu_of shape args) (all_named (node_named (word_at args 2) d.nodes ∷ node_named (word_at args 3) d.nodes ∷ []))
+  state_leaves form.Hub shape args = link_leaves (word_at args 0) carried.Can true DEFAULT_MTU (all_named (map (λ word. router_named word d.nodes) (drop 1 args)))
   state_leaves form.Route shape args =
       let place = router_named (word_at args 0) d.nodes in
       routed_leave place (parsed (known_ifaces d place) (text_from args 1))
-  state_leaves form.Lose shape args = fault_leaves (planned args fault.Lose) (link_named (word_at args 0) d.links)
-  state_leaves form.Repeat shape args = fault_leaves (planned args (fault.Repeat (number_at args 4))) (link_named (word_at args 0) d.links)
-  state_leaves form.Delay shape args = fault_leaves (planned args (fault.Delay (number_at args 4))) (link_named (word_at args 0) d.links)
-  state_leaves form.Flip shape args = fault_leaves (planned args (fault.Flip (number_at args 4))) (link_named (word_at args 0) d.links)
+  state_leaves form.Lose shape args = fault_line_leaves args fault.Lose
+  state_leaves form.Repeat shape args = fault_line_leaves args (fault.Repeat (number_at args 4))
+  state_leaves form.Delay shape args = fault_line_leaves args (fault.Delay (number_at args 4))
+  state_leaves form.Flip shape args = fault_line_leaves args (fault.Flip (number_at args 4))
+  state_leaves form.HubLose shape args = hub_fault_leaves args fault.Lose
+  state_leaves form.HubRepeat shape args = hub_fault_leaves args (fault.Repeat (number_at args 4))
+  state_leaves form.HubDelay shape args = hub_fault_leaves args (fault.Delay (number_at args 4))
+  state_leaves form.HubFlip shape args = hub_fault_leaves args (fault.Flip (number_at args 4))
   state_leaves form.App shape args = app_leaves (word_at args 1) (router_named (word_at args 0) d.nodes)
   state_leaves form.Take shape args = step_leaves step.Take d.host
   state_leaves form.Give shape args = step_leaves step.Give d.host
@@ -231,8 +250,8 @@ module _ (d : PlainDraft) (differ : Differ (names_of d.nodes)) where
   words_leave rows in_app [] = ok_leaves d differ
   words_leave rows in_app (first ∷ args) =
       let next : PlainRow → Result PlainDraft SceneKind = λ row. state row.form row.shape d args in
-      by_comment (is_comment first) (Ok d) (and_then (row_for rows in_app first args) next) (ok_leaves d differ)
-      (then_leaves (row_for rows in_app first args) next (λ row. state_leaves row.form row.shape args))
+      by_comment (is_comment first) (Ok d) (and_then (row_for rows in_app (is_hub_called (word_at args 0) d.links) first args) next) (ok_leaves d differ)
+      (then_leaves (row_for rows in_app (is_hub_called (word_at args 0) d.links) first args) next (λ row. state_leaves row.form row.shape args))
 
   judge_leaves : (rows : List PlainRow) (in_app : Bool) (line : List ℕ) → LeavesApart (judge rows in_app d line)
   judge_leaves rows in_app line =

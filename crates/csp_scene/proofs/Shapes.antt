@@ -1,7 +1,7 @@
 -- Words against a shape, place by place.
-use Rattle.std.proofs.Common.{◌≡◌, ℕ, ◌+◌, ◌-◌, ◌≤◌, ◌<◌, Bool, true, ◌&&◌, ◌++◌, List, [], ◌∷◌, length, get_or, take, drop, map, inl, inr, arith, refl, ap, sym, subst, ◌∙◌, Bor, append_assoc}
+use Rattle.std.proofs.Common.{◌≡◌, ℕ, ◌+◌, ◌-◌, ◌≤◌, ◌<◌, Bool, true, ◌&&◌, ◌++◌, leb, List, [], ◌∷◌, length, get_or, take, drop, map, inl, inr, arith, refl, ap, sym, subst, ◌∙◌, Bor, append_assoc}
 use Rattle.std.specs.List.{list_all, zip, flat_map}
-use Rattle.std.proofs.lemmas.Bool.{and_parts}
+use Rattle.std.proofs.lemmas.Bool.{and_parts, leb-true}
 use Rattle.std.proofs.lemmas.List.{take_all, at_drop_more, length-append}
 use Rattle.csp_scene.specs.declared.table.Form.{Form}
 use Rattle.csp_scene.specs.declared.table.Part.{Part}
@@ -9,7 +9,7 @@ use Rattle.csp_scene.specs.declared.table.Group.{Group}
 use Rattle.csp_scene.specs.declared.checks.Check.{Check}
 use Rattle.csp_scene.specs.declared.checks.Check.TheVariants as check
 use Rattle.csp_scene.specs.Table.{group_of, with_options, fixed_of}
-use Rattle.csp_scene.specs.Checks.{passes, all_pass, last_part, whole_passes}
+use Rattle.csp_scene.specs.Checks.{passes, all_pass, last_part, takes_more, has_count, whole_passes}
 use Rattle.csp_scene.specs.Rows.{PlainRow, rows_of}
 use Rattle.csp_scene.specs.Kept.{IsOneOf, IsShapeOf, Fits, FitsShape}
 
@@ -57,6 +57,10 @@ front_passes check (part ∷ parts) more (word ∷ words) h =
     let each = and_parts (passes check part word) (all_pass check (parts ++ more) words) h in
     rw each.0 (front_passes check parts more words each.1)
 
+-- a shape that has so many words has no more places
+pub counted : (shape : List Part) (count : ℕ) → has_count shape count ≡ true → length shape ≤ count
+counted shape count h = leb-true (length shape) count (and_parts (leb (length shape) count) (takes_more (last_part shape) (count - length shape)) h).0
+
 -- words that fit a shape of a form fit what stands in each of its lines
 pub Fits-from_shape : (form : Form) (shape : List Part) (args : List (List ℕ)) → IsShapeOf form shape → length shape ≤ length args → whole_passes check.Name shape args ≡ true → whole_passes check.Number shape args ≡ true → Fits form args
 Fits-from_shape form shape args is count names numbers =
@@ -70,10 +74,11 @@ Fits-from_shape form shape args is count names numbers =
       numbers = front_passes check.Number (fixed_of form) more args (subst (λ s. all_pass check.Number s args ≡ true) whole each_number);
     }
 
-pub FitsShape-from_shape : (form : Form) (shape : List Part) (args : List (List ℕ)) → IsShapeOf form shape → length shape ≤ length args → whole_passes check.Number shape args ≡ true → FitsShape form shape args
-FitsShape-from_shape form shape args is count numbers = record {
+pub FitsShape-from_shape : (form : Form) (shape : List Part) (args : List (List ℕ)) → IsShapeOf form shape → has_count shape (length args) ≡ true → whole_passes check.Number shape args ≡ true → FitsShape form shape args
+FitsShape-from_shape form shape args is words numbers = record {
   among = is.among;
-  count = count;
+  words = words;
+  count = counted shape (length args) words;
   numbers = (and_parts (all_pass check.Number shape args) (past check.Number shape args) numbers).0;
 }
 

@@ -27,6 +27,7 @@ is_keyword keyword part.Word = false
 is_keyword keyword (part.Bytes least most) = false
 is_keyword keyword part.Moves = false
 is_keyword keyword part.Text = false
+is_keyword keyword part.Nodes = false
 
 -- the place of a fixed word in a shape, where the shape has it
 abbrev pub keyword_place : Keyword → List Part → Option ℕ

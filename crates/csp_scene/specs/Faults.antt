@@ -1,6 +1,7 @@
 -- What `fault` lines state.
 use Rattle.std.specs.Prelude.{ℕ, ◌==◌, Bool, true, false, not, ◌&&◌, nat_lt, List, [], ◌∷◌, ◌++◌, slice_index_or, slice_set, Option, Some, None, Result, Ok, Err, if◌then◌else◌}
-use Rattle.std.specs.List.{list_any}
+use Rattle.std.specs.List.{list_any, position}
+use Rattle.std.specs.Option.{option_and_then}
 use Rattle.std.specs.Str.{bytes_eq}
 use Rattle.csp_link.specs.declared.fault.Fault.{Fault}
 use Rattle.csp_link.specs.declared.fault.FaultKind.{FaultKind}
@@ -13,9 +14,9 @@ use Rattle.csp_scene.specs.declared.refusal.SceneKind.{SceneKind}
 use Rattle.csp_scene.specs.declared.refusal.SceneKind.TheVariants as kind
 use Rattle.csp_scene.specs.declared.table.Keyword.TheVariants as keyword
 use Rattle.csp_scene.specs.Table.{keyword_text}
-use Rattle.csp_scene.specs.Scene.{PlainLink}
+use Rattle.csp_scene.specs.Scene.{PlainNode, PlainLink}
 use Rattle.csp_scene.specs.Links.{fault_count}
-use Rattle.csp_scene.specs.Naming.{link_named}
+use Rattle.csp_scene.specs.Naming.{link_named, node_named}
 use Rattle.csp_scene.specs.Arguments.{word_at, number_at}
 use Rattle.csp_scene.specs.Draft.{PlainDraft, demand, and_then}
 
@@ -23,9 +24,9 @@ use Rattle.csp_scene.specs.Draft.{PlainDraft, demand, and_then}
 abbrev pub direction_of : List ℕ → ℕ
 direction_of word = if bytes_eq word (keyword_text keyword.Ba) then 1 else 0
 
--- the fault that a line states, by what it does
-abbrev pub planned : List (List ℕ) → FaultKind → Fault
-planned args what = record { dir = direction_of (word_at args 1); frame = number_at args 2; kind = what }
+-- the fault of a direction of a link, or of the frames from an end of a hub, that a line states by what it does
+abbrev pub planned : (dir : ℕ) → List (List ℕ) → FaultKind → Fault
+planned dir args what = record { dir = dir; frame = number_at args 2; kind = what }
 
 -- what a fault does, apart from how often, how long and where
 abbrev pub harm_of : FaultKind → Harm
@@ -52,7 +53,7 @@ has_fault fault plan = list_any (λ other. is_same_fault other fault) plan
 
 -- the link in a place
 abbrev pub no_link : PlainLink
-no_link = record { name = []; kind = carried.Kiss; mtu = 0; ends = []; plan = [] }
+no_link = record { name = []; kind = carried.Kiss; hub = false; mtu = 0; ends = []; plan = [] }
 
 -- the link at a place
 abbrev pub link_at : List PlainLink → ℕ → PlainLink
@@ -80,4 +81,22 @@ state_fault_at d fault (Some place) = and_then (may_add_fault d.links place faul
 
 -- what a `fault` line adds
 abbrev pub state_fault : PlainDraft → List (List ℕ) → FaultKind → Result PlainDraft SceneKind
-state_fault d args what = state_fault_at d (planned args what) (link_named (word_at args 0) d.links)
+state_fault d args what = state_fault_at d (planned (direction_of (word_at args 1)) args what) (link_named (word_at args 0) d.links)
+
+-- the end of a link at the node of this name
+abbrev pub end_named : List ℕ → List PlainNode → PlainLink → Option ℕ
+end_named word nodes link = option_and_then (λ place. position (λ end. end.node == place) link.ends) (node_named word nodes)
+
+-- a fault of the frames from this end of the hub at a place, where the hub has one
+abbrev pub state_fault_from : PlainDraft → (place : ℕ) → List (List ℕ) → FaultKind → (end : Option ℕ) → Result PlainDraft SceneKind
+state_fault_from d place args what None = Err kind.Unknown
+state_fault_from d place args what (Some end) = state_fault_at d (planned end args what) (Some place)
+
+-- `fault HUB NODE FRAME lose`, `repeat K`, `delay R`, `flip B`: both must be there, and the node on the hub
+abbrev pub state_hub_fault_at : PlainDraft → List (List ℕ) → FaultKind → (place : Option ℕ) → Result PlainDraft SceneKind
+state_hub_fault_at d args what None = Err kind.Unknown
+state_hub_fault_at d args what (Some place) = state_fault_from d place args what (end_named (word_at args 1) d.nodes (link_at d.links place))
+
+-- what such a line adds
+abbrev pub state_hub_fault : PlainDraft → List (List ℕ) → FaultKind → Result PlainDraft SceneKind
+state_hub_fault d args what = state_hub_fault_at d args what (link_named (word_at args 0) d.links)

@@ -1,7 +1,7 @@
 -- What `link` and `route` lines state.
-use Rattle.std.specs.Prelude.{ℕ, ◌==◌, Bool, not, ◌&&◌, ◌||◌, nat_lt, nat_le, List, [], ◌∷◌, length, slice_set, Option, Some, None, is_some, Result, Ok, Err, if◌then◌else◌}
-use Rattle.std.specs.List.{list_any}
-use Rattle.std.specs.Option.{unwrap_or}
+use Rattle.std.specs.Prelude.{ℕ, ◌==◌, Bool, true, false, not, ◌&&◌, ◌||◌, nat_lt, nat_le, List, [], ◌∷◌, length, map, drop, slice_set, Option, Some, None, is_some, Result, Ok, Err, if◌then◌else◌}
+use Rattle.std.specs.List.{list_any, list_all}
+use Rattle.std.specs.Option.{unwrap_or, option_map}
 use Rattle.std.specs.FinMap as finite
 use Rattle.csp_log.specs.declared.places.LinkKind.{LinkKind}
 use Rattle.csp_log.specs.declared.places.LinkKind.TheVariants as carried
@@ -35,9 +35,9 @@ mtu_of shape args = unwrap_or (setting keyword.Mtu shape args) DEFAULT_MTU
 abbrev pub end_at : List PlainLink → ℕ → End
 end_at links place = record { node = place; iface = length (links_at place links) }
 
--- the link of this name, kind and mtu between two nodes
-abbrev pub new_link : List PlainLink → List ℕ → LinkKind → ℕ → ℕ → ℕ → PlainLink
-new_link links word kind mtu one other = record { name = word; kind = kind; mtu = mtu; ends = end_at links one ∷ end_at links other ∷ []; plan = [] }
+-- the link of this name and kind, or the hub, between the nodes in these places
+abbrev pub new_link : List PlainLink → List ℕ → LinkKind → (hub : Bool) → (mtu : ℕ) → (places : List ℕ) → PlainLink
+new_link links word kind hub mtu places = record { name = word; kind = kind; hub = hub; mtu = mtu; ends = map (end_at links) places; plan = [] }
 
 -- an application of this node has this name
 abbrev pub has_app : List ℕ → PlainNode → Bool
@@ -47,24 +47,41 @@ has_app word node = list_any (is_called word) node.apps
 abbrev pub takes_link : PlainDraft → ℕ → Bool
 takes_link d place = is_some (node_at d.nodes place).addr || nat_lt (length (links_at place d.links)) BRIDGE_LINKS
 
--- a link joins two different nodes, has a name of its own, and there is room for it in the scene and at both nodes
-abbrev pub may_add_link : PlainDraft → List ℕ → ℕ → ℕ → Result (Unit {0}) SceneKind
-may_add_link d word one other =
-    demand (not (one == other || is_name_taken word d.nodes d.links || has_app word (node_at d.nodes one) || has_app word (node_at d.nodes other))) kind.Twice
-    (demand (nat_lt (length d.links) MAX_LINKS && takes_link d one && takes_link d other) kind.Full
+-- one of these stands twice
+abbrev pub has_twice : List ℕ → Bool
+has_twice [] = false
+has_twice (place ∷ places) = list_any (λ other. other == place) places || has_twice places
+
+-- a name is taken for a link of the nodes in these places
+abbrev pub is_link_taken : PlainDraft → List ℕ → (places : List ℕ) → Bool
+is_link_taken d word places = is_name_taken word d.nodes d.links || list_any (λ place. has_app word (node_at d.nodes place)) places
+
+-- a link joins different nodes, has a name of its own, and there is room for it in the scene and at each node
+abbrev pub may_add_link : PlainDraft → List ℕ → (places : List ℕ) → Result (Unit {0}) SceneKind
+may_add_link d word places =
+    demand (not (has_twice places || is_link_taken d word places)) kind.Twice
+    (demand (nat_lt (length d.links) MAX_LINKS && list_all (takes_link d) places) kind.Full
     (Ok tt))
 
--- `link NAME kiss NODE NODE [header] [mtu M]`, `link NAME can NODE NODE [mtu M]`: both nodes must be there
-abbrev pub state_link_between : PlainDraft → List ℕ → LinkKind → ℕ → Option ℕ → Option ℕ → Result PlainDraft SceneKind
-state_link_between d word carries mtu None other = Err kind.Unknown
-state_link_between d word carries mtu (Some one) None = Err kind.Unknown
-state_link_between d word carries mtu (Some one) (Some other) =
-    and_then (may_add_link d word one other) (λ _. Ok (with_link (new_link d.links word carries mtu one other) d))
+-- the places that words name, where each names one
+abbrev pub all_named : List (Option ℕ) → Option (List ℕ)
+all_named [] = Some []
+all_named (None ∷ more) = None
+all_named (Some place ∷ more) = option_map (λ places. place ∷ places) (all_named more)
 
--- what a `link` line of this kind and mtu adds
+-- a link or a hub between the nodes in these places, which must all be there
+abbrev pub state_between : PlainDraft → List ℕ → LinkKind → (hub : Bool) → (mtu : ℕ) → (places : Option (List ℕ)) → Result PlainDraft SceneKind
+state_between d word carries hub mtu None = Err kind.Unknown
+state_between d word carries hub mtu (Some places) = and_then (may_add_link d word places) (λ _. Ok (with_link (new_link d.links word carries hub mtu places) d))
+
+-- `link NAME kiss NODE NODE [header] [mtu M]`, `link NAME can NODE NODE [mtu M]`: nodes or bridges
 abbrev pub state_link : PlainDraft → LinkKind → ℕ → List (List ℕ) → Result PlainDraft SceneKind
 state_link d carries mtu args =
-    state_link_between d (word_at args 0) carries mtu (node_named (word_at args 2) d.nodes) (node_named (word_at args 3) d.nodes)
+    state_between d (word_at args 0) carries false mtu (all_named (node_named (word_at args 2) d.nodes ∷ node_named (word_at args 3) d.nodes ∷ []))
+
+-- `hub NAME NODE NODE ..`: a CAN bus of nodes, and no bridge
+abbrev pub state_hub : PlainDraft → List (List ℕ) → Result PlainDraft SceneKind
+state_hub d args = state_between d (word_at args 0) carried.Can true DEFAULT_MTU (all_named (map (λ word. router_named word d.nodes) (drop 1 args)))
 
 -- the kind of a line whose text of routes has this error
 abbrev pub kind_of : RouteKind → SceneKind

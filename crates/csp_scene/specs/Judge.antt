@@ -4,7 +4,9 @@ use Rattle.std.specs.List.{list_any, list_all}
 use Rattle.std.specs.Str.{bytes_eq}
 use Rattle.csp_text.specs.Cut.{lines_of, words_of}
 use Rattle.csp_scene.specs.Scene.{PlainScene}
-use Rattle.csp_scene.specs.Table.{first_word}
+use Rattle.csp_scene.specs.Table.{first_word, suits}
+use Rattle.csp_scene.specs.Arguments.{word_at}
+use Rattle.csp_scene.specs.Naming.{is_hub_called}
 use Rattle.csp_scene.specs.Checks.{whole_passes}
 use Rattle.csp_scene.specs.Rows.{PlainRow, all_rows, begins, begins_step, begins_count, has_choice}
 use Rattle.csp_scene.specs.Draft.{PlainDraft, no_draft, demand, and_then}
@@ -27,13 +29,14 @@ fit args (Some row) =
     (demand (whole_passes check.Number row.shape args) kind.Number
     (Ok row))
 
--- which row a line is of, by its first word and the others, where `in_app` says that a step may stand here
-abbrev pub row_for : List PlainRow → Bool → List ℕ → List (List ℕ) → Result PlainRow SceneKind
-row_for rows in_app first args =
+-- which row a line is of, by its first word and the others, where `in_app` says that a step may stand here, and `on_hub` that the first argument
+-- is the name of a hub
+abbrev pub row_for : List PlainRow → (in_app on_hub : Bool) → List ℕ → List (List ℕ) → Result PlainRow SceneKind
+row_for rows in_app on_hub first args =
     demand (list_any (begins first) rows) kind.Word
     (demand (in_app || not (list_any (begins_step first) rows)) kind.Place
     (demand (list_any (begins_count first (length args)) rows) kind.Count
-    (fit args (find (has_choice first args) rows))))
+    (fit args (find (λ row. suits on_hub row.form && has_choice first args row) rows))))
 
 -- the first word of a comment: it begins with `#`
 abbrev pub is_comment : List ℕ → Bool
@@ -45,7 +48,7 @@ abbrev pub judge_words : List PlainRow → Bool → PlainDraft → List (List �
 judge_words rows in_app d [] = Ok d
 judge_words rows in_app d (first ∷ args) =
     if is_comment first then Ok d
-    else and_then (row_for rows in_app first args) (λ row. state row.form row.shape d args)
+    else and_then (row_for rows in_app (is_hub_called (word_at args 0) d.links) first args) (λ row. state row.form row.shape d args)
 
 -- the draft after a line, or the first kind that fits the line
 abbrev pub judge : List PlainRow → Bool → PlainDraft → List ℕ → Result PlainDraft SceneKind

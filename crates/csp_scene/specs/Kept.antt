@@ -1,5 +1,5 @@
 -- What holds of a scene in the making, and of words that fit a line form.
-use Rattle.std.specs.Prelude.{ℕ, ◌+◌, ◌≡◌, ◌≢◌, ◌≤◌, ◌<◌, ◌^◌, ◌⊎◌, ⊤, Bool, true, false, ◌&&◌, ◌==◌, nat_lt, List, [], ◌∷◌, ◌++◌, length, slice_index_or, IsTrue, Result, Ok, Err, IfSome, if◌then◌else◌}
+use Rattle.std.specs.Prelude.{ℕ, ◌+◌, ◌≡◌, ◌≤◌, ◌<◌, ◌^◌, ◌⊎◌, ⊤, Bool, true, false, ◌&&◌, ◌==◌, nat_lt, List, [], ◌∷◌, ◌++◌, length, slice_index_or, IsTrue, Result, Ok, Err, IfSome, if◌then◌else◌}
 use Rattle.std.specs.List.{All, AllByRecursion, list_all}
 use Rattle.std.specs.Option.{option_map_or}
 use Rattle.std.specs.Str.{bytes_eq}
@@ -7,15 +7,17 @@ use Rattle.csp_route.specs.Routes.{IsWithin}
 use Rattle.csp_text.specs.Names.{is_name}
 use Rattle.csp_scene.specs.Scene.{PlainNode, PlainLink, PlainScene}
 use Rattle.csp_scene.specs.Links.{links_at, node_at, fault_count}
-use Rattle.csp_scene.specs.Ranges.{IsMtu, IsNode, IsPlanned, IsSchedule}
+use Rattle.csp_scene.specs.Ranges.{HasEnds, IsMtu, IsNode, IsPlanned, IsSchedule}
 use Rattle.csp_scene.specs.Table.{keyword_text, fixed_of, optional_of, shapes_of}
-use Rattle.csp_scene.specs.Checks.{all_pass}
+use Rattle.csp_scene.specs.Checks.{all_pass, has_count}
 use Rattle.csp_scene.specs.Arguments.{keyword_place}
 use Rattle.csp_scene.specs.Rows.{PlainRow}
 use Rattle.csp_scene.specs.Judge.{Refusal, is_in_app, scene_from}
 use Rattle.csp_scene.specs.Draft.{PlainDraft}
-use Rattle.csp_scene.specs.declared.limits.TheConstants.{MAX_UNTIL, MAX_NODES, MAX_LINKS, MAX_FAULTS}
+use Rattle.csp_scene.specs.declared.limits.TheConstants.{MAX_UNTIL, MAX_NODES, MAX_LINKS, MAX_HUB_NODES, DEFAULT_MTU, MAX_FAULTS}
 use Rattle.csp_log.specs.declared.places.End.{End}
+use Rattle.csp_log.specs.declared.places.LinkKind.{LinkKind}
+use Rattle.csp_log.specs.declared.places.LinkKind.TheVariants as carried
 use Rattle.csp_scene.specs.declared.table.Form.{Form}
 use Rattle.csp_scene.specs.declared.table.Keyword.{Keyword}
 use Rattle.csp_scene.specs.declared.table.Part.{Part}
@@ -34,17 +36,21 @@ pub record IsEndAfter (nodes : ℕ) (earlier : List PlainLink) (end : End) : Typ
   pub node : end.node < nodes
   pub iface : end.iface ≡ length (links_at end.node earlier)
 
--- a link has a name, an mtu in its range, two ends at two nodes, and faults in their ranges
+-- a link of this kind and mtu, or a hub, may join the nodes in these places, if they are apart: two nodes, or on a hub two to eight
+pub record MayJoin (nodes : ℕ) (kind : LinkKind) (hub : Bool) (mtu : ℕ) (places : List ℕ) : Type 0 where
+  pub least : 2 ≤ length places
+  pub most : length places ≤ MAX_HUB_NODES
+  pub pair : hub ≡ false → length places ≡ 2
+  pub bus : hub ≡ true → (kind ≡ carried.Can) × (mtu ≡ DEFAULT_MTU)
+  pub there : All (λ place. place < nodes) places
+
+-- a link has a name, an mtu in its range, its ends after those of the earlier links, and faults in their ranges
 pub record IsLinkAfter (nodes : ℕ) (earlier : List PlainLink) (link : PlainLink) : Type 0 where
   pub name : IsTrue (is_name link.name)
   pub mtu : IsMtu link.mtu
-  pub first : End
-  pub second : End
-  pub two : link.ends ≡ first ∷ second ∷ []
-  pub apart : first.node ≢ second.node
-  pub one_end : IsEndAfter nodes earlier first
-  pub other_end : IsEndAfter nodes earlier second
-  pub plan : All IsPlanned link.plan
+  pub shape : HasEnds link
+  pub ends : AllByRecursion (IsEndAfter nodes earlier) link.ends
+  pub plan : All (IsPlanned (length link.ends)) link.plan
 
 -- links that stand after earlier ones
 abbrev pub AreLinksAfter : ℕ → List PlainLink → List PlainLink → Type 0
@@ -131,9 +137,10 @@ pub record IsShapeOf (form : Form) (shape : List Part) : Type 0 where
   pub fixed : (more : List Part) × (shape ≡ fixed_of form ++ more)
   pub among : IsOneOf (shapes_of form) shape
 
--- the words after the first are at least as many as a shape of the form has places, and its numbers fit
+-- the words after the first are as many as lines of a shape of the form have, at least as many as it has places, and its numbers fit
 pub record FitsShape (form : Form) (shape : List Part) (args : List (List ℕ)) : Type 0 where
   pub among : IsOneOf (shapes_of form) shape
+  pub words : IsTrue (has_count shape (length args))
   pub count : length shape ≤ length args
   pub numbers : IsTrue (all_pass check.Number shape args)
 

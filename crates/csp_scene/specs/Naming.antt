@@ -13,6 +13,10 @@ has_name word node = bytes_eq node.name word
 abbrev pub is_link_called : List ℕ → PlainLink → Bool
 is_link_called word link = bytes_eq link.name word
 
+-- a hub has this name
+abbrev pub is_hub_called : List ℕ → List PlainLink → Bool
+is_hub_called word links = list_any (λ link. link.hub && is_link_called word link) links
+
 -- an application has this name
 abbrev pub is_called : List ℕ → PlainApp → Bool
 is_called word app = bytes_eq app.name word

@@ -1,5 +1,5 @@
 -- The ranges of a scene's numbers.
-use Rattle.std.specs.Prelude.{ℕ, ◌+◌, ◌≡◌, ◌≢◌, ◌≤◌, ◌<◌, ◌^◌, ◌*◌, ◌%◌, ⊤, List, [], ◌∷◌, length, Some, None, slice_get, IsTrue, IfSome}
+use Rattle.std.specs.Prelude.{ℕ, ◌+◌, ◌≡◌, ◌≤◌, ◌<◌, ◌^◌, ◌*◌, ◌%◌, ⊤, true, false, List, [], length, Some, None, slice_get, IsTrue, IfSome}
 use Rattle.std.specs.List.{All, AllByRecursion}
 use Rattle.std.specs.FinMap as finite
 use Rattle.csp_app.specs.PlainStep.{PlainStep}
@@ -10,6 +10,7 @@ use Rattle.csp_link.specs.declared.fault.Fault.{Fault}
 use Rattle.csp_link.specs.declared.fault.FaultKind.{FaultKind}
 use Rattle.csp_link.specs.declared.fault.FaultKind.TheVariants as fault
 use Rattle.csp_link.specs.declared.fault.TheConstants.{MAX_REPEATS}
+use Rattle.csp_log.specs.declared.places.LinkKind.TheVariants as carried
 use Rattle.csp_log.specs.declared.places.TheConstants.{MAX_DATA, SLOTS}
 use Rattle.csp_rdp_header.specs.declared.options.Options.{Options}
 use Rattle.csp_rdp_header.specs.declared.options.TheConstants.{MAX_WINDOW}
@@ -17,7 +18,7 @@ use Rattle.csp_route.specs.Routes.{IsWithin}
 use Rattle.csp_sfp.specs.declared.pieces.TheConstants.{MAX_SIZE}
 use Rattle.csp_sfp.specs.declared.trailer.TheConstants.{MAX_BLOB}
 use Rattle.csp_text.specs.Names.{is_name}
-use Rattle.csp_scene.specs.declared.limits.TheConstants.{MAX_UNTIL, MAX_ADDR, MAX_NODES, MAX_LINKS, BRIDGE_LINKS, MAX_APPS, MAX_STEPS, MIN_BUFFERS, MAX_SEED, MIN_INBOX, MAX_INBOX, MAX_PORT, FIRST_OWN_PORT, MAX_DEST, CRC_FLAG, RDP_FLAG, FRAG_FLAG, MAX_COUNT, MAX_ROUNDS, MAX_FAULTS, LAST_FRAME, MAX_DELAY, MAX_FLIP, MAX_SHUFFLE, MAX_OPTION, MIN_MTU, MAX_MTU}
+use Rattle.csp_scene.specs.declared.limits.TheConstants.{MAX_UNTIL, MAX_ADDR, MAX_NODES, MAX_LINKS, BRIDGE_LINKS, MAX_APPS, MAX_STEPS, MIN_BUFFERS, MAX_SEED, MIN_INBOX, MAX_INBOX, MAX_PORT, FIRST_OWN_PORT, MAX_DEST, CRC_FLAG, RDP_FLAG, FRAG_FLAG, MAX_COUNT, MAX_ROUNDS, MAX_FAULTS, LAST_FRAME, MAX_DELAY, MAX_FLIP, MAX_SHUFFLE, MAX_OPTION, MIN_MTU, MAX_MTU, DEFAULT_MTU, MAX_HUB_NODES}
 use Rattle.csp_log.specs.declared.places.End.{End}
 use Rattle.csp_scene.specs.declared.scenario.Move.{Move}
 use Rattle.csp_scene.specs.declared.scenario.Move.TheVariants as move
@@ -106,10 +107,10 @@ IsHarm (fault.Repeat copies) = (1 ≤ copies) × (copies ≤ MAX_REPEATS)
 IsHarm (fault.Delay rounds) = (1 ≤ rounds) × (rounds ≤ MAX_DELAY)
 IsHarm (fault.Flip bit) = bit ≤ MAX_FLIP
 
--- a fault is of one of a link's two directions and of a frame, counted from 1
-pub record IsPlanned (planned : Fault) : Type 0 where
+-- a fault is of one of a link's two directions, or of the frames from an end of a hub, and of a frame, counted from 1
+pub record IsPlanned (ends : ℕ) (planned : Fault) : Type 0 where
   pub fault : IsFault planned
-  pub dir : planned.dir < 2
+  pub dir : planned.dir < ends
   pub first : 1 ≤ planned.frame
   pub last : planned.frame ≤ LAST_FRAME
   pub harm : IsHarm planned.kind
@@ -119,25 +120,29 @@ pub record IsEnd (nodes : List PlainNode) (links : List PlainLink) (link : Plain
   pub node : end.node < length nodes
   pub iface : slice_get (links_at end.node links) end.iface ≡ Some link
 
--- a link has two ends, at two nodes
-pub record AreEnds (nodes : List PlainNode) (links : List PlainLink) (link : PlainLink) : Type 0 where
-  pub first : End
-  pub second : End
-  pub two : link.ends ≡ first ∷ second ∷ []
-  pub apart : first.node ≢ second.node
-  pub one_end : IsEnd nodes links link first
-  pub other_end : IsEnd nodes links link second
+-- no two of these ends are at one node
+abbrev pub AreApart : List End → Type 0
+AreApart ends = (i j : ℕ) (a b : End) → slice_get ends i ≡ Some a → slice_get ends j ≡ Some b → a.node ≡ b.node → i ≡ j
+
+-- a link has two ends, a hub two to eight, at different nodes; a hub is a CAN bus, with the longest payload of one whose line gives none
+pub record HasEnds (link : PlainLink) : Type 0 where
+  pub least : 2 ≤ length link.ends
+  pub most : length link.ends ≤ MAX_HUB_NODES
+  pub pair : link.hub ≡ false → length link.ends ≡ 2
+  pub bus : link.hub ≡ true → (link.kind ≡ carried.Can) × (link.mtu ≡ DEFAULT_MTU)
+  pub apart : AreApart link.ends
 
 -- the most bytes of a payload that a link may say
 abbrev pub IsMtu : ℕ → Type 0
 IsMtu mtu = (MIN_MTU ≤ mtu) × (mtu ≤ MAX_MTU)
 
--- a link has a name, an mtu in its range, two ends, and faults in their ranges
+-- a link has a name, an mtu in its range, its ends at interfaces, and faults in their ranges
 pub record IsLink (nodes : List PlainNode) (links : List PlainLink) (link : PlainLink) : Type 0 where
   pub name : IsTrue (is_name link.name)
   pub mtu : IsMtu link.mtu
-  pub ends : AreEnds nodes links link
-  pub plan : All IsPlanned link.plan
+  pub shape : HasEnds link
+  pub ends : AllByRecursion (IsEnd nodes links link) link.ends
+  pub plan : All (IsPlanned (length link.ends)) link.plan
 
 -- a move is that of a party that is there: a node's router or a bridge, an interface, an application, a link; or the end of a round
 abbrev pub IsMove : List PlainNode → List PlainLink → Move → Type 0

@@ -1,5 +1,5 @@
 -- What a contract sees of a scene: plain lists and numbers, with the fields of the structs.
-use Rattle.std.specs.Prelude.{ℕ, List, [], Option}
+use Rattle.std.specs.Prelude.{ℕ, Bool, List, [], Option}
 use Rattle.csp_app.specs.PlainStep.{PlainStep}
 use Rattle.csp_link.specs.declared.fault.Fault.{Fault}
 use Rattle.csp_log.specs.declared.places.LinkKind.{LinkKind}
@@ -27,10 +27,12 @@ pub record PlainNode : Type 0 where
   pub routes : Routes
   pub apps : List PlainApp
 
--- a link: its name, what it carries, the most bytes of a payload on it, its ends, its faults in order
+-- a link: its name, what it carries, whether it is a hub, the most bytes of a payload on it, its ends, its faults in order; on a hub each frame
+-- goes to every other end
 pub record PlainLink : Type 0 where
   pub name : List ℕ
   pub kind : LinkKind
+  pub hub : Bool
   pub mtu : ℕ
   pub ends : List End
   pub plan : List Fault

@@ -17,8 +17,8 @@ use Rattle.csp_scene.specs.Steps.{bind_step, connect_step, send_step, burst_step
 use Rattle.csp_scene.specs.Draft.{PlainDraft, demand}
 use Rattle.csp_scene.specs.Nodes.{state_until, new_node, new_bridge, state_node, state_app, state_step}
 use Rattle.csp_scene.specs.Transport.{state_rdp}
-use Rattle.csp_scene.specs.Joining.{kiss_kind, mtu_of, state_link, state_route}
-use Rattle.csp_scene.specs.Faults.{state_fault}
+use Rattle.csp_scene.specs.Joining.{kiss_kind, mtu_of, state_link, state_hub, state_route}
+use Rattle.csp_scene.specs.Faults.{state_fault, state_hub_fault}
 use Rattle.csp_scene.specs.Schedule.{state_schedule, state_moves}
 
 -- what a line of a form and of one of its shapes adds, judged against the lines before it: Unknown, then Twice, then Full; the text of a `route` line may besides be Number, as its rows come
@@ -32,11 +32,16 @@ state form.Bridge shape d args = state_node d (new_bridge shape args)
 state form.Rdp shape d args = state_rdp d args
 state form.KissLink shape d args = state_link d (kiss_kind shape) (mtu_of shape args) args
 state form.CanLink shape d args = state_link d carried.Can (mtu_of shape args) args
+state form.Hub shape d args = state_hub d args
 state form.Route shape d args = state_route d args
 state form.Lose shape d args = state_fault d args fault.Lose
 state form.Repeat shape d args = state_fault d args (fault.Repeat (number_at args 4))
 state form.Delay shape d args = state_fault d args (fault.Delay (number_at args 4))
 state form.Flip shape d args = state_fault d args (fault.Flip (number_at args 4))
+state form.HubLose shape d args = state_hub_fault d args fault.Lose
+state form.HubRepeat shape d args = state_hub_fault d args (fault.Repeat (number_at args 4))
+state form.HubDelay shape d args = state_hub_fault d args (fault.Delay (number_at args 4))
+state form.HubFlip shape d args = state_hub_fault d args (fault.Flip (number_at args 4))
 state form.App shape d args = state_app d args
 state form.Take shape d args = state_step d step.Take
 state form.Give shape d args = state_step d step.Give

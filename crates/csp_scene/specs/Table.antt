@@ -1,5 +1,5 @@
 -- The line forms of the scenario language, a row each.
-use Rattle.std.specs.Prelude.{ℕ, Bool, true, false, List, [], ◌∷◌, ◌++◌, codes}
+use Rattle.std.specs.Prelude.{ℕ, Bool, true, false, not, List, [], ◌∷◌, ◌++◌, codes}
 use Rattle.csp_scene.specs.declared.limits.TheConstants.{MAX_UNTIL, MAX_SHUFFLE, MAX_ADDR, MIN_BUFFERS, MAX_SEED, MIN_INBOX, MAX_INBOX, LAST_FRAME, MAX_COPIES, MAX_DELAY, MAX_FLIP, MAX_SLOT, MAX_PORT, FIRST_OWN_PORT, MAX_DEST, MAX_PRIO, MAX_COUNT, MAX_ROUNDS, MAX_SEND, MAX_RAW, MAX_OPTION, MIN_MTU, MAX_MTU}
 use Rattle.csp_base.specs.declared.limits.TheConstants.{MAX_BUFFERS}
 use Rattle.csp_rdp_header.specs.declared.options.TheConstants.{MAX_WINDOW}
@@ -10,7 +10,7 @@ use Rattle.csp_scene.specs.declared.table.Form.TheVariants as form
 use Rattle.csp_scene.specs.declared.table.Keyword.{Keyword}
 use Rattle.csp_scene.specs.declared.table.Keyword.TheVariants as keyword
 use Rattle.csp_scene.specs.declared.table.Part.{Part}
-use Rattle.csp_scene.specs.declared.table.Part.TheVariants.{Fixed, Either, Name, Number, Word, Bytes, Moves, Text}
+use Rattle.csp_scene.specs.declared.table.Part.TheVariants.{Fixed, Either, Name, Number, Word, Bytes, Moves, Text, Nodes}
 use Rattle.csp_scene.specs.declared.table.Group.{Group}
 use Rattle.csp_scene.specs.declared.table.Group.TheVariants.{Flag, Setting}
 
@@ -50,11 +50,16 @@ first_word form.Bridge = codes "bridge"
 first_word form.Rdp = codes "rdp"
 first_word form.KissLink = codes "link"
 first_word form.CanLink = codes "link"
+first_word form.Hub = codes "hub"
 first_word form.Route = codes "route"
 first_word form.Lose = codes "fault"
 first_word form.Repeat = codes "fault"
 first_word form.Delay = codes "fault"
 first_word form.Flip = codes "fault"
+first_word form.HubLose = codes "fault"
+first_word form.HubRepeat = codes "fault"
+first_word form.HubDelay = codes "fault"
+first_word form.HubFlip = codes "fault"
 first_word form.App = codes "app"
 first_word form.Take = codes "take"
 first_word form.Give = codes "give"
@@ -73,6 +78,10 @@ first_word form.Wait = codes "wait"
 abbrev pub fault_of : Keyword → List Part → List Part
 fault_of what more = Name ∷ Either keyword.Ab keyword.Ba ∷ Number 1 LAST_FRAME ∷ Fixed what ∷ more
 
+-- that of a hub: the hub, the node from whose end the frame comes, the number of the frame, and what happens to it
+abbrev pub hub_fault_of : Keyword → List Part → List Part
+hub_fault_of what more = Name ∷ Name ∷ Number 1 LAST_FRAME ∷ Fixed what ∷ more
+
 -- what stands after the first word in each of the form's lines
 abbrev pub fixed_of : Form → List Part
 fixed_of form.Until = Number 1 MAX_UNTIL ∷ []
@@ -85,11 +94,16 @@ fixed_of form.Rdp =
     Name ∷ Number 1 MAX_WINDOW ∷ Number 1 MAX_OPTION ∷ Number 1 MAX_OPTION ∷ Number 0 MAX_OPTION ∷ Number 0 MAX_OPTION ∷ Number 0 MAX_OPTION ∷ []
 fixed_of form.KissLink = Name ∷ Fixed keyword.Kiss ∷ Name ∷ Name ∷ []
 fixed_of form.CanLink = Name ∷ Fixed keyword.Can ∷ Name ∷ Name ∷ []
+fixed_of form.Hub = Name ∷ Name ∷ Nodes ∷ []
 fixed_of form.Route = Name ∷ Text ∷ []
 fixed_of form.Lose = fault_of keyword.Lose []
 fixed_of form.Repeat = fault_of keyword.Repeat (Number 1 MAX_COPIES ∷ [])
 fixed_of form.Delay = fault_of keyword.Delay (Number 1 MAX_DELAY ∷ [])
 fixed_of form.Flip = fault_of keyword.Flip (Number 0 MAX_FLIP ∷ [])
+fixed_of form.HubLose = hub_fault_of keyword.Lose []
+fixed_of form.HubRepeat = hub_fault_of keyword.Repeat (Number 1 MAX_COPIES ∷ [])
+fixed_of form.HubDelay = hub_fault_of keyword.Delay (Number 1 MAX_DELAY ∷ [])
+fixed_of form.HubFlip = hub_fault_of keyword.Flip (Number 0 MAX_FLIP ∷ [])
 fixed_of form.App = Name ∷ Name ∷ []
 fixed_of form.Take = []
 fixed_of form.Give = []
@@ -115,11 +129,16 @@ optional_of form.Bridge = Setting keyword.Inbox MIN_INBOX MAX_INBOX ∷ []
 optional_of form.Rdp = []
 optional_of form.KissLink = Flag keyword.Header ∷ Setting keyword.Mtu MIN_MTU MAX_MTU ∷ []
 optional_of form.CanLink = Setting keyword.Mtu MIN_MTU MAX_MTU ∷ []
+optional_of form.Hub = []
 optional_of form.Route = []
 optional_of form.Lose = []
 optional_of form.Repeat = []
 optional_of form.Delay = []
 optional_of form.Flip = []
+optional_of form.HubLose = []
+optional_of form.HubRepeat = []
+optional_of form.HubDelay = []
+optional_of form.HubFlip = []
 optional_of form.App = []
 optional_of form.Take = []
 optional_of form.Give = []
@@ -145,11 +164,16 @@ is_step form.Bridge = false
 is_step form.Rdp = false
 is_step form.KissLink = false
 is_step form.CanLink = false
+is_step form.Hub = false
 is_step form.Route = false
 is_step form.Lose = false
 is_step form.Repeat = false
 is_step form.Delay = false
 is_step form.Flip = false
+is_step form.HubLose = false
+is_step form.HubRepeat = false
+is_step form.HubDelay = false
+is_step form.HubFlip = false
 is_step form.App = false
 is_step form.Take = true
 is_step form.Give = true
@@ -164,11 +188,32 @@ is_step form.Collect = true
 is_step form.Close = true
 is_step form.Wait = true
 
+-- whether the form's lines state a fault of a link of two ends
+abbrev pub is_fault : Form → Bool
+is_fault form.Lose = true
+is_fault form.Repeat = true
+is_fault form.Delay = true
+is_fault form.Flip = true
+is_fault _ = false
+
+-- whether they state one of a hub
+abbrev pub is_hub_fault : Form → Bool
+is_hub_fault form.HubLose = true
+is_hub_fault form.HubRepeat = true
+is_hub_fault form.HubDelay = true
+is_hub_fault form.HubFlip = true
+is_hub_fault _ = false
+
+-- a form may state what a line says whose first argument is the name of a hub, or is not
+abbrev pub suits : (on_hub : Bool) → Form → Bool
+suits true form = not (is_fault form)
+suits false form = not (is_hub_fault form)
+
 -- all forms
 abbrev pub all_forms : List Form
 all_forms =
-    form.Until ∷ form.Rounds ∷ form.Shuffle ∷ form.Moves ∷ form.Node ∷ form.Bridge ∷ form.Rdp ∷ form.KissLink ∷ form.CanLink ∷ form.Route
-    ∷ form.Lose ∷ form.Repeat ∷ form.Delay ∷ form.Flip ∷ form.App ∷ form.Take ∷ form.Give
+    form.Until ∷ form.Rounds ∷ form.Shuffle ∷ form.Moves ∷ form.Node ∷ form.Bridge ∷ form.Rdp ∷ form.KissLink ∷ form.CanLink ∷ form.Hub ∷ form.Route
+    ∷ form.Lose ∷ form.Repeat ∷ form.Delay ∷ form.Flip ∷ form.HubLose ∷ form.HubRepeat ∷ form.HubDelay ∷ form.HubFlip ∷ form.App ∷ form.Take ∷ form.Give
     ∷ form.Bind ∷ form.Connect ∷ form.Send ∷ form.Burst ∷ form.Blob ∷ form.Raw ∷ form.Recv ∷ form.Collect ∷ form.Close ∷ form.Wait ∷ []
 
 -- the words of an optional group

@@ -4,8 +4,9 @@ ghost use Rattle.std.specs.Prelude.{◌≡◌, ◌&&◌, ◌≤◌, ◌<◌, IsT
 ghost use Rattle.std.specs.List.{list_all};
 ghost use Rattle.csp_scene.specs.Table.{keyword_text};
 ghost use Rattle.csp_scene.specs.Moves.{is_move, owner_of, owned_of, has_dot, dot_place};
-ghost use Rattle.csp_scene.specs.Checks.{is_in_range, has_bytes, is_fixed, is_named, is_numbered, passes, all_pass, last_part, is_tail, has_count, whole_passes};
+ghost use Rattle.csp_scene.specs.Checks.{is_in_range, has_bytes, is_fixed, is_named, is_numbered, passes, all_pass, last_part, takes_more, has_count, whole_passes};
 
+use crate::limits::MAX_HUB_NODES;
 use crate::step_words::is_move;
 use crate::table::Part;
 use csp_text::{byte_digits, is_bytes, is_hex_word, is_name, number};
@@ -55,7 +56,7 @@ fn is_named(part: Part, word: &[u8]) -> bool
     ensures { result ≡ is_named part word.now }
 {
     match part {
-        Part::Name => is_name(word),
+        Part::Name | Part::Nodes => is_name(word),
         Part::Moves => is_move(word),
         _ => true,
     }
@@ -104,13 +105,14 @@ fn last_part(shape: &[Part]) -> Part
     }
 }
 
-/// Whether a part takes all words to the line's end.
-fn is_tail(part: Part) -> bool
-    ensures { result ≡ is_tail part }
+/// Whether a part takes so many words more than one.
+fn takes_more(part: Part, more: usize) -> bool
+    ensures { result ≡ takes_more part more }
 {
     match part {
         Part::Moves | Part::Text => true,
-        _ => false,
+        Part::Nodes => more <= MAX_HUB_NODES - 2,
+        _ => more == 0,
     }
 }
 
@@ -118,11 +120,7 @@ fn is_tail(part: Part) -> bool
 pub(crate) fn has_count(shape: &[Part], count: usize) -> bool
     ensures { result ≡ has_count shape.now count }
 {
-    if is_tail(last_part(shape)) {
-        shape.len() <= count
-    } else {
-        shape.len() == count
-    }
+    shape.len() <= count && takes_more(last_part(shape), count - shape.len())
 }
 
 /// Whether each of these words passes a check against one part.
@@ -133,7 +131,7 @@ fn each_passes(check: Check, part: Part, words: &[&[u8]]) -> bool
 }
 
 /// The words past the first so many.
-fn past<'a, 'b>(words: &'a [&'b [u8]], count: usize) -> &'a [&'b [u8]]
+pub(crate) fn past<'a, 'b>(words: &'a [&'b [u8]], count: usize) -> &'a [&'b [u8]]
     requires { count ≤ length words.now }
     ensures { map (λ word. word.now) result.now ≡ drop count (map (λ word. word.now) words.now) }
 {

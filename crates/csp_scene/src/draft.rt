@@ -8,7 +8,6 @@ ghost use Rattle.csp_scene.specs.State.{state, is_joined, are_joined, finish};
 ghost use Rattle.csp_scene.specs.Kept.{AreLinksAfter, IsDraft, Fits, FitsShape, Judged};
 
 use crate::arguments::number_at;
-use crate::faults::planned;
 use crate::limits::BRIDGE_LINKS;
 use crate::links::LinkDraft;
 use crate::naming::iface_count;
@@ -114,6 +113,7 @@ impl Draft {
     }
 
     /// What a line of a form and of one of its shapes adds.
+    #[tactic(auto, using(crate::proofs::Fitting::hub_words))]
     pub(crate) fn state(
         &mut self,
         alloc: Global,
@@ -137,19 +137,33 @@ impl Draft {
             Form::Rdp => self.state_rdp(args),
             Form::KissLink => self.state_kiss_link(alloc, shape, args),
             Form::CanLink => self.state_can_link(alloc, shape, args),
+            Form::Hub => self.state_hub(alloc, args),
             Form::Route => self.state_route(alloc, args),
-            Form::Lose => self.state_fault(args, planned(form, args, FaultKind::Lose)),
+            Form::Lose => self.state_fault(form, args, FaultKind::Lose),
             Form::Repeat => {
                 let kind = FaultKind::Repeat(number_at(Form::Repeat, args, 4) as u8);
-                self.state_fault(args, planned(form, args, kind))
+                self.state_fault(form, args, kind)
             }
             Form::Delay => {
                 let kind = FaultKind::Delay(number_at(Form::Delay, args, 4));
-                self.state_fault(args, planned(form, args, kind))
+                self.state_fault(form, args, kind)
             }
             Form::Flip => {
                 let kind = FaultKind::Flip(number_at(Form::Flip, args, 4));
-                self.state_fault(args, planned(form, args, kind))
+                self.state_fault(form, args, kind)
+            }
+            Form::HubLose => self.state_hub_fault(form, args, FaultKind::Lose),
+            Form::HubRepeat => {
+                let kind = FaultKind::Repeat(number_at(Form::HubRepeat, args, 4) as u8);
+                self.state_hub_fault(form, args, kind)
+            }
+            Form::HubDelay => {
+                let kind = FaultKind::Delay(number_at(Form::HubDelay, args, 4));
+                self.state_hub_fault(form, args, kind)
+            }
+            Form::HubFlip => {
+                let kind = FaultKind::Flip(number_at(Form::HubFlip, args, 4));
+                self.state_hub_fault(form, args, kind)
             }
             Form::App => self.state_app(alloc, args),
             Form::Take => self.state_step(&Step::Take),

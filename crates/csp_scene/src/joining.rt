@@ -1,7 +1,8 @@
 //! What `link` and `route` lines state.
 
-ghost use Rattle.std.specs.Prelude.{◌≡◌, ◌≢◌, ◌<◌, ◌≤◌, ◌||◌, [], ◌∷◌, Some, None, map, IsTrue, OnOk, OnErr, IfOk, IfErr, IfSome, MatchResult, Ok, Err, length, is_some};
-ghost use Rattle.std.specs.List.{list_any};
+ghost use Rattle.std.specs.Prelude.{◌≡◌, ◌≢◌, ◌<◌, ◌≤◌, ◌||◌, ◌+◌, [], ◌∷◌, false, Some, None, map, IsTrue, OnOk, OnErr, IfOk, IfErr, IfSome, MatchResult, Ok, Err, length, is_some};
+ghost use Rattle.std.specs.List.{All, list_any, list_all};
+ghost use Rattle.std.specs.Option.{option_map};
 ghost use Rattle.csp_route.specs.Routes.{Routes, IsWithin, merged};
 ghost use Rattle.csp_route.specs.Text.{parsed, names_of};
 ghost use Rattle.csp_text.specs.Names.{is_name};
@@ -10,24 +11,28 @@ ghost use Rattle.csp_scene.specs.Naming.{is_name_taken, node_named, router_named
 ghost use Rattle.csp_scene.specs.Draft.{with_link};
 ghost use Rattle.csp_scene.specs.Arguments.{word_at};
 ghost use Rattle.csp_scene.specs.Ranges.{IsMtu};
-ghost use Rattle.csp_scene.specs.Joining.{kiss_kind, mtu_of, end_at, new_link, has_app, takes_link, may_add_link, state_link_between, state_link, kind_of, known_ifaces, with_routes, add_routes, routed, state_route_at, state_route};
-ghost use Rattle.csp_scene.specs.Kept.{IsDraft, Fits, FitsShape, Judged};
+ghost use Rattle.csp_scene.specs.Joining.{kiss_kind, mtu_of, end_at, new_link, has_app, takes_link, has_twice, is_link_taken, may_add_link, all_named, state_between, state_link, state_hub, kind_of, known_ifaces, with_routes, add_routes, routed, state_route_at, state_route};
+ghost use Rattle.csp_scene.specs.Kept.{MayJoin, IsDraft, Fits, FitsShape, Judged};
 
 use crate::arguments::{has_keyword, name_at, setting, text_from, word_at};
+use crate::checks::past;
 use crate::draft::{Draft, LineError};
-use crate::limits::{BRIDGE_LINKS, DEFAULT_MTU, MAX_LINKS};
+use crate::limits::{BRIDGE_LINKS, DEFAULT_MTU, MAX_HUB_NODES, MAX_LINKS};
 use crate::links::LinkDraft;
 use crate::naming::{
     IfaceNames, iface_count, iface_names, is_called, is_name_taken, node_named, router_named,
 };
 use crate::refusal::SceneKind;
-use crate::scenario::SceneLink;
+use crate::scenario::{SceneLink, SceneNode};
 use crate::table::{Form, Keyword, Part};
 use arrayvec::ArrayVec;
 use csp_base::Name;
-use csp_log::{End, LinkKind};
+use csp_log::{End, LINK_ENDS, LinkKind};
 use csp_route::{RouteKind, Table};
 use std::alloc::Global;
+
+/// The places of the nodes that a link or a hub joins.
+type Places = ArrayVec<usize, MAX_HUB_NODES>;
 
 /// The kind of a KISS link, by the words of its line.
 fn kiss_kind(shape: &[Part]) -> LinkKind
@@ -51,6 +56,30 @@ fn kind_of(error: RouteKind) -> SceneKind
     }
 }
 
+/// Whether one of these stands twice.
+fn has_twice(places: &[usize]) -> bool
+    ensures { result ≡ has_twice places.now }
+{
+    match places {
+        [] => false,
+        [place, more @ ..] => more.contains(place) || has_twice(more),
+    }
+}
+
+/// The places of the nodes, and not bridges, of these names, where each names one.
+fn routers_named(nodes: &[SceneNode], names: &[&[u8]]) -> Option<Places>
+    requires { length names.now ≤ MAX_HUB_NODES }
+    ensures value { option_map (λ places. places.items) result ≡ all_named (map (λ name. router_named name nodes.now) (map (λ name. name.now) names.now)) }
+    ensures count { IfSome result (λ places. length places.items ≡ length names.now) }
+    ensures there { IfSome result (λ places. All (λ place. place < length nodes.now) places.items) }
+{
+    let mut places = ArrayVec::new();
+    for name in names {
+        places.push(router_named(nodes, name)?);
+    }
+    Some(places)
+}
+
 impl Draft {
     /// The end of a new link at a node.
     fn end_at(&self, place: usize) -> End
@@ -64,29 +93,41 @@ impl Draft {
         }
     }
 
-    /// A new link between two nodes.
-    fn new_link(
-        &self,
-        name: Name,
-        kind: LinkKind,
-        mtu: u16,
-        one: usize,
-        other: usize,
-        alloc: Global,
-    ) -> SceneLink
-        requires one { one < 256 }
-        requires other { other < 256 }
+    /// The ends of a new link at the nodes in these places.
+    fn ends_at(&self, places: &[usize]) -> ArrayVec<End, LINK_ENDS>
         requires few { length self.now.links ≤ MAX_LINKS }
-        ensures { result ≡ new_link self.now.links name.bytes kind mtu one other }
+        requires count { length places.now ≤ MAX_HUB_NODES }
+        requires places { All (λ place. place < 256) places.now }
+        ensures { result.items ≡ map (end_at self.now.links) places.now }
     {
         let mut ends = ArrayVec::new();
-        ends.push(self.end_at(one));
-        ends.push(self.end_at(other));
+        for place in places {
+            ends.push(self.end_at(*place));
+        }
+        ends
+    }
+
+    /// A new link between the nodes in these places, or a hub.
+    fn new_link(
+        &self,
+        alloc: Global,
+        name: Name,
+        kind: LinkKind,
+        hub: bool,
+        mtu: u16,
+        places: &[usize],
+    ) -> SceneLink
+        requires few { length self.now.links ≤ MAX_LINKS }
+        requires count { length places.now ≤ MAX_HUB_NODES }
+        requires places { All (λ place. place < 256) places.now }
+        ensures { result ≡ new_link self.now.links name.bytes kind hub mtu places.now }
+    {
         SceneLink {
             name,
             kind,
+            hub,
             mtu,
-            ends,
+            ends: self.ends_at(places),
             plan: Vec::new(alloc),
         }
     }
@@ -99,29 +140,52 @@ impl Draft {
         self.nodes[place].addr.is_some() || iface_count(&self.links, place) < BRIDGE_LINKS
     }
 
-    /// Whether a name is taken for a link between two nodes.
-    fn is_link_taken(&self, name: &Name, one: usize, other: usize) -> bool
-        requires one { one < length self.now.nodes }
-        requires other { other < length self.now.nodes }
-        ensures { result ≡ (is_name_taken name.now.bytes self.now.nodes self.now.links || has_app name.now.bytes (node_at self.now.nodes one) || has_app name.now.bytes (node_at self.now.nodes other)) }
+    /// Whether each of these nodes takes another link.
+    fn take_link(&self, places: &[usize]) -> bool
+        requires { All (λ place. place < length self.now.nodes) places.now }
+        ensures { result ≡ list_all (takes_link self.now) places.now }
     {
-        is_name_taken(&self.nodes, &self.links, name.as_bytes())
-            || is_called(&self.nodes[one].apps, name.as_bytes())
-            || is_called(&self.nodes[other].apps, name.as_bytes())
+        for place in places {
+            if !self.takes_link(*place) {
+                return false;
+            }
+        }
+        true
     }
 
-    /// Whether a link may join two nodes: Twice where they are one or its name is taken, then Full.
-    fn may_add_link(&self, name: &Name, one: usize, other: usize) -> Result<(), SceneKind>
-        requires one { one < length self.now.nodes }
-        requires other { other < length self.now.nodes }
-        ensures value { result ≡ may_add_link self.now name.now.bytes one other }
-        ensures apart { OnOk result (one ≢ other) }
+    /// Whether one of these nodes has an application of this name.
+    fn have_app(&self, name: &Name, places: &[usize]) -> bool
+        requires { All (λ place. place < length self.now.nodes) places.now }
+        ensures { result ≡ list_any (λ place. has_app name.now.bytes (node_at self.now.nodes place)) places.now }
+    {
+        for place in places {
+            if is_called(&self.nodes[*place].apps, name.as_bytes()) {
+                return true;
+            }
+        }
+        false
+    }
+
+    /// Whether a name is taken for a link of these nodes.
+    fn is_link_taken(&self, name: &Name, places: &[usize]) -> bool
+        requires { All (λ place. place < length self.now.nodes) places.now }
+        ensures { result ≡ is_link_taken self.now name.now.bytes places.now }
+    {
+        is_name_taken(&self.nodes, &self.links, name.as_bytes()) || self.have_app(name, places)
+    }
+
+    /// Whether a link may join these nodes: Twice where one stands twice or its name is taken, then
+    /// Full.
+    fn may_add_link(&self, name: &Name, places: &[usize]) -> Result<(), SceneKind>
+        requires { All (λ place. place < length self.now.nodes) places.now }
+        ensures value { result ≡ may_add_link self.now name.now.bytes places.now }
+        ensures apart { OnOk result (has_twice places.now ≡ false) }
         ensures room { OnOk result (length self.now.links < MAX_LINKS) }
     {
-        if one == other || self.is_link_taken(name, one, other) {
+        if has_twice(places) || self.is_link_taken(name, places) {
             return Err(SceneKind::Twice);
         }
-        if self.links.len() >= MAX_LINKS || !self.takes_link(one) || !self.takes_link(other) {
+        if self.links.len() >= MAX_LINKS || !self.take_link(places) {
             return Err(SceneKind::Full);
         }
         Ok(())
@@ -132,46 +196,45 @@ impl Draft {
         alloc: Global,
         name: Name,
         kind: LinkKind,
+        hub: bool,
         mtu: u16,
-        one: usize,
-        other: usize,
+        places: &[usize],
     ) -> Result<(), LineError>
         requires kept { IsDraft self.old }
         requires name { IsTrue (is_name name.bytes) }
         requires mtu { IsMtu mtu }
-        requires one { one < length self.old.nodes }
-        requires other { other < length self.old.nodes }
-        requires apart { one ≢ other }
+        requires ends { MayJoin (length self.old.nodes) kind hub mtu places.now }
+        requires apart { has_twice places.now ≡ false }
         requires room { length self.old.links < MAX_LINKS }
-        ensures answer { Judged result self.new (Ok (with_link (new_link self.old.links name.bytes kind mtu one other) self.old)) }
+        ensures answer { Judged result self.new (Ok (with_link (new_link self.old.links name.bytes kind hub mtu places.now) self.old)) }
         ensures kept { OnOk result (IsDraft self.new) }
     {
-        let link = self.new_link(name, kind, mtu, one, other, alloc);
+        let link = self.new_link(alloc, name, kind, hub, mtu, places);
         let Ok(()) = self.links.push(LinkDraft::new(alloc, link)) else {
             return Err(LineError::NoMemory);
         };
         Ok(())
     }
 
-    fn state_link_between(
+    /// A link of this name, kind and mtu, or a hub, between the nodes in these places.
+    fn state_between(
         &mut self,
         alloc: Global,
         name: Name,
         kind: LinkKind,
+        hub: bool,
         mtu: u16,
-        one: usize,
-        other: usize,
+        places: &[usize],
     ) -> Result<(), LineError>
         requires kept { IsDraft self.old }
         requires name { IsTrue (is_name name.bytes) }
         requires mtu { IsMtu mtu }
-        requires one { one < length self.old.nodes }
-        requires other { other < length self.old.nodes }
-        ensures answer { Judged result self.new (state_link_between self.old name.bytes kind mtu (Some one) (Some other)) }
+        requires ends { MayJoin (length self.old.nodes) kind hub mtu places.now }
+        ensures answer { Judged result self.new (state_between self.old name.bytes kind hub mtu (Some places.now)) }
         ensures kept { OnOk result (IsDraft self.new) }
     {
-        match self.may_add_link(&name, one, other) {
-            Ok(()) => self.push_link(alloc, name, kind, mtu, one, other),
+        match self.may_add_link(&name, places) {
+            Ok(()) => self.push_link(alloc, name, kind, hub, mtu, places),
             Err(kind) => Err(LineError::Kind(kind)),
         }
     }
@@ -198,7 +261,31 @@ impl Draft {
         let Some(other) = node_named(&self.nodes, word_at(args, 3)) else {
             return Err(LineError::Kind(SceneKind::Unknown));
         };
-        self.state_link_between(alloc, name, kind, mtu, one, other)
+        self.state_between(alloc, name, kind, false, mtu, &[one, other])
+    }
+
+    /// A `hub` line.
+    pub(crate) fn state_hub(&mut self, alloc: Global, args: &[&[u8]]) -> Result<(), LineError>
+        requires kept { IsDraft self.old }
+        requires fits { Fits Form.Hub (map (λ word. word.now) args.now) }
+        requires most { length args.now ≤ MAX_HUB_NODES + 1 }
+        ensures answer { Judged result self.new (state_hub self.old (map (λ word. word.now) args.now)) }
+        ensures kept { OnOk result (IsDraft self.new) }
+    {
+        let name = name_at(Form::Hub, args, 0);
+        match routers_named(&self.nodes, past(args, 1)) {
+            Some(places) => {
+                self.state_between(
+                    alloc,
+                    name,
+                    LinkKind::Can,
+                    true,
+                    DEFAULT_MTU as u16,
+                    &places,
+                )
+            }
+            None => Err(LineError::Kind(SceneKind::Unknown)),
+        }
     }
 
     /// A line of a KISS link.

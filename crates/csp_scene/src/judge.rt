@@ -1,15 +1,21 @@
 //! A line judged as a whole against the lines before it.
 
-ghost use Rattle.std.specs.Prelude.{◌≡◌, ◌||◌, not, List, map, Ok, Err, IsTrue, IfOk, IfSome, OnOk, if◌then◌else◌, ◌≤◌, MatchResult, find, length};
+ghost use Rattle.std.specs.Prelude.{◌≡◌, ◌||◌, ◌&&◌, not, List, map, Ok, Err, IsTrue, IfOk, IfSome, OnOk, if◌then◌else◌, ◌≤◌, MatchResult, find, length};
 ghost use Rattle.std.specs.List.{list_any, list_all};
 ghost use Rattle.std.specs.Option.{option_copied};
+ghost use Rattle.csp_scene.specs.Table.{suits};
+ghost use Rattle.csp_scene.specs.Checks.{has_count};
+ghost use Rattle.csp_scene.specs.Naming.{is_hub_called};
+ghost use Rattle.csp_scene.specs.Arguments.{word_at};
 ghost use Rattle.csp_scene.specs.Rows.{begins, begins_step, begins_count, has_choice};
 ghost use Rattle.csp_scene.specs.Judge.{is_printable, fit, row_for, is_comment, judge_words, judge, is_passed_over, begins_app};
 ghost use Rattle.csp_text.specs.Cut.{words_of};
 ghost use Rattle.csp_scene.specs.Kept.{IsDraft, Fits, FitsShape, Judged};
 
+use crate::arguments::word_at;
 use crate::draft::{Draft, LineError};
 use crate::limits::MAX_LINE;
+use crate::naming::is_hub_called;
 use crate::refusal::SceneKind;
 use crate::rows::Row;
 use crate::table::Form;
@@ -43,23 +49,25 @@ fn is_count(table: &[Row], first: &[u8], count: usize) -> bool
     table.iter().any(|row| row.begins_count(first, count))
 }
 
-/// The first choice with this number of words that has its fixed words in their places.
-fn choice<'a>(table: &'a [Row], first: &[u8], args: &[&[u8]]) -> Option<&'a Row>
-    ensures first { option_copied result ≡ find (has_choice first.now (map (λ word. word.now) args.now)) table.now }
-    ensures count { IfSome result (λ row. length row.now.shape ≤ length args.now) }
+/// The first choice with this number of words that has its fixed words in their places, and may be
+/// of a line whose first argument is the name of a hub, or is not.
+fn choice<'a>(table: &'a [Row], on_hub: bool, first: &[u8], args: &[&[u8]]) -> Option<&'a Row>
+    ensures first { option_copied result ≡ find (λ row. suits on_hub row.form && has_choice first.now (map (λ word. word.now) args.now) row) table.now }
+    ensures count { IfSome result (λ row. IsTrue (has_count row.now.shape (length args.now))) }
 {
-    table.iter().find(|row| row.has_choice(first, args))
+    table.iter().find(|row| row.form().suits(on_hub) && row.has_choice(first, args))
 }
 
 /// Which row a line is of, by its first word and the others; `in_app` says that a step may stand
-/// here.
+/// here, and `on_hub` that the first of the others is the name of a hub.
 fn row_for<'a>(
     table: &'a [Row],
     in_app: bool,
+    on_hub: bool,
     first: &[u8],
     args: &[&[u8]],
 ) -> Result<&'a Row, SceneKind>
-    ensures value { MatchResult result (λ row. row_for table.now in_app first.now (map (λ word. word.now) args.now) ≡ Ok row.now) (λ kind. row_for table.now in_app first.now (map (λ word. word.now) args.now) ≡ Err kind) }
+    ensures value { MatchResult result (λ row. row_for table.now in_app on_hub first.now (map (λ word. word.now) args.now) ≡ Ok row.now) (λ kind. row_for table.now in_app on_hub first.now (map (λ word. word.now) args.now) ≡ Err kind) }
     ensures fits { IfOk result (λ row. Fits row.now.form (map (λ word. word.now) args.now)) }
     ensures shape { IfOk result (λ row. FitsShape row.now.form row.now.shape (map (λ word. word.now) args.now)) }
 {
@@ -72,7 +80,7 @@ fn row_for<'a>(
     if !is_count(table, first, args.len()) {
         return Err(SceneKind::Count);
     }
-    let Some(row) = choice(table, first, args) else {
+    let Some(row) = choice(table, on_hub, first, args) else {
         return Err(SceneKind::Choice);
     };
     match row.fit(args) {
@@ -106,6 +114,22 @@ fn stays_in_app(table: &[Row], in_app: bool, words: &[&[u8]]) -> bool
 }
 
 impl Draft {
+    /// Which row a line is of, by its words and the hubs that there are.
+    fn row_of<'a>(
+        &self,
+        table: &'a [Row],
+        in_app: bool,
+        first: &[u8],
+        args: &[&[u8]],
+    ) -> Result<&'a Row, SceneKind>
+        ensures value { MatchResult result (λ row. row_for table.now in_app (is_hub_called (word_at (map (λ word. word.now) args.now) 0) self.now.links) first.now (map (λ word. word.now) args.now) ≡ Ok row.now) (λ kind. row_for table.now in_app (is_hub_called (word_at (map (λ word. word.now) args.now) 0) self.now.links) first.now (map (λ word. word.now) args.now) ≡ Err kind) }
+        ensures fits { IfOk result (λ row. Fits row.now.form (map (λ word. word.now) args.now)) }
+        ensures shape { IfOk result (λ row. FitsShape row.now.form row.now.shape (map (λ word. word.now) args.now)) }
+    {
+        let on_hub = is_hub_called(&self.links, word_at(args, 0));
+        row_for(table, in_app, on_hub, first, args)
+    }
+
     /// Takes a line in, by its words. A line without words and a comment state nothing.
     fn judge_words(
         &mut self,
@@ -124,7 +148,7 @@ impl Draft {
         if is_comment(first) {
             return Ok(());
         }
-        match row_for(table, in_app, first, args) {
+        match self.row_of(table, in_app, first, args) {
             Ok(row) => self.state(alloc, row.form(), row.shape(), args),
             Err(kind) => Err(LineError::Kind(kind)),
         }

@@ -2,7 +2,7 @@
 
 use csp_base::{MAX_FRAME, MAX_PAYLOAD};
 use csp_link::MAX_REPEATS;
-use csp_log::{MAX_DATA, SLOTS};
+use csp_log::{LINK_ENDS, MAX_DATA, SLOTS};
 
 /// The most bytes that a line has.
 pub const MAX_LINE: usize = 8192;
@@ -18,6 +18,9 @@ pub const MAX_NODES: usize = 8;
 
 /// The most links of a scene.
 pub const MAX_LINKS: usize = 12;
+
+/// The most nodes of a hub; the fewest are two.
+pub const MAX_HUB_NODES: usize = LINK_ENDS;
 
 /// How many links each bridge has.
 pub const BRIDGE_LINKS: usize = 2;

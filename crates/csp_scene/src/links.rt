@@ -1,7 +1,7 @@
 //! Links in the making.
 
-ghost use Rattle.std.specs.Prelude.{◌≡◌, ◌≤◌, ◌+◌, ◌∷◌, [], List, OnOk, IfOk, length};
-ghost use Rattle.std.specs.List.{list_any};
+ghost use Rattle.std.specs.Prelude.{◌≡◌, ◌==◌, ◌≤◌, ◌<◌, ◌+◌, ◌∷◌, [], List, OnOk, IfOk, IfSome, length};
+ghost use Rattle.std.specs.List.{list_any, position};
 ghost use Rattle.csp_scene.specs.Links.{touches};
 ghost use Rattle.csp_scene.specs.Faults.{has_fault, with_fault};
 ghost use Rattle.csp_scene.specs.Stated.{stated_of};
@@ -78,6 +78,22 @@ impl LinkDraft {
         ensures { result ≡ touches place self.now }
     {
         self.link.touches(place)
+    }
+
+    /// Whether it is a hub.
+    pub(crate) fn is_hub(&self) -> bool
+        ensures { result ≡ self.now.hub }
+    {
+        self.link.hub
+    }
+
+    /// The number of its end at the node in a place.
+    pub(crate) fn end_at(&self, place: usize) -> Option<u8>
+        ensures value { result ≡ position (λ end. end.node == place) self.now.ends }
+        ensures inside { IfSome result (λ end. end < length self.now.ends) }
+    {
+        let end = self.link.end_at(place)?;
+        Some(end as u8)
     }
 
     /// How many faults it has.

@@ -5,7 +5,7 @@ ghost use Rattle.std.specs.List.{list_any, position};
 ghost use Rattle.std.specs.Str.{bytes_eq};
 ghost use Rattle.csp_route.specs.Text.{names_of};
 ghost use Rattle.csp_scene.specs.Links.{links_at, node_at};
-ghost use Rattle.csp_scene.specs.Naming.{has_name, is_link_called, is_called, is_router, node_named, router_named, link_named, app_named, iface_names, iface_named, is_name_taken, has_addr, is_addr_taken};
+ghost use Rattle.csp_scene.specs.Naming.{has_name, is_link_called, is_hub_called, is_called, is_router, node_named, router_named, link_named, app_named, iface_names, iface_named, is_name_taken, has_addr, is_addr_taken};
 
 use crate::limits::MAX_LINKS;
 use crate::links::LinkDraft;
@@ -60,6 +60,15 @@ pub(crate) fn is_link_name(links: &[LinkDraft], name: &[u8]) -> bool
     ensures { result ≡ list_any (is_link_called name.now) links.now }
 {
     links.iter().any(|link| is_link_called(link, name))
+}
+
+/// Whether a hub has this name.
+pub(crate) fn is_hub_called(links: &[LinkDraft], name: &[u8]) -> bool
+    ensures { result ≡ is_hub_called name.now links.now }
+{
+    links
+        .iter()
+        .any(|link| link.is_hub() && is_link_called(link, name))
 }
 
 /// The place of the application of this name.

@@ -1,9 +1,10 @@
 //! All shapes that a line may have.
 
-ghost use Rattle.std.specs.Prelude.{◌≡◌, ◌++◌, ◌==◌, ◌&&◌, ◌≤◌, List, Some, Ok, Err, IfOk, OnOk, MatchResult, length, map};
+ghost use Rattle.std.specs.Prelude.{◌≡◌, ◌++◌, ◌==◌, ◌&&◌, ◌≤◌, List, Some, Ok, Err, IsTrue, IfOk, OnOk, MatchResult, length, map};
 ghost use Rattle.std.specs.Str.{bytes_eq};
 ghost use Rattle.csp_scene.specs.Table.{first_word, is_step, fixed_of, optional_of, with_options, shapes_of};
 ghost use Rattle.csp_scene.specs.Rows.{PlainRow, row_of, rows_of, all_rows, begins, begins_step, begins_count, has_choice};
+ghost use Rattle.csp_scene.specs.Checks.{has_count};
 ghost use Rattle.csp_scene.specs.Judge.{fit};
 ghost use Rattle.csp_scene.specs.Kept.{IsOneOf, IsShapeOf, Fits, FitsShape};
 
@@ -77,7 +78,7 @@ impl Row {
     /// Whether the names and then the numbers of a line fit: one whose number of words and fixed
     /// words do.
     pub(crate) fn fit(&self, args: &[&[u8]]) -> Result<(), SceneKind>
-        requires { length self.now.shape ≤ length args.now }
+        requires { IsTrue (has_count self.now.shape (length args.now)) }
         ensures value { MatchResult result (λ _. fit (map (λ word. word.now) args.now) (Some self.now) ≡ Ok self.now) (λ kind. fit (map (λ word. word.now) args.now) (Some self.now) ≡ Err kind) }
         ensures fits { OnOk result (Fits self.now.form (map (λ word. word.now) args.now)) }
         ensures shape { OnOk result (FitsShape self.now.form self.now.shape (map (λ word. word.now) args.now)) }

@@ -1,6 +1,7 @@
 //! A scene: what the lines of a scenario state.
 
-ghost use Rattle.std.specs.Prelude.{◌≡◌};
+ghost use Rattle.std.specs.Prelude.{◌≡◌, ◌==◌, ◌<◌, IfSome, length};
+ghost use Rattle.std.specs.List.{position};
 ghost use Rattle.csp_scene.specs.Links.{touches};
 
 use arrayvec::ArrayVec;
@@ -79,9 +80,11 @@ pub struct SceneLink {
     pub name: Name,
     /// What it carries.
     pub kind: LinkKind,
+    /// Whether it is a hub: a bus on which each frame goes to every other end.
+    pub hub: bool,
     /// The most bytes that a packet's payload may have on it, `MIN_MTU` to `MAX_MTU`.
     pub mtu: u16,
-    /// Its two ends, in the order of its line.
+    /// Its ends, in the order of its line: two, and of a hub two to `MAX_HUB_NODES`.
     pub ends: ArrayVec<End, LINK_ENDS>,
     /// What goes wrong on it, in the order of the lines.
     pub plan: Vec<Fault>,
@@ -92,7 +95,7 @@ impl Model for SceneLink {
 
     ghost Value = { PlainLink };
 
-    ghost view = { λ link. record { name = link.name.bytes; kind = link.kind; mtu = link.mtu; ends = link.ends.items; plan = link.plan.items } };
+    ghost view = { λ link. record { name = link.name.bytes; kind = link.kind; hub = link.hub; mtu = link.mtu; ends = link.ends.items; plan = link.plan.items } };
 }
 
 impl SceneLink {
@@ -101,6 +104,17 @@ impl SceneLink {
         ensures { result ≡ touches place self.now }
     {
         self.ends.iter().any(|end| usize::from(end.node) == place)
+    }
+
+    /// The number of its end at the node at this place.
+    pub(crate) fn end_at(&self, place: usize) -> Option<usize>
+        ensures value { result ≡ position (λ end. end.node == place) self.now.ends }
+        ensures inside { IfSome result (λ end. end < length self.now.ends) }
+        ensures few { IfSome result (λ end. end < LINK_ENDS) }
+    {
+        self.ends
+            .iter()
+            .position(|end| usize::from(end.node) == place)
     }
 }
 

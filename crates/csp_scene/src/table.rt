@@ -1,7 +1,7 @@
 //! The line forms of the scenario language, a row each.
 
 ghost use Rattle.std.specs.Prelude.{◌≡◌, ◌++◌, List, IfOk, OnOk, map};
-ghost use Rattle.csp_scene.specs.Table.{first_word, keyword_text, is_step, fixed_of, optional_of, group_of, with_options};
+ghost use Rattle.csp_scene.specs.Table.{first_word, keyword_text, is_step, is_fault, is_hub_fault, suits, fixed_of, optional_of, group_of, with_options};
 
 use crate::limits::{
     FIRST_OWN_PORT, LAST_FRAME, MAX_ADDR, MAX_COPIES, MAX_COUNT, MAX_DELAY, MAX_DEST, MAX_FLIP,
@@ -34,6 +34,8 @@ pub(crate) enum Form {
     KissLink,
     /// `link NAME can NODE NODE [mtu M]`
     CanLink,
+    /// `hub NAME NODE NODE ..`
+    Hub,
     /// `route NODE TEXT`
     Route,
     /// `fault LINK ab FRAME lose`; here and in the next three `ba` may stand for `ab`
@@ -44,6 +46,14 @@ pub(crate) enum Form {
     Delay,
     /// `fault LINK ab FRAME flip B`
     Flip,
+    /// `fault HUB NODE FRAME lose`
+    HubLose,
+    /// `fault HUB NODE FRAME repeat K`
+    HubRepeat,
+    /// `fault HUB NODE FRAME delay R`
+    HubDelay,
+    /// `fault HUB NODE FRAME flip B`
+    HubFlip,
     /// `app NODE NAME`
     App,
     /// `take`
@@ -140,6 +150,8 @@ pub(crate) enum Part {
     Moves,
     /// The text of a routing table, one word or more, to the line's end.
     Text,
+    /// Names of the nodes of a hub, one or more, to the line's end.
+    Nodes,
 }
 
 /// Words at a line's end that may be left out together.
@@ -156,7 +168,7 @@ pub(crate) enum Group {
 }
 
 /// The line forms, in the order of the table.
-pub(crate) static FORMS: [Form; 27] = [
+pub(crate) static FORMS: [Form; 32] = [
     Form::Until,
     Form::Rounds,
     Form::Shuffle,
@@ -166,11 +178,16 @@ pub(crate) static FORMS: [Form; 27] = [
     Form::Rdp,
     Form::KissLink,
     Form::CanLink,
+    Form::Hub,
     Form::Route,
     Form::Lose,
     Form::Repeat,
     Form::Delay,
     Form::Flip,
+    Form::HubLose,
+    Form::HubRepeat,
+    Form::HubDelay,
+    Form::HubFlip,
     Form::App,
     Form::Take,
     Form::Give,
@@ -301,6 +318,8 @@ static CAN_LINK_OPTIONS: [Group; 1] = [Group::Setting {
     high: MAX_MTU,
 }];
 
+static HUB: [Part; 3] = [Part::Name, Part::Name, Part::Nodes];
+
 static ROUTE: [Part; 2] = [Part::Name, Part::Text];
 
 static LOSE: [Part; 4] = [
@@ -344,6 +363,58 @@ static DELAY: [Part; 5] = [
 static FLIP: [Part; 5] = [
     Part::Name,
     Part::Either(Keyword::Ab, Keyword::Ba),
+    Part::Number {
+        low: 1,
+        high: LAST_FRAME,
+    },
+    Part::Fixed(Keyword::Flip),
+    Part::Number {
+        low: 0,
+        high: MAX_FLIP,
+    },
+];
+
+static HUB_LOSE: [Part; 4] = [
+    Part::Name,
+    Part::Name,
+    Part::Number {
+        low: 1,
+        high: LAST_FRAME,
+    },
+    Part::Fixed(Keyword::Lose),
+];
+
+static HUB_REPEAT: [Part; 5] = [
+    Part::Name,
+    Part::Name,
+    Part::Number {
+        low: 1,
+        high: LAST_FRAME,
+    },
+    Part::Fixed(Keyword::Repeat),
+    Part::Number {
+        low: 1,
+        high: MAX_COPIES,
+    },
+];
+
+static HUB_DELAY: [Part; 5] = [
+    Part::Name,
+    Part::Name,
+    Part::Number {
+        low: 1,
+        high: LAST_FRAME,
+    },
+    Part::Fixed(Keyword::Delay),
+    Part::Number {
+        low: 1,
+        high: MAX_DELAY,
+    },
+];
+
+static HUB_FLIP: [Part; 5] = [
+    Part::Name,
+    Part::Name,
     Part::Number {
         low: 1,
         high: LAST_FRAME,
@@ -532,8 +603,16 @@ impl Form {
             Form::Bridge => b"bridge",
             Form::Rdp => b"rdp",
             Form::KissLink | Form::CanLink => b"link",
+            Form::Hub => b"hub",
             Form::Route => b"route",
-            Form::Lose | Form::Repeat | Form::Delay | Form::Flip => b"fault",
+            Form::Lose
+            | Form::Repeat
+            | Form::Delay
+            | Form::Flip
+            | Form::HubLose
+            | Form::HubRepeat
+            | Form::HubDelay
+            | Form::HubFlip => b"fault",
             Form::App => b"app",
             Form::Take => b"take",
             Form::Give => b"give",
@@ -571,6 +650,37 @@ impl Form {
         }
     }
 
+    /// Whether its lines state a fault of a link of two ends.
+    fn is_fault(self) -> bool
+        ensures { result ≡ is_fault self }
+    {
+        match self {
+            Form::Lose | Form::Repeat | Form::Delay | Form::Flip => true,
+            _ => false,
+        }
+    }
+
+    /// Whether its lines state a fault of a hub.
+    fn is_hub_fault(self) -> bool
+        ensures { result ≡ is_hub_fault self }
+    {
+        match self {
+            Form::HubLose | Form::HubRepeat | Form::HubDelay | Form::HubFlip => true,
+            _ => false,
+        }
+    }
+
+    /// Whether a line may be of this form whose first argument is the name of a hub, or is not.
+    pub(crate) fn suits(self, on_hub: bool) -> bool
+        ensures { result ≡ suits on_hub self }
+    {
+        if on_hub {
+            !self.is_fault()
+        } else {
+            !self.is_hub_fault()
+        }
+    }
+
     /// What stands after the first word in each of its lines.
     pub(crate) fn fixed(self) -> &'static [Part]
         ensures { result.now ≡ fixed_of self }
@@ -585,11 +695,16 @@ impl Form {
             Form::Rdp => &RDP,
             Form::KissLink => &KISS_LINK,
             Form::CanLink => &CAN_LINK,
+            Form::Hub => &HUB,
             Form::Route => &ROUTE,
             Form::Lose => &LOSE,
             Form::Repeat => &REPEAT,
             Form::Delay => &DELAY,
             Form::Flip => &FLIP,
+            Form::HubLose => &HUB_LOSE,
+            Form::HubRepeat => &HUB_REPEAT,
+            Form::HubDelay => &HUB_DELAY,
+            Form::HubFlip => &HUB_FLIP,
             Form::App => &APP,
             Form::Take | Form::Give => &[],
             Form::Bind => &BIND,

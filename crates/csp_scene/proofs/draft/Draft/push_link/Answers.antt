@@ -7,6 +7,6 @@ use Rattle.csp_scene.proofs.draft.Draft.push_link.Goals as goal
 
 pub returns-clause-kept : goal.returns-clause-kept
 returns-clause-kept c =
-    kept_of (with_link (new_link c.args.self.now.links c.args.name.bytes c.args.kind c.args.mtu c.args.one c.args.other) c.args.self.now) _
-    (IsDraft-link c.args.self.now c.args.name.bytes c.args.kind c.args.mtu c.args.one c.args.other c.requires.kept c.requires.name c.requires.mtu c.requires.one c.requires.other c.requires.apart c.requires.room)
+    kept_of (with_link (new_link c.args.self.now.links c.args.name.bytes c.args.kind c.args.hub c.args.mtu c.args.places.now) c.args.self.now) _
+    (IsDraft-link c.args.self.now c.args.name.bytes c.args.kind c.args.hub c.args.mtu c.args.places.now c.requires.kept c.requires.name c.requires.mtu c.requires.ends c.requires.apart c.requires.room)
     (first_of (search rules, grind (arith, common_steps)))
