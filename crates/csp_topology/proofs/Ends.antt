@@ -18,7 +18,7 @@ use Rattle.csp_topology.proofs.Places.{get-within}
 use Rattle.csp_topology.proofs.PlanLemmas.{link_rule}
 use Rattle.csp_topology.proofs.WirePlaces.{Wire, down, ifaces_of, out, rx, tx, up, wire_is}
 use Rattle.csp_topology.specs.Lanes.{PlainEnd, PlainLane, hub_of, out_lane}
-use Rattle.csp_topology.specs.Parties.{PlainOpening, app_at, iface_on, link_at, parties_of}
+use Rattle.csp_topology.specs.Parties.{PlainOpening, app_at, heeded, iface_on, link_at, parties_of}
 use Rattle.csp_topology.specs.Wired.{IsEndOf, Joins, Side, Stands, StaysHome, end_on, getting, putting}
 use Rattle.csp_topology.specs.Wires.{PlainJoint, down_lane, rx_lane, tx_lane, up_lane, wire_at}
 
@@ -30,7 +30,7 @@ link_stands scene k l at = record { place = ends scene + k; party = link_at k l;
 iface_stands : (scene : PlainScene) (node k : ℕ) (n : PlainNode) → slice_get scene.nodes node ≡ Some n → k < length (links_at node scene.links) → Stands scene (who.Iface node k)
 iface_stands scene node k n there low =
     let (l, on) = get-within (links_at node scene.links) k low in
-    record { place = begins scene node + suc k; party = iface_on node k l.kind l.mtu; at = iface_there scene node k n l there on; named = refl }
+    record { place = begins scene node + suc k; party = iface_on node k l.kind l.mtu (heeded n.addr l); at = iface_there scene node k n l there on; named = refl }
 
 app_stands : (scene : PlainScene) (node k : ℕ) (n : PlainNode) → slice_get scene.nodes node ≡ Some n → k < length n.apps → Stands scene (who.App node k)
 app_stands scene node k n there low =

@@ -1,5 +1,5 @@
 -- Where the links of a scene end: the ends at a node stand in the order of its interfaces.
-use Rattle.std.proofs.Common.{◌≡◌, ◌≢◌, ℕ, zero, suc, ◌+◌, ◌==◌, ◌||◌, Bool, true, false, cond, Some, List, [], ◌∷◌, ◌++◌, length, map, slice_get, ap, refl, sym, subst, ◌∙◌, arith}
+use Rattle.std.proofs.Common.{◌≡◌, ℕ, zero, suc, ◌+◌, ◌==◌, ◌||◌, Bool, true, false, cond, Some, List, [], ◌∷◌, ◌++◌, length, map, slice_get, ap, refl, sym, subst, ◌∙◌, arith}
 use Rattle.std.specs.List.{list_any, range_with_len}
 use Rattle.std.proofs.lemmas.Bool.{eqb-true, eq-eqb}
 use Rattle.std.proofs.lemmas.List.{length-append, length-map}
@@ -8,10 +8,11 @@ use Rattle.std.proofs.lemmas.Option.{same_Some}
 use Rattle.csp_log.specs.Kinds.{carried_on}
 use Rattle.csp_log.specs.declared.places.Carries.{Carries}
 use Rattle.csp_log.specs.declared.places.End.{End}
-use Rattle.csp_scene.specs.Kept.{AreLinksAfter, IsLinkAfter}
+use Rattle.csp_scene.specs.Kept.{AreLinksAfter, IsEndAfter}
 use Rattle.csp_scene.specs.Links.{links_at, touches}
+use Rattle.csp_scene.specs.Ranges.{AreApart, HasEnds}
 use Rattle.csp_scene.specs.Scene.{PlainLink, PlainScene}
-use Rattle.csp_topology.proofs.Places.{Among, among, get-first, get-made, get-second, kept-from, kept-there, made-from, of_first, of_second, range-from}
+use Rattle.csp_topology.proofs.Places.{Among, all_at, among, get-first, get-made, get-second, kept-from, kept-there, made-from, of_first, of_second, range-from}
 use Rattle.csp_topology.specs.Wires.{PlainJoint, is_at, joints_at, joints_from, joints_on}
 
 -- the end of a link at a place
@@ -106,81 +107,97 @@ iface_at j = j.end.iface
 abbrev pub carried : PlainLink → Carries
 carried l = carried_on l.kind
 
--- a link of two ends at different nodes has one end at a node which it touches, and none at another
-pub data Touch (node : ℕ) (l : PlainLink) (f s : End) : Type 0 where
-  at_first : (f.node == node) ≡ true → (s.node == node) ≡ false → touches node l ≡ true → Touch node l f s
-  at_second : (f.node == node) ≡ false → (s.node == node) ≡ true → touches node l ≡ true → Touch node l f s
-  at_none : (f.node == node) ≡ false → (s.node == node) ≡ false → touches node l ≡ false → Touch node l f s
+-- a link whose ends are at different nodes has one end at a node which it touches, and none at another
+pub data Touch (node number : ℕ) (carries : Carries) (at : ℕ) (es : List End) : Type 0 where
+  at_one : (place : ℕ) (x : End) → slice_get es place ≡ Some x → (x.node == node) ≡ true → list_any (λ (e : End). e.node == node) es ≡ true
+      → joints_at node (joints_on number carries at es) ≡ joint_of number carries (at + place) x ∷ [] → Touch node number carries at es
+  at_none : list_any (λ (e : End). e.node == node) es ≡ false → joints_at node (joints_on number carries at es) ≡ [] → Touch node number carries at es
 
-pub touch : (node : ℕ) (l : PlainLink) (f s : End) → l.ends ≡ f ∷ s ∷ [] → f.node ≢ s.node → Touch node l f s
-touch node l f s two apart = by (f.node == node) (s.node == node) refl refl where
-  tested : (b c : Bool) → (f.node == node) ≡ b → (s.node == node) ≡ c → touches node l ≡ (b || (c || false))
-  tested b c e g =
-      ap (list_any (λ (x : End). x.node == node)) two
-      ∙ ap (λ (x : Bool). x || ((s.node == node) || false)) e
-      ∙ ap (λ (x : Bool). b || (x || false)) g
+-- ends of which none is at a node
+abbrev NoneAt : ℕ → List End → Type 0
+NoneAt node es = (k : ℕ) (x : End) → slice_get es k ≡ Some x → (x.node == node) ≡ true → ⊥
 
-  by : (b c : Bool) → (f.node == node) ≡ b → (s.node == node) ≡ c → Touch node l f s
-  by true true e g = absurd (apart (eqb-true f.node node e ∙ sym (eqb-true s.node node g)))
-  by true false e g = at_first e g (tested true false e g)
-  by false true e g = at_second e g (tested false true e g)
-  by false false e g = at_none e g (tested false false e g)
+untouched : (node number : ℕ) (carries : Carries) (at : ℕ) (es : List End) → NoneAt node es → (list_any (λ (e : End). e.node == node) es ≡ false) × (joints_at node (joints_on number carries at es) ≡ [])
+untouched node number carries at [] none = (refl, refl)
+untouched node number carries at (x ∷ es) none = by (x.node == node) refl (untouched node number carries (at + 1) es (λ k y e here. none (suc k) y e here)) where
+  by : (b : Bool) → (x.node == node) ≡ b → (list_any (λ (e : End). e.node == node) es ≡ false) × (joints_at node (joints_on number carries (at + 1) es) ≡ [])
+      → (list_any (λ (e : End). e.node == node) (x ∷ es) ≡ false) × (joints_at node (joints_on number carries at (x ∷ es)) ≡ [])
+  by true e rest = absurd (none 0 x refl e)
+  by false e rest = (ap (λ (b : Bool). b || list_any (λ (e : End). e.node == node) es) e ∙ rest.0, ap (λ (b : Bool). cond b (joint_of number carries at x ∷ joints_at node (joints_on number carries (at + 1) es)) (joints_at node (joints_on number carries (at + 1) es))) e ∙ rest.1)
+
+touch : (node number : ℕ) (carries : Carries) (at : ℕ) (es : List End) → AreApart es → Touch node number carries at es
+touch node number carries at [] apart = at_none refl refl
+touch node number carries at (x ∷ es) apart = by (x.node == node) refl (λ rest. touch node number carries (at + 1) es rest) where
+  alone : (x.node == node) ≡ true → NoneAt node es
+  alone e k y there same = (let h = apart 0 (suc k) x y refl there (eqb-true x.node node e ∙ sym (eqb-true y.node node same)) in absurd (omega (arith, h)))
+
+  later : AreApart es
+  later i j a b e f same = let h = apart (suc i) (suc j) a b e f same in omega (arith, h)
+
+  first : (b : Bool) → (x.node == node) ≡ b → joints_at node (joints_on number carries at (x ∷ es)) ≡ cond b (joint_of number carries at x ∷ joints_at node (joints_on number carries (at + 1) es)) (joints_at node (joints_on number carries (at + 1) es))
+  first b e = ap (λ (c : Bool). cond c (joint_of number carries at x ∷ joints_at node (joints_on number carries (at + 1) es)) (joints_at node (joints_on number carries (at + 1) es))) e
+
+  any : (b : Bool) → (x.node == node) ≡ b → list_any (λ (e : End). e.node == node) (x ∷ es) ≡ (b || list_any (λ (e : End). e.node == node) es)
+  any b e = ap (λ (c : Bool). c || list_any (λ (e : End). e.node == node) es) e
+
+  past : (x.node == node) ≡ false → Touch node number carries (at + 1) es → Touch node number carries at (x ∷ es)
+  past e (at_one place y there same touched one) =
+      at_one (suc place) y there same (any false e ∙ touched) (first false e ∙ one ∙ ap (λ (k : ℕ). joint_of number carries k y ∷ []) (omega arith))
+  past e (at_none touched none) = at_none (any false e ∙ touched) (first false e ∙ none)
+
+  by : (b : Bool) → (x.node == node) ≡ b → (AreApart es → Touch node number carries (at + 1) es) → Touch node number carries at (x ∷ es)
+  by true e more =
+      at_one 0 x refl e (any true e)
+      (first true e ∙ ap (λ (js : List PlainJoint). joint_of number carries at x ∷ js) (untouched node number carries (at + 1) es (alone e)).1 ∙ ap (λ (k : ℕ). joint_of number carries k x ∷ []) (omega arith))
+  by false e more = past e (more later)
+
+-- how a link touches a node
+abbrev pub TouchOf : ℕ → ℕ → PlainLink → Type 0
+TouchOf node number l = Touch node number (carried_on l.kind) 0 l.ends
+
+pub touch_of : (node number : ℕ) (l : PlainLink) → HasEnds l → TouchOf node number l
+touch_of node number l is = touch node number (carried_on l.kind) 0 l.ends is.apart
 
 -- the ends of a link at a node, then those of the others
-abbrev pub two_joints : ℕ → Carries → End → End → List PlainJoint → List PlainJoint
-two_joints number carries f s js = joint_of number carries 0 f ∷ joint_of number carries (0 + 1) s ∷ js
-
-pub joined : (number : ℕ) (l : PlainLink) (links : List PlainLink) (f s : End) → l.ends ≡ f ∷ s ∷ [] → joints_from number (l ∷ links) ≡ two_joints number (carried_on l.kind) f s (joints_from (number + 1) links)
-joined number l links f s two = ap (λ (es : List End). joints_on number (carried_on l.kind) 0 es ++ joints_from (number + 1) links) two
+pub split_at : (node number : ℕ) (l : PlainLink) (links : List PlainLink)
+    → joints_at node (joints_from number (l ∷ links)) ≡ joints_at node (joints_on number (carried_on l.kind) 0 l.ends) ++ joints_at node (joints_from (number + 1) links)
+split_at node number l links = filter-append (is_at node) (joints_on number (carried_on l.kind) 0 l.ends) (joints_from (number + 1) links)
 
 -- the interfaces of the ends at a node are numbered in order, and each carries what its link does
 abbrev pub AreOrdered : ℕ → ℕ → List PlainJoint → List PlainLink → Type 0
 AreOrdered node first js links = (map iface_at (joints_at node js) ≡ range_with_len first (length (links_at node links))) × (map (λ j. j.carries) (joints_at node js) ≡ map carried (links_at node links))
 
-module _ (node a number : ℕ) (l : PlainLink) (f s : End) (js : List PlainJoint) (links : List PlainLink) where
-  abbrev jf : PlainJoint
-  jf = joint_of number (carried_on l.kind) 0 f
-
-  abbrev js_ : PlainJoint
-  js_ = joint_of number (carried_on l.kind) (0 + 1) s
-
-  abbrev ends_here : Bool → Bool → List PlainJoint
-  ends_here b c = cond b (jf ∷ cond c (js_ ∷ joints_at node js) (joints_at node js)) (cond c (js_ ∷ joints_at node js) (joints_at node js))
-
-  abbrev links_here : Bool → List PlainLink
-  links_here t = cond t (l ∷ links_at node links) (links_at node links)
-
-  abbrev Ordered : Bool → Bool → Bool → Type 0
-  Ordered b c t = (map iface_at (ends_here b c) ≡ range_with_len a (length (links_here t))) × (map (λ j. j.carries) (ends_here b c) ≡ map carried (links_here t))
-
-  ordered_so : (b c t : Bool) → (f.node == node) ≡ b → (s.node == node) ≡ c → touches node l ≡ t → Ordered b c t → AreOrdered node a (two_joints number (carried_on l.kind) f s js) (l ∷ links)
-  ordered_so b c t e g h is = rw (e, g, h) is
-
 ordered : (nodes node a number : ℕ) (earlier links : List PlainLink) → AreLinksAfter nodes earlier links → a ≡ length (links_at node earlier) → AreOrdered node a (joints_from number links) links
 ordered nodes node a number earlier [] are count = (refl, refl)
 ordered nodes node a number earlier (l ∷ links) are count =
-    subst (λ (js : List PlainJoint). AreOrdered node a js (l ∷ links)) (sym (joined number l links is.first is.second is.two))
-    (by (touch node l is.first is.second is.two is.apart) (λ m same. ordered nodes node m (number + 1) (earlier ++ l ∷ []) links are.1 same)) where
-      is : IsLinkAfter nodes earlier l
-      is = are.0
+    by (touch_of node number l are.0.shape) (λ m same. ordered nodes node m (number + 1) (earlier ++ l ∷ []) links are.1 same) where
+      rest : List PlainJoint
+      rest = joints_from (number + 1) links
 
-      by : Touch node l is.first is.second → ((m : ℕ) → m ≡ length (links_at node (earlier ++ l ∷ [])) → AreOrdered node m (joints_from (number + 1) links) links)
-          → AreOrdered node a (two_joints number (carried_on l.kind) is.first is.second (joints_from (number + 1) links)) (l ∷ links)
-      by (at_first e g t) more =
-          let one = more_links node earlier l true t in
-          let h = more (a + 1) (omega (arith, count, one)) in
-          let here : is.first.iface ≡ a = is.one_end.iface ∙ ap (λ (n : ℕ). length (links_at n earlier)) (eqb-true is.first.node node e) ∙ sym count in
-          ordered_so node a number l is.first is.second (joints_from (number + 1) links) links true false true e g t
-          (ap (λ (k : ℕ). k ∷ map iface_at (joints_at node (joints_from (number + 1) links))) here ∙ ap (λ (ks : List ℕ). a ∷ ks) h.0, ap (λ (cs : List Carries). carried_on l.kind ∷ cs) h.1)
-      by (at_second e g t) more =
-          let one = more_links node earlier l true t in
-          let h = more (a + 1) (omega (arith, count, one)) in
-          let here : is.second.iface ≡ a = is.other_end.iface ∙ ap (λ (n : ℕ). length (links_at n earlier)) (eqb-true is.second.node node g) ∙ sym count in
-          ordered_so node a number l is.first is.second (joints_from (number + 1) links) links false true true e g t
-          (ap (λ (k : ℕ). k ∷ map iface_at (joints_at node (joints_from (number + 1) links))) here ∙ ap (λ (ks : List ℕ). a ∷ ks) h.0, ap (λ (cs : List Carries). carried_on l.kind ∷ cs) h.1)
-      by (at_none e g t) more =
-          let one = more_links node earlier l false t in
-          ordered_so node a number l is.first is.second (joints_from (number + 1) links) links false false false e g t (more a (omega (arith, count, one)))
+      split : (js : List PlainJoint) → joints_at node (joints_on number (carried_on l.kind) 0 l.ends) ≡ js → joints_at node (joints_from number (l ∷ links)) ≡ js ++ joints_at node rest
+      split js e = split_at node number l links ∙ ap (λ (ks : List PlainJoint). ks ++ joints_at node rest) e
+
+      here : (b : Bool) → touches node l ≡ b → links_at node (l ∷ links) ≡ cond b (l ∷ links_at node links) (links_at node links)
+      here b e = ap (λ (c : Bool). cond c (l ∷ links_at node links) (links_at node links)) e
+
+      by : TouchOf node number l → ((m : ℕ) → m ≡ length (links_at node (earlier ++ l ∷ [])) → AreOrdered node m rest links) → AreOrdered node a (joints_from number (l ∷ links)) (l ∷ links)
+      by (at_one place x there e t one) more =
+          let grown = more_links node earlier l true t in
+          let h = more (a + 1) (omega (arith, count, grown)) in
+          let own : x.iface ≡ a = (all_at (IsEndAfter nodes earlier) l.ends place x are.0.ends there).iface ∙ ap (λ (n : ℕ). length (links_at n earlier)) (eqb-true x.node node e) ∙ sym count in
+          let js = split (joint_of number (carried_on l.kind) (0 + place) x ∷ []) one in
+          let ls = here true t in (
+            ap (map iface_at) js ∙ ap (λ (k : ℕ). k ∷ map iface_at (joints_at node rest)) own ∙ ap (λ (ks : List ℕ). a ∷ ks) h.0 ∙ ap (λ (ys : List PlainLink). range_with_len a (length ys)) (sym ls),
+            ap (map (λ (j : PlainJoint). j.carries)) js ∙ ap (λ (cs : List Carries). carried_on l.kind ∷ cs) h.1 ∙ ap (map carried) (sym ls),
+          )
+      by (at_none t none) more =
+          let grown = more_links node earlier l false t in
+          let h = more a (omega (arith, count, grown)) in
+          let js = split [] none in
+          let ls = here false t in (
+            ap (map iface_at) js ∙ h.0 ∙ ap (λ (ys : List PlainLink). range_with_len a (length ys)) (sym ls),
+            ap (map (λ (j : PlainJoint). j.carries)) js ∙ h.1 ∙ ap (map carried) (sym ls),
+          )
 
 -- ---- of a scene
 

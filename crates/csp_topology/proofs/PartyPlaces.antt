@@ -9,30 +9,38 @@ use Rattle.csp_scene.specs.Scene.{PlainApp, PlainLink, PlainNode, PlainScene}
 use Rattle.csp_topology.proofs.PartyLemmas.{ifaces_count}
 use Rattle.csp_topology.proofs.Places.{Among, among, get-first, get-second, of_first, of_second}
 use Rattle.csp_topology.specs.Lanes.{hub_of}
-use Rattle.csp_topology.specs.Parties.{PlainOpening, app_at, apps_from, hub_by, iface_on, ifaces_from, link_at, links_from, parties_at, parties_from, parties_of}
+use Rattle.csp_topology.specs.Parties.{PlainOpening, app_at, apps_from, heeded, hub_by, iface_on, ifaces_from, link_at, links_from, parties_at, parties_from, parties_of}
 use Rattle.csp_topology.specs.Wired.{is_hub, IsLed, Stands}
 
 -- ---- within a node
 
 -- an interface is on the link of its number, and an application has the steps of the node's
-record IsIface (place number d : ℕ) (links : List PlainLink) (o : PlainOpening) : Type 0 where
+record IsIface (place : ℕ) (addr : Option ℕ) (number d : ℕ) (links : List PlainLink) (o : PlainOpening) : Type 0 where
   pub index : ℕ
   pub link : PlainLink
   pub count : d ≡ index
   pub on : slice_get links index ≡ Some link
-  pub is : o ≡ iface_on place (number + index) link.kind link.mtu
+  pub is : o ≡ iface_on place (number + index) link.kind link.mtu (heeded addr link)
 
-iface_of : (place number d : ℕ) (links : List PlainLink) (o : PlainOpening) → slice_get (ifaces_from place number links) d ≡ Some o → IsIface place number d links o
-iface_of place number d [] o e = absurd cc
-iface_of place number zero (l ∷ links) o e = record { index = 0; link = l; count = refl; on = refl; is = sym (same_Some (iface_on place number l.kind l.mtu) o e) ∙ ap (λ (k : ℕ). iface_on place k l.kind l.mtu) (omega arith) }
-iface_of place number (suc d) (l ∷ links) o e =
-    let h = iface_of place (number + 1) d links o e in
-    record { index = suc h.index; link = h.link; count = ap suc h.count; on = h.on; is = h.is ∙ ap (λ (k : ℕ). iface_on place k h.link.kind h.link.mtu) (omega arith) }
+iface_of : (place : ℕ) (addr : Option ℕ) (number d : ℕ) (links : List PlainLink) (o : PlainOpening) → slice_get (ifaces_from place addr number links) d ≡ Some o → IsIface place addr number d links o
+iface_of place addr number d [] o e = absurd cc
+iface_of place addr number zero (l ∷ links) o e = record {
+  index = 0;
+  link = l;
+  count = refl;
+  on = refl;
+  is = sym (same_Some (iface_on place number l.kind l.mtu (heeded addr l)) o e) ∙ ap (λ (k : ℕ). iface_on place k l.kind l.mtu (heeded addr l)) (omega arith);
+}
+iface_of place addr number (suc d) (l ∷ links) o e =
+    let h = iface_of place addr (number + 1) d links o e in
+    record { index = suc h.index; link = h.link; count = ap suc h.count; on = h.on; is = h.is ∙ ap (λ (k : ℕ). iface_on place k h.link.kind h.link.mtu (heeded addr h.link)) (omega arith) }
 
-iface_in : (place number k : ℕ) (links : List PlainLink) (l : PlainLink) → slice_get links k ≡ Some l → slice_get (ifaces_from place number links) k ≡ Some (iface_on place (number + k) l.kind l.mtu)
-iface_in place number k [] l e = absurd cc
-iface_in place number zero (x ∷ links) l e = ap (λ (y : PlainLink). Some (iface_on place number y.kind y.mtu)) (same_Some x l e) ∙ ap (λ (k : ℕ). Some (iface_on place k l.kind l.mtu)) (omega arith)
-iface_in place number (suc k) (x ∷ links) l e = iface_in place (number + 1) k links l e ∙ ap (λ (j : ℕ). Some (iface_on place j l.kind l.mtu)) (omega arith)
+iface_in : (place : ℕ) (addr : Option ℕ) (number k : ℕ) (links : List PlainLink) (l : PlainLink) → slice_get links k ≡ Some l
+    → slice_get (ifaces_from place addr number links) k ≡ Some (iface_on place (number + k) l.kind l.mtu (heeded addr l))
+iface_in place addr number k [] l e = absurd cc
+iface_in place addr number zero (x ∷ links) l e =
+    ap (λ (y : PlainLink). Some (iface_on place number y.kind y.mtu (heeded addr y))) (same_Some x l e) ∙ ap (λ (k : ℕ). Some (iface_on place k l.kind l.mtu (heeded addr l))) (omega arith)
+iface_in place addr number (suc k) (x ∷ links) l e = iface_in place addr (number + 1) k links l e ∙ ap (λ (j : ℕ). Some (iface_on place j l.kind l.mtu (heeded addr l))) (omega arith)
 
 record IsApp (place number d : ℕ) (apps : List PlainApp) (o : PlainOpening) : Type 0 where
   pub index : ℕ
@@ -132,22 +140,22 @@ ends scene = length (parties_from 0 scene.nodes scene.links)
 -- a party of a scene: a node's router or bridge, its interface on one of its links, its application, or a link
 pub data IsParty (scene : PlainScene) (i : ℕ) (o : PlainOpening) : Type 0 where
   hub : (node : ℕ) (n : PlainNode) → slice_get scene.nodes node ≡ Some n → i ≡ begins scene node → o ≡ hub_by n.addr node n (links_at node scene.links) → IsParty scene i o
-  iface : (node k : ℕ) (n : PlainNode) (l : PlainLink) → slice_get scene.nodes node ≡ Some n → slice_get (links_at node scene.links) k ≡ Some l → i ≡ begins scene node + suc k → o ≡ iface_on node k l.kind l.mtu → IsParty scene i o
+  iface : (node k : ℕ) (n : PlainNode) (l : PlainLink) → slice_get scene.nodes node ≡ Some n → slice_get (links_at node scene.links) k ≡ Some l → i ≡ begins scene node + suc k → o ≡ iface_on node k l.kind l.mtu (heeded n.addr l) → IsParty scene i o
   app : (node k : ℕ) (n : PlainNode) (a : PlainApp) → slice_get scene.nodes node ≡ Some n → slice_get n.apps k ≡ Some a → i ≡ begins scene node + suc (length (links_at node scene.links) + k) → o ≡ app_at node k a → IsParty scene i o
   link : (k : ℕ) (l : PlainLink) → slice_get scene.links k ≡ Some l → i ≡ ends scene + k → o ≡ link_at k l → IsParty scene i o
 
 of_place : (scene : PlainScene) (node d i : ℕ) (n : PlainNode) (o : PlainOpening) → slice_get scene.nodes node ≡ Some n → i ≡ begins scene node + d → slice_get (parties_at node n (links_at node scene.links)) d ≡ Some o → IsParty scene i o
 of_place scene node zero i n o there stands e = hub node n there (omega (arith, stands)) (sym (same_Some (hub_by n.addr node n (links_at node scene.links)) o e))
-of_place scene node (suc d) i n o there stands e = by (among (ifaces_from node 0 (links_at node scene.links)) (apps_from node 0 n.apps) d o e) where
-  by : Among (ifaces_from node 0 (links_at node scene.links)) (apps_from node 0 n.apps) d o → IsParty scene i o
+of_place scene node (suc d) i n o there stands e = by (among (ifaces_from node n.addr 0 (links_at node scene.links)) (apps_from node 0 n.apps) d o e) where
+  by : Among (ifaces_from node n.addr 0 (links_at node scene.links)) (apps_from node 0 n.apps) d o → IsParty scene i o
   by (of_first f) =
-      let h = iface_of node 0 d (links_at node scene.links) o f in
+      let h = iface_of node n.addr 0 d (links_at node scene.links) o f in
       let count = h.count in
-      iface node h.index n h.link there h.on (omega (arith, stands, count)) (h.is ∙ ap (λ (k : ℕ). iface_on node k h.link.kind h.link.mtu) (omega arith))
+      iface node h.index n h.link there h.on (omega (arith, stands, count)) (h.is ∙ ap (λ (k : ℕ). iface_on node k h.link.kind h.link.mtu (heeded n.addr h.link)) (omega arith))
   by (of_second j at f) =
       let h = app_of node 0 j n.apps o f in
       let count = h.count in
-      let long = ifaces_count node 0 (links_at node scene.links) in
+      let long = ifaces_count node n.addr 0 (links_at node scene.links) in
       app node h.index n h.app there h.of_it (omega (arith, stands, count, at, long)) (h.is ∙ ap (λ (k : ℕ). app_at node k h.app) (omega arith))
 
 pub party_at : (scene : PlainScene) (i : ℕ) (o : PlainOpening) → slice_get (parties_of scene) i ≡ Some o → IsParty scene i o
@@ -175,17 +183,17 @@ hub_there scene node n there =
     let far : begins scene node ≡ begins scene node + 0 = omega arith in
     ap (slice_get (parties_of scene)) far ∙ there_at scene node 0 n (hub_by n.addr node n (links_at node scene.links)) there refl
 
-pub iface_there : (scene : PlainScene) (node k : ℕ) (n : PlainNode) (l : PlainLink) → slice_get scene.nodes node ≡ Some n → slice_get (links_at node scene.links) k ≡ Some l → IsThere scene (begins scene node + suc k) (iface_on node k l.kind l.mtu)
+pub iface_there : (scene : PlainScene) (node k : ℕ) (n : PlainNode) (l : PlainLink) → slice_get scene.nodes node ≡ Some n → slice_get (links_at node scene.links) k ≡ Some l → IsThere scene (begins scene node + suc k) (iface_on node k l.kind l.mtu (heeded n.addr l))
 iface_there scene node k n l there on =
-    there_at scene node (suc k) n (iface_on node k l.kind l.mtu) there
-    (get-first (ifaces_from node 0 (links_at node scene.links)) (apps_from node 0 n.apps) k (iface_on node k l.kind l.mtu) (iface_in node 0 k (links_at node scene.links) l on ∙ ap (λ (j : ℕ). Some (iface_on node j l.kind l.mtu)) (omega arith)))
+    there_at scene node (suc k) n (iface_on node k l.kind l.mtu (heeded n.addr l)) there
+    (get-first (ifaces_from node n.addr 0 (links_at node scene.links)) (apps_from node 0 n.apps) k (iface_on node k l.kind l.mtu (heeded n.addr l)) (iface_in node n.addr 0 k (links_at node scene.links) l on ∙ ap (λ (j : ℕ). Some (iface_on node j l.kind l.mtu (heeded n.addr l))) (omega arith)))
 
 pub app_there : (scene : PlainScene) (node k : ℕ) (n : PlainNode) (a : PlainApp) → slice_get scene.nodes node ≡ Some n → slice_get n.apps k ≡ Some a → IsThere scene (begins scene node + suc (length (links_at node scene.links) + k)) (app_at node k a)
 app_there scene node k n a there on =
     let links = links_at node scene.links in
-    let far : length links + k ≡ length (ifaces_from node 0 links) + k = ap (λ (c : ℕ). c + k) (sym (ifaces_count node 0 links)) in
+    let far : length links + k ≡ length (ifaces_from node n.addr 0 links) + k = ap (λ (c : ℕ). c + k) (sym (ifaces_count node n.addr 0 links)) in
     there_at scene node (suc (length links + k)) n (app_at node k a) there
-    (ap (slice_get (ifaces_from node 0 links ++ apps_from node 0 n.apps)) far ∙ get-second (ifaces_from node 0 links) (apps_from node 0 n.apps) k ∙ app_in node 0 k n.apps a on ∙ ap (λ (j : ℕ). Some (app_at node j a)) (omega arith))
+    (ap (slice_get (ifaces_from node n.addr 0 links ++ apps_from node 0 n.apps)) far ∙ get-second (ifaces_from node n.addr 0 links) (apps_from node 0 n.apps) k ∙ app_in node 0 k n.apps a on ∙ ap (λ (j : ℕ). Some (app_at node j a)) (omega arith))
 
 pub link_there : (scene : PlainScene) (k : ℕ) (l : PlainLink) → slice_get scene.links k ≡ Some l → IsThere scene (ends scene + k) (link_at k l)
 unfolding parties_of
@@ -215,7 +223,7 @@ named_place scene i o p same at = at ∙ ap (λ (q : PlainOpening). place_of sce
 pub stands_so : (scene : PlainScene) (i : ℕ) (o : PlainOpening) → IsParty scene i o → i ≡ place_of scene o.who
 stands_so scene i o (hub node n there at is) =
     named_place scene i o (hub_by n.addr node n (links_at node scene.links)) is (at ∙ sym (hub_place scene n.addr node) ∙ ap (place_of scene) (sym (hub_named n.addr node n (links_at node scene.links))))
-stands_so scene i o (iface node k n l there on at is) = named_place scene i o (iface_on node k l.kind l.mtu) is at
+stands_so scene i o (iface node k n l there on at is) = named_place scene i o (iface_on node k l.kind l.mtu (heeded n.addr l)) is at
 stands_so scene i o (app node k n a there of_it at is) = named_place scene i o (app_at node k a) is at
 stands_so scene i o (link k l there at is) = named_place scene i o (link_at k l) is at
 

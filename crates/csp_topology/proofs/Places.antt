@@ -1,7 +1,13 @@
 -- Lemmas on places in lists.
-use Rattle.std.proofs.Common.{◌≡◌, ℕ, zero, suc, ◌+◌, ◌<◌, Bool, true, false, cond, Some, List, [], ◌∷◌, ◌++◌, length, map, slice_get, ap, refl, sym, ◌∙◌, arith}
-use Rattle.std.specs.List.{filter, range_with_len}
+use Rattle.std.proofs.Common.{◌≡◌, ℕ, zero, suc, ◌+◌, ◌<◌, Bool, true, false, cond, Some, List, [], ◌∷◌, ◌++◌, length, map, slice_get, ap, refl, sym, subst, ◌∙◌, arith}
+use Rattle.std.specs.List.{AllByRecursion, filter, range_with_len}
 use Rattle.std.proofs.lemmas.Option.{same_Some}
+
+-- what holds of all holds of each
+pub all_at : {X : Type 0} (P : X → Type 0) (xs : List X) (k : ℕ) (x : X) → AllByRecursion P xs → slice_get xs k ≡ Some x → P x
+all_at P [] k x all e = absurd cc
+all_at P (y ∷ xs) zero x all e = subst P (same_Some y x e) all.0
+all_at P (y ∷ xs) (suc k) x all e = all_at P xs k x all.1 e
 
 -- an element of two lists, one after the other, is one of the first or of the second
 pub data Among {X : Type 0} (xs ys : List X) (k : ℕ) (z : X) : Type 0 where

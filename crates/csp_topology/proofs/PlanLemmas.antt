@@ -9,7 +9,7 @@ use Rattle.csp_lists.specs.PlainDeck.{IsLinkRule}
 use Rattle.csp_log.specs.declared.places.LinkKind.{LinkKind}
 use Rattle.csp_log.specs.declared.places.LinkKind.TheVariants as kind
 use Rattle.csp_scene.specs.Links.{links_at, touches}
-use Rattle.csp_scene.specs.Ranges.{IsLink, IsNode, IsPlanned}
+use Rattle.csp_scene.specs.Ranges.{HasEnds, IsLink, IsNode, IsPlanned}
 use Rattle.csp_scene.specs.Scene.{PlainNode, PlainLink}
 use Rattle.csp_scene.specs.declared.limits.TheConstants.{MAX_LINKS}
 use Rattle.csp_topology.specs.Opening.{FitsBuffers}
@@ -40,9 +40,14 @@ plans_fit place [] links is few = tt
 plans_fit place (n ∷ nodes) links is few = (plan_fits place n links is.0 few, plans_fit (place + 1) nodes links is.1 few)
 
 -- the faults of links are in their ranges
-pub links_planned : (nodes : List PlainNode) (all links : List PlainLink) → AllByRecursion (IsLink nodes all) links → AllByRecursion (λ l. All IsPlanned l.plan) links
+pub links_planned : (nodes : List PlainNode) (all links : List PlainLink) → AllByRecursion (IsLink nodes all) links → AllByRecursion (λ l. All (IsPlanned (length l.ends)) l.plan) links
 links_planned nodes all [] is = tt
 links_planned nodes all (l ∷ links) is = (is.0.plan, links_planned nodes all links is.1)
+
+-- they have their ends
+pub links_shaped : (nodes : List PlainNode) (all links : List PlainLink) → AllByRecursion (IsLink nodes all) links → AllByRecursion HasEnds links
+links_shaped nodes all [] is = tt
+links_shaped nodes all (l ∷ links) is = (is.0.shape, links_shaped nodes all links is.1)
 
 -- and so are the payloads on them
 pub links_fit : (nodes : List PlainNode) (all links : List PlainLink) → AllByRecursion (IsLink nodes all) links → AllByRecursion FitsBuffers links

@@ -4,28 +4,32 @@ use Rattle.std.specs.List.{AllByRecursion}
 use Rattle.std.proofs.lemmas.Bool.{eqb-true, ltb-true}
 use Rattle.std.proofs.lemmas.List.{length-map}
 use Rattle.std.proofs.lemmas.Option.{same_Some, slice_get_within}
+use Rattle.csp_link.specs.PlainLink as link
 use Rattle.csp_log.specs.Kinds.{carried_on}
 use Rattle.csp_log.specs.declared.places.Carries.{Carries}
 use Rattle.csp_log.specs.declared.places.Carries.TheVariants as lane
+use Rattle.csp_hub.specs.PlainHub as hub
 use Rattle.csp_log.specs.declared.places.End.{End}
+use Rattle.csp_log.specs.declared.places.LinkKind.{LinkKind}
 use Rattle.csp_log.specs.declared.places.QueueId.{QueueId}
 use Rattle.csp_log.specs.declared.places.QueueId.TheVariants as queue
 use Rattle.csp_log.specs.declared.places.Rule.{Rule}
 use Rattle.csp_log.specs.declared.places.Rule.TheVariants as rule
-use Rattle.csp_party.specs.Any.{uses}
+use Rattle.csp_party.specs.Any.{a_hub, a_link, uses}
 use Rattle.csp_record.specs.declared.who.Who.{Who}
 use Rattle.csp_record.specs.declared.who.Who.TheVariants as who
 use Rattle.csp_scene.specs.Links.{links_at}
-use Rattle.csp_scene.specs.Ranges.{AreEnds, IsLink, IsScene}
+use Rattle.csp_scene.specs.Ranges.{HasEnds, IsEnd, IsLink, IsScene}
 use Rattle.csp_scene.specs.Scene.{PlainApp, PlainLink, PlainNode, PlainScene}
 use Rattle.csp_scene.specs.declared.limits.TheConstants.{BRIDGE_LINKS}
 use Rattle.csp_topology.proofs.Joints.{ArePlaced, end_joint, joint_is, joint_of, joints_count, joints_of, link_joint}
 use Rattle.csp_topology.proofs.PartyPlaces.{IsParty, party_at}
 use Rattle.csp_topology.proofs.PartyPlaces as party
-use Rattle.csp_topology.proofs.Places.{get-within}
+use Rattle.csp_topology.proofs.PartyLemmas.{opened_ends}
+use Rattle.csp_topology.proofs.Places.{all_at, get-within}
 use Rattle.csp_topology.proofs.WirePlaces.{down_there, ifaces_of, out_there, rx_there, tx_there, up_there}
 use Rattle.csp_topology.specs.Lanes.{PlainEnd, hub_of, out_lane}
-use Rattle.csp_topology.specs.Parties.{PlainOpening, app_at, hub_by, iface_on, link_at, parties_of}
+use Rattle.csp_topology.specs.Parties.{PlainOpening, app_at, heeded, hub_by, hub_with, iface_on, link_at, link_party, link_with, parties_of}
 use Rattle.csp_topology.specs.Wired.{IsServed, getting, inbox_rule, putting}
 use Rattle.csp_topology.specs.Wires.{PlainJoint, down_lane, rx_lane, tx_lane, up_lane}
 
@@ -163,7 +167,7 @@ module _ (scene : PlainScene) (are : ArePlaced scene) (node : ℕ) (n : PlainNod
         carries = is ∙ ap (λ (c : Carries). rule.Lane c) (sym carries);
       })
 
-  iface_served : (k : ℕ) (l : PlainLink) → slice_get (links_at node scene.links) k ≡ Some l → (q : QueueId) (r : Rule) → uses (iface_on node k l.kind l.mtu).party q ≡ Some r → IsServed scene (who.Iface node k) q r
+  iface_served : (k : ℕ) (l : PlainLink) → slice_get (links_at node scene.links) k ≡ Some l → (q : QueueId) (r : Rule) → uses (iface_on node k l.kind l.mtu (heeded n.addr l)).party q ≡ Some r → IsServed scene (who.Iface node k) q r
   iface_served k l on queue.Inbox r e = an_inbox scene (who.Iface node k) r refl e
   iface_served k l on (queue.Out m) r e =
       let (same, is) = own r (rule.Lane lane.Out) m k _ refl e in
@@ -227,17 +231,15 @@ each_link nodes all [] is k l e = absurd cc
 each_link nodes all (x ∷ links) is zero l e = subst (IsLink nodes all) (same_Some x l e) is.0
 each_link nodes all (x ∷ links) is (suc k) l e = each_link nodes all links is.1 k l e
 
-has_end : (scene : PlainScene) (l : PlainLink) → AreEnds scene.nodes scene.links l → (place : ℕ) → place < 2 → HasEnd scene l place
-has_end scene l is zero low =
-    let (n, there) = get-within scene.nodes is.first.node is.one_end.node in
-    record { end = is.first; n = n; at = ap (λ (es : List End). slice_get es 0) is.two; there = there }
-has_end scene l is (suc zero) low =
-    let (n, there) = get-within scene.nodes is.second.node is.other_end.node in
-    record { end = is.second; n = n; at = ap (λ (es : List End). slice_get es 1) is.two; there = there }
-has_end scene l is (suc (suc k)) low = absurd (omega (arith, low))
+has_end : (scene : PlainScene) (l : PlainLink) → AllByRecursion (IsEnd scene.nodes scene.links l) l.ends → (place : ℕ) → place < length l.ends → HasEnd scene l place
+has_end scene l are place low =
+    let (x, at) = get-within l.ends place low in
+    let is = all_at (IsEnd scene.nodes scene.links l) l.ends place x are at in
+    let (n, there) = get-within scene.nodes x.node is.node in
+    record { end = x; n = n; at = at; there = there }
 
-module _ (scene : PlainScene) (are : ArePlaced scene) (i : ℕ) (l : PlainLink) (there : slice_get scene.links i ≡ Some l) (is : AreEnds scene.nodes scene.links l) where
-  link_tx : (place : ℕ) (r : Rule) → place < 2 → r ≡ rule.Lane (carried_on l.kind) → IsServed scene (who.Link i) (queue.Tx place) r
+module _ (scene : PlainScene) (are : ArePlaced scene) (i : ℕ) (l : PlainLink) (there : slice_get scene.links i ≡ Some l) (shape : HasEnds l) (is : AllByRecursion (IsEnd scene.nodes scene.links l) l.ends) where
+  link_tx : (place : ℕ) (r : Rule) → place < length l.ends → r ≡ rule.Lane (carried_on l.kind) → IsServed scene (who.Link i) (queue.Tx place) r
   link_tx place r low same =
       let h = has_end scene l is place low in
       let x = h.end in
@@ -251,7 +253,7 @@ module _ (scene : PlainScene) (are : ArePlaced scene) (i : ℕ) (l : PlainLink) 
         carries = same;
       })
 
-  link_rx : (place : ℕ) (r : Rule) → place < 2 → r ≡ rule.Lane (carried_on l.kind) → IsServed scene (who.Link i) (queue.Rx place) r
+  link_rx : (place : ℕ) (r : Rule) → place < length l.ends → r ≡ rule.Lane (carried_on l.kind) → IsServed scene (who.Link i) (queue.Rx place) r
   link_rx place r low same =
       let h = has_end scene l is place low in
       let x = h.end in
@@ -265,13 +267,37 @@ module _ (scene : PlainScene) (are : ArePlaced scene) (i : ℕ) (l : PlainLink) 
         carries = same;
       })
 
-  link_served : (q : QueueId) (r : Rule) → uses (link_at i l).party q ≡ Some r → IsServed scene (who.Link i) q r
-  link_served (queue.Tx k) r e = let (low, same) = if_within r (rule.Lane (carried_on l.kind)) k 2 _ refl e in link_tx k r low same
-  link_served (queue.Rx k) r e = let (low, same) = if_within r (rule.Lane (carried_on l.kind)) k 2 _ refl e in link_rx k r low same
-  link_served queue.Inbox r e = absurd cc
-  link_served (queue.Up k) r e = absurd cc
-  link_served (queue.Down k) r e = absurd cc
-  link_served (queue.Out k) r e = absurd cc
+  pair_served : l.hub ≡ false → (q : QueueId) (r : Rule) → uses (link_with i l.kind l.plan).party q ≡ Some r → IsServed scene (who.Link i) q r
+  pair_served pair (queue.Tx k) r e = let (low, same) = if_within r (rule.Lane (carried_on l.kind)) k 2 _ refl e in link_tx k r (omega (arith, low, shape.pair pair)) same
+  pair_served pair (queue.Rx k) r e = let (low, same) = if_within r (rule.Lane (carried_on l.kind)) k 2 _ refl e in link_rx k r (omega (arith, low, shape.pair pair)) same
+  pair_served pair queue.Inbox r e = absurd cc
+  pair_served pair (queue.Up k) r e = absurd cc
+  pair_served pair (queue.Down k) r e = absurd cc
+  pair_served pair (queue.Out k) r e = absurd cc
+
+  -- an end of a hub carries frames of a CAN bus
+  bus_rule : l.hub ≡ true → (r : Rule) → r ≡ rule.Lane lane.Can → r ≡ rule.Lane (carried_on l.kind)
+  bus_rule bus r same = same ∙ ap (λ (k : LinkKind). rule.Lane (carried_on k)) (sym (shape.bus bus).0)
+
+  hub_ends : length (hub.opening (length l.ends) l.plan).ends ≡ length l.ends
+  hub_ends = opened_ends (length l.ends) l.plan
+
+  bus_served : l.hub ≡ true → (q : QueueId) (r : Rule) → uses (hub_with i (length l.ends) l.plan).party q ≡ Some r → IsServed scene (who.Link i) q r
+  bus_served bus (queue.Tx k) r e = let (low, same) = if_within r (rule.Lane lane.Can) k (length (hub.opening (length l.ends) l.plan).ends) _ refl e in link_tx k r (omega (arith, low, hub_ends)) (bus_rule bus r same)
+  bus_served bus (queue.Rx k) r e = let (low, same) = if_within r (rule.Lane lane.Can) k (length (hub.opening (length l.ends) l.plan).ends) _ refl e in link_rx k r (omega (arith, low, hub_ends)) (bus_rule bus r same)
+  bus_served bus queue.Inbox r e = absurd cc
+  bus_served bus (queue.Up k) r e = absurd cc
+  bus_served bus (queue.Down k) r e = absurd cc
+  bus_served bus (queue.Out k) r e = absurd cc
+
+  link_served : (q : QueueId) (r : Rule) → uses (link_party l) q ≡ Some r → IsServed scene (who.Link i) q r
+  link_served q r e = by l.hub refl where
+    it : (b : Bool) → l.hub ≡ b → uses (if b then (hub_with i (length l.ends) l.plan).party else (link_with i l.kind l.plan).party) q ≡ Some r
+    it b is = ap (λ (c : Bool). uses (if c then (hub_with i (length l.ends) l.plan).party else (link_with i l.kind l.plan).party) q) (sym is) ∙ e
+
+    by : (b : Bool) → l.hub ≡ b → IsServed scene (who.Link i) q r
+    by true is = bus_served is q r (it true is)
+    by false is = pair_served is q r (it false is)
 
 -- ---- each party
 
@@ -285,7 +311,7 @@ served scene is are i o (party.hub node n there at so) =
     (hub_served scene are node n there n.addr (is.joined node n there).bridge q r e))
 served scene is are i o (party.iface node k n l there on at so) = subst (AreServed scene) (sym so) (iface_served scene are node n there k l on)
 served scene is are i o (party.app node k n a there of_it at so) = subst (AreServed scene) (sym so) (app_served scene are node n there k a of_it)
-served scene is are i o (party.link k l there at so) = subst (AreServed scene) (sym so) (link_served scene are k l there (each_link scene.nodes scene.links scene.links is.links k l there).ends)
+served scene is are i o (party.link k l there at so) = subst (AreServed scene) (sym so) (link_served scene are k l there (each_link scene.nodes scene.links scene.links is.links k l there).shape (each_link scene.nodes scene.links scene.links is.links k l there).ends)
 
 pub all_served : (scene : PlainScene) → IsScene scene → ArePlaced scene → (i : ℕ) (o : PlainOpening) → slice_get (parties_of scene) i ≡ Some o → AreServed scene o
 all_served scene is are i o at = served scene is are i o (party_at scene i o at)
@@ -299,11 +325,15 @@ hub_uses : (addr : Option ℕ) (node : ℕ) (n : PlainNode) (links : List PlainL
 hub_uses (Some addr) node n links = refl
 hub_uses None node n links = refl
 
+link_uses : (b : Bool) (l : PlainLink) → uses (cond b (a_hub (hub.opening (length l.ends) l.plan)) (a_link (link.opening l.kind l.plan))) queue.Inbox ≡ None
+link_uses true l = refl
+link_uses false l = refl
+
 inbox_used : (scene : PlainScene) (i : ℕ) (o : PlainOpening) → IsParty scene i o → UsesInbox o
 inbox_used scene i o (party.hub node n there at so) = subst UsesInbox (sym so) (hub_uses n.addr node n (links_at node scene.links))
 inbox_used scene i o (party.iface node k n l there on at so) = subst UsesInbox (sym so) refl
 inbox_used scene i o (party.app node k n a there of_it at so) = subst UsesInbox (sym so) refl
-inbox_used scene i o (party.link k l there at so) = subst UsesInbox (sym so) refl
+inbox_used scene i o (party.link k l there at so) = subst UsesInbox (sym so) (link_uses l.hub l)
 
 pub inboxes_used : (scene : PlainScene) (i : ℕ) (o : PlainOpening) → slice_get (parties_of scene) i ≡ Some o → UsesInbox o
 inboxes_used scene i o at = inbox_used scene i o (party_at scene i o at)

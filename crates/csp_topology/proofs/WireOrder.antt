@@ -14,10 +14,10 @@ use Rattle.csp_log.specs.declared.places.QueueId.TheVariants as queue
 use Rattle.csp_record.specs.declared.who.Who.{Who}
 use Rattle.csp_scene.proofs.Lists.{AllByRecursion-append}
 use Rattle.csp_scene.specs.Links.{links_at}
-use Rattle.csp_scene.specs.Ranges.{AreEnds, IsScene}
+use Rattle.csp_scene.specs.Ranges.{IsEnd, IsScene}
 use Rattle.csp_scene.specs.Scene.{PlainLink, PlainNode, PlainScene}
 use Rattle.csp_topology.proofs.Joints.{ArePlaced, end_joint, iface_at, joint_is, joint_of, joints_count, joints_of, joints_ordered}
-use Rattle.csp_topology.proofs.Places.{get-within}
+use Rattle.csp_topology.proofs.Places.{all_at, get-within}
 use Rattle.csp_topology.proofs.Serving.{each_link}
 use Rattle.csp_topology.proofs.WirePlaces.{down_there, ifaces_of, out_there, rx_there, tx_there, up_there, wires_here, wires_there}
 use Rattle.csp_topology.specs.Lanes.{PlainLane, app_lanes, hub_of, lanes_from, lanes_of, lanes_on, lanes_within, link_lanes, out_lane}
@@ -136,14 +136,13 @@ nodes_wired scene are place (n ∷ nodes) there =
     (node_wired scene are place n (there 0 place n refl (omega arith))) (nodes_wired scene are (place + 1) nodes (λ k m x e same. there (suc k) m x e (omega (arith, same))))
 
 -- those of links
-end_low : (scene : PlainScene) (l : PlainLink) (is : AreEnds scene.nodes scene.links l) (place : ℕ) (x : End) → slice_get l.ends place ≡ Some x → x.node < length scene.nodes
-end_low scene l is place x e = by place (ap (λ (es : List End). slice_get es place) (sym is.two) ∙ e) where
-  by : (k : ℕ) → slice_get (is.first ∷ is.second ∷ []) k ≡ Some x → x.node < length scene.nodes
-  by zero g = subst (λ (y : End). y.node < length scene.nodes) (same_Some is.first x g) is.one_end.node
-  by (suc zero) g = subst (λ (y : End). y.node < length scene.nodes) (same_Some is.second x g) is.other_end.node
-  by (suc (suc k)) g = absurd cc
+abbrev HaveEnds : PlainScene → PlainLink → Type 0
+HaveEnds scene l = AllByRecursion (IsEnd scene.nodes scene.links l) l.ends
 
-module _ (scene : PlainScene) (are : ArePlaced scene) (i : ℕ) (l : PlainLink) (there : slice_get scene.links i ≡ Some l) (is : AreEnds scene.nodes scene.links l) where
+end_low : (scene : PlainScene) (l : PlainLink) → HaveEnds scene l → (place : ℕ) (x : End) → slice_get l.ends place ≡ Some x → x.node < length scene.nodes
+end_low scene l is place x e = (all_at (IsEnd scene.nodes scene.links l) l.ends place x is e).node
+
+module _ (scene : PlainScene) (are : ArePlaced scene) (i : ℕ) (l : PlainLink) (there : slice_get scene.links i ≡ Some l) (is : HaveEnds scene l) where
   tx_wire : (place : ℕ) (x : End) → slice_get l.ends place ≡ Some x → IsWire scene (tx_lane (joint_of i (carried_on l.kind) place x))
   tx_wire place x at =
       let (n, node) = get-within scene.nodes x.node (end_low scene l is place x at) in

@@ -9,9 +9,9 @@ use Rattle.csp_log.specs.declared.places.End.{End}
 use Rattle.csp_record.specs.declared.who.Who.{Who}
 use Rattle.csp_scene.specs.Ranges.{IsLink, IsNode}
 use Rattle.csp_scene.specs.Scene.{PlainLink, PlainNode}
-use Rattle.csp_topology.proofs.Joints.{Touch, at_first, at_none, at_second, joined, touch, two_joints}
+use Rattle.csp_topology.proofs.Joints.{TouchOf, at_none, at_one, split_at, touch_of}
 use Rattle.csp_topology.specs.Lanes.{PlainLane, out_lane}
-use Rattle.csp_topology.specs.Wires.{PlainJoint, down_lane, joints_at, joints_from, rx_lane, tx_lane, up_lane, wires_at, wires_with}
+use Rattle.csp_topology.specs.Wires.{PlainJoint, down_lane, joints_at, joints_from, joints_on, rx_lane, tx_lane, up_lane, wires_at, wires_with}
 use Rattle.csp_topology.specs.Wiring.{wire_by, wired_from}
 use Rattle.csp_topology.specs.declared.wire.Spots.{Spots}
 use Rattle.csp_topology.specs.declared.wire.Wire.{Wire}
@@ -105,20 +105,16 @@ each_node (y ∷ nodes) are zero x low is = subst IsNode (sym is) are.0
 each_node (y ∷ nodes) are (suc k) x low is = each_node nodes are.1 k x (omega (arith, low)) is
 
 -- a node has no more ends of links than there are links
-few_more : (node number n : ℕ) (l : PlainLink) (f s : End) (js : List PlainJoint) → Touch node l f s → length (joints_at node js) ≤ n → length (joints_at node (two_joints number (carried_on l.kind) f s js)) ≤ suc n
-few_more node number n l f s js (at_first e g t) h =
+few_more : (node number n : ℕ) (l : PlainLink) (js : List PlainJoint) → TouchOf node number l → length (joints_at node js) ≤ n → length (joints_at node (joints_on number (carried_on l.kind) 0 l.ends) ++ joints_at node js) ≤ suc n
+few_more node number n l js (at_one place x there e t one) h =
     let low : suc (length (joints_at node js)) ≤ suc n = omega (arith, h) in
-    rw (e, g) low
-few_more node number n l f s js (at_second e g t) h =
-    let low : suc (length (joints_at node js)) ≤ suc n = omega (arith, h) in
-    rw (e, g) low
-few_more node number n l f s js (at_none e g t) h =
+    rw one low
+few_more node number n l js (at_none t none) h =
     let low : length (joints_at node js) ≤ suc n = omega (arith, h) in
-    rw (e, g) low
+    rw none low
 
 pub joints_few : (nodes : List PlainNode) (all : List PlainLink) (node number : ℕ) (links : List PlainLink) → AllByRecursion (IsLink nodes all) links → length (joints_at node (joints_from number links)) ≤ length links
 joints_few nodes all node number [] is = omega arith
 joints_few nodes all node number (l ∷ links) is =
-    let ends = is.0.ends in
-    subst (λ (js : List PlainJoint). length (joints_at node js) ≤ suc (length links)) (sym (joined number l links ends.first ends.second ends.two))
-    (few_more node number (length links) l ends.first ends.second (joints_from (number + 1) links) (touch node l ends.first ends.second ends.two ends.apart) (joints_few nodes all node (number + 1) links is.1))
+    subst (λ (js : List PlainJoint). length js ≤ suc (length links)) (sym (split_at node number l links))
+    (few_more node number (length links) l (joints_from (number + 1) links) (touch_of node number l is.0.shape) (joints_few nodes all node (number + 1) links is.1))

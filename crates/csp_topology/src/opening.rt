@@ -1,21 +1,24 @@
 //! A party with all that its opening needs.
 
-ghost use Rattle.std.specs.Prelude.{◌≡◌, ◌+◌, ◌<◌, ◌^◌, All, IfOk, IsSome, length};
+ghost use Rattle.std.specs.Prelude.{◌≡◌, ◌+◌, ◌<◌, ◌≤◌, ◌^◌, All, IfOk, IfSome, IsSome, length};
 ghost use Rattle.csp_app.specs.PlainApp.{opening};
 ghost use Rattle.csp_app.specs.Room.{IsStep};
 ghost use Rattle.csp_party.specs.Any.{plain};
 ghost use Rattle.csp_record.specs.Who.{node_of};
 ghost use Rattle.csp_topology.specs.Opening.{CanOpen, IsOfRegion, opening_of};
+ghost use Rattle.csp_topology.specs.Parties.{iface_opening};
 
 use csp_app::{App, Script, open_collectors};
 use csp_arena::RegionToken;
+use csp_base::{Addr, MAX_PAYLOAD};
 use csp_bridge::Bridge;
 use csp_hub::Hub;
 use csp_iface::Iface;
 use csp_link::{Fault, Link};
-use csp_log::LinkKind;
+use csp_log::{IFACES, LinkKind};
 use csp_party::AnyParty;
 use csp_record::Who;
+use csp_scene::DEFAULT_MTU;
 use csp_stack::{Stack, StackConfig};
 use std::alloc::{AllocError, Global};
 
@@ -37,6 +40,8 @@ pub enum Opening {
         kind: LinkKind,
         /// The most bytes of a payload on its link.
         mtu: u16,
+        /// On a hub its node's address, whose frames alone it takes; elsewhere it takes each.
+        heeds: Option<Addr>,
     },
     /// An application.
     App {
@@ -103,9 +108,10 @@ impl Opening {
                     number,
                     kind,
                     mtu,
+                    heeds,
                 },
                 Some(region),
-            ) => Ok(AnyParty::Iface(Iface::new(node, number, kind, mtu, region))),
+            ) => Ok(AnyParty::Iface(open_iface(node, number, kind, mtu, heeds, region))),
             (
                 Opening::App {
                     node: _,
@@ -132,6 +138,26 @@ impl Opening {
             ) => Ok(AnyParty::Hub(Hub::open(alloc, ends, plan)?)),
             _ => unreachable!(),
         }
+    }
+}
+
+/// Opens an interface: one on a hub, where there is an address that it is to heed.
+fn open_iface(
+    node: u8,
+    number: u8,
+    kind: LinkKind,
+    mtu: u16,
+    heeds: Option<Addr>,
+    region: RegionToken,
+) -> Iface
+    requires number { number < IFACES }
+    requires mtu { mtu ≤ MAX_PAYLOAD }
+    requires hub { IfSome heeds (λ addr. (kind ≡ LinkKind.Can) × (mtu ≡ DEFAULT_MTU)) }
+    ensures { result ≡ record { region = region.name; iface = iface_opening node number kind mtu heeds } }
+{
+    match heeds {
+        Some(addr) => Iface::hub(node, number, addr, region),
+        None => Iface::new(node, number, kind, mtu, region),
     }
 }
 

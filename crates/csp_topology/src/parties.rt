@@ -3,10 +3,10 @@
 ghost use Rattle.std.specs.Prelude.{◌≡◌, ◌<◌, ◌≤◌, ◌++◌, ◌∷◌, ℕ, [], Some, All, length, map, slice_get, OnOk, IfOk};
 ghost use Rattle.std.specs.List.{AllByRecursion};
 ghost use Rattle.csp_scene.specs.Links.{links_at};
-ghost use Rattle.csp_scene.specs.Ranges.{IsApp, IsJoined, IsLink, IsNode, IsPlanned};
+ghost use Rattle.csp_scene.specs.Ranges.{HasEnds, IsApp, IsJoined, IsLink, IsNode, IsPlanned};
 ghost use Rattle.csp_scene.specs.Scene.{PlainNode};
 ghost use Rattle.csp_topology.specs.Opening.{CanOpen, FitsBuffers, opening_of};
-ghost use Rattle.csp_topology.specs.Parties.{app_at, apps_from, config_of, hub_by, ifaces_from, link_at, links_from, parties_at, parties_from};
+ghost use Rattle.csp_topology.specs.Parties.{app_at, apps_from, config_of, heeded, hub_by, ifaces_from, link_at, links_from, parties_at, parties_from};
 
 use crate::links::names_at;
 use crate::opening::Opening;
@@ -28,6 +28,7 @@ pub(crate) fn push_nodes(
     requires few { length nodes.now ≤ MAX_NODES }
     requires few_links { length links.now ≤ MAX_LINKS }
     requires fit { AllByRecursion FitsBuffers links.now }
+    requires shaped { AllByRecursion HasEnds links.now }
     requires ready { AllByRecursion CanOpen openings.old.items }
     ensures parties { OnOk result (map opening_of openings.new.items ≡ map opening_of openings.old.items ++ parties_from 0 nodes.now links.now) }
     ensures ready { OnOk result (AllByRecursion CanOpen openings.new.items) }
@@ -51,12 +52,13 @@ fn push_node(
     requires joined { IsJoined links.now place node.now }
     requires few_links { length links.now ≤ MAX_LINKS }
     requires fit { AllByRecursion FitsBuffers links.now }
+    requires shaped { AllByRecursion HasEnds links.now }
     requires ready { AllByRecursion CanOpen openings.old.items }
     ensures parties { OnOk result (map opening_of openings.new.items ≡ map opening_of openings.old.items ++ parties_at place node.now (links_at place links.now)) }
     ensures ready { OnOk result (AllByRecursion CanOpen openings.new.items) }
 {
     openings.push(hub_of(place, node, links))?;
-    push_ifaces(openings, place, links)?;
+    push_ifaces(openings, place, node, links)?;
     push_apps(openings, alloc, place, node)
 }
 
@@ -92,16 +94,25 @@ fn config_of(place: u8, addr: Addr, node: &SceneNode, links: &[SceneLink]) -> St
     }
 }
 
+/// What an interface of a node heeds on a link: the node's address where that is a hub.
+fn heeded(node: &SceneNode, link: &SceneLink) -> Option<Addr>
+    ensures { result ≡ heeded node.now.addr link.now }
+{
+    if link.hub { node.addr } else { None }
+}
+
 /// Appends the interfaces of the node at this place, one for each of its links.
 fn push_ifaces(
     openings: &mut Vec<Opening>,
     place: u8,
+    node: &SceneNode,
     links: &[SceneLink],
 ) -> Result<(), AllocError>
     requires few_links { length links.now ≤ MAX_LINKS }
     requires fit { AllByRecursion FitsBuffers links.now }
+    requires shaped { AllByRecursion HasEnds links.now }
     requires ready { AllByRecursion CanOpen openings.old.items }
-    ensures parties { OnOk result (map opening_of openings.new.items ≡ map opening_of openings.old.items ++ ifaces_from place 0 (links_at place links.now)) }
+    ensures parties { OnOk result (map opening_of openings.new.items ≡ map opening_of openings.old.items ++ ifaces_from place node.now.addr 0 (links_at place links.now)) }
     ensures ready { OnOk result (AllByRecursion CanOpen openings.new.items) }
 {
     let mut number = 0;
@@ -112,6 +123,7 @@ fn push_ifaces(
                 number,
                 kind: link.kind,
                 mtu: link.mtu,
+                heeds: heeded(node, link),
             })?;
             number += 1;
         }
@@ -156,7 +168,8 @@ pub(crate) fn push_links(
     alloc: Global,
     links: &[SceneLink],
 ) -> Result<(), AllocError>
-    requires planned { AllByRecursion (λ l. All IsPlanned l.plan) links.now }
+    requires planned { AllByRecursion (λ l. All (IsPlanned (length l.ends)) l.plan) links.now }
+    requires shaped { AllByRecursion HasEnds links.now }
     requires few_links { length links.now ≤ MAX_LINKS }
     requires ready { AllByRecursion CanOpen openings.old.items }
     ensures parties { OnOk result (map opening_of openings.new.items ≡ map opening_of openings.old.items ++ links_from 0 links.now) }
@@ -168,17 +181,27 @@ pub(crate) fn push_links(
     Ok(())
 }
 
-/// A link, with its plan.
+/// A link or a hub, with its plan.
 fn link_of(alloc: Global, number: u8, link: &SceneLink) -> Result<Opening, AllocError>
-    requires { All IsPlanned link.now.plan }
+    requires planned { All (IsPlanned (length link.now.ends)) link.now.plan }
+    requires shaped { HasEnds link.now }
     ensures party { IfOk result (λ o. opening_of o ≡ link_at number link.now) }
     ensures ready { IfOk result CanOpen }
 {
-    Ok(Opening::Link {
-        number,
-        kind: link.kind,
-        plan: copied_plan(alloc, &link.plan)?,
-    })
+    let plan = copied_plan(alloc, &link.plan)?;
+    if link.hub {
+        Ok(Opening::Hub {
+            number,
+            ends: link.ends.len() as u8,
+            plan,
+        })
+    } else {
+        Ok(Opening::Link {
+            number,
+            kind: link.kind,
+            plan,
+        })
+    }
 }
 
 /// A copy of this plan.

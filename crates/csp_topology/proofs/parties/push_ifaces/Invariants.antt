@@ -9,6 +9,6 @@ use Rattle.csp_topology.specs.Parties.{ifaces_from}
 abbrev pub invariant-loop-link : goal.invariant-loop-link
 invariant-loop-link l = record {
   number : l.number ≡ length (links_at l.place (take l.link-index l.links));
-  parties : map opening_of l.openings.items ≡ map opening_of l.fn.openings.items ++ ifaces_from l.place 0 (links_at l.place (take l.link-index l.links));
+  parties : map opening_of l.openings.items ≡ map opening_of l.fn.openings.items ++ ifaces_from l.place l.node.addr 0 (links_at l.place (take l.link-index l.links));
   ready : AllByRecursion CanOpen l.openings.items;
 }

@@ -1,8 +1,8 @@
-use Rattle.std.proofs.Common.{◌≡◌, ◌++◌, List, All, map, ap, sym, subst, ◌∙◌}
+use Rattle.std.proofs.Common.{◌≡◌, ◌++◌, List, All, length, map, ap, sym, subst, ◌∙◌}
 use Rattle.std.specs.List.{AllByRecursion}
-use Rattle.csp_scene.specs.Ranges.{IsPlanned}
+use Rattle.csp_scene.specs.Ranges.{HasEnds, IsPlanned}
 use Rattle.csp_scene.specs.Scene.{PlainLink, PlainNode, PlainScene}
-use Rattle.csp_topology.proofs.PlanLemmas.{links_fit, links_planned, plans_fit}
+use Rattle.csp_topology.proofs.PlanLemmas.{links_fit, links_planned, links_shaped, plans_fit}
 use Rattle.csp_topology.proofs.TopologyLemmas.{topology_is}
 use Rattle.csp_topology.proofs.topology.Topology.of.Goals as goal
 use Rattle.csp_topology.specs.Opening.{FitsBuffers, opening_of}
@@ -13,7 +13,19 @@ pub push_links-requires-clause-planned : goal.push_links-requires-clause-planned
 push_links-requires-clause-planned c =
     let scene : PlainScene = c.args.scene.now in
     let links : c.deref-3.result.now ≡ scene.links = c.deref-3.ensures.value ∙ ap (λ (s : PlainScene). s.links) c.scene.view_is in
-    subst (λ (ls : List PlainLink). AllByRecursion (λ l. All IsPlanned l.plan) ls) (sym links) (links_planned scene.nodes scene.links scene.links c.requires.links)
+    subst (λ (ls : List PlainLink). AllByRecursion (λ l. All (IsPlanned (length l.ends)) l.plan) ls) (sym links) (links_planned scene.nodes scene.links scene.links c.requires.links)
+
+pub push_links-requires-clause-shaped : goal.push_links-requires-clause-shaped
+push_links-requires-clause-shaped c =
+    let scene : PlainScene = c.args.scene.now in
+    let links : c.deref-3.result.now ≡ scene.links = c.deref-3.ensures.value ∙ ap (λ (s : PlainScene). s.links) c.scene.view_is in
+    subst (λ (ls : List PlainLink). AllByRecursion HasEnds ls) (sym links) (links_shaped scene.nodes scene.links scene.links c.requires.links)
+
+pub push_nodes-requires-clause-shaped : goal.push_nodes-requires-clause-shaped
+push_nodes-requires-clause-shaped c =
+    let scene : PlainScene = c.args.scene.now in
+    let links : c.deref-2.result.now ≡ scene.links = c.deref-2.ensures.value ∙ ap (λ (s : PlainScene). s.links) c.scene.view_is in
+    subst (λ (ls : List PlainLink). AllByRecursion HasEnds ls) (sym links) (links_shaped scene.nodes scene.links scene.links c.requires.links)
 
 pub push_nodes-requires-clause-fit : goal.push_nodes-requires-clause-fit
 push_nodes-requires-clause-fit c =
