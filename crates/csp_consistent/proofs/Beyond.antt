@@ -1,13 +1,13 @@
--- What an interface handed to its inbox was sent by the interface at the other end of its link.
-use Rattle.std.proofs.Common.{◌≡◌, ◌⊎◌, inl, inr, ℕ, zero, suc, ◌+◌, ◌==◌, ◌||◌, Bool, true, false, cond, Some, List, [], ◌∷◌, ◌++◌, length, flat_map, filter_map, slice_get, unwrap_or, refl, sym, ap, ◌∙◌, subst, arith, eqb-true}
+-- What an interface handed to its inbox was sent by an interface at another end of its link.
+use Rattle.std.proofs.Common.{◌≡◌, ◌≢◌, ◌⊎◌, inl, inr, ℕ, zero, suc, ◌+◌, ◌<◌, ◌==◌, ◌||◌, Bool, true, false, cond, Option, Some, List, [], ◌∷◌, ◌++◌, length, flat_map, filter_map, slice_get, unwrap_or, refl, sym, ap, ◌∙◌, subst, arith, eqb-true}
 use Rattle.std.specs.Prelude.{if◌then◌else◌}
 use Rattle.std.specs.List.{AllByRecursion, list_any}
+use Rattle.std.proofs.lemmas.Option.{slice_get_within}
 use Rattle.csp_base.specs.declared.traces.Trace.{Trace}
 use Rattle.csp_deck.specs.Runs.{IsRun}
-use Rattle.csp_iface.specs.PlainIface.{opening}
+use Rattle.csp_hub.specs.Applied as hub
 use Rattle.csp_iface.specs.Receiving.{arrived}
 use Rattle.csp_iface.specs.Sending.{sent_trace}
-use Rattle.csp_log.specs.Kinds.{carried_on}
 use Rattle.csp_link.specs.Applied.{frames_popped}
 use Rattle.csp_link.specs.Copies.{damaged}
 use Rattle.csp_link.specs.Fates.{fate_of}
@@ -28,34 +28,47 @@ use Rattle.csp_record.specs.declared.who.Who.TheVariants as who
 use Rattle.csp_scene.proofs.Lists.{AllByRecursion-map}
 use Rattle.csp_scene.specs.Kept.{AreLinksAfter, IsLinkAfter, IsEndAfter}
 use Rattle.csp_scene.specs.Links.{links_at, touches}
+use Rattle.csp_scene.specs.Ranges.{HasEnds}
 use Rattle.csp_scene.specs.Scene.{PlainScene, PlainLink}
 use Rattle.csp_consistent.specs.Lanes.{AreInOrder}
 use Rattle.csp_consistent.specs.Origins.{IsSent, HaveOrigins}
-use Rattle.csp_topology.specs.Parties.{parties_of, party_steps}
+use Rattle.csp_topology.specs.Parties.{heeded, iface_opening, parties_of, party_steps}
 use Rattle.csp_consistent.specs.Reading.{entries_of, is_who, puts, gets}
 use Rattle.csp_consistent.specs.Runs.{AreLogsOf}
-use Rattle.csp_consistent.proofs.Across.{AreLanes, across_so, damaged_of, link_lanes_of, through}
+use Rattle.csp_consistent.proofs.Across.{IsFromOther, across_so, all_popped_alike, damaged_of, end_lanes_of, spread_so, through}
+use Rattle.csp_consistent.proofs.Each.{each_at, one_at}
 use Rattle.csp_consistent.proofs.Names.{Logged}
 use Rattle.csp_consistent.proofs.Owners.{IsIfaceAt, IsOf, IsOwner}
-use Rattle.csp_consistent.proofs.Planned.{are_planned, logged}
+use Rattle.csp_consistent.proofs.Planned.{are_planned, are_spread, logged, pops_within}
 use Rattle.csp_consistent.proofs.Received.{IsFrameOf, IsPacketOf, IsSuchFrame, received}
 use Rattle.csp_consistent.proofs.Transmitted.{IsBegun, transmitted_all}
 
--- a link that stands in a place has this end, and another
+-- ---- the link of an interface
+
+-- a link that stands in a place has this end in a place, and others
 pub record IsJoint (links : List PlainLink) (l : PlainLink) (end : End) : Type 0 where
   pub number : ℕ
   pub there : slice_get links number ≡ Some l
-  pub beyond : End
-  pub ends : (l.ends ≡ end ∷ beyond ∷ []) ⊎ (l.ends ≡ beyond ∷ end ∷ [])
+  pub at : ℕ
+  pub on : slice_get l.ends at ≡ Some end
+  pub shape : HasEnds l
 
 later : (x : PlainLink) (links : List PlainLink) (l : PlainLink) (place m n : ℕ) → m ≡ n → IsJoint links l (record { node = place; iface = m }) → IsJoint (x ∷ links) l (record { node = place; iface = n })
 later x links l place m n same joint =
-    subst (λ k. IsJoint (x ∷ links) l (record { node = place; iface = k })) same (record { number = suc joint.number; there = joint.there; beyond = joint.beyond; ends = joint.ends })
+    subst (λ k. IsJoint (x ∷ links) l (record { node = place; iface = k })) same (record { number = suc joint.number; there = joint.there; at = joint.at; on = joint.on; shape = joint.shape })
 
-either : (a b : Bool) → (a || (b || false)) ≡ true → (a ≡ true) ⊎ (b ≡ true)
-either true b e = inl refl
-either false true e = inr refl
-either false false e = absurd cc
+-- an end at a node that a link touches
+abbrev HasTouched : ℕ → List End → Type 0
+HasTouched place ends = (at : ℕ) × (end : End) × (slice_get ends at ≡ Some end) × ((end.node == place) ≡ true)
+
+touched_at : (place : ℕ) (ends : List End) → list_any (λ (end : End). end.node == place) ends ≡ true → HasTouched place ends
+touched_at place [] e = absurd cc
+touched_at place (x ∷ ends) e =
+    by (x.node == place) refl e (touched_at place ends)
+  where
+    by : (b : Bool) → (x.node == place) ≡ b → (b || list_any (λ (end : End). end.node == place) ends) ≡ true → (list_any (λ (end : End). end.node == place) ends ≡ true → HasTouched place ends) → HasTouched place (x ∷ ends)
+    by true is f rest = (0, x, refl, is)
+    by false is f rest = let more = rest f in (suc more.0, more.1, more.2, more.3)
 
 end_is : (nodes : ℕ) (earlier : List PlainLink) (end : End) (place : ℕ) → IsEndAfter nodes earlier end → (end.node == place) ≡ true → end ≡ record { node = place; iface = length (links_at place earlier) + 0 }
 end_is nodes earlier end place after e =
@@ -66,23 +79,15 @@ end_is nodes earlier end place after e =
 
 here : (nodes place : ℕ) (x : PlainLink) (links earlier : List PlainLink) (l : PlainLink) → IsLinkAfter nodes earlier x → touches place x ≡ true → Some x ≡ Some l → IsJoint (x ∷ links) l (record { node = place; iface = length (links_at place earlier) + 0 })
 here nodes place x links earlier l after touched there =
-    one (either (after.first.node == place) (after.second.node == place) (sym (ap (λ es. list_any (λ (end : End). end.node == place) es) after.two) ∙ touched))
-  where
-    same : x ≡ l
-    same = ap (λ o. unwrap_or o x) there
-
-    one : ((after.first.node == place) ≡ true) ⊎ ((after.second.node == place) ≡ true) → IsJoint (x ∷ links) l (record { node = place; iface = length (links_at place earlier) + 0 })
-    one (inl e) = record {
+    let same : x ≡ l = ap (λ o. unwrap_or o x) there in
+    let one = touched_at place x.ends touched in
+    let is : one.1 ≡ record { node = place; iface = length (links_at place earlier) + 0 } = end_is nodes earlier one.1 place (each_at (IsEndAfter nodes earlier) x.ends one.0 one.1 after.ends one.2) one.3 in
+    record {
       number = 0;
       there = there;
-      beyond = after.second;
-      ends = inl (ap (λ (y : PlainLink). y.ends) (sym same) ∙ after.two ∙ ap (λ end. end ∷ after.second ∷ []) (end_is nodes earlier after.first place after.one_end e));
-    }
-    one (inr e) = record {
-      number = 0;
-      there = there;
-      beyond = after.first;
-      ends = inr (ap (λ (y : PlainLink). y.ends) (sym same) ∙ after.two ∙ ap (λ end. after.first ∷ end ∷ []) (end_is nodes earlier after.second place after.other_end e));
+      at = one.0;
+      on = ap (λ (y : PlainLink). slice_get y.ends one.0) (sym same) ∙ one.2 ∙ ap Some is;
+      shape = subst HasEnds same after.shape;
     }
 
 pub more_at : (place : ℕ) (x : PlainLink) (b : Bool) → touches place x ≡ b → (earlier : List PlainLink) → length (links_at place (earlier ++ x ∷ [])) ≡ length (links_at place earlier) + (if b then 1 else 0)
@@ -109,6 +114,30 @@ joint nodes place (x ∷ links) earlier j l are on =
     first true e (suc k) on rest = later x links l place (length (links_at place (earlier ++ x ∷ [])) + k) (length (links_at place earlier) + suc k) (omega (arith, more_at place x true e earlier)) (rest k on)
     first false e k on rest = later x links l place (length (links_at place (earlier ++ x ∷ [])) + k) (length (links_at place earlier) + k) (omega (arith, more_at place x false e earlier)) (rest k on)
 
+-- where it is no hub it has just one other end: the frames of this direction come from there
+pub record IsPair (l : PlainLink) (at : ℕ) : Type 0 where
+  pub way : Way
+  pub to : at ≡ ways.number (ways.other way)
+  pub beyond : End
+  pub from : slice_get l.ends (ways.number way) ≡ Some beyond
+
+one_other : (ends : List End) (at : ℕ) (end : End) → length ends ≡ 2 → slice_get ends at ≡ Some end → (way : Way) × (at ≡ ways.number (ways.other way)) × (beyond : End) × (slice_get ends (ways.number way) ≡ Some beyond)
+one_other [] at end two e = absurd cc
+one_other (a ∷ []) at end two e = absurd (omega (arith, two))
+one_other (a ∷ b ∷ []) zero end two e = (Back, refl, b, refl)
+one_other (a ∷ b ∷ []) (suc zero) end two e = (Forth, refl, a, refl)
+one_other (a ∷ b ∷ []) (suc (suc k)) end two e = absurd cc
+one_other (a ∷ b ∷ c ∷ more) at end two e = absurd (omega (arith, two))
+
+pub pair : (links : List PlainLink) (l : PlainLink) (end : End) → (j : IsJoint links l end) → l.hub ≡ false → IsPair l j.at
+pair links l end j is = let one = one_other l.ends j.at end (j.shape.pair is) j.on in record { way = one.0; to = one.1; beyond = one.2; from = one.3 }
+
+ways_apart : (way : Way) → ways.number way ≢ ways.number (ways.other way)
+ways_apart Forth e = omega (arith, e)
+ways_apart Back e = omega (arith, e)
+
+-- ---- its entries
+
 -- the entries of an interface, as they are read for its transmissions
 is_alike : (node number : ℕ) (w : Who) → is_iface node number w ≡ is_who (who.Iface node number) w
 is_alike node number (who.Iface n k) = refl
@@ -122,11 +151,22 @@ entries_alike node number [] = refl
 entries_alike node number (party ∷ parties) = λ i. (if is_alike node number party.who i then party.entries else []) ++ entries_alike node number parties i
 
 -- the run of an interface, where it has entries
-pub iface_run : (scene : PlainScene) (r : PlainRecord) (node number : ℕ) → Logged (IsOf scene) (who.Iface node number) r.parties
-    → (l : PlainLink) × (slice_get (links_at node scene.links) number ≡ Some l) × IsRun party_steps 0 (an_iface (opening node number l.kind l.mtu)) (entries_of r (who.Iface node number))
+pub record IsIfaceRun (scene : PlainScene) (r : PlainRecord) (node number : ℕ) : Type 0 where
+  pub link : PlainLink
+  pub on : slice_get (links_at node scene.links) number ≡ Some link
+  pub heeds : Option ℕ
+  pub run : IsRun party_steps 0 (an_iface (iface_opening node number link.kind link.mtu heeds)) (entries_of r (who.Iface node number))
+
+pub iface_run : (scene : PlainScene) (r : PlainRecord) (node number : ℕ) → Logged (IsOf scene) (who.Iface node number) r.parties → IsIfaceRun scene r node number
 iface_run scene r node number log =
     let mine : IsIfaceAt scene.nodes scene.links node number log.opening.party = subst (λ w. IsOwner scene.nodes scene.links w log.opening.party) log.name log.holds in
-    (mine.link, mine.on, subst (λ es. IsRun party_steps 0 (an_iface (opening node number mine.link.kind mine.link.mtu)) es) (sym log.entries) (subst (λ p. IsRun party_steps 0 p log.log.entries) mine.party log.logged.run))
+    let heeds : Option ℕ = heeded mine.node.addr mine.link in
+    record {
+      link = mine.link;
+      on = mine.on;
+      heeds = heeds;
+      run = subst (λ es. IsRun party_steps 0 (an_iface (iface_opening node number mine.link.kind mine.link.mtu heeds)) es) (sym log.entries) (subst (λ p. IsRun party_steps 0 p log.log.entries) mine.party log.logged.run);
+    }
 
 -- whatever an interface pushed to its link has the trace of one of its transmissions
 sent_all : (scene : PlainScene) (r : PlainRecord) → AreLogsOf (parties_of scene) r.parties → (node number : ℕ)
@@ -138,52 +178,106 @@ sent_all scene r are node number =
         → AllByRecursion (IsFrameOf (IsBegun node number (entries_of r (who.Iface node number)))) (puts (queue.Tx number) (entries_of r (who.Iface node number)))
     told (inl none) = subst (λ es. AllByRecursion (IsFrameOf (IsBegun node number es)) (puts (queue.Tx number) es)) (sym none) tt
     told (inr log) =
-        let run : (l : PlainLink) × (slice_get (links_at node scene.links) number ≡ Some l) × IsRun party_steps 0 (an_iface (opening node number l.kind l.mtu)) (entries_of r (who.Iface node number)) = iface_run scene r node number log in
-        transmitted_all node number run.0.kind run.0.mtu (entries_of r (who.Iface node number)) run.2
+        let own : IsIfaceRun scene r node number = iface_run scene r node number log in
+        transmitted_all node number own.link.kind own.link.mtu own.heeds (entries_of r (who.Iface node number)) own.run
 
--- what came over a link in either direction
-pub came_over : (scene : PlainScene) (r : PlainRecord) (l : PlainLink) (end : End) (Q R : Frame → Type 0) → AreLogsOf (parties_of scene) r.parties → AreInOrder scene r → (j : IsJoint scene.links l end)
-    → ((way : Way) (k : ℕ) (f : Frame) → slice_get (frames_popped way (entries_of r (who.Link j.number))) k ≡ Some f → Q f → R (damaged (fate_of (ways.number way) (k + 1) l.plan).flip f))
-    → AllByRecursion (IsSuchFrame Q) (puts (queue.Tx j.beyond.iface) (entries_of r (who.Iface j.beyond.node j.beyond.iface))) → AllByRecursion (IsSuchFrame R) (gets (queue.Rx end.iface) (entries_of r (who.Iface end.node end.iface)))
-came_over scene r l end Q R are order j each all =
-    by_way j.ends
-  where
-    by_way : (l.ends ≡ end ∷ j.beyond ∷ []) ⊎ (l.ends ≡ j.beyond ∷ end ∷ []) → AllByRecursion (IsSuchFrame R) (gets (queue.Rx end.iface) (entries_of r (who.Iface end.node end.iface)))
-    by_way (inl two) =
-        let lanes : AreLanes r j.number (carried_on l.kind) end j.beyond = link_lanes_of scene r j.number l end j.beyond order j.there two in
-        through (IsSuchFrame R) r _ lanes.1.0
-        (across_so Q R l.plan Back (entries_of r (who.Link j.number)) (are_planned scene r are j.number l Back j.there) (each Back)
-        (through (IsSuchFrame Q) r _ lanes.1.1.0 all))
-    by_way (inr two) =
-        let lanes : AreLanes r j.number (carried_on l.kind) j.beyond end = link_lanes_of scene r j.number l j.beyond end order j.there two in
-        through (IsSuchFrame R) r _ lanes.1.1.1.0
-        (across_so Q R l.plan Forth (entries_of r (who.Link j.number)) (are_planned scene r are j.number l Forth j.there) (each Forth)
-        (through (IsSuchFrame Q) r _ lanes.0 all))
+-- ---- what came over a link
 
--- a trace that came over has one hop more than that of a transmission
-abbrev HasCome : PlainRecord → End → Trace → Type 0
-HasCome r from t = (u : Trace) × IsBegun from.node from.iface (entries_of r (who.Iface from.node from.iface)) u × (t ≡ arrived u)
+-- what is true of frames of one kind is true of those of another
+pub such_also : (P Q : Frame → Type 0) → ((f : Frame) → P f → Q f) → (i : ItemShown) → IsSuchFrame P i → IsSuchFrame Q i
+such_also P Q also (item.Frame f) is = also f is
+such_also P Q also (item.Packet _ _) is = tt
+such_also P Q also (item.Note _) is = tt
 
-hop_more : (r : PlainRecord) (from : End) (i : ItemShown) → IsFrameOf (IsBegun from.node from.iface (entries_of r (who.Iface from.node from.iface))) i → IsFrameOf (λ t. HasCome r from (arrived t)) i
-hop_more r from (item.Frame f) begun = (f.trace, begun, refl)
-hop_more r from (item.Packet _ _) begun = tt
-hop_more r from (item.Note _) begun = tt
+-- what came over a link that is no hub
+pub came_over : (scene : PlainScene) (r : PlainRecord) (l : PlainLink) (end : End) (Q R : Frame → Type 0) → AreLogsOf (parties_of scene) r.parties → AreInOrder scene r → (j : IsJoint scene.links l end) → l.hub ≡ false → (p : IsPair l j.at)
+    → ((k : ℕ) (f : Frame) → slice_get (frames_popped p.way (entries_of r (who.Link j.number))) k ≡ Some f → Q f → R (damaged (fate_of (ways.number p.way) (k + 1) l.plan).flip f))
+    → AllByRecursion (IsSuchFrame Q) (puts (queue.Tx p.beyond.iface) (entries_of r (who.Iface p.beyond.node p.beyond.iface))) → AllByRecursion (IsSuchFrame R) (gets (queue.Rx end.iface) (entries_of r (who.Iface end.node end.iface)))
+came_over scene r l end Q R are order j is p each all =
+    let es = entries_of r (who.Link j.number) in
+    through (IsSuchFrame R) r _ (end_lanes_of scene r j.number l j.at end order j.there j.on).1.0
+    (subst (λ k. AllByRecursion (IsSuchFrame R) (puts (queue.Rx k) es)) (sym p.to)
+    (across_so Q R l.plan p.way es (are_planned scene r are j.number l p.way j.there is) each
+    (through (IsSuchFrame Q) r _ (end_lanes_of scene r j.number l (ways.number p.way) p.beyond order j.there p.from).0 all)))
 
-is_sent : (scene : PlainScene) (r : PlainRecord) (l : PlainLink) (end : End) (j : IsJoint scene.links l end) (i : ItemShown) → IsPacketOf (HasCome r j.beyond) i → IsSent scene r end i
+-- another end of a link than the one in this place, of which this holds
+pub record IsOfOther (l : PlainLink) (at : ℕ) (R : End → Type 0) : Type 0 where
+  pub place : ℕ
+  pub apart : place ≢ at
+  pub end : End
+  pub there : slice_get l.ends place ≡ Some end
+  pub holds : R end
+
+-- what came over a link or a hub: by each other end a kind of frames
+module _ (scene : PlainScene) (r : PlainRecord) (l : PlainLink) (end : End) (Q R : End → Frame → Type 0) (are : AreLogsOf (parties_of scene) r.parties) (order : AreInOrder scene r) (j : IsJoint scene.links l end)
+    (each : (from k : ℕ) (other : End) (f : Frame) → from ≢ j.at → slice_get l.ends from ≡ Some other → slice_get (hub.frames_popped from (entries_of r (who.Link j.number))) k ≡ Some f → Q other f → R other (damaged (fate_of from (k + 1) l.plan).flip f))
+    (all : (from : ℕ) (other : End) → from ≢ j.at → slice_get l.ends from ≡ Some other → AllByRecursion (IsSuchFrame (Q other)) (puts (queue.Tx other.iface) (entries_of r (who.Iface other.node other.iface)))) where
+  abbrev Comes : Type 0
+  Comes = AllByRecursion (IsSuchFrame (λ f. IsOfOther l j.at (λ other. R other f))) (gets (queue.Rx end.iface) (entries_of r (who.Iface end.node end.iface)))
+
+  over_link : l.hub ≡ false → Comes
+  over_link is =
+      let p : IsPair l j.at = pair scene.links l end j is in
+      let apart : ways.number p.way ≢ j.at = λ e. ways_apart p.way (e ∙ p.to) in
+      AllByRecursion-map (IsSuchFrame (R p.beyond)) (IsSuchFrame (λ f. IsOfOther l j.at (λ other. R other f))) (gets (queue.Rx end.iface) (entries_of r (who.Iface end.node end.iface)))
+      (such_also (R p.beyond) (λ f. IsOfOther l j.at (λ other. R other f)) (λ f holds. record { place = ways.number p.way; apart = apart; end = p.beyond; there = p.from; holds = holds }))
+      (came_over scene r l end (Q p.beyond) (R p.beyond) are order j is p
+      (λ k f there has. each (ways.number p.way) k p.beyond f apart p.from (ap (λ fs. slice_get fs k) (sym (all_popped_alike p.way (entries_of r (who.Link j.number)))) ∙ there) has)
+      (all (ways.number p.way) p.beyond apart p.from))
+
+  -- the end in a place, of which this holds
+  abbrev AtPlace : (End → Frame → Type 0) → ℕ → Frame → Type 0
+  AtPlace P k f = (other : End) × (slice_get l.ends k ≡ Some other) × P other f
+
+  over_hub : l.hub ≡ true → Comes
+  over_hub is =
+      let es = entries_of r (who.Link j.number) in
+      let low : j.at < length l.ends = slice_get_within l.ends j.at end j.on in
+      AllByRecursion-map (IsSuchFrame (IsFromOther (AtPlace R) (length l.ends) j.at)) (IsSuchFrame (λ f. IsOfOther l j.at (λ other. R other f))) (gets (queue.Rx end.iface) (entries_of r (who.Iface end.node end.iface)))
+      (such_also (IsFromOther (AtPlace R) (length l.ends) j.at) (λ f. IsOfOther l j.at (λ other. R other f))
+      (λ f from. record { place = from.from; apart = from.apart; end = from.holds.0; there = from.holds.1; holds = from.holds.2 }))
+      (through (IsSuchFrame (IsFromOther (AtPlace R) (length l.ends) j.at)) r _ (end_lanes_of scene r j.number l j.at end order j.there j.on).1.0
+      (spread_so (AtPlace Q) (AtPlace R) l.plan (length l.ends) j.at es (are_spread scene r are j.number l j.at j.there is low) (pops_within scene r j.number l are j.there is (omega (arith, low)))
+      (λ from k f apart there has. (has.0, has.1, each from k has.0 f apart has.1 there has.2))
+      (λ from inside apart.
+      let other = one_at l.ends from inside in
+      AllByRecursion-map (IsSuchFrame (Q other.0)) (IsSuchFrame (AtPlace Q from)) (gets (queue.Tx from) es) (such_also (Q other.0) (AtPlace Q from) (λ f has. (other.0, other.1, has)))
+      (through (IsSuchFrame (Q other.0)) r _ (end_lanes_of scene r j.number l from other.0 order j.there other.1).0 (all from other.0 apart other.1)))))
+
+  pub came_from_others : Comes
+  came_from_others =
+      by l.hub refl
+    where
+      by : (b : Bool) → l.hub ≡ b → Comes
+      by true is = over_hub is
+      by false is = over_link is
+
+-- ---- their traces
+
+-- a trace that came over has one hop more than that of a transmission at another end
+abbrev HasCome : PlainRecord → PlainLink → (at : ℕ) → Trace → Type 0
+HasCome r l at t = IsOfOther l at (λ from. (u : Trace) × IsBegun from.node from.iface (entries_of r (who.Iface from.node from.iface)) u × (t ≡ arrived u))
+
+is_sent : (scene : PlainScene) (r : PlainRecord) (l : PlainLink) (end : End) (j : IsJoint scene.links l end) (i : ItemShown) → IsPacketOf (HasCome r l j.at) i → IsSent scene r end i
 is_sent scene r l end j (item.Packet mark b) come =
-    let begun : IsBegun j.beyond.node j.beyond.iface (entries_of r (who.Iface j.beyond.node j.beyond.iface)) come.0 = come.1 in
-    let trace : b.trace ≡ arrived (sent_trace j.beyond.node j.beyond.iface begun.serial begun.packet.trace) = come.2 ∙ ap arrived begun.trace in
+    let from : End = come.end in
+    let begun : IsBegun from.node from.iface (entries_of r (who.Iface from.node from.iface)) come.holds.0 = come.holds.1 in
+    let trace : b.trace ≡ arrived (sent_trace from.node from.iface begun.serial begun.packet.trace) = come.holds.2 ∙ ap arrived begun.trace in
     record {
-      origin = record { node = j.beyond.node; iface = j.beyond.iface; serial = begun.serial };
+      origin = record { node = from.node; iface = from.iface; serial = begun.serial };
       named = ap (λ (t : Trace). t.origin) trace;
-      beyond = record { number = j.number; link = l; there = j.there; ends = j.ends };
+      beyond = record { number = j.number; link = l; there = j.there; one = j.at; other = come.place; at_one = j.on; at_other = come.there; apart = λ e. come.apart (sym e) };
       sent = begun.packet;
-      shown = ap (λ es. slice_get (filter_map (shown_in begun.serial) es) 0) (entries_alike j.beyond.node j.beyond.iface r.parties) ∙ begun.shown;
+      shown = ap (λ es. slice_get (filter_map (shown_in begun.serial) es) 0) (entries_alike from.node from.iface r.parties) ∙ begun.shown;
       tag = ap (λ (t : Trace). t.tag) trace;
       hops = ap (λ (t : Trace). t.hops) trace;
     }
 is_sent scene r l end j (item.Frame _) come = come
 is_sent scene r l end j (item.Note _) come = come
+
+-- the trace of a frame that began at an end
+abbrev Begun : PlainRecord → End → Frame → Type 0
+Begun r from f = IsBegun from.node from.iface (entries_of r (who.Iface from.node from.iface)) f.trace
 
 pub have_origins : (scene : PlainScene) (r : PlainRecord) → AreLinksAfter (length scene.nodes) [] scene.links → AreLogsOf (parties_of scene) r.parties → AreInOrder scene r → HaveOrigins scene r
 have_origins scene r after are order end =
@@ -192,12 +286,15 @@ have_origins scene r after are order end =
     told : (entries_of r (who.Iface end.node end.iface) ≡ []) ⊎ Logged (IsOf scene) (who.Iface end.node end.iface) r.parties → AllByRecursion (IsSent scene r end) (puts queue.Inbox (entries_of r (who.Iface end.node end.iface)))
     told (inl none) = subst (λ es. AllByRecursion (IsSent scene r end) (puts queue.Inbox es)) (sym none) tt
     told (inr log) =
-        let run : (l : PlainLink) × (slice_get (links_at end.node scene.links) end.iface ≡ Some l) × IsRun party_steps 0 (an_iface (opening end.node end.iface l.kind l.mtu)) (entries_of r (who.Iface end.node end.iface)) = iface_run scene r end.node end.iface log in
+        let own : IsIfaceRun scene r end.node end.iface = iface_run scene r end.node end.iface log in
+        let l : PlainLink = own.link in
         let first : 0 + end.iface ≡ end.iface = omega arith in
-        let j : IsJoint scene.links run.0 end = subst (λ k. IsJoint scene.links run.0 (record { node = end.node; iface = k })) first (joint (length scene.nodes) end.node scene.links [] end.iface run.0 after run.1) in
-        let Q : Trace → Type 0 = IsBegun j.beyond.node j.beyond.iface (entries_of r (who.Iface j.beyond.node j.beyond.iface)) in
-        let got : AllByRecursion (IsFrameOf Q) (gets (queue.Rx end.iface) (entries_of r (who.Iface end.node end.iface))) = came_over scene r run.0 end (λ f. Q f.trace) (λ f. Q f.trace) are order j
-        (λ way k f there here. damaged_of Q (fate_of (ways.number way) (k + 1) run.0.plan).flip f here) (sent_all scene r are j.beyond.node j.beyond.iface) in
-        AllByRecursion-map (IsPacketOf (HasCome r j.beyond)) (IsSent scene r end) (puts queue.Inbox (entries_of r (who.Iface end.node end.iface))) (is_sent scene r run.0 end j)
-        (received (HasCome r j.beyond) end.node end.iface run.0.kind run.0.mtu (entries_of r (who.Iface end.node end.iface)) run.2
-        (AllByRecursion-map (IsFrameOf Q) (IsFrameOf (λ t. HasCome r j.beyond (arrived t))) (gets (queue.Rx end.iface) (entries_of r (who.Iface end.node end.iface))) (hop_more r j.beyond) got))
+        let j : IsJoint scene.links l end = subst (λ k. IsJoint scene.links l (record { node = end.node; iface = k })) first (joint (length scene.nodes) end.node scene.links [] end.iface l after own.on) in
+        let got : AllByRecursion (IsSuchFrame (λ f. IsOfOther l j.at (λ from. Begun r from f))) (gets (queue.Rx end.iface) (entries_of r (who.Iface end.node end.iface))) =
+        came_from_others scene r l end (Begun r) (Begun r) are order j
+        (λ at k from f apart on there begun. damaged_of (IsBegun from.node from.iface (entries_of r (who.Iface from.node from.iface))) (fate_of at (k + 1) l.plan).flip f begun) (λ at from apart on. sent_all scene r are from.node from.iface) in
+        AllByRecursion-map (IsPacketOf (HasCome r l j.at)) (IsSent scene r end) (puts queue.Inbox (entries_of r (who.Iface end.node end.iface))) (is_sent scene r l end j)
+        (received (HasCome r l j.at) end.node end.iface l.kind l.mtu own.heeds (entries_of r (who.Iface end.node end.iface)) own.run
+        (AllByRecursion-map (IsSuchFrame (λ f. IsOfOther l j.at (λ from. Begun r from f))) (IsFrameOf (λ t. HasCome r l j.at (arrived t))) (gets (queue.Rx end.iface) (entries_of r (who.Iface end.node end.iface)))
+        (such_also (λ f. IsOfOther l j.at (λ from. Begun r from f)) (λ f. HasCome r l j.at (arrived f.trace))
+        (λ f come. record { place = come.place; apart = come.apart; end = come.end; there = come.there; holds = (f.trace, come.holds, refl) })) got))

@@ -190,14 +190,14 @@ links_apart : (n : ℕ) (links : List PlainLink) → AreApart (links_from n link
 links_apart n [] = tt
 links_apart n (l ∷ links) = (none_of (IsLinkFrom (n + 1)) (who.Link n) (links_from (n + 1) links) (links_all (n + 1) (n + 1) links (le_refl (n + 1))) (λ h. omega (arith, h)), links_apart (n + 1) links)
 
-ifaces_all : (place n m : ℕ) (links : List PlainLink) → m ≤ n → AllByRecursion (λ o. IsIfaceFrom m o.who) (ifaces_from place n links)
-ifaces_all place n m [] h = tt
-ifaces_all place n m (l ∷ links) h = (h, ifaces_all place (n + 1) m links (omega (arith, h)))
+ifaces_all : (place : ℕ) (addr : Option ℕ) (n m : ℕ) (links : List PlainLink) → m ≤ n → AllByRecursion (λ o. IsIfaceFrom m o.who) (ifaces_from place addr n links)
+ifaces_all place addr n m [] h = tt
+ifaces_all place addr n m (l ∷ links) h = (h, ifaces_all place addr (n + 1) m links (omega (arith, h)))
 
-ifaces_apart : (place n : ℕ) (links : List PlainLink) → AreApart (ifaces_from place n links)
-ifaces_apart place n [] = tt
-ifaces_apart place n (l ∷ links) =
-    (none_of (IsIfaceFrom (n + 1)) (who.Iface place n) (ifaces_from place (n + 1) links) (ifaces_all place (n + 1) (n + 1) links (le_refl (n + 1))) (λ h. omega (arith, h)), ifaces_apart place (n + 1) links)
+ifaces_apart : (place : ℕ) (addr : Option ℕ) (n : ℕ) (links : List PlainLink) → AreApart (ifaces_from place addr n links)
+ifaces_apart place addr n [] = tt
+ifaces_apart place addr n (l ∷ links) =
+    (none_of (IsIfaceFrom (n + 1)) (who.Iface place n) (ifaces_from place addr (n + 1) links) (ifaces_all place addr (n + 1) (n + 1) links (le_refl (n + 1))) (λ h. omega (arith, h)), ifaces_apart place addr (n + 1) links)
 
 apps_all : (place n m : ℕ) (apps : List PlainApp) → m ≤ n → AllByRecursion (λ o. IsAppFrom m o.who) (apps_from place n apps)
 apps_all place n m [] h = tt
@@ -216,15 +216,15 @@ never_both (who.App _ _) one other = one
 never_both (who.Link _) one other = one
 
 -- the interfaces and applications of a node
-parts_part : (place : ℕ) (links : List PlainLink) (n m : ℕ) (apps : List PlainApp) → AllByRecursion (λ o. IsPart o.who) (ifaces_from place n links ++ apps_from place m apps)
-parts_part place [] n m [] = tt
-parts_part place [] n m (a ∷ apps) = (tt, parts_part place [] n (m + 1) apps)
-parts_part place (l ∷ links) n m apps = (tt, parts_part place links (n + 1) m apps)
+parts_part : (place : ℕ) (addr : Option ℕ) (links : List PlainLink) (n m : ℕ) (apps : List PlainApp) → AllByRecursion (λ o. IsPart o.who) (ifaces_from place addr n links ++ apps_from place m apps)
+parts_part place addr [] n m [] = tt
+parts_part place addr [] n m (a ∷ apps) = (tt, parts_part place addr [] n (m + 1) apps)
+parts_part place addr (l ∷ links) n m apps = (tt, parts_part place addr links (n + 1) m apps)
 
-parts_at : (place : ℕ) (links : List PlainLink) (n m : ℕ) (apps : List PlainApp) → AllByRecursion (λ o. IsAt place o.who) (ifaces_from place n links ++ apps_from place m apps)
-parts_at place [] n m [] = tt
-parts_at place [] n m (a ∷ apps) = (refl, parts_at place [] n (m + 1) apps)
-parts_at place (l ∷ links) n m apps = (refl, parts_at place links (n + 1) m apps)
+parts_at : (place : ℕ) (addr : Option ℕ) (links : List PlainLink) (n m : ℕ) (apps : List PlainApp) → AllByRecursion (λ o. IsAt place o.who) (ifaces_from place addr n links ++ apps_from place m apps)
+parts_at place addr [] n m [] = tt
+parts_at place addr [] n m (a ∷ apps) = (refl, parts_at place addr [] n (m + 1) apps)
+parts_at place addr (l ∷ links) n m apps = (refl, parts_at place addr links (n + 1) m apps)
 
 hub_none : (addr : Option ℕ) (place : ℕ) (n : PlainNode) (links : List PlainLink) (os : List PlainOpening) → AllByRecursion (λ o. IsPart o.who) os → HasNone (hub_by addr place n links).who os
 hub_none None place n links os each = none_of IsPart (who.Bridge place) os each (λ h. h)
@@ -235,13 +235,13 @@ hub_at None place n links = refl
 hub_at (Some addr) place n links = refl
 
 node_at : (place : ℕ) (n : PlainNode) (links : List PlainLink) → AllByRecursion (λ o. IsAt place o.who) (parties_at place n links)
-node_at place n links = (hub_at n.addr place n links, parts_at place links 0 0 n.apps)
+node_at place n links = (hub_at n.addr place n links, parts_at place n.addr links 0 0 n.apps)
 
 node_apart : (place : ℕ) (n : PlainNode) (links : List PlainLink) → AreApart (parties_at place n links)
 node_apart place n links = (
-  hub_none n.addr place n links (ifaces_from place 0 links ++ apps_from place 0 n.apps) (parts_part place links 0 0 n.apps),
-  apart_both (IsIfaceFrom 0) (IsAppFrom 0) (ifaces_from place 0 links) (apps_from place 0 n.apps) (ifaces_all place 0 0 links (le_refl 0)) (apps_all place 0 0 n.apps (le_refl 0)) never_both
-      (ifaces_apart place 0 links) (apps_apart place 0 n.apps),
+  hub_none n.addr place n links (ifaces_from place n.addr 0 links ++ apps_from place 0 n.apps) (parts_part place n.addr links 0 0 n.apps),
+  apart_both (IsIfaceFrom 0) (IsAppFrom 0) (ifaces_from place n.addr 0 links) (apps_from place 0 n.apps) (ifaces_all place n.addr 0 0 links (le_refl 0)) (apps_all place 0 0 n.apps (le_refl 0)) never_both
+      (ifaces_apart place n.addr 0 links) (apps_apart place 0 n.apps),
 )
 
 -- the nodes

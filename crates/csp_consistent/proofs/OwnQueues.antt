@@ -1,19 +1,21 @@
 -- Each party uses its own queues, from its opening in a scene on.
-use Rattle.std.proofs.Common.{◌≡◌, ℕ, ◌+◌, Option, None, Some, List, [], ◌∷◌, ◌++◌, refl, sym, subst, ◌∙◌}
-use Rattle.std.specs.Prelude.{⊤}
+use Rattle.std.proofs.Common.{◌≡◌, ℕ, ◌+◌, Bool, true, false, Option, None, Some, List, [], ◌∷◌, ◌++◌, length, refl, sym, subst, ◌∙◌}
+use Rattle.std.specs.Prelude.{if◌then◌else◌, ⊤}
 use Rattle.std.specs.List.{AllByRecursion}
 use Rattle.csp_bridge.specs.Asking as bridge_asking
 use Rattle.csp_bridge.specs.Planning as bridge_plan
 use Rattle.csp_consistent.proofs.AppQueues.{app_asks, app_number}
 use Rattle.csp_consistent.proofs.IfaceQueues.{iface_asks, iface_number}
 use Rattle.csp_consistent.proofs.RouterQueues.{IsOutward, router_asks, router_outward}
-use Rattle.csp_topology.specs.Parties.{PlainOpening, apps_from, hub_by, ifaces_from, links_from, parties_at, parties_from, parties_of, party_steps}
+use Rattle.csp_topology.specs.Parties.{PlainOpening, apps_from, hub_by, ifaces_from, link_party, links_from, parties_at, parties_from, parties_of, party_steps}
 use Rattle.csp_consistent.specs.Queues.{MayAsk, UseTheirQueues, UsesItsQueues}
 use Rattle.csp_consistent.specs.Runs.{AreLogsOf, IsLogOf}
 use Rattle.csp_deck.specs.Runs.{IsRun}
 use Rattle.csp_hub.specs.Asking as hub_asking
+use Rattle.csp_hub.specs.PlainHub as plain_hub
 use Rattle.csp_hub.specs.Planning as hub_plan
 use Rattle.csp_link.specs.Asking as link_asking
+use Rattle.csp_link.specs.PlainLink as plain_link
 use Rattle.csp_link.specs.Planning as link_plan
 use Rattle.csp_link.specs.declared.way.Way.{Way}
 use Rattle.csp_log.specs.declared.entry.Entry.{Entry}
@@ -133,23 +135,31 @@ hub_own : (addr : Option ℕ) (place : ℕ) (n : PlainNode) (links : List PlainL
 hub_own (Some addr) place n links = tt
 hub_own None place n links = tt
 
-ifaces_own : (place number : ℕ) (links : List PlainLink) → AllByRecursion IsOpened (ifaces_from place number links)
-ifaces_own place number [] = tt
-ifaces_own place number (l ∷ links) = (refl, ifaces_own place (number + 1) links)
+ifaces_own : (place : ℕ) (addr : Option ℕ) (number : ℕ) (links : List PlainLink) → AllByRecursion IsOpened (ifaces_from place addr number links)
+ifaces_own place addr number [] = tt
+ifaces_own place addr number (l ∷ links) = (refl, ifaces_own place addr (number + 1) links)
 
 apps_own : (place number : ℕ) (apps : List PlainApp) → AllByRecursion IsOpened (apps_from place number apps)
 apps_own place number [] = tt
 apps_own place number (a ∷ apps) = (refl, apps_own place (number + 1) apps)
 
+link_own : (number : ℕ) (l : PlainLink) → IsOwn (who.Link number) (link_party l)
+link_own number l =
+    by l.hub
+  where
+    by : (b : Bool) → IsOwn (who.Link number) (if b then a_hub (plain_hub.opening (length l.ends) l.plan) else a_link (plain_link.opening l.kind l.plan))
+    by true = tt
+    by false = tt
+
 links_own : (number : ℕ) (links : List PlainLink) → AllByRecursion IsOpened (links_from number links)
 links_own number [] = tt
-links_own number (l ∷ links) = (tt, links_own (number + 1) links)
+links_own number (l ∷ links) = (link_own number l, links_own (number + 1) links)
 
 nodes_own : (place : ℕ) (nodes : List PlainNode) (links : List PlainLink) → AllByRecursion IsOpened (parties_from place nodes links)
 nodes_own place [] links = tt
 nodes_own place (n ∷ nodes) links =
     all-append IsOpened (parties_at place n (links_at place links)) (parties_from (place + 1) nodes links)
-    (hub_own n.addr place n (links_at place links), all-append IsOpened (ifaces_from place 0 (links_at place links)) (apps_from place 0 n.apps) (ifaces_own place 0 (links_at place links)) (apps_own place 0 n.apps))
+    (hub_own n.addr place n (links_at place links), all-append IsOpened (ifaces_from place n.addr 0 (links_at place links)) (apps_from place 0 n.apps) (ifaces_own place n.addr 0 (links_at place links)) (apps_own place 0 n.apps))
     (nodes_own (place + 1) nodes links)
 
 pub scene_own : (scene : PlainScene) → AllByRecursion IsOpened (parties_of scene)

@@ -1,17 +1,18 @@
 -- What a scene has under each name: the party that stands there.
-use Rattle.std.proofs.Common.{◌≡◌, ℕ, suc, ◌+◌, Option, Some, None, List, [], ◌∷◌, slice_get, refl, subst, arith}
+use Rattle.std.proofs.Common.{◌≡◌, ℕ, suc, ◌+◌, Bool, true, false, Option, Some, None, List, [], ◌∷◌, length, slice_get, refl, ap, subst, arith}
+use Rattle.std.specs.Prelude.{if◌then◌else◌}
 use Rattle.std.specs.List.{AllByRecursion}
 use Rattle.csp_app.specs.PlainApp as plain_app
 use Rattle.csp_bridge.specs.PlainBridge as bridge
-use Rattle.csp_iface.specs.PlainIface as plain_iface
+use Rattle.csp_hub.specs.PlainHub as plain_hub
 use Rattle.csp_link.specs.PlainLink as plain_link
-use Rattle.csp_party.specs.Any.{PlainParty, a_bridge, an_iface, an_app, a_link}
+use Rattle.csp_party.specs.Any.{PlainParty, a_bridge, an_iface, an_app, a_link, a_hub}
 use Rattle.csp_record.specs.declared.who.Who.{Who}
 use Rattle.csp_record.specs.declared.who.Who.TheVariants as who
 use Rattle.csp_scene.proofs.Lists.{AllByRecursion-append}
 use Rattle.csp_scene.specs.Links.{links_at}
 use Rattle.csp_scene.specs.Scene.{PlainScene, PlainNode, PlainLink, PlainApp}
-use Rattle.csp_topology.specs.Parties.{PlainOpening, parties_of, parties_from, parties_at, links_from, ifaces_from, apps_from, hub_by, router_for, config_of}
+use Rattle.csp_topology.specs.Parties.{PlainOpening, parties_of, parties_from, parties_at, link_party, links_from, iface_opening, heeded, ifaces_from, apps_from, hub_by, router_for, config_of}
 
 -- the router of a node with an address
 pub record IsRouterAt (nodes : List PlainNode) (links : List PlainLink) (place : ℕ) (p : PlainParty) : Type 0 where
@@ -34,7 +35,7 @@ pub record IsIfaceAt (nodes : List PlainNode) (links : List PlainLink) (place nu
   pub link : PlainLink
   pub there : slice_get nodes place ≡ Some node
   pub on : slice_get (links_at place links) number ≡ Some link
-  pub party : p ≡ an_iface (plain_iface.opening place number link.kind link.mtu)
+  pub party : p ≡ an_iface (iface_opening place number link.kind link.mtu (heeded node.addr link))
 
 -- an application of a node
 pub record IsAppAt (nodes : List PlainNode) (place number : ℕ) (p : PlainParty) : Type 0 where
@@ -44,11 +45,18 @@ pub record IsAppAt (nodes : List PlainNode) (place number : ℕ) (p : PlainParty
   pub of_it : slice_get node.apps number ≡ Some app
   pub party : p ≡ an_app (plain_app.opening number app.steps)
 
--- a link
+-- a link or a hub
 pub record IsLinkAt (links : List PlainLink) (number : ℕ) (p : PlainParty) : Type 0 where
   pub link : PlainLink
   pub there : slice_get links number ≡ Some link
-  pub party : p ≡ a_link (plain_link.opening link.kind link.plan)
+  pub party : p ≡ link_party link
+
+-- which of the two it is
+pub as_link : (l : PlainLink) → l.hub ≡ false → link_party l ≡ a_link (plain_link.opening l.kind l.plan)
+as_link l is = ap (λ (b : Bool). if b then a_hub (plain_hub.opening (length l.ends) l.plan) else a_link (plain_link.opening l.kind l.plan)) is
+
+pub as_hub : (l : PlainLink) → l.hub ≡ true → link_party l ≡ a_hub (plain_hub.opening (length l.ends) l.plan)
+as_hub l is = ap (λ (b : Bool). if b then a_hub (plain_hub.opening (length l.ends) l.plan) else a_link (plain_link.opening l.kind l.plan)) is
 
 -- a party that is what a scene has under this name
 abbrev pub IsOwner : List PlainNode → List PlainLink → Who → PlainParty → Type 0
@@ -85,7 +93,7 @@ links_own nodes links [] n has = tt
 links_own nodes links (l ∷ rest) n has = (record { link = l; there = has_first links n l rest has; party = refl }, links_own nodes links rest (n + 1) (has_rest links n l rest has))
 
 ifaces_own : (nodes : List PlainNode) (links : List PlainLink) (place : ℕ) (node : PlainNode) → slice_get nodes place ≡ Some node
-    → (rest : List PlainLink) (n : ℕ) → HasFrom (links_at place links) n rest → AllByRecursion (λ o. IsOwner nodes links o.who o.party) (ifaces_from place n rest)
+    → (rest : List PlainLink) (n : ℕ) → HasFrom (links_at place links) n rest → AllByRecursion (λ o. IsOwner nodes links o.who o.party) (ifaces_from place node.addr n rest)
 ifaces_own nodes links place node there [] n has = tt
 ifaces_own nodes links place node there (l ∷ rest) n has =
     (record { node = node; link = l; there = there; on = has_first (links_at place links) n l rest has; party = refl }, ifaces_own nodes links place node there rest (n + 1) (has_rest (links_at place links) n l rest has))
@@ -104,7 +112,7 @@ hub_own nodes links place node there (Some addr) called = record { node = node; 
 node_own : (nodes : List PlainNode) (links : List PlainLink) (place : ℕ) (node : PlainNode) → slice_get nodes place ≡ Some node → AllByRecursion (λ o. IsOwner nodes links o.who o.party) (parties_at place node (links_at place links))
 node_own nodes links place node there = (
   hub_own nodes links place node there node.addr refl,
-  AllByRecursion-append (λ (o : PlainOpening). IsOwner nodes links o.who o.party) (ifaces_from place 0 (links_at place links)) (apps_from place 0 node.apps)
+  AllByRecursion-append (λ (o : PlainOpening). IsOwner nodes links o.who o.party) (ifaces_from place node.addr 0 (links_at place links)) (apps_from place 0 node.apps)
       (ifaces_own nodes links place node there (links_at place links) 0 (has_all (links_at place links)))
       (apps_own nodes links place node there node.apps 0 (has_all node.apps)),
 )

@@ -8,7 +8,7 @@ use Rattle.csp_buffer.specs.Content.{Content}
 use Rattle.csp_deck.specs.Runs.{IsRun}
 use Rattle.csp_iface.specs.Asking.{asks, asked, op_of, handed, given, delivered, transmitted}
 use Rattle.csp_iface.specs.Heeding.{is_for}
-use Rattle.csp_iface.specs.PlainIface.{PlainIface, opening}
+use Rattle.csp_iface.specs.PlainIface.{PlainIface}
 use Rattle.csp_iface.specs.Links.{receiver_for}
 use Rattle.csp_iface.specs.Planning.{plan_of, first_rule, side_plan}
 use Rattle.csp_iface.specs.Receiving.{Heard, arrived, heard, read_further}
@@ -30,7 +30,7 @@ use Rattle.csp_log.specs.declared.shown.AnswerShown.{AnswerShown}
 use Rattle.csp_log.specs.declared.shown.AnswerShown.TheVariants as answer
 use Rattle.csp_party.specs.Any.{an_iface}
 use Rattle.csp_scene.proofs.Lists.{AllByRecursion-append}
-use Rattle.csp_topology.specs.Parties.{party_steps}
+use Rattle.csp_topology.specs.Parties.{iface_opening, party_steps}
 use Rattle.csp_consistent.specs.Reading.{put_by, got_by, puts, gets}
 use Rattle.csp_consistent.proofs.Each.{each_first, each_last}
 use Rattle.csp_consistent.proofs.Heard.{IsWholeSo, IsKeptOf, IsHeardSo, read_by, read_from, read_of, further_of}
@@ -88,7 +88,7 @@ receiving None (Some _) whole own e = absurd cc
 receiving None None whole own e = refl
 
 -- the frame that came
-came : (P : ItemShown → Type 0) (n : ℕ) (i : ItemShown) → AllByRecursion P (if n == n then i ∷ [] else []) → P i
+pub came : (P : ItemShown → Type 0) (n : ℕ) (i : ItemShown) → AllByRecursion P (if n == n then i ∷ [] else []) → P i
 came P n i all =
     let there : AllByRecursion P (i ∷ []) = subst (λ (b : Bool). AllByRecursion P (if b then i ∷ [] else [])) (eq-eqb n n refl) all in
     there.0
@@ -291,9 +291,9 @@ module _ (W : ℕ → List ℕ → Trace → Type 0) (K : Receiver → Type 0) (
       (subst (λ o. AllByRecursion (IsPacketSo W) (put_by queue.Inbox o e.answer)) (sym run.1.op) (put_of W K G hears rests s (plan_of s) e.answer h))
       (run_received node number es e.time (tells (asked s e.time) e.time e.answer) run.2 (step_named node number s e.time e.answer named) (step_holding W K G hears rests s e.time e.answer h own_got) then_got)
 
-  pub received_so : (node number : ℕ) (kind : LinkKind) (mtu : ℕ) (es : List Entry) → K (receiver_for kind mtu) → IsRun party_steps 0 (an_iface (opening node number kind mtu)) es
+  pub received_so : (node number : ℕ) (kind : LinkKind) (mtu : ℕ) (heeds : Option ℕ) (es : List Entry) → K (receiver_for kind mtu) → IsRun party_steps 0 (an_iface (iface_opening node number kind mtu heeds)) es
       → AllByRecursion (IsSuchFrame G) (gets (queue.Rx number) es) → AllByRecursion (IsPacketSo W) (puts queue.Inbox es)
-  received_so node number kind mtu es first run got = run_received node number es 0 (opening node number kind mtu) run (refl, refl) (tt, tt, first) got
+  received_so node number kind mtu heeds es first run got = run_received node number es 0 (iface_opening node number kind mtu heeds) run (refl, refl) (tt, tt, first) got
 
 opening_kept : (P : Trace → Type 0) (kind : LinkKind) (mtu : ℕ) → IsKeptOf P (receiver_for kind mtu)
 opening_kept P kind.Kiss mtu = inl refl
@@ -301,7 +301,7 @@ opening_kept P kind.KissHeader mtu = inl refl
 opening_kept P kind.Can mtu = tt
 
 -- where each frame that an interface popped has, one hop on, a trace of some kind, each packet that it handed to its inbox has one
-pub received : (P : Trace → Type 0) (node number : ℕ) (kind : LinkKind) (mtu : ℕ) (es : List Entry) → IsRun party_steps 0 (an_iface (opening node number kind mtu)) es
+pub received : (P : Trace → Type 0) (node number : ℕ) (kind : LinkKind) (mtu : ℕ) (heeds : Option ℕ) (es : List Entry) → IsRun party_steps 0 (an_iface (iface_opening node number kind mtu heeds)) es
     → AllByRecursion (IsFrameOf (λ t. P (arrived t))) (gets (queue.Rx number) es) → AllByRecursion (IsPacketOf P) (puts queue.Inbox es)
-received P node number kind mtu es run got =
-    received_so (λ header payload trace. P trace) (IsKeptOf P) (λ f. P (arrived f.trace)) (read_of P) (further_of P) node number kind mtu es (opening_kept P kind mtu) run got
+received P node number kind mtu heeds es run got =
+    received_so (λ header payload trace. P trace) (IsKeptOf P) (λ f. P (arrived f.trace)) (read_of P) (further_of P) node number kind mtu heeds es (opening_kept P kind mtu) run got

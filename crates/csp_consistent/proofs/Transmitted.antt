@@ -10,7 +10,7 @@ use Rattle.csp_can.specs.Frames.{written}
 use Rattle.csp_can.specs.declared.frames.CanFrame.{CanFrame}
 use Rattle.csp_deck.specs.Runs.{IsRun, IsStep}
 use Rattle.csp_iface.specs.Asking.{asked, op_of, given, delivered, transmitted}
-use Rattle.csp_iface.specs.PlainIface.{PlainIface, opening}
+use Rattle.csp_iface.specs.PlainIface.{PlainIface}
 use Rattle.csp_iface.specs.Planning.{plan_of}
 use Rattle.csp_iface.specs.Sending.{sent_trace, next_node, frames_of, can_frame}
 use Rattle.csp_iface.specs.Telling.{told_by, caught, pushed, kept, fetched as told_fetched, tells, bad, concluded, is_too_big, taken_up}
@@ -35,7 +35,7 @@ use Rattle.csp_log.specs.declared.shown.AnswerShown.TheVariants as answer
 use Rattle.csp_party.specs.Any.{an_iface}
 use Rattle.csp_record.specs.Transmissions.{fetched, is_beginning, shown_in}
 use Rattle.csp_scene.proofs.Lists.{AllByRecursion-append, AllByRecursion-map}
-use Rattle.csp_topology.specs.Parties.{party_steps}
+use Rattle.csp_topology.specs.Parties.{iface_opening, party_steps}
 use Rattle.csp_consistent.specs.Reading.{put_by, puts}
 use Rattle.csp_consistent.proofs.Each.{each_at, each_drop_first, each_if, each_there}
 use Rattle.csp_consistent.proofs.Received.{IsFrameOf, IsOn, IsSuchFrame, step_on, told, waiting}
@@ -333,9 +333,9 @@ run_sent node number kind mtu all (e ∷ es) time s run on alike h =
     (told_such Q s e.time p e.answer h run.1.fits fresh))
 
 -- each frame that an interface pushed to its link is one of a transmission that its entries show
-pub sent_frames : (node number : ℕ) (kind : LinkKind) (mtu : ℕ) (es : List Entry) → IsRun party_steps 0 (an_iface (opening node number kind mtu)) es
+pub sent_frames : (node number : ℕ) (kind : LinkKind) (mtu : ℕ) (heeds : Option ℕ) (es : List Entry) → IsRun party_steps 0 (an_iface (iface_opening node number kind mtu heeds)) es
     → AllByRecursion (IsSuchFrame (IsSentIn node number kind mtu es)) (puts (queue.Tx number) es)
-sent_frames node number kind mtu es run = run_sent node number kind mtu es es 0 (opening node number kind mtu) run (refl, refl, refl, refl) (λ n le. refl) tt
+sent_frames node number kind mtu heeds es run = run_sent node number kind mtu es es 0 (iface_opening node number kind mtu heeds) run (refl, refl, refl, refl) (λ n le. refl) tt
 
 -- and so it has the trace of that transmission
 pub sent_traced : (node number : ℕ) (kind : LinkKind) (mtu : ℕ) (es : List Entry) (f : Frame) → IsSentIn node number kind mtu es f → IsBegun node number es f.trace
@@ -354,7 +354,7 @@ begun_item node number kind mtu es (item.Frame f) is = sent_traced node number k
 begun_item node number kind mtu es (item.Packet _ _) is = tt
 begun_item node number kind mtu es (item.Note _) is = tt
 
-pub transmitted_all : (node number : ℕ) (kind : LinkKind) (mtu : ℕ) (es : List Entry) → IsRun party_steps 0 (an_iface (opening node number kind mtu)) es
+pub transmitted_all : (node number : ℕ) (kind : LinkKind) (mtu : ℕ) (heeds : Option ℕ) (es : List Entry) → IsRun party_steps 0 (an_iface (iface_opening node number kind mtu heeds)) es
     → AllByRecursion (IsFrameOf (IsBegun node number es)) (puts (queue.Tx number) es)
-transmitted_all node number kind mtu es run =
-    AllByRecursion-map (IsSuchFrame (IsSentIn node number kind mtu es)) (IsFrameOf (IsBegun node number es)) (puts (queue.Tx number) es) (begun_item node number kind mtu es) (sent_frames node number kind mtu es run)
+transmitted_all node number kind mtu heeds es run =
+    AllByRecursion-map (IsSuchFrame (IsSentIn node number kind mtu es)) (IsFrameOf (IsBegun node number es)) (puts (queue.Tx number) es) (begun_item node number kind mtu es) (sent_frames node number kind mtu heeds es run)

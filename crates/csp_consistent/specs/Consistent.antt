@@ -3,7 +3,7 @@ use Rattle.csp_record.specs.Record.{PlainRecord}
 use Rattle.csp_scene.specs.Scene.{PlainScene}
 use Rattle.csp_consistent.specs.Inboxes.{AreInboxesInOrder}
 use Rattle.csp_consistent.specs.Lanes.{AreInOrder}
-use Rattle.csp_consistent.specs.Links.{ArePlanned}
+use Rattle.csp_consistent.specs.Links.{ArePlanned, AreSpread}
 use Rattle.csp_consistent.specs.Origins.{HaveOrigins}
 use Rattle.csp_topology.specs.Parties.{parties_of}
 use Rattle.csp_consistent.specs.Pools.{AreNumbersKept}
@@ -19,7 +19,8 @@ pub record IsConsistent (scene : PlainScene) (r : PlainRecord) : Type 0 where
   pub inboxes : AreInboxesInOrder scene r
   -- 4. no number of a pool was lost or made, and each was where the record says, which speaks of each queue and place once, and of no other
   pub numbers : AreNumbersKept scene r
-  -- 5. a link pushed copies that its plan makes of what it popped, each at most once
+  -- 5. a link pushed copies that its plan makes of what it popped, each at most once, and a hub to each end of what it popped from the others
   pub links : ArePlanned scene r
-  -- 6. what an interface handed in was sent at the other end of its link
+  pub hubs : AreSpread scene r
+  -- 6. what an interface handed in was sent at another end of its link
   pub origins : HaveOrigins scene r

@@ -1,5 +1,5 @@
--- Consistent, part 6: each packet that an interface pushed to an inbox was sent by the interface at the other end of its link.
-use Rattle.std.specs.Prelude.{◌≡◌, ◌⊎◌, ℕ, ◌+◌, Some, [], ◌∷◌, slice_get}
+-- Consistent, part 6: each packet that an interface pushed to an inbox was sent by the interface at the other end of its link, on a hub at another.
+use Rattle.std.specs.Prelude.{◌≡◌, ◌≢◌, ℕ, ◌+◌, Some, slice_get}
 use Rattle.std.specs.List.{AllByRecursion}
 use Rattle.csp_base.specs.declared.traces.Origin.{Origin}
 use Rattle.csp_buffer.specs.Content.{Content}
@@ -13,14 +13,18 @@ use Rattle.csp_record.specs.declared.who.Who.TheVariants as who
 use Rattle.csp_scene.specs.Scene.{PlainScene, PlainLink}
 use Rattle.csp_consistent.specs.Reading.{entries_of, puts}
 
--- two ends are those of one link
+-- two ends are different ones of one link or hub
 pub record AreJoined (scene : PlainScene) (a b : End) : Type 0 where
   pub number : ℕ
   pub link : PlainLink
   pub there : slice_get scene.links number ≡ Some link
-  pub ends : (link.ends ≡ a ∷ b ∷ []) ⊎ (link.ends ≡ b ∷ a ∷ [])
+  pub one : ℕ
+  pub other : ℕ
+  pub at_one : slice_get link.ends one ≡ Some a
+  pub at_other : slice_get link.ends other ≡ Some b
+  pub apart : one ≢ other
 
--- a packet that came in at an end: its origin names a transmission that the record shows, of the interface at the other end of the link; it has
+-- a packet that came in at an end: its origin names a transmission that the record shows, of an interface at another end of the link; it has
 -- the tag of what was sent, and one hop more
 pub record IsSentFromBeyond (scene : PlainScene) (r : PlainRecord) (end : End) (b : Content) : Type 0 where
   pub origin : Origin
@@ -31,12 +35,12 @@ pub record IsSentFromBeyond (scene : PlainScene) (r : PlainRecord) (end : End) (
   pub tag : b.trace.tag ≡ sent.trace.tag
   pub hops : b.trace.hops ≡ sent.trace.hops + 1
 
--- what an interface put into an inbox is a packet that was sent by the other end of its link
+-- what an interface put into an inbox is a packet that was sent by another end of its link
 abbrev pub IsSent : PlainScene → PlainRecord → End → ItemShown → Type 0
 IsSent scene r end (item.Packet mark b) = IsSentFromBeyond scene r end b
 IsSent scene r end (item.Frame _) = ⊥
 IsSent scene r end (item.Note _) = ⊥
 
--- all that the interfaces put into inboxes was sent at the other ends of their links
+-- all that the interfaces put into inboxes was sent at other ends of their links
 abbrev pub HaveOrigins : PlainScene → PlainRecord → Type 0
 HaveOrigins scene r = (end : End) → AllByRecursion (IsSent scene r end) (puts queue.Inbox (entries_of r (who.Iface end.node end.iface)))

@@ -1,7 +1,7 @@
 //! What follows from the consistency of a record.
 
 ghost use Rattle.csp_consistent.specs.Lanes.{AreInOrder};
-ghost use Rattle.csp_consistent.specs.Links.{ArePlanned};
+ghost use Rattle.csp_consistent.specs.Links.{ArePlanned, AreSpread};
 ghost use Rattle.csp_consistent.specs.Origins.{HaveOrigins};
 ghost use Rattle.csp_topology.specs.Parties.{parties_of};
 ghost use Rattle.csp_consistent.specs.Runs.{AreLogsOf};
@@ -15,9 +15,14 @@ pub fn applies_plans()
     ensures { (scene : PlainScene) (r : PlainRecord) → AreLogsOf (parties_of scene) r.parties → ArePlanned scene r }
 {}
 
+/// And hubs that do.
+pub fn spreads_by_plans()
+    ensures { (scene : PlainScene) (r : PlainRecord) → AreLogsOf (parties_of scene) r.parties → AreSpread scene r }
+{}
+
 /// Where each lane besides is in order, and each link of the scene ends at the interfaces after those
-/// of the earlier links, each packet that an interface handed to its inbox was sent by the interface
-/// at the other end of its link, and has the tag of what was sent and one hop more.
+/// of the earlier links, each packet that an interface handed to its inbox was sent by an interface
+/// at another end of its link, and has the tag of what was sent and one hop more.
 pub fn names_origins()
     ensures { (scene : PlainScene) (r : PlainRecord) → AreLinksAfter (length scene.nodes) [] scene.links → AreLogsOf (parties_of scene) r.parties → AreInOrder scene r → HaveOrigins scene r }
 {}
