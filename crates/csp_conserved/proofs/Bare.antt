@@ -1,12 +1,12 @@
 -- In the lanes between an interface and its link no buffer was left; and what the entries of a name did was on its own queues.
-use Rattle.std.proofs.Common.{◌≡◌, ◌⊎◌, inl, inr, ℕ, ◌+◌, Bool, true, false, Some, List, [], ◌∷◌, length, slice_get, refl, sym, subst, arith}
+use Rattle.std.proofs.Common.{◌≡◌, ℕ, ◌+◌, Bool, true, false, Some, List, [], ◌∷◌, length, slice_get, refl, sym, subst, arith}
 use Rattle.std.specs.Prelude.{if◌then◌else◌}
 use Rattle.std.specs.List.{AllByRecursion}
 use Rattle.csp_conserved.proofs.Frames.{rx_bare, tx_bare}
 use Rattle.csp_conserved.proofs.Ifaces.{IsBare}
-use Rattle.csp_consistent.proofs.Across.{AreLanes, link_lanes_of}
+use Rattle.csp_consistent.proofs.Across.{AreLanes, end_lanes_of}
 use Rattle.csp_consistent.proofs.Beyond.{IsJoint, joint}
-use Rattle.csp_consistent.proofs.Each.{each_first, each_last}
+use Rattle.csp_consistent.proofs.Each.{each_last}
 use Rattle.csp_consistent.proofs.Names.{entries_in, who_is}
 use Rattle.csp_consistent.specs.Lanes.{AreInOrder, IsInOrder}
 use Rattle.csp_consistent.specs.Queues.{MayAsk, UseTheirQueues}
@@ -22,7 +22,7 @@ use Rattle.csp_scene.proofs.Lists.{AllByRecursion-append}
 use Rattle.csp_scene.specs.Kept.{AreLinksAfter}
 use Rattle.csp_scene.specs.Links.{links_at}
 use Rattle.csp_scene.specs.Scene.{PlainLink, PlainScene}
-use Rattle.csp_topology.specs.Lanes.{PlainLane, end_lanes}
+use Rattle.csp_topology.specs.Lanes.{PlainLane}
 use Rattle.csp_topology.specs.Parties.{parties_of}
 
 -- nothing with a buffer was left on the way from an interface to its link, and back
@@ -34,7 +34,7 @@ lane_bare : (r : PlainRecord) (l : PlainLane) → IsInOrder r l → AllByRecursi
 lane_bare r l order all = each_last IsBare (gets l.to.queue (entries_of r l.to.who)) (left_in r l.node l.queue 0) (subst (AllByRecursion IsBare) (sym order.order) all)
 
 module _ (scene : PlainScene) (r : PlainRecord) (are : AreLogsOf (parties_of scene) r.parties) where
-  end_bare : (number at : ℕ) (l : PlainLink) (end : End) → AllByRecursion (IsInOrder r) (end_lanes number (carried_on l.kind) at end) → IsBareAt r end.node end.iface
+  end_bare : (number at : ℕ) (l : PlainLink) (end : End) → AreLanes r number (carried_on l.kind) at end → IsBareAt r end.node end.iface
   end_bare number at l end lanes = record {
     tx = lane_bare r _ lanes.0 (tx_bare scene r are end.node end.iface end.iface);
     rx = lane_bare r _ lanes.1.0 (rx_bare scene r are number at);
@@ -46,17 +46,7 @@ module _ (scene : PlainScene) (r : PlainRecord) (are : AreLogsOf (parties_of sce
       by (subst (λ k. IsJoint scene.links l (record { node = node; iface = k })) first (joint (length scene.nodes) node scene.links [] number l after on))
     where
       by : IsJoint scene.links l (record { node = node; iface = number }) → IsBareAt r node number
-      by j = to j.ends
-        where
-          to : (l.ends ≡ record { node = node; iface = number } ∷ j.beyond ∷ []) ⊎ (l.ends ≡ j.beyond ∷ record { node = node; iface = number } ∷ []) → IsBareAt r node number
-          to (inl two) =
-              let end : End = record { node = node; iface = number } in
-              let lanes : AreLanes r j.number (carried_on l.kind) end j.beyond = link_lanes_of scene r j.number l end j.beyond order j.there two in
-              end_bare j.number 0 l end (each_first (IsInOrder r) (end_lanes j.number (carried_on l.kind) 0 end) (end_lanes j.number (carried_on l.kind) 1 j.beyond) lanes)
-          to (inr two) =
-              let end : End = record { node = node; iface = number } in
-              let lanes : AreLanes r j.number (carried_on l.kind) j.beyond end = link_lanes_of scene r j.number l j.beyond end order j.there two in
-              end_bare j.number 1 l end (each_last (IsInOrder r) (end_lanes j.number (carried_on l.kind) 0 j.beyond) (end_lanes j.number (carried_on l.kind) 1 end) lanes)
+      by j = let end : End = record { node = node; iface = number } in end_bare j.number j.at l end (end_lanes_of scene r j.number l j.at end order j.there j.on)
 
 -- the entries of a name are on queues that it may use
 pub may_in : (w : Who) (logs : List PlainPartyLog) → UseTheirQueues logs → AllByRecursion (λ e. MayAsk w e.op) (entries_in w logs)

@@ -1,21 +1,25 @@
 -- What goes over a link and its lanes has no buffer.
-use Rattle.std.proofs.Common.{◌≡◌, ◌⊎◌, inl, inr, ℕ, ◌+◌, ◌==◌, Option, None, Some, List, [], ◌∷◌, length, slice_get, refl, sym, ap, subst, arith}
+use Rattle.std.proofs.Common.{◌≡◌, ◌⊎◌, inl, inr, ℕ, ◌+◌, ◌<◌, ◌==◌, Bool, true, false, Option, None, Some, List, [], ◌∷◌, length, slice_get, refl, sym, ap, subst, arith}
 use Rattle.std.specs.List.{AllByRecursion}
 use Rattle.csp_buffer.specs.Content.{Content}
-use Rattle.csp_consistent.proofs.Across.{AreLanes, link_lanes_of, through}
-use Rattle.csp_consistent.proofs.Beyond.{IsJoint, iface_run, joint}
-use Rattle.csp_consistent.proofs.Each.{each_at, each_first, each_if, each_last}
+use Rattle.csp_consistent.proofs.Across.{end_lanes_of, through}
+use Rattle.csp_consistent.proofs.Beyond.{IsIfaceRun, IsJoint, iface_run, joint}
+use Rattle.csp_consistent.proofs.Each.{each_first, each_if, each_last, one_at}
 use Rattle.csp_consistent.proofs.Names.{Logged}
-use Rattle.csp_consistent.proofs.Owners.{IsLinkAt, IsOf}
-use Rattle.csp_consistent.proofs.Planned.{logged}
+use Rattle.csp_consistent.proofs.Owners.{IsLinkAt, IsOf, as_hub, as_link}
+use Rattle.csp_consistent.proofs.Planned.{PopsWithin, logged}
+use Rattle.csp_consistent.proofs.Received.{came}
 use Rattle.csp_consistent.specs.Lanes.{AreInOrder}
 use Rattle.csp_consistent.specs.Reading.{entries_of, got_by, gets, is_queue, put_by, puts}
 use Rattle.csp_consistent.specs.Runs.{AreLogsOf}
 use Rattle.csp_deck.specs.Runs.{IsRun}
 use Rattle.csp_deck.specs.Step.{answer_numbers, op_numbers, times}
+use Rattle.csp_hub.specs.Asking as hub_asking
+use Rattle.csp_hub.specs.PlainHub as plain_hub
+use Rattle.csp_hub.specs.PlainHub.{PlainHub}
+use Rattle.csp_hub.specs.Planning as hub_planning
 use Rattle.csp_iface.specs.Asking as iface_asking
 use Rattle.csp_iface.specs.PlainIface.{PlainIface}
-use Rattle.csp_iface.specs.PlainIface as plain_iface
 use Rattle.csp_iface.specs.Planning as iface_planning
 use Rattle.csp_iface.specs.declared.plan.Plan as iface_plans
 use Rattle.csp_iface.specs.declared.plan.Plan.TheVariants as iface_plan
@@ -26,7 +30,6 @@ use Rattle.csp_link.specs.Planning.{Plan, plan_of, pop, push, wait}
 use Rattle.csp_link.specs.Ways.{to_queue}
 use Rattle.csp_link.specs.declared.way.Way.{Way}
 use Rattle.csp_link.specs.declared.way.Way.TheVariants.{Back, Forth}
-use Rattle.csp_log.specs.Kinds.{carried_on}
 use Rattle.csp_log.specs.Pictures.{Fits}
 use Rattle.csp_log.specs.declared.entry.Entry.{Entry}
 use Rattle.csp_log.specs.declared.frame.Frame.{Frame}
@@ -37,17 +40,17 @@ use Rattle.csp_log.specs.declared.shown.AnswerShown.{AnswerShown}
 use Rattle.csp_log.specs.declared.shown.AnswerShown.TheVariants as answer
 use Rattle.csp_log.specs.declared.shown.ItemShown.{ItemShown}
 use Rattle.csp_log.specs.declared.shown.ItemShown.TheVariants as item
+use Rattle.csp_log.specs.declared.shown.OpShown.{OpShown}
 use Rattle.csp_log.specs.declared.shown.OpShown.TheVariants as op
-use Rattle.csp_party.specs.Any.{a_link, an_iface}
+use Rattle.csp_party.specs.Any.{a_hub, a_link, an_iface}
 use Rattle.csp_prefix.proofs.NodeLanes.{owner_of, run_of}
 use Rattle.csp_record.specs.Record.{PlainRecord}
 use Rattle.csp_record.specs.declared.who.Who.TheVariants as who
 use Rattle.csp_scene.proofs.Lists.{AllByRecursion-append}
 use Rattle.csp_scene.specs.Kept.{AreLinksAfter}
 use Rattle.csp_scene.specs.Links.{links_at}
-use Rattle.csp_scene.specs.Ranges.{AreEnds, IsLink, IsScene}
 use Rattle.csp_scene.specs.Scene.{PlainLink, PlainScene}
-use Rattle.csp_topology.specs.Parties.{parties_of, party_steps}
+use Rattle.csp_topology.specs.Parties.{iface_opening, link_party, parties_of, party_steps}
 use Rattle.csp_conserved.proofs.Ifaces.{IsBare}
 
 -- ---- what is put there
@@ -100,6 +103,29 @@ link_puts k (e ∷ es) time s run =
     (subst (λ o. AllByRecursion IsBare (put_by (queue.Rx k) o e.answer)) (sym run.1.op) (link_put k s.way (plan_of s e.time) e.answer))
     (link_puts k es e.time _ run.2)
 
+-- nor a hub
+hub_put : (k end : ℕ) (p : Plan) (a : AnswerShown) → AllByRecursion IsBare (put_by (queue.Rx k) (hub_asking.op_of end p) a)
+hub_put k end (push place h) answer.Pushed = each_if IsBare (end == k) (item.Frame h.frame) refl
+hub_put k end (push place h) _ = tt
+hub_put k end pop a = tt
+hub_put k end wait a = tt
+
+hub_puts : (k : ℕ) (es : List Entry) (time : ℕ) (h : PlainHub) → IsRun party_steps time (a_hub h) es → AllByRecursion IsBare (puts (queue.Rx k) es)
+hub_puts k [] time h run = tt
+hub_puts k (e ∷ es) time h run =
+    AllByRecursion-append IsBare (put_by (queue.Rx k) e.op e.answer) (puts (queue.Rx k) es)
+    (subst (λ o. AllByRecursion IsBare (put_by (queue.Rx k) o e.answer)) (sym run.1.op) (hub_put k h.serving (hub_planning.plan_of h e.time) e.answer))
+    (hub_puts k es e.time _ run.2)
+
+-- whichever of the two it is
+either_puts : (k : ℕ) (l : PlainLink) (es : List Entry) → IsRun party_steps 0 (link_party l) es → AllByRecursion IsBare (puts (queue.Rx k) es)
+either_puts k l es run =
+    by l.hub refl
+  where
+    by : (b : Bool) → l.hub ≡ b → AllByRecursion IsBare (puts (queue.Rx k) es)
+    by true is = hub_puts k es 0 (plain_hub.opening (length l.ends) l.plan) (subst (λ p. IsRun party_steps 0 p es) (as_hub l is) run)
+    by false is = link_puts k es 0 (plain_link.opening l.kind l.plan) (subst (λ p. IsRun party_steps 0 p es) (as_link l is) run)
+
 -- ---- in a record
 
 module _ (scene : PlainScene) (r : PlainRecord) (are : AreLogsOf (parties_of scene) r.parties) where
@@ -109,7 +135,9 @@ module _ (scene : PlainScene) (r : PlainRecord) (are : AreLogsOf (parties_of sce
     where
       told : (entries_of r (who.Iface node number) ≡ []) ⊎ Logged (IsOf scene) (who.Iface node number) r.parties → AllByRecursion IsBare (puts (queue.Tx k) (entries_of r (who.Iface node number)))
       told (inl none) = subst (λ es. AllByRecursion IsBare (puts (queue.Tx k) es)) (sym none) tt
-      told (inr l) = let run = iface_run scene r node number l in iface_puts k (entries_of r (who.Iface node number)) 0 (plain_iface.opening node number run.0.kind run.0.mtu) run.2
+      told (inr l) =
+          let own : IsIfaceRun scene r node number = iface_run scene r node number l in
+          iface_puts k (entries_of r (who.Iface node number)) 0 (iface_opening node number own.link.kind own.link.mtu own.heeds) own.run
 
   pub rx_bare : (number k : ℕ) → AllByRecursion IsBare (puts (queue.Rx k) (entries_of r (who.Link number)))
   rx_bare number k =
@@ -119,21 +147,11 @@ module _ (scene : PlainScene) (r : PlainRecord) (are : AreLogsOf (parties_of sce
       told (inl none) = subst (λ es. AllByRecursion IsBare (puts (queue.Rx k) es)) (sym none) tt
       told (inr l) =
           let at : IsLinkAt scene.links number l.opening.party = owner_of scene r (who.Link number) l in
-          let s : LinkState = plain_link.opening at.link.kind at.link.plan in
-          link_puts k (entries_of r (who.Link number)) 0 s (run_of scene r (who.Link number) (a_link s) l at.party)
+          either_puts k at.link (entries_of r (who.Link number)) (run_of scene r (who.Link number) (link_party at.link) l at.party)
 
   -- an interface gets of its link nothing with a buffer
   came_bare : (l : PlainLink) (end : End) → AreInOrder scene r → IsJoint scene.links l end → AllByRecursion IsBare (gets (queue.Rx end.iface) (entries_of r (who.Iface end.node end.iface)))
-  came_bare l end order j =
-      by j.ends
-    where
-      by : (l.ends ≡ end ∷ j.beyond ∷ []) ⊎ (l.ends ≡ j.beyond ∷ end ∷ []) → AllByRecursion IsBare (gets (queue.Rx end.iface) (entries_of r (who.Iface end.node end.iface)))
-      by (inl two) =
-          let lanes : AreLanes r j.number (carried_on l.kind) end j.beyond = link_lanes_of scene r j.number l end j.beyond order j.there two in
-          through IsBare r _ lanes.1.0 (rx_bare j.number 0)
-      by (inr two) =
-          let lanes : AreLanes r j.number (carried_on l.kind) j.beyond end = link_lanes_of scene r j.number l j.beyond end order j.there two in
-          through IsBare r _ lanes.1.1.1.0 (rx_bare j.number 1)
+  came_bare l end order j = through IsBare r _ (end_lanes_of scene r j.number l j.at end order j.there j.on).1.0 (rx_bare j.number j.at)
 
   pub iface_gets_bare : (node number : ℕ) (l : PlainLink) → AreLinksAfter (length scene.nodes) [] scene.links → AreInOrder scene r → slice_get (links_at node scene.links) number ≡ Some l
       → AllByRecursion IsBare (gets (queue.Rx number) (entries_of r (who.Iface node number)))
@@ -142,29 +160,50 @@ module _ (scene : PlainScene) (r : PlainRecord) (are : AreLogsOf (parties_of sce
       came_bare l (record { node = node; iface = number }) order
       (subst (λ k. IsJoint scene.links l (record { node = node; iface = k })) first (joint (length scene.nodes) node scene.links [] number l after on))
 
-  -- nor does a link of the interfaces at its ends
-  pub link_gets_bare : (number : ℕ) (l : PlainLink) → IsScene scene → AreInOrder scene r → slice_get scene.links number ≡ Some l
-      → AllByRecursion IsBare (gets (queue.Tx 0) (entries_of r (who.Link number))) × AllByRecursion IsBare (gets (queue.Tx 1) (entries_of r (who.Link number)))
-  link_gets_bare number l is order there =
-      let ends : AreEnds scene.nodes scene.links l = (each_at (IsLink scene.nodes scene.links) scene.links number l is.links there).ends in
-      let lanes : AreLanes r number (carried_on l.kind) ends.first ends.second = link_lanes_of scene r number l ends.first ends.second order there ends.two in
-      (through IsBare r _ lanes.0 (tx_bare ends.first.node ends.first.iface ends.first.iface), through IsBare r _ lanes.1.1.0 (tx_bare ends.second.node ends.second.iface ends.second.iface))
+  -- nor does a link or a hub of the interfaces at its ends
+  pub link_gets_bare : (number : ℕ) (l : PlainLink) (at : ℕ) → AreInOrder scene r → slice_get scene.links number ≡ Some l → at < length l.ends → AllByRecursion IsBare (gets (queue.Tx at) (entries_of r (who.Link number)))
+  link_gets_bare number l at order there low =
+      let end = one_at l.ends at low in
+      through IsBare r _ (end_lanes_of scene r number l at end.0 order there end.1).0 (tx_bare end.0.node end.0.iface end.0.iface)
 
 -- each turn got such
 pub each_got : (P : ItemShown → Type 0) (q : QueueId) (es : List Entry) → AllByRecursion P (gets q es) → AllByRecursion (λ e. AllByRecursion P (got_by q e.op e.answer)) es
 each_got P q [] all = tt
 each_got P q (e ∷ es) all = (each_first P (got_by q e.op e.answer) (gets q es) all, each_got P q es (each_last P (got_by q e.op e.answer) (gets q es) all))
 
+-- of each of so many ends a turn popped nothing with a buffer
+abbrev pub GoesBare : ℕ → OpShown → AnswerShown → Type 0
+GoesBare n o a = (at : ℕ) → at < n → AllByRecursion IsBare (got_by (queue.Tx at) o a)
+
+pub each_goes : (n : ℕ) (es : List Entry) → ((at : ℕ) → at < n → AllByRecursion IsBare (gets (queue.Tx at) es)) → AllByRecursion (λ e. GoesBare n e.op e.answer) es
+each_goes n [] all = tt
+each_goes n (e ∷ es) all = (
+  λ at low. each_first IsBare (got_by (queue.Tx at) e.op e.answer) (gets (queue.Tx at) es) (all at low),
+  each_goes n es (λ at low. each_last IsBare (got_by (queue.Tx at) e.op e.answer) (gets (queue.Tx at) es) (all at low)),
+)
+
 -- ---- the turns of a link, which holds no buffer
 
-pub link_keeps : (way : Way) (p : Plan) (a : AnswerShown) → Fits (op_of way p) a → AllByRecursion IsBare (got_by (queue.Tx 0) (op_of way p) a) → AllByRecursion IsBare (got_by (queue.Tx 1) (op_of way p) a)
-    → (k : ℕ) → times k (op_numbers (op_of way p)) ≡ times k (answer_numbers a)
-link_keeps way (push place h) answer.Pushed fits one other k = refl
-link_keeps way (push place h) (answer.Full i) fits one other k = ap (λ j. times k (answer_numbers (answer.Full j))) (sym fits)
-link_keeps way (push place h) a fits one other k = absurd fits
-link_keeps Forth pop (answer.Popped i) fits one other k = ap (times k) (sym one.0)
-link_keeps Back pop (answer.Popped i) fits one other k = ap (times k) (sym other.0)
-link_keeps way pop answer.Empty fits one other k = refl
-link_keeps way pop a fits one other k = absurd fits
-link_keeps way wait answer.Nothing fits one other k = refl
-link_keeps way wait a fits one other k = absurd fits
+pub link_keeps : (way : Way) (p : Plan) (a : AnswerShown) → Fits (op_of way p) a → GoesBare 2 (op_of way p) a → (k : ℕ) → times k (op_numbers (op_of way p)) ≡ times k (answer_numbers a)
+link_keeps way (push place h) answer.Pushed fits bare k = refl
+link_keeps way (push place h) (answer.Full i) fits bare k = ap (λ j. times k (answer_numbers (answer.Full j))) (sym fits)
+link_keeps way (push place h) a fits bare k = absurd fits
+link_keeps Forth pop (answer.Popped i) fits bare k = ap (times k) (sym (bare 0 (omega arith)).0)
+link_keeps Back pop (answer.Popped i) fits bare k = ap (times k) (sym (bare 1 (omega arith)).0)
+link_keeps way pop answer.Empty fits bare k = refl
+link_keeps way pop a fits bare k = absurd fits
+link_keeps way wait answer.Nothing fits bare k = refl
+link_keeps way wait a fits bare k = absurd fits
+
+-- ---- and those of a hub, which holds none either
+
+pub hub_keeps : (n end : ℕ) (p : Plan) (a : AnswerShown) → Fits (hub_asking.op_of end p) a → PopsWithin n (hub_asking.op_of end p) → GoesBare n (hub_asking.op_of end p) a
+    → (k : ℕ) → times k (op_numbers (hub_asking.op_of end p)) ≡ times k (answer_numbers a)
+hub_keeps n end (push place h) answer.Pushed fits low bare k = refl
+hub_keeps n end (push place h) (answer.Full i) fits low bare k = ap (λ j. times k (answer_numbers (answer.Full j))) (sym fits)
+hub_keeps n end (push place h) a fits low bare k = absurd fits
+hub_keeps n end pop (answer.Popped i) fits low bare k = ap (times k) (sym (came IsBare end i (bare end low)))
+hub_keeps n end pop answer.Empty fits low bare k = refl
+hub_keeps n end pop a fits low bare k = absurd fits
+hub_keeps n end wait answer.Nothing fits low bare k = refl
+hub_keeps n end wait a fits low bare k = absurd fits

@@ -1,5 +1,5 @@
 -- Each party of a scene whose log is a run of its turns, and whose lanes are in order, keeps the numbers of its buffers.
-use Rattle.std.proofs.Common.{◌≡◌, ◌⊎◌, inl, inr, ℕ, suc, ◌<◌, ◌≤◌, Option, None, Some, List, [], ◌∷◌, length, slice_get, refl, sym, ◌∙◌, subst, arith}
+use Rattle.std.proofs.Common.{◌≡◌, ◌⊎◌, inl, inr, ℕ, suc, ◌<◌, ◌≤◌, Bool, true, false, Option, None, Some, List, [], ◌∷◌, length, slice_get, refl, sym, ◌∙◌, subst, arith}
 use Rattle.std.specs.Prelude.{IfSome, ⊤}
 use Rattle.std.specs.List.{AllByRecursion, AllZip}
 use Rattle.std.proofs.lemmas.List.{length-replicate}
@@ -10,13 +10,14 @@ use Rattle.csp_bridge.specs.PlainBridge.{opening as bridge_opening}
 use Rattle.csp_conn.specs.declared.conns.TheConstants.{MAX_APPS, SLOTS}
 use Rattle.csp_consistent.proofs.Each.{each_at}
 use Rattle.csp_consistent.proofs.Names.{Logged, are_apart, entries_at}
-use Rattle.csp_consistent.proofs.Owners.{IsOf, IsOwner, are_owners}
-use Rattle.csp_consistent.proofs.Planned.{logged}
+use Rattle.csp_consistent.proofs.Owners.{IsOf, IsOwner, are_owners, as_hub, as_link}
+use Rattle.csp_consistent.proofs.Planned.{PopsWithin, logged, pops_within}
 use Rattle.csp_consistent.specs.Lanes.{AreInOrder}
 use Rattle.csp_consistent.specs.Reading.{entries_of, got_by}
 use Rattle.csp_consistent.specs.Runs.{AreLogsOf}
 use Rattle.csp_deck.specs.Runs.{IsRun}
-use Rattle.csp_iface.specs.PlainIface.{opening as iface_opening}
+use Rattle.csp_hub.specs.PlainHub.{opening as hub_opening}
+use Rattle.csp_hub.specs.Planning as hub_planning
 use Rattle.csp_link.specs.PlainLink.{opening as link_opening}
 use Rattle.csp_link.specs.Planning.{plan_of}
 use Rattle.csp_log.specs.declared.entry.Entry.{Entry}
@@ -38,12 +39,12 @@ use Rattle.csp_record.specs.declared.who.Who.{Who}
 use Rattle.csp_record.specs.declared.who.Who.TheVariants as who
 use Rattle.csp_scene.specs.Kept.{AreLinksAfter}
 use Rattle.csp_scene.specs.Links.{links_at}
-use Rattle.csp_scene.specs.Ranges.{IsNode, IsScene}
-use Rattle.csp_scene.specs.Scene.{PlainScene}
-use Rattle.csp_topology.specs.Parties.{PlainOpening, config_of, parties_of, party_steps, router_for}
+use Rattle.csp_scene.specs.Ranges.{HasEnds, IsLink as IsSceneLink, IsNode, IsScene}
+use Rattle.csp_scene.specs.Scene.{PlainLink, PlainScene}
+use Rattle.csp_topology.specs.Parties.{PlainOpening, config_of, heeded, iface_opening, link_party, parties_of, party_steps, router_for}
 use Rattle.csp_conserved.proofs.Apps.{app_keeps}
 use Rattle.csp_conserved.proofs.Bridges.{bridge_keeps}
-use Rattle.csp_conserved.proofs.Frames.{each_got, iface_gets_bare, link_gets_bare, link_keeps}
+use Rattle.csp_conserved.proofs.Frames.{GoesBare, each_goes, each_got, hub_keeps, iface_gets_bare, link_gets_bare, link_keeps}
 use Rattle.csp_conserved.proofs.Ifaces.{IsBare, IsBetween, iface_keeps}
 use Rattle.csp_conserved.proofs.RouterTurns.{IsWholeRouter, router_keeps}
 use Rattle.csp_conserved.proofs.Running.{KeepsInTurns, keeps_in_run}
@@ -71,6 +72,10 @@ abbrev IsLink : PlainParty → Type 0
 IsLink (a_link l) = ⊤
 IsLink _ = ⊥
 
+abbrev IsHub : PlainParty → Type 0
+IsHub (a_hub h) = ⊤
+IsHub _ = ⊥
+
 -- anything may come
 abbrev Any : OpShown → AnswerShown → Type 0
 Any o a = ⊤
@@ -79,9 +84,9 @@ Any o a = ⊤
 abbrev ComesBare : ℕ → OpShown → AnswerShown → Type 0
 ComesBare number o a = AllByRecursion IsBare (got_by (queue.Rx number) o a)
 
--- nor does it to a link
-abbrev GoesBare : OpShown → AnswerShown → Type 0
-GoesBare o a = AllByRecursion IsBare (got_by (queue.Tx 0) o a) × AllByRecursion IsBare (got_by (queue.Tx 1) o a)
+-- nor does it to a hub with so many ends, which pops of those alone
+abbrev GoesToHub : ℕ → OpShown → AnswerShown → Type 0
+GoesToHub n o a = PopsWithin n o × GoesBare n o a
 
 -- ---- the turns of each kind
 
@@ -117,13 +122,21 @@ app_turns (an_iface i) time a is fits comes = absurd is
 app_turns (a_link l) time a is fits comes = absurd is
 app_turns (a_hub h) time a is fits comes = absurd is
 
-link_turns : KeepsInTurns party_steps IsLink holds GoesBare
-link_turns (a_link l) time a is fits comes = let same = link_keeps l.way (plan_of l time) a fits comes.0 comes.1 in record { again = tt; numbers = λ k. omega (arith, same k) }
+link_turns : KeepsInTurns party_steps IsLink holds (GoesBare 2)
+link_turns (a_link l) time a is fits comes = let same = link_keeps l.way (plan_of l time) a fits comes in record { again = tt; numbers = λ k. omega (arith, same k) }
 link_turns (a_router r) time a is fits comes = absurd is
 link_turns (a_bridge b) time a is fits comes = absurd is
 link_turns (an_iface i) time a is fits comes = absurd is
 link_turns (an_app p) time a is fits comes = absurd is
 link_turns (a_hub h) time a is fits comes = absurd is
+
+hub_turns : (n : ℕ) → KeepsInTurns party_steps IsHub holds (GoesToHub n)
+hub_turns n (a_hub h) time a is fits comes = let same = hub_keeps n h.serving (hub_planning.plan_of h time) a fits comes.0 comes.1 in record { again = tt; numbers = λ k. omega (arith, same k) }
+hub_turns n (a_router r) time a is fits comes = absurd is
+hub_turns n (a_bridge b) time a is fits comes = absurd is
+hub_turns n (an_iface i) time a is fits comes = absurd is
+hub_turns n (an_app p) time a is fits comes = absurd is
+hub_turns n (a_link l) time a is fits comes = absurd is
 
 any_comes : (es : List Entry) → AllByRecursion (λ e. Any e.op e.answer) es
 any_comes es = each_any (λ e. Any e.op e.answer) es (λ e. tt)
@@ -164,6 +177,27 @@ module _ (scene : PlainScene) (r : PlainRecord) (is : IsScene scene) (after : Ar
       told (inl none) = subst (λ es. AllByRecursion (λ e. ComesSo e.op e.answer) es) (sym none) tt
       told (inr l) = (router_there scene r place is are order l).log.comes
 
+  link_part : (number : ℕ) (l : PlainLink) → slice_get scene.links number ≡ Some l → Keeps (who.Link number) (link_party l)
+  link_part number l there =
+      by l.hub refl
+    where
+      shape : HasEnds l
+      shape = (each_at (IsSceneLink scene.nodes scene.links) scene.links number l is.links there).shape
+
+      goes : AllByRecursion (λ e. GoesBare (length l.ends) e.op e.answer) (entries_of r (who.Link number))
+      goes = each_goes (length l.ends) (entries_of r (who.Link number)) (λ at low. link_gets_bare scene r are number l at order there low)
+
+      by : (b : Bool) → l.hub ≡ b → Keeps (who.Link number) (link_party l)
+      by true hub =
+          subst (Keeps (who.Link number)) (sym (as_hub l hub)) (λ run.
+          keeps_in_run party_steps IsHub holds (GoesToHub (length l.ends)) (hub_turns (length l.ends)) (entries_of r (who.Link number)) 0 (a_hub (hub_opening (length l.ends) l.plan)) tt run
+          (each_both (λ e. PopsWithin (length l.ends) e.op) (λ e. GoesBare (length l.ends) e.op e.answer) (λ e. GoesToHub (length l.ends) e.op e.answer) (entries_of r (who.Link number)) (λ e one other. (one, other))
+          (pops_within scene r number l are there hub (omega (arith, shape.least))) goes))
+      by false none =
+          subst (Keeps (who.Link number)) (sym (as_link l none)) (λ run.
+          keeps_in_run party_steps IsLink holds (GoesBare 2) link_turns (entries_of r (who.Link number)) 0 (a_link (link_opening l.kind l.plan)) tt run
+          (subst (λ n. AllByRecursion (λ e. GoesBare n e.op e.answer) (entries_of r (who.Link number))) (shape.pair none) goes))
+
   part : (w : Who) (p : PlainParty) → IsOwner scene.nodes scene.links w p → Keeps w p
   part (who.Router place) p at =
       let few = (each_at IsNode scene.nodes place at.node is.nodes at.there).few in
@@ -175,19 +209,14 @@ module _ (scene : PlainScene) (r : PlainRecord) (is : IsScene scene) (after : Ar
       keeps_in_run party_steps IsBridge holds Any bridge_turns (entries_of r (who.Bridge place)) 0 (a_bridge bridge_opening) tt run (any_comes (entries_of r (who.Bridge place))))
   part (who.Iface place number) p at =
       subst (Keeps (who.Iface place number)) (sym at.party) (λ run.
-      keeps_in_run party_steps (IsIface place number) holds (ComesBare number) (iface_turns place number) (entries_of r (who.Iface place number)) 0 (an_iface (iface_opening place number at.link.kind at.link.mtu))
+      keeps_in_run party_steps (IsIface place number) holds (ComesBare number) (iface_turns place number) (entries_of r (who.Iface place number)) 0
+      (an_iface (iface_opening place number at.link.kind at.link.mtu (heeded at.node.addr at.link)))
       (record { named = (refl, refl); done = λ none. refl }) run
       (each_got IsBare (queue.Rx number) (entries_of r (who.Iface place number)) (iface_gets_bare scene r are place number at.link after order at.on)))
   part (who.App place number) p at =
       subst (Keeps (who.App place number)) (sym at.party) (λ run.
       keeps_in_run party_steps IsApp holds Any app_turns (entries_of r (who.App place number)) 0 (an_app (app_opening number at.app.steps)) tt run (any_comes (entries_of r (who.App place number))))
-  part (who.Link number) p at =
-      subst (Keeps (who.Link number)) (sym at.party) (λ run.
-      let es : List Entry = entries_of r (who.Link number) in
-      let bare = link_gets_bare scene r are number at.link is order at.there in
-      keeps_in_run party_steps IsLink holds GoesBare link_turns es 0 (a_link (link_opening at.link.kind at.link.plan)) tt run
-      (each_both (λ e. AllByRecursion IsBare (got_by (queue.Tx 0) e.op e.answer)) (λ e. AllByRecursion IsBare (got_by (queue.Tx 1) e.op e.answer)) (λ e. GoesBare e.op e.answer) es (λ e one other. (one, other))
-      (each_got IsBare (queue.Tx 0) es bare.0) (each_got IsBare (queue.Tx 1) es bare.1)))
+  part (who.Link number) p at = subst (Keeps (who.Link number)) (sym at.party) (link_part number at.link at.there)
 
   -- the party in each place and the log there
   pair : (i : ℕ) (o : PlainOpening) (log : PlainPartyLog) → slice_get (parties_of scene) i ≡ Some o → slice_get r.parties i ≡ Some log → KeepsNumbers o.party log.entries

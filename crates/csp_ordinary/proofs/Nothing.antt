@@ -1,17 +1,12 @@
 -- In an ordinary run each packet that an interface handed to its inbox is as it was sent, and so none is counted as changed.
-use Rattle.std.proofs.Common.{◌≡◌, ◌⊎◌, inl, inr, ℕ, ◌+◌, ◌<◌, ◌≤◌, true, false, Option, None, Some, List, [], ◌∷◌, length, filter_map, slice_get, unwrap_or, refl, sym, ap, ◌∙◌, subst, arith}
+use Rattle.std.proofs.Common.{◌≡◌, ◌⊎◌, inl, inr, ℕ, ◌+◌, ◌<◌, ◌≤◌, true, false, Option, Some, List, [], length, filter_map, slice_get, unwrap_or, refl, sym, ap, ◌∙◌, subst, arith}
 use Rattle.std.specs.List.{AllByRecursion}
 use Rattle.csp_base.specs.declared.limits.TheConstants.{MAX_PAYLOAD}
 use Rattle.csp_buffer.specs.Content.{Content}
 use Rattle.csp_deck.specs.Runs.{IsRun}
-use Rattle.csp_iface.specs.PlainIface.{opening}
-use Rattle.csp_iface.specs.declared.sender.TheConstants.{IDS}
-use Rattle.csp_link.specs.Applied.{frames_popped}
 use Rattle.csp_link.specs.Fates.{fate_of}
 use Rattle.csp_link.specs.Ways as ways
-use Rattle.csp_link.specs.declared.way.Way.{Way}
 use Rattle.csp_log.specs.declared.entry.Entry.{Entry}
-use Rattle.csp_log.specs.declared.frame.Frame.{Frame}
 use Rattle.csp_log.specs.declared.places.End.{End}
 use Rattle.csp_log.specs.declared.places.LinkKind.{LinkKind}
 use Rattle.csp_log.specs.declared.places.LinkKind.TheVariants as link
@@ -26,12 +21,12 @@ use Rattle.csp_record.specs.declared.who.Who.TheVariants as who
 use Rattle.csp_scene.proofs.Lists.{AllByRecursion-map}
 use Rattle.csp_scene.specs.Kept.{AreLinksAfter}
 use Rattle.csp_scene.specs.Links.{links_at}
-use Rattle.csp_scene.specs.Ranges.{AreEnds, IsEnd, IsLink, IsScene}
+use Rattle.csp_scene.specs.Ranges.{IsEnd, IsLink, IsScene}
 use Rattle.csp_scene.specs.Scene.{PlainLink, PlainScene}
-use Rattle.csp_topology.specs.Parties.{party_steps}
+use Rattle.csp_topology.specs.Parties.{iface_opening, party_steps}
 use Rattle.csp_consistent.specs.Consistent.{IsConsistent}
 use Rattle.csp_consistent.specs.Reading.{entries_of, gets, puts}
-use Rattle.csp_consistent.proofs.Beyond.{IsJoint, came_over, iface_run, joint}
+use Rattle.csp_consistent.proofs.Beyond.{IsIfaceRun, IsJoint, IsPair, came_over, iface_run, joint, pair}
 use Rattle.csp_consistent.proofs.Each.{each_at}
 use Rattle.csp_consistent.proofs.Names.{Logged}
 use Rattle.csp_consistent.proofs.Owners.{IsOf}
@@ -49,37 +44,18 @@ use Rattle.csp_ordinary.proofs.Headers.{none_some}
 use Rattle.csp_ordinary.proofs.Streams.{IsKissOf, IsStreamSo, stream_hears, stream_rests}
 use Rattle.csp_consistent.proofs.Heard.{IsListeningSo}
 
--- ---- the two ends of a link
-
-list_second : {X : Type 0} (a b c d : X) → a ∷ b ∷ [] ≡ c ∷ d ∷ [] → (a ≡ c) × (b ≡ d)
-list_second a b c d e = (ap (λ xs. unwrap_or (slice_get xs 0) a) e, ap (λ xs. unwrap_or (slice_get xs 1) b) e)
-
--- each end of a link that a scene has stands at an interface on it
-is_end : (scene : PlainScene) (l : PlainLink) (a b : End) → AreEnds scene.nodes scene.links l → l.ends ≡ a ∷ b ∷ [] → IsEnd scene.nodes scene.links l a × IsEnd scene.nodes scene.links l b
-is_end scene l a b are two =
-    let same = list_second are.first are.second a b (sym are.two ∙ two) in
-    (subst (IsEnd scene.nodes scene.links l) same.0 are.one_end, subst (IsEnd scene.nodes scene.links l) same.1 are.other_end)
-
-beyond_on : (scene : PlainScene) (l : PlainLink) (end : End) → AreEnds scene.nodes scene.links l → (j : IsJoint scene.links l end) → slice_get (links_at j.beyond.node scene.links) j.beyond.iface ≡ Some l
-beyond_on scene l end are j =
-    by_ends j.ends
-  where
-    by_ends : (l.ends ≡ end ∷ j.beyond ∷ []) ⊎ (l.ends ≡ j.beyond ∷ end ∷ []) → slice_get (links_at j.beyond.node scene.links) j.beyond.iface ≡ Some l
-    by_ends (inl two) = (is_end scene l end j.beyond are two).1.iface
-    by_ends (inr two) = (is_end scene l j.beyond end are two).0.iface
-
 -- ---- an interface that hears harmless frames alone
 
-hears_as_sent : (r : PlainRecord) (from : End) (node number mtu : ℕ) (kind : LinkKind) (es : List Entry) → IsRun party_steps 0 (an_iface (opening node number kind mtu)) es
+hears_as_sent : (r : PlainRecord) (from : End) (node number mtu : ℕ) (kind : LinkKind) (heeds : Option ℕ) (es : List Entry) → IsRun party_steps 0 (an_iface (iface_opening node number kind mtu heeds)) es
     → AllByRecursion (IsSuchFrame (IsComeFrom r from.node from.iface mtu kind)) (gets (queue.Rx number) es) → AllByRecursion (IsPacketSo (IsAsSent r)) (puts queue.Inbox es)
-hears_as_sent r from node number mtu link.Kiss es run got =
-    received_so (IsAsSent r) (IsStreamSo false mtu) (IsKissOf (IsAsSent r) false mtu) (stream_hears (IsAsSent r) false mtu) (stream_rests (IsAsSent r) false mtu) node number link.Kiss mtu es
+hears_as_sent r from node number mtu link.Kiss heeds es run got =
+    received_so (IsAsSent r) (IsStreamSo false mtu) (IsKissOf (IsAsSent r) false mtu) (stream_hears (IsAsSent r) false mtu) (stream_rests (IsAsSent r) false mtu) node number link.Kiss mtu heeds es
     (record { read = refl; between = tt; cover_is = refl; mtu_is = refl }) run got
-hears_as_sent r from node number mtu link.KissHeader es run got =
-    received_so (IsAsSent r) (IsStreamSo true mtu) (IsKissOf (IsAsSent r) true mtu) (stream_hears (IsAsSent r) true mtu) (stream_rests (IsAsSent r) true mtu) node number link.KissHeader mtu es
+hears_as_sent r from node number mtu link.KissHeader heeds es run got =
+    received_so (IsAsSent r) (IsStreamSo true mtu) (IsKissOf (IsAsSent r) true mtu) (stream_hears (IsAsSent r) true mtu) (stream_rests (IsAsSent r) true mtu) node number link.KissHeader mtu heeds es
     (record { read = refl; between = tt; cover_is = refl; mtu_is = refl }) run got
-hears_as_sent r from node number mtu link.Can es run got =
-    received_so (IsAsSent r) (IsListeningSo (IsPartSent r from.node from.iface)) (IsCanOf r from.node from.iface) (bus_hears r from.node from.iface) (bus_rests r from.node from.iface) node number link.Can mtu es
+hears_as_sent r from node number mtu link.Can heeds es run got =
+    received_so (IsAsSent r) (IsListeningSo (IsPartSent r from.node from.iface)) (IsCanOf r from.node from.iface) (bus_hears r from.node from.iface) (bus_rests r from.node from.iface) node number link.Can mtu heeds es
     tt run got
 
 -- ---- a record
@@ -100,33 +76,36 @@ module _ (scene : PlainScene) (r : PlainRecord) (ranges : IsScene scene) (after 
   )
   sends_by l from on (inr log) =
       let own : List Entry = entries_of r (who.Iface from.node from.iface) in
-      let run = iface_run scene r from.node from.iface log in
-      let same : run.0 ≡ l = ap (λ o. unwrap_or o l) (sym run.1 ∙ on) in
-      let mine : IsRun party_steps 0 (an_iface (opening from.node from.iface l.kind l.mtu)) own = subst (λ (x : PlainLink). IsRun party_steps 0 (an_iface (opening from.node from.iface x.kind x.mtu)) own) same run.2 in
-      (sent_frames from.node from.iface l.kind l.mtu own mine, serial_below from.node from.iface l.kind l.mtu own mine)
+      let ran : IsIfaceRun scene r from.node from.iface = iface_run scene r from.node from.iface log in
+      let same : ran.link ≡ l = ap (λ o. unwrap_or o l) (sym ran.on ∙ on) in
+      let mine : IsRun party_steps 0 (an_iface (iface_opening from.node from.iface l.kind l.mtu ran.heeds)) own =
+      subst (λ (x : PlainLink). IsRun party_steps 0 (an_iface (iface_opening from.node from.iface x.kind x.mtu ran.heeds)) own) same ran.run in
+      (sent_frames from.node from.iface l.kind l.mtu ran.heeds own mine, serial_below from.node from.iface l.kind l.mtu ran.heeds own mine)
 
   -- what came to an interface from there, and so what it handed to its inbox
-  came_from : (node number : ℕ) (l : PlainLink) → IsJoint scene.links l (record { node = node; iface = number }) → IsRun party_steps 0 (an_iface (opening node number l.kind l.mtu)) (entries_of r (who.Iface node number))
+  came_from : (node number : ℕ) (l : PlainLink) (heeds : Option ℕ) → IsJoint scene.links l (record { node = node; iface = number }) → IsRun party_steps 0 (an_iface (iface_opening node number l.kind l.mtu heeds)) (entries_of r (who.Iface node number))
       → AllByRecursion (IsPacketSo (IsAsSent r)) (puts queue.Inbox (entries_of r (who.Iface node number)))
-  came_from node number l j run =
+  came_from node number l heeds j run =
       let end : End = record { node = node; iface = number } in
       let is : IsLink scene.nodes scene.links l = link_there l j.number j.there in
-      let from : End = j.beyond in
-      let on : slice_get (links_at from.node scene.links) from.iface ≡ Some l = beyond_on scene l end is.ends j in
+      let none : l.hub ≡ false = each_at (λ (x : PlainLink). x.hub ≡ false) scene.links j.number l ordinary.hubs j.there in
+      let p : IsPair l j.at = pair scene.links l end j none in
+      let from : End = p.beyond in
+      let on : slice_get (links_at from.node scene.links) from.iface ≡ Some l = (each_at (IsEnd scene.nodes scene.links l) l.ends (ways.number p.way) from is.ends p.from).iface in
       let sent : Sends l from = sends_by l from on (logged scene r (who.Iface from.node from.iface) con.runs) in
       let most : l.mtu ≤ MAX_PAYLOAD = omega (arith, is.mtu.1) in
       let came : AllByRecursion (IsSuchFrame (IsComeFrom r from.node from.iface l.mtu l.kind)) (gets (queue.Rx number) (entries_of r (who.Iface node number))) =
-      came_over scene r l end (IsSentIn from.node from.iface l.kind l.mtu (entries_of r (who.Iface from.node from.iface))) (IsComeFrom r from.node from.iface l.mtu l.kind) con.runs con.lanes j
-      (λ way k f there frame. comes r from.node from.iface l.mtu words most l.kind (fate_of (ways.number way) (k + 1) l.plan).flip f (ordinary.numbers from.node from.iface l on) sent.1 frame (ordinary.undamaged j.number l way j.there k f there))
+      came_over scene r l end (IsSentIn from.node from.iface l.kind l.mtu (entries_of r (who.Iface from.node from.iface))) (IsComeFrom r from.node from.iface l.mtu l.kind) con.runs con.lanes j none p
+      (λ k f there frame. comes r from.node from.iface l.mtu words most l.kind (fate_of (ways.number p.way) (k + 1) l.plan).flip f (ordinary.numbers from.node from.iface l on) sent.1 frame (ordinary.undamaged j.number l p.way j.there k f there))
       sent.0 in
-      hears_as_sent r from node number l.mtu l.kind (entries_of r (who.Iface node number)) run came
+      hears_as_sent r from node number l.mtu l.kind heeds (entries_of r (who.Iface node number)) run came
 
   as_sent_by : (node number : ℕ) → (entries_of r (who.Iface node number) ≡ []) ⊎ Logged (IsOf scene) (who.Iface node number) r.parties → AllByRecursion (IsPacketSo (IsAsSent r)) (puts queue.Inbox (entries_of r (who.Iface node number)))
   as_sent_by node number (inl none) = subst (λ es. AllByRecursion (IsPacketSo (IsAsSent r)) (puts queue.Inbox es)) (sym none) tt
   as_sent_by node number (inr log) =
-      let run = iface_run scene r node number log in
+      let ran : IsIfaceRun scene r node number = iface_run scene r node number log in
       let first : 0 + number ≡ number = omega arith in
-      came_from node number run.0 (subst (λ k. IsJoint scene.links run.0 (record { node = node; iface = k })) first (joint (length scene.nodes) node scene.links [] number run.0 after run.1)) run.2
+      came_from node number ran.link ran.heeds (subst (λ k. IsJoint scene.links ran.link (record { node = node; iface = k })) first (joint (length scene.nodes) node scene.links [] number ran.link after ran.on)) ran.run
 
   as_sent : (node number : ℕ) → AllByRecursion (IsPacketSo (IsAsSent r)) (puts queue.Inbox (entries_of r (who.Iface node number)))
   as_sent node number = as_sent_by node number (logged scene r (who.Iface node number) con.runs)

@@ -1,13 +1,12 @@
 -- The serials of an interface's transmissions are those below their number.
-use Rattle.std.proofs.Common.{◌≡◌, ◌⊎◌, inl, inr, ℕ, ◌+◌, ◌<◌, ◌≤◌, ◌==◌, Bool, true, false, cond, Option, None, Some, List, [], ◌∷◌, ◌++◌, filter_map, slice_get, count_by, refl, sym, ap, ◌∙◌, subst, arith}
+use Rattle.std.proofs.Common.{◌≡◌, inl, inr, ℕ, ◌+◌, ◌<◌, ◌≤◌, Bool, true, false, cond, Option, None, Some, List, [], ◌∷◌, ◌++◌, filter_map, slice_get, count_by, refl, sym, ap, ◌∙◌, arith}
 use Rattle.std.proofs.lemmas.Bool.{cases_lt}
 use Rattle.std.proofs.lemmas.List.Sums.{sum_by-append}
 use Rattle.std.specs.List.{cons_option}
-use Rattle.std.specs.Prelude.{if◌then◌else◌}
 use Rattle.csp_buffer.specs.Content.{Content}
 use Rattle.csp_deck.specs.Runs.{IsRun}
 use Rattle.csp_iface.specs.Asking.{asked}
-use Rattle.csp_iface.specs.PlainIface.{PlainIface, opening}
+use Rattle.csp_iface.specs.PlainIface.{PlainIface}
 use Rattle.csp_iface.specs.Planning.{plan_of}
 use Rattle.csp_iface.specs.Telling.{bad, caught, concluded, fetched as told_fetched, is_too_big, kept, pushed, taken_up, tells, told_by}
 use Rattle.csp_iface.specs.declared.plan.Plan.{Plan}
@@ -16,7 +15,6 @@ use Rattle.csp_log.specs.PlainLog.{all_events}
 use Rattle.csp_log.specs.declared.entry.Entry.{Entry}
 use Rattle.csp_log.specs.declared.event.Event.{Event}
 use Rattle.csp_log.specs.declared.event.Event.TheVariants as event
-use Rattle.csp_log.specs.declared.frame.Frame.{Frame}
 use Rattle.csp_log.specs.declared.places.LinkKind.{LinkKind}
 use Rattle.csp_log.specs.declared.shown.AnswerShown.{AnswerShown}
 use Rattle.csp_log.specs.declared.shown.AnswerShown.TheVariants as answer
@@ -24,7 +22,7 @@ use Rattle.csp_log.specs.declared.shown.ItemShown.{ItemShown}
 use Rattle.csp_log.specs.declared.shown.ItemShown.TheVariants as item
 use Rattle.csp_party.specs.Any.{an_iface}
 use Rattle.csp_record.specs.Transmissions.{shown_in}
-use Rattle.csp_topology.specs.Parties.{party_steps}
+use Rattle.csp_topology.specs.Parties.{iface_opening, party_steps}
 use Rattle.csp_consistent.proofs.Received.{told, waiting}
 use Rattle.csp_consistent.proofs.Transmitted.{caught_serial, handed_serial, kept_serial, pushed_serial, shown_step, turn_silent}
 use Rattle.csp_ordinary.specs.Ordinary.{is_transmission, transmissions}
@@ -88,6 +86,6 @@ shown_below (e ∷ es) time s run n b is =
           omega (arith, later, same, rises, told_all, all)
     ]
 
-pub serial_below : (node number : ℕ) (kind : LinkKind) (mtu : ℕ) (es : List Entry) → IsRun party_steps 0 (an_iface (opening node number kind mtu)) es
+pub serial_below : (node number : ℕ) (kind : LinkKind) (mtu : ℕ) (heeds : Option ℕ) (es : List Entry) → IsRun party_steps 0 (an_iface (iface_opening node number kind mtu heeds)) es
     → (n : ℕ) (b : Content) → slice_get (filter_map (shown_in n) es) 0 ≡ Some b → n < transmissions es
-serial_below node number kind mtu es run n b is = omega (arith, shown_below es 0 (opening node number kind mtu) run n b is)
+serial_below node number kind mtu heeds es run n b is = omega (arith, shown_below es 0 (iface_opening node number kind mtu heeds) run n b is)

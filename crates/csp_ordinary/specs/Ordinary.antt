@@ -1,4 +1,5 @@
--- When the run of a record was ordinary: no link damaged a frame in a way that could pass unnoticed, and no bus wore out its numbers.
+-- When the run of a record was ordinary: no hub stood in its scene, no link damaged a frame in a way that could pass unnoticed, and no bus wore out
+-- its numbers.
 use Rattle.std.specs.Prelude.{◌≡◌, ℕ, ◌+◌, ◌≤◌, Bool, true, false, Some, List, slice_get, count_by}
 use Rattle.std.specs.List.{AllByRecursion}
 use Rattle.csp_iface.specs.declared.sender.TheConstants.{IDS}
@@ -39,6 +40,10 @@ is_flip _ = false
 abbrev pub HasNoFlips : PlainScene → Type 0
 HasNoFlips scene = AllByRecursion (λ l. AllByRecursion (λ f. is_flip f.kind ≡ false) l.plan) scene.links
 
+-- no line of a scenario states a hub
+abbrev pub HasNoHubs : PlainScene → Type 0
+HasNoHubs scene = AllByRecursion (λ l. l.hub ≡ false) scene.links
+
 -- an event tells that a transmission began
 abbrev pub is_transmission : Event → Bool
 is_transmission (event.Transmitted serial) = true
@@ -52,7 +57,8 @@ transmissions es = count_by is_transmission (all_events es)
 abbrev pub HasNumbersForAll : PlainScene → PlainRecord → Type 0
 HasNumbersForAll scene r = (node number : ℕ) (l : PlainLink) → slice_get (links_at node scene.links) number ≡ Some l → l.kind ≡ link.Can → transmissions (entries_of r (who.Iface node number)) ≤ IDS
 
--- a run was ordinary: no link harmed a frame in a way that could pass unnoticed, and no bus wore out its numbers
+-- a run was ordinary: its scene has no hub, no link harmed a frame in a way that could pass unnoticed, and no bus wore out its numbers
 pub record IsOrdinary (scene : PlainScene) (r : PlainRecord) : Type 0 where
+  pub hubs : HasNoHubs scene
   pub undamaged : IsUndamaged scene r
   pub numbers : HasNumbersForAll scene r

@@ -1,7 +1,7 @@
 -- No two nodes of a scene have the same address.
 use Rattle.std.proofs.Common.{◌≡◌, ℕ, zero, suc, Bool, true, false, cond, not, ◌||◌, leb, ltb, List, [], ◌∷◌, ◌++◌, length, drop, map, slice_get, slice_set, Option, Some, None, unwrap_or, Result, Ok, Err, refl, sym, ap, subst, ◌∙◌}
 use Rattle.std.specs.Option.{is_some, is_none}
-use Rattle.std.specs.Prelude.{find, IfSome}
+use Rattle.std.specs.Prelude.{◌&&◌, find, IfSome}
 use Rattle.std.specs.List.{AllByRecursion, filter_map, list_all, list_any}
 use Rattle.std.specs.FinMap as finite
 use Rattle.std.proofs.lemmas.Bool.{eq-eqb}
@@ -9,6 +9,7 @@ use Rattle.std.proofs.lemmas.List.{map-append}
 use Rattle.csp_app.specs.PlainStep.{PlainStep}
 use Rattle.csp_app.specs.PlainStep as step
 use Rattle.csp_link.specs.declared.fault.Fault.{Fault}
+use Rattle.csp_link.specs.declared.fault.FaultKind.{FaultKind}
 use Rattle.csp_link.specs.declared.fault.FaultKind.TheVariants as fault
 use Rattle.csp_log.specs.declared.places.LinkKind.{LinkKind}
 use Rattle.csp_log.specs.declared.places.LinkKind.TheVariants as carried
@@ -21,12 +22,12 @@ use Rattle.csp_prefix.proofs.PacketLists.{each_flat}
 use Rattle.csp_scene.proofs.MoveCounts.{unlined}
 use Rattle.csp_scene.specs.Arguments.{word_at, number_at, text_from}
 use Rattle.csp_scene.specs.Draft.{PlainDraft, no_draft, demand, and_then, with_node, with_link}
-use Rattle.csp_scene.specs.Faults.{planned, may_add_fault, with_fault_at, state_fault_at}
-use Rattle.csp_scene.specs.Joining.{kiss_kind, mtu_of, new_link, may_add_link, state_link_between, kind_of, known_ifaces, with_routes, add_routes, routed}
+use Rattle.csp_scene.specs.Faults.{direction_of, planned, link_at, may_add_fault, with_fault_at, state_fault_at, state_fault, end_named, state_fault_from, state_hub_fault_at, state_hub_fault}
+use Rattle.csp_scene.specs.Joining.{kiss_kind, mtu_of, new_link, may_add_link, all_named, state_between, kind_of, known_ifaces, with_routes, add_routes, routed}
 use Rattle.csp_scene.specs.Judge.{fit, row_for, is_comment, judge_words, judge, is_in_app, scene_from, scene_of}
 use Rattle.csp_scene.specs.Links.{node_at}
 use Rattle.csp_scene.specs.Moves.{move_of}
-use Rattle.csp_scene.specs.Naming.{has_addr, is_name_taken, is_addr_taken, node_named, router_named, link_named}
+use Rattle.csp_scene.specs.Naming.{has_addr, is_name_taken, is_addr_taken, node_named, router_named, link_named, is_hub_called}
 use Rattle.csp_scene.specs.Nodes.{state_until, new_node, new_bridge, state_node, new_app, with_app, may_add_app, with_app_at, state_app_at, last_app, with_last_step, with_step_at, may_add_step, state_step_at}
 use Rattle.csp_scene.specs.Rows.{PlainRow, all_rows, has_choice, row_of, rows_of}
 use Rattle.csp_scene.specs.Scene.{PlainNode, PlainSchedule, PlainScene, in_rounds, shuffled, stepwise}
@@ -34,11 +35,11 @@ use Rattle.csp_scene.specs.Schedule.{state_schedule, add_moves, state_moves}
 use Rattle.csp_scene.specs.State.{state, are_joined, finish, finish_with}
 use Rattle.csp_scene.specs.Steps.{bind_step, connect_step, send_step, burst_step, blob_step, raw_step, recv_step, collect_step, close_step, wait_step}
 use Rattle.csp_scene.specs.Transport.{given_options, is_tuned, with_rdp, with_rdp_at, state_rdp_at}
-use Rattle.csp_scene.specs.declared.limits.TheConstants.{MAX_NODES}
+use Rattle.csp_scene.specs.declared.limits.TheConstants.{DEFAULT_MTU, MAX_NODES}
 use Rattle.csp_scene.specs.declared.refusal.SceneKind.{SceneKind}
 use Rattle.csp_scene.specs.declared.refusal.SceneKind.TheVariants as kind
 use Rattle.csp_scene.specs.declared.scenario.Move.{Move}
-use Rattle.csp_scene.specs.Table.{all_forms, shapes_of}
+use Rattle.csp_scene.specs.Table.{all_forms, shapes_of, suits}
 use Rattle.csp_peers.specs.Addressed.{AreAddressedApart}
 
 -- ---- addresses that are all different
@@ -165,12 +166,11 @@ module _ (d : PlainDraft) (differ : Differ (addresses_of d.nodes)) where
       demanded (not (is_tuned d place)) kind.Twice (Ok (with_rdp_at place options d))
       (ok_leaves (with_rdp_at place options d) (changed place (with_rdp options (node_at d.nodes place)) refl))
 
-  link_leaves : (word : List ℕ) (carries : LinkKind) (mtu : ℕ) (one other : Option ℕ) → LeavesApart (state_link_between d word carries mtu one other)
-  link_leaves word carries mtu None other = err_leaves kind.Unknown
-  link_leaves word carries mtu (Some one) None = err_leaves kind.Unknown
-  link_leaves word carries mtu (Some one) (Some other) =
-      let next = with_link (new_link d.links word carries mtu one other) d in
-      then_leaves (may_add_link d word one other) (λ _. Ok next) (λ _. ok_leaves next differ)
+  link_leaves : (word : List ℕ) (carries : LinkKind) (hub : Bool) (mtu : ℕ) (places : Option (List ℕ)) → LeavesApart (state_between d word carries hub mtu places)
+  link_leaves word carries hub mtu None = err_leaves kind.Unknown
+  link_leaves word carries hub mtu (Some places) =
+      let next = with_link (new_link d.links word carries hub mtu places) d in
+      then_leaves (may_add_link d word places) (λ _. Ok next) (λ _. ok_leaves next differ)
 
   rows_leave : (place : Option ℕ) (more : Routes) → LeavesApart (add_routes d place more)
   rows_leave None more = err_leaves kind.Unknown
@@ -187,6 +187,20 @@ module _ (d : PlainDraft) (differ : Differ (addresses_of d.nodes)) where
   fault_leaves planned None = err_leaves kind.Unknown
   fault_leaves planned (Some place) =
       then_leaves (may_add_fault d.links place planned) (λ _. Ok (with_fault_at place planned d)) (λ _. ok_leaves (with_fault_at place planned d) differ)
+
+  fault_line_leaves : (args : List (List ℕ)) (what : FaultKind) → LeavesApart (state_fault d args what)
+  fault_line_leaves args what = fault_leaves (planned (direction_of (word_at args 1)) args what) (link_named (word_at args 0) d.links)
+
+  from_end_leaves : (place : ℕ) (args : List (List ℕ)) (what : FaultKind) (end : Option ℕ) → LeavesApart (state_fault_from d place args what end)
+  from_end_leaves place args what None = err_leaves kind.Unknown
+  from_end_leaves place args what (Some end) = fault_leaves (planned end args what) (Some place)
+
+  hub_fault_at_leaves : (args : List (List ℕ)) (what : FaultKind) (place : Option ℕ) → LeavesApart (state_hub_fault_at d args what place)
+  hub_fault_at_leaves args what None = err_leaves kind.Unknown
+  hub_fault_at_leaves args what (Some place) = from_end_leaves place args what (end_named (word_at args 1) d.nodes (link_at d.links place))
+
+  hub_fault_leaves : (args : List (List ℕ)) (what : FaultKind) → LeavesApart (state_hub_fault d args what)
+  hub_fault_leaves args what = hub_fault_at_leaves args what (link_named (word_at args 0) d.links)
 
   schedule_leaves : (schedule : PlainSchedule) → LeavesApart (state_schedule d schedule)
   schedule_leaves schedule =
@@ -242,13 +256,18 @@ forms_leave =
     ▸ (λ shape d args h. node_leaves d h (new_node shape args))
     ▸ (λ shape d args h. node_leaves d h (new_bridge shape args))
     ▸ (λ shape d args h. rdp_leaves d h (given_options args) (router_named (word_at args 0) d.nodes))
-    ▸ (λ shape d args h. link_leaves d h (word_at args 0) (kiss_kind shape) (mtu_of shape args) (node_named (word_at args 2) d.nodes) (node_named (word_at args 3) d.nodes))
-    ▸ (λ shape d args h. link_leaves d h (word_at args 0) carried.Can (mtu_of shape args) (node_named (word_at args 2) d.nodes) (node_named (word_at args 3) d.nodes))
+    ▸ (λ shape d args h. link_leaves d h (word_at args 0) (kiss_kind shape) false (mtu_of shape args) (all_named (node_named (word_at args 2) d.nodes ∷ node_named (word_at args 3) d.nodes ∷ [])))
+    ▸ (λ shape d args h. link_leaves d h (word_at args 0) carried.Can false (mtu_of shape args) (all_named (node_named (word_at args 2) d.nodes ∷ node_named (word_at args 3) d.nodes ∷ [])))
+    ▸ (λ shape d args h. link_leaves d h (word_at args 0) carried.Can true DEFAULT_MTU (all_named (map (λ word. router_named word d.nodes) (drop 1 args))))
     ▸ (λ shape d args h. routed_leave d h (router_named (word_at args 0) d.nodes) (parsed (known_ifaces d (router_named (word_at args 0) d.nodes)) (text_from args 1)))
-    ▸ (λ shape d args h. fault_leaves d h (planned args fault.Lose) (link_named (word_at args 0) d.links))
-    ▸ (λ shape d args h. fault_leaves d h (planned args (fault.Repeat (number_at args 4))) (link_named (word_at args 0) d.links))
-    ▸ (λ shape d args h. fault_leaves d h (planned args (fault.Delay (number_at args 4))) (link_named (word_at args 0) d.links))
-    ▸ (λ shape d args h. fault_leaves d h (planned args (fault.Flip (number_at args 4))) (link_named (word_at args 0) d.links))
+    ▸ (λ shape d args h. fault_line_leaves d h args fault.Lose)
+    ▸ (λ shape d args h. fault_line_leaves d h args (fault.Repeat (number_at args 4)))
+    ▸ (λ shape d args h. fault_line_leaves d h args (fault.Delay (number_at args 4)))
+    ▸ (λ shape d args h. fault_line_leaves d h args (fault.Flip (number_at args 4)))
+    ▸ (λ shape d args h. hub_fault_leaves d h args fault.Lose)
+    ▸ (λ shape d args h. hub_fault_leaves d h args (fault.Repeat (number_at args 4)))
+    ▸ (λ shape d args h. hub_fault_leaves d h args (fault.Delay (number_at args 4)))
+    ▸ (λ shape d args h. hub_fault_leaves d h args (fault.Flip (number_at args 4)))
     ▸ (λ shape d args h. app_leaves d h (word_at args 1) (router_named (word_at args 0) d.nodes))
     ▸ (λ shape d args h. step_leaves d h step.Take d.host)
     ▸ (λ shape d args h. step_leaves d h step.Give d.host)
@@ -298,9 +317,9 @@ fitting_row : (args : List (List ℕ)) (found : Option PlainRow) → IfSome foun
 fitting_row args None h = record { gives = λ row e. absurd (cc) }
 fitting_row args (Some row) h = row_demanded _ kind.Name _ (row_demanded _ kind.Number (Ok row) (row_given row h))
 
-row_leaves : (rows : List PlainRow) (in_app : Bool) (first : List ℕ) (args : List (List ℕ)) → AllByRecursion RowLeaves rows → GivesRow (row_for rows in_app first args)
-row_leaves rows in_app first args all =
-    row_demanded _ kind.Word _ (row_demanded _ kind.Place _ (row_demanded _ kind.Count _ (fitting_row args (find (has_choice first args) rows) (found_row (has_choice first args) rows all))))
+row_leaves : (rows : List PlainRow) (in_app on_hub : Bool) (first : List ℕ) (args : List (List ℕ)) → AllByRecursion RowLeaves rows → GivesRow (row_for rows in_app on_hub first args)
+row_leaves rows in_app on_hub first args all =
+    row_demanded _ kind.Word _ (row_demanded _ kind.Place _ (row_demanded _ kind.Count _ (fitting_row args (find (λ row. suits on_hub row.form && has_choice first args row) rows) (found_row (λ row. suits on_hub row.form && has_choice first args row) rows all))))
 
 by_row : (told : Result PlainRow SceneKind) (next : PlainRow → Result PlainDraft SceneKind) → GivesRow told → ((row : PlainRow) → RowLeaves row → LeavesApart (next row)) → LeavesApart (and_then told next)
 by_row (Ok row) next h each = each row (h.gives row refl)
@@ -315,8 +334,8 @@ module _ (rows : List PlainRow) (all : AllByRecursion RowLeaves rows) (d : Plain
   words_leave in_app [] = ok_leaves d differ
   words_leave in_app (first ∷ args) =
       let next : PlainRow → Result PlainDraft SceneKind = λ row. state row.form row.shape d args in
-      by_comment (is_comment first) (Ok d) (and_then (row_for rows in_app first args) next) (ok_leaves d differ)
-      (by_row (row_for rows in_app first args) next (row_leaves rows in_app first args all) (λ row leaves. leaves d args differ))
+      by_comment (is_comment first) (Ok d) (and_then (row_for rows in_app (is_hub_called (word_at args 0) d.links) first args) next) (ok_leaves d differ)
+      (by_row (row_for rows in_app (is_hub_called (word_at args 0) d.links) first args) next (row_leaves rows in_app (is_hub_called (word_at args 0) d.links) first args all) (λ row leaves. leaves d args differ))
 
   judge_leaves : (in_app : Bool) (line : List ℕ) → LeavesApart (judge rows in_app d line)
   judge_leaves in_app line = search (demanded, words_leave)

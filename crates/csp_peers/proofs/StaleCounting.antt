@@ -42,7 +42,7 @@ use Rattle.csp_record.specs.declared.who.Who.{Who}
 use Rattle.csp_record.specs.declared.who.Who.TheVariants as who
 use Rattle.csp_scene.proofs.Lists.{AllByRecursion-append}
 use Rattle.csp_scene.specs.Scene.{PlainLink, PlainNode, PlainScene}
-use Rattle.csp_topology.specs.Parties.{PlainOpening, parties_of, party_steps}
+use Rattle.csp_topology.specs.Parties.{PlainOpening, link_party, parties_of, party_steps}
 use Rattle.csp_consistent.specs.Reading.{entries_of}
 use Rattle.csp_consistent.specs.Runs.{AreLogsOf, IsLogOf}
 use Rattle.csp_consistent.proofs.Each.{each_at, each_there}
@@ -222,6 +222,13 @@ run_tells [] time p other run = tt
 run_tells (e ∷ es) time p other run =
     (subst AreClear (sym run.1.events) (turn_tells p e.time e.answer other), run_tells es e.time (step_after party_steps p e) (turn_stays p e.time e.answer other) run.2)
 
+-- what a link of the scene opens as is no router
+link_none : (l : PlainLink) → IsNoRouter (link_party l)
+link_none l = by l.hub where
+  by : (b : Bool) → IsNoRouter (link_party (record l { hub = b }))
+  by true = tt
+  by false = tt
+
 -- ---- the logs of a record
 
 -- a log tells of none: a router's as it is given, any other's by what its party is
@@ -231,7 +238,7 @@ by_name nodes links (who.Router place) p es own run routed = routed place refl
 by_name nodes links (who.Bridge place) p es own run routed = run_tells es 0 p (subst IsNoRouter (sym own.party) tt) run
 by_name nodes links (who.Iface place number) p es own run routed = run_tells es 0 p (subst IsNoRouter (sym own.party) tt) run
 by_name nodes links (who.App place number) p es own run routed = run_tells es 0 p (subst IsNoRouter (sym own.party) tt) run
-by_name nodes links (who.Link number) p es own run routed = run_tells es 0 p (subst IsNoRouter (sym own.party) tt) run
+by_name nodes links (who.Link number) p es own run routed = run_tells es 0 p (subst IsNoRouter (sym own.party) (link_none own.link)) run
 
 -- the party of which the log in this place is
 opening_at : (os : List PlainOpening) (logs : List PlainPartyLog) (k : ℕ) (log : PlainPartyLog) → AreLogsOf os logs → slice_get logs k ≡ Some log → (o : PlainOpening) × (slice_get os k ≡ Some o)

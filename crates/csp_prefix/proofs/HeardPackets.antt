@@ -17,7 +17,6 @@ use Rattle.csp_log.specs.declared.places.TheConstants.{UNMARKED}
 use Rattle.csp_log.specs.declared.shown.ItemShown.{ItemShown}
 use Rattle.csp_log.specs.declared.shown.ItemShown.TheVariants as item
 use Rattle.csp_party.specs.Any.{a_bridge, an_iface}
-use Rattle.csp_iface.specs.PlainIface as plain_iface
 use Rattle.csp_record.specs.Passed.{accepted_by, differs, is_changed, passed}
 use Rattle.csp_record.specs.Record.{PlainRecord}
 use Rattle.csp_record.specs.Transmissions.{iface_entries, shown_in, transmission}
@@ -30,6 +29,7 @@ use Rattle.csp_scene.specs.Scene.{PlainNode, PlainScene}
 use Rattle.csp_consistent.specs.Consistent.{IsConsistent}
 use Rattle.csp_consistent.specs.Inboxes.{came_through, writer_of}
 use Rattle.csp_consistent.specs.Lanes.{IsInOrder}
+use Rattle.csp_topology.specs.Parties.{heeded, iface_opening}
 use Rattle.csp_topology.specs.Lanes.{hub_of, out_lane}
 use Rattle.csp_consistent.specs.Origins.{IsSent}
 use Rattle.csp_consistent.specs.Reading.{entries_of, gets, left_in, puts, with_priority}
@@ -127,8 +127,8 @@ module _ (scene : PlainScene) (r : PlainRecord) (is : IsScene scene) (con : IsCo
   shows_below n node number serial hear (inr l) =
       let at : IsIfaceAt scene.nodes scene.links node number l.opening.party = owner_of scene r (who.Iface node number) l in
       let lane : IsInOrder r (out_lane node (hub_of node at.node.addr) number) = out_lane_there scene r node number at.node con.lanes at.there (slice_get_within (links_at node scene.links) number at.link at.on) in
-      iface_shows (IsBelow n) node number serial at.link.kind at.link.mtu (entries_of r (who.Iface node number))
-      (run_of scene r (who.Iface node number) (an_iface (plain_iface.opening node number at.link.kind at.link.mtu)) l at.party)
+      iface_shows (IsBelow n) node number serial at.link.kind at.link.mtu (heeded at.node.addr at.link) (entries_of r (who.Iface node number))
+      (run_of scene r (who.Iface node number) (an_iface (iface_opening node number at.link.kind at.link.mtu (heeded at.node.addr at.link))) l at.party)
       (through (Below n) r (out_lane node (hub_of node at.node.addr) number) lane (hub_below n node number at.node.addr (hear node at.node at.there)))
 
   sent_below : (n : ℕ) → HearBelow n → (o : Origin) (sent : Content) → transmission r o ≡ Some sent → IsBelow n sent

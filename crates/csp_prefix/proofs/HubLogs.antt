@@ -13,7 +13,7 @@ use Rattle.csp_buffer.specs.PlainBuffer.{PlainBuffer}
 use Rattle.csp_deck.specs.Carried.{IsUpItem}
 use Rattle.csp_deck.specs.Runs.{IsRun, step_after}
 use Rattle.csp_iface.specs.Asking as iface_asking
-use Rattle.csp_iface.specs.PlainIface.{PlainIface, opening}
+use Rattle.csp_iface.specs.PlainIface.{PlainIface}
 use Rattle.csp_iface.specs.Planning as iface_planning
 use Rattle.csp_iface.specs.Telling as iface_telling
 use Rattle.csp_iface.specs.declared.plan.Plan as iface_plans
@@ -48,7 +48,7 @@ use Rattle.csp_stack.specs.declared.plan.Plan.{Plan}
 use Rattle.csp_stack.specs.declared.plan.Plan.TheVariants as plan
 use Rattle.csp_stack.specs.declared.sources.Source.TheVariants as source
 use Rattle.csp_prefix.specs.Apps.{app_steps}
-use Rattle.csp_topology.specs.Parties.{party_steps}
+use Rattle.csp_topology.specs.Parties.{iface_opening, party_steps}
 use Rattle.csp_consistent.specs.Reading.{got_by, gets, is_queue, put_by, puts}
 use Rattle.csp_prefix.specs.Routers.{ComesSo, IsHeard, IsOfKind, IsUntraced, PushesSo, router_steps}
 use Rattle.csp_consistent.proofs.Each.{each_first, each_if, each_last}
@@ -312,6 +312,6 @@ shown_all R number serial (e ∷ es) own got = (
   shown_all R number serial es own.1 (each_last (IsOfKind R) (got_by (queue.Out number) e.op e.answer) (gets (queue.Out number) es) got),
 )
 
-pub iface_shows : (R : Content → Type 0) (node number serial : ℕ) (kind : LinkKind) (mtu : ℕ) (es : List Entry) → IsRun party_steps 0 (an_iface (opening node number kind mtu)) es
+pub iface_shows : (R : Content → Type 0) (node number serial : ℕ) (kind : LinkKind) (mtu : ℕ) (heeds : Option ℕ) (es : List Entry) → IsRun party_steps 0 (an_iface (iface_opening node number kind mtu heeds)) es
     → AllByRecursion (IsOfKind R) (gets (queue.Out number) es) → AllByRecursion (λ e. (b : Content) → shown_in serial e ≡ Some b → R b) es
-iface_shows R node number serial kind mtu es run got = shown_all R number serial es (fetches_from node number es 0 (opening node number kind mtu) run (refl, refl)) got
+iface_shows R node number serial kind mtu heeds es run got = shown_all R number serial es (fetches_from node number es 0 (iface_opening node number kind mtu heeds) run (refl, refl)) got
