@@ -33,11 +33,11 @@ abbrev pub IsCalled : Who → PlainOpening → Type 0
 IsCalled w o = o.who ≡ w
 
 -- there is a party for each interface of a node
-iface_has : (place number m : ℕ) (links : List PlainLink) → m < length links → Has (IsCalled (who.Iface place (number + m))) (ifaces_from place number links)
-iface_has place number m [] h = absurd (omega (arith, h))
-iface_has place number zero (l ∷ links) h = record { place = 0; one = _; at = refl; so = ap (λ (k : ℕ). who.Iface place k) (omega arith) }
-iface_has place number (suc m) (l ∷ links) h =
-    let later = iface_has place (number + 1) m links (omega (arith, h)) in
+iface_has : (place : ℕ) (addr : Option ℕ) (number m : ℕ) (links : List PlainLink) → m < length links → Has (IsCalled (who.Iface place (number + m))) (ifaces_from place addr number links)
+iface_has place addr number m [] h = absurd (omega (arith, h))
+iface_has place addr number zero (l ∷ links) h = record { place = 0; one = _; at = refl; so = ap (λ (k : ℕ). who.Iface place k) (omega arith) }
+iface_has place addr number (suc m) (l ∷ links) h =
+    let later = iface_has place addr (number + 1) m links (omega (arith, h)) in
     record { place = suc later.place; one = later.one; at = later.at; so = later.so ∙ ap (λ (k : ℕ). who.Iface place k) (omega arith) }
 
 nodes_has : (place k m : ℕ) (nodes : List PlainNode) (n : PlainNode) (links : List PlainLink) → slice_get nodes k ≡ Some n → m < length (links_at (place + k) links) → Has (IsCalled (who.Iface (place + k) m)) (parties_from place nodes links)
@@ -45,11 +45,11 @@ nodes_has place k m [] n links e h = absurd cc
 nodes_has place zero m (x ∷ nodes) n links e h =
     let same : place + 0 ≡ place = omega arith in
     let few : m < length (links_at place links) = subst (λ (p : ℕ). m < length (links_at p links)) same h in
-    let own = iface_has place 0 m (links_at place links) few in
-    let called : Has (IsCalled (who.Iface (place + 0) m)) (ifaces_from place 0 (links_at place links)) = record { place = own.place; one = own.one; at = own.at; so = own.so ∙ ap (λ (p : ℕ). who.Iface p (0 + m)) (sym same) ∙ ap (λ (j : ℕ). who.Iface (place + 0) j) (omega arith) } in
+    let own = iface_has place x.addr 0 m (links_at place links) few in
+    let called : Has (IsCalled (who.Iface (place + 0) m)) (ifaces_from place x.addr 0 (links_at place links)) = record { place = own.place; one = own.one; at = own.at; so = own.so ∙ ap (λ (p : ℕ). who.Iface p (0 + m)) (sym same) ∙ ap (λ (j : ℕ). who.Iface (place + 0) j) (omega arith) } in
     has_first (IsCalled (who.Iface (place + 0) m)) (parties_at place x (links_at place links)) (parties_from (place + 1) nodes links)
-    (has_second (IsCalled (who.Iface (place + 0) m)) (hub_by x.addr place x (links_at place links) ∷ []) (ifaces_from place 0 (links_at place links) ++ apps_from place 0 x.apps)
-    (has_first (IsCalled (who.Iface (place + 0) m)) (ifaces_from place 0 (links_at place links)) (apps_from place 0 x.apps) called))
+    (has_second (IsCalled (who.Iface (place + 0) m)) (hub_by x.addr place x (links_at place links) ∷ []) (ifaces_from place x.addr 0 (links_at place links) ++ apps_from place 0 x.apps)
+    (has_first (IsCalled (who.Iface (place + 0) m)) (ifaces_from place x.addr 0 (links_at place links)) (apps_from place 0 x.apps) called))
 nodes_has place (suc k) m (x ∷ nodes) n links e h =
     let same : place + suc k ≡ place + 1 + k = omega arith in
     let few : m < length (links_at (place + 1 + k) links) = subst (λ (p : ℕ). m < length (links_at p links)) same h in

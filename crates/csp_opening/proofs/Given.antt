@@ -32,7 +32,7 @@ use Rattle.csp_topology.specs.declared.wire.Wire.{Wire}
 pub new_party : (o : Opening) → IsNewParty (opening_of o).party
 new_party (opening.Router c) = record { ready = λ e. tt; counted = refl; holds = refl }
 new_party (opening.Bridge n) = record { ready = λ e. tt; counted = refl; holds = refl }
-new_party (opening.Iface n k kind mtu) = record { ready = λ e. refl; counted = refl; holds = refl }
+new_party (opening.Iface n k kind mtu heeds) = record { ready = λ e. refl; counted = refl; holds = refl }
 new_party (opening.App n k script) = record { ready = λ e. tt; counted = refl; holds = refl }
 new_party (opening.Link k kind plan) = record { ready = λ e. tt; counted = refl; holds = refl }
 new_party (opening.Hub k ends plan) = record { ready = λ e. tt; counted = count_opening ends plan.items; holds = refl }

@@ -38,9 +38,9 @@ order_apps : (n place number : ℕ) (apps : List PlainApp) (rest : List PlainOpe
 order_apps n place number [] rest h = h
 order_apps n place number (a ∷ apps) rest h = order_apps n place (number + 1) apps rest h
 
-order_ifaces : (n place number : ℕ) (links : List PlainLink) (rest : List PlainOpening) → InOrder n (names rest) → InOrder n (names (ifaces_from place number links ++ rest))
-order_ifaces n place number [] rest h = h
-order_ifaces n place number (l ∷ links) rest h = order_ifaces n place (number + 1) links rest h
+order_ifaces : (n place : ℕ) (addr : Option ℕ) (number : ℕ) (links : List PlainLink) (rest : List PlainOpening) → InOrder n (names rest) → InOrder n (names (ifaces_from place addr number links ++ rest))
+order_ifaces n place addr number [] rest h = h
+order_ifaces n place addr number (l ∷ links) rest h = order_ifaces n place addr (number + 1) links rest h
 
 order_hub : (addr : Option ℕ) (place : ℕ) (n : PlainNode) (links : List PlainLink) (rest : List PlainOpening) → InOrder (place + 1) (names rest) → InOrder place (names (hub_by addr place n links ∷ rest))
 order_hub (Some a) place n links rest h = (refl, h)
@@ -51,9 +51,9 @@ order_nodes place [] links rest h = h place
 order_nodes place (n ∷ nodes) links rest h =
     let here = links_at place links in
     let more = parties_from (place + 1) nodes links ++ rest in
-    subst (λ os. InOrder place (names os)) (sym (three (hub_by n.addr place n here) (ifaces_from place 0 here) (apps_from place 0 n.apps) (parties_from (place + 1) nodes links) rest))
-    (order_hub n.addr place n here (ifaces_from place 0 here ++ (apps_from place 0 n.apps ++ more))
-    (order_ifaces (place + 1) place 0 here (apps_from place 0 n.apps ++ more) (order_apps (place + 1) place 0 n.apps more (order_nodes (place + 1) nodes links rest h)))) where
+    subst (λ os. InOrder place (names os)) (sym (three (hub_by n.addr place n here) (ifaces_from place n.addr 0 here) (apps_from place 0 n.apps) (parties_from (place + 1) nodes links) rest))
+    (order_hub n.addr place n here (ifaces_from place n.addr 0 here ++ (apps_from place 0 n.apps ++ more))
+    (order_ifaces (place + 1) place n.addr 0 here (apps_from place 0 n.apps ++ more) (order_apps (place + 1) place 0 n.apps more (order_nodes (place + 1) nodes links rest h)))) where
       three : (x : PlainOpening) (a b c d : List PlainOpening) → ((x ∷ (a ++ b)) ++ c) ++ d ≡ x ∷ (a ++ (b ++ (c ++ d)))
       three x a b c d = ap (λ xs. x ∷ xs) (append_assoc (a ++ b) c d ∙ append_assoc a b (c ++ d))
 

@@ -26,9 +26,9 @@ IsThere nodes links (who.Link k) = ⊤
 abbrev AreThere : ℕ → List PlainLink → List PlainOpening → Type 0
 AreThere nodes links os = AllByRecursion (λ (o : PlainOpening). IsThere nodes links o.who) os
 
-ifaces_there : (nodes : ℕ) (all : List PlainLink) (m number : ℕ) (links : List PlainLink) → m < nodes → number + length links ≤ length (links_at m all) → AreThere nodes all (ifaces_from m number links)
-ifaces_there nodes all m number [] low few = tt
-ifaces_there nodes all m number (l ∷ links) low few = ((low, omega (arith, few)), ifaces_there nodes all m (number + 1) links low (omega (arith, few)))
+ifaces_there : (nodes : ℕ) (all : List PlainLink) (m : ℕ) (addr : Option ℕ) (number : ℕ) (links : List PlainLink) → m < nodes → number + length links ≤ length (links_at m all) → AreThere nodes all (ifaces_from m addr number links)
+ifaces_there nodes all m addr number [] low few = tt
+ifaces_there nodes all m addr number (l ∷ links) low few = ((low, omega (arith, few)), ifaces_there nodes all m addr (number + 1) links low (omega (arith, few)))
 
 apps_there : (nodes : ℕ) (all : List PlainLink) (m number : ℕ) (apps : List PlainApp) → m < nodes → AreThere nodes all (apps_from m number apps)
 apps_there nodes all m number [] low = tt
@@ -45,7 +45,7 @@ nodes_there count all place (n ∷ nodes) few =
     let here = links_at place all in
     AllByRecursion-append (λ (o : PlainOpening). IsThere count all o.who) (parties_at place n here) (parties_from (place + 1) nodes all) (
       hub_there count all n.addr place n here low,
-      AllByRecursion-append (λ (o : PlainOpening). IsThere count all o.who) (ifaces_from place 0 here) (apps_from place 0 n.apps) (ifaces_there count all place 0 here low (omega arith)) (apps_there count all place 0 n.apps low),
+      AllByRecursion-append (λ (o : PlainOpening). IsThere count all o.who) (ifaces_from place n.addr 0 here) (apps_from place 0 n.apps) (ifaces_there count all place n.addr 0 here low (omega arith)) (apps_there count all place 0 n.apps low),
     )
     (nodes_there count all (place + 1) nodes (omega (arith, few)))
 

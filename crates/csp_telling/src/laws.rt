@@ -13,7 +13,7 @@ ghost use Rattle.csp_scene.specs.Ranges.{IsScene};
 ghost use Rattle.csp_scene.specs.Scene.{PlainScene};
 ghost use Rattle.csp_standing.specs.Network.{IsNetworkOf, PlainNetwork};
 
-use csp_consistent::{applies_plans, names_origins, use_their_own};
+use csp_consistent::{applies_plans, names_origins, spreads_by_plans, use_their_own};
 use csp_flow::returns_all;
 use csp_lists::weighs;
 use csp_topology::{leads_with_hubs, names_parties_apart, orders_wires, wires_lanes};
@@ -23,6 +23,7 @@ pub fn closes_consistent()
     ensures { (scene : PlainScene) (n : PlainNetwork) (posts : List PlainPost) (r : PlainRecord) → IsScene scene → AreLinksAfter (length scene.nodes) [] scene.links → IsNetworkOf scene n posts → IsClosed scene posts r → IsConsistent scene r }
 {
     applies_plans();
+    spreads_by_plans();
     names_origins();
     use_their_own();
     leads_with_hubs();

@@ -5,6 +5,7 @@ use Rattle.std.specs.List.{list_any}
 use Rattle.std.proofs.lemmas.Bool.{eq-eqb}
 use Rattle.std.proofs.lemmas.Option.{same_Some}
 use Rattle.csp_consistent.proofs.Beyond.{more_at}
+use Rattle.csp_consistent.proofs.Each.{each_at}
 use Rattle.csp_log.specs.declared.places.End.{End}
 use Rattle.csp_scene.specs.Kept.{AreLinksAfter, IsEndAfter, IsLinkAfter}
 use Rattle.csp_scene.specs.Links.{links_at, touches}
@@ -24,28 +25,16 @@ record IsNext (earlier : List PlainLink) (l : PlainLink) (x : End) : Type 0 wher
   pub number : x.iface ≡ length (links_at x.node earlier)
   pub on : touches x.node l ≡ true
 
-either-true : (a : Bool) → (a || (true || false)) ≡ true
-either-true true = refl
-either-true false = refl
+touched : (links : List End) (a : ℕ) (x : End) → slice_get links a ≡ Some x → list_any (λ (end : End). end.node == x.node) links ≡ true
+touched [] a x e = absurd cc
+touched (y ∷ links) zero x e = ap (λ (n : ℕ). (n == x.node) || list_any (λ (end : End). end.node == x.node) links) (ap (λ (z : End). z.node) (same_Some y x e)) ∙ ap (λ (b : Bool). b || list_any (λ (end : End). end.node == x.node) links) (eq-eqb x.node x.node refl)
+touched (y ∷ links) (suc a) x e = either (y.node == x.node) (touched links a x e) where
+  either : (b : Bool) → list_any (λ (end : End). end.node == x.node) links ≡ true → (b || list_any (λ (end : End). end.node == x.node) links) ≡ true
+  either true h = refl
+  either false h = h
 
 next_of : (nodes : ℕ) (earlier : List PlainLink) (l : PlainLink) → IsLinkAfter nodes earlier l → (a : ℕ) (x : End) → slice_get l.ends a ≡ Some x → IsNext earlier l x
-next_of nodes earlier l is a x e = by a (ap (λ (es : List End). slice_get es a) (sym is.two) ∙ e) where
-  next : (end : End) → IsEndAfter nodes earlier end → touches end.node l ≡ true → end ≡ x → IsNext earlier l x
-  next end after on same = subst (IsNext earlier l) same (record { number = after.iface; on = on })
-
-  test : ℕ → End → Bool
-  test place end = end.node == place
-
-  by : (k : ℕ) → slice_get (is.first ∷ is.second ∷ []) k ≡ Some x → IsNext earlier l x
-  by zero g =
-      next is.first is.one_end
-      (ap (list_any (test is.first.node)) is.two ∙ ap (λ (b : Bool). b || ((is.second.node == is.first.node) || false)) (eq-eqb is.first.node is.first.node refl))
-      (same_Some is.first x g)
-  by (suc zero) g =
-      next is.second is.other_end
-      (ap (list_any (test is.second.node)) is.two ∙ ap (λ (b : Bool). (is.first.node == is.second.node) || (b || false)) (eq-eqb is.second.node is.second.node refl) ∙ either-true (is.first.node == is.second.node))
-      (same_Some is.second x g)
-  by (suc (suc k)) g = absurd cc
+next_of nodes earlier l is a x e = record { number = (each_at (IsEndAfter nodes earlier) l.ends a x is.ends e).iface; on = touched l.ends a x e }
 
 -- and those of the later links stand later
 grows : (place : ℕ) (earlier : List PlainLink) (l : PlainLink) → length (links_at place earlier) ≤ length (links_at place (earlier ++ l ∷ []))
@@ -77,20 +66,9 @@ first_apart nodes earlier l links is are k a b es fs x y own at other there same
     let node = ap (λ n. length (links_at n (earlier ++ l ∷ []))) same in
     omega (arith, number, more, later, node)
 
--- nor are the two ends of a link
+-- nor are two ends of a link
 two_apart : (nodes : ℕ) (earlier : List PlainLink) (l : PlainLink) → IsLinkAfter nodes earlier l → (a b : ℕ) (x y : End) → slice_get l.ends a ≡ Some x → slice_get l.ends b ≡ Some y → y.node ≡ x.node → b ≡ a
-two_apart nodes earlier l is a b x y at there same = by a b (ap (λ (es : List End). slice_get es a) (sym is.two) ∙ at) (ap (λ (es : List End). slice_get es b) (sym is.two) ∙ there) where
-  node : (end z : End) → Some end ≡ Some z → end.node ≡ z.node
-  node end z e = ap (λ (w : End). w.node) (same_Some end z e)
-
-  by : (m n : ℕ) → slice_get (is.first ∷ is.second ∷ []) m ≡ Some x → slice_get (is.first ∷ is.second ∷ []) n ≡ Some y → n ≡ m
-  by zero zero e g = refl
-  by (suc zero) (suc zero) e g = refl
-  by zero (suc zero) e g = absurd (is.apart (node is.first x e ∙ sym same ∙ sym (node is.second y g)))
-  by (suc zero) zero e g = absurd (is.apart (node is.first y g ∙ same ∙ sym (node is.second x e)))
-  by zero (suc (suc n)) e g = absurd cc
-  by (suc zero) (suc (suc n)) e g = absurd cc
-  by (suc (suc m)) n e g = absurd cc
+two_apart nodes earlier l is a b x y at there same = is.shape.apart b a y x there at same
 
 apart_after : (nodes : ℕ) (earlier links : List PlainLink) → AreLinksAfter nodes earlier links → AreEndsApart (ends_in links)
 apart_after nodes earlier [] are j k a b es fs x y at here other there node number = absurd cc

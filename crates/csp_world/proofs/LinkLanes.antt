@@ -5,6 +5,7 @@ use Rattle.std.specs.List.{AllByRecursion}
 use Rattle.std.specs.Option.{option_and_then, option_map}
 use Rattle.std.proofs.lemmas.Bool.{eq-eqb, eqb-true, lt-ltb}
 use Rattle.std.proofs.lemmas.Option.{same_Some, slice_get-map, slice_get_within}
+use Rattle.csp_consistent.proofs.Each.{each_at}
 use Rattle.csp_consistent.specs.Lanes.{IsRefused}
 use Rattle.csp_topology.specs.Lanes.{end_lanes, lanes_from, lanes_of, lanes_on, link_lanes}
 use Rattle.csp_consistent.specs.Queues.{MayAsk, MayPop, MayPush}
@@ -25,7 +26,7 @@ use Rattle.csp_record.specs.declared.who.Who.{Who}
 use Rattle.csp_record.specs.declared.who.Who.TheVariants as who
 use Rattle.csp_scene.specs.Kept.{AreLinksAfter}
 use Rattle.csp_scene.specs.Links.{links_at}
-use Rattle.csp_scene.specs.Ranges.{AreEnds, IsEnd, IsLink, IsScene}
+use Rattle.csp_scene.specs.Ranges.{IsEnd, IsLink, IsScene}
 use Rattle.csp_scene.specs.Scene.{PlainLink, PlainNode, PlainScene}
 use Rattle.csp_world.proofs.ContentLemmas.{if_named, popped_out, pushed_in}
 use Rattle.csp_world.proofs.EndsApart.{AreEndsApart, ends_apart, ends_in}
@@ -33,7 +34,7 @@ use Rattle.csp_world.proofs.InboxNames.{pop_is, push_is}
 use Rattle.csp_world.proofs.LaneLemmas.{IsLaneOf, all-append, as_many, carried_at, iface_user, lanes_of_scene}
 use Rattle.csp_world.proofs.LaneNames.{IsPushedTo, IsUser, PopsAway, PushesAway, gets_same, no_got, no_put, own_apart, puts_same, refused_there}
 use Rattle.csp_world.proofs.MovedLemmas.{got_at, got_there, put_at, put_there}
-use Rattle.csp_world.proofs.OpeningScene.{node_there}
+use Rattle.csp_world.proofs.OpeningScene.{one_there}
 
 -- the end of a link at a place
 abbrev pub end_of : List (List End) → ℕ → ℕ → Option End
@@ -311,13 +312,6 @@ module _ (scene : PlainScene) (links : List (List End)) (apart : AreEndsApart li
 
 -- ---- the lanes of all links
 
-end_of_link : (nodes : List PlainNode) (links : List PlainLink) (l : PlainLink) → AreEnds nodes links l → (a : ℕ) (x : End) → slice_get l.ends a ≡ Some x → IsEnd nodes links l x
-end_of_link nodes links l are a x e = by a (ap (λ (es : List End). slice_get es a) (sym are.two) ∙ e) where
-  by : (k : ℕ) → slice_get (are.first ∷ are.second ∷ []) k ≡ Some x → IsEnd nodes links l x
-  by zero g = subst (IsEnd nodes links l) (same_Some are.first x g) are.one_end
-  by (suc zero) g = subst (IsEnd nodes links l) (same_Some are.second x g) are.other_end
-  by (suc (suc k)) g = absurd cc
-
 module _ (scene : PlainScene) (apart : AreEndsApart (ends_in scene.links)) where
   of_ends : (j : ℕ) (l : PlainLink) → slice_get scene.links j ≡ Some l → IsLink scene.nodes scene.links l → (carries : Carries) (at : ℕ) (ends : List End) → ((k : ℕ) → slice_get l.ends (at + k) ≡ slice_get ends k)
       → AllByRecursion (IsLaneOf scene (ends_in scene.links)) (lanes_on j carries at ends)
@@ -325,8 +319,8 @@ module _ (scene : PlainScene) (apart : AreEndsApart (ends_in scene.links)) where
   of_ends j l there is carries at (x ∷ ends) same =
       let links = ends_in scene.links in
       let here : slice_get l.ends at ≡ Some x = ap (slice_get l.ends) (omega arith) ∙ same 0 in
-      let end = end_of_link scene.nodes scene.links l is.ends at x here in
-      let (n, on) = node_there scene.nodes x.node end.node in
+      let end = each_at (IsEnd scene.nodes scene.links l) l.ends at x is.ends here in
+      let (n, on) = one_there scene.nodes x.node end.node in
       let link : slice_get links j ≡ Some l.ends = slice_get-map (λ (y : PlainLink). y.ends) scene.links j ∙ ap (option_map (λ (y : PlainLink). y.ends)) there in
       all-append (IsLaneOf scene links) (end_lanes j carries at x) (lanes_on j carries (at + 1) ends)
       (lanes_of_end scene links apart j at l.ends x link here n on carries (slice_get_within (links_at x.node scene.links) x.iface l end.iface))

@@ -8,7 +8,9 @@ use Rattle.std.proofs.lemmas.Option.{same_Some, slice_get-map, slice_get_within}
 use Rattle.csp_app.specs.PlainApp as app
 use Rattle.csp_app.specs.PlainStep.{PlainStep}
 use Rattle.csp_bridge.specs.PlainBridge as bridge
-use Rattle.csp_iface.specs.PlainIface as iface
+use Rattle.csp_hub.proofs.Ends.{count_opening}
+use Rattle.csp_hub.specs.PlainHub as hub
+use Rattle.csp_link.specs.PlainLink as link
 use Rattle.csp_log.specs.Kinds.{carried_on}
 use Rattle.csp_lists.specs.PlainDeck.{PlainDeck, rule_of}
 use Rattle.csp_log.specs.declared.places.Carries.TheVariants as lane
@@ -20,7 +22,7 @@ use Rattle.csp_log.specs.declared.places.Rule.{Rule}
 use Rattle.csp_log.specs.declared.places.Rule.TheVariants as rule
 use Rattle.csp_nodes.specs.Fresh.{fresh_buffers}
 use Rattle.csp_nodes.specs.Serving.{at_end, of_frames, rule_there}
-use Rattle.csp_party.specs.Any.{uses, PlainParty, a_bridge, an_iface, an_app}
+use Rattle.csp_party.specs.Any.{uses, PlainParty, a_bridge, a_hub, a_link, an_iface, an_app}
 use Rattle.csp_record.specs.declared.who.Who.{Who}
 use Rattle.csp_record.specs.declared.who.Who.TheVariants as who
 use Rattle.csp_scene.proofs.Lists.{AllByRecursion-append}
@@ -28,7 +30,7 @@ use Rattle.csp_scene.specs.Links.{links_at}
 use Rattle.csp_scene.specs.Ranges.{IsScene}
 use Rattle.csp_scene.specs.Scene.{PlainApp, PlainNode, PlainLink, PlainScene}
 use Rattle.csp_scene.specs.declared.limits.TheConstants.{BRIDGE_LINKS}
-use Rattle.csp_topology.specs.Parties.{PlainOpening, app_with, apps_from, bridge_at, config_of, hub_by, iface_on, ifaces_from, link_at, links_from, opens, parties_at, parties_from, parties_of, router_for}
+use Rattle.csp_topology.specs.Parties.{PlainOpening, app_with, apps_from, bridge_at, config_of, heeded, hub_by, iface_on, iface_opening, ifaces_from, link_at, links_from, opens, parties_at, parties_from, parties_of, router_for}
 use Rattle.csp_topology.specs.Plan.{PlainNodePlan, plans_from}
 use Rattle.csp_world.proofs.OpeningNodes.{fresh_long}
 use Rattle.csp_world.proofs.OpeningRules.{Stands, up_rule, down_rule, out_rule, tx_rule, rx_rule}
@@ -72,18 +74,18 @@ bridge_there stands n links two (queue.Tx k) r e = absurd cc
 bridge_there stands n links two (queue.Rx k) r e = absurd cc
 
 -- of an interface on one of its links
-iface_there : Stands → (place number : ℕ) (kind : LinkKind) (mtu : ℕ) (n : PlainNode) (links : List PlainLink) (l : PlainLink) → slice_get links number ≡ Some l → l.kind ≡ kind → AreThere n links (an_iface (iface.opening place number kind mtu))
-iface_there stands place number kind mtu n links l at same_kind queue.Inbox r e = e
-iface_there stands place number kind mtu n links l at same_kind (queue.Out k) r e =
+iface_there : Stands → (place number : ℕ) (kind : LinkKind) (mtu : ℕ) (heeds : Option ℕ) (n : PlainNode) (links : List PlainLink) (l : PlainLink) → slice_get links number ≡ Some l → l.kind ≡ kind → AreThere n links (an_iface (iface_opening place number kind mtu heeds))
+iface_there stands place number kind mtu heeds n links l at same_kind queue.Inbox r e = e
+iface_there stands place number kind mtu heeds n links l at same_kind (queue.Out k) r e =
     own_lane (rule.Lane lane.Out) r (rule_of (opened_deck n links) (queue.Out k)) number k _ (λ same. out_rule stands n links k (omega (arith, slice_get_within links number l at, same))) refl e
-iface_there stands place number kind mtu n links l at same_kind (queue.Tx k) r e =
+iface_there stands place number kind mtu heeds n links l at same_kind (queue.Tx k) r e =
     own_lane (rule.Lane (carried_on kind)) r (rule_of (opened_deck n links) (queue.Tx k)) number k _
     (λ same. tx_rule stands n links k l (ap (slice_get links) same ∙ at) ∙ ap (λ c. Some (rule.Lane c)) (ap carried_on same_kind)) refl e
-iface_there stands place number kind mtu n links l at same_kind (queue.Rx k) r e =
+iface_there stands place number kind mtu heeds n links l at same_kind (queue.Rx k) r e =
     own_lane (rule.Lane (carried_on kind)) r (rule_of (opened_deck n links) (queue.Rx k)) number k _
     (λ same. rx_rule stands n links k l (ap (slice_get links) same ∙ at) ∙ ap (λ c. Some (rule.Lane c)) (ap carried_on same_kind)) refl e
-iface_there stands place number kind mtu n links l at same_kind (queue.Up k) r e = absurd cc
-iface_there stands place number kind mtu n links l at same_kind (queue.Down k) r e = absurd cc
+iface_there stands place number kind mtu heeds n links l at same_kind (queue.Up k) r e = absurd cc
+iface_there stands place number kind mtu heeds n links l at same_kind (queue.Down k) r e = absurd cc
 
 -- of an application
 app_there : Stands → (number : ℕ) (steps : List PlainStep) (n : PlainNode) (links : List PlainLink) → number < length n.apps → AreThere n links (an_app (app.opening number steps))
@@ -130,11 +132,11 @@ hub_new : Stands → (w : PlainWorld) (addr : Option ℕ) (place : ℕ) (n : Pla
 hub_new stands w (Some addr) place n links at two = router_new stands w place addr n links at
 hub_new stands w None place n links at two = bridge_new stands w place n links at (two refl)
 
-iface_new : Stands → (w : PlainWorld) (place number : ℕ) (n : PlainNode) (links : List PlainLink) (l : PlainLink) → slice_get w.decks place ≡ Some (opened_deck n links) → slice_get links number ≡ Some l → IsNew w.decks w.links (iface_on place number l.kind l.mtu)
-iface_new stands w place number n links l at on = record {
+iface_new : Stands → (w : PlainWorld) (place number : ℕ) (heeds : Option ℕ) (n : PlainNode) (links : List PlainLink) (l : PlainLink) → slice_get w.decks place ≡ Some (opened_deck n links) → slice_get links number ≡ Some l → IsNew w.decks w.links (iface_on place number l.kind l.mtu heeds)
+iface_new stands w place number heeds n links l at on = record {
   ready = λ later until goes. refl;
   counted = refl;
-  served = λ q s u. there_at w.decks place n links q s at (iface_there stands place number l.kind l.mtu n links l on refl q s u);
+  served = λ q s u. there_at w.decks place n links q s at (iface_there stands place number l.kind l.mtu heeds n links l on refl q s u);
   called = tt;
   holds = refl;
   home = λ node e. within_at w.decks place (opened_deck n links) at node e;
@@ -152,27 +154,29 @@ app_new stands w place number steps n links at few = record {
 
 -- a link is new where the nodes at its ends have its lanes
 link_new : (w : PlainWorld) (number : ℕ) (l : PlainLink) → CanJoin w.decks l → slice_get w.links number ≡ Some l.ends → IsNew w.decks w.links (link_at number l)
-link_new w number l can at = record {
-  ready = λ later until goes. tt;
-  counted = refl;
-  served = λ q s u.
+link_new w number l can at = by l.hub refl where
+  opened : Bool → PlainParty
+  opened b = cond b (a_hub (hub.opening (length l.ends) l.plan)) (a_link (link.opening l.kind l.plan))
+
+  reached : (b : Bool) → l.hub ≡ b → (q : QueueId) (s : Rule) → uses (opened b) q ≡ Some s → option_and_then of_frames (rule_there w.decks (option_and_then (λ ends. at_end ends q) (slice_get w.links number))) ≡ Some s
+  reached b e q s u =
       ap (λ (o : Option (List End)). option_and_then of_frames (rule_there w.decks (option_and_then (λ ends. at_end ends q) o))) at
-      ∙ can.lanes q s u;
-  called = tt;
-  holds = refl;
-  home = λ node e. absurd cc;
-}
+      ∙ can.lanes q s (ap (λ (c : Bool). uses (opened c) q) e ∙ u)
+
+  by : (b : Bool) → l.hub ≡ b → IsNew w.decks w.links (opens (who.Link number) (opened b))
+  by true e = record { ready = λ later until goes. tt; counted = count_opening (length l.ends) l.plan; served = λ q s u. reached true e q s u; called = tt; holds = refl; home = λ node e. absurd cc }
+  by false e = record { ready = λ later until goes. tt; counted = refl; served = λ q s u. reached false e q s u; called = tt; holds = refl; home = λ node e. absurd cc }
 
 -- each of these parties is new
 abbrev AreNew : PlainWorld → List PlainOpening → Type 0
 AreNew w os = AllByRecursion (IsNew w.decks w.links) os
 
-ifaces_new : Stands → (w : PlainWorld) (place number : ℕ) (n : PlainNode) (all links : List PlainLink) → slice_get w.decks place ≡ Some (opened_deck n all)
-    → ((k j : ℕ) (l : PlainLink) → slice_get links k ≡ Some l → j ≡ number + k → slice_get all j ≡ Some l) → AreNew w (ifaces_from place number links)
-ifaces_new stands w place number n all [] at there = tt
-ifaces_new stands w place number n all (l ∷ links) at there = (
-  iface_new stands w place number n all l at (there 0 number l refl (omega arith)),
-  ifaces_new stands w place (number + 1) n all links at (λ k j x e same. there (suc k) j x e (omega (arith, same))),
+ifaces_new : Stands → (w : PlainWorld) (place : ℕ) (addr : Option ℕ) (number : ℕ) (n : PlainNode) (all links : List PlainLink) → slice_get w.decks place ≡ Some (opened_deck n all)
+    → ((k j : ℕ) (l : PlainLink) → slice_get links k ≡ Some l → j ≡ number + k → slice_get all j ≡ Some l) → AreNew w (ifaces_from place addr number links)
+ifaces_new stands w place addr number n all [] at there = tt
+ifaces_new stands w place addr number n all (l ∷ links) at there = (
+  iface_new stands w place number (heeded addr l) n all l at (there 0 number l refl (omega arith)),
+  ifaces_new stands w place addr (number + 1) n all links at (λ k j x e same. there (suc k) j x e (omega (arith, same))),
 )
 
 apps_new : Stands → (w : PlainWorld) (place number : ℕ) (n : PlainNode) (links : List PlainLink) (apps : List PlainApp) → slice_get w.decks place ≡ Some (opened_deck n links)
@@ -184,8 +188,8 @@ apps_new stands w place number n links (a ∷ apps) at few =
 node_new : Stands → (w : PlainWorld) (place : ℕ) (n : PlainNode) (links : List PlainLink) → slice_get w.decks place ≡ Some (opened_deck n links) → (n.addr ≡ None → length links ≡ BRIDGE_LINKS) → AreNew w (parties_at place n links)
 node_new stands w place n links at two = (
   hub_new stands w n.addr place n links at two,
-  AllByRecursion-append (IsNew w.decks w.links) (ifaces_from place 0 links) (apps_from place 0 n.apps)
-      (ifaces_new stands w place 0 n links links at (λ k j l e same. let to : j ≡ k = omega (arith, same) in ap (slice_get links) to ∙ e)) (apps_new stands w place 0 n links n.apps at (omega arith)),
+  AllByRecursion-append (IsNew w.decks w.links) (ifaces_from place n.addr 0 links) (apps_from place 0 n.apps)
+      (ifaces_new stands w place n.addr 0 n links links at (λ k j l e same. let to : j ≡ k = omega (arith, same) in ap (slice_get links) to ∙ e)) (apps_new stands w place 0 n links n.apps at (omega arith)),
 )
 
 -- the lists of the nodes from this place on are there, and a bridge has two links

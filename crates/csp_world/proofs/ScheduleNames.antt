@@ -54,9 +54,9 @@ link_among : (links : List PlainLink) (number k : ℕ) → number ≤ k → k < 
 link_among [] number k low high = absurd (omega arith)
 link_among (l ∷ links) number k low high = or_found number k _ (λ ne. link_among links (number + 1) k (omega arith) (omega arith))
 
-iface_among : (place : ℕ) (links : List PlainLink) (number k : ℕ) → number ≤ k → k < number + length links → among (move.Iface place k) (ifaces_from place number links) ≡ true
-iface_among place [] number k low high = absurd (omega arith)
-iface_among place (l ∷ links) number k low high = and_found place number k _ (λ ne. iface_among place links (number + 1) k (omega arith) (omega arith))
+iface_among : (place : ℕ) (addr : Option ℕ) (links : List PlainLink) (number k : ℕ) → number ≤ k → k < number + length links → among (move.Iface place k) (ifaces_from place addr number links) ≡ true
+iface_among place addr [] number k low high = absurd (omega arith)
+iface_among place addr (l ∷ links) number k low high = and_found place number k _ (λ ne. iface_among place addr links (number + 1) k (omega arith) (omega arith))
 
 app_among : (place : ℕ) (apps : List PlainApp) (number k : ℕ) → number ≤ k → k < number + length apps → among (move.App place k) (apps_from place number apps) ≡ true
 app_among place [] number k low high = absurd (omega arith)
@@ -72,11 +72,11 @@ hub_of_node place n links = or_left _ _ (hub_named n.addr place n links)
 
 iface_of_node : (place k : ℕ) (n : PlainNode) (links : List PlainLink) → k < length links → among (move.Iface place k) (parties_at place n links) ≡ true
 iface_of_node place k n links h =
-    or_right _ _ (among_left (move.Iface place k) (ifaces_from place 0 links) (apps_from place 0 n.apps) (iface_among place links 0 k (omega arith) (omega arith)))
+    or_right _ _ (among_left (move.Iface place k) (ifaces_from place n.addr 0 links) (apps_from place 0 n.apps) (iface_among place n.addr links 0 k (omega arith) (omega arith)))
 
 app_of_node : (place k : ℕ) (n : PlainNode) (links : List PlainLink) → k < length n.apps → among (move.App place k) (parties_at place n links) ≡ true
 app_of_node place k n links h =
-    or_right _ _ (among_right (move.App place k) (ifaces_from place 0 links) (apps_from place 0 n.apps) (app_among place n.apps 0 k (omega arith) (omega arith)))
+    or_right _ _ (among_right (move.App place k) (ifaces_from place n.addr 0 links) (apps_from place 0 n.apps) (app_among place n.apps 0 k (omega arith) (omega arith)))
 
 -- a party of a node is among those of all nodes
 node_among : (m : Move) (nodes : List PlainNode) (links : List PlainLink) (first i place : ℕ) (n : PlainNode) → slice_get nodes i ≡ Some n → place ≡ first + i

@@ -2,14 +2,14 @@
 use Rattle.std.specs.Prelude.{◌≡◌, Some, List, [], map, All}
 use Rattle.std.specs.Option.{option_and_then}
 use Rattle.csp_link.specs.Fates.{IsFault}
-use Rattle.csp_link.specs.PlainLink as link
 use Rattle.csp_lists.specs.PlainDeck.{PlainDeck, opening_deck}
 use Rattle.csp_log.specs.declared.places.QueueId.{QueueId}
 use Rattle.csp_log.specs.declared.places.Rule.{Rule}
 use Rattle.csp_nodes.specs.Fresh.{fresh_buffers}
 use Rattle.csp_nodes.specs.Serving.{at_end, of_frames, rule_there}
+use Rattle.csp_party.specs.Any.{uses}
 use Rattle.csp_scene.specs.Scene.{PlainScene, PlainNode, PlainLink}
-use Rattle.csp_topology.specs.Parties.{PlainOpening}
+use Rattle.csp_topology.specs.Parties.{PlainOpening, link_party}
 use Rattle.csp_topology.specs.Plan.{PlainNodePlan, plan_of}
 use Rattle.csp_topology.specs.Topology.{PlainTopology, topology_of}
 use Rattle.csp_world.specs.World.{PlainMember, PlainWorld}
@@ -26,10 +26,10 @@ opened_deck n links = deck_of (plan_of n links)
 abbrev pub new_member : PlainOpening → PlainMember
 new_member o = record { who = o.who; party = o.party; entries = [] }
 
--- a link can be opened over these lists: its plan is one of faults, and the nodes at its ends have the lanes that it uses
+-- a link or a hub can be opened over these lists: its plan is one of faults, and the nodes at its ends have the lanes that it uses
 pub record CanJoin (decks : List PlainDeck) (l : PlainLink) : Type 0 where
   pub plan : All IsFault l.plan
-  pub lanes : (q : QueueId) (r : Rule) → link.uses (link.opening l.kind l.plan) q ≡ Some r → option_and_then of_frames (rule_there decks (at_end l.ends q)) ≡ Some r
+  pub lanes : (q : QueueId) (r : Rule) → uses (link_party l) q ≡ Some r → option_and_then of_frames (rule_there decks (at_end l.ends q)) ≡ Some r
 
 -- the world of a network in which nothing has happened
 abbrev pub opened_world : PlainTopology → PlainWorld

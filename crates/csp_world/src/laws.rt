@@ -16,7 +16,7 @@ ghost use Rattle.csp_world.specs.Record.{record_of};
 ghost use Rattle.csp_world.specs.Schedule.{run};
 ghost use Rattle.csp_world.specs.World.{PlainWorld, turn, tick};
 
-use csp_consistent::{applies_plans, names_origins};
+use csp_consistent::{applies_plans, names_origins, spreads_by_plans};
 use csp_lists::{keeps_shape, opens};
 
 /// The logs of its record are runs of the scene's parties. What was got from each lane, followed by what was
@@ -42,6 +42,7 @@ pub fn is_consistent()
 {
     holds_parts();
     applies_plans();
+    spreads_by_plans();
     names_origins();
 }
 

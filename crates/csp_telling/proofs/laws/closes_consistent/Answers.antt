@@ -12,4 +12,4 @@ returns c = λ scene n posts r is links net closed. consistent scene n posts r
       apart = c.names_parties_apart.ensures scene;
       uses = c.use_their_own.ensures scene r.parties (are_logs scene n posts r net closed);
     })
-    (c.applies_plans.ensures scene r) (c.names_origins.ensures scene r links)
+    (c.applies_plans.ensures scene r) (c.spreads_by_plans.ensures scene r) (c.names_origins.ensures scene r links)

@@ -11,5 +11,6 @@ returns c = λ scene w is after reached.
       inboxes = c.holds_parts.ensures.inboxes scene w is reached;
       numbers = c.holds_parts.ensures.numbers scene w reached;
       links = c.applies_plans.ensures scene (record_of w) runs;
+      hubs = c.spreads_by_plans.ensures scene (record_of w) runs;
       origins = c.names_origins.ensures scene (record_of w) after runs lanes;
     }
