@@ -100,7 +100,7 @@ node_among links place number p (m ∷ nodes) zero n app e f same none =
     let of_node : HasNone (who.App place number) (parties_at p m (links_at p links)) =
     front_of (λ o. is_who (who.App place number) o.who ≡ false) (parties_at p m (links_at p links)) (parties_from (p + 1) nodes links) none in
     let of_apps : HasNone (who.App place number) (apps_from p 0 m.apps) =
-    rest_of (λ o. is_who (who.App place number) o.who ≡ false) (ifaces_from p 0 (links_at p links)) (apps_from p 0 m.apps) of_node.1 in
+    rest_of (λ o. is_who (who.App place number) o.who ≡ false) (ifaces_from p m.addr 0 (links_at p links)) (apps_from p 0 m.apps) of_node.1 in
     app_among place 0 number m.apps number app apps (omega arith) (subst (λ q. HasNone (who.App place number) (apps_from q 0 m.apps)) here of_apps)
 node_among links place number p (m ∷ nodes) (suc i) n app e f same none =
     node_among links place number (p + 1) nodes i n app e f (omega (arith, same))

@@ -1,5 +1,5 @@
 use Rattle.std.proofs.Common.{◌≡◌, sym, subst}
-use Rattle.csp_ordinary.specs.Ordinary.{HasNoFlips, HasNumbersForAll, IsOrdinary}
+use Rattle.csp_ordinary.specs.Ordinary.{HasNoFlips, HasNoHubs, HasNumbersForAll, IsOrdinary}
 use Rattle.csp_peers.specs.Clear.{HasClearFlows}
 use Rattle.csp_record.specs.Passed.{passed}
 use Rattle.csp_record.specs.Stale.{stale}
@@ -31,7 +31,7 @@ returns-in-Ok-clause-ordinary c =
     let same : IsOrdinary scene run → passed run ≡ 0 = c.passes_nothing.ensures scene run ranges c.requires.ends consistent c.hold_words.ensures in
     let fresh : IsOrdinary scene run → HasClearFlows scene run → stale run ≡ 0 = λ ordinary. c.counts_no_stale.ensures scene run ranges c.requires.addressed consistent (same ordinary) in
     let within : SendsWithinNumbers scene (report scene run) → HasNumbersForAll scene run = c.within_by_report.ensures scene run ranges consistent.runs in
-    let unharmed : HasNoFlips scene → HasNumbersForAll scene run → IsOrdinary scene run = λ none numbers. record { undamaged = c.undamaged_without_flips.ensures scene run none; numbers = numbers } in
+    let unharmed : HasNoFlips scene → HasNoHubs scene → HasNumbersForAll scene run → IsOrdinary scene run = λ none alone numbers. record { hubs = alone; undamaged = c.undamaged_without_flips.ensures scene run none; numbers = numbers } in
     let passes : IsOrdinary scene run → EndsUnchanged (report scene run) = λ ordinary. c.ends_unchanged.ensures scene run (same ordinary) in
     let calm : IsOrdinary scene run → HasClearFlows scene run → IsUndisturbed (report scene run) = λ ordinary clear. c.ends_undisturbed.ensures scene run (fresh ordinary clear) (same ordinary) in
     let reliable : HasReliablePrefix (report scene run) =
@@ -40,10 +40,10 @@ returns-in-Ok-clause-ordinary c =
     (c.takes_a_prefix.ensures scene run ranges consistent) in
     subst (EndsAsOrdinary scene run) (sym c.in-Ok.ensures.bytes) (record {
       passes = passes;
-      unflipped = λ none numbers. passes (unharmed none numbers);
-      by_report = λ none told. passes (unharmed none (within told));
+      unflipped = λ none alone numbers. passes (unharmed none alone numbers);
+      by_report = λ none alone told. passes (unharmed none alone (within told));
       clear = calm;
-      clear_by_report = λ none told. calm (unharmed none (within told));
+      clear_by_report = λ none alone told. calm (unharmed none alone (within told));
       prefix = λ ordinary clear. c.takes_a_prefix.ensures scene run ranges consistent (fresh ordinary clear) (same ordinary);
       texts = λ ordinary clear. reliable (calm ordinary clear);
       blobs = λ ordinary clear. c.tells_of_blobs.ensures scene run ranges consistent (fresh ordinary clear) (same ordinary);
