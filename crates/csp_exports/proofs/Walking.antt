@@ -1,10 +1,10 @@
 -- How a walk over a log, or over a script, goes on by one.
-use Rattle.std.proofs.Common.{◌≡◌, ℕ, zero, suc, ◌+◌, ◌-◌, ◌<◌, ◌≤◌, ◌||◌, Bool, true, false, Option, Some, None, List, [], ◌∷◌, ◌++◌, get_or, length, drop, refl, sym, ap, ◌∙◌, add-one, drop-cons, append_assoc, append-nil, length-append, arith}
+use Rattle.std.proofs.Common.{◌≡◌, ℕ, zero, suc, ◌+◌, ◌-◌, ◌<◌, ◌≤◌, ◌||◌, Bool, true, false, Some, List, [], ◌∷◌, ◌++◌, get_or, length, drop, refl, sym, ap, ◌∙◌, add-one, drop-cons, append_assoc, append-nil, arith}
 use Rattle.std.proofs.lemmas.Grind.{flat_map-append}
 use Rattle.std.proofs.lemmas.List.Concat.{flat_map-cons}
-use Rattle.std.specs.List.{flat_map, list_any, range_with_len}
+use Rattle.std.specs.List.{enumerate_from, flat_map, list_any, range_with_len}
 use Rattle.std.specs.Option.{option_map_or}
-use Rattle.std.specs.Prelude.{if◌then◌else◌, slice_get}
+use Rattle.std.specs.Prelude.{slice_get}
 use Rattle.csp_log.specs.declared.places.End.{End}
 use Rattle.csp_record.specs.Record.{PlainRecord}
 use Rattle.csp_report.specs.Lines.{Line, ended_line, text_of}
@@ -29,11 +29,15 @@ pub appended : {X A : Type 0} (f : X → List A) (xs : List X) (i : ℕ) (x : X)
 appended f xs i x out more whole h is pushed before =
     ap (λ l. l ++ flat_map f (drop (i + 1) xs)) pushed ∙ append_assoc out (f x) (flat_map f (drop (i + 1) xs)) ∙ ap (λ l. out ++ l) (next_is f xs i x h is) ∙ before
 
--- so many more are counted
-pub counted : {X A : Type 0} (f : X → List A) (xs : List X) (i : ℕ) (x : X) (count more whole : ℕ) → i < length xs → slice_get xs i ≡ Some x → more ≡ count + length (f x) → count + length (flat_map f (drop i xs)) ≡ whole
-    → more + length (flat_map f (drop (i + 1) xs)) ≡ whole
-counted f xs i x count more whole h is one before =
-    omega (arith, one, before, ap length (next_is f xs i x h is), length-append (f x) (flat_map f (drop (i + 1) xs)))
+-- the lines of a numbered element are appended, and those of the elements after it are to come
+pub numbered : {X : Type 0} (f : ℕ × X → List Line) (xs : List X) (i : ℕ) (x : X) (out more whole : List ℕ) → i < length xs → x ≡ get_or xs i x → more ≡ out ++ text_of (f (i, x))
+    → out ++ text_of (flat_map f (enumerate_from i (drop i xs))) ≡ whole → more ++ text_of (flat_map f (enumerate_from (i + 1) (drop (i + 1) xs))) ≡ whole
+numbered f xs i x out more whole within is pushed before =
+    let rest : List Line = flat_map f (enumerate_from (i + 1) (drop (i + 1) xs)) in
+    let first : drop i xs ≡ x ∷ drop (i + 1) xs = drop-cons xs i x within ∙ ap (λ y. y ∷ drop (suc i) xs) (sym is) ∙ ap (λ m. x ∷ drop m xs) (sym (add-one i)) in
+    let here : text_of (flat_map f (enumerate_from i (drop i xs))) ≡ text_of (f (i, x)) ++ text_of rest =
+    ap (λ l. text_of (flat_map f (enumerate_from i l))) first ∙ ap text_of (flat_map-cons f (i, x) (enumerate_from (i + 1) (drop (i + 1) xs))) ∙ flat_map-append ended_line (f (i, x)) rest in
+    ap (λ l. l ++ text_of rest) pushed ∙ append_assoc out (text_of (f (i, x))) (text_of rest) ∙ ap (λ l. out ++ l) (sym here) ∙ before
 
 -- whether an element, or one after it, passes a test
 one_or_later : {X : Type 0} (p : X → Bool) (xs : List X) (i : ℕ) → i < length xs → list_any p (drop i xs) ≡ (option_map_or p (slice_get xs i) false || list_any p (drop (suc i) xs))
@@ -64,15 +68,6 @@ pub ports_done : (f : ℕ → List Line) (port count : ℕ) (out whole : List �
 ports_done f port count out whole h before =
     let none : 0 ≡ count - port = omega arith in
     sym (append-nil out) ∙ ap (λ n. out ++ text_of (flat_map f (range_with_len port n))) none ∙ before
-
--- a turn that is counted, and one that is not
-pub one_yes : (b : Bool) (n count more : ℕ) → b ≡ true → (if b then 1 else 0) ≡ n → more ≡ count + 1 → more ≡ count + n
-one_yes true n count more e is m = omega (arith, is, m)
-one_yes false n count more e is m = absurd cc
-
-pub one_no : (b : Bool) (n count more : ℕ) → b ≡ false → (if b then 1 else 0) ≡ n → more ≡ count → more ≡ count + n
-one_no true n count more e is m = absurd cc
-one_no false n count more e is m = omega (arith, is, m)
 
 -- a line and the lines of three kinds, one kind after the other
 pub in_turn : (title : Line) (faults nodes sockets : List Line) (before first second third fourth : List ℕ) → first ≡ before ++ ended_line title → second ≡ first ++ text_of faults → third ≡ second ++ text_of nodes → fourth ≡ third ++ text_of sockets

@@ -1,16 +1,13 @@
 -- What of a scene was of no use in its run: faults that hit no frame, nodes that sent nothing, sockets that nobody reached.
-use Rattle.std.specs.Prelude.{ℕ, ◌==◌, ◌&&◌, Bool, true, false, not, nat_lt, if◌then◌else◌, Option, Some, None, List, [], ◌∷◌, ◌++◌, codes, find, length}
+use Rattle.std.specs.Prelude.{ℕ, ◌==◌, ◌&&◌, Bool, true, false, not, nat_lt, if◌then◌else◌, Option, Some, None, List, [], ◌∷◌, ◌++◌, codes, find}
 use Rattle.std.specs.Fmt.{decimal}
 use Rattle.std.specs.List.{flat_map, enumerate_from, list_any, range_with_len}
 use Rattle.csp_app.specs.PlainStep.{PlainStep}
 use Rattle.csp_app.specs.PlainStep as step
 use Rattle.csp_header.specs.Word.{header_at}
-use Rattle.csp_link.specs.Applied.{frames_popped}
 use Rattle.csp_link.specs.declared.fault.Fault.{Fault}
 use Rattle.csp_link.specs.declared.fault.FaultKind.{FaultKind}
 use Rattle.csp_link.specs.declared.fault.FaultKind.TheVariants as fault
-use Rattle.csp_link.specs.declared.way.Way.{Way}
-use Rattle.csp_link.specs.declared.way.Way.TheVariants as way
 use Rattle.csp_log.specs.Moving.{moved_in}
 use Rattle.csp_log.specs.PlainLog.{all_events}
 use Rattle.csp_log.specs.declared.entry.Entry.{Entry}
@@ -24,14 +21,12 @@ use Rattle.csp_record.specs.declared.who.Who.{Who}
 use Rattle.csp_record.specs.declared.who.Who.TheVariants as who
 use Rattle.csp_report.specs.Lines.{Line, text_of}
 use Rattle.csp_scene.specs.Scene.{PlainApp, PlainLink, PlainNode, PlainScene}
+use Rattle.csp_timeline.specs.Happenings.{taken}
+use Rattle.csp_timeline.specs.Labels.{from_word}
 use Rattle.csp_exports.specs.declared.sockets.TheConstants.{PORTS}
 use Rattle.csp_exports.specs.declared.idle.TheConstants.{UNUSED_VERSION}
 
 -- ---- faults
-
--- how many frames the turns of a link took in this direction
-abbrev pub frames_taken : Way → List Entry → ℕ
-frames_taken way entries = length (frames_popped way entries)
 
 -- a party is the link at this place among the links
 abbrev pub is_link : ℕ → Who → Bool
@@ -47,9 +42,9 @@ turns_of (Some party) = party.entries
 abbrev pub link_turns : List PlainPartyLog → ℕ → List Entry
 link_turns parties number = turns_of (find (λ party. is_link number party.who) parties)
 
--- a fault hits no frame of a link that took so many frames forth and so many back: fewer in its direction than the number of the frame that it names
-abbrev pub hits_none : (forth back : ℕ) → Fault → Bool
-hits_none forth back f = nat_lt (if f.dir == 0 then forth else back) f.frame
+-- a fault hits no frame of a link that took so many frames from each end: fewer from the one that it names than the number of the frame
+abbrev pub hits_none : (counts : ℕ → ℕ) → Fault → Bool
+hits_none counts f = nat_lt (counts f.dir) f.frame
 
 -- what happens to a frame, in a scenario's words
 abbrev pub harm_words : FaultKind → Line
@@ -58,25 +53,21 @@ harm_words (fault.Repeat copies) = codes "repeat" ∷ decimal copies ∷ []
 harm_words (fault.Delay rounds) = codes "delay" ∷ decimal rounds ∷ []
 harm_words (fault.Flip bit) = codes "flip" ∷ decimal bit ∷ []
 
--- a direction in a scenario's words
-abbrev pub direction_word : ℕ → List ℕ
-direction_word dir = if dir == 0 then codes "ab" else codes "ba"
-
--- `fault LINK DIRECTION FRAME KIND ..`, as in a scenario
-abbrev pub fault_line : (link : List ℕ) → Fault → Line
-fault_line link f = codes "fault" ∷ link ∷ direction_word f.dir ∷ decimal f.frame ∷ harm_words f.kind
+-- `fault LINK DIRECTION FRAME KIND ..`, `fault HUB NODE FRAME KIND ..`, as in a scenario
+abbrev pub fault_line : List PlainNode → PlainLink → Fault → Line
+fault_line nodes l f = codes "fault" ∷ l.name ∷ from_word nodes l f.dir ∷ decimal f.frame ∷ harm_words f.kind
 
 -- the line of a fault, where it hits no frame of such a link
-abbrev pub idle_fault_lines : (forth back : ℕ) → (link : List ℕ) → Fault → List Line
-idle_fault_lines forth back link f = if hits_none forth back f then fault_line link f ∷ [] else []
+abbrev pub idle_fault_lines : (counts : ℕ → ℕ) → List PlainNode → PlainLink → Fault → List Line
+idle_fault_lines counts nodes l f = if hits_none counts f then fault_line nodes l f ∷ [] else []
 
 -- the lines of the faults of a link, in the order of its plan
-abbrev pub plan_lines : (forth back : ℕ) → PlainLink → List Line
-plan_lines forth back l = flat_map (idle_fault_lines forth back l.name) l.plan
+abbrev pub plan_lines : (counts : ℕ → ℕ) → List PlainNode → PlainLink → List Line
+plan_lines counts nodes l = flat_map (idle_fault_lines counts nodes l) l.plan
 
 -- those of all links
-abbrev pub fault_lines : List PlainPartyLog → List PlainLink → List Line
-fault_lines parties links = flat_map (λ l. plan_lines (frames_taken way.Forth (link_turns parties l.0)) (frames_taken way.Back (link_turns parties l.0)) l.1) (enumerate_from 0 links)
+abbrev pub fault_lines : List PlainNode → List PlainPartyLog → List PlainLink → List Line
+fault_lines nodes parties links = flat_map (λ l. plan_lines (λ end. taken end (link_turns parties l.0)) nodes l.1) (enumerate_from 0 links)
 
 -- ---- nodes
 
@@ -164,7 +155,7 @@ title_line = codes "csp-unused" ∷ decimal UNUSED_VERSION ∷ []
 
 -- the lines: the title, then the faults, the nodes and the sockets
 abbrev pub unused_lines : List PlainNode → List PlainLink → List PlainPartyLog → List Line
-unused_lines nodes links parties = (title_line ∷ []) ++ fault_lines parties links ++ node_lines parties nodes ++ socket_lines parties nodes
+unused_lines nodes links parties = (title_line ∷ []) ++ fault_lines nodes parties links ++ node_lines parties nodes ++ socket_lines parties nodes
 
 -- the text: its lines joined, each with the line feed that ends it
 unfoldable pub unused : PlainScene → PlainRecord → List ℕ

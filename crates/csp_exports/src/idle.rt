@@ -35,7 +35,7 @@ fn push_lines(
     ensures { OnOk result (string_bytes out.new ≡ string_bytes out.old ++ text_of (unused_lines nodes.now links.now parties.now)) }
 {
     push_title(out)?;
-    push_links(out, parties, links)?;
+    push_links(out, nodes, parties, links)?;
     push_nodes(out, parties, nodes)?;
     push_sockets(out, parties, nodes)?;
     Ok(())

@@ -1,5 +1,5 @@
 -- What is told along a list, where the next of it was told.
-use Rattle.std.proofs.Common.{◌≡◌, ℕ, suc, ◌+◌, ◌<◌, List, ◌∷◌, ◌++◌, length, drop, get_or, ◌≤◌, [], drop-cons, add-one, append_assoc, refl, sym, ap, ◌∙◌}
+use Rattle.std.proofs.Common.{◌≡◌, ℕ, suc, ◌+◌, ◌<◌, List, ◌∷◌, ◌++◌, length, drop, get_or, ◌≤◌, [], drop-cons, add-one, append_assoc, sym, ap, ◌∙◌}
 use Rattle.std.proofs.lemmas.List.{drop_all}
 use Rattle.std.specs.Prelude.{Option}
 use Rattle.csp_timeline.specs.declared.kinds.Happening.{Happening}

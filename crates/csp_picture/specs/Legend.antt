@@ -1,12 +1,11 @@
 -- The legend, and the columns of the nodes.
-use Rattle.std.specs.Prelude.{ℕ, ◌+◌, ◌-◌, ◌*◌, List, [], ◌∷◌, ◌++◌, length, codes, slice_get}
+use Rattle.std.specs.Prelude.{ℕ, ◌+◌, ◌-◌, ◌*◌, List, [], ◌++◌, codes, slice_get}
 use Rattle.std.specs.List.{flat_map, enumerate_from}
 use Rattle.std.specs.Option.{option_map_or}
 use Rattle.csp_scene.specs.Scene.{PlainNode, PlainLink}
 use Rattle.csp_picture.specs.Colours.{name_of, all_colours}
 use Rattle.csp_picture.specs.Elements.{line, text}
 use Rattle.csp_picture.specs.Places.{across, top, down, dash}
-use Rattle.csp_picture.specs.Rows.{node_at}
 use Rattle.csp_picture.specs.Words.{spaced}
 use Rattle.csp_picture.specs.declared.colours.Colour.{Colour}
 use Rattle.csp_picture.specs.declared.colours.Colour.TheVariants as colour
@@ -27,13 +26,13 @@ colour_sample place c = sample (name_of c) (LEFT + SAMPLE_STEP * place) HEAD_LIN
 abbrev pub node_name : List PlainNode → ℕ → List ℕ
 node_name nodes place = option_map_or (λ n. n.name) (slice_get nodes place) []
 
--- a link's words: its name and the names of the nodes at its ends
-unfoldable pub link_words : List PlainNode → List PlainLink → ℕ → PlainLink → List ℕ
-link_words nodes links place link = link.name ++ (spaced (node_name nodes (node_at links place 0)) ++ spaced (node_name nodes (node_at links place 1)))
+-- the words of a link or a hub: its name and the names of the nodes at its ends
+unfoldable pub link_words : List PlainNode → PlainLink → List ℕ
+link_words nodes link = link.name ++ flat_map (λ end. spaced (node_name nodes end.node)) link.ends
 
 -- the links stand one below the other
-unfoldable pub link_sample : List PlainNode → List PlainLink → ℕ → PlainLink → List ℕ
-link_sample nodes links place link = sample (name_of colour.Plain) LEFT (LINK_LINE + LEGEND_STEP * place) (dash place) (link_words nodes links place link)
+unfoldable pub link_sample : List PlainNode → (place : ℕ) → PlainLink → List ℕ
+link_sample nodes place link = sample (name_of colour.Plain) LEFT (LINK_LINE + LEGEND_STEP * place) (dash place) (link_words nodes link)
 
 -- the line of the node in this place
 unfoldable pub column_line : (links rows place : ℕ) → List ℕ
@@ -53,7 +52,7 @@ column links rows place node = column_line links rows place ++ column_names link
 unfoldable pub legend : List PlainNode → List PlainLink → List ℕ
 legend nodes links =
     flat_map (λ c. colour_sample c.0 c.1) (enumerate_from 0 all_colours)
-    ++ flat_map (λ l. link_sample nodes links l.0 l.1) (enumerate_from 0 links)
+    ++ flat_map (λ l. link_sample nodes l.0 l.1) (enumerate_from 0 links)
 
 -- the columns, in the order of the nodes
 abbrev pub columns : List PlainNode → (links rows : ℕ) → List ℕ

@@ -1,10 +1,9 @@
 -- The rows of a picture: what is drawn and what is written in each.
-use Rattle.std.specs.Prelude.{ℕ, ◌+◌, ◌-◌, ◌/◌, ◌==◌, Bool, true, false, nat_lt, if◌then◌else◌, Option, Some, None, List, [], ◌∷◌, ◌++◌, length, codes, slice_get}
+use Rattle.std.specs.Prelude.{ℕ, ◌+◌, ◌-◌, ◌/◌, ◌==◌, Bool, true, false, nat_lt, if◌then◌else◌, Option, Some, None, List, [], ◌++◌, length, codes, slice_get}
 use Rattle.std.specs.Fmt.{decimal}
 use Rattle.std.specs.Option.{option_map_or, option_and_then}
-use Rattle.csp_link.specs.Ways.{number, other}
+use Rattle.csp_base.specs.declared.traces.Origin.{Origin}
 use Rattle.csp_link.specs.declared.fates.Fate.{Fate}
-use Rattle.csp_link.specs.declared.way.Way.{Way}
 use Rattle.csp_record.specs.declared.who.Who.{Who}
 use Rattle.csp_record.specs.declared.who.Who.TheVariants as who
 use Rattle.csp_scene.specs.Scene.{PlainLink}
@@ -14,7 +13,6 @@ use Rattle.csp_picture.specs.Places.{across, top, down, width, dash}
 use Rattle.csp_picture.specs.Seen.{PlainSeen, is_shown, opens, sent_by, start_of, along}
 use Rattle.csp_picture.specs.Words.{spaced, sent_words, fate_words}
 use Rattle.csp_picture.specs.declared.elements.Point.{Point}
-use Rattle.csp_picture.specs.declared.colours.Colour.{Colour}
 use Rattle.csp_picture.specs.declared.colours.Colour.TheVariants as colour
 use Rattle.csp_picture.specs.declared.rows.Course.{Course}
 use Rattle.csp_picture.specs.declared.rows.TheConstants.{ABOVE, BESIDE, ROUNDS_END, ROUND_DROP, GAP_START, GAP_RISE}
@@ -35,9 +33,23 @@ link_of _ = 0
 abbrev pub node_at : List PlainLink → (link end : ℕ) → ℕ
 node_at links link end = option_map_or (λ e. e.node) (option_and_then (λ l. slice_get l.ends end) (slice_get links link)) 0
 
--- over which link a frame goes, from which node to which
-abbrev pub course_of : List PlainLink → Who → Way → Course
-course_of links party way = record { link = link_of party; from = node_at links (link_of party) (number way); to = node_at links (link_of party) (number (other way)) }
+-- the end beside this one of a link or a hub: the one after it, and beside the last the one before it
+abbrev pub end_beside : List PlainLink → (link end : ℕ) → ℕ
+end_beside links link end = if nat_lt (end + 1) (option_map_or (λ l. length l.ends) (slice_get links link) 0) then end + 1 else end - 1
+
+-- over which link a frame goes that came from this end: from the node there, and toward the node at the end beside it, which on a link with two ends
+-- is its receiver
+abbrev pub course_from : List PlainLink → Who → (end : ℕ) → Course
+course_from links party end = record { link = link_of party; from = node_at links (link_of party) end; to = node_at links (link_of party) (end_beside links (link_of party) end) }
+
+-- the node that sent a frame, by its origin; of none, that which received it
+abbrev pub sender_of : Option Origin → (receiver : ℕ) → ℕ
+sender_of None receiver = receiver
+sender_of (Some origin) receiver = origin.node
+
+-- over which link a frame goes that is handed on to this end: from the node that sent it, to the node there
+abbrev pub course_to : List PlainLink → Who → Option Origin → (end : ℕ) → Course
+course_to links party origin end = record { link = link_of party; from = sender_of origin (node_at links (link_of party) end); to = node_at links (link_of party) end }
 
 -- the point on a node's line in a row
 abbrev pub spot : (links row node : ℕ) → Point
@@ -63,8 +75,8 @@ handed_shape links row c (Some start) = line (name_of start.colour) (spot links 
 
 -- what is drawn of what happened
 abbrev pub shape : List PlainLink → PlainSeen → Who → What → List ℕ
-shape links seen party (what.Carried way number fate frame) = taken_shape (length links) seen.rows (course_of links party way) fate
-shape links seen party (what.HandedOn way frame) = handed_shape (length links) seen.rows (course_of links party way) (start_of seen frame.trace.origin)
+shape links seen party (what.Carried end number fate frame) = taken_shape (length links) seen.rows (course_from links party end) fate
+shape links seen party (what.HandedOn end frame) = handed_shape (length links) seen.rows (course_to links party frame.trace.origin end) (start_of seen frame.trace.origin)
 shape links seen party _ = []
 
 -- the same, where it is shown
@@ -91,7 +103,7 @@ frame_words false sent = spaced (codes "part")
 unfoldable pub label : List ℕ → PlainSeen → Piece → Fate → List ℕ
 label name seen frame fate = name ++ (frame_words (opens frame.can) (sent_by seen frame.trace.origin) ++ fate_words fate)
 
--- it stands above the frame's line, beside the sender's line, on the side of the receiver
+-- it stands above the frame's line, beside the sender's line, on the side to which that goes
 unfoldable pub label_text : (links row : ℕ) → Course → (words : List ℕ) → List ℕ
 label_text links row c words =
     if nat_lt c.from c.to
@@ -100,7 +112,7 @@ label_text links row c words =
 
 -- the label of a frame that a link took
 abbrev pub note : List PlainLink → PlainSeen → Who → What → List ℕ
-note links seen party (what.Carried way number fate frame) = label_text (length links) seen.rows (course_of links party way) (label (link_name links (link_of party)) seen frame fate)
+note links seen party (what.Carried end number fate frame) = label_text (length links) seen.rows (course_from links party end) (label (link_name links (link_of party)) seen frame fate)
 note links seen party _ = []
 
 -- the round, left of the first column

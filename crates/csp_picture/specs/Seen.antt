@@ -1,8 +1,7 @@
 -- What a picture shows of what happened, and what is known when it comes to each thing.
-use Rattle.std.specs.Prelude.{ℕ, ◌+◌, ◌/◌, ◌%◌, ◌^◌, ◌==◌, ◌&&◌, ◌||◌, Bool, true, false, nat_le, if◌then◌else◌, Option, Some, None, List, [], ◌∷◌, ◌++◌}
+use Rattle.std.specs.Prelude.{ℕ, ◌+◌, ◌/◌, ◌%◌, ◌^◌, ◌==◌, ◌&&◌, ◌||◌, Bool, true, false, nat_le, Option, Some, None, List, [], ◌∷◌, ◌++◌}
 use Rattle.std.specs.BTreeMap.{insert_entry, is_at}
 use Rattle.std.specs.Map.{lookup}
-use Rattle.std.specs.Option.{option_and_then}
 use Rattle.csp_base.specs.declared.traces.Origin.{Origin}
 use Rattle.csp_link.specs.declared.fates.Fate.{Fate}
 use Rattle.csp_record.specs.Table.{key_cmp}
@@ -28,8 +27,8 @@ closes (Some id) = id / 2 ^ 10 % 256 == 0
 
 -- whether it may be shown: that a link took a frame which opens a packet, or to which its plan does something; and that it handed one on which closes a packet
 abbrev pub is_drawn : What → Bool
-is_drawn (what.Carried way number fate frame) = opens frame.can || is_harmed fate
-is_drawn (what.HandedOn way frame) = closes frame.can
+is_drawn (what.Carried end number fate frame) = opens frame.can || is_harmed fate
+is_drawn (what.HandedOn end frame) = closes frame.can
 is_drawn _ = false
 
 -- whether a round is in the window; without one each is
@@ -83,7 +82,7 @@ with_start _ _ fate seen = seen
 -- what is noted of what happened: of what was transmitted always, of what a link took where it is shown
 abbrev pub noted : (shown : Bool) → Happening → What → PlainSeen → PlainSeen
 noted shown h (what.Transmitted serial again packet) seen = with_sent h.who serial (record { packet = packet; again = again }) seen
-noted shown h (what.Carried way number fate frame) seen = with_start (shown && opens frame.can) frame.trace.origin fate seen
+noted shown h (what.Carried end number fate frame) seen = with_start (shown && opens frame.can) frame.trace.origin fate seen
 noted shown h _ seen = seen
 
 -- a row more, where it is shown

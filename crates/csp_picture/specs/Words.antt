@@ -1,5 +1,5 @@
 -- The words beside a frame: on which link, of what packet, and with what fate.
-use Rattle.std.specs.Prelude.{ℕ, ◌==◌, nat_lt, if◌then◌else◌, Bool, true, false, Option, Some, None, List, [], ◌∷◌, ◌++◌, codes}
+use Rattle.std.specs.Prelude.{ℕ, nat_lt, if◌then◌else◌, Bool, true, false, Option, Some, None, List, [], ◌∷◌, ◌++◌, codes}
 use Rattle.std.specs.Fmt.{decimal}
 use Rattle.csp_base.specs.declared.traces.Tag.{Tag}
 use Rattle.csp_header.specs.Word.{header_at}

@@ -10,7 +10,7 @@ ghost use Rattle.csp_picture.specs.Words.{spaced};
 use crate::colours::{Colour, all_colours};
 use crate::elements::{Point, push_line, push_text};
 use crate::places::{LEGEND_STEP, across, dash, down, top};
-use crate::rows::node_at;
+use csp_log::End;
 use csp_scene::{MAX_LINKS, MAX_NODES, SceneLink, SceneNode};
 use std::alloc::{AllocError, Global};
 
@@ -96,21 +96,24 @@ fn push_node_name(out: &mut String, nodes: &[SceneNode], place: usize) -> Result
     }
 }
 
+/// Appends the names of the nodes at these ends, each after a space.
+fn push_end_names(out: &mut String, nodes: &[SceneNode], ends: &[End]) -> Result<(), AllocError>
+    ensures { OnOk result (string_bytes out.new ≡ string_bytes out.old ++ flat_map (λ end. spaced (node_name nodes.now end.node)) ends.now) }
+{
+    for end in ends {
+        push_node_name(out, nodes, usize::from(end.node))?;
+    }
+    Ok(())
+}
+
 #[tactic(auto, unfolding(crate::specs::Legend::link_words))]
-/// The words of a link.
-fn link_words(
-    alloc: Global,
-    nodes: &[SceneNode],
-    links: &[SceneLink],
-    place: usize,
-    link: &SceneLink,
-) -> Result<String, AllocError>
-    ensures { IfOk result (λ words. string_bytes words ≡ link_words nodes.now links.now place link.now) }
+/// The words of a link or a hub.
+fn link_words(alloc: Global, nodes: &[SceneNode], link: &SceneLink) -> Result<String, AllocError>
+    ensures { IfOk result (λ words. string_bytes words ≡ link_words nodes.now link.now) }
 {
     let mut words = String::new(alloc);
     words.push_str(link.name.as_str())?;
-    push_node_name(&mut words, nodes, usize::from(node_at(links, place, 0)))?;
-    push_node_name(&mut words, nodes, usize::from(node_at(links, place, 1)))?;
+    push_end_names(&mut words, nodes, link.ends.as_slice())?;
     Ok(words)
 }
 
@@ -120,14 +123,13 @@ fn push_link(
     alloc: Global,
     out: &mut String,
     nodes: &[SceneNode],
-    links: &[SceneLink],
     place: usize,
     link: &SceneLink,
 ) -> Result<(), AllocError>
     requires { place ≤ MAX_LINKS }
-    ensures { OnOk result (string_bytes out.new ≡ string_bytes out.old ++ link_sample nodes.now links.now place link.now) }
+    ensures { OnOk result (string_bytes out.new ≡ string_bytes out.old ++ link_sample nodes.now place link.now) }
 {
-    let words = link_words(alloc, nodes, links, place, link)?;
+    let words = link_words(alloc, nodes, link)?;
     let y = LINK_LINE + LEGEND_STEP * place as u64;
     push_sample(
         out,
@@ -147,10 +149,10 @@ fn push_links(
     links: &[SceneLink],
 ) -> Result<(), AllocError>
     requires { length links.now ≤ MAX_LINKS }
-    ensures { OnOk result (string_bytes out.new ≡ string_bytes out.old ++ flat_map (λ l. link_sample nodes.now links.now l.0 l.1) (enumerate_from 0 links.now)) }
+    ensures { OnOk result (string_bytes out.new ≡ string_bytes out.old ++ flat_map (λ l. link_sample nodes.now l.0 l.1) (enumerate_from 0 links.now)) }
 {
     for (place, link) in links.iter().enumerate() {
-        push_link(alloc, out, nodes, links, place, link)?;
+        push_link(alloc, out, nodes, place, link)?;
     }
     Ok(())
 }

@@ -1,9 +1,10 @@
 //! The rows of a picture: what is drawn and what is written in each.
 
-ghost use Rattle.std.specs.Prelude.{◌≡◌, ◌+◌, ◌-◌, ◌++◌, ◌==◌, ◌<◌, ◌≤◌, [], nat_lt, if◌then◌else◌, length, OnOk, IfOk};
+ghost use Rattle.std.specs.Prelude.{◌≡◌, ◌+◌, ◌-◌, ◌++◌, ◌==◌, ◌<◌, ◌≤◌, [], nat_lt, if◌then◌else◌, length, slice_get, OnOk, IfOk};
+ghost use Rattle.std.specs.Option.{option_map_or};
 ghost use Rattle.std.specs.String.{string_bytes};
 ghost use Rattle.std.specs.Fmt.{decimal};
-ghost use Rattle.csp_picture.specs.Rows.{link_of, node_at, course_of, spot, half_way, lost_line, taken_shape, handed_shape, shape, shape_of, shapes, link_name, frame_words, label, label_text, note, round_text, gap, times, notes_of, notes};
+ghost use Rattle.csp_picture.specs.Rows.{link_of, node_at, end_beside, course_from, sender_of, course_to, spot, half_way, lost_line, taken_shape, handed_shape, shape, shape_of, shapes, link_name, frame_words, label, label_text, note, round_text, gap, times, notes_of, notes};
 ghost use Rattle.csp_picture.specs.Seen.{is_shown, after};
 
 use crate::colours::Colour;
@@ -11,7 +12,7 @@ use crate::elements::{Point, push_dot, push_line, push_text};
 use crate::places::{across, dash, down, top, width};
 use crate::seen::{Seen, Sent, Start, Window, is_shown, opens};
 use crate::words::{push_fate, push_sent, push_word};
-use csp_link::Way;
+use csp_base::Origin;
 use csp_record::Who;
 use csp_scene::{MAX_LINKS, MAX_NODES, SceneLink};
 use csp_text::push_number;
@@ -55,27 +56,74 @@ fn link_of(who: Who) -> u8
 }
 
 /// The place of the node at an end of a link.
-pub(crate) fn node_at(links: &[SceneLink], link: usize, end: u8) -> u8
+fn node_at(links: &[SceneLink], link: usize, end: usize) -> u8
     ensures { result ≡ node_at links.now link end }
 {
     let Some(link) = links.get(link) else {
         return 0;
     };
-    match link.ends.as_slice().get(usize::from(end)) {
+    match link.ends.as_slice().get(end) {
         Some(end) => end.node,
         None => 0,
     }
 }
 
-/// The course of a frame that goes this way over the link of this party.
-fn course_of(links: &[SceneLink], who: Who, way: Way) -> Course
-    ensures { result ≡ course_of links.now who way }
+/// How many ends a link or a hub has.
+fn count_ends(links: &[SceneLink], link: usize) -> usize
+    ensures { result ≡ option_map_or (λ l. length l.ends) (slice_get links.now link) 0 }
+{
+    match links.get(link) {
+        Some(link) => link.ends.len(),
+        None => 0,
+    }
+}
+
+/// The end beside this one of a link or a hub: the one after it, and beside the last the one before it.
+fn end_beside(links: &[SceneLink], link: usize, end: usize) -> usize
+    requires { end ≤ 255 }
+    ensures { result ≡ end_beside links.now link end }
+{
+    if end + 1 < count_ends(links, link) {
+        end + 1
+    } else {
+        end.saturating_sub(1)
+    }
+}
+
+/// The course of a frame that the link of this party took from this end: toward the end beside it.
+fn course_from(links: &[SceneLink], who: Who, end: u8) -> Course
+    ensures { result ≡ course_from links.now who end }
+{
+    let number = link_of(who);
+    let link = usize::from(number);
+    let end = usize::from(end);
+    Course {
+        link: number,
+        from: node_at(links, link, end),
+        to: node_at(links, link, end_beside(links, link, end)),
+    }
+}
+
+/// The node that sent a frame, by its origin. Of none, that which received it.
+fn sender_of(origin: Option<Origin>, receiver: u8) -> u8
+    ensures { result ≡ sender_of origin receiver }
+{
+    match origin {
+        Some(origin) => origin.node,
+        None => receiver,
+    }
+}
+
+/// The course of a frame that the link of this party handed on to this end: from the node that sent it.
+fn course_to(links: &[SceneLink], who: Who, origin: Option<Origin>, end: u8) -> Course
+    ensures { result ≡ course_to links.now who origin end }
 {
     let link = link_of(who);
+    let to = node_at(links, usize::from(link), usize::from(end));
     Course {
         link,
-        from: node_at(links, usize::from(link), way.number()),
-        to: node_at(links, usize::from(link), way.other().number()),
+        from: sender_of(origin, to),
+        to,
     }
 }
 
@@ -186,12 +234,13 @@ fn push_shape(
 {
     let row = seen.rows();
     match what {
-        What::Carried { way, fate, .. } => {
-            push_taken(out, links.len(), row, &course_of(links, who, *way), fate)
+        What::Carried { end, fate, .. } => {
+            push_taken(out, links.len(), row, &course_from(links, who, *end), fate)
         }
-        What::HandedOn { way, frame } => {
-            let start = seen.start_of(frame.trace.origin);
-            push_handed(out, links.len(), row, &course_of(links, who, *way), start)
+        What::HandedOn { end, frame } => {
+            let origin = frame.trace.origin;
+            let course = course_to(links, who, origin, *end);
+            push_handed(out, links.len(), row, &course, seen.start_of(origin))
         }
         _ => Ok(()),
     }
@@ -279,7 +328,7 @@ fn label_of(
 }
 
 #[tactic(auto, unfolding(crate::specs::Rows::label_text))]
-/// Appends a label beside its sender's line, on the side of the receiver.
+/// Appends a label beside its sender's line, on the side to which that goes.
 fn push_label(
     out: &mut String,
     links: usize,
@@ -313,13 +362,13 @@ fn push_note(
 {
     match what {
         What::Carried {
-            way,
+            end,
             fate,
             frame,
             ..
         } => {
             let words = label_of(alloc, links, usize::from(link_of(who)), seen, frame, fate)?;
-            let course = course_of(links, who, *way);
+            let course = course_from(links, who, *end);
             push_label(out, links.len(), seen.rows(), &course, words.as_str())
         }
         _ => Ok(()),

@@ -1,5 +1,5 @@
 -- The run of an interface on a KISS link: what it put there are the frames of the packets that it sent.
-use Rattle.std.proofs.Common.{◌≡◌, ℕ, ◌+◌, ◌≤◌, Bool, Option, Some, None, List, [], ◌∷◌, ◌++◌, length, refl, sym, ap, ◌∙◌, subst, append_assoc, append-nil, arith}
+use Rattle.std.proofs.Common.{◌≡◌, ℕ, ◌≤◌, Bool, Option, Some, None, List, [], ◌∷◌, ◌++◌, length, refl, sym, ap, ◌∙◌, subst, append_assoc, append-nil, arith}
 use Rattle.std.proofs.lemmas.List.Concat.{flat_map-cons}
 use Rattle.std.proofs.lemmas.Grind.{flat_map-append}
 use Rattle.std.specs.Prelude.{if◌then◌else◌}
@@ -10,7 +10,7 @@ use Rattle.csp_exports.specs.Frames.{put_on, written_of, written_for}
 use Rattle.csp_exports.specs.Unused.{is_transmission}
 use Rattle.csp_exports.specs.declared.ends.Form.TheVariants as form
 use Rattle.csp_iface.specs.Asking.{asked, op_of}
-use Rattle.csp_iface.specs.PlainIface.{PlainIface, opening}
+use Rattle.csp_iface.specs.PlainIface.{PlainIface}
 use Rattle.csp_iface.specs.Planning.{plan_of}
 use Rattle.csp_iface.specs.Telling.{told_by, tells, bad, concluded}
 use Rattle.csp_kiss.specs.declared.progress.KissPacket.{KissPacket}
@@ -21,7 +21,7 @@ use Rattle.csp_log.specs.declared.places.LinkKind.{LinkKind}
 use Rattle.csp_party.specs.Any.{an_iface}
 use Rattle.csp_record.specs.Transmissions.{fetched}
 use Rattle.csp_scene.proofs.Lists.{AllByRecursion-append}
-use Rattle.csp_topology.specs.Parties.{party_steps}
+use Rattle.csp_topology.specs.Parties.{iface_opening, party_steps}
 use Rattle.csp_reread.specs.Reread.{covers, read_of, begun_by, sent_in}
 use Rattle.csp_reread.proofs.Steady.{IsOn, step_on}
 use Rattle.csp_reread.proofs.Streams.{frame_bytes}
@@ -90,6 +90,6 @@ run cover kind mtu name (e ∷ es) time s rest covered runs on h =
     (subst (λ bs. Ran cover mtu rest (read_of (begun_by e) ++ sent_in es) bs) (sym (flat_map-cons (written_for form.Kiss name) e es)) all)
 
 -- the run of an interface from its opening
-pub ran : (cover : Bool) (kind : LinkKind) (mtu node number : ℕ) (name : List ℕ) (es : List Entry) → covers kind ≡ Some cover → IsRun party_steps 0 (an_iface (opening node number kind mtu)) es
+pub ran : (cover : Bool) (kind : LinkKind) (mtu node number : ℕ) (heeds : Option ℕ) (name : List ℕ) (es : List Entry) → covers kind ≡ Some cover → IsRun party_steps 0 (an_iface (iface_opening node number kind mtu heeds)) es
     → Ran cover mtu [] (sent_in es) (flat_map (written_for form.Kiss name) es)
-ran cover kind mtu node number name es covered runs = run cover kind mtu name es 0 (opening node number kind mtu) [] covered runs (refl, refl) tt
+ran cover kind mtu node number heeds name es covered runs = run cover kind mtu name es 0 (iface_opening node number kind mtu heeds) [] covered runs (refl, refl) tt

@@ -7,7 +7,6 @@ use Rattle.csp_kiss.specs.Frame.{frame}
 use Rattle.csp_kiss.specs.Reading.{Reading, after, answer, answers, going, unread}
 use Rattle.csp_kiss.specs.Stream.{events}
 use Rattle.csp_kiss.specs.declared.progress.KissPacket.{KissPacket}
-use Rattle.csp_kiss.specs.declared.event.KissEvent.{KissEvent}
 use Rattle.csp_kiss.specs.declared.stage.Stage.TheVariants.{Start}
 use Rattle.csp_kiss.proofs.Steps.{answers-unread}
 use Rattle.csp_noticed.specs.Made.{HasNothingBegun, MakesJust}

@@ -1,5 +1,5 @@
 -- What is read of what an end of a scene's KISS link put there.
-use Rattle.std.proofs.Common.{◌≡◌, ◌⊎◌, inl, inr, ℕ, ◌+◌, ◌^◌, ◌<◌, ◌≤◌, ◌==◌, ◌&&◌, Bool, true, false, Option, Some, None, List, [], ◌∷◌, ◌++◌, length, map, slice_get, unwrap_or, refl, sym, ap, ◌∙◌, subst, arith}
+use Rattle.std.proofs.Common.{◌≡◌, ◌⊎◌, inl, inr, ℕ, ◌≤◌, Bool, Option, Some, List, [], ◌∷◌, ◌++◌, slice_get, unwrap_or, refl, sym, ap, ◌∙◌, subst, arith}
 use Rattle.std.proofs.lemmas.List.Concat.{flat_map-cons}
 use Rattle.std.proofs.lemmas.Grind.{flat_map-append}
 use Rattle.std.specs.Prelude.{if◌then◌else◌}
@@ -14,7 +14,6 @@ use Rattle.csp_consistent.specs.Runs.{AreLogsOf}
 use Rattle.csp_deck.specs.Runs.{IsRun}
 use Rattle.csp_exports.specs.Frames.{exported, written_by, written_for}
 use Rattle.csp_exports.specs.declared.ends.Form.TheVariants as form
-use Rattle.csp_iface.specs.PlainIface.{opening}
 use Rattle.csp_kiss.specs.Stream.{events}
 use Rattle.csp_kiss.specs.declared.progress.KissPacket.{KissPacket}
 use Rattle.csp_log.specs.declared.entry.Entry.{Entry}
@@ -27,10 +26,10 @@ use Rattle.csp_record.specs.declared.who.Who.{Who}
 use Rattle.csp_record.specs.declared.who.Who.TheVariants as who
 use Rattle.csp_scene.specs.Links.{links_at}
 use Rattle.csp_scene.specs.Scene.{PlainLink, PlainScene}
-use Rattle.csp_topology.specs.Parties.{parties_of, party_steps}
-use Rattle.csp_reread.specs.Reread.{covers, packet_event, sent_by, sent_in, HasWord, ReadsAs}
+use Rattle.csp_topology.specs.Parties.{heeded, iface_opening, parties_of, party_steps}
+use Rattle.csp_reread.specs.Reread.{covers, sent_by, sent_in, HasWord, ReadsAs}
 use Rattle.csp_reread.proofs.Runs.{Ran, ran}
-use Rattle.csp_reread.proofs.Streams.{IsTaken, frame_bytes, frames-read}
+use Rattle.csp_reread.proofs.Streams.{IsTaken, frames-read}
 use Rattle.csp_reread.proofs.Turns.{Fit}
 
 -- the entries of an interface, by each of two ways to find them
@@ -83,16 +82,18 @@ module _ (scene : PlainScene) (r : PlainRecord) (link : PlainLink) (end : End) (
   abbrev entries : List Entry
   entries = entries_of r (who.Iface end.node end.iface)
 
-  its_run : Logged (IsOf scene) (who.Iface end.node end.iface) r.parties → IsRun party_steps 0 (an_iface (opening end.node end.iface link.kind link.mtu)) entries
+  -- the run of the interface there, whatever it heeds
+  its_run : Logged (IsOf scene) (who.Iface end.node end.iface) r.parties → (heeds : Option ℕ) × IsRun party_steps 0 (an_iface (iface_opening end.node end.iface link.kind link.mtu heeds)) entries
   its_run log =
       let mine : IsIfaceAt scene.nodes scene.links end.node end.iface log.opening.party = subst (λ w. IsOwner scene.nodes scene.links w log.opening.party) log.name log.holds in
       let same : mine.link ≡ link = ap (λ o. unwrap_or o link) (sym mine.on ∙ there) in
-      let party : log.opening.party ≡ an_iface (opening end.node end.iface link.kind link.mtu) = mine.party ∙ ap (λ (x : PlainLink). an_iface (opening end.node end.iface x.kind x.mtu)) same in
-      subst (λ es. IsRun party_steps 0 (an_iface (opening end.node end.iface link.kind link.mtu)) es) (sym log.entries) (subst (λ p. IsRun party_steps 0 p log.log.entries) party log.logged.run)
+      let heeds : Option ℕ = heeded mine.node.addr link in
+      let party : log.opening.party ≡ an_iface (iface_opening end.node end.iface link.kind link.mtu heeds) = mine.party ∙ ap (λ (x : PlainLink). an_iface (iface_opening end.node end.iface x.kind x.mtu (heeded mine.node.addr x))) same in
+      (heeds, subst (λ es. IsRun party_steps 0 (an_iface (iface_opening end.node end.iface link.kind link.mtu heeds)) es) (sym log.entries) (subst (λ p. IsRun party_steps 0 p log.log.entries) party log.logged.run))
 
   read_entries : AllByRecursion HasWord (sent_in entries) → (entries ≡ []) ⊎ Logged (IsOf scene) (who.Iface end.node end.iface) r.parties → ReadsAs cover (flat_map (written_for form.Kiss name) entries) (sent_in entries)
   read_entries words (inl none) = subst (λ es. ReadsAs cover (flat_map (written_for form.Kiss name) es) (sent_in es)) (sym none) (none_sent cover)
-  read_entries words (inr log) = read_of_run cover link.mtu (sent_in entries) (flat_map (written_for form.Kiss name) entries) most words (ran cover link.kind link.mtu end.node end.iface name entries covered (its_run log))
+  read_entries words (inr log) = read_of_run cover link.mtu (sent_in entries) (flat_map (written_for form.Kiss name) entries) most words (ran cover link.kind link.mtu end.node end.iface (its_run log).0 name entries covered (its_run log).1)
 
   same : iface_entries r.parties end.node end.iface ≡ entries
   same = same_entries end.node end.iface r.parties

@@ -1,11 +1,9 @@
 -- What an end of a KISS link sent, and what is read of the bytes that it put there.
 use Rattle.std.specs.Prelude.{◌≡◌, ℕ, ◌^◌, ◌<◌, ◌≤◌, Bool, true, false, if◌then◌else◌, Option, Some, None, List, [], ◌∷◌, ◌++◌, length, map}
-use Rattle.std.specs.List.{AllByRecursion, flat_map, list_any}
+use Rattle.std.specs.List.{flat_map, list_any}
 use Rattle.csp_base.specs.declared.limits.TheConstants.{MAX_PAYLOAD}
 use Rattle.csp_buffer.specs.Content.{Content}
-use Rattle.csp_exports.specs.Frames.{exported}
 use Rattle.csp_exports.specs.Unused.{is_transmission}
-use Rattle.csp_exports.specs.declared.ends.Form.TheVariants as form
 use Rattle.csp_kiss.specs.Stream.{events}
 use Rattle.csp_kiss.specs.declared.event.KissEvent.{KissEvent}
 use Rattle.csp_kiss.specs.declared.event.KissEvent.TheVariants as event

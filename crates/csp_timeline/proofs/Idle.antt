@@ -1,11 +1,9 @@
 -- An idle entry of a party of a node tells nothing.
-use Rattle.std.proofs.Common.{◌≡◌, ℕ, Bool, true, false, cond, Option, None, Some, List, [], ◌∷◌, ◌++◌, refl, sym, ap, ◌∙◌, subst, IfSome, append-nil}
+use Rattle.std.proofs.Common.{◌≡◌, ℕ, false, cond, Option, None, Some, List, [], ◌∷◌, ◌++◌, refl, sym, ap, ◌∙◌, subst, IfSome, append-nil}
 use Rattle.std.specs.List.{list_any}
 use Rattle.std.specs.Option.{option_and_then}
 use Rattle.std.specs.BTreeMap.{is_at}
 use Rattle.csp_link.specs.Fates.{fate_of}
-use Rattle.csp_link.specs.Ways.{number}
-use Rattle.csp_link.specs.declared.way.Way.{Way}
 use Rattle.csp_log.specs.Idling.{IsIdle}
 use Rattle.csp_log.specs.Moving.{moved_in}
 use Rattle.csp_log.specs.declared.entry.Entry.{Entry}
@@ -56,7 +54,7 @@ idle-step scene party before (Some e) m list link idle was = (
 )
 
 -- what is remembered where no turn was yet
-pub opening : (scene : PlainScene) (party : Who) (m : Memory) → m.numbers.keys ≡ [] → ((way : Way) → count_of m.carrying way ≡ 0) → ((way : Way) (n : ℕ) → fate_known m.carrying way n ≡ fate_of (number way) n (plan_at scene party)) → Remembers scene [] m party
+pub opening : (scene : PlainScene) (party : Who) (m : Memory) → m.numbers.keys ≡ [] → ((end : ℕ) → count_of m.carrying end ≡ 0) → ((end n : ℕ) → fate_known m.carrying end n ≡ fate_of end n (plan_at scene party)) → Remembers scene [] m party
 opening scene (who.App node n) m empty none fates = tt
 opening scene (who.Router node) m empty none fates = tt
 opening scene (who.Bridge node) m empty none fates = tt

@@ -1,10 +1,10 @@
 -- What a plan says of a frame, fault by fault.
-use Rattle.std.proofs.Common.{◌≡◌, ℕ, Bool, true, false, cond, ◌&&◌, eqb, List, [], ◌∷◌, refl, sym, ap, ◌∙◌, filter, fold, unwrap_or, nat_cmp, is_eq, Ordering, Less, Equal, Greater, Some, BTreeMap, arith}
+use Rattle.std.proofs.Common.{◌≡◌, ℕ, Bool, true, false, cond, ◌&&◌, eqb, List, ◌∷◌, refl, ap, ◌∙◌, filter, fold, unwrap_or, nat_cmp, is_eq, Ordering, Less, Equal, Greater, Some, BTreeMap, arith}
 use Rattle.std.proofs.lemmas.Bool.{eqb-true}
 use Rattle.std.proofs.lemmas.Bool.Decides.{nat_tests}
 use Rattle.std.specs.BTreeMap as tree
 use Rattle.std.specs.Ordering.{ordering_then}
-use Rattle.csp_link.specs.Fates.{afflicted, fate_of, unharmed}
+use Rattle.csp_link.specs.Fates.{afflicted, unharmed}
 use Rattle.csp_link.specs.declared.fates.Fate.{Fate}
 use Rattle.csp_link.specs.declared.fault.Fault.{Fault}
 use Rattle.csp_timeline.specs.Remembering.{fate_in, key_cmp}

@@ -1,10 +1,8 @@
 -- What is told of an entry, by what was read of it.
-use Rattle.std.proofs.Common.{◌≡◌, ℕ, ◌+◌, Bool, false, Option, None, Some, List, [], ◌∷◌, ◌++◌, refl, sym, ap, ◌∙◌, map, Result, Ok, Err, OnOk, IfSome, BTreeSet, option_map, subst, unwrap_or, if◌then◌else◌}
+use Rattle.std.proofs.Common.{◌≡◌, ℕ, Bool, false, Option, None, Some, List, [], ◌∷◌, ◌++◌, sym, ap, ◌∙◌, map, Result, Ok, Err, OnOk, IfSome, BTreeSet, option_map, subst, unwrap_or, if◌then◌else◌}
 use Rattle.std.specs.List.{list_any}
 use Rattle.std.specs.Prelude.{⊤}
 use Rattle.std.specs.Option.{option_and_then, option_map_or}
-use Rattle.csp_link.specs.Ways.{number}
-use Rattle.csp_link.specs.Fates.{fate_of}
 use Rattle.csp_log.specs.Moving.{moved_in}
 use Rattle.csp_log.specs.Noting.{noted_in}
 use Rattle.csp_log.specs.declared.entry.Entry.{Entry}
@@ -15,7 +13,7 @@ use Rattle.csp_record.specs.declared.who.Who.{Who}
 use Rattle.csp_record.specs.declared.who.Who.TheVariants as who
 use Rattle.csp_scene.specs.Scene.{PlainScene}
 use Rattle.csp_timeline.specs.Entries.{framed_in, marked_in}
-use Rattle.csp_timeline.specs.Happenings.{app_told, at, happened, iface_told, is_again, is_beginning, moved_frame, number_of, parcel_in, plan_of, reported, router_told, taken, was_sent}
+use Rattle.csp_timeline.specs.Happenings.{app_told, at, happened, iface_told, is_again, is_beginning, moved_frame, number_of, parcel_in, reported, router_told, was_sent}
 use Rattle.csp_timeline.specs.Numbers.{Adds, has}
 use Rattle.csp_timeline.specs.Remembering.{Carries, Counts, Remembers, count_of, fate_known}
 use Rattle.csp_timeline.specs.declared.entries.Framed.{Framed}
@@ -100,7 +98,7 @@ link-read scene before None place old new time framed was counts t f = tt
 link-read scene before (Some e) place old new time framed was counts t f =
     let party = who.Link place in
     let fs = sym (same (framed_in e) framed f) in (
-      (λ i. map (at (sym (same e.time time t) i) party) (moved_frame (λ way. was.taken way i) (λ way n. was.fates way n i) (fs i))),
+      (λ i. map (at (sym (same e.time time t) i) party) (moved_frame (λ end. was.taken end i) (λ end n. was.fates end n i) (fs i))),
       Carries-more scene place before e old new was (subst (λ (g : Framed). Counts old new g) fs counts),
     )
 

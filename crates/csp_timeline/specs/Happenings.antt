@@ -1,15 +1,12 @@
 -- What happened in a run, in the order of rounds, and in a round in the order of the parties and of their turns.
-use Rattle.std.specs.Prelude.{ℕ, suc, ◌+◌, ◌-◌, ◌%◌, ◌==◌, ◌&&◌, Bool, true, false, if◌then◌else◌, Option, Some, None, List, [], ◌∷◌, ◌++◌, length, map, filter, take, count_by, max, slice_get}
+use Rattle.std.specs.Prelude.{ℕ, ◌+◌, ◌-◌, ◌%◌, ◌==◌, ◌&&◌, Bool, true, false, if◌then◌else◌, Option, Some, None, List, [], ◌∷◌, ◌++◌, length, map, filter, take, count_by, max, slice_get}
 use Rattle.std.specs.List.{flat_map, fold, list_any, range_with_len}
-use Rattle.std.specs.Option.{option_map, option_map_or, option_and_then, option_to_list}
+use Rattle.std.specs.Option.{option_map_or, option_and_then}
 use Rattle.csp_base.specs.declared.traces.Tag.{Tag}
 use Rattle.csp_buffer.specs.Content.{Content}
 use Rattle.csp_link.specs.Fates.{fate_of}
-use Rattle.csp_link.specs.Ways.{number, other}
 use Rattle.csp_link.specs.declared.fates.Fate.{Fate}
 use Rattle.csp_link.specs.declared.fault.Fault.{Fault}
-use Rattle.csp_link.specs.declared.way.Way.{Way}
-use Rattle.csp_link.specs.declared.way.Way.TheVariants.{Forth, Back}
 use Rattle.csp_log.specs.Moving.{moved_in}
 use Rattle.csp_log.specs.Noting.{noted_in}
 use Rattle.csp_log.specs.declared.entry.Entry.{Entry}
@@ -100,23 +97,19 @@ abbrev pub accepted : Moved → List What
 accepted (moved.Pushed queue.Inbox p) = what.Accepted (parcel_of queue.Inbox p) ∷ []
 accepted _ = []
 
--- the direction whose frames come from this end of a link
-abbrev pub way_from : ℕ → Option Way
-way_from end = if end == 0 then Some Forth else if end == 1 then Some Back else None
+-- a turn took a frame from this end of a link
+abbrev pub is_taken : (end : ℕ) → Framed → Bool
+is_taken end (framed.Popped (queue.Tx from) f) = from == end
+is_taken end _ = false
 
--- a turn took a frame of this direction
-abbrev pub is_taken : Way → Framed → Bool
-is_taken way (framed.Popped (queue.Tx end) f) = end == number way
-is_taken way _ = false
+-- how many frames these entries took from an end
+abbrev pub taken : (end : ℕ) → List Entry → ℕ
+taken end entries = count_by (λ e. is_taken end (framed_in e)) entries
 
--- how many frames of a direction these entries took
-abbrev pub taken : Way → List Entry → ℕ
-taken way entries = count_by (λ e. is_taken way (framed_in e)) entries
-
--- a link takes frames, of each direction the next in number with its fate, and hands frames on
-abbrev pub moved_frame : (before : Way → ℕ) → (fate : Way → ℕ → Fate) → Framed → List What
-moved_frame before fate (framed.Popped (queue.Tx end) f) = option_to_list (option_map (λ way. what.Carried way (before way + 1) (fate way (before way + 1)) f) (way_from end))
-moved_frame before fate (framed.Pushed (queue.Rx end) f) = option_to_list (option_map (λ way. what.HandedOn (other way) f) (way_from end))
+-- a link or a hub takes frames, from each end the next in number with its fate, and hands frames on to its ends
+abbrev pub moved_frame : (before : ℕ → ℕ) → (fate : ℕ → ℕ → Fate) → Framed → List What
+moved_frame before fate (framed.Popped (queue.Tx end) f) = what.Carried end (before end + 1) (fate end (before end + 1)) f ∷ []
+moved_frame before fate (framed.Pushed (queue.Rx end) f) = what.HandedOn end f ∷ []
 moved_frame before fate _ = []
 
 -- ---- transmissions
@@ -210,7 +203,7 @@ told scene before e at (who.App node n) = app_told at (noted_in e) (marked_in e)
 told scene before e at (who.Router node) = router_told at (noted_in e) (moved_in e) e.events.items
 told scene before e at (who.Bridge node) = reported at false (parcel_in (moved_in e)) e.events.items
 told scene before e at (who.Iface node n) = iface_told at (is_again node before (parcel_in (moved_in e))) (moved_in e) e.events.items
-told scene before e at (who.Link place) = map at (moved_frame (λ way. taken way before) (λ way n. fate_of (number way) n (plan_of scene place)) (framed_in e))
+told scene before e at (who.Link place) = map at (moved_frame (λ end. taken end before) (λ end n. fate_of end n (plan_of scene place)) (framed_in e))
 
 -- what happened in the turn of an entry of this party
 abbrev pub happened : PlainScene → Who → (before : List Entry) → Entry → List Happening

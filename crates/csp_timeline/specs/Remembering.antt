@@ -1,14 +1,11 @@
 -- What is kept in mind of a party's entries so far.
-use Rattle.std.specs.Prelude.{◌≡◌, ℕ, ◌+◌, ◌≤◌, Bool, true, false, List, ⊤, if◌then◌else◌, unwrap_or}
+use Rattle.std.specs.Prelude.{◌≡◌, ℕ, ◌+◌, ◌≤◌, Bool, true, false, List, ⊤, get_or, if◌then◌else◌, unwrap_or}
 use Rattle.std.specs.BTreeMap as tree
 use Rattle.std.specs.BTreeMap.{BTreeMap}
 use Rattle.std.specs.Ordering.{nat_cmp, ordering_then}
 use Rattle.std.specs.declared.cmp.Ordering.{Ordering}
 use Rattle.csp_link.specs.Fates.{fate_of, unharmed}
-use Rattle.csp_link.specs.Ways.{number}
 use Rattle.csp_link.specs.declared.fates.Fate.{Fate}
-use Rattle.csp_link.specs.declared.way.Way.{Way}
-use Rattle.csp_link.specs.declared.way.Way.TheVariants.{Forth, Back}
 use Rattle.csp_log.specs.declared.entry.Entry.{Entry}
 use Rattle.csp_timeline.specs.declared.entries.Framed.{Framed}
 use Rattle.csp_record.specs.declared.who.Who.{Who}
@@ -27,28 +24,27 @@ key_cmp x y = ordering_then (nat_cmp x.0 y.0) (nat_cmp x.1 y.1)
 abbrev pub fate_in : BTreeMap (ℕ × ℕ) Fate → (dir frame : ℕ) → Fate
 fate_in fates dir frame = unwrap_or (tree.get key_cmp fates (dir, frame)) unharmed
 
--- how many frames of a direction were taken
-abbrev pub count_of : Carrying → Way → ℕ
-count_of c Forth = c.forth
-count_of c Back = c.back
+-- how many frames were taken from an end
+abbrev pub count_of : Carrying → (end : ℕ) → ℕ
+count_of c end = get_or c.taken end 0
 
--- what the plan says of a frame of a direction
-abbrev pub fate_known : Carrying → Way → ℕ → Fate
-fate_known c way n = fate_in c.fates (number way) n
+-- what the plan says of a frame from an end
+abbrev pub fate_known : Carrying → (end n : ℕ) → Fate
+fate_known c end n = fate_in c.fates end n
 
 -- one more where it is so
 abbrev pub one_if : Bool → ℕ
 one_if b = if b then 1 else 0
 
--- with one frame more, where the turn took one of this direction
+-- with one frame more, where the turn took one from this end
 pub record Counts (old new : Carrying) (f : Framed) : Type 0 where
-  pub taken : (way : Way) → count_of new way ≡ count_of old way + one_if (is_taken way f)
-  pub fates : (way : Way) (n : ℕ) → fate_known new way n ≡ fate_known old way n
+  pub taken : (end : ℕ) → count_of new end ≡ count_of old end + one_if (is_taken end f)
+  pub fates : (end n : ℕ) → fate_known new end n ≡ fate_known old end n
 
--- the frames of each direction are counted, and their fates known
+-- the frames from each end are counted, and their fates known
 pub record Carries (scene : PlainScene) (place : ℕ) (before : List Entry) (c : Carrying) : Type 0 where
-  pub taken : (way : Way) → count_of c way ≡ taken way before
-  pub fates : (way : Way) (n : ℕ) → fate_known c way n ≡ fate_of (number way) n (plan_of scene place)
+  pub taken : (end : ℕ) → count_of c end ≡ taken end before
+  pub fates : (end n : ℕ) → fate_known c end n ≡ fate_of end n (plan_of scene place)
 
 -- whether a party is a link
 abbrev pub is_link : Who → Bool
@@ -67,6 +63,5 @@ Remembers scene before m (who.Router node) = ⊤
 Remembers scene before m (who.Bridge node) = ⊤
 
 -- no count is over this
-pub record AreWithin (most : ℕ) (c : Carrying) : Type 0 where
-  pub forth : c.forth ≤ most
-  pub back : c.back ≤ most
+abbrev pub AreWithin : (most : ℕ) → Carrying → Type 0
+AreWithin most c = (end : ℕ) → count_of c end ≤ most

@@ -1,13 +1,12 @@
 -- The timeline of a run: a line for each thing that happened.
-use Rattle.std.specs.Prelude.{ℕ, ◌-◌, Bool, if◌then◌else◌, List, [], ◌∷◌, ◌++◌, length, codes, replicate, unwrap_or}
+use Rattle.std.specs.Prelude.{ℕ, ◌-◌, Bool, if◌then◌else◌, List, [], ◌∷◌, ◌++◌, length, codes, replicate}
 use Rattle.std.specs.Fmt.{decimal}
 use Rattle.std.specs.List.{flat_map}
 use Rattle.csp_record.specs.Record.{PlainRecord}
-use Rattle.csp_record.specs.Who.{node_of}
 use Rattle.csp_scene.specs.Scene.{PlainScene}
 use Rattle.csp_timeline.specs.Happenings.{happenings}
-use Rattle.csp_timeline.specs.Labels.{app_name, label}
-use Rattle.csp_timeline.specs.Words.{event_words, fate_words, frame_words, note_words, numbered, packet_words, sent_words, some_packet_words, way_word, word}
+use Rattle.csp_timeline.specs.Labels.{app_name, from_end, label, place_of, to_end}
+use Rattle.csp_timeline.specs.Words.{event_words, fate_words, frame_words, note_words, numbered, packet_words, sent_words, some_packet_words, word}
 use Rattle.csp_timeline.specs.declared.kinds.Happening.{Happening}
 use Rattle.csp_timeline.specs.declared.kinds.Parcel.{Parcel}
 use Rattle.csp_timeline.specs.declared.kinds.What.{What}
@@ -26,22 +25,22 @@ transmission_word again = if again then codes "retransmits" else codes "transmit
 abbrev pub took_words : PlainScene → (mark : ℕ) → Parcel → List ℕ
 took_words scene mark p = codes "takes" ++ (numbered (codes "slot") mark ++ packet_words scene p)
 
--- what happened, at a party of the node in this place
-abbrev pub what_words : PlainScene → (node : ℕ) → What → List ℕ
-what_words scene node (what.Asked n) = codes "asks" ++ note_words n
-what_words scene node (what.Told n) = codes "told" ++ note_words n
-what_words scene node (what.Sent mark p) = codes "sends" ++ sent_words scene mark p
-what_words scene node (what.Took mark p) = took_words scene mark p
-what_words scene node (what.Answered app n) = codes "tells" ++ (word (app_name scene node app) ++ note_words n)
-what_words scene node (what.Transmitted serial again p) = transmission_word again ++ (word (decimal serial) ++ some_packet_words scene p)
-what_words scene node (what.Accepted p) = codes "accepts" ++ packet_words scene p
-what_words scene node (what.Carried way number fate f) = codes "carries" ++ (word (way_word way) ++ (word (decimal number) ++ (fate_words fate ++ frame_words scene f)))
-what_words scene node (what.HandedOn way f) = codes "hands on" ++ (word (way_word way) ++ frame_words scene f)
-what_words scene node (what.Reported e p) = event_words scene node e ++ some_packet_words scene p
+-- what happened, at a party of the node, or at the link, in this place
+abbrev pub what_words : PlainScene → (place : ℕ) → What → List ℕ
+what_words scene place (what.Asked n) = codes "asks" ++ note_words n
+what_words scene place (what.Told n) = codes "told" ++ note_words n
+what_words scene place (what.Sent mark p) = codes "sends" ++ sent_words scene mark p
+what_words scene place (what.Took mark p) = took_words scene mark p
+what_words scene place (what.Answered app n) = codes "tells" ++ (word (app_name scene place app) ++ note_words n)
+what_words scene place (what.Transmitted serial again p) = transmission_word again ++ (word (decimal serial) ++ some_packet_words scene p)
+what_words scene place (what.Accepted p) = codes "accepts" ++ packet_words scene p
+what_words scene place (what.Carried end number fate f) = codes "carries" ++ (word (from_end scene place end) ++ (word (decimal number) ++ (fate_words fate ++ frame_words scene f)))
+what_words scene place (what.HandedOn end f) = codes "hands on" ++ (word (to_end scene place end) ++ frame_words scene f)
+what_words scene place (what.Reported e p) = event_words scene place e ++ some_packet_words scene p
 
 -- a line: when, who, what
 abbrev pub line : PlainScene → Happening → List ℕ
-line scene h = column TIME_WIDTH (decimal h.time) ++ (column LABEL_WIDTH (label scene h.who) ++ (what_words scene (unwrap_or (node_of h.who) 0) h.what ++ 10 ∷ []))
+line scene h = column TIME_WIDTH (decimal h.time) ++ (column LABEL_WIDTH (label scene h.who) ++ (what_words scene (place_of h.who) h.what ++ 10 ∷ []))
 
 -- the first line: a title, and the number of the form
 abbrev pub first_line : (title : List ℕ) → (version : ℕ) → List ℕ

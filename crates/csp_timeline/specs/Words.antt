@@ -1,8 +1,7 @@
 -- The words of a line: each with a space before it.
-use Rattle.std.specs.Prelude.{ℕ, ◌-◌, ◌+◌, ◌==◌, if◌then◌else◌, Option, Some, None, List, [], ◌∷◌, ◌++◌, length, codes, replicate}
+use Rattle.std.specs.Prelude.{ℕ, ◌==◌, if◌then◌else◌, Option, Some, None, List, [], ◌∷◌, ◌++◌, codes}
 use Rattle.std.specs.Fmt.{decimal}
 use Rattle.std.specs.Int.{w32, to_be_bytes}
-use Rattle.std.specs.Option.{option_map_or}
 use Rattle.hex.specs.Hex.{encode_lower}
 use Rattle.csp_base.specs.Priority.{prio_number}
 use Rattle.csp_base.specs.declared.priority.Prio.{Prio}
@@ -11,8 +10,6 @@ use Rattle.csp_base.specs.declared.traces.Tag.{Tag}
 use Rattle.csp_header.specs.Word.{header_at}
 use Rattle.csp_header.specs.declared.word.Header.{Header}
 use Rattle.csp_link.specs.declared.fates.Fate.{Fate}
-use Rattle.csp_link.specs.declared.way.Way.{Way}
-use Rattle.csp_link.specs.declared.way.Way.TheVariants.{Forth, Back}
 use Rattle.csp_log.specs.declared.event.Event.{Event}
 use Rattle.csp_log.specs.declared.event.Event.TheVariants as event
 use Rattle.csp_log.specs.declared.note.Note.{Note}
@@ -96,11 +93,6 @@ abbrev pub frame_words : PlainScene → Piece → List ℕ
 frame_words scene f =
     numbered (codes "len") f.len
     ++ (can_words f.can ++ (origin_words scene f.trace.origin ++ tag_words scene (codes "index") f.trace.tag))
-
--- a direction: from the first end of the link to the second, or back
-abbrev pub way_word : Way → List ℕ
-way_word Forth = codes "ab"
-way_word Back = codes "ba"
 
 -- a number that is not 0, by its name
 abbrev pub some_words : List ℕ → ℕ → List ℕ

@@ -2,7 +2,6 @@
 
 use crate::fates::Fate;
 use csp_base::Trace;
-use csp_link::Way;
 use csp_log::{Event, Note};
 use csp_record::Who;
 
@@ -78,16 +77,16 @@ pub enum What {
     },
     /// An interface put a packet into the inbox of its node.
     Accepted(Parcel),
-    /// A link took the frame of this number, counted from 1, in this direction; its plan has this fate for it.
+    /// A link or a hub took the frame of this number, counted from 1, from this end; its plan has this fate for it.
     Carried {
-        way: Way,
+        end: u8,
         number: u64,
         fate: Fate,
         frame: Piece,
     },
-    /// A link handed a frame on, in this direction.
+    /// A link or a hub handed a frame on to this end.
     HandedOn {
-        way: Way,
+        end: u8,
         frame: Piece,
     },
     /// A party reported this, where its turn moved that packet, if it moved one.

@@ -2,10 +2,10 @@
 
 ghost use Rattle.std.specs.Prelude.{◌≡◌, ◌++◌, OnOk};
 ghost use Rattle.std.specs.String.{string_bytes};
-ghost use Rattle.csp_timeline.specs.Labels.{node_name, iface_name, app_name, link_name, iface_label, app_label, label};
+ghost use Rattle.csp_timeline.specs.Labels.{node_name, iface_name, app_name, link_name, end_name, from_word, to_word, from_end, to_end, iface_label, app_label, label};
 
 use csp_record::Who;
-use csp_scene::Scene;
+use csp_scene::{Scene, SceneLink, SceneNode};
 use std::alloc::AllocError;
 
 /// The name of the node in a place.
@@ -53,6 +53,65 @@ fn link_name(scene: &Scene, place: u8) -> &str
 {
     match scene.links.get(usize::from(place)) {
         Some(link) => link.name.as_str(),
+        None => "-",
+    }
+}
+
+/// The name of the node at an end of a link.
+fn end_name<'a>(nodes: &'a [SceneNode], link: &SceneLink, end: u8) -> &'a str
+    ensures { result.now ≡ end_name nodes.now link.now end }
+{
+    match link.ends.as_slice().get(usize::from(end)) {
+        Some(end) => match nodes.get(usize::from(end.node)) {
+            Some(node) => node.name.as_str(),
+            None => "-",
+        },
+        None => "-",
+    }
+}
+
+/// The word for the frames that come from this end: of a link their direction, of a hub the name of the node at the end.
+pub fn from_word<'a>(nodes: &'a [SceneNode], link: &SceneLink, end: u8) -> &'a str
+    ensures { result.now ≡ from_word nodes.now link.now end }
+{
+    if link.hub {
+        end_name(nodes, link, end)
+    } else if end == 0 {
+        "ab"
+    } else {
+        "ba"
+    }
+}
+
+/// The word for those that go to this end.
+fn to_word<'a>(nodes: &'a [SceneNode], link: &SceneLink, end: u8) -> &'a str
+    ensures { result.now ≡ to_word nodes.now link.now end }
+{
+    if link.hub {
+        end_name(nodes, link, end)
+    } else if end == 0 {
+        "ba"
+    } else {
+        "ab"
+    }
+}
+
+/// The word for the frames that come from this end of the link in a place.
+pub(crate) fn from_end(scene: &Scene, place: u8, end: u8) -> &str
+    ensures { result.now ≡ from_end scene.now place end }
+{
+    match scene.links.get(usize::from(place)) {
+        Some(link) => from_word(scene.nodes.as_slice(), link, end),
+        None => "-",
+    }
+}
+
+/// The word for those that go to it.
+pub(crate) fn to_end(scene: &Scene, place: u8, end: u8) -> &str
+    ensures { result.now ≡ to_end scene.now place end }
+{
+    match scene.links.get(usize::from(place)) {
+        Some(link) => to_word(scene.nodes.as_slice(), link, end),
         None => "-",
     }
 }

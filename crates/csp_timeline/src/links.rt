@@ -1,17 +1,16 @@
-//! What a link takes and hands on.
+//! What a link or a hub takes and hands on.
 
 ghost use Rattle.std.specs.Prelude.{◌≡◌, ◌==◌, ◌&&◌, ◌+◌, ◌-◌, ◌^◌, ◌<◌, ◌≤◌, ℕ, if◌then◌else◌, IfOk, OnOk};
-ghost use Rattle.std.specs.Option.{option_map, option_to_list};
+ghost use Rattle.std.specs.Option.{option_to_list};
 ghost use Rattle.csp_link.specs.Fates.{afflicted, fate_of};
-ghost use Rattle.csp_link.specs.Ways.{number, other};
-ghost use Rattle.csp_link.specs.declared.way.Way.{Way as OneWay};
-ghost use Rattle.csp_timeline.specs.Happenings.{moved_frame, way_from};
-ghost use Rattle.csp_timeline.specs.Remembering.{count_of, fate_in, fate_known, one_if, AreWithin, Counts};
+ghost use Rattle.csp_timeline.specs.Happenings.{moved_frame};
+ghost use Rattle.csp_timeline.specs.Remembering.{count_of, fate_in, fate_known, AreWithin, Counts};
 
 use crate::entries::Framed;
 use crate::fates::Fate;
 use crate::kinds::{Piece, What};
-use csp_link::{Fault, Way};
+use crate::taking::FrameCounts;
+use csp_link::Fault;
 use csp_log::QueueId;
 use std::alloc::{AllocError, Global};
 use std::collections::BTreeMap;
@@ -19,12 +18,11 @@ use std::collections::BTreeMap;
 /// What a plan says of frames, by direction and number.
 type Fates = BTreeMap<(u8, u64), Fate, Global>;
 
-/// What is kept in mind of a link: what its plan says of frames, and how many it took so far in each direction.
+/// What is kept in mind of a link or a hub: what its plan says of frames, and how many it took so far from each end.
 #[derive(Drop)]
 pub(crate) struct Carrying {
     fates: Fates,
-    forth: u64,
-    back: u64,
+    taken: FrameCounts,
 }
 
 /// What a plan says of the frame of this number.
@@ -60,74 +58,29 @@ fn fates_of(alloc: Global, plan: &[Fault]) -> Result<Fates, AllocError>
 impl Carrying {
     /// A link with this plan, which took no frame yet.
     pub(crate) fn open(alloc: Global, plan: &[Fault]) -> Result<Carrying, AllocError>
-        ensures taken { IfOk result (λ c. (way : OneWay) → count_of c way ≡ 0) }
-        ensures fates { IfOk result (λ c. (way : OneWay) (n : ℕ) → fate_known c way n ≡ fate_of (number way) n plan.now) }
+        ensures taken { IfOk result (λ c. (end : ℕ) → count_of c end ≡ 0) }
+        ensures fates { IfOk result (λ c. (end n : ℕ) → fate_known c end n ≡ fate_of end n plan.now) }
     {
         Ok(Carrying {
             fates: fates_of(alloc, plan)?,
-            forth: 0,
-            back: 0,
+            taken: FrameCounts::none(),
         })
-    }
-
-    /// One frame more of this direction: its number.
-    fn count(&mut self, way: Way) -> u64
-        requires { AreWithin (2 ^ 64 - 2) self.old }
-        ensures number { result ≡ count_of self.old way + 1 }
-        ensures taken { (w : OneWay) → count_of self.new w ≡ count_of self.old w + one_if (number way == number w) }
-        ensures fates { self.new.fates ≡ self.old.fates }
-    {
-        match way {
-            Way::Forth => {
-                self.forth += 1;
-                self.forth
-            }
-            Way::Back => {
-                self.back += 1;
-                self.back
-            }
-        }
-    }
-}
-
-/// The direction whose frames come from this end of a link.
-fn way_from(end: u8) -> Option<Way>
-    ensures { result ≡ way_from end }
-{
-    if end == 0 {
-        Some(Way::Forth)
-    } else if end == 1 {
-        Some(Way::Back)
-    } else {
-        None
     }
 }
 
 /// What is told of a frame that a link took from this end.
-fn taken(carrying: &mut Carrying, end: u8, frame: Piece) -> Option<What>
+fn taken(carrying: &mut Carrying, end: u8, frame: Piece) -> What
     requires { AreWithin (2 ^ 64 - 2) carrying.old }
-    ensures told { result ≡ option_map (λ way. What.Carried way (count_of carrying.old way + 1) (fate_known carrying.old way (count_of carrying.old way + 1)) frame) (way_from end) }
+    ensures told { result ≡ What.Carried end (count_of carrying.old end + 1) (fate_known carrying.old end (count_of carrying.old end + 1)) frame }
     ensures counts { Counts carrying.old carrying.new (Framed.Popped (QueueId.Tx end) frame) }
 {
-    let way = way_from(end)?;
-    let number = carrying.count(way);
-    Some(What::Carried {
-        way,
+    let number = carrying.taken.count(end);
+    What::Carried {
+        end,
         number,
-        fate: fate_at(&carrying.fates, way.number(), number),
+        fate: fate_at(&carrying.fates, end, number),
         frame,
-    })
-}
-
-/// What is told of a frame that a link handed on to this end.
-fn handed_on(end: u8, frame: Piece) -> Option<What>
-    ensures { result ≡ option_map (λ way. What.HandedOn (other way) frame) (way_from end) }
-{
-    let way = way_from(end)?;
-    Some(What::HandedOn {
-        way: way.other(),
-        frame,
-    })
+    }
 }
 
 /// What is told of a turn of a link.
@@ -137,8 +90,8 @@ pub(crate) fn moved_frame(carrying: &mut Carrying, framed: Framed) -> Option<Wha
     ensures counts { Counts carrying.old carrying.new framed }
 {
     match framed {
-        Framed::Popped(QueueId::Tx(end), frame) => taken(carrying, end, frame),
-        Framed::Pushed(QueueId::Rx(end), frame) => handed_on(end, frame),
+        Framed::Popped(QueueId::Tx(end), frame) => Some(taken(carrying, end, frame)),
+        Framed::Pushed(QueueId::Rx(end), frame) => Some(What::HandedOn { end, frame }),
         _ => None,
     }
 }

@@ -1,20 +1,17 @@
 //! The timeline: a line for each thing that happened.
 
-ghost use Rattle.std.specs.Prelude.{◌≡◌, ◌-◌, ◌∷◌, ◌++◌, [], length, replicate, OnOk, IfOk, unwrap_or};
+ghost use Rattle.std.specs.Prelude.{◌≡◌, ◌-◌, ◌∷◌, ◌++◌, [], length, replicate, OnOk, IfOk};
 ghost use Rattle.std.specs.List.{flat_map};
 ghost use Rattle.std.specs.String.{string_bytes};
 ghost use Rattle.std.specs.Fmt.{decimal};
-ghost use Rattle.csp_record.specs.Who.{node_of};
-ghost use Rattle.csp_timeline.specs.Labels.{label};
+ghost use Rattle.csp_timeline.specs.Labels.{label, place_of};
 ghost use Rattle.csp_timeline.specs.Timeline.{column, took_words, transmission_word, what_words, line, first_line, timeline};
 
 use crate::gathering::happenings;
 use crate::kinds::{Happening, Parcel, What};
-use crate::labels::{app_name, push_label};
+use crate::labels::{app_name, from_end, push_label, to_end};
 use crate::reports::push_event;
-use crate::words::{
-    push_fate, push_frame, push_note, push_packet, push_sent, push_some_packet, way_word,
-};
+use crate::words::{push_fate, push_frame, push_note, push_packet, push_sent, push_some_packet};
 use csp_record::{Record, Who};
 use csp_report::{begin_line, end_line, push_count, push_counted, push_word};
 use csp_scene::Scene;
@@ -92,15 +89,15 @@ fn push_took(
     push_packet(alloc, out, scene, packet)
 }
 
-/// Appends what happened, at a party of the node in this place.
+/// Appends what happened, at a party of the node, or at the link, in this place.
 fn push_what(
     alloc: Global,
     out: &mut String,
     scene: &Scene,
-    node: u8,
+    place: u8,
     what: &What,
 ) -> Result<(), AllocError>
-    ensures { OnOk result (string_bytes out.new ≡ string_bytes out.old ++ what_words scene.now node what.now) }
+    ensures { OnOk result (string_bytes out.new ≡ string_bytes out.old ++ what_words scene.now place what.now) }
 {
     match what {
         What::Asked(note) => {
@@ -118,7 +115,7 @@ fn push_what(
         What::Took { mark, packet } => push_took(alloc, out, scene, *mark, packet),
         What::Answered { app, note } => {
             out.push_str("tells")?;
-            push_word(out, app_name(scene, node, *app))?;
+            push_word(out, app_name(scene, place, *app))?;
             push_note(alloc, out, *note)
         }
         What::Transmitted {
@@ -135,34 +132,37 @@ fn push_what(
             push_packet(alloc, out, scene, packet)
         }
         What::Carried {
-            way,
+            end,
             number,
             fate,
             frame,
         } => {
             out.push_str("carries")?;
-            push_word(out, way_word(*way))?;
+            push_word(out, from_end(scene, place, *end))?;
             push_count(out, *number)?;
             push_fate(out, fate)?;
             push_frame(alloc, out, scene, frame)
         }
-        What::HandedOn { way, frame } => {
+        What::HandedOn { end, frame } => {
             out.push_str("hands on")?;
-            push_word(out, way_word(*way))?;
+            push_word(out, to_end(scene, place, *end))?;
             push_frame(alloc, out, scene, frame)
         }
         What::Reported { event, packet } => {
-            push_event(alloc, out, scene, node, *event)?;
+            push_event(alloc, out, scene, place, *event)?;
             push_some_packet(alloc, out, scene, *packet)
         }
     }
 }
 
-/// The place of a party's node, and 0 for a link, which has none.
-fn node_of(who: Who) -> u8
-    ensures { result ≡ unwrap_or (node_of who) 0 }
+/// The place of a party's node, and of a link or a hub its own.
+fn place_of(who: Who) -> u8
+    ensures { result ≡ place_of who }
 {
-    who.node().unwrap_or(0)
+    match who {
+        Who::Router(node) | Who::Bridge(node) | Who::Iface(node, _) | Who::App(node, _) => node,
+        Who::Link(place) => place,
+    }
 }
 
 /// Appends the line of one thing that happened.
@@ -176,7 +176,7 @@ fn push_happening(
 {
     push_time(out, happening.time)?;
     push_who(out, scene, happening.who)?;
-    push_what(alloc, out, scene, node_of(happening.who), &happening.what)?;
+    push_what(alloc, out, scene, place_of(happening.who), &happening.what)?;
     end_line(out)
 }
 

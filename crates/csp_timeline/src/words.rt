@@ -5,7 +5,7 @@ ghost use Rattle.std.specs.String.{string_bytes};
 ghost use Rattle.std.specs.Fmt.{decimal};
 ghost use Rattle.std.specs.Int.{w32, to_be_bytes};
 ghost use Rattle.hex.specs.Hex.{encode_lower};
-ghost use Rattle.csp_timeline.specs.Words.{word, numbered, hex_pair, end_word, ends_words, header_words, origin_words, kind_word, tag_words, packet_words, some_packet_words, can_words, frame_words, way_word, some_words, flip_words, fate_words, from_words, dest_words, slotted, target_words, terms_words, note_words, sent_words};
+ghost use Rattle.csp_timeline.specs.Words.{word, numbered, hex_pair, end_word, ends_words, header_words, origin_words, kind_word, tag_words, packet_words, some_packet_words, can_words, frame_words, some_words, flip_words, fate_words, from_words, dest_words, slotted, target_words, terms_words, note_words, sent_words};
 
 use crate::fates::Fate;
 use crate::kinds::{Kind, Parcel, Piece};
@@ -13,7 +13,6 @@ use crate::labels::{node_name, push_iface_label};
 use bitflags::Flags;
 use csp_base::{Addr, Origin, Port, Prio, Tag};
 use csp_header::Header;
-use csp_link::Way;
 use csp_log::{Note, UNMARKED};
 use csp_report::{push_count, push_counted, push_word, word_of_refusal};
 use csp_scene::Scene;
@@ -163,16 +162,6 @@ pub(crate) fn push_frame(
     push_can(alloc, out, frame.can)?;
     push_origin(out, scene, frame.trace.origin)?;
     push_tag(out, scene, "index", frame.trace.tag)
-}
-
-/// The word for a direction of a link.
-pub(crate) fn way_word(way: Way) -> &'static str
-    ensures { result.now ≡ way_word way }
-{
-    match way {
-        Way::Forth => "ab",
-        Way::Back => "ba",
-    }
 }
 
 /// Appends a number after its name, if it is not 0.

@@ -95,12 +95,9 @@ record IsEndOf (scene : PlainScene) (name : PlainEndName) (end : End) : Type 0 w
 on_link : (scene : PlainScene) (name : PlainEndName) (end : End) (l : PlainLink) → find (is_link_called name.link) scene.links ≡ Some l → IsLink scene.nodes scene.links l → end_on scene.nodes form.Kiss name.node l ≡ Some end → IsEndOf scene name end
 on_link scene name end l called is on = by l.kind refl on
   where
-    ends : AllByRecursion (IsEnd scene.nodes scene.links l) l.ends
-    ends = subst (AllByRecursion (IsEnd scene.nodes scene.links l)) (sym is.ends.two) (is.ends.one_end, (is.ends.other_end, tt))
-
     of : (cover : Bool) → covers l.kind ≡ Some cover → find (is_end_at scene.nodes name.node) l.ends ≡ Some end → IsEndOf scene name end
     of cover covered e =
-        let it : IsEnd scene.nodes scene.links l end = found (IsEnd scene.nodes scene.links l) (is_end_at scene.nodes name.node) l.ends end ends e in
+        let it : IsEnd scene.nodes scene.links l end = found (IsEnd scene.nodes scene.links l) (is_end_at scene.nodes name.node) l.ends end is.ends e in
         record { link = l; cover = cover; called = called; covered = covered; there = it.iface; most = is.mtu.1 }
 
     by : (kind : LinkKind) → l.kind ≡ kind → (if is_written form.Kiss kind then find (is_end_at scene.nodes name.node) l.ends else None) ≡ Some end → IsEndOf scene name end

@@ -1,4 +1,4 @@
-use Rattle.std.proofs.Common.{ap, ◌∙◌, arith}
+use Rattle.std.proofs.Common.{arith}
 use Rattle.std.specs.String.{string_bytes}
 use Rattle.csp_exports.specs.Unused.{lonely_lines}
 use Rattle.csp_exports.specs.declared.sockets.TheConstants.{PORTS}

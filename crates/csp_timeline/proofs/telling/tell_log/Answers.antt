@@ -1,4 +1,4 @@
-use Rattle.std.proofs.Common.{List, take, slice_get, sym, ◌∙◌, arith}
+use Rattle.std.proofs.Common.{List, take, slice_get, arith}
 use Rattle.csp_log.specs.declared.entry.Entry.{Entry}
 use Rattle.csp_timeline.specs.Happenings.{happened}
 use Rattle.csp_timeline.specs.Remembering.{Remembers}
