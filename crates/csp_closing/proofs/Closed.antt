@@ -19,9 +19,6 @@ use Rattle.csp_closing.specs.Stores.{CanEndParties, CanGiveBack, PlainPile, part
 use Rattle.csp_closing.specs.Times.{AreOrdered, IsOrdered, rounds_among}
 use Rattle.csp_consistent.specs.Pools.{left_held, pools_held}
 use Rattle.csp_ending.specs.Notes.{PlainNotes}
-use Rattle.csp_fabric.specs.Fabrics.{IsFabricOf, network_of}
-use Rattle.csp_fabric.specs.declared.fabric.Fabric.{Fabric}
-use Rattle.csp_fabric.specs.declared.fabric.NodeStore.{NodeStore}
 use Rattle.csp_flow.specs.Closed.{IsClosed, IsRecordOf, log_of, post_held}
 use Rattle.csp_flow.specs.Remains.{AreRemains, PlainRemains}
 use Rattle.csp_log.specs.Remains.{PlainHeld, PlainLeft}
@@ -29,7 +26,6 @@ use Rattle.csp_party.specs.Any.{is_done}
 use Rattle.csp_posts.specs.Posts.{PlainPost}
 use Rattle.csp_posts.specs.Seen.{SeenPost}
 use Rattle.csp_posts.specs.declared.retired.Retired.{Retired}
-use Rattle.csp_prompt.specs.Played.{are_done}
 use Rattle.csp_record.specs.Record.{PlainPartyLog, PlainRecord}
 use Rattle.csp_scene.specs.Kept.{AreLinksAfter}
 use Rattle.csp_scene.specs.Ranges.{IsScene}
@@ -37,7 +33,11 @@ use Rattle.csp_scene.specs.Scene.{PlainScene}
 use Rattle.csp_standing.proofs.Leaders.{Apart, Hubs, Led}
 use Rattle.csp_standing.proofs.Places.{post_at}
 use Rattle.csp_standing.proofs.Sides.{JoinsAll}
+use Rattle.csp_standing.specs.Fabrics.{IsFabricOf, network_of}
 use Rattle.csp_standing.specs.Network.{IsNetworkOf, PlainNetwork}
+use Rattle.csp_standing.specs.Played.{are_done}
+use Rattle.csp_standing.specs.declared.fabric.Fabric.{Fabric}
+use Rattle.csp_standing.specs.declared.fabric.NodeStore.{NodeStore}
 use Rattle.csp_topology.specs.Parties.{parties_of, party_steps}
 use Rattle.csp_topology.specs.Wires.{wires_of}
 use Rattle.csp_topology.specs.declared.wire.Wire.{Wire}

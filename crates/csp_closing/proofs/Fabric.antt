@@ -16,9 +16,6 @@ use Rattle.csp_closing.specs.Hands.{homes_at}
 use Rattle.csp_closing.specs.Nodes.{AreLeftIn, CanAllEnd, HaveBack, queue_count}
 use Rattle.csp_consistent.specs.Pools.{place_named}
 use Rattle.csp_ends.specs.Ends.{PlainNodeQueues, PlainSide, IsSideOf}
-use Rattle.csp_fabric.specs.Fabrics.{AreRoomsOf, AreStoresOf, network_of, queues_in}
-use Rattle.csp_fabric.specs.declared.fabric.Fabric.{Fabric}
-use Rattle.csp_fabric.specs.declared.fabric.NodeStore.{NodeStore}
 use Rattle.csp_flow.specs.Remains.{AreLeftAt, AreRemains, PlainRemains}
 use Rattle.csp_log.specs.declared.places.Carries.{Carries}
 use Rattle.csp_log.specs.declared.places.Place.TheVariants as place
@@ -30,7 +27,10 @@ use Rattle.csp_scene.specs.Scene.{PlainNode, PlainScene}
 use Rattle.csp_standing.proofs.Leaders.{Apart, Hubs, Led}
 use Rattle.csp_standing.proofs.Places.{HasPost, post_at, post_of}
 use Rattle.csp_standing.proofs.Sides.{JoinsAll}
+use Rattle.csp_standing.specs.Fabrics.{AreRoomsOf, AreStoresOf, network_of, queues_in}
 use Rattle.csp_standing.specs.Network.{AreNodesOf, IsNetworkOf, IsSideAmong, PlainNetwork, sides_from}
+use Rattle.csp_standing.specs.declared.fabric.Fabric.{Fabric}
+use Rattle.csp_standing.specs.declared.fabric.NodeStore.{NodeStore}
 use Rattle.csp_topology.specs.Lanes.{PlainLane}
 use Rattle.csp_topology.specs.Parties.{PlainOpening, parties_of}
 use Rattle.csp_topology.specs.Wired.{IsNamedFor, StaysHome}

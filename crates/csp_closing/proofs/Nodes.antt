@@ -10,14 +10,14 @@ use Rattle.csp_closing.specs.Hands.{CanGather, gathered, homes_at, without_home}
 use Rattle.csp_closing.specs.Nodes.{CanAllEnd, CanClose, queue_count}
 use Rattle.csp_closing.specs.Wires.{HaveRooms, rooms_in, without_all}
 use Rattle.csp_ends.specs.Ends.{PlainHome, PlainNodeQueues, PlainSide}
-use Rattle.csp_fabric.specs.Fabrics.{AreRoomsOf, AreStoresOf, IsStoreOf}
-use Rattle.csp_fabric.specs.declared.fabric.NodeRooms.{NodeRooms}
-use Rattle.csp_fabric.specs.declared.fabric.NodeStore.{NodeStore}
 use Rattle.csp_lane.specs.Ends as lane
 use Rattle.csp_lists.specs.PlainDeck.{lane_room}
 use Rattle.csp_record.specs.declared.who.Who.{Who}
 use Rattle.csp_scene.specs.Scene.{PlainNode}
+use Rattle.csp_standing.specs.Fabrics.{AreRoomsOf, AreStoresOf, IsStoreOf}
 use Rattle.csp_standing.specs.Network.{AreNodesOf, AreQueuesOf, sides_from}
+use Rattle.csp_standing.specs.declared.fabric.NodeRooms.{NodeRooms}
+use Rattle.csp_standing.specs.declared.fabric.NodeStore.{NodeStore}
 use Rattle.csp_topology.specs.Lanes.{PlainLane}
 use Rattle.csp_topology.specs.declared.wire.Wire.{Wire}
 

@@ -10,11 +10,11 @@ use Rattle.csp_closing.specs.Stores.{HasPile, PlainPile, back_at, back_to, party
 use Rattle.csp_consistent.specs.Pools.{held_by}
 use Rattle.csp_ending.specs.Notes.{PlainNotes}
 use Rattle.csp_ending.specs.Stores.{HasRoom, TakesBack}
-use Rattle.csp_fabric.specs.declared.fabric.NodeStore.{NodeStore}
 use Rattle.csp_log.specs.Remains.{PlainHeld}
 use Rattle.csp_log.specs.declared.places.Place.{Place}
 use Rattle.csp_party.specs.Any.{holds, plain, region_of}
 use Rattle.csp_record.specs.Who.{home_of, node_of}
+use Rattle.csp_standing.specs.declared.fabric.NodeStore.{NodeStore}
 
 -- what was noted, then this, then the rest, is the whole
 pub moved : {A : Type 0} (before noted after rest whole : List A) → after ≡ before ++ noted → before ++ (noted ++ rest) ≡ whole → after ++ rest ≡ whole

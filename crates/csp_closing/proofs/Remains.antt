@@ -24,8 +24,8 @@ use Rattle.csp_log.specs.declared.shown.ItemShown.{ItemShown}
 use Rattle.csp_pool.specs.Fairness.{Closes}
 use Rattle.csp_posts.specs.Between as between
 use Rattle.csp_posts.specs.Posts.{PlainPost}
-use Rattle.csp_prompt.specs.Shown as shown
 use Rattle.csp_scene.specs.Scene.{PlainScene}
+use Rattle.csp_standing.specs.Shown as shown
 use Rattle.csp_topology.specs.declared.wire.Wire.{Wire}
 
 -- the ends of lanes that posts have

@@ -12,10 +12,10 @@ ghost use Rattle.csp_party.specs.Any.{holds, plain, region_of};
 
 use csp_deck::Place;
 use csp_ending::{Notes, Store};
-use csp_fabric::NodeStore;
 use csp_party::AnyParty;
 use csp_posts::Retired;
 use csp_record::PartyLog;
+use csp_standing::NodeStore;
 use std::collections::VecDeque;
 
 /// Ends these parties: their logs and what they hold are noted, and their buffers are taken back.

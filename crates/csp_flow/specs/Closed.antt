@@ -13,10 +13,10 @@ use Rattle.csp_log.specs.declared.places.QueueId.TheVariants as queue
 use Rattle.csp_log.specs.declared.shown.ItemShown.{ItemShown}
 use Rattle.csp_party.specs.Any.{holds, present_step}
 use Rattle.csp_posts.specs.Posts.{PlainPost}
-use Rattle.csp_prompt.specs.Played.{are_done}
 use Rattle.csp_record.specs.Record.{PlainPartyLog, PlainRecord}
 use Rattle.csp_record.specs.Who.{home_of}
 use Rattle.csp_scene.specs.Scene.{PlainScene}
+use Rattle.csp_standing.specs.Played.{are_done}
 use Rattle.csp_topology.specs.Lanes.{PlainLane}
 use Rattle.csp_topology.specs.Wires.{wires_of}
 

@@ -15,8 +15,8 @@ use Rattle.csp_log.specs.declared.shown.ItemShown.{ItemShown}
 use Rattle.csp_party.specs.Any.{holds}
 use Rattle.csp_posts.specs.Between.{AreJoined, all_put, all_taken, is_home}
 use Rattle.csp_posts.specs.Posts.{PlainPost}
-use Rattle.csp_prompt.specs.Shown.{all_kept}
 use Rattle.csp_scene.specs.Scene.{PlainScene}
+use Rattle.csp_standing.specs.Shown.{all_kept}
 use Rattle.csp_topology.specs.Wires.{wires_of}
 
 -- what was left in the queues of a node: in each of its lanes, in their order; in its inbox, of each priority; and in its pool

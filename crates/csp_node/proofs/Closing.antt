@@ -1,7 +1,6 @@
 -- What the record of a network that has been run says of its logs.
 use Rattle.std.proofs.Common.{◌≡◌, inl, inr, ℕ, ◌-◌, ◌<◌, ◌≤◌, List, sum_by, sym, ap, ◌∙◌, subst}
 use Rattle.csp_consistent.specs.Rounds.{HaveMadeRounds, early}
-use Rattle.csp_fabric.specs.declared.fabric.Fabric.{Fabric}
 use Rattle.csp_flow.specs.Closed.{IsClosed, log_of}
 use Rattle.csp_log.specs.Weights.{weight_of_all}
 use Rattle.csp_node.proofs.Entries.{sum_mapped}
@@ -9,9 +8,10 @@ use Rattle.csp_node.proofs.Rounds.{rounds_made}
 use Rattle.csp_node.specs.Rounds.{HasRun, plains, weight, weight_early}
 use Rattle.csp_node.specs.Runs.{HasStopped, weight_before, weight_in}
 use Rattle.csp_posts.specs.Seen.{SeenPost}
-use Rattle.csp_prompt.specs.Played.{are_done, logs_of}
 use Rattle.csp_record.specs.Record.{PlainPartyLog, PlainRecord}
 use Rattle.csp_scene.specs.Scene.{PlainScene}
+use Rattle.csp_standing.specs.Played.{are_done, logs_of}
+use Rattle.csp_standing.specs.declared.fabric.Fabric.{Fabric}
 use Rattle.csp_topology.specs.Parties.{parties_of}
 
 module _ (scene : PlainScene) (f : Fabric) (limit : ℕ) (posts : List SeenPost) (r : PlainRecord) (run : HasRun scene f limit posts) (closed : IsClosed scene (plains posts) r) where

@@ -9,7 +9,7 @@ use Rattle.csp_node.specs.Rounds.{plains}
 use Rattle.csp_party.specs.Any.{is_done}
 use Rattle.csp_posts.specs.Posts.{PlainPost}
 use Rattle.csp_posts.specs.Seen.{SeenPost}
-use Rattle.csp_prompt.specs.Played.{are_done, logs_of}
+use Rattle.csp_standing.specs.Played.{are_done, logs_of}
 use Rattle.csp_topology.specs.Parties.{PlainOpening}
 
 max_least : (a b n : ℕ) → a ≤ n → b ≤ n → max a b ≤ n

@@ -6,8 +6,6 @@ use Rattle.std.proofs.lemmas.List.Elements.{All-cons, All-nil}
 use Rattle.std.proofs.lemmas.Slice.Zip.{AllZip-long}
 use Rattle.csp_consistent.specs.Rounds.{HaveMadeRounds}
 use Rattle.csp_ends.specs.Ends.{AreOf, PlainNodeQueues}
-use Rattle.csp_fabric.specs.Fabrics.{CanNote, IsFabricOf, buffers_at, network_of}
-use Rattle.csp_fabric.specs.declared.fabric.Fabric.{Fabric}
 use Rattle.csp_log.specs.declared.entry.Entry.{Entry}
 use Rattle.csp_node.proofs.Entries.{last_within}
 use Rattle.csp_node.specs.Rounds.{IsBetween, IsShort, IsStill, plains, weight_early}
@@ -17,10 +15,12 @@ use Rattle.csp_posts.specs.Meetings.{HasMet}
 use Rattle.csp_posts.specs.Posts.{PlainPost}
 use Rattle.csp_posts.specs.Ready.{CanTurn, HasTurned}
 use Rattle.csp_posts.specs.Seen.{SeenPost}
-use Rattle.csp_prompt.specs.Played.{are_done, logs_of}
 use Rattle.csp_record.specs.Who.{node_of}
 use Rattle.csp_scene.specs.Scene.{PlainScene}
+use Rattle.csp_standing.specs.Fabrics.{CanNote, IsFabricOf, buffers_at, network_of}
 use Rattle.csp_standing.specs.Network.{ArePostsOf, IsNetworkOf, PlainNetwork}
+use Rattle.csp_standing.specs.Played.{are_done, logs_of}
+use Rattle.csp_standing.specs.declared.fabric.Fabric.{Fabric}
 use Rattle.csp_topology.specs.Parties.{PlainOpening, parties_of}
 
 -- a post of the same party, with as much room for numbers

@@ -2,15 +2,15 @@
 use Rattle.std.specs.Prelude.{◌≡◌, ◌⊎◌, ◌-◌, ◌*◌, ◌<◌, ◌≤◌, ℕ, false, List, length, map, sum_by}
 use Rattle.std.specs.List.{AllByRecursion}
 use Rattle.csp_consistent.specs.Rounds.{HaveMadeRounds, early}
-use Rattle.csp_fabric.specs.Fabrics.{IsFabricOf}
-use Rattle.csp_fabric.specs.declared.fabric.Fabric.{Fabric}
 use Rattle.csp_log.specs.Weights.{weight_of_all}
 use Rattle.csp_posts.specs.Between.{AreInRounds}
 use Rattle.csp_posts.specs.Books.{AreInBooks}
 use Rattle.csp_posts.specs.Posts.{PlainPost}
 use Rattle.csp_posts.specs.Seen.{SeenPost}
-use Rattle.csp_prompt.specs.Played.{are_done, logs_of}
 use Rattle.csp_scene.specs.Scene.{PlainScene}
+use Rattle.csp_standing.specs.Fabrics.{IsFabricOf}
+use Rattle.csp_standing.specs.Played.{are_done, logs_of}
+use Rattle.csp_standing.specs.declared.fabric.Fabric.{Fabric}
 use Rattle.csp_topology.specs.Parties.{parties_of}
 
 -- posts without the room that they have

@@ -4,8 +4,6 @@ ghost use Rattle.std.specs.Prelude.{◌≡◌, ◌+◌, ◌^◌, ◌<◌, ◌≤
 ghost use Rattle.std.specs.List.{AllByRecursion, AllZip};
 ghost use Rattle.csp_causal.specs.Causal.{IsCausal};
 ghost use Rattle.csp_consistent.specs.Threaded.{IsThreaded};
-ghost use Rattle.csp_fabric.specs.Fabrics.{IsFabricOf};
-ghost use Rattle.csp_fabric.specs.declared.fabric.Fabric.{Fabric};
 ghost use Rattle.csp_flow.specs.Closed.{IsClosed};
 ghost use Rattle.csp_node.specs.Rounds.{HasRun, IsBetween, plains, weight};
 ghost use Rattle.csp_node.specs.Runs.{HasStopped};
@@ -14,20 +12,20 @@ ghost use Rattle.csp_posts.specs.Books.{AreInBooks, IsFresh};
 ghost use Rattle.csp_posts.specs.Meetings.{HasMet};
 ghost use Rattle.csp_posts.specs.Ready.{CanTurn, HasTurned};
 ghost use Rattle.csp_posts.specs.Seen.{SeenPost};
-ghost use Rattle.csp_prompt.specs.Played.{are_done};
 ghost use Rattle.csp_record.specs.Record.{PlainRecord};
 ghost use Rattle.csp_record.specs.Whole.{IsWhole};
 ghost use Rattle.csp_scene.specs.Kept.{AreLinksAfter};
 ghost use Rattle.csp_scene.specs.Ranges.{IsScene};
 ghost use Rattle.csp_scene.specs.Scene.{PlainScene};
+ghost use Rattle.csp_standing.specs.Fabrics.{IsFabricOf};
+ghost use Rattle.csp_standing.specs.Played.{are_done};
+ghost use Rattle.csp_standing.specs.declared.fabric.Fabric.{Fabric};
 
 use csp_posts::turns_keep_books;
-use csp_prompt::{
-    goes_on, keeps_logs, keeps_when_met, makes_a_round, makes_no_round, shows, shows_rounds, starts,
-};
 use csp_standing::{
-    leads_nodes, meetings_keep_network, opens_books, runs_parties, stands_in_scene, traces_posts,
-    turns_keep_network,
+    goes_on, keeps_logs, keeps_when_met, leads_nodes, makes_a_round, makes_no_round,
+    meetings_keep_network, opens_books, runs_parties, shows, shows_rounds, stands_in_scene, starts,
+    traces_posts, turns_keep_network,
 };
 use csp_telling::{closes_causal, closes_consistent, closes_reached, closes_whole};
 

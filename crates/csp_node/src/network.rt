@@ -3,7 +3,6 @@
 ghost use Rattle.std.specs.Prelude.{◌≡◌, [], IfOk, IfSome, length, map};
 ghost use Rattle.std.specs.List.{AllByRecursion, AllZip};
 ghost use Rattle.csp_ends.specs.Ends.{AreOf};
-ghost use Rattle.csp_fabric.specs.Fabrics.{IsFabricOf};
 ghost use Rattle.csp_flow.specs.Closed.{IsClosed};
 ghost use Rattle.csp_posts.specs.Between.{HaveMet};
 ghost use Rattle.csp_posts.specs.Books.{AreInBooks, IsFresh};
@@ -11,13 +10,14 @@ ghost use Rattle.csp_posts.specs.Meetings.{HasMet};
 ghost use Rattle.csp_scene.specs.Kept.{AreLinksAfter};
 ghost use Rattle.csp_scene.specs.Ranges.{IsScene};
 ghost use Rattle.csp_scene.specs.Scene.{PlainScene};
+ghost use Rattle.csp_standing.specs.Fabrics.{IsFabricOf};
 
 use csp_closing::close_fabric;
-use csp_fabric::Fabric;
 use csp_opening::open_fabric;
 use csp_posts::{Post, meet_all};
 use csp_record::Record;
 use csp_scene::Scene;
+use csp_standing::Fabric;
 use std::alloc::{AllocError, Global};
 use std::sync::Wait;
 

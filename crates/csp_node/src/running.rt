@@ -4,14 +4,14 @@ ghost use Rattle.std.specs.Prelude.{◌≡◌, ◌+◌, ◌^◌, ◌<◌, ◌≤
 ghost use Rattle.std.specs.List.{AllByRecursion};
 ghost use Rattle.csp_causal.specs.Causal.{IsCausal};
 ghost use Rattle.csp_consistent.specs.Threaded.{IsThreaded};
-ghost use Rattle.csp_fabric.specs.Fabrics.{IsFabricOf};
 ghost use Rattle.csp_node.specs.Rounds.{HasRun, IsBetween, plains, weight};
 ghost use Rattle.csp_node.specs.Runs.{HasStopped};
-ghost use Rattle.csp_prompt.specs.Played.{are_done};
 ghost use Rattle.csp_record.specs.Whole.{IsWhole};
 ghost use Rattle.csp_scene.specs.Kept.{AreLinksAfter};
 ghost use Rattle.csp_scene.specs.Ranges.{IsScene};
 ghost use Rattle.csp_scene.specs.Scene.{PlainScene};
+ghost use Rattle.csp_standing.specs.Fabrics.{IsFabricOf};
+ghost use Rattle.csp_standing.specs.Played.{are_done};
 
 use crate::Network;
 use crate::laws::{makes_rounds, meets_ready, starts_rounds, tells_run};

@@ -3,8 +3,6 @@ use Rattle.std.proofs.Common.{◌≡◌, ◌<◌, ℕ, List, [], ◌∷◌, Some
 use Rattle.std.specs.Global.{Vec}
 use Rattle.std.specs.List.{AllByRecursion}
 use Rattle.std.specs.Prelude.{IfSome, slice_get}
-use Rattle.csp_fabric.specs.Fabrics.{IsFabricOf}
-use Rattle.csp_fabric.specs.declared.fabric.Fabric.{Fabric}
 use Rattle.csp_opening.proofs.Assembly.{can_assemble, ordered}
 use Rattle.csp_opening.proofs.Fabrics.{AreOpened, IsMadeOf, all_fresh, is_fabric, none_happened, posts_are}
 use Rattle.csp_opening.proofs.Parties.{Laws}
@@ -23,6 +21,8 @@ use Rattle.csp_posts.specs.Seen.{SeenPost}
 use Rattle.csp_record.specs.Who.{node_of}
 use Rattle.csp_scene.specs.Ranges.{IsScene}
 use Rattle.csp_scene.specs.Scene.{PlainNode, PlainScene}
+use Rattle.csp_standing.specs.Fabrics.{IsFabricOf}
+use Rattle.csp_standing.specs.declared.fabric.Fabric.{Fabric}
 use Rattle.csp_topology.specs.Opening.{CanOpen, opening_of}
 use Rattle.csp_topology.specs.Parties.{PlainOpening, parties_of}
 use Rattle.csp_topology.specs.Wires.{wires_of}

@@ -3,8 +3,6 @@ use Rattle.std.specs.Prelude.{◌≡◌, ◌+◌, ◌<◌, ◌≤◌, ℕ, List,
 use Rattle.std.specs.Global.{Vec}
 use Rattle.std.specs.List.{AllByRecursion, sum_by}
 use Rattle.csp_ends.specs.Ends.{PlainNodeQueues, PlainSide}
-use Rattle.csp_fabric.specs.declared.fabric.NodeRooms.{NodeRooms}
-use Rattle.csp_fabric.specs.declared.fabric.NodeStore.{NodeStore}
 use Rattle.csp_opening.specs.Handed.{HaveRoom, IsAmong, ends_among, handed_from, list_at, room_at}
 use Rattle.csp_opening.specs.Opened.{ends_in, lead_in, queues_in}
 use Rattle.csp_opening.specs.Parted.{AreLeadsOf, CanPartAll, IsOpening, part_homes, parts_left}
@@ -19,6 +17,8 @@ use Rattle.csp_opening.specs.declared.parting.Parts.{Parts}
 use Rattle.csp_opening.specs.declared.seats.Seat.{Seat}
 use Rattle.csp_posts.specs.Seen.{SeenPost}
 use Rattle.csp_record.specs.declared.who.Who.{Who}
+use Rattle.csp_standing.specs.declared.fabric.NodeRooms.{NodeRooms}
+use Rattle.csp_standing.specs.declared.fabric.NodeStore.{NodeStore}
 use Rattle.csp_topology.specs.declared.wire.Wire.{Wire}
 
 -- its memory

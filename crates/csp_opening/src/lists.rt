@@ -9,9 +9,9 @@ use crate::lanes::Pair;
 use crate::sides::blank_sides;
 use csp_ending::Notes;
 use csp_ends::{Home, NodeQueues, Side};
-use csp_fabric::{NodeRooms, NodeStore};
 use csp_posts::{Post, Retired};
 use csp_record::PartyLog;
+use csp_standing::{NodeRooms, NodeStore};
 use csp_topology::Wire;
 use std::alloc::{AllocError, Global};
 

@@ -2,13 +2,13 @@
 
 ghost use Rattle.std.specs.Prelude.{◌≡◌, [], IfOk, IfSome, length, map};
 ghost use Rattle.std.specs.List.{AllByRecursion};
-ghost use Rattle.csp_fabric.specs.Fabrics.{IsFabricOf};
 ghost use Rattle.csp_opening.specs.Opened.{AreNodesWith, AreWired, queues_in};
 ghost use Rattle.csp_opening.specs.Seated.{AreParties, IsSeated, seat_name};
 ghost use Rattle.csp_opening.specs.Whole.{AreBlanks, AreLists, CanAssemble, posts_of, rooms_in, store_in};
 ghost use Rattle.csp_posts.specs.Books.{IsFresh};
 ghost use Rattle.csp_scene.specs.Kept.{AreLinksAfter};
 ghost use Rattle.csp_scene.specs.Ranges.{IsScene};
+ghost use Rattle.csp_standing.specs.Fabrics.{IsFabricOf};
 ghost use Rattle.csp_topology.specs.Opening.{opening_of};
 
 use crate::hands::Hands;
@@ -17,9 +17,9 @@ use crate::nodes::{Node, leave_nodes, open_nodes};
 use crate::parting::Parts;
 use crate::seats::{Seat, open_seats};
 use csp_ends::Queues;
-use csp_fabric::Fabric;
 use csp_posts::Post;
 use csp_scene::{Scene, SceneNode};
+use csp_standing::Fabric;
 use csp_topology::{
     Opening, Topology, Wire, counts_parties, names_ends_apart, names_parties_apart, orders_wires,
     serves_parties, stays_home,

@@ -10,7 +10,7 @@ use crate::lanes::{Lanes, Pair};
 use crate::mails::Mail;
 use crate::nodes::Node;
 use csp_ends::NodeQueues;
-use csp_fabric::{NodeRooms, NodeStore};
+use csp_standing::{NodeRooms, NodeStore};
 use std::collections::VecDeque;
 
 /// The parts of nodes.

@@ -8,7 +8,6 @@ use Rattle.csp_ends.specs.Ends.{IsHomeOf, PlainHome, PlainNodeQueues}
 use Rattle.csp_inbox.specs.Passes as inbox
 use Rattle.csp_pool.specs.PlainPool as pool
 use Rattle.csp_posts.specs.Posts.{PlainPost}
-use Rattle.csp_prompt.specs.Shown.{AreOfScene, HasPassAt, IsReadAt}
 use Rattle.csp_record.specs.Who.{node_of}
 use Rattle.csp_record.specs.declared.who.Who.TheVariants as who
 use Rattle.csp_scene.specs.Scene.{PlainNode, PlainScene}
@@ -17,6 +16,7 @@ use Rattle.csp_standing.proofs.Places.{all_from, home_named, post_at}
 use Rattle.csp_standing.proofs.Sides.{JoinsAll, all_wired}
 use Rattle.csp_standing.proofs.Tracing.{queues_at}
 use Rattle.csp_standing.specs.Network.{AreNodesOf, IsNetworkOf, PlainNetwork, mark_for}
+use Rattle.csp_standing.specs.Shown.{AreOfScene, HasPassAt, IsReadAt}
 use Rattle.csp_topology.specs.Lanes.{PlainLane, hub_of, lanes_of}
 use Rattle.csp_topology.specs.Parties.{parties_of}
 use Rattle.csp_topology.specs.Wired.{IsWire}

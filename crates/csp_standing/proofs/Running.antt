@@ -1,9 +1,9 @@
 -- Each post is that of its party.
 use Rattle.std.proofs.Common.{List, [], ◌∷◌}
 use Rattle.csp_posts.specs.Posts.{PlainPost}
-use Rattle.csp_prompt.specs.Played.{HaveRunFrom}
 use Rattle.csp_scene.specs.Scene.{PlainScene}
 use Rattle.csp_standing.specs.Network.{ArePostsOf, IsNetworkOf, PlainNetwork}
+use Rattle.csp_standing.specs.Played.{HaveRunFrom}
 use Rattle.csp_topology.specs.Parties.{PlainOpening, parties_of}
 
 run_from : (scene : PlainScene) (n : PlainNetwork) (os : List PlainOpening) (posts : List PlainPost) → ArePostsOf scene n os posts → HaveRunFrom os posts

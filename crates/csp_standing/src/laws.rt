@@ -5,12 +5,12 @@ ghost use Rattle.std.specs.List.{AllByRecursion};
 ghost use Rattle.csp_posts.specs.Between.{AreAllTraced};
 ghost use Rattle.csp_posts.specs.Books.{AreInBooks, IsFresh};
 ghost use Rattle.csp_posts.specs.Posts.{PlainPost};
-ghost use Rattle.csp_prompt.specs.Played.{HaveRunFrom};
-ghost use Rattle.csp_prompt.specs.Shown.{AreOfScene};
 ghost use Rattle.csp_scene.specs.Kept.{AreLinksAfter};
 ghost use Rattle.csp_scene.specs.Ranges.{IsScene};
 ghost use Rattle.csp_scene.specs.Scene.{PlainScene};
 ghost use Rattle.csp_standing.specs.Network.{IsNetworkOf, PlainNetwork, opened_in};
+ghost use Rattle.csp_standing.specs.Played.{HaveRunFrom};
+ghost use Rattle.csp_standing.specs.Shown.{AreOfScene};
 ghost use Rattle.csp_standing.specs.Standing.{HaveLeaders};
 ghost use Rattle.csp_topology.specs.Parties.{parties_of};
 

@@ -21,12 +21,12 @@ use Rattle.csp_log.specs.declared.shown.OpShown.TheVariants as op
 use Rattle.csp_log.specs.declared.shown.OpShown.{OpShown}
 use Rattle.csp_posts.specs.Posts.{PlainPost}
 use Rattle.csp_posts.specs.Through.{WasCrammed}
-use Rattle.csp_prompt.proofs.Logged.{post_entries}
-use Rattle.csp_prompt.proofs.Places.{each_at}
 use Rattle.csp_record.specs.Record.{PlainRecord}
 use Rattle.csp_record.specs.declared.who.Who.{Who}
 use Rattle.csp_scene.proofs.Lists.{AllByRecursion-map}
 use Rattle.csp_scene.specs.Scene.{PlainNode, PlainScene}
+use Rattle.csp_standing.proofs.ListPlaces.{each_at}
+use Rattle.csp_standing.proofs.Logged.{post_entries}
 use Rattle.csp_standing.proofs.Places.{IsAt, post_at}
 use Rattle.csp_standing.specs.Network.{AreNodesOf, PlainNetwork, name_of}
 use Rattle.csp_telling.proofs.LaneNotes.{lane_left}

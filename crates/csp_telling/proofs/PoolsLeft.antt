@@ -18,14 +18,14 @@ use Rattle.csp_flow.specs.Remains.{PlainRemains, put_at, put_from, taken_from}
 use Rattle.csp_log.specs.declared.entry.Entry.{Entry}
 use Rattle.csp_posts.specs.Between.{is_home}
 use Rattle.csp_posts.specs.Posts.{PlainPost}
-use Rattle.csp_prompt.proofs.Logged.{at_home}
-use Rattle.csp_prompt.proofs.Places.{each_at}
 use Rattle.csp_record.specs.Record.{PlainRecord}
 use Rattle.csp_record.specs.Who.{node_of}
 use Rattle.csp_record.specs.declared.who.Who.{Who}
 use Rattle.csp_scene.specs.Links.{no_node, node_at}
 use Rattle.csp_scene.specs.Scene.{PlainNode, PlainScene}
 use Rattle.csp_standing.proofs.Leaders.{HasHub, hub_at, hub_leads, hub_node, hub_place_of}
+use Rattle.csp_standing.proofs.ListPlaces.{each_at}
+use Rattle.csp_standing.proofs.Logged.{at_home}
 use Rattle.csp_standing.proofs.Places.{IsAt, post_at}
 use Rattle.csp_standing.specs.Network.{ArePostsOf, IsPostOf, PlainNetwork, leads, opened_at, opened_in}
 use Rattle.csp_telling.proofs.Nodes.{IsAtNode, IsEnded, IsKnown, at_scene}

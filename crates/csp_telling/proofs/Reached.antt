@@ -5,11 +5,11 @@ use Rattle.csp_ends.specs.Ends.{IsHomeOf, PlainHome, PlainNodeQueues}
 use Rattle.csp_flow.specs.Closed.{IsClosed}
 use Rattle.csp_flow.specs.Remains.{AreLeftAt, PlainRemains}
 use Rattle.csp_posts.specs.Posts.{PlainPost}
-use Rattle.csp_prompt.specs.Shown.{AreReached}
 use Rattle.csp_record.specs.Record.{PlainRecord}
 use Rattle.csp_scene.specs.Scene.{PlainNode, PlainScene}
 use Rattle.csp_standing.proofs.Places.{post_at}
 use Rattle.csp_standing.specs.Network.{AreNodesOf, IsNetworkOf, PlainNetwork}
+use Rattle.csp_standing.specs.Shown.{AreReached}
 use Rattle.csp_telling.proofs.Nodes.{there_too}
 use Rattle.csp_topology.specs.Lanes.{PlainLane}
 use Rattle.csp_topology.specs.Parties.{parties_of}

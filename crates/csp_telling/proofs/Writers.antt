@@ -25,13 +25,13 @@ use Rattle.csp_log.specs.declared.shown.ItemShown.{ItemShown}
 use Rattle.csp_party.specs.Any.{PlainParty}
 use Rattle.csp_posts.specs.Between.{is_home}
 use Rattle.csp_posts.specs.Posts.{PlainPost}
-use Rattle.csp_prompt.proofs.Logged.{at_home}
 use Rattle.csp_record.specs.Who.{node_of}
 use Rattle.csp_record.specs.declared.who.Who.TheVariants as who
 use Rattle.csp_record.specs.declared.who.Who.{Who}
 use Rattle.csp_scene.specs.Links.{links_at, touches}
 use Rattle.csp_scene.specs.Scene.{PlainLink, PlainNode, PlainScene}
 use Rattle.csp_scene.specs.declared.limits.TheConstants.{MAX_LINKS}
+use Rattle.csp_standing.proofs.Logged.{at_home}
 use Rattle.csp_standing.specs.Network.{IsHomeIn, IsPostOf, PlainNetwork, leads, mark_for, opened_in}
 use Rattle.csp_telling.proofs.Marked.{priority_marked, sorted_out}
 use Rattle.csp_topology.specs.Lanes.{hub_of}

@@ -8,8 +8,6 @@ use Rattle.csp_closing.specs.Retired.{PlainRest, all_homes, all_rest, all_sides}
 use Rattle.csp_closing.specs.Stores.{CanEndParties, CanGiveBack, parties_back, pile_of, pool_part, rest_held, rest_log, with_held}
 use Rattle.csp_closing.specs.Times.{AreOrdered, rounds_among}
 use Rattle.csp_consistent.specs.Pools.{pools_held}
-use Rattle.csp_fabric.specs.Fabrics.{IsFabricOf}
-use Rattle.csp_fabric.specs.declared.fabric.NodeStore.{NodeStore}
 use Rattle.csp_party.specs.Any.{is_done}
 use Rattle.csp_posts.specs.Seen.{SeenPost}
 use Rattle.csp_posts.specs.declared.retired.Retired.{Retired}
@@ -17,6 +15,8 @@ use Rattle.csp_record.specs.Record.{PlainPartyLog}
 use Rattle.csp_scene.specs.Kept.{AreLinksAfter}
 use Rattle.csp_scene.specs.Ranges.{IsScene}
 use Rattle.csp_scene.specs.Scene.{PlainScene}
+use Rattle.csp_standing.specs.Fabrics.{IsFabricOf}
+use Rattle.csp_standing.specs.declared.fabric.NodeStore.{NodeStore}
 use Rattle.csp_topology.specs.declared.wire.Wire.{Wire}
 use Rattle.csp_closing.proofs.closing.close_fabric.Given.{Over}
 use Rattle.csp_closing.proofs.closing.close_fabric.Goals.{After-end_parties, After-end_queues, After-retire, After-weighs}

@@ -3,8 +3,8 @@ use Rattle.std.proofs.lemmas.List.Elements.{All-head, All-rest}
 use Rattle.csp_closing.proofs.Parting.{moved}
 use Rattle.csp_closing.specs.Stores.{CanGiveBack, pile_of}
 use Rattle.csp_ending.specs.Notes.{PlainNotes}
-use Rattle.csp_fabric.specs.declared.fabric.NodeStore.{NodeStore}
 use Rattle.csp_closing.proofs.parties.end_stores.Goals as goal
+use Rattle.csp_standing.specs.declared.fabric.NodeStore.{NodeStore}
 
 pub end_store-requires-clause-can : goal.end_store-requires-clause-can
 end_store-requires-clause-can c = All-head CanGiveBack (pile_of c.in-Some.rest) (map pile_of c.pop_front.new.self.items) (rw c.in-Some.ensures.items at c.loop-rest.invariant.can)

@@ -3,7 +3,7 @@ use Rattle.std.specs.Global.{Vec}
 use Rattle.csp_closing.proofs.Ending.{nodes_joined, nodes_none, nodes_split, none_left, rest_can, rest_wires}
 use Rattle.csp_closing.specs.Nodes.{NodesEnd, queue_count}
 use Rattle.csp_closing.specs.Retired.{all_homes, all_sides}
-use Rattle.csp_fabric.specs.declared.fabric.NodeStore.{NodeStore}
+use Rattle.csp_standing.specs.declared.fabric.NodeStore.{NodeStore}
 use Rattle.csp_topology.specs.declared.wire.Wire.{Wire}
 use Rattle.csp_closing.proofs.queues.+end_nodes.Goals as goal
 

@@ -6,9 +6,9 @@ use Rattle.csp_closing.specs.Retired.{all_homes, all_sides}
 use Rattle.csp_closing.specs.Wires.{WiresEnd, rooms_in}
 use Rattle.csp_ending.specs.Ends.{InboxEnds}
 use Rattle.csp_ends.specs.Ends.{PlainNodeQueues, PlainSide}
-use Rattle.csp_fabric.specs.declared.fabric.NodeStore.{NodeStore}
 use Rattle.csp_inbox.specs.Passes.{IsPassOf}
 use Rattle.csp_closing.proofs.queues.end_node.Goals as goal
+use Rattle.csp_standing.specs.declared.fabric.NodeStore.{NodeStore}
 
 pub end_pool-first-requires-clause-of_it : goal.end_pool-first-requires-clause-of_it
 end_pool-first-requires-clause-of_it g c =

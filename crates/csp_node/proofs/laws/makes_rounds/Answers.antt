@@ -1,15 +1,15 @@
 use Rattle.std.proofs.Common.{◌≡◌, ℕ, ◌<◌, false, sym, ◌∙◌, subst, arith}
 use Rattle.std.specs.List.{AllZip}
 use Rattle.csp_consistent.specs.Rounds.{HaveMadeRounds}
-use Rattle.csp_fabric.specs.Fabrics.{network_of}
 use Rattle.csp_node.proofs.Entries.{all_late, all_short, all_turned, early_after}
 use Rattle.csp_node.proofs.Hearing.{all_heard}
 use Rattle.csp_node.proofs.Staying.{fabric_stays, round_stays}
 use Rattle.csp_node.specs.Rounds.{plains, weight_early}
 use Rattle.csp_posts.specs.Between.{AreInRounds, HasHeard}
 use Rattle.csp_posts.specs.Posts.{AreTurns}
-use Rattle.csp_prompt.specs.Played.{are_done}
+use Rattle.csp_standing.specs.Fabrics.{network_of}
 use Rattle.csp_standing.specs.Network.{IsNetworkOf, opened_in}
+use Rattle.csp_standing.specs.Played.{are_done}
 use Rattle.csp_topology.specs.Parties.{parties_of}
 use Rattle.csp_node.proofs.laws.makes_rounds.Goals as goal
 

@@ -1,11 +1,11 @@
 use Rattle.std.proofs.Common.{◌≡◌, [], arith}
 use Rattle.std.specs.Prelude.{IfSome}
 use Rattle.std.specs.List.{AllByRecursion}
-use Rattle.csp_fabric.specs.Fabrics.{network_of}
 use Rattle.csp_node.proofs.Entries.{each_plain, none_long}
 use Rattle.csp_node.specs.Rounds.{plains}
 use Rattle.csp_posts.specs.Books.{IsFresh}
 use Rattle.csp_posts.specs.Posts.{PlainPost}
+use Rattle.csp_standing.specs.Fabrics.{network_of}
 use Rattle.csp_topology.specs.Parties.{parties_of}
 use Rattle.csp_node.proofs.laws.starts_rounds.Goals as goal
 

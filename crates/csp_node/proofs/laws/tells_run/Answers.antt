@@ -1,10 +1,10 @@
 use Rattle.csp_consistent.specs.Consistent.{IsConsistent}
-use Rattle.csp_fabric.specs.Fabrics.{network_of}
 use Rattle.csp_node.proofs.Closing.{finished, made, stopped}
 use Rattle.csp_node.specs.Rounds.{plains}
-use Rattle.csp_prompt.specs.Shown.{AreLoggedBy}
+use Rattle.csp_standing.specs.Fabrics.{network_of}
 use Rattle.csp_standing.specs.Network.{opened_in}
 use Rattle.csp_node.proofs.laws.tells_run.Goals as goal
+use Rattle.csp_standing.specs.Shown.{AreLoggedBy}
 
 pub returns-clause-threaded : goal.returns-clause-threaded
 returns-clause-threaded c = λ scene f limit posts r ranges links run closed.

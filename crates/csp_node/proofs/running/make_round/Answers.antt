@@ -1,7 +1,7 @@
 use Rattle.std.proofs.Common.{◌<◌, ◌^◌, arith}
-use Rattle.csp_fabric.specs.Fabrics.{network_of}
 use Rattle.csp_node.proofs.Staying.{all_each, all_of_it}
 use Rattle.csp_posts.specs.Ready.{CanTurn}
+use Rattle.csp_standing.specs.Fabrics.{network_of}
 use Rattle.csp_topology.specs.Parties.{parties_of}
 use Rattle.csp_node.proofs.running.make_round.Goals as goal
 

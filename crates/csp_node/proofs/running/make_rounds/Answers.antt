@@ -1,11 +1,11 @@
 use Rattle.std.proofs.Common.{◌≡◌, true, length, sym, ap, ◌∙◌, arith}
-use Rattle.csp_fabric.specs.Fabrics.{network_of}
 use Rattle.csp_node.proofs.Entries.{room_left}
 use Rattle.csp_node.proofs.Rounds.{finished_plain}
 use Rattle.csp_node.proofs.Staying.{as_many, between_still, fabric_still, plains_still}
 use Rattle.csp_node.specs.Rounds.{plains, weight}
-use Rattle.csp_prompt.specs.Played.{are_done}
 use Rattle.csp_scene.specs.Scene.{PlainScene}
+use Rattle.csp_standing.specs.Fabrics.{network_of}
+use Rattle.csp_standing.specs.Played.{are_done}
 use Rattle.csp_topology.specs.Parties.{parties_of}
 use Rattle.csp_node.proofs.running.make_rounds.Goals as goal
 

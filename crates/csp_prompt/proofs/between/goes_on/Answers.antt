@@ -1,5 +1,0 @@
-use Rattle.csp_prompt.proofs.Onward.{on_and_on}
-use Rattle.csp_prompt.proofs.between.goes_on.Goals as goal
-
-pub returns : goal.returns
-returns c = on_and_on
