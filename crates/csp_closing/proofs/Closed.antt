@@ -19,8 +19,6 @@ use Rattle.csp_closing.specs.Stores.{CanEndParties, CanGiveBack, PlainPile, part
 use Rattle.csp_closing.specs.Times.{AreOrdered, IsOrdered, rounds_among}
 use Rattle.csp_consistent.specs.Pools.{left_held, pools_held}
 use Rattle.csp_ending.specs.Notes.{PlainNotes}
-use Rattle.csp_flow.specs.Closed.{IsClosed, IsRecordOf, log_of, post_held}
-use Rattle.csp_flow.specs.Remains.{AreRemains, PlainRemains}
 use Rattle.csp_log.specs.Remains.{PlainHeld, PlainLeft}
 use Rattle.csp_party.specs.Any.{is_done}
 use Rattle.csp_posts.specs.Posts.{PlainPost}
@@ -38,6 +36,8 @@ use Rattle.csp_standing.specs.Network.{IsNetworkOf, PlainNetwork}
 use Rattle.csp_standing.specs.Played.{are_done}
 use Rattle.csp_standing.specs.declared.fabric.Fabric.{Fabric}
 use Rattle.csp_standing.specs.declared.fabric.NodeStore.{NodeStore}
+use Rattle.csp_telling.specs.Closed.{IsClosed, IsRecordOf, log_of, post_held}
+use Rattle.csp_telling.specs.Remains.{AreRemains, PlainRemains}
 use Rattle.csp_topology.specs.Parties.{parties_of, party_steps}
 use Rattle.csp_topology.specs.Wires.{wires_of}
 use Rattle.csp_topology.specs.declared.wire.Wire.{Wire}

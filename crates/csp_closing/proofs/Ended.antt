@@ -21,7 +21,6 @@ use Rattle.csp_consistent.specs.Pools.{is_node}
 use Rattle.csp_deck.specs.Runs.{Steps, state_after}
 use Rattle.csp_deck.specs.Step.{times}
 use Rattle.csp_ends.specs.Ends.{PlainHome, PlainSide, region_or}
-use Rattle.csp_flow.specs.Remains.{PlainRemains, held_at, inbox_numbers, returned}
 use Rattle.csp_lists.specs.PlainDeck.{numbers_of}
 use Rattle.csp_log.specs.declared.entry.Entry.{Entry}
 use Rattle.csp_log.specs.declared.shown.AnswerShown.{AnswerShown}
@@ -39,6 +38,7 @@ use Rattle.csp_standing.proofs.Places.{home_named, post_at}
 use Rattle.csp_standing.specs.Fabrics.{AreStoresOf, CanNote, IsStoreOf, buffers_at}
 use Rattle.csp_standing.specs.Network.{IsNetworkOf, IsPostOf, PlainNetwork}
 use Rattle.csp_standing.specs.declared.fabric.NodeStore.{NodeStore}
+use Rattle.csp_telling.specs.Remains.{PlainRemains, held_at, inbox_numbers, returned}
 use Rattle.csp_topology.specs.Lanes.{PlainLane}
 use Rattle.csp_topology.specs.Parties.{PlainOpening, parties_of, party_steps}
 

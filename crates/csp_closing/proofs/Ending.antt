@@ -19,8 +19,6 @@ use Rattle.csp_ending.specs.Ends.{InboxEnds, LaneEnds, PoolEnds, with_inbox}
 use Rattle.csp_ending.specs.Notes.{PlainNotes, left_note, with_queue}
 use Rattle.csp_ending.specs.Stores.{PlainStore, TakesBack}
 use Rattle.csp_ends.specs.Ends.{PlainHome, PlainNodeQueues, PlainSide}
-use Rattle.csp_flow.specs.Closed.{inbox_notes}
-use Rattle.csp_flow.specs.Remains.{PlainRemains, inbox_numbers}
 use Rattle.csp_inbox.specs.Passes as inbox
 use Rattle.csp_lane.specs.Ends.{PlainEnd, PlainLane}
 use Rattle.csp_lane.specs.Marks.{AreHeeded}
@@ -32,6 +30,8 @@ use Rattle.csp_log.specs.declared.shown.ItemShown.{ItemShown}
 use Rattle.csp_log.specs.declared.shown.ItemShown.TheVariants as item
 use Rattle.csp_standing.specs.declared.fabric.NodeRooms.{NodeRooms}
 use Rattle.csp_standing.specs.declared.fabric.NodeStore.{NodeStore}
+use Rattle.csp_telling.specs.Closed.{inbox_notes}
+use Rattle.csp_telling.specs.Remains.{PlainRemains, inbox_numbers}
 use Rattle.csp_topology.specs.declared.wire.Wire.{Wire}
 
 -- an item has one buffer at most

@@ -16,7 +16,6 @@ use Rattle.csp_closing.specs.Hands.{homes_at}
 use Rattle.csp_closing.specs.Nodes.{AreLeftIn, CanAllEnd, HaveBack, queue_count}
 use Rattle.csp_consistent.specs.Pools.{place_named}
 use Rattle.csp_ends.specs.Ends.{PlainNodeQueues, PlainSide, IsSideOf}
-use Rattle.csp_flow.specs.Remains.{AreLeftAt, AreRemains, PlainRemains}
 use Rattle.csp_log.specs.declared.places.Carries.{Carries}
 use Rattle.csp_log.specs.declared.places.Place.TheVariants as place
 use Rattle.csp_log.specs.declared.places.QueueId.{QueueId}
@@ -31,6 +30,7 @@ use Rattle.csp_standing.specs.Fabrics.{AreRoomsOf, AreStoresOf, network_of, queu
 use Rattle.csp_standing.specs.Network.{AreNodesOf, IsNetworkOf, IsSideAmong, PlainNetwork, sides_from}
 use Rattle.csp_standing.specs.declared.fabric.Fabric.{Fabric}
 use Rattle.csp_standing.specs.declared.fabric.NodeStore.{NodeStore}
+use Rattle.csp_telling.specs.Remains.{AreLeftAt, AreRemains, PlainRemains}
 use Rattle.csp_topology.specs.Lanes.{PlainLane}
 use Rattle.csp_topology.specs.Parties.{PlainOpening, parties_of}
 use Rattle.csp_topology.specs.Wired.{IsNamedFor, StaysHome}

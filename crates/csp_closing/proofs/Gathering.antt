@@ -10,10 +10,10 @@ use Rattle.csp_closing.proofs.Lists.{differs, equal, equals}
 use Rattle.csp_closing.specs.Hands.{AreOpen, CanGather, all_joined, gathered, joined, joined_inbox, opening}
 use Rattle.csp_closing.specs.declared.passes.Passes.{Passes}
 use Rattle.csp_ends.specs.Ends.{PlainHome, PlainNodeQueues}
-use Rattle.csp_flow.specs.Remains.{kept_by}
 use Rattle.csp_inbox.specs.Marks.{is_in, without}
 use Rattle.csp_inbox.specs.Passes as inbox
 use Rattle.csp_log.specs.declared.shown.ItemShown.{ItemShown}
+use Rattle.csp_telling.specs.Remains.{kept_by}
 
 inbox_stays : (x : inbox.PlainInbox) (p : inbox.PlainPass) (o : Option inbox.PlainPass) → inbox.IsPassOf x p → inbox.IsPassOf x (joined_inbox p o)
 inbox_stays x p None h = h

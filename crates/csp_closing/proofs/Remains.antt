@@ -17,7 +17,6 @@ use Rattle.csp_closing.specs.declared.passes.Passes.{Passes}
 use Rattle.csp_deck.specs.Step.{times}
 use Rattle.csp_ending.specs.Ends.{IsLeftAt}
 use Rattle.csp_ends.specs.Ends.{PlainHome, PlainNodeQueues, PlainSide}
-use Rattle.csp_flow.specs.Remains.{AreLeftAt, IsInboxLeft, IsLaneLeft, IsPoolLeft, PlainRemains, kept_at, kept_by, kept_from, put_at, put_from, taken_at, taken_from}
 use Rattle.csp_inbox.specs.Marks.{with_mark}
 use Rattle.csp_inbox.specs.Passes as inbox
 use Rattle.csp_log.specs.declared.shown.ItemShown.{ItemShown}
@@ -26,6 +25,7 @@ use Rattle.csp_posts.specs.Between as between
 use Rattle.csp_posts.specs.Posts.{PlainPost}
 use Rattle.csp_scene.specs.Scene.{PlainScene}
 use Rattle.csp_standing.specs.Shown as shown
+use Rattle.csp_telling.specs.Remains.{AreLeftAt, IsInboxLeft, IsLaneLeft, IsPoolLeft, PlainRemains, kept_at, kept_by, kept_from, put_at, put_from, taken_at, taken_from}
 use Rattle.csp_topology.specs.declared.wire.Wire.{Wire}
 
 -- the ends of lanes that posts have

@@ -5,9 +5,9 @@ use Rattle.std.specs.List.{AllByRecursion}
 use Rattle.std.proofs.lemmas.Option.{same_Some}
 use Rattle.csp_closing.specs.Times.{IsOrdered, rounds_among}
 use Rattle.csp_deck.specs.Runs.{IsRun, Steps, last_time}
-use Rattle.csp_flow.specs.Closed.{log_of, rounds_in, rounds_of}
 use Rattle.csp_log.specs.declared.entry.Entry.{Entry}
 use Rattle.csp_posts.specs.Posts.{PlainPost}
+use Rattle.csp_telling.specs.Closed.{log_of, rounds_in, rounds_of}
 
 -- no time of a run is later than its last one
 last_up : {S : Type 0} (p : Steps S) (time : ℕ) (s : S) (es : List Entry) → IsRun p time s es → time ≤ last_time time es

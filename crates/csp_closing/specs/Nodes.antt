@@ -9,14 +9,14 @@ use Rattle.csp_closing.specs.declared.passes.Passes.{Passes}
 use Rattle.csp_ending.specs.Ends.{IsLeftAt}
 use Rattle.csp_ending.specs.Notes.{PlainNotes}
 use Rattle.csp_ends.specs.Ends.{PlainHome, PlainNodeQueues, PlainSide}
-use Rattle.csp_flow.specs.Closed.{inbox_notes}
-use Rattle.csp_flow.specs.Remains.{PlainRemains, inbox_numbers}
 use Rattle.csp_inbox.specs.Passes as inbox
 use Rattle.csp_lists.specs.PlainDeck.{numbers_of}
 use Rattle.csp_log.specs.Remains.{PlainLeft}
 use Rattle.csp_pool.specs.Fairness.{Closes}
 use Rattle.csp_standing.specs.declared.fabric.NodeRooms.{NodeRooms}
 use Rattle.csp_standing.specs.declared.fabric.NodeStore.{NodeStore}
+use Rattle.csp_telling.specs.Closed.{inbox_notes}
+use Rattle.csp_telling.specs.Remains.{PlainRemains, inbox_numbers}
 use Rattle.csp_topology.specs.declared.wire.Wire.{Wire}
 use Rattle.std.specs.Prelude.{Option}
 

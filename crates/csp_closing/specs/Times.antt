@@ -2,9 +2,9 @@
 use Rattle.std.specs.Prelude.{◌≤◌, ◌<◌, ◌^◌, ℕ, List, [], ◌∷◌, max}
 use Rattle.std.specs.List.{AllByRecursion}
 use Rattle.csp_deck.specs.Runs.{last_time}
-use Rattle.csp_flow.specs.Closed.{rounds_in}
 use Rattle.csp_log.specs.declared.entry.Entry.{Entry}
 use Rattle.csp_record.specs.Record.{PlainPartyLog}
+use Rattle.csp_telling.specs.Closed.{rounds_in}
 
 -- the rounds of all these logs
 abbrev pub rounds_among : List PlainPartyLog → ℕ

@@ -1,21 +1,21 @@
 //! The end of a network's run.
 
 ghost use Rattle.std.specs.Prelude.{[], length, map};
-ghost use Rattle.csp_flow.specs.Closed.{IsClosed};
 ghost use Rattle.csp_scene.specs.Kept.{AreLinksAfter};
 ghost use Rattle.csp_scene.specs.Ranges.{IsScene};
 ghost use Rattle.csp_scene.specs.Scene.{PlainScene};
 ghost use Rattle.csp_standing.specs.Fabrics.{IsFabricOf};
+ghost use Rattle.csp_telling.specs.Closed.{IsClosed};
 
 use crate::parties::{end_parties, end_stores};
 use crate::queues::end_queues;
 use crate::retiring::retire;
 use crate::times::rounds_of;
-use csp_flow::returns_all;
 use csp_lists::weighs;
 use csp_posts::{Post, are_finished};
 use csp_record::Record;
 use csp_standing::Fabric;
+use csp_telling::returns_all;
 use csp_topology::{joins_parties, leads_with_hubs, names_parties_apart, stays_home};
 use std::sync::Wait;
 

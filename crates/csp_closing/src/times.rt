@@ -2,7 +2,7 @@
 
 ghost use Rattle.std.specs.Prelude.{◌≡◌};
 ghost use Rattle.csp_closing.specs.Times.{AreOrdered, IsOrdered, rounds_among};
-ghost use Rattle.csp_flow.specs.Closed.{rounds_in};
+ghost use Rattle.csp_telling.specs.Closed.{rounds_in};
 
 use csp_log::Log;
 use csp_record::PartyLog;

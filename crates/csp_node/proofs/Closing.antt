@@ -1,7 +1,6 @@
 -- What the record of a network that has been run says of its logs.
 use Rattle.std.proofs.Common.{◌≡◌, inl, inr, ℕ, ◌-◌, ◌<◌, ◌≤◌, List, sum_by, sym, ap, ◌∙◌, subst}
 use Rattle.csp_consistent.specs.Rounds.{HaveMadeRounds, early}
-use Rattle.csp_flow.specs.Closed.{IsClosed, log_of}
 use Rattle.csp_log.specs.Weights.{weight_of_all}
 use Rattle.csp_node.proofs.Entries.{sum_mapped}
 use Rattle.csp_node.proofs.Rounds.{rounds_made}
@@ -12,6 +11,7 @@ use Rattle.csp_record.specs.Record.{PlainPartyLog, PlainRecord}
 use Rattle.csp_scene.specs.Scene.{PlainScene}
 use Rattle.csp_standing.specs.Played.{are_done, logs_of}
 use Rattle.csp_standing.specs.declared.fabric.Fabric.{Fabric}
+use Rattle.csp_telling.specs.Closed.{IsClosed, log_of}
 use Rattle.csp_topology.specs.Parties.{parties_of}
 
 module _ (scene : PlainScene) (f : Fabric) (limit : ℕ) (posts : List SeenPost) (r : PlainRecord) (run : HasRun scene f limit posts) (closed : IsClosed scene (plains posts) r) where

@@ -3,13 +3,13 @@ use Rattle.std.proofs.Common.{◌≡◌, ◌⊎◌, inl, inr, ℕ, zero, suc, �
 use Rattle.std.specs.Prelude.{if◌then◌else◌}
 use Rattle.std.specs.List.{AllByRecursion, list_all}
 use Rattle.csp_consistent.specs.Rounds.{HaveMadeRounds, app_turns, is_app, turns_in}
-use Rattle.csp_flow.specs.Closed.{rounds_in, rounds_of}
 use Rattle.csp_log.specs.declared.entry.Entry.{Entry}
 use Rattle.csp_node.specs.Rounds.{plains}
 use Rattle.csp_party.specs.Any.{is_done}
 use Rattle.csp_posts.specs.Posts.{PlainPost}
 use Rattle.csp_posts.specs.Seen.{SeenPost}
 use Rattle.csp_standing.specs.Played.{are_done, logs_of}
+use Rattle.csp_telling.specs.Closed.{rounds_in, rounds_of}
 use Rattle.csp_topology.specs.Parties.{PlainOpening}
 
 max_least : (a b n : ℕ) → a ≤ n → b ≤ n → max a b ≤ n

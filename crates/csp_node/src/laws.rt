@@ -4,7 +4,6 @@ ghost use Rattle.std.specs.Prelude.{◌≡◌, ◌+◌, ◌^◌, ◌<◌, ◌≤
 ghost use Rattle.std.specs.List.{AllByRecursion, AllZip};
 ghost use Rattle.csp_causal.specs.Causal.{IsCausal};
 ghost use Rattle.csp_consistent.specs.Threaded.{IsThreaded};
-ghost use Rattle.csp_flow.specs.Closed.{IsClosed};
 ghost use Rattle.csp_node.specs.Rounds.{HasRun, IsBetween, plains, weight};
 ghost use Rattle.csp_node.specs.Runs.{HasStopped};
 ghost use Rattle.csp_posts.specs.Between.{HaveMet};
@@ -20,6 +19,7 @@ ghost use Rattle.csp_scene.specs.Scene.{PlainScene};
 ghost use Rattle.csp_standing.specs.Fabrics.{IsFabricOf};
 ghost use Rattle.csp_standing.specs.Played.{are_done};
 ghost use Rattle.csp_standing.specs.declared.fabric.Fabric.{Fabric};
+ghost use Rattle.csp_telling.specs.Closed.{IsClosed};
 
 use csp_posts::turns_keep_books;
 use csp_standing::{

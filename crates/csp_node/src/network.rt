@@ -3,7 +3,6 @@
 ghost use Rattle.std.specs.Prelude.{◌≡◌, [], IfOk, IfSome, length, map};
 ghost use Rattle.std.specs.List.{AllByRecursion, AllZip};
 ghost use Rattle.csp_ends.specs.Ends.{AreOf};
-ghost use Rattle.csp_flow.specs.Closed.{IsClosed};
 ghost use Rattle.csp_posts.specs.Between.{HaveMet};
 ghost use Rattle.csp_posts.specs.Books.{AreInBooks, IsFresh};
 ghost use Rattle.csp_posts.specs.Meetings.{HasMet};
@@ -11,6 +10,7 @@ ghost use Rattle.csp_scene.specs.Kept.{AreLinksAfter};
 ghost use Rattle.csp_scene.specs.Ranges.{IsScene};
 ghost use Rattle.csp_scene.specs.Scene.{PlainScene};
 ghost use Rattle.csp_standing.specs.Fabrics.{IsFabricOf};
+ghost use Rattle.csp_telling.specs.Closed.{IsClosed};
 
 use csp_closing::close_fabric;
 use csp_opening::open_fabric;

@@ -12,8 +12,6 @@ use Rattle.csp_consistent.specs.Queues.{UsesItsQueues}
 use Rattle.csp_consistent.specs.Reading.{entries_of, gets, is_who, left_in, of_priority, put_by, puts, with_mark, with_priority}
 use Rattle.csp_deck.specs.Carried.{IsCarried}
 use Rattle.csp_ends.specs.Traced.{IsHomeTraced, IsMailTraced}
-use Rattle.csp_flow.specs.Closed.{log_of}
-use Rattle.csp_flow.specs.Remains.{kept_at, kept_from}
 use Rattle.csp_inbox.specs.Marks as marks
 use Rattle.csp_inbox.specs.Passes as inbox
 use Rattle.csp_log.specs.declared.entry.Entry.{Entry}
@@ -35,6 +33,8 @@ use Rattle.csp_telling.proofs.LanesLeft.{own_entries}
 use Rattle.csp_telling.proofs.Marked.{priority_carried, same_marked}
 use Rattle.csp_telling.proofs.Nodes.{IsAtNode, IsEnded, IsKnown, at_scene}
 use Rattle.csp_telling.proofs.Writers.{IsWritten, written}
+use Rattle.csp_telling.specs.Closed.{log_of}
+use Rattle.csp_telling.specs.Remains.{kept_at, kept_from}
 use Rattle.csp_topology.specs.Lanes.{hub_of}
 use Rattle.csp_topology.specs.Parties.{PlainOpening, parties_of}
 use Rattle.csp_topology.specs.Wires.{wires_of}

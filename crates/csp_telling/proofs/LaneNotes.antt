@@ -8,14 +8,14 @@ use Rattle.csp_base.specs.declared.priority.Prio.TheVariants.{Critical, High, No
 use Rattle.csp_base.specs.declared.priority.Prio.{Prio}
 use Rattle.csp_consistent.proofs.QueueNames.{queue_apart, queue_is, queue_same}
 use Rattle.csp_consistent.specs.Reading.{is_queue, left_here, left_in}
-use Rattle.csp_flow.specs.Closed.{all_notes, inbox_notes, lane_notes}
-use Rattle.csp_flow.specs.Remains.{PlainRemains}
 use Rattle.csp_log.specs.declared.places.QueueId.TheVariants as queue
 use Rattle.csp_log.specs.declared.places.QueueId.{QueueId}
 use Rattle.csp_log.specs.declared.shown.ItemShown.{ItemShown}
 use Rattle.csp_record.specs.Record.{PlainRecord}
 use Rattle.csp_telling.proofs.NodeNotes.{of_node}
 use Rattle.csp_telling.proofs.PlacesApart.{AreNamedApart}
+use Rattle.csp_telling.specs.Closed.{all_notes, inbox_notes, lane_notes}
+use Rattle.csp_telling.specs.Remains.{PlainRemains}
 use Rattle.csp_topology.specs.Lanes.{PlainLane}
 
 module _ (node : ℕ) (q : QueueId) (prio : ℕ) where

@@ -9,7 +9,6 @@ use Rattle.csp_consistent.specs.Prompt.{AllAfter, HadNoRoom}
 use Rattle.csp_consistent.specs.Reading.{entries_of, gets, left_in, puts}
 use Rattle.csp_ends.specs.Ends.{IsSideOf, PlainNodeQueues, PlainSide}
 use Rattle.csp_ends.specs.Traced.{IsSideTraced, moved}
-use Rattle.csp_flow.specs.Remains.{IsLaneLeft}
 use Rattle.csp_lane.specs.Ends.{IsEndOf as IsEndThere, PlainEnd, PlainLane as Queue}
 use Rattle.csp_lists.specs.PlainDeck.{lane_room}
 use Rattle.csp_log.specs.declared.entry.Entry.{Entry}
@@ -33,6 +32,7 @@ use Rattle.csp_telling.proofs.LaneNotes.{lane_left}
 use Rattle.csp_telling.proofs.Logs.{are_logged, are_logs}
 use Rattle.csp_telling.proofs.Nodes.{IsAtNode, IsEnded, IsKnown, at_scene, there_too}
 use Rattle.csp_telling.proofs.WireNames.{HasWire, wire_named}
+use Rattle.csp_telling.specs.Remains.{IsLaneLeft}
 use Rattle.csp_topology.specs.Lanes.{PlainLane, lanes_of}
 use Rattle.csp_topology.specs.Parties.{parties_of}
 use Rattle.csp_topology.specs.Wired.{IsWire}

@@ -1,10 +1,15 @@
 mod CausesLeft
+mod Ends
 mod Heeded
+mod Homes
+mod Inboxes
 mod InboxesLeft
 mod LaneNotes
+mod Lanes
 mod LanesLeft
 mod Logs
 mod Marked
+mod Marks
 mod NodeNotes
 mod Nodes
 mod NumbersKept
@@ -12,7 +17,10 @@ mod PlacesApart
 mod PoolsLeft
 mod QueuesNoted
 mod Reached
+mod Returned
+mod Sums
 mod Together
 mod WholeNotes
 mod WireNames
+mod Wires
 mod Writers

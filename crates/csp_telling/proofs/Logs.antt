@@ -1,13 +1,13 @@
 -- The logs of a record are those of its posts, and runs of their parties.
 use Rattle.std.proofs.Common.{List, [], ◌∷◌, map, refl, sym, ap, subst}
 use Rattle.csp_consistent.specs.Runs.{AreLogsOf}
-use Rattle.csp_flow.specs.Closed.{IsClosed, log_of}
 use Rattle.csp_party.specs.Any.{present_step}
 use Rattle.csp_posts.specs.Posts.{PlainPost}
 use Rattle.csp_record.specs.Record.{PlainRecord}
 use Rattle.csp_scene.specs.Scene.{PlainScene}
 use Rattle.csp_standing.specs.Network.{ArePostsOf, IsNetworkOf, PlainNetwork}
 use Rattle.csp_standing.specs.Shown.{AreLoggedBy}
+use Rattle.csp_telling.specs.Closed.{IsClosed, log_of}
 use Rattle.csp_topology.specs.Parties.{PlainOpening, parties_of}
 
 each_logged : (posts : List PlainPost) → AreLoggedBy posts (map log_of posts)

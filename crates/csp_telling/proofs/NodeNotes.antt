@@ -7,11 +7,11 @@ use Rattle.std.proofs.lemmas.Option.{same_Some}
 use Rattle.csp_base.specs.declared.priority.Prio.TheVariants.{Critical, High, Normal, Low}
 use Rattle.csp_base.specs.declared.priority.Prio.{Prio}
 use Rattle.csp_ending.specs.Notes.{left_note}
-use Rattle.csp_flow.specs.Closed.{all_notes, inbox_notes, lane_notes, node_notes}
-use Rattle.csp_flow.specs.Remains.{PlainRemains}
 use Rattle.csp_log.specs.Remains.{PlainLeft}
 use Rattle.csp_log.specs.declared.places.QueueId.TheVariants as queue
 use Rattle.csp_log.specs.declared.shown.ItemShown.{ItemShown}
+use Rattle.csp_telling.specs.Closed.{all_notes, inbox_notes, lane_notes, node_notes}
+use Rattle.csp_telling.specs.Remains.{PlainRemains}
 use Rattle.csp_topology.specs.Lanes.{PlainLane}
 
 -- of what is told of no other node

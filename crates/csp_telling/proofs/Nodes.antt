@@ -5,8 +5,6 @@ use Rattle.std.specs.Option.{option_map}
 use Rattle.std.proofs.lemmas.Option.{same_Some, slice_get-map}
 use Rattle.csp_consistent.specs.Queues.{UseTheirQueues}
 use Rattle.csp_deck.specs.Carried.{places_of}
-use Rattle.csp_flow.specs.Closed.{IsClosed}
-use Rattle.csp_flow.specs.Remains.{AreLeftAt, AreRemains, PlainRemains}
 use Rattle.csp_lists.specs.Order.{places_in}
 use Rattle.csp_log.specs.declared.places.Place.TheVariants as place
 use Rattle.csp_log.specs.declared.places.QueueId.TheVariants as queue
@@ -17,6 +15,8 @@ use Rattle.csp_scene.specs.Scene.{PlainNode, PlainScene}
 use Rattle.csp_scene.specs.declared.limits.TheConstants.{MAX_LINKS}
 use Rattle.csp_standing.specs.Network.{IsNetworkOf, PlainNetwork}
 use Rattle.csp_telling.proofs.PlacesApart.{AreNamedApart, named_apart}
+use Rattle.csp_telling.specs.Closed.{IsClosed}
+use Rattle.csp_telling.specs.Remains.{AreLeftAt, AreRemains, PlainRemains}
 use Rattle.csp_topology.specs.Lanes.{PlainLane, hub_of, lanes_of}
 use Rattle.csp_topology.specs.Parties.{PlainOpening, parties_of}
 use Rattle.csp_topology.specs.Wired.{IsWire, Stands}

@@ -2,7 +2,6 @@
 use Rattle.std.proofs.Common.{◌≡◌, List, [], ◌∷◌, ◌++◌, map, flat_map, refl, sym, ap, ◌∙◌}
 use Rattle.std.specs.Option.{option_map, option_to_list}
 use Rattle.csp_consistent.specs.Pools.{AreNumbersKept, held_by, left_held, parties_held, party_held, pools_held}
-use Rattle.csp_flow.specs.Closed.{log_of, post_held}
 use Rattle.csp_log.specs.Remains.{PlainHeld}
 use Rattle.csp_party.specs.Any.{PlainParty, holds}
 use Rattle.csp_posts.specs.Posts.{PlainPost}
@@ -13,6 +12,7 @@ use Rattle.csp_standing.specs.Network.{ArePostsOf, PlainNetwork}
 use Rattle.csp_telling.proofs.Nodes.{IsEnded, IsKnown}
 use Rattle.csp_telling.proofs.PoolsLeft.{in_pools, many_pools, pool_whole}
 use Rattle.csp_telling.proofs.QueuesNoted.{queues_noted}
+use Rattle.csp_telling.specs.Closed.{log_of, post_held}
 use Rattle.csp_topology.specs.Parties.{PlainOpening, parties_of}
 
 -- a party held what is its in its state after its log

@@ -12,9 +12,6 @@ use Rattle.csp_consistent.specs.Pools.{IsPoolWhole, given, given_at, is_node, ta
 use Rattle.csp_deck.specs.Step.{times}
 use Rattle.csp_ends.specs.Ends.{PlainHome}
 use Rattle.csp_ends.specs.Traced.{IsHomeTraced}
-use Rattle.csp_flow.specs.Closed.{log_of}
-use Rattle.csp_flow.specs.Remains as flow
-use Rattle.csp_flow.specs.Remains.{PlainRemains, put_at, put_from, taken_from}
 use Rattle.csp_log.specs.declared.entry.Entry.{Entry}
 use Rattle.csp_posts.specs.Between.{is_home}
 use Rattle.csp_posts.specs.Posts.{PlainPost}
@@ -30,6 +27,9 @@ use Rattle.csp_standing.proofs.Places.{IsAt, post_at}
 use Rattle.csp_standing.specs.Network.{ArePostsOf, IsPostOf, PlainNetwork, leads, opened_at, opened_in}
 use Rattle.csp_telling.proofs.Nodes.{IsAtNode, IsEnded, IsKnown, at_scene}
 use Rattle.csp_telling.proofs.Writers.{hub_is, node_is}
+use Rattle.csp_telling.specs.Closed.{log_of}
+use Rattle.csp_telling.specs.Remains as remains
+use Rattle.csp_telling.specs.Remains.{PlainRemains, put_at, put_from, taken_from}
 use Rattle.csp_topology.specs.Lanes.{hub_of}
 use Rattle.csp_topology.specs.Parties.{PlainOpening, parties_of}
 use Rattle.csp_topology.specs.Wired.{Stands}
@@ -112,7 +112,7 @@ all_put scene n node k (o ∷ os) (s ∷ posts) are =
 all_put scene n node k [] (s ∷ posts) are = absurd are
 all_put scene n node k (o ∷ os) [] are = absurd are
 
-all_taken : (scene : PlainScene) (n : PlainNetwork) (node : ℕ) (os : List PlainOpening) (posts : List PlainPost) → ArePostsOf scene n os posts → flow.taken_at node posts ≡ flat_map (taken_at node) (map log_of posts)
+all_taken : (scene : PlainScene) (n : PlainNetwork) (node : ℕ) (os : List PlainOpening) (posts : List PlainPost) → ArePostsOf scene n os posts → remains.taken_at node posts ≡ flat_map (taken_at node) (map log_of posts)
 all_taken scene n node [] [] are = refl
 all_taken scene n node (o ∷ os) (s ∷ posts) are = λ i. one_taken scene n node o s are.0 i ++ all_taken scene n node os posts are.1 i
 all_taken scene n node [] (s ∷ posts) are = absurd are
@@ -169,7 +169,7 @@ module _ (scene : PlainScene) (n : PlainNetwork) (posts : List PlainPost) (r : P
     pool_whole k =
         let logs = sym ended.closed.told.parties in
         (λ i. times k (range_with_len 0 c.buffers) + times k (flat_map (given_at node) (ended.closed.told.parties i)))
-        ∙ ordered (times k (put_at node posts)) (times k (range_with_len 0 c.buffers)) (times k (flat_map (given_at node) (map log_of posts))) (times k (flat_map (taken_at node) (map log_of posts))) (times k (flow.taken_at node posts))
+        ∙ ordered (times k (put_at node posts)) (times k (range_with_len 0 c.buffers)) (times k (flat_map (given_at node) (map log_of posts))) (times k (flat_map (taken_at node) (map log_of posts))) (times k (remains.taken_at node posts))
         (times k here.has.remains.pool)
         (here.has.left.pool.whole k)
         (all_put scene n node k (parties_of scene) posts ended.net.parties

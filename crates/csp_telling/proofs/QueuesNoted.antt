@@ -3,8 +3,6 @@ use Rattle.std.proofs.Common.{◌≡◌, ◌+◌, ℕ, suc, Some, List, [], ◌�
 use Rattle.std.proofs.lemmas.List.{map-append}
 use Rattle.csp_consistent.specs.Whole.{AreQueuesLeft, at_node, left_name, queue_name, queues_from}
 use Rattle.csp_deck.specs.Carried.{places_of}
-use Rattle.csp_flow.specs.Closed.{all_notes, inbox_notes, lane_notes, node_notes}
-use Rattle.csp_flow.specs.Remains.{PlainRemains}
 use Rattle.csp_lists.specs.Order.{places_in}
 use Rattle.csp_log.specs.declared.places.Place.TheVariants as place
 use Rattle.csp_log.specs.declared.places.Place.{Place}
@@ -17,6 +15,8 @@ use Rattle.csp_scene.specs.Links.{links_at}
 use Rattle.csp_scene.specs.Scene.{PlainLink, PlainNode, PlainScene}
 use Rattle.csp_standing.specs.Network.{PlainNetwork}
 use Rattle.csp_telling.proofs.Nodes.{IsEnded}
+use Rattle.csp_telling.specs.Closed.{all_notes, inbox_notes, lane_notes, node_notes}
+use Rattle.csp_telling.specs.Remains.{PlainRemains}
 use Rattle.csp_topology.specs.Lanes.{PlainLane}
 use Rattle.csp_topology.specs.Wires.{wires_of}
 

@@ -2,8 +2,6 @@
 use Rattle.std.proofs.Common.{◌≡◌, ℕ, List, [], ◌∷◌, Option, None, Some, length, refl, sym, ◌∙◌, subst, slice_get, arith}
 use Rattle.std.specs.Prelude.{IfSome, IsSomeAnd}
 use Rattle.csp_ends.specs.Ends.{IsHomeOf, PlainHome, PlainNodeQueues}
-use Rattle.csp_flow.specs.Closed.{IsClosed}
-use Rattle.csp_flow.specs.Remains.{AreLeftAt, PlainRemains}
 use Rattle.csp_posts.specs.Posts.{PlainPost}
 use Rattle.csp_record.specs.Record.{PlainRecord}
 use Rattle.csp_scene.specs.Scene.{PlainNode, PlainScene}
@@ -11,6 +9,8 @@ use Rattle.csp_standing.proofs.Places.{post_at}
 use Rattle.csp_standing.specs.Network.{AreNodesOf, IsNetworkOf, PlainNetwork}
 use Rattle.csp_standing.specs.Shown.{AreReached}
 use Rattle.csp_telling.proofs.Nodes.{there_too}
+use Rattle.csp_telling.specs.Closed.{IsClosed}
+use Rattle.csp_telling.specs.Remains.{AreLeftAt, PlainRemains}
 use Rattle.csp_topology.specs.Lanes.{PlainLane}
 use Rattle.csp_topology.specs.Parties.{parties_of}
 use Rattle.csp_topology.specs.Wires.{wires_of}

@@ -11,8 +11,6 @@ use Rattle.std.proofs.lemmas.Option.{same_Some, slice_get-map}
 use Rattle.csp_base.specs.declared.priority.Prio.TheVariants.{Critical, High, Normal, Low}
 use Rattle.csp_consistent.specs.Pools.{held_by, is_node, left_held, pools_held}
 use Rattle.csp_deck.specs.Step.{item_numbers, times}
-use Rattle.csp_flow.specs.Closed.{all_notes, inbox_notes, lane_notes, post_held}
-use Rattle.csp_flow.specs.Remains.{AreRemains, PlainRemains, held_at, inbox_numbers, returned}
 use Rattle.csp_lists.specs.PlainDeck.{numbers_of}
 use Rattle.csp_log.specs.Remains.{PlainHeld, PlainLeft}
 use Rattle.csp_log.specs.declared.places.Place.TheVariants as place
@@ -31,6 +29,8 @@ use Rattle.csp_standing.specs.Network.{ArePostsOf, PlainNetwork}
 use Rattle.csp_telling.proofs.NodeNotes.{of_node}
 use Rattle.csp_telling.proofs.Nodes.{IsAtNode, IsEnded, at_scene}
 use Rattle.csp_telling.proofs.PoolsLeft.{in_pools}
+use Rattle.csp_telling.specs.Closed.{all_notes, inbox_notes, lane_notes, post_held}
+use Rattle.csp_telling.specs.Remains.{AreRemains, PlainRemains, held_at, inbox_numbers, returned}
 use Rattle.csp_topology.specs.Lanes.{PlainLane}
 use Rattle.csp_topology.specs.Parties.{PlainOpening, parties_of}
 use Rattle.csp_topology.specs.Wires.{wires_of}
@@ -39,7 +39,7 @@ use Rattle.csp_topology.specs.Wires.{wires_of}
 abbrev pub Weighs : Type 0
 Weighs = (xs ys : List ℕ) → ((k : ℕ) → times k xs ≡ times k ys) → (weight : ℕ → ℕ) → sum_by weight xs ≡ sum_by weight ys
 
--- what csp_flow says of what was left
+-- what `returns_all` says of what was left
 abbrev pub Returns : PlainScene → List PlainPost → Type 0
 Returns scene posts = (all : List PlainRemains) → AreRemains scene posts all → (node : ℕ) (c : PlainNode) (m : PlainRemains) → slice_get scene.nodes node ≡ Some c → slice_get all node ≡ Some m
     → (k : ℕ) → times k (returned node m posts) ≡ times k (range_with_len 0 c.buffers)

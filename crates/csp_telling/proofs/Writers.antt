@@ -15,7 +15,6 @@ use Rattle.csp_consistent.specs.Queues.{MayAsk}
 use Rattle.csp_consistent.specs.Reading.{is_who, puts, with_priority}
 use Rattle.csp_ends.specs.Ends.{PlainHome}
 use Rattle.csp_ends.specs.Traced.{IsHomeTraced, IsMailTraced}
-use Rattle.csp_flow.specs.Remains.{kept_by, kept_from}
 use Rattle.csp_inbox.specs.Marks as marks
 use Rattle.csp_inbox.specs.Passes as inbox
 use Rattle.csp_log.specs.declared.entry.Entry.{Entry}
@@ -34,6 +33,7 @@ use Rattle.csp_scene.specs.declared.limits.TheConstants.{MAX_LINKS}
 use Rattle.csp_standing.proofs.Logged.{at_home}
 use Rattle.csp_standing.specs.Network.{IsHomeIn, IsPostOf, PlainNetwork, leads, mark_for, opened_in}
 use Rattle.csp_telling.proofs.Marked.{priority_marked, sorted_out}
+use Rattle.csp_telling.specs.Remains.{kept_by, kept_from}
 use Rattle.csp_topology.specs.Lanes.{hub_of}
 use Rattle.csp_topology.specs.Parties.{PlainOpening}
 

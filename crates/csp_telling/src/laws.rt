@@ -3,7 +3,6 @@
 ghost use Rattle.std.specs.Prelude.{[], List, length, map};
 ghost use Rattle.csp_causal.specs.Causal.{IsCausal};
 ghost use Rattle.csp_consistent.specs.Consistent.{IsConsistent};
-ghost use Rattle.csp_flow.specs.Closed.{IsClosed};
 ghost use Rattle.csp_posts.specs.Posts.{PlainPost};
 ghost use Rattle.csp_record.specs.Record.{PlainRecord};
 ghost use Rattle.csp_record.specs.Whole.{IsWhole};
@@ -12,9 +11,10 @@ ghost use Rattle.csp_scene.specs.Ranges.{IsScene};
 ghost use Rattle.csp_scene.specs.Scene.{PlainScene};
 ghost use Rattle.csp_standing.specs.Network.{IsNetworkOf, PlainNetwork};
 ghost use Rattle.csp_standing.specs.Shown.{AreLoggedBy, AreReached};
+ghost use Rattle.csp_telling.specs.Closed.{IsClosed};
 
+use crate::buffers::returns_all;
 use csp_consistent::{applies_plans, names_origins, spreads_by_plans, use_their_own};
-use csp_flow::returns_all;
 use csp_lists::weighs;
 use csp_topology::{leads_with_hubs, names_parties_apart, orders_wires, wires_lanes};
 

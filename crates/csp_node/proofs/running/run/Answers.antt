@@ -2,7 +2,6 @@ use Rattle.std.proofs.Common.{◌≡◌, List, length, sym, ◌∙◌, subst}
 use Rattle.std.specs.Global.{Vec}
 use Rattle.std.specs.Vec.{with_items}
 use Rattle.std.proofs.lemmas.List.{with_items_is}
-use Rattle.csp_flow.specs.Closed.{IsClosed}
 use Rattle.csp_node.proofs.Staying.{as_many}
 use Rattle.csp_node.specs.Rounds.{plains}
 use Rattle.csp_posts.specs.Seen.{SeenPost}
@@ -10,6 +9,7 @@ use Rattle.csp_record.specs.Record.{PlainRecord}
 use Rattle.csp_scene.specs.Scene.{PlainScene}
 use Rattle.csp_standing.specs.Fabrics.{IsFabricOf, network_of}
 use Rattle.csp_standing.specs.declared.fabric.Fabric.{Fabric}
+use Rattle.csp_telling.specs.Closed.{IsClosed}
 use Rattle.csp_topology.specs.Parties.{parties_of}
 use Rattle.csp_node.proofs.running.run.Goals as goal
 

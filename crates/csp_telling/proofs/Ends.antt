@@ -9,10 +9,6 @@ use Rattle.csp_consistent.specs.Reading.{is_queue}
 use Rattle.csp_deck.specs.Carried.{IsCarried}
 use Rattle.csp_deck.specs.Step.{item_numbers}
 use Rattle.csp_ends.specs.Ends.{PlainHome, PlainSide}
-use Rattle.csp_flow.proofs.Homes.{home_is, is_there}
-use Rattle.csp_flow.proofs.Lanes.{AreAlone, AreHome}
-use Rattle.csp_flow.proofs.Wires.{HasWire, side_by, wire_of}
-use Rattle.csp_flow.specs.Remains.{AreRemains, PlainRemains}
 use Rattle.csp_lists.specs.PlainDeck.{IsLinkRule, numbers_of}
 use Rattle.csp_log.specs.declared.places.Carries.{Carries}
 use Rattle.csp_log.specs.declared.places.Carries.TheVariants as lane
@@ -28,6 +24,10 @@ use Rattle.csp_scene.specs.Scene.{PlainScene}
 use Rattle.csp_standing.proofs.Leaders.{Apart}
 use Rattle.csp_standing.proofs.Places.{IsAt, all_at, home_named, post_at}
 use Rattle.csp_standing.specs.Network.{IsNetworkOf, PlainNetwork, name_of}
+use Rattle.csp_telling.proofs.Homes.{home_is, is_there}
+use Rattle.csp_telling.proofs.Lanes.{AreAlone, AreHome}
+use Rattle.csp_telling.proofs.Wires.{HasWire, side_by, wire_of}
+use Rattle.csp_telling.specs.Remains.{AreRemains, PlainRemains}
 use Rattle.csp_topology.specs.Lanes.{PlainLane}
 use Rattle.csp_topology.specs.Parties.{parties_of}
 use Rattle.csp_topology.specs.Wired.{IsEndOf, Side, StaysHome, end_on, getting, putting}

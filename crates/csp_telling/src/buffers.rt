@@ -3,12 +3,12 @@
 ghost use Rattle.std.specs.Prelude.{◌≡◌, ℕ, [], List, Some, length, slice_get};
 ghost use Rattle.std.specs.List.{range_with_len};
 ghost use Rattle.csp_deck.specs.Step.{times};
-ghost use Rattle.csp_flow.specs.Remains.{AreRemains, PlainRemains, returned};
 ghost use Rattle.csp_posts.specs.Posts.{PlainPost};
 ghost use Rattle.csp_scene.specs.Kept.{AreLinksAfter};
 ghost use Rattle.csp_scene.specs.Ranges.{IsScene};
 ghost use Rattle.csp_scene.specs.Scene.{PlainNode, PlainScene};
 ghost use Rattle.csp_standing.specs.Network.{IsNetworkOf, PlainNetwork};
+ghost use Rattle.csp_telling.specs.Remains.{AreRemains, PlainRemains, returned};
 
 use csp_consistent::use_their_own;
 use csp_topology::{leads_with_hubs, names_parties_apart, stays_home};

@@ -6,14 +6,14 @@ use Rattle.std.proofs.lemmas.Bool.{eq-eqb, eqb-true}
 use Rattle.csp_deck.proofs.Keeping.{times-append}
 use Rattle.csp_deck.specs.Step.{times}
 use Rattle.csp_ends.specs.Ends.{PlainSide}
-use Rattle.csp_flow.proofs.Marks.{among, among-append}
-use Rattle.csp_flow.proofs.Sums.{sum_both, sum_none, sum_one, sum_same}
-use Rattle.csp_flow.specs.Remains.{IsLaneLeft}
 use Rattle.csp_lists.specs.PlainDeck.{numbers_of}
 use Rattle.csp_log.specs.declared.shown.ItemShown.{ItemShown}
 use Rattle.csp_posts.specs.Balance.{times_got, times_put}
 use Rattle.csp_posts.specs.Between.{is_home, over_home}
 use Rattle.csp_posts.specs.Posts.{PlainPost}
+use Rattle.csp_telling.proofs.Marks.{among, among-append}
+use Rattle.csp_telling.proofs.Sums.{sum_both, sum_none, sum_one, sum_same}
+use Rattle.csp_telling.specs.Remains.{IsLaneLeft}
 
 -- a number of an end, where it is of this lane of this node
 abbrev at_lane : (node lane : ℕ) → PlainSide → ℕ → ℕ

@@ -4,9 +4,9 @@ use Rattle.std.specs.Prelude.{if◌then◌else◌, slice_get}
 use Rattle.std.specs.List.{flat_map}
 use Rattle.std.proofs.lemmas.Bool.{eq-eqb, eqb-true}
 use Rattle.csp_ends.specs.Ends.{PlainHome}
-use Rattle.csp_flow.proofs.Sums.{sum_both, sum_flat, sum_one, sum_same}
 use Rattle.csp_posts.specs.Between.{is_home, over_home}
 use Rattle.csp_posts.specs.Posts.{PlainPost}
+use Rattle.csp_telling.proofs.Sums.{sum_both, sum_flat, sum_one, sum_same}
 
 -- a party is of a node where its home is
 pub home_is : (node : ℕ) (home : Option PlainHome) → is_home node home ≡ true → (h : PlainHome) × (home ≡ Some h) × (h.node ≡ node)

@@ -11,9 +11,6 @@ use Rattle.csp_consistent.specs.Reading.{got_by, gets, with_priority}
 use Rattle.csp_consistent.specs.Runs.{AreLogsOf}
 use Rattle.csp_ends.specs.Ends.{PlainHome, inbox_of}
 use Rattle.csp_ends.specs.Traced.{IsHomeTraced, IsMailTraced}
-use Rattle.csp_flow.proofs.Marks.{among}
-use Rattle.csp_flow.specs.Closed.{log_of}
-use Rattle.csp_flow.specs.Remains.{kept_by, kept_from}
 use Rattle.csp_inbox.specs.Passes as inbox
 use Rattle.csp_log.specs.declared.entry.Entry.{Entry}
 use Rattle.csp_log.specs.declared.places.QueueId.TheVariants as queue
@@ -30,6 +27,9 @@ use Rattle.csp_record.specs.declared.who.Who.TheVariants as who
 use Rattle.csp_scene.specs.Scene.{PlainScene}
 use Rattle.csp_standing.proofs.Places.{all_at}
 use Rattle.csp_standing.specs.Network.{ArePostsOf, IsNetworkOf, PlainNetwork, leads}
+use Rattle.csp_telling.proofs.Marks.{among}
+use Rattle.csp_telling.specs.Closed.{log_of}
+use Rattle.csp_telling.specs.Remains.{kept_by, kept_from}
 use Rattle.csp_topology.specs.Parties.{PlainOpening, parties_of}
 
 -- who doesn't lead its node pops no inbox

@@ -6,7 +6,6 @@ use Rattle.csp_base.specs.declared.priority.Prio.{Prio}
 use Rattle.csp_base.specs.declared.priority.Prio.TheVariants.{Critical, High, Normal, Low}
 use Rattle.csp_consistent.specs.Pools.{held_by, left_held, pools_held}
 use Rattle.csp_ending.specs.Notes.{left_note}
-use Rattle.csp_flow.specs.Remains.{AreRemains, PlainRemains}
 use Rattle.csp_log.specs.Remains.{PlainHeld, PlainLeft}
 use Rattle.csp_log.specs.declared.entry.Entry.{Entry}
 use Rattle.csp_log.specs.declared.places.QueueId.TheVariants as queue
@@ -17,6 +16,7 @@ use Rattle.csp_record.specs.Record.{PlainPartyLog, PlainRecord}
 use Rattle.csp_record.specs.Who.{home_of}
 use Rattle.csp_scene.specs.Scene.{PlainScene}
 use Rattle.csp_standing.specs.Played.{are_done}
+use Rattle.csp_telling.specs.Remains.{AreRemains, PlainRemains}
 use Rattle.csp_topology.specs.Lanes.{PlainLane}
 use Rattle.csp_topology.specs.Wires.{wires_of}
 

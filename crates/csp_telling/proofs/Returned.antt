@@ -9,12 +9,6 @@ use Rattle.csp_deck.proofs.Keeping.{times-append}
 use Rattle.csp_deck.specs.Step.{times}
 use Rattle.csp_ends.specs.Ends.{PlainHome, inbox_of}
 use Rattle.csp_ends.specs.Traced.{IsHomeTraced}
-use Rattle.csp_flow.proofs.Ends.{AllStay, ends_alone, ends_home}
-use Rattle.csp_flow.proofs.Homes.{home_both, home_flat, home_is, home_one, home_same, is_there}
-use Rattle.csp_flow.proofs.Inboxes.{UseOwn, followers_get_none, home_kept_parts, home_none_out}
-use Rattle.csp_flow.proofs.Lanes.{all_moved}
-use Rattle.csp_flow.proofs.Marks.{among, among-append, same_numbers}
-use Rattle.csp_flow.specs.Remains.{AreLeftAt, AreRemains, PlainRemains, held_at, inbox_numbers, kept_at, kept_from, put_at, put_from, returned, taken_at, taken_from}
 use Rattle.csp_inbox.specs.Passes as inbox
 use Rattle.csp_lists.specs.PlainDeck.{numbers_of}
 use Rattle.csp_party.specs.Any.{holds}
@@ -28,6 +22,12 @@ use Rattle.csp_scene.specs.Scene.{PlainNode, PlainScene}
 use Rattle.csp_standing.proofs.Leaders.{Apart, Hubs, Led, hub_at, hub_leads, hub_node, hub_place_of, leads_hub, node_in}
 use Rattle.csp_standing.proofs.Places.{post_at}
 use Rattle.csp_standing.specs.Network.{IsNetworkOf, PlainNetwork, leads, opened_at, opened_in}
+use Rattle.csp_telling.proofs.Ends.{AllStay, ends_alone, ends_home}
+use Rattle.csp_telling.proofs.Homes.{home_both, home_flat, home_is, home_one, home_same, is_there}
+use Rattle.csp_telling.proofs.Inboxes.{UseOwn, followers_get_none, home_kept_parts, home_none_out}
+use Rattle.csp_telling.proofs.Lanes.{all_moved}
+use Rattle.csp_telling.proofs.Marks.{among, among-append, same_numbers}
+use Rattle.csp_telling.specs.Remains.{AreLeftAt, AreRemains, PlainRemains, held_at, inbox_numbers, kept_at, kept_from, put_at, put_from, returned, taken_at, taken_from}
 use Rattle.csp_topology.specs.Lanes.{hub_of}
 use Rattle.csp_topology.specs.Parties.{parties_of}
 use Rattle.csp_topology.specs.Wired.{Stands}

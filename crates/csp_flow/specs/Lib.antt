@@ -1,2 +1,0 @@
-pub mod Remains
-pub mod Closed
