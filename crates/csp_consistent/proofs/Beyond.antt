@@ -29,7 +29,7 @@ use Rattle.csp_scene.proofs.Lists.{AllByRecursion-map}
 use Rattle.csp_scene.specs.Kept.{AreLinksAfter, IsLinkAfter, IsEndAfter}
 use Rattle.csp_scene.specs.Links.{links_at, touches}
 use Rattle.csp_scene.specs.Ranges.{HasEnds}
-use Rattle.csp_scene.specs.Scene.{PlainScene, PlainLink}
+use Rattle.csp_scene.specs.Scene.{PlainScene, PlainLink, PlainNode}
 use Rattle.csp_consistent.specs.Lanes.{AreInOrder}
 use Rattle.csp_consistent.specs.Origins.{IsSent, HaveOrigins}
 use Rattle.csp_topology.specs.Parties.{heeded, iface_opening, parties_of, party_steps}
@@ -40,7 +40,7 @@ use Rattle.csp_consistent.proofs.Each.{each_at, one_at}
 use Rattle.csp_consistent.proofs.Names.{Logged}
 use Rattle.csp_consistent.proofs.Owners.{IsIfaceAt, IsOf, IsOwner}
 use Rattle.csp_consistent.proofs.Planned.{are_planned, are_spread, logged, pops_within}
-use Rattle.csp_consistent.proofs.Received.{IsFrameOf, IsPacketOf, IsSuchFrame, received}
+use Rattle.csp_consistent.proofs.Received.{IsFrameOf, IsPacketOf, IsSuchFrame, received, such_also}
 use Rattle.csp_consistent.proofs.Transmitted.{IsBegun, transmitted_all}
 
 -- ---- the link of an interface
@@ -155,6 +155,7 @@ pub record IsIfaceRun (scene : PlainScene) (r : PlainRecord) (node number : ℕ)
   pub link : PlainLink
   pub on : slice_get (links_at node scene.links) number ≡ Some link
   pub heeds : Option ℕ
+  pub of_node : (n : PlainNode) → slice_get scene.nodes node ≡ Some n → heeds ≡ heeded n.addr link
   pub run : IsRun party_steps 0 (an_iface (iface_opening node number link.kind link.mtu heeds)) (entries_of r (who.Iface node number))
 
 pub iface_run : (scene : PlainScene) (r : PlainRecord) (node number : ℕ) → Logged (IsOf scene) (who.Iface node number) r.parties → IsIfaceRun scene r node number
@@ -165,6 +166,7 @@ iface_run scene r node number log =
       link = mine.link;
       on = mine.on;
       heeds = heeds;
+      of_node = λ n there. ap (λ (x : PlainNode). heeded x.addr mine.link) (ap (λ o. unwrap_or o n) (sym mine.there ∙ there));
       run = subst (λ es. IsRun party_steps 0 (an_iface (iface_opening node number mine.link.kind mine.link.mtu heeds)) es) (sym log.entries) (subst (λ p. IsRun party_steps 0 p log.log.entries) mine.party log.logged.run);
     }
 
@@ -182,12 +184,6 @@ sent_all scene r are node number =
         transmitted_all node number own.link.kind own.link.mtu own.heeds (entries_of r (who.Iface node number)) own.run
 
 -- ---- what came over a link
-
--- what is true of frames of one kind is true of those of another
-pub such_also : (P Q : Frame → Type 0) → ((f : Frame) → P f → Q f) → (i : ItemShown) → IsSuchFrame P i → IsSuchFrame Q i
-such_also P Q also (item.Frame f) is = also f is
-such_also P Q also (item.Packet _ _) is = tt
-such_also P Q also (item.Note _) is = tt
 
 -- what came over a link that is no hub
 pub came_over : (scene : PlainScene) (r : PlainRecord) (l : PlainLink) (end : End) (Q R : Frame → Type 0) → AreLogsOf (parties_of scene) r.parties → AreInOrder scene r → (j : IsJoint scene.links l end) → l.hub ≡ false → (p : IsPair l j.at)

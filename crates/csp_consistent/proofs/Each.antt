@@ -1,5 +1,5 @@
 -- What holds of each element of a list made from others.
-use Rattle.std.proofs.Common.{◌≡◌, ℕ, zero, suc, ◌<◌, Bool, true, false, cond, Option, None, Some, List, [], ◌∷◌, ◌++◌, length, filter, filter_map, drop, slice_get, unwrap_or, refl, ap, subst, arith}
+use Rattle.std.proofs.Common.{◌≡◌, ℕ, zero, suc, ◌<◌, Bool, true, false, cond, Option, None, Some, List, [], ◌∷◌, ◌++◌, length, filter, filter_map, drop, option_map, slice_get, unwrap_or, refl, ap, ◌∙◌, subst, arith}
 use Rattle.std.specs.Prelude.{if◌then◌else◌}
 use Rattle.std.specs.List.{AllByRecursion, cons_option}
 use Rattle.std.specs.List.Sorted.{IsPermutation}
@@ -60,3 +60,13 @@ first_given {X} {Y} R f (x ∷ xs) y e all =
     by : (o : Option Y) → f x ≡ o → slice_get (cons_option o (filter_map f xs)) 0 ≡ Some y → (slice_get (filter_map f xs) 0 ≡ Some y → R y) → R y
     by None h is rest = rest is
     by (Some z) h is rest = subst R (ap (λ o. unwrap_or o z) is) (all.0 z h)
+
+-- where a function gives what another does, mapped, so is the first that it gives
+pub first_mapped : {X Y Z : Type 0} (f : X → Option Y) (g : Y → Z) (h : X → Option Z) (xs : List X) (y : Y) → ((x : X) → h x ≡ option_map g (f x)) → slice_get (filter_map f xs) 0 ≡ Some y → slice_get (filter_map h xs) 0 ≡ Some (g y)
+first_mapped f g h [] y alike e = absurd cc
+first_mapped {X} {Y} {Z} f g h (x ∷ xs) y alike e =
+    ap (λ o. slice_get (cons_option o (filter_map h xs)) 0) (alike x) ∙ by (f x) e (λ is. first_mapped f g h xs y alike is)
+  where
+    by : (o : Option Y) → slice_get (cons_option o (filter_map f xs)) 0 ≡ Some y → (slice_get (filter_map f xs) 0 ≡ Some y → slice_get (filter_map h xs) 0 ≡ Some (g y)) → slice_get (cons_option (option_map g o) (filter_map h xs)) 0 ≡ Some (g y)
+    by None is rest = rest is
+    by (Some z) is rest = ap (λ o. Some (g (unwrap_or o z))) is

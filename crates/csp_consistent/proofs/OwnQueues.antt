@@ -119,7 +119,7 @@ own_told (who.Link k) (a_link l) time a own = tt
 own_told (who.Link k) (a_hub h) time a own = tt
 
 -- so it is with each of its turns
-own_run : (w : Who) (time : ℕ) (p : PlainParty) (es : List Entry) → IsOwn w p → IsRun party_steps time p es → AllByRecursion (λ e. MayAsk w e.op) es
+pub own_run : (w : Who) (time : ℕ) (p : PlainParty) (es : List Entry) → IsOwn w p → IsRun party_steps time p es → AllByRecursion (λ e. MayAsk w e.op) es
 own_run w time p [] own run = tt
 own_run w time p (e ∷ es) own run = (subst (MayAsk w) (sym run.1.op) (own_asks w p e.time own), own_run w e.time _ es (own_told w p e.time e.answer own) run.2)
 

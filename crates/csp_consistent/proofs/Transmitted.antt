@@ -1,5 +1,5 @@
 -- What an interface hands to its link is a frame of a transmission: of the packet in the first entry that shows its serial. It has its trace.
-use Rattle.std.proofs.Common.{◌≡◌, ℕ, ◌+◌, ◌%◌, ◌≤◌, ◌==◌, ◌||◌, Bool, true, false, Option, Some, None, List, [], ◌∷◌, ◌++◌, length, map, slice_get, filter_map, refl, sym, ap, ◌∙◌, subst, arith, le_refl, eqb-true}
+use Rattle.std.proofs.Common.{◌≡◌, ℕ, ◌+◌, ◌%◌, ◌≤◌, ◌==◌, ◌||◌, Bool, true, false, Option, Some, None, List, [], ◌∷◌, ◌++◌, length, map, slice_get, filter_map, option_map, refl, sym, ap, ◌∙◌, subst, arith, le_refl, eqb-true}
 use Rattle.std.specs.Prelude.{if◌then◌else◌, ⊤}
 use Rattle.std.specs.List.{AllByRecursion, list_any, cons_option}
 use Rattle.std.proofs.lemmas.Bool.{eq-eqb, ltb-false}
@@ -36,16 +36,18 @@ use Rattle.csp_party.specs.Any.{an_iface}
 use Rattle.csp_record.specs.Transmissions.{fetched, is_beginning, shown_in}
 use Rattle.csp_scene.proofs.Lists.{AllByRecursion-append, AllByRecursion-map}
 use Rattle.csp_topology.specs.Parties.{iface_opening, party_steps}
+use Rattle.csp_consistent.specs.Addressed.{addressed_in, goes_to}
 use Rattle.csp_consistent.specs.Reading.{put_by, puts}
-use Rattle.csp_consistent.proofs.Each.{each_at, each_drop_first, each_if, each_there}
+use Rattle.csp_consistent.proofs.Each.{each_at, each_drop_first, each_if, each_there, first_mapped}
 use Rattle.csp_consistent.proofs.Received.{IsFrameOf, IsOn, IsSuchFrame, step_on, told, waiting}
 
--- a frame is one of a transmission which these entries show, of a packet that is not too big
+-- a frame is one of a transmission which these entries show with where it goes next, of a packet that is not too big
 pub record IsSentIn (node number : ℕ) (kind : LinkKind) (mtu : ℕ) (es : List Entry) (f : Frame) : Type 0 where
   pub serial : ℕ
   pub mark : ℕ
   pub packet : Content
   pub shown : slice_get (filter_map (shown_in serial) es) 0 ≡ Some packet
+  pub to : slice_get (filter_map (addressed_in serial) es) 0 ≡ Some (next_node mark packet.header)
   pub fits : length packet.payload ≤ mtu
   pub place : ℕ
   pub among : slice_get (frames_of kind serial (next_node mark packet.header) packet (sent_trace node number serial packet.trace)) place ≡ Some f
@@ -167,30 +169,63 @@ put_such Q number s plan.Transmit a h = transmitted_put Q number s.number s.fram
 put_such Q number s plan.Fetch a h = tt
 put_such Q number s plan.Receive a h = tt
 
--- which serials a turn shows: none but the present one, and that where a packet is fetched
-nothing : (b : Bool) (o : Option Content) → o ≡ None → (if b then o else None) ≡ None
+-- ---- which serials a turn shows: none but the present one, and that where a packet is fetched
+
+-- a packet with its mark
+abbrev pub Marked : Type 0
+Marked = ℕ × Content
+
+-- what was popped from an `Out`; of that the two readers of transmissions are
+abbrev marked : OpShown → AnswerShown → Option Marked
+marked (op.Pop (queue.Out number)) (answer.Popped (item.Packet mark packet)) = Some (mark, packet)
+marked _ _ = None
+
+fetched_as : (o : OpShown) (a : AnswerShown) → fetched (moved_by o a) ≡ option_map (λ (x : Marked). x.1) (marked o a)
+fetched_as (op.Push q (item.Packet mark b)) answer.Pushed = refl
+fetched_as (op.Pop (queue.Out k)) (answer.Popped (item.Packet mark b)) = refl
+fetched_as (op.Pop queue.Inbox) (answer.Popped (item.Packet mark b)) = refl
+fetched_as (op.Pop (queue.Up k)) (answer.Popped (item.Packet mark b)) = refl
+fetched_as (op.Pop (queue.Down k)) (answer.Popped (item.Packet mark b)) = refl
+fetched_as (op.Pop (queue.Tx k)) (answer.Popped (item.Packet mark b)) = refl
+fetched_as (op.Pop (queue.Rx k)) (answer.Popped (item.Packet mark b)) = refl
+fetched_as _ _ = refl
+
+goes_as : (o : OpShown) (a : AnswerShown) → goes_to o a ≡ option_map (λ (x : Marked). next_node x.0 x.1.header) (marked o a)
+goes_as (op.Pop (queue.Out k)) (answer.Popped (item.Packet mark b)) = refl
+goes_as _ _ = refl
+
+-- what an entry shows of the transmission of a serial
+abbrev begun_by : ℕ → List Event → OpShown → AnswerShown → Option Marked
+begun_by n es o a = if list_any (is_beginning n) es then marked o a else None
+
+abbrev pub begun_in : ℕ → Entry → Option Marked
+begun_in n e = begun_by n e.events.items e.op e.answer
+
+where_begun : {X : Type 0} (f : Option X) (g : Marked → X) (o : Option Marked) (b : Bool) → f ≡ option_map g o → (if b then f else None) ≡ option_map g (if b then o else None)
+where_begun f g o true same = same
+where_begun f g o false same = refl
+
+pub shown_as : (n : ℕ) (e : Entry) → shown_in n e ≡ option_map (λ (x : Marked). x.1) (begun_in n e)
+shown_as n e = where_begun (fetched (moved_by e.op e.answer)) (λ (x : Marked). x.1) (marked e.op e.answer) (list_any (is_beginning n) e.events.items) (fetched_as e.op e.answer)
+
+addressed_as : (n : ℕ) (e : Entry) → addressed_in n e ≡ option_map (λ (x : Marked). next_node x.0 x.1.header) (begun_in n e)
+addressed_as n e = where_begun (goes_to e.op e.answer) (λ (x : Marked). next_node x.0 x.1.header) (marked e.op e.answer) (list_any (is_beginning n) e.events.items) (goes_as e.op e.answer)
+
+nothing : (b : Bool) (o : Option Marked) → o ≡ None → (if b then o else None) ≡ None
 nothing true o e = e
 nothing false o e = refl
 
-given_fetched : (o : Option Content) (a : AnswerShown) → fetched (moved_by (given o) a) ≡ None
-given_fetched None a = refl
-given_fetched (Some b) a = refl
+given_marked : (o : Option Content) (a : AnswerShown) → marked (given o) a ≡ None
+given_marked None a = refl
+given_marked (Some b) a = refl
 
-delivered_fetched : (n : ℕ) (o : Option Content) (a : AnswerShown) → fetched (moved_by (delivered n o) a) ≡ None
-delivered_fetched n None a = refl
-delivered_fetched n (Some b) answer.Pushed = refl
-delivered_fetched n (Some b) _ = refl
+delivered_marked : (n : ℕ) (o : Option Content) (a : AnswerShown) → marked (delivered n o) a ≡ None
+delivered_marked n None a = refl
+delivered_marked n (Some b) a = refl
 
-transmitted_fetched : (n : ℕ) (o : Option Frame) (a : AnswerShown) → fetched (moved_by (transmitted n o) a) ≡ None
-transmitted_fetched n None a = refl
-transmitted_fetched n (Some f) answer.Pushed = refl
-transmitted_fetched n (Some f) _ = refl
-
-popped_fetched : (n : ℕ) (a : AnswerShown) → fetched (moved_by (op.Pop (queue.Rx n)) a) ≡ None
-popped_fetched n (answer.Popped (item.Packet _ _)) = refl
-popped_fetched n (answer.Popped (item.Frame _)) = refl
-popped_fetched n (answer.Popped (item.Note _)) = refl
-popped_fetched n _ = refl
+transmitted_marked : (n : ℕ) (o : Option Frame) (a : AnswerShown) → marked (transmitted n o) a ≡ None
+transmitted_marked n None a = refl
+transmitted_marked n (Some f) a = refl
 
 none_bad : (n k : ℕ) → list_any (is_beginning n) (bad k) ≡ false
 none_bad n k =
@@ -200,37 +235,36 @@ none_bad n k =
     chosen true = refl
     chosen false = refl
 
--- a later serial is not shown
-later_none : (n serial k : ℕ) (o : Option Content) → serial + 1 ≤ n → (if list_any (is_beginning n) (event.Transmitted serial ∷ bad k) then o else None) ≡ None
+-- where none began none is shown, nor is a later serial
+none_began : (n k : ℕ) (o : Option Marked) → (if list_any (is_beginning n) (bad k) then o else None) ≡ None
+none_began n k o = ap (λ c. if c then o else None) (none_bad n k)
+
+later_none : (n serial k : ℕ) (o : Option Marked) → serial + 1 ≤ n → (if list_any (is_beginning n) (event.Transmitted serial ∷ bad k) then o else None) ≡ None
 later_none n serial k o h =
     chosen (n == serial) refl
   where
     chosen : (b : Bool) → (n == serial) ≡ b → (if b || list_any (is_beginning n) (bad k) then o else None) ≡ None
     chosen true e = absurd (omega (arith, h, eqb-true n serial e))
-    chosen false e = ap (λ c. if c then o else None) (none_bad n k)
+    chosen false e = none_began n k o
 
-this_shown : (serial k : ℕ) (b : Content) → (if list_any (is_beginning serial) (event.Transmitted serial ∷ bad k) then Some b else None) ≡ Some b
-this_shown serial k b = ap (λ c. if c || list_any (is_beginning serial) (bad k) then Some b else None) (eq-eqb serial serial refl)
+this_begun : (serial k : ℕ) (x : Marked) → (if list_any (is_beginning serial) (event.Transmitted serial ∷ bad k) then Some x else None) ≡ Some x
+this_begun serial k x = ap (λ c. if c || list_any (is_beginning serial) (bad k) then Some x else None) (eq-eqb serial serial refl)
 
--- the entry that a turn makes, as its readers see it
-abbrev shown_by : ℕ → List Event → OpShown → AnswerShown → Option Content
-shown_by n es o a = if list_any (is_beginning n) es then fetched (moved_by o a) else None
-
-pub turn_silent : (n : ℕ) (s : PlainIface) (now : ℕ) (p : Plan) (a : AnswerShown) (k : ℕ) → (told s now p a).serial ≤ n → shown_by n ((told_by (waiting s p) now p a).events ++ bad k) (op_of s p) a ≡ None
+pub turn_silent : (n : ℕ) (s : PlainIface) (now : ℕ) (p : Plan) (a : AnswerShown) (k : ℕ) → (told s now p a).serial ≤ n → begun_by n ((told_by (waiting s p) now p a).events ++ bad k) (op_of s p) a ≡ None
 turn_silent n s now plan.Fetch (answer.Popped (item.Packet mark b)) k h = taken (is_too_big s b) h
   where
-    taken : (big : Bool) → (taken_up big mark b (waiting s plan.Fetch)).iface.serial ≤ n → shown_by n ((taken_up big mark b (waiting s plan.Fetch)).events ++ bad k) (op_of s plan.Fetch) (answer.Popped (item.Packet mark b)) ≡ None
-    taken true g = ap (λ c. if c then Some b else None) (none_bad n k)
-    taken false g = later_none n s.serial k (Some b) g
+    taken : (big : Bool) → (taken_up big mark b (waiting s plan.Fetch)).iface.serial ≤ n → begun_by n ((taken_up big mark b (waiting s plan.Fetch)).events ++ bad k) (op_of s plan.Fetch) (answer.Popped (item.Packet mark b)) ≡ None
+    taken true g = none_began n k (Some (mark, b))
+    taken false g = later_none n s.serial k (Some (mark, b)) g
 turn_silent n s now plan.Fetch (answer.Popped (item.Frame _)) k h = nothing _ None refl
 turn_silent n s now plan.Fetch (answer.Popped (item.Note _)) k h = nothing _ None refl
 turn_silent n s now plan.Fetch _ k h = nothing _ None refl
 turn_silent n s now plan.Rest a k h = nothing _ None refl
-turn_silent n s now plan.Return a k h = nothing _ _ (given_fetched s.back a)
-turn_silent n s now plan.Deliver a k h = nothing _ _ (delivered_fetched s.number s.accepted a)
+turn_silent n s now plan.Return a k h = nothing _ _ (given_marked s.back a)
+turn_silent n s now plan.Deliver a k h = nothing _ _ (delivered_marked s.number s.accepted a)
 turn_silent n s now plan.Take a k h = nothing _ None refl
-turn_silent n s now plan.Transmit a k h = nothing _ _ (transmitted_fetched s.number (slice_get s.frames 0) a)
-turn_silent n s now plan.Receive a k h = nothing _ _ (popped_fetched s.number a)
+turn_silent n s now plan.Transmit a k h = nothing _ _ (transmitted_marked s.number (slice_get s.frames 0) a)
+turn_silent n s now plan.Receive a k h = nothing _ None refl
 
 pub handed_serial : (s : PlainIface) (p : Plan) → (waiting s p).serial ≡ s.serial
 handed_serial s plan.Rest = refl
@@ -283,19 +317,23 @@ told_serial s now plan.Receive answer.Empty = le_refl s.serial
 told_serial s now p a = same_serial s.serial (waiting s p).serial (handed_serial s p)
 
 -- a packet that was fetched is the first that shows its serial
-fresh_item : (node number : ℕ) (kind : LinkKind) (mtu : ℕ) (all : List Entry) (s : PlainIface) (k : ℕ) (rest : List Content) (i : ItemShown) → IsOn node number kind mtu s
-    → filter_map (shown_in s.serial) all ≡ cons_option (shown_by s.serial ((told_fetched i (waiting s plan.Fetch)).events ++ bad k) (op_of s plan.Fetch) (answer.Popped i)) rest
+fresh_item : (node number : ℕ) (kind : LinkKind) (mtu : ℕ) (all : List Entry) (s : PlainIface) (k : ℕ) (rest : List Marked) (i : ItemShown) → IsOn node number kind mtu s
+    → filter_map (begun_in s.serial) all ≡ cons_option (begun_by s.serial ((told_fetched i (waiting s plan.Fetch)).events ++ bad k) (op_of s plan.Fetch) (answer.Popped i)) rest
     → IsFresh (IsSentIn node number kind mtu all) s i
 fresh_item node number kind mtu all s k rest (item.Packet mark b) on e = taken (is_too_big s b) refl e
   where
-    taken : (big : Bool) → is_too_big s b ≡ big → filter_map (shown_in s.serial) all ≡ cons_option (shown_by s.serial ((taken_up big mark b (waiting s plan.Fetch)).events ++ bad k) (op_of s plan.Fetch) (answer.Popped (item.Packet mark b))) rest
+    first : filter_map (begun_in s.serial) all ≡ cons_option (begun_by s.serial (event.Transmitted s.serial ∷ bad k) (op_of s plan.Fetch) (answer.Popped (item.Packet mark b))) rest → slice_get (filter_map (begun_in s.serial) all) 0 ≡ Some (mark, b)
+    first f = ap (λ xs. slice_get xs 0) (f ∙ ap (λ o. cons_option o rest) (this_begun s.serial k (mark, b)))
+
+    taken : (big : Bool) → is_too_big s b ≡ big → filter_map (begun_in s.serial) all ≡ cons_option (begun_by s.serial ((taken_up big mark b (waiting s plan.Fetch)).events ++ bad k) (op_of s plan.Fetch) (answer.Popped (item.Packet mark b))) rest
         → IsTakenUp (IsSentIn node number kind mtu all) s mark b big
     taken true fits f = tt
     taken false fits f = each_there (IsSentIn node number kind mtu all) (frames_of s.kind s.serial (next_node mark b.header) b (sent_trace s.node s.number s.serial b.trace)) (λ place x there. record {
       serial = s.serial;
       mark = mark;
       packet = b;
-      shown = ap (λ cs. slice_get cs 0) (f ∙ ap (λ o. cons_option o rest) (this_shown s.serial k b));
+      shown = first_mapped (begun_in s.serial) (λ (m : Marked). m.1) (shown_in s.serial) all (mark, b) (shown_as s.serial) (first f);
+      to = first_mapped (begun_in s.serial) (λ (m : Marked). next_node m.0 m.1.header) (addressed_in s.serial) all (mark, b) (addressed_as s.serial) (first f);
       fits = omega (arith, ltb-false s.mtu (length b.payload) fits, on.3);
       place = place;
       among = sym (λ i. slice_get (frames_of (on.2 i) s.serial (next_node mark b.header) b (sent_trace (on.0 i) (on.1 i) s.serial b.trace)) place) ∙ there;
@@ -303,19 +341,19 @@ fresh_item node number kind mtu all s k rest (item.Packet mark b) on e = taken (
 fresh_item node number kind mtu all s k rest (item.Frame _) on e = tt
 fresh_item node number kind mtu all s k rest (item.Note _) on e = tt
 
-fresh_turn : (node number : ℕ) (kind : LinkKind) (mtu : ℕ) (all : List Entry) (s : PlainIface) (now k : ℕ) (rest : List Content) (p : Plan) (a : AnswerShown) → IsOn node number kind mtu s
-    → filter_map (shown_in s.serial) all ≡ cons_option (shown_by s.serial ((told_by (waiting s p) now p a).events ++ bad k) (op_of s p) a) rest
+fresh_turn : (node number : ℕ) (kind : LinkKind) (mtu : ℕ) (all : List Entry) (s : PlainIface) (now k : ℕ) (rest : List Marked) (p : Plan) (a : AnswerShown) → IsOn node number kind mtu s
+    → filter_map (begun_in s.serial) all ≡ cons_option (begun_by s.serial ((told_by (waiting s p) now p a).events ++ bad k) (op_of s p) a) rest
     → IsFreshIn (IsSentIn node number kind mtu all) s p a
 fresh_turn node number kind mtu all s now k rest plan.Fetch (answer.Popped i) on e = fresh_item node number kind mtu all s k rest i on e
 fresh_turn node number kind mtu all s now k rest _ _ on e = tt
 
 -- a step of an interface: its entry's operation and events
-pub shown_step : (n : ℕ) (s : PlainIface) (e : Entry) → IsStep party_steps (an_iface s) e
-    → shown_in n e ≡ shown_by n ((told_by (waiting s (plan_of s)) e.time (plan_of s) e.answer).events ++ bad (concluded (asked s e.time) e.time e.answer).refused) (op_of s (plan_of s)) e.answer
-shown_step n s e step = λ i. if list_any (is_beginning n) (step.events i) then fetched (moved_by (step.op i) e.answer) else None
+pub begun_step : (n : ℕ) (s : PlainIface) (e : Entry) → IsStep party_steps (an_iface s) e
+    → begun_in n e ≡ begun_by n ((told_by (waiting s (plan_of s)) e.time (plan_of s) e.answer).events ++ bad (concluded (asked s e.time) e.time e.answer).refused) (op_of s (plan_of s)) e.answer
+begun_step n s e step = λ i. begun_by n (step.events i) (step.op i) e.answer
 
 run_sent : (node number : ℕ) (kind : LinkKind) (mtu : ℕ) (all es : List Entry) (time : ℕ) (s : PlainIface) → IsRun party_steps time (an_iface s) es → IsOn node number kind mtu s
-    → ((n : ℕ) → s.serial ≤ n → filter_map (shown_in n) all ≡ filter_map (shown_in n) es) → AllByRecursion (IsSentIn node number kind mtu all) s.frames
+    → ((n : ℕ) → s.serial ≤ n → filter_map (begun_in n) all ≡ filter_map (begun_in n) es) → AllByRecursion (IsSentIn node number kind mtu all) s.frames
     → AllByRecursion (IsSuchFrame (IsSentIn node number kind mtu all)) (puts (queue.Tx number) es)
 run_sent node number kind mtu all [] time s run on alike h = tt
 run_sent node number kind mtu all (e ∷ es) time s run on alike h =
@@ -323,13 +361,13 @@ run_sent node number kind mtu all (e ∷ es) time s run on alike h =
     let p : Plan = plan_of s in
     let k : ℕ = (concluded (asked s e.time) e.time e.answer).refused in
     let fresh : IsFreshIn Q s p e.answer =
-    fresh_turn node number kind mtu all s e.time k (filter_map (shown_in s.serial) es) p e.answer on
-    (alike s.serial (le_refl s.serial) ∙ ap (λ o. cons_option o (filter_map (shown_in s.serial) es)) (shown_step s.serial s e run.1)) in
+    fresh_turn node number kind mtu all s e.time k (filter_map (begun_in s.serial) es) p e.answer on
+    (alike s.serial (le_refl s.serial) ∙ ap (λ o. cons_option o (filter_map (begun_in s.serial) es)) (begun_step s.serial s e run.1)) in
     AllByRecursion-append (IsSuchFrame Q) (put_by (queue.Tx number) e.op e.answer) (puts (queue.Tx number) es)
     (subst (λ o. AllByRecursion (IsSuchFrame Q) (put_by (queue.Tx number) o e.answer)) (sym run.1.op) (put_such Q number s p e.answer h))
     (run_sent node number kind mtu all es e.time (tells (asked s e.time) e.time e.answer) run.2 (step_on node number kind mtu s e.time e.answer on)
     (λ n le. alike n (omega (arith, le, told_serial s e.time p e.answer))
-    ∙ ap (λ o. cons_option o (filter_map (shown_in n) es)) (shown_step n s e run.1 ∙ turn_silent n s e.time p e.answer k le))
+    ∙ ap (λ o. cons_option o (filter_map (begun_in n) es)) (begun_step n s e run.1 ∙ turn_silent n s e.time p e.answer k le))
     (told_such Q s e.time p e.answer h run.1.fits fresh))
 
 -- each frame that an interface pushed to its link is one of a transmission that its entries show

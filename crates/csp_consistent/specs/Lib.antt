@@ -1,3 +1,4 @@
+pub mod Addressed
 pub mod Consistent
 pub mod Inboxes
 pub mod Lanes
