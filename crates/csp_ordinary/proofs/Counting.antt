@@ -1,5 +1,5 @@
 -- That no packet is counted as changed, where none that an interface put into an inbox is.
-use Rattle.std.proofs.Common.{◌≡◌, ℕ, zero, suc, ◌+◌, Bool, true, false, cond, Option, None, Some, List, [], ◌∷◌, count_by, filter_map, flat_map, slice_get, unwrap_or, refl, sym, ap, ◌∙◌, subst, arith}
+use Rattle.std.proofs.Common.{◌≡◌, ℕ, zero, suc, ◌+◌, Bool, false, cond, Some, List, [], ◌∷◌, count_by, filter_map, flat_map, slice_get, unwrap_or, refl, sym, ap, ◌∙◌, subst}
 use Rattle.std.proofs.lemmas.List.Sums.{sum_by-cons}
 use Rattle.std.specs.List.{AllByRecursion, cons_option}
 use Rattle.std.specs.Prelude.{if◌then◌else◌}
@@ -22,7 +22,7 @@ use Rattle.csp_scene.proofs.Lists.{AllByRecursion-append}
 use Rattle.csp_scene.specs.Scene.{PlainScene}
 use Rattle.csp_topology.specs.Parties.{PlainOpening, parties_of}
 use Rattle.csp_consistent.specs.Reading.{entries_of, put_by, puts}
-use Rattle.csp_consistent.specs.Runs.{AreLogsOf, IsLogOf}
+use Rattle.csp_consistent.specs.Runs.{AreLogsOf}
 use Rattle.csp_consistent.proofs.Each.{each_first, each_last, each_there}
 use Rattle.csp_consistent.proofs.Names.{are_apart, entries_at, entries_in}
 
@@ -47,7 +47,7 @@ accepted_one R (op.Pop q) (answer.Popped (item.Frame _)) rest all more = more
 accepted_one R (op.Pop q) (answer.Popped (item.Note _)) rest all more = more
 accepted_one R _ _ rest all more = more
 
-accepted_all : (R : Content → Type 0) (es : List Entry) → AllByRecursion (IsPacketWith R) (puts queue.Inbox es) → AllByRecursion R (filter_map (λ e. put_in (moved_in e)) es)
+pub accepted_all : (R : Content → Type 0) (es : List Entry) → AllByRecursion (IsPacketWith R) (puts queue.Inbox es) → AllByRecursion R (filter_map (λ e. put_in (moved_in e)) es)
 accepted_all R [] all = tt
 accepted_all R (e ∷ es) all =
     accepted_one R e.op e.answer (filter_map (λ e. put_in (moved_in e)) es) (each_first (IsPacketWith R) (put_by queue.Inbox e.op e.answer) (puts queue.Inbox es) all)

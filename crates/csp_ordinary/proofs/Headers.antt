@@ -1,8 +1,7 @@
 -- The header of each packet whose transmission a record shows is a word, where those of all that were fetched are.
-use Rattle.std.proofs.Common.{◌≡◌, ℕ, zero, suc, ◌+◌, ◌<◌, ◌^◌, Bool, true, false, Option, None, Some, List, [], ◌∷◌, filter_map, flat_map, slice_get, take, refl, sym, ap, ◌∙◌, add-one, subst}
+use Rattle.std.proofs.Common.{◌≡◌, ℕ, ◌<◌, ◌^◌, Bool, true, false, Option, None, Some, List, [], ◌∷◌, refl, sym, ◌∙◌, subst}
 use Rattle.std.specs.List.{AllByRecursion, cons_option, list_any}
-use Rattle.std.specs.Option.{option_and_then}
-use Rattle.std.specs.Prelude.{if◌then◌else◌, IfSome}
+use Rattle.std.specs.Prelude.{if◌then◌else◌}
 use Rattle.csp_base.specs.declared.traces.Origin.{Origin}
 use Rattle.csp_buffer.specs.Content.{Content}
 use Rattle.csp_log.specs.Headers.{IsWord, MovesWord, MoveWords}
@@ -37,8 +36,8 @@ fetched_words (e ∷ es) all = fetched-word (moved_in e) (all_fetched es) all.0 
 
 -- ---- what a record shows
 
-pub none_some : (c : Content) → ◌≡◌ {A = Option Content} None (Some c) → ⊥
-none_some c e = cc
+pub none_some : {X : Type 0} (x : X) → ◌≡◌ {A = Option X} None (Some x) → ⊥
+none_some x e = cc
 
 pub some_same : (a b : Content) → ◌≡◌ {A = Option Content} (Some a) (Some b) → a ≡ b
 some_same a b e = cc

@@ -3,6 +3,7 @@ pub mod Buses
 pub mod Coming
 pub mod Counting
 pub mod Fragments
+pub mod Hops
 pub mod Nothing
 pub mod Serials
 pub mod Streams

@@ -1,5 +1,5 @@
 -- The serials of an interface's transmissions are those below their number.
-use Rattle.std.proofs.Common.{◌≡◌, inl, inr, ℕ, ◌+◌, ◌<◌, ◌≤◌, Bool, true, false, cond, Option, None, Some, List, [], ◌∷◌, ◌++◌, filter_map, slice_get, count_by, refl, sym, ap, ◌∙◌, arith}
+use Rattle.std.proofs.Common.{◌≡◌, inl, inr, ℕ, ◌+◌, ◌<◌, ◌≤◌, Bool, true, false, cond, Option, None, Some, List, [], ◌∷◌, ◌++◌, filter_map, option_map, slice_get, count_by, refl, sym, ap, ◌∙◌, arith}
 use Rattle.std.proofs.lemmas.Bool.{cases_lt}
 use Rattle.std.proofs.lemmas.List.Sums.{sum_by-append}
 use Rattle.std.specs.List.{cons_option}
@@ -24,7 +24,7 @@ use Rattle.csp_party.specs.Any.{an_iface}
 use Rattle.csp_record.specs.Transmissions.{shown_in}
 use Rattle.csp_topology.specs.Parties.{iface_opening, party_steps}
 use Rattle.csp_consistent.proofs.Received.{told, waiting}
-use Rattle.csp_consistent.proofs.Transmitted.{caught_serial, handed_serial, kept_serial, pushed_serial, shown_step, turn_silent}
+use Rattle.csp_consistent.proofs.Transmitted.{Marked, begun_step, caught_serial, handed_serial, kept_serial, pushed_serial, shown_as, turn_silent}
 use Rattle.csp_ordinary.specs.Ordinary.{is_transmission, transmissions}
 
 -- how many transmissions events tell
@@ -80,7 +80,7 @@ shown_below (e ∷ es) time s run n b is =
     elim (cases_lt n (told s e.time p e.answer).serial) [
       | inl low ↦ omega (arith, low, rises, told_all, all)
       | inr high ↦
-          let none : shown_in n e ≡ None = shown_step n s e run.1 ∙ turn_silent n s e.time p e.answer k high in
+          let none : shown_in n e ≡ None = shown_as n e ∙ ap (option_map (λ (x : Marked). x.1)) (begun_step n s e run.1 ∙ turn_silent n s e.time p e.answer k high) in
           let later : n < t.serial + transmissions es = shown_below es e.time t run.2 n b (ap (λ o. slice_get (cons_option o (filter_map (shown_in n) es)) 0) (sym none) ∙ is) in
           let same : t.serial ≡ (told s e.time p e.answer).serial = refl in
           omega (arith, later, same, rises, told_all, all)

@@ -1,13 +1,11 @@
 -- Where no plan has a flip, no frame is harmed.
-use Rattle.std.proofs.Common.{◌≡◌, ℕ, ◌+◌, ◌==◌, ◌&&◌, Bool, false, Option, None, Some, List, [], ◌∷◌, filter, slice_get, refl, sym, subst}
+use Rattle.std.proofs.Common.{◌≡◌, ℕ, ◌+◌, ◌==◌, ◌&&◌, Bool, false, None, List, [], ◌∷◌, filter, refl, sym, subst}
 use Rattle.std.specs.List.{AllByRecursion, fold}
 use Rattle.csp_link.specs.Fates.{afflicted, fate_of, unharmed}
-use Rattle.csp_link.specs.Ways as ways
 use Rattle.csp_link.specs.declared.fates.Fate.{Fate}
 use Rattle.csp_link.specs.declared.fault.Fault.{Fault}
 use Rattle.csp_link.specs.declared.fault.FaultKind.{FaultKind}
 use Rattle.csp_link.specs.declared.fault.FaultKind.TheVariants as fault
-use Rattle.csp_link.specs.declared.way.Way.{Way}
 use Rattle.csp_record.specs.Record.{PlainRecord}
 use Rattle.csp_scene.specs.Scene.{PlainLink, PlainScene}
 use Rattle.csp_consistent.proofs.Each.{each_at, each_filter}
@@ -30,6 +28,6 @@ no_flip dir frame plan all =
     all_unflipped (filter own plan) unharmed (each_filter (λ (f : Fault). is_flip f.kind ≡ false) own plan all) refl
 
 pub undamaged : (scene : PlainScene) (r : PlainRecord) → HasNoFlips scene → IsUndamaged scene r
-undamaged scene r none number l way there k f popped =
+undamaged scene r none number l end there k f popped =
     let all : AllByRecursion (λ (g : Fault). is_flip g.kind ≡ false) l.plan = each_at (λ (x : PlainLink). AllByRecursion (λ (g : Fault). is_flip g.kind ≡ false) x.plan) scene.links number l none there in
-    subst (λ flip. IsHarmless l.kind flip f) (sym (no_flip (ways.number way) (k + 1) l.plan all)) tt
+    subst (λ flip. IsHarmless l.kind flip f) (sym (no_flip end (k + 1) l.plan all)) tt

@@ -1,3 +1,4 @@
+pub mod AsSent
 pub mod Harmless
 pub mod Ordinary
 pub mod Words
