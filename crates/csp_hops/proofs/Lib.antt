@@ -1,0 +1,5 @@
+pub mod Tables
+pub mod Services
+pub mod Rules
+pub mod Routers
+pub mod Outs
