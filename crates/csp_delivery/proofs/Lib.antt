@@ -1,0 +1,12 @@
+pub mod Delivered
+pub mod HeededPackets
+pub mod ReceivingCounts
+pub mod ReceivingFrames
+pub mod ReceivingOnce
+pub mod ReceivingTurns
+pub mod SendingCounts
+pub mod SendingFrames
+pub mod SendingOnce
+pub mod SpreadingCopies
+pub mod SpreadingFew
+pub mod SpreadingOver
