@@ -4,6 +4,7 @@ use Rattle.csp_base.specs.Transfer.{WrotePrefix}
 use Rattle.std.specs.Io.KnownBytes.{Appends}
 use Rattle.csp_blobs.specs.Asking.{TellsOfBlobs}
 use Rattle.csp_causal.specs.Causal.{IsCausal}
+use Rattle.csp_delivery.specs.Hubs.{DeliverOnHubs}
 use Rattle.csp_scene.specs.Scene.{PlainScene}
 use Rattle.csp_scene.specs.Judge.{scene_of}
 use Rattle.csp_record.specs.Passed.{passed}
@@ -12,7 +13,7 @@ use Rattle.csp_record.specs.Stale.{stale}
 use Rattle.csp_world.specs.Reached.{IsReached}
 use Rattle.csp_world.specs.Record.{record_of, sim_record}
 use Rattle.csp_world.specs.World.{PlainWorld}
-use Rattle.csp_ordinary.specs.Ordinary.{HasNoFlips, HasNoHubs, HasNumbersForAll, IsOrdinary}
+use Rattle.csp_ordinary.specs.Ordinary.{AreSourcesApart, HasNoFlips, HasNoHubs, HasNumbersForAll, IsOrdinary}
 use Rattle.csp_peers.specs.Clear.{HasClearFlows}
 use Rattle.csp_peers.specs.Window.{LastIsWithinWindow}
 use Rattle.csp_prefix.specs.Prefix.{IsReliablePrefix}
@@ -25,19 +26,23 @@ use Rattle.csp_report.specs.ReliablePrefix.{HasReliablePrefix, HavePeersTexts, I
 use Rattle.csp_bench.specs.declared.status.Status.{Status}
 use Rattle.csp_bench.specs.declared.status.Status.TheVariants as status
 
--- what is known of the bytes of a report where its run was ordinary: their last line is `passed 0`. So it is where no line of the scenario flips a bit
--- or states a hub, and no bus wore out its numbers, be that by the record or by the report's own lines. Where besides the run's flows are clear the last two lines are
--- `stale 0` and `passed 0`, and what was taken on each reliable connection with a peer is a beginning of what the peer sent, by the record and by the
--- report's own lines; and of blobs whose pieces the peer sent a beginning is told
+-- what is known of the bytes of a report where its run was ordinary: their last line is `passed 0`. So it is where no line of the scenario flips a bit,
+-- on no hub two interfaces sent packets of one source, as it is where no line states a hub, and no bus wore out its numbers, be that by the record or by the
+-- report's own lines. Where besides the run's flows are clear the last two lines are `stale 0` and `passed 0`, and what was taken on each reliable
+-- connection with a peer is a beginning of what the peer sent, by the record and by the report's own lines; and of blobs whose pieces the peer sent a
+-- beginning is told. Of each hub what its interfaces accepted was sent to their nodes by others of it, as often at most as the plan copies it, and as it
+-- was sent where the run was ordinary on that hub
 pub record EndsAsOrdinary (scene : PlainScene) (run : PlainRecord) (bytes : List ℕ) : Type 0 where
+  pub alone : HasNoHubs scene → AreSourcesApart scene run
   pub passes : IsOrdinary scene run → EndsUnchanged bytes
-  pub unflipped : HasNoFlips scene → HasNoHubs scene → HasNumbersForAll scene run → EndsUnchanged bytes
-  pub by_report : HasNoFlips scene → HasNoHubs scene → SendsWithinNumbers scene bytes → EndsUnchanged bytes
+  pub unflipped : HasNoFlips scene → AreSourcesApart scene run → HasNumbersForAll scene run → EndsUnchanged bytes
+  pub by_report : HasNoFlips scene → AreSourcesApart scene run → SendsWithinNumbers scene bytes → EndsUnchanged bytes
   pub clear : IsOrdinary scene run → HasClearFlows scene run → IsUndisturbed bytes
-  pub clear_by_report : HasNoFlips scene → HasNoHubs scene → SendsWithinNumbers scene bytes → HasClearFlows scene run → IsUndisturbed bytes
+  pub clear_by_report : HasNoFlips scene → AreSourcesApart scene run → SendsWithinNumbers scene bytes → HasClearFlows scene run → IsUndisturbed bytes
   pub prefix : IsOrdinary scene run → HasClearFlows scene run → IsReliablePrefix run
   pub texts : IsOrdinary scene run → HasClearFlows scene run → HavePeersTexts (all_told (word_lines bytes))
   pub blobs : IsOrdinary scene run → HasClearFlows scene run → TellsOfBlobs scene run
+  pub delivers : DeliverOnHubs scene run
 
 -- the same, unfolded only where it is needed
 unfoldable pub IsUncountedIfOrdinary : PlainScene → PlainRecord → List ℕ → Type 0

@@ -24,7 +24,9 @@ use crate::numbers::hold_numbers;
 use csp_base::{Sink, Source, read_up_to, write_whole};
 use csp_bench::{LimitKind, MAX_SCENARIO, Refusal, Status, read_scene, read_status, run_of};
 use csp_blobs::tells_of_blobs;
-use csp_ordinary::{hold_words, passes_nothing, undamaged_without_flips};
+use csp_delivery::delivers_on_hubs;
+use csp_hops::{hold_addresses, marks_next_hops};
+use csp_ordinary::{apart_without_hubs, hold_words, passes_nothing, undamaged_without_flips};
 use csp_peers::{addresses_differ, counts_no_stale};
 use csp_prefix::{opens_on_slots, takes_a_prefix};
 use csp_record::Record;
@@ -116,11 +118,15 @@ pub(crate) fn told(alloc: Global, run: &Record, scene: &Scene) -> Result<Vec<u8>
     passes_nothing();
     counts_no_stale();
     undamaged_without_flips();
+    apart_without_hubs();
+    marks_next_hops();
+    delivers_on_hubs();
     within_by_report();
     ends_unchanged();
     ends_undisturbed();
     hold_numbers(run);
     hold_words(run);
+    hold_addresses(scene);
     match report(alloc, run, scene) {
         Ok(bytes) => Ok(bytes),
         Err(_) => Err(Refusal::NoMemory),
