@@ -9,8 +9,8 @@ Then more seeds, of whose scenarios those alone are run that connect reliably an
 repeated and late, until PEERS runs (1,000) in which all conditions hold had a reliable connection with a peer.
 
 Of each run the conditions of `passed` are read: that no frame of a KISS link whose CRC is of the payload alone was flipped, nor one of a CAN
-bus; that on a KISS link whose CRC covers the header each flip turned a plain byte into a plain byte; that no interface on a CAN bus made more
-than 1,024 transmissions. And those of `stale`, as crates/csp_peers/specs/Clear.antt has them: that no `raw` line has the flag RDP; that no step
+bus or a hub; that on a KISS link whose CRC covers the header each flip turned a plain byte into a plain byte; that no interface on a CAN bus or
+a hub made more than 1,024 transmissions; that no two interfaces of a hub sent packets of one source. And those of `stale`, as crates/csp_peers/specs/Clear.antt has them: that no `raw` line has the flag RDP; that no step
 asks for a reliable connection to address 31; that of the packets of reliable connections that a router sent, by an `Out` or to its own inbox,
 those of two connections of its node differ in peer address, peer port or own port; that on each connection at most 32,766 packets were sent.
 Scenarios that are made for it break single ones alone.
@@ -32,10 +32,11 @@ import sys
 
 FEND, FESC = 0xC0, 0xDB
 IDS = 1024
-LEVEL = 17
+LEVEL = 19
 BROADCAST = 31
 MOST_SENT = 32766
-PASSED = ("payload CRC", "bus", "plain", "numbers")
+BUSES = ("can", "hub")
+PASSED = ("payload CRC", "bus", "plain", "numbers", "sources")
 STALE = ("raw", "broadcast", "twice", "long")
 HERE = os.path.dirname(os.path.abspath(__file__))
 
@@ -81,13 +82,13 @@ class Model:
         sys.dont_write_bytecode = True
         sys.path.insert(0, folder)
         import gen
-        from cspo import gen as mission, header, link, rdp, scene, stack
+        from cspo import gen as mission, header, hub, link, rdp, scene, stack
         from cspo.level import Level
         from cspo.world import World
         self.gen, self.mission, self.scene, self.World = gen, mission, scene, World
         self.flag, self.rdp = header.RDP, rdp
         self.level = Level(LEVEL)
-        self.copies, link.copies = link.copies, self.noting
+        self.copies, link.copies, hub.copies = link.copies, self.noting, self.noting
         self.use, self.handed, self.push, self.discard = stack.Router._use, stack.Router._handed, stack.Router._push_out, stack.Router._discard
         stack.Router._use = lambda router, conn: self.using(router, conn)
         stack.Router._push_out = lambda router: self.pushing(router)
@@ -169,15 +170,20 @@ class Model:
         kinds = {id(l.plan): (l.kind, l.cover) for l in self.world.scene.links}
         for plan, data, bit in self.flipped:
             kind, cover = kinds[plan]
-            if kind == "can":
+            if kind in BUSES:
                 broken.add("bus")
             elif not cover:
                 broken.add("payload CRC")
             elif not flips_plain(data, bit):
                 broken.add("plain")
         for ifaces in self.world.ifaces:
-            if any(f.kind == "can" and f.serial > IDS for f in ifaces):
+            if any(f.kind in BUSES and f.serial > IDS for f in ifaces):
                 broken.add("numbers")
+        for hub in self.world.scene.links:
+            if hub.kind == "hub":
+                sources = [{header >> 25 & 31 for header, _ in self.world.sent[end]} for end in hub.ends]
+                if sum(map(len, sources)) > len(set().union(*sources)):
+                    broken.add("sources")
         return broken
 
     def stale_conditions(self, sent):
@@ -291,6 +297,12 @@ def worn_out():
             "fault l ab 2 lose\nfault l ab 1026 lose\napp n1 a\nconnect 0 2 10\nsend 0 010203\nwait 9\n" + waits + "send 0 040506\nwait 30\n")
 
 
+def one_source():
+    """Two nodes of a hub send a packet to the same node, both in the name of the first, and their frames come mixed."""
+    return ("until 30\nschedule shuffle 4\nnode n1 1 buffers 8\nnode n2 2 buffers 8\nnode n3 3 buffers 8\nhub bus n1 n2 n3\nroute n1 0/0 bus\n"
+            "route n2 0/0 bus\napp n1 a\nraw 8232b000 0101010101\nwait 10\napp n2 b\nraw 8232b000 0202020202\nwait 10\n")
+
+
 def forged():
     """A packet that nobody's machine made, for a connection that has a peer."""
     return "until 9\nnode n1 1 buffers 4\napp n1 a\nbind 10 rdp\nconnect 0 1 10 rdp\nraw 8212b002 0400000000\nwait 1\n"
@@ -351,6 +363,7 @@ def forged_inside():
 MADE = (
     ("a frame in a payload", changed_inside, "plain", 0, 1, True),
     ("numbers worn out", worn_out, "numbers", 0, 1, True),
+    ("two senders of one source", one_source, "sources", 0, 1, True),
     ("a forged packet", forged, "raw", 1, 0, True),
     ("a connection to all", to_all, "broadcast", 1, 0, True),
     ("a port used again", again, "twice", 1, 0, True),
@@ -406,12 +419,12 @@ class Tally:
         print("%d runs, %d of them with a reliable connection that has a peer" % (self.runs, self.had_peers))
         print("passed: in %d of them all its conditions hold" % self.ordinary)
         for condition, (broke, counted) in self.alone.items():
-            print("  %s: %d break it and none of the other three, %d of them count a changed packet" % (condition, broke, counted))
+            print("  %s: %d break it and none of the other four, %d of them count a changed packet" % (condition, broke, counted))
             if not counted:
                 self.failed.append("%s: no run that breaks it alone counts a changed packet" % condition)
         print("stale: in %d of them all conditions hold, %d of these with a reliable connection that has a peer" % (self.all, self.peers))
         for condition, (broke, counted) in self.stale_alone.items():
-            print("  %s: %d break it and none of the other seven, %d of them count a stale copy" % (condition, broke, counted))
+            print("  %s: %d break it and none of the other eight, %d of them count a stale copy" % (condition, broke, counted))
             if not counted and condition in STALE:
                 self.failed.append("%s: no run that breaks it alone counts a stale copy" % condition)
         print("window: %d data packets handed before anything was counted, %d past the window, %d at its end; by its size, %s" % (
