@@ -1,5 +1,6 @@
 //! The cases of a table, and which of them differ.
 
+use crate::case::Case;
 use crate::texts::expanded;
 use std::alloc::{AllocError, AllocFailed, Global};
 
@@ -26,8 +27,8 @@ impl<T: Drop> From<AllocFailed<T>> for CaseError {
 
 /// Who answers the cases of a table.
 pub trait Answers {
-    /// The answer to what a case asks.
-    fn answer(&self, alloc: Global, asked: &str) -> Result<String, CaseError>;
+    /// Tells the answer to what a case asks.
+    fn answer(&self, case: &mut Case);
 }
 
 /// What a table came to.
@@ -39,36 +40,72 @@ pub struct Outcome {
     pub differing: Vec<String>,
 }
 
+/// A table that is read: its named pieces, what a case asks as far as it was read, and what came of those before.
+#[derive(Drop)]
+struct Reading<'a> {
+    alloc: Global,
+    pieces: Vec<(&'a str, &'a str)>,
+    asked: String,
+    outcome: Outcome,
+}
+
 /// Goes through the lines of a table. A line that begins with `#` and a blank one are no part of a case; a line
 /// without an arrow goes on in the next. `NAME := TEXT` lets `{NAME}` stand for the text from there on.
 pub fn judged<A: Answers>(alloc: Global, who: &A, text: &str) -> Result<Outcome, AllocError> {
-    let mut cases = 0usize;
-    let mut differing = Vec::new(alloc);
-    let mut asked = String::new(alloc);
-    let mut pieces = Vec::new(alloc);
+    let mut reading = Reading {
+        alloc,
+        pieces: Vec::new(alloc),
+        asked: String::new(alloc),
+        outcome: Outcome {
+            cases: 0,
+            differing: Vec::new(alloc),
+        },
+    };
     for (place, line) in text.lines().enumerate() {
+        reading.line(who, place.saturating_add(1), line)?;
+    }
+    Ok(reading.outcome)
+}
+
+impl<'a> Reading<'a> {
+    /// Reads the line of this number.
+    fn line<A: Answers>(
+        &mut self,
+        who: &A,
+        number: usize,
+        line: &'a str,
+    ) -> Result<(), AllocError> {
         if line.starts_with("#") || line.trim().is_empty() {
-            continue;
+            return Ok(());
         }
         if let Some((name, piece)) = line.split_once(" := ") {
-            pieces.push((name.trim(), piece))?;
-            continue;
+            self.pieces.push((name.trim(), piece))?;
+            return Ok(());
         }
         match line.split_once("=>") {
-            None => asked.push_str(line)?,
+            None => self.asked.push_str(line),
             Some((more, wanted)) => {
-                asked.push_str(more)?;
-                cases = cases.saturating_add(1);
-                let number = place.saturating_add(1);
-                let found = answered(alloc, who, pieces.as_slice(), asked.as_str());
-                if let Some(told) = difference(alloc, number, found, wanted.trim())? {
-                    differing.push(told)?;
-                }
-                asked.clear();
+                self.asked.push_str(more)?;
+                self.judge(who, number, wanted.trim())
             }
         }
     }
-    Ok(Outcome { cases, differing })
+
+    /// Judges the case that has been read, and notes it where it differs.
+    fn judge<A: Answers>(
+        &mut self,
+        who: &A,
+        number: usize,
+        wanted: &str,
+    ) -> Result<(), AllocError> {
+        self.outcome.cases = self.outcome.cases.saturating_add(1);
+        let found = answered(self.alloc, who, self.pieces.as_slice(), self.asked.as_str());
+        self.asked.clear();
+        if let Some(told) = difference(self.alloc, number, found, wanted)? {
+            self.outcome.differing.push(told)?;
+        }
+        Ok(())
+    }
 }
 
 /// What a case has in place of the answer that it should have, where it has another.
@@ -103,5 +140,7 @@ fn answered<A: Answers>(
     asked: &str,
 ) -> Result<String, CaseError> {
     let whole = expanded(alloc, pieces, asked.trim())?;
-    who.answer(alloc, whole.as_str())
+    let mut case = Case::of(alloc, whole.as_str());
+    who.answer(&mut case);
+    case.answer()
 }

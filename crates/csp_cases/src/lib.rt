@@ -2,10 +2,10 @@
 //! reads a table; here stand the form of the lines, and words and texts inside of them.
 #![tactic(auto)]
 
+mod case;
 mod cases;
 mod texts;
-mod words;
+mod told;
 
+pub use case::{Case, Steps, stepped};
 pub use cases::{Answers, CaseError, Outcome, judged};
-pub use texts::{Steps, counted, expanded, joined, plain, shown, stepped, unescaped, yes_or_no};
-pub use words::{Words, bytes_of, long_of, small_of, word_of};

@@ -8,9 +8,10 @@
 //!
 //! Of two workers the first goes first in each round, so that the parties take their turns in the order of a simulation.
 
+use crate::program::strings;
 use csp_base::{MemSink, MemSource};
 use csp_cases::CaseError::Unread;
-use csp_cases::{CaseError, Outcome, Words};
+use csp_cases::{CaseError, Outcome};
 use csp_rounds::OrderGate;
 use csp_top::{Status, csp_main};
 use std::alloc::{AllocError, Global};
@@ -119,15 +120,11 @@ fn read<R: Files + AllocGlobal + Clone>(
     what: &str,
 ) -> Result<Case, CaseError> {
     let (files, said) = what.split_once(" | ").ok_or(Unread)?;
-    let files = Words::of(alloc, files)?;
-    let mut words = Vec::new(alloc);
-    for word in Words::of(alloc, said)?.all() {
-        words.push(String::from_str(alloc, *word)?)?;
-    }
+    let (source, report) = files.split_once(" ").ok_or(Unread)?;
     Ok(Case {
-        words,
-        text: bytes_in(rt, alloc, files.at(0)?)?,
-        report: bytes_in(rt, alloc, files.at(1)?)?,
+        words: strings(alloc, said)?,
+        text: bytes_in(rt, alloc, source)?,
+        report: bytes_in(rt, alloc, report)?,
     })
 }
 

@@ -3,11 +3,10 @@
 //! line on standard error: `say scene LINE`, `say bytes N`, .. And the words behind the program's name: `own WORDS`.
 
 use csp_base::{MemSink, MemSource};
-use csp_cases::CaseError::{NoMemory, Unread};
-use csp_cases::{Answers, CaseError, Words, joined, unescaped};
+use csp_cases::{Answers, Case};
 use csp_scene::SceneKind;
 use csp_top::{LimitKind, Status, own_words, say, sim_main};
-use std::alloc::Global;
+use std::alloc::{AllocError, Global};
 
 /// The room of the sink.
 const ROOM: usize = 65_536;
@@ -16,106 +15,123 @@ const ROOM: usize = 65_536;
 pub(crate) struct Program;
 
 impl Answers for Program {
-    /// The answer to what a case asks. Its first word says of what.
-    fn answer(&self, alloc: Global, asked: &str) -> Result<String, CaseError> {
-        let (which, what) = asked.split_once(" ").unwrap_or((asked, ""));
-        match which {
-            "sim" => sim(alloc, what),
-            "say" => said(alloc, status(&Words::of(alloc, what)?)?),
-            "own" => own(alloc, what),
-            _ => Err(Unread),
+    /// Tells the answer to what a case asks. Its first word says of what.
+    fn answer(&self, case: &mut Case) {
+        match case.word() {
+            "sim" => sim(case),
+            "say" => match status(case) {
+                Some(status) => tell_said(case, status),
+                None => case.misread(),
+            },
+            "own" => own(case),
+            _ => case.misread(),
         }
     }
 }
 
 /// Words as strings of their own.
-fn strings(alloc: Global, text: &str) -> Result<Vec<String>, CaseError> {
+pub(crate) fn strings(alloc: Global, text: &str) -> Result<Vec<String>, AllocError> {
     let mut strings = Vec::new(alloc);
-    for word in Words::of(alloc, text)?.all() {
-        strings.push(String::from_str(alloc, *word)?)?;
+    for word in text.split_whitespace() {
+        strings.push(String::from_str(alloc, word)?)?;
     }
     Ok(strings)
 }
 
-/// The words that are left of these, one after the other.
-fn own(alloc: Global, text: &str) -> Result<String, CaseError> {
+/// The words that are left of these.
+fn left(alloc: Global, text: &str) -> Result<Vec<String>, AllocError> {
     let told = strings(alloc, text)?;
-    let words = own_words(alloc, Ok(told.into_iter())).ok().ok_or(NoMemory)?;
-    let mut all = String::new(alloc);
-    for word in words.as_slice() {
-        joined(&mut all, word.as_str())?;
+    own_words(alloc, Ok(told.into_iter()))
+        .ok()
+        .ok_or(AllocError)
+}
+
+/// Tells the words that are left, one after the other.
+fn own(case: &mut Case) {
+    match left(case.alloc(), case.rest()) {
+        Err(_) => case.lacks_memory(),
+        Ok(words) => {
+            for word in words.as_slice() {
+                case.next();
+                case.tell(word.as_str());
+            }
+        }
     }
-    Ok(all)
 }
 
-/// How a run ends, how often it read and wrote, how many bytes it wrote, and what is said of it.
-fn sim(alloc: Global, what: &str) -> Result<String, CaseError> {
-    let rest = what.strip_prefix("| ").ok_or(Unread)?;
-    let (reads, rest) = rest.split_once(" | ").ok_or(Unread)?;
-    let (writes, rest) = rest.split_once(" | ").ok_or(Unread)?;
-    let (piece, text) = rest.split_once(" | ").ok_or(Unread)?;
-    let piece = usize::from(Words::of(alloc, piece)?.short(1)?);
-    let mut source = MemSource::new(unescaped(alloc, text)?, numbers(alloc, reads)?);
-    let mut sink = opened(alloc, piece, numbers(alloc, writes)?)?;
-    let status = sim_main(alloc, &mut source, &mut sink);
-    let written = sink.written().len();
-    let (reads, writes) = (source.calls(), sink.calls());
-    let said = said(alloc, status)?;
-    Ok(format!(in alloc; "{said}, {reads} reads, {writes} writes, {written} bytes")?)
-}
-
-/// A sink that takes at most so many bytes in a call.
-fn opened(alloc: Global, piece: usize, failing: Vec<u64>) -> Result<MemSink, CaseError> {
+/// Tells how a run ends, what is said of it, how often it read and wrote, and how many bytes it wrote.
+fn sim(case: &mut Case) {
+    if !case.passes("|") {
+        case.misread();
+    }
+    let (reads, rest) = case.halves(case.rest(), " | ");
+    let (writes, rest) = case.halves(rest, " | ");
+    let (piece, text) = case.halves(rest, " | ");
+    let (reads, writes) = (numbers(case, reads), numbers(case, writes));
+    let (Some(reads), Some(writes)) = (reads, writes) else {
+        return case.lacks_memory();
+    };
+    case.turn_to(piece);
+    let _piece = case.word();
+    let piece = usize::from(case.short());
     if piece == 0 {
-        return Err(Unread);
+        return case.misread();
     }
-    Ok(MemSink::open(alloc, ROOM, piece, failing)?)
+    let mut source = MemSource::new(case.unescaped(text), reads);
+    match MemSink::open(case.alloc(), ROOM, piece, writes) {
+        Err(_) => case.lacks_memory(),
+        Ok(mut sink) => {
+            let status = sim_main(case.alloc(), &mut source, &mut sink);
+            tell_said(case, status);
+            let (reads, writes, written) = (source.calls(), sink.calls(), sink.written().len());
+            write!(case, ", {reads} reads, {writes} writes, {written} bytes");
+        }
+    }
 }
 
 /// The numbers behind the first word.
-fn numbers(alloc: Global, text: &str) -> Result<Vec<u64>, CaseError> {
-    let words = Words::of(alloc, text)?;
-    let mut numbers = Vec::new(alloc);
-    for place in 1..words.all().len() {
-        numbers.push(words.long(place)?)?;
+fn numbers(case: &mut Case, text: &str) -> Option<Vec<u64>> {
+    let mut numbers = Vec::new(case.alloc());
+    for word in text.split_whitespace().skip(1) {
+        numbers.push(case.long_of(word)).ok()?;
     }
-    Ok(numbers)
+    Some(numbers)
 }
 
-/// The line that is said of an answer, without its end, and the exit status.
-fn said(alloc: Global, status: Status) -> Result<String, CaseError> {
-    let mut errors = MemSink::open(alloc, 256, 256, Vec::new(alloc))?;
-    say(status, &mut errors).ok().ok_or(Unread)?;
-    let line = String::from_utf8(Vec::from_slice(alloc, errors.written())?)
-        .ok()
-        .ok_or(Unread)?;
-    let code = status.code();
-    match line.as_str().trim() {
-        "" => Ok(format!(in alloc; "status {code}")?),
-        said => Ok(format!(in alloc; "status {code} {said}")?),
+/// Tells the exit status of an answer, and the line that is said of it, without its end.
+fn tell_said(case: &mut Case, status: Status) {
+    write!(case, "status {}", status.code());
+    let Ok(mut errors) = MemSink::open(case.alloc(), 256, 256, Vec::new(case.alloc())) else {
+        return case.lacks_memory();
+    };
+    let said = say(status, &mut errors);
+    match (said, str::from_utf8(errors.written())) {
+        (Ok(()), Ok(line)) if line.trim().is_empty() => {}
+        (Ok(()), Ok(line)) => write!(case, " {}", line.trim()),
+        _ => case.misread(),
     }
 }
 
 /// The answer of these words.
-fn status(words: &Words) -> Result<Status, CaseError> {
-    match words.at(0)? {
-        "done" => Ok(Status::Done),
-        "memory" => Ok(Status::NoMemory),
-        "words" => Ok(Status::Words),
-        "read" => Ok(Status::ReadFault),
-        "write" => Ok(Status::WriteFault),
-        "scene" => Ok(Status::Scene {
-            line: words.number(1)?,
+fn status(case: &mut Case) -> Option<Status> {
+    match case.word() {
+        "done" => Some(Status::Done),
+        "memory" => Some(Status::NoMemory),
+        "words" => Some(Status::Words),
+        "read" => Some(Status::ReadFault),
+        "write" => Some(Status::WriteFault),
+        "scene" => Some(Status::Scene {
+            line: case.number(),
             kind: SceneKind::Missing,
         }),
-        "bytes" => Ok(Status::Limit {
+        "bytes" => Some(Status::Limit {
             kind: LimitKind::Bytes,
-            number: words.long(1)?,
+            number: case.long(),
         }),
-        "entries" => Ok(Status::Limit {
+        "entries" => Some(Status::Limit {
             kind: LimitKind::Entries,
-            number: words.long(1)?,
+            number: case.long(),
         }),
-        _ => Err(Unread),
+        _ => None,
     }
 }

@@ -3,7 +3,6 @@
 ghost use Rattle.std.specs.Prelude.{◌≡◌, [], IfSome};
 
 use csp_buffer::{Buffer, Memory};
-use csp_cases::CaseError;
 use std::alloc::Global;
 use std::mem::ManuallyDrop;
 
@@ -18,17 +17,11 @@ pub(crate) struct Supply {
 }
 
 impl Supply {
-    /// Buffers of one region.
-    pub(crate) fn open(alloc: Global) -> Result<Supply, CaseError> {
-        match Memory::open(alloc, COUNT) {
-            Ok((memory, buffers)) => {
-                leave(memory);
-                Ok(Supply {
-                    alloc,
-                    buffers: unsafe { ManuallyDrop::new_unchecked(buffers) },
-                })
-            }
-            Err(_) => Err(CaseError::NoMemory),
+    /// No buffers yet.
+    pub(crate) fn new(alloc: Global) -> Supply {
+        Supply {
+            alloc,
+            buffers: unsafe { ManuallyDrop::new_unchecked(Vec::new(alloc)) },
         }
     }
 
@@ -37,7 +30,9 @@ impl Supply {
         ensures { IfSome result (λ b. b.picture.payload ≡ []) }
     {
         if self.buffers.is_empty() {
-            *self = Supply::open(self.alloc).ok()?;
+            let (memory, buffers) = Memory::open(self.alloc, COUNT).ok()?;
+            leave(memory);
+            self.buffers = unsafe { ManuallyDrop::new_unchecked(buffers) };
         }
         let mut buffer = self.buffers.pop()?;
         buffer.clear();

@@ -3,9 +3,7 @@
 
 use crate::supply::Supply;
 use csp_buffer::Buffer;
-use csp_cases::CaseError::{NoMemory, Unread};
-use csp_cases::{CaseError, Steps, Words, plain, stepped};
-use std::alloc::Global;
+use csp_cases::{Case, Steps, stepped};
 use std::mem::ManuallyDrop;
 
 /// A buffer that stays where it is.
@@ -14,14 +12,15 @@ struct Kept {
     buffer: ManuallyDrop<Buffer>,
 }
 
-/// What comes of each step.
-pub(super) fn answer(alloc: Global, what: &str) -> Result<String, CaseError> {
-    let mut supply = Supply::open(alloc)?;
-    let Some(buffer) = supply.take() else {
-        return Err(NoMemory);
-    };
-    let buffer = unsafe { ManuallyDrop::new_unchecked(sent(buffer)) };
-    stepped(alloc, &mut Kept { buffer }, what)
+/// Tells what comes of each step.
+pub(super) fn answer(case: &mut Case) {
+    match Supply::new(case.alloc()).take() {
+        None => case.lacks_memory(),
+        Some(buffer) => {
+            let buffer = unsafe { ManuallyDrop::new_unchecked(sent(buffer)) };
+            stepped(case, &mut Kept { buffer });
+        }
+    }
 }
 
 /// What may be handed to another thread, as buffers may.
@@ -30,36 +29,34 @@ fn sent<T: Send>(value: T) -> T {
 }
 
 impl Steps for Kept {
-    fn step(&mut self, alloc: Global, words: &Words) -> Result<String, CaseError> {
-        let buffer = &mut self.buffer;
-        let what = match words.at(0)? {
-            "push" => match buffer.push_tail(words.bytes(1)?.as_slice()) {
-                Ok(()) => "ok",
-                Err(_) => "full",
-            },
-            "cut" => match buffer.cut_tail(usize::from(words.short(1)?)) {
-                Ok(()) => "ok",
-                Err(_) => "short",
-            },
+    fn step(&mut self, case: &mut Case) {
+        match case.word() {
+            "push" => {
+                let done = self.buffer.push_tail(case.bytes().as_slice());
+                case.tell(if done.is_ok() { "ok" } else { "full" });
+            }
+            "cut" => {
+                let done = self.buffer.cut_tail(usize::from(case.short()));
+                case.tell(if done.is_ok() { "ok" } else { "short" });
+            }
             "header" => {
-                buffer.set_header(words.word(1)?);
-                "ok"
+                self.buffer.set_header(case.hex_word());
+                case.tell("ok");
             }
             "clear" => {
-                buffer.clear();
-                "ok"
+                self.buffer.clear();
+                case.tell("ok");
             }
-            "show" => return content(alloc, buffer),
-            _ => return Err(Unread),
-        };
-        plain(alloc, what)
+            "show" => content(case, &self.buffer),
+            _ => case.misread(),
+        }
     }
 }
 
-/// The header word and the payload.
-fn content(alloc: Global, buffer: &Buffer) -> Result<String, CaseError> {
+/// Tells the header word and the payload.
+fn content(case: &mut Case, buffer: &Buffer) {
     let shown = buffer.show();
-    let header = shown.header;
-    let bytes = super::rdp::hex(alloc, shown.payload.as_slice())?;
-    Ok(format!(in alloc; "{header:08x} {bytes}")?)
+    case.tell_word(shown.header);
+    case.tell(" ");
+    case.tell_bytes(shown.payload.as_slice());
 }

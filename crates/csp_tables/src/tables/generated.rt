@@ -1,20 +1,29 @@
 //! The scenario that the program makes of so many packets, its lines one after the other: `gen PACKETS`.
 
-use csp_cases::CaseError::Unread;
-use csp_cases::{CaseError, Words, joined};
+use csp_cases::Case;
 use csp_gen::{MAX_PACKETS, text};
-use std::alloc::Global;
 
-/// The lines of the scenario.
-pub(super) fn answer(alloc: Global, what: &str) -> Result<String, CaseError> {
-    let packets = Words::of(alloc, what)?.number(0)?;
+/// Tells the lines of the scenario.
+pub(super) fn answer(case: &mut Case) {
+    let packets = case.number();
     if packets < 1 || packets > MAX_PACKETS {
-        return Err(Unread);
+        return case.misread();
     }
-    let made = String::from_utf8(text(alloc, packets)?).ok().ok_or(Unread)?;
-    let mut told = String::new(alloc);
-    for line in made.as_str().trim().split("\n") {
-        joined(&mut told, line)?;
+    match text(case.alloc(), packets) {
+        Err(_) => case.lacks_memory(),
+        Ok(made) => lines(case, made.as_slice()),
     }
-    Ok(told)
+}
+
+/// Tells these lines.
+fn lines(case: &mut Case, made: &[u8]) {
+    match str::from_utf8(made) {
+        Err(_) => case.misread(),
+        Ok(made) => {
+            for line in made.trim().split("\n") {
+                case.next();
+                case.tell(line);
+            }
+        }
+    }
 }

@@ -2,39 +2,53 @@
 //! `number ahead FROM TO`, `number between NUMBER LOW HIGH`, `number near NUMBER START AROUND`.
 
 use csp_base::{Addr, Port, Prio, Seq, ahead, between};
-use csp_cases::CaseError::Unread;
-use csp_cases::{CaseError, Words, counted, plain, yes_or_no};
-use std::alloc::Global;
+use csp_cases::Case;
 
-/// Whether a number is in a range, or what becomes of numbers of 16 bits.
-pub(super) fn answer(alloc: Global, what: &str) -> Result<String, CaseError> {
-    let words = Words::of(alloc, what)?;
-    match words.at(0)? {
-        "addr" => yes_or_no(alloc, Addr::new(words.small(1)?).is_some()),
-        "port" => yes_or_no(alloc, Port::new(words.small(1)?).is_some()),
-        "prio" => yes_or_no(alloc, Prio::new(words.small(1)?).is_some()),
-        "seq" => {
-            let number = Seq(words.short(1)?).add(words.long(2)?).0;
-            counted(alloc, u64::from(number))
+/// Tells whether a number is in a range, or what becomes of numbers of 16 bits.
+pub(super) fn answer(case: &mut Case) {
+    match case.word() {
+        "addr" => {
+            let number = case.small();
+            case.tell_whether(Addr::new(number).is_some());
         }
-        "ahead" => {
-            let distance = ahead(Seq(words.short(1)?), Seq(words.short(2)?));
-            counted(alloc, u64::from(distance))
+        "port" => {
+            let number = case.small();
+            case.tell_whether(Port::new(number).is_some());
         }
-        "between" => {
-            let (low, high) = (Seq(words.short(2)?), Seq(words.short(3)?));
-            yes_or_no(alloc, between(Seq(words.short(1)?), low, high))
+        "prio" => {
+            let number = case.small();
+            case.tell_whether(Prio::new(number).is_some());
         }
-        "near" => near(alloc, &words),
-        _ => Err(Unread),
+        which => of_sequence(case, which),
     }
 }
 
-/// The index that a number shows near another.
-fn near(alloc: Global, words: &Words) -> Result<String, CaseError> {
-    let around = u64::from(words.number(3)?);
-    match Seq(words.short(1)?).index_near(Seq(words.short(2)?), around) {
-        Some(index) => counted(alloc, index),
-        None => plain(alloc, "none"),
+/// Tells what becomes of numbers of 16 bits.
+fn of_sequence(case: &mut Case, which: &str) {
+    let first = Seq(case.short());
+    match which {
+        "seq" => {
+            let sum = first.add(case.long());
+            case.tell_number(u64::from(sum.0));
+        }
+        "ahead" => {
+            let distance = ahead(first, Seq(case.short()));
+            case.tell_number(u64::from(distance));
+        }
+        "between" => {
+            let holds = between(first, Seq(case.short()), Seq(case.short()));
+            case.tell_whether(holds);
+        }
+        "near" => near(case, first),
+        _ => case.misread(),
+    }
+}
+
+/// Tells the index that a number shows near another.
+fn near(case: &mut Case, number: Seq) {
+    let start = Seq(case.short());
+    match number.index_near(start, u64::from(case.number())) {
+        Some(index) => case.tell_number(index),
+        None => case.tell("none"),
     }
 }

@@ -11,8 +11,7 @@
 use crate::supply::{Supply, leave};
 use csp_base::{Origin, Tag, Trace};
 use csp_buffer::Buffer;
-use csp_cases::CaseError::{NoMemory, Unread};
-use csp_cases::{CaseError, Words, counted, long_of, small_of};
+use csp_cases::Case;
 use csp_log::{Answer, Draft, Event, Events, Item, Log, Op, QueueId, UNMARKED};
 use csp_record::{PartyLog, Record, Who};
 use std::alloc::Global;
@@ -25,33 +24,29 @@ const PARTIES: [(&str, Who); 4] = [
     ("a2", Who::Iface(0, 0)),
 ];
 
-/// How many of the events tell of a stale copy, where each of two parties reported them.
-pub(super) fn stale(alloc: Global, what: &str) -> Result<String, CaseError> {
-    let mut log = Log::new(alloc);
-    let draft = Draft::open(alloc)?;
-    for text in what.split(";") {
-        let event = handed(&Words::of(alloc, text)?)?;
-        append(&mut log, &draft, &[event, Event::Starved])?;
-    }
-    let mut parties = Vec::new(alloc);
-    parties
-        .push(party(Who::Router(0), log))
-        .ok()
-        .ok_or(NoMemory)?;
-    let count = csp_record::stale(&record(alloc, parties));
-    counted(alloc, count)
+/// A log that is written, and what it takes to write it.
+#[derive(Drop)]
+struct Writing {
+    log: Log,
+    draft: Draft,
+    supply: Supply,
 }
 
-/// Appends an entry with these events.
-fn append(log: &mut Log, draft: &Draft, events: &[Event]) -> Result<(), CaseError> {
-    if log.len() > 1_000_000 {
-        return Err(Unread);
+/// Tells how many of the events tell of a stale copy, where each of two parties reported them.
+pub(super) fn stale(case: &mut Case) {
+    let Some(mut writing) = Writing::open(case.alloc()) else {
+        return case.lacks_memory();
+    };
+    for text in case.rest().split(";") {
+        case.turn_to(text);
+        let event = handed(case);
+        writing.append(case, &[event, Event::Starved]);
     }
-    let mut told = Events::new();
-    told.try_extend_from_slice(events).ok().ok_or(Unread)?;
-    log.reserve(1)?;
-    log.append(0, draft, &told);
-    Ok(())
+    let mut parties = Vec::new(case.alloc());
+    if parties.push(party(Who::Router(0), writing.log)).is_err() {
+        return case.lacks_memory();
+    }
+    case.tell_number(csp_record::stale(&record(case.alloc(), parties)));
 }
 
 /// A party with a log.
@@ -71,141 +66,175 @@ fn record(alloc: Global, parties: Vec<PartyLog>) -> Record {
 }
 
 /// The event of a packet that was handed to a connection.
-fn handed(words: &Words) -> Result<Event, CaseError> {
-    Ok(Event::Handed {
+fn handed(case: &mut Case) -> Event {
+    let (peer_word, tag_word) = (case.word(), case.word());
+    Event::Handed {
         nth: 7,
-        peer: peer(words.at(0)?)?,
-        tag: tag(words.at(1)?)?,
-        cur: words.long(2)?,
-        una: words.long(3)?,
-    })
+        peer: peer(case, peer_word),
+        tag: tag(case, tag_word),
+        cur: case.long(),
+        una: case.long(),
+    }
 }
 
 /// A flow: a node and the number of a connection there.
-fn peer(word: &str) -> Result<Option<(u8, u32)>, CaseError> {
+fn flow(case: &mut Case, text: &str) -> (u8, u32) {
+    let (node, nth) = text.split_once(".").unwrap_or((text, ""));
+    (case.small_of(node), case.number_of(nth))
+}
+
+/// A flow, or none.
+fn peer(case: &mut Case, word: &str) -> Option<(u8, u32)> {
     if word == "-" {
-        return Ok(None);
+        return None;
     }
-    let (node, nth) = word.split_once(".").ok_or(Unread)?;
-    Ok(Some((small_of(node)?, nth.parse::<u32>().ok().ok_or(Unread)?)))
+    Some(flow(case, word))
 }
 
 /// A tag: a flow, an index and an acknowledged index.
-fn tag(word: &str) -> Result<Option<Tag>, CaseError> {
+fn tag(case: &mut Case, word: &str) -> Option<Tag> {
     if word == "-" {
-        return Ok(None);
+        return None;
     }
-    let (front, ack) = word.rsplit_once(".").ok_or(Unread)?;
-    let (flow, index) = front.rsplit_once(".").ok_or(Unread)?;
-    let (node, nth) = peer(flow)?.ok_or(Unread)?;
-    Ok(Some(Tag {
+    let (front, ack) = word.rsplit_once(".").unwrap_or((word, ""));
+    let (front, index) = front.rsplit_once(".").unwrap_or((front, ""));
+    let (node, nth) = flow(case, front);
+    Some(Tag {
         node,
         nth,
-        index: long_of(index)?,
-        ack: long_of(ack)?,
-    }))
+        index: case.long_of(index),
+        ack: case.long_of(ack),
+    })
 }
 
-/// How many packets passed.
-pub(super) fn passed(alloc: Global, what: &str) -> Result<String, CaseError> {
-    let mut supply = Supply::open(alloc)?;
-    let mut parties = Vec::new(alloc);
+/// Tells how many packets passed.
+pub(super) fn passed(case: &mut Case) {
+    let deeds = case.rest();
+    let mut parties = Vec::new(case.alloc());
     for (name, who) in PARTIES {
-        let mut log = Log::new(alloc);
-        for deed in what.split(";") {
-            let words = Words::of(alloc, deed)?;
-            if words.at(0)? == name {
-                note(alloc, &mut log, &mut supply, &words)?;
-            }
+        let log = written(case, deeds, Some(name));
+        if parties.push(party(who, log)).is_err() {
+            case.lacks_memory();
         }
-        parties.push(party(who, log)).ok().ok_or(NoMemory)?;
     }
-    let count = csp_record::passed(alloc, &record(alloc, parties))?;
-    counted(alloc, count)
-}
-
-/// What the entries of these deeds weigh together, in one log.
-pub(super) fn weight(alloc: Global, what: &str) -> Result<String, CaseError> {
-    let mut supply = Supply::open(alloc)?;
-    let mut log = Log::new(alloc);
-    for deed in what.split(";") {
-        note(alloc, &mut log, &mut supply, &Words::of(alloc, deed)?)?;
-    }
-    counted(alloc, log.weight())
-}
-
-/// Notes a deed.
-fn note(alloc: Global, log: &mut Log, supply: &mut Supply, words: &Words) -> Result<(), CaseError> {
-    let mut draft = Draft::open(alloc)?;
-    let (header, payload) = (words.word(3)?, words.bytes(4)?);
-    match words.at(1)? {
-        "sent" => {
-            let serial = words.long(2)?;
-            draft_sent(
-                &mut draft,
-                filled(supply, None, header, payload.as_slice())?,
-            );
-            append(log, &draft, &[Event::Transmitted { serial }])
-        }
-        "came" => {
-            let origin = origin(words.at(2)?)?;
-            draft_came(
-                &mut draft,
-                filled(supply, origin, header, payload.as_slice())?,
-            );
-            append(log, &draft, &[])
-        }
-        _ => Err(Unread),
+    match csp_record::passed(case.alloc(), &record(case.alloc(), parties)) {
+        Ok(count) => case.tell_number(count),
+        Err(_) => case.lacks_memory(),
     }
 }
 
-/// An origin at the first interface of a node.
-fn origin(word: &str) -> Result<Option<Origin>, CaseError> {
-    if word == "-" {
-        return Ok(None);
-    }
-    let (node, serial) = word.split_once(".").ok_or(Unread)?;
-    Ok(Some(Origin {
-        node: small_of(node)?,
-        iface: 0,
-        serial: long_of(serial)?,
-    }))
+/// Tells what the entries of these deeds weigh together, in one log.
+pub(super) fn weight(case: &mut Case) {
+    let log = written(case, case.rest(), None);
+    case.tell_number(log.weight());
 }
 
-/// A buffer with this packet and origin.
-fn filled(
-    supply: &mut Supply,
-    origin: Option<Origin>,
-    header: u32,
-    payload: &[u8],
-) -> Result<Buffer, CaseError> {
-    let Some(mut buffer) = supply.take() else {
-        return Err(Unread);
+/// A log with the deeds of a party, or with all.
+fn written<'a>(case: &mut Case<'a>, deeds: &'a str, name: Option<&str>) -> Log {
+    let Some(mut writing) = Writing::open(case.alloc()) else {
+        case.lacks_memory();
+        return Log::new(case.alloc());
     };
-    buffer.set_header(header);
-    let _room = buffer.push_tail(payload);
-    buffer.set_trace(Trace {
-        origin,
-        hops: 1,
-        tag: None,
-    });
-    Ok(buffer)
+    for deed in deeds.split(";") {
+        case.turn_to(deed);
+        let party = case.word();
+        if name.unwrap_or(party) == party {
+            writing.note(case);
+        }
+    }
+    writing.log
 }
 
-/// Notes that a packet was popped from an `Out`.
-fn draft_sent(draft: &mut Draft, buffer: Buffer) {
-    draft.ask(&Op::Pop(QueueId::Out(0)));
-    let answer = Answer::Popped(Item::Packet {
-        mark: UNMARKED,
-        buffer,
-    });
-    draft.answer(&answer);
-    leave(answer);
+impl Writing {
+    /// An empty log.
+    fn open(alloc: Global) -> Option<Writing> {
+        Some(Writing {
+            log: Log::new(alloc),
+            draft: Draft::open(alloc).ok()?,
+            supply: Supply::new(alloc),
+        })
+    }
+
+    /// Appends an entry with these events.
+    fn append(&mut self, case: &mut Case, events: &[Event]) {
+        let mut told = Events::new();
+        if self.log.len() > 1_000_000 || told.try_extend_from_slice(events).is_err() {
+            return case.misread();
+        }
+        match self.log.reserve(1) {
+            Ok(()) => self.log.append(0, &self.draft, &told),
+            Err(_) => case.lacks_memory(),
+        }
+    }
+
+    /// Notes a deed.
+    fn note(&mut self, case: &mut Case) {
+        match case.word() {
+            "sent" => {
+                let serial = case.long();
+                if let Some(buffer) = self.filled(case, None) {
+                    self.draft_sent(buffer);
+                }
+                self.append(case, &[Event::Transmitted { serial }]);
+            }
+            "came" => {
+                let origin = origin(case);
+                if let Some(buffer) = self.filled(case, origin) {
+                    self.draft_came(buffer);
+                }
+                self.append(case, &[]);
+            }
+            _ => case.misread(),
+        }
+    }
+
+    /// A buffer with the packet that is asked, and this origin.
+    fn filled(&mut self, case: &mut Case, origin: Option<Origin>) -> Option<Buffer> {
+        let header = case.hex_word();
+        let payload = case.bytes();
+        let Some(mut buffer) = self.supply.take() else {
+            case.lacks_memory();
+            return None;
+        };
+        buffer.set_header(header);
+        let _room = buffer.push_tail(payload.as_slice());
+        buffer.set_trace(Trace {
+            origin,
+            hops: 1,
+            tag: None,
+        });
+        Some(buffer)
+    }
+
+    /// Notes that a packet was popped from an `Out`.
+    fn draft_sent(&mut self, buffer: Buffer) {
+        self.draft.ask(&Op::Pop(QueueId::Out(0)));
+        let answer = Answer::Popped(Item::Packet {
+            mark: UNMARKED,
+            buffer,
+        });
+        self.draft.answer(&answer);
+        leave(answer);
+    }
+
+    /// Notes that a packet was put into the inbox.
+    fn draft_came(&mut self, buffer: Buffer) {
+        let op = Op::Push(QueueId::Inbox, Item::Packet { mark: 0, buffer });
+        self.draft.ask(&op);
+        leave(op);
+    }
 }
 
-/// Notes that a packet was put into the inbox.
-fn draft_came(draft: &mut Draft, buffer: Buffer) {
-    let op = Op::Push(QueueId::Inbox, Item::Packet { mark: 0, buffer });
-    draft.ask(&op);
-    leave(op);
+/// An origin at the first interface of a node, or none.
+fn origin(case: &mut Case) -> Option<Origin> {
+    let word = case.word();
+    if word == "-" {
+        return None;
+    }
+    let (node, serial) = word.split_once(".").unwrap_or((word, ""));
+    Some(Origin {
+        node: case.small_of(node),
+        iface: 0,
+        serial: case.long_of(serial),
+    })
 }

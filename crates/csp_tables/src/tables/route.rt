@@ -1,85 +1,83 @@
 //! Routing tables of a node with the interfaces a, b and c: `route text TEXT`, `route to ADDRESS by TEXT`,
 //! `route add TEXT + TEXT`.
 
-use csp_base::{Addr, Name};
-use csp_cases::CaseError::Unread;
-use csp_cases::{CaseError, plain, small_of, unescaped};
-use csp_route::{RouteError, Table};
-use std::alloc::Global;
+ghost use Rattle.std.specs.Prelude.{IfOk, length};
+ghost use Rattle.csp_route.specs.Routes.{IsWithin};
 
-/// What is written of a table or why its text is refused, which row leads to an address, or two tables in one.
-pub(super) fn answer(alloc: Global, what: &str) -> Result<String, CaseError> {
-    let names = names()?;
-    let (how, rest) = what.split_once(" ").unwrap_or((what, ""));
-    match how {
-        "text" => written(alloc, &names, rest),
-        "to" => {
-            let (addr, text) = rest.split_once(" by ").ok_or(Unread)?;
-            let addr = Addr::new(small_of(addr)?).ok_or(Unread)?;
-            found(alloc, &names, text, addr)
-        }
-        "add" => {
-            let (text, more) = rest.split_once(" + ").ok_or(Unread)?;
-            added(alloc, &names, text, more)
-        }
-        _ => Err(Unread),
+use csp_base::Name;
+use csp_cases::Case;
+use csp_route::{RouteError, Row, Table};
+
+/// Tells what is written of a table or why its text is refused, which row leads to an address, or two tables in one.
+pub(super) fn answer(case: &mut Case) {
+    let (Ok(a), Ok(b), Ok(c)) = (Name::from("a"), Name::from("b"), Name::from("c")) else {
+        return case.misread();
+    };
+    let names = [a, b, c];
+    match case.word() {
+        "text" => match table(case, case.rest(), &names) {
+            Ok(table) => written(case, &table, &names),
+            Err(error) => write!(case, "{:?} at {}", error.kind, error.at),
+        },
+        "to" => found(case, &names),
+        "add" => added(case, &names),
+        _ => case.misread(),
     }
 }
 
-/// The names of the interfaces.
-fn names() -> Result<[Name; 3], CaseError> {
-    Ok([name("a")?, name("b")?, name("c")?])
+/// The table of a text, or why it is refused.
+fn table(case: &mut Case, text: &str, names: &[Name]) -> Result<Table, RouteError>
+    ensures { IfOk result (λ table. IsWithin (length names.now) table) }
+{
+    let bytes = case.unescaped(text);
+    Table::parse_bytes(bytes.as_slice(), names)
 }
 
-/// A name.
-fn name(text: &str) -> Result<Name, CaseError> {
-    Name::from(text).ok().ok_or(Unread)
-}
-
-/// The kind and the place of an error.
-fn refused(alloc: Global, error: RouteError) -> Result<String, CaseError> {
-    let at = error.at;
-    Ok(format!(in alloc; "{:?} at {at}", error.kind)?)
-}
-
-/// The text that is written of the table of a text.
-fn written(alloc: Global, names: &[Name], text: &str) -> Result<String, CaseError> {
-    let bytes = unescaped(alloc, text)?;
-    match Table::parse_bytes(bytes.as_slice(), names) {
-        Ok(table) => Ok(table.write(alloc, names)?),
-        Err(error) => refused(alloc, error),
+/// Tells the text that is written of a table.
+fn written(case: &mut Case, table: &Table, names: &[Name])
+    requires { IsWithin (length names.now) table.now }
+{
+    match table.write(case.alloc(), names) {
+        Ok(text) => case.tell(text.as_str()),
+        Err(_) => case.lacks_memory(),
     }
 }
 
-/// The row that leads to an address: its masked address, its mask, its interface, and the next hop.
-fn found(alloc: Global, names: &[Name], text: &str, addr: Addr) -> Result<String, CaseError> {
-    let bytes = unescaped(alloc, text)?;
-    let table = Table::parse_bytes(bytes.as_slice(), names)
-        .ok()
-        .ok_or(Unread)?;
-    let Some(row) = table.find(addr) else {
-        return plain(alloc, "none");
-    };
-    let iface = names.get(usize::from(row.iface)).ok_or(Unread)?;
-    let front = format!(in alloc; "{}/{} {}", row.addr.get(), row.mask, iface.as_str())?;
-    match row.via {
-        None => Ok(front),
-        Some(via) => Ok(format!(in alloc; "{front} via {}", via.get())?),
+/// Tells the row that leads to an address: its masked address, its mask, its interface, and the next hop.
+fn found(case: &mut Case, names: &[Name]) {
+    let addr = case.addr();
+    if !case.passes("by") {
+        case.misread();
+    }
+    match table(case, case.rest(), names) {
+        Err(_) => case.misread(),
+        Ok(table) => match table.find(addr) {
+            None => case.tell("none"),
+            Some(row) => told(case, row, names),
+        },
     }
 }
 
-/// The text of a table with the rows of another, where there is room for them.
-fn added(alloc: Global, names: &[Name], text: &str, more: &str) -> Result<String, CaseError> {
-    let first = unescaped(alloc, text)?;
-    let second = unescaped(alloc, more)?;
-    let Ok(mut table) = Table::parse_bytes(first.as_slice(), names) else {
-        return Err(Unread);
-    };
-    let Ok(more) = Table::parse_bytes(second.as_slice(), names) else {
-        return Err(Unread);
-    };
-    match table.extend(&more) {
-        Ok(()) => Ok(table.write(alloc, names)?),
-        Err(_) => plain(alloc, "full"),
+/// Tells a row.
+fn told(case: &mut Case, row: Row, names: &[Name]) {
+    write!(case, "{}/{} ", row.addr.get(), row.mask);
+    match names.get(usize::from(row.iface)) {
+        None => case.misread(),
+        Some(name) => case.tell(name.as_str()),
+    }
+    if let Some(via) = row.via {
+        write!(case, " via {}", via.get());
+    }
+}
+
+/// Tells the text of a table with the rows of another, where there is room for them.
+fn added(case: &mut Case, names: &[Name]) {
+    let (text, more) = case.halves(case.rest(), " + ");
+    match (table(case, text, names), table(case, more, names)) {
+        (Ok(mut table), Ok(more)) => match table.extend(&more) {
+            Ok(()) => written(case, &table, names),
+            Err(_) => case.tell("full"),
+        },
+        _ => case.misread(),
     }
 }

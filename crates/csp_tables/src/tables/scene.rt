@@ -2,53 +2,65 @@
 //! show what its last line states: `scene step TEXT`, `scene node TEXT`, `scene options TEXT`, `scene routes TEXT`,
 //! `scene link TEXT`, `scene schedule TEXT`.
 
-use csp_cases::CaseError::{NoMemory, Unread};
-use csp_cases::{CaseError, plain, shown, unescaped};
+use csp_cases::Case;
 use csp_scene::{Scene, SceneError, SceneNode, parse};
-use std::alloc::Global;
 
-/// What becomes of a text, or what it states.
-pub(super) fn answer(alloc: Global, what: &str) -> Result<String, CaseError> {
-    let (how, rest) = what.split_once(" ").unwrap_or((what, ""));
-    let text = unescaped(alloc, rest)?;
-    match parse(alloc, text.as_slice()) {
-        Err(SceneError::NoMemory) => Err(NoMemory),
-        Err(SceneError::Refused { line, kind }) => {
-            Ok(format!(in alloc; "line {line}: {kind:?}")?)
-        }
-        Ok(scene) => match how {
-            "judge" => plain(alloc, "taken"),
-            "schedule" => shown(alloc, &scene.schedule),
-            "link" => shown(alloc, scene.links.last().ok_or(Unread)?),
-            _ => of_node(alloc, how, &scene),
+/// Tells what becomes of a text, or what it states.
+pub(super) fn answer(case: &mut Case) {
+    let how = case.word();
+    let text = case.unescaped(case.rest());
+    match parse(case.alloc(), text.as_slice()) {
+        Err(SceneError::NoMemory) => case.lacks_memory(),
+        Err(SceneError::Refused { line, kind }) => write!(case, "line {line}: {kind:?}"),
+        Ok(scene) => stated(case, how, &scene),
+    }
+}
+
+/// Tells what a text states.
+fn stated(case: &mut Case, how: &str, scene: &Scene) {
+    match how {
+        "judge" => case.tell("taken"),
+        "schedule" => case.tell_shown(&scene.schedule),
+        "link" => match scene.links.last() {
+            Some(link) => case.tell_shown(link),
+            None => case.misread(),
+        },
+        "step" => step(case, scene),
+        _ => match scene.nodes.last() {
+            Some(node) => of_node(case, how, node),
+            None => case.misread(),
         },
     }
 }
 
-/// What a text states of its last node, or of its first node's last application.
-fn of_node(alloc: Global, how: &str, scene: &Scene) -> Result<String, CaseError> {
-    let node = scene.nodes.last().ok_or(Unread)?;
+/// Tells what a text states of its last node.
+fn of_node(case: &mut Case, how: &str, node: &SceneNode) {
     match how {
-        "node" => numbers(alloc, node),
-        "options" => shown(alloc, &node.options),
-        "routes" => shown(alloc, &node.routes.rows()),
-        "step" => {
-            let first = scene.nodes.first().ok_or(Unread)?;
-            let app = first.apps.last().ok_or(Unread)?;
-            let last = app.script.len().checked_sub(1).ok_or(Unread)?;
-            shown(alloc, &app.script.step(last))
-        }
-        _ => Err(Unread),
+        "node" => numbers(case, node),
+        "options" => case.tell_shown(&node.options),
+        "routes" => case.tell_shown(&node.routes.rows()),
+        _ => case.misread(),
     }
 }
 
-/// A node's name, address, buffers, seed and room of its inbox.
-fn numbers(alloc: Global, node: &SceneNode) -> Result<String, CaseError> {
-    let name = node.name.as_str();
-    let (buffers, seed, inbox) = (node.buffers, node.seed, node.inbox);
-    let rest = format!(in alloc; "buffers {buffers} seed {seed} inbox {inbox}")?;
-    match node.addr {
-        Some(addr) => Ok(format!(in alloc; "node {name} {} {rest}", addr.get())?),
-        None => Ok(format!(in alloc; "bridge {name} {rest}")?),
+/// Tells the last step of the first node's last application.
+fn step(case: &mut Case, scene: &Scene) {
+    let Some(app) = scene.nodes.first().and_then(|node| node.apps.last()) else {
+        return case.misread();
+    };
+    match app.script.len().checked_sub(1) {
+        Some(last) => case.tell_shown(&app.script.step(last)),
+        None => case.misread(),
     }
+}
+
+/// Tells a node's name, address, buffers, seed and room of its inbox.
+fn numbers(case: &mut Case, node: &SceneNode) {
+    let name = node.name.as_str();
+    match node.addr {
+        Some(addr) => write!(case, "node {name} {}", addr.get()),
+        None => write!(case, "bridge {name}"),
+    }
+    let (buffers, seed, inbox) = (node.buffers, node.seed, node.inbox);
+    write!(case, " buffers {buffers} seed {seed} inbox {inbox}");
 }

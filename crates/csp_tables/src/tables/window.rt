@@ -4,31 +4,31 @@
 
 use crate::supply::{Supply, leave};
 use csp_base::Seq;
-use csp_cases::CaseError::Unread;
-use csp_cases::{CaseError, Steps, Words, counted, plain, stepped};
+use csp_cases::{Case, Steps, stepped};
 use csp_rdp_window::{Offer, RecvWindow, SendWindow};
-use std::alloc::Global;
 use std::mem::ManuallyDrop;
 
-/// What comes of each step.
-pub(super) fn answer(alloc: Global, what: &str) -> Result<String, CaseError> {
-    let (first, rest) = what.split_once(";").ok_or(Unread)?;
-    let words = Words::of(alloc, first)?;
-    let (start, window) = (Seq(words.short(1)?), words.number(2)?);
+/// Tells what comes of each step.
+pub(super) fn answer(case: &mut Case) {
+    let (first, rest) = case.halves(case.rest(), ";");
+    case.turn_to(first);
+    let which = case.word();
+    let (start, window) = (Seq(case.short()), case.number());
+    case.turn_to(rest);
     if window == 0 || window > 20 {
-        return Err(Unread);
+        return case.misread();
     }
-    let supply = Supply::open(alloc)?;
-    match words.at(0)? {
+    let supply = Supply::new(case.alloc());
+    match which {
         "send" => {
-            let window = opened_send(start, window)?;
-            stepped(alloc, &mut Sender { window, supply }, rest)
+            let window = unsafe { ManuallyDrop::new_unchecked(SendWindow::new(start, window)) };
+            stepped(case, &mut Sender { window, supply });
         }
         "receive" => {
-            let window = opened_receive(start, window)?;
-            stepped(alloc, &mut Receiver { window, supply }, rest)
+            let window = unsafe { ManuallyDrop::new_unchecked(RecvWindow::new(start, window)) };
+            stepped(case, &mut Receiver { window, supply });
         }
-        _ => Err(Unread),
+        _ => case.misread(),
     }
 }
 
@@ -46,44 +46,27 @@ struct Receiver {
     supply: Supply,
 }
 
-/// An empty window of a sender.
-fn opened_send(start: Seq, window: u32) -> Result<ManuallyDrop<SendWindow>, CaseError> {
-    if window == 0 || window > 20 {
-        return Err(Unread);
-    }
-    Ok(unsafe { ManuallyDrop::new_unchecked(SendWindow::new(start, window)) })
-}
-
-/// An empty window of a receiver.
-fn opened_receive(start: Seq, window: u32) -> Result<ManuallyDrop<RecvWindow>, CaseError> {
-    if window == 0 || window > 20 {
-        return Err(Unread);
-    }
-    Ok(unsafe { ManuallyDrop::new_unchecked(RecvWindow::new(start, window)) })
-}
-
 impl Steps for Sender {
-    fn step(&mut self, alloc: Global, words: &Words) -> Result<String, CaseError> {
+    fn step(&mut self, case: &mut Case) {
         let window = &mut self.window;
-        match words.at(0)? {
+        match case.word() {
             "admit" => match admitted(window, &mut self.supply) {
-                Some(number) => counted(alloc, u64::from(number)),
-                None => plain(alloc, "full"),
+                Some(number) => case.tell_number(u64::from(number)),
+                None => case.tell("full"),
             },
             "ack" => {
-                let inside = window.acked(Seq(words.short(1)?));
-                let una = window.una();
-                let where_to = if inside { "inside" } else { "outside" };
-                Ok(format!(in alloc; "{where_to} una {una}")?)
+                let inside = window.acked(Seq(case.short()));
+                case.tell(if inside { "inside" } else { "outside" });
+                write!(case, " una {}", window.una());
             }
             "drain" => match window.drain() {
                 Some(loose) => {
                     leave(loose);
-                    plain(alloc, "one")
+                    case.tell("one");
                 }
-                None => plain(alloc, "none"),
+                None => case.tell("none"),
             },
-            _ => Err(Unread),
+            _ => case.misread(),
         }
     }
 }
@@ -111,17 +94,17 @@ fn admitted(window: &mut SendWindow, supply: &mut Supply) -> Option<u16> {
 }
 
 impl Steps for Receiver {
-    fn step(&mut self, alloc: Global, words: &Words) -> Result<String, CaseError> {
-        match words.at(0)? {
+    fn step(&mut self, case: &mut Case) {
+        match case.word() {
             "offer" => {
-                let what = offered(&mut self.window, &mut self.supply, words.short(1)?);
-                plain(alloc, what)
+                let number = case.short();
+                case.tell(offered(&mut self.window, &mut self.supply, number));
             }
             "next" => match delivered(&mut self.window) {
-                Some(number) => counted(alloc, u64::from(number)),
-                None => plain(alloc, "none"),
+                Some(number) => case.tell_number(u64::from(number)),
+                None => case.tell("none"),
             },
-            _ => Err(Unread),
+            _ => case.misread(),
         }
     }
 }
