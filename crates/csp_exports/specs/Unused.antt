@@ -4,6 +4,7 @@ use Rattle.std.specs.Fmt.{decimal}
 use Rattle.std.specs.List.{flat_map, enumerate_from, list_any, range_with_len}
 use Rattle.csp_app.specs.PlainStep.{PlainStep}
 use Rattle.csp_app.specs.PlainStep as step
+use Rattle.csp_happenings.specs.Happenings.{taken}
 use Rattle.csp_header.specs.Word.{header_at}
 use Rattle.csp_link.specs.declared.fault.Fault.{Fault}
 use Rattle.csp_link.specs.declared.fault.FaultKind.{FaultKind}
@@ -21,7 +22,6 @@ use Rattle.csp_record.specs.declared.who.Who.{Who}
 use Rattle.csp_record.specs.declared.who.Who.TheVariants as who
 use Rattle.csp_report.specs.Lines.{Line, text_of}
 use Rattle.csp_scene.specs.Scene.{PlainApp, PlainLink, PlainNode, PlainScene}
-use Rattle.csp_timeline.specs.Happenings.{taken}
 use Rattle.csp_timeline.specs.Labels.{from_word}
 use Rattle.csp_exports.specs.declared.sockets.TheConstants.{PORTS}
 use Rattle.csp_exports.specs.declared.idle.TheConstants.{UNUSED_VERSION}

@@ -4,16 +4,17 @@ ghost use Rattle.std.specs.Prelude.{◌≡◌, ◌++◌, ◌∷◌, ℕ, get_or,
 ghost use Rattle.std.specs.List.{flat_map, join_with_byte};
 ghost use Rattle.std.specs.Option.{option_map};
 ghost use Rattle.std.specs.String.{string_bytes};
+ghost use Rattle.csp_happenings.specs.Happenings.{taken};
 ghost use Rattle.csp_report.specs.Lines.{ended_line, text_of};
-ghost use Rattle.csp_timeline.specs.Happenings.{taken};
 ghost use Rattle.csp_exports.specs.Unused.{fault_line, fault_lines, harm_words, hits_none, idle_fault_lines, is_link, link_turns, plan_lines};
 
 use crate::parties::is_link;
+use csp_happenings::FrameCounts;
 use csp_link::{Fault, FaultKind};
 use csp_record::PartyLog;
 use csp_report::{begin_line, end_line, push_count, push_counted, push_word};
 use csp_scene::{SceneLink, SceneNode};
-use csp_timeline::{FrameCounts, from_word};
+use csp_timeline::from_word;
 use std::alloc::AllocError;
 
 /// Appends what happens to a frame, in a scenario's words.

@@ -2,7 +2,7 @@
 use Rattle.std.proofs.Common.{◌≡◌, ℕ, suc, ◌+◌, ◌<◌, List, ◌∷◌, ◌++◌, length, drop, get_or, ◌≤◌, [], drop-cons, add-one, append_assoc, sym, ap, ◌∙◌}
 use Rattle.std.proofs.lemmas.List.{drop_all}
 use Rattle.std.specs.Prelude.{Option}
-use Rattle.csp_timeline.specs.declared.kinds.Happening.{Happening}
+use Rattle.csp_happenings.specs.declared.kinds.Happening.{Happening}
 use Rattle.csp_picture.specs.Seen.{PlainSeen, after, after_all, along}
 use Rattle.csp_picture.specs.declared.seen.Window.{Window}
 

@@ -1,6 +1,8 @@
 -- The picture of a run.
 use Rattle.std.specs.Prelude.{ℕ, Option, List, ◌++◌, length, codes}
 use Rattle.std.specs.Fmt.{decimal}
+use Rattle.csp_happenings.specs.Happenings.{happenings}
+use Rattle.csp_happenings.specs.declared.kinds.Happening.{Happening}
 use Rattle.csp_record.specs.Record.{PlainRecord}
 use Rattle.csp_scene.specs.Scene.{PlainScene, PlainNode, PlainLink}
 use Rattle.csp_picture.specs.Elements.{attribute}
@@ -10,8 +12,6 @@ use Rattle.csp_picture.specs.Rows.{shapes, notes}
 use Rattle.csp_picture.specs.Seen.{nothing_seen, after_all}
 use Rattle.csp_picture.specs.Style.{style}
 use Rattle.csp_picture.specs.declared.seen.Window.{Window}
-use Rattle.csp_timeline.specs.Happenings.{happenings}
-use Rattle.csp_timeline.specs.declared.kinds.Happening.{Happening}
 
 -- how the size is named
 unfoldable pub box_word : List ℕ

@@ -3,6 +3,10 @@ use Rattle.std.specs.Prelude.{ℕ, ◌+◌, ◌-◌, ◌/◌, ◌==◌, Bool, tr
 use Rattle.std.specs.Fmt.{decimal}
 use Rattle.std.specs.Option.{option_map_or, option_and_then}
 use Rattle.csp_base.specs.declared.traces.Origin.{Origin}
+use Rattle.csp_happenings.specs.declared.kinds.Happening.{Happening}
+use Rattle.csp_happenings.specs.declared.kinds.Piece.{Piece}
+use Rattle.csp_happenings.specs.declared.kinds.What.{What}
+use Rattle.csp_happenings.specs.declared.kinds.What.TheVariants as what
 use Rattle.csp_link.specs.declared.fates.Fate.{Fate}
 use Rattle.csp_record.specs.declared.who.Who.{Who}
 use Rattle.csp_record.specs.declared.who.Who.TheVariants as who
@@ -19,10 +23,6 @@ use Rattle.csp_picture.specs.declared.rows.TheConstants.{ABOVE, BESIDE, ROUNDS_E
 use Rattle.csp_picture.specs.declared.seen.Sent.{Sent}
 use Rattle.csp_picture.specs.declared.seen.Start.{Start}
 use Rattle.csp_picture.specs.declared.seen.Window.{Window}
-use Rattle.csp_timeline.specs.declared.kinds.Happening.{Happening}
-use Rattle.csp_timeline.specs.declared.kinds.Piece.{Piece}
-use Rattle.csp_timeline.specs.declared.kinds.What.{What}
-use Rattle.csp_timeline.specs.declared.kinds.What.TheVariants as what
 
 -- the place of a link's party among the links
 abbrev pub link_of : Who → ℕ

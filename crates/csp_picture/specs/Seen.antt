@@ -3,6 +3,9 @@ use Rattle.std.specs.Prelude.{ℕ, ◌+◌, ◌/◌, ◌%◌, ◌^◌, ◌==◌,
 use Rattle.std.specs.BTreeMap.{insert_entry, is_at}
 use Rattle.std.specs.Map.{lookup}
 use Rattle.csp_base.specs.declared.traces.Origin.{Origin}
+use Rattle.csp_happenings.specs.declared.kinds.Happening.{Happening}
+use Rattle.csp_happenings.specs.declared.kinds.What.{What}
+use Rattle.csp_happenings.specs.declared.kinds.What.TheVariants as what
 use Rattle.csp_link.specs.declared.fates.Fate.{Fate}
 use Rattle.csp_record.specs.Table.{key_cmp}
 use Rattle.csp_record.specs.declared.who.Who.{Who}
@@ -11,9 +14,6 @@ use Rattle.csp_picture.specs.Colours.{colour_of, is_harmed}
 use Rattle.csp_picture.specs.declared.seen.Sent.{Sent}
 use Rattle.csp_picture.specs.declared.seen.Start.{Start}
 use Rattle.csp_picture.specs.declared.seen.Window.{Window}
-use Rattle.csp_timeline.specs.declared.kinds.Happening.{Happening}
-use Rattle.csp_timeline.specs.declared.kinds.What.{What}
-use Rattle.csp_timeline.specs.declared.kinds.What.TheVariants as what
 
 -- whether a frame opens a packet: on a KISS link each does, and on a CAN link one whose identifier has a 0 as its bit 18
 abbrev pub opens : Option ℕ → Bool

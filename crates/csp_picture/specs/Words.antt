@@ -2,13 +2,13 @@
 use Rattle.std.specs.Prelude.{ℕ, nat_lt, if◌then◌else◌, Bool, true, false, Option, Some, None, List, [], ◌∷◌, ◌++◌, codes}
 use Rattle.std.specs.Fmt.{decimal}
 use Rattle.csp_base.specs.declared.traces.Tag.{Tag}
+use Rattle.csp_happenings.specs.declared.kinds.Kind.{Kind}
+use Rattle.csp_happenings.specs.declared.kinds.Kind.TheVariants as kind
+use Rattle.csp_happenings.specs.declared.kinds.Parcel.{Parcel}
 use Rattle.csp_header.specs.Word.{header_at}
 use Rattle.csp_header.specs.declared.word.Header.{Header}
 use Rattle.csp_link.specs.declared.fates.Fate.{Fate}
 use Rattle.csp_picture.specs.declared.seen.Sent.{Sent}
-use Rattle.csp_timeline.specs.declared.kinds.Kind.{Kind}
-use Rattle.csp_timeline.specs.declared.kinds.Kind.TheVariants as kind
-use Rattle.csp_timeline.specs.declared.kinds.Parcel.{Parcel}
 
 -- a word with a space before it
 abbrev pub spaced : List ℕ → List ℕ

@@ -4,7 +4,7 @@ ghost use Rattle.std.specs.Prelude.{◌≡◌, ◌<◌, length};
 ghost use Rattle.csp_picture.specs.Colours.{colour_of, name_of, all_colours, is_harmed};
 ghost use Rattle.csp_picture.specs.Style.{paint_of, tip_of};
 
-use csp_timeline::Fate;
+use csp_happenings::Fate;
 
 /// The colour of a frame, by what became of it.
 #[derive(Clone, Copy, PartialEq, Eq)]

@@ -13,10 +13,10 @@ use crate::places::{across, dash, down, top, width};
 use crate::seen::{Seen, Sent, Start, Window, is_shown, opens};
 use crate::words::{push_fate, push_sent, push_word};
 use csp_base::Origin;
+use csp_happenings::{Fate, Happening, Piece, What};
 use csp_record::Who;
 use csp_scene::{MAX_LINKS, MAX_NODES, SceneLink};
 use csp_text::push_number;
-use csp_timeline::{Fate, Happening, Piece, What};
 use std::alloc::{AllocError, Global};
 
 /// How far above its row a label stands.

@@ -5,8 +5,8 @@ ghost use Rattle.csp_picture.specs.Seen.{opens, closes, is_drawn, is_in, is_show
 
 use crate::colours::{Colour, is_harmed};
 use csp_base::Origin;
+use csp_happenings::{Fate, Happening, Parcel, What};
 use csp_record::Who;
-use csp_timeline::{Fate, Happening, Parcel, What};
 use std::alloc::{AllocError, Global};
 use std::collections::BTreeMap;
 use std::marker::Model;

@@ -14,10 +14,10 @@ use crate::places::{height, width};
 use crate::rows::{push_notes, push_shapes};
 use crate::seen::{Seen, Window};
 use crate::style::push_style;
+use csp_happenings::{Happening, happenings};
 use csp_record::Record;
 use csp_scene::{MAX_LINKS, MAX_NODES, Scene, SceneLink, SceneNode};
 use csp_text::push_number;
-use csp_timeline::{Happening, happenings};
 use std::alloc::{AllocError, Global};
 
 #[tactic(auto, unfolding(crate::specs::Picture::box_word))]

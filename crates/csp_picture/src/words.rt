@@ -8,9 +8,9 @@ ghost use Rattle.csp_picture.specs.Words.{spaced, counted, port_words, flow_word
 
 use crate::seen::Sent;
 use csp_base::Tag;
+use csp_happenings::{Fate, Kind, Parcel};
 use csp_header::Header;
 use csp_text::push_number;
-use csp_timeline::{Fate, Kind, Parcel};
 use std::alloc::AllocError;
 
 /// Appends a word with a space before it.

@@ -2,15 +2,15 @@
 use Rattle.std.specs.Prelude.{ℕ, ◌-◌, Bool, if◌then◌else◌, List, [], ◌∷◌, ◌++◌, length, codes, replicate}
 use Rattle.std.specs.Fmt.{decimal}
 use Rattle.std.specs.List.{flat_map}
+use Rattle.csp_happenings.specs.Happenings.{happenings}
+use Rattle.csp_happenings.specs.declared.kinds.Happening.{Happening}
+use Rattle.csp_happenings.specs.declared.kinds.Parcel.{Parcel}
+use Rattle.csp_happenings.specs.declared.kinds.What.{What}
+use Rattle.csp_happenings.specs.declared.kinds.What.TheVariants as what
 use Rattle.csp_record.specs.Record.{PlainRecord}
 use Rattle.csp_scene.specs.Scene.{PlainScene}
-use Rattle.csp_timeline.specs.Happenings.{happenings}
 use Rattle.csp_timeline.specs.Labels.{app_name, from_end, label, place_of, to_end}
 use Rattle.csp_timeline.specs.Words.{event_words, fate_words, frame_words, note_words, numbered, packet_words, sent_words, some_packet_words, word}
-use Rattle.csp_timeline.specs.declared.kinds.Happening.{Happening}
-use Rattle.csp_timeline.specs.declared.kinds.Parcel.{Parcel}
-use Rattle.csp_timeline.specs.declared.kinds.What.{What}
-use Rattle.csp_timeline.specs.declared.kinds.What.TheVariants as what
 use Rattle.csp_timeline.specs.declared.text.TheConstants.{TIME_WIDTH, LABEL_WIDTH, VERSION}
 
 -- a word, a space, and as many more as make the column so wide

@@ -7,6 +7,10 @@ use Rattle.csp_base.specs.Priority.{prio_number}
 use Rattle.csp_base.specs.declared.priority.Prio.{Prio}
 use Rattle.csp_base.specs.declared.traces.Origin.{Origin}
 use Rattle.csp_base.specs.declared.traces.Tag.{Tag}
+use Rattle.csp_happenings.specs.declared.kinds.Kind.{Kind}
+use Rattle.csp_happenings.specs.declared.kinds.Kind.TheVariants as kind
+use Rattle.csp_happenings.specs.declared.kinds.Parcel.{Parcel}
+use Rattle.csp_happenings.specs.declared.kinds.Piece.{Piece}
 use Rattle.csp_header.specs.Word.{header_at}
 use Rattle.csp_header.specs.declared.word.Header.{Header}
 use Rattle.csp_link.specs.declared.fates.Fate.{Fate}
@@ -21,10 +25,6 @@ use Rattle.csp_report.specs.Events.{word_of, word_of_refusal}
 use Rattle.csp_scene.specs.Scene.{PlainScene}
 use Rattle.csp_sfp.specs.declared.errors.SfpError.{SfpError}
 use Rattle.csp_timeline.specs.Labels.{node_name, iface_label, app_name}
-use Rattle.csp_timeline.specs.declared.kinds.Kind.{Kind}
-use Rattle.csp_timeline.specs.declared.kinds.Kind.TheVariants as kind
-use Rattle.csp_timeline.specs.declared.kinds.Parcel.{Parcel}
-use Rattle.csp_timeline.specs.declared.kinds.Piece.{Piece}
 
 -- a word
 abbrev pub word : List ℕ → List ℕ

@@ -7,11 +7,10 @@ ghost use Rattle.std.specs.Fmt.{decimal};
 ghost use Rattle.csp_timeline.specs.Labels.{label, place_of};
 ghost use Rattle.csp_timeline.specs.Timeline.{column, took_words, transmission_word, what_words, line, first_line, timeline};
 
-use crate::gathering::happenings;
-use crate::kinds::{Happening, Parcel, What};
 use crate::labels::{app_name, from_end, push_label, to_end};
 use crate::reports::push_event;
 use crate::words::{push_fate, push_frame, push_note, push_packet, push_sent, push_some_packet};
+use csp_happenings::{Happening, Parcel, What, happenings};
 use csp_record::{Record, Who};
 use csp_report::{begin_line, end_line, push_count, push_counted, push_word};
 use csp_scene::Scene;

@@ -7,11 +7,10 @@ ghost use Rattle.std.specs.Int.{w32, to_be_bytes};
 ghost use Rattle.hex.specs.Hex.{encode_lower};
 ghost use Rattle.csp_timeline.specs.Words.{word, numbered, hex_pair, end_word, ends_words, header_words, origin_words, kind_word, tag_words, packet_words, some_packet_words, can_words, frame_words, some_words, flip_words, fate_words, from_words, dest_words, slotted, target_words, terms_words, note_words, sent_words};
 
-use crate::fates::Fate;
-use crate::kinds::{Kind, Parcel, Piece};
 use crate::labels::{node_name, push_iface_label};
 use bitflags::Flags;
 use csp_base::{Addr, Origin, Port, Prio, Tag};
+use csp_happenings::{Fate, Kind, Parcel, Piece};
 use csp_header::Header;
 use csp_log::{Note, UNMARKED};
 use csp_report::{push_count, push_counted, push_word, word_of_refusal};

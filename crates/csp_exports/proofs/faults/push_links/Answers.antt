@@ -1,6 +1,6 @@
 use Rattle.std.proofs.Common.{arith}
 use Rattle.std.specs.String.{string_bytes}
-use Rattle.csp_timeline.specs.Happenings.{taken}
+use Rattle.csp_happenings.specs.Happenings.{taken}
 use Rattle.csp_exports.specs.Unused.{link_turns, plan_lines}
 use Rattle.csp_exports.proofs.Walking.{numbered}
 use Rattle.csp_exports.proofs.faults.push_links.Goals as goal

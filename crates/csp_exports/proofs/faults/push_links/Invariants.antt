@@ -1,8 +1,8 @@
 use Rattle.std.proofs.Common.{◌≡◌, ◌++◌, drop}
 use Rattle.std.specs.List.{flat_map, enumerate_from}
 use Rattle.std.specs.String.{string_bytes}
+use Rattle.csp_happenings.specs.Happenings.{taken}
 use Rattle.csp_report.specs.Lines.{text_of}
-use Rattle.csp_timeline.specs.Happenings.{taken}
 use Rattle.csp_exports.specs.Unused.{fault_lines, link_turns, plan_lines}
 use Rattle.csp_exports.proofs.faults.push_links.Given as goal
 

@@ -1,0 +1,4 @@
+pub mod Entries
+pub mod Happenings
+pub mod Numbers
+pub mod Remembering

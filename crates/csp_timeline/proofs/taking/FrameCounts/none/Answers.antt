@@ -1,5 +1,0 @@
-use Rattle.csp_timeline.proofs.Counting.{none-counted}
-use Rattle.csp_timeline.proofs.taking.FrameCounts.none.Goals as goal
-
-pub returns : goal.returns
-returns c = none-counted 256
