@@ -25,7 +25,7 @@ use Rattle.csp_record.specs.Record.{PlainPartyLog, PlainRecord}
 use Rattle.csp_record.specs.Whole.{IsWhole, IsWholeNode}
 use Rattle.csp_report.specs.declared.ifaces.IfaceCount.{IfaceCount}
 use Rattle.csp_report.specs.declared.ifaces.IfaceCount.TheVariants as count
-use Rattle.csp_report.specs.declared.parties.Seat.TheVariants as seat
+use Rattle.csp_record.specs.declared.who.Who.TheVariants as who
 use Rattle.csp_report.specs.declared.places.PlaceKind.TheVariants as kind
 use Rattle.csp_report.specs.declared.text.TheConstants.{VERSION}
 use Rattle.csp_sfp.specs.declared.errors.SfpError.{SfpError}
@@ -178,8 +178,8 @@ discards_lack events [] = tt
 discards_lack events (why ∷ reasons) = (word_lacks why, (number (count_by (is_discard why) events), discards_lack events reasons))
 
 good_router : (run : PlainRecord) (place : ℕ) (name : List ℕ) → IsTrue (is_name name) → (addr : Option ℕ) → IsGood (router_words run place name addr)
-good_router run place name is (Some addr) = other (router_words run place name (Some addr)) (plain (codes "router") refl, (named name is, discards_lack (events_at run.parties (seat.Router place)) all_discards)) refl
-good_router run place name is None = other (router_words run place name None) (plain (codes "relay") refl, (named name is, discards_lack (events_at run.parties (seat.Bridge place)) (discard.Full ∷ []))) refl
+good_router run place name is (Some addr) = other (router_words run place name (Some addr)) (plain (codes "router") refl, (named name is, discards_lack (events_at run.parties (who.Router place)) all_discards)) refl
+good_router run place name is None = other (router_words run place name None) (plain (codes "relay") refl, (named name is, discards_lack (events_at run.parties (who.Bridge place)) (discard.Full ∷ []))) refl
 
 good_routers : (run : PlainRecord) (k : ℕ) (nodes : List PlainNode) → AllByRecursion IsNode nodes → AllByRecursion IsGood (map (λ node. router_line run node.0 node.1) (enumerate_from k nodes))
 good_routers run k [] all = tt
@@ -201,10 +201,10 @@ good_iface : (node link : List ℕ) (entries : List Entry) → IsTrue (is_name n
 good_iface node link entries node_is link_is = other (iface_line node link entries) (plain (codes "iface") refl, (named node node_is, (named link link_is, counts_lack entries all_counts))) refl
 
 good_ifaces : (parties : List PlainPartyLog) (place k : ℕ) (node : List ℕ) → IsTrue (is_name node) → (links : List PlainLink) → AllByRecursion (λ link. IsTrue (is_name link.name)) links
-    → AllByRecursion IsGood (map (λ link. iface_line node link.1.name (entries_at parties (seat.Iface place link.0))) (enumerate_from k links))
+    → AllByRecursion IsGood (map (λ link. iface_line node link.1.name (entries_at parties (who.Iface place link.0))) (enumerate_from k links))
 good_ifaces parties place k node is [] all = tt
 good_ifaces parties place k node is (link ∷ links) all =
-    (good_iface node link.name (entries_at parties (seat.Iface place k)) is all.0, good_ifaces parties place (k + 1) node is links all.1)
+    (good_iface node link.name (entries_at parties (who.Iface place k)) is all.0, good_ifaces parties place (k + 1) node is links all.1)
 
 some_named : (place : ℕ) (links : List PlainLink) → AllByRecursion (λ link. IsTrue (is_name link.name)) links → AllByRecursion (λ link. IsTrue (is_name link.name)) (links_at place links)
 some_named place [] all = tt
@@ -251,7 +251,7 @@ good_entries node is (entry ∷ entries) = all_joined IsGood (entry_lines node e
 good_node_events : (parties : List PlainPartyLog) (k : ℕ) (nodes : List PlainNode) → AllByRecursion IsNode nodes → AllByRecursion IsGood (flat_map (λ node. node_event_lines parties node.0 node.1.name) (enumerate_from k nodes))
 good_node_events parties k [] all = tt
 good_node_events parties k (n ∷ nodes) all =
-    all_joined IsGood (node_event_lines parties k n.name) _ (good_entries n.name all.0.name (entries_at parties (seat.Router k))) (good_node_events parties (k + 1) nodes all.1)
+    all_joined IsGood (node_event_lines parties k n.name) _ (good_entries n.name all.0.name (entries_at parties (who.Router k))) (good_node_events parties (k + 1) nodes all.1)
 
 -- the name of a peer's node
 abbrev FlowLacks : Option (List ℕ × ℕ) → Type 0
@@ -386,11 +386,11 @@ module _ (node app : List ℕ) (node_is : IsTrue (is_name node)) (app_is : IsTru
 
 module _ (all_nodes : List PlainNode) (nodes_are : AllByRecursion IsNode all_nodes) where
   good_apps : (parties : List PlainPartyLog) (place k : ℕ) (node : List ℕ) → IsTrue (is_name node) → (apps : List PlainApp) → AllByRecursion IsApp apps
-      → AllByRecursion IsGood (flat_map (λ app. app_lines all_nodes node (entries_at parties (seat.Router place)) app.1.name app.0 (party_at parties (seat.App place app.0))) (enumerate_from k apps))
+      → AllByRecursion IsGood (flat_map (λ app. app_lines all_nodes node (entries_at parties (who.Router place)) app.1.name app.0 (party_at parties (who.App place app.0))) (enumerate_from k apps))
   good_apps parties place k node is [] all = tt
   good_apps parties place k node is (app ∷ apps) all =
-      all_joined IsGood (app_lines all_nodes node (entries_at parties (seat.Router place)) app.name k (party_at parties (seat.App place k))) _
-      (good_app node app.name is all.0.name all_nodes nodes_are (entries_at parties (seat.Router place)) k (party_at parties (seat.App place k)))
+      all_joined IsGood (app_lines all_nodes node (entries_at parties (who.Router place)) app.name k (party_at parties (who.App place k))) _
+      (good_app node app.name is all.0.name all_nodes nodes_are (entries_at parties (who.Router place)) k (party_at parties (who.App place k)))
       (good_apps parties place (k + 1) node is apps all.1)
 
   good_node_apps : (parties : List PlainPartyLog) (k : ℕ) (nodes : List PlainNode) → AllByRecursion IsNode nodes → AllByRecursion IsGood (flat_map (λ node. node_app_lines all_nodes parties node.0 node.1.name node.1.apps) (enumerate_from k nodes))

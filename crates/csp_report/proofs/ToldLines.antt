@@ -28,7 +28,7 @@ use Rattle.csp_report.specs.Lines.{Line, conn_words}
 use Rattle.csp_report.specs.Parties.{party_at, entries_at}
 use Rattle.csp_report.specs.ReliablePrefix.{is_conn, is_on, text_in, Told}
 use Rattle.csp_report.specs.Report.{title_line, end_line, node_line, router_words, router_line, node_iface_lines, node_event_lines, state_line, app_lines, node_app_lines, count_lines, report_lines}
-use Rattle.csp_report.specs.declared.parties.Seat.TheVariants as seat
+use Rattle.csp_record.specs.declared.who.Who.TheVariants as who
 use Rattle.csp_report.proofs.Cutting.{recut, recut_is}
 use Rattle.csp_report.proofs.Feeds.{Lacks, Lacks-decimal, Lacks-name, all_joined}
 use Rattle.csp_report.proofs.Telling.{IsOther, IsBlock, Tells, told_block, tells_none, tells_both, tells_nothing, tells_each, tells_block}
@@ -108,7 +108,7 @@ app_told nodes node router app number' (Some party) = conns_told nodes node app 
 
 abbrev pub node_told : List PlainNode → List PlainPartyLog → ℕ → List ℕ → List PlainApp → List Told
 node_told nodes parties place node apps =
-    flat_map (λ app. app_told nodes node (entries_at parties (seat.Router place)) app.1.name app.0 (party_at parties (seat.App place app.0))) (enumerate_from 0 apps)
+    flat_map (λ app. app_told nodes node (entries_at parties (who.Router place)) app.1.name app.0 (party_at parties (who.App place app.0))) (enumerate_from 0 apps)
 
 abbrev pub report_told : List PlainNode → List PlainPartyLog → List Told
 report_told nodes parties = flat_map (λ node. node_told nodes parties node.0 node.1.name node.1.apps) (enumerate_from 0 nodes)
@@ -280,8 +280,8 @@ each_flat P f at (x ∷ xs) = all_joined P (f x) (flat_map f xs) (at x) (each_fl
 
 apps_tell : (nodes : List PlainNode) → AllByRecursion IsNode nodes → (parties : List PlainPartyLog) (place : ℕ) (n : PlainNode) → IsNode n → Tells (node_app_lines nodes parties place n.name n.apps) (node_told nodes parties place n.name n.apps)
 apps_tell nodes are parties place n is =
-    tells_each (λ (p : ℕ × PlainApp). IsApp p.1) (λ app. app_lines nodes n.name (entries_at parties (seat.Router place)) app.1.name app.0 (party_at parties (seat.App place app.0))) (λ app. app_told nodes n.name (entries_at parties (seat.Router place)) app.1.name app.0 (party_at parties (seat.App place app.0)))
-    (λ app app_is. app_tells nodes are n.name app.1.name is.name app_is.name (entries_at parties (seat.Router place)) app.0 (party_at parties (seat.App place app.0)))
+    tells_each (λ (p : ℕ × PlainApp). IsApp p.1) (λ app. app_lines nodes n.name (entries_at parties (who.Router place)) app.1.name app.0 (party_at parties (who.App place app.0))) (λ app. app_told nodes n.name (entries_at parties (who.Router place)) app.1.name app.0 (party_at parties (who.App place app.0)))
+    (λ app app_is. app_tells nodes are n.name app.1.name is.name app_is.name (entries_at parties (who.Router place)) app.0 (party_at parties (who.App place app.0)))
     (enumerate_from 0 n.apps) (each_counted IsApp 0 n.apps is.apps)
 
 nodes_tell : (nodes : List PlainNode) → AllByRecursion IsNode nodes → (parties : List PlainPartyLog) → Tells (flat_map (λ node. node_app_lines nodes parties node.0 node.1.name node.1.apps) (enumerate_from 0 nodes)) (report_told nodes parties)
@@ -351,10 +351,10 @@ head_other nodes links run =
     (all_joined IsOtherWords two ns (title_other, (end_other run, tt)) (each_map IsOtherWords (λ node. node_line run node.0 node.1) (λ node. node_other run node.0 node.1 node.1.addr refl) (enumerate_from 0 nodes)))
     (each_map IsOtherWords (λ node. router_line run node.0 node.1) (λ node. router_other run node.0 node.1.name node.1.addr) (enumerate_from 0 nodes)))
     (each_flat IsOtherWords (λ node. node_iface_lines run.parties node.0 node.1.name links)
-    (λ node. each_map IsOtherWords (λ link. iface_line node.1.name link.1.name (entries_at run.parties (seat.Iface node.0 link.0))) (λ link. record { no_conn = refl; breaks = record { no_sent = refl; no_took = refl } }) (enumerate_from 0 (links_at node.0 links)))
+    (λ node. each_map IsOtherWords (λ link. iface_line node.1.name link.1.name (entries_at run.parties (who.Iface node.0 link.0))) (λ link. record { no_conn = refl; breaks = record { no_sent = refl; no_took = refl } }) (enumerate_from 0 (links_at node.0 links)))
     (enumerate_from 0 nodes)))
     (each_flat IsOtherWords (λ node. node_event_lines run.parties node.0 node.1.name)
-    (λ node. each_flat IsOtherWords (entry_lines node.1.name) (λ entry. each_flat IsOtherWords (asked_lines node.1.name entry.time) (asked_other node.1.name entry.time) entry.events.items) (entries_at run.parties (seat.Router node.0)))
+    (λ node. each_flat IsOtherWords (entry_lines node.1.name) (λ entry. each_flat IsOtherWords (asked_lines node.1.name entry.time) (asked_other node.1.name entry.time) entry.events.items) (entries_at run.parties (who.Router node.0)))
     (enumerate_from 0 nodes))
 
 -- the lines of a report tell of the connections of its record

@@ -12,7 +12,7 @@ use Rattle.csp_report.specs.Conns.{Traffics, all_slots, traffic_of}
 use Rattle.csp_report.specs.Parties.{party_at, entries_at}
 use Rattle.csp_report.specs.ReliablePrefix.{Told}
 use Rattle.csp_report.specs.Shown.{IsShown}
-use Rattle.csp_report.specs.declared.parties.Seat.TheVariants as seat
+use Rattle.csp_record.specs.declared.who.Who.TheVariants as who
 use Rattle.csp_report.proofs.Feeds.{all_joined}
 use Rattle.csp_report.proofs.ToldLines.{told_of, slot_told, conns_told, app_told, node_told, report_told}
 
@@ -75,7 +75,7 @@ module _ {Y : Type 0} (P : Y → Type 0) (f : ℕ → List Y) where
 module _ (nodes : List PlainNode) (parties : List PlainPartyLog) where
   -- what the report tells of a connection that it shows
   abbrev pub told_here : (place number : ℕ) (o : Opening) → IsShown nodes parties place number o → Told
-  told_here place number o shown = told_of nodes shown.node.name shown.app.name (traffic_of number (entries_at parties (seat.Router place)) shown.log.entries) o
+  told_here place number o shown = told_of nodes shown.node.name shown.app.name (traffic_of number (entries_at parties (who.Router place)) shown.log.entries) o
 
   -- each that it tells of is one that it shows
   pub record IsToldOf (x : Told) : Type 0 where
@@ -86,12 +86,12 @@ module _ (nodes : List PlainNode) (parties : List PlainPartyLog) where
     pub form : x ≡ told_here place number opening shown
 
   module _ (place : ℕ) (node : PlainNode) (there : slice_get nodes place ≡ Some node) (number : ℕ) (app : PlainApp) (runs : slice_get node.apps number ≡ Some app)
-      (log : PlainPartyLog) (logged : party_at parties (seat.App place number) ≡ Some log) where
+      (log : PlainPartyLog) (logged : party_at parties (who.App place number) ≡ Some log) where
     abbrev traffic : Traffics
-    traffic = traffic_of number (entries_at parties (seat.Router place)) log.entries
+    traffic = traffic_of number (entries_at parties (who.Router place)) log.entries
 
     abbrev opened : List Opening
-    opened = openings number (entries_at parties (seat.Router place))
+    opened = openings number (entries_at parties (who.Router place))
 
     one_told : (slot : ℕ) → slot < 4 → (i : ℕ) (o : Opening) → slice_get opened i ≡ Some o → (t : Bool) → eqb o.slot slot ≡ t → AllByRecursion IsToldOf (cond t (told_of nodes node.name app.name traffic o ∷ []) [])
     one_told slot small i o e false h = tt
@@ -106,13 +106,13 @@ module _ (nodes : List PlainNode) (parties : List PlainPartyLog) where
       tt,
     )
 
-    conns_each : AllByRecursion IsToldOf (conns_told nodes node.name app.name number (entries_at parties (seat.Router place)) log.entries)
+    conns_each : AllByRecursion IsToldOf (conns_told nodes node.name app.name number (entries_at parties (who.Router place)) log.entries)
     conns_each =
         each_slot IsToldOf (slot_told nodes node.name app.name traffic opened)
         (λ slot small. each_at IsToldOf (λ o. cond (eqb o.slot slot) (told_of nodes node.name app.name traffic o ∷ []) []) opened (λ i o e. one_told slot small i o e (eqb o.slot slot) refl))
 
-  app_each : (place : ℕ) (node : PlainNode) → slice_get nodes place ≡ Some node → (number : ℕ) (app : PlainApp) → slice_get node.apps number ≡ Some app → (party : Option PlainPartyLog) → party_at parties (seat.App place number) ≡ party
-      → AllByRecursion IsToldOf (app_told nodes node.name (entries_at parties (seat.Router place)) app.name number party)
+  app_each : (place : ℕ) (node : PlainNode) → slice_get nodes place ≡ Some node → (number : ℕ) (app : PlainApp) → slice_get node.apps number ≡ Some app → (party : Option PlainPartyLog) → party_at parties (who.App place number) ≡ party
+      → AllByRecursion IsToldOf (app_told nodes node.name (entries_at parties (who.Router place)) app.name number party)
   app_each place node there number app runs None e = tt
   app_each place node there number app runs (Some log) e = conns_each place node there number app runs log e
 
@@ -120,19 +120,19 @@ module _ (nodes : List PlainNode) (parties : List PlainPartyLog) where
   all_shown =
       each_counted IsToldOf (λ node. node_told nodes parties node.0 node.1.name node.1.apps) nodes
       (λ place node there.
-      each_counted IsToldOf (λ app. app_told nodes node.name (entries_at parties (seat.Router place)) app.1.name app.0 (party_at parties (seat.App place app.0))) node.apps
-      (λ number app runs. app_each place node there number app runs (party_at parties (seat.App place number)) refl))
+      each_counted IsToldOf (λ app. app_told nodes node.name (entries_at parties (who.Router place)) app.1.name app.0 (party_at parties (who.App place app.0))) node.apps
+      (λ number app runs. app_each place node there number app runs (party_at parties (who.App place number)) refl))
 
   -- and it tells of each that it shows
   pub told_shown : (P : Told → Type 0) → AllByRecursion P (report_told nodes parties) → (place number : ℕ) (o : Opening) (shown : IsShown nodes parties place number o) → P (told_here place number o shown)
   told_shown P all place number o shown =
       let of_node : AllByRecursion P (node_told nodes parties place shown.node.name shown.node.apps) =
       counted_each P (λ node. node_told nodes parties node.0 node.1.name node.1.apps) nodes all place shown.node shown.there in
-      let of_app : AllByRecursion P (app_told nodes shown.node.name (entries_at parties (seat.Router place)) shown.app.name number (party_at parties (seat.App place number))) =
-      counted_each P (λ app. app_told nodes shown.node.name (entries_at parties (seat.Router place)) app.1.name app.0 (party_at parties (seat.App place app.0))) shown.node.apps of_node number shown.app shown.runs in
-      let of_log : AllByRecursion P (conns_told nodes shown.node.name shown.app.name number (entries_at parties (seat.Router place)) shown.log.entries) =
-      subst (λ party. AllByRecursion P (app_told nodes shown.node.name (entries_at parties (seat.Router place)) shown.app.name number party)) shown.logged of_app in
-      let router : List Entry = entries_at parties (seat.Router place) in
+      let of_app : AllByRecursion P (app_told nodes shown.node.name (entries_at parties (who.Router place)) shown.app.name number (party_at parties (who.App place number))) =
+      counted_each P (λ app. app_told nodes shown.node.name (entries_at parties (who.Router place)) app.1.name app.0 (party_at parties (who.App place app.0))) shown.node.apps of_node number shown.app shown.runs in
+      let of_log : AllByRecursion P (conns_told nodes shown.node.name shown.app.name number (entries_at parties (who.Router place)) shown.log.entries) =
+      subst (λ party. AllByRecursion P (app_told nodes shown.node.name (entries_at parties (who.Router place)) shown.app.name number party)) shown.logged of_app in
+      let router : List Entry = entries_at parties (who.Router place) in
       let traffic : Traffics = traffic_of number router shown.log.entries in
       let of_slot : AllByRecursion P (slot_told nodes shown.node.name shown.app.name traffic (openings number router) o.slot) =
       slot_each P (slot_told nodes shown.node.name shown.app.name traffic (openings number router)) of_log o.slot shown.slot in

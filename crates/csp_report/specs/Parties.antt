@@ -6,38 +6,37 @@ use Rattle.csp_log.specs.declared.event.Event.{Event}
 use Rattle.csp_record.specs.Record.{PlainPartyLog}
 use Rattle.csp_record.specs.declared.who.Who.{Who}
 use Rattle.csp_record.specs.declared.who.Who.TheVariants as who
-use Rattle.csp_report.specs.declared.parties.Seat.{Seat}
-use Rattle.csp_report.specs.declared.parties.Seat.TheVariants as seat
 
--- whether a party has this seat
-abbrev pub is_at : Seat → Who → Bool
-is_at (seat.Router node) (who.Router n) = n == node
-is_at (seat.Bridge node) (who.Bridge n) = n == node
-is_at (seat.Iface node number) (who.Iface n k) = n == node && k == number
-is_at (seat.App node number) (who.App n k) = n == node && k == number
+-- whether a party is the one of this name
+abbrev pub is_at : Who → Who → Bool
+is_at (who.Router node) (who.Router n) = n == node
+is_at (who.Bridge node) (who.Bridge n) = n == node
+is_at (who.Iface node number) (who.Iface n k) = n == node && k == number
+is_at (who.App node number) (who.App n k) = n == node && k == number
+is_at (who.Link number) (who.Link k) = k == number
 is_at _ _ = false
 
 -- whether a party is the router of the node in this place, and whether it is the application of this number there
 abbrev pub is_router : ℕ → Who → Bool
-is_router place w = is_at (seat.Router place) w
+is_router place w = is_at (who.Router place) w
 
 -- a party is this application of this node
 abbrev pub is_app : ℕ → ℕ → Who → Bool
-is_app place number w = is_at (seat.App place number) w
+is_app place number w = is_at (who.App place number) w
 
--- the first party that has it
-abbrev pub party_at : List PlainPartyLog → Seat → Option PlainPartyLog
-party_at parties place = find (λ party. is_at place party.who) parties
+-- the first party that has this name
+abbrev pub party_at : List PlainPartyLog → Who → Option PlainPartyLog
+party_at parties w = find (λ party. is_at w party.who) parties
 
 -- a party's entries, where there is the party
 abbrev pub entries_of : Option PlainPartyLog → List Entry
 entries_of None = []
 entries_of (Some party) = party.entries
 
--- the entries of the party that has this seat
-abbrev pub entries_at : List PlainPartyLog → Seat → List Entry
-entries_at parties place = entries_of (party_at parties place)
+-- the entries of the party that has this name
+abbrev pub entries_at : List PlainPartyLog → Who → List Entry
+entries_at parties w = entries_of (party_at parties w)
 
 -- what it reported, in order of time
-abbrev pub events_at : List PlainPartyLog → Seat → List Event
-events_at parties place = all_events (entries_at parties place)
+abbrev pub events_at : List PlainPartyLog → Who → List Event
+events_at parties w = all_events (entries_at parties w)

@@ -16,7 +16,7 @@ use Rattle.csp_report.specs.Places.{held_in}
 use Rattle.csp_report.specs.Conns.{conn_lines}
 use Rattle.csp_report.specs.Events.{all_discards, discard_words, entry_lines, event_lines}
 use Rattle.csp_report.specs.Ifaces.{iface_line}
-use Rattle.csp_report.specs.declared.parties.Seat.TheVariants as seat
+use Rattle.csp_record.specs.declared.who.Who.TheVariants as who
 use Rattle.csp_report.specs.declared.places.PlaceKind.{PlaceKind}
 use Rattle.csp_report.specs.declared.places.PlaceKind.TheVariants as kind
 use Rattle.csp_report.specs.declared.text.TheConstants.{VERSION}
@@ -47,8 +47,8 @@ node_line record' place node = node_words node.name node.addr node.buffers (held
 
 -- `router NAME` and its discards for each reason; or `relay NAME` and the bridge's discards at a full queue
 abbrev pub router_words : PlainRecord → ℕ → List ℕ → Option ℕ → Line
-router_words record' place name (Some addr) = codes "router" ∷ name ∷ discard_words (events_at record'.parties (seat.Router place)) all_discards
-router_words record' place name None = codes "relay" ∷ name ∷ discard_words (events_at record'.parties (seat.Bridge place)) (discard.Full ∷ [])
+router_words record' place name (Some addr) = codes "router" ∷ name ∷ discard_words (events_at record'.parties (who.Router place)) all_discards
+router_words record' place name None = codes "relay" ∷ name ∷ discard_words (events_at record'.parties (who.Bridge place)) (discard.Full ∷ [])
 
 -- the line of a router or a bridge
 abbrev pub router_line : PlainRecord → ℕ → PlainNode → Line
@@ -57,11 +57,11 @@ router_line record' place node = router_words record' place node.name node.addr
 -- the lines of the interfaces of the node at this place, which are those of its links in their order
 abbrev pub node_iface_lines : List PlainPartyLog → ℕ → List ℕ → List PlainLink → List Line
 node_iface_lines parties place node links =
-    map (λ link. iface_line node link.1.name (entries_at parties (seat.Iface place link.0))) (enumerate_from 0 (links_at place links))
+    map (λ link. iface_line node link.1.name (entries_at parties (who.Iface place link.0))) (enumerate_from 0 (links_at place links))
 
 -- the lines of what the node at this place was asked to do, by its router's entries, in order of time
 abbrev pub node_event_lines : List PlainPartyLog → ℕ → List ℕ → List Line
-node_event_lines parties place node = flat_map (entry_lines node) (entries_at parties (seat.Router place))
+node_event_lines parties place node = flat_map (entry_lines node) (entries_at parties (who.Router place))
 
 -- `app NODE NAME ended`, or `app NODE NAME step K` with its present step, from 1
 abbrev pub state_line : List ℕ → List ℕ → ℕ → Line
@@ -75,7 +75,7 @@ app_lines nodes node router app number (Some party) = state_line node app party.
 -- the lines of these applications of the node at this place, each found among the parties of the record
 abbrev pub node_app_lines : List PlainNode → List PlainPartyLog → ℕ → List ℕ → List PlainApp → List Line
 node_app_lines nodes parties place node apps =
-    flat_map (λ app. app_lines nodes node (entries_at parties (seat.Router place)) app.1.name app.0 (party_at parties (seat.App place app.0))) (enumerate_from 0 apps)
+    flat_map (λ app. app_lines nodes node (entries_at parties (who.Router place)) app.1.name app.0 (party_at parties (who.App place app.0))) (enumerate_from 0 apps)
 
 -- the last two lines: `stale S` and `passed P`
 abbrev pub count_lines : PlainRecord → List Line

@@ -7,7 +7,7 @@ use Rattle.csp_record.specs.Payloads.{sent, took}
 use Rattle.csp_record.specs.Record.{PlainPartyLog}
 use Rattle.csp_record.specs.declared.connections.Opening.{Opening}
 use Rattle.csp_report.specs.Parties.{party_at, entries_at}
-use Rattle.csp_report.specs.declared.parties.Seat.TheVariants as seat
+use Rattle.csp_record.specs.declared.who.Who.TheVariants as who
 
 -- a connection that became open, of an application of a node, on one of its slots; there are the node, the application and its log
 pub record IsShown (nodes : List PlainNode) (parties : List PlainPartyLog) (place number : ℕ) (x : Opening) : Type 0 where
@@ -17,8 +17,8 @@ pub record IsShown (nodes : List PlainNode) (parties : List PlainPartyLog) (plac
   pub at : ℕ
   pub there : slice_get nodes place ≡ Some node
   pub runs : slice_get node.apps number ≡ Some app
-  pub logged : party_at parties (seat.App place number) ≡ Some log
-  pub opened : slice_get (openings number (entries_at parties (seat.Router place))) at ≡ Some x
+  pub logged : party_at parties (who.App place number) ≡ Some log
+  pub opened : slice_get (openings number (entries_at parties (who.Router place))) at ≡ Some x
   pub slot : x.slot < SLOTS
 
 -- its number and that of its peer are of at most 64 bits
@@ -32,11 +32,11 @@ AreNumbered nodes parties = (place number : ℕ) (x : Opening) → IsShown nodes
 
 -- what was sent and taken on it, by the logs of its router and of its application
 abbrev pub sent_there : List PlainPartyLog → ℕ → ℕ → Opening → List (List ℕ)
-sent_there parties place number x = sent number x.slot x.ordinal (entries_at parties (seat.Router place))
+sent_there parties place number x = sent number x.slot x.ordinal (entries_at parties (who.Router place))
 
 -- what was taken on a connection, by its application's log
 abbrev pub took_there : List PlainPartyLog → ℕ → ℕ → Opening → List (List ℕ)
-took_there parties place number x = took number x.slot x.ordinal (entries_at parties (seat.App place number))
+took_there parties place number x = took number x.slot x.ordinal (entries_at parties (who.App place number))
 
 -- these payloads are the first of those
 pub record AreFirstOf (some all : List (List ℕ)) : Type 0 where

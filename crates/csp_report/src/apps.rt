@@ -1,10 +1,11 @@
 //! The lines of an application: whether it ended, what it reported, and its connections.
 
-ghost use Rattle.std.specs.Prelude.{◌≡◌, ◌++◌, ◌∷◌, ◌==◌, if◌then◌else◌, OnOk, codes, Some};
+ghost use Rattle.std.specs.Prelude.{◌≡◌, ◌≤◌, ◌++◌, ◌∷◌, ◌==◌, if◌then◌else◌, OnOk, codes, length, Some};
 ghost use Rattle.std.specs.Option.{option_map};
 ghost use Rattle.std.specs.String.{string_bytes};
 ghost use Rattle.std.specs.Fmt.{decimal};
-ghost use Rattle.std.specs.List.{flat_map, enumerate_from};
+ghost use Rattle.std.specs.List.{AllByRecursion, flat_map, enumerate_from};
+ghost use Rattle.csp_scene.specs.Ranges.{IsNode};
 ghost use Rattle.csp_report.specs.Lines.{ended_line, text_of};
 ghost use Rattle.csp_report.specs.Parties.{party_at, entries_of};
 ghost use Rattle.csp_report.specs.Conns.{conn_lines};
@@ -13,10 +14,10 @@ ghost use Rattle.csp_report.specs.Report.{state_line, app_lines, node_app_lines}
 
 use crate::conns::push_conns;
 use crate::lines::{begin_line, end_line, push_count, push_counted, push_word};
-use crate::parties::{Seat, party_at};
+use crate::parties::party_at;
 use csp_log::{Event, Log, Why};
-use csp_record::{PartyLog, Record};
-use csp_scene::{SceneApp, SceneNode};
+use csp_record::{PartyLog, Record, Who};
+use csp_scene::{MAX_APPS, MAX_NODES, SceneApp, SceneNode};
 use std::alloc::{AllocError, Global};
 
 /// The node of an application: its name, its router, and all nodes, by which a peer's node has its name.
@@ -199,14 +200,15 @@ fn push_app_list(
     out: &mut String,
     host: &Host,
     parties: &[PartyLog],
-    place: usize,
+    place: u8,
     apps: &[SceneApp],
 ) -> Result<(), AllocError>
-    requires { option_map (λ party. party.now) host.now.router ≡ party_at parties.now (Seat.Router place) }
+    requires router { option_map (λ party. party.now) host.now.router ≡ party_at parties.now (Who.Router place) }
+    requires few { length apps.now ≤ MAX_APPS }
     ensures { OnOk result (string_bytes out.new ≡ string_bytes out.old ++ text_of (node_app_lines host.now.nodes.now parties.now place host.now.node.now apps.now)) }
 {
     for (number, app) in apps.iter().enumerate() {
-        let party = party_at(parties, Seat::App(place, number));
+        let party = party_at(parties, Who::App(place, number as u8));
         push_found(alloc, out, host, app.name.as_str(), number, party)?;
     }
     Ok(())
@@ -218,16 +220,17 @@ fn push_node_apps(
     out: &mut String,
     nodes: &[SceneNode],
     run: &Record,
-    place: usize,
+    place: u8,
     node: &SceneNode,
 ) -> Result<(), AllocError>
+    requires { IsNode node.now }
     ensures { OnOk result (string_bytes out.new ≡ string_bytes out.old ++ text_of (node_app_lines nodes.now run.now.parties place node.now.name node.now.apps)) }
 {
     let parties = run.parties.as_slice();
     let host = Host {
         nodes,
         node: node.name.as_str(),
-        router: party_at(parties, Seat::Router(place)),
+        router: party_at(parties, Who::Router(place)),
     };
     push_app_list(alloc, out, &host, parties, place, node.apps.as_slice())
 }
@@ -239,10 +242,12 @@ pub(crate) fn push_apps(
     nodes: &[SceneNode],
     run: &Record,
 ) -> Result<(), AllocError>
+    requires nodes { AllByRecursion IsNode nodes.now }
+    requires few { length nodes.now ≤ MAX_NODES }
     ensures { OnOk result (string_bytes out.new ≡ string_bytes out.old ++ text_of (flat_map (λ node. node_app_lines nodes.now run.now.parties node.0 node.1.name node.1.apps) (enumerate_from 0 nodes.now))) }
 {
     for (place, node) in nodes.iter().enumerate() {
-        push_node_apps(alloc, out, nodes, run, place, node)?;
+        push_node_apps(alloc, out, nodes, run, place as u8, node)?;
     }
     Ok(())
 }

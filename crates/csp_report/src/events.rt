@@ -1,6 +1,6 @@
 //! The lines of what a node was asked to do: to start again, or to stop.
 
-ghost use Rattle.std.specs.Prelude.{◌≡◌, ◌++◌, ◌<◌, [], length, slice_get, OnOk};
+ghost use Rattle.std.specs.Prelude.{◌≡◌, ◌≤◌, ◌++◌, ◌<◌, [], length, slice_get, OnOk};
 ghost use Rattle.std.specs.Option.{option_map, option_map_or};
 ghost use Rattle.std.specs.String.{string_bytes};
 ghost use Rattle.std.specs.List.{flat_map, enumerate_from};
@@ -10,10 +10,10 @@ ghost use Rattle.csp_report.specs.Events.{round_at, asked_line, asked_lines, ent
 ghost use Rattle.csp_report.specs.Report.{node_event_lines};
 
 use crate::lines::{begin_line, end_line, push_count, push_word};
-use crate::parties::{Seat, party_at};
+use crate::parties::party_at;
 use csp_log::{Event, Log};
-use csp_record::{PartyLog, Record};
-use csp_scene::SceneNode;
+use csp_record::{PartyLog, Record, Who};
+use csp_scene::{MAX_NODES, SceneNode};
 use std::alloc::AllocError;
 
 /// The round of the entry of this index, counted from 0. It reads the whole entry.
@@ -126,12 +126,12 @@ fn push_found(out: &mut String, node: &str, router: Option<&PartyLog>) -> Result
 fn push_node_events(
     out: &mut String,
     parties: &[PartyLog],
-    place: usize,
+    place: u8,
     node: &str,
 ) -> Result<(), AllocError>
     ensures { OnOk result (string_bytes out.new ≡ string_bytes out.old ++ text_of (node_event_lines parties.now place node.now)) }
 {
-    push_found(out, node, party_at(parties, Seat::Router(place)))
+    push_found(out, node, party_at(parties, Who::Router(place)))
 }
 
 /// Appends the lines of what all nodes were asked to do.
@@ -140,10 +140,11 @@ pub(crate) fn push_asked_of_nodes(
     nodes: &[SceneNode],
     run: &Record,
 ) -> Result<(), AllocError>
+    requires { length nodes.now ≤ MAX_NODES }
     ensures { OnOk result (string_bytes out.new ≡ string_bytes out.old ++ text_of (flat_map (λ node. node_event_lines run.now.parties node.0 node.1.name) (enumerate_from 0 nodes.now))) }
 {
     for (place, node) in nodes.iter().enumerate() {
-        push_node_events(out, run.parties.as_slice(), place, node.name.as_str())?;
+        push_node_events(out, run.parties.as_slice(), place as u8, node.name.as_str())?;
     }
     Ok(())
 }

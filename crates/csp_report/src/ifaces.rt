@@ -1,6 +1,6 @@
 //! The line of an interface: what it sent, what it accepted, and what it could not.
 
-ghost use Rattle.std.specs.Prelude.{◌≡◌, ◌==◌, ◌++◌, ◌∷◌, ◌<◌, false, length, slice_get, count_by, sum_by, OnOk, IfOk};
+ghost use Rattle.std.specs.Prelude.{◌≡◌, ◌==◌, ◌++◌, ◌∷◌, ◌<◌, ◌≤◌, false, length, slice_get, count_by, sum_by, OnOk, IfOk};
 ghost use Rattle.std.specs.Option.{is_some, option_map_or};
 ghost use Rattle.std.specs.String.{string_bytes};
 ghost use Rattle.std.specs.Fmt.{decimal};
@@ -13,10 +13,10 @@ ghost use Rattle.csp_report.specs.Ifaces.{weight, counted, count_word, iface_lin
 ghost use Rattle.csp_report.specs.Report.{node_iface_lines};
 
 use crate::lines::{begin_line, end_line, push_counted, push_word};
-use crate::parties::{Seat, party_at};
+use crate::parties::party_at;
 use csp_log::{Event, Log, Moved, QueueId};
-use csp_record::{PartyLog, Record};
-use csp_scene::{SceneLink, SceneNode};
+use csp_record::{PartyLog, Record, Who};
+use csp_scene::{MAX_LINKS, MAX_NODES, SceneLink, SceneNode};
 use std::alloc::AllocError;
 
 /// A count in an interface's line, by the word before it.
@@ -128,45 +128,45 @@ fn count_in(log: &Log, which: IfaceCount) -> Result<u64, AllocError>
     }
 }
 
-/// A count of the party that has this seat.
-fn count_at(parties: &[PartyLog], seat: Seat, which: IfaceCount) -> Result<u64, AllocError>
-    ensures { IfOk result (λ count. count ≡ counted which (entries_at parties.now seat)) }
+/// A count of the party that has this name.
+fn count_at(parties: &[PartyLog], who: Who, which: IfaceCount) -> Result<u64, AllocError>
+    ensures { IfOk result (λ count. count ≡ counted which (entries_at parties.now who)) }
 {
-    match party_at(parties, seat) {
+    match party_at(parties, who) {
         Some(party) => count_in(&party.log, which),
         None => Ok(0),
     }
 }
 
-/// Appends the words of these counts, each with its number, of the party that has this seat.
+/// Appends the words of these counts, each with its number, of the party that has this name.
 fn push_counts(
     out: &mut String,
     parties: &[PartyLog],
-    seat: Seat,
+    who: Who,
     counts: &[IfaceCount],
 ) -> Result<(), AllocError>
-    ensures { OnOk result (string_bytes out.new ≡ string_bytes out.old ++ flat_map (λ which. 32 ∷ (count_word which ++ 32 ∷ decimal (counted which (entries_at parties.now seat)))) counts.now) }
+    ensures { OnOk result (string_bytes out.new ≡ string_bytes out.old ++ flat_map (λ which. 32 ∷ (count_word which ++ 32 ∷ decimal (counted which (entries_at parties.now who)))) counts.now) }
 {
     for which in counts {
-        push_counted(out, count_word(*which), count_at(parties, seat, *which)?)?;
+        push_counted(out, count_word(*which), count_at(parties, who, *which)?)?;
     }
     Ok(())
 }
 
-/// Appends the line of the interface that has this seat, of this node and on this link.
+/// Appends the line of the interface that has this name, of this node and on this link.
 fn push_iface(
     out: &mut String,
     parties: &[PartyLog],
-    seat: Seat,
+    who: Who,
     node: &str,
     link: &str,
 ) -> Result<(), AllocError>
-    ensures { OnOk result (string_bytes out.new ≡ string_bytes out.old ++ ended_line (iface_line node.now link.now (entries_at parties.now seat))) }
+    ensures { OnOk result (string_bytes out.new ≡ string_bytes out.old ++ ended_line (iface_line node.now link.now (entries_at parties.now who))) }
 {
     begin_line(out, "iface")?;
     push_word(out, node)?;
     push_word(out, link)?;
-    push_counts(out, parties, seat, &COUNTS)?;
+    push_counts(out, parties, who, &COUNTS)?;
     end_line(out)?;
     Ok(())
 }
@@ -175,19 +175,20 @@ fn push_iface(
 fn push_node_ifaces(
     out: &mut String,
     parties: &[PartyLog],
-    place: usize,
+    place: u8,
     node: &str,
     links: &[SceneLink],
 ) -> Result<(), AllocError>
+    requires { length links.now ≤ MAX_LINKS }
     ensures { OnOk result (string_bytes out.new ≡ string_bytes out.old ++ text_of (node_iface_lines parties.now place node.now links.now)) }
 {
     let mut number = 0;
     for link in links {
-        if link.touches(place) {
+        if link.touches(usize::from(place)) {
             push_iface(
                 out,
                 parties,
-                Seat::Iface(place, number),
+                Who::Iface(place, number),
                 node,
                 link.name.as_str(),
             )?;
@@ -204,13 +205,15 @@ pub(crate) fn push_ifaces(
     links: &[SceneLink],
     run: &Record,
 ) -> Result<(), AllocError>
+    requires nodes { length nodes.now ≤ MAX_NODES }
+    requires links { length links.now ≤ MAX_LINKS }
     ensures { OnOk result (string_bytes out.new ≡ string_bytes out.old ++ text_of (flat_map (λ node. node_iface_lines run.now.parties node.0 node.1.name links.now) (enumerate_from 0 nodes.now))) }
 {
     for (place, node) in nodes.iter().enumerate() {
         push_node_ifaces(
             out,
             run.parties.as_slice(),
-            place,
+            place as u8,
             node.name.as_str(),
             links,
         )?;

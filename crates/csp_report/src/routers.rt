@@ -1,6 +1,6 @@
 //! The line of a router or bridge: how many packets it discarded, and why.
 
-ghost use Rattle.std.specs.Prelude.{◌≡◌, ◌++◌, ◌∷◌, map, count_by, OnOk};
+ghost use Rattle.std.specs.Prelude.{◌≡◌, ◌≤◌, ◌++◌, ◌∷◌, length, map, count_by, OnOk};
 ghost use Rattle.std.specs.String.{string_bytes};
 ghost use Rattle.std.specs.Fmt.{decimal};
 ghost use Rattle.std.specs.List.{flat_map, enumerate_from};
@@ -9,11 +9,11 @@ ghost use Rattle.csp_report.specs.Events.{is_discard, discard_words, word_of};
 ghost use Rattle.csp_report.specs.Report.{router_words, router_line};
 
 use crate::lines::{begin_line, end_line, push_counted, push_word};
-use crate::parties::{Seat, events_at};
+use crate::parties::events_at;
 use csp_base::Addr;
 use csp_log::{Discard, Event};
-use csp_record::Record;
-use csp_scene::SceneNode;
+use csp_record::{Record, Who};
+use csp_scene::{MAX_NODES, SceneNode};
 use std::alloc::AllocError;
 
 /// The reasons, in the order in which a router's line has them.
@@ -103,7 +103,7 @@ fn push_discarding(
 fn push_discarder(
     out: &mut String,
     run: &Record,
-    place: usize,
+    place: u8,
     name: &str,
     addr: Option<Addr>,
 ) -> Result<(), AllocError>
@@ -112,11 +112,11 @@ fn push_discarder(
     let parties = run.parties.as_slice();
     match addr {
         Some(_) => {
-            let events = events_at(parties, Seat::Router(place));
+            let events = events_at(parties, Who::Router(place));
             push_discarding(out, "router", name, events, &DISCARDS)
         }
         None => {
-            let events = events_at(parties, Seat::Bridge(place));
+            let events = events_at(parties, Who::Bridge(place));
             push_discarding(out, "relay", name, events, &RELAY_DISCARDS)
         }
     }
@@ -126,7 +126,7 @@ fn push_discarder(
 fn push_router(
     out: &mut String,
     run: &Record,
-    place: usize,
+    place: u8,
     node: &SceneNode,
 ) -> Result<(), AllocError>
     ensures { OnOk result (string_bytes out.new ≡ string_bytes out.old ++ ended_line (router_line run.now place node.now)) }
@@ -140,10 +140,11 @@ pub(crate) fn push_routers(
     nodes: &[SceneNode],
     run: &Record,
 ) -> Result<(), AllocError>
+    requires { length nodes.now ≤ MAX_NODES }
     ensures { OnOk result (string_bytes out.new ≡ string_bytes out.old ++ text_of (map (λ node. router_line run.now node.0 node.1) (enumerate_from 0 nodes.now))) }
 {
     for (place, node) in nodes.iter().enumerate() {
-        push_router(out, run, place, node)?;
+        push_router(out, run, place as u8, node)?;
     }
     Ok(())
 }

@@ -1,9 +1,10 @@
 //! The report of a run.
 
-ghost use Rattle.std.specs.Prelude.{◌≡◌, ◌++◌, ◌∷◌, [], map, OnOk, IfOk};
+ghost use Rattle.std.specs.Prelude.{◌≡◌, ◌≤◌, ◌++◌, ◌∷◌, [], length, map, OnOk, IfOk};
 ghost use Rattle.std.specs.String.{string_bytes};
 ghost use Rattle.std.specs.Fmt.{decimal};
-ghost use Rattle.csp_scene.specs.Ranges.{IsScene};
+ghost use Rattle.std.specs.List.{AllByRecursion};
+ghost use Rattle.csp_scene.specs.Ranges.{IsNode, IsScene};
 ghost use Rattle.csp_record.specs.Passed.{passed};
 ghost use Rattle.csp_record.specs.Stale.{stale};
 ghost use Rattle.csp_record.specs.Whole.{IsWhole};
@@ -18,7 +19,7 @@ use crate::lines::{begin_line, end_line, push_count, push_counted};
 use crate::places::push_nodes;
 use crate::routers::push_routers;
 use csp_record::{Record, passed, stale};
-use csp_scene::{Scene, SceneLink, SceneNode};
+use csp_scene::{MAX_LINKS, MAX_NODES, Scene, SceneLink, SceneNode};
 use std::alloc::{AllocError, Global};
 
 /// The version of the report, which its first line tells.
@@ -75,7 +76,10 @@ fn push_lines(
     run: &Record,
     count: u64,
 ) -> Result<(), AllocError>
-    requires { count ≡ passed run.now }
+    requires passed { count ≡ passed run.now }
+    requires nodes { AllByRecursion IsNode nodes.now }
+    requires few { length nodes.now ≤ MAX_NODES }
+    requires few_links { length links.now ≤ MAX_LINKS }
     ensures { OnOk result (string_bytes out.new ≡ string_bytes out.old ++ text_of (report_lines nodes.now links.now run.now)) }
 {
     push_total(out, "csp-report", VERSION)?;

@@ -9,5 +9,5 @@ use Rattle.csp_report.proofs.ifaces.push_counts.Given as goal
 -- the text so far, then the words that are still to come, are those of all these counts
 abbrev pub invariant-loop-which : goal.invariant-loop-which
 invariant-loop-which l =
-    string_bytes l.out ++ flat_map (λ which. 32 ∷ (count_word which ++ 32 ∷ decimal (counted which (entries_at l.parties l.seat)))) (drop l.which-index l.counts)
-    ≡ string_bytes l.initial.out ++ flat_map (λ which. 32 ∷ (count_word which ++ 32 ∷ decimal (counted which (entries_at l.parties l.seat)))) l.counts
+    string_bytes l.out ++ flat_map (λ which. 32 ∷ (count_word which ++ 32 ∷ decimal (counted which (entries_at l.parties l.who)))) (drop l.which-index l.counts)
+    ≡ string_bytes l.initial.out ++ flat_map (λ which. 32 ∷ (count_word which ++ 32 ∷ decimal (counted which (entries_at l.parties l.who)))) l.counts

@@ -6,4 +6,4 @@ use Rattle.csp_report.specs.Parties.{is_at}
 use Rattle.csp_report.proofs.parties.party_at.Goals as goal
 
 pub returns : goal.returns
-returns c = find_from_yields_List (λ (party : PlainPartyLog). is_at c.args.seat party.who) _ _ _ c.find.ensures.ran (YieldsList-from_slice c.args.parties.now cc) (λ x b q k. search (rules, tests))
+returns c = find_from_yields_List (λ (party : PlainPartyLog). is_at c.args.who party.who) _ _ _ c.find.ensures.ran (YieldsList-from_slice c.args.parties.now cc) (λ x b q k. search (rules, tests))
