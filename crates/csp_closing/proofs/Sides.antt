@@ -8,11 +8,11 @@ use Rattle.csp_closing.proofs.Lists.{differs, equal, all_at}
 use Rattle.csp_closing.specs.Wires.{AreAllNext, AreLeftAmong, IsEndThere, IsFirstAt, IsLeftAmong, without_all, without_ends, without_first}
 use Rattle.csp_consistent.proofs.Names.{who_is, who_same}
 use Rattle.csp_consistent.specs.Pools.{place_named}
-use Rattle.csp_consistent.specs.Reading.{is_who}
 use Rattle.csp_ends.specs.Ends.{PlainNodeQueues, PlainSide, IsSideOf}
 use Rattle.csp_lane.specs.Ends as lane
 use Rattle.csp_log.specs.declared.places.Place.TheVariants as place
 use Rattle.csp_log.specs.declared.shown.ItemShown.{ItemShown}
+use Rattle.csp_record.specs.Who.{is_who}
 use Rattle.csp_record.specs.declared.who.Who.{Who}
 use Rattle.csp_standing.specs.Network.{IsSideAmong, SideName, name_of, sides_among, sides_at}
 use Rattle.csp_topology.specs.Lanes.{PlainLane}

@@ -10,13 +10,14 @@ use Rattle.csp_consistent.proofs.Each.{each_last}
 use Rattle.csp_consistent.proofs.Names.{entries_in, who_is}
 use Rattle.csp_consistent.specs.Lanes.{AreInOrder, IsInOrder}
 use Rattle.csp_consistent.specs.Queues.{MayAsk, UseTheirQueues}
-use Rattle.csp_consistent.specs.Reading.{entries_of, gets, is_who, left_in, puts}
+use Rattle.csp_consistent.specs.Reading.{entries_of, gets, left_in, puts}
 use Rattle.csp_consistent.specs.Runs.{AreLogsOf}
 use Rattle.csp_log.specs.Kinds.{carried_on}
 use Rattle.csp_log.specs.declared.entry.Entry.{Entry}
 use Rattle.csp_log.specs.declared.places.End.{End}
 use Rattle.csp_log.specs.declared.places.QueueId.TheVariants as queue
 use Rattle.csp_record.specs.Record.{PlainPartyLog, PlainRecord}
+use Rattle.csp_record.specs.Who.{is_who}
 use Rattle.csp_record.specs.declared.who.Who.{Who}
 use Rattle.csp_scene.proofs.Lists.{AllByRecursion-append}
 use Rattle.csp_scene.specs.Kept.{AreLinksAfter}

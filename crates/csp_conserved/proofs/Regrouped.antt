@@ -13,7 +13,6 @@ use Rattle.csp_conserved.specs.Kept.{KeepNumbers}
 use Rattle.csp_consistent.proofs.Names.{entries_in}
 use Rattle.csp_consistent.proofs.Owners.{IsOf, IsOwner}
 use Rattle.csp_consistent.specs.Pools.{given, given_by, held_after, held_by, is_node, parties_held, party_held, taken, taken_by}
-use Rattle.csp_consistent.specs.Reading.{is_who}
 use Rattle.csp_consistent.specs.Runs.{AreLogsOf}
 use Rattle.csp_deck.proofs.Keeping.{times-append}
 use Rattle.csp_deck.specs.Step.{times}
@@ -21,7 +20,7 @@ use Rattle.csp_log.specs.declared.entry.Entry.{Entry}
 use Rattle.csp_log.specs.declared.places.Place.{Place}
 use Rattle.csp_party.specs.Any.{holds}
 use Rattle.csp_record.specs.Record.{PlainPartyLog}
-use Rattle.csp_record.specs.Who.{home_of, node_of}
+use Rattle.csp_record.specs.Who.{home_of, node_of, is_who}
 use Rattle.csp_record.specs.declared.who.Who.{Who}
 use Rattle.csp_record.specs.declared.who.Who.TheVariants as who
 use Rattle.csp_scene.specs.Links.{links_at}

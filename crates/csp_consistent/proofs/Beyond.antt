@@ -22,7 +22,7 @@ use Rattle.csp_log.specs.declared.shown.ItemShown.TheVariants as item
 use Rattle.csp_party.specs.Any.{an_iface}
 use Rattle.csp_record.specs.Record.{PlainPartyLog, PlainRecord}
 use Rattle.csp_record.specs.Transmissions.{iface_entries, shown_in}
-use Rattle.csp_record.specs.Who.{is_iface}
+use Rattle.csp_record.specs.Who.{is_iface, is_who}
 use Rattle.csp_record.specs.declared.who.Who.{Who}
 use Rattle.csp_record.specs.declared.who.Who.TheVariants as who
 use Rattle.csp_scene.proofs.Lists.{AllByRecursion-map}
@@ -33,7 +33,7 @@ use Rattle.csp_scene.specs.Scene.{PlainScene, PlainLink, PlainNode}
 use Rattle.csp_consistent.specs.Lanes.{AreInOrder}
 use Rattle.csp_consistent.specs.Origins.{IsSent, HaveOrigins}
 use Rattle.csp_topology.specs.Parties.{heeded, iface_opening, parties_of, party_steps}
-use Rattle.csp_consistent.specs.Reading.{entries_of, is_who, puts, gets}
+use Rattle.csp_consistent.specs.Reading.{entries_of, puts, gets}
 use Rattle.csp_consistent.specs.Runs.{AreLogsOf}
 use Rattle.csp_consistent.proofs.Across.{IsFromOther, across_so, all_popped_alike, damaged_of, end_lanes_of, spread_so, through}
 use Rattle.csp_consistent.proofs.Each.{each_at, one_at}

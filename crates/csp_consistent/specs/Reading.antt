@@ -15,17 +15,8 @@ use Rattle.csp_log.specs.declared.shown.OpShown.TheVariants as op
 use Rattle.csp_log.specs.declared.shown.AnswerShown.{AnswerShown}
 use Rattle.csp_log.specs.declared.shown.AnswerShown.TheVariants as answer
 use Rattle.csp_record.specs.Record.{PlainRecord}
+use Rattle.csp_record.specs.Who.{is_who}
 use Rattle.csp_record.specs.declared.who.Who.{Who}
-use Rattle.csp_record.specs.declared.who.Who.TheVariants as who
-
--- whether a party is the one of this name
-abbrev pub is_who : Who → Who → Bool
-is_who (who.Router node) (who.Router other) = other == node
-is_who (who.Bridge node) (who.Bridge other) = other == node
-is_who (who.Iface node number) (who.Iface other k) = other == node && k == number
-is_who (who.App node number) (who.App other k) = other == node && k == number
-is_who (who.Link number) (who.Link k) = k == number
-is_who _ _ = false
 
 -- whether a queue is the one of this name
 abbrev pub is_queue : QueueId → QueueId → Bool

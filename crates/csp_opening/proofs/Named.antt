@@ -6,11 +6,11 @@ use Rattle.std.proofs.lemmas.Bool.{eq-eqb, eqb-true}
 use Rattle.std.proofs.lemmas.List.{map-append}
 use Rattle.std.proofs.lemmas.Option.{same_Some}
 use Rattle.csp_arena.specs.Cells.{RegionName}
-use Rattle.csp_consistent.specs.Reading.{is_who}
 use Rattle.csp_lane.specs.Ends as lane
 use Rattle.csp_opening.specs.Handed.{getting, handed_among, handed_from, handed_of, putting}
 use Rattle.csp_opening.specs.Opened.{pair_of, pairs_on}
 use Rattle.csp_opening.specs.declared.lanes.Pair.{Pair}
+use Rattle.csp_record.specs.Who.{is_who}
 use Rattle.csp_record.specs.declared.who.Who.{Who}
 use Rattle.csp_record.specs.declared.who.Who.TheVariants as who
 use Rattle.csp_standing.proofs.Sides.{same_who}

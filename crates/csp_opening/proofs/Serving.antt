@@ -6,7 +6,7 @@ use Rattle.std.specs.Option.{option_map}
 use Rattle.std.proofs.lemmas.Option.{same_Some, slice_get-map}
 use Rattle.csp_arena.specs.Cells.{RegionName}
 use Rattle.csp_consistent.proofs.QueueNames.{queue_is, queue_same}
-use Rattle.csp_consistent.specs.Reading.{is_queue, is_who}
+use Rattle.csp_consistent.specs.Reading.{is_queue}
 use Rattle.csp_ends.proofs.Lists.{none_of}
 use Rattle.csp_ends.specs.Ends.{AreApart, AreEnds, IsWithin, PlainEnds, PlainHome, PlainNodeQueues, PlainSide, region_or, rule_of, side_named}
 use Rattle.csp_ends.specs.Sides.{IsBacked, back_name, is_back_by, is_turned}
@@ -23,7 +23,7 @@ use Rattle.csp_opening.proofs.Named.{both_true}
 use Rattle.csp_opening.proofs.NewSides.{IsSideNew, side_by}
 use Rattle.csp_opening.proofs.Spread.{SameSpot}
 use Rattle.csp_opening.proofs.Zipped.{placed_at}
-use Rattle.csp_record.specs.Who.{node_of}
+use Rattle.csp_record.specs.Who.{node_of, is_who}
 use Rattle.csp_record.specs.declared.who.Who.{Who}
 use Rattle.csp_scene.specs.Scene.{PlainScene}
 use Rattle.csp_standing.proofs.Places.{all_at, all_from, home_named}

@@ -18,6 +18,15 @@ home_of (who.Link number) = None
 abbrev pub node_of : Who → Option ℕ
 node_of w = option_map (λ home. home.0) (home_of w)
 
+-- whether a party is the one of this name
+abbrev pub is_who : Who → Who → Bool
+is_who (who.Router node) (who.Router other) = other == node
+is_who (who.Bridge node) (who.Bridge other) = other == node
+is_who (who.Iface node number) (who.Iface other k) = other == node && k == number
+is_who (who.App node number) (who.App other k) = other == node && k == number
+is_who (who.Link number) (who.Link k) = k == number
+is_who _ _ = false
+
 -- whether a party is this interface of the node at this place
 abbrev pub is_iface : ℕ → ℕ → Who → Bool
 is_iface node number (who.Iface n k) = n == node && k == number

@@ -9,7 +9,7 @@ use Rattle.csp_consistent.proofs.Each.{each_first}
 use Rattle.csp_consistent.proofs.Names.{Logged}
 use Rattle.csp_consistent.proofs.Owners.{IsOf, IsOwner, IsIfaceAt}
 use Rattle.csp_consistent.proofs.Planned.{logged}
-use Rattle.csp_consistent.specs.Reading.{entries_of, is_who}
+use Rattle.csp_consistent.specs.Reading.{entries_of}
 use Rattle.csp_consistent.specs.Runs.{AreLogsOf}
 use Rattle.csp_deck.specs.Runs.{IsRun}
 use Rattle.csp_exports.specs.Frames.{exported, written_by, written_for}
@@ -21,7 +21,7 @@ use Rattle.csp_log.specs.declared.places.End.{End}
 use Rattle.csp_party.specs.Any.{an_iface}
 use Rattle.csp_record.specs.Record.{PlainPartyLog, PlainRecord}
 use Rattle.csp_record.specs.Transmissions.{iface_entries}
-use Rattle.csp_record.specs.Who.{is_iface}
+use Rattle.csp_record.specs.Who.{is_iface, is_who}
 use Rattle.csp_record.specs.declared.who.Who.{Who}
 use Rattle.csp_record.specs.declared.who.Who.TheVariants as who
 use Rattle.csp_scene.specs.Links.{links_at}

@@ -6,7 +6,7 @@ use Rattle.std.specs.List.{AllByRecursion}
 use Rattle.csp_base.specs.declared.priority.Prio.{Prio}
 use Rattle.csp_consistent.proofs.Names.{HasNone, are_apart, entries_at, entries_in, who_is}
 use Rattle.csp_consistent.specs.Pools.{is_node}
-use Rattle.csp_consistent.specs.Reading.{entries_of, is_who, puts, with_priority}
+use Rattle.csp_consistent.specs.Reading.{entries_of, puts, with_priority}
 use Rattle.csp_consistent.specs.Runs.{AreLogsOf, IsLogOf}
 use Rattle.csp_ends.specs.Ends.{PlainHome}
 use Rattle.csp_ends.specs.Traced.{AreTraced, IsHomeTraced, IsMailTraced}
@@ -17,7 +17,7 @@ use Rattle.csp_log.specs.declared.shown.ItemShown.{ItemShown}
 use Rattle.csp_posts.specs.Between.{is_home, over_home}
 use Rattle.csp_posts.specs.Posts.{PlainPost}
 use Rattle.csp_record.specs.Record.{PlainPartyLog, PlainRecord}
-use Rattle.csp_record.specs.Who.{node_of}
+use Rattle.csp_record.specs.Who.{node_of, is_who}
 use Rattle.csp_record.specs.declared.who.Who.{Who}
 use Rattle.csp_scene.specs.Scene.{PlainScene}
 use Rattle.csp_standing.proofs.ListPlaces.{zip_after}

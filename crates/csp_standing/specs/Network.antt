@@ -3,7 +3,7 @@ use Rattle.std.specs.Prelude.{◌≡◌, ◌+◌, ◌<◌, ◌==◌, ◌^◌, �
 use Rattle.std.specs.List.{AllByRecursion, count_by, range_with_len}
 use Rattle.std.specs.Option.{option_map}
 use Rattle.csp_arena.specs.Cells.{RegionName}
-use Rattle.csp_consistent.specs.Reading.{gets, is_who}
+use Rattle.csp_consistent.specs.Reading.{gets}
 use Rattle.csp_deck.specs.Carried.{IsCarried}
 use Rattle.csp_ends.specs.Ends.{PlainNodeQueues, PlainSide, PlainHome}
 use Rattle.csp_inbox.specs.Marks.{is_in}
@@ -18,7 +18,7 @@ use Rattle.csp_posts.specs.Between.{is_home}
 use Rattle.csp_posts.specs.Posts.{PlainPost}
 use Rattle.csp_posts.specs.Still.{IsPostFrom}
 use Rattle.csp_posts.specs.Through.{IsThrough, WasCrammed}
-use Rattle.csp_record.specs.Who.{node_of}
+use Rattle.csp_record.specs.Who.{node_of, is_who}
 use Rattle.csp_record.specs.declared.who.Who.{Who}
 use Rattle.csp_record.specs.declared.who.Who.TheVariants as who
 use Rattle.csp_scene.specs.Links.{links_at, node_at}

@@ -9,7 +9,7 @@ use Rattle.csp_base.specs.declared.priority.Prio.{Prio}
 use Rattle.csp_consistent.proofs.Owners.{IsOf, are_owners}
 use Rattle.csp_consistent.specs.Inboxes.{AreInboxesInOrder, came_through, writer_of}
 use Rattle.csp_consistent.specs.Queues.{UsesItsQueues}
-use Rattle.csp_consistent.specs.Reading.{entries_of, gets, is_who, left_in, of_priority, put_by, puts, with_mark, with_priority}
+use Rattle.csp_consistent.specs.Reading.{entries_of, gets, left_in, of_priority, put_by, puts, with_mark, with_priority}
 use Rattle.csp_deck.specs.Carried.{IsCarried}
 use Rattle.csp_ends.specs.Traced.{IsHomeTraced, IsMailTraced}
 use Rattle.csp_inbox.specs.Marks as marks
@@ -21,6 +21,7 @@ use Rattle.csp_log.specs.declared.shown.ItemShown.{ItemShown}
 use Rattle.csp_posts.specs.Between.{is_home}
 use Rattle.csp_posts.specs.Posts.{PlainPost}
 use Rattle.csp_record.specs.Record.{PlainPartyLog, PlainRecord}
+use Rattle.csp_record.specs.Who.{is_who}
 use Rattle.csp_record.specs.declared.who.Who.{Who}
 use Rattle.csp_scene.proofs.Lists.{AllByRecursion-append}
 use Rattle.csp_scene.specs.Scene.{PlainNode, PlainScene}

@@ -12,7 +12,7 @@ use Rattle.csp_consistent.proofs.Owners.{IsOwner}
 use Rattle.csp_consistent.specs.Inboxes.{writer_of}
 use Rattle.csp_consistent.specs.Pools.{is_node}
 use Rattle.csp_consistent.specs.Queues.{MayAsk}
-use Rattle.csp_consistent.specs.Reading.{is_who, puts, with_priority}
+use Rattle.csp_consistent.specs.Reading.{puts, with_priority}
 use Rattle.csp_ends.specs.Ends.{PlainHome}
 use Rattle.csp_ends.specs.Traced.{IsHomeTraced, IsMailTraced}
 use Rattle.csp_inbox.specs.Marks as marks
@@ -24,7 +24,7 @@ use Rattle.csp_log.specs.declared.shown.ItemShown.{ItemShown}
 use Rattle.csp_party.specs.Any.{PlainParty}
 use Rattle.csp_posts.specs.Between.{is_home}
 use Rattle.csp_posts.specs.Posts.{PlainPost}
-use Rattle.csp_record.specs.Who.{node_of}
+use Rattle.csp_record.specs.Who.{node_of, is_who}
 use Rattle.csp_record.specs.declared.who.Who.TheVariants as who
 use Rattle.csp_record.specs.declared.who.Who.{Who}
 use Rattle.csp_scene.specs.Links.{links_at, touches}

@@ -1,22 +1,20 @@
 -- What a report counts as sent is the number of transmissions, and the entries that it reads are those of the interface's name.
 use Rattle.std.proofs.Common.{◌≡◌, ℕ, Bool, true, false, cond, List, [], ◌∷◌, ◌++◌, Option, Some, sum_by, count_by, refl, sym, ap, subst, ◌∙◌, append-nil, arith}
 use Rattle.std.proofs.lemmas.List.Sums.{sum_by-cons}
-use Rattle.std.specs.Prelude.{find}
 use Rattle.csp_base.specs.declared.traces.Tag.{Tag}
-use Rattle.csp_log.specs.PlainLog.{all_events}
 use Rattle.csp_log.specs.declared.entry.Entry.{Entry}
 use Rattle.csp_log.specs.declared.event.Discard.{Discard}
 use Rattle.csp_log.specs.declared.event.Event.{Event}
 use Rattle.csp_log.specs.declared.event.Event.TheVariants as event
 use Rattle.csp_log.specs.declared.note.Why.{Why}
 use Rattle.csp_record.specs.Record.{PlainPartyLog, PlainRecord}
+use Rattle.csp_record.specs.Who.{is_who}
 use Rattle.csp_record.specs.declared.who.Who.{Who}
-use Rattle.csp_record.specs.declared.who.Who.TheVariants as who
 use Rattle.csp_sfp.specs.declared.errors.SfpError.{SfpError}
 use Rattle.csp_scene.specs.Scene.{PlainScene}
 use Rattle.csp_topology.specs.Parties.{PlainOpening, parties_of}
 use Rattle.csp_consistent.proofs.Names.{HasNone, AreApart, entries_in, none_there, who_is, are_apart}
-use Rattle.csp_consistent.specs.Reading.{is_who, entries_of}
+use Rattle.csp_consistent.specs.Reading.{entries_of}
 use Rattle.csp_consistent.specs.Runs.{AreLogsOf}
 use Rattle.csp_ordinary.specs.Ordinary.{is_transmission, transmissions}
 use Rattle.csp_report.specs.Parties as shown
@@ -66,46 +64,26 @@ sum_is weight each (e ∷ events) =
 
 -- ---- the entries
 
--- a test of parties agrees with a name where it does on each kind of party
-pub party_alike : (p : PlainPartyLog → Bool) (w : Who)
-    → ((n : ℕ) (es : List Entry) (k : ℕ) → p (record { who = who.Router n; entries = es; step = k }) ≡ is_who w (who.Router n))
-    → ((n : ℕ) (es : List Entry) (k : ℕ) → p (record { who = who.Bridge n; entries = es; step = k }) ≡ is_who w (who.Bridge n))
-    → ((n i : ℕ) (es : List Entry) (k : ℕ) → p (record { who = who.Iface n i; entries = es; step = k }) ≡ is_who w (who.Iface n i))
-    → ((n i : ℕ) (es : List Entry) (k : ℕ) → p (record { who = who.App n i; entries = es; step = k }) ≡ is_who w (who.App n i))
-    → ((i : ℕ) (es : List Entry) (k : ℕ) → p (record { who = who.Link i; entries = es; step = k }) ≡ is_who w (who.Link i))
-    → (log : PlainPartyLog) → p log ≡ is_who w log.who
-party_alike p w routers bridges ifaces apps links log = by log.who
-  where
-    by : (x : Who) → p (record { who = x; entries = log.entries; step = log.step }) ≡ is_who w x
-    by (who.Router n) = routers n log.entries log.step
-    by (who.Bridge n) = bridges n log.entries log.step
-    by (who.Iface n i) = ifaces n i log.entries log.step
-    by (who.App n i) = apps n i log.entries log.step
-    by (who.Link i) = links i log.entries log.step
-
-module _ (w : Who) (p : PlainPartyLog → Bool) (agree : (log : PlainPartyLog) → p log ≡ is_who w log.who) where
+module _ (w : Who) where
   -- the first party of a name is the only one
-  same_entries : (os : List PlainOpening) (logs : List PlainPartyLog) → AreLogsOf os logs → AreApart os → shown.entries_of (find p logs) ≡ entries_in w logs
+  same_entries : (os : List PlainOpening) (logs : List PlainPartyLog) → AreLogsOf os logs → AreApart os → shown.entries_of (shown.party_at logs w) ≡ entries_in w logs
   same_entries [] [] are apart = refl
   same_entries [] (log ∷ logs) are apart = absurd are
   same_entries (o ∷ os) [] are apart = absurd are
-  same_entries (o ∷ os) (log ∷ logs) are apart = by_test (p log) refl (same_entries os logs are.1 apart.1)
+  same_entries (o ∷ os) (log ∷ logs) are apart = by_test (is_who w log.who) refl (same_entries os logs are.1 apart.1)
     where
       only : is_who w log.who ≡ true → entries_in w logs ≡ []
       only is =
           let name : w ≡ o.who = who_is w log.who is ∙ are.0.who in
           none_there w os logs are.1 (subst (λ x. HasNone x os) (sym name) apart.0)
 
-      by_test : (t : Bool) → p log ≡ t → shown.entries_of (find p logs) ≡ entries_in w logs → shown.entries_of (cond t (Some log) (find p logs)) ≡ cond (is_who w log.who) log.entries [] ++ entries_in w logs
-      by_test true e later =
-          let is : is_who w log.who ≡ true = sym (agree log) ∙ e in
+      by_test : (t : Bool) → is_who w log.who ≡ t → shown.entries_of (shown.party_at logs w) ≡ entries_in w logs → shown.entries_of (cond t (Some log) (shown.party_at logs w)) ≡ cond (is_who w log.who) log.entries [] ++ entries_in w logs
+      by_test true is later =
           sym (ap (λ t. cond t log.entries [] ++ entries_in w logs) is ∙ ap (λ (es : List Entry). log.entries ++ es) (only is) ∙ append-nil log.entries)
-      by_test false e later =
-          let not_it : is_who w log.who ≡ false = sym (agree log) ∙ e in
-          later ∙ sym (ap (λ t. cond t log.entries [] ++ entries_in w logs) not_it)
+      by_test false not_it later = later ∙ sym (ap (λ t. cond t log.entries [] ++ entries_in w logs) not_it)
 
--- what such a weight sums up at the first party that passes such a test is the number of transmissions by the entries of this name
-pub counted_is : (scene : PlainScene) (r : PlainRecord) → AreLogsOf (parties_of scene) r.parties → (w : Who) (p : PlainPartyLog → Bool) → ((log : PlainPartyLog) → p log ≡ is_who w log.who)
-    → (weight : Event → ℕ) → ((e : Event) → weight e ≡ cond (is_transmission e) 1 0) → sum_by weight (all_events (shown.entries_of (find p r.parties))) ≡ transmissions (entries_of r w)
-counted_is scene r are w p agree weight each =
-    sum_is weight each (all_events (shown.entries_of (find p r.parties))) ∙ ap transmissions (same_entries w p agree (parties_of scene) r.parties are (are_apart scene))
+-- what such a weight sums up at the first party of a name is the number of transmissions by the entries of this name
+pub counted_is : (scene : PlainScene) (r : PlainRecord) → AreLogsOf (parties_of scene) r.parties → (w : Who)
+    → (weight : Event → ℕ) → ((e : Event) → weight e ≡ cond (is_transmission e) 1 0) → sum_by weight (shown.events_at r.parties w) ≡ transmissions (entries_of r w)
+counted_is scene r are w weight each =
+    sum_is weight each (shown.events_at r.parties w) ∙ ap transmissions (same_entries w (parties_of scene) r.parties are (are_apart scene))

@@ -22,7 +22,7 @@ use Rattle.csp_scene.specs.Scene.{PlainScene, PlainNode, PlainLink}
 use Rattle.csp_text.specs.Cut.{lines_of}
 use Rattle.csp_text.specs.Names.{is_name}
 use Rattle.csp_topology.specs.Parties.{parties_of}
-use Rattle.csp_told.proofs.Counts.{counted_is, event_alike, party_alike}
+use Rattle.csp_told.proofs.Counts.{counted_is, event_alike}
 use Rattle.csp_told.proofs.Digits.{same_number}
 use Rattle.csp_told.proofs.LinesBack.{cut, joined_words, Lacks, IsBelow, cut_none, cut_parts, lines_back, lacks_joined, fixed_lacks, number_lacks, name_lacks}
 use Rattle.csp_told.proofs.Parts.{front_of, rest_of, at_place, before_map, before_flat, numbered_at, any_at, unfiltered}
@@ -93,7 +93,6 @@ of_iface : (P : Line → Type 0) (Q : Type 0) (scene : PlainScene) (run : PlainR
 of_iface P Q scene run are all place number n l there on follows =
     follows _ _ _ _ _ _
     (counted_is scene run are (who.Iface place number) _
-    (party_alike _ (who.Iface place number) (λ m es k. refl) (λ m es k. refl) (λ m i es k. refl) (λ m i es k. refl) (λ i es k. refl)) _
     (event_alike _ (λ s. refl) (λ s. refl) (λ s o. refl) (λ s o. refl) (λ s o l c. refl) (λ s o y. refl) (λ s y. refl) (λ s. refl) (λ s. refl) (λ y. refl) (λ h q t c u. refl) (λ a s h q. refl) (λ c. refl) refl refl refl refl refl))
     (link_at P _ (links_at place scene.links) (of_node P scene.nodes scene.links run all place n there) number l on)
 

@@ -11,7 +11,7 @@ use Rattle.csp_consistent.proofs.Owners.{IsAppAt, IsOf, IsRouterAt}
 use Rattle.csp_consistent.proofs.Planned.{logged}
 use Rattle.csp_consistent.specs.Consistent.{IsConsistent}
 use Rattle.csp_consistent.specs.Lanes.{IsInOrder}
-use Rattle.csp_consistent.specs.Reading.{entries_of, gets, got_by, is_who, left_in, puts}
+use Rattle.csp_consistent.specs.Reading.{entries_of, gets, got_by, left_in, puts}
 use Rattle.csp_deck.specs.Step.{entry_of}
 use Rattle.csp_log.specs.declared.entry.Entry.{Entry}
 use Rattle.csp_log.specs.declared.places.QueueId.{QueueId}
@@ -22,6 +22,7 @@ use Rattle.csp_log.specs.declared.shown.ItemShown.{ItemShown}
 use Rattle.csp_party.specs.Any.{asked, asks, events, has_ended}
 use Rattle.csp_prefix.proofs.NodeLanes.{app_lanes_there, owner_of}
 use Rattle.csp_record.specs.Record.{PlainRecord}
+use Rattle.csp_record.specs.Who.{is_who}
 use Rattle.csp_record.specs.declared.who.Who.{Who}
 use Rattle.csp_record.specs.declared.who.Who.TheVariants as who
 use Rattle.csp_scene.specs.Scene.{PlainNode, PlainScene}

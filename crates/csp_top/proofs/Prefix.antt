@@ -1,20 +1,20 @@
 -- A record's reliable prefix, as its report shows the record's connections.
 use Rattle.std.proofs.Common.{◌≡◌, ℕ, zero, suc, ◌+◌, ◌<◌, Bool, true, false, cond, Option, None, Some, List, [], ◌∷◌, ◌++◌, length, unwrap_or, slice_get, refl, sym, ap, subst, ◌∙◌, append-nil, arith}
-use Rattle.std.specs.Prelude.{find}
 use Rattle.std.specs.List.{AllByRecursion}
 use Rattle.csp_consistent.proofs.Names.{HasNone, AreApart, entries_in, none_there, who_same, who_is, are_apart}
 use Rattle.csp_topology.specs.Parties.{PlainOpening, parties_of, parties_from, parties_at, links_from, ifaces_from, apps_from}
 use Rattle.csp_prefix.specs.Prefix.{IsBeginning, IsOpened, took_on, sent_on, HasPeersPrefix, IsReliablePrefix}
-use Rattle.csp_consistent.specs.Reading.{is_who, entries_of}
+use Rattle.csp_consistent.specs.Reading.{entries_of}
 use Rattle.csp_consistent.specs.Runs.{AreLogsOf}
 use Rattle.csp_log.specs.declared.entry.Entry.{Entry}
 use Rattle.csp_record.specs.Connections.{openings}
 use Rattle.csp_record.specs.Payloads.{sent, took}
 use Rattle.csp_record.specs.Record.{PlainPartyLog, PlainRecord}
+use Rattle.csp_record.specs.Who.{is_who}
 use Rattle.csp_record.specs.declared.connections.Opening.{Opening}
 use Rattle.csp_record.specs.declared.who.Who.{Who}
 use Rattle.csp_record.specs.declared.who.Who.TheVariants as who
-use Rattle.csp_report.specs.Parties.{is_router, is_app}
+use Rattle.csp_report.specs.Parties.{party_at}
 use Rattle.csp_report.specs.Parties as shown
 use Rattle.csp_report.specs.Shown.{AreNumbered, IsShown, IsShownOf, AreFirstOf, sent_there, took_there, HasPeersFirst, HavePeersFirst}
 use Rattle.csp_scene.specs.Links.{links_at, node_at}
@@ -22,58 +22,35 @@ use Rattle.csp_scene.specs.Scene.{PlainScene, PlainNode, PlainLink, PlainApp}
 use Rattle.csp_top.proofs.OpeningNumbers.{front_of, rest_of, opened_numbered}
 use Rattle.csp_top.specs.Prefix.{IsReadable, AreReadable, TellsNumbered}
 
--- ---- a party by its seat, and by its name
+-- ---- the first party of a name
 
-at_router : (place : ℕ) (w : Who) → is_router place w ≡ is_who (who.Router place) w
-at_router place (who.Router n) = refl
-at_router place (who.Bridge n) = refl
-at_router place (who.Iface n k) = refl
-at_router place (who.App n k) = refl
-at_router place (who.Link k) = refl
-
-at_app : (place number : ℕ) (w : Who) → is_app place number w ≡ is_who (who.App place number) w
-at_app place number (who.Router n) = refl
-at_app place number (who.Bridge n) = refl
-at_app place number (who.Iface n k) = refl
-at_app place number (who.App n k) = refl
-at_app place number (who.Link k) = refl
-
-abbrev found_by : (Who → Bool) → List PlainPartyLog → Option PlainPartyLog
-found_by p logs = find (λ party. p party.who) logs
-
-module _ (w : Who) (p : Who → Bool) (agree : (x : Who) → p x ≡ is_who w x) where
-  abbrev first_in : List PlainPartyLog → Option PlainPartyLog
-  first_in logs = found_by p logs
-
+module _ (w : Who) where
   -- the first party of a name is the only one
-  same_entries : (os : List PlainOpening) (logs : List PlainPartyLog) → AreLogsOf os logs → AreApart os → shown.entries_of (first_in logs) ≡ entries_in w logs
+  same_entries : (os : List PlainOpening) (logs : List PlainPartyLog) → AreLogsOf os logs → AreApart os → shown.entries_of (party_at logs w) ≡ entries_in w logs
   same_entries [] [] are apart = refl
   same_entries [] (log ∷ logs) are apart = absurd are
   same_entries (o ∷ os) [] are apart = absurd are
-  same_entries (o ∷ os) (log ∷ logs) are apart = by_test (p log.who) refl (same_entries os logs are.1 apart.1)
+  same_entries (o ∷ os) (log ∷ logs) are apart = by_test (is_who w log.who) refl (same_entries os logs are.1 apart.1)
     where
       only : is_who w log.who ≡ true → entries_in w logs ≡ []
       only is =
           let name : w ≡ o.who = who_is w log.who is ∙ are.0.who in
           none_there w os logs are.1 (subst (λ x. HasNone x os) (sym name) apart.0)
 
-      by_test : (t : Bool) → p log.who ≡ t → shown.entries_of (first_in logs) ≡ entries_in w logs → shown.entries_of (cond t (Some log) (first_in logs)) ≡ cond (is_who w log.who) log.entries [] ++ entries_in w logs
-      by_test true e later =
-          let is : is_who w log.who ≡ true = sym (agree log.who) ∙ e in
+      by_test : (t : Bool) → is_who w log.who ≡ t → shown.entries_of (party_at logs w) ≡ entries_in w logs → shown.entries_of (cond t (Some log) (party_at logs w)) ≡ cond (is_who w log.who) log.entries [] ++ entries_in w logs
+      by_test true is later =
           sym (ap (λ t. cond t log.entries [] ++ entries_in w logs) is ∙ ap (λ (es : List Entry). log.entries ++ es) (only is) ∙ append-nil log.entries)
-      by_test false e later =
-          let not_it : is_who w log.who ≡ false = sym (agree log.who) ∙ e in
-          later ∙ sym (ap (λ t. cond t log.entries [] ++ entries_in w logs) not_it)
+      by_test false not_it later = later ∙ sym (ap (λ t. cond t log.entries [] ++ entries_in w logs) not_it)
 
-  none_found : (os : List PlainOpening) (logs : List PlainPartyLog) → AreLogsOf os logs → first_in logs ≡ None → HasNone w os
+  none_found : (os : List PlainOpening) (logs : List PlainPartyLog) → AreLogsOf os logs → party_at logs w ≡ None → HasNone w os
   none_found [] [] are none = tt
   none_found [] (log ∷ logs) are none = absurd are
   none_found (o ∷ os) [] are none = absurd are
-  none_found (o ∷ os) (log ∷ logs) are none = by_test (p log.who) refl none (none_found os logs are.1)
+  none_found (o ∷ os) (log ∷ logs) are none = by_test (is_who w log.who) refl none (none_found os logs are.1)
     where
-      by_test : (t : Bool) → p log.who ≡ t → cond t (Some log) (first_in logs) ≡ None → (first_in logs ≡ None → HasNone w os) → HasNone w (o ∷ os)
+      by_test : (t : Bool) → is_who w log.who ≡ t → cond t (Some log) (party_at logs w) ≡ None → (party_at logs w ≡ None → HasNone w os) → HasNone w (o ∷ os)
       by_test true e f later = absurd cc
-      by_test false e f later = (ap (is_who w) (sym are.0.who) ∙ sym (agree log.who) ∙ e, later f)
+      by_test false e f later = (ap (is_who w) (sym are.0.who) ∙ e, later f)
 
 -- ---- the application of a node is among the parties of the scene
 
@@ -126,27 +103,27 @@ element (x ∷ xs) (suc i) h = element xs i (omega (arith, h))
 -- ---- a connection that became open is one that the report shows
 
 module _ (scene : PlainScene) (r : PlainRecord) (are : AreLogsOf (parties_of scene) r.parties) (readable : AreReadable scene r) where
-  router_entries : (place : ℕ) → shown.entries_of (found_by (is_router place) r.parties) ≡ entries_of r (who.Router place)
-  router_entries place = same_entries (who.Router place) (is_router place) (at_router place) (parties_of scene) r.parties are (are_apart scene)
+  router_entries : (place : ℕ) → shown.entries_of (party_at r.parties (who.Router place)) ≡ entries_of r (who.Router place)
+  router_entries place = same_entries (who.Router place) (parties_of scene) r.parties are (are_apart scene)
 
-  app_entries : (place number : ℕ) → shown.entries_of (found_by (is_app place number) r.parties) ≡ entries_of r (who.App place number)
-  app_entries place number = same_entries (who.App place number) (is_app place number) (at_app place number) (parties_of scene) r.parties are (are_apart scene)
+  app_entries : (place number : ℕ) → shown.entries_of (party_at r.parties (who.App place number)) ≡ entries_of r (who.App place number)
+  app_entries place number = same_entries (who.App place number) (parties_of scene) r.parties are (are_apart scene)
 
   opened_of : (place number : ℕ) (x : Opening) → IsShown scene.nodes r.parties place number x → IsOpened r place number x
   opened_of place number x shown = record { at = shown.at; there = subst (λ es. slice_get (openings number es) shown.at ≡ Some x) (router_entries place) shown.opened }
 
-  party_there : (place number : ℕ) (n : PlainNode) (app : PlainApp) → slice_get scene.nodes place ≡ Some n → slice_get n.apps number ≡ Some app → (party : Option PlainPartyLog) → found_by (is_app place number) r.parties ≡ party
+  party_there : (place number : ℕ) (n : PlainNode) (app : PlainApp) → slice_get scene.nodes place ≡ Some n → slice_get n.apps number ≡ Some app → (party : Option PlainPartyLog) → party_at r.parties (who.App place number) ≡ party
       → (log : PlainPartyLog) × (party ≡ Some log)
   party_there place number n app e f (Some log) is = (log, refl)
   party_there place number n app e f None is =
-      absurd (is_among scene place number n app e f (none_found (who.App place number) (is_app place number) (at_app place number) (parties_of scene) r.parties are is))
+      absurd (is_among scene place number n app e f (none_found (who.App place number) (parties_of scene) r.parties are is))
 
   shown_of : (place number : ℕ) (x : Opening) → IsOpened r place number x → IsShown scene.nodes r.parties place number x
   shown_of place number x opened =
       let read : IsReadable scene.nodes place number x = readable place number x opened in
       let home : (n : PlainNode) × (slice_get scene.nodes place ≡ Some n) × (number < length n.apps) = home_of scene.nodes place number read.app in
       let its : (app : PlainApp) × (slice_get home.0.apps number ≡ Some app) = element home.0.apps number home.2 in
-      let log : (l : PlainPartyLog) × (found_by (is_app place number) r.parties ≡ Some l) = party_there place number home.0 its.0 home.1 its.1 (found_by (is_app place number) r.parties) refl in
+      let log : (l : PlainPartyLog) × (party_at r.parties (who.App place number) ≡ Some l) = party_there place number home.0 its.0 home.1 its.1 (party_at r.parties (who.App place number)) refl in
       record {
         node = home.0;
         app = its.0;
@@ -160,7 +137,7 @@ module _ (scene : PlainScene) (r : PlainRecord) (are : AreLogsOf (parties_of sce
       }
 
   pub are_numbered : AllByRecursion TellsNumbered r.parties → AreNumbered scene.nodes r.parties
-  are_numbered tell place number x shown = opened_numbered (is_router place) r.parties number shown.at x tell shown.opened
+  are_numbered tell place number x shown = opened_numbered (is_who (who.Router place)) r.parties number shown.at x tell shown.opened
 
   took_same : (place number : ℕ) (x : Opening) → took_there r.parties place number x ≡ took_on r place number x
   took_same place number x = ap (took number x.slot x.ordinal) (app_entries place number)

@@ -15,7 +15,7 @@ use Rattle.csp_consistent.specs.Inboxes.{IsInboxInOrder, writer_of}
 use Rattle.csp_topology.specs.Lanes.{hub_of}
 use Rattle.csp_topology.specs.Parties.{PlainOpening, party_steps}
 use Rattle.csp_consistent.specs.Queues.{MayAsk}
-use Rattle.csp_consistent.specs.Reading.{got_by, gets, is_who, left_here, left_in, of_mark, of_priority, put_by, puts, with_mark, with_priority}
+use Rattle.csp_consistent.specs.Reading.{got_by, gets, left_here, left_in, of_mark, of_priority, put_by, puts, with_mark, with_priority}
 use Rattle.csp_deck.specs.Carried.{IsInboxItem, IsOfPriority}
 use Rattle.csp_deck.specs.Runs.{state_after, step_after}
 use Rattle.csp_deck.specs.Step.{entry_of}
@@ -35,6 +35,7 @@ use Rattle.csp_log.specs.declared.shown.OpShown.{OpShown}
 use Rattle.csp_nodes.specs.Gathering.{all_left}
 use Rattle.csp_nodes.specs.Serving.{served}
 use Rattle.csp_party.specs.Any.{PlainParty, asked, asks, events, has_ended}
+use Rattle.csp_record.specs.Who.{is_who}
 use Rattle.csp_record.specs.declared.who.Who.{Who}
 use Rattle.csp_scene.proofs.Lists.{AllByRecursion-append, AllByRecursion-map}
 use Rattle.csp_scene.specs.Scene.{PlainLink, PlainNode, PlainScene}

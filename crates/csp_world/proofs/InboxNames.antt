@@ -12,7 +12,7 @@ use Rattle.csp_buffer.specs.Content.{Content}
 use Rattle.csp_consistent.proofs.Owners.{IsOwner}
 use Rattle.csp_consistent.specs.Inboxes.{writer_of}
 use Rattle.csp_topology.specs.Lanes.{hub_of}
-use Rattle.csp_consistent.specs.Reading.{is_queue, is_who, put_by, with_mark, with_priority}
+use Rattle.csp_consistent.specs.Reading.{is_queue, put_by, with_mark, with_priority}
 use Rattle.csp_deck.specs.Carried.{place_for, priority_of}
 use Rattle.csp_lists.specs.PlainDeck.{PlainDeck, pops_at}
 use Rattle.csp_log.specs.declared.places.End.{End}
@@ -27,6 +27,7 @@ use Rattle.csp_log.specs.declared.shown.OpShown.{OpShown}
 use Rattle.csp_log.specs.declared.shown.OpShown.TheVariants as op
 use Rattle.csp_nodes.specs.Serving.{at_end, at_queue, goes, served}
 use Rattle.csp_party.specs.Any.{PlainParty}
+use Rattle.csp_record.specs.Who.{is_who}
 use Rattle.csp_record.specs.declared.who.Who.{Who}
 use Rattle.csp_record.specs.declared.who.Who.TheVariants as who
 use Rattle.csp_scene.specs.Links.{links_at, touches}

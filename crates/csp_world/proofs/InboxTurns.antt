@@ -11,7 +11,7 @@ use Rattle.csp_buffer.specs.Content.{Content}
 use Rattle.csp_consistent.specs.Inboxes.{writer_of}
 use Rattle.csp_topology.specs.Lanes.{hub_of}
 use Rattle.csp_consistent.specs.Queues.{MayAsk}
-use Rattle.csp_consistent.specs.Reading.{got_by, is_queue, is_who, put_by, with_mark, with_priority}
+use Rattle.csp_consistent.specs.Reading.{got_by, is_queue, put_by, with_mark, with_priority}
 use Rattle.csp_deck.specs.Carried.{IsInboxItem, IsOfPriority, priority_of}
 use Rattle.csp_lists.specs.PlainDeck.{PlainDeck, most_urgent}
 use Rattle.csp_log.specs.declared.places.End.{End}
@@ -25,7 +25,7 @@ use Rattle.csp_log.specs.declared.shown.ItemShown.TheVariants as item
 use Rattle.csp_log.specs.declared.shown.OpShown.{OpShown}
 use Rattle.csp_log.specs.declared.shown.OpShown.TheVariants as op
 use Rattle.csp_nodes.specs.Serving.{served}
-use Rattle.csp_record.specs.Who.{node_of}
+use Rattle.csp_record.specs.Who.{node_of, is_who}
 use Rattle.csp_record.specs.declared.who.Who.{Who}
 use Rattle.csp_record.specs.declared.who.Who.TheVariants as who
 use Rattle.csp_scene.specs.Scene.{PlainLink, PlainNode}

@@ -11,7 +11,7 @@ use Rattle.csp_consistent.specs.Lanes.{IsFullAfter, IsInOrder, IsRefused}
 use Rattle.csp_topology.specs.Lanes.{PlainLane, app_lanes, hub_of, lanes_from, lanes_within, out_lane}
 use Rattle.csp_topology.specs.Parties.{PlainOpening}
 use Rattle.csp_consistent.specs.Queues.{MayAsk, MayPop, MayPush}
-use Rattle.csp_consistent.specs.Reading.{got_by, gets, is_queue, is_who, put_by, puts}
+use Rattle.csp_consistent.specs.Reading.{got_by, gets, is_queue, put_by, puts}
 use Rattle.csp_consistent.proofs.OwnQueues.{own_asks}
 use Rattle.csp_deck.specs.Step.{entry_of}
 use Rattle.csp_log.specs.Kinds.{carried_on}
@@ -32,6 +32,7 @@ use Rattle.csp_log.specs.declared.shown.OpShown.TheVariants as op
 use Rattle.csp_nodes.specs.Fresh.{fresh_buffers}
 use Rattle.csp_nodes.specs.Serving.{served}
 use Rattle.csp_party.specs.Any.{asked, asks, events, has_ended}
+use Rattle.csp_record.specs.Who.{is_who}
 use Rattle.csp_record.specs.declared.who.Who.{Who}
 use Rattle.csp_record.specs.declared.who.Who.TheVariants as who
 use Rattle.csp_scene.specs.Links.{links_at}

@@ -7,7 +7,7 @@ use Rattle.std.proofs.lemmas.Option.{same_Some}
 use Rattle.csp_consistent.proofs.QueueNames.{queue_is, queue_same}
 use Rattle.csp_consistent.specs.Lanes.{IsRefused}
 use Rattle.csp_consistent.specs.Queues.{MayAsk, MayPop, MayPush}
-use Rattle.csp_consistent.specs.Reading.{got_by, is_queue, is_who, put_by}
+use Rattle.csp_consistent.specs.Reading.{got_by, is_queue, put_by}
 use Rattle.csp_deck.specs.Carried.{place_for}
 use Rattle.csp_lists.specs.PlainDeck.{PlainDeck, pops_at}
 use Rattle.csp_log.specs.declared.places.End.{End}
@@ -21,7 +21,7 @@ use Rattle.csp_log.specs.declared.shown.ItemShown.TheVariants as item
 use Rattle.csp_log.specs.declared.shown.OpShown.{OpShown}
 use Rattle.csp_log.specs.declared.shown.OpShown.TheVariants as op
 use Rattle.csp_nodes.specs.Serving.{at_end, at_queue, goes, served}
-use Rattle.csp_record.specs.Who.{node_of}
+use Rattle.csp_record.specs.Who.{node_of, is_who}
 use Rattle.csp_record.specs.declared.who.Who.{Who}
 use Rattle.csp_record.specs.declared.who.Who.TheVariants as who
 use Rattle.csp_world.proofs.ContentLemmas.{if_named, is_named, popped_out, pushed_in}

@@ -9,7 +9,7 @@ use Rattle.csp_consistent.proofs.Each.{each_at}
 use Rattle.csp_consistent.specs.Lanes.{IsRefused}
 use Rattle.csp_topology.specs.Lanes.{end_lanes, lanes_from, lanes_of, lanes_on, link_lanes}
 use Rattle.csp_consistent.specs.Queues.{MayAsk, MayPop, MayPush}
-use Rattle.csp_consistent.specs.Reading.{got_by, is_queue, is_who, put_by}
+use Rattle.csp_consistent.specs.Reading.{got_by, is_queue, put_by}
 use Rattle.csp_log.specs.Kinds.{carried_on}
 use Rattle.csp_lists.specs.PlainDeck.{PlainDeck}
 use Rattle.csp_log.specs.declared.places.Carries.{Carries}
@@ -22,6 +22,7 @@ use Rattle.csp_log.specs.declared.shown.ItemShown.{ItemShown}
 use Rattle.csp_log.specs.declared.shown.OpShown.{OpShown}
 use Rattle.csp_log.specs.declared.shown.OpShown.TheVariants as op
 use Rattle.csp_nodes.specs.Serving.{at_end, at_queue, goes, served}
+use Rattle.csp_record.specs.Who.{is_who}
 use Rattle.csp_record.specs.declared.who.Who.{Who}
 use Rattle.csp_record.specs.declared.who.Who.TheVariants as who
 use Rattle.csp_scene.specs.Kept.{AreLinksAfter}
