@@ -8,7 +8,7 @@ use Rattle.csp_log.specs.declared.places.TheConstants.{SLOTS}
 use Rattle.csp_party.specs.Any.{PlainParty, an_app}
 use Rattle.csp_record.specs.Record.{PlainRecord}
 use Rattle.csp_record.specs.declared.connections.Opening.{Opening}
-use Rattle.csp_record.specs.declared.who.Who.TheVariants as who
+use Rattle.csp_log.specs.declared.who.Who.TheVariants as who
 use Rattle.csp_scene.specs.Scene.{PlainApp, PlainNode, PlainScene}
 use Rattle.csp_sfp.specs.Collecting.{CanAllBeCut, CollectsBeginning, Cut, all_pieces, blobs_of, collected, refusals}
 use Rattle.csp_sfp.specs.Gathering.{Gathering, nothing}

@@ -19,7 +19,7 @@ use Rattle.csp_record.specs.Payloads.{sent}
 use Rattle.csp_record.specs.Record.{PlainRecord}
 use Rattle.csp_record.specs.declared.connections.Opening.{Opening}
 use Rattle.csp_record.specs.declared.payloads.Way.TheVariants as way
-use Rattle.csp_record.specs.declared.who.Who.TheVariants as who
+use Rattle.csp_log.specs.declared.who.Who.TheVariants as who
 use Rattle.csp_route.specs.Routes.{Routes}
 use Rattle.csp_scene.specs.Scene.{PlainApp, PlainNode, PlainScene}
 use Rattle.csp_scene.specs.Sharing.{sends_packets}

@@ -10,7 +10,7 @@ use Rattle.csp_log.specs.declared.places.TheConstants.{SLOTS}
 use Rattle.csp_record.specs.Payloads.{took}
 use Rattle.csp_record.specs.Record.{PlainRecord}
 use Rattle.csp_record.specs.declared.connections.Opening.{Opening}
-use Rattle.csp_record.specs.declared.who.Who.TheVariants as who
+use Rattle.csp_log.specs.declared.who.Who.TheVariants as who
 use Rattle.csp_scene.specs.Scene.{PlainApp, PlainNode, PlainScene}
 use Rattle.csp_sfp.specs.Collecting.{CanAllBeCut, Cut, all_pieces, blobs_of, collected, refusals}
 use Rattle.csp_sfp.specs.Gathering.{nothing}

@@ -5,7 +5,7 @@ use Rattle.csp_log.specs.declared.entry.Entry.{Entry}
 use Rattle.csp_log.specs.declared.places.QueueId.{QueueId}
 use Rattle.csp_log.specs.declared.places.QueueId.TheVariants as queue
 use Rattle.csp_record.specs.Record.{PlainRecord}
-use Rattle.csp_record.specs.declared.who.Who.TheVariants as who
+use Rattle.csp_log.specs.declared.who.Who.TheVariants as who
 
 -- of two parties with a lane each way, the one from the first to the second and the other back: at no two moments, one of each, had both got of the other
 -- what the other had yet to put. For what was put later than it was got would have come before its cause

@@ -12,7 +12,7 @@ use Rattle.csp_closing.specs.Wires.{HaveRooms, rooms_in, without_all}
 use Rattle.csp_ends.specs.Ends.{PlainHome, PlainNodeQueues, PlainSide}
 use Rattle.csp_lane.specs.Ends as lane
 use Rattle.csp_lists.specs.PlainDeck.{lane_room}
-use Rattle.csp_record.specs.declared.who.Who.{Who}
+use Rattle.csp_log.specs.declared.who.Who.{Who}
 use Rattle.csp_scene.specs.Scene.{PlainNode}
 use Rattle.csp_standing.specs.Fabrics.{AreRoomsOf, AreStoresOf, IsStoreOf}
 use Rattle.csp_standing.specs.Network.{AreNodesOf, AreQueuesOf, sides_from}

@@ -12,7 +12,7 @@ use Rattle.csp_ending.specs.Notes.{left_note}
 use Rattle.csp_log.specs.Remains.{PlainLeft}
 use Rattle.csp_log.specs.declared.places.QueueId.{QueueId}
 use Rattle.csp_log.specs.declared.shown.ItemShown.{ItemShown}
-use Rattle.csp_record.specs.declared.who.Who.{Who}
+use Rattle.csp_log.specs.declared.who.Who.{Who}
 use Rattle.csp_standing.specs.declared.fabric.NodeStore.{NodeStore}
 use Rattle.csp_telling.specs.Closed.{all_notes, inbox_notes, lane_notes, node_notes}
 use Rattle.csp_telling.specs.Remains.{PlainRemains}

@@ -13,7 +13,7 @@ use Rattle.csp_ending.specs.Stores.{HasRoom, TakesBack}
 use Rattle.csp_log.specs.Remains.{PlainHeld}
 use Rattle.csp_log.specs.declared.places.Place.{Place}
 use Rattle.csp_party.specs.Any.{holds, plain, region_of}
-use Rattle.csp_record.specs.Who.{home_of, node_of}
+use Rattle.csp_log.specs.Who.{home_of, node_of}
 use Rattle.csp_standing.specs.declared.fabric.NodeStore.{NodeStore}
 
 -- what was noted, then this, then the rest, is the whole

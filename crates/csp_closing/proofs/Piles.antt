@@ -10,7 +10,7 @@ use Rattle.csp_closing.specs.Stores.{CanEndParties, HasPile, PlainPile, back_at,
 use Rattle.csp_consistent.specs.Pools.{is_node}
 use Rattle.csp_ending.specs.Stores.{HasRoom}
 use Rattle.csp_party.specs.Any.{holds, plain, region_of}
-use Rattle.csp_record.specs.Who.{node_of}
+use Rattle.csp_log.specs.Who.{node_of}
 
 -- what a party holds of the buffers of a node
 abbrev pub held_of : ℕ → PlainRest → List ℕ

@@ -12,8 +12,8 @@ use Rattle.csp_ends.specs.Ends.{PlainNodeQueues, PlainSide, IsSideOf}
 use Rattle.csp_lane.specs.Ends as lane
 use Rattle.csp_log.specs.declared.places.Place.TheVariants as place
 use Rattle.csp_log.specs.declared.shown.ItemShown.{ItemShown}
-use Rattle.csp_record.specs.Who.{is_who}
-use Rattle.csp_record.specs.declared.who.Who.{Who}
+use Rattle.csp_log.specs.Who.{is_who}
+use Rattle.csp_log.specs.declared.who.Who.{Who}
 use Rattle.csp_standing.specs.Network.{IsSideAmong, SideName, name_of, sides_among, sides_at}
 use Rattle.csp_topology.specs.Lanes.{PlainLane}
 use Rattle.csp_topology.specs.declared.wire.Wire.{Wire}

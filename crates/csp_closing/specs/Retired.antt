@@ -7,7 +7,7 @@ use Rattle.csp_party.specs.declared.any.AnyParty.{AnyParty}
 use Rattle.csp_posts.specs.Posts.{PlainPost}
 use Rattle.csp_posts.specs.Seen.{SeenPost}
 use Rattle.csp_posts.specs.declared.retired.Retired.{Retired}
-use Rattle.csp_record.specs.declared.who.Who.{Who}
+use Rattle.csp_log.specs.declared.who.Who.{Who}
 use Rattle.std.specs.Prelude.{Option}
 
 -- the passes that each has of its node

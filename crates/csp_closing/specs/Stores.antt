@@ -8,7 +8,7 @@ use Rattle.csp_ending.specs.Stores.{PlainStore, HasRoom, IsWhole, part}
 use Rattle.csp_log.specs.Remains.{PlainHeld}
 use Rattle.csp_party.specs.Any.{holds, plain, present_step, region_of}
 use Rattle.csp_record.specs.Record.{PlainPartyLog}
-use Rattle.csp_record.specs.Who.{home_of, node_of}
+use Rattle.csp_log.specs.Who.{home_of, node_of}
 use Rattle.csp_standing.specs.declared.fabric.NodeStore.{NodeStore}
 
 -- the memory of a node, and what is to be noted of its pool: between which places the buffers stand that were in it, and how many numbers there is room for

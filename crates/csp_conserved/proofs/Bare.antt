@@ -17,8 +17,8 @@ use Rattle.csp_log.specs.declared.entry.Entry.{Entry}
 use Rattle.csp_log.specs.declared.places.End.{End}
 use Rattle.csp_log.specs.declared.places.QueueId.TheVariants as queue
 use Rattle.csp_record.specs.Record.{PlainPartyLog, PlainRecord}
-use Rattle.csp_record.specs.Who.{is_who}
-use Rattle.csp_record.specs.declared.who.Who.{Who}
+use Rattle.csp_log.specs.Who.{is_who}
+use Rattle.csp_log.specs.declared.who.Who.{Who}
 use Rattle.csp_scene.proofs.Lists.{AllByRecursion-append}
 use Rattle.csp_scene.specs.Kept.{AreLinksAfter}
 use Rattle.csp_scene.specs.Links.{links_at}

@@ -33,8 +33,8 @@ use Rattle.csp_log.specs.declared.places.TheConstants.{UNMARKED}
 use Rattle.csp_party.specs.Any.{holds}
 use Rattle.csp_prefix.proofs.NodeLanes.{app_lanes_there, out_lane_there}
 use Rattle.csp_record.specs.Record.{PlainRecord}
-use Rattle.csp_record.specs.declared.who.Who.{Who}
-use Rattle.csp_record.specs.declared.who.Who.TheVariants as who
+use Rattle.csp_log.specs.declared.who.Who.{Who}
+use Rattle.csp_log.specs.declared.who.Who.TheVariants as who
 use Rattle.csp_scene.specs.Kept.{AreLinksAfter}
 use Rattle.csp_scene.specs.Links.{links_at, touches}
 use Rattle.csp_scene.specs.Ranges.{IsScene}

@@ -29,7 +29,7 @@ use Rattle.csp_log.specs.declared.shown.ItemShown.TheVariants as item
 use Rattle.csp_party.specs.Any.{a_bridge, a_router}
 use Rattle.csp_prefix.proofs.NodeLanes.{owner_of, run_of}
 use Rattle.csp_record.specs.Record.{PlainRecord}
-use Rattle.csp_record.specs.declared.who.Who.TheVariants as who
+use Rattle.csp_log.specs.declared.who.Who.TheVariants as who
 use Rattle.csp_route.specs.Routes.{IsWithin, Routes}
 use Rattle.csp_scene.specs.Links.{links_at}
 use Rattle.csp_scene.specs.Ranges.{IsJoined, IsScene}

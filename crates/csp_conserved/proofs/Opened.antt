@@ -6,8 +6,8 @@ use Rattle.csp_consistent.proofs.Owners.{IsOf, IsOwner, are_owners}
 use Rattle.csp_hub.specs.PlainHub.{opening as hub_opening}
 use Rattle.csp_link.specs.PlainLink.{opening as link_opening}
 use Rattle.csp_party.specs.Any.{PlainParty, a_hub, a_link, holds}
-use Rattle.csp_record.specs.declared.who.Who.{Who}
-use Rattle.csp_record.specs.declared.who.Who.TheVariants as who
+use Rattle.csp_log.specs.declared.who.Who.{Who}
+use Rattle.csp_log.specs.declared.who.Who.TheVariants as who
 use Rattle.csp_scene.proofs.Lists.{AllByRecursion-map}
 use Rattle.csp_scene.specs.Links.{links_at}
 use Rattle.csp_scene.specs.Scene.{PlainLink, PlainScene}

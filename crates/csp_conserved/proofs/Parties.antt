@@ -35,8 +35,8 @@ use Rattle.csp_prefix.specs.Routers.{ComesSo}
 use Rattle.csp_rdp.specs.Balance.{IsWhole}
 use Rattle.csp_rdp.specs.Machine.{idle}
 use Rattle.csp_record.specs.Record.{PlainPartyLog, PlainRecord}
-use Rattle.csp_record.specs.declared.who.Who.{Who}
-use Rattle.csp_record.specs.declared.who.Who.TheVariants as who
+use Rattle.csp_log.specs.declared.who.Who.{Who}
+use Rattle.csp_log.specs.declared.who.Who.TheVariants as who
 use Rattle.csp_scene.specs.Kept.{AreLinksAfter}
 use Rattle.csp_scene.specs.Links.{links_at}
 use Rattle.csp_scene.specs.Ranges.{HasEnds, IsLink as IsSceneLink, IsNode, IsScene}

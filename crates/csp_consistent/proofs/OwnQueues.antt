@@ -22,8 +22,8 @@ use Rattle.csp_log.specs.declared.entry.Entry.{Entry}
 use Rattle.csp_log.specs.declared.shown.AnswerShown.{AnswerShown}
 use Rattle.csp_party.specs.Any.{PlainParty, a_router, a_bridge, an_iface, an_app, a_link, a_hub, asked, asks, tells}
 use Rattle.csp_record.specs.Record.{PlainPartyLog}
-use Rattle.csp_record.specs.declared.who.Who.{Who}
-use Rattle.csp_record.specs.declared.who.Who.TheVariants as who
+use Rattle.csp_log.specs.declared.who.Who.{Who}
+use Rattle.csp_log.specs.declared.who.Who.TheVariants as who
 use Rattle.csp_scene.specs.Links.{links_at}
 use Rattle.csp_scene.specs.Scene.{PlainApp, PlainLink, PlainNode, PlainScene}
 

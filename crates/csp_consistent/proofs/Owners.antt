@@ -7,8 +7,8 @@ use Rattle.csp_bridge.specs.PlainBridge as bridge
 use Rattle.csp_hub.specs.PlainHub as plain_hub
 use Rattle.csp_link.specs.PlainLink as plain_link
 use Rattle.csp_party.specs.Any.{PlainParty, a_bridge, an_iface, an_app, a_link, a_hub}
-use Rattle.csp_record.specs.declared.who.Who.{Who}
-use Rattle.csp_record.specs.declared.who.Who.TheVariants as who
+use Rattle.csp_log.specs.declared.who.Who.{Who}
+use Rattle.csp_log.specs.declared.who.Who.TheVariants as who
 use Rattle.csp_scene.proofs.Lists.{AllByRecursion-append}
 use Rattle.csp_scene.specs.Links.{links_at}
 use Rattle.csp_scene.specs.Scene.{PlainScene, PlainNode, PlainLink, PlainApp}

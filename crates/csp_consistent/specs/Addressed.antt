@@ -13,7 +13,7 @@ use Rattle.csp_log.specs.declared.shown.OpShown.{OpShown}
 use Rattle.csp_log.specs.declared.shown.OpShown.TheVariants as op
 use Rattle.csp_record.specs.Record.{PlainRecord}
 use Rattle.csp_record.specs.Transmissions.{is_beginning, iface_entries}
-use Rattle.csp_record.specs.declared.who.Who.TheVariants as who
+use Rattle.csp_log.specs.declared.who.Who.TheVariants as who
 use Rattle.csp_stack.specs.Comes.{IsHop}
 use Rattle.csp_consistent.specs.Reading.{entries_of, gets}
 

@@ -19,7 +19,7 @@ use Rattle.csp_log.specs.declared.shown.OpShown.{OpShown}
 use Rattle.csp_log.specs.declared.shown.OpShown.TheVariants as op
 use Rattle.csp_party.specs.Any.{holds}
 use Rattle.csp_record.specs.Record.{PlainPartyLog, PlainRecord}
-use Rattle.csp_record.specs.Who.{home_of, node_of}
+use Rattle.csp_log.specs.Who.{home_of, node_of}
 use Rattle.csp_scene.specs.Scene.{PlainScene, PlainNode}
 use Rattle.csp_topology.specs.Parties.{PlainOpening, parties_of, party_steps}
 use Rattle.csp_consistent.specs.Whole.{AreQueuesLeft}

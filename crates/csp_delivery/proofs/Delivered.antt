@@ -24,7 +24,7 @@ use Rattle.csp_party.specs.Any.{an_iface}
 use Rattle.csp_record.specs.Passed.{put_in}
 use Rattle.csp_record.specs.Record.{PlainRecord}
 use Rattle.csp_record.specs.Transmissions.{shown_in, transmission}
-use Rattle.csp_record.specs.declared.who.Who.TheVariants as who
+use Rattle.csp_log.specs.declared.who.Who.TheVariants as who
 use Rattle.csp_scene.proofs.Lists.{AllByRecursion-map}
 use Rattle.csp_scene.specs.Ranges.{IsLink, IsScene}
 use Rattle.csp_scene.specs.Scene.{PlainLink, PlainNode, PlainScene}

@@ -16,7 +16,7 @@ use Rattle.csp_ordinary.specs.Ordinary.{IsOrdinaryOn}
 use Rattle.csp_record.specs.Passed.{put_in}
 use Rattle.csp_record.specs.Record.{PlainRecord}
 use Rattle.csp_record.specs.Transmissions.{transmission}
-use Rattle.csp_record.specs.declared.who.Who.TheVariants as who
+use Rattle.csp_log.specs.declared.who.Who.TheVariants as who
 use Rattle.csp_scene.specs.Scene.{PlainLink, PlainNode, PlainScene}
 
 -- the packets that the interface at an end accepted: those that it put into the inbox of its node

@@ -14,7 +14,7 @@ use Rattle.csp_log.specs.declared.shown.ItemShown.TheVariants as item
 use Rattle.csp_log.specs.declared.shown.OpShown.{OpShown}
 use Rattle.csp_log.specs.declared.shown.OpShown.TheVariants as op
 use Rattle.csp_record.specs.Record.{PlainPartyLog, PlainRecord}
-use Rattle.csp_record.specs.Who.{is_iface}
+use Rattle.csp_log.specs.Who.{is_iface}
 use Rattle.csp_report.specs.Lines.{Line, ended_line}
 use Rattle.csp_exports.specs.declared.ends.Form.{Form}
 use Rattle.csp_exports.specs.declared.ends.Form.TheVariants as form

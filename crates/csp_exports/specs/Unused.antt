@@ -18,8 +18,8 @@ use Rattle.csp_log.specs.declared.moved.Moved.{Moved}
 use Rattle.csp_log.specs.declared.moved.Moved.TheVariants as moved
 use Rattle.csp_log.specs.declared.places.QueueId.TheVariants as queue
 use Rattle.csp_record.specs.Record.{PlainPartyLog, PlainRecord}
-use Rattle.csp_record.specs.declared.who.Who.{Who}
-use Rattle.csp_record.specs.declared.who.Who.TheVariants as who
+use Rattle.csp_log.specs.declared.who.Who.{Who}
+use Rattle.csp_log.specs.declared.who.Who.TheVariants as who
 use Rattle.csp_report.specs.Lines.{Line, text_of}
 use Rattle.csp_scene.specs.Scene.{PlainApp, PlainLink, PlainNode, PlainScene}
 use Rattle.csp_timeline.specs.Labels.{from_word}

@@ -1,7 +1,7 @@
 //! The parties of a record that something is told of.
 
 ghost use Rattle.std.specs.Prelude.{◌≡◌};
-ghost use Rattle.csp_record.specs.Who.{is_iface};
+ghost use Rattle.csp_log.specs.Who.{is_iface};
 ghost use Rattle.csp_exports.specs.Unused.{is_iface_of, is_link, is_router_of};
 
 use csp_log::End;

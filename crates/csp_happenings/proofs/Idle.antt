@@ -9,8 +9,8 @@ use Rattle.csp_log.specs.Moving.{moved_in}
 use Rattle.csp_log.specs.declared.entry.Entry.{Entry}
 use Rattle.csp_log.specs.declared.moved.Moved.TheVariants as moved
 use Rattle.csp_log.specs.declared.noted.Noted.TheVariants as noted
-use Rattle.csp_record.specs.declared.who.Who.{Who}
-use Rattle.csp_record.specs.declared.who.Who.TheVariants as who
+use Rattle.csp_log.specs.declared.who.Who.{Who}
+use Rattle.csp_log.specs.declared.who.Who.TheVariants as who
 use Rattle.csp_scene.specs.Scene.{PlainScene}
 use Rattle.csp_happenings.specs.Entries.{marked_in}
 use Rattle.csp_happenings.specs.Happenings.{app_told, at, happened, iface_told, is_again, is_beginning, number_in, number_of, parcel_in, plan_at, reported, router_told}

@@ -10,7 +10,7 @@ use denote.Param.Members.{Mut}
 use Rattle.std.specs.Fn.{Called}
 use Rattle.std.specs.Prelude.{⊤}
 use Rattle.csp_log.specs.declared.note.Note.TheVariants as note
-use Rattle.csp_record.specs.declared.who.Who.TheVariants as who
+use Rattle.csp_log.specs.declared.who.Who.TheVariants as who
 use Rattle.csp_happenings.specs.Happenings.{in_rounds, latest}
 use Rattle.csp_happenings.specs.declared.kinds.Happening.{Happening}
 use Rattle.csp_happenings.specs.declared.kinds.What.TheVariants as what

@@ -9,8 +9,8 @@ use Rattle.csp_log.specs.declared.entry.Entry.{Entry}
 use Rattle.csp_log.specs.declared.event.Event.{Event}
 use Rattle.csp_log.specs.declared.moved.Moved.{Moved}
 use Rattle.csp_log.specs.declared.noted.Noted.{Noted}
-use Rattle.csp_record.specs.declared.who.Who.{Who}
-use Rattle.csp_record.specs.declared.who.Who.TheVariants as who
+use Rattle.csp_log.specs.declared.who.Who.{Who}
+use Rattle.csp_log.specs.declared.who.Who.TheVariants as who
 use Rattle.csp_scene.specs.Scene.{PlainScene}
 use Rattle.csp_happenings.specs.Entries.{framed_in, marked_in}
 use Rattle.csp_happenings.specs.Happenings.{app_told, at, happened, iface_told, is_again, is_beginning, moved_frame, number_of, parcel_in, reported, router_told, was_sent}

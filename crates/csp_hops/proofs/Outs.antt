@@ -19,8 +19,8 @@ use Rattle.csp_party.specs.Any.{a_bridge}
 use Rattle.csp_prefix.proofs.NodeLanes.{out_lane_there, owner_of, run_of}
 use Rattle.csp_prefix.specs.Routers.{opening_router}
 use Rattle.csp_record.specs.Record.{PlainRecord}
-use Rattle.csp_record.specs.declared.who.Who.{Who}
-use Rattle.csp_record.specs.declared.who.Who.TheVariants as who
+use Rattle.csp_log.specs.declared.who.Who.{Who}
+use Rattle.csp_log.specs.declared.who.Who.TheVariants as who
 use Rattle.csp_scene.specs.Links.{links_at}
 use Rattle.csp_scene.specs.Scene.{PlainNode, PlainScene}
 use Rattle.csp_topology.specs.Lanes.{hub_of, out_lane}

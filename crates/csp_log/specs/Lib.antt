@@ -14,3 +14,4 @@ pub mod Remains
 pub mod Rows
 pub mod Slots
 pub mod Weights
+pub mod Who

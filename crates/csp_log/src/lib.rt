@@ -20,6 +20,7 @@ mod rows;
 mod shown;
 mod spares;
 mod weights;
+mod who;
 
 pub use draft::Draft;
 pub use entry::Entry;
@@ -39,3 +40,4 @@ pub use remains::{HeldBy, Left};
 pub use shown::{AnswerShown, ItemShown, OpShown};
 pub use spares::{BoxedFrame, Spares};
 pub use weights::{MAX_WEIGHT, WEIGHT_BYTES};
+pub use who::Who;

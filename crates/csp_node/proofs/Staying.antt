@@ -15,7 +15,7 @@ use Rattle.csp_posts.specs.Meetings.{HasMet}
 use Rattle.csp_posts.specs.Posts.{PlainPost}
 use Rattle.csp_posts.specs.Ready.{CanTurn, HasTurned}
 use Rattle.csp_posts.specs.Seen.{SeenPost}
-use Rattle.csp_record.specs.Who.{node_of}
+use Rattle.csp_log.specs.Who.{node_of}
 use Rattle.csp_scene.specs.Scene.{PlainScene}
 use Rattle.csp_standing.specs.Fabrics.{CanNote, IsFabricOf, buffers_at, network_of}
 use Rattle.csp_standing.specs.Network.{ArePostsOf, IsNetworkOf, PlainNetwork}

@@ -37,9 +37,9 @@ use Rattle.csp_nodes.specs.DecksAt.{DecksAt, Answers, home_among, region_in, reg
 use Rattle.csp_nodes.specs.NodeAt.{TakesAt, GivesAt}
 use Rattle.csp_nodes.specs.Seeing.{decks_of, regions_of}
 use Rattle.csp_nodes.specs.Serving.{answer_at, answer_there, answer_in, at_end, at_queue, goes, served, rule_in, rule_there, seen_by, of_frames, place_in, IsThere, or_none, no_lists}
-use Rattle.csp_record.specs.Who.{node_of}
-use Rattle.csp_record.specs.declared.who.Who.{Who}
-use Rattle.csp_record.specs.declared.who.Who.TheVariants as who
+use Rattle.csp_log.specs.Who.{node_of}
+use Rattle.csp_log.specs.declared.who.Who.{Who}
+use Rattle.csp_log.specs.declared.who.Who.TheVariants as who
 use Rattle.csp_nodes.proofs.SetLemmas.{set_same}
 
 -- the lists of these nodes as a party sees them

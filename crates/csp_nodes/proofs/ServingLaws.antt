@@ -18,8 +18,8 @@ use Rattle.csp_log.specs.declared.shown.OpShown.{OpShown}
 use Rattle.csp_log.specs.declared.shown.OpShown.TheVariants as op
 use Rattle.csp_nodes.specs.Serving.{answer_at, answer_there, answer_in, at_queue, goes, is_there, is_served_at, no_lists, rule_in, rule_there, seen_by, served}
 use Rattle.csp_nodes.proofs.SetLemmas.{set_here, set_there}
-use Rattle.csp_record.specs.Who.{node_of}
-use Rattle.csp_record.specs.declared.who.Who.{Who}
+use Rattle.csp_log.specs.Who.{node_of}
+use Rattle.csp_log.specs.declared.who.Who.{Who}
 
 -- the operation at the node hands over what the party's hands over
 mapped : {A : Type 0} (f : A → ℕ × OpShown) (ns : List ℕ) → ((a : A) → op_numbers (f a).1 ≡ ns) → (x : Option A) (there : ℕ × OpShown) → option_map f x ≡ Some there → op_numbers there.1 ≡ ns

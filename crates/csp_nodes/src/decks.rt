@@ -175,7 +175,7 @@ impl Decks {
     ghost use Rattle.csp_log.specs.Pictures.{shown_item};
     ghost use Rattle.csp_nodes.specs.DecksAt.{home_among, rule_at, region_at, TakesSo, GivesSo, PushesSo, PopsSo};
     ghost use Rattle.csp_nodes.specs.Returned.{shown_give};
-    ghost use Rattle.csp_record.specs.Who.{node_of};
+    ghost use Rattle.csp_log.specs.Who.{node_of};
 
     /// The place of the node of the party whose turn it is, where it is one of these nodes.
     fn home(&self) -> Option<usize>

@@ -7,7 +7,7 @@ ghost use Rattle.csp_log.specs.declared.places.End.{End};
 ghost use Rattle.csp_log.specs.declared.places.QueueId.{QueueId};
 ghost use Rattle.csp_log.specs.declared.shown.OpShown.{OpShown};
 ghost use Rattle.csp_nodes.specs.Serving.{answer_in, is_served_at, rule_in};
-ghost use Rattle.csp_record.specs.declared.who.Who.{Who};
+ghost use Rattle.csp_log.specs.declared.who.Who.{Who};
 
 /// The conservation law: the lists of the node that serves an operation lose just the number that its
 /// answer brings and gain just the number that it hands over, and those of any other node have what

@@ -31,8 +31,8 @@ use Rattle.csp_opening.specs.declared.lanes.Pair.{Pair}
 use Rattle.csp_opening.specs.declared.nodes.Node.{Node}
 use Rattle.csp_opening.specs.declared.seats.Seat.{Seat}
 use Rattle.csp_pool.specs.declared.hand.Hand.{Hand}
-use Rattle.csp_record.specs.declared.who.Who.{Who}
-use Rattle.csp_record.specs.declared.who.Who.TheVariants as who
+use Rattle.csp_log.specs.declared.who.Who.{Who}
+use Rattle.csp_log.specs.declared.who.Who.TheVariants as who
 use Rattle.csp_scene.specs.Ranges.{IsScene}
 use Rattle.csp_scene.specs.Scene.{PlainNode, PlainScene}
 use Rattle.csp_standing.proofs.Places.{all_at, all_from}

@@ -10,9 +10,9 @@ use Rattle.csp_opening.proofs.Ordered.{names}
 use Rattle.csp_opening.proofs.Passing.{parts_at}
 use Rattle.csp_posts.specs.Between.{is_home}
 use Rattle.csp_posts.specs.Posts.{PlainPost}
-use Rattle.csp_record.specs.Who.{node_of}
-use Rattle.csp_record.specs.declared.who.Who.{Who}
-use Rattle.csp_record.specs.declared.who.Who.TheVariants as who
+use Rattle.csp_log.specs.Who.{node_of}
+use Rattle.csp_log.specs.declared.who.Who.{Who}
+use Rattle.csp_log.specs.declared.who.Who.TheVariants as who
 use Rattle.csp_scene.specs.Links.{links_at}
 use Rattle.csp_scene.specs.Scene.{PlainApp, PlainLink, PlainNode}
 use Rattle.csp_topology.specs.Parties.{PlainOpening, app_at, apps_from, bridge_at, heeded, hub_by, iface_on, ifaces_from, link_at, links_from, parties_from}

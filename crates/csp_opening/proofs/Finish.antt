@@ -18,7 +18,7 @@ use Rattle.csp_opening.specs.declared.nodes.Node.{Node}
 use Rattle.csp_opening.specs.declared.seats.Seat.{Seat}
 use Rattle.csp_posts.specs.Books.{IsFresh}
 use Rattle.csp_posts.specs.Seen.{SeenPost}
-use Rattle.csp_record.specs.Who.{node_of}
+use Rattle.csp_log.specs.Who.{node_of}
 use Rattle.csp_scene.specs.Ranges.{IsScene}
 use Rattle.csp_scene.specs.Scene.{PlainNode, PlainScene}
 use Rattle.csp_standing.specs.Fabrics.{IsFabricOf}

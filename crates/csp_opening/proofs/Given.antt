@@ -17,12 +17,12 @@ use Rattle.csp_opening.specs.Seated.{IsNewParty, IsSeated, count_at, count_or, r
 use Rattle.csp_opening.specs.declared.nodes.Node.{Node}
 use Rattle.csp_opening.specs.declared.seats.Seat.{Seat}
 use Rattle.csp_party.specs.Any.{region_of}
-use Rattle.csp_record.specs.Who.{node_of}
+use Rattle.csp_log.specs.Who.{node_of}
 use Rattle.csp_topology.specs.Parties.{PlainOpening}
 use Rattle.csp_opening.specs.Whole.{queue_count}
 use Rattle.csp_opening.specs.declared.homes.Lead.{Lead}
-use Rattle.csp_record.specs.declared.who.Who.{Who}
-use Rattle.csp_record.specs.declared.who.Who.TheVariants as who
+use Rattle.csp_log.specs.declared.who.Who.{Who}
+use Rattle.csp_log.specs.declared.who.Who.TheVariants as who
 use Rattle.csp_topology.specs.Opening.{IsOfRegion, opening_of}
 use Rattle.csp_topology.specs.declared.opening.Opening.{Opening}
 use Rattle.csp_topology.specs.declared.opening.Opening.TheVariants as opening

@@ -10,9 +10,9 @@ use Rattle.csp_lane.specs.Ends as lane
 use Rattle.csp_opening.specs.Handed.{getting, handed_among, handed_from, handed_of, putting}
 use Rattle.csp_opening.specs.Opened.{pair_of, pairs_on}
 use Rattle.csp_opening.specs.declared.lanes.Pair.{Pair}
-use Rattle.csp_record.specs.Who.{is_who}
-use Rattle.csp_record.specs.declared.who.Who.{Who}
-use Rattle.csp_record.specs.declared.who.Who.TheVariants as who
+use Rattle.csp_log.specs.Who.{is_who}
+use Rattle.csp_log.specs.declared.who.Who.{Who}
+use Rattle.csp_log.specs.declared.who.Who.TheVariants as who
 use Rattle.csp_standing.proofs.Sides.{same_who}
 use Rattle.csp_standing.specs.Network.{name_of, sides_among, sides_at, sides_from}
 use Rattle.csp_topology.specs.Lanes.{PlainLane}

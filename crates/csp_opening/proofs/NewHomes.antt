@@ -28,9 +28,9 @@ use Rattle.csp_pool.specs.Tallies.{Tally, accounted, blank}
 use Rattle.csp_pool.specs.declared.hand.Hand.{Hand}
 use Rattle.csp_posts.specs.Balance.{times_from, times_into}
 use Rattle.csp_posts.specs.Books.{IsFresh}
-use Rattle.csp_record.specs.Who.{node_of}
-use Rattle.csp_record.specs.declared.who.Who.{Who}
-use Rattle.csp_record.specs.declared.who.Who.TheVariants as who
+use Rattle.csp_log.specs.Who.{node_of}
+use Rattle.csp_log.specs.declared.who.Who.{Who}
+use Rattle.csp_log.specs.declared.who.Who.TheVariants as who
 use Rattle.csp_scene.specs.Links.{node_at}
 use Rattle.csp_scene.specs.Scene.{PlainNode, PlainScene}
 use Rattle.csp_standing.specs.Network.{IsHomeAmong, leads, mark_for, opened_in}

@@ -21,7 +21,7 @@ use Rattle.csp_opening.specs.Handed.{getting, handed_among, handed_from, handed_
 use Rattle.csp_opening.specs.Opened.{AreLanes, AreNodesWith, ends_in, pair_of, pairs_on, queues_in, region_in, tally_named, told_tally}
 use Rattle.csp_opening.specs.declared.lanes.Pair.{Pair}
 use Rattle.csp_opening.specs.declared.nodes.Node.{Node}
-use Rattle.csp_record.specs.declared.who.Who.{Who}
+use Rattle.csp_log.specs.declared.who.Who.{Who}
 use Rattle.csp_scene.proofs.Lists.{AllByRecursion-append}
 use Rattle.csp_scene.specs.Scene.{PlainNode, PlainScene}
 use Rattle.csp_standing.proofs.Places.{all_at}

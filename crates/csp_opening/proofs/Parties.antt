@@ -33,8 +33,8 @@ use Rattle.csp_opening.specs.declared.seats.Seat.{Seat}
 use Rattle.csp_party.specs.Any.{holds, plain, uses}
 use Rattle.csp_posts.specs.Balance.{times_got, times_put}
 use Rattle.csp_posts.specs.Through.{IsThrough, WasCrammed}
-use Rattle.csp_record.specs.Who.{node_of}
-use Rattle.csp_record.specs.declared.who.Who.{Who}
+use Rattle.csp_log.specs.Who.{node_of}
+use Rattle.csp_log.specs.declared.who.Who.{Who}
 use Rattle.csp_scene.specs.Scene.{PlainScene}
 use Rattle.csp_standing.proofs.Places.{all_at, all_from}
 use Rattle.csp_standing.specs.Network.{IsPostOf, IsSideAmong, PlainNetwork, name_of, opened_in, sides_of}

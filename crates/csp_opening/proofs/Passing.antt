@@ -12,8 +12,8 @@ use Rattle.csp_inbox.specs.Passes as inbox
 use Rattle.csp_log.specs.declared.places.TheConstants.{UNMARKED}
 use Rattle.csp_opening.specs.Parted.{CanPart, CanPartAll, IsOpening, after_app, after_iface, changed, part_home, part_homes, part_left, parts_left, iface_home, app_home}
 use Rattle.csp_opening.specs.declared.homes.Lead.{Lead}
-use Rattle.csp_record.specs.declared.who.Who.{Who}
-use Rattle.csp_record.specs.declared.who.Who.TheVariants as who
+use Rattle.csp_log.specs.declared.who.Who.{Who}
+use Rattle.csp_log.specs.declared.who.Who.TheVariants as who
 
 -- what no parting changes of the passes
 abbrev pub fixed : Lead → Lead

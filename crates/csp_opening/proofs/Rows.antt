@@ -15,7 +15,7 @@ use Rattle.csp_opening.proofs.Backs.{each_lane}
 use Rattle.csp_opening.proofs.Serving.{AllCalled, AllHome}
 use Rattle.csp_opening.proofs.Zipped.{placed_at, wire_rows}
 use Rattle.csp_opening.specs.Opened.{AreWired}
-use Rattle.csp_record.specs.declared.who.Who.{Who}
+use Rattle.csp_log.specs.declared.who.Who.{Who}
 use Rattle.csp_scene.proofs.Lists.{AllByRecursion-append}
 use Rattle.csp_scene.specs.Ranges.{IsNode, IsScene}
 use Rattle.csp_scene.specs.Scene.{PlainNode, PlainScene}

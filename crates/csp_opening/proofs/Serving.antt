@@ -23,8 +23,8 @@ use Rattle.csp_opening.proofs.Named.{both_true}
 use Rattle.csp_opening.proofs.NewSides.{IsSideNew, side_by}
 use Rattle.csp_opening.proofs.Spread.{SameSpot}
 use Rattle.csp_opening.proofs.Zipped.{placed_at}
-use Rattle.csp_record.specs.Who.{node_of, is_who}
-use Rattle.csp_record.specs.declared.who.Who.{Who}
+use Rattle.csp_log.specs.Who.{node_of, is_who}
+use Rattle.csp_log.specs.declared.who.Who.{Who}
 use Rattle.csp_scene.specs.Scene.{PlainScene}
 use Rattle.csp_standing.proofs.Places.{all_at, all_from, home_named}
 use Rattle.csp_standing.proofs.Sides.{IsIn, both_same, from_end, in_nodes, named_side, to_end}

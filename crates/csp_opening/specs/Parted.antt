@@ -7,8 +7,8 @@ use Rattle.csp_log.specs.declared.places.TheConstants.{UNMARKED}
 use Rattle.csp_opening.specs.declared.homes.Lead.{Lead}
 use Rattle.csp_pool.specs.Hands.{split_left, split_right}
 use Rattle.csp_pool.specs.PlainPool as pool
-use Rattle.csp_record.specs.declared.who.Who.{Who}
-use Rattle.csp_record.specs.declared.who.Who.TheVariants as who
+use Rattle.csp_log.specs.declared.who.Who.{Who}
+use Rattle.csp_log.specs.declared.who.Who.TheVariants as who
 
 -- a pass of a pool with this hand
 abbrev pub with_hand_of : Lead → (pool.PlainPass)

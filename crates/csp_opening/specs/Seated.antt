@@ -7,7 +7,7 @@ use Rattle.csp_opening.specs.Opened.{region_in}
 use Rattle.csp_opening.specs.declared.nodes.Node.{Node}
 use Rattle.csp_opening.specs.declared.seats.Seat.{Seat}
 use Rattle.csp_party.specs.Any.{PlainParty, plain, region_of, is_ready, count, has_ended, holds}
-use Rattle.csp_record.specs.Who.{node_of}
+use Rattle.csp_log.specs.Who.{node_of}
 use Rattle.csp_topology.specs.Opening.{CanOpen, opening_of}
 use Rattle.csp_topology.specs.Parties.{PlainOpening}
 use Rattle.csp_topology.specs.declared.opening.Opening.{Opening}

@@ -16,7 +16,7 @@ use Rattle.csp_opening.specs.declared.nodes.Node.{Node}
 use Rattle.csp_opening.specs.declared.parting.Parts.{Parts}
 use Rattle.csp_opening.specs.declared.seats.Seat.{Seat}
 use Rattle.csp_posts.specs.Seen.{SeenPost}
-use Rattle.csp_record.specs.declared.who.Who.{Who}
+use Rattle.csp_log.specs.declared.who.Who.{Who}
 use Rattle.csp_standing.specs.declared.fabric.NodeRooms.{NodeRooms}
 use Rattle.csp_standing.specs.declared.fabric.NodeStore.{NodeStore}
 use Rattle.csp_topology.specs.declared.wire.Wire.{Wire}

@@ -4,7 +4,7 @@ ghost use Rattle.std.specs.Prelude.{◌≡◌, ◌<◌, ◌≤◌, [], length, m
 ghost use Rattle.std.specs.List.{AllByRecursion};
 ghost use Rattle.csp_opening.specs.Seated.{AreParties, IsNewParty, IsSeated, seat_name};
 ghost use Rattle.csp_party.specs.Any.{plain};
-ghost use Rattle.csp_record.specs.Who.{node_of};
+ghost use Rattle.csp_log.specs.Who.{node_of};
 ghost use Rattle.csp_topology.specs.Opening.{CanOpen, IsOfRegion, opening_of};
 
 use crate::nodes::Node;

@@ -27,7 +27,7 @@ use Rattle.csp_noticed.specs.Flipping.{flipped}
 use Rattle.csp_noticed.specs.Plain.{FlipsPlain}
 use Rattle.csp_record.specs.Record.{PlainRecord}
 use Rattle.csp_record.specs.Transmissions.{shown_in, transmission}
-use Rattle.csp_record.specs.declared.who.Who.TheVariants as who
+use Rattle.csp_log.specs.declared.who.Who.TheVariants as who
 use Rattle.csp_scene.specs.Scene.{PlainLink}
 use Rattle.csp_consistent.specs.Addressed.{addressed_in}
 use Rattle.csp_consistent.specs.Reading.{entries_of}

@@ -18,7 +18,7 @@ use Rattle.csp_log.specs.declared.places.End.{End}
 use Rattle.csp_log.specs.declared.places.LinkKind.TheVariants as link
 use Rattle.csp_record.specs.Record.{PlainRecord}
 use Rattle.csp_record.specs.Transmissions.{transmission}
-use Rattle.csp_record.specs.declared.who.Who.TheVariants as who
+use Rattle.csp_log.specs.declared.who.Who.TheVariants as who
 use Rattle.csp_scene.specs.Links.{links_at}
 use Rattle.csp_scene.specs.Scene.{PlainScene, PlainLink}
 use Rattle.csp_consistent.specs.Reading.{entries_of}

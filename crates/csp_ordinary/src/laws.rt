@@ -10,7 +10,7 @@ ghost use Rattle.csp_ordinary.specs.Ordinary.{AreSourcesApart, HasNoFlips, HasNo
 ghost use Rattle.csp_ordinary.specs.Words.{HasWords};
 ghost use Rattle.csp_record.specs.Passed.{passed};
 ghost use Rattle.csp_record.specs.Record.{PlainRecord};
-ghost use Rattle.csp_record.specs.declared.who.Who.TheVariants as who;
+ghost use Rattle.csp_log.specs.declared.who.Who.TheVariants as who;
 ghost use Rattle.csp_scene.specs.Kept.{AreLinksAfter};
 ghost use Rattle.csp_scene.specs.Ranges.{IsScene};
 ghost use Rattle.csp_scene.specs.Scene.{PlainLink, PlainScene};

@@ -32,7 +32,7 @@ use Rattle.csp_prefix.proofs.NodeLanes.{app_lanes_there, owner_of, run_of}
 use Rattle.csp_prefix.specs.Apps.{IsAppLog}
 use Rattle.csp_prefix.specs.Routers.{opening_router, router_steps}
 use Rattle.csp_record.specs.Record.{PlainRecord}
-use Rattle.csp_record.specs.declared.who.Who.TheVariants as who
+use Rattle.csp_log.specs.declared.who.Who.TheVariants as who
 use Rattle.csp_scene.specs.Links.{links_at}
 use Rattle.csp_scene.specs.Ranges.{IsApp, IsNode, IsOwnPort, IsScene, IsStep}
 use Rattle.csp_scene.specs.Scene.{PlainNode, PlainScene}

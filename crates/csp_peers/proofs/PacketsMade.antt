@@ -18,7 +18,7 @@ use Rattle.csp_log.specs.declared.shown.OpShown.TheVariants as op
 use Rattle.csp_rdp.specs.Machine.{flow_of}
 use Rattle.csp_record.specs.Passed.{passed}
 use Rattle.csp_record.specs.Record.{PlainRecord}
-use Rattle.csp_record.specs.declared.who.Who.TheVariants as who
+use Rattle.csp_log.specs.declared.who.Who.TheVariants as who
 use Rattle.csp_scene.specs.Links.{links_at}
 use Rattle.csp_scene.specs.Ranges.{IsNode, IsScene}
 use Rattle.csp_scene.specs.Scene.{PlainNode, PlainScene}

@@ -38,8 +38,8 @@ use Rattle.csp_party.specs.Any.{PlainParty, a_bridge, a_hub, a_link, a_router, a
 use Rattle.csp_prefix.proofs.AppTurns.{blobs_so}
 use Rattle.csp_record.specs.Record.{PlainPartyLog, PlainRecord}
 use Rattle.csp_record.specs.Stale.{is_stale, stale}
-use Rattle.csp_record.specs.declared.who.Who.{Who}
-use Rattle.csp_record.specs.declared.who.Who.TheVariants as who
+use Rattle.csp_log.specs.declared.who.Who.{Who}
+use Rattle.csp_log.specs.declared.who.Who.TheVariants as who
 use Rattle.csp_scene.proofs.Lists.{AllByRecursion-append}
 use Rattle.csp_scene.specs.Scene.{PlainLink, PlainNode, PlainScene}
 use Rattle.csp_topology.specs.Parties.{PlainOpening, link_party, parties_of, party_steps}

@@ -8,7 +8,7 @@ use Rattle.csp_header.specs.declared.word.Header.{Header}
 use Rattle.csp_log.specs.declared.entry.Entry.{Entry}
 use Rattle.csp_record.specs.Record.{PlainRecord}
 use Rattle.csp_record.specs.declared.connections.Opening.{Opening}
-use Rattle.csp_record.specs.declared.who.Who.TheVariants as who
+use Rattle.csp_log.specs.declared.who.Who.TheVariants as who
 use Rattle.csp_scene.specs.Scene.{PlainScene}
 use Rattle.csp_consistent.specs.Reading.{entries_of}
 use Rattle.csp_prefix.specs.Prefix.{IsOpened, sent_on}

@@ -8,8 +8,8 @@ use Rattle.csp_happenings.specs.declared.kinds.Piece.{Piece}
 use Rattle.csp_happenings.specs.declared.kinds.What.{What}
 use Rattle.csp_happenings.specs.declared.kinds.What.TheVariants as what
 use Rattle.csp_link.specs.declared.fates.Fate.{Fate}
-use Rattle.csp_record.specs.declared.who.Who.{Who}
-use Rattle.csp_record.specs.declared.who.Who.TheVariants as who
+use Rattle.csp_log.specs.declared.who.Who.{Who}
+use Rattle.csp_log.specs.declared.who.Who.TheVariants as who
 use Rattle.csp_scene.specs.Scene.{PlainLink}
 use Rattle.csp_picture.specs.Colours.{colour_of, name_of}
 use Rattle.csp_picture.specs.Elements.{line, dot, text}

@@ -8,8 +8,8 @@ use Rattle.csp_happenings.specs.declared.kinds.What.{What}
 use Rattle.csp_happenings.specs.declared.kinds.What.TheVariants as what
 use Rattle.csp_link.specs.declared.fates.Fate.{Fate}
 use Rattle.csp_record.specs.Table.{key_cmp}
-use Rattle.csp_record.specs.declared.who.Who.{Who}
-use Rattle.csp_record.specs.declared.who.Who.TheVariants as who
+use Rattle.csp_log.specs.declared.who.Who.{Who}
+use Rattle.csp_log.specs.declared.who.Who.TheVariants as who
 use Rattle.csp_picture.specs.Colours.{colour_of, is_harmed}
 use Rattle.csp_picture.specs.declared.seen.Sent.{Sent}
 use Rattle.csp_picture.specs.declared.seen.Start.{Start}

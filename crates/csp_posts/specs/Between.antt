@@ -19,7 +19,7 @@ use Rattle.csp_log.specs.declared.shown.OpShown.TheVariants as op
 use Rattle.csp_pool.specs.Tallies.{known_total}
 use Rattle.csp_pool.specs.declared.hand.Hand.{Hand}
 use Rattle.csp_posts.specs.Posts.{PlainPost}
-use Rattle.csp_record.specs.declared.who.Who.{Who}
+use Rattle.csp_log.specs.declared.who.Who.{Who}
 
 -- two ends of different parties are those of one lane, the one that puts and the one that gets
 pub record AreJoined (posts : List PlainPost) (i j : ℕ) (s : PlainPost) (x : PlainSide) (t : PlainPost) (y : PlainSide) : Type 0 where

@@ -8,7 +8,7 @@ use Rattle.csp_ends.specs.Ends.{PlainNodeQueues, PlainEnds}
 use Rattle.csp_ends.specs.Moves.{ends_after_all, room_for}
 use Rattle.csp_log.specs.declared.entry.Entry.{Entry}
 use Rattle.csp_party.specs.Any.{PlainParty, has_ended, holds}
-use Rattle.csp_record.specs.declared.who.Who.{Who}
+use Rattle.csp_log.specs.declared.who.Who.{Who}
 use Rattle.csp_topology.specs.Parties.{party_steps}
 
 -- a party of a threaded run: who it is, its state, its turns, and what it has in hand

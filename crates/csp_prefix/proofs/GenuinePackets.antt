@@ -7,7 +7,7 @@ use Rattle.csp_ports.specs.PlainPorts.{start_of}
 use Rattle.csp_rdp_header.specs.Head.{head_bytes}
 use Rattle.csp_record.specs.Passed.{passed}
 use Rattle.csp_record.specs.Record.{PlainRecord}
-use Rattle.csp_record.specs.declared.who.Who.TheVariants as who
+use Rattle.csp_log.specs.declared.who.Who.TheVariants as who
 use Rattle.csp_scene.specs.Links.{links_at, no_node, node_at}
 use Rattle.csp_scene.specs.Ranges.{IsScene}
 use Rattle.csp_scene.specs.Scene.{PlainNode, PlainScene}

@@ -24,9 +24,9 @@ use Rattle.csp_log.specs.declared.shown.AnswerShown.TheVariants as answer
 use Rattle.csp_record.specs.Passed.{accepted_by, put_in}
 use Rattle.csp_record.specs.Record.{PlainPartyLog}
 use Rattle.csp_record.specs.Transmissions.{iface_entries}
-use Rattle.csp_record.specs.Who.{is_any_iface, is_iface, is_who}
-use Rattle.csp_record.specs.declared.who.Who.{Who}
-use Rattle.csp_record.specs.declared.who.Who.TheVariants as who
+use Rattle.csp_log.specs.Who.{is_any_iface, is_iface, is_who}
+use Rattle.csp_log.specs.declared.who.Who.{Who}
+use Rattle.csp_log.specs.declared.who.Who.TheVariants as who
 use Rattle.csp_scene.proofs.Lists.{AllByRecursion-append}
 use Rattle.csp_consistent.specs.Reading.{is_queue, of_mark, of_priority, put_by, puts, with_mark, with_priority}
 use Rattle.csp_prefix.specs.Routers.{IsOfKind}

@@ -19,7 +19,7 @@ use Rattle.csp_record.proofs.Passing.{chosen-over, shown-nothing}
 use Rattle.csp_record.specs.Record.{PlainPartyLog}
 use Rattle.csp_record.specs.Table.{key_cmp, kept_packet, Adds}
 use Rattle.csp_record.specs.Transmissions.{shown_in, iface_entries}
-use Rattle.csp_record.specs.Who.{is_iface}
+use Rattle.csp_log.specs.Who.{is_iface}
 
 abbrev Table : Type 0
 Table = BTreeMap (ℕ × ℕ × ℕ) Content

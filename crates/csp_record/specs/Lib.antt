@@ -7,5 +7,4 @@ pub mod Stale
 pub mod Table
 pub mod Traffic
 pub mod Transmissions
-pub mod Who
 pub mod Whole

@@ -10,7 +10,7 @@ use Rattle.csp_log.specs.declared.moved.Moved.TheVariants as moved
 use Rattle.csp_log.specs.declared.places.QueueId.TheVariants as queue
 use Rattle.csp_record.specs.Record.{PlainPartyLog, PlainRecord}
 use Rattle.csp_record.specs.Transmissions.{transmission}
-use Rattle.csp_record.specs.Who.{is_any_iface}
+use Rattle.csp_log.specs.Who.{is_any_iface}
 
 -- the packet that was put into an inbox
 abbrev pub put_in : Moved → Option Content

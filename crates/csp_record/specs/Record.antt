@@ -2,7 +2,7 @@
 use Rattle.std.specs.Prelude.{ℕ, Bool, List}
 use Rattle.csp_log.specs.Remains.{PlainLeft, PlainHeld}
 use Rattle.csp_log.specs.declared.entry.Entry.{Entry}
-use Rattle.csp_record.specs.declared.who.Who.{Who}
+use Rattle.csp_log.specs.declared.who.Who.{Who}
 
 -- a party's entries, and for an application its present step at the end, 0 where it has ended
 pub record PlainPartyLog : Type 0 where

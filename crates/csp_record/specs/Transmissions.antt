@@ -11,7 +11,7 @@ use Rattle.csp_log.specs.declared.moved.Moved.{Moved}
 use Rattle.csp_log.specs.declared.moved.Moved.TheVariants as moved
 use Rattle.csp_log.specs.declared.places.QueueId.TheVariants as queue
 use Rattle.csp_record.specs.Record.{PlainPartyLog, PlainRecord}
-use Rattle.csp_record.specs.Who.{is_iface}
+use Rattle.csp_log.specs.Who.{is_iface}
 
 -- the packet that was popped from an `Out`
 abbrev pub fetched : Moved → Option Content

@@ -9,12 +9,10 @@ mod ends;
 mod payloads;
 mod record;
 mod transmissions;
-mod who;
 
 pub use connections::{Opening, openings};
 pub use copies::stale;
 pub use counts::passed;
-pub use csp_log::{HeldBy, Left};
+pub use csp_log::{HeldBy, Left, Who};
 pub use payloads::{Payload, Payloads, Traffic, Way, sent, took};
 pub use record::{PartyLog, Record};
-pub use who::Who;

@@ -6,7 +6,7 @@ ghost use Rattle.std.specs.Option.{option_and_then};
 ghost use Rattle.csp_base.specs.declared.traces.Origin.{Origin as Named};
 ghost use Rattle.csp_record.specs.Table.{named_in, Adds};
 ghost use Rattle.csp_record.specs.Transmissions.{is_beginning, shown_in, iface_entries, transmission};
-ghost use Rattle.csp_record.specs.Who.{is_iface};
+ghost use Rattle.csp_log.specs.Who.{is_iface};
 
 use crate::{PartyLog, Record, Who};
 use csp_log::{Event, Log, LoggedPacket, Moved, QueueId};

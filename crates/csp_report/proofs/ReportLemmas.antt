@@ -25,7 +25,7 @@ use Rattle.csp_record.specs.Record.{PlainPartyLog, PlainRecord}
 use Rattle.csp_record.specs.Whole.{IsWhole, IsWholeNode}
 use Rattle.csp_report.specs.declared.ifaces.IfaceCount.{IfaceCount}
 use Rattle.csp_report.specs.declared.ifaces.IfaceCount.TheVariants as count
-use Rattle.csp_record.specs.declared.who.Who.TheVariants as who
+use Rattle.csp_log.specs.declared.who.Who.TheVariants as who
 use Rattle.csp_report.specs.declared.places.PlaceKind.TheVariants as kind
 use Rattle.csp_report.specs.declared.text.TheConstants.{VERSION}
 use Rattle.csp_sfp.specs.declared.errors.SfpError.{SfpError}

@@ -28,7 +28,7 @@ use Rattle.csp_report.specs.Lines.{Line, conn_words}
 use Rattle.csp_report.specs.Parties.{party_at, entries_at}
 use Rattle.csp_report.specs.ReliablePrefix.{is_conn, is_on, text_in, Told}
 use Rattle.csp_report.specs.Report.{title_line, end_line, node_line, router_words, router_line, node_iface_lines, node_event_lines, state_line, app_lines, node_app_lines, count_lines, report_lines}
-use Rattle.csp_record.specs.declared.who.Who.TheVariants as who
+use Rattle.csp_log.specs.declared.who.Who.TheVariants as who
 use Rattle.csp_report.proofs.Cutting.{recut, recut_is}
 use Rattle.csp_report.proofs.Feeds.{Lacks, Lacks-decimal, Lacks-name, all_joined}
 use Rattle.csp_report.proofs.Telling.{IsOther, IsBlock, Tells, told_block, tells_none, tells_both, tells_nothing, tells_each, tells_block}

@@ -12,7 +12,7 @@ use Rattle.csp_report.specs.Conns.{Traffics, all_slots, traffic_of}
 use Rattle.csp_report.specs.Parties.{party_at, entries_at}
 use Rattle.csp_report.specs.ReliablePrefix.{Told}
 use Rattle.csp_report.specs.Shown.{IsShown}
-use Rattle.csp_record.specs.declared.who.Who.TheVariants as who
+use Rattle.csp_log.specs.declared.who.Who.TheVariants as who
 use Rattle.csp_report.proofs.Feeds.{all_joined}
 use Rattle.csp_report.proofs.ToldLines.{told_of, slot_told, conns_told, app_told, node_told, report_told}
 

@@ -4,8 +4,8 @@ use Rattle.csp_log.specs.PlainLog.{all_events}
 use Rattle.csp_log.specs.declared.entry.Entry.{Entry}
 use Rattle.csp_log.specs.declared.event.Event.{Event}
 use Rattle.csp_record.specs.Record.{PlainPartyLog}
-use Rattle.csp_record.specs.Who.{is_who}
-use Rattle.csp_record.specs.declared.who.Who.{Who}
+use Rattle.csp_log.specs.Who.{is_who}
+use Rattle.csp_log.specs.declared.who.Who.{Who}
 
 -- the first party that has this name
 abbrev pub party_at : List PlainPartyLog → Who → Option PlainPartyLog

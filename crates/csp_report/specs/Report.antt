@@ -16,7 +16,7 @@ use Rattle.csp_report.specs.Places.{held_in}
 use Rattle.csp_report.specs.Conns.{conn_lines}
 use Rattle.csp_report.specs.Events.{all_discards, discard_words, entry_lines, event_lines}
 use Rattle.csp_report.specs.Ifaces.{iface_line}
-use Rattle.csp_record.specs.declared.who.Who.TheVariants as who
+use Rattle.csp_log.specs.declared.who.Who.TheVariants as who
 use Rattle.csp_report.specs.declared.places.PlaceKind.{PlaceKind}
 use Rattle.csp_report.specs.declared.places.PlaceKind.TheVariants as kind
 use Rattle.csp_report.specs.declared.text.TheConstants.{VERSION}

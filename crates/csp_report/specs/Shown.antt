@@ -7,7 +7,7 @@ use Rattle.csp_record.specs.Payloads.{sent, took}
 use Rattle.csp_record.specs.Record.{PlainPartyLog}
 use Rattle.csp_record.specs.declared.connections.Opening.{Opening}
 use Rattle.csp_report.specs.Parties.{party_at, entries_at}
-use Rattle.csp_record.specs.declared.who.Who.TheVariants as who
+use Rattle.csp_log.specs.declared.who.Who.TheVariants as who
 
 -- a connection that became open, of an application of a node, on one of its slots; there are the node, the application and its log
 pub record IsShown (nodes : List PlainNode) (parties : List PlainPartyLog) (place number : ℕ) (x : Opening) : Type 0 where

@@ -21,9 +21,9 @@ use Rattle.csp_log.specs.declared.places.End.{End}
 use Rattle.csp_party.specs.Any.{an_iface}
 use Rattle.csp_record.specs.Record.{PlainPartyLog, PlainRecord}
 use Rattle.csp_record.specs.Transmissions.{iface_entries}
-use Rattle.csp_record.specs.Who.{is_iface, is_who}
-use Rattle.csp_record.specs.declared.who.Who.{Who}
-use Rattle.csp_record.specs.declared.who.Who.TheVariants as who
+use Rattle.csp_log.specs.Who.{is_iface, is_who}
+use Rattle.csp_log.specs.declared.who.Who.{Who}
+use Rattle.csp_log.specs.declared.who.Who.TheVariants as who
 use Rattle.csp_scene.specs.Links.{links_at}
 use Rattle.csp_scene.specs.Scene.{PlainLink, PlainScene}
 use Rattle.csp_topology.specs.Parties.{heeded, iface_opening, parties_of, party_steps}

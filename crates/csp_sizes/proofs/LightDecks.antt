@@ -24,9 +24,9 @@ use Rattle.csp_log.specs.declared.shown.ItemShown.{ItemShown}
 use Rattle.csp_log.specs.declared.shown.OpShown.TheVariants as op
 use Rattle.csp_log.specs.declared.shown.OpShown.{OpShown}
 use Rattle.csp_nodes.specs.Serving.{answer_at, answer_in, answer_there, at_end, at_queue, goes, no_lists, served}
-use Rattle.csp_record.specs.Who.{node_of}
-use Rattle.csp_record.specs.declared.who.Who.TheVariants as who
-use Rattle.csp_record.specs.declared.who.Who.{Who}
+use Rattle.csp_log.specs.Who.{node_of}
+use Rattle.csp_log.specs.declared.who.Who.TheVariants as who
+use Rattle.csp_log.specs.declared.who.Who.{Who}
 use Rattle.csp_sizes.specs.Light.{IsLight, IsLightAnswer, IsLightDeck, IsLightOp, IsLightQueue, room_at, room_of}
 
 same_some : {X : Type 0} (x y : X) → Some x ≡ Some y → x ≡ y

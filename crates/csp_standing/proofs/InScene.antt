@@ -8,8 +8,8 @@ use Rattle.csp_ends.specs.Ends.{IsHomeOf, PlainHome, PlainNodeQueues}
 use Rattle.csp_inbox.specs.Passes as inbox
 use Rattle.csp_pool.specs.PlainPool as pool
 use Rattle.csp_posts.specs.Posts.{PlainPost}
-use Rattle.csp_record.specs.Who.{node_of}
-use Rattle.csp_record.specs.declared.who.Who.TheVariants as who
+use Rattle.csp_log.specs.Who.{node_of}
+use Rattle.csp_log.specs.declared.who.Who.TheVariants as who
 use Rattle.csp_scene.specs.Scene.{PlainNode, PlainScene}
 use Rattle.csp_standing.proofs.Leaders.{Hubs, home_in, hub_at, pass_marked}
 use Rattle.csp_standing.proofs.Places.{all_from, home_named, post_at}

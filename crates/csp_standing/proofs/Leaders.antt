@@ -8,9 +8,9 @@ use Rattle.csp_inbox.specs.Passes.{PlainPass}
 use Rattle.csp_log.specs.declared.places.TheConstants.{UNMARKED}
 use Rattle.csp_meeting.specs.Meeting as meeting
 use Rattle.csp_posts.specs.Posts.{PlainPost}
-use Rattle.csp_record.specs.Who.{node_of}
-use Rattle.csp_record.specs.declared.who.Who.{Who}
-use Rattle.csp_record.specs.declared.who.Who.TheVariants as who
+use Rattle.csp_log.specs.Who.{node_of}
+use Rattle.csp_log.specs.declared.who.Who.{Who}
+use Rattle.csp_log.specs.declared.who.Who.TheVariants as who
 use Rattle.csp_scene.specs.Scene.{PlainScene, PlainNode}
 use Rattle.csp_standing.proofs.Places.{home_named, post_at, post_of}
 use Rattle.csp_standing.specs.Network.{IsHomeIn, IsNetworkOf, IsPostOf, PlainNetwork, leads, mark_for}

@@ -18,7 +18,7 @@ use Rattle.csp_pool.specs.Tallies.{Tally, known_total}
 use Rattle.csp_pool.specs.declared.hand.Hand.{Hand}
 use Rattle.csp_posts.specs.Between.{all_put, all_taken, is_home, over_home, pool_puts, pool_takes}
 use Rattle.csp_posts.specs.Posts.{PlainPost}
-use Rattle.csp_record.specs.declared.who.Who.{Who}
+use Rattle.csp_log.specs.declared.who.Who.{Who}
 use Rattle.csp_standing.proofs.Turns.{home_later}
 
 -- with more takes and gives it is so still

@@ -9,9 +9,9 @@ use Rattle.csp_ends.specs.Ends.{PlainNodeQueues, PlainSide, IsSideOf}
 use Rattle.csp_lane.specs.Ends.{IsEndOf, PlainEnd, PlainLane as Queue}
 use Rattle.csp_lists.specs.PlainDeck.{lane_room}
 use Rattle.csp_posts.specs.Posts.{PlainPost}
-use Rattle.csp_record.specs.Who.{is_who}
-use Rattle.csp_record.specs.declared.who.Who.{Who}
-use Rattle.csp_record.specs.declared.who.Who.TheVariants as who
+use Rattle.csp_log.specs.Who.{is_who}
+use Rattle.csp_log.specs.declared.who.Who.{Who}
+use Rattle.csp_log.specs.declared.who.Who.TheVariants as who
 use Rattle.csp_scene.specs.Scene.{PlainNode, PlainScene}
 use Rattle.csp_standing.proofs.Places.{all_at, post_of}
 use Rattle.csp_standing.specs.Network.{AreNodesOf, IsNetworkOf, PlainNetwork, SideName, name_of, sides_among, sides_at, sides_from}

@@ -22,7 +22,7 @@ use Rattle.csp_posts.specs.Between.{is_home}
 use Rattle.csp_posts.specs.Posts.{PlainPost, AreTurns}
 use Rattle.csp_posts.specs.Still.{still_side, still_inbox, still_home, still, IsPostFrom}
 use Rattle.csp_posts.specs.Through.{IsThrough, WasCrammed}
-use Rattle.csp_record.specs.declared.who.Who.{Who}
+use Rattle.csp_log.specs.declared.who.Who.{Who}
 use Rattle.csp_scene.specs.Links.{links_at}
 use Rattle.csp_scene.specs.Scene.{PlainScene}
 use Rattle.csp_topology.specs.Parties.{PlainOpening, parties_of}

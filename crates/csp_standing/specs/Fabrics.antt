@@ -3,8 +3,8 @@ use Rattle.std.specs.Prelude.{◌≡◌, ◌+◌, ◌*◌, ◌≤◌, ⊤, ℕ, 
 use Rattle.std.specs.List.{AllByRecursion}
 use Rattle.csp_lists.specs.PlainDeck.{lane_room}
 use Rattle.csp_posts.specs.Seen.{SeenPost}
-use Rattle.csp_record.specs.Who.{node_of}
-use Rattle.csp_record.specs.declared.who.Who.{Who}
+use Rattle.csp_log.specs.Who.{node_of}
+use Rattle.csp_log.specs.declared.who.Who.{Who}
 use Rattle.csp_scene.specs.Links.{node_at}
 use Rattle.csp_scene.specs.Scene.{PlainNode, PlainScene}
 use Rattle.csp_standing.specs.Network.{IsNetworkOf, PlainNetwork}

@@ -3,7 +3,7 @@
 ghost use Rattle.csp_ends.specs.Ends.{PlainNodeQueues};
 ghost use Rattle.csp_posts.specs.Between.{AreAllTraced, AreInRounds, HasHeard, HaveMet};
 ghost use Rattle.csp_posts.specs.Posts.{AreTurns, PlainPost};
-ghost use Rattle.csp_record.specs.declared.who.Who.{Who};
+ghost use Rattle.csp_log.specs.declared.who.Who.{Who};
 ghost use Rattle.std.specs.Prelude.{◌≡◌, ◌+◌, ℕ, List, []};
 ghost use Rattle.std.specs.List.{AllByRecursion, AllZip};
 

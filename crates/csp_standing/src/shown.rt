@@ -6,7 +6,7 @@ ghost use Rattle.csp_ends.specs.Ends.{PlainNodeQueues};
 ghost use Rattle.csp_posts.specs.Between.{AreAllTraced, AreInRounds};
 ghost use Rattle.csp_posts.specs.Posts.{PlainPost};
 ghost use Rattle.csp_record.specs.Record.{PlainRecord};
-ghost use Rattle.csp_record.specs.declared.who.Who.{Who};
+ghost use Rattle.csp_log.specs.declared.who.Who.{Who};
 ghost use Rattle.csp_scene.specs.Scene.{PlainScene};
 ghost use Rattle.csp_standing.specs.Shown.{AreLoggedBy, AreOfScene, AreReached};
 ghost use Rattle.csp_topology.specs.Parties.{parties_of};

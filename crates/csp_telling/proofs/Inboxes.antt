@@ -22,8 +22,8 @@ use Rattle.csp_party.specs.Any.{present_step}
 use Rattle.csp_posts.specs.Balance.{times_kept, times_taken_out}
 use Rattle.csp_posts.specs.Posts.{PlainPost}
 use Rattle.csp_record.specs.Record.{PlainPartyLog}
-use Rattle.csp_record.specs.declared.who.Who.{Who}
-use Rattle.csp_record.specs.declared.who.Who.TheVariants as who
+use Rattle.csp_log.specs.declared.who.Who.{Who}
+use Rattle.csp_log.specs.declared.who.Who.TheVariants as who
 use Rattle.csp_scene.specs.Scene.{PlainScene}
 use Rattle.csp_standing.proofs.Places.{all_at}
 use Rattle.csp_standing.specs.Network.{ArePostsOf, IsNetworkOf, PlainNetwork, leads}

@@ -6,7 +6,7 @@ use Rattle.csp_log.specs.Remains.{PlainHeld}
 use Rattle.csp_party.specs.Any.{PlainParty, holds}
 use Rattle.csp_posts.specs.Posts.{PlainPost}
 use Rattle.csp_record.specs.Record.{PlainPartyLog, PlainRecord}
-use Rattle.csp_record.specs.Who.{home_of}
+use Rattle.csp_log.specs.Who.{home_of}
 use Rattle.csp_scene.specs.Scene.{PlainScene}
 use Rattle.csp_standing.specs.Network.{ArePostsOf, PlainNetwork}
 use Rattle.csp_telling.proofs.Nodes.{IsEnded, IsKnown}

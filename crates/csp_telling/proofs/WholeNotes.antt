@@ -20,7 +20,7 @@ use Rattle.csp_party.specs.Any.{holds}
 use Rattle.csp_posts.specs.Between.{is_home}
 use Rattle.csp_posts.specs.Posts.{PlainPost}
 use Rattle.csp_record.specs.Record.{PlainRecord}
-use Rattle.csp_record.specs.Who.{home_of, node_of}
+use Rattle.csp_log.specs.Who.{home_of, node_of}
 use Rattle.csp_record.specs.Whole.{IsWhole, weight_at}
 use Rattle.csp_scene.specs.Scene.{PlainNode, PlainScene}
 use Rattle.csp_standing.proofs.ListPlaces.{mapped_at}

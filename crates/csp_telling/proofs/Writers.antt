@@ -24,9 +24,9 @@ use Rattle.csp_log.specs.declared.shown.ItemShown.{ItemShown}
 use Rattle.csp_party.specs.Any.{PlainParty}
 use Rattle.csp_posts.specs.Between.{is_home}
 use Rattle.csp_posts.specs.Posts.{PlainPost}
-use Rattle.csp_record.specs.Who.{node_of, is_who}
-use Rattle.csp_record.specs.declared.who.Who.TheVariants as who
-use Rattle.csp_record.specs.declared.who.Who.{Who}
+use Rattle.csp_log.specs.Who.{node_of, is_who}
+use Rattle.csp_log.specs.declared.who.Who.TheVariants as who
+use Rattle.csp_log.specs.declared.who.Who.{Who}
 use Rattle.csp_scene.specs.Links.{links_at, touches}
 use Rattle.csp_scene.specs.Scene.{PlainLink, PlainNode, PlainScene}
 use Rattle.csp_scene.specs.declared.limits.TheConstants.{MAX_LINKS}

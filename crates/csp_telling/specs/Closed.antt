@@ -13,7 +13,7 @@ use Rattle.csp_log.specs.declared.shown.ItemShown.{ItemShown}
 use Rattle.csp_party.specs.Any.{holds, present_step}
 use Rattle.csp_posts.specs.Posts.{PlainPost}
 use Rattle.csp_record.specs.Record.{PlainPartyLog, PlainRecord}
-use Rattle.csp_record.specs.Who.{home_of}
+use Rattle.csp_log.specs.Who.{home_of}
 use Rattle.csp_scene.specs.Scene.{PlainScene}
 use Rattle.csp_standing.specs.Played.{are_done}
 use Rattle.csp_telling.specs.Remains.{AreRemains, PlainRemains}

@@ -8,8 +8,8 @@ use Rattle.csp_log.specs.declared.event.Event.{Event}
 use Rattle.csp_log.specs.declared.event.Event.TheVariants as event
 use Rattle.csp_log.specs.declared.note.Why.{Why}
 use Rattle.csp_record.specs.Record.{PlainPartyLog, PlainRecord}
-use Rattle.csp_record.specs.Who.{is_who}
-use Rattle.csp_record.specs.declared.who.Who.{Who}
+use Rattle.csp_log.specs.Who.{is_who}
+use Rattle.csp_log.specs.declared.who.Who.{Who}
 use Rattle.csp_sfp.specs.declared.errors.SfpError.{SfpError}
 use Rattle.csp_scene.specs.Scene.{PlainScene}
 use Rattle.csp_topology.specs.Parties.{PlainOpening, parties_of}

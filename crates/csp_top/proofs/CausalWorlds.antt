@@ -22,9 +22,9 @@ use Rattle.csp_log.specs.declared.shown.ItemShown.{ItemShown}
 use Rattle.csp_party.specs.Any.{asked, asks, events, has_ended}
 use Rattle.csp_prefix.proofs.NodeLanes.{app_lanes_there, owner_of}
 use Rattle.csp_record.specs.Record.{PlainRecord}
-use Rattle.csp_record.specs.Who.{is_who}
-use Rattle.csp_record.specs.declared.who.Who.{Who}
-use Rattle.csp_record.specs.declared.who.Who.TheVariants as who
+use Rattle.csp_log.specs.Who.{is_who}
+use Rattle.csp_log.specs.declared.who.Who.{Who}
+use Rattle.csp_log.specs.declared.who.Who.TheVariants as who
 use Rattle.csp_scene.specs.Scene.{PlainNode, PlainScene}
 use Rattle.csp_topology.specs.Lanes.{app_lanes, hub_of}
 use Rattle.csp_topology.specs.Parties.{parties_of}

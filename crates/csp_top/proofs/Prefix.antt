@@ -10,10 +10,10 @@ use Rattle.csp_log.specs.declared.entry.Entry.{Entry}
 use Rattle.csp_record.specs.Connections.{openings}
 use Rattle.csp_record.specs.Payloads.{sent, took}
 use Rattle.csp_record.specs.Record.{PlainPartyLog, PlainRecord}
-use Rattle.csp_record.specs.Who.{is_who}
+use Rattle.csp_log.specs.Who.{is_who}
 use Rattle.csp_record.specs.declared.connections.Opening.{Opening}
-use Rattle.csp_record.specs.declared.who.Who.{Who}
-use Rattle.csp_record.specs.declared.who.Who.TheVariants as who
+use Rattle.csp_log.specs.declared.who.Who.{Who}
+use Rattle.csp_log.specs.declared.who.Who.TheVariants as who
 use Rattle.csp_report.specs.Parties.{party_at}
 use Rattle.csp_report.specs.Parties as shown
 use Rattle.csp_report.specs.Shown.{AreNumbered, IsShown, IsShownOf, AreFirstOf, sent_there, took_there, HasPeersFirst, HavePeersFirst}

@@ -6,7 +6,7 @@ use Rattle.std.proofs.lemmas.Simd.{map-map}
 use Rattle.std.proofs.lemmas.List.FromFn.{map-range_with_len_more}
 use Rattle.csp_log.specs.Kinds.{carried_on}
 use Rattle.csp_log.specs.declared.places.End.{End}
-use Rattle.csp_record.specs.declared.who.Who.{Who}
+use Rattle.csp_log.specs.declared.who.Who.{Who}
 use Rattle.csp_scene.specs.Ranges.{IsLink, IsNode}
 use Rattle.csp_scene.specs.Scene.{PlainLink, PlainNode}
 use Rattle.csp_topology.proofs.Joints.{TouchOf, at_none, at_one, split_at, touch_of}

@@ -10,7 +10,7 @@ use Rattle.csp_log.specs.declared.places.LinkKind.TheVariants as link
 use Rattle.csp_log.specs.declared.places.TheConstants.{IFACES}
 use Rattle.csp_party.specs.Any.{region_of}
 use Rattle.csp_party.specs.declared.any.AnyParty.{AnyParty}
-use Rattle.csp_record.specs.declared.who.Who.TheVariants as who
+use Rattle.csp_log.specs.declared.who.Who.TheVariants as who
 use Rattle.csp_scene.specs.Scene.{PlainLink}
 use Rattle.csp_scene.specs.declared.limits.TheConstants.{DEFAULT_MTU}
 use Rattle.csp_stack.specs.Config.{IsConfig}

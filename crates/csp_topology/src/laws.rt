@@ -9,7 +9,7 @@ ghost use Rattle.csp_log.specs.declared.places.QueueId.{QueueId};
 ghost use Rattle.csp_log.specs.declared.places.QueueId.TheVariants as queue;
 ghost use Rattle.csp_log.specs.declared.places.Rule.{Rule};
 ghost use Rattle.csp_party.specs.Any.{uses};
-ghost use Rattle.csp_record.specs.Who.{node_of};
+ghost use Rattle.csp_log.specs.Who.{node_of};
 ghost use Rattle.csp_scene.specs.Kept.{AreLinksAfter};
 ghost use Rattle.csp_scene.specs.Links.{links_at};
 ghost use Rattle.csp_scene.specs.Ranges.{IsScene};

@@ -4,7 +4,7 @@ ghost use Rattle.std.specs.Prelude.{◌≡◌, ◌+◌, ◌<◌, ◌≤◌, ◌^
 ghost use Rattle.csp_app.specs.PlainApp.{opening};
 ghost use Rattle.csp_app.specs.Room.{IsStep};
 ghost use Rattle.csp_party.specs.Any.{plain};
-ghost use Rattle.csp_record.specs.Who.{node_of};
+ghost use Rattle.csp_log.specs.Who.{node_of};
 ghost use Rattle.csp_topology.specs.Opening.{CanOpen, IsOfRegion, opening_of};
 ghost use Rattle.csp_topology.specs.Parties.{iface_opening};
 

@@ -23,7 +23,7 @@ use Rattle.csp_log.specs.declared.places.LinkKind.TheVariants as link
 use Rattle.csp_ordinary.specs.Words.{FetchesWords, HasWords, all_fetched}
 use Rattle.csp_record.specs.Record.{PlainPartyLog, PlainRecord}
 use Rattle.csp_record.specs.Transmissions.{fetched, iface_entries}
-use Rattle.csp_record.specs.Who.{is_iface}
+use Rattle.csp_log.specs.Who.{is_iface}
 use Rattle.csp_reread.specs.Reread.{HasWord, ReadsAs, begun_by, covers, read_of, sent_by, sent_in}
 use Rattle.csp_scene.specs.Links.{links_at}
 use Rattle.csp_scene.specs.Naming.{is_link_called}

@@ -16,9 +16,9 @@ use Rattle.csp_nodes.specs.Emptied.{PlainEmptied, IsComplete, with_gathered}
 use Rattle.csp_nodes.specs.Gathering.{all_left, queues_held, pools_held}
 use Rattle.csp_party.specs.Any.{PlainParty, holds, plain, is_done}
 use Rattle.csp_record.specs.Record.{PlainPartyLog, PlainRecord}
-use Rattle.csp_record.specs.Who.{node_of}
-use Rattle.csp_record.specs.declared.who.Who.{Who}
-use Rattle.csp_record.specs.declared.who.Who.TheVariants as who
+use Rattle.csp_log.specs.Who.{node_of}
+use Rattle.csp_log.specs.declared.who.Who.{Who}
+use Rattle.csp_log.specs.declared.who.Who.TheVariants as who
 use Rattle.csp_world.specs.Holders.{holds_at, IsConserved}
 use Rattle.csp_world.specs.Inside.{world_of, IsCalled, IsFit, AllFit}
 use Rattle.csp_world.specs.Record.{member_held, member_log, record_of}

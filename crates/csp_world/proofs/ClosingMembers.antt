@@ -10,7 +10,7 @@ use Rattle.csp_arena.specs.Cells.{RegionName}
 use Rattle.csp_log.specs.declared.places.Place.{Place}
 use Rattle.csp_nodes.specs.Emptied.{EmptiedAt, PlainEmptied, emptied_in, with_gathered}
 use Rattle.csp_party.specs.Any.{holds}
-use Rattle.csp_record.specs.Who.{home_of, node_of}
+use Rattle.csp_log.specs.Who.{home_of, node_of}
 use Rattle.csp_world.specs.Holders.{is_at, is_home, holds_at}
 use Rattle.csp_consistent.specs.Pools.{held_by}
 use Rattle.csp_world.specs.Record.{member_held}

@@ -15,7 +15,7 @@ use Rattle.csp_log.specs.declared.places.Place.{Place}
 use Rattle.csp_log.specs.declared.places.Place.TheVariants as place
 use Rattle.csp_log.specs.Remains.{PlainHeld}
 use Rattle.csp_party.specs.Any.{holds}
-use Rattle.csp_record.specs.Who.{home_of}
+use Rattle.csp_log.specs.Who.{home_of}
 use Rattle.csp_record.specs.Whole.{weight_at, IsWhole}
 use Rattle.csp_nodes.specs.Gathering.{queues_held, pools_held}
 use Rattle.csp_world.specs.Holders.{is_home, holds_at, counts, IsConserved}

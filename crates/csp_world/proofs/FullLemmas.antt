@@ -13,7 +13,7 @@ use Rattle.csp_lists.specs.PlainDeck.{PlainDeck, numbers_in, buffer_numbers}
 use Rattle.csp_deck.specs.Step.{times}
 use Rattle.csp_log.specs.declared.shown.AnswerShown.TheVariants as answer
 use Rattle.csp_party.specs.Any.{holds, has_ended}
-use Rattle.csp_record.specs.Who.{node_of}
+use Rattle.csp_log.specs.Who.{node_of}
 use Rattle.csp_world.specs.Grown.{IsFullFor}
 use Rattle.csp_world.specs.Holders.{is_at, is_home, holds_at, numbers_at, IsConserved}
 use Rattle.csp_world.specs.Seen.{answer_at_place}

@@ -10,7 +10,7 @@ use Rattle.std.proofs.lemmas.Bool.Decides.{nat_tests}
 use Rattle.csp_lists.specs.PlainDeck.{PlainDeck, holders_of, numbers_in}
 use Rattle.csp_deck.specs.Step.{times}
 use Rattle.csp_log.specs.declared.places.Place.{Place}
-use Rattle.csp_record.specs.Who.{home_of}
+use Rattle.csp_log.specs.Who.{home_of}
 use Rattle.csp_world.specs.Inside.{rooms}
 use Rattle.csp_world.specs.Holders.{is_at, is_home, holds_at, holder_at, places_held, deck_holders, holders, counts, HasOneHolder, numbers_at, IsConserved}
 use Rattle.csp_world.specs.World.{PlainMember, PlainWorld}

@@ -25,9 +25,9 @@ use Rattle.csp_log.specs.declared.shown.ItemShown.TheVariants as item
 use Rattle.csp_log.specs.declared.shown.OpShown.{OpShown}
 use Rattle.csp_log.specs.declared.shown.OpShown.TheVariants as op
 use Rattle.csp_nodes.specs.Serving.{served}
-use Rattle.csp_record.specs.Who.{node_of, is_who}
-use Rattle.csp_record.specs.declared.who.Who.{Who}
-use Rattle.csp_record.specs.declared.who.Who.TheVariants as who
+use Rattle.csp_log.specs.Who.{node_of, is_who}
+use Rattle.csp_log.specs.declared.who.Who.{Who}
+use Rattle.csp_log.specs.declared.who.Who.TheVariants as who
 use Rattle.csp_scene.specs.Scene.{PlainLink, PlainNode}
 use Rattle.csp_world.proofs.ContentLemmas.{if_named, popped_out, pushed_in}
 use Rattle.csp_world.proofs.InboxNames.{IsParty, home_is, hub_bridge, hub_router, if_none, iface_few, lane_put, no_got, no_got_lane, no_put, no_put_lane, none_if, prio_is, sides, writer_iface, writer_router}

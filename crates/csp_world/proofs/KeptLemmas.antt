@@ -13,7 +13,7 @@ use Rattle.csp_lists.specs.PlainDeck.{PlainDeck, buffer_numbers}
 use Rattle.csp_log.specs.declared.entry.Entry.{Entry}
 use Rattle.csp_log.specs.declared.shown.AnswerShown.{AnswerShown}
 use Rattle.csp_party.specs.Any.{asked, asks, events, has_ended}
-use Rattle.csp_record.specs.Who.{node_of}
+use Rattle.csp_log.specs.Who.{node_of}
 use Rattle.csp_nodes.proofs.CountLaws.{times_joined}
 use Rattle.csp_world.proofs.LocalLemmas.{local}
 use Rattle.csp_world.proofs.PoolLemmas.{at_home, pooled}

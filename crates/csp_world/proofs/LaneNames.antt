@@ -21,9 +21,9 @@ use Rattle.csp_log.specs.declared.shown.ItemShown.TheVariants as item
 use Rattle.csp_log.specs.declared.shown.OpShown.{OpShown}
 use Rattle.csp_log.specs.declared.shown.OpShown.TheVariants as op
 use Rattle.csp_nodes.specs.Serving.{at_end, at_queue, goes, served}
-use Rattle.csp_record.specs.Who.{node_of, is_who}
-use Rattle.csp_record.specs.declared.who.Who.{Who}
-use Rattle.csp_record.specs.declared.who.Who.TheVariants as who
+use Rattle.csp_log.specs.Who.{node_of, is_who}
+use Rattle.csp_log.specs.declared.who.Who.{Who}
+use Rattle.csp_log.specs.declared.who.Who.TheVariants as who
 use Rattle.csp_world.proofs.ContentLemmas.{if_named, is_named, popped_out, pushed_in}
 use Rattle.csp_world.proofs.InboxNames.{home_is, if_none, pop_is, push_is}
 use Rattle.csp_world.proofs.MovedLemmas.{got_at, got_there, put_at, put_there}

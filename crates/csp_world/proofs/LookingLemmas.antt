@@ -24,7 +24,7 @@ use Rattle.csp_deck.specs.Step.{entry_of}
 use Rattle.csp_nodes.specs.Serving.{answer_at, answer_in, answer_there, at_queue, goes}
 use Rattle.csp_party.specs.Any.{PlainParty, plain, with_plain, has_ended, asks, asked, tells, events, count, needs}
 use Rattle.csp_party.specs.declared.any.AnyParty.{AnyParty}
-use Rattle.csp_record.specs.declared.who.Who.{Who}
+use Rattle.csp_log.specs.declared.who.Who.{Who}
 use Rattle.csp_nodes.specs.DecksAt.{Answers, DecksAt}
 use Rattle.csp_world.specs.Inside.{IsFit}
 use Rattle.csp_world.specs.Looking.{AreEmpty, look_entry, look_entries, MakesOf}

@@ -6,7 +6,7 @@ use Rattle.csp_deck.specs.Step.{times}
 use Rattle.csp_lists.specs.PlainDeck.{PlainDeck, numbers_in}
 use Rattle.csp_nodes.specs.DecksAt.{DecksAt}
 use Rattle.csp_party.specs.Any.{holds, plain, region_of}
-use Rattle.csp_record.specs.Who.{node_of}
+use Rattle.csp_log.specs.Who.{node_of}
 use Rattle.csp_topology.specs.Parties.{opens}
 use Rattle.csp_topology.specs.declared.topology.TheConstants.{MAX_PARTIES}
 use Rattle.csp_world.proofs.OpeningLists.{each-push, flat_map-push_none}

@@ -16,7 +16,7 @@ use Rattle.csp_nodes.specs.DecksAt.{DecksAt}
 use Rattle.csp_nodes.specs.Fresh.{fresh_buffers}
 use Rattle.csp_nodes.specs.Gathering.{queue_count}
 use Rattle.csp_party.specs.Any.{holds, plain}
-use Rattle.csp_record.specs.Who.{node_of}
+use Rattle.csp_log.specs.Who.{node_of}
 use Rattle.csp_world.proofs.OpeningLists.{each-push, some-within}
 use Rattle.csp_world.proofs.OpeningRules.{link_grown}
 use Rattle.csp_world.specs.Grown.{IsGrown}

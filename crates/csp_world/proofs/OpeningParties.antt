@@ -23,8 +23,8 @@ use Rattle.csp_log.specs.declared.places.Rule.TheVariants as rule
 use Rattle.csp_nodes.specs.Fresh.{fresh_buffers}
 use Rattle.csp_nodes.specs.Serving.{at_end, of_frames, rule_there}
 use Rattle.csp_party.specs.Any.{uses, PlainParty, a_bridge, a_hub, a_link, an_iface, an_app}
-use Rattle.csp_record.specs.declared.who.Who.{Who}
-use Rattle.csp_record.specs.declared.who.Who.TheVariants as who
+use Rattle.csp_log.specs.declared.who.Who.{Who}
+use Rattle.csp_log.specs.declared.who.Who.TheVariants as who
 use Rattle.csp_scene.proofs.Lists.{AllByRecursion-append}
 use Rattle.csp_scene.specs.Links.{links_at}
 use Rattle.csp_scene.specs.Ranges.{IsScene}

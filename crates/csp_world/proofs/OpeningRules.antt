@@ -20,8 +20,8 @@ use Rattle.csp_log.specs.declared.places.Rule.TheVariants as rule
 use Rattle.csp_nodes.specs.DecksAt.{DecksAt}
 use Rattle.csp_nodes.specs.Fresh.{fresh_buffers}
 use Rattle.csp_nodes.specs.Serving.{at_end, goes, of_frames, seen_by, rule_there, rule_in}
-use Rattle.csp_record.specs.declared.who.Who.{Who}
-use Rattle.csp_record.specs.declared.who.Who.TheVariants as who
+use Rattle.csp_log.specs.declared.who.Who.{Who}
+use Rattle.csp_log.specs.declared.who.Who.TheVariants as who
 use Rattle.csp_scene.specs.Scene.{PlainNode, PlainLink}
 use Rattle.csp_world.proofs.OpeningLists.{get-longer}
 use Rattle.csp_world.specs.Grown.{IsGrown}

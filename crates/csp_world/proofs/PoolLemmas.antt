@@ -20,8 +20,8 @@ use Rattle.csp_log.specs.declared.shown.ItemShown.{ItemShown}
 use Rattle.csp_log.specs.declared.shown.OpShown.{OpShown}
 use Rattle.csp_log.specs.declared.shown.OpShown.TheVariants as op
 use Rattle.csp_nodes.specs.Serving.{answer_in, at_queue, goes}
-use Rattle.csp_record.specs.Who.{node_of}
-use Rattle.csp_record.specs.declared.who.Who.{Who}
+use Rattle.csp_log.specs.Who.{node_of}
+use Rattle.csp_log.specs.declared.who.Who.{Who}
 use Rattle.csp_world.proofs.AnsweredLemmas.{fits_answer}
 use Rattle.csp_nodes.proofs.CountLaws.{times_joined}
 use Rattle.csp_world.proofs.LocalLemmas.{IsLocal, local}

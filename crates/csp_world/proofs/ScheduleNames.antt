@@ -6,7 +6,7 @@ use Rattle.std.proofs.lemmas.Bool.{false≢true, eqb-false}
 use Rattle.std.proofs.lemmas.List.Elements.{All-nil, All-cons}
 use Rattle.std.proofs.lemmas.List.Folds.{list_any-append}
 use Rattle.std.proofs.lemmas.Option.{slice_get-get_or}
-use Rattle.csp_record.specs.declared.who.Who.{Who}
+use Rattle.csp_log.specs.declared.who.Who.{Who}
 use Rattle.csp_scene.specs.Links.{links_at, node_at, no_node}
 use Rattle.csp_scene.specs.Ranges.{IsMove, IsSchedule, IsScene}
 use Rattle.csp_scene.specs.Scene.{PlainApp, PlainLink, PlainNode, PlainSchedule, PlainScene, in_rounds, shuffled, stepwise, moves_in}

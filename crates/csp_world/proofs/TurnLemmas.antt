@@ -20,9 +20,9 @@ use Rattle.csp_nodes.specs.Serving.{IsThere, is_served_at, or_none, place_in}
 use Rattle.csp_party.specs.Any.{PlainParty, a_router, a_bridge, an_iface, an_app, a_link, a_hub, plain, with_plain, asked, tells, events, holds}
 use Rattle.csp_party.specs.declared.any.AnyParty.{AnyParty}
 use Rattle.csp_party.specs.declared.any.AnyParty.TheVariants as party
-use Rattle.csp_record.specs.Who.{node_of}
-use Rattle.csp_record.specs.declared.who.Who.{Who}
-use Rattle.csp_record.specs.declared.who.Who.TheVariants as who
+use Rattle.csp_log.specs.Who.{node_of}
+use Rattle.csp_log.specs.declared.who.Who.{Who}
+use Rattle.csp_log.specs.declared.who.Who.TheVariants as who
 use Rattle.csp_world.specs.Grown.{IsFullFor}
 use Rattle.csp_world.specs.Holders.{is_at}
 use Rattle.csp_world.specs.Inside.{IsCalled, IsLink, rooms}

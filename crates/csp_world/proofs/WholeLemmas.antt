@@ -25,8 +25,8 @@ use Rattle.csp_nodes.specs.Gathering as nodes
 use Rattle.csp_nodes.specs.Gathering.{all_left, queues_held}
 use Rattle.csp_nodes.specs.Serving.{answer_at, answer_in, answer_there, served}
 use Rattle.csp_party.specs.Any.{PlainParty, asks, has_ended, holds}
-use Rattle.csp_record.specs.Who.{home_of}
-use Rattle.csp_record.specs.declared.who.Who.{Who}
+use Rattle.csp_log.specs.Who.{home_of}
+use Rattle.csp_log.specs.declared.who.Who.{Who}
 use Rattle.csp_scene.specs.Links.{links_at}
 use Rattle.csp_scene.specs.Scene.{PlainLink, PlainNode, PlainScene}
 use Rattle.csp_world.proofs.LoggedLemmas.{AreLogged}

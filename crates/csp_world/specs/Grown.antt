@@ -8,8 +8,8 @@ use Rattle.csp_nodes.specs.DecksAt.{DecksAt}
 use Rattle.csp_nodes.specs.Serving.{rule_in}
 use Rattle.csp_arena.specs.Cells.{RegionName}
 use Rattle.csp_party.specs.Any.{holds}
-use Rattle.csp_record.specs.Who.{node_of}
-use Rattle.csp_record.specs.declared.who.Who.{Who}
+use Rattle.csp_log.specs.Who.{node_of}
+use Rattle.csp_log.specs.declared.who.Who.{Who}
 use Rattle.csp_world.specs.Inside.{rooms}
 use Rattle.csp_world.specs.World.{PlainMember}
 

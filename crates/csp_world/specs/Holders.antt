@@ -5,8 +5,8 @@ use Rattle.csp_lists.specs.PlainDeck.{PlainDeck, holders_of, numbers_in}
 use Rattle.csp_deck.specs.Step.{times}
 use Rattle.csp_log.specs.declared.places.Place.{Place}
 use Rattle.csp_party.specs.Any.{holds}
-use Rattle.csp_record.specs.Who.{home_of, node_of}
-use Rattle.csp_record.specs.declared.who.Who.{Who}
+use Rattle.csp_log.specs.Who.{home_of, node_of}
+use Rattle.csp_log.specs.declared.who.Who.{Who}
 use Rattle.csp_world.specs.World.{PlainMember, PlainWorld}
 
 -- whether a party is one of this node: a link is of none

@@ -8,9 +8,9 @@ use Rattle.csp_nodes.specs.DecksAt.{DecksAt}
 use Rattle.csp_nodes.specs.Gathering.{queue_count}
 use Rattle.csp_nodes.specs.Serving.{rule_in}
 use Rattle.csp_party.specs.Any.{PlainParty, a_router, a_bridge, an_iface, an_app, a_link, a_hub, plain, region_of, is_ready, count, needs, uses, has_ended, holds}
-use Rattle.csp_record.specs.Who.{node_of}
-use Rattle.csp_record.specs.declared.who.Who.{Who}
-use Rattle.csp_record.specs.declared.who.Who.TheVariants as who
+use Rattle.csp_log.specs.Who.{node_of}
+use Rattle.csp_log.specs.declared.who.Who.{Who}
+use Rattle.csp_log.specs.declared.who.Who.TheVariants as who
 use Rattle.csp_topology.specs.Parties.{PlainOpening}
 use Rattle.csp_topology.specs.declared.topology.TheConstants.{MAX_PARTIES}
 use Rattle.csp_world.specs.Holders.{IsConserved}

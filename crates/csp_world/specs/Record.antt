@@ -8,7 +8,7 @@ use Rattle.csp_log.specs.Remains.{PlainHeld}
 use Rattle.csp_nodes.specs.Gathering.{all_left, queues_held, pools_held}
 use Rattle.csp_party.specs.Any.{holds, present_step}
 use Rattle.csp_record.specs.Record.{PlainPartyLog, PlainRecord}
-use Rattle.csp_record.specs.Who.{home_of}
+use Rattle.csp_log.specs.Who.{home_of}
 use Rattle.csp_scene.specs.Kept.{AreLinksAfter}
 use Rattle.csp_scene.specs.Ranges.{IsScene}
 use Rattle.csp_scene.specs.Scene.{PlainScene}

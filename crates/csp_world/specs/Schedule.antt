@@ -2,8 +2,8 @@
 use Rattle.std.specs.Prelude.{ℕ, zero, suc, ◌*◌, ◌==◌, ◌&&◌, ◌<◌, ⊤, Bool, false, Option, None, Some, List, [], ◌∷◌, length, map, replicate, nat_le, if◌then◌else◌}
 use Rattle.std.specs.List.{range_with_len, flat_map, position_or_len}
 use Rattle.csp_draw.specs.Draws.{next_draw, drawn}
-use Rattle.csp_record.specs.declared.who.Who.TheVariants as who
-use Rattle.csp_record.specs.declared.who.Who.{Who}
+use Rattle.csp_log.specs.declared.who.Who.TheVariants as who
+use Rattle.csp_log.specs.declared.who.Who.{Who}
 use Rattle.csp_scene.specs.Scene.{PlainScene, PlainSchedule, in_rounds, shuffled, stepwise}
 use Rattle.csp_scene.specs.declared.scenario.Move.{Move}
 use Rattle.csp_scene.specs.declared.scenario.Move.TheVariants as move

@@ -2,7 +2,7 @@
 use Rattle.std.specs.Prelude.{ℕ, ◌≡◌, ◌≤◌, None, Some, List, [], length, slice_get, vec_capacity}
 use Rattle.csp_arena.specs.Cells.{RegionName}
 use Rattle.csp_party.specs.Any.{plain, region_of, holds}
-use Rattle.csp_record.specs.Who.{node_of}
+use Rattle.csp_log.specs.Who.{node_of}
 use Rattle.csp_world.specs.declared.member.Member.{Member}
 
 -- its buffers are of the region of its node, a party of no node has none, and there is room to note their numbers

@@ -10,7 +10,7 @@ use Rattle.csp_log.specs.declared.shown.OpShown.{OpShown}
 use Rattle.csp_log.specs.Weights.{weight_of_all}
 use Rattle.csp_nodes.specs.Serving.{answer_in}
 use Rattle.csp_party.specs.Any.{PlainParty, asks, asked, tells, events, has_ended, is_done}
-use Rattle.csp_record.specs.declared.who.Who.{Who}
+use Rattle.csp_log.specs.declared.who.Who.{Who}
 
 -- a party of a world: which it is, its state, and its turns so far, the oldest first
 pub record PlainMember : Type 0 where

@@ -7,7 +7,7 @@ ghost use Rattle.csp_buffer.specs.Content.{Content};
 ghost use Rattle.csp_log.specs.Weights.{weight_of_all};
 ghost use Rattle.csp_log.specs.declared.shown.AnswerShown.TheVariants as answer;
 ghost use Rattle.csp_party.specs.Any.{plain, is_done};
-ghost use Rattle.csp_record.specs.Who.{home_of, node_of};
+ghost use Rattle.csp_log.specs.Who.{home_of, node_of};
 ghost use Rattle.csp_scene.specs.Scene.{PlainScene};
 ghost use Rattle.csp_world.specs.Holders.{holders, deck_holders, counts, HasOneHolder};
 ghost use Rattle.csp_world.specs.Reached.{IsReached};

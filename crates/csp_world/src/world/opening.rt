@@ -3,7 +3,7 @@
 ghost use Rattle.std.specs.Prelude.{◌≡◌, ◌+◌, ◌<◌, ◌≤◌, ◌^◌, ◌++◌, ◌∷◌, ℕ, [], Some, length, map, max, slice_get, vec_len, vec_capacity, OnOk, IfOk, IsSomeAnd};
 ghost use Rattle.std.specs.List.{AllByRecursion};
 ghost use Rattle.csp_party.specs.Any.{plain, region_of};
-ghost use Rattle.csp_record.specs.Who.{node_of};
+ghost use Rattle.csp_log.specs.Who.{node_of};
 ghost use Rattle.csp_scene.specs.Ranges.{IsScene};
 ghost use Rattle.csp_topology.specs.Opening.{CanOpen, opening_of};
 ghost use Rattle.csp_topology.specs.Plan.{IsPlan};

@@ -4,7 +4,7 @@ use Rattle.csp_closing.proofs.Parting.{node_some, party_there, pile_there, piles
 use Rattle.csp_closing.specs.Retired.{rest_of}
 use Rattle.csp_closing.specs.Stores.{back_at, pile_of}
 use Rattle.csp_party.specs.Any.{holds, plain}
-use Rattle.csp_record.specs.Who.{node_of}
+use Rattle.csp_log.specs.Who.{node_of}
 use Rattle.csp_closing.proofs.parties.end_party.Goals as goal
 
 pub returns-in-Some-clause-stores : goal.returns-in-Some-clause-stores

@@ -4,7 +4,7 @@ use Rattle.std.specs.String.{string_bytes}
 use Rattle.csp_report.specs.Lines.{text_of}
 use Rattle.csp_report.specs.Parties.{party_at, entries_at}
 use Rattle.csp_report.specs.Report.{app_lines, node_app_lines}
-use Rattle.csp_record.specs.declared.who.Who.TheVariants as who
+use Rattle.csp_log.specs.declared.who.Who.TheVariants as who
 use Rattle.csp_report.proofs.apps.push_app_list.Given as goal
 
 -- the text so far, then the lines that are still to come, are those of all these applications

@@ -5,7 +5,7 @@ use Rattle.csp_scene.specs.Scene.{PlainLink}
 use Rattle.csp_report.specs.Lines.{Line, ended_line}
 use Rattle.csp_report.specs.Parties.{entries_at}
 use Rattle.csp_report.specs.Ifaces.{iface_line}
-use Rattle.csp_record.specs.declared.who.Who.TheVariants as who
+use Rattle.csp_log.specs.declared.who.Who.TheVariants as who
 use Rattle.csp_report.proofs.IfaceLines.{touching, passing}
 use Rattle.csp_report.proofs.ifaces.push_node_ifaces.Goals as goal
 use Rattle.csp_report.proofs.ifaces.push_node_ifaces.Goals.{then-touches+in_ok-push_iface, else-touches}

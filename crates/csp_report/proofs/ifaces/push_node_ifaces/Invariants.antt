@@ -6,7 +6,7 @@ use Rattle.csp_report.specs.Lines.{text_of}
 use Rattle.csp_report.specs.Parties.{entries_at}
 use Rattle.csp_report.specs.Ifaces.{iface_line}
 use Rattle.csp_report.specs.Report.{node_iface_lines}
-use Rattle.csp_record.specs.declared.who.Who.TheVariants as who
+use Rattle.csp_log.specs.declared.who.Who.TheVariants as who
 use Rattle.csp_report.proofs.ifaces.push_node_ifaces.Given as goal
 
 -- the text so far, then the lines of the links that are still to come, are those of all links; there are at most as many interfaces as links

@@ -2,7 +2,7 @@ use Rattle.std.proofs.Common.{rules, tests}
 use Rattle.std.proofs.lemmas.Iterator.{YieldsList-from_slice}
 use Rattle.std.proofs.lemmas.Iterator.Search.{find_from_yields_List}
 use Rattle.csp_record.specs.Record.{PlainPartyLog}
-use Rattle.csp_record.specs.Who.{is_who}
+use Rattle.csp_log.specs.Who.{is_who}
 use Rattle.csp_report.proofs.parties.party_at.Goals as goal
 
 pub returns : goal.returns

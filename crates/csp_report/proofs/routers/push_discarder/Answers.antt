@@ -6,7 +6,7 @@ use Rattle.csp_report.specs.Lines.{ended_line}
 use Rattle.csp_report.specs.Parties.{events_at}
 use Rattle.csp_report.specs.Events.{all_discards, discard_words}
 use Rattle.csp_report.specs.Report.{router_words}
-use Rattle.csp_record.specs.declared.who.Who.TheVariants as who
+use Rattle.csp_log.specs.declared.who.Who.TheVariants as who
 use Rattle.csp_report.proofs.Joining.{said_otherwise}
 use Rattle.csp_report.proofs.routers.push_discarder.Goals as goal
 

@@ -1,5 +1,5 @@
 use Rattle.std.proofs.Common.{◌≡◌, ℕ, length, map, ap, ◌∙◌, arith}
-use Rattle.csp_record.specs.declared.who.Who.{Who}
+use Rattle.csp_log.specs.declared.who.Who.{Who}
 use Rattle.csp_scene.specs.Scene.{PlainNode}
 use Rattle.csp_topology.proofs.WireSteps.{listed}
 use Rattle.csp_topology.proofs.wiring.wires_at.Goals as goal

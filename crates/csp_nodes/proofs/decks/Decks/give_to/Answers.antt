@@ -6,7 +6,7 @@ use Rattle.csp_nodes.proofs.DecksLaws.{seen, gives, home_found, no_pool, nobody}
 use Rattle.csp_nodes.specs.DecksAt.{DecksAt, GivesSo, home_among}
 use Rattle.csp_nodes.specs.Returned.{shown_give}
 use Rattle.csp_nodes.specs.Seeing.{decks_of}
-use Rattle.csp_record.specs.Who.{node_of}
+use Rattle.csp_log.specs.Who.{node_of}
 use Rattle.csp_nodes.proofs.Ends.{links_of}
 use Rattle.csp_nodes.proofs.decks.Decks.give_to.Goals as goal
 

@@ -9,7 +9,7 @@ use Rattle.csp_log.specs.declared.shown.OpShown.TheVariants as op
 use Rattle.csp_nodes.proofs.DecksLaws.{seen, home_found, home_region, no_pool, nobody, takes}
 use Rattle.csp_nodes.specs.DecksAt.{DecksAt, TakesSo, home_among, region_at}
 use Rattle.csp_nodes.specs.Seeing.{decks_of}
-use Rattle.csp_record.specs.Who.{node_of}
+use Rattle.csp_log.specs.Who.{node_of}
 use Rattle.csp_nodes.proofs.Ends.{links_of}
 use Rattle.csp_nodes.proofs.decks.Decks.take_from.Goals as goal
 

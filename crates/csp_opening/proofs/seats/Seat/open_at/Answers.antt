@@ -4,7 +4,7 @@ use Rattle.std.proofs.lemmas.Option.{slice_get_read}
 use Rattle.csp_opening.proofs.Given.{seated_apart, seated_if}
 use Rattle.csp_opening.specs.Opened.{region_in}
 use Rattle.csp_opening.specs.declared.nodes.Node.{Node}
-use Rattle.csp_record.specs.Who.{node_of}
+use Rattle.csp_log.specs.Who.{node_of}
 use Rattle.csp_topology.specs.Opening.{opening_of}
 use Rattle.csp_opening.proofs.seats.Seat.open_at.Goals as goal
 

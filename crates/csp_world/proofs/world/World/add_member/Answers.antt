@@ -1,7 +1,7 @@
 use Rattle.std.proofs.Common.{ℕ, ◌≡◌, ◌≤◌, ◌+◌, Some, length, vec_capacity, arith, refl, subst, sym, slice_get}
 use Rattle.std.proofs.lemmas.List.{length-map}
 use Rattle.csp_party.specs.Any.{plain, region_of}
-use Rattle.csp_record.specs.Who.{node_of}
+use Rattle.csp_log.specs.Who.{node_of}
 use Rattle.csp_topology.specs.Parties.{opens}
 use Rattle.csp_topology.specs.declared.topology.TheConstants.{MAX_PARTIES}
 use Rattle.csp_world.proofs.OpeningMembers.{HasNumbers, has_room-push, has_room-kept, world-push, world-kept}

@@ -2,7 +2,7 @@ use Rattle.std.proofs.Common.{◌≡◌, ◌<◌, Some, List, length, ap, refl, 
 use Rattle.std.proofs.lemmas.List.{length-map}
 use Rattle.std.proofs.lemmas.Option.{slice_get_read}
 use Rattle.csp_lists.specs.PlainDeck.{PlainDeck}
-use Rattle.csp_record.specs.Who.{node_of}
+use Rattle.csp_log.specs.Who.{node_of}
 use Rattle.csp_topology.specs.Opening.{opening_of}
 use Rattle.csp_topology.specs.Plan.{PlainNodePlan}
 use Rattle.csp_world.proofs.OpeningMembers.{HasNumbers}

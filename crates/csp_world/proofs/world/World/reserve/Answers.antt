@@ -4,7 +4,7 @@ use Rattle.std.proofs.lemmas.List.{length-map, length-set}
 use Rattle.csp_log.specs.declared.entry.Entry.{Entry}
 use Rattle.csp_party.specs.Any.{plain}
 use Rattle.csp_party.specs.declared.any.AnyParty.{AnyParty}
-use Rattle.csp_record.specs.declared.who.Who.{Who}
+use Rattle.csp_log.specs.declared.who.Who.{Who}
 use Rattle.csp_world.specs.Holders.{IsConserved}
 use Rattle.csp_world.specs.Inside.{world_of}
 use Rattle.csp_world.specs.Seen.{plain_member}

@@ -6,7 +6,7 @@ use Rattle.std.proofs.Math.Seq.{map-set_same}
 use Rattle.csp_log.specs.declared.places.Place.{Place}
 use Rattle.csp_nodes.specs.Emptied.{EmptiedAt, PlainEmptied, emptied_in}
 use Rattle.csp_party.specs.Any.{region_of}
-use Rattle.csp_record.specs.Who.{node_of}
+use Rattle.csp_log.specs.Who.{node_of}
 use Rattle.csp_world.specs.Seen.{plain_member}
 use Rattle.csp_world.proofs.ClosingMembers.{home_read, home_within, member_back, own_held}
 use Rattle.csp_world.proofs.world.closing.empty_member.Goals as goal

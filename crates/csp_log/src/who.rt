@@ -1,13 +1,13 @@
 //! Which party of which node, or of which link.
 
 ghost use Rattle.std.specs.Prelude.{◌≡◌};
-ghost use Rattle.csp_record.specs.Who.{home_of, node_of};
+ghost use Rattle.csp_log.specs.Who.{home_of, node_of};
 
-use csp_log::Place;
+use crate::places::Place;
 
-/// Whose log it is: by the place of its node among the nodes, and its number there. A link belongs to no
+/// Which party is meant: by the place of its node among the nodes, and its number there. A link belongs to no
 /// node.
-#[derive(Clone, Copy, PartialEq, Eq)]
+#[derive(Clone, Copy, PartialEq, Eq, Debug)]
 pub enum Who {
     /// The router of this node.
     Router(u8),
