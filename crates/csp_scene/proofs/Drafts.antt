@@ -61,6 +61,18 @@ routes_push [] node (suc place) e = refl
 routes_push (first ∷ nodes) node zero e = refl
 routes_push (first ∷ nodes) node (suc place) e = routes_push nodes node place e
 
+addr_push : (nodes : List PlainNode) (node : PlainNode) (place : ℕ) → place < length nodes → (node_at nodes place).addr ≡ (node_at (nodes ++ node ∷ []) place).addr
+addr_push [] node place within = absurd (omega (arith, within))
+addr_push (first ∷ nodes) node zero within = refl
+addr_push (first ∷ nodes) node (suc place) within = addr_push nodes node place (omega (arith, within))
+
+addr_set : (nodes : List PlainNode) (at : ℕ) (node : PlainNode) (place : ℕ) → node.addr ≡ (node_at nodes at).addr → (node_at nodes place).addr ≡ (node_at (set nodes at node) place).addr
+addr_set [] at node place same = refl
+addr_set (first ∷ nodes) zero node zero same = sym same
+addr_set (first ∷ nodes) zero node (suc place) same = refl
+addr_set (first ∷ nodes) (suc at) node zero same = refl
+addr_set (first ∷ nodes) (suc at) node (suc place) same = addr_set nodes at node place same
+
 apps_set : (nodes : List PlainNode) (at : ℕ) (node : PlainNode) (place : ℕ) → length (node_at nodes at).apps ≤ length node.apps → length (node_at nodes place).apps ≤ length (node_at (set nodes at node) place).apps
 apps_set [] at node place more = omega arith
 apps_set (first ∷ nodes) zero node zero more = more
@@ -110,6 +122,7 @@ IsDraft-schedule d schedule is here = record {
 grows_node : (d : PlainDraft) (node : PlainNode) → Grows d.nodes d.links (d.nodes ++ node ∷ []) d.links
 grows_node d node = record {
   more_nodes = omega (arith, length-append d.nodes (node ∷ []));
+  addrs = addr_push d.nodes node;
   more_apps = apps_push d.nodes node;
   more_ifaces = λ place. omega arith;
   more_links = omega arith;
@@ -131,17 +144,18 @@ IsDraft-node d node is here fresh room =
     }
 
 -- a node in place of another with no more applications and the same name: the links stay
-grows_set : (d : PlainDraft) (at : ℕ) (node : PlainNode) → length (node_at d.nodes at).apps ≤ length node.apps → Grows d.nodes d.links (set d.nodes at node) d.links
-grows_set d at node more = record {
+grows_set : (d : PlainDraft) (at : ℕ) (node : PlainNode) → node.addr ≡ (node_at d.nodes at).addr → length (node_at d.nodes at).apps ≤ length node.apps → Grows d.nodes d.links (set d.nodes at node) d.links
+grows_set d at node same more = record {
   more_nodes = omega (arith, length-set d.nodes at node);
+  addrs = λ place within. addr_set d.nodes at node place same;
   more_apps = λ place. apps_set d.nodes at node place more;
   more_ifaces = λ place. omega arith;
   more_links = omega arith;
 }
 
-replaced : (d : PlainDraft) (at : ℕ) (node : PlainNode) (host : Option ℕ) → IsDraft d → length (node_at d.nodes at).apps ≤ length node.apps → IsNode node → IsWithin (length (links_at at d.links)) node.routes → IfSome host (IsHost (set d.nodes at node)) → IsDraft (record d { nodes = set d.nodes at node; host = host })
-replaced d at node host is more here within held =
-    let grows = grows_set d at node more in
+replaced : (d : PlainDraft) (at : ℕ) (node : PlainNode) (host : Option ℕ) → IsDraft d → node.addr ≡ (node_at d.nodes at).addr → length (node_at d.nodes at).apps ≤ length node.apps → IsNode node → IsWithin (length (links_at at d.links)) node.routes → IfSome host (IsHost (set d.nodes at node)) → IsDraft (record d { nodes = set d.nodes at node; host = host })
+replaced d at node host is same more here within held =
+    let grows = grows_set d at node same more in
     let many : length (set d.nodes at node) ≡ length d.nodes = length-set d.nodes at node in
     record {
       until = is.until;
@@ -191,7 +205,7 @@ IsDraft-app d place app is within router here room =
     let next = with_app app node in
     let longer : length next.apps ≡ length node.apps + 1 = length-append node.apps (app ∷ []) in
     let stands : node_at (set d.nodes place next) place ≡ next = get_or-set_same d.nodes place next _ within in
-    replaced d place next (Some place) is (omega (arith, longer)) (IsNode-app node app (AllByRecursion-at IsNode d.nodes place _ is.nodes within) router here room) (is.routes.each place)
+    replaced d place next (Some place) is refl (omega (arith, longer)) (IsNode-app node app (AllByRecursion-at IsNode d.nodes place _ is.nodes within) router here room) (is.routes.each place)
     (record {
       node = omega (arith, within, length-set d.nodes place next);
       app = subst (λ (one : PlainNode). 1 ≤ length one.apps) (sym stands) (omega (arith, longer));
@@ -232,8 +246,8 @@ IsDraft-step d place step is within some here apart room =
     let node = node_at d.nodes place in
     let next = with_last_step step node in
     let many : length next.apps ≡ length node.apps = length-set node.apps (length node.apps - 1) (with_step step (last_app node)) in
-    replaced d place next d.host is (omega (arith, many)) (IsNode-step node step (AllByRecursion-at IsNode d.nodes place _ is.nodes within) some here apart room) (is.routes.each place)
-    (host_grows d.nodes d.links (set d.nodes place next) d.links d.host (grows_set d place next (omega (arith, many))) is.host)
+    replaced d place next d.host is refl (omega (arith, many)) (IsNode-step node step (AllByRecursion-at IsNode d.nodes place _ is.nodes within) some here apart room) (is.routes.each place)
+    (host_grows d.nodes d.links (set d.nodes place next) d.links d.host (grows_set d place next refl (omega (arith, many))) is.host)
 
 -- routes
 IsNode-routes : (node : PlainNode) (routes : Routes) → IsNode node → node.addr ≢ None → IsNode (record node { routes = routes })
@@ -255,8 +269,8 @@ pub IsDraft-routes : (d : PlainDraft) (place : ℕ) (routes : Routes) → IsDraf
 IsDraft-routes d place routes is within router leads =
     let node = node_at d.nodes place in
     let next : PlainNode = record node { routes = routes } in
-    replaced d place next d.host is (omega arith) (IsNode-routes node routes (AllByRecursion-at IsNode d.nodes place _ is.nodes within) router) leads
-    (host_grows d.nodes d.links (set d.nodes place next) d.links d.host (grows_set d place next (omega arith)) is.host)
+    replaced d place next d.host is refl (omega arith) (IsNode-routes node routes (AllByRecursion-at IsNode d.nodes place _ is.nodes within) router) leads
+    (host_grows d.nodes d.links (set d.nodes place next) d.links d.host (grows_set d place next refl (omega arith)) is.host)
 
 -- the options of a node's reliable connections
 IsNode-rdp : (node : PlainNode) (options : Options) → IsNode node → AreOptions options → IsNode (with_rdp options node)
@@ -279,8 +293,8 @@ IsDraft-rdp d place options is within here =
     let node = node_at d.nodes place in
     let next = with_rdp options node in
     with_places (record d { nodes = set d.nodes place next }) (d.tuned ++ place ∷ [])
-    (replaced d place next d.host is (omega arith) (IsNode-rdp node options (AllByRecursion-at IsNode d.nodes place _ is.nodes within) here) (is.routes.each place)
-    (host_grows d.nodes d.links (set d.nodes place next) d.links d.host (grows_set d place next (omega arith)) is.host))
+    (replaced d place next d.host is refl (omega arith) (IsNode-rdp node options (AllByRecursion-at IsNode d.nodes place _ is.nodes within) here) (is.routes.each place)
+    (host_grows d.nodes d.links (set d.nodes place next) d.links d.host (grows_set d place next refl (omega arith)) is.host))
 
 -- a place that is not among others is that of none of the ends there
 not_among : (links : List PlainLink) (place : ℕ) (places : List ℕ) (j : ℕ) (b : End) → list_any (λ other. eqb other place) places ≡ false → slice_get (map (end_at links) places) j ≡ Some b → b.node ≡ place → ⊥
@@ -313,7 +327,7 @@ pub IsDraft-link : (d : PlainDraft) (word : List ℕ) (kind : LinkKind) (hub : B
 IsDraft-link d word kind hub mtu places is named sized may once room =
     let link = new_link d.links word kind hub mtu places in
     let more : (place : ℕ) → length (links_at place d.links) ≤ length (links_at place (d.links ++ link ∷ [])) = λ (place : ℕ). omega (arith, links_at-push place d.links link) in
-    let grows : Grows d.nodes d.links d.nodes (d.links ++ link ∷ []) = record { more_nodes = omega arith; more_apps = λ place. omega arith; more_ifaces = more; more_links = omega (arith, length-append d.links (link ∷ [])) } in
+    let grows : Grows d.nodes d.links d.nodes (d.links ++ link ∷ []) = record { more_nodes = omega arith; addrs = λ place within. refl; more_apps = λ place. omega arith; more_ifaces = more; more_links = omega (arith, length-append d.links (link ∷ [])) } in
     let count : length link.ends ≡ length places = length-map places (end_at d.links) in
     let stands : IsLinkAfter (length d.nodes) d.links link = record {
       name = named;
@@ -346,7 +360,7 @@ IsDraft-fault d place fault is within planned room =
     let link = link_at d.links place in
     let links = set d.links place (with_fault fault link) in
     let alike : (at : ℕ) → length (links_at at d.links) ≡ length (links_at at links) = alike_set d.links place fault in
-    let grows : Grows d.nodes d.links d.nodes links = record { more_nodes = omega arith; more_apps = λ at. omega arith; more_ifaces = λ at. omega (arith, alike at); more_links = omega (arith, length-set d.links place (with_fault fault link)) } in
+    let grows : Grows d.nodes d.links d.nodes links = record { more_nodes = omega arith; addrs = λ at within. refl; more_apps = λ at. omega arith; more_ifaces = λ at. omega (arith, alike at); more_links = omega (arith, length-set d.links place (with_fault fault link)) } in
     record {
       until = is.until;
       schedule = schedule_grows d.nodes d.links d.nodes links d.schedule grows is.schedule;

@@ -6,11 +6,13 @@ use Rattle.std.proofs.lemmas.Bool.{eq-eqb}
 use Rattle.std.proofs.Math.Bool.{or-true}
 use Rattle.csp_link.specs.declared.fault.Fault.{Fault}
 use Rattle.csp_log.specs.declared.places.End.{End}
+use Rattle.csp_log.specs.declared.who.Who.{Who}
+use Rattle.csp_log.specs.declared.who.Who.TheVariants as who
 use Rattle.csp_scene.specs.declared.scenario.Move.{Move}
 use Rattle.csp_scene.specs.declared.scenario.Move.TheVariants as move
 use Rattle.csp_scene.specs.Scene.{PlainNode, PlainLink, PlainSchedule, in_rounds, shuffled, stepwise}
 use Rattle.csp_scene.specs.Links.{touches, links_at, node_at}
-use Rattle.csp_scene.specs.Ranges.{HasEnds, IsPlanned, IsEnd, IsLink, IsMove, IsSchedule}
+use Rattle.csp_scene.specs.Ranges.{HasEnds, IsPlanned, IsEnd, IsLink, IsMove, IsParty, IsSchedule}
 use Rattle.csp_scene.specs.Faults.{with_fault, link_at}
 use Rattle.csp_scene.specs.Kept.{IsEndAfter, IsLinkAfter, AreLinksAfter}
 use Rattle.csp_scene.proofs.Lists.{AllByRecursion-map, slice_get-seam}
@@ -31,15 +33,20 @@ links_few place (link ∷ links) = by_test (touches place link) (links_few place
 -- scenes of which the second has all that the first has
 pub record Grows (nodes : List PlainNode) (links : List PlainLink) (then_nodes : List PlainNode) (then_links : List PlainLink) : Type 0 where
   pub more_nodes : length nodes ≤ length then_nodes
+  pub addrs : (place : ℕ) → place < length nodes → (node_at nodes place).addr ≡ (node_at then_nodes place).addr
   pub more_apps : (place : ℕ) → length (node_at nodes place).apps ≤ length (node_at then_nodes place).apps
   pub more_ifaces : (place : ℕ) → length (links_at place links) ≤ length (links_at place then_links)
   pub more_links : length links ≤ length then_links
 
+IsParty-grows : (nodes : List PlainNode) (links : List PlainLink) (more_nodes : List PlainNode) (more_links : List PlainLink) → Grows nodes links more_nodes more_links → (party : Who) → IsParty nodes links party → IsParty more_nodes more_links party
+IsParty-grows nodes links more_nodes more_links grows (who.Router node) is = (omega (arith, grows.more_nodes, is.0), λ none. is.1 (grows.addrs node is.0 ∙ none))
+IsParty-grows nodes links more_nodes more_links grows (who.Bridge node) is = (omega (arith, grows.more_nodes, is.0), sym (grows.addrs node is.0) ∙ is.1)
+IsParty-grows nodes links more_nodes more_links grows (who.Iface node iface) is = (omega (arith, grows.more_nodes, is.0), omega (arith, grows.more_ifaces node, is.1))
+IsParty-grows nodes links more_nodes more_links grows (who.App node app) is = (omega (arith, grows.more_nodes, is.0), omega (arith, grows.more_apps node, is.1))
+IsParty-grows nodes links more_nodes more_links grows (who.Link link) is = omega (arith, grows.more_links, is)
+
 IsMove-grows : (nodes : List PlainNode) (links : List PlainLink) (more_nodes : List PlainNode) (more_links : List PlainLink) → Grows nodes links more_nodes more_links → (one : Move) → IsMove nodes links one → IsMove more_nodes more_links one
-IsMove-grows nodes links more_nodes more_links grows (move.Router node) is = omega (arith, grows.more_nodes, is)
-IsMove-grows nodes links more_nodes more_links grows (move.Iface node iface) is = (omega (arith, grows.more_nodes, is.0), omega (arith, grows.more_ifaces node, is.1))
-IsMove-grows nodes links more_nodes more_links grows (move.App node app) is = (omega (arith, grows.more_nodes, is.0), omega (arith, grows.more_apps node, is.1))
-IsMove-grows nodes links more_nodes more_links grows (move.Link link) is = omega (arith, grows.more_links, is)
+IsMove-grows nodes links more_nodes more_links grows (move.Turn party) is = IsParty-grows nodes links more_nodes more_links grows party is
 IsMove-grows nodes links more_nodes more_links grows move.Tick is = tt
 
 IsSchedule-grows : (nodes : List PlainNode) (links : List PlainLink) (more_nodes : List PlainNode) (more_links : List PlainLink) → Grows nodes links more_nodes more_links → (schedule : PlainSchedule) → IsSchedule nodes links schedule → IsSchedule more_nodes more_links schedule

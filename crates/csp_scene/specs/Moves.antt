@@ -2,12 +2,13 @@
 use Rattle.std.specs.Prelude.{ℕ, ◌+◌, ◌==◌, Bool, not, ◌&&◌, ◌||◌, nat_lt, List, length, take, drop, codes, Option, Some, None, option_map, if◌then◌else◌}
 use Rattle.std.specs.List.{position_or_len}
 use Rattle.std.specs.Str.{bytes_eq}
+use Rattle.csp_log.specs.declared.who.Who.TheVariants as who
 use Rattle.csp_text.specs.Names.{is_name}
 use Rattle.csp_scene.specs.declared.scenario.Move.{Move}
 use Rattle.csp_scene.specs.declared.scenario.Move.TheVariants as move
 use Rattle.csp_scene.specs.Scene.{PlainNode, PlainLink}
 use Rattle.csp_scene.specs.Links.{node_at}
-use Rattle.csp_scene.specs.Naming.{node_named, link_named, iface_named, app_named}
+use Rattle.csp_scene.specs.Naming.{router_or_bridge, node_named, link_named, iface_named, app_named}
 
 -- a step word is cut at its first dot, where it has one
 abbrev pub dot_place : List ℕ → ℕ
@@ -36,13 +37,14 @@ first_some None other = other
 
 -- a node, a bridge or a link of this name
 abbrev pub whole_move : List PlainNode → List PlainLink → List ℕ → Option Move
-whole_move nodes links word = first_some (option_map move.Router (node_named word nodes)) (option_map move.Link (link_named word links))
+whole_move nodes links word =
+    first_some (option_map (λ place. move.Turn (router_or_bridge (node_at nodes place).addr place)) (node_named word nodes)) (option_map (λ place. move.Turn (who.Link place)) (link_named word links))
 
 -- an interface of a node, on the link of this name, or an application of this name
 abbrev pub owned_move : List PlainNode → List PlainLink → List ℕ → Option ℕ → Option Move
 owned_move nodes links word None = None
 owned_move nodes links word (Some place) =
-    first_some (option_map (move.Iface place) (iface_named word place links)) (option_map (move.App place) (app_named word (node_at nodes place).apps))
+    first_some (option_map (λ iface. move.Turn (who.Iface place iface)) (iface_named word place links)) (option_map (λ app. move.Turn (who.App place app)) (app_named word (node_at nodes place).apps))
 
 -- the party that a step word names, or a tick; nothing where no earlier line declares it
 abbrev pub move_of : List PlainNode → List PlainLink → List ℕ → Option Move

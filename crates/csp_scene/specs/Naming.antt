@@ -2,6 +2,8 @@
 use Rattle.std.specs.Prelude.{ℕ, ◌≡◌, ◌==◌, Bool, false, ◌&&◌, ◌||◌, List, map, slice_get, Option, Some, None, is_some}
 use Rattle.std.specs.List.{list_any, position}
 use Rattle.std.specs.Str.{bytes_eq}
+use Rattle.csp_log.specs.declared.who.Who.{Who}
+use Rattle.csp_log.specs.declared.who.Who.TheVariants as who
 use Rattle.csp_scene.specs.Scene.{PlainApp, PlainNode, PlainLink}
 use Rattle.csp_scene.specs.Links.{links_at}
 
@@ -24,6 +26,11 @@ is_called word app = bytes_eq app.name word
 -- whether it is a node, not a bridge, and has this name
 abbrev pub is_router : List ℕ → PlainNode → Bool
 is_router word node = has_name word node && is_some node.addr
+
+-- the router of a node, or the bridge itself, which has no address, by its place among the nodes
+abbrev pub router_or_bridge : Option ℕ → ℕ → Who
+router_or_bridge (Some addr) place = who.Router place
+router_or_bridge None place = who.Bridge place
 
 -- the place of the node or bridge of this name; that of the node, no bridge; that of the link; that of the application
 abbrev pub node_named : List ℕ → List PlainNode → Option ℕ

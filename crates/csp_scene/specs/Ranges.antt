@@ -1,5 +1,5 @@
 -- The ranges of a scene's numbers.
-use Rattle.std.specs.Prelude.{ℕ, ◌+◌, ◌≡◌, ◌≤◌, ◌<◌, ◌^◌, ◌*◌, ◌%◌, ⊤, true, false, List, [], length, Some, None, slice_get, IsTrue, IfSome}
+use Rattle.std.specs.Prelude.{ℕ, ◌+◌, ◌≡◌, ◌≢◌, ◌≤◌, ◌<◌, ◌^◌, ◌*◌, ◌%◌, ⊤, true, false, List, [], length, Some, None, slice_get, IsTrue, IfSome}
 use Rattle.std.specs.List.{All, AllByRecursion}
 use Rattle.std.specs.FinMap as finite
 use Rattle.csp_app.specs.PlainStep.{PlainStep}
@@ -20,6 +20,8 @@ use Rattle.csp_sfp.specs.declared.trailer.TheConstants.{MAX_BLOB}
 use Rattle.csp_text.specs.Names.{is_name}
 use Rattle.csp_scene.specs.declared.limits.TheConstants.{MAX_UNTIL, MAX_ADDR, MAX_NODES, MAX_LINKS, BRIDGE_LINKS, MAX_APPS, MAX_STEPS, MIN_BUFFERS, MAX_SEED, MIN_INBOX, MAX_INBOX, MAX_PORT, FIRST_OWN_PORT, MAX_DEST, CRC_FLAG, RDP_FLAG, FRAG_FLAG, MAX_COUNT, MAX_ROUNDS, MAX_FAULTS, LAST_FRAME, MAX_DELAY, MAX_FLIP, MAX_SHUFFLE, MAX_OPTION, MIN_MTU, MAX_MTU, DEFAULT_MTU, MAX_HUB_NODES}
 use Rattle.csp_log.specs.declared.places.End.{End}
+use Rattle.csp_log.specs.declared.who.Who.{Who}
+use Rattle.csp_log.specs.declared.who.Who.TheVariants as who
 use Rattle.csp_scene.specs.declared.scenario.Move.{Move}
 use Rattle.csp_scene.specs.declared.scenario.Move.TheVariants as move
 use Rattle.csp_scene.specs.Scene.{PlainApp, PlainNode, PlainLink, PlainSchedule, PlainScene, in_rounds, shuffled, stepwise}
@@ -144,12 +146,17 @@ pub record IsLink (nodes : List PlainNode) (links : List PlainLink) (link : Plai
   pub ends : AllByRecursion (IsEnd nodes links link) link.ends
   pub plan : All (IsPlanned (length link.ends)) link.plan
 
--- a move is that of a party that is there: a node's router or a bridge, an interface, an application, a link; or the end of a round
+-- a party is there: a node's router, a bridge, an interface, an application, a link
+abbrev pub IsParty : List PlainNode → List PlainLink → Who → Type 0
+IsParty nodes links (who.Router node) = (node < length nodes) × ((node_at nodes node).addr ≢ None)
+IsParty nodes links (who.Bridge node) = (node < length nodes) × ((node_at nodes node).addr ≡ None)
+IsParty nodes links (who.Iface node iface) = (node < length nodes) × (iface < length (links_at node links))
+IsParty nodes links (who.App node app) = (node < length nodes) × (app < length (node_at nodes node).apps)
+IsParty nodes links (who.Link link) = link < length links
+
+-- a move is a turn of a party that is there, or the end of a round
 abbrev pub IsMove : List PlainNode → List PlainLink → Move → Type 0
-IsMove nodes links (move.Router node) = node < length nodes
-IsMove nodes links (move.Iface node iface) = (node < length nodes) × (iface < length (links_at node links))
-IsMove nodes links (move.App node app) = (node < length nodes) × (app < length (node_at nodes node).apps)
-IsMove nodes links (move.Link link) = link < length links
+IsMove nodes links (move.Turn party) = IsParty nodes links party
 IsMove nodes links move.Tick = ⊤
 
 -- the numbers of a schedule: a seed of 32 bits, or moves of parties that are there

@@ -3,12 +3,13 @@
 ghost use Rattle.std.specs.Prelude.{◌≡◌, ◌==◌, ◌<◌, IfSome, length};
 ghost use Rattle.std.specs.List.{position};
 ghost use Rattle.csp_scene.specs.Links.{touches};
+ghost use Rattle.csp_scene.specs.Naming.{router_or_bridge};
 
 use arrayvec::ArrayVec;
 use csp_app::Script;
 use csp_base::{Addr, Name};
 use csp_link::Fault;
-use csp_log::{End, LINK_ENDS, LinkKind};
+use csp_log::{End, LINK_ENDS, LinkKind, Who};
 use csp_rdp_header::Options;
 use csp_route::Table;
 use std::marker::Model;
@@ -73,6 +74,18 @@ impl Model for SceneNode {
     } };
 }
 
+impl SceneNode {
+    /// Its router, or the bridge itself, by its place among the nodes.
+    pub(crate) fn router_or_bridge(&self, place: u8) -> Who
+        ensures { result ≡ router_or_bridge self.now.addr place }
+    {
+        match self.addr {
+            Some(_) => Who::Router(place),
+            None => Who::Bridge(place),
+        }
+    }
+}
+
 /// A link between interfaces.
 #[derive(Debug, Drop)]
 pub struct SceneLink {
@@ -121,14 +134,8 @@ impl SceneLink {
 /// One entry of a schedule that is stated step by step.
 #[derive(Clone, Copy, PartialEq, Eq, Debug)]
 pub enum Move {
-    /// A turn of the router of the node in this place, or of the bridge there.
-    Router(u8),
-    /// A turn of an interface: the place of its node, and its number there.
-    Iface(u8, u8),
-    /// A turn of an application: the place of its node, and its number there.
-    App(u8, u8),
-    /// A turn of the link in this place.
-    Link(u8),
+    /// A turn of this party.
+    Turn(Who),
     /// The end of a round.
     Tick,
 }

@@ -18,6 +18,7 @@ use crate::refusal::SceneKind;
 use crate::scenario::{Move, SceneNode, Schedule};
 use crate::step_words::{has_dot, owned_of, owner_of};
 use crate::table::Form;
+use csp_log::Who;
 use std::alloc::Global;
 
 /// The node, bridge or link of this name.
@@ -28,10 +29,10 @@ fn whole_move(nodes: &[SceneNode], links: &[LinkDraft], name: &[u8]) -> Option<M
     ensures kept { IfSome result (IsMove nodes.now links.now) }
 {
     if let Some(place) = node_named(nodes, name) {
-        return Some(Move::Router(place as u8));
+        return Some(Move::Turn(nodes[place].router_or_bridge(place as u8)));
     }
     match link_named(links, name) {
-        Some(place) => Some(Move::Link(place as u8)),
+        Some(place) => Some(Move::Turn(Who::Link(place as u8))),
         None => None,
     }
 }
@@ -46,11 +47,11 @@ fn owned_move(nodes: &[SceneNode], links: &[LinkDraft], place: usize, name: &[u8
     ensures kept { IfSome result (IsMove nodes.now links.now) }
 {
     if let Some(iface) = iface_named(links, place, name) {
-        return Some(Move::Iface(place as u8, iface as u8));
+        return Some(Move::Turn(Who::Iface(place as u8, iface as u8)));
     }
     let node = &nodes[place];
     match app_named(&node.apps, name) {
-        Some(app) => Some(Move::App(place as u8, app as u8)),
+        Some(app) => Some(Move::Turn(Who::App(place as u8, app as u8))),
         None => None,
     }
 }

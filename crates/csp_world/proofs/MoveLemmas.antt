@@ -3,11 +3,12 @@ use Rattle.std.proofs.Common.{◌≡◌, ℕ, suc, ◌+◌, ◌<◌, ◌≤◌, 
 use Rattle.std.specs.List.{position_or_len}
 use Rattle.std.proofs.Math.ListN.{drop_of_length-le}
 use Rattle.std.proofs.Math.Seq.{drop-cons}
+use Rattle.csp_log.specs.Who.{is_who}
 use Rattle.csp_log.specs.declared.who.Who.{Who}
 use Rattle.csp_scene.specs.declared.scenario.Move.{Move}
 use Rattle.csp_scene.specs.declared.scenario.Move.TheVariants as move
 use Rattle.csp_world.specs.World.{PlainWorld, entries}
-use Rattle.csp_world.specs.Schedule.{is_named, names, place_named, moved, moves}
+use Rattle.csp_world.specs.Schedule.{names, place_named, moved, moves}
 use Rattle.csp_world.proofs.ScheduleLemmas.{Steady, steady_turn}
 
 -- a move keeps the parties' names, adds at most one entry, and completes at most one round
@@ -21,10 +22,7 @@ made_turn w v s = record { names = s.names; time = omega (arith, s.time); entrie
 
 pub made_move : (w : PlainWorld) (m : Move) → Made w (moved w m)
 made_move w move.Tick = record { names = refl; time = omega arith; entries = omega arith }
-made_move w (move.Router node) = made_turn w _ (steady_turn w (place_named (names w) (move.Router node)))
-made_move w (move.Iface node number) = made_turn w _ (steady_turn w (place_named (names w) (move.Iface node number)))
-made_move w (move.App node number) = made_turn w _ (steady_turn w (place_named (names w) (move.App node number)))
-made_move w (move.Link number) = made_turn w _ (steady_turn w (place_named (names w) (move.Link number)))
+made_move w (move.Turn party) = made_turn w _ (steady_turn w (place_named (names w) party))
 
 first_move : (w : PlainWorld) (m : Move) (ms : List Move) → moves w (m ∷ ms) ≡ moves (moved w m) ms
 unfolding moves
@@ -47,8 +45,8 @@ move_made w v ms i d h e =
 pub moves_done : (w : PlainWorld) (ms : List Move) (i : ℕ) → length ms ≤ i → moves w (drop i ms) ≡ w
 moves_done w ms i h = ap (moves w) (drop_of_length-le ms h) ∙ no_move w
 
--- the place of a party that a move names, among parties that are seen as others of the same names
-pub place_seen : {X Y : Type 0} (m : Move) (who : X → Who) (other : Y → Who) (see : X → Y) (xs : List X) → ((x : X) → other (see x) ≡ who x)
-    → position_or_len (λ x. is_named m (who x)) xs ≡ place_named (map other (map see xs)) m
-place_seen m who other see [] same = refl
-place_seen m who other see (x ∷ xs) same = rw (same x) (ap (λ n. cond (not (is_named m (who x))) (1 + n) 0) (place_seen m who other see xs same))
+-- the place of the party of a name, among parties that are seen as others of the same names
+pub place_seen : {X Y : Type 0} (party : Who) (who : X → Who) (other : Y → Who) (see : X → Y) (xs : List X) → ((x : X) → other (see x) ≡ who x)
+    → position_or_len (λ x. is_who party (who x)) xs ≡ place_named (map other (map see xs)) party
+place_seen party who other see [] same = refl
+place_seen party who other see (x ∷ xs) same = rw (same x) (ap (λ n. cond (not (is_who party (who x))) (1 + n) 0) (place_seen party who other see xs same))

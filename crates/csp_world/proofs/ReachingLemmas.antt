@@ -58,10 +58,7 @@ reached_run_rounds scene most o w v r e = by (finished w) e where
 
 reached_moved : (scene : PlainScene) (w : PlainWorld) (m : Move) → IsReached scene w → IsReached scene (moved w m)
 reached_moved scene w move.Tick r = reached_tick scene w r
-reached_moved scene w (move.Router node) r = reached_turn scene w _ r
-reached_moved scene w (move.Iface node number) r = reached_turn scene w _ r
-reached_moved scene w (move.App node number) r = reached_turn scene w _ r
-reached_moved scene w (move.Link number) r = reached_turn scene w _ r
+reached_moved scene w (move.Turn party) r = reached_turn scene w _ r
 
 reached_moves : (scene : PlainScene) (ms : List Move) (w : PlainWorld) → IsReached scene w → IsReached scene (moves w ms)
 unfolding moves

@@ -1,8 +1,8 @@
 -- The schedules, as lists of turns and ticks, and the checks after each round.
-use Rattle.std.specs.Prelude.{ℕ, zero, suc, ◌*◌, ◌==◌, ◌&&◌, ◌<◌, ⊤, Bool, false, Option, None, Some, List, [], ◌∷◌, length, map, replicate, nat_le, if◌then◌else◌}
+use Rattle.std.specs.Prelude.{ℕ, zero, suc, ◌*◌, ◌<◌, ⊤, Option, None, Some, List, [], ◌∷◌, length, map, replicate, nat_le, if◌then◌else◌}
 use Rattle.std.specs.List.{range_with_len, flat_map, position_or_len}
 use Rattle.csp_draw.specs.Draws.{next_draw, drawn}
-use Rattle.csp_log.specs.declared.who.Who.TheVariants as who
+use Rattle.csp_log.specs.Who.{is_who}
 use Rattle.csp_log.specs.declared.who.Who.{Who}
 use Rattle.csp_scene.specs.Scene.{PlainScene, PlainSchedule, in_rounds, shuffled, stepwise}
 use Rattle.csp_scene.specs.declared.scenario.Move.{Move}
@@ -60,32 +60,23 @@ rounds (suc most) o w = checked (round o w) (rounds most (next_order (length w.m
 unfoldable pub run_rounds : ℕ → Order → PlainWorld → Option PlainWorld
 run_rounds most o w = (if finished w then Some w else rounds most o w)
 
--- `steps`: whether a move names a party; a node's name stands for its router, or for the bridge in its place
-abbrev pub is_named : Move → Who → Bool
-is_named (move.Router node) (who.Router n) = n == node
-is_named (move.Router node) (who.Bridge n) = n == node
-is_named (move.Iface node number) (who.Iface n k) = n == node && k == number
-is_named (move.App node number) (who.App n k) = n == node && k == number
-is_named (move.Link number) (who.Link k) = k == number
-is_named m w = false
-
 -- who the parties are, in their order
 abbrev pub names : PlainWorld → List Who
 names w = map (λ m. m.who) w.members
 
--- the place of the party that a move names
-abbrev pub place_named : List Who → Move → ℕ
-place_named parties m = position_or_len (is_named m) parties
+-- the place of the party of this name
+abbrev pub place_named : List Who → Who → ℕ
+place_named parties party = position_or_len (is_who party) parties
 
--- a move is a tick, or names a party that is there
+-- `steps`: a move is a tick, or a turn of a party that is there
 abbrev pub IsThere : List Who → Move → Type 0
 IsThere parties move.Tick = ⊤
-IsThere parties m = place_named parties m < length parties
+IsThere parties (move.Turn party) = place_named parties party < length parties
 
 -- each move is a turn of the party that it names, or a tick
 abbrev pub moved : PlainWorld → Move → PlainWorld
 moved w move.Tick = tick w
-moved w m = turn w (place_named (names w) m)
+moved w (move.Turn party) = turn w (place_named (names w) party)
 
 -- the world after these turns and ticks
 unfoldable pub moves : PlainWorld → List Move → PlainWorld

@@ -2,10 +2,11 @@
 
 ghost use Rattle.std.specs.Prelude.{◌≡◌, ◌+◌, ◌-◌, ◌<◌, ◌≤◌, ◌^◌, All, length, OnOk};
 ghost use Rattle.std.specs.List.{position_or_len};
+ghost use Rattle.csp_log.specs.Who.{is_who};
 ghost use Rattle.csp_world.specs.Holders.{counts};
 ghost use Rattle.csp_world.specs.Schedule as schedule;
 ghost use Rattle.csp_world.specs.World.{entries};
-ghost use Rattle.csp_world.specs.Schedule.{IsThere, is_named, names, moved};
+ghost use Rattle.csp_world.specs.Schedule.{IsThere, names, moved};
 
 use crate::member::Member;
 use crate::rounds::one_turn;
@@ -28,7 +29,7 @@ pub(crate) fn make_moves(world: &mut World, moves: &[Move]) -> Result<(), AllocE
     Ok(())
 }
 
-/// Makes one move: a tick, or a turn of the party that it names.
+/// Makes one move: a turn of the party that it names, or a tick.
 fn make_move(world: &mut World, next: Move) -> Result<(), AllocError>
     requires there { IsThere (names world.old.plain) next }
     requires time { world.old.plain.time + 1 < 2 ^ 62 }
@@ -36,34 +37,24 @@ fn make_move(world: &mut World, next: Move) -> Result<(), AllocError>
     ensures moved { OnOk result (world.new.plain ≡ moved world.old.plain next) }
     ensures counts { OnOk result (counts world.new.plain ≡ counts world.old.plain) }
 {
-    if next == Move::Tick {
-        world.tick();
-        return Ok(());
+    match next {
+        Move::Turn(who) => {
+            let place = world.place_named(who);
+            one_turn(world, place)
+        }
+        Move::Tick => {
+            world.tick();
+            Ok(())
+        }
     }
-    let place = world.place_named(next);
-    one_turn(world, place)
 }
 
-/// The place of the first of these parties that a move names, or how many they are where it names none.
-pub(crate) fn place_among(members: &[Member], next: Move) -> usize
-    ensures { result ≡ position_or_len (λ m. is_named next m.who) members.now }
+/// The place of the first of these parties that has this name, or how many they are where none has it.
+pub(crate) fn place_among(members: &[Member], who: Who) -> usize
+    ensures { result ≡ position_or_len (λ m. is_who who m.who) members.now }
 {
     members
         .iter()
-        .position(|member| is_named(next, member.who))
+        .position(|member| member.who == who)
         .unwrap_or(members.len())
-}
-
-/// Whether a move names this party.
-fn is_named(next: Move, who: Who) -> bool
-    ensures { result ≡ is_named next who }
-{
-    match (next, who) {
-        (Move::Router(node), Who::Router(home)) => home == node,
-        (Move::Router(node), Who::Bridge(home)) => home == node,
-        (Move::Iface(node, number), Who::Iface(home, own)) => home == node && own == number,
-        (Move::App(node, number), Who::App(home, own)) => home == node && own == number,
-        (Move::Link(number), Who::Link(own)) => own == number,
-        _ => false,
-    }
 }

@@ -29,7 +29,6 @@ use csp_deck::{Desk, Place, Spares};
 use csp_lists::{counts_holders, gathers, weighs};
 use csp_nodes::Decks;
 use csp_record::Who;
-use csp_scene::Move;
 use csp_topology::MAX_PARTIES;
 use std::alloc::AllocError;
 use std::marker::Model;
@@ -86,11 +85,11 @@ impl World {
         all_done(self.members.as_slice())
     }
 
-    /// The place of the first party that a move names, or how many parties there are where it names none.
-    pub(crate) fn place_named(&self, next: Move) -> usize
-        ensures { result ≡ place_named (names self.now.plain) next }
+    /// The place of the first party that has this name, or how many parties there are where none has it.
+    pub(crate) fn place_named(&self, who: Who) -> usize
+        ensures { result ≡ place_named (names self.now.plain) who }
     {
-        place_among(self.members.as_slice(), next)
+        place_among(self.members.as_slice(), who)
     }
 
     /// Makes room in the log of the party at this place for this many turns. A refusal changes nothing.
