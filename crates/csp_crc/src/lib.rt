@@ -27,7 +27,7 @@ pub fn crc32c_joined(first: &[u8], rest: &[u8]) -> u32
 }
 
 /// Why the CRC at the end of some bytes does not stand.
-#[derive(Clone, Copy, Debug, PartialEq, Eq, Error)]
+#[derive(Clone, Copy, Debug, Error)]
 pub enum CrcError {
     /// There are fewer than the four bytes of a CRC.
     #[error("fewer bytes than a CRC has")]
