@@ -27,7 +27,7 @@ const _: () = prove!(ALL_SLOTS == MAX_APPS * SLOTS);
 const _: () = prove!(ALL_SLOTS == OWN_PORTS as usize);
 
 /// Why a connection was not opened.
-#[derive(Clone, Copy, PartialEq, Eq, Debug, Error)]
+#[derive(Clone, Copy, Debug, Error)]
 pub enum OpenError {
     /// The slot is in use.
     #[error("the slot is in use")]
@@ -38,7 +38,7 @@ pub enum OpenError {
 }
 
 /// An application all of whose slots are in use.
-#[derive(Clone, Copy, PartialEq, Eq, Debug, Error)]
+#[derive(Clone, Copy, Debug, Error)]
 #[error("all slots are in use")]
 pub struct NoSlot;
 

@@ -6,7 +6,7 @@ ghost use Rattle.csp_conn.specs.Slots.{is_free, has_port, is_between};
 use csp_base::{Addr, Port};
 
 /// Between whom a connection is: the other node, the port there, and the port here.
-#[derive(Clone, Copy, PartialEq, Eq, Debug)]
+#[derive(Clone, Copy, PartialEq, Eq)]
 pub struct Connection {
     pub peer: Addr,
     pub peer_port: Port,
@@ -14,7 +14,7 @@ pub struct Connection {
 }
 
 /// What a slot has. One that is held, or has a connection, is in use.
-#[derive(Clone, Copy, PartialEq, Eq, Debug, Default)]
+#[derive(Clone, Copy, Default)]
 pub enum Slot {
     /// Nothing.
     #[default]
