@@ -4,7 +4,7 @@ use arrayvec::ArrayVec;
 use csp_base::{MAX_PAYLOAD, Trace};
 
 /// The answer to one frame.
-#[derive(Drop, PartialEq, Debug)]
+#[derive(Drop)]
 pub struct CanAnswer {
     /// A BEGIN frame ended a partial packet of its own key.
     pub restarted: bool,
@@ -26,7 +26,7 @@ impl CanAnswer {
 }
 
 /// What a frame made of the partial packet of its key. All but `Part` and `Whole` are refusals.
-#[derive(Drop, PartialEq, Debug)]
+#[derive(Drop)]
 pub enum CanEvent {
     /// The packet goes on: frames are still to come.
     Part,

@@ -8,7 +8,7 @@ use arrayvec::ArrayVec;
 pub const MAX_DATA: usize = 8;
 
 /// A frame of a CAN bus: its identifier of 29 bits and its data bytes.
-#[derive(Drop, PartialEq, Eq, Debug)]
+#[derive(Drop)]
 pub struct CanFrame {
     pub id: u32,
     pub bytes: ArrayVec<u8, MAX_DATA>,

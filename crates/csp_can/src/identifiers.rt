@@ -6,7 +6,7 @@ ghost use Rattle.csp_can.specs.Identifiers.{identifier_number, identifier_of};
 use csp_base::Addr;
 
 /// What a frame does to its packet.
-#[derive(Clone, Copy, PartialEq, Eq, Debug)]
+#[derive(Clone, Copy)]
 pub enum Kind {
     /// It opens a packet, with the header, the length and the first payload bytes.
     Begin,
@@ -16,7 +16,7 @@ pub enum Kind {
 
 /// The parts of an identifier, from the top bit down: 5 bits of source, 5 of destination, 1 of kind,
 /// 8 of the number of frames still to come, 10 of the packet's number.
-#[derive(Clone, Copy, PartialEq, Eq, Debug)]
+#[derive(Clone, Copy)]
 pub struct Identifier {
     pub source: Addr,
     pub dest: Addr,
@@ -26,7 +26,7 @@ pub struct Identifier {
 }
 
 /// What tells a packet on the bus from all others: who sent it, to whom, and its number.
-#[derive(Clone, Copy, PartialEq, Eq, Debug)]
+#[derive(Clone, Copy, PartialEq, Eq)]
 pub struct Key {
     pub source: Addr,
     pub dest: Addr,

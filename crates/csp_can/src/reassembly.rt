@@ -78,11 +78,19 @@ impl Reassembly {
             → (result.event ≡ CanEvent.Whole header (record { items = payload }) begun)
             ↔ Completes self.old.mtu (open_after self.old.mtu history) a header payload begun }
     {
+        self.hear(&Identifier::decode(id), bytes, trace, now)
+    }
+
+    /// The same of a frame whose identifier is read.
+    fn hear(&mut self, head: &Identifier, bytes: &[u8], trace: Trace, now: u64) -> CanAnswer
+        requires bytes { length bytes.now ≤ MAX_DATA }
+        ensures answer { result ≡ answered self.old (arrival head.now bytes.now trace now) }
+        ensures state { self.new ≡ heard self.old (arrival head.now bytes.now trace now) }
+    {
         self.partials.give_up(now);
-        let head = Identifier::decode(id);
         match head.kind {
-            Kind::Begin => self.partials.begin(self.mtu, &head, bytes, trace, now),
-            Kind::More => CanAnswer::plain(self.partials.more(&head, bytes, trace, now)),
+            Kind::Begin => self.partials.begin(self.mtu, head, bytes, trace, now),
+            Kind::More => CanAnswer::plain(self.partials.more(head, bytes, trace, now)),
         }
     }
 
