@@ -3,7 +3,7 @@
 use thiserror::Error;
 
 /// What is wrong with a word of a row.
-#[derive(Clone, Copy, PartialEq, Eq, Debug)]
+#[derive(Clone, Copy, Debug)]
 pub enum RouteKind {
     /// A word out of the form of a row, or a word that is missing.
     Syntax,
@@ -17,7 +17,7 @@ pub enum RouteKind {
 
 /// The first error of a text, and its place: the first byte of the word, or of the mask, which is all
 /// after the word's first `/`; where a word is missing, the next comma or the text's end; for Full the row's address.
-#[derive(Clone, Copy, PartialEq, Eq, Debug, Error)]
+#[derive(Clone, Copy, Debug, Error)]
 #[error("{kind:?} at byte {at}")]
 pub struct RouteError {
     pub at: usize,

@@ -7,7 +7,7 @@ pub const MAX_MASK: u8 = 5;
 
 /// The first `mask` bits of an address, whose other bits are 0. Prefixes stand in the order of
 /// their address, then of their mask.
-#[derive(Clone, Copy, PartialEq, Eq, PartialOrd, Ord, Debug)]
+#[derive(Clone, Copy, PartialEq, Eq, PartialOrd, Ord)]
 pub struct Prefix {
     pub addr: Addr,
     pub mask: u8,

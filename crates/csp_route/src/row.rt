@@ -6,7 +6,7 @@ use csp_base::Addr;
 /// A row: packets to the addresses that agree with `addr` in their first `mask` bits, at most 5,
 /// leave by the interface with the number `iface`, to the next hop `via` or straight to their
 /// destination.
-#[derive(Clone, Copy, PartialEq, Eq, Debug)]
+#[derive(Clone, Copy, Debug)]
 pub struct Row {
     pub addr: Addr,
     pub mask: u8,

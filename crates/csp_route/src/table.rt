@@ -19,12 +19,12 @@ use thiserror::Error;
 pub const MAX_ROWS: usize = 32;
 
 /// A new row that a full table has no room for.
-#[derive(Clone, Copy, PartialEq, Eq, Debug, Error)]
+#[derive(Clone, Copy, Debug, Error)]
 #[error("the table has no room for another row")]
 pub struct Full;
 
 /// A routing table: a finite map from prefixes to where their packets go, with at most 32 rows.
-#[derive(Debug, Drop)]
+#[derive(Drop)]
 pub struct Table {
     rows: ArrayVec<Row, MAX_ROWS>,
 }
