@@ -6,7 +6,7 @@ ghost use Rattle.csp_rdp.specs.Changes.{change_between};
 use csp_buffer::Buffer;
 
 /// The states of a connection.
-#[derive(Clone, Copy, PartialEq, Eq, Debug)]
+#[derive(Clone, Copy, Debug)]
 pub enum State {
     /// It is over.
     Closed,
@@ -21,7 +21,7 @@ pub enum State {
 }
 
 /// Why a connection that was asked for is refused.
-#[derive(Clone, Copy, PartialEq, Eq, Debug)]
+#[derive(Clone, Copy, Debug)]
 pub enum Why {
     /// No answer came in time.
     Timeout,
@@ -30,7 +30,7 @@ pub enum Why {
 }
 
 /// What a call changed, as far as others must know.
-#[derive(Clone, Copy, PartialEq, Eq, Debug)]
+#[derive(Clone, Copy, Debug)]
 pub enum Change {
     /// Nothing of that kind.
     None,

@@ -20,7 +20,7 @@ pub enum Job {
 }
 
 /// What a connection owes, and since when.
-#[derive(Clone, Copy, PartialEq, Eq, Debug)]
+#[derive(Clone, Copy)]
 pub struct Owed {
     /// A reset.
     pub rst: bool,
