@@ -150,7 +150,7 @@ impl App {
         ensures { result.items ≡ vain_looks self.now.app now }
     {
         let mut circle = Circle::new();
-        if self.doing == Plan::Rest && self.waits_on(now) {
+        if matches!(self.doing, Plan::Rest) && self.waits_on(now) {
             circle.push(QueueId::Down(self.number));
         }
         circle

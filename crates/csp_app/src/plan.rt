@@ -3,7 +3,7 @@
 use csp_log::Note;
 
 /// What a turn is, from its operation to the answer.
-#[derive(Clone, Copy, PartialEq, Eq)]
+#[derive(Clone, Copy)]
 pub enum Plan {
     /// Between two turns.
     Rest,

@@ -4,7 +4,7 @@ ghost use Rattle.std.specs.Prelude.{◌≡◌, ◌+◌, ◌-◌, ◌<◌, ◌^�
 
 /// How many steps are done, and how far the present one has come: since when it has turns of its own,
 /// whether its note was pushed, and how many of its packets were.
-#[derive(Drop, Clone, Copy, PartialEq, Eq)]
+#[derive(Drop, Clone, Copy)]
 pub struct Progress {
     pub done: usize,
     pub since: Option<u64>,

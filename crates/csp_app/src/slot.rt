@@ -12,7 +12,7 @@ use csp_log::{Event, Events, Item, ItemShown, Note, SLOTS};
 use csp_sfp::Collector;
 
 /// One slot for a connection.
-#[derive(Clone, Copy, PartialEq, Eq)]
+#[derive(Clone, Copy)]
 pub struct Slot {
     /// How many of its connections were closed.
     pub ordinal: u32,
