@@ -30,7 +30,7 @@ pub fn circle(facts: &Facts, state: &State, now: u64) -> Circle
 fn is_idle(state: &State, now: u64) -> bool
     ensures { IsTrue result → IsIdle state.now.state now }
 {
-    state.doing == Plan::Rest && state.is_still(now)
+    matches!(state.doing, Plan::Rest) && state.is_still(now)
 }
 
 /// Lists the queues that a router looks into from its cursor on, where each is empty, until the cursor is where it

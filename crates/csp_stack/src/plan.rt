@@ -4,7 +4,7 @@ use csp_deck::QueueId;
 use csp_rdp::Job;
 
 /// What a turn is, from its operation to the answer.
-#[derive(Clone, Copy, PartialEq, Eq)]
+#[derive(Clone, Copy)]
 pub enum Plan {
     /// There is no work; also between two turns.
     Rest,

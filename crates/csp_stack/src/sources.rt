@@ -6,7 +6,7 @@ ghost use Rattle.csp_stack.specs.Sources.{source_count, source_at, place_past};
 use crate::facts::Facts;
 
 /// A source of work.
-#[derive(Clone, Copy, PartialEq, Eq)]
+#[derive(Clone, Copy)]
 pub enum Source {
     /// The inbox.
     Inbox,
