@@ -3,7 +3,7 @@
 use crate::{AnswerShown, Events, OpShown};
 
 /// What one turn of a party was: its moment, what was asked and answered, and what was told.
-#[derive(Drop, PartialEq, Eq)]
+#[derive(Drop)]
 pub struct Entry {
     /// The number of rounds completed before this one.
     pub time: u64,

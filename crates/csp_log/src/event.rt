@@ -13,7 +13,7 @@ pub type Events = ArrayVec<Event, MAX_EVENTS>;
 
 /// What a party reports. A `peer` is the node and the number of a flow. A `step` is that of an
 /// application, from 1; `ordinal` counts the connections of a slot before this one.
-#[derive(Clone, Copy, PartialEq, Eq, Default)]
+#[derive(Clone, Copy, Default)]
 pub enum Event {
     /// A `take` step found no buffer.
     TookEmpty {
@@ -94,7 +94,7 @@ pub enum Event {
 }
 
 /// Why a packet was discarded.
-#[derive(Clone, Copy, PartialEq, Eq)]
+#[derive(Clone, Copy)]
 pub enum Discard {
     /// No route covers its destination.
     NoRoute,

@@ -7,7 +7,7 @@ use arrayvec::ArrayVec;
 use csp_base::{MAX_FRAME, Trace};
 
 /// A frame on a link.
-#[derive(Drop, PartialEq, Eq)]
+#[derive(Drop)]
 pub struct Frame {
     /// The identifier on a CAN link, of 29 bits. `None` on a KISS link.
     pub can: Option<u32>,

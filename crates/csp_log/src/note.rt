@@ -3,7 +3,7 @@
 use csp_base::{Addr, Port, Prio};
 
 /// A request of an application, or what the router answers or reports.
-#[derive(Clone, Copy, PartialEq, Eq)]
+#[derive(Clone, Copy)]
 pub enum Note {
     /// The application asks for a port, and for packets with all these flags alone.
     Bind {
@@ -45,7 +45,7 @@ pub enum Note {
 }
 
 /// Why a port or a connection is refused.
-#[derive(Clone, Copy, PartialEq, Eq)]
+#[derive(Clone, Copy)]
 pub enum Why {
     /// Another application has the port.
     InUse,

@@ -10,7 +10,7 @@ use crate::row::{Deed, ItemHead};
 use crate::{Note, QueueId};
 
 /// What note a turn moved between its party and a queue.
-#[derive(Clone, Copy, PartialEq, Eq)]
+#[derive(Clone, Copy)]
 pub enum Noted {
     /// This note, into this queue.
     Pushed(QueueId, Note),

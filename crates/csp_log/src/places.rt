@@ -36,7 +36,7 @@ pub const LINK_ENDS: usize = 8;
 
 /// Where a link ends: at an interface of a node, by the node's place among the nodes and the number of
 /// the interface there.
-#[derive(Clone, Copy, PartialEq, Eq, Debug, Default)]
+#[derive(Clone, Copy, Debug, Default)]
 pub struct End {
     /// The place of the node.
     pub node: u8,
@@ -45,7 +45,7 @@ pub struct End {
 }
 
 /// Names a queue. The number is the application's, the interface's, or for a link that of its end.
-#[derive(Clone, Copy, PartialEq, Eq, Default)]
+#[derive(Clone, Copy, Default)]
 pub enum QueueId {
     /// From interfaces and the node itself to the router or bridge: four queues, one for each priority.
     #[default]
@@ -63,7 +63,7 @@ pub enum QueueId {
 }
 
 /// The kind of a link.
-#[derive(Clone, Copy, PartialEq, Eq, Debug)]
+#[derive(Clone, Copy, Debug)]
 pub enum LinkKind {
     /// Bytes in KISS frames, whose CRC covers the payload.
     Kiss,
@@ -74,7 +74,7 @@ pub enum LinkKind {
 }
 
 /// What a lane carries, a queue between two parties.
-#[derive(Clone, Copy, PartialEq, Eq)]
+#[derive(Clone, Copy)]
 pub enum Carries {
     /// Packets for a slot or without a mark, and an application's requests.
     Up,
@@ -101,7 +101,7 @@ impl LinkKind {
 }
 
 /// What a queue carries.
-#[derive(Clone, Copy, PartialEq, Eq)]
+#[derive(Clone, Copy)]
 pub enum Rule {
     /// The inbox as a whole: packets marked with an interface, or with none.
     Inbox,
@@ -112,7 +112,7 @@ pub enum Rule {
 }
 
 /// Who holds a buffer. A bridge counts as the router of its node.
-#[derive(Clone, Copy, PartialEq, Eq)]
+#[derive(Clone, Copy)]
 pub enum Place {
     /// The node's pool.
     Pool,

@@ -8,7 +8,7 @@ use csp_base::Turn;
 use csp_buffer::Shown;
 
 /// A picture of an item.
-#[derive(Drop, PartialEq, Eq)]
+#[derive(Drop)]
 pub enum ItemShown {
     Packet { mark: u8, buffer: Shown },
     Frame(Frame),
@@ -16,7 +16,7 @@ pub enum ItemShown {
 }
 
 /// A picture of an operation.
-#[derive(Drop, PartialEq, Eq)]
+#[derive(Drop)]
 pub enum OpShown {
     Nothing,
     Take,
@@ -26,7 +26,7 @@ pub enum OpShown {
 }
 
 /// A picture of an answer.
-#[derive(Drop, PartialEq, Eq)]
+#[derive(Drop)]
 pub enum AnswerShown {
     Nothing,
     Taken(Shown),
