@@ -12,7 +12,7 @@ use csp_log::{Event, Log};
 use std::alloc::{AllocError, Global};
 
 /// A connection that became open.
-#[derive(Clone, Copy, PartialEq, Eq)]
+#[derive(Clone, Copy)]
 pub struct Opening {
     /// Its slot.
     pub slot: u8,
