@@ -4,7 +4,7 @@
 pub const MAX_REPEATS: u8 = 7;
 
 /// Something that happens to one frame on its way over a link.
-#[derive(Clone, Copy, PartialEq, Eq, Debug)]
+#[derive(Clone, Copy, Debug)]
 pub struct Fault {
     /// The direction: 0 from the first end to the second, 1 back.
     pub dir: u8,
@@ -15,7 +15,7 @@ pub struct Fault {
 }
 
 /// What happens to a frame. Of faults of one kind for one frame the last counts.
-#[derive(Clone, Copy, PartialEq, Eq, Debug)]
+#[derive(Clone, Copy, Debug)]
 pub enum FaultKind {
     /// It is lost, whatever else the plan says of it.
     Lose,

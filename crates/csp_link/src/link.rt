@@ -100,7 +100,7 @@ impl Link {
         ensures { result.items ≡ circle self.now now }
     {
         let mut circle = Circle::new();
-        if self.doing == Doing::Rest && self.forth.looks(now) && self.back.looks(now) {
+        if matches!(self.doing, Doing::Rest) && self.forth.looks(now) && self.back.looks(now) {
             circle.push(self.way.from_queue());
             circle.push(self.way.other().from_queue());
         }

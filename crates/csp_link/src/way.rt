@@ -6,7 +6,7 @@ ghost use Rattle.csp_link.specs.Ways.{number, other};
 use csp_log::QueueId;
 
 /// A direction of a link.
-#[derive(Clone, Copy, PartialEq, Eq)]
+#[derive(Clone, Copy)]
 pub enum Way {
     /// From the first end to the second.
     Forth,
