@@ -54,3 +54,36 @@ returns-clause-had g c = λ k.
 
 pub returns-clause-asked : goal.returns-clause-asked
 returns-clause-asked g c = rw c.ask-op.ensures.op at c.ask-op.ensures.served
+
+pub carry-requires-clause-waiting : goal.carry-requires-clause-waiting
+carry-requires-clause-waiting g c = c.ask-op.ensures.waiting
+
+pub carry-requires-clause-awaits : goal.carry-requires-clause-awaits
+carry-requires-clause-awaits g c = c.ask-op.ensures.awaits
+
+pub carry-requires-clause-early : goal.carry-requires-clause-early
+carry-requires-clause-early g c = c.requires.early
+
+pub carry-requires-clause-room : goal.carry-requires-clause-room
+carry-requires-clause-room g c = c.requires.room
+
+pub carry-requires-clause-region : goal.carry-requires-clause-region
+carry-requires-clause-region g c = c.ask-op.ensures.region ∙ c.requires.region
+
+pub returns-clause-ready : goal.returns-clause-ready
+returns-clause-ready g c = c.carry.ensures.ready
+
+pub returns-clause-uses : goal.returns-clause-uses
+returns-clause-uses g c = λ q. c.carry.ensures.uses q ∙ c.ask-op.ensures.uses q
+
+pub returns-clause-rules : goal.returns-clause-rules
+returns-clause-rules g c = c.carry.ensures.rules
+
+pub returns-clause-region : goal.returns-clause-region
+returns-clause-region g c = (c.carry.ensures.region.0 ∙ c.ask-op.ensures.region, c.carry.ensures.region.1)
+
+pub returns-clause-needs : goal.returns-clause-needs
+returns-clause-needs g c = c.carry.ensures.needs ∙ c.ask-op.ensures.needs
+
+pub returns-clause-most : goal.returns-clause-most
+returns-clause-most g c = c.carry.ensures.most

@@ -29,3 +29,39 @@ returns-clause-went g c = (
   c.turn-turn.ensures,
   c.told.ensures.holds,
 )
+
+pub told-requires-clause-waiting : goal.told-requires-clause-waiting
+told-requires-clause-waiting g c = c.requires.waiting
+
+pub told-requires-clause-early : goal.told-requires-clause-early
+told-requires-clause-early g c = c.requires.early
+
+pub told-requires-clause-countable : goal.told-requires-clause-countable
+told-requires-clause-countable g c = c.requires.countable
+
+pub told-requires-clause-stock : goal.told-requires-clause-stock
+told-requires-clause-stock g c = c.requires.stock
+
+pub returns-clause-ready : goal.returns-clause-ready
+returns-clause-ready g c = c.told.ensures.ready
+
+pub returns-clause-uses : goal.returns-clause-uses
+returns-clause-uses g c = c.told.ensures.uses
+
+pub returns-clause-needs : goal.returns-clause-needs
+returns-clause-needs g c = c.told.ensures.needs
+
+pub returns-clause-least : goal.returns-clause-least
+returns-clause-least g c = c.told.ensures.least
+
+pub returns-clause-most : goal.returns-clause-most
+returns-clause-most g c = c.told.ensures.most
+
+pub returns-clause-counted : goal.returns-clause-counted
+returns-clause-counted g c = c.told.ensures.count
+
+pub returns-clause-rules : goal.returns-clause-rules
+returns-clause-rules g c = c.serve-answer.ensures.rules
+
+pub returns-clause-region : goal.returns-clause-region
+returns-clause-region g c = (c.told.ensures.region, c.serve-answer.ensures.region)
