@@ -4,7 +4,7 @@ ghost use Rattle.std.specs.Prelude.{◌≡◌, Some, IfSome};
 ghost use Rattle.csp_cmp.specs.Codes.{code_number, code_of};
 
 /// What a request asks for. Its reply has the same code.
-#[derive(Clone, Copy, PartialEq, Eq, Debug)]
+#[derive(Clone, Copy)]
 pub enum Code {
     /// Who the node is.
     Ident,

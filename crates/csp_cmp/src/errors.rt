@@ -3,7 +3,7 @@
 use thiserror::Error;
 
 /// Why bytes are no request. Where several fit, the first of these is answered.
-#[derive(Clone, Copy, PartialEq, Eq, Debug, Error)]
+#[derive(Clone, Copy, Debug, Error)]
 pub enum CmpError {
     /// They lack the type or the code.
     #[error("the request has no type or no code")]
