@@ -6,7 +6,7 @@ use bitflags::{Flag, Flags, bitflag_items};
 
 /// The flags of a header, 8 bits. The three highest have no name: they are carried, and nothing acts
 /// on them.
-#[derive(Clone, Copy, PartialEq, Eq, Debug)]
+#[derive(Clone, Copy)]
 pub struct FlagSet(pub u8);
 
 bitflag_items! {

@@ -6,7 +6,7 @@ use bitflags::Flags;
 use csp_base::{Addr, Port, Prio};
 
 /// The header of a packet.
-#[derive(Clone, Copy, PartialEq, Eq, Debug)]
+#[derive(Clone, Copy)]
 pub struct Header {
     /// The priority, 2 bits.
     pub prio: Prio,
