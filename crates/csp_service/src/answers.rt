@@ -26,7 +26,7 @@ pub const REBOOT: u32 = 0x8007_8007;
 pub const SHUTDOWN: u32 = 0xD1E5_529A;
 
 /// What comes of a request.
-#[derive(Clone, Copy, PartialEq, Eq)]
+#[derive(Clone, Copy)]
 pub enum Served {
     /// A reply was written.
     Reply,
@@ -39,7 +39,7 @@ pub enum Served {
 }
 
 /// Why a service refused a request.
-#[derive(Clone, Copy, PartialEq, Eq, Debug, Error)]
+#[derive(Clone, Copy, Debug, Error)]
 pub enum ServiceError {
     /// It is no request of the management protocol.
     #[error("{0}")]

@@ -6,7 +6,7 @@ ghost use Rattle.csp_service.specs.Services.{service_at};
 use csp_base::Port;
 
 /// A service of a node.
-#[derive(Clone, Copy, PartialEq, Eq)]
+#[derive(Clone, Copy)]
 pub enum Service {
     /// The management protocol, at port 0.
     Cmp,

@@ -6,7 +6,7 @@ ghost use Rattle.csp_service.specs.Counting.{no_stats, place_of, raised};
 use csp_cmp::COUNTS;
 
 /// What is counted, in the order of a reply.
-#[derive(Clone, Copy, PartialEq, Eq)]
+#[derive(Clone, Copy)]
 pub enum Count {
     /// Packets put into the interface's queue.
     Sent,
@@ -52,7 +52,7 @@ impl Count {
 }
 
 /// The counts of one interface.
-#[derive(Clone, Copy, PartialEq, Eq)]
+#[derive(Clone, Copy)]
 pub struct Stats {
     pub counts: [u32; COUNTS],
 }
