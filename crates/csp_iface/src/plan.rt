@@ -1,7 +1,7 @@
 //! What a turn of an interface is.
 
 /// What a turn is, from its operation to the answer.
-#[derive(Clone, Copy, PartialEq, Eq)]
+#[derive(Clone, Copy)]
 pub enum Plan {
     /// Between two turns.
     Rest,
@@ -20,7 +20,7 @@ pub enum Plan {
 }
 
 /// The two sides of an interface, which take turns.
-#[derive(Clone, Copy, PartialEq, Eq)]
+#[derive(Clone, Copy)]
 pub enum Side {
     /// From the node to the link.
     Sending,
