@@ -40,7 +40,7 @@ use csp_rdp::{
 use csp_rdp_header::{MAX_WINDOW, Options, RdpHead};
 
 /// A packet that opens a reliable connection.
-#[derive(Clone, Copy, PartialEq, Eq)]
+#[derive(Clone, Copy)]
 pub struct Invitation {
     /// Its head.
     pub head: RdpHead,

@@ -3,7 +3,7 @@
 use csp_rdp_header::Options;
 
 /// What the reliable connections of a node begin with.
-#[derive(Clone, Copy, PartialEq, Eq)]
+#[derive(Clone, Copy)]
 pub struct Origin {
     /// The node's place among the nodes, by which tags name it.
     pub node: u8,

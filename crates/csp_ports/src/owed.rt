@@ -3,7 +3,7 @@
 use csp_deck::Note;
 
 /// An answer that the router still has to push to an application.
-#[derive(Clone, Copy, PartialEq, Eq)]
+#[derive(Clone, Copy)]
 pub struct Owed {
     /// The application's number.
     pub app: u8,

@@ -3,7 +3,7 @@
 use csp_base::{Addr, Port, Prio};
 
 /// A connection that an application asks for.
-#[derive(Clone, Copy, PartialEq, Eq)]
+#[derive(Clone, Copy)]
 pub struct Request {
     /// The slot that it is to have.
     pub slot: u8,

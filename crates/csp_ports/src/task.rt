@@ -6,7 +6,7 @@ ghost use Rattle.csp_ports.specs.Tasks.{task_by};
 use csp_rdp::Job;
 
 /// A task of a slot's connection.
-#[derive(Clone, Copy, PartialEq, Eq)]
+#[derive(Clone, Copy)]
 pub enum Task {
     /// The application is to be told that the connection is not open any more.
     Tell,

@@ -6,7 +6,7 @@ ghost use Rattle.csp_ports.specs.PlainPorts.{fresh, is_closing};
 use csp_base::Prio;
 
 /// What an application waits for at a slot.
-#[derive(Clone, Copy, PartialEq, Eq)]
+#[derive(Clone, Copy)]
 pub enum Wish {
     /// Nothing.
     Nothing,
@@ -28,7 +28,7 @@ impl Wish {
 }
 
 /// How the packets that a slot's connection sends are marked, and how far the slot has come.
-#[derive(Clone, Copy, PartialEq, Eq)]
+#[derive(Clone, Copy)]
 pub struct Terms {
     /// The priority of the packets.
     pub prio: Prio,
