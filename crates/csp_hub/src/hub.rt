@@ -119,7 +119,7 @@ impl Hub {
         ensures served { All (λ q. IsSome (uses self.now q)) result.items }
     {
         let mut circle = Circle::new();
-        if self.doing == Doing::Rest && all_idle(self.ends.as_slice(), now) {
+        if matches!(self.doing, Doing::Rest) && all_idle(self.ends.as_slice(), now) {
             push_sources(&mut circle, self.serving, self.ends.len() as u8);
             push_sources(&mut circle, 0, self.serving);
         }
