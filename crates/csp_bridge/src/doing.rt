@@ -1,7 +1,7 @@
 //! What a turn of a bridge is.
 
 /// What a turn is, from its operation to the answer.
-#[derive(Clone, Copy, PartialEq, Eq)]
+#[derive(Clone, Copy)]
 pub enum Doing {
     /// Between two turns.
     Rest,

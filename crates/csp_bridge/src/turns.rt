@@ -39,7 +39,7 @@ impl Bridge {
         ensures { result.items ≡ circle self.now.bridge }
     {
         let mut circle = Circle::new();
-        if self.doing == Doing::Rest && self.trash.is_empty() && self.out.is_empty() {
+        if matches!(self.doing, Doing::Rest) && self.trash.is_empty() && self.out.is_empty() {
             circle.push(QueueId::Inbox);
         }
         circle
