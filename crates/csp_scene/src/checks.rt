@@ -12,7 +12,7 @@ use crate::table::Part;
 use csp_text::{byte_digits, is_bytes, is_hex_word, is_name, number};
 
 /// What is looked at: the fixed words, the names, or the numbers and hexadecimal texts.
-#[derive(Clone, Copy, PartialEq, Eq)]
+#[derive(Clone, Copy)]
 pub(crate) enum Check {
     Fixed,
     Name,

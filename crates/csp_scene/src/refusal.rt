@@ -33,7 +33,7 @@ pub enum SceneKind {
 }
 
 /// A scenario that is refused, or memory that ran out.
-#[derive(Clone, Copy, PartialEq, Eq, Debug, Error)]
+#[derive(Clone, Copy, Debug, Error)]
 pub enum SceneError {
     /// The first refused line, counted from 1, and what is wrong with it.
     #[error("line {line}: {kind:?}")]

@@ -132,7 +132,7 @@ impl SceneLink {
 }
 
 /// One entry of a schedule that is stated step by step.
-#[derive(Clone, Copy, PartialEq, Eq, Debug)]
+#[derive(Clone, Copy, Debug)]
 pub enum Move {
     /// A turn of this party.
     Turn(Who),

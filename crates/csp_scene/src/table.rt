@@ -14,7 +14,7 @@ use csp_sfp::{MAX_BLOB, MAX_SIZE};
 use std::alloc::{AllocError, Global};
 
 /// A line form.
-#[derive(Clone, Copy, PartialEq, Eq)]
+#[derive(Clone, Copy)]
 pub(crate) enum Form {
     /// `until N`
     Until,
@@ -83,7 +83,7 @@ pub(crate) enum Form {
 }
 
 /// A fixed word that stands after the first.
-#[derive(Clone, Copy, PartialEq, Eq)]
+#[derive(Clone, Copy)]
 pub(crate) enum Keyword {
     /// `buffers`
     Buffers,
@@ -132,7 +132,7 @@ pub(crate) enum Keyword {
 }
 
 /// What stands in one place of a line.
-#[derive(Clone, Copy, PartialEq, Eq)]
+#[derive(Clone, Copy)]
 pub(crate) enum Part {
     /// This word itself.
     Fixed(Keyword),
@@ -155,7 +155,7 @@ pub(crate) enum Part {
 }
 
 /// Words at a line's end that may be left out together.
-#[derive(Clone, Copy, PartialEq, Eq)]
+#[derive(Clone, Copy)]
 pub(crate) enum Group {
     /// This word.
     Flag(Keyword),
