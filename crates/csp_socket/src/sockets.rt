@@ -11,7 +11,7 @@ use thiserror::Error;
 pub const BINDABLE_PORTS: usize = 48;
 
 /// Why a port was not bound.
-#[derive(Clone, Copy, PartialEq, Eq, Debug, Error)]
+#[derive(Clone, Copy, Debug, Error)]
 pub enum BindError {
     /// It is an own port of connections.
     #[error("the port is not one that can be bound")]
