@@ -12,7 +12,7 @@ use csp_log::{Carries, DOWN_ROOM, LINK_ROOM, OUT_ROOM, QueueId, UP_ROOM};
 use csp_record::Who;
 
 /// An end of a lane.
-#[derive(Clone, Copy, PartialEq, Eq)]
+#[derive(Clone, Copy)]
 pub struct WireEnd {
     /// The place of the party that uses it, among the parties of the topology.
     pub party: u16,
@@ -21,7 +21,7 @@ pub struct WireEnd {
 }
 
 /// A lane of a node.
-#[derive(Clone, Copy, PartialEq, Eq)]
+#[derive(Clone, Copy)]
 pub struct Wire {
     /// Its name at its node.
     pub queue: QueueId,
