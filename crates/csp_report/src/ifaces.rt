@@ -20,7 +20,7 @@ use csp_scene::{MAX_LINKS, MAX_NODES, SceneLink, SceneNode};
 use std::alloc::AllocError;
 
 /// A count in an interface's line, by the word before it.
-#[derive(Clone, Copy, PartialEq, Eq)]
+#[derive(Clone, Copy)]
 pub(crate) enum IfaceCount {
     /// `sent`: transmissions.
     Sent,

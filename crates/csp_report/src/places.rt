@@ -16,7 +16,7 @@ use csp_scene::SceneNode;
 use std::alloc::AllocError;
 
 /// A kind of place of a node, by what stands before its count in the node's line.
-#[derive(Clone, Copy, PartialEq, Eq)]
+#[derive(Clone, Copy)]
 pub(crate) enum PlaceKind {
     /// `free`: the pool.
     Pool,
