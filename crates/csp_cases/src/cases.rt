@@ -5,7 +5,7 @@ use crate::texts::expanded;
 use std::alloc::{AllocError, AllocFailed, Global};
 
 /// Why a case has no answer.
-#[derive(Clone, Copy, PartialEq, Eq)]
+#[derive(Clone, Copy)]
 pub enum CaseError {
     /// Memory was wanting.
     NoMemory,
