@@ -9,7 +9,7 @@ pub const MAX_WORKERS: u32 = 8;
 pub const DEFAULT_WORKERS: u32 = 4;
 
 /// A command of the program.
-#[derive(Clone, Copy, PartialEq, Eq)]
+#[derive(Clone, Copy)]
 pub enum Command {
     /// To run a scenario by its schedule: `sim`.
     Sim,
@@ -31,7 +31,7 @@ pub enum Command {
 }
 
 /// Why words are no command.
-#[derive(Clone, Copy, PartialEq, Eq, Debug, Error)]
+#[derive(Clone, Copy, Debug, Error)]
 pub enum WordsError {
     /// They are outside the grammar.
     #[error("the words are no command")]
