@@ -12,7 +12,7 @@ use csp_topology::MAX_PARTIES;
 use std::alloc::AllocError;
 
 /// How the rounds of a run go.
-#[derive(Clone, Copy, PartialEq, Eq)]
+#[derive(Clone, Copy)]
 pub(crate) enum Order {
     /// Party by party.
     ByParty,

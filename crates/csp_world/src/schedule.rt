@@ -22,7 +22,7 @@ use csp_topology::{MAX_PARTIES, counts_parties};
 use std::alloc::{AllocError, Global};
 
 /// Why a scene has no record.
-#[derive(Clone, Copy, PartialEq, Eq)]
+#[derive(Clone, Copy)]
 pub enum SimError {
     /// Memory was wanting.
     NoMemory,
