@@ -1,7 +1,7 @@
 //! Priorities of packets: 2 bits of the header.
 
 /// The priority of a packet, most urgent first.
-#[derive(Clone, Copy, PartialEq, Eq, Debug)]
+#[derive(Clone, Copy, Debug)]
 pub enum Prio {
     /// Number 0.
     Critical,

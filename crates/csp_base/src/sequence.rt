@@ -5,7 +5,7 @@ ghost use Rattle.std.specs.Prelude.{IsTrue, IfSome, IfNone};
 ghost use Rattle.csp_base.specs.Sequence.{number_of, ahead_of, IsApart, IsNear, near};
 
 /// A sequence number: an index of a flow, modulo 65,536.
-#[derive(Clone, Copy, PartialEq, Eq, Debug, Default)]
+#[derive(Clone, Copy, PartialEq, Eq, Default)]
 pub struct Seq(pub u16);
 
 impl Seq {

@@ -8,7 +8,7 @@ ghost use Rattle.csp_base.specs.Transfer.{TookAll, TookAtMost, TookExactly, Exte
 use std::alloc::Global;
 
 /// What a source or a sink answers where it could not serve a call.
-#[derive(Debug, Clone, Copy, PartialEq, Eq, Drop)]
+#[derive(Clone, Copy, Drop)]
 pub struct Failed;
 
 /// A stream of bytes that is read once, from the front.
@@ -27,7 +27,7 @@ pub trait Source {
 }
 
 /// Why a source was not read to its end.
-#[derive(Debug, Clone, Copy, PartialEq, Eq, Drop)]
+#[derive(Clone, Copy, Drop)]
 pub enum ReadError {
     /// Memory was wanting.
     NoMemory,

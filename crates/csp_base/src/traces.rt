@@ -1,7 +1,7 @@
 //! Where a packet comes from, for the record alone.
 
 /// Names one transmission: the `serial`-th, from 0, of an interface of a node.
-#[derive(Clone, Copy, PartialEq, Eq, Debug)]
+#[derive(Clone, Copy)]
 pub struct Origin {
     pub node: u8,
     pub iface: u8,
@@ -10,7 +10,7 @@ pub struct Origin {
 
 /// Names a flow, the `nth` connection of a node, and the true indices in it, which do not wrap, of a
 /// packet's sequence number and of its acknowledgement number.
-#[derive(Clone, Copy, PartialEq, Eq, Debug)]
+#[derive(Clone, Copy)]
 pub struct Tag {
     pub node: u8,
     pub nth: u32,
@@ -19,7 +19,7 @@ pub struct Tag {
 }
 
 /// What the record knows of a packet: its last transmission, how many it had, and its flow.
-#[derive(Clone, Copy, PartialEq, Eq, Debug)]
+#[derive(Clone, Copy)]
 pub struct Trace {
     pub origin: Option<Origin>,
     pub hops: u64,

@@ -1,7 +1,7 @@
 //! What one turn of a party came to.
 
 /// What one turn of a party came to.
-#[derive(Clone, Copy, PartialEq, Eq, Debug)]
+#[derive(Clone, Copy)]
 pub enum Turn {
     /// It did its one operation.
     Did,

@@ -30,7 +30,7 @@ pub fn read_status(error: ReadError) -> Status
 }
 
 /// Why nothing can be told of a text.
-#[derive(Clone, Copy, PartialEq, Eq)]
+#[derive(Clone, Copy)]
 pub enum Refusal {
     /// Memory was wanting.
     NoMemory,

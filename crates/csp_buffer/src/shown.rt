@@ -7,7 +7,7 @@ use csp_base::{MAX_PAYLOAD, Trace};
 use std::marker::Model;
 
 /// What a buffer held at one moment, for a log. Contracts see it as a `Content`, and a buffer as its picture and its region.
-#[derive(Drop, Clone, PartialEq, Eq, Debug)]
+#[derive(Drop, Clone)]
 pub struct Shown {
     pub number: u16,
     pub header: u32,

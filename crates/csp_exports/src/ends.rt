@@ -10,7 +10,7 @@ use csp_scene::{Scene, SceneLink, SceneNode};
 use std::marker::Model;
 
 /// How the frames that an end put on its link are written.
-#[derive(Clone, Copy, PartialEq, Eq)]
+#[derive(Clone, Copy)]
 pub enum Form {
     /// As the bytes that they are, one frame after the other: on a KISS link.
     Kiss,

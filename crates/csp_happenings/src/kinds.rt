@@ -6,7 +6,7 @@ use csp_log::{Event, Note};
 use csp_record::Who;
 
 /// What a packet is to its reliable connection.
-#[derive(Clone, Copy, PartialEq, Eq)]
+#[derive(Clone, Copy)]
 pub enum Kind {
     /// It opens the connection.
     Syn,

@@ -7,7 +7,7 @@ ghost use Rattle.csp_picture.specs.Style.{paint_of, tip_of};
 use csp_happenings::Fate;
 
 /// The colour of a frame, by what became of it.
-#[derive(Clone, Copy, PartialEq, Eq)]
+#[derive(Clone, Copy)]
 pub(crate) enum Colour {
     /// It came as it was, once and at once.
     Plain,

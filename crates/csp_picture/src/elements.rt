@@ -20,7 +20,7 @@ pub const DROPS: u64 = 4;
 pub const CHAR_WIDTH: u64 = 7;
 
 /// A point: how far to the right, and how far down.
-#[derive(Clone, Copy, PartialEq, Eq)]
+#[derive(Clone, Copy)]
 pub(crate) struct Point {
     pub x: u64,
     pub y: u64,

@@ -38,7 +38,7 @@ pub const GAP_START: u64 = 72;
 pub const GAP_RISE: u64 = 19;
 
 /// Over which link a frame goes, and from which node to which, each by its place.
-#[derive(Clone, Copy, PartialEq, Eq)]
+#[derive(Clone, Copy)]
 pub(crate) struct Course {
     pub link: u8,
     pub from: u8,

@@ -12,7 +12,7 @@ use std::collections::BTreeMap;
 use std::marker::Model;
 
 /// A window of rounds: from the one to the other, both included.
-#[derive(Clone, Copy, PartialEq, Eq)]
+#[derive(Clone, Copy)]
 pub struct Window {
     /// The first round.
     pub from: u64,
@@ -28,7 +28,7 @@ pub(crate) struct Sent {
 }
 
 /// Where a link took the frame that opens a transmission: in which row, and the colour of its fate.
-#[derive(Clone, Copy, PartialEq, Eq)]
+#[derive(Clone, Copy)]
 pub(crate) struct Start {
     pub row: u32,
     pub colour: Colour,

@@ -9,7 +9,7 @@ use std::test::*;
 use std::thread::Threads;
 
 /// What makes rounds, and keeps the ticket that it drew in the last one, and at which time that was.
-#[derive(Clone, Copy, PartialEq, Eq)]
+#[derive(Clone, Copy)]
 struct Visitor {
     ticket: u64,
     time: u64,

@@ -23,7 +23,7 @@ pub const HEAD_LEN: usize = 5;
 
 /// The head of the reliable transport, the last five bytes of a payload (before a checksum): flags,
 /// sequence number, acknowledgement number, each number the most significant byte first.
-#[derive(Clone, Copy, PartialEq, Eq, Debug)]
+#[derive(Clone, Copy)]
 pub struct RdpHead {
     pub flags: u8,
     pub seq: Seq,

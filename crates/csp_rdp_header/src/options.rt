@@ -13,7 +13,7 @@ pub const OPTIONS_LEN: usize = 24;
 
 /// What the client of a connection states in its first packet, and the server takes over. Times are in
 /// rounds.
-#[derive(Clone, Copy, PartialEq, Eq, Debug)]
+#[derive(Clone, Copy, Debug)]
 pub struct Options {
     /// How many packets may be unacknowledged, 1 to `MAX_WINDOW`.
     pub window: u32,

@@ -30,7 +30,7 @@ const ROOM: usize = 65_536;
 const MOST: u64 = 10_000;
 
 /// Which calls fail, one in a run.
-#[derive(Clone, Copy, PartialEq, Eq)]
+#[derive(Clone, Copy)]
 enum Calls {
     /// Those that read.
     Reads,

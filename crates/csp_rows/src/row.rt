@@ -8,7 +8,7 @@ use std::alloc::{AllocError, Global};
 const ROOM: usize = 262_144;
 
 /// Whether a scenario printed what it should.
-#[derive(Clone, Copy, PartialEq, Eq)]
+#[derive(Clone, Copy)]
 pub(crate) enum Outcome {
     /// It did, byte for byte.
     AsWanted,

@@ -25,7 +25,7 @@ pub(crate) struct Case<'a> {
 }
 
 /// Whether a run said what it should.
-#[derive(Clone, Copy, PartialEq, Eq)]
+#[derive(Clone, Copy)]
 pub(crate) enum Verdict {
     /// It did.
     AsWanted,

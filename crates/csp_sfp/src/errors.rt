@@ -3,7 +3,7 @@
 use thiserror::Error;
 
 /// Why a collector refuses a piece: the first that fits, in this order. The blob under way is dropped with the piece.
-#[derive(Clone, Copy, PartialEq, Eq, Debug, Error)]
+#[derive(Clone, Copy, Debug, Error)]
 pub enum SfpError {
     /// It is shorter than a trailer.
     #[error("the piece is shorter than its trailer")]

@@ -17,7 +17,7 @@ use csp_scene::SceneKind;
 use std::alloc::Global;
 
 /// Why nothing is told.
-#[derive(Clone, Copy, PartialEq, Eq)]
+#[derive(Clone, Copy)]
 pub(crate) enum Untold {
     /// The text has no scene, or the scene no record.
     Text(Refusal),
