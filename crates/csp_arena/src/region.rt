@@ -46,6 +46,7 @@ impl Region {
         requires some { (0 < cells) × (0 < size) }
         ensures region { IfOk result (λ p. (p.0.cells ≡ cells) × (p.0.size ≡ size) × (p.0.name.size ≡ size)) }
         ensures cells { IfOk result (λ p. p.1.items ≡ blank_cells p.0) }
+        ensures room { IfOk result (λ p. vec_capacity p.1 ≡ cells) }
     {
         let count = usize::from(cells);
         let mut memory = Vec::from_elem(alloc, 0u8, count * usize::from(size))?;
@@ -99,6 +100,7 @@ fn divide(start: *mut u8, strip: Strip, cells: u16, size: u16, list: &mut Vec<Ce
     requires some { 0 < size }
     requires room { (list.old.items ≡ []) × (cells ≤ vec_capacity list.old) }
     ensures cells { list.new.items ≡ map (blank (name_at start 0 size)) (range_with_len 0 cells) }
+    ensures capacity { vec_capacity list.new ≡ vec_capacity list.old }
     ensures rest { (result.ptr ≡ start +ₚ cells * size) × (result.items ≡ []) }
 {
     let mut rest = strip;

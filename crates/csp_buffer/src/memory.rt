@@ -18,14 +18,14 @@ pub struct Memory {
 }
 
 impl Model for Memory {
-    ghost use Rattle.std.specs.Prelude.{◌≡◌, ◌≤◌, [], vec_capacity};
+    ghost use Rattle.std.specs.Prelude.{◌≡◌, [], vec_capacity};
     ghost use Rattle.csp_buffer.specs.Memory.{PlainMemory};
 
     ghost Value = { PlainMemory };
 
     ghost view = { λ m. record { region = m.region.name; count = m.region.cells } };
 
-    ghost invariant = { λ m. (m.cells.items ≡ []) × (m.region.cells ≤ vec_capacity m.cells) };
+    ghost invariant = { λ m. (m.cells.items ≡ []) × (vec_capacity m.cells ≡ m.region.cells) };
 }
 
 impl Memory {
@@ -37,6 +37,7 @@ impl Memory {
         requires { 0 < count }
         ensures count { IfOk result (λ p. p.0.count ≡ count) }
         ensures buffers { IfOk result (λ p. p.1.items ≡ fresh_all p.0) }
+        ensures room { IfOk result (λ p. vec_capacity p.1 ≡ count) }
     {
         let mut buffers = Vec::with_capacity(alloc, usize::from(count))?;
         match Region::open(alloc, count, CELL_SIZE) {
@@ -79,6 +80,7 @@ fn fill(cells: &mut Vec<Cell>, buffers: &mut Vec<Buffer>)
     requires room { vec_len buffers.old + length cells.old.items ≤ vec_capacity buffers.old }
     ensures buffers { buffers.new.items ≡ map buffer_of (reverse cells.old.items) }
     ensures cells { cells.new.items ≡ [] }
+    ensures buffers_capacity { vec_capacity buffers.new ≡ vec_capacity buffers.old }
     ensures capacity { vec_capacity cells.new ≡ vec_capacity cells.old }
 {
     while let Some(cell) = cells.pop() {

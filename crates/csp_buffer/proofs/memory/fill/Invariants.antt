@@ -8,6 +8,7 @@ invariant-loop-cell l =
     × All IsBufferCell l.cells.items
     × (vec_len l.buffers + length l.cells.items ≤ vec_capacity l.buffers)
     × (vec_capacity l.cells ≡ vec_capacity l.fn.cells)
+    × (vec_capacity l.buffers ≡ vec_capacity l.fn.buffers)
 
 abbrev pub decreases-loop-cell : goal.decreases-loop-cell
 decreases-loop-cell l = goal.left-loop-cell l

@@ -1,4 +1,4 @@
-use Rattle.std.proofs.Common.{map, reverse, arith, rules, ap, ◌∙◌}
+use Rattle.std.proofs.Common.{map, reverse, arith, rules, sym, ap, ◌∙◌}
 use Rattle.std.specs.List.{range_with_len}
 use Rattle.std.proofs.lemmas.List.{reverse-reverse}
 use Rattle.csp_buffer.specs.PlainBuffer.{buffer_of}
@@ -12,7 +12,7 @@ pub fill-requires-clause-room : goal.fill-requires-clause-room
 fill-requires-clause-room c = grind (arith, rules, blank_long c.in-Ok.region c.in-Ok.cells.items c.reverse.new.self.items c.in-Ok.ensures.cells c.reverse.ensures.items, c.in-Ok.ensures.region)
 
 pub invariant_of-result : goal.invariant_of-result
-invariant_of-result c = (c.fill.ensures.cells, grind (arith, rules, blank_long c.in-Ok.region c.in-Ok.cells.items c.reverse.new.self.items c.in-Ok.ensures.cells c.reverse.ensures.items))
+invariant_of-result c = (c.fill.ensures.cells, c.fill.ensures.capacity ∙ c.reverse.ensures.capacity ∙ c.in-Ok.ensures.room ∙ sym c.in-Ok.ensures.region.0)
 
 pub returns-in-Ok-clause-buffers : goal.returns-in-Ok-clause-buffers
 returns-in-Ok-clause-buffers c =
