@@ -1,6 +1,6 @@
 //! The line of an interface: what it sent, what it accepted, and what it could not.
 
-ghost use Rattle.std.specs.Prelude.{◌≡◌, ◌==◌, ◌++◌, ◌∷◌, ◌<◌, ◌≤◌, false, length, slice_get, count_by, sum_by, OnOk, IfOk};
+ghost use Rattle.std.specs.Prelude.{◌≡◌, ◌==◌, ◌++◌, ◌∷◌, ◌^◌, ◌<◌, ◌≤◌, false, length, slice_get, count_by, sum_by, OnOk, OnErr, IfOk};
 ghost use Rattle.std.specs.Option.{is_some, option_map_or};
 ghost use Rattle.std.specs.String.{string_bytes};
 ghost use Rattle.std.specs.Fmt.{decimal};
@@ -74,9 +74,10 @@ fn weight(event: Event, which: IfaceCount) -> u64
     }
 }
 
-/// How much these events add to a count together. Memory is wanting where it is more than 64 bits count.
+/// How much these events add to a count together. Memory is wanting exactly where it is more than 64 bits count.
 fn sum_events(events: &[Event], which: IfaceCount) -> Result<u64, AllocError>
-    ensures { IfOk result (λ sum. sum ≡ sum_by (weight which) events.now) }
+    ensures ok { IfOk result (λ sum. sum ≡ sum_by (weight which) events.now) }
+    ensures err { OnErr result (2 ^ 64 ≤ sum_by (weight which) events.now) }
 {
     let mut sum = 0u64;
     for event in events {
@@ -114,9 +115,10 @@ fn count_accepted(log: &Log) -> u64
     count
 }
 
-/// A count of a log.
+/// A count of a log. Memory is wanting exactly where it is more than 64 bits count.
 fn count_in(log: &Log, which: IfaceCount) -> Result<u64, AllocError>
-    ensures { IfOk result (λ count. count ≡ counted which log.now.entries) }
+    ensures ok { IfOk result (λ count. count ≡ counted which log.now.entries) }
+    ensures err { OnErr result (2 ^ 64 ≤ counted which log.now.entries) }
 {
     match which {
         IfaceCount::Accepted => Ok(count_accepted(log)),
@@ -128,9 +130,10 @@ fn count_in(log: &Log, which: IfaceCount) -> Result<u64, AllocError>
     }
 }
 
-/// A count of the party that has this name.
+/// A count of the party that has this name. Memory is wanting exactly where it is more than 64 bits count.
 fn count_at(parties: &[PartyLog], who: Who, which: IfaceCount) -> Result<u64, AllocError>
-    ensures { IfOk result (λ count. count ≡ counted which (entries_at parties.now who)) }
+    ensures ok { IfOk result (λ count. count ≡ counted which (entries_at parties.now who)) }
+    ensures err { OnErr result (2 ^ 64 ≤ counted which (entries_at parties.now who)) }
 {
     match party_at(parties, who) {
         Some(party) => count_in(&party.log, which),

@@ -1,6 +1,6 @@
 //! The line of a node or a bridge: where its buffers were when the run ended.
 
-ghost use Rattle.std.specs.Prelude.{◌≡◌, ◌++◌, ◌∷◌, [], map, OnOk, IfOk, codes};
+ghost use Rattle.std.specs.Prelude.{◌≡◌, ◌++◌, ◌∷◌, ◌^◌, ◌≤◌, [], map, OnOk, OnErr, IfOk, codes};
 ghost use Rattle.std.specs.String.{string_bytes};
 ghost use Rattle.std.specs.Fmt.{decimal};
 ghost use Rattle.std.specs.List.{enumerate_from, join_with_byte};
@@ -49,10 +49,11 @@ impl PlaceKind {
     }
 }
 
-/// How many buffers the places of this kind held at the node at this place. Memory is wanting where they
-/// are more than 64 bits count.
+/// How many buffers the places of this kind held at the node at this place. Memory is wanting exactly where
+/// they are more than 64 bits count.
 fn held_in(run: &Record, node: usize, kind: PlaceKind) -> Result<u64, AllocError>
-    ensures { IfOk result (λ count. count ≡ held_in run.now node kind) }
+    ensures ok { IfOk result (λ count. count ≡ held_in run.now node kind) }
+    ensures err { OnErr result (2 ^ 64 ≤ held_in run.now node kind) }
 {
     let mut count = 0u64;
     for held in run.held.as_slice() {

@@ -1,6 +1,6 @@
 //! The report of a run.
 
-ghost use Rattle.std.specs.Prelude.{◌≡◌, ◌≤◌, ◌++◌, ◌∷◌, [], length, map, OnOk, IfOk};
+ghost use Rattle.std.specs.Prelude.{◌≡◌, ◌++◌, ◌∷◌, ◌-◌, ◌^◌, ◌≤◌, [], length, map, OnOk, OnErr, IfOk};
 ghost use Rattle.std.specs.String.{string_bytes};
 ghost use Rattle.std.specs.Fmt.{decimal};
 ghost use Rattle.std.specs.List.{AllByRecursion};
@@ -47,9 +47,11 @@ fn push_end(out: &mut String, run: &Record) -> Result<(), AllocError>
     end_line(out)
 }
 
-/// How many stale copies a record tells of. Memory is wanting where they are more than 64 bits count.
+/// How many stale copies a record tells of. Memory is wanting exactly where they are 2^64 - 1 or more, where their count
+/// stands still.
 fn stale_copies(run: &Record) -> Result<u64, AllocError>
-    ensures { IfOk result (λ count. count ≡ stale run.now) }
+    ensures ok { IfOk result (λ count. count ≡ stale run.now) }
+    ensures err { OnErr result (2 ^ 64 - 1 ≤ stale run.now) }
 {
     let count = stale(run);
     if count == u64::MAX {
