@@ -1,8 +1,9 @@
 //! What a node keeps of its ports.
 
-ghost use Rattle.std.specs.Prelude.{◌≡◌, ◌+◌, ◌*◌, ◌<◌, ◌≤◌, ℕ, None, Some, IfOk, IfSome, [], length, slice_get, replicate, is_some};
+ghost use Rattle.std.specs.Prelude.{◌≡◌, ◌+◌, ◌*◌, ◌<◌, ◌≤◌, ℕ, None, Some, IfOk, IfSome, [], length, slice_get, replicate, is_some, vec_capacity};
 ghost use Rattle.std.specs.List.{All};
 ghost use Rattle.std.specs.Option.{option_map};
+ghost use Rattle.std.specs.VecDeque.{deque_capacity};
 ghost use Rattle.csp_conn.specs.Opening.{found};
 ghost use Rattle.csp_conn.specs.PlainConns.{IsThere, slot_at};
 ghost use Rattle.csp_conn.specs.Slots.{between};
@@ -78,7 +79,7 @@ impl Ports {
         requires { apps ≤ MAX_APPS }
         ensures { IfOk result (λ p. p ≡ record { region = region.name; ports = ports_of apps }) }
     {
-        let owed = VecDeque::with_capacity(alloc, MAX_OWED)?;
+        let owed = open_owed(alloc)?;
         let machines = idle_machines(alloc)?;
         Ok(Ports {
             token: region,
@@ -191,9 +192,18 @@ impl Ports {
     }
 }
 
-/// A machine that is idle for each slot.
+/// Room for all answers that may be owed, and no more.
+fn open_owed(alloc: Global) -> Result<VecDeque<Owed>, AllocError>
+    ensures none { IfOk result (λ owed. owed.items ≡ []) }
+    ensures room { IfOk result (λ owed. deque_capacity owed ≡ MAX_OWED) }
+{
+    VecDeque::with_capacity(alloc, MAX_OWED)
+}
+
+/// A machine that is idle for each slot, and no room for more.
 fn idle_machines(alloc: Global) -> Result<Vec<Rdp>, AllocError>
-    ensures { IfOk result (λ machines. machines.items ≡ replicate ALL_SLOTS idle) }
+    ensures machines { IfOk result (λ machines. machines.items ≡ replicate ALL_SLOTS idle) }
+    ensures room { IfOk result (λ machines. vec_capacity machines ≡ ALL_SLOTS) }
 {
     let mut machines = Vec::with_capacity(alloc, ALL_SLOTS)?;
     for _ in 0..ALL_SLOTS {

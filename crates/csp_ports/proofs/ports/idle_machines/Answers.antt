@@ -7,10 +7,10 @@ pub loop-preserved : goal.loop-preserved
 loop-preserved c = (
   c.push_reserved.ensures.items ∙ ap₂ (λ l x. l ++ x ∷ []) c.loop.invariant.0 c.idle.ensures ∙ replicate-append-replicate c.loop.counter 1 idle,
   c.push_reserved.ensures.len ∙ ap (λ n. n + 1) c.loop.invariant.1,
-  omega (arith, c.push_reserved.ensures.capacity, c.loop.invariant.2),
+  c.push_reserved.ensures.capacity ∙ c.loop.invariant.2,
 )
 
-pub returns : goal.returns
-returns c =
+pub returns-clause-machines : goal.returns-clause-machines
+returns-clause-machines c =
     let all : c.loop.counter ≡ 16 = omega (arith, c.loop-test.false, c.loop.auto.counter-end) in
     c.loop.invariant.0 ∙ ap (λ n. replicate n idle) all

@@ -10,14 +10,14 @@ invariant_of-result c = record {
   few = rw c.new.ensures c.requires;
   apps = rw c.new.ensures refl;
   slots = refl;
-  room = c.in_ok-owed.ensures.capacity;
+  room = omega (arith, c.in_ok-owed.ensures.room);
   owners = λ port. none-bound c.new-2.result port c.new.result.apps c.new-2.ensures;
-  owed = rw (c.in_ok-owed.ensures.items) (All-nil (IsOwed c.new.result.apps));
+  owed = rw (c.in_ok-owed.ensures.none) (All-nil (IsOwed c.new.result.apps));
   due = λ app.
       let none = wishes-none 16 app in
-      rw (c.in_ok-owed.ensures.items, c.fresh.ensures) omega (arith, none);
-  all = rw c.in_ok-machines.ensures refl;
-  housed = rw c.in_ok-machines.ensures (All-replicate (IsHoused c.args.region.name) 16 idle (idle-housed c.args.region.name));
+      rw (c.in_ok-owed.ensures.none, c.fresh.ensures) omega (arith, none);
+  all = rw c.in_ok-machines.ensures.machines refl;
+  housed = rw c.in_ok-machines.ensures.machines (All-replicate (IsHoused c.args.region.name) 16 idle (idle-housed c.args.region.name));
   places = refl;
   waits = All-replicate (λ s. IfSome s (IsWaiting c.args.region.name)) 4 None tt;
 }
