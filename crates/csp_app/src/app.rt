@@ -3,6 +3,7 @@
 ghost use Rattle.std.specs.Prelude.{◌≡◌, ◌+◌, ◌^◌, ◌<◌, ◌≤◌, ◌↔◌, [], ◌∷◌, length, All, nat_lt, IsTrue, IfOk, IfSome, MatchOption};
 ghost use Rattle.csp_deck.specs.Keeping.{number_in};
 ghost use Rattle.csp_deck.specs.Step.{times};
+ghost use Rattle.csp_app.specs.Room.{take_steps};
 
 use crate::collecting::{Collectors, SLOT_COUNT};
 use crate::plan::Plan;
@@ -88,7 +89,7 @@ impl App {
         requires collectors { collectors ≡ collectors_for script }
         ensures { IfOk result (λ a. a ≡ record { region = region.name; app = opening number script }) }
     {
-        let held = Pile::open(alloc, region.copy(), script.takes())?;
+        let held = open_held(alloc, region.copy(), &script)?;
         Ok(App {
             number,
             script,
@@ -179,4 +180,11 @@ impl App {
         made.end();
         held.end();
     }
+}
+
+/// Room for as many buffers of this region as the script has `take` steps, and no more.
+fn open_held(alloc: Global, region: RegionToken, script: &Script) -> Result<Pile, AllocError>
+    ensures { IfOk result (λ p. p ≡ record { region = region.name; room = take_steps script.now; contents = [] }) }
+{
+    Pile::open(alloc, region, script.takes())
 }
