@@ -14,8 +14,8 @@ plain_hand h = record { region = h.token.name; content = option_map (λ b. b.pic
 abbrev pub plain_pile : pile.Inside → PlainPile
 plain_pile p = record { region = p.token.name; room = p.room; contents = map (λ b. b.picture) p.buffers.items }
 
--- each buffer of a pile is of its region, and there is the room
+-- each buffer of a pile is of its region, and there is just the room
 pub record IsPile (p : pile.Inside) : Type 0 where
   pub of_it : All (λ b. b.region ≡ p.token.name) p.buffers.items
   pub fits : length p.buffers.items ≤ p.room
-  pub room : p.room ≤ deque_capacity p.buffers
+  pub room : p.room ≡ deque_capacity p.buffers
