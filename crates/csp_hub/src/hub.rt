@@ -1,6 +1,6 @@
 //! The hub itself.
 
-ghost use Rattle.std.specs.Prelude.{◌≡◌, ◌+◌, ◌-◌, ◌*◌, ◌^◌, ◌<◌, ◌≤◌, ◌++◌, false, Some, None, All, length, map, IsSome, IfOk, IfSome, MatchOption};
+ghost use Rattle.std.specs.Prelude.{◌≡◌, ◌+◌, ◌-◌, ◌*◌, ◌^◌, ◌<◌, ◌≤◌, ◌++◌, false, Some, None, All, length, map, vec_capacity, IsSome, IfOk, IfSome, MatchOption};
 ghost use Rattle.std.specs.List.{list_all, range_with_len};
 ghost use Rattle.csp_deck.specs.Circles.{LooksInto};
 ghost use Rattle.csp_deck.specs.Step.{CanServe, IsAnswerOf};
@@ -213,10 +213,11 @@ impl Hub {
     pub fn end(self) {}
 }
 
-/// The ends of a hub that has carried nothing yet.
+/// The ends of a hub that has carried nothing yet, and no room for more.
 fn open_ends(alloc: Global, count: u8, plan: &[Fault]) -> Result<Vec<HubEnd>, AllocError>
     requires { All IsFault plan.now }
-    ensures { IfOk result (λ ends. ends.items ≡ map (opening_end plan.now) (range_with_len 0 count)) }
+    ensures ends { IfOk result (λ ends. ends.items ≡ map (opening_end plan.now) (range_with_len 0 count)) }
+    ensures room { IfOk result (λ ends. vec_capacity ends ≡ count) }
 {
     let mut ends = Vec::with_capacity(alloc, usize::from(count))?;
     for number in 0..count {

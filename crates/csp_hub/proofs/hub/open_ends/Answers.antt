@@ -8,5 +8,5 @@ loop-number-preserved c = (
   c.push_reserved.ensures.items ∙ ap₂ (λ l x. l ++ x ∷ []) c.loop-number.invariant.0 c.in_ok-open.ensures
       ∙ sym (map-range_with_len_more (opening_end c.args.plan.now) 0 c.loop-number.number c.loop-number.number (omega arith)),
   c.push_reserved.ensures.len ∙ ap (λ n. n + 1) c.loop-number.invariant.1,
-  omega (arith, c.push_reserved.ensures.capacity, c.loop-number.invariant.2),
+  c.push_reserved.ensures.capacity ∙ c.loop-number.invariant.2,
 )
