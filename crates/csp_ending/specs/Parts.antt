@@ -22,18 +22,18 @@ IsStore s = AreAllOf s.memory.region s.back.items
 abbrev pub plain_slate : slate.Inside → PlainSlate
 plain_slate s = record { items = s.shown.items; spare = s.spare }
 
--- it has the numbers of what was noted, and room for as many more as it says
+-- it has the numbers of what was noted, and just the room for as many more as it says
 pub record IsSlate (s : slate.Inside) : Type 0 where
   pub numbers : s.numbers.items ≡ numbers_of s.shown.items
   pub few : vec_len s.numbers ≤ vec_len s.shown
-  pub shown_room : vec_len s.shown + s.spare ≤ vec_capacity s.shown
-  pub numbers_room : vec_len s.shown + s.spare ≤ vec_capacity s.numbers
+  pub shown_room : vec_capacity s.shown ≡ vec_len s.shown + s.spare
+  pub numbers_room : vec_capacity s.numbers ≡ vec_len s.shown + s.spare
 
 -- notes are seen as the lists that they are, and the room that is left
 abbrev pub plain_notes : notes.Inside → PlainNotes
 plain_notes n = record { left = n.left.items; held = n.held.items; queues = n.queues; others = n.others }
 
--- there is room for as many more as they say
+-- there is just the room for as many more as they say
 pub record AreNotes (n : notes.Inside) : Type 0 where
-  pub left_room : vec_len n.left + n.queues ≤ vec_capacity n.left
-  pub held_room : vec_len n.held + n.queues + n.others ≤ vec_capacity n.held
+  pub left_room : vec_capacity n.left ≡ vec_len n.left + n.queues
+  pub held_room : vec_capacity n.held ≡ vec_len n.held + n.queues + n.others

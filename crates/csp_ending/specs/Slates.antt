@@ -44,6 +44,13 @@ pub record HaveRoom (n : ℕ) (s : PlainSlates) : Type 0 where
   pub normal : n ≤ s.normal.spare
   pub low : n ≤ s.low.spare
 
+-- each slate has room for just so many
+pub record HaveJust (n : ℕ) (s : PlainSlates) : Type 0 where
+  pub critical : s.critical.spare ≡ n
+  pub high : s.high.spare ≡ n
+  pub normal : s.normal.spare ≡ n
+  pub low : s.low.spare ≡ n
+
 -- nothing was noted yet
 pub record AreBlank (s : PlainSlates) : Type 0 where
   pub critical : s.critical.items ≡ []

@@ -50,14 +50,14 @@ pub struct InboxRoom {
 }
 
 impl Model for InboxRoom {
-    ghost use Rattle.std.specs.Prelude.{◌≡◌, ◌≤◌, ◌*◌, ℕ, [], vec_capacity};
-    ghost use Rattle.csp_ending.specs.Slates.{HaveRoom, AreBlank};
+    ghost use Rattle.std.specs.Prelude.{◌≡◌, ◌*◌, ℕ, [], vec_capacity};
+    ghost use Rattle.csp_ending.specs.Slates.{HaveJust, AreBlank};
 
     ghost Value = { ℕ };
 
     ghost view = { λ r. r.room };
 
-    ghost invariant = { λ r. (r.items.items ≡ []) × (4 * r.room ≤ vec_capacity r.items) × AreBlank r.slates × HaveRoom (4 * r.room) r.slates };
+    ghost invariant = { λ r. (r.items.items ≡ []) × (vec_capacity r.items ≡ 4 * r.room) × AreBlank r.slates × HaveJust (4 * r.room) r.slates };
 }
 
 impl InboxRoom {

@@ -27,13 +27,13 @@ pub struct LaneRoom {
 }
 
 impl Model for LaneRoom {
-    ghost use Rattle.std.specs.Prelude.{◌≡◌, ◌≤◌, ℕ, [], vec_capacity};
+    ghost use Rattle.std.specs.Prelude.{◌≡◌, ℕ, [], vec_capacity};
 
     ghost Value = { ℕ };
 
     ghost view = { λ r. r.room };
 
-    ghost invariant = { λ r. (r.items.items ≡ []) × (r.room ≤ vec_capacity r.items) × (r.slate.items ≡ []) × (r.room ≤ r.slate.spare) };
+    ghost invariant = { λ r. (r.items.items ≡ []) × (vec_capacity r.items ≡ r.room) × (r.slate.items ≡ []) × (r.slate.spare ≡ r.room) };
 }
 
 impl LaneRoom {

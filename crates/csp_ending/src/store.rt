@@ -44,6 +44,7 @@ impl Store {
     pub fn open(alloc: Global, count: u16, room: usize) -> Result<(Store, Vec<Buffer>), AllocError>
         requires { 0 < count }
         ensures store { IfOk result (λ p. (p.0.count ≡ count) × (p.0.numbers ≡ []) × (room ≤ p.0.room)) }
+        ensures room { IfOk result (λ p. p.0.room ≡ room) }
         ensures buffers { IfOk result (λ p. p.1.items ≡ fresh_all (record { region = p.0.region; count = count })) }
     {
         let back = Vec::with_capacity(alloc, room)?;
