@@ -1,6 +1,6 @@
 //! The lists of all nodes, as the party whose turn it is sees them.
 
-ghost use Rattle.std.specs.Prelude.{◌≡◌, ◌+◌, ◌<◌, ◌≤◌, ◌++◌, [], ◌∷◌, Some, length, map, slice_get, All, ℕ, OnOk, OnErr, IsSomeAnd, vec_len, vec_capacity};
+ghost use Rattle.std.specs.Prelude.{◌≡◌, ◌+◌, ◌<◌, ◌≤◌, ◌++◌, [], ◌∷◌, Some, length, map, slice_get, All, ℕ, OnOk, OnErr, IsSomeAnd, max, vec_len, vec_capacity};
 ghost use Rattle.csp_lists.specs.Gathered.{queued_numbers};
 ghost use Rattle.csp_lists.specs.PlainDeck.{opening_deck, holders_of, IsLinkRule};
 ghost use Rattle.csp_nodes.specs.Emptied.{emptied_in};
@@ -85,7 +85,7 @@ impl Decks {
         ensures links { self.new.links ≡ self.old.links }
         ensures refused { OnErr result (self.new ≡ self.old) }
     {
-        self.nodes.reserve(1)?;
+        one_more(&mut self.nodes)?;
         let node = NodeDeck::open(alloc, count, inbox, apps, ifaces)?;
         self.nodes.push_reserved(node);
         Ok(())
@@ -99,7 +99,8 @@ impl Decks {
         ensures links { OnOk result (self.new ≡ record self.old { links = self.old.links ++ ends.items ∷ [] }) }
         ensures refused { OnErr result (self.new ≡ self.old) }
     {
-        self.links.push(ends)?;
+        one_more(&mut self.links)?;
+        self.links.push_reserved(ends);
         Ok(())
     }
 
@@ -335,4 +336,13 @@ fn empty_queues(
         place += 1;
     }
     nodes.destroy_empty();
+}
+
+/// Takes room for one element more, and for no more. A refusal changes nothing.
+fn one_more<T>(list: &mut Vec<T>) -> Result<(), AllocError>
+    ensures items { list.new.items ≡ list.old.items }
+    ensures len { vec_len list.new ≡ vec_len list.old }
+    ensures room { OnOk result (vec_capacity list.new ≡ max (vec_capacity list.old) (vec_len list.old + 1)) }
+{
+    list.reserve_exact(1)
 }

@@ -22,14 +22,14 @@ pub struct NodeDeck {
 }
 
 impl Model for NodeDeck {
-    ghost use Rattle.std.specs.Prelude.{◌≡◌, ◌≤◌, [], vec_capacity};
+    ghost use Rattle.std.specs.Prelude.{◌≡◌, [], vec_capacity};
     ghost use Rattle.csp_lists.specs.PlainDeck.{DeckAt};
 
     ghost Value = { DeckAt };
 
     ghost view = { λ n. n.deck };
 
-    ghost invariant = { λ n. (n.gathered.items ≡ []) × (n.deck.deck.pool.room ≤ vec_capacity n.gathered) × (n.memory.region ≡ n.deck.region) × (n.memory.count ≡ n.deck.deck.pool.room) };
+    ghost invariant = { λ n. (n.gathered.items ≡ []) × (vec_capacity n.gathered ≡ n.deck.deck.pool.room) × (n.memory.region ≡ n.deck.region) × (n.memory.count ≡ n.deck.deck.pool.room) };
 }
 
 impl NodeDeck {

@@ -14,7 +14,7 @@ returns-clause-regions c node h =
     let within : node < length (decks_of nodes) = subst (λ (d : DecksAt). node < length d.decks) (sym c.self.view_is) h in
     let inside : node < length (regions_of nodes) = rw (length-map nodes (λ (d : DeckAt). d.region), ← length-map nodes (λ (d : DeckAt). d.deck)) within in
     ap (λ (l : List DeckAt). slice_get (regions_of l) node) c.push_reserved.ensures.items
-    ∙ ap (λ (l : List DeckAt). slice_get (regions_of (l ++ c.in_ok-node.node ∷ [])) node) c.reserve.ensures.items
+    ∙ ap (λ (l : List DeckAt). slice_get (regions_of (l ++ c.in_ok-node.node ∷ [])) node) c.one_more.ensures.items
     ∙ ap (λ (l : List RegionName). slice_get l node) (map-append (λ (d : DeckAt). d.region) nodes (c.in_ok-node.node ∷ []))
     ∙ kept_before (regions_of nodes) (c.in_ok-node.node.region ∷ []) node inside
     ∙ ap (λ (d : DecksAt). slice_get d.regions node) c.self.view_is

@@ -28,7 +28,7 @@ invariant_of-result c =
     let room : c.in-Ok-open.deck.deck.pool.room ≡ c.in-Ok.opened.0.count =
     ap (λ (d : DeckAt). d.deck.pool.room) c.in-Ok-open.ensures.ok ∙ ap length (ap pictures c.in-Ok.ensures.buffers ∙ fresh_pictures c.in-Ok.opened.0) ∙ fresh_len c.in-Ok.opened.0.count in (
       c.in_ok-gathered.ensures.items,
-      omega (arith, room, c.in-Ok.ensures.count, c.in_ok-gathered.ensures.capacity, c.from.ensures),
+      omega (arith, room, c.in-Ok.ensures.count, c.in_ok-gathered.ensures.exact, c.from.ensures),
       sym (ap (λ (d : DeckAt). d.region) c.in-Ok-open.ensures.ok ∙ c.token.ensures),
       sym room,
     )
