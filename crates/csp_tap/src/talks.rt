@@ -1,6 +1,6 @@
 //! Who talks to whom: how many packets and bytes went from one port of a node to one of another.
 
-ghost use Rattle.std.specs.Prelude.{◌≡◌, ◌+◌, ◌++◌, [], length, OnOk, IfOk, ◌<◌, ◌≤◌};
+ghost use Rattle.std.specs.Prelude.{◌≡◌, ◌+◌, ◌^◌, ◌++◌, [], length, max, OnOk, OnErr, IfOk, ◌<◌, ◌≤◌};
 ghost use Rattle.csp_tap.specs.Words.{words};
 ghost use Rattle.csp_tap.specs.Talks.{talk_of, talk_line, talk_lines, talk_words, tally_at, tally_words, with_packet};
 ghost use Rattle.csp_tap.specs.declared.words.TheConstants.{ROOM};
@@ -23,9 +23,10 @@ pub struct Tally {
 }
 
 impl Tally {
-    /// With a packet more, of so many bytes. Memory is wanting where there are more than 64 bits count.
+    /// With a packet more, of so many bytes. Memory is wanting exactly where there are more than 64 bits count.
     fn with(self, bytes: u64) -> Result<Tally, AllocError>
-        ensures { IfOk result (λ tally. tally ≡ record { packets = self.packets + 1; bytes = self.bytes + bytes }) }
+        ensures ok { IfOk result (λ tally. tally ≡ record { packets = self.packets + 1; bytes = self.bytes + bytes }) }
+        ensures err { OnErr result (2 ^ 64 ≤ max (self.packets + 1) (self.bytes + bytes)) }
     {
         match (self.packets.checked_add(1), self.bytes.checked_add(bytes)) {
             (Some(packets), Some(bytes)) => Ok(Tally { packets, bytes }),

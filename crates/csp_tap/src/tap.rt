@@ -1,6 +1,6 @@
 //! A stream read byte by byte, or many bytes at once, and told in lines.
 
-ghost use Rattle.std.specs.Prelude.{◌≡◌, ◌+◌, ℕ, Bool, List, [], ◌∷◌, ◌++◌, None, OnOk, IfOk, IfSome};
+ghost use Rattle.std.specs.Prelude.{◌≡◌, ◌+◌, ◌^◌, ◌≤◌, ℕ, Bool, List, [], ◌∷◌, ◌++◌, None, OnOk, OnErr, IfOk, IfSome};
 ghost use Rattle.csp_base.specs.declared.limits.TheConstants.{MAX_PAYLOAD};
 ghost use Rattle.csp_kiss.specs.Reading.{Reading, told};
 ghost use Rattle.csp_kiss.specs.Stream.{events};
@@ -149,9 +149,10 @@ impl Tap {
     pub fn end(self) {}
 }
 
-/// The number after this one. Memory is wanting where it has more than 64 bits.
+/// The number after this one. Memory is wanting exactly where it has more than 64 bits.
 fn next_number(number: u64) -> Result<u64, AllocError>
-    ensures { IfOk result (λ next. next ≡ number + 1) }
+    ensures ok { IfOk result (λ next. next ≡ number + 1) }
+    ensures err { OnErr result (2 ^ 64 ≤ number + 1) }
 {
     number.checked_add(1).ok_or(AllocError)
 }
