@@ -2,8 +2,6 @@
 
 ghost use Rattle.std.specs.Prelude.{◌<◌, ◌≤◌, length};
 
-use crate::cases::CaseError;
-use crate::texts::unescaped;
 use crate::told::Told;
 use csp_base::{Addr, Port};
 use csp_text::{byte_digits, hex_word, is_bytes, is_hex_word};
@@ -22,18 +20,18 @@ pub struct Case<'a> {
 
 impl<'a> Case<'a> {
     /// A case that asks this, of which nothing is told.
-    pub(crate) fn of(alloc: Global, asked: &'a str) -> Case<'a> {
+    pub(crate) fn of(alloc: Global, asked: &'a Told) -> Case<'a> {
         Case {
             alloc,
-            asked,
-            told: Told::new(alloc),
+            asked: asked.as_str(),
+            told: Told::of(alloc, asked),
             is_next: false,
         }
     }
 
-    /// What was told, where every word was read.
-    pub(crate) fn answer(self) -> Result<String, CaseError> {
-        self.told.whole()
+    /// What was told.
+    pub(crate) fn told(&self) -> &Told {
+        &self.told
     }
 
     /// Where memory is taken from.
@@ -68,11 +66,16 @@ impl<'a> Case<'a> {
 
     /// The next word.
     pub fn word(&mut self) -> &'a str {
+        self.word_to(" ")
+    }
+
+    /// The next word, which ends before this mark.
+    pub fn word_to(&mut self, mark: &str) -> &'a str {
         let text = self.asked.trim_start();
         if text.is_empty() {
             self.misread();
         }
-        let (word, rest) = text.split_once(" ").unwrap_or((text, ""));
+        let (word, rest) = text.split_once(mark).unwrap_or((text, ""));
         self.asked = rest;
         word
     }
@@ -100,40 +103,22 @@ impl<'a> Case<'a> {
 
     /// The number of at most 64 bits that a word states.
     pub fn long_of(&mut self, word: &str) -> u64 {
-        match word.parse::<u64>() {
-            Ok(number) => number,
-            Err(_) => {
-                self.misread();
-                0
-            }
-        }
-    }
-
-    /// The number of at most so much that a word states.
-    fn most_of(&mut self, word: &str, most: u64) -> u64
-        ensures { result ≤ most }
-    {
-        let number = self.long_of(word);
-        if number > most {
-            self.misread();
-            return 0;
-        }
-        number
+        self.told.number(word, u64::MAX)
     }
 
     /// The number of at most 32 bits that a word states.
     pub fn number_of(&mut self, word: &str) -> u32 {
-        self.most_of(word, 0xFFFF_FFFF) as u32
+        self.told.number(word, 0xFFFF_FFFF) as u32
     }
 
     /// The number of at most 16 bits that a word states.
     pub fn short_of(&mut self, word: &str) -> u16 {
-        self.most_of(word, 0xFFFF) as u16
+        self.told.number(word, 0xFFFF) as u16
     }
 
     /// The number of at most 8 bits that a word states.
     pub fn small_of(&mut self, word: &str) -> u8 {
-        self.most_of(word, 0xFF) as u8
+        self.told.number(word, 0xFF) as u8
     }
 
     /// The 32 bits that eight hexadecimal digits state.
@@ -161,12 +146,45 @@ impl<'a> Case<'a> {
     /// The bytes of a text in which `\n` stands for the end of a line, `\_` for a blank, `\t` for a tab and `\xHH` for
     /// the byte of these two digits.
     pub fn unescaped(&mut self, text: &str) -> Vec<u8> {
-        match unescaped(self.alloc, text) {
-            Ok(bytes) => return bytes,
-            Err(CaseError::Unread) => self.misread(),
-            Err(CaseError::NoMemory) => self.lacks_memory(),
+        let mut bytes = Vec::new(self.alloc);
+        let mut is_first = true;
+        for part in text.split("\\") {
+            let rest = if is_first {
+                part
+            } else {
+                self.unescape(&mut bytes, part)
+            };
+            self.append(&mut bytes, rest.as_bytes());
+            is_first = false;
         }
-        Vec::new(self.alloc)
+        bytes
+    }
+
+    /// Appends the byte that the letter at the begin of a part stands for, and gives the rest.
+    fn unescape<'b>(&mut self, bytes: &mut Vec<u8>, part: &'b str) -> &'b str {
+        let (letter, rest) = part.split_at_checked(1).unwrap_or(("", part));
+        match letter {
+            "n" => self.append(bytes, b"\n"),
+            "_" => self.append(bytes, b" "),
+            "t" => self.append(bytes, b"\t"),
+            "x" => return self.unescape_digits(bytes, rest),
+            _ => self.misread(),
+        }
+        rest
+    }
+
+    /// Appends the byte of the two digits at the begin of a part, and gives the rest.
+    fn unescape_digits<'b>(&mut self, bytes: &mut Vec<u8>, part: &'b str) -> &'b str {
+        let (digits, rest) = part.split_at_checked(2).unwrap_or(("", part));
+        let byte = self.bytes_of(digits);
+        self.append(bytes, byte.as_slice());
+        rest
+    }
+
+    /// Appends these bytes.
+    fn append(&mut self, bytes: &mut Vec<u8>, more: &[u8]) {
+        let made = bytes.extend_from_slice(more);
+        self.told.noted(made);
     }
 
     /// The next word, a number of at most 64 bits.
@@ -191,6 +209,24 @@ impl<'a> Case<'a> {
     pub fn small(&mut self) -> u8 {
         let word = self.word();
         self.small_of(word)
+    }
+
+    /// The next words, numbers of at most 32 bits.
+    pub fn numbers<const N: usize>(&mut self) -> [u32; N] {
+        let mut numbers = [0; N];
+        for number in &mut numbers {
+            *number = self.number();
+        }
+        numbers
+    }
+
+    /// The next words, numbers of at most 16 bits.
+    pub fn shorts<const N: usize>(&mut self) -> [u16; N] {
+        let mut shorts = [0; N];
+        for short in &mut shorts {
+            *short = self.short();
+        }
+        shorts
     }
 
     /// The next word, a number below this one.

@@ -1,11 +1,13 @@
 //! Tables of cases, a line or two each: what is asked, and the answer that it should have. What an answer is says who
-//! reads a table; here stand the form of the lines, and words and texts inside of them.
+//! reads a table; here stand the form of the lines, words and texts inside of them, and the tables of a folder.
 #![tactic(auto)]
 
 mod case;
 mod cases;
+mod folder;
 mod texts;
 mod told;
 
 pub use case::{Case, Steps, stepped};
-pub use cases::{Answers, CaseError, Outcome, judged};
+pub use cases::{Answers, judged};
+pub use folder::{judge_tables, names_of};

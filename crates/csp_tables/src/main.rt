@@ -3,25 +3,13 @@
 //! many cases it has, and after it stands each case that differs, with what came in its place.
 #![tactic(auto)]
 
-mod folder;
 mod supply;
 mod tables;
 
-use csp_cases::judged;
-use folder::table_names;
-use std::{fs, io};
+use csp_cases::judge_tables;
+use std::io;
 use tables::Tables;
 
 fn main(rt: HostRuntime) -> io::Result<()> {
-    let names = table_names(&rt)?;
-    for name in names.as_slice() {
-        let text = fs::read_to_string(&rt, format!(in rt.alloc(); "{name}.table")?)?;
-        let table = judged(rt.alloc(), &Tables, text.as_str())?;
-        let cases = table.cases;
-        println!(rt; "table {name}: {cases} cases")?;
-        for line in table.differing.as_slice() {
-            println!(rt; "  {line}")?;
-        }
-    }
-    Ok(())
+    judge_tables(&rt, &Tables)
 }

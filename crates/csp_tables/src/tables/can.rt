@@ -152,7 +152,7 @@ fn tell_answer(case: &mut Case, answer: &Option<CanAnswer>) {
     if answer.restarted {
         case.tell("restarted ");
     }
-    match &answer.event {
+    let refusal = match &answer.event {
         CanEvent::Whole {
             header,
             payload,
@@ -160,22 +160,15 @@ fn tell_answer(case: &mut Case, answer: &Option<CanAnswer>) {
         } => {
             let begun = trace.hops;
             write!(case, "whole from {begun} {header:08x} ");
-            case.tell_bytes(payload.as_slice());
+            return case.tell_bytes(payload.as_slice());
         }
-        refused => case.tell(refusal(refused)),
-    }
-}
-
-/// The words for an answer without a packet.
-fn refusal(event: &CanEvent) -> &'static str {
-    match event {
         CanEvent::Part => "part",
-        CanEvent::Whole { .. } => "whole",
         CanEvent::NoBegin => "no begin",
         CanEvent::ShortBegin => "short begin",
         CanEvent::BadRemain => "bad remain",
         CanEvent::TooMuch => "too much",
         CanEvent::TooLong => "too long",
         CanEvent::NoRoom => "no room",
-    }
+    };
+    case.tell(refusal);
 }

@@ -5,15 +5,11 @@ use csp_crc::{CrcError, check, crc32c};
 
 /// Tells the CRC of bytes, or what their check answers.
 pub(super) fn answer(case: &mut Case) {
-    match case.word() {
-        "of" => {
-            let bytes = case.bytes();
-            case.tell_word(crc32c(bytes.as_slice()));
-        }
-        "check" => {
-            let bytes = case.bytes();
-            checked(case, bytes.as_slice());
-        }
+    let how = case.word();
+    let bytes = case.bytes();
+    match how {
+        "of" => case.tell_word(crc32c(bytes.as_slice())),
+        "check" => checked(case, bytes.as_slice()),
         _ => case.misread(),
     }
 }

@@ -7,6 +7,15 @@ use csp_base::Prio;
 use csp_cases::Case;
 use csp_header::{FlagSet, Header};
 
+/// The flags that are told one by one, in their order.
+const FLAGS: [FlagSet; 5] = [
+    FlagSet::FRAG,
+    FlagSet::HMAC,
+    FlagSet::XTEA,
+    FlagSet::RDP,
+    FlagSet::CRC32,
+];
+
 /// Tells the fields of a word, or the word of fields.
 pub(super) fn answer(case: &mut Case) {
     match case.word() {
@@ -24,18 +33,11 @@ pub(super) fn answer(case: &mut Case) {
 
 /// Tells the fields of a header, one after the other.
 fn fields(case: &mut Case, header: Header) {
+    let (prio, src, dst) = (header.prio.number(), header.src.get(), header.dst.get());
     let (dport, sport, flags) = (header.dport.get(), header.sport.get(), header.flags);
     let carried = flags.bits() >> 5;
-    case.tell_number(u64::from(header.prio.number()));
-    write!(case, " {} {}", header.src.get(), header.dst.get());
-    write!(case, " {dport} {sport} {carried}");
-    for flag in [
-        FlagSet::FRAG,
-        FlagSet::HMAC,
-        FlagSet::XTEA,
-        FlagSet::RDP,
-        FlagSet::CRC32,
-    ] {
+    write!(case, "{prio} {src} {dst} {dport} {sport} {carried}");
+    for flag in FLAGS {
         case.tell(if flags.contains(flag) { " 1" } else { " 0" });
     }
 }

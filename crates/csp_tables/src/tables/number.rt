@@ -7,47 +7,41 @@ use csp_cases::Case;
 /// Tells whether a number is in a range, or what becomes of numbers of 16 bits.
 pub(super) fn answer(case: &mut Case) {
     match case.word() {
-        "addr" => {
-            let number = case.small();
-            case.tell_whether(Addr::new(number).is_some());
-        }
-        "port" => {
-            let number = case.small();
-            case.tell_whether(Port::new(number).is_some());
-        }
-        "prio" => {
-            let number = case.small();
-            case.tell_whether(Prio::new(number).is_some());
-        }
-        which => of_sequence(case, which),
-    }
-}
-
-/// Tells what becomes of numbers of 16 bits.
-fn of_sequence(case: &mut Case, which: &str) {
-    let first = Seq(case.short());
-    match which {
         "seq" => {
+            let first = Seq(case.short());
             let sum = first.add(case.long());
             case.tell_number(u64::from(sum.0));
         }
         "ahead" => {
-            let distance = ahead(first, Seq(case.short()));
-            case.tell_number(u64::from(distance));
+            let [from, to] = case.shorts::<2>();
+            case.tell_number(u64::from(ahead(Seq(from), Seq(to))));
         }
         "between" => {
-            let holds = between(first, Seq(case.short()), Seq(case.short()));
-            case.tell_whether(holds);
+            let [number, low, high] = case.shorts::<3>();
+            case.tell_whether(between(Seq(number), Seq(low), Seq(high)));
         }
-        "near" => near(case, first),
-        _ => case.misread(),
+        "near" => near(case),
+        which => within(case, which),
     }
 }
 
+/// Tells whether a number is in the range of an address, a port or a priority.
+fn within(case: &mut Case, which: &str) {
+    let number = case.small();
+    let holds = match which {
+        "addr" => Addr::new(number).is_some(),
+        "port" => Port::new(number).is_some(),
+        "prio" => Prio::new(number).is_some(),
+        _ => return case.misread(),
+    };
+    case.tell_whether(holds);
+}
+
 /// Tells the index that a number shows near another.
-fn near(case: &mut Case, number: Seq) {
-    let start = Seq(case.short());
-    match number.index_near(start, u64::from(case.number())) {
+fn near(case: &mut Case) {
+    let [number, start] = case.shorts::<2>();
+    let around = u64::from(case.number());
+    match Seq(number).index_near(Seq(start), around) {
         Some(index) => case.tell_number(index),
         None => case.tell("none"),
     }

@@ -9,47 +9,66 @@ use csp_rdp_header::{MAX_KEPT, MAX_LISTED, Options, RdpHead, eak_decode, eak_enc
 /// Tells what bytes are, or the bytes of numbers.
 pub(super) fn answer(case: &mut Case) {
     match case.word() {
-        "head" => told_head(case),
         "write" => {
             let head = head(case);
             case.tell_bytes(&head.encode());
         }
-        "options" => told_options(case),
         "offer" => {
             let options = options(case);
             case.tell_bytes(&options.encode());
         }
-        "list" => list(case),
         "listed" => listed(case),
+        how => {
+            let bytes = case.bytes();
+            of_bytes(case, how, bytes.as_slice());
+        }
+    }
+}
+
+/// Tells what bytes are.
+fn of_bytes(case: &mut Case, how: &str, bytes: &[u8]) {
+    match how {
+        "head" => told_head(case, bytes),
+        "options" => told_options(case, bytes),
+        "list" => list(case, bytes),
         _ => case.misread(),
     }
 }
 
 /// The options that six words state.
 pub(super) fn options(case: &mut Case) -> Options {
+    let [
+        window,
+        conn_timeout,
+        packet_timeout,
+        delayed,
+        ack_timeout,
+        ack_count,
+    ] = case.numbers::<6>();
     Options {
-        window: case.number(),
-        conn_timeout: case.number(),
-        packet_timeout: case.number(),
-        delayed: case.number(),
-        ack_timeout: case.number(),
-        ack_count: case.number(),
+        window,
+        conn_timeout,
+        packet_timeout,
+        delayed,
+        ack_timeout,
+        ack_count,
     }
 }
 
 /// The head that three words state.
 pub(super) fn head(case: &mut Case) -> RdpHead {
+    let flags = case.small();
+    let [seq, ack] = case.shorts::<2>();
     RdpHead {
-        flags: case.small(),
-        seq: Seq(case.short()),
-        ack: Seq(case.short()),
+        flags,
+        seq: Seq(seq),
+        ack: Seq(ack),
     }
 }
 
 /// Tells what stands before a head, and the head.
-fn told_head(case: &mut Case) {
-    let bytes = case.bytes();
-    match RdpHead::decode(bytes.as_slice()) {
+fn told_head(case: &mut Case, bytes: &[u8]) {
+    match RdpHead::decode(bytes) {
         Ok((before, head)) => {
             let (flags, seq, ack) = (head.flags, head.seq.0, head.ack.0);
             case.tell_bytes(before);
@@ -60,19 +79,17 @@ fn told_head(case: &mut Case) {
 }
 
 /// Tells the options that bytes are, or why they are none.
-fn told_options(case: &mut Case) {
-    let bytes = case.bytes();
-    match Options::decode(bytes.as_slice()) {
+fn told_options(case: &mut Case, bytes: &[u8]) {
+    match Options::decode(bytes) {
         Ok(options) => case.tell_shown(&options),
         Err(error) => case.tell_shown(&error),
     }
 }
 
 /// Tells the numbers of a list.
-fn list(case: &mut Case) {
-    let bytes = case.bytes();
+fn list(case: &mut Case, bytes: &[u8]) {
     let mut numbers = ArrayVec::<Seq, MAX_LISTED>::new();
-    match eak_decode(bytes.as_slice(), &mut numbers) {
+    match eak_decode(bytes, &mut numbers) {
         Ok(()) => {
             case.tell("numbers");
             for number in numbers.as_slice() {

@@ -42,22 +42,18 @@ pub(super) fn stale(case: &mut Case) {
         let event = handed(case);
         writing.append(case, &[event, Event::Starved]);
     }
-    let mut parties = Vec::new(case.alloc());
-    if parties.push(party(Who::Router(0), writing.log)).is_err() {
-        return case.lacks_memory();
+    let mut record = record(case.alloc());
+    let (who, log) = (Who::Router(0), writing.log);
+    match record.parties.push(PartyLog { who, log, step: 0 }) {
+        Ok(()) => case.tell_number(csp_record::stale(&record)),
+        Err(_) => case.lacks_memory(),
     }
-    case.tell_number(csp_record::stale(&record(case.alloc(), parties)));
 }
 
-/// A party with a log.
-fn party(who: Who, log: Log) -> PartyLog {
-    PartyLog { who, log, step: 0 }
-}
-
-/// The record of a run with these parties.
-fn record(alloc: Global, parties: Vec<PartyLog>) -> Record {
+/// The record of a run without parties.
+fn record(alloc: Global) -> Record {
     Record {
-        parties,
+        parties: Vec::new(alloc),
         left: Vec::new(alloc),
         held: Vec::new(alloc),
         rounds: 0,
@@ -67,57 +63,62 @@ fn record(alloc: Global, parties: Vec<PartyLog>) -> Record {
 
 /// The event of a packet that was handed to a connection.
 fn handed(case: &mut Case) -> Event {
-    let (peer_word, tag_word) = (case.word(), case.word());
     Event::Handed {
         nth: 7,
-        peer: peer(case, peer_word),
-        tag: tag(case, tag_word),
+        peer: peer(case),
+        tag: tag(case),
         cur: case.long(),
         una: case.long(),
     }
 }
 
-/// A flow: a node and the number of a connection there.
-fn flow(case: &mut Case, text: &str) -> (u8, u32) {
-    let (node, nth) = text.split_once(".").unwrap_or((text, ""));
-    (case.small_of(node), case.number_of(nth))
-}
-
-/// A flow, or none.
-fn peer(case: &mut Case, word: &str) -> Option<(u8, u32)> {
-    if word == "-" {
+/// A flow, or none: a node and the number of a connection there.
+fn peer(case: &mut Case) -> Option<(u8, u32)> {
+    if case.passes("-") {
         return None;
     }
-    Some(flow(case, word))
+    let node = case.word_to(".");
+    Some((case.small_of(node), case.number()))
 }
 
-/// A tag: a flow, an index and an acknowledged index.
-fn tag(case: &mut Case, word: &str) -> Option<Tag> {
-    if word == "-" {
+/// A tag, or none: a flow, an index and an acknowledged index.
+fn tag(case: &mut Case) -> Option<Tag> {
+    if case.passes("-") {
         return None;
     }
-    let (front, ack) = word.rsplit_once(".").unwrap_or((word, ""));
-    let (front, index) = front.rsplit_once(".").unwrap_or((front, ""));
-    let (node, nth) = flow(case, front);
+    let (node, nth, index) = (case.word_to("."), case.word_to("."), case.word_to("."));
     Some(Tag {
-        node,
-        nth,
+        node: case.small_of(node),
+        nth: case.number_of(nth),
         index: case.long_of(index),
-        ack: case.long_of(ack),
+        ack: case.long(),
+    })
+}
+
+/// An origin at the first interface of a node, or none.
+fn origin(case: &mut Case) -> Option<Origin> {
+    if case.passes("-") {
+        return None;
+    }
+    let node = case.word_to(".");
+    Some(Origin {
+        node: case.small_of(node),
+        iface: 0,
+        serial: case.long(),
     })
 }
 
 /// Tells how many packets passed.
 pub(super) fn passed(case: &mut Case) {
     let deeds = case.rest();
-    let mut parties = Vec::new(case.alloc());
+    let mut record = record(case.alloc());
     for (name, who) in PARTIES {
         let log = written(case, deeds, Some(name));
-        if parties.push(party(who, log)).is_err() {
+        if record.parties.push(PartyLog { who, log, step: 0 }).is_err() {
             case.lacks_memory();
         }
     }
-    match csp_record::passed(case.alloc(), &record(case.alloc(), parties)) {
+    match csp_record::passed(case.alloc(), &record) {
         Ok(count) => case.tell_number(count),
         Err(_) => case.lacks_memory(),
     }
@@ -223,18 +224,4 @@ impl Writing {
         self.draft.ask(&op);
         leave(op);
     }
-}
-
-/// An origin at the first interface of a node, or none.
-fn origin(case: &mut Case) -> Option<Origin> {
-    let word = case.word();
-    if word == "-" {
-        return None;
-    }
-    let (node, serial) = word.split_once(".").unwrap_or((word, ""));
-    Some(Origin {
-        node: case.small_of(node),
-        iface: 0,
-        serial: case.long_of(serial),
-    })
 }

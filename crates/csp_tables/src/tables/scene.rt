@@ -3,7 +3,7 @@
 //! `scene link TEXT`, `scene schedule TEXT`.
 
 use csp_cases::Case;
-use csp_scene::{Scene, SceneError, SceneNode, parse};
+use csp_scene::{Scene, SceneError, SceneNode, Step, parse};
 
 /// Tells what becomes of a text, or what it states.
 pub(super) fn answer(case: &mut Case) {
@@ -25,7 +25,10 @@ fn stated(case: &mut Case, how: &str, scene: &Scene) {
             Some(link) => case.tell_shown(link),
             None => case.misread(),
         },
-        "step" => step(case, scene),
+        "step" => match last_step(scene) {
+            Some(step) => case.tell_shown(&step),
+            None => case.misread(),
+        },
         _ => match scene.nodes.last() {
             Some(node) => of_node(case, how, node),
             None => case.misread(),
@@ -43,15 +46,11 @@ fn of_node(case: &mut Case, how: &str, node: &SceneNode) {
     }
 }
 
-/// Tells the last step of the first node's last application.
-fn step(case: &mut Case, scene: &Scene) {
-    let Some(app) = scene.nodes.first().and_then(|node| node.apps.last()) else {
-        return case.misread();
-    };
-    match app.script.len().checked_sub(1) {
-        Some(last) => case.tell_shown(&app.script.step(last)),
-        None => case.misread(),
-    }
+/// The last step of the first node's last application.
+fn last_step(scene: &Scene) -> Option<Step<'_>> {
+    let script = &scene.nodes.first()?.apps.last()?.script;
+    let last = script.len().checked_sub(1)?;
+    Some(script.step(last))
 }
 
 /// Tells a node's name, address, buffers, seed and room of its inbox.

@@ -11,16 +11,14 @@ pub(super) fn answer(case: &mut Case) {
     let how = case.word();
     let text = case.unescaped(case.rest());
     let word = text.as_slice();
-    match how {
-        "lines" => match lines(case.alloc(), word) {
-            Ok(lines) => case.tell_number(lines.len() as u64),
-            Err(_) => case.lacks_memory(),
-        },
-        "words" => match words(case.alloc(), word) {
-            Ok(words) => case.tell_number(words.len() as u64),
-            Err(_) => case.lacks_memory(),
-        },
-        _ => of_word(case, how, word),
+    let parts = match how {
+        "lines" => lines(case.alloc(), word),
+        "words" => words(case.alloc(), word),
+        _ => return of_word(case, how, word),
+    };
+    match parts {
+        Ok(parts) => case.tell_number(parts.len() as u64),
+        Err(_) => case.lacks_memory(),
     }
 }
 
