@@ -8,14 +8,12 @@
 //!
 //! Of two workers the first goes first in each round, so that the parties take their turns in the order of a simulation.
 
+use crate::files::bytes_of;
 use crate::program::strings;
 use csp_base::{MemSink, MemSource};
-use csp_cases::CaseError::Unread;
-use csp_cases::{CaseError, Outcome};
 use csp_rounds::OrderGate;
 use csp_top::{Status, csp_main};
 use std::alloc::{AllocError, Global};
-use std::fs;
 use std::fs::Files;
 use std::sync::Wait;
 use std::thread::Threads;
@@ -41,153 +39,134 @@ enum Calls {
 /// What is run, and what it must write.
 #[derive(Drop)]
 struct Case {
+    calls: Calls,
     words: Vec<String>,
     text: Vec<u8>,
     report: Vec<u8>,
 }
 
-/// How a run ended.
-#[derive(Drop)]
+/// How a run ended: whether the call that was to fail was made, and whether the answer is what it must be.
+#[derive(Clone, Copy)]
 struct Ended {
-    status: Status,
-    reads: u64,
-    writes: u64,
-    written: Vec<u8>,
-    gave_up: bool,
+    failed: bool,
+    is_right: bool,
 }
 
-/// Goes through the cases of a file. A line that begins with `#` is none.
+/// How many cases a file has, and a line for each that differs. A line that begins with `#` is none.
 pub(crate) fn judged<R: Files + AllocGlobal + Clone + Threads + Wait + Sync>(
     rt: &R,
-    alloc: Global,
-    text: &str,
-) -> Result<Outcome, AllocError> {
-    let mut cases = 0usize;
-    let mut differing = Vec::new(alloc);
-    for line in text.lines() {
-        if line.starts_with("#") {
-            continue;
-        }
-        cases = cases.saturating_add(1);
-        let (asked, wanted) = line.split_once(" => ").unwrap_or((line, ""));
-        match failing(rt, alloc, asked) {
-            Ok(answer) => {
-                if answer.as_str() != wanted {
-                    differing.push(format!(in alloc; "{asked}: {answer}")?)?;
-                }
-            }
-            Err(CaseError::NoMemory) => return Err(AllocError),
-            Err(Unread) => differing.push(format!(in alloc; "{asked}: no case")?)?,
+    text: &[u8],
+) -> Result<String, AllocError> {
+    let mut cases = 0u64;
+    let mut differing = String::new(rt.alloc());
+    for line in str::from_utf8(text).unwrap_or("no text").lines() {
+        if !line.starts_with("#") {
+            cases = cases.saturating_add(1);
+            judge(rt, line, &mut differing)?;
         }
     }
-    Ok(Outcome { cases, differing })
+    format!(in rt.alloc(); "{cases} cases\n{differing}")
+}
+
+/// Judges the case of a line, and appends it where it differs.
+fn judge<R: Files + AllocGlobal + Clone + Threads + Wait + Sync>(
+    rt: &R,
+    line: &str,
+    differing: &mut String,
+) -> Result<(), AllocError> {
+    let (asked, wanted) = line.split_once(" => ").unwrap_or((line, ""));
+    match failing(rt, asked) {
+        None => write!(differing, "  {asked}: no case\n"),
+        Some(answer) => {
+            if answer.as_str() == wanted {
+                return Ok(());
+            }
+            write!(differing, "  {asked}: {answer}\n")
+        }
+    }
 }
 
 /// Makes the runs of a case, and tells how many calls failed and how many answers were others than they must be.
 fn failing<R: Files + AllocGlobal + Clone + Threads + Wait + Sync>(
     rt: &R,
-    alloc: Global,
     asked: &str,
-) -> Result<String, CaseError> {
-    let (which, what) = asked.split_once(" ").ok_or(Unread)?;
-    let calls = match which {
-        "reads" => Calls::Reads,
-        "writes" => Calls::Writes,
-        _ => return Err(Unread),
-    };
-    let case = read(rt, alloc, what)?;
+) -> Option<String> {
+    let case = Case::read(rt, asked)?;
     let mut others = 0u64;
     for number in 0..MOST {
-        let ended = case.run(rt, alloc, calls, number)?;
-        if ended.made(calls) > number {
-            if !case.is_cut(calls, number, &ended) {
-                others = others.saturating_add(1);
-            }
-            continue;
-        }
-        if !case.is_done(&ended) {
+        let ended = case.run(rt, rt.alloc(), number)?;
+        if !ended.is_right {
             others = others.saturating_add(1);
         }
-        return Ok(format!(in alloc; "{number} failed, {others} other answers")?);
+        if !ended.failed {
+            return format!(in rt.alloc(); "{number} failed, {others} other answers").ok();
+        }
     }
-    Err(Unread)
-}
-
-/// The case that names these files and words.
-fn read<R: Files + AllocGlobal + Clone>(
-    rt: &R,
-    alloc: Global,
-    what: &str,
-) -> Result<Case, CaseError> {
-    let (files, said) = what.split_once(" | ").ok_or(Unread)?;
-    let (source, report) = files.split_once(" ").ok_or(Unread)?;
-    Ok(Case {
-        words: strings(alloc, said)?,
-        text: bytes_in(rt, alloc, source)?,
-        report: bytes_in(rt, alloc, report)?,
-    })
+    None
 }
 
 /// The bytes of the file of this name, none where it is `-`.
-fn bytes_in<R: Files + AllocGlobal + Clone>(
-    rt: &R,
-    alloc: Global,
-    name: &str,
-) -> Result<Vec<u8>, CaseError> {
+fn bytes_in<R: Files + AllocGlobal + Clone>(rt: &R, name: &str) -> Option<Vec<u8>> {
     if name == "-" {
-        return Ok(Vec::new(alloc));
+        return Some(Vec::new(rt.alloc()));
     }
-    fs::read(rt, String::from_str(alloc, name)?)
-        .ok()
-        .ok_or(Unread)
+    bytes_of(rt, name, "").ok()
 }
 
 impl Case {
-    /// The run in which the call of this number fails.
-    fn run<R: Threads + Wait + Sync>(
-        &self,
-        rt: &R,
-        alloc: Global,
-        calls: Calls,
-        number: u64,
-    ) -> Result<Ended, AllocError> {
-        let (mut reads, mut writes) = (Vec::new(alloc), Vec::new(alloc));
-        match calls {
-            Calls::Reads => reads.push(number)?,
-            Calls::Writes => writes.push(number)?,
-        }
-        let mut source = MemSource::new(Vec::from_slice(alloc, self.text.as_slice())?, reads);
-        let mut sink = MemSink::open(alloc, ROOM, PIECE, writes)?;
-        let gate = OrderGate::new(0);
-        let words = self.words.as_slice();
-        let status = csp_main(rt, alloc, words, &mut source, &mut sink, &gate);
-        Ok(Ended {
-            status,
-            reads: source.calls(),
-            writes: sink.calls(),
-            written: Vec::from_slice(alloc, sink.written())?,
-            gave_up: gate.gave_up(),
+    /// The case that names these calls, files and words.
+    fn read<R: Files + AllocGlobal + Clone>(rt: &R, asked: &str) -> Option<Case> {
+        let (front, words) = asked.split_once(" | ")?;
+        let (calls, files) = front.split_once(" ")?;
+        let (source, report) = files.split_once(" ")?;
+        let calls = match calls {
+            "reads" => Calls::Reads,
+            "writes" => Calls::Writes,
+            _ => return None,
+        };
+        Some(Case {
+            calls,
+            words: strings(rt.alloc(), words).ok()?,
+            text: bytes_in(rt, source)?,
+            report: bytes_in(rt, report)?,
         })
     }
 
-    /// Whether a run is done.
-    fn is_done(&self, ended: &Ended) -> bool {
-        ended.status == Status::Done && !ended.gave_up && ended.written == self.report
+    /// The run in which the call of this number fails.
+    fn run<R: Threads + Wait + Sync>(&self, rt: &R, alloc: Global, number: u64) -> Option<Ended> {
+        let failing = vec![in alloc; number; 1].ok()?;
+        let (reads, writes) = match self.calls {
+            Calls::Reads => (failing, Vec::new(alloc)),
+            Calls::Writes => (Vec::new(alloc), failing),
+        };
+        let mut source = MemSource::new(Vec::from_slice(alloc, self.text.as_slice()).ok()?, reads);
+        let mut sink = MemSink::open(alloc, ROOM, PIECE, writes).ok()?;
+        let gate = OrderGate::new(0);
+        let words = self.words.as_slice();
+        let status = csp_main(rt, alloc, words, &mut source, &mut sink, &gate);
+        let made = match self.calls {
+            Calls::Reads => source.calls(),
+            Calls::Writes => sink.calls(),
+        };
+        let is_right = if made <= number {
+            status == Status::Done && sink.written() == self.report.as_slice()
+        } else {
+            made == number.saturating_add(1) && self.is_cut(number, status, &sink)
+        };
+        Some(Ended {
+            failed: made > number,
+            is_right: is_right && !gate.gave_up(),
+        })
     }
 
     /// Whether a run ended as it must where the call of this number failed.
-    fn is_cut(&self, calls: Calls, number: u64, ended: &Ended) -> bool {
-        if ended.gave_up || ended.made(calls) != number.saturating_add(1) {
-            return false;
-        }
-        match calls {
-            Calls::Reads => {
-                ended.status == Status::ReadFault && ended.writes == 0 && ended.written.is_empty()
-            }
-            Calls::Writes => {
-                ended.status == Status::WriteFault
-                    && self.front(number) == Some(ended.written.as_slice())
-            }
+    fn is_cut(&self, number: u64, status: Status, sink: &MemSink) -> bool {
+        match self.calls {
+            Calls::Reads => status == Status::ReadFault
+                && sink.calls() == 0
+                && sink.written().is_empty(),
+            Calls::Writes => status == Status::WriteFault
+                && self.front(number) == Some(sink.written()),
         }
     }
 
@@ -195,15 +174,5 @@ impl Case {
     fn front(&self, calls: u64) -> Option<&[u8]> {
         let bytes = usize::try_from(calls).ok()?.checked_mul(PIECE)?;
         self.report.as_slice().get(..bytes)
-    }
-}
-
-impl Ended {
-    /// How many of these calls were made.
-    fn made(&self, calls: Calls) -> u64 {
-        match calls {
-            Calls::Reads => self.reads,
-            Calls::Writes => self.writes,
-        }
     }
 }

@@ -7,34 +7,38 @@
 #![tactic(auto)]
 
 mod faults;
-mod folder;
+mod files;
 mod program;
 mod row;
 mod threads;
 
-use csp_cases::{Outcome, judged};
-use folder::names_of;
+use csp_cases::{judge_tables, names_of};
+use files::bytes_of;
 use program::Program;
-use row::outcome_of;
 use std::fs::Files;
+use std::io;
 use std::sync::Wait;
 use std::thread::Threads;
-use std::{fs, io};
-use threads::{Case, Verdict};
 
 fn main(rt: HostRuntime) -> io::Result<()> {
-    let names = names_of(&rt, ".scn")?;
+    scenarios(&rt)?;
+    runs(&rt)?;
+    judge_tables(&rt, &Program)?;
+    sweeps(&rt)
+}
+
+/// Runs the scenarios.
+fn scenarios<R: Files + Print + AllocGlobal + Clone + Drop>(rt: &R) -> io::Result<()> {
+    let names = names_of(rt, ".scn")?;
     for name in names.as_slice() {
-        let text = fs::read(&rt, format!(in rt.alloc(); "{name}.scn")?)?;
-        let wanted = fs::read(&rt, format!(in rt.alloc(); "{name}.report")?)?;
-        match outcome_of(rt.alloc(), text, wanted.as_slice())? {
-            row::Outcome::AsWanted => println!(rt; "{name} is as it should be")?,
-            row::Outcome::Differs(line) => println!(rt; "{name} differs in line {line}")?,
+        let text = bytes_of(rt, name.as_str(), ".scn")?;
+        let wanted = bytes_of(rt, name.as_str(), ".report")?;
+        match row::differing_line(rt.alloc(), text, wanted.as_slice())? {
+            None => println!(rt; "{name} is as it should be")?,
+            Some(line) => println!(rt; "{name} differs in line {line}")?,
         }
     }
-    runs(&rt)?;
-    tables(&rt)?;
-    sweeps(&rt)
+    Ok(())
 }
 
 /// Makes the runs in threads.
@@ -43,31 +47,9 @@ fn runs<R: Files + Print + AllocGlobal + Clone + Drop + Threads + Wait + Sync>(
 ) -> io::Result<()> {
     let names = names_of(rt, ".threads")?;
     for name in names.as_slice() {
-        let stated = fs::read_to_string(rt, format!(in rt.alloc(); "{name}.threads")?)?;
-        match Case::read(stated.as_str()) {
-            None => println!(rt; "{name} states no run")?,
-            Some(case) => {
-                let scenario = case.scenario;
-                let text = fs::read(rt, format!(in rt.alloc(); "{scenario}.scn")?)?;
-                match case.run(rt, rt.alloc(), text)? {
-                    Verdict::AsWanted => println!(rt; "threads {name}: as it should be")?,
-                    Verdict::Lacks(line) => println!(rt; "threads {name}: without line {line}")?,
-                    Verdict::GoesOn => println!(rt; "threads {name}: more than it should")?,
-                    Verdict::GaveUp => println!(rt; "threads {name}: waited in vain")?,
-                }
-            }
-        }
-    }
-    Ok(())
-}
-
-/// Goes through the tables.
-fn tables<R: Files + Print + AllocGlobal + Clone + Drop>(rt: &R) -> io::Result<()> {
-    let names = names_of(rt, ".table")?;
-    for name in names.as_slice() {
-        let text = fs::read_to_string(rt, format!(in rt.alloc(); "{name}.table")?)?;
-        let table = judged(rt.alloc(), &Program, text.as_str())?;
-        tell(rt, "table", name.as_str(), &table)?;
+        let stated = bytes_of(rt, name.as_str(), ".threads")?;
+        let told = threads::told(rt, stated.as_slice())?;
+        println!(rt; "threads {name}: {told}")?;
     }
     Ok(())
 }
@@ -78,24 +60,9 @@ fn sweeps<R: Files + Print + AllocGlobal + Clone + Drop + Threads + Wait + Sync>
 ) -> io::Result<()> {
     let names = names_of(rt, ".faults")?;
     for name in names.as_slice() {
-        let text = fs::read_to_string(rt, format!(in rt.alloc(); "{name}.faults")?)?;
-        let cases = faults::judged(rt, rt.alloc(), text.as_str())?;
-        tell(rt, "faults", name.as_str(), &cases)?;
-    }
-    Ok(())
-}
-
-/// Prints how many cases a file of this kind has, and each that differs.
-fn tell<R: Print + AllocGlobal + Clone + Drop>(
-    rt: &R,
-    kind: &str,
-    name: &str,
-    outcome: &Outcome,
-) -> io::Result<()> {
-    let cases = outcome.cases;
-    println!(rt; "{kind} {name}: {cases} cases")?;
-    for line in outcome.differing.as_slice() {
-        println!(rt; "  {line}")?;
+        let text = bytes_of(rt, name.as_str(), ".faults")?;
+        let told = faults::judged(rt, text.as_slice())?;
+        print!(rt; "faults {name}: {told}")?;
     }
     Ok(())
 }

@@ -7,35 +7,34 @@ use std::alloc::{AllocError, Global};
 /// Room for what a scenario prints.
 const ROOM: usize = 262_144;
 
-/// Whether a scenario printed what it should.
-#[derive(Clone, Copy)]
-pub(crate) enum Outcome {
-    /// It did, byte for byte.
-    AsWanted,
-    /// It did not: the first line, from 1, in which they differ.
-    Differs(usize),
-}
-
-/// Runs a scenario over memory, and compares what it prints with what is wanted.
-pub(crate) fn outcome_of(
+/// Runs a scenario over memory, and compares what it prints with what is wanted: the number of the first line, from 1, in
+/// which they differ, or none where it printed this byte for byte.
+pub(crate) fn differing_line(
     alloc: Global,
     text: Vec<u8>,
     wanted: &[u8],
-) -> Result<Outcome, AllocError> {
+) -> Result<Option<usize>, AllocError> {
     let mut source = MemSource::new(text, Vec::new(alloc));
     let mut sink = MemSink::open(alloc, ROOM, ROOM, Vec::new(alloc))?;
     let status = sim_main(alloc, &mut source, &mut sink);
     // What is said of a refusal stands after what was written, which is nothing where a scenario is refused.
     let _ = say(status, &mut sink);
-    Ok(compared(sink.written(), wanted))
+    Ok(first_difference(sink.written(), wanted))
 }
 
-/// Where two texts differ first.
-fn compared(got: &[u8], wanted: &[u8]) -> Outcome {
+/// The line in which two texts differ first.
+fn first_difference(got: &[u8], wanted: &[u8]) -> Option<usize> {
     if got == wanted {
-        return Outcome::AsWanted;
+        return None;
     }
-    let same = got.iter().zip(wanted).take_while(|(a, b)| a == b).count();
-    let line = got.iter().take(same).filter(|byte| **byte == b'\n').count();
-    Outcome::Differs(line.saturating_add(1))
+    let mut line = 1usize;
+    for (place, byte) in got.iter().enumerate() {
+        if wanted.get(place) != Some(byte) {
+            break;
+        }
+        if *byte == b'\n' {
+            line = line.saturating_add(1);
+        }
+    }
+    Some(line)
 }

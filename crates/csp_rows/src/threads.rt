@@ -4,10 +4,14 @@
 //! workers goes first in each round. Then come lines of the report, in their order: `..` stands for any lines, and a line
 //! that ends so for one that begins as it does.
 
+use crate::files::bytes_of;
+use crate::program::strings;
 use csp_base::{MemSink, MemSource};
 use csp_rounds::{Gate, OpenGate, OrderGate};
 use csp_top::{csp_main, say};
 use std::alloc::{AllocError, Global};
+use std::fs::Files;
+use std::io;
 use std::sync::Wait;
 use std::thread::Threads;
 
@@ -16,9 +20,8 @@ const ROOM: usize = 262_144;
 
 /// A run in threads.
 #[derive(Clone, Copy)]
-pub(crate) struct Case<'a> {
-    /// The name of its scenario.
-    pub(crate) scenario: &'a str,
+struct Case<'a> {
+    scenario: &'a str,
     words: &'a str,
     first: Option<u32>,
     wanted: &'a str,
@@ -26,7 +29,7 @@ pub(crate) struct Case<'a> {
 
 /// Whether a run said what it should.
 #[derive(Clone, Copy)]
-pub(crate) enum Verdict {
+enum Verdict {
     /// It did.
     AsWanted,
     /// The first line, from 1, of those that it should say and did not.
@@ -35,11 +38,43 @@ pub(crate) enum Verdict {
     GoesOn,
     /// A worker waited in vain for the other.
     GaveUp,
+    /// No run is stated.
+    NoRun,
+}
+
+impl Verdict {
+    /// What is printed of it.
+    fn told(self, alloc: Global) -> Result<String, AllocError> {
+        let text = match self {
+            Verdict::AsWanted => "as it should be",
+            Verdict::Lacks(line) => return format!(in alloc; "without line {line}"),
+            Verdict::GoesOn => "more than it should",
+            Verdict::GaveUp => "waited in vain",
+            Verdict::NoRun => "states no run",
+        };
+        String::from_str(alloc, text)
+    }
+}
+
+/// Makes the run that a file states, and tells whether it said what it should.
+pub(crate) fn told<R: Files + AllocGlobal + Clone + Threads + Wait + Sync>(
+    rt: &R,
+    stated: &[u8],
+) -> io::Result<String> {
+    let verdict = match Case::read(stated) {
+        None => Verdict::NoRun,
+        Some(case) => {
+            let text = bytes_of(rt, case.scenario, ".scn")?;
+            case.run(rt, rt.alloc(), text)?
+        }
+    };
+    Ok(verdict.told(rt.alloc())?)
 }
 
 impl<'a> Case<'a> {
     /// The run that a file states, where it states one.
-    pub(crate) fn read(text: &'a str) -> Option<Case<'a>> {
+    fn read(stated: &'a [u8]) -> Option<Case<'a>> {
+        let text = str::from_utf8(stated).ok()?;
         let (scenario, rest) = text.split_once("\n")?;
         let (words, rest) = rest.split_once("\n")?;
         let (gate, wanted) = rest.split_once("\n")?;
@@ -58,23 +93,21 @@ impl<'a> Case<'a> {
     }
 
     /// Makes the run of the scenario over memory.
-    pub(crate) fn run<R: Threads + Wait + Sync>(
+    fn run<R: Threads + Wait + Sync>(
         &self,
         rt: &R,
         alloc: Global,
         text: Vec<u8>,
     ) -> Result<Verdict, AllocError> {
-        match self.first {
-            None => self.run_past(rt, alloc, text, &OpenGate),
-            Some(worker) => {
-                let gate = OrderGate::new(worker);
-                let verdict = self.run_past(rt, alloc, text, &gate)?;
-                if gate.gave_up() {
-                    return Ok(Verdict::GaveUp);
-                }
-                Ok(verdict)
-            }
+        let Some(worker) = self.first else {
+            return self.run_past(rt, alloc, text, &OpenGate);
+        };
+        let gate = OrderGate::new(worker);
+        let verdict = self.run_past(rt, alloc, text, &gate)?;
+        if gate.gave_up() {
+            return Ok(Verdict::GaveUp);
         }
+        Ok(verdict)
     }
 
     /// Makes it past this gate.
@@ -85,16 +118,13 @@ impl<'a> Case<'a> {
         text: Vec<u8>,
         gate: &G,
     ) -> Result<Verdict, AllocError> {
-        let mut words = Vec::new(alloc);
-        for word in self.words.split(" ") {
-            words.push(String::from_str(alloc, word)?)?;
-        }
+        let words = strings(alloc, self.words)?;
         let mut source = MemSource::new(text, Vec::new(alloc));
         let mut sink = MemSink::open(alloc, ROOM, ROOM, Vec::new(alloc))?;
         let status = csp_main(rt, alloc, words.as_slice(), &mut source, &mut sink, gate);
         let _ = say(status, &mut sink);
-        match String::from_utf8(Vec::from_slice(alloc, sink.written())?) {
-            Ok(report) => judged(alloc, report.as_str(), self.wanted),
+        match str::from_utf8(sink.written()) {
+            Ok(report) => judged(alloc, report, self.wanted),
             Err(_) => Ok(Verdict::Lacks(1)),
         }
     }
