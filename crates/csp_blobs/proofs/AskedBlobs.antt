@@ -25,7 +25,7 @@ use Rattle.csp_prefix.proofs.NodeLanes.{RouterThere, app_lanes_there}
 use Rattle.csp_prefix.proofs.OpeningPlaces.{opener}
 use Rattle.csp_prefix.specs.Apps.{IsAppLog}
 use Rattle.csp_prefix.specs.Prefix.{IsBeginning, sent_on}
-use Rattle.csp_topology.specs.Lanes.{app_lanes, hub_of}
+use Rattle.csp_topology.specs.Lanes.{app_lanes, leader_of}
 use Rattle.csp_blobs.proofs.AskedCuts.{gets_append, nothing_comes}
 use Rattle.csp_blobs.proofs.BlobPrefix.{AreOnSlots, app_log}
 use Rattle.csp_blobs.specs.Asking.{AnswerNoMore, AreBlobsWhole, IsConnect, SendWhatComes, WaitForAnswers, asks}
@@ -46,7 +46,7 @@ module _ (scene : PlainScene) (r : PlainRecord) (is : IsScene scene) (con : IsCo
   lanes_there : (place k : ℕ) (n : PlainNode) (t : RouterThere scene r place) → slice_get scene.nodes place ≡ Some n → k < length n.apps → AllByRecursion (IsInOrder r) (app_lanes place (who.Router place) k)
   lanes_there place k n t there low =
       let one : n ≡ t.node = ap (λ o. unwrap_or o n) (sym there ∙ t.there) in
-      subst (λ a. AllByRecursion (IsInOrder r) (app_lanes place (hub_of place a) k)) (ap (λ (m : PlainNode). m.addr) one ∙ t.called) (app_lanes_there scene r place k n con.lanes there low)
+      subst (λ a. AllByRecursion (IsInOrder r) (app_lanes place (leader_of place a) k)) (ap (λ (m : PlainNode). m.addr) one ∙ t.called) (app_lanes_there scene r place k n con.lanes there low)
 
   pub blobs_whole : AreBlobsWhole scene r
   blobs_whole node app nth other x y peer steps opened numbered peered at flow sends asked = record {

@@ -24,8 +24,8 @@ use Rattle.csp_scene.specs.Scene.{PlainLink, PlainNode, PlainScene}
 use Rattle.csp_standing.proofs.Leaders.{Apart, Hubs, Led, home_in, hub_at, hub_leads, hub_place_of, leads_hub, node_in}
 use Rattle.csp_standing.proofs.Places.{IsAt, home_named, post_at, post_of}
 use Rattle.csp_standing.specs.Network.{IsHomeIn, IsNetworkOf, IsPostOf, PlainNetwork, leads, mark_for}
-use Rattle.csp_topology.specs.Lanes.{hub_of}
-use Rattle.csp_topology.specs.Parties.{PlainOpening, apps_from, hub_by, ifaces_from, links_from, parties_at, parties_from, parties_of}
+use Rattle.csp_topology.specs.Lanes.{leader_of}
+use Rattle.csp_topology.specs.Parties.{PlainOpening, apps_from, leader_by, ifaces_from, links_from, parties_at, parties_from, parties_of}
 use Rattle.csp_topology.specs.Wired.{IsLed, Stands}
 
 -- a party of this name
@@ -48,7 +48,7 @@ nodes_has place zero m (x ∷ nodes) n links e h =
     let own = iface_has place x.addr 0 m (links_at place links) few in
     let called : Has (IsCalled (who.Iface (place + 0) m)) (ifaces_from place x.addr 0 (links_at place links)) = record { place = own.place; one = own.one; at = own.at; so = own.so ∙ ap (λ (p : ℕ). who.Iface p (0 + m)) (sym same) ∙ ap (λ (j : ℕ). who.Iface (place + 0) j) (omega arith) } in
     has_first (IsCalled (who.Iface (place + 0) m)) (parties_at place x (links_at place links)) (parties_from (place + 1) nodes links)
-    (has_second (IsCalled (who.Iface (place + 0) m)) (hub_by x.addr place x (links_at place links) ∷ []) (ifaces_from place x.addr 0 (links_at place links) ++ apps_from place 0 x.apps)
+    (has_second (IsCalled (who.Iface (place + 0) m)) (leader_by x.addr place x (links_at place links) ∷ []) (ifaces_from place x.addr 0 (links_at place links) ++ apps_from place 0 x.apps)
     (has_first (IsCalled (who.Iface (place + 0) m)) (ifaces_from place x.addr 0 (links_at place links)) (apps_from place 0 x.apps) called))
 nodes_has place (suc k) m (x ∷ nodes) n links e h =
     let same : place + suc k ≡ place + 1 + k = omega arith in
@@ -186,21 +186,21 @@ has_met led hubs apart scene n posts net node m q there at =
       };
     }
   where
-    hub_of_it : (stands : Stands scene (hub_of node m.addr)) → ℕ
+    hub_of_it : (stands : Stands scene (leader_of node m.addr)) → ℕ
     hub_of_it stands = (hub_at scene n posts net node m.addr stands).at
 
-    its_hub : (stands : Stands scene (hub_of node m.addr)) (i : ℕ) (s : PlainPost) (h : PlainHome) (e : slice_get posts i ≡ Some s) (f : s.ends.home ≡ Some h) (g : h.node ≡ node) (x : IsAt scene n (parties_of scene) i s) (l : IsLed scene node i x.party.who) → l.hub.place ≡ stands.place
+    its_hub : (stands : Stands scene (leader_of node m.addr)) (i : ℕ) (s : PlainPost) (h : PlainHome) (e : slice_get posts i ≡ Some s) (f : s.ends.home ≡ Some h) (g : h.node ≡ node) (x : IsAt scene n (parties_of scene) i s) (l : IsLed scene node i x.party.who) → l.hub.place ≡ stands.place
     its_hub stands i s h e f g x l =
         let same : l.n ≡ m = same_Some l.n m (sym l.there ∙ there) in
-        apart scene l.hub.place stands.place l.hub.party stands.party l.hub.at stands.at (l.hub.named ∙ ap (λ (p : PlainNode). hub_of node p.addr) same ∙ sym stands.named)
+        apart scene l.hub.place stands.place l.hub.party stands.party l.hub.at stands.at (l.hub.named ∙ ap (λ (p : PlainNode). leader_of node p.addr) same ∙ sym stands.named)
 
-    first : (stands : Stands scene (hub_of node m.addr)) → hub_of_it stands ≡ stands.place → (i : ℕ) (s : PlainPost) (h : PlainHome) → slice_get posts i ≡ Some s → s.ends.home ≡ Some h → h.node ≡ node → hub_of_it stands ≤ i
+    first : (stands : Stands scene (leader_of node m.addr)) → hub_of_it stands ≡ stands.place → (i : ℕ) (s : PlainPost) (h : PlainHome) → slice_get posts i ≡ Some s → s.ends.home ≡ Some h → h.node ≡ node → hub_of_it stands ≤ i
     first stands place i s h e f g =
         let x = post_at scene n (parties_of scene) posts i s net.parties e in
         let l = led scene i x.party x.there node (node_in scene n x.party s h x.post f ∙ ap (λ (k : ℕ). Some k) g) in
         subst (λ (k : ℕ). k ≤ i) (its_hub stands i s h e f g x l ∙ sym place) l.first
 
-    others : (stands : Stands scene (hub_of node m.addr)) → hub_of_it stands ≡ stands.place → (i : ℕ) (s : PlainPost) (h : PlainHome) → slice_get posts i ≡ Some s → s.ends.home ≡ Some h → h.node ≡ node → i ≢ hub_of_it stands → IsOther q h
+    others : (stands : Stands scene (leader_of node m.addr)) → hub_of_it stands ≡ stands.place → (i : ℕ) (s : PlainPost) (h : PlainHome) → slice_get posts i ≡ Some s → s.ends.home ≡ Some h → h.node ≡ node → i ≢ hub_of_it stands → IsOther q h
     others stands place i s h e f g other =
         let x = post_at scene n (parties_of scene) posts i s net.parties e in
         let l = led scene i x.party x.there node (node_in scene n x.party s h x.post f ∙ ap (λ (k : ℕ). Some k) g) in

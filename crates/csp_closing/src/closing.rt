@@ -16,7 +16,7 @@ use csp_posts::{Post, are_finished};
 use csp_record::Record;
 use csp_standing::Fabric;
 use csp_telling::returns_all;
-use csp_topology::{joins_parties, leads_with_hubs, names_parties_apart, stays_home};
+use csp_topology::{joins_parties, names_parties_apart, puts_leaders_first, stays_home};
 use std::sync::Wait;
 
 /// Ends the run of a network with all its posts: what was left in each queue and what each place held is noted, every buffer is
@@ -26,7 +26,7 @@ pub fn close_fabric<R: Wait>(rt: &R, fabric: Fabric, posts: Vec<Post>) -> Record
     ensures { (scene : PlainScene) → IsScene scene → AreLinksAfter (length scene.nodes) [] scene.links → IsFabricOf scene fabric posts.items → IsClosed scene (map (λ s. s.plain) posts.items) result }
 {
     joins_parties();
-    leads_with_hubs();
+    puts_leaders_first();
     names_parties_apart();
     returns_all();
     stays_home();

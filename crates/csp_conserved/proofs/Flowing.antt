@@ -39,7 +39,7 @@ use Rattle.csp_scene.specs.Kept.{AreLinksAfter}
 use Rattle.csp_scene.specs.Links.{links_at, touches}
 use Rattle.csp_scene.specs.Ranges.{IsScene}
 use Rattle.csp_scene.specs.Scene.{PlainNode, PlainScene}
-use Rattle.csp_topology.specs.Lanes.{PlainLane, hub_of, out_lane}
+use Rattle.csp_topology.specs.Lanes.{PlainLane, leader_of, out_lane}
 use Rattle.csp_topology.specs.Parties.{parties_of}
 
 get_there : {X : Type 0} (xs : List X) (k : ℕ) → k < length xs → (x : X) × (slice_get xs k ≡ Some x)
@@ -61,7 +61,7 @@ module _ (scene : PlainScene) (r : PlainRecord) (is : IsScene scene) (after : Ar
   apps = length n.apps
 
   abbrev hub : Who
-  hub = hub_of node n.addr
+  hub = leader_of node n.addr
 
   abbrev of_hub : List Entry
   of_hub = entries_of r hub

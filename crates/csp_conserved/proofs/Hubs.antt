@@ -36,7 +36,7 @@ use Rattle.csp_scene.specs.Ranges.{IsJoined, IsScene}
 use Rattle.csp_scene.specs.Scene.{PlainLink, PlainNode, PlainScene}
 use Rattle.csp_stack.specs.Config.{opening_state}
 use Rattle.csp_stack.specs.Router.{Facts, State}
-use Rattle.csp_topology.specs.Lanes.{hub_of}
+use Rattle.csp_topology.specs.Lanes.{leader_of}
 use Rattle.csp_topology.specs.Parties.{config_of, parties_of, party_steps, router_for}
 
 -- ---- a router
@@ -94,13 +94,13 @@ bridge_asks apps (e ∷ es) time s low run =
 -- ---- that of a node
 
 pub hub_asks : (scene : PlainScene) (r : PlainRecord) (node : ℕ) (n : PlainNode) → IsScene scene → AreLogsOf (parties_of scene) r.parties → slice_get scene.nodes node ≡ Some n
-    → AllByRecursion (λ e. AsksIn (length (links_at node scene.links)) (length n.apps) e.op) (entries_of r (hub_of node n.addr))
+    → AllByRecursion (λ e. AsksIn (length (links_at node scene.links)) (length n.apps) e.op) (entries_of r (leader_of node n.addr))
 hub_asks scene r node n is are there = by n.addr refl
   where
     joined : IsJoined scene.links node n
     joined = is.joined node n there
 
-    by : (addr : Option ℕ) → n.addr ≡ addr → AllByRecursion (λ e. AsksIn (length (links_at node scene.links)) (length n.apps) e.op) (entries_of r (hub_of node addr))
+    by : (addr : Option ℕ) → n.addr ≡ addr → AllByRecursion (λ e. AsksIn (length (links_at node scene.links)) (length n.apps) e.op) (entries_of r (leader_of node addr))
     by (Some addr) e = told (logged scene r (who.Router node) are)
       where
         told : (entries_of r (who.Router node) ≡ []) ⊎ Logged (IsOf scene) (who.Router node) r.parties → AllByRecursion (λ e. AsksIn (length (links_at node scene.links)) (length n.apps) e.op) (entries_of r (who.Router node))

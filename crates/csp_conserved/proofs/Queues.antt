@@ -24,7 +24,7 @@ use Rattle.csp_log.specs.declared.shown.ItemShown.TheVariants as item
 use Rattle.csp_log.specs.declared.shown.OpShown.{OpShown}
 use Rattle.csp_log.specs.declared.shown.OpShown.TheVariants as op
 use Rattle.csp_log.specs.declared.who.Who.TheVariants as who
-use Rattle.csp_topology.specs.Lanes.{hub_of}
+use Rattle.csp_topology.specs.Lanes.{leader_of}
 
 -- how often a number is among the buffers of items
 abbrev pub among : ℕ → List ItemShown → ℕ
@@ -120,7 +120,7 @@ module _ (k ifaces apps : ℕ) where
   PopsIn (op.Pop _) = ⊥
   PopsIn _ = ⊤
 
-  pub pops_in : (node : ℕ) (addr : Option ℕ) (o : OpShown) → MayAsk (hub_of node addr) o → AsksIn ifaces apps o → PopsIn o
+  pub pops_in : (node : ℕ) (addr : Option ℕ) (o : OpShown) → MayAsk (leader_of node addr) o → AsksIn ifaces apps o → PopsIn o
   pops_in node (Some a) (op.Pop queue.Inbox) may asks = tt
   pops_in node (Some a) (op.Pop (queue.Up j)) may asks = asks
   pops_in node (Some a) (op.Pop (queue.Down j)) may asks = may

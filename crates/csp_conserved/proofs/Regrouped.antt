@@ -25,7 +25,7 @@ use Rattle.csp_log.specs.declared.who.Who.{Who}
 use Rattle.csp_log.specs.declared.who.Who.TheVariants as who
 use Rattle.csp_scene.specs.Links.{links_at}
 use Rattle.csp_scene.specs.Scene.{PlainNode, PlainScene}
-use Rattle.csp_topology.specs.Lanes.{hub_of}
+use Rattle.csp_topology.specs.Lanes.{leader_of}
 use Rattle.csp_topology.specs.Parties.{PlainOpening}
 
 -- what the entries of a log give, where its party is of this node
@@ -71,7 +71,7 @@ hits : (count j x : ℕ) (b : Bool) → (b ≡ true → j < count) → over coun
 hits count j x true low = over_hit count j x (low refl)
 hits count j x false low = over_none count (λ i. 0) (λ i h. refl)
 
-counted : (node ifaces apps : ℕ) (addr : Option ℕ) (w : Who) → IsWithinNode node ifaces apps addr w → IsCounted node ifaces apps (hub_of node addr) w
+counted : (node ifaces apps : ℕ) (addr : Option ℕ) (w : Who) → IsWithinNode node ifaces apps addr w → IsCounted node ifaces apps (leader_of node addr) w
 counted node ifaces apps (Some a) (who.Router place) h x = nothing ifaces apps (if place == node then x else 0) (λ j. 0) (λ j. 0) (λ j. refl) (λ j. refl)
 counted node ifaces apps None (who.Router place) h x =
     nothing ifaces apps 0 (λ j. 0) (λ j. 0) (λ j. refl) (λ j. refl) ∙ sym (no_if (place == node) x (λ e. let it = (h (eqb-true place node e)).1 in cc))
@@ -80,27 +80,27 @@ counted node ifaces apps (Some a) (who.Bridge place) h x =
     nothing ifaces apps 0 (λ j. 0) (λ j. 0) (λ j. refl) (λ j. refl) ∙ sym (no_if (place == node) x (λ e. let it = h (eqb-true place node e) in cc))
 counted node ifaces apps addr (who.Iface place j) h x = by addr
   where
-    by : (addr : Option ℕ) → parts ifaces apps (if is_who (hub_of node addr) (who.Iface place j) then x else 0) (λ i. if place == node && j == i then x else 0) (λ i. 0) ≡ (if place == node then x else 0)
+    by : (addr : Option ℕ) → parts ifaces apps (if is_who (leader_of node addr) (who.Iface place j) then x else 0) (λ i. if place == node && j == i then x else 0) (λ i. 0) ≡ (if place == node then x else 0)
     by None = omega (arith, hits ifaces j x (place == node) (λ e. h (eqb-true place node e)), over_none apps (λ i. 0) (λ i low. refl))
     by (Some a) = omega (arith, hits ifaces j x (place == node) (λ e. h (eqb-true place node e)), over_none apps (λ i. 0) (λ i low. refl))
 counted node ifaces apps addr (who.App place j) h x = by addr
   where
-    by : (addr : Option ℕ) → parts ifaces apps (if is_who (hub_of node addr) (who.App place j) then x else 0) (λ i. 0) (λ i. if place == node && j == i then x else 0) ≡ (if place == node then x else 0)
+    by : (addr : Option ℕ) → parts ifaces apps (if is_who (leader_of node addr) (who.App place j) then x else 0) (λ i. 0) (λ i. if place == node && j == i then x else 0) ≡ (if place == node then x else 0)
     by None = omega (arith, hits apps j x (place == node) (λ e. h (eqb-true place node e)), over_none ifaces (λ i. 0) (λ i low. refl))
     by (Some a) = omega (arith, hits apps j x (place == node) (λ e. h (eqb-true place node e)), over_none ifaces (λ i. 0) (λ i low. refl))
 counted node ifaces apps addr (who.Link k) h x = by addr
   where
-    by : (addr : Option ℕ) → parts ifaces apps (if is_who (hub_of node addr) (who.Link k) then x else 0) (λ i. 0) (λ i. 0) ≡ 0
+    by : (addr : Option ℕ) → parts ifaces apps (if is_who (leader_of node addr) (who.Link k) then x else 0) (λ i. 0) (λ i. 0) ≡ 0
     by None = parts_none ifaces apps (λ i. 0) (λ i. 0) (λ i. refl) (λ i. refl)
     by (Some a) = parts_none ifaces apps (λ i. 0) (λ i. 0) (λ i. refl) (λ i. refl)
 
 pub all_counted : (scene : PlainScene) (node : ℕ) (n : PlainNode) (os : List PlainOpening) (logs : List PlainPartyLog) → slice_get scene.nodes node ≡ Some n → AllByRecursion (IsOf scene) os → AreLogsOf os logs
-    → AllByRecursion (λ log. IsCounted node (length (links_at node scene.links)) (length n.apps) (hub_of node n.addr) log.who) logs
+    → AllByRecursion (λ log. IsCounted node (length (links_at node scene.links)) (length n.apps) (leader_of node n.addr) log.who) logs
 all_counted scene node n [] [] there own are = tt
 all_counted scene node n [] (log ∷ logs) there own are = absurd are
 all_counted scene node n (o ∷ os) [] there own are = absurd are
 all_counted scene node n (o ∷ os) (log ∷ logs) there own are = (
-  subst (IsCounted node (length (links_at node scene.links)) (length n.apps) (hub_of node n.addr)) (sym are.0.who)
+  subst (IsCounted node (length (links_at node scene.links)) (length n.apps) (leader_of node n.addr)) (sym are.0.who)
       (counted node (length (links_at node scene.links)) (length n.apps) n.addr o.who (within_node scene node n o there own.0)),
   all_counted scene node n os logs there own.1 are.1,
 )

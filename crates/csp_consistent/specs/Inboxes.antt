@@ -13,7 +13,7 @@ use Rattle.csp_record.specs.Record.{PlainRecord}
 use Rattle.csp_log.specs.declared.who.Who.{Who}
 use Rattle.csp_log.specs.declared.who.Who.TheVariants as who
 use Rattle.csp_scene.specs.Scene.{PlainScene, PlainNode}
-use Rattle.csp_topology.specs.Lanes.{hub_of}
+use Rattle.csp_topology.specs.Lanes.{leader_of}
 use Rattle.csp_consistent.specs.Reading.{entries_of, gets, left_in, puts, with_mark, with_priority}
 
 -- who puts packets with this mark into an inbox: the interface of that number, and the node's own router without one
@@ -39,4 +39,4 @@ pub record IsInboxInOrder (r : PlainRecord) (node : ℕ) (hub : Who) : Type 0 wh
 
 -- the inbox of each node of a scene is in order
 abbrev pub AreInboxesInOrder : PlainScene → PlainRecord → Type 0
-AreInboxesInOrder scene r = (node : ℕ) (n : PlainNode) → slice_get scene.nodes node ≡ Some n → IsInboxInOrder r node (hub_of node n.addr)
+AreInboxesInOrder scene r = (node : ℕ) (n : PlainNode) → slice_get scene.nodes node ≡ Some n → IsInboxInOrder r node (leader_of node n.addr)

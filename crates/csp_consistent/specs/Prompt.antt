@@ -23,7 +23,7 @@ use Rattle.csp_record.specs.Record.{PlainPartyLog, PlainRecord}
 use Rattle.csp_log.specs.Who.{node_of}
 use Rattle.csp_log.specs.declared.who.Who.{Who}
 use Rattle.csp_scene.specs.Scene.{PlainNode, PlainScene}
-use Rattle.csp_topology.specs.Lanes.{PlainLane, hub_of, lanes_of}
+use Rattle.csp_topology.specs.Lanes.{PlainLane, leader_of, lanes_of}
 
 -- it holds of each entry, with those before it
 abbrev pub AllAfter : (List Entry → Entry → Type 0) → List Entry → List Entry → Type 0
@@ -107,5 +107,5 @@ IsPoolPrompt r node count =
 -- each lane, inbox and pool of the scene
 pub record IsPrompt (scene : PlainScene) (r : PlainRecord) : Type 0 where
   pub lanes : AllByRecursion (IsPromptAt r) (lanes_of scene)
-  pub inboxes : (node : ℕ) (n : PlainNode) → slice_get scene.nodes node ≡ Some n → (p : Prio) → IsInboxPrompt r node n.inbox (hub_of node n.addr) p
+  pub inboxes : (node : ℕ) (n : PlainNode) → slice_get scene.nodes node ≡ Some n → (p : Prio) → IsInboxPrompt r node n.inbox (leader_of node n.addr) p
   pub pools : (node : ℕ) (n : PlainNode) → slice_get scene.nodes node ≡ Some n → IsPoolPrompt r node n.buffers

@@ -23,7 +23,7 @@ use Rattle.csp_log.specs.declared.who.Who.{Who}
 use Rattle.csp_log.specs.declared.who.Who.TheVariants as who
 use Rattle.csp_scene.specs.Links.{links_at}
 use Rattle.csp_scene.specs.Scene.{PlainNode, PlainScene}
-use Rattle.csp_topology.specs.Lanes.{hub_of, out_lane}
+use Rattle.csp_topology.specs.Lanes.{leader_of, out_lane}
 use Rattle.csp_topology.specs.Parties.{config_of, parties_of, router_for}
 
 module _ (scene : PlainScene) (r : PlainRecord) (lead : LeadByAddresses scene) (are : AreLogsOf (parties_of scene) r.parties) (order : AreInOrder scene r) where
@@ -54,7 +54,7 @@ module _ (scene : PlainScene) (r : PlainRecord) (lead : LeadByAddresses scene) (
           bridge_pushes (entries_of r (who.Bridge place)) 0 plain_bridge.opening (run_of scene r (who.Bridge place) (a_bridge plain_bridge.opening) l at.party)
 
   -- the router of a node, or its bridge
-  hub_there : (place : ℕ) (addr : Option ℕ) → Pushes (hub_of place addr)
+  hub_there : (place : ℕ) (addr : Option ℕ) → Pushes (leader_of place addr)
   hub_there place None = bridge_there place
   hub_there place (Some addr) = router_there place
 
@@ -66,7 +66,7 @@ module _ (scene : PlainScene) (r : PlainRecord) (lead : LeadByAddresses scene) (
       told (inl none) = subst (λ es. AllByRecursion IsHopItem (gets (queue.Out number) es)) (sym none) tt
       told (inr l) =
           let at : IsIfaceAt scene.nodes scene.links node number l.opening.party = owner_of scene r (who.Iface node number) l in
-          let hub : Who = hub_of node at.node.addr in
+          let hub : Who = leader_of node at.node.addr in
           through IsHopItem r (out_lane node hub number)
           (out_lane_there scene r node number at.node order at.there (slice_get_within (links_at node scene.links) number at.link at.on))
           (puts_hops number (entries_of r hub) (hub_there node at.node.addr))

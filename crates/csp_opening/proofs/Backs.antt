@@ -18,7 +18,7 @@ use Rattle.csp_log.specs.declared.who.Who.{Who}
 use Rattle.csp_log.specs.declared.who.Who.TheVariants as who
 use Rattle.csp_scene.proofs.Lists.{AllByRecursion-append}
 use Rattle.csp_scene.specs.Scene.{PlainNode, PlainScene}
-use Rattle.csp_topology.specs.Lanes.{PlainEnd, PlainLane, hub_of, out_lane}
+use Rattle.csp_topology.specs.Lanes.{PlainEnd, PlainLane, leader_of, out_lane}
 use Rattle.csp_topology.specs.Wired as wired
 use Rattle.csp_topology.specs.Wires.{PlainJoint, down_lane, joints_at, joints_from, rx_lane, tx_lane, up_lane, wire_at, wires_from, wires_of, wires_with}
 
@@ -177,7 +177,7 @@ is_row node hub joints apps =
 
 rows_from : (place : ℕ) (nodes : List PlainNode) (joints : List PlainJoint) → AllByRecursion IsRow (wires_from place nodes joints)
 rows_from place [] joints = tt
-rows_from place (n ∷ nodes) joints = (is_row place (hub_of place n.addr) (joints_at place joints) (length n.apps), rows_from (place + 1) nodes joints)
+rows_from place (n ∷ nodes) joints = (is_row place (leader_of place n.addr) (joints_at place joints) (length n.apps), rows_from (place + 1) nodes joints)
 
 -- so are those of each node of a scene
 pub rows_are : (scene : PlainScene) → AllByRecursion IsRow (wires_of scene)

@@ -21,7 +21,7 @@ use Rattle.csp_scene.specs.Ranges.{IsNode, IsScene}
 use Rattle.csp_scene.specs.Scene.{PlainNode, PlainScene}
 use Rattle.csp_standing.proofs.Places.{all_at}
 use Rattle.csp_topology.proofs.WireSteps.{joints_few}
-use Rattle.csp_topology.specs.Lanes.{PlainLane, hub_of, out_lane}
+use Rattle.csp_topology.specs.Lanes.{PlainLane, leader_of, out_lane}
 use Rattle.csp_topology.specs.Wired as wired
 use Rattle.csp_topology.specs.Wires.{PlainJoint, down_lane, joints_at, joints_from, rx_lane, tx_lane, up_lane, wires_from, wires_of, wires_with}
 use Rattle.csp_topology.specs.Wiring.{AreWires, IsWireOf}
@@ -38,7 +38,7 @@ row_called node hub joints apps =
 
 rows_called : (place : ℕ) (nodes : List PlainNode) (joints : List PlainJoint) → AllByRecursion (AllByRecursion IsCalled) (wires_from place nodes joints)
 rows_called place [] joints = tt
-rows_called place (n ∷ nodes) joints = (row_called place (hub_of place n.addr) (joints_at place joints) (length n.apps), rows_called (place + 1) nodes joints)
+rows_called place (n ∷ nodes) joints = (row_called place (leader_of place n.addr) (joints_at place joints) (length n.apps), rows_called (place + 1) nodes joints)
 
 -- what holds of each of a list of lists holds at a place
 all_placed : {A : Type 0} → (P : A → Type 0) (xss : List (List A)) (node k : ℕ) (x : A) → AllByRecursion (AllByRecursion P) xss → placed_at xss node k ≡ Some x → P x
@@ -73,7 +73,7 @@ row_long node hub joints apps =
 rows_few : (place : ℕ) (nodes : List PlainNode) (joints : List PlainJoint) → ((k : ℕ) → length (joints_at k joints) ≤ 12) → AllByRecursion IsNode nodes → AllByRecursion (λ (row : List PlainLane). length row < 256) (wires_from place nodes joints)
 rows_few place [] joints few is = tt
 rows_few place (n ∷ nodes) joints few is = (
-  (let long = row_long place (hub_of place n.addr) (joints_at place joints) (length n.apps) in let here = few place in let apps = is.0.few in omega (arith, long, here, apps)),
+  (let long = row_long place (leader_of place n.addr) (joints_at place joints) (length n.apps) in let here = few place in let apps = is.0.few in omega (arith, long, here, apps)),
   rows_few (place + 1) nodes joints few is.1,
 )
 

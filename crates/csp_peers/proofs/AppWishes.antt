@@ -37,7 +37,7 @@ use Rattle.csp_scene.specs.Links.{links_at}
 use Rattle.csp_scene.specs.Ranges.{IsApp, IsNode, IsOwnPort, IsScene, IsStep}
 use Rattle.csp_scene.specs.Scene.{PlainNode, PlainScene}
 use Rattle.csp_stack.specs.Router.{Router}
-use Rattle.csp_topology.specs.Lanes.{app_lanes, hub_of}
+use Rattle.csp_topology.specs.Lanes.{app_lanes, leader_of}
 use Rattle.csp_topology.specs.Parties.{config_of, router_for}
 use Rattle.csp_prefix.proofs.AppPuts.{PutsSo, app_puts}
 use Rattle.csp_peers.specs.Unforged.{ComesWell, GetsWell, HasNoBroadcasts, HasNoForgeries, HasSteps, IsToOne, IsUnforged}
@@ -112,8 +112,8 @@ module _ (scene : PlainScene) (r : PlainRecord) (is : IsScene scene) (holds : Is
   pub router_gets_well : (place addr k : ℕ) (n : PlainNode) → slice_get scene.nodes place ≡ Some n → n.addr ≡ Some addr → k < length n.apps
       → AllByRecursion ComesWell (gets (queue.Up k) (entries_of r (who.Router place)))
   router_gets_well place addr k n there called low =
-      let lanes : AllByRecursion (IsInOrder r) (app_lanes place (hub_of place n.addr) k) = app_lanes_there scene r place k n holds.lanes there low in
-      subst (λ a. AllByRecursion ComesWell (gets (queue.Up k) (entries_of r (hub_of place a)))) called
+      let lanes : AllByRecursion (IsInOrder r) (app_lanes place (leader_of place n.addr) k) = app_lanes_there scene r place k n holds.lanes there low in
+      subst (λ a. AllByRecursion ComesWell (gets (queue.Up k) (entries_of r (leader_of place a)))) called
       (through ComesWell r _ lanes.0 (app_puts_well place k))
 
   -- and so at each of its entries, or those of none

@@ -30,7 +30,7 @@ use Rattle.csp_consistent.specs.Consistent.{IsConsistent}
 use Rattle.csp_consistent.specs.Inboxes.{came_through, writer_of}
 use Rattle.csp_consistent.specs.Lanes.{IsInOrder}
 use Rattle.csp_topology.specs.Parties.{heeded, iface_opening}
-use Rattle.csp_topology.specs.Lanes.{hub_of, out_lane}
+use Rattle.csp_topology.specs.Lanes.{leader_of, out_lane}
 use Rattle.csp_consistent.specs.Origins.{IsSent}
 use Rattle.csp_consistent.specs.Reading.{entries_of, gets, left_in, puts, with_priority}
 use Rattle.csp_prefix.specs.Routers.{HearsOnly, IsOfKind, SendsOnly}
@@ -80,7 +80,7 @@ module _ (scene : PlainScene) (r : PlainRecord) (is : IsScene scene) (con : IsCo
 
   -- all that hubs hear is of the kind, if it crossed fewer links than so many
   abbrev HearBelow : ℕ → Type 0
-  HearBelow n = (place : ℕ) (node : PlainNode) → slice_get scene.nodes place ≡ Some node → AllByRecursion (Below n) (gets queue.Inbox (entries_of r (hub_of place node.addr)))
+  HearBelow n = (place : ℕ) (node : PlainNode) → slice_get scene.nodes place ≡ Some node → AllByRecursion (Below n) (gets queue.Inbox (entries_of r (leader_of place node.addr)))
 
   -- then so is what they put into an `Out`
   router_below : (n place k : ℕ) → AllByRecursion (Below n) (gets queue.Inbox (entries_of r (who.Router place))) → (entries_of r (who.Router place) ≡ []) ⊎ Logged (IsOf scene) (who.Router place) r.parties
@@ -98,7 +98,7 @@ module _ (scene : PlainScene) (r : PlainRecord) (is : IsScene scene) (con : IsCo
       let at : IsBridgeAt scene.nodes place l.opening.party = owner_of scene r (who.Bridge place) l in
       bridge_puts (IsBelow n) (queue.Out k) (entries_of r (who.Bridge place)) 0 plain_bridge.opening (run_of scene r (who.Bridge place) (a_bridge plain_bridge.opening) l at.party) tt got
 
-  hub_below : (n place k : ℕ) (addr : Option ℕ) → AllByRecursion (Below n) (gets queue.Inbox (entries_of r (hub_of place addr))) → AllByRecursion (Below n) (puts (queue.Out k) (entries_of r (hub_of place addr)))
+  hub_below : (n place k : ℕ) (addr : Option ℕ) → AllByRecursion (Below n) (gets queue.Inbox (entries_of r (leader_of place addr))) → AllByRecursion (Below n) (puts (queue.Out k) (entries_of r (leader_of place addr)))
   hub_below n place k (Some addr) got = router_below n place k got (logged scene r (who.Router place) con.runs)
   hub_below n place k None got = bridge_below n place k got (logged scene r (who.Bridge place) con.runs)
 
@@ -116,7 +116,7 @@ module _ (scene : PlainScene) (r : PlainRecord) (is : IsScene scene) (con : IsCo
       let at : IsBridgeAt scene.nodes place l.opening.party = owner_of scene r (who.Bridge place) l in
       bridge_keeps P (entries_of r (who.Bridge place)) 0 plain_bridge.opening (run_of scene r (who.Bridge place) (a_bridge plain_bridge.opening) l at.party)
 
-  hub_inbox : (place : ℕ) (addr : Option ℕ) → AllByRecursion (IsOfKind P) (puts queue.Inbox (entries_of r (hub_of place addr)))
+  hub_inbox : (place : ℕ) (addr : Option ℕ) → AllByRecursion (IsOfKind P) (puts queue.Inbox (entries_of r (leader_of place addr)))
   hub_inbox place (Some addr) = router_inbox place (logged scene r (who.Router place) con.runs)
   hub_inbox place None = bridge_inbox place (logged scene r (who.Bridge place) con.runs)
 
@@ -126,10 +126,10 @@ module _ (scene : PlainScene) (r : PlainRecord) (is : IsScene scene) (con : IsCo
   shows_below n node number serial hear (inl none) = subst (AllByRecursion (λ (e : Entry). (b : Content) → shown_in serial e ≡ Some b → IsBelow n b)) (sym none) tt
   shows_below n node number serial hear (inr l) =
       let at : IsIfaceAt scene.nodes scene.links node number l.opening.party = owner_of scene r (who.Iface node number) l in
-      let lane : IsInOrder r (out_lane node (hub_of node at.node.addr) number) = out_lane_there scene r node number at.node con.lanes at.there (slice_get_within (links_at node scene.links) number at.link at.on) in
+      let lane : IsInOrder r (out_lane node (leader_of node at.node.addr) number) = out_lane_there scene r node number at.node con.lanes at.there (slice_get_within (links_at node scene.links) number at.link at.on) in
       iface_shows (IsBelow n) node number serial at.link.kind at.link.mtu (heeded at.node.addr at.link) (entries_of r (who.Iface node number))
       (run_of scene r (who.Iface node number) (an_iface (iface_opening node number at.link.kind at.link.mtu (heeded at.node.addr at.link))) l at.party)
-      (through (Below n) r (out_lane node (hub_of node at.node.addr) number) lane (hub_below n node number at.node.addr (hear node at.node at.there)))
+      (through (Below n) r (out_lane node (leader_of node at.node.addr) number) lane (hub_below n node number at.node.addr (hear node at.node at.there)))
 
   sent_below : (n : ℕ) → HearBelow n → (o : Origin) (sent : Content) → transmission r o ≡ Some sent → IsBelow n sent
   sent_below n hear o sent shown =
@@ -156,17 +156,17 @@ module _ (scene : PlainScene) (r : PlainRecord) (is : IsScene scene) (con : IsCo
       (con.origins end) (accepted_of (λ b. is_changed r b ≡ false) place mark r.parties (none_counted (is_changed r) (flat_map accepted_by r.parties) same))
 
   -- what was put into an inbox with a mark
-  writer_below : (n place mark : ℕ) (addr : Option ℕ) → HearBelow n → AllByRecursion (Below (suc n)) (puts queue.Inbox (entries_of r (writer_of place (hub_of place addr) mark)))
+  writer_below : (n place mark : ℕ) (addr : Option ℕ) → HearBelow n → AllByRecursion (Below (suc n)) (puts queue.Inbox (entries_of r (writer_of place (leader_of place addr) mark)))
   writer_below n place mark addr hear =
       by (mark == UNMARKED)
     where
-      by : (c : Bool) → AllByRecursion (Below (suc n)) (puts queue.Inbox (entries_of r (if c then hub_of place addr else who.Iface place mark)))
-      by true = AllByRecursion-map (IsOfKind P) (Below (suc n)) (puts queue.Inbox (entries_of r (hub_of place addr))) (below_any (suc n)) (hub_inbox place addr)
+      by : (c : Bool) → AllByRecursion (Below (suc n)) (puts queue.Inbox (entries_of r (if c then leader_of place addr else who.Iface place mark)))
+      by true = AllByRecursion-map (IsOfKind P) (Below (suc n)) (puts queue.Inbox (entries_of r (leader_of place addr))) (below_any (suc n)) (hub_inbox place addr)
       by false = iface_below n place mark hear
 
   hear_next : (n : ℕ) → HearBelow n → HearBelow (suc n)
   hear_next n hear place node there =
-      let hub : Who = hub_of place node.addr in
+      let hub : Who = leader_of place node.addr in
       by_priority (IsBelow (suc n)) (gets queue.Inbox (entries_of r hub)) λ p.
       each_first (Below (suc n)) (with_priority p (gets queue.Inbox (entries_of r hub))) (left_in r place queue.Inbox (prio_number p))
       (by_mark (IsBelow (suc n)) (came_through r place hub p) λ mark.
@@ -174,11 +174,11 @@ module _ (scene : PlainScene) (r : PlainRecord) (is : IsScene scene) (con : IsCo
       (each_of_priority (Below (suc n)) p (puts queue.Inbox (entries_of r (writer_of place hub mark))) (writer_below n place mark node.addr hear)))
 
   hear_below : (n : ℕ) → HearBelow n
-  hear_below zero place node there = each_any (Below 0) (gets queue.Inbox (entries_of r (hub_of place node.addr))) none_below
+  hear_below zero place node there = each_any (Below 0) (gets queue.Inbox (entries_of r (leader_of place node.addr))) none_below
   hear_below (suc n) place node there = hear_next n (hear_below n) place node there
 
   -- all that a router hears is of the kind
   pub hears_only : (place : ℕ) (t : RouterThere scene r place) → HearsOnly P (entries_of r (who.Router place))
   hears_only place t =
-      subst (λ a. AllByRecursion (IsOfKind P) (gets queue.Inbox (entries_of r (hub_of place a)))) t.called
-      (all_from_below (gets queue.Inbox (entries_of r (hub_of place t.node.addr))) (λ n. hear_below n place t.node t.there))
+      subst (λ a. AllByRecursion (IsOfKind P) (gets queue.Inbox (entries_of r (leader_of place a)))) t.called
+      (all_from_below (gets queue.Inbox (entries_of r (leader_of place t.node.addr))) (λ n. hear_below n place t.node t.there))

@@ -16,7 +16,7 @@ use Rattle.csp_scene.specs.Scene.{PlainLink, PlainNode, PlainScene}
 use Rattle.csp_stack.specs.Router.{Router}
 use Rattle.csp_prefix.specs.Apps.{IsTrueApp}
 use Rattle.csp_consistent.specs.Lanes.{AreInOrder, IsInOrder}
-use Rattle.csp_topology.specs.Lanes.{PlainLane, app_lanes, hub_of, lanes_from, lanes_of, lanes_within, link_lanes, out_lane}
+use Rattle.csp_topology.specs.Lanes.{PlainLane, app_lanes, leader_of, lanes_from, lanes_of, lanes_within, link_lanes, out_lane}
 use Rattle.csp_topology.specs.Parties.{config_of, parties_of, party_steps, router_for}
 use Rattle.csp_consistent.specs.Reading.{entries_of, gets, puts}
 use Rattle.csp_prefix.specs.Routers.{IsRouterLog, IsUntraced, opening_router, router_steps}
@@ -43,7 +43,7 @@ at_number P f a (suc n) (suc k) j e low all = at_number P f (a + 1) n k j (omega
 
 -- those of the node at this place
 abbrev lanes_at : ℕ → PlainNode → List PlainLink → List PlainLane
-lanes_at place n links = lanes_within place (hub_of place n.addr) (length n.apps) (length (links_at place links))
+lanes_at place n links = lanes_within place (leader_of place n.addr) (length n.apps) (length (links_at place links))
 
 node_lanes : (r : PlainRecord) (links : List PlainLink) (m j place : ℕ) (n : PlainNode) (nodes : List PlainNode) → place ≡ m + j → slice_get nodes j ≡ Some n
     → AllByRecursion (IsInOrder r) (lanes_from m nodes links) → AllByRecursion (IsInOrder r) (lanes_at place n links)
@@ -63,18 +63,18 @@ lanes_there scene r place n order there =
 
 -- from an application and to it, and to an interface
 pub app_lanes_there : (scene : PlainScene) (r : PlainRecord) (place k : ℕ) (n : PlainNode) → AreInOrder scene r → slice_get scene.nodes place ≡ Some n → k < length n.apps
-    → AllByRecursion (IsInOrder r) (app_lanes place (hub_of place n.addr) k)
+    → AllByRecursion (IsInOrder r) (app_lanes place (leader_of place n.addr) k)
 app_lanes_there scene r place k n order there low =
-    at_number (IsInOrder r) (app_lanes place (hub_of place n.addr)) 0 (length n.apps) k k (omega arith) low
-    (each_first (IsInOrder r) (flat_map (app_lanes place (hub_of place n.addr)) (range_with_len 0 (length n.apps)))
-    (flat_map (λ j. out_lane place (hub_of place n.addr) j ∷ []) (range_with_len 0 (length (links_at place scene.links)))) (lanes_there scene r place n order there))
+    at_number (IsInOrder r) (app_lanes place (leader_of place n.addr)) 0 (length n.apps) k k (omega arith) low
+    (each_first (IsInOrder r) (flat_map (app_lanes place (leader_of place n.addr)) (range_with_len 0 (length n.apps)))
+    (flat_map (λ j. out_lane place (leader_of place n.addr) j ∷ []) (range_with_len 0 (length (links_at place scene.links)))) (lanes_there scene r place n order there))
 
 pub out_lane_there : (scene : PlainScene) (r : PlainRecord) (place k : ℕ) (n : PlainNode) → AreInOrder scene r → slice_get scene.nodes place ≡ Some n → k < length (links_at place scene.links)
-    → IsInOrder r (out_lane place (hub_of place n.addr) k)
+    → IsInOrder r (out_lane place (leader_of place n.addr) k)
 out_lane_there scene r place k n order there low =
-    (at_number (IsInOrder r) (λ j. out_lane place (hub_of place n.addr) j ∷ []) 0 (length (links_at place scene.links)) k k (omega arith) low
-    (each_last (IsInOrder r) (flat_map (app_lanes place (hub_of place n.addr)) (range_with_len 0 (length n.apps)))
-    (flat_map (λ j. out_lane place (hub_of place n.addr) j ∷ []) (range_with_len 0 (length (links_at place scene.links)))) (lanes_there scene r place n order there))).0
+    (at_number (IsInOrder r) (λ j. out_lane place (leader_of place n.addr) j ∷ []) 0 (length (links_at place scene.links)) k k (omega arith) low
+    (each_last (IsInOrder r) (flat_map (app_lanes place (leader_of place n.addr)) (range_with_len 0 (length n.apps)))
+    (flat_map (λ j. out_lane place (leader_of place n.addr) j ∷ []) (range_with_len 0 (length (links_at place scene.links)))) (lanes_there scene r place n order there))).0
 
 -- ---- the logs of names
 
@@ -121,9 +121,9 @@ app_items scene r place number is are =
 
 -- what a router got from an application of its node
 up_items : (scene : PlainScene) (r : PlainRecord) (place k : ℕ) (n : PlainNode) → IsScene scene → AreLogsOf (parties_of scene) r.parties → AreInOrder scene r → slice_get scene.nodes place ≡ Some n → k < length n.apps
-    → AllByRecursion (λ i. IsUpItem i × IsUntraced i) (gets (queue.Up k) (entries_of r (hub_of place n.addr)))
+    → AllByRecursion (λ i. IsUpItem i × IsUntraced i) (gets (queue.Up k) (entries_of r (leader_of place n.addr)))
 up_items scene r place k n is are order there low =
-    let lanes : AllByRecursion (IsInOrder r) (app_lanes place (hub_of place n.addr) k) = app_lanes_there scene r place k n order there low in
+    let lanes : AllByRecursion (IsInOrder r) (app_lanes place (leader_of place n.addr) k) = app_lanes_there scene r place k n order there low in
     through (λ i. IsUpItem i × IsUntraced i) r _ lanes.0
     (each_both IsUpItem IsUntraced (λ i. IsUpItem i × IsUntraced i) (puts (queue.Up k) (entries_of r (who.App place k))) (λ i a b. (a, b)) (app_items scene r place k is are) (app_true scene r place k are).untraced)
 
@@ -142,7 +142,7 @@ router_there scene r place is are order l =
     let s : Router = opening_router (config_of place at.addr at.node (links_at place scene.links)).facts at.node.routes in
     let run : IsRun router_steps 0 s es = router_run es 0 s (run_of scene r (who.Router place) (router_for (config_of place at.addr at.node (links_at place scene.links))) l at.party) in
     let ups : (k : ℕ) → k < length at.node.apps → AllByRecursion (λ i. IsUpItem i × IsUntraced i) (gets (queue.Up k) es) =
-    λ k low. subst (λ a. AllByRecursion (λ i. IsUpItem i × IsUntraced i) (gets (queue.Up k) (entries_of r (hub_of place a)))) at.called (up_items scene r place k at.node is are order at.there low) in
+    λ k low. subst (λ a. AllByRecursion (λ i. IsUpItem i × IsUntraced i) (gets (queue.Up k) (entries_of r (leader_of place a)))) at.called (up_items scene r place k at.node is are order at.there low) in
     record {
       node = at.node;
       addr = at.addr;

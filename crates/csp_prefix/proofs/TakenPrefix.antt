@@ -18,7 +18,7 @@ use Rattle.csp_consistent.specs.Consistent.{IsConsistent}
 use Rattle.csp_prefix.specs.Delivered.{delivered}
 use Rattle.csp_prefix.specs.Items.{payloads_in}
 use Rattle.csp_consistent.specs.Lanes.{IsInOrder}
-use Rattle.csp_topology.specs.Lanes.{app_lanes, hub_of}
+use Rattle.csp_topology.specs.Lanes.{app_lanes, leader_of}
 use Rattle.csp_prefix.specs.Prefix.{IsBeginning, IsOfFlow, IsOpened, IsReliablePrefix, sent_on, took_on}
 use Rattle.csp_consistent.specs.Reading.{entries_of, gets, left_in, puts}
 use Rattle.csp_prefix.specs.Routers.{AreTrueRouters, HasNoStale}
@@ -58,10 +58,10 @@ module _ (scene : PlainScene) (r : PlainRecord) (is : IsScene scene) (con : IsCo
   took_begins place app slot ordinal t =
       by (logged scene r (who.App place app) con.runs)
     where
-      lane : (n : PlainNode) → slice_get scene.nodes place ≡ Some n → AllByRecursion (IsInOrder r) (app_lanes place (hub_of place n.addr) app) → AllByRecursion (IsInOrder r) (app_lanes place (who.Router place) app)
+      lane : (n : PlainNode) → slice_get scene.nodes place ≡ Some n → AllByRecursion (IsInOrder r) (app_lanes place (leader_of place n.addr) app) → AllByRecursion (IsInOrder r) (app_lanes place (who.Router place) app)
       lane n there all =
           let one : n ≡ t.node = ap (λ o. unwrap_or o n) (sym there ∙ t.there) in
-          subst (λ a. AllByRecursion (IsInOrder r) (app_lanes place (hub_of place a) app)) (ap (λ (m : PlainNode). m.addr) one ∙ t.called) all
+          subst (λ a. AllByRecursion (IsInOrder r) (app_lanes place (leader_of place a) app)) (ap (λ (m : PlainNode). m.addr) one ∙ t.called) all
 
       by : (entries_of r (who.App place app) ≡ []) ⊎ Logged (IsOf scene) (who.App place app) r.parties → IsBeginning (took app slot ordinal (entries_of r (who.App place app))) (delivered app slot ordinal (entries_of r (who.Router place)))
       by (inl none) = begins_nothing (took app slot ordinal (entries_of r (who.App place app))) (delivered app slot ordinal (entries_of r (who.Router place))) (ap (took app slot ordinal) none)

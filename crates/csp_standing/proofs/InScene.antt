@@ -17,7 +17,7 @@ use Rattle.csp_standing.proofs.Sides.{JoinsAll, all_wired}
 use Rattle.csp_standing.proofs.Tracing.{queues_at}
 use Rattle.csp_standing.specs.Network.{AreNodesOf, IsNetworkOf, PlainNetwork, mark_for}
 use Rattle.csp_standing.specs.Shown.{AreOfScene, HasPassAt, IsReadAt}
-use Rattle.csp_topology.specs.Lanes.{PlainLane, hub_of, lanes_of}
+use Rattle.csp_topology.specs.Lanes.{PlainLane, leader_of, lanes_of}
 use Rattle.csp_topology.specs.Parties.{parties_of}
 use Rattle.csp_topology.specs.Wired.{IsWire}
 use Rattle.csp_topology.specs.Wires.{wires_of}
@@ -45,7 +45,7 @@ its_pass scene n posts net i s at h its p has node m here there =
     room_of scene.nodes (wires_of scene) n.nodes node m p net.nodes there
     (subst (λ k. IsSomeAnd (slice_get n.nodes k) (λ q. inbox.IsPassOf q.inbox p)) here (pass_in n.nodes h p has (subst (λ o. IfSome o (IsHomeOf n.nodes)) its x.post.from.of_it.home)))
 
-read_at : (scene : PlainScene) (n : PlainNetwork) (posts : List PlainPost) → IsNetworkOf scene n posts → Hubs → (node : ℕ) (m : PlainNode) → slice_get scene.nodes node ≡ Some m → IsReadAt posts (hub_of node m.addr) node m.inbox
+read_at : (scene : PlainScene) (n : PlainNetwork) (posts : List PlainPost) → IsNetworkOf scene n posts → Hubs → (node : ℕ) (m : PlainNode) → slice_get scene.nodes node ≡ Some m → IsReadAt posts (leader_of node m.addr) node m.inbox
 read_at scene n posts net hubs node m there =
     let hub = hub_at scene n posts net node m.addr (hubs scene node m there) in
     record {

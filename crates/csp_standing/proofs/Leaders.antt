@@ -15,9 +15,9 @@ use Rattle.csp_scene.specs.Scene.{PlainScene, PlainNode}
 use Rattle.csp_standing.proofs.Places.{home_named, post_at, post_of}
 use Rattle.csp_standing.specs.Network.{IsHomeIn, IsNetworkOf, IsPostOf, PlainNetwork, leads, mark_for}
 use Rattle.csp_standing.specs.Standing.{HaveLeaders}
-use Rattle.csp_topology.specs.Lanes.{hub_of}
+use Rattle.csp_topology.specs.Lanes.{leader_of}
 use Rattle.csp_topology.specs.Parties.{PlainOpening, parties_of}
-use Rattle.csp_topology.specs.Wired.{IsLed, Stands, is_hub}
+use Rattle.csp_topology.specs.Wired.{IsLed, Stands, is_leader}
 
 -- what csp_topology says of who leads
 abbrev pub Led : Type 0
@@ -25,25 +25,25 @@ Led = (scene : PlainScene) (j : ℕ) (o : PlainOpening) → slice_get (parties_o
 
 -- and of each node's router or bridge
 abbrev pub Hubs : Type 0
-Hubs = (scene : PlainScene) (node : ℕ) (n : PlainNode) → slice_get scene.nodes node ≡ Some n → Stands scene (hub_of node n.addr)
+Hubs = (scene : PlainScene) (node : ℕ) (n : PlainNode) → slice_get scene.nodes node ≡ Some n → Stands scene (leader_of node n.addr)
 
 -- who leads is a router or a bridge
-pub leads_hub : (w : Who) → leads w ≡ is_hub w
+pub leads_hub : (w : Who) → leads w ≡ is_leader w
 leads_hub (who.Router n) = refl
 leads_hub (who.Bridge n) = refl
 leads_hub (who.Iface n k) = refl
 leads_hub (who.App n k) = refl
 leads_hub (who.Link k) = refl
 
-pub hub_leads : (node : ℕ) (addr : Option ℕ) → leads (hub_of node addr) ≡ true
+pub hub_leads : (node : ℕ) (addr : Option ℕ) → leads (leader_of node addr) ≡ true
 hub_leads node (Some a) = refl
 hub_leads node None = refl
 
-pub hub_node : (node : ℕ) (addr : Option ℕ) → node_of (hub_of node addr) ≡ Some node
+pub hub_node : (node : ℕ) (addr : Option ℕ) → node_of (leader_of node addr) ≡ Some node
 hub_node node (Some a) = refl
 hub_node node None = refl
 
-hub_mark : (node : ℕ) (addr : Option ℕ) → mark_for (hub_of node addr) ≡ Some UNMARKED
+hub_mark : (node : ℕ) (addr : Option ℕ) → mark_for (leader_of node addr) ≡ Some UNMARKED
 hub_mark node (Some a) = refl
 hub_mark node None = refl
 
@@ -79,7 +79,7 @@ pub record HasHub (posts : List PlainPost) (w : Who) (place : ℕ) : Type 0 wher
   pub mark : pass.role.mark ≡ UNMARKED
   pub reads : pass.role.reads ≡ true
 
-pub hub_at : (scene : PlainScene) (n : PlainNetwork) (posts : List PlainPost) → IsNetworkOf scene n posts → (node : ℕ) (addr : Option ℕ) → Stands scene (hub_of node addr) → HasHub posts (hub_of node addr) node
+pub hub_at : (scene : PlainScene) (n : PlainNetwork) (posts : List PlainPost) → IsNetworkOf scene n posts → (node : ℕ) (addr : Option ℕ) → Stands scene (leader_of node addr) → HasHub posts (leader_of node addr) node
 hub_at scene n posts net node addr stands =
     let r = post_of scene n (parties_of scene) posts stands.place stands.party net.parties stands.at in
     let home = home_named r.post.ends.home node (r.its.home.node ∙ ap node_of stands.named ∙ hub_node node addr) in
@@ -101,7 +101,7 @@ hub_at scene n posts net node addr stands =
     }
 
 -- it stands where the topology has it
-pub hub_place_of : (scene : PlainScene) (n : PlainNetwork) (posts : List PlainPost) (net : IsNetworkOf scene n posts) (node : ℕ) (addr : Option ℕ) (stands : Stands scene (hub_of node addr)) → (hub_at scene n posts net node addr stands).at ≡ stands.place
+pub hub_place_of : (scene : PlainScene) (n : PlainNetwork) (posts : List PlainPost) (net : IsNetworkOf scene n posts) (node : ℕ) (addr : Option ℕ) (stands : Stands scene (leader_of node addr)) → (hub_at scene n posts net node addr stands).at ≡ stands.place
 unfolding hub_at
 hub_place_of scene n posts net node addr stands = refl
 
@@ -113,7 +113,7 @@ Apart = (scene : PlainScene) (i j : ℕ) (o p : PlainOpening) → slice_get (par
 hub_place : Apart → (scene : PlainScene) (node i j : ℕ) (v w : Who) (a : IsLed scene node i v) (b : IsLed scene node j w) → b.hub.place ≡ a.hub.place
 hub_place apart scene node i j v w a b =
     let same : b.n ≡ a.n = same_Some b.n a.n (sym b.there ∙ a.there) in
-    apart scene b.hub.place a.hub.place b.hub.party a.hub.party b.hub.at a.hub.at (b.hub.named ∙ ap (λ (n : PlainNode). hub_of node n.addr) same ∙ sym a.hub.named)
+    apart scene b.hub.place a.hub.place b.hub.party a.hub.party b.hub.at a.hub.at (b.hub.named ∙ ap (λ (n : PlainNode). leader_of node n.addr) same ∙ sym a.hub.named)
 
 pub leaders : Led → Apart → (scene : PlainScene) (n : PlainNetwork) (posts : List PlainPost) → IsNetworkOf scene n posts → HaveLeaders posts
 leaders led apart scene n posts net = record {
@@ -127,6 +127,6 @@ leaders led apart scene n posts net = record {
       let y = post_at scene n (parties_of scene) posts j s net.parties at_j in
       let a = led scene i x.party x.there g.node (node_in scene n x.party r g x.post its_r) in
       let b = led scene j y.party y.there g.node (node_in scene n y.party s h y.post its_s ∙ ap Some node) in
-      let is : is_hub x.party.who ≡ true = sym (leads_hub x.party.who) ∙ reads_leads x.party.who g (home_in scene n x.party r g x.post its_r) lead in
+      let is : is_leader x.party.who ≡ true = sym (leads_hub x.party.who) ∙ reads_leads x.party.who g (home_in scene n x.party r g x.post its_r) lead in
       subst (λ k. k ≤ j) (hub_place apart scene g.node i j x.party.who y.party.who a b ∙ a.alone is) b.first;
 }

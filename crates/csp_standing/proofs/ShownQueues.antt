@@ -45,7 +45,7 @@ use Rattle.csp_standing.proofs.Logged.{AtHome, IsPostAt, find_post, flat_mapped,
 use Rattle.csp_standing.proofs.Onward.{lane_named}
 use Rattle.csp_standing.proofs.PoolRounds.{puts_told, takes_told}
 use Rattle.csp_standing.specs.Shown.{AreLoggedBy, AreOfScene, AreReached, HasPassAt, IsLoggedBy, IsReadAt, IsWiredAt, all_kept}
-use Rattle.csp_topology.specs.Lanes.{PlainLane, hub_of, lanes_of}
+use Rattle.csp_topology.specs.Lanes.{PlainLane, leader_of, lanes_of}
 use Rattle.csp_topology.specs.Parties.{parties_of}
 
 -- where nothing was put, nothing is passed over
@@ -59,7 +59,7 @@ passes_nothing p mark before [] = tt
 passes_nothing p mark before (e ∷ es) = (none_passed p mark before e.op e.answer, passes_nothing p mark (before ++ e ∷ []) es)
 
 -- what a router, a bridge or an interface pushes to its inbox has its mark
-hub_marked : (node : ℕ) (addr : Option ℕ) (i : ItemShown) → MayPush (hub_of node addr) queue.Inbox i → mark_of i ≡ UNMARKED
+hub_marked : (node : ℕ) (addr : Option ℕ) (i : ItemShown) → MayPush (leader_of node addr) queue.Inbox i → mark_of i ≡ UNMARKED
 hub_marked node (Some addr) (item.Packet m b) may = may
 hub_marked node (Some addr) (item.Frame f) may = absurd may
 hub_marked node (Some addr) (item.Note n) may = absurd may
@@ -147,9 +147,9 @@ module _ (scene : PlainScene) (r : PlainRecord) (nodes : List PlainNodeQueues) (
 
   -- one who writes with this mark, if there is one
   writer_there : (node : ℕ) (n : PlainNode) (there : slice_get scene.nodes node ≡ Some n) (mark : ℕ) (b : Bool) → (mark == UNMARKED) ≡ b
-      → HasNone (if b then hub_of node n.addr else who.Iface node mark) (parties_of scene) ⊎ IsWriterAt posts (if b then hub_of node n.addr else who.Iface node mark) node mark n.inbox
+      → HasNone (if b then leader_of node n.addr else who.Iface node mark) (parties_of scene) ⊎ IsWriterAt posts (if b then leader_of node n.addr else who.Iface node mark) node mark n.inbox
   writer_there node n there mark true e =
-      let hub : IsReadAt posts (hub_of node n.addr) node n.inbox = of_it.hubs node n there in
+      let hub : IsReadAt posts (leader_of node n.addr) node n.inbox = of_it.hubs node n there in
       let same : mark ≡ UNMARKED = eqb-true mark UNMARKED e in
       inr (record {
         at = hub.at;
@@ -167,7 +167,7 @@ module _ (scene : PlainScene) (r : PlainRecord) (nodes : List PlainNodeQueues) (
       found (inr f) = inr (record { at = f.at; post = f.post; there = f.there; who = f.who; has = of_it.ifaces node n there f.at mark f.post f.there f.who; marks = iface_marked node mark })
 
   -- of the party that reads the inbox, and one that writes
-  between : (node : ℕ) (n : PlainNode) (w : Who) (mark : ℕ) (hub : IsReadAt posts (hub_of node n.addr) node n.inbox) (f : IsWriterAt posts w node mark n.inbox) (p : Prio) → IsInboxBetween hub.post f.post f.has.pass p
+  between : (node : ℕ) (n : PlainNode) (w : Who) (mark : ℕ) (hub : IsReadAt posts (leader_of node n.addr) node n.inbox) (f : IsWriterAt posts w node mark n.inbox) (p : Prio) → IsInboxBetween hub.post f.post f.has.pass p
   between node n w mark hub f p =
       past.inboxes hub.at f.at hub.post f.post hub.has.pass f.has.pass p
       (record { first = hub.there; second = f.there; g = hub.has.home; h = f.has.home; hub_home = hub.has.there; home = f.has.there; node = f.has.node ∙ sym hub.has.node; hub_pass = hub.has.inbox; pass = f.has.inbox; reads = hub.reads })
@@ -179,12 +179,12 @@ module _ (scene : PlainScene) (r : PlainRecord) (nodes : List PlainNodeQueues) (
       subst (λ w. AllByRecursion (λ e. MayAsk w e.op) s.entries) log.2.who
       (subst (λ es. AllByRecursion (λ e. MayAsk log.0.who e.op) es) log.2.entries (each_at UsesItsQueues r.parties i log.0 (uses scene r.parties are) log.1))
 
-  passed_shown : (node : ℕ) (n : PlainNode) (p : Prio) (mark : ℕ) (w : Who) → IsReadAt posts (hub_of node n.addr) node n.inbox → HasNone w (parties_of scene) ⊎ IsWriterAt posts w node mark n.inbox
-      → PassesNone p mark (entries_of r w) (entries_of r (hub_of node n.addr))
+  passed_shown : (node : ℕ) (n : PlainNode) (p : Prio) (mark : ℕ) (w : Who) → IsReadAt posts (leader_of node n.addr) node n.inbox → HasNone w (parties_of scene) ⊎ IsWriterAt posts w node mark n.inbox
+      → PassesNone p mark (entries_of r w) (entries_of r (leader_of node n.addr))
   passed_shown node n p mark w hub (inl none) =
-      subst (λ es. PassesNone p mark es (entries_of r (hub_of node n.addr))) (sym (none_there w (parties_of scene) r.parties are none)) (passes_nothing p mark [] (entries_of r (hub_of node n.addr)))
+      subst (λ es. PassesNone p mark es (entries_of r (leader_of node n.addr))) (sym (none_there w (parties_of scene) r.parties are none)) (passes_nothing p mark [] (entries_of r (leader_of node n.addr)))
   passed_shown node n p mark w hub (inr f) =
-      subst (λ es. PassesNone p mark (entries_of r w) es) (named hub.at hub.post (hub_of node n.addr) hub.there hub.who)
+      subst (λ es. PassesNone p mark (entries_of r w) es) (named hub.at hub.post (leader_of node n.addr) hub.there hub.who)
       (subst (λ es. PassesNone p mark es hub.post.entries) (named f.at f.post w f.there f.who)
       (passes_all w mark p f.post.entries hub.post.entries f.marks (subst (λ u. AllByRecursion (λ e. MayAsk u e.op) f.post.entries) f.who (asks_own f.at f.post f.there))
       (subst (λ m. PassesMarked p m f.post.entries hub.post.entries) f.has.marked (between node n w mark hub f p).passed)))
@@ -194,29 +194,29 @@ module _ (scene : PlainScene) (r : PlainRecord) (nodes : List PlainNodeQueues) (
       le_trans (reached.inboxes f.at f.post f.has.home f.has.pass p f.there f.has.there f.has.inbox)
       (subst (λ k. all_kept k p posts ≤ length (inbox_puts r node p)) (sym f.has.node) (inbox_reached node p opened posts r.parties told.each of_it.homes logged))
 
-  full_shown : (node : ℕ) (n : PlainNode) (p : Prio) (mark : ℕ) (w : Who) → IsReadAt posts (hub_of node n.addr) node n.inbox → HasNone w (parties_of scene) ⊎ IsWriterAt posts w node mark n.inbox
-      → AllByRecursion (λ e. CrammedAt p (n.inbox + length (with_priority p (gets queue.Inbox (early e.time (entries_of r (hub_of node n.addr)))))) (length (inbox_puts r node p)) e.op e.answer) (entries_of r w)
+  full_shown : (node : ℕ) (n : PlainNode) (p : Prio) (mark : ℕ) (w : Who) → IsReadAt posts (leader_of node n.addr) node n.inbox → HasNone w (parties_of scene) ⊎ IsWriterAt posts w node mark n.inbox
+      → AllByRecursion (λ e. CrammedAt p (n.inbox + length (with_priority p (gets queue.Inbox (early e.time (entries_of r (leader_of node n.addr)))))) (length (inbox_puts r node p)) e.op e.answer) (entries_of r w)
   full_shown node n p mark w hub (inl none) =
-      subst (λ es. AllByRecursion (λ e. CrammedAt p (n.inbox + length (with_priority p (gets queue.Inbox (early e.time (entries_of r (hub_of node n.addr)))))) (length (inbox_puts r node p)) e.op e.answer) es)
+      subst (λ es. AllByRecursion (λ e. CrammedAt p (n.inbox + length (with_priority p (gets queue.Inbox (early e.time (entries_of r (leader_of node n.addr)))))) (length (inbox_puts r node p)) e.op e.answer) es)
       (sym (none_there w (parties_of scene) r.parties are none)) tt
   full_shown node n p mark w hub (inr f) =
-      subst (λ es. AllByRecursion (λ e. CrammedAt p (n.inbox + length (with_priority p (gets queue.Inbox (early e.time (entries_of r (hub_of node n.addr)))))) (length (inbox_puts r node p)) e.op e.answer) es) (named f.at f.post w f.there f.who)
+      subst (λ es. AllByRecursion (λ e. CrammedAt p (n.inbox + length (with_priority p (gets queue.Inbox (early e.time (entries_of r (leader_of node n.addr)))))) (length (inbox_puts r node p)) e.op e.answer) es) (named f.at f.post w f.there f.who)
       (each_both (λ e. MayAsk f.post.who e.op)
       (λ e. IsMarked f.has.pass.role.mark e.op → CrammedAt p (f.has.pass.role.room + length (with_priority p (gets queue.Inbox (early e.time hub.post.entries)))) (inbox.mail_at f.has.pass p).puts_floor e.op e.answer)
-      (λ e. CrammedAt p (n.inbox + length (with_priority p (gets queue.Inbox (early e.time (entries_of r (hub_of node n.addr)))))) (length (inbox_puts r node p)) e.op e.answer) f.post.entries
+      (λ e. CrammedAt p (n.inbox + length (with_priority p (gets queue.Inbox (early e.time (entries_of r (leader_of node n.addr)))))) (length (inbox_puts r node p)) e.op e.answer) f.post.entries
       (λ e may crammed.
-      crammed_by p (n.inbox + length (with_priority p (gets queue.Inbox (early e.time (entries_of r (hub_of node n.addr)))))) (inbox.mail_at f.has.pass p).puts_floor (length (inbox_puts r node p)) e.op e.answer (floor_reached node n w mark f p)
-      (subst (λ es. CrammedAt p (n.inbox + length (with_priority p (gets queue.Inbox (early e.time es)))) (inbox.mail_at f.has.pass p).puts_floor e.op e.answer) (named hub.at hub.post (hub_of node n.addr) hub.there hub.who)
+      crammed_by p (n.inbox + length (with_priority p (gets queue.Inbox (early e.time (entries_of r (leader_of node n.addr)))))) (inbox.mail_at f.has.pass p).puts_floor (length (inbox_puts r node p)) e.op e.answer (floor_reached node n w mark f p)
+      (subst (λ es. CrammedAt p (n.inbox + length (with_priority p (gets queue.Inbox (early e.time es)))) (inbox.mail_at f.has.pass p).puts_floor e.op e.answer) (named hub.at hub.post (leader_of node n.addr) hub.there hub.who)
       (subst (λ k. CrammedAt p (k + length (with_priority p (gets queue.Inbox (early e.time hub.post.entries)))) (inbox.mail_at f.has.pass p).puts_floor e.op e.answer) f.has.roomy
       (crammed_marked w mark p (f.has.pass.role.room + length (with_priority p (gets queue.Inbox (early e.time hub.post.entries)))) (inbox.mail_at f.has.pass p).puts_floor e.op e.answer f.marks
       (subst (λ u. MayAsk u e.op) f.who may)
       (subst (λ m. IsMarked m e.op → CrammedAt p (f.has.pass.role.room + length (with_priority p (gets queue.Inbox (early e.time hub.post.entries)))) (inbox.mail_at f.has.pass p).puts_floor e.op e.answer) f.has.marked crammed)))))
       (asks_own f.at f.post f.there) (between node n w mark hub f p).full)
 
-  inbox_shown : (node : ℕ) (n : PlainNode) → slice_get scene.nodes node ≡ Some n → (p : Prio) → IsInboxPrompt r node n.inbox (hub_of node n.addr) p
+  inbox_shown : (node : ℕ) (n : PlainNode) → slice_get scene.nodes node ≡ Some n → (p : Prio) → IsInboxPrompt r node n.inbox (leader_of node n.addr) p
   inbox_shown node n there p = record {
-    passed = λ mark. passed_shown node n p mark (writer_of node (hub_of node n.addr) mark) (of_it.hubs node n there) (writer_there node n there mark (mark == UNMARKED) refl);
-    full = λ mark. full_shown node n p mark (writer_of node (hub_of node n.addr) mark) (of_it.hubs node n there) (writer_there node n there mark (mark == UNMARKED) refl);
+    passed = λ mark. passed_shown node n p mark (writer_of node (leader_of node n.addr) mark) (of_it.hubs node n there) (writer_there node n there mark (mark == UNMARKED) refl);
+    full = λ mark. full_shown node n p mark (writer_of node (leader_of node n.addr) mark) (of_it.hubs node n there) (writer_there node n there mark (mark == UNMARKED) refl);
   }
 
   -- counts over the posts and over the logs

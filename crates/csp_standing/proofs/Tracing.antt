@@ -18,7 +18,7 @@ use Rattle.csp_scene.specs.Scene.{PlainNode, PlainScene}
 use Rattle.csp_standing.proofs.Leaders.{Apart, HasHub, Hubs, Led, hub_at, hub_leads, hub_node, hub_place_of, leads_hub, node_in}
 use Rattle.csp_standing.proofs.Places.{all_from, post_at}
 use Rattle.csp_standing.specs.Network.{AreNodesOf, IsNetworkOf, PlainNetwork, leads, opened_at, opened_in}
-use Rattle.csp_topology.specs.Lanes.{PlainLane, hub_of}
+use Rattle.csp_topology.specs.Lanes.{PlainLane, leader_of}
 use Rattle.csp_topology.specs.Parties.{parties_of}
 use Rattle.csp_topology.specs.Wired.{Stands}
 use Rattle.csp_topology.specs.Wires.{wires_of}
@@ -79,14 +79,14 @@ at_home : (node : ℕ) (home : Option PlainHome) (h : PlainHome) (n : ℕ) → h
 at_home node home h n its at = ap (λ o. if is_home node o then n else 0) its ∙ ap (λ b. if b then n else 0) (eq-eqb h.node node at)
 
 -- what all parties of a node put in at the opening is what its pool has room for
-whole_node : Led → Apart → (scene : PlainScene) (n : PlainNetwork) (posts : List PlainPost) → IsNetworkOf scene n posts → (node : ℕ) (m : PlainNode) → slice_get scene.nodes node ≡ Some m → Stands scene (hub_of node m.addr)
+whole_node : Led → Apart → (scene : PlainScene) (n : PlainNetwork) (posts : List PlainPost) → IsNetworkOf scene n posts → (node : ℕ) (m : PlainNode) → slice_get scene.nodes node ≡ Some m → Stands scene (leader_of node m.addr)
     → over_home node (λ s. length (opened_in scene s.who)) posts ≡ m.buffers
 whole_node led apart scene n posts net node m there stands =
     just_one (λ (s : PlainPost). if is_home node s.ends.home then length (opened_in scene s.who) else 0) posts hub.at hub.post hub.there others
     ∙ at_home node hub.post.ends.home hub.home (length (opened_in scene hub.post.who)) hub.its hub.node
     ∙ ap (λ w. length (opened_in scene w)) hub.who
-    ∙ all_opened scene (hub_of node m.addr) node m (hub_leads node m.addr) (hub_node node m.addr) there where
-      hub : HasHub posts (hub_of node m.addr) node
+    ∙ all_opened scene (leader_of node m.addr) node m (hub_leads node m.addr) (hub_node node m.addr) there where
+      hub : HasHub posts (leader_of node m.addr) node
       hub = hub_at scene n posts net node m.addr stands
 
       others : (k : ℕ) (s : PlainPost) → slice_get posts k ≡ Some s → k ≢ hub.at → (if is_home node s.ends.home then length (opened_in scene s.who) else 0) ≡ 0
@@ -94,7 +94,7 @@ whole_node led apart scene n posts net node m there stands =
           let x = post_at scene n (parties_of scene) posts k s net.parties at in
           let l = led scene k x.party x.there node (node_in scene n x.party s h x.post its ∙ ap Some here) in
           let same : l.n ≡ m = same_Some l.n m (sym l.there ∙ there) in
-          let place : l.hub.place ≡ stands.place = apart scene l.hub.place stands.place l.hub.party stands.party l.hub.at stands.at (l.hub.named ∙ ap (λ (p : PlainNode). hub_of node p.addr) same ∙ sym stands.named) in
+          let place : l.hub.place ≡ stands.place = apart scene l.hub.place stands.place l.hub.party stands.party l.hub.at stands.at (l.hub.named ∙ ap (λ (p : PlainNode). leader_of node p.addr) same ∙ sym stands.named) in
           by (leads s.who) refl (λ lead. other (sym (l.alone (sym (leads_hub x.party.who) ∙ ap leads (sym x.post.who) ∙ lead)) ∙ place ∙ sym (hub_place_of scene n posts net node m.addr stands)))) where
             by : (b : Bool) → leads s.who ≡ b → (leads s.who ≡ true → ⊥) → length (opened_in scene s.who) ≡ 0
             by true e not = absurd (not e)

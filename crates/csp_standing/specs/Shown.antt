@@ -15,7 +15,7 @@ use Rattle.csp_log.specs.Who.{node_of}
 use Rattle.csp_log.specs.declared.who.Who.{Who}
 use Rattle.csp_log.specs.declared.who.Who.TheVariants as who
 use Rattle.csp_scene.specs.Scene.{PlainNode, PlainScene}
-use Rattle.csp_topology.specs.Lanes.{PlainLane, hub_of, lanes_of}
+use Rattle.csp_topology.specs.Lanes.{PlainLane, leader_of, lanes_of}
 
 -- two of the posts have the ends of a lane: its producer the one that puts, its consumer the one that gets, by the names that they call it
 pub record IsWiredAt (posts : List PlainPost) (l : PlainLane) : Type 0 where
@@ -55,7 +55,7 @@ pub record IsReadAt (posts : List PlainPost) (w : Who) (place room : ℕ) : Type
 -- one with its mark for each interface; and each is at the node of its party
 pub record AreOfScene (scene : PlainScene) (nodes : List PlainNodeQueues) (posts : List PlainPost) : Type 0 where
   pub lanes : AllByRecursion (IsWiredAt posts) (lanes_of scene)
-  pub hubs : (node : ℕ) (n : PlainNode) → slice_get scene.nodes node ≡ Some n → IsReadAt posts (hub_of node n.addr) node n.inbox
+  pub hubs : (node : ℕ) (n : PlainNode) → slice_get scene.nodes node ≡ Some n → IsReadAt posts (leader_of node n.addr) node n.inbox
   pub ifaces : (node : ℕ) (n : PlainNode) → slice_get scene.nodes node ≡ Some n → (i k : ℕ) (s : PlainPost) → slice_get posts i ≡ Some s → s.who ≡ who.Iface node k → HasPassAt s node k n.inbox
   pub rooms : (node : ℕ) (n : PlainNode) → slice_get scene.nodes node ≡ Some n → room_among (slice_get nodes node) ≡ n.buffers
   pub homes : AllByRecursion (λ s. option_map (λ h. h.node) s.ends.home ≡ node_of s.who) posts

@@ -14,13 +14,13 @@ ghost use Rattle.csp_standing.specs.Shown.{AreOfScene};
 ghost use Rattle.csp_standing.specs.Standing.{HaveLeaders};
 ghost use Rattle.csp_topology.specs.Parties.{parties_of};
 
-use csp_topology::{joins_parties, leads_with_hubs, names_parties_apart, wires_lanes};
+use csp_topology::{joins_parties, names_parties_apart, puts_leaders_first, wires_lanes};
 
 /// The router or bridge of each node leads it.
 pub fn leads_nodes()
     ensures { (scene : PlainScene) (n : PlainNetwork) (posts : List PlainPost) → IsNetworkOf scene n posts → HaveLeaders posts }
 {
-    leads_with_hubs();
+    puts_leaders_first();
     names_parties_apart();
 }
 
@@ -40,7 +40,7 @@ pub fn runs_parties()
 pub fn traces_posts()
     ensures { (scene : PlainScene) (n : PlainNetwork) (posts : List PlainPost) → IsNetworkOf scene n posts → AreAllTraced n.nodes (opened_in scene) posts }
 {
-    leads_with_hubs();
+    puts_leaders_first();
     names_parties_apart();
 }
 
@@ -49,6 +49,6 @@ pub fn stands_in_scene()
     ensures { (scene : PlainScene) (n : PlainNetwork) (posts : List PlainPost) → IsScene scene → AreLinksAfter (length scene.nodes) [] scene.links → IsNetworkOf scene n posts → AreOfScene scene n.nodes posts }
 {
     joins_parties();
-    leads_with_hubs();
+    puts_leaders_first();
     wires_lanes();
 }

@@ -31,7 +31,7 @@ use Rattle.csp_telling.proofs.Heeded.{heeded_causal}
 use Rattle.csp_telling.proofs.LanesLeft.{HasLeft, from_called, from_entries, from_who, left_of, to_called, to_entries, to_who}
 use Rattle.csp_telling.proofs.Logs.{are_logs}
 use Rattle.csp_telling.proofs.Nodes.{IsEnded}
-use Rattle.csp_topology.specs.Lanes.{PlainLane, app_lanes, hub_of, lanes_from, lanes_of, lanes_within, link_lanes, out_lane}
+use Rattle.csp_topology.specs.Lanes.{PlainLane, app_lanes, leader_of, lanes_from, lanes_of, lanes_within, link_lanes, out_lane}
 use Rattle.csp_topology.specs.Parties.{PlainOpening, parties_of}
 use Rattle.csp_topology.specs.Wired.{IsWire}
 use Rattle.csp_topology.specs.Wires.{down_lane, up_lane}
@@ -49,7 +49,7 @@ at_number P f a (suc n) (suc k) j e low all = at_number P f (a + 1) n k j (omega
 module _ (P : PlainLane → Type 0) (links : List PlainLink) where
   -- those of the node at this place
   abbrev lanes_at : ℕ → PlainNode → List PlainLane
-  lanes_at place n = lanes_within place (hub_of place n.addr) (length n.apps) (length (links_at place links))
+  lanes_at place n = lanes_within place (leader_of place n.addr) (length n.apps) (length (links_at place links))
 
   node_lanes : (m j place : ℕ) (n : PlainNode) (nodes : List PlainNode) → place ≡ m + j → slice_get nodes j ≡ Some n → AllByRecursion P (lanes_from m nodes links) → AllByRecursion P (lanes_at place n)
   node_lanes m j place n [] e there all = absurd cc
@@ -58,11 +58,11 @@ module _ (P : PlainLane → Type 0) (links : List PlainLink) where
       subst (λ y. AllByRecursion P (lanes_at place y)) (same_Some x n there) (subst (λ k. AllByRecursion P (lanes_at k x)) here (each_first P (lanes_at m x) (lanes_from (m + 1) nodes links) all))
   node_lanes m (suc j) place n (x ∷ nodes) e there all = node_lanes (m + 1) j place n nodes (omega (arith, e)) there (each_last P (lanes_at m x) (lanes_from (m + 1) nodes links) all)
 
-app_lanes_there : (P : PlainLane → Type 0) (scene : PlainScene) (node k : ℕ) (n : PlainNode) → AllByRecursion P (lanes_of scene) → slice_get scene.nodes node ≡ Some n → k < length n.apps → AllByRecursion P (app_lanes node (hub_of node n.addr) k)
+app_lanes_there : (P : PlainLane → Type 0) (scene : PlainScene) (node k : ℕ) (n : PlainNode) → AllByRecursion P (lanes_of scene) → slice_get scene.nodes node ≡ Some n → k < length n.apps → AllByRecursion P (app_lanes node (leader_of node n.addr) k)
 unfolding lanes_of
 app_lanes_there P scene node k n all there low =
-    at_number P (app_lanes node (hub_of node n.addr)) 0 (length n.apps) k k (omega arith) low
-    (each_first P (flat_map (app_lanes node (hub_of node n.addr)) (range_with_len 0 (length n.apps))) (flat_map (λ j. out_lane node (hub_of node n.addr) j ∷ []) (range_with_len 0 (length (links_at node scene.links))))
+    at_number P (app_lanes node (leader_of node n.addr)) 0 (length n.apps) k k (omega arith) low
+    (each_first P (flat_map (app_lanes node (leader_of node n.addr)) (range_with_len 0 (length n.apps))) (flat_map (λ j. out_lane node (leader_of node n.addr) j ∷ []) (range_with_len 0 (length (links_at node scene.links))))
     (node_lanes P scene.links 0 node node n scene.nodes (omega arith) there (each_first P (lanes_from 0 scene.nodes scene.links) (link_lanes 0 scene.links) all)))
 
 -- ---- the marks of an end
@@ -183,6 +183,6 @@ module _ (scene : PlainScene) (n : PlainNetwork) (posts : List PlainPost) (r : P
           let app : IsAppAt scene.nodes node k l.opening.party = subst (λ w. IsOwner scene.nodes scene.links w l.opening.party) l.name l.holds in
           let router : IsRouterAt scene.nodes scene.links node m.opening.party = subst (λ w. IsOwner scene.nodes scene.links w m.opening.party) m.name m.holds in
           let one : app.node ≡ router.node = same_Some app.node router.node (sym app.there ∙ router.there) in
-          let wires : AllByRecursion (IsWire scene) (app_lanes node (who.Router node) k) = subst (λ a. AllByRecursion (IsWire scene) (app_lanes node (hub_of node a) k)) (ap (λ (c : PlainNode). c.addr) one ∙ router.called)
+          let wires : AllByRecursion (IsWire scene) (app_lanes node (who.Router node) k) = subst (λ a. AllByRecursion (IsWire scene) (app_lanes node (leader_of node a) k)) (ap (λ (c : PlainNode). c.addr) one ∙ router.called)
           (app_lanes_there (IsWire scene) scene node k app.node known.wires app.there (slice_get_within app.node.apps k app.app app.of_it)) in
           pair_causal node k (who.Router node) wires.0 wires.1.0

@@ -36,7 +36,7 @@ use Rattle.csp_telling.proofs.Nodes.{IsAtNode, IsEnded, IsKnown, at_scene}
 use Rattle.csp_telling.proofs.Writers.{IsWritten, written}
 use Rattle.csp_telling.specs.Closed.{log_of}
 use Rattle.csp_telling.specs.Remains.{kept_at, kept_from}
-use Rattle.csp_topology.specs.Lanes.{hub_of}
+use Rattle.csp_topology.specs.Lanes.{leader_of}
 use Rattle.csp_topology.specs.Parties.{PlainOpening, parties_of}
 use Rattle.csp_topology.specs.Wires.{wires_of}
 
@@ -51,7 +51,7 @@ more_put p es fs = ap (with_priority p) (flat_map-append (λ (e : Entry). put_by
 
 module _ (node : ℕ) (c : PlainNode) (mark : ℕ) (p : Prio) where
   abbrev writer : Who
-  writer = writer_of node (hub_of node c.addr) mark
+  writer = writer_of node (leader_of node c.addr) mark
 
   abbrev entries_here : List PlainPost → List Entry
   entries_here posts = flat_map (λ (party : PlainPartyLog). if is_who writer party.who then party.entries else []) (map log_of posts)
@@ -79,40 +79,40 @@ module _ (scene : PlainScene) (n : PlainNetwork) (posts : List PlainPost) (r : P
   abbrev here : IsAtNode scene posts ended.closed.all node
   here = at_scene scene n posts r ended node c there
 
-  abbrev hub : HasHub posts (hub_of node c.addr) node
+  abbrev hub : HasHub posts (leader_of node c.addr) node
   hub = hub_at scene n posts ended.net node c.addr (known.hubs node c there)
 
   its : IsAt scene n (parties_of scene) hub.at hub.post
   its = post_at scene n (parties_of scene) posts hub.at hub.post ended.net.parties hub.there
 
-  hub_entries : hub.post.entries ≡ entries_of r (hub_of node c.addr)
-  hub_entries = own_entries scene n posts r ended hub.at hub.post (hub_of node c.addr) hub.there hub.who
+  hub_entries : hub.post.entries ≡ entries_of r (leader_of node c.addr)
+  hub_entries = own_entries scene n posts r ended hub.at hub.post (leader_of node c.addr) hub.there hub.who
 
   told : (p : Prio) → IsMailTraced hub.post.entries hub.pass p
   told =
       let home : IsHomeTraced (opened_in scene its.party.who) hub.post.entries hub.home = subst (λ h. IfSome h (IsHomeTraced (opened_in scene its.party.who) hub.post.entries)) hub.its its.post.from.traced.home in
       subst (λ x. IfSome x (λ z. (p : Prio) → IsMailTraced hub.post.entries z p)) hub.inbox home.inbox
 
-  came : (p : Prio) → came_through r node (hub_of node c.addr) p ≡ (inbox.mail_at hub.pass p).got ++ here.has.remains.inbox p
+  came : (p : Prio) → came_through r node (leader_of node c.addr) p ≡ (inbox.mail_at hub.pass p).got ++ here.has.remains.inbox p
   came p = λ i. (ap (λ es. with_priority p (gets queue.Inbox es)) (sym hub_entries) ∙ sym (told p).got) i
       ++ inbox_left r (wires_of scene) ended.closed.all ended.closed.told.left node here.lanes here.has.remains here.at here.has.there here.names p i
 
-  got_all : AllByRecursion (IsCarried rule.Inbox) (gets queue.Inbox (entries_of r (hub_of node c.addr)))
+  got_all : AllByRecursion (IsCarried rule.Inbox) (gets queue.Inbox (entries_of r (leader_of node c.addr)))
   got_all = subst (λ es. AllByRecursion (IsCarried rule.Inbox) (gets queue.Inbox es)) hub_entries its.post.got
 
-  carried : (p : Prio) → AllByRecursion (IsCarried (rule.Priority p)) (came_through r node (hub_of node c.addr) p)
+  carried : (p : Prio) → AllByRecursion (IsCarried (rule.Priority p)) (came_through r node (leader_of node c.addr) p)
   carried p =
-      AllByRecursion-append (IsCarried (rule.Priority p)) (with_priority p (gets queue.Inbox (entries_of r (hub_of node c.addr)))) (left_in r node queue.Inbox (prio_number p)) (priority_carried p (gets queue.Inbox (entries_of r (hub_of node c.addr))) got_all)
+      AllByRecursion-append (IsCarried (rule.Priority p)) (with_priority p (gets queue.Inbox (entries_of r (leader_of node c.addr)))) (left_in r node queue.Inbox (prio_number p)) (priority_carried p (gets queue.Inbox (entries_of r (leader_of node c.addr))) got_all)
       (subst (AllByRecursion (IsCarried (rule.Priority p))) (sym (inbox_left r (wires_of scene) ended.closed.all ended.closed.told.left node here.lanes here.has.remains here.at here.has.there here.names p)) (here.has.left.inbox p).carried)
 
-  in_order : (p : Prio) (mark : ℕ) → with_mark mark (came_through r node (hub_of node c.addr) p) ≡ with_priority p (puts queue.Inbox (entries_of r (writer_of node (hub_of node c.addr) mark)))
+  in_order : (p : Prio) (mark : ℕ) → with_mark mark (came_through r node (leader_of node c.addr) p) ≡ with_priority p (puts queue.Inbox (entries_of r (writer_of node (leader_of node c.addr) mark)))
   in_order p mark =
-      sym (same_marked p mark (came_through r node (hub_of node c.addr) p) (carried p))
+      sym (same_marked p mark (came_through r node (leader_of node c.addr) p) (carried p))
       ∙ ap (marks.with_mark mark) (came p)
       ∙ sym ((here.has.left.inbox p).sorted hub.at hub.post hub.home hub.pass hub.there hub.its hub.node hub.inbox hub.reads mark)
       ∙ all_kept node c mark p posts
       (all_written node c mark p scene n known.few there (parties_of scene) posts ended.net.parties (are_owners scene) (subst (AllByRecursion UsesItsQueues) ended.closed.told.parties known.uses))
-      ∙ ap (λ (logs : List PlainPartyLog). with_priority p (puts queue.Inbox (flat_map (λ (party : PlainPartyLog). if is_who (writer_of node (hub_of node c.addr) mark) party.who then party.entries else []) logs))) (sym ended.closed.told.parties)
+      ∙ ap (λ (logs : List PlainPartyLog). with_priority p (puts queue.Inbox (flat_map (λ (party : PlainPartyLog). if is_who (writer_of node (leader_of node c.addr) mark) party.who then party.entries else []) logs))) (sym ended.closed.told.parties)
 
 pub inboxes_in_order : (scene : PlainScene) (n : PlainNetwork) (posts : List PlainPost) (r : PlainRecord) → IsEnded scene n posts r → IsKnown scene r → AreInboxesInOrder scene r
 inboxes_in_order scene n posts r ended known node c there = record {

@@ -17,7 +17,7 @@ use Rattle.csp_standing.specs.Network.{IsNetworkOf, PlainNetwork}
 use Rattle.csp_telling.proofs.PlacesApart.{AreNamedApart, named_apart}
 use Rattle.csp_telling.specs.Closed.{IsClosed}
 use Rattle.csp_telling.specs.Remains.{AreLeftAt, AreRemains, PlainRemains}
-use Rattle.csp_topology.specs.Lanes.{PlainLane, hub_of, lanes_of}
+use Rattle.csp_topology.specs.Lanes.{PlainLane, leader_of, lanes_of}
 use Rattle.csp_topology.specs.Parties.{PlainOpening, parties_of}
 use Rattle.csp_topology.specs.Wired.{IsWire, Stands}
 use Rattle.csp_topology.specs.Wires.{wires_of}
@@ -71,7 +71,7 @@ pub record IsEnded (scene : PlainScene) (n : PlainNetwork) (posts : List PlainPo
 pub record IsKnown (scene : PlainScene) (r : PlainRecord) : Type 0 where
   pub few : length scene.links ≤ MAX_LINKS
   pub wires : AllByRecursion (IsWire scene) (lanes_of scene)
-  pub hubs : (node : ℕ) (c : PlainNode) → slice_get scene.nodes node ≡ Some c → Stands scene (hub_of node c.addr)
+  pub hubs : (node : ℕ) (c : PlainNode) → slice_get scene.nodes node ≡ Some c → Stands scene (leader_of node c.addr)
   pub apart : (i j : ℕ) (o p : PlainOpening) → slice_get (parties_of scene) i ≡ Some o → slice_get (parties_of scene) j ≡ Some p → o.who ≡ p.who → i ≡ j
   pub uses : UseTheirQueues r.parties
 

@@ -30,7 +30,7 @@ use Rattle.csp_telling.proofs.Writers.{hub_is, node_is}
 use Rattle.csp_telling.specs.Closed.{log_of}
 use Rattle.csp_telling.specs.Remains as remains
 use Rattle.csp_telling.specs.Remains.{PlainRemains, put_at, put_from, taken_from}
-use Rattle.csp_topology.specs.Lanes.{hub_of}
+use Rattle.csp_topology.specs.Lanes.{leader_of}
 use Rattle.csp_topology.specs.Parties.{PlainOpening, parties_of}
 use Rattle.csp_topology.specs.Wired.{Stands}
 
@@ -128,10 +128,10 @@ module _ (scene : PlainScene) (n : PlainNetwork) (posts : List PlainPost) (r : P
   many_pools = length-map ended.closed.all (λ (m : PlainRemains). m.pool) ∙ ended.closed.remains.nodes
 
   module _ (known : IsKnown scene r) (node : ℕ) (c : PlainNode) (there : slice_get scene.nodes node ≡ Some c) where
-    abbrev stands : Stands scene (hub_of node c.addr)
+    abbrev stands : Stands scene (leader_of node c.addr)
     stands = known.hubs node c there
 
-    abbrev hub : HasHub posts (hub_of node c.addr) node
+    abbrev hub : HasHub posts (leader_of node c.addr) node
     hub = hub_at scene n posts ended.net node c.addr stands
 
     others_none : (b : ℕ) (z : PlainPost) → slice_get posts b ≡ Some z → (b ≡ hub.at → ⊥) → opened_here scene node z ≡ []
@@ -143,16 +143,16 @@ module _ (scene : PlainScene) (n : PlainNetwork) (posts : List PlainPost) (r : P
       by false lead here = opened_none scene z.who (node_of z.who) lead
       by true lead here =
           let owner = each_at (IsOf scene) (parties_of scene) b x.party (are_owners scene) x.there in
-          let named : x.party.who ≡ hub_of node c.addr
+          let named : x.party.who ≡ leader_of node c.addr
           = hub_is scene.nodes scene.links x.party.who x.party.party node c owner there (ap leads (sym x.post.who) ∙ lead) (ap node_of (sym x.post.who) ∙ node_is node (node_of z.who) here) in
           absurd (away (known.apart b stands.place x.party stands.party x.there stands.at (named ∙ sym stands.named) ∙ sym (hub_place_of scene n posts ended.net node c.addr stands)))
 
     hub_opens : opened_here scene node hub.post ≡ range_with_len 0 c.buffers
     hub_opens =
         ap (λ w. if is_node node (node_of w) then opened_in scene w else []) hub.who
-        ∙ ap (λ o. if is_node node o then opened_in scene (hub_of node c.addr) else []) (hub_node node c.addr)
-        ∙ ap (λ t. if t then opened_in scene (hub_of node c.addr) else []) (eq-eqb node node refl)
-        ∙ opened_all scene (hub_of node c.addr) node c (hub_leads node c.addr) (hub_node node c.addr) there
+        ∙ ap (λ o. if is_node node o then opened_in scene (leader_of node c.addr) else []) (hub_node node c.addr)
+        ∙ ap (λ t. if t then opened_in scene (leader_of node c.addr) else []) (eq-eqb node node refl)
+        ∙ opened_all scene (leader_of node c.addr) node c (hub_leads node c.addr) (hub_node node c.addr) there
 
     abbrev here : IsAtNode scene posts ended.closed.all node
     here = at_scene scene n posts r ended node c there

@@ -28,7 +28,7 @@ use Rattle.csp_telling.proofs.Inboxes.{UseOwn, followers_get_none, home_kept_par
 use Rattle.csp_telling.proofs.Lanes.{all_moved}
 use Rattle.csp_telling.proofs.Marks.{among, among-append, same_numbers}
 use Rattle.csp_telling.specs.Remains.{AreLeftAt, AreRemains, PlainRemains, held_at, inbox_numbers, kept_at, kept_from, put_at, put_from, returned, taken_at, taken_from}
-use Rattle.csp_topology.specs.Lanes.{hub_of}
+use Rattle.csp_topology.specs.Lanes.{leader_of}
 use Rattle.csp_topology.specs.Parties.{parties_of}
 use Rattle.csp_topology.specs.Wired.{Stands}
 
@@ -122,14 +122,14 @@ none_opened scene w None e = refl
 none_opened scene w (Some node) e = ap (λ b. if b then range_with_len 0 (node_at scene.nodes node).buffers else []) e
 
 -- any other party of a node than its router or bridge doesn't lead it
-follows : Led → Apart → (scene : PlainScene) (n : PlainNetwork) (posts : List PlainPost) (net : IsNetworkOf scene n posts) (node : ℕ) (m : PlainNode) → slice_get scene.nodes node ≡ Some m → (stands : Stands scene (hub_of node m.addr))
+follows : Led → Apart → (scene : PlainScene) (n : PlainNetwork) (posts : List PlainPost) (net : IsNetworkOf scene n posts) (node : ℕ) (m : PlainNode) → slice_get scene.nodes node ≡ Some m → (stands : Stands scene (leader_of node m.addr))
     → (i : ℕ) (s : PlainPost) → slice_get posts i ≡ Some s → is_home node s.ends.home ≡ true → i ≢ (hub_at scene n posts net node m.addr stands).at → leads s.who ≡ false
 follows led apart scene n posts net node m there stands i s at here other =
     let h = home_is node s.ends.home here in
     let x = post_at scene n (parties_of scene) posts i s net.parties at in
     let l = led scene i x.party x.there node (node_in scene n x.party s h.0 x.post h.1 ∙ ap Some h.2) in
     let same : l.n ≡ m = same_Some l.n m (sym l.there ∙ there) in
-    let place : l.hub.place ≡ stands.place = apart scene l.hub.place stands.place l.hub.party stands.party l.hub.at stands.at (l.hub.named ∙ ap (λ (p : PlainNode). hub_of node p.addr) same ∙ sym stands.named) in
+    let place : l.hub.place ≡ stands.place = apart scene l.hub.place stands.place l.hub.party stands.party l.hub.at stands.at (l.hub.named ∙ ap (λ (p : PlainNode). leader_of node p.addr) same ∙ sym stands.named) in
     by (leads s.who) refl (λ lead. other (sym (l.alone (sym (leads_hub x.party.who) ∙ ap leads (sym x.post.who) ∙ lead)) ∙ place ∙ sym (hub_place_of scene n posts net node m.addr stands)))
   where
     by : (b : Bool) → leads s.who ≡ b → (leads s.who ≡ true → ⊥) → leads s.who ≡ false
@@ -173,7 +173,7 @@ led_so led hubs apart use_own scene n posts net k node m there =
       opening =
           home_one node (λ s. times k (opened_in scene s.who)) posts h.at h.post h.there here (λ i s at is other. ap (times k) (none_opened scene s.who (node_of s.who) (others i s at is other)))
           ∙ ap (λ w. times k (opened_in scene w)) h.who
-          ∙ ap (times k) (leader_opened scene (hub_of node m.addr) node m (hub_leads node m.addr) (hub_node node m.addr) there);
+          ∙ ap (times k) (leader_opened scene (leader_of node m.addr) node m (hub_leads node m.addr) (hub_node node m.addr) there);
       got =
           home_one node (λ s. times_taken_out k (inbox_of s.ends.home)) posts h.at h.post h.there here
           (λ i s at is other.

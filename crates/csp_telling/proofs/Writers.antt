@@ -34,21 +34,21 @@ use Rattle.csp_standing.proofs.Logged.{at_home}
 use Rattle.csp_standing.specs.Network.{IsHomeIn, IsPostOf, PlainNetwork, leads, mark_for, opened_in}
 use Rattle.csp_telling.proofs.Marked.{priority_marked, sorted_out}
 use Rattle.csp_telling.specs.Remains.{kept_by, kept_from}
-use Rattle.csp_topology.specs.Lanes.{hub_of}
+use Rattle.csp_topology.specs.Lanes.{leader_of}
 use Rattle.csp_topology.specs.Parties.{PlainOpening}
 
 -- ---- names
 
 -- who leads a node is its router or bridge
-pub hub_is : (nodes : List PlainNode) (links : List PlainLink) (v : Who) (party : PlainParty) (node : ℕ) (c : PlainNode) → IsOwner nodes links v party → slice_get nodes node ≡ Some c → leads v ≡ true → node_of v ≡ Some node → v ≡ hub_of node c.addr
+pub hub_is : (nodes : List PlainNode) (links : List PlainLink) (v : Who) (party : PlainParty) (node : ℕ) (c : PlainNode) → IsOwner nodes links v party → slice_get nodes node ≡ Some c → leads v ≡ true → node_of v ≡ Some node → v ≡ leader_of node c.addr
 hub_is nodes links (who.Router a) party node c owner there lead here =
     let same : a ≡ node = same_Some a node here in
     let its : owner.node ≡ c = same_Some owner.node c (sym owner.there ∙ ap (slice_get nodes) same ∙ there) in
-    ap who.Router same ∙ sym (ap (hub_of node) (ap (λ (x : PlainNode). x.addr) (sym its) ∙ owner.called))
+    ap who.Router same ∙ sym (ap (leader_of node) (ap (λ (x : PlainNode). x.addr) (sym its) ∙ owner.called))
 hub_is nodes links (who.Bridge a) party node c owner there lead here =
     let same : a ≡ node = same_Some a node here in
     let its : owner.node ≡ c = same_Some owner.node c (sym owner.there ∙ ap (slice_get nodes) same ∙ there) in
-    ap who.Bridge same ∙ sym (ap (hub_of node) (ap (λ (x : PlainNode). x.addr) (sym its) ∙ owner.bare))
+    ap who.Bridge same ∙ sym (ap (leader_of node) (ap (λ (x : PlainNode). x.addr) (sym its) ∙ owner.bare))
 hub_is nodes links (who.Iface a k) party node c owner there lead here = absurd (true≢false (sym lead))
 hub_is nodes links (who.App a k) party node c owner there lead here = absurd (true≢false (sym lead))
 hub_is nodes links (who.Link k) party node c owner there lead here = absurd (true≢false (sym lead))
@@ -60,7 +60,7 @@ iface_numbered nodes links a k party few owner e =
     let all = length-filter_both (touches a) (λ x. not (touches a x)) (λ x. refl) links in
     omega (arith, within, all, few, e)
 
-hub_elsewhere : (node : ℕ) (addr : Option ℕ) (v : Who) → is_node node (node_of v) ≡ false → is_who (hub_of node addr) v ≡ false
+hub_elsewhere : (node : ℕ) (addr : Option ℕ) (v : Who) → is_node node (node_of v) ≡ false → is_who (leader_of node addr) v ≡ false
 hub_elsewhere node (Some x) (who.Router a) e = e
 hub_elsewhere node None (who.Bridge a) e = e
 hub_elsewhere node (Some x) _ e = refl
@@ -70,11 +70,11 @@ hub_no_iface : (node mark : ℕ) (v : Who) → leads v ≡ true → is_who (who.
 hub_no_iface node mark (who.Iface a k) lead = absurd (true≢false (sym lead))
 hub_no_iface node mark _ lead = refl
 
-iface_no_hub : (node : ℕ) (addr : Option ℕ) (a k : ℕ) → is_who (hub_of node addr) (who.Iface a k) ≡ false
+iface_no_hub : (node : ℕ) (addr : Option ℕ) (a k : ℕ) → is_who (leader_of node addr) (who.Iface a k) ≡ false
 iface_no_hub node (Some x) a k = refl
 iface_no_hub node None a k = refl
 
-none_writes : (node : ℕ) (addr : Option ℕ) (mark : ℕ) (unmarked : Bool) (v : Who) → mark_for v ≡ None → is_who (if unmarked then hub_of node addr else who.Iface node mark) v ≡ false
+none_writes : (node : ℕ) (addr : Option ℕ) (mark : ℕ) (unmarked : Bool) (v : Who) → mark_for v ≡ None → is_who (if unmarked then leader_of node addr else who.Iface node mark) v ≡ false
 none_writes node addr mark unmarked (who.Router a) e = absurd cc
 none_writes node addr mark unmarked (who.Bridge a) e = absurd cc
 none_writes node addr mark unmarked (who.Iface a k) e = absurd cc
@@ -83,15 +83,15 @@ none_writes node None mark true _ e = refl
 none_writes node addr mark false _ e = refl
 
 -- the writer under a mark is the party of the node that has it
-hub_writes : (node : ℕ) (addr : Option ℕ) (mark : ℕ) (v : Who) → leads v ≡ true → (is_node node (node_of v) ≡ true → v ≡ hub_of node addr) → (unmarked here : Bool) → (mark == UNMARKED) ≡ unmarked → is_node node (node_of v) ≡ here
-    → is_who (if unmarked then hub_of node addr else who.Iface node mark) v ≡ (if here then UNMARKED == mark else false)
+hub_writes : (node : ℕ) (addr : Option ℕ) (mark : ℕ) (v : Who) → leads v ≡ true → (is_node node (node_of v) ≡ true → v ≡ leader_of node addr) → (unmarked here : Bool) → (mark == UNMARKED) ≡ unmarked → is_node node (node_of v) ≡ here
+    → is_who (if unmarked then leader_of node addr else who.Iface node mark) v ≡ (if here then UNMARKED == mark else false)
 hub_writes node addr mark v lead hub true true e f = ap (λ w. is_who w v) (sym (hub f)) ∙ who_same v ∙ sym (eq-eqb UNMARKED mark (sym (eqb-true mark UNMARKED e)))
 hub_writes node addr mark v lead hub true false e f = hub_elsewhere node addr v f
 hub_writes node addr mark v lead hub false true e f = hub_no_iface node mark v lead ∙ sym (ne_eqb UNMARKED mark (λ g. eqb-false mark UNMARKED e (sym g)))
 hub_writes node addr mark v lead hub false false e f = hub_no_iface node mark v lead
 
 iface_writes : (node : ℕ) (addr : Option ℕ) (mark a k : ℕ) → (k ≡ UNMARKED → ⊥) → (unmarked here : Bool) → (mark == UNMARKED) ≡ unmarked → (a == node) ≡ here
-    → is_who (if unmarked then hub_of node addr else who.Iface node mark) (who.Iface a k) ≡ (if here then k == mark else false)
+    → is_who (if unmarked then leader_of node addr else who.Iface node mark) (who.Iface a k) ≡ (if here then k == mark else false)
 iface_writes node addr mark a k marked true true e f = iface_no_hub node addr a k ∙ sym (ne_eqb k mark (λ g. marked (g ∙ eqb-true mark UNMARKED e)))
 iface_writes node addr mark a k marked true false e f = iface_no_hub node addr a k
 iface_writes node addr mark a k marked false true e f = ap (λ t. t && (k == mark)) f
@@ -102,7 +102,7 @@ node_is node None e = absurd (true≢false (sym e))
 node_is node (Some k) e = ap Some (eqb-true k node e)
 
 writes : (scene : PlainScene) → length scene.links ≤ MAX_LINKS → (node : ℕ) (c : PlainNode) → slice_get scene.nodes node ≡ Some c → (mark : ℕ) (v : Who) (party : PlainParty) → IsOwner scene.nodes scene.links v party
-    → (k : ℕ) → mark_for v ≡ Some k → is_who (writer_of node (hub_of node c.addr) mark) v ≡ (if is_node node (node_of v) then k == mark else false)
+    → (k : ℕ) → mark_for v ≡ Some k → is_who (writer_of node (leader_of node c.addr) mark) v ≡ (if is_node node (node_of v) then k == mark else false)
 writes scene few node c there mark (who.Router a) party owner k e =
     hub_writes node c.addr mark (who.Router a) refl (λ f. hub_is scene.nodes scene.links (who.Router a) party node c owner there refl (node_is node (Some a) f)) (mark == UNMARKED) (a == node) refl refl
     ∙ ap (λ j. if a == node then j == mark else false) (same_Some UNMARKED k e)
@@ -145,7 +145,7 @@ if_sorted m k false is all = refl
 -- under a mark it is what its log put of a priority where the party is the writer under this mark, and else nothing
 abbrev pub IsWritten : ℕ → PlainNode → ℕ → Prio → PlainPost → Type 0
 IsWritten node c mark p s =
-    marks.with_mark mark (if is_home node s.ends.home then kept_from p s.ends.home else []) ≡ (if is_who (writer_of node (hub_of node c.addr) mark) s.who then with_priority p (puts queue.Inbox s.entries) else [])
+    marks.with_mark mark (if is_home node s.ends.home then kept_from p s.ends.home else []) ≡ (if is_who (writer_of node (leader_of node c.addr) mark) s.who then with_priority p (puts queue.Inbox s.entries) else [])
 
 module _ (scene : PlainScene) (n : PlainNetwork) (few : length scene.links ≤ MAX_LINKS) (node : ℕ) (c : PlainNode) (there : slice_get scene.nodes node ≡ Some c) (mark : ℕ) (p : Prio) where
   pub written : (o : PlainOpening) (s : PlainPost) → IsPostOf scene n o s → IsOwner scene.nodes scene.links o.who o.party → AllByRecursion (λ e. MayAsk s.who e.op) s.entries → IsWritten node c mark p s
@@ -158,10 +158,10 @@ module _ (scene : PlainScene) (n : PlainNetwork) (few : length scene.links ≤ M
       by : (m : Option ℕ) → mark_for o.who ≡ m → IsWritten node c mark p s
       by None e =
           ap (marks.with_mark mark) (none_kept node p o.who s.ends.home post.home.passes e)
-          ∙ sym (ap (λ t. if t then mine else []) (ap (is_who (writer_of node (hub_of node c.addr) mark)) post.who ∙ none_writes node c.addr mark (mark == UNMARKED) o.who e))
+          ∙ sym (ap (λ t. if t then mine else []) (ap (is_who (writer_of node (leader_of node c.addr) mark)) post.who ∙ none_writes node c.addr mark (mark == UNMARKED) o.who e))
       by (Some k) e =
           ap (marks.with_mark mark)
           (kept_here node p o.who k (opened_in scene o.who) s.entries s.ends.home post.home.passes post.from.traced.home e
           ∙ ap (λ t. if t then mine else []) (at_home node s.ends.home (node_of o.who) post.home.node))
           ∙ if_sorted mark k (is_node node (node_of o.who)) mine (priority_marked s.who k p s.entries (ap mark_for post.who ∙ e) may)
-          ∙ sym (ap (λ t. if t then mine else []) (ap (is_who (writer_of node (hub_of node c.addr) mark)) post.who ∙ writes scene few node c there mark o.who o.party owner k e))
+          ∙ sym (ap (λ t. if t then mine else []) (ap (is_who (writer_of node (leader_of node c.addr) mark)) post.who ∙ writes scene few node c there mark o.who o.party owner k e))

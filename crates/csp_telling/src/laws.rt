@@ -16,7 +16,7 @@ ghost use Rattle.csp_telling.specs.Closed.{IsClosed};
 use crate::buffers::returns_all;
 use csp_consistent::{applies_plans, names_origins, spreads_by_plans, use_their_own};
 use csp_lists::weighs;
-use csp_topology::{leads_with_hubs, names_parties_apart, orders_wires, wires_lanes};
+use csp_topology::{names_parties_apart, orders_wires, puts_leaders_first, wires_lanes};
 
 /// The record of a network's run, whatever turns its posts took and whenever they met, is consistent with its scene.
 pub fn closes_consistent()
@@ -26,7 +26,7 @@ pub fn closes_consistent()
     spreads_by_plans();
     names_origins();
     use_their_own();
-    leads_with_hubs();
+    puts_leaders_first();
     names_parties_apart();
     orders_wires();
     wires_lanes();

@@ -26,7 +26,7 @@ use Rattle.csp_log.specs.Who.{is_who}
 use Rattle.csp_log.specs.declared.who.Who.{Who}
 use Rattle.csp_log.specs.declared.who.Who.TheVariants as who
 use Rattle.csp_scene.specs.Scene.{PlainNode, PlainScene}
-use Rattle.csp_topology.specs.Lanes.{app_lanes, hub_of}
+use Rattle.csp_topology.specs.Lanes.{app_lanes, leader_of}
 use Rattle.csp_topology.specs.Parties.{parties_of}
 use Rattle.csp_world.proofs.InboxLemmas.{entries_step, no_entries}
 use Rattle.csp_world.proofs.LoggedLemmas.{AreLogged, logged_tick, logged_turn}
@@ -120,7 +120,7 @@ module _ (first_grows : FirstGrows) (second_grows : SecondGrows) where
           let router : IsRouterAt scene.nodes scene.links node m.opening.party = owner_of scene r (who.Router node) m in
           let one : app.node ≡ router.node = ap (λ o. unwrap_or o app.node) (sym app.there ∙ router.there) in
           let lanes : AllByRecursion (IsInOrder r) (app_lanes node (who.Router node) k) =
-          subst (λ a. AllByRecursion (IsInOrder r) (app_lanes node (hub_of node a) k)) (ap (λ (n : PlainNode). n.addr) one ∙ router.called)
+          subst (λ a. AllByRecursion (IsInOrder r) (app_lanes node (leader_of node a) k)) (ap (λ (n : PlainNode). n.addr) one ∙ router.called)
           (app_lanes_there scene r node k app.node con.lanes app.there (slice_get_within app.node.apps k app.app app.of_it)) in
           inr (inr (record {
             up_left = left_in r node (queue.Up k) 0;

@@ -17,7 +17,7 @@ use Rattle.csp_topology.proofs.PartyPlaces.{app_there, begins, ends, hub_home, h
 use Rattle.csp_topology.proofs.Places.{get-within}
 use Rattle.csp_topology.proofs.PlanLemmas.{link_rule}
 use Rattle.csp_topology.proofs.WirePlaces.{Wire, down, ifaces_of, out, rx, tx, up, wire_is}
-use Rattle.csp_topology.specs.Lanes.{PlainEnd, PlainLane, hub_of, out_lane}
+use Rattle.csp_topology.specs.Lanes.{PlainEnd, PlainLane, leader_of, out_lane}
 use Rattle.csp_topology.specs.Parties.{PlainOpening, app_at, heeded, iface_on, link_at, parties_of}
 use Rattle.csp_topology.specs.Wired.{IsEndOf, Joins, Side, Stands, StaysHome, end_on, getting, putting}
 use Rattle.csp_topology.specs.Wires.{PlainJoint, down_lane, rx_lane, tx_lane, up_lane, wire_at}
@@ -54,11 +54,11 @@ link_apart i m k e = absurd cc
 iface_apart : (i m k : ℕ) → who.Iface m k ≢ who.Link i
 iface_apart i m k e = absurd cc
 
-hub_from_iface : (addr : Option ℕ) (node m k : ℕ) → hub_of node addr ≢ who.Iface m k
+hub_from_iface : (addr : Option ℕ) (node m k : ℕ) → leader_of node addr ≢ who.Iface m k
 hub_from_iface (Some addr) node m k e = absurd cc
 hub_from_iface None node m k e = absurd cc
 
-hub_from_app : (addr : Option ℕ) (node m k : ℕ) → hub_of node addr ≢ who.App m k
+hub_from_app : (addr : Option ℕ) (node m k : ℕ) → leader_of node addr ≢ who.App m k
 hub_from_app (Some addr) node m k e = absurd cc
 hub_from_app None node m k e = absurd cc
 
@@ -80,12 +80,12 @@ join_wire scene are node k l (tx n j p there at place is) =
 join_wire scene are node k l (out n j p there at place is) =
     let h = joint_is scene are node p j at in
     let stands = subst (λ (m : ℕ). Stands scene (who.Iface m j.end.iface)) h.node_is (joint_stands scene are node p n j there at) in
-    subst (Joins scene) (sym is) (join scene (out_lane node (hub_of node n.addr) j.end.iface) (hub_stands scene node n there) stands (hub_from_iface n.addr node node j.end.iface))
+    subst (Joins scene) (sym is) (join scene (out_lane node (leader_of node n.addr) j.end.iface) (hub_stands scene node n there) stands (hub_from_iface n.addr node node j.end.iface))
 join_wire scene are node k l (down n p there few place is) =
-    subst (Joins scene) (sym is) (join scene (down_lane node (hub_of node n.addr) p) (hub_stands scene node n there) (app_stands scene node p n there few) (hub_from_app n.addr node node p))
+    subst (Joins scene) (sym is) (join scene (down_lane node (leader_of node n.addr) p) (hub_stands scene node n there) (app_stands scene node p n there few) (hub_from_app n.addr node node p))
 join_wire scene are node k l (up n p there few place is) =
     subst (Joins scene) (sym is)
-    (join scene (up_lane node (hub_of node n.addr) p) (app_stands scene node p n there few) (hub_stands scene node n there) (λ e. hub_from_app n.addr node node p (sym e)))
+    (join scene (up_lane node (leader_of node n.addr) p) (app_stands scene node p n there few) (hub_stands scene node n there) (λ e. hub_from_app n.addr node node p (sym e)))
 
 pub all_join : (scene : PlainScene) → ArePlaced scene → (node k : ℕ) (l : PlainLane) → wire_at scene node k ≡ Some l → Joins scene l
 all_join scene are node k l e = join_wire scene are node k l (wire_is scene node k l e)
@@ -154,7 +154,7 @@ record IsSpot (scene : PlainScene) (node k : ℕ) (s : Side) (e : PlainEnd) : Ty
 both : (a b c d : ℕ) → a ≡ c → b ≡ d → spot a b ≡ spot c d
 both a b c d e f = ap (λ (x : ℕ). spot x b) e ∙ ap (spot c) f
 
-hub_spot : (scene : PlainScene) (addr : Option ℕ) (node k : ℕ) (q : QueueId) (s : Side) → spot_in scene node q ≡ k → hub_side q ≡ s → IsSpot scene node k s (record { who = hub_of node addr; queue = q })
+hub_spot : (scene : PlainScene) (addr : Option ℕ) (node k : ℕ) (q : QueueId) (s : Side) → spot_in scene node q ≡ k → hub_side q ≡ s → IsSpot scene node k s (record { who = leader_of node addr; queue = q })
 hub_spot scene (Some addr) node k q s at side = record { at = both node (spot_in scene node q) node k refl at; side = side }
 hub_spot scene None node k q s at side = record { at = both node (spot_in scene node q) node k refl at; side = side }
 
@@ -186,11 +186,11 @@ tx_spots scene node k p j h place getting = record {
   side = refl;
 }
 
-out_spots : (scene : PlainScene) (node k p : ℕ) (n : PlainNode) (j : PlainJoint) → IsAt scene node p j → k ≡ ifaces_of scene node + (ifaces_of scene node + p) → AreSpots scene node k (out_lane node (hub_of node n.addr) j.end.iface)
+out_spots : (scene : PlainScene) (node k p : ℕ) (n : PlainNode) (j : PlainJoint) → IsAt scene node p j → k ≡ ifaces_of scene node + (ifaces_of scene node + p) → AreSpots scene node k (out_lane node (leader_of node n.addr) j.end.iface)
 out_spots scene node k p n j h place putting = hub_spot scene n.addr node k (queue.Out j.end.iface) putting (ap (λ (i : ℕ). spot_in scene node (queue.Out i)) h.iface_is ∙ sym place) refl
 out_spots scene node k p n j h place getting = record { at = ap (λ (i : ℕ). own_spot scene node (queue.Out i)) h.iface_is ∙ ap (spot node) (sym place); side = refl }
 
-down_spots : (scene : PlainScene) (node k p : ℕ) (n : PlainNode) → k ≡ ifaces_of scene node + (ifaces_of scene node + (ifaces_of scene node + p)) → AreSpots scene node k (down_lane node (hub_of node n.addr) p)
+down_spots : (scene : PlainScene) (node k p : ℕ) (n : PlainNode) → k ≡ ifaces_of scene node + (ifaces_of scene node + (ifaces_of scene node + p)) → AreSpots scene node k (down_lane node (leader_of node n.addr) p)
 down_spots scene node k p n place putting = hub_spot scene n.addr node k (queue.Down p) putting (sym place) refl
 down_spots scene node k p n place getting = record { at = ap (spot node) (sym place); side = refl }
 
@@ -198,7 +198,7 @@ up_place : (scene : PlainScene) (node k p : ℕ) (n : PlainNode) → slice_get s
 up_place scene node k p n there place = ap (λ (c : ℕ). ifaces_of scene node + (ifaces_of scene node + (ifaces_of scene node + (c + p)))) (apps_are scene node n there) ∙ sym place
 
 up_spots : (scene : PlainScene) (node k p : ℕ) (n : PlainNode) → slice_get scene.nodes node ≡ Some n → k ≡ ifaces_of scene node + (ifaces_of scene node + (ifaces_of scene node + (length n.apps + p)))
-    → AreSpots scene node k (up_lane node (hub_of node n.addr) p)
+    → AreSpots scene node k (up_lane node (leader_of node n.addr) p)
 up_spots scene node k p n there place putting = record { at = ap (spot node) (up_place scene node k p n there place); side = refl }
 up_spots scene node k p n there place getting = hub_spot scene n.addr node k (queue.Up p) getting (up_place scene node k p n there place) refl
 
@@ -250,22 +250,22 @@ stays scene are node k l (out n j p there at place is) = subst (StaysHome scene 
   low = slice_get_within scene.nodes node n there;
   home = refl;
   named = refl;
-  from = own_end node (out_lane node (hub_of node n.addr) j.end.iface) (hub_of node n.addr) (queue.Out j.end.iface) (hub_home n.addr node) refl;
-  to = own_end node (out_lane node (hub_of node n.addr) j.end.iface) (who.Iface node j.end.iface) (queue.Out j.end.iface) refl refl;
+  from = own_end node (out_lane node (leader_of node n.addr) j.end.iface) (leader_of node n.addr) (queue.Out j.end.iface) (hub_home n.addr node) refl;
+  to = own_end node (out_lane node (leader_of node n.addr) j.end.iface) (who.Iface node j.end.iface) (queue.Out j.end.iface) refl refl;
 })
 stays scene are node k l (down n p there few place is) = subst (StaysHome scene node) (sym is) (record {
   low = slice_get_within scene.nodes node n there;
   home = refl;
   named = refl;
-  from = own_end node (down_lane node (hub_of node n.addr) p) (hub_of node n.addr) (queue.Down p) (hub_home n.addr node) refl;
-  to = own_end node (down_lane node (hub_of node n.addr) p) (who.App node p) (queue.Down p) refl refl;
+  from = own_end node (down_lane node (leader_of node n.addr) p) (leader_of node n.addr) (queue.Down p) (hub_home n.addr node) refl;
+  to = own_end node (down_lane node (leader_of node n.addr) p) (who.App node p) (queue.Down p) refl refl;
 })
 stays scene are node k l (up n p there few place is) = subst (StaysHome scene node) (sym is) (record {
   low = slice_get_within scene.nodes node n there;
   home = refl;
   named = refl;
-  from = own_end node (up_lane node (hub_of node n.addr) p) (who.App node p) (queue.Up p) refl refl;
-  to = own_end node (up_lane node (hub_of node n.addr) p) (hub_of node n.addr) (queue.Up p) (hub_home n.addr node) refl;
+  from = own_end node (up_lane node (leader_of node n.addr) p) (who.App node p) (queue.Up p) refl refl;
+  to = own_end node (up_lane node (leader_of node n.addr) p) (leader_of node n.addr) (queue.Up p) (hub_home n.addr node) refl;
 })
 
 pub all_stay : (scene : PlainScene) → ArePlaced scene → (node k : ℕ) (l : PlainLane) → wire_at scene node k ≡ Some l → StaysHome scene node l

@@ -8,9 +8,9 @@ use Rattle.csp_scene.specs.Links.{links_at}
 use Rattle.csp_scene.specs.Scene.{PlainApp, PlainLink, PlainNode, PlainScene}
 use Rattle.csp_topology.proofs.PartyLemmas.{ifaces_count}
 use Rattle.csp_topology.proofs.Places.{Among, among, get-first, get-second, of_first, of_second}
-use Rattle.csp_topology.specs.Lanes.{hub_of}
-use Rattle.csp_topology.specs.Parties.{PlainOpening, app_at, apps_from, heeded, hub_by, iface_on, ifaces_from, link_at, links_from, parties_at, parties_from, parties_of}
-use Rattle.csp_topology.specs.Wired.{is_hub, IsLed, Stands}
+use Rattle.csp_topology.specs.Lanes.{leader_of}
+use Rattle.csp_topology.specs.Parties.{PlainOpening, app_at, apps_from, heeded, leader_by, iface_on, ifaces_from, link_at, links_from, parties_at, parties_from, parties_of}
+use Rattle.csp_topology.specs.Wired.{is_leader, IsLed, Stands}
 
 -- ---- within a node
 
@@ -139,13 +139,13 @@ ends scene = length (parties_from 0 scene.nodes scene.links)
 
 -- a party of a scene: a node's router or bridge, its interface on one of its links, its application, or a link
 pub data IsParty (scene : PlainScene) (i : ℕ) (o : PlainOpening) : Type 0 where
-  hub : (node : ℕ) (n : PlainNode) → slice_get scene.nodes node ≡ Some n → i ≡ begins scene node → o ≡ hub_by n.addr node n (links_at node scene.links) → IsParty scene i o
+  hub : (node : ℕ) (n : PlainNode) → slice_get scene.nodes node ≡ Some n → i ≡ begins scene node → o ≡ leader_by n.addr node n (links_at node scene.links) → IsParty scene i o
   iface : (node k : ℕ) (n : PlainNode) (l : PlainLink) → slice_get scene.nodes node ≡ Some n → slice_get (links_at node scene.links) k ≡ Some l → i ≡ begins scene node + suc k → o ≡ iface_on node k l.kind l.mtu (heeded n.addr l) → IsParty scene i o
   app : (node k : ℕ) (n : PlainNode) (a : PlainApp) → slice_get scene.nodes node ≡ Some n → slice_get n.apps k ≡ Some a → i ≡ begins scene node + suc (length (links_at node scene.links) + k) → o ≡ app_at node k a → IsParty scene i o
   link : (k : ℕ) (l : PlainLink) → slice_get scene.links k ≡ Some l → i ≡ ends scene + k → o ≡ link_at k l → IsParty scene i o
 
 of_place : (scene : PlainScene) (node d i : ℕ) (n : PlainNode) (o : PlainOpening) → slice_get scene.nodes node ≡ Some n → i ≡ begins scene node + d → slice_get (parties_at node n (links_at node scene.links)) d ≡ Some o → IsParty scene i o
-of_place scene node zero i n o there stands e = hub node n there (omega (arith, stands)) (sym (same_Some (hub_by n.addr node n (links_at node scene.links)) o e))
+of_place scene node zero i n o there stands e = hub node n there (omega (arith, stands)) (sym (same_Some (leader_by n.addr node n (links_at node scene.links)) o e))
 of_place scene node (suc d) i n o there stands e = by (among (ifaces_from node n.addr 0 (links_at node scene.links)) (apps_from node 0 n.apps) d o e) where
   by : Among (ifaces_from node n.addr 0 (links_at node scene.links)) (apps_from node 0 n.apps) d o → IsParty scene i o
   by (of_first f) =
@@ -178,10 +178,10 @@ there_at : (scene : PlainScene) (node d : ℕ) (n : PlainNode) (o : PlainOpening
 unfolding parties_of
 there_at scene node d n o there at = get-first (parties_from 0 scene.nodes scene.links) (links_from 0 scene.links) (begins scene node + d) o (in_node 0 scene.nodes scene.links node d n o there (moved scene.links node (0 + node) d n o (omega arith) at))
 
-pub hub_there : (scene : PlainScene) (node : ℕ) (n : PlainNode) → slice_get scene.nodes node ≡ Some n → IsThere scene (begins scene node) (hub_by n.addr node n (links_at node scene.links))
+pub hub_there : (scene : PlainScene) (node : ℕ) (n : PlainNode) → slice_get scene.nodes node ≡ Some n → IsThere scene (begins scene node) (leader_by n.addr node n (links_at node scene.links))
 hub_there scene node n there =
     let far : begins scene node ≡ begins scene node + 0 = omega arith in
-    ap (slice_get (parties_of scene)) far ∙ there_at scene node 0 n (hub_by n.addr node n (links_at node scene.links)) there refl
+    ap (slice_get (parties_of scene)) far ∙ there_at scene node 0 n (leader_by n.addr node n (links_at node scene.links)) there refl
 
 pub iface_there : (scene : PlainScene) (node k : ℕ) (n : PlainNode) (l : PlainLink) → slice_get scene.nodes node ≡ Some n → slice_get (links_at node scene.links) k ≡ Some l → IsThere scene (begins scene node + suc k) (iface_on node k l.kind l.mtu (heeded n.addr l))
 iface_there scene node k n l there on =
@@ -209,11 +209,11 @@ place_of scene (who.Iface node k) = begins scene node + suc k
 place_of scene (who.App node k) = begins scene node + suc (length (links_at node scene.links) + k)
 place_of scene (who.Link k) = ends scene + k
 
-pub hub_named : (addr : Option ℕ) (node : ℕ) (n : PlainNode) (links : List PlainLink) → (hub_by addr node n links).who ≡ hub_of node addr
+pub hub_named : (addr : Option ℕ) (node : ℕ) (n : PlainNode) (links : List PlainLink) → (leader_by addr node n links).who ≡ leader_of node addr
 hub_named (Some addr) node n links = refl
 hub_named None node n links = refl
 
-hub_place : (scene : PlainScene) (addr : Option ℕ) (node : ℕ) → place_of scene (hub_of node addr) ≡ begins scene node
+hub_place : (scene : PlainScene) (addr : Option ℕ) (node : ℕ) → place_of scene (leader_of node addr) ≡ begins scene node
 hub_place scene (Some addr) node = refl
 hub_place scene None node = refl
 
@@ -222,7 +222,7 @@ named_place scene i o p same at = at ∙ ap (λ (q : PlainOpening). place_of sce
 
 pub stands_so : (scene : PlainScene) (i : ℕ) (o : PlainOpening) → IsParty scene i o → i ≡ place_of scene o.who
 stands_so scene i o (hub node n there at is) =
-    named_place scene i o (hub_by n.addr node n (links_at node scene.links)) is (at ∙ sym (hub_place scene n.addr node) ∙ ap (place_of scene) (sym (hub_named n.addr node n (links_at node scene.links))))
+    named_place scene i o (leader_by n.addr node n (links_at node scene.links)) is (at ∙ sym (hub_place scene n.addr node) ∙ ap (place_of scene) (sym (hub_named n.addr node n (links_at node scene.links))))
 stands_so scene i o (iface node k n l there on at is) = named_place scene i o (iface_on node k l.kind l.mtu (heeded n.addr l)) is at
 stands_so scene i o (app node k n a there of_it at is) = named_place scene i o (app_at node k a) is at
 stands_so scene i o (link k l there at is) = named_place scene i o (link_at k l) is at
@@ -233,43 +233,43 @@ parties_apart scene i j o p at other same = stands_so scene i o (party_at scene 
 
 -- ---- the router or bridge of a node
 
-abbrev pub hub_stands : (scene : PlainScene) (node : ℕ) (n : PlainNode) → slice_get scene.nodes node ≡ Some n → Stands scene (hub_of node n.addr)
+abbrev pub hub_stands : (scene : PlainScene) (node : ℕ) (n : PlainNode) → slice_get scene.nodes node ≡ Some n → Stands scene (leader_of node n.addr)
 hub_stands scene node n there = record {
   place = begins scene node;
-  party = hub_by n.addr node n (links_at node scene.links);
+  party = leader_by n.addr node n (links_at node scene.links);
   at = hub_there scene node n there;
   named = hub_named n.addr node n (links_at node scene.links);
 }
 
-pub hub_home : (addr : Option ℕ) (node : ℕ) → node_of (hub_of node addr) ≡ Some node
+pub hub_home : (addr : Option ℕ) (node : ℕ) → node_of (leader_of node addr) ≡ Some node
 hub_home (Some addr) node = refl
 hub_home None node = refl
 
 -- no interface and no application is one
-iface_apart : (addr : Option ℕ) (node m k : ℕ) → who.Iface m k ≡ hub_of node addr → ⊥
+iface_apart : (addr : Option ℕ) (node m k : ℕ) → who.Iface m k ≡ leader_of node addr → ⊥
 iface_apart (Some addr) node m k e = cc
 iface_apart None node m k e = cc
 
-app_apart : (addr : Option ℕ) (node m k : ℕ) → who.App m k ≡ hub_of node addr → ⊥
+app_apart : (addr : Option ℕ) (node m k : ℕ) → who.App m k ≡ leader_of node addr → ⊥
 app_apart (Some addr) node m k e = cc
 app_apart None node m k e = cc
 
-led : (scene : PlainScene) (node j : ℕ) (n : PlainNode) (w : Who) → slice_get scene.nodes node ≡ Some n → begins scene node ≤ j → (begins scene node ≡ j → w ≡ hub_of node n.addr) → (w ≡ hub_of node n.addr → begins scene node ≡ j) → (is_hub w ≡ true → begins scene node ≡ j) → IsLed scene node j w
+led : (scene : PlainScene) (node j : ℕ) (n : PlainNode) (w : Who) → slice_get scene.nodes node ≡ Some n → begins scene node ≤ j → (begins scene node ≡ j → w ≡ leader_of node n.addr) → (w ≡ leader_of node n.addr → begins scene node ≡ j) → (is_leader w ≡ true → begins scene node ≡ j) → IsLed scene node j w
 led scene node j n w there first same only alone = record { n = n; there = there; hub = hub_stands scene node n there; first = first; same = same; only = only; alone = alone }
 
 led_by : (scene : PlainScene) (j : ℕ) (o : PlainOpening) → IsParty scene j o → (node : ℕ) → node_of o.who ≡ Some node → IsLed scene node j o.who
 led_by scene j o (hub m n there at is) node home =
-    let named : o.who ≡ hub_of m n.addr = ap (λ (p : PlainOpening). p.who) is ∙ hub_named n.addr m n (links_at m scene.links) in
+    let named : o.who ≡ leader_of m n.addr = ap (λ (p : PlainOpening). p.who) is ∙ hub_named n.addr m n (links_at m scene.links) in
     let same : m ≡ node = same_Some m node (sym (hub_home n.addr m) ∙ ap node_of (sym named) ∙ home) in
     subst (λ (x : ℕ). IsLed scene x j o.who) same (led scene m j n o.who there (omega (arith, at)) (λ e. named) (λ e. sym at) (λ e. sym at))
 led_by scene j o (iface m k n l there on at is) node home =
     let named : o.who ≡ who.Iface m k = ap (λ (p : PlainOpening). p.who) is in
     let same : m ≡ node = same_Some m node (ap node_of (sym named) ∙ home) in
-    subst (λ (x : ℕ). IsLed scene x j o.who) same (led scene m j n o.who there (omega (arith, at)) (λ e. absurd (omega (arith, at, e))) (λ e. absurd (iface_apart n.addr m m k (sym named ∙ e))) (λ e. absurd (true≢false (sym e ∙ ap is_hub named))))
+    subst (λ (x : ℕ). IsLed scene x j o.who) same (led scene m j n o.who there (omega (arith, at)) (λ e. absurd (omega (arith, at, e))) (λ e. absurd (iface_apart n.addr m m k (sym named ∙ e))) (λ e. absurd (true≢false (sym e ∙ ap is_leader named))))
 led_by scene j o (app m k n a there of_it at is) node home =
     let named : o.who ≡ who.App m k = ap (λ (p : PlainOpening). p.who) is in
     let same : m ≡ node = same_Some m node (ap node_of (sym named) ∙ home) in
-    subst (λ (x : ℕ). IsLed scene x j o.who) same (led scene m j n o.who there (omega (arith, at)) (λ e. absurd (omega (arith, at, e))) (λ e. absurd (app_apart n.addr m m k (sym named ∙ e))) (λ e. absurd (true≢false (sym e ∙ ap is_hub named))))
+    subst (λ (x : ℕ). IsLed scene x j o.who) same (led scene m j n o.who there (omega (arith, at)) (λ e. absurd (omega (arith, at, e))) (λ e. absurd (app_apart n.addr m m k (sym named ∙ e))) (λ e. absurd (true≢false (sym e ∙ ap is_leader named))))
 led_by scene j o (link k l there at is) node home =
     let none : None ≡ Some node = ap (λ (p : PlainOpening). node_of p.who) (sym is) ∙ home in
     absurd cc

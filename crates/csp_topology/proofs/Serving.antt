@@ -28,8 +28,8 @@ use Rattle.csp_topology.proofs.PartyPlaces as party
 use Rattle.csp_topology.proofs.PartyLemmas.{opened_ends}
 use Rattle.csp_topology.proofs.Places.{all_at, get-within}
 use Rattle.csp_topology.proofs.WirePlaces.{down_there, ifaces_of, out_there, rx_there, tx_there, up_there}
-use Rattle.csp_topology.specs.Lanes.{PlainEnd, hub_of, out_lane}
-use Rattle.csp_topology.specs.Parties.{PlainOpening, app_at, heeded, hub_by, hub_with, iface_on, link_at, link_party, link_with, parties_of}
+use Rattle.csp_topology.specs.Lanes.{PlainEnd, leader_of, out_lane}
+use Rattle.csp_topology.specs.Parties.{PlainOpening, app_at, heeded, leader_by, hub_with, iface_on, link_at, link_party, link_with, parties_of}
 use Rattle.csp_topology.specs.Wired.{IsServed, getting, inbox_rule, putting}
 use Rattle.csp_topology.specs.Wires.{PlainJoint, down_lane, rx_lane, tx_lane, up_lane}
 
@@ -54,49 +54,49 @@ end_named w q = record { who = w; queue = q }
 
 -- ---- the router or bridge of a node
 
-hub_inbox : (addr : Option ℕ) (node : ℕ) → inbox_rule (hub_of node addr) ≡ Some rule.Inbox
+hub_inbox : (addr : Option ℕ) (node : ℕ) → inbox_rule (leader_of node addr) ≡ Some rule.Inbox
 hub_inbox (Some addr) node = refl
 hub_inbox None node = refl
 
 module _ (scene : PlainScene) (are : ArePlaced scene) (node : ℕ) (n : PlainNode) (there : slice_get scene.nodes node ≡ Some n) where
-  hub_up : (k : ℕ) (r : Rule) → k < length n.apps → r ≡ rule.Lane lane.Up → IsServed scene (hub_of node n.addr) (queue.Up k) r
+  hub_up : (k : ℕ) (r : Rule) → k < length n.apps → r ≡ rule.Lane lane.Up → IsServed scene (leader_of node n.addr) (queue.Up k) r
   hub_up k r low is = inr (record {
     node = node;
     place = ifaces_of scene node + (ifaces_of scene node + (ifaces_of scene node + (length n.apps + k)));
-    wire = up_lane node (hub_of node n.addr) k;
+    wire = up_lane node (leader_of node n.addr) k;
     at = up_there scene node n there k low;
     side = getting;
     called = refl;
     carries = is;
   })
 
-  hub_down : (k : ℕ) (r : Rule) → k < length n.apps → r ≡ rule.Lane lane.Down → IsServed scene (hub_of node n.addr) (queue.Down k) r
+  hub_down : (k : ℕ) (r : Rule) → k < length n.apps → r ≡ rule.Lane lane.Down → IsServed scene (leader_of node n.addr) (queue.Down k) r
   hub_down k r low is = inr (record {
     node = node;
     place = ifaces_of scene node + (ifaces_of scene node + (ifaces_of scene node + k));
-    wire = down_lane node (hub_of node n.addr) k;
+    wire = down_lane node (leader_of node n.addr) k;
     at = down_there scene node n there k low;
     side = putting;
     called = refl;
     carries = is;
   })
 
-  hub_out : (k : ℕ) (r : Rule) → k < length (links_at node scene.links) → r ≡ rule.Lane lane.Out → IsServed scene (hub_of node n.addr) (queue.Out k) r
+  hub_out : (k : ℕ) (r : Rule) → k < length (links_at node scene.links) → r ≡ rule.Lane lane.Out → IsServed scene (leader_of node n.addr) (queue.Out k) r
   hub_out k r low is =
       let count = joints_count scene are node in
       let (j, at) = get-within (joints_of scene node) k (omega (arith, low, count)) in
       inr (record {
         node = node;
         place = ifaces_of scene node + (ifaces_of scene node + k);
-        wire = out_lane node (hub_of node n.addr) j.end.iface;
+        wire = out_lane node (leader_of node n.addr) j.end.iface;
         at = out_there scene node n there k j at;
         side = putting;
-        called = ap (λ (i : ℕ). end_named (hub_of node n.addr) (queue.Out i)) (joint_is scene are node k j at).iface_is;
+        called = ap (λ (i : ℕ). end_named (leader_of node n.addr) (queue.Out i)) (joint_is scene are node k j at).iface_is;
         carries = is;
       })
 
-  router_served : (addr : ℕ) (q : QueueId) (r : Rule) → uses (hub_by (Some addr) node n (links_at node scene.links)).party q ≡ Some r → IsServed scene (hub_of node n.addr) q r
-  router_served addr queue.Inbox r e = an_inbox scene (hub_of node n.addr) r (hub_inbox n.addr node) e
+  router_served : (addr : ℕ) (q : QueueId) (r : Rule) → uses (leader_by (Some addr) node n (links_at node scene.links)).party q ≡ Some r → IsServed scene (leader_of node n.addr) q r
+  router_served addr queue.Inbox r e = an_inbox scene (leader_of node n.addr) r (hub_inbox n.addr node) e
   router_served addr (queue.Up k) r e = let (low, is) = within r (rule.Lane lane.Up) k (length n.apps) _ refl e in hub_up k r low is
   router_served addr (queue.Down k) r e = let (low, is) = within r (rule.Lane lane.Down) k (length n.apps) _ refl e in hub_down k r low is
   router_served addr (queue.Out k) r e =
@@ -106,8 +106,8 @@ module _ (scene : PlainScene) (are : ArePlaced scene) (node : ℕ) (n : PlainNod
   router_served addr (queue.Tx k) r e = absurd cc
   router_served addr (queue.Rx k) r e = absurd cc
 
-  bridge_served : length (links_at node scene.links) ≡ BRIDGE_LINKS → (q : QueueId) (r : Rule) → uses (hub_by None node n (links_at node scene.links)).party q ≡ Some r → IsServed scene (hub_of node n.addr) q r
-  bridge_served two queue.Inbox r e = an_inbox scene (hub_of node n.addr) r (hub_inbox n.addr node) e
+  bridge_served : length (links_at node scene.links) ≡ BRIDGE_LINKS → (q : QueueId) (r : Rule) → uses (leader_by None node n (links_at node scene.links)).party q ≡ Some r → IsServed scene (leader_of node n.addr) q r
+  bridge_served two queue.Inbox r e = an_inbox scene (leader_of node n.addr) r (hub_inbox n.addr node) e
   bridge_served two (queue.Out k) r e =
       let (low, is) = if_within r (rule.Lane lane.Out) k 2 _ refl e in
       hub_out k r (omega (arith, low, two)) is
@@ -116,7 +116,7 @@ module _ (scene : PlainScene) (are : ArePlaced scene) (node : ℕ) (n : PlainNod
   bridge_served two (queue.Tx k) r e = absurd cc
   bridge_served two (queue.Rx k) r e = absurd cc
 
-  hub_served : (addr : Option ℕ) → (addr ≡ None → length (links_at node scene.links) ≡ BRIDGE_LINKS) → (q : QueueId) (r : Rule) → uses (hub_by addr node n (links_at node scene.links)).party q ≡ Some r → IsServed scene (hub_of node n.addr) q r
+  hub_served : (addr : Option ℕ) → (addr ≡ None → length (links_at node scene.links) ≡ BRIDGE_LINKS) → (q : QueueId) (r : Rule) → uses (leader_by addr node n (links_at node scene.links)).party q ≡ Some r → IsServed scene (leader_of node n.addr) q r
   hub_served (Some addr) two q r e = router_served addr q r e
   hub_served None two q r e = bridge_served (two refl) q r e
 
@@ -132,7 +132,7 @@ module _ (scene : PlainScene) (are : ArePlaced scene) (node : ℕ) (n : PlainNod
       inr (record {
         node = node;
         place = ifaces_of scene node + (ifaces_of scene node + k);
-        wire = out_lane node (hub_of node n.addr) j.end.iface;
+        wire = out_lane node (leader_of node n.addr) j.end.iface;
         at = out_there scene node n there k j at;
         side = getting;
         called = ap (λ (i : ℕ). end_named (who.Iface node i) (queue.Out i)) h.iface_is;
@@ -187,7 +187,7 @@ module _ (scene : PlainScene) (are : ArePlaced scene) (node : ℕ) (n : PlainNod
   app_up k r low is = inr (record {
     node = node;
     place = ifaces_of scene node + (ifaces_of scene node + (ifaces_of scene node + (length n.apps + k)));
-    wire = up_lane node (hub_of node n.addr) k;
+    wire = up_lane node (leader_of node n.addr) k;
     at = up_there scene node n there k low;
     side = putting;
     called = refl;
@@ -198,7 +198,7 @@ module _ (scene : PlainScene) (are : ArePlaced scene) (node : ℕ) (n : PlainNod
   app_down k r low is = inr (record {
     node = node;
     place = ifaces_of scene node + (ifaces_of scene node + (ifaces_of scene node + k));
-    wire = down_lane node (hub_of node n.addr) k;
+    wire = down_lane node (leader_of node n.addr) k;
     at = down_there scene node n there k low;
     side = getting;
     called = refl;
@@ -321,7 +321,7 @@ all_served scene is are i o at = served scene is are i o (party_at scene i o at)
 abbrev UsesInbox : PlainOpening → Type 0
 UsesInbox o = uses o.party queue.Inbox ≡ inbox_rule o.who
 
-hub_uses : (addr : Option ℕ) (node : ℕ) (n : PlainNode) (links : List PlainLink) → UsesInbox (hub_by addr node n links)
+hub_uses : (addr : Option ℕ) (node : ℕ) (n : PlainNode) (links : List PlainLink) → UsesInbox (leader_by addr node n links)
 hub_uses (Some addr) node n links = refl
 hub_uses None node n links = refl
 

@@ -20,7 +20,7 @@ use Rattle.csp_topology.proofs.Joints.{ArePlaced, end_joint, iface_at, joint_is,
 use Rattle.csp_topology.proofs.Places.{all_at, get-within}
 use Rattle.csp_topology.proofs.Serving.{each_link}
 use Rattle.csp_topology.proofs.WirePlaces.{down_there, ifaces_of, out_there, rx_there, tx_there, up_there, wires_here, wires_there}
-use Rattle.csp_topology.specs.Lanes.{PlainLane, app_lanes, hub_of, lanes_from, lanes_of, lanes_on, lanes_within, link_lanes, out_lane}
+use Rattle.csp_topology.specs.Lanes.{PlainLane, app_lanes, leader_of, lanes_from, lanes_of, lanes_on, lanes_within, link_lanes, out_lane}
 use Rattle.csp_topology.specs.Wired.{IsWire}
 use Rattle.csp_topology.specs.Wires.{PlainJoint, down_lane, rx_lane, tx_lane, up_lane, wires_of}
 
@@ -54,7 +54,7 @@ module _ (scene : PlainScene) (are : ArePlaced scene) (node : ℕ) (n : PlainNod
   js = joints_of scene node
 
   abbrev hub : Who
-  hub = hub_of node n.addr
+  hub = leader_of node n.addr
 
   abbrev ifaces : ℕ
   ifaces = length (links_at node scene.links)
@@ -103,36 +103,36 @@ abbrev AreWires : PlainScene → List PlainLane → Type 0
 AreWires scene ls = AllByRecursion (IsWire scene) ls
 
 module _ (scene : PlainScene) (are : ArePlaced scene) (node : ℕ) (n : PlainNode) (there : slice_get scene.nodes node ≡ Some n) where
-  up_wire : (k : ℕ) → k < length n.apps → IsWire scene (up_lane node (hub_of node n.addr) k)
+  up_wire : (k : ℕ) → k < length n.apps → IsWire scene (up_lane node (leader_of node n.addr) k)
   up_wire k low = record { place = ifaces_of scene node + (ifaces_of scene node + (ifaces_of scene node + (length n.apps + k))); at = up_there scene node n there k low }
 
-  down_wire : (k : ℕ) → k < length n.apps → IsWire scene (down_lane node (hub_of node n.addr) k)
+  down_wire : (k : ℕ) → k < length n.apps → IsWire scene (down_lane node (leader_of node n.addr) k)
   down_wire k low = record { place = ifaces_of scene node + (ifaces_of scene node + (ifaces_of scene node + k)); at = down_there scene node n there k low }
 
-  out_wire : (k : ℕ) → k < length (links_at node scene.links) → IsWire scene (out_lane node (hub_of node n.addr) k)
+  out_wire : (k : ℕ) → k < length (links_at node scene.links) → IsWire scene (out_lane node (leader_of node n.addr) k)
   out_wire k low =
       let count = joints_count scene are node in
       let (j, at) = get-within (joints_of scene node) k (omega (arith, low, count)) in
-      subst (λ (i : ℕ). IsWire scene (out_lane node (hub_of node n.addr) i)) (joint_is scene are node k j at).iface_is
+      subst (λ (i : ℕ). IsWire scene (out_lane node (leader_of node n.addr) i)) (joint_is scene are node k j at).iface_is
       (record { place = ifaces_of scene node + (ifaces_of scene node + k); at = out_there scene node n there k j at })
 
-  apps_wired : (first more : ℕ) → first + more ≤ length n.apps → AreWires scene (flat_map (app_lanes node (hub_of node n.addr)) (range_with_len first more))
+  apps_wired : (first more : ℕ) → first + more ≤ length n.apps → AreWires scene (flat_map (app_lanes node (leader_of node n.addr)) (range_with_len first more))
   apps_wired first zero few = tt
   apps_wired first (suc more) few = (up_wire first (omega (arith, few)), (down_wire first (omega (arith, few)), apps_wired (first + 1) more (omega (arith, few))))
 
-  outs_wired : (first more : ℕ) → first + more ≤ length (links_at node scene.links) → AreWires scene (flat_map (λ k. out_lane node (hub_of node n.addr) k ∷ []) (range_with_len first more))
+  outs_wired : (first more : ℕ) → first + more ≤ length (links_at node scene.links) → AreWires scene (flat_map (λ k. out_lane node (leader_of node n.addr) k ∷ []) (range_with_len first more))
   outs_wired first zero few = tt
   outs_wired first (suc more) few = (out_wire first (omega (arith, few)), outs_wired (first + 1) more (omega (arith, few)))
 
-  node_wired : AreWires scene (lanes_within node (hub_of node n.addr) (length n.apps) (length (links_at node scene.links)))
+  node_wired : AreWires scene (lanes_within node (leader_of node n.addr) (length n.apps) (length (links_at node scene.links)))
   node_wired =
-      AllByRecursion-append (IsWire scene) (flat_map (app_lanes node (hub_of node n.addr)) (range_with_len 0 (length n.apps)))
-      (flat_map (λ k. out_lane node (hub_of node n.addr) k ∷ []) (range_with_len 0 (length (links_at node scene.links)))) (apps_wired 0 (length n.apps) (omega arith)) (outs_wired 0 (length (links_at node scene.links)) (omega arith))
+      AllByRecursion-append (IsWire scene) (flat_map (app_lanes node (leader_of node n.addr)) (range_with_len 0 (length n.apps)))
+      (flat_map (λ k. out_lane node (leader_of node n.addr) k ∷ []) (range_with_len 0 (length (links_at node scene.links)))) (apps_wired 0 (length n.apps) (omega arith)) (outs_wired 0 (length (links_at node scene.links)) (omega arith))
 
 nodes_wired : (scene : PlainScene) → ArePlaced scene → (place : ℕ) (nodes : List PlainNode) → ((k m : ℕ) (n : PlainNode) → slice_get nodes k ≡ Some n → m ≡ place + k → slice_get scene.nodes m ≡ Some n) → AreWires scene (lanes_from place nodes scene.links)
 nodes_wired scene are place [] there = tt
 nodes_wired scene are place (n ∷ nodes) there =
-    AllByRecursion-append (IsWire scene) (lanes_within place (hub_of place n.addr) (length n.apps) (length (links_at place scene.links))) (lanes_from (place + 1) nodes scene.links)
+    AllByRecursion-append (IsWire scene) (lanes_within place (leader_of place n.addr) (length n.apps) (length (links_at place scene.links))) (lanes_from (place + 1) nodes scene.links)
     (node_wired scene are place n (there 0 place n refl (omega arith))) (nodes_wired scene are (place + 1) nodes (λ k m x e same. there (suc k) m x e (omega (arith, same))))
 
 -- those of links

@@ -9,7 +9,7 @@ use Rattle.csp_log.specs.declared.who.Who.{Who}
 use Rattle.csp_scene.specs.Scene.{PlainNode, PlainScene}
 use Rattle.csp_topology.proofs.Joints.{all_joints, joints_of}
 use Rattle.csp_topology.proofs.Places.{Among, among, get-first, get-made, get-second, made-from, of_first, of_second, range-at, range-from}
-use Rattle.csp_topology.specs.Lanes.{PlainLane, hub_of, out_lane}
+use Rattle.csp_topology.specs.Lanes.{PlainLane, leader_of, out_lane}
 use Rattle.csp_topology.specs.Wires.{PlainJoint, down_lane, rx_lane, tx_lane, up_lane, wire_at, wires_at, wires_from, wires_of, wires_with}
 
 -- ---- of which node
@@ -36,7 +36,7 @@ all_count scene = wires_count 0 scene.nodes (all_joints scene)
 
 -- the lanes of a node of a scene
 abbrev pub wires_here : PlainScene → ℕ → PlainNode → List PlainLane
-wires_here scene node n = wires_with node (hub_of node n.addr) (joints_of scene node) (length n.apps)
+wires_here scene node n = wires_with node (leader_of node n.addr) (joints_of scene node) (length n.apps)
 
 pub wires_there : (scene : PlainScene) (node : ℕ) (n : PlainNode) → slice_get scene.nodes node ≡ Some n → slice_get (wires_of scene) node ≡ Some (wires_here scene node n)
 unfolding wires_of
@@ -74,9 +74,9 @@ ifaces_of scene node = length (joints_of scene node)
 pub data Wire (scene : PlainScene) (node k : ℕ) (l : PlainLane) : Type 0 where
   rx : (n : PlainNode) (j : PlainJoint) → slice_get scene.nodes node ≡ Some n → slice_get (joints_of scene node) k ≡ Some j → l ≡ rx_lane j → Wire scene node k l
   tx : (n : PlainNode) (j : PlainJoint) (p : ℕ) → slice_get scene.nodes node ≡ Some n → slice_get (joints_of scene node) p ≡ Some j → k ≡ ifaces_of scene node + p → l ≡ tx_lane j → Wire scene node k l
-  out : (n : PlainNode) (j : PlainJoint) (p : ℕ) → slice_get scene.nodes node ≡ Some n → slice_get (joints_of scene node) p ≡ Some j → k ≡ ifaces_of scene node + (ifaces_of scene node + p) → l ≡ out_lane node (hub_of node n.addr) j.end.iface → Wire scene node k l
-  down : (n : PlainNode) (p : ℕ) → slice_get scene.nodes node ≡ Some n → p < length n.apps → k ≡ ifaces_of scene node + (ifaces_of scene node + (ifaces_of scene node + p)) → l ≡ down_lane node (hub_of node n.addr) p → Wire scene node k l
-  up : (n : PlainNode) (p : ℕ) → slice_get scene.nodes node ≡ Some n → p < length n.apps → k ≡ ifaces_of scene node + (ifaces_of scene node + (ifaces_of scene node + (length n.apps + p))) → l ≡ up_lane node (hub_of node n.addr) p → Wire scene node k l
+  out : (n : PlainNode) (j : PlainJoint) (p : ℕ) → slice_get scene.nodes node ≡ Some n → slice_get (joints_of scene node) p ≡ Some j → k ≡ ifaces_of scene node + (ifaces_of scene node + p) → l ≡ out_lane node (leader_of node n.addr) j.end.iface → Wire scene node k l
+  down : (n : PlainNode) (p : ℕ) → slice_get scene.nodes node ≡ Some n → p < length n.apps → k ≡ ifaces_of scene node + (ifaces_of scene node + (ifaces_of scene node + p)) → l ≡ down_lane node (leader_of node n.addr) p → Wire scene node k l
+  up : (n : PlainNode) (p : ℕ) → slice_get scene.nodes node ≡ Some n → p < length n.apps → k ≡ ifaces_of scene node + (ifaces_of scene node + (ifaces_of scene node + (length n.apps + p))) → l ≡ up_lane node (leader_of node n.addr) p → Wire scene node k l
 
 -- a lane that a function makes of a number below a count
 of_count : (f : ℕ → PlainLane) (count k : ℕ) (l : PlainLane) → slice_get (map f (range_with_len 0 count)) k ≡ Some l → (k < count) × (l ≡ f k)
@@ -94,7 +94,7 @@ module _ (scene : PlainScene) (node : ℕ) (n : PlainNode) where
   js = joints_of scene node
 
   abbrev hub : Who
-  hub = hub_of node n.addr
+  hub = leader_of node n.addr
 
   abbrev to_iface : PlainJoint → PlainLane
   to_iface j = out_lane node hub j.end.iface
@@ -184,18 +184,18 @@ module _ (scene : PlainScene) (node : ℕ) (n : PlainNode) where
         wire_there scene node (ifaces_of scene node + p) n (tx_lane j) there
         (after_rx p (tx_lane j) (get-first txs (outs ++ (downs ++ ups)) p (tx_lane j) (get-made tx_lane js p j at)))
 
-    pub out_there : (p : ℕ) (j : PlainJoint) → slice_get (joints_of scene node) p ≡ Some j → wire_at scene node (ifaces_of scene node + (ifaces_of scene node + p)) ≡ Some (out_lane node (hub_of node n.addr) j.end.iface)
+    pub out_there : (p : ℕ) (j : PlainJoint) → slice_get (joints_of scene node) p ≡ Some j → wire_at scene node (ifaces_of scene node + (ifaces_of scene node + p)) ≡ Some (out_lane node (leader_of node n.addr) j.end.iface)
     out_there p j at =
         wire_there scene node (ifaces_of scene node + (ifaces_of scene node + p)) n (to_iface j) there
         (after_rx (ifaces_of scene node + p) (to_iface j) (after_tx p (to_iface j) (get-first outs (downs ++ ups) p (to_iface j) (get-made to_iface js p j at))))
 
-    pub down_there : (p : ℕ) → p < length n.apps → wire_at scene node (ifaces_of scene node + (ifaces_of scene node + (ifaces_of scene node + p))) ≡ Some (down_lane node (hub_of node n.addr) p)
+    pub down_there : (p : ℕ) → p < length n.apps → wire_at scene node (ifaces_of scene node + (ifaces_of scene node + (ifaces_of scene node + p))) ≡ Some (down_lane node (leader_of node n.addr) p)
     down_there p few =
         let l = down_lane node hub p in
         wire_there scene node (ifaces_of scene node + (ifaces_of scene node + (ifaces_of scene node + p))) n l there
         (after_rx (ifaces_of scene node + (ifaces_of scene node + p)) l (after_tx (ifaces_of scene node + p) l (after_out p l (get-first downs ups p l (in_count (down_lane node hub) (length n.apps) p few)))))
 
-    pub up_there : (p : ℕ) → p < length n.apps → wire_at scene node (ifaces_of scene node + (ifaces_of scene node + (ifaces_of scene node + (length n.apps + p)))) ≡ Some (up_lane node (hub_of node n.addr) p)
+    pub up_there : (p : ℕ) → p < length n.apps → wire_at scene node (ifaces_of scene node + (ifaces_of scene node + (ifaces_of scene node + (length n.apps + p)))) ≡ Some (up_lane node (leader_of node n.addr) p)
     up_there p few =
         let l = up_lane node hub p in
         wire_there scene node (ifaces_of scene node + (ifaces_of scene node + (ifaces_of scene node + (length n.apps + p)))) n l there

@@ -30,9 +30,9 @@ abbrev pub lane_at : ℕ → QueueId → Carries → Who → Who → PlainLane
 lane_at node q carries from to = record { node = node; queue = q; carries = carries; from = record { who = from; queue = q }; to = record { who = to; queue = q } }
 
 -- the router of a node, or the bridge that stands in its place
-abbrev pub hub_of : ℕ → Option ℕ → Who
-hub_of node (Some addr) = who.Router node
-hub_of node None = who.Bridge node
+abbrev pub leader_of : ℕ → Option ℕ → Who
+leader_of node (Some addr) = who.Router node
+leader_of node None = who.Bridge node
 
 -- from an application, and to it; from the router or bridge to an interface
 abbrev pub app_lanes : ℕ → Who → ℕ → List PlainLane
@@ -50,7 +50,7 @@ lanes_within node hub apps ifaces = flat_map (app_lanes node hub) (range_with_le
 abbrev pub lanes_from : ℕ → List PlainNode → List PlainLink → List PlainLane
 lanes_from place [] links = []
 lanes_from place (n ∷ nodes) links =
-    lanes_within place (hub_of place n.addr) (length n.apps) (length (links_at place links)) ++ lanes_from (place + 1) nodes links
+    lanes_within place (leader_of place n.addr) (length n.apps) (length (links_at place links)) ++ lanes_from (place + 1) nodes links
 
 -- from the interface at an end to its link, and back
 abbrev pub end_lanes : ℕ → Carries → ℕ → End → List PlainLane

@@ -11,7 +11,7 @@ use Rattle.csp_log.specs.Who.{node_of}
 use Rattle.csp_log.specs.declared.who.Who.{Who}
 use Rattle.csp_log.specs.declared.who.Who.TheVariants as who
 use Rattle.csp_scene.specs.Scene.{PlainScene, PlainNode}
-use Rattle.csp_topology.specs.Lanes.{PlainEnd, PlainLane, hub_of}
+use Rattle.csp_topology.specs.Lanes.{PlainEnd, PlainLane, leader_of}
 use Rattle.csp_topology.specs.Parties.{PlainOpening, parties_of}
 use Rattle.csp_topology.specs.Wires.{wire_at}
 
@@ -105,19 +105,19 @@ pub record StaysHome (scene : PlainScene) (node : ℕ) (l : PlainLane) : Type 0 
   pub to : IsEndOf node l l.to
 
 -- whether a party is a router or a bridge
-abbrev pub is_hub : Who → Bool
-is_hub (who.Router _) = true
-is_hub (who.Bridge _) = true
-is_hub (who.Iface _ _) = false
-is_hub (who.App _ _) = false
-is_hub (who.Link _) = false
+abbrev pub is_leader : Who → Bool
+is_leader (who.Router _) = true
+is_leader (who.Bridge _) = true
+is_leader (who.Iface _ _) = false
+is_leader (who.App _ _) = false
+is_leader (who.Link _) = false
 
 -- the router or bridge of a party's node stands before the party, where it is not the party itself; and no other party of the node is one
 pub record IsLed (scene : PlainScene) (node j : ℕ) (w : Who) : Type 0 where
   pub n : PlainNode
   pub there : slice_get scene.nodes node ≡ Some n
-  pub hub : Stands scene (hub_of node n.addr)
+  pub hub : Stands scene (leader_of node n.addr)
   pub first : hub.place ≤ j
-  pub same : hub.place ≡ j → w ≡ hub_of node n.addr
-  pub only : w ≡ hub_of node n.addr → hub.place ≡ j
-  pub alone : is_hub w ≡ true → hub.place ≡ j
+  pub same : hub.place ≡ j → w ≡ leader_of node n.addr
+  pub only : w ≡ leader_of node n.addr → hub.place ≡ j
+  pub alone : is_leader w ≡ true → hub.place ≡ j

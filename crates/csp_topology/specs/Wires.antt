@@ -10,7 +10,7 @@ use Rattle.csp_log.specs.declared.places.QueueId.TheVariants as queue
 use Rattle.csp_log.specs.declared.who.Who.{Who}
 use Rattle.csp_log.specs.declared.who.Who.TheVariants as who
 use Rattle.csp_scene.specs.Scene.{PlainScene, PlainNode, PlainLink}
-use Rattle.csp_topology.specs.Lanes.{PlainLane, hub_of, lane_at, out_lane}
+use Rattle.csp_topology.specs.Lanes.{PlainLane, leader_of, lane_at, out_lane}
 
 -- an end of a link: the link's number, what it carries, the place of the end among the link's ends, and where that is
 pub record PlainJoint : Type 0 where
@@ -74,7 +74,7 @@ wires_with node hub joints apps =
 
 -- those of the node at this place, where links end so
 abbrev pub wires_at : ℕ → PlainNode → List PlainJoint → List PlainLane
-wires_at place n joints = wires_with place (hub_of place n.addr) (joints_at place joints) (length n.apps)
+wires_at place n joints = wires_with place (leader_of place n.addr) (joints_at place joints) (length n.apps)
 
 -- those of each of the nodes from this place on
 abbrev pub wires_from : ℕ → List PlainNode → List PlainJoint → List (List PlainLane)

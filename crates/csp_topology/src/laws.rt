@@ -14,7 +14,7 @@ ghost use Rattle.csp_scene.specs.Kept.{AreLinksAfter};
 ghost use Rattle.csp_scene.specs.Links.{links_at};
 ghost use Rattle.csp_scene.specs.Ranges.{IsScene};
 ghost use Rattle.csp_scene.specs.Scene.{PlainScene, PlainNode};
-ghost use Rattle.csp_topology.specs.Lanes.{PlainLane, hub_of, lanes_of};
+ghost use Rattle.csp_topology.specs.Lanes.{PlainLane, leader_of, lanes_of};
 ghost use Rattle.csp_topology.specs.Parties.{PlainOpening, parties_of};
 ghost use Rattle.csp_topology.specs.Wired.{IsLed, IsServed, IsWire, Joins, Side, Stands, StaysHome, end_on, inbox_rule};
 ghost use Rattle.csp_topology.specs.Wires.{wire_at, wires_of};
@@ -53,9 +53,9 @@ pub fn stays_home()
 {}
 
 /// The router or bridge of a node stands before all other parties of the node.
-pub fn leads_with_hubs()
+pub fn puts_leaders_first()
     ensures led { (scene : PlainScene) (j : ℕ) (o : PlainOpening) → slice_get (parties_of scene) j ≡ Some o → (node : ℕ) → node_of o.who ≡ Some node → IsLed scene node j o.who }
-    ensures hubs { (scene : PlainScene) (node : ℕ) (n : PlainNode) → slice_get scene.nodes node ≡ Some n → Stands scene (hub_of node n.addr) }
+    ensures hubs { (scene : PlainScene) (node : ℕ) (n : PlainNode) → slice_get scene.nodes node ≡ Some n → Stands scene (leader_of node n.addr) }
 {}
 
 /// The lanes of a node stand in the order of its queues, before its inbox.

@@ -13,8 +13,8 @@ mod wire;
 mod wiring;
 
 pub use laws::{
-    counts_parties, joins_parties, leads_with_hubs, names_ends_apart, names_parties_apart,
-    orders_wires, serves_parties, stays_home, wires_lanes,
+    counts_parties, joins_parties, names_ends_apart, names_parties_apart, orders_wires,
+    puts_leaders_first, serves_parties, stays_home, wires_lanes,
 };
 pub use opening::Opening;
 pub use plan::NodePlan;

@@ -3,7 +3,7 @@
 ghost use Rattle.std.specs.Prelude.{◌≡◌, ◌≤◌, ◌+◌, ◌++◌, ◌*◌, length, map, IfOk, OnOk};
 ghost use Rattle.std.specs.List.{AllByRecursion, range_with_len};
 ghost use Rattle.csp_scene.specs.Ranges.{IsLink, IsNode};
-ghost use Rattle.csp_topology.specs.Lanes.{hub_of, out_lane};
+ghost use Rattle.csp_topology.specs.Lanes.{leader_of, out_lane};
 ghost use Rattle.csp_topology.specs.Wires.{down_lane, joints_from, rx_lane, tx_lane, up_lane, wires_with};
 ghost use Rattle.csp_topology.specs.Wiring.{wire_by, wired_from};
 
@@ -57,9 +57,9 @@ fn wires_at(
     requires first { spots.first ≤ MAX_PARTIES }
     requires ifaces { spots.ifaces ≤ MAX_PARTIES }
     requires links { spots.links ≤ MAX_PARTIES }
-    ensures { IfOk result (λ wires. wires.items ≡ map (wire_by spots) (wires_with place (hub_of place node.now.addr) joints.now (length node.now.apps))) }
+    ensures { IfOk result (λ wires. wires.items ≡ map (wire_by spots) (wires_with place (leader_of place node.now.addr) joints.now (length node.now.apps))) }
 {
-    let hub = hub_of(place, node);
+    let hub = leader_of(place, node);
     let apps = node.apps.len() as u8;
     let mut wires = Vec::new(alloc);
     push_rx(&mut wires, joints, spots)?;
@@ -71,8 +71,8 @@ fn wires_at(
 }
 
 /// The router of the node at this place, or the bridge that stands in its place.
-fn hub_of(place: u8, node: &SceneNode) -> Who
-    ensures { result ≡ hub_of place node.now.addr }
+fn leader_of(place: u8, node: &SceneNode) -> Who
+    ensures { result ≡ leader_of place node.now.addr }
 {
     match node.addr {
         Some(_) => Who::Router(place),

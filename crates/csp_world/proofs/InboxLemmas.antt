@@ -12,7 +12,7 @@ use Rattle.csp_consistent.proofs.Names.{AreApart, entries_in, none_there, who_is
 use Rattle.csp_consistent.proofs.Owners.{IsOf, IsOwner}
 use Rattle.csp_consistent.proofs.OwnQueues.{IsOwn, own_asks, own_told}
 use Rattle.csp_consistent.specs.Inboxes.{IsInboxInOrder, writer_of}
-use Rattle.csp_topology.specs.Lanes.{hub_of}
+use Rattle.csp_topology.specs.Lanes.{leader_of}
 use Rattle.csp_topology.specs.Parties.{PlainOpening, party_steps}
 use Rattle.csp_consistent.specs.Queues.{MayAsk}
 use Rattle.csp_consistent.specs.Reading.{got_by, gets, left_here, left_in, of_mark, of_priority, put_by, puts, with_mark, with_priority}
@@ -160,10 +160,10 @@ inbox_one : (p : Prio) → PicksOne queue.Inbox (prio_number p)
 inbox_one p x y h g e f = inbox_is p y g f ∙ sym (inbox_is p x h e)
 
 abbrev pub through : ℕ → PlainNode → Prio → PlainDeck → List PlainMember → List ItemShown
-through node x p d ms = with_priority p (gets queue.Inbox (entries_in (hub_of node x.addr) (map member_log ms))) ++ content queue.Inbox (prio_number p) d
+through node x p d ms = with_priority p (gets queue.Inbox (entries_in (leader_of node x.addr) (map member_log ms))) ++ content queue.Inbox (prio_number p) d
 
 abbrev pub written : ℕ → PlainNode → Prio → ℕ → List PlainMember → List ItemShown
-written node x p mark ms = with_priority p (puts queue.Inbox (entries_in (writer_of node (hub_of node x.addr) mark) (map member_log ms)))
+written node x p mark ms = with_priority p (puts queue.Inbox (entries_in (writer_of node (leader_of node x.addr) mark) (map member_log ms)))
 
 pub record IsInboxKept (node : ℕ) (x : PlainNode) (decks : List PlainDeck) (ms : List PlainMember) : Type 0 where
   pub deck : PlainDeck
@@ -171,7 +171,7 @@ pub record IsInboxKept (node : ℕ) (x : PlainNode) (decks : List PlainDeck) (ms
   pub right : IsRight deck
   pub order : (p : Prio) (mark : ℕ) → with_mark mark (through node x p deck ms) ≡ written node x p mark ms
   pub carried : (p : Prio) → AllOf p (through node x p deck ms)
-  pub got : AllByRecursion IsInboxItem (gets queue.Inbox (entries_in (hub_of node x.addr) (map member_log ms)))
+  pub got : AllByRecursion IsInboxItem (gets queue.Inbox (entries_in (leader_of node x.addr) (map member_log ms)))
 
 all-first : (p : Prio) (xs ys : List ItemShown) → AllOf p (xs ++ ys) → AllOf p xs
 all-first p [] ys h = tt
@@ -213,7 +213,7 @@ inbox_turned scene os known node x at w logged k m found h = record {
       (AllByRecursion-map (IsOfPriority (most_urgent h.deck)) IsInboxItem (got_urgent h.deck node there r.0) (in_inbox (most_urgent h.deck)) urgent));
 } where
   hub : Who
-  hub = hub_of node x.addr
+  hub = leader_of node x.addr
 
   o : OpShown
   o = asks m.party w.time
@@ -313,15 +313,15 @@ inbox_opened node x buffers inbox apps links decks os at = record {
   deck = opening_deck buffers inbox apps links;
   there = at;
   right = right_opening buffers inbox apps links;
-  order = λ p mark. ap (with_mark mark) (nothing p) ∙ sym (ap (λ es. with_priority p (puts queue.Inbox es)) (no_entries (writer_of node (hub_of node x.addr) mark) os));
+  order = λ p mark. ap (with_mark mark) (nothing p) ∙ sym (ap (λ es. with_priority p (puts queue.Inbox es)) (no_entries (writer_of node (leader_of node x.addr) mark) os));
   carried = λ p. subst (AllOf p) (sym (nothing p)) tt;
-  got = subst (λ es. AllByRecursion IsInboxItem (gets queue.Inbox es)) (sym (no_entries (hub_of node x.addr) os)) tt;
+  got = subst (λ es. AllByRecursion IsInboxItem (gets queue.Inbox es)) (sym (no_entries (leader_of node x.addr) os)) tt;
 } where
   nothing : (p : Prio) → through node x p (opening_deck buffers inbox apps links) (map new_member os) ≡ []
-  nothing p = rw (no_entries (hub_of node x.addr) os) (no_content queue.Inbox (prio_number p) inbox links (places_in (shape_of apps links)))
+  nothing p = rw (no_entries (leader_of node x.addr) os) (no_content queue.Inbox (prio_number p) inbox links (places_in (shape_of apps links)))
 
 -- so the record says
-pub inbox_in_order : (w : PlainWorld) (node : ℕ) (x : PlainNode) → IsInboxKept node x w.decks w.members → IsInboxInOrder (record_of w) node (hub_of node x.addr)
+pub inbox_in_order : (w : PlainWorld) (node : ℕ) (x : PlainNode) → IsInboxKept node x w.decks w.members → IsInboxInOrder (record_of w) node (leader_of node x.addr)
 inbox_in_order w node x h = record {
   priorities = λ p. record {
     order = λ mark. ap (λ is. with_mark mark (came p ++ is)) (left p) ∙ h.order p mark;
@@ -330,7 +330,7 @@ inbox_in_order w node x h = record {
   got = h.got;
 } where
   came : Prio → List ItemShown
-  came p = with_priority p (gets queue.Inbox (entries_in (hub_of node x.addr) (map member_log w.members)))
+  came p = with_priority p (gets queue.Inbox (entries_in (leader_of node x.addr) (map member_log w.members)))
 
   left : (p : Prio) → left_in (record_of w) node queue.Inbox (prio_number p) ≡ content queue.Inbox (prio_number p) h.deck
   left p = left_is w node queue.Inbox (prio_number p) h.deck h.there

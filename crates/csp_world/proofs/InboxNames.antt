@@ -11,7 +11,7 @@ use Rattle.csp_base.specs.declared.priority.Prio.TheVariants.{Critical, High, No
 use Rattle.csp_buffer.specs.Content.{Content}
 use Rattle.csp_consistent.proofs.Owners.{IsOwner}
 use Rattle.csp_consistent.specs.Inboxes.{writer_of}
-use Rattle.csp_topology.specs.Lanes.{hub_of}
+use Rattle.csp_topology.specs.Lanes.{leader_of}
 use Rattle.csp_consistent.specs.Reading.{is_queue, put_by, with_mark, with_priority}
 use Rattle.csp_deck.specs.Carried.{place_for, priority_of}
 use Rattle.csp_lists.specs.PlainDeck.{PlainDeck, pops_at}
@@ -145,7 +145,7 @@ pub record IsParty (nodes : List PlainNode) (links : List PlainLink) (w : Who) :
 
 -- the hub of a node is its router or its bridge, whichever the scene has
 pub hub_router : (nodes : List PlainNode) (links : List PlainLink) (node : ℕ) (x : PlainNode) → slice_get nodes node ≡ Some x → (n : ℕ) → IsParty nodes links (who.Router n) → (addr : Option ℕ) → x.addr ≡ addr
-    → is_who (hub_of node addr) (who.Router n) ≡ (n == node)
+    → is_who (leader_of node addr) (who.Router n) ≡ (n == node)
 hub_router nodes links node x at n is (Some addr) e = refl
 hub_router nodes links node x at n is None e = by (n == node) refl where
   by : (same : Bool) → (n == node) ≡ same → false ≡ same
@@ -156,7 +156,7 @@ hub_router nodes links node x at n is None e = by (n == node) refl where
   by false g = refl
 
 pub hub_bridge : (nodes : List PlainNode) (links : List PlainLink) (node : ℕ) (x : PlainNode) → slice_get nodes node ≡ Some x → (n : ℕ) → IsParty nodes links (who.Bridge n) → (addr : Option ℕ) → x.addr ≡ addr
-    → is_who (hub_of node addr) (who.Bridge n) ≡ (n == node)
+    → is_who (leader_of node addr) (who.Bridge n) ≡ (n == node)
 hub_bridge nodes links node x at n is None e = refl
 hub_bridge nodes links node x at n is (Some addr) e = by (n == node) refl where
   by : (same : Bool) → (n == node) ≡ same → false ≡ same
@@ -166,7 +166,7 @@ hub_bridge nodes links node x at n is (Some addr) e = by (n == node) refl where
       absurd cc
   by false g = refl
 
-hub_iface : (addr : Option ℕ) (node n k : ℕ) → is_who (hub_of node addr) (who.Iface n k) ≡ false
+hub_iface : (addr : Option ℕ) (node n k : ℕ) → is_who (leader_of node addr) (who.Iface n k) ≡ false
 hub_iface None node n k = refl
 hub_iface (Some addr) node n k = refl
 
@@ -186,9 +186,9 @@ iface_marked k low = by (k == UNMARKED) refl where
 
 -- a mark is that of the party which puts it
 pub writer_router : (nodes : List PlainNode) (links : List PlainLink) (node : ℕ) (x : PlainNode) → slice_get nodes node ≡ Some x → (n mark : ℕ) → IsParty nodes links (who.Router n)
-    → is_who (writer_of node (hub_of node x.addr) mark) (who.Router n) ≡ ((n == node) && (UNMARKED == mark))
+    → is_who (writer_of node (leader_of node x.addr) mark) (who.Router n) ≡ ((n == node) && (UNMARKED == mark))
 writer_router nodes links node x at n mark is = by (mark == UNMARKED) refl where
-  by : (none : Bool) → (mark == UNMARKED) ≡ none → is_who (if none then hub_of node x.addr else who.Iface node mark) (who.Router n) ≡ ((n == node) && (UNMARKED == mark))
+  by : (none : Bool) → (mark == UNMARKED) ≡ none → is_who (if none then leader_of node x.addr else who.Iface node mark) (who.Router n) ≡ ((n == node) && (UNMARKED == mark))
   by true e =
       let same : (UNMARKED == mark) ≡ true = eq-eqb UNMARKED mark (sym (eqb-true mark UNMARKED e)) in
       hub_router nodes links node x at n is x.addr refl ∙ and (n == node) ∙ ap (λ (b : Bool). (n == node) && b) (sym same) where
@@ -201,9 +201,9 @@ writer_router nodes links node x at n mark is = by (mark == UNMARKED) refl where
     apart false g = refl
 
 pub writer_iface : (nodes : List PlainNode) (links : List PlainLink) (node : ℕ) (x : PlainNode) (n k mark : ℕ) → IsParty nodes links (who.Iface n k)
-    → is_who (writer_of node (hub_of node x.addr) mark) (who.Iface n k) ≡ ((n == node) && (k == mark))
+    → is_who (writer_of node (leader_of node x.addr) mark) (who.Iface n k) ≡ ((n == node) && (k == mark))
 writer_iface nodes links node x n k mark is = by (mark == UNMARKED) refl where
-  by : (none : Bool) → (mark == UNMARKED) ≡ none → is_who (if none then hub_of node x.addr else who.Iface node mark) (who.Iface n k) ≡ ((n == node) && (k == mark))
+  by : (none : Bool) → (mark == UNMARKED) ≡ none → is_who (if none then leader_of node x.addr else who.Iface node mark) (who.Iface n k) ≡ ((n == node) && (k == mark))
   by true e =
       let other : (k == mark) ≡ false = ap (λ m. k == m) (eqb-true mark UNMARKED e) ∙ iface_marked k (iface_few nodes links n k is) in
       hub_iface x.addr node n k ∙ sym (ap (λ (b : Bool). (n == node) && b) other ∙ and-false (n == node))

@@ -9,7 +9,7 @@ use Rattle.csp_base.specs.Priority.{prio_number}
 use Rattle.csp_base.specs.declared.priority.Prio.{Prio}
 use Rattle.csp_buffer.specs.Content.{Content}
 use Rattle.csp_consistent.specs.Inboxes.{writer_of}
-use Rattle.csp_topology.specs.Lanes.{hub_of}
+use Rattle.csp_topology.specs.Lanes.{leader_of}
 use Rattle.csp_consistent.specs.Queues.{MayAsk}
 use Rattle.csp_consistent.specs.Reading.{got_by, is_queue, put_by, with_mark, with_priority}
 use Rattle.csp_deck.specs.Carried.{IsInboxItem, IsOfPriority, priority_of}
@@ -37,26 +37,26 @@ use Rattle.csp_world.proofs.MovedLemmas.{got_at, got_there, put_at, put_there}
 
 pub put_same : (nodes : List PlainNode) (links : List PlainLink) (ends : List (List End)) (node : ℕ) (x : PlainNode) → slice_get nodes node ≡ Some x → (w : Who) → IsParty nodes links w → (o : OpShown) → MayAsk w o
     → (p : Prio) (mark : ℕ) (a : AnswerShown)
-    → with_priority p (if is_who (writer_of node (hub_of node x.addr) mark) w then put_by queue.Inbox o a else []) ≡ with_mark mark (put_there queue.Inbox (prio_number p) node (served ends w o) a)
+    → with_priority p (if is_who (writer_of node (leader_of node x.addr) mark) w then put_by queue.Inbox o a else []) ≡ with_mark mark (put_there queue.Inbox (prio_number p) node (served ends w o) a)
 put_same nodes links ends node x at w is op.Nothing may p mark a =
-    none_if p (is_who (writer_of node (hub_of node x.addr) mark) w) ∙ sym (ap (with_mark mark) (no_put (prio_number p) node _ a (λ t e. subst (λ (o : OpShown). put_at queue.Inbox (prio_number p) o a ≡ []) (home_is (node_of w) op.Nothing t e) refl)))
+    none_if p (is_who (writer_of node (leader_of node x.addr) mark) w) ∙ sym (ap (with_mark mark) (no_put (prio_number p) node _ a (λ t e. subst (λ (o : OpShown). put_at queue.Inbox (prio_number p) o a ≡ []) (home_is (node_of w) op.Nothing t e) refl)))
 put_same nodes links ends node x at w is op.Take may p mark a =
-    none_if p (is_who (writer_of node (hub_of node x.addr) mark) w) ∙ sym (ap (with_mark mark) (no_put (prio_number p) node _ a (λ t e. subst (λ (o : OpShown). put_at queue.Inbox (prio_number p) o a ≡ []) (home_is (node_of w) op.Take t e) refl)))
+    none_if p (is_who (writer_of node (leader_of node x.addr) mark) w) ∙ sym (ap (with_mark mark) (no_put (prio_number p) node _ a (λ t e. subst (λ (o : OpShown). put_at queue.Inbox (prio_number p) o a ≡ []) (home_is (node_of w) op.Take t e) refl)))
 put_same nodes links ends node x at w is (op.Give b) may p mark a =
-    none_if p (is_who (writer_of node (hub_of node x.addr) mark) w) ∙ sym (ap (with_mark mark) (no_put (prio_number p) node _ a (λ t e. subst (λ (o : OpShown). put_at queue.Inbox (prio_number p) o a ≡ []) (home_is (node_of w) (op.Give b) t e) refl)))
+    none_if p (is_who (writer_of node (leader_of node x.addr) mark) w) ∙ sym (ap (with_mark mark) (no_put (prio_number p) node _ a (λ t e. subst (λ (o : OpShown). put_at queue.Inbox (prio_number p) o a ≡ []) (home_is (node_of w) (op.Give b) t e) refl)))
 put_same nodes links ends node x at w is (op.Pop r) may p mark a =
-    none_if p (is_who (writer_of node (hub_of node x.addr) mark) w) ∙ sym (ap (with_mark mark) (no_pop (served ends w (op.Pop r)) (λ t e. popped_is _ t e))) where
+    none_if p (is_who (writer_of node (leader_of node x.addr) mark) w) ∙ sym (ap (with_mark mark) (no_pop (served ends w (op.Pop r)) (λ t e. popped_is _ t e))) where
       popped_is : (there : Option (ℕ × QueueId)) (t : ℕ × OpShown) → option_map (λ (s : ℕ × QueueId). (s.0, op.Pop s.1)) there ≡ Some t → put_at queue.Inbox (prio_number p) t.1 a ≡ []
       popped_is None t e = absurd cc
       popped_is (Some s) t e = subst (λ (u : ℕ × OpShown). put_at queue.Inbox (prio_number p) u.1 a ≡ []) (same_Some (s.0, op.Pop s.1) t e) refl
 
       no_pop : (there : Option (ℕ × OpShown)) → ((t : ℕ × OpShown) → there ≡ Some t → put_at queue.Inbox (prio_number p) t.1 a ≡ []) → put_there queue.Inbox (prio_number p) node there a ≡ []
       no_pop there none = no_put (prio_number p) node there a none
-put_same nodes links ends node x at w is (op.Push (queue.Up k) i) may p mark a = lane_put p (is_who (writer_of node (hub_of node x.addr) mark) w) (queue.Up k) i a refl ∙ sym (ap (with_mark mark) (no_put_lane ends w (queue.Up k) i (prio_number p) node a refl))
-put_same nodes links ends node x at w is (op.Push (queue.Down k) i) may p mark a = lane_put p (is_who (writer_of node (hub_of node x.addr) mark) w) (queue.Down k) i a refl ∙ sym (ap (with_mark mark) (no_put_lane ends w (queue.Down k) i (prio_number p) node a refl))
-put_same nodes links ends node x at w is (op.Push (queue.Out k) i) may p mark a = lane_put p (is_who (writer_of node (hub_of node x.addr) mark) w) (queue.Out k) i a refl ∙ sym (ap (with_mark mark) (no_put_lane ends w (queue.Out k) i (prio_number p) node a refl))
-put_same nodes links ends node x at w is (op.Push (queue.Tx k) i) may p mark a = lane_put p (is_who (writer_of node (hub_of node x.addr) mark) w) (queue.Tx k) i a refl ∙ sym (ap (with_mark mark) (no_put_lane ends w (queue.Tx k) i (prio_number p) node a refl))
-put_same nodes links ends node x at w is (op.Push (queue.Rx k) i) may p mark a = lane_put p (is_who (writer_of node (hub_of node x.addr) mark) w) (queue.Rx k) i a refl ∙ sym (ap (with_mark mark) (no_put_lane ends w (queue.Rx k) i (prio_number p) node a refl))
+put_same nodes links ends node x at w is (op.Push (queue.Up k) i) may p mark a = lane_put p (is_who (writer_of node (leader_of node x.addr) mark) w) (queue.Up k) i a refl ∙ sym (ap (with_mark mark) (no_put_lane ends w (queue.Up k) i (prio_number p) node a refl))
+put_same nodes links ends node x at w is (op.Push (queue.Down k) i) may p mark a = lane_put p (is_who (writer_of node (leader_of node x.addr) mark) w) (queue.Down k) i a refl ∙ sym (ap (with_mark mark) (no_put_lane ends w (queue.Down k) i (prio_number p) node a refl))
+put_same nodes links ends node x at w is (op.Push (queue.Out k) i) may p mark a = lane_put p (is_who (writer_of node (leader_of node x.addr) mark) w) (queue.Out k) i a refl ∙ sym (ap (with_mark mark) (no_put_lane ends w (queue.Out k) i (prio_number p) node a refl))
+put_same nodes links ends node x at w is (op.Push (queue.Tx k) i) may p mark a = lane_put p (is_who (writer_of node (leader_of node x.addr) mark) w) (queue.Tx k) i a refl ∙ sym (ap (with_mark mark) (no_put_lane ends w (queue.Tx k) i (prio_number p) node a refl))
+put_same nodes links ends node x at w is (op.Push (queue.Rx k) i) may p mark a = lane_put p (is_who (writer_of node (leader_of node x.addr) mark) w) (queue.Rx k) i a refl ∙ sym (ap (with_mark mark) (no_put_lane ends w (queue.Rx k) i (prio_number p) node a refl))
 put_same nodes links ends node x at (who.Router n) is (op.Push queue.Inbox (item.Packet mk b)) may p mark a =
     ap (λ (so : Bool). with_priority p (if so then put_by queue.Inbox (op.Push queue.Inbox (item.Packet mk b)) a else []))
     (writer_router nodes links node x at n mark is ∙ ap (λ k. (n == node) && (k == mark)) (sym may))
@@ -169,23 +169,23 @@ lane_got true r (answer.Full j) e = refl
 lane_got true r answer.Empty e = refl
 
 pub got_same : (nodes : List PlainNode) (links : List PlainLink) (ends : List (List End)) (node : ℕ) (x : PlainNode) → slice_get nodes node ≡ Some x → (w : Who) → IsParty nodes links w → (o : OpShown) → MayAsk w o
-    → (d : PlainDeck) (a : AnswerShown) → (if is_who (hub_of node x.addr) w then got_by queue.Inbox o a else []) ≡ got_urgent d node (served ends w o) a
+    → (d : PlainDeck) (a : AnswerShown) → (if is_who (leader_of node x.addr) w then got_by queue.Inbox o a else []) ≡ got_urgent d node (served ends w o) a
 got_same nodes links ends node x at w is op.Nothing may d a =
-    if_none (is_who (hub_of node x.addr) w) [] refl ∙ sym (no_got (prio_number (most_urgent d)) d node _ a (λ t e. subst (λ (o : OpShown). got_at queue.Inbox (prio_number (most_urgent d)) d o a ≡ []) (home_is (node_of w) op.Nothing t e) refl))
+    if_none (is_who (leader_of node x.addr) w) [] refl ∙ sym (no_got (prio_number (most_urgent d)) d node _ a (λ t e. subst (λ (o : OpShown). got_at queue.Inbox (prio_number (most_urgent d)) d o a ≡ []) (home_is (node_of w) op.Nothing t e) refl))
 got_same nodes links ends node x at w is op.Take may d a =
-    if_none (is_who (hub_of node x.addr) w) [] refl ∙ sym (no_got (prio_number (most_urgent d)) d node _ a (λ t e. subst (λ (o : OpShown). got_at queue.Inbox (prio_number (most_urgent d)) d o a ≡ []) (home_is (node_of w) op.Take t e) refl))
+    if_none (is_who (leader_of node x.addr) w) [] refl ∙ sym (no_got (prio_number (most_urgent d)) d node _ a (λ t e. subst (λ (o : OpShown). got_at queue.Inbox (prio_number (most_urgent d)) d o a ≡ []) (home_is (node_of w) op.Take t e) refl))
 got_same nodes links ends node x at w is (op.Give b) may d a =
-    if_none (is_who (hub_of node x.addr) w) [] refl ∙ sym (no_got (prio_number (most_urgent d)) d node _ a (λ t e. subst (λ (o : OpShown). got_at queue.Inbox (prio_number (most_urgent d)) d o a ≡ []) (home_is (node_of w) (op.Give b) t e) refl))
+    if_none (is_who (leader_of node x.addr) w) [] refl ∙ sym (no_got (prio_number (most_urgent d)) d node _ a (λ t e. subst (λ (o : OpShown). got_at queue.Inbox (prio_number (most_urgent d)) d o a ≡ []) (home_is (node_of w) (op.Give b) t e) refl))
 got_same nodes links ends node x at w is (op.Push r i) may d a =
-    if_none (is_who (hub_of node x.addr) w) [] refl ∙ sym (no_got (prio_number (most_urgent d)) d node _ a (λ t e. pushed_is _ t e)) where
+    if_none (is_who (leader_of node x.addr) w) [] refl ∙ sym (no_got (prio_number (most_urgent d)) d node _ a (λ t e. pushed_is _ t e)) where
       pushed_is : (there : Option (ℕ × QueueId)) (t : ℕ × OpShown) → option_map (λ (s : ℕ × QueueId). (s.0, op.Push s.1 i)) there ≡ Some t → got_at queue.Inbox (prio_number (most_urgent d)) d t.1 a ≡ []
       pushed_is None t e = absurd cc
       pushed_is (Some s) t e = subst (λ (u : ℕ × OpShown). got_at queue.Inbox (prio_number (most_urgent d)) d u.1 a ≡ []) (same_Some (s.0, op.Push s.1 i) t e) refl
-got_same nodes links ends node x at w is (op.Pop (queue.Up k)) may d a = lane_got (is_who (hub_of node x.addr) w) (queue.Up k) a refl ∙ sym (no_got_lane ends w (queue.Up k) (prio_number (most_urgent d)) d node a refl)
-got_same nodes links ends node x at w is (op.Pop (queue.Down k)) may d a = lane_got (is_who (hub_of node x.addr) w) (queue.Down k) a refl ∙ sym (no_got_lane ends w (queue.Down k) (prio_number (most_urgent d)) d node a refl)
-got_same nodes links ends node x at w is (op.Pop (queue.Out k)) may d a = lane_got (is_who (hub_of node x.addr) w) (queue.Out k) a refl ∙ sym (no_got_lane ends w (queue.Out k) (prio_number (most_urgent d)) d node a refl)
-got_same nodes links ends node x at w is (op.Pop (queue.Tx k)) may d a = lane_got (is_who (hub_of node x.addr) w) (queue.Tx k) a refl ∙ sym (no_got_lane ends w (queue.Tx k) (prio_number (most_urgent d)) d node a refl)
-got_same nodes links ends node x at w is (op.Pop (queue.Rx k)) may d a = lane_got (is_who (hub_of node x.addr) w) (queue.Rx k) a refl ∙ sym (no_got_lane ends w (queue.Rx k) (prio_number (most_urgent d)) d node a refl)
+got_same nodes links ends node x at w is (op.Pop (queue.Up k)) may d a = lane_got (is_who (leader_of node x.addr) w) (queue.Up k) a refl ∙ sym (no_got_lane ends w (queue.Up k) (prio_number (most_urgent d)) d node a refl)
+got_same nodes links ends node x at w is (op.Pop (queue.Down k)) may d a = lane_got (is_who (leader_of node x.addr) w) (queue.Down k) a refl ∙ sym (no_got_lane ends w (queue.Down k) (prio_number (most_urgent d)) d node a refl)
+got_same nodes links ends node x at w is (op.Pop (queue.Out k)) may d a = lane_got (is_who (leader_of node x.addr) w) (queue.Out k) a refl ∙ sym (no_got_lane ends w (queue.Out k) (prio_number (most_urgent d)) d node a refl)
+got_same nodes links ends node x at w is (op.Pop (queue.Tx k)) may d a = lane_got (is_who (leader_of node x.addr) w) (queue.Tx k) a refl ∙ sym (no_got_lane ends w (queue.Tx k) (prio_number (most_urgent d)) d node a refl)
+got_same nodes links ends node x at w is (op.Pop (queue.Rx k)) may d a = lane_got (is_who (leader_of node x.addr) w) (queue.Rx k) a refl ∙ sym (no_got_lane ends w (queue.Rx k) (prio_number (most_urgent d)) d node a refl)
 got_same nodes links ends node x at (who.Router n) is (op.Pop queue.Inbox) may d a =
     ap (λ (so : Bool). if so then got_by queue.Inbox (op.Pop queue.Inbox) a else []) (hub_router nodes links node x at n is x.addr refl) ∙ got_inbox d (n == node) a
 got_same nodes links ends node x at (who.Bridge n) is (op.Pop queue.Inbox) may d a =

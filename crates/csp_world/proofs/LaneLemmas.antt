@@ -8,7 +8,7 @@ use Rattle.csp_base.specs.Priority.{prio_number}
 use Rattle.csp_consistent.proofs.Names.{entries_in}
 use Rattle.csp_consistent.proofs.QueueNames.{queue_is}
 use Rattle.csp_consistent.specs.Lanes.{IsFullAfter, IsInOrder, IsRefused}
-use Rattle.csp_topology.specs.Lanes.{PlainLane, app_lanes, hub_of, lanes_from, lanes_within, out_lane}
+use Rattle.csp_topology.specs.Lanes.{PlainLane, app_lanes, leader_of, lanes_from, lanes_within, out_lane}
 use Rattle.csp_topology.specs.Parties.{PlainOpening}
 use Rattle.csp_consistent.specs.Queues.{MayAsk, MayPop, MayPush}
 use Rattle.csp_consistent.specs.Reading.{got_by, gets, is_queue, put_by, puts}
@@ -72,7 +72,7 @@ pub record IsLaneOf (scene : PlainScene) (links : List (List End)) (l : PlainLan
 
 module _ (scene : PlainScene) (links : List (List End)) (node : ℕ) (x : PlainNode) (at : slice_get scene.nodes node ≡ Some x) where
   hub : Who
-  hub = hub_of node x.addr
+  hub = leader_of node x.addr
 
   app_user : (k : ℕ) (q : QueueId) (n j : ℕ) → k ≡ j → IsUser links q node (who.App node k) (who.App n j)
   app_user k q n j e = record { home = n; goes_to = refl; same = ap (λ b. (n == node) && b) (eq-eqb j k (sym e)) ∙ and (n == node) } where
@@ -136,7 +136,7 @@ module _ (scene : PlainScene) (links : List (List End)) (node : ℕ) (x : PlainN
   out_getter k (who.App n j) is may = absurd may
   out_getter k (who.Link n) is may = absurd may
 
-  apps_lanes : (k : ℕ) → k < length x.apps → AllByRecursion (IsLaneOf scene links) (app_lanes node (hub_of node x.addr) k)
+  apps_lanes : (k : ℕ) → k < length x.apps → AllByRecursion (IsLaneOf scene links) (app_lanes node (leader_of node x.addr) k)
   unfolding hub
   apps_lanes k low = (
     record {
@@ -162,7 +162,7 @@ module _ (scene : PlainScene) (links : List (List End)) (node : ℕ) (x : PlainN
     ),
   )
 
-  outs_lanes : (k : ℕ) → k < length (links_at node scene.links) → AllByRecursion (IsLaneOf scene links) (out_lane node (hub_of node x.addr) k ∷ [])
+  outs_lanes : (k : ℕ) → k < length (links_at node scene.links) → AllByRecursion (IsLaneOf scene links) (out_lane node (leader_of node x.addr) k ∷ [])
   unfolding hub
   outs_lanes k low = (
     record {
@@ -185,9 +185,9 @@ all-flat : {X : Type 0} (P : X → Type 0) (f : ℕ → List X) (count : ℕ) �
 all-flat P f count each first zero e = tt
 all-flat P f count each first (suc n) e = all-append P (f first) (flat_map f (range_with_len (first + 1) n)) (each first (omega (arith, e))) (all-flat P f count each (first + 1) n (omega (arith, e)))
 
-node_lanes_of : (scene : PlainScene) (links : List (List End)) (place : ℕ) (n : PlainNode) → slice_get scene.nodes place ≡ Some n → AllByRecursion (IsLaneOf scene links) (lanes_within place (hub_of place n.addr) (length n.apps) (length (links_at place scene.links)))
+node_lanes_of : (scene : PlainScene) (links : List (List End)) (place : ℕ) (n : PlainNode) → slice_get scene.nodes place ≡ Some n → AllByRecursion (IsLaneOf scene links) (lanes_within place (leader_of place n.addr) (length n.apps) (length (links_at place scene.links)))
 node_lanes_of scene links place n at =
-    let hub = hub_of place n.addr in
+    let hub = leader_of place n.addr in
     let apps = length n.apps in
     let ifaces = length (links_at place scene.links) in
     all-append (IsLaneOf scene links) (flat_map (app_lanes place hub) (range_with_len 0 apps)) (flat_map (λ k. out_lane place hub k ∷ []) (range_with_len 0 ifaces))
@@ -197,7 +197,7 @@ node_lanes_of scene links place n at =
 lanes_of_nodes : (scene : PlainScene) (links : List (List End)) (place : ℕ) (nodes : List PlainNode) → ((k : ℕ) → slice_get scene.nodes (place + k) ≡ slice_get nodes k) → AllByRecursion (IsLaneOf scene links) (lanes_from place nodes scene.links)
 lanes_of_nodes scene links place [] same = tt
 lanes_of_nodes scene links place (n ∷ nodes) same =
-    all-append (IsLaneOf scene links) (lanes_within place (hub_of place n.addr) (length n.apps) (length (links_at place scene.links))) (lanes_from (place + 1) nodes scene.links)
+    all-append (IsLaneOf scene links) (lanes_within place (leader_of place n.addr) (length n.apps) (length (links_at place scene.links))) (lanes_from (place + 1) nodes scene.links)
     (node_lanes_of scene links place n (ap (slice_get scene.nodes) (omega arith) ∙ same 0))
     (lanes_of_nodes scene links (place + 1) nodes (λ k. ap (slice_get scene.nodes) (omega arith) ∙ same (suc k)))
 

@@ -7,7 +7,7 @@ use Rattle.csp_consistent.proofs.OwnQueues.{scene_own}
 use Rattle.csp_consistent.proofs.Owners.{are_owners}
 use Rattle.csp_consistent.specs.Inboxes.{AreInboxesInOrder, IsInboxInOrder}
 use Rattle.csp_consistent.specs.Lanes.{AreInOrder, IsInOrder}
-use Rattle.csp_topology.specs.Lanes.{PlainLane, hub_of, lanes_of}
+use Rattle.csp_topology.specs.Lanes.{PlainLane, leader_of, lanes_of}
 use Rattle.csp_topology.specs.Parties.{parties_of}
 use Rattle.csp_consistent.specs.Pools.{AreNumbersKept, IsPoolWhole}
 use Rattle.csp_consistent.specs.Runs.{AreLogsOf}
@@ -138,7 +138,7 @@ all_inboxes scene known node n at (a_tick ∷ hs) = all_inboxes scene known node
 
 pub reached_inboxes : Stands → KeepsQueues → KeepsShape → (scene : PlainScene) (w : PlainWorld) → IsScene scene → IsReached scene w → AreInboxesInOrder scene (record_of w)
 reached_inboxes stands queues shape scene w is r = λ node n at.
-    subst (λ (x : PlainWorld). IsInboxInOrder (record_of x) node (hub_of node n.addr)) (sym r.there)
+    subst (λ (x : PlainWorld). IsInboxInOrder (record_of x) node (leader_of node n.addr)) (sym r.there)
     (inbox_in_order (world_after scene r.happenings) node n (all_inboxes scene (scene_known stands queues shape scene is) node n at r.happenings))
 
 -- the links have their ends still

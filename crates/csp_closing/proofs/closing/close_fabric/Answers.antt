@@ -25,8 +25,8 @@ use Rattle.csp_closing.proofs.closing.close_fabric.Goals as goal
 -- what is known of every scene
 laws_of : (g : Over) (c : After-weighs g) → Laws
 laws_of g c = record {
-  led = c.leads_with_hubs.ensures.led;
-  hubs = c.leads_with_hubs.ensures.hubs;
+  led = c.puts_leaders_first.ensures.led;
+  hubs = c.puts_leaders_first.ensures.hubs;
   apart = c.names_parties_apart.ensures;
   joins = c.joins_parties.ensures;
   stays = c.stays_home.ensures;

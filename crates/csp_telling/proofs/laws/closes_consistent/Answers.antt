@@ -8,7 +8,7 @@ returns c = λ scene n posts r is links net closed. consistent scene n posts r
     (record {
       few = is.few_links;
       wires = c.wires_lanes.ensures scene is links;
-      hubs = c.leads_with_hubs.ensures.hubs scene;
+      hubs = c.puts_leaders_first.ensures.hubs scene;
       apart = c.names_parties_apart.ensures scene;
       uses = c.use_their_own.ensures scene r.parties (are_logs scene n posts r net closed);
     })

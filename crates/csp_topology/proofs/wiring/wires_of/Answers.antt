@@ -3,7 +3,7 @@ use Rattle.std.proofs.lemmas.List.{map-append}
 use Rattle.csp_scene.specs.Scene.{PlainLink, PlainNode}
 use Rattle.csp_topology.proofs.WireSteps.{each_node, joints_few, one_node, spots_at}
 use Rattle.csp_topology.proofs.wiring.wires_of.Goals as goal
-use Rattle.csp_topology.specs.Lanes.{hub_of}
+use Rattle.csp_topology.specs.Lanes.{leader_of}
 use Rattle.csp_topology.specs.Wires.{PlainJoint, joints_at, joints_from, wires_with}
 use Rattle.csp_topology.specs.Wiring.{wire_by, wired_from}
 use Rattle.csp_topology.specs.declared.wire.Wire.{Wire}
@@ -46,10 +46,10 @@ loop-place-preserved c =
     let apps : c.len-in-loop-place-2.result ≡ length node.apps = omega (arith, c.len-in-loop-place-2.ensures, c.node.inside.apps.ok.0, ap (λ (n : PlainNode). length n.apps) c.node.view_is) in
     let low : place < length c.args.nodes.now = c.loop-place-test.true in
     let is = each_node c.args.nodes.now c.requires.nodes place node low c.index-nodes-place.is in
-    let made : c.in_ok-wires_at.field-0.items ≡ map (wire_by (spots_at first (length (joints_at place all)) last)) (wires_with place (hub_of place node.addr) (joints_at place all) (length node.apps)) =
+    let made : c.in_ok-wires_at.field-0.items ≡ map (wire_by (spots_at first (length (joints_at place all)) last)) (wires_with place (leader_of place node.addr) (joints_at place all) (length node.apps)) =
     c.in_ok-wires_at.ensures
-    ∙ ap (λ (js : List PlainJoint). map (wire_by (spots_at first c.len.result last)) (wires_with place (hub_of place node.addr) js (length node.apps))) (c.deref-in-loop-place.ensures.value ∙ here)
-    ∙ ap (λ (k : ℕ). map (wire_by (spots_at first k last)) (wires_with place (hub_of place node.addr) (joints_at place all) (length node.apps))) count in
+    ∙ ap (λ (js : List PlainJoint). map (wire_by (spots_at first c.len.result last)) (wires_with place (leader_of place node.addr) js (length node.apps))) (c.deref-in-loop-place.ensures.value ∙ here)
+    ∙ ap (λ (k : ℕ). map (wire_by (spots_at first k last)) (wires_with place (leader_of place node.addr) (joints_at place all) (length node.apps))) count in
     let next = first + (1 + c.len-in-loop-place.result + c.len-in-loop-place-2.result) in
     record {
       wires =

@@ -1,5 +1,5 @@
 use Rattle.csp_topology.proofs.PartyPlaces.{are_led, hub_stands}
-use Rattle.csp_topology.proofs.laws.leads_with_hubs.Goals as goal
+use Rattle.csp_topology.proofs.laws.puts_leaders_first.Goals as goal
 
 pub returns-clause-led : goal.returns-clause-led
 returns-clause-led c = are_led
