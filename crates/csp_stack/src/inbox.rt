@@ -62,10 +62,11 @@ fn judge_destination(
     if is_packet_here(facts.addr, &packet.header) {
         return Some(packet);
     }
-    match state.route(packet.destination()) {
-        Some(row) => forward(facts, state, row, packet, report),
-        None => state.discard(Discard::NoRoute, packet.into_buffer(), report),
-    }
+    let Some(row) = state.route(packet.destination()) else {
+        state.discard(Discard::NoRoute, packet.into_buffer(), report);
+        return None;
+    };
+    forward(facts, state, row, packet, report);
     None
 }
 
