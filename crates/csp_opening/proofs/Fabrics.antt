@@ -81,7 +81,7 @@ stores_of scene = row_by_row scene (λ nodes rows xs. AreStoresOf nodes rows (ma
     none = is.base.none;
     room = (let room = is.room in let same = row_sum scene row ws z in omega (arith, room, same));
     unnoted = is.unnoted;
-    numbers = is.numbers;
+    numbers = (let many = is.numbers in omega (arith, many));
   },
   rest,
 ))
@@ -246,7 +246,7 @@ all_shared scene wires xs seats is k s h at lead its =
 
 -- a party can note the numbers of all buffers of its node
 can_note : (scene : PlainScene) (wires : List (List Wire)) (xs : List Node) (t : Seat) → AreNodesWith scene.nodes wires xs → IsSeated xs t → IfSome (node_of t.who) (λ m. m < length scene.nodes) → buffers_at scene (node_of t.who) ≤ vec_capacity t.numbers
-can_note scene wires xs t nodes seated low = by (node_of t.who) low seated.numbers where
+can_note scene wires xs t nodes seated low = by (node_of t.who) low (let many = seated.numbers in omega (arith, many)) where
   by : (o : Option ℕ) → IfSome o (λ m. m < length scene.nodes) → count_at xs o ≤ vec_capacity t.numbers → buffers_at scene o ≤ vec_capacity t.numbers
   by None low few = few
   by (Some m) low few =

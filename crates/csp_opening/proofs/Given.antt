@@ -251,7 +251,7 @@ room_pushed (x ∷ sides) v (suc p) least before here low =
 -- a party of a node, as it was opened, where it was
 pub seated_if : {E : Type 0} → (nodes : List Node) (o : Opening) (place : ℕ) (x : Node) (region : RegionToken) (count : ℕ) (r : Result Seat E) → node_of (opening_of o).who ≡ Some place → slice_get nodes place ≡ Some x
     → region.name ≡ region_in x → count ≡ x.base.pool.capacity → IfOk r (λ (s : Seat). seat_name s ≡ opening_of o) → IfOk r (λ (s : Seat). IsOfRegion (node_of (opening_of o).who) (Some region) s.party)
-    → IfOk r (λ (s : Seat). s.numbers.items ≡ []) → IfOk r (λ (s : Seat). count ≤ vec_capacity s.numbers) → IfOk r (IsSeated nodes)
+    → IfOk r (λ (s : Seat). s.numbers.items ≡ []) → IfOk r (λ (s : Seat). vec_capacity s.numbers ≡ count) → IfOk r (IsSeated nodes)
 seated_if nodes o place x region count (Ok s) who at token many name of_it unnoted numbers =
     let its : node_of s.who ≡ Some place = ap (λ (z : PlainOpening). node_of z.who) name ∙ who in
     let same : region_of s.party ≡ region.name = subst (λ n. IsOfRegion n (Some region) s.party) who of_it in
@@ -265,14 +265,14 @@ seated_if nodes o place x region count (Err e) who at token many name of_it unno
 
 -- a party of none, as it was opened, where it was
 pub seated_apart : {E : Type 0} → (nodes : List Node) (o : Opening) (r : Result Seat E) → node_of (opening_of o).who ≡ None → IfOk r (λ (s : Seat). seat_name s ≡ opening_of o)
-    → IfOk r (λ (s : Seat). IsOfRegion (node_of (opening_of o).who) None s.party) → IfOk r (λ (s : Seat). s.numbers.items ≡ []) → IfOk r (IsSeated nodes)
-seated_apart nodes o (Ok s) who name of_it unnoted =
+    → IfOk r (λ (s : Seat). IsOfRegion (node_of (opening_of o).who) None s.party) → IfOk r (λ (s : Seat). s.numbers.items ≡ []) → IfOk r (λ (s : Seat). vec_capacity s.numbers ≡ 0) → IfOk r (IsSeated nodes)
+seated_apart nodes o (Ok s) who name of_it unnoted numbers =
     let its : node_of s.who ≡ None = ap (λ (z : PlainOpening). node_of z.who) name ∙ who in
     let same : region_of s.party ≡ region_at nodes None = subst (λ n. IsOfRegion n None s.party) who of_it in
     record {
       party = subst IsNewParty (sym (ap (λ (z : PlainOpening). z.party) name)) (new_party o);
       region = same ∙ sym (ap (region_at nodes) its);
       unnoted = unnoted;
-      numbers = (let none : count_at nodes (node_of s.who) ≡ 0 = ap (count_at nodes) its in omega (arith, none));
+      numbers = (let none : count_at nodes (node_of s.who) ≡ 0 = ap (count_at nodes) its in omega (arith, none, numbers));
     }
-seated_apart nodes o (Err e) who name of_it unnoted = tt
+seated_apart nodes o (Err e) who name of_it unnoted numbers = tt

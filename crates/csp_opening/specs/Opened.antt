@@ -103,9 +103,9 @@ room_with n wires = n.buffers + 4 * n.inbox + sum_by (λ (w : Wire). w.room) wir
 pub record IsNodeOf (n : PlainNode) (wires : List Wire) (x : Node) : Type 0 where
   pub base : IsBase x.base
   pub count : x.base.store.count ≡ n.buffers
-  pub room : room_with n wires ≤ x.base.store.room
+  pub room : x.base.store.room ≡ room_with n wires
   pub unnoted : x.numbers.items ≡ []
-  pub numbers : n.buffers ≤ vec_capacity x.numbers
+  pub numbers : vec_capacity x.numbers ≡ n.buffers
   pub inbox : x.mail.inbox.room ≡ n.inbox
   pub pass : x.mail.pass ≡ mails.opening_pass x.mail.inbox x.base.store.region
   pub left : x.mail.room ≡ n.inbox

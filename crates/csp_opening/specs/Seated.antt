@@ -42,12 +42,12 @@ abbrev pub count_at : List Node → Option ℕ → ℕ
 count_at nodes None = 0
 count_at nodes (Some k) = count_or (slice_get nodes k)
 
--- a party of one of these nodes, or a link or a hub, as it was opened: its buffers are of its node's region, and it can note the numbers of them all
+-- a party of one of these nodes, or a link or a hub, as it was opened: its buffers are of its node's region, and it can note the numbers of just them all
 pub record IsSeated (nodes : List Node) (s : Seat) : Type 0 where
   pub party : IsNewParty (plain s.party)
   pub region : region_of s.party ≡ region_at nodes (node_of s.who)
   pub unnoted : s.numbers.items ≡ []
-  pub numbers : count_at nodes (node_of s.who) ≤ vec_capacity s.numbers
+  pub numbers : vec_capacity s.numbers ≡ count_at nodes (node_of s.who)
 
 -- parties of so many nodes that can be opened
 pub record AreParties (nodes : ℕ) (parties : List Opening) : Type 0 where

@@ -33,33 +33,34 @@ rooms_in x = record { inbox = x.mail.room; lanes = x.lanes.rooms }
 abbrev pub queue_count : List (Vec Wire) → ℕ
 queue_count wires = sum_by (λ (ws : Vec Wire). length ws.items + 4) wires
 
--- the lists of what may be let go are empty, and have room for so many parties and nodes
+-- the lists of what may be let go are empty, and have just the room for so many parties and nodes
 pub record AreBlanks (parties nodes : ℕ) (wires : List (Vec Wire)) (b : Blanks) : Type 0 where
   pub count : length b.sides.items ≡ parties
+  pub sides_room : vec_capacity b.sides ≡ parties
   pub sides : (p : ℕ) → list_at b.sides.items p ≡ []
   pub side_rooms : (p : ℕ) → p < parties → sum_by (λ (ws : Vec Wire). ends_among p ws.items) wires ≤ room_at b.sides.items p
   pub homes : b.homes.items ≡ []
-  pub homes_room : parties ≤ vec_capacity b.homes
+  pub homes_room : vec_capacity b.homes ≡ parties
   pub leads : b.leads.items ≡ []
-  pub leads_room : nodes ≤ vec_capacity b.leads
+  pub leads_room : vec_capacity b.leads ≡ nodes
   pub ends : b.ends.items ≡ []
-  pub ends_room : nodes ≤ vec_capacity b.ends
+  pub ends_room : vec_capacity b.ends ≡ nodes
   pub notes : b.notes ≡ record { left = []; held = []; queues = queue_count wires; others = parties + nodes }
   pub logs : b.logs.items ≡ []
-  pub logs_room : parties ≤ vec_capacity b.logs
+  pub logs_room : vec_capacity b.logs ≡ parties
 
 -- so are the lists of what must be spent
 pub record AreLists (parties nodes : ℕ) (l : Lists) : Type 0 where
   pub posts : l.posts.items ≡ []
-  pub posts_room : parties ≤ vec_capacity l.posts
+  pub posts_room : vec_capacity l.posts ≡ parties
   pub retired : l.retired.items ≡ []
-  pub retired_room : parties ≤ vec_capacity l.retired
+  pub retired_room : vec_capacity l.retired ≡ parties
   pub queues : l.queues.items ≡ []
-  pub queues_room : nodes ≤ vec_capacity l.queues
+  pub queues_room : vec_capacity l.queues ≡ nodes
   pub stores : l.stores.items ≡ []
-  pub stores_room : nodes ≤ vec_capacity l.stores
+  pub stores_room : vec_capacity l.stores ≡ nodes
   pub rooms : l.rooms.items ≡ []
-  pub rooms_room : nodes ≤ vec_capacity l.rooms
+  pub rooms_room : vec_capacity l.rooms ≡ nodes
 
 -- there is room for so many more nodes
 pub record HavePartRoom (more : ℕ) (p : Parts) : Type 0 where

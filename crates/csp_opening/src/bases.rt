@@ -30,7 +30,7 @@ impl Base {
         requires room { count ≤ room }
         ensures whole { IfOk result IsBase }
         ensures count { IfOk result (λ b. b.store.count ≡ count) }
-        ensures room { IfOk result (λ b. room ≤ b.store.room) }
+        ensures room { IfOk result (λ b. b.store.room ≡ room) }
     {
         let (store, buffers) = Store::open(alloc, count, room)?;
         match Pool::open(rt, alloc, store.token(), buffers) {

@@ -66,9 +66,9 @@ impl Lanes {
     /// No lane yet, and room for so many.
     fn blank(alloc: Global, count: usize) -> Result<Lanes, AllocError>
         ensures none { IfOk result (λ l. (l.lanes.items ≡ []) × (l.rooms.items ≡ []) × (l.ends.items ≡ [])) }
-        ensures lanes_room { IfOk result (λ l. count ≤ vec_capacity l.lanes) }
-        ensures rooms_room { IfOk result (λ l. count ≤ vec_capacity l.rooms) }
-        ensures ends_room { IfOk result (λ l. count ≤ vec_capacity l.ends) }
+        ensures lanes_room { IfOk result (λ l. vec_capacity l.lanes ≡ count) }
+        ensures rooms_room { IfOk result (λ l. vec_capacity l.rooms ≡ count) }
+        ensures ends_room { IfOk result (λ l. vec_capacity l.ends ≡ count) }
     {
         let ends = Vec::with_capacity(alloc, count)?;
         let lanes = Vec::with_capacity(alloc, count)?;

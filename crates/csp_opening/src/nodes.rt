@@ -1,6 +1,6 @@
 //! The memory and the queues of each node.
 
-ghost use Rattle.std.specs.Prelude.{◌≡◌, ◌<◌, ◌≤◌, IfOk, length, map};
+ghost use Rattle.std.specs.Prelude.{◌≡◌, ◌<◌, ◌≤◌, IfOk, length, map, vec_capacity};
 ghost use Rattle.std.specs.List.{AllByRecursion};
 ghost use Rattle.csp_inbox.specs.Passes.{opening_pass};
 ghost use Rattle.csp_opening.specs.Opened.{AreLanes, AreNodesWith, AreWired, CanLeave, IsNodeOf, room_with};
@@ -114,7 +114,7 @@ fn room_in(node: &SceneNode, wires: &[Wire]) -> usize
     room
 }
 
-/// Opens the nodes of a scene, each with the lanes of its wires.
+/// Opens the nodes of a scene, each with the lanes of its wires, in a list with just the room for them.
 pub(crate) fn open_nodes<R: Wait>(
     rt: &R,
     alloc: Global,
@@ -122,7 +122,8 @@ pub(crate) fn open_nodes<R: Wait>(
     wires: &[Vec<Wire>],
 ) -> Result<Vec<Node>, AllocError>
     requires { AreWired nodes.now wires.now }
-    ensures { IfOk result (λ r. AreNodesWith nodes.now (map (λ ws. ws.items) wires.now) r.items) }
+    ensures nodes { IfOk result (λ r. AreNodesWith nodes.now (map (λ ws. ws.items) wires.now) r.items) }
+    ensures room { IfOk result (λ r. vec_capacity r ≡ length nodes.now) }
 {
     let mut opened = Vec::with_capacity(alloc, nodes.len())?;
     for (place, node) in nodes.iter().enumerate() {

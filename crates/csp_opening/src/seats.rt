@@ -41,7 +41,7 @@ impl Seat {
         ensures name { IfOk result (λ s. seat_name s ≡ opening_of opening) }
         ensures region { IfOk result (λ s. IsOfRegion (node_of (opening_of opening).who) region s.party) }
         ensures unnoted { IfOk result (λ s. s.numbers.items ≡ []) }
-        ensures numbers { IfOk result (λ s. buffers ≤ vec_capacity s.numbers) }
+        ensures numbers { IfOk result (λ s. vec_capacity s.numbers ≡ buffers) }
     {
         let desk = Desk::open(alloc)?;
         let numbers = Vec::with_capacity(alloc, buffers)?;
@@ -90,7 +90,7 @@ impl Seat {
     }
 }
 
-/// Opens parties of these nodes, and links.
+/// Opens parties of these nodes, and links, in a list with just the room for them.
 pub(crate) fn open_seats(
     alloc: Global,
     openings: Vec<Opening>,
@@ -99,6 +99,7 @@ pub(crate) fn open_seats(
     requires { AreParties (length nodes.now) openings.items }
     ensures names { IfOk result (λ r. map seat_name r.items ≡ map opening_of openings.items) }
     ensures seated { IfOk result (λ r. AllByRecursion (IsSeated nodes.now) r.items) }
+    ensures room { IfOk result (λ r. vec_capacity r ≡ length openings.items) }
 {
     let mut seats = Vec::with_capacity(alloc, openings.len())?;
     let mut openings = VecDeque::from_vec(openings);

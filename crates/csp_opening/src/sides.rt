@@ -1,6 +1,6 @@
 //! The ends of lanes, and who has them.
 
-ghost use Rattle.std.specs.Prelude.{◌≡◌, ◌<◌, ◌≤◌, ℕ, [], length, map, IfOk};
+ghost use Rattle.std.specs.Prelude.{◌≡◌, ◌<◌, ◌≤◌, ℕ, [], length, map, IfOk, vec_capacity};
 ghost use Rattle.std.specs.List.{AllByRecursion, sum_by};
 ghost use Rattle.csp_opening.specs.Handed.{AreHanded, HaveRoom, IsAmong, ends_among, ends_of, handed_among, handed_from, handed_of, list_at, room_at};
 
@@ -19,14 +19,25 @@ pub(crate) fn blank_sides(
     requires nodes { length wires.now < 256 }
     requires few { AllByRecursion (λ ws. length ws.items < 256) wires.now }
     ensures count { IfOk result (λ r. length r.items ≡ parties) }
+    ensures room { IfOk result (λ r. vec_capacity r ≡ parties) }
     ensures none { IfOk result (λ r. (p : ℕ) → list_at r.items p ≡ []) }
     ensures rooms { IfOk result (λ r. (p : ℕ) → p < parties → sum_by (λ ws. ends_among p ws.items) wires.now ≤ room_at r.items p) }
 {
     let mut sides = Vec::with_capacity(alloc, usize::from(parties))?;
     for place in 0..parties {
-        sides.push_reserved(Vec::with_capacity(alloc, ends_at(place, wires))?);
+        sides.push_reserved(blank_side(alloc, place, wires)?);
     }
     Ok(sides)
+}
+
+/// The list of the party at this place, with just the room for its ends.
+fn blank_side(alloc: Global, place: u16, wires: &[Vec<Wire>]) -> Result<Vec<Side>, AllocError>
+    requires nodes { length wires.now < 256 }
+    requires few { AllByRecursion (λ ws. length ws.items < 256) wires.now }
+    ensures none { IfOk result (λ v. v.items ≡ []) }
+    ensures room { IfOk result (λ v. vec_capacity v ≡ sum_by (λ ws. ends_among place ws.items) wires.now) }
+{
+    Vec::with_capacity(alloc, ends_at(place, wires))
 }
 
 /// How many ends of the lanes of these wires the party at this place has.

@@ -284,6 +284,7 @@ fn member_room(
     ensures numbers { IfOk result (λ numbers. (numbers.items ≡ []) × (vec_capacity numbers ≡ buffers)) }
     ensures members { members.new.items ≡ members.old.items }
     ensures more { OnOk result (vec_len members.new + 1 ≤ vec_capacity members.new) }
+    ensures members_room { OnOk result (vec_capacity members.new ≡ max (vec_capacity members.old) (length members.old.items + 1)) }
     ensures logs { room.new.logs.items ≡ [] }
     ensures logs_room { OnOk result (vec_capacity room.new.logs ≡ max (vec_capacity room.old.logs) (length members.old.items + 1)) }
     ensures logs_capacity { vec_capacity room.old.logs ≤ vec_capacity room.new.logs }
@@ -294,7 +295,7 @@ fn member_room(
     ensures emptied { room.new.emptied ≡ room.old.emptied }
     ensures queues { room.new.queues ≡ room.old.queues }
 {
-    members.reserve(1)?;
+    members.reserve_exact(1)?;
     room.logs.reserve_exact(members.len() + 1)?;
     room.held
         .reserve_exact(room.queues + members.len() + 1 + nodes)?;

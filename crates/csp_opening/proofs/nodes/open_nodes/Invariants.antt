@@ -1,4 +1,4 @@
-use Rattle.std.proofs.Common.{◌≡◌, ◌≤◌, length, map, take, vec_len, vec_capacity}
+use Rattle.std.proofs.Common.{◌≡◌, length, map, take, vec_len, vec_capacity}
 use Rattle.std.specs.List.{AllByRecursion}
 use Rattle.csp_opening.specs.Opened.{AreNodesWith, CanLeave}
 use Rattle.csp_opening.proofs.nodes.open_nodes.Given as goal
@@ -9,5 +9,5 @@ invariant-loop-place g l = record {
   opened : AreNodesWith (take l.place l.nodes) (take l.place (map (λ ws. ws.items) l.wires)) l.opened.items;
   leave : AllByRecursion CanLeave l.opened.items;
   room : vec_len l.opened ≡ l.place;
-  capacity : length l.nodes ≤ vec_capacity l.opened;
+  capacity : vec_capacity l.opened ≡ length l.nodes;
 }

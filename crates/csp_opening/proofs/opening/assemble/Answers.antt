@@ -1,4 +1,4 @@
-use Rattle.std.proofs.Common.{◌≡◌, ◌++◌, map, sym, subst, ap, ◌∙◌}
+use Rattle.std.proofs.Common.{◌≡◌, ◌++◌, map, sym, subst, ap, ◌∙◌, arith}
 use Rattle.std.specs.Global.{Vec}
 use Rattle.csp_opening.proofs.Leaving.{ends_are}
 use Rattle.csp_opening.specs.Opened.{ends_in, lead_in, queues_in}
@@ -22,7 +22,7 @@ post-requires-clause-can c =
           (subst (λ qs. CanShare sides (map ends_in nodes) qs c.add_all.new.self.leads.items seats) (sym queues)
           (subst (λ ls. CanShare sides (map ends_in nodes) (map queues_in nodes) ls seats) (sym leads) c.requires.can));
       homes = c.requires.blanks.homes;
-      homes_room = c.requires.blanks.homes_room;
+      homes_room = (let room = c.requires.blanks.homes_room in omega (arith, room));
     }
 
 pub returns-clause-posts : goal.returns-clause-posts

@@ -8,8 +8,8 @@ use Rattle.csp_opening.proofs.opening.open_members.Goals as goal
 
 pub open_seats-requires : goal.open_seats-requires
 open_seats-requires g c =
-    subst (λ k. AreParties k c.args.parties.items) (sym (ap (λ (xs : List Node). length xs) c.deref.ensures.value ∙ as_many c.args.nodes.now (map (λ (ws : Vec Wire). ws.items) c.args.wires.now) c.in_ok-nodes.nodes.items c.in_ok-nodes.ensures))
+    subst (λ k. AreParties k c.args.parties.items) (sym (ap (λ (xs : List Node). length xs) c.deref.ensures.value ∙ as_many c.args.nodes.now (map (λ (ws : Vec Wire). ws.items) c.args.wires.now) c.in_ok-nodes.nodes.items c.in_ok-nodes.ensures.nodes))
     c.requires.parties
 
 pub leave_nodes-requires : goal.leave_nodes-requires
-leave_nodes-requires g c = all_leave c.args.nodes.now (map (λ (ws : Vec Wire). ws.items) c.args.wires.now) c.in_ok-nodes.nodes.items c.in_ok-nodes.ensures
+leave_nodes-requires g c = all_leave c.args.nodes.now (map (λ (ws : Vec Wire). ws.items) c.args.wires.now) c.in_ok-nodes.nodes.items c.in_ok-nodes.ensures.nodes

@@ -13,6 +13,7 @@ invariant-loop-opening l = record {
   seated : AllByRecursion (IsSeated l.nodes) l.seats.items;
   new : AllByRecursion (λ s. IsNewParty (plain s.party)) l.seats.items;
   room : vec_len l.seats + length l.openings.items ≤ vec_capacity l.seats;
+  just : vec_capacity l.seats ≡ length l.fn.openings.items;
 }
 
 abbrev pub decreases-loop-opening : goal.decreases-loop-opening

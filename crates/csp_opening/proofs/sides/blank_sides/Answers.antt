@@ -14,7 +14,7 @@ loop-place-preserved c =
     let before = c.loop-place.invariant in
     let place = c.loop-place.place in
     let old = c.loop-place.sides.items in
-    let v = c.in_ok-with_capacity.field-0 in
+    let v = c.in_ok-blank_side.field-0 in
     let items = c.push_reserved.ensures.items in
     let more = ap (λ (xs : List (Vec PlainSide)). length xs) items in
     let two = length-append old (v ∷ []) in
@@ -24,12 +24,12 @@ loop-place-preserved c =
     let cap = c.push_reserved.ensures.capacity in
     let space = before.capacity in
     let needs = λ (p : ℕ). sum_by (λ (ws : Vec Wire). ends_among p ws.items) c.args.wires.now in
-    let room : needs place ≤ vec_capacity v = (let a = c.in_ok-with_capacity.ensures.capacity in let b = c.ends_at.ensures in omega (arith, a, b)) in
+    let room : needs place ≤ vec_capacity v = (let a = c.in_ok-blank_side.ensures.room in omega (arith, a)) in
     record {
       count = omega (arith, more, two, count);
       len = omega (arith, len, longer);
       capacity = omega (arith, cap, space);
-      none = λ p. subst (λ xs. list_at xs p ≡ []) (sym items) (list_pushed old v c.in_ok-with_capacity.ensures.items before.none p);
+      none = λ p. subst (λ xs. list_at xs p ≡ []) (sym items) (list_pushed old v c.in_ok-blank_side.ensures.none before.none p);
       rooms = λ p low. subst (λ xs. needs p ≤ room_at xs p) (sym items)
           (room_pushed old v p (needs p) (λ less. before.rooms p (omega (arith, less, count)))
           (λ e. (let same : place ≡ p = omega (arith, e, count) in subst (λ k. needs k ≤ vec_capacity v) same room)) (omega (arith, low, count)));

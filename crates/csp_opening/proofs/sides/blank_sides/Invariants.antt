@@ -7,7 +7,7 @@ abbrev pub invariant-loop-place : goal.invariant-loop-place
 invariant-loop-place l = record {
   count : length l.sides.items ≡ l.place;
   len : vec_len l.sides ≡ l.place;
-  capacity : l.parties ≤ vec_capacity l.sides;
+  capacity : vec_capacity l.sides ≡ l.parties;
   none : (p : ℕ) → list_at l.sides.items p ≡ [];
   rooms : (p : ℕ) → p < l.place → sum_by (λ ws. ends_among p ws.items) l.wires ≤ room_at l.sides.items p;
 }

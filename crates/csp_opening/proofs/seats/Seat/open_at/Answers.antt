@@ -22,4 +22,4 @@ returns-in-Some-clause-seated c =
 
 pub returns-in-None-clause-seated : goal.returns-in-None-clause-seated
 returns-in-None-clause-seated c =
-    seated_apart c.args.nodes.now c.args.opening c.open-in-None.result (ap node_of (sym c.who.ensures) ∙ sym c.node.ensures ∙ c.in-None.is) c.open-in-None.ensures.name c.open-in-None.ensures.region c.open-in-None.ensures.unnoted
+    seated_apart c.args.nodes.now c.args.opening c.open-in-None.result (ap node_of (sym c.who.ensures) ∙ sym c.node.ensures ∙ c.in-None.is) c.open-in-None.ensures.name c.open-in-None.ensures.region c.open-in-None.ensures.unnoted c.open-in-None.ensures.numbers
