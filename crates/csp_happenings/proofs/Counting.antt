@@ -3,10 +3,10 @@ use Rattle.std.proofs.Common.{◌≡◌, ℕ, zero, suc, ◌+◌, ◌≤◌, Boo
 use Rattle.std.proofs.lemmas.List.Sums.{sum_by-append}
 use Rattle.csp_log.specs.declared.entry.Entry.{Entry}
 use Rattle.csp_scene.specs.Scene.{PlainScene}
-use Rattle.csp_happenings.specs.Entries.{framed_in}
+use Rattle.csp_log.specs.Framing.{framed_in}
 use Rattle.csp_happenings.specs.Happenings.{is_taken, taken}
 use Rattle.csp_happenings.specs.Remembering.{AreWithin, Carries, Counts, count_of, one_if}
-use Rattle.csp_happenings.specs.declared.entries.Framed.{Framed}
+use Rattle.csp_log.specs.declared.framed.Framed.{Framed}
 use Rattle.csp_happenings.specs.declared.links.Carrying.{Carrying}
 use Rattle.csp_happenings.proofs.Along.{place}
 

@@ -12,7 +12,7 @@ use Rattle.csp_log.specs.declared.noted.Noted.TheVariants as noted
 use Rattle.csp_log.specs.declared.who.Who.{Who}
 use Rattle.csp_log.specs.declared.who.Who.TheVariants as who
 use Rattle.csp_scene.specs.Scene.{PlainScene}
-use Rattle.csp_happenings.specs.Entries.{marked_in}
+use Rattle.csp_log.specs.Framing.{marked_in}
 use Rattle.csp_happenings.specs.Happenings.{app_told, at, happened, iface_told, is_again, is_beginning, number_in, number_of, parcel_in, plan_at, reported, router_told}
 use Rattle.csp_happenings.specs.Numbers.{Adds, number_cmp}
 use Rattle.csp_happenings.specs.Remembering.{Remembers, count_of, fate_known, is_link}

@@ -12,11 +12,11 @@ use Rattle.csp_log.specs.declared.noted.Noted.{Noted}
 use Rattle.csp_log.specs.declared.who.Who.{Who}
 use Rattle.csp_log.specs.declared.who.Who.TheVariants as who
 use Rattle.csp_scene.specs.Scene.{PlainScene}
-use Rattle.csp_happenings.specs.Entries.{framed_in, marked_in}
+use Rattle.csp_log.specs.Framing.{framed_in, marked_in}
 use Rattle.csp_happenings.specs.Happenings.{app_told, at, happened, iface_told, is_again, is_beginning, moved_frame, number_of, parcel_in, reported, router_told, was_sent}
 use Rattle.csp_happenings.specs.Numbers.{Adds, has}
 use Rattle.csp_happenings.specs.Remembering.{Carries, Counts, Remembers, count_of, fate_known}
-use Rattle.csp_happenings.specs.declared.entries.Framed.{Framed}
+use Rattle.csp_log.specs.declared.framed.Framed.{Framed}
 use Rattle.csp_happenings.specs.declared.kinds.Happening.{Happening}
 use Rattle.csp_happenings.specs.declared.links.Carrying.{Carrying}
 use Rattle.csp_happenings.specs.declared.telling.Memory.{Memory}

@@ -25,9 +25,9 @@ use Rattle.csp_record.specs.Record.{PlainPartyLog, PlainRecord}
 use Rattle.csp_log.specs.declared.who.Who.{Who}
 use Rattle.csp_log.specs.declared.who.Who.TheVariants as who
 use Rattle.csp_scene.specs.Scene.{PlainScene}
-use Rattle.csp_happenings.specs.Entries.{framed_in, marked_in}
-use Rattle.csp_happenings.specs.declared.entries.Framed.{Framed}
-use Rattle.csp_happenings.specs.declared.entries.Framed.TheVariants as framed
+use Rattle.csp_log.specs.Framing.{framed_in, marked_in}
+use Rattle.csp_log.specs.declared.framed.Framed.{Framed}
+use Rattle.csp_log.specs.declared.framed.Framed.TheVariants as framed
 use Rattle.csp_happenings.specs.declared.kinds.Happening.{Happening}
 use Rattle.csp_happenings.specs.declared.kinds.Kind.{Kind}
 use Rattle.csp_happenings.specs.declared.kinds.Kind.TheVariants as kind

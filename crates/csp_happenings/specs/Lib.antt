@@ -1,4 +1,3 @@
-pub mod Entries
 pub mod Happenings
 pub mod Numbers
 pub mod Remembering

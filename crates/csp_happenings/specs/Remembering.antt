@@ -7,7 +7,7 @@ use Rattle.std.specs.declared.cmp.Ordering.{Ordering}
 use Rattle.csp_link.specs.Fates.{fate_of, unharmed}
 use Rattle.csp_link.specs.declared.fates.Fate.{Fate}
 use Rattle.csp_log.specs.declared.entry.Entry.{Entry}
-use Rattle.csp_happenings.specs.declared.entries.Framed.{Framed}
+use Rattle.csp_log.specs.declared.framed.Framed.{Framed}
 use Rattle.csp_log.specs.declared.who.Who.{Who}
 use Rattle.csp_log.specs.declared.who.Who.TheVariants as who
 use Rattle.csp_scene.specs.Scene.{PlainScene}

@@ -2,7 +2,7 @@
 
 use crate::fates::Fate;
 use csp_base::Trace;
-use csp_log::{Event, Note};
+use csp_log::{Event, Note, Piece};
 use csp_record::Who;
 
 /// What a packet is to its reliable connection.
@@ -32,17 +32,6 @@ pub struct Parcel {
     /// What it is to its reliable connection, where its trace has a tag.
     pub kind: Kind,
     /// Its trace.
-    pub trace: Trace,
-}
-
-/// What is told of a frame.
-#[derive(Clone, Copy)]
-pub struct Piece {
-    /// Its identifier on a CAN link.
-    pub can: Option<u32>,
-    /// How many bytes it has.
-    pub len: usize,
-    /// The trace of the packet that it carries, or carries a part of.
     pub trace: Trace,
 }
 

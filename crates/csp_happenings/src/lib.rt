@@ -13,5 +13,5 @@ mod transmissions;
 
 pub use fates::Fate;
 pub use gathering::happenings;
-pub use kinds::{Happening, Kind, Parcel, Piece, What};
+pub use kinds::{Happening, Kind, Parcel, What};
 pub use taking::FrameCounts;

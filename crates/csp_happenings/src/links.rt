@@ -6,12 +6,11 @@ ghost use Rattle.csp_link.specs.Fates.{afflicted, fate_of};
 ghost use Rattle.csp_happenings.specs.Happenings.{moved_frame};
 ghost use Rattle.csp_happenings.specs.Remembering.{count_of, fate_in, fate_known, AreWithin, Counts};
 
-use crate::entries::Framed;
 use crate::fates::Fate;
-use crate::kinds::{Piece, What};
+use crate::kinds::What;
 use crate::taking::FrameCounts;
 use csp_link::Fault;
-use csp_log::QueueId;
+use csp_log::{Framed, Piece, QueueId};
 use std::alloc::{AllocError, Global};
 use std::collections::BTreeMap;
 

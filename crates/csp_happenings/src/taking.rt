@@ -4,8 +4,7 @@ ghost use Rattle.std.specs.Prelude.{◌≡◌, ◌==◌, ℕ, ◌+◌, ◌-◌, 
 ghost use Rattle.csp_happenings.specs.Happenings.{is_taken, taken};
 ghost use Rattle.csp_happenings.specs.Remembering.{one_if};
 
-use crate::entries::{Framed, look_at};
-use csp_log::{Log, QueueId};
+use csp_log::{Framed, Log, QueueId};
 use std::marker::Model;
 
 /// How many numbers an end may have.
@@ -42,7 +41,7 @@ impl FrameCounts {
     {
         let mut counts = FrameCounts::none();
         for index in 0..log.len() {
-            counts.note(look_at(log, index).framed);
+            counts.note(log.framed(index));
         }
         counts
     }

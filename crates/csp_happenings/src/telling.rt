@@ -10,13 +10,13 @@ ghost use Rattle.csp_happenings.specs.Happenings.{along_from, asked_or_told, sen
 ghost use Rattle.csp_happenings.specs.Numbers.{has, Adds};
 ghost use Rattle.csp_happenings.specs.Remembering.{count_of, fate_known, is_link, AreWithin, Counts, Remembers};
 
-use crate::entries::{Framed, is_idle, look_at};
+use crate::entries::is_idle;
 use crate::kinds::{Happening, Parcel, What};
 use crate::links::{Carrying, moved_frame};
 use crate::parcels::{parcel_in, parcel_of};
 use crate::transmissions::{Numbers, note_sent, number_in, was_sent};
 use csp_link::Fault;
-use csp_log::{Event, Log, Moved, Noted, QueueId};
+use csp_log::{Event, Framed, Log, Moved, Noted, QueueId};
 use csp_record::Who;
 use csp_scene::{Scene, SceneLink};
 use std::alloc::{AllocError, Global};
@@ -276,20 +276,19 @@ fn tell_entry(
     ensures told { (scene : PlainScene) (before : List Entry) → Remembers scene before memory.old who → OnOk result (IfSome (slice_get log.now.entries index) (λ e. (list.new.items ≡ list.old.items ++ happened scene who before e) × Remembers scene (before ++ e ∷ []) memory.new who)) }
     ensures within { (most : ℕ) → AreWithin most memory.old.carrying → AreWithin (most + 1) memory.new.carrying }
 {
-    let glance = look_at(log, index);
     let turn = Turn {
-        time: glance.time,
+        time: log.time(index),
         who,
     };
     let moved = log.moved(index);
     let noted = log.noted(index);
     let events = log.events(index);
     match who {
-        Who::App(_, _) => tell_app(list, turn, noted, glance.mark, &moved, events),
+        Who::App(_, _) => tell_app(list, turn, noted, log.mark(index), &moved, events),
         Who::Router(_) => tell_router(list, turn, noted, &moved, events),
         Who::Bridge(_) => tell_events(list, turn, false, parcel_in(&moved), events),
         Who::Iface(node, _) => { tell_iface(list, &mut memory.numbers, turn, node, &moved, events) }
-        Who::Link(_) => tell_link(list, &mut memory.carrying, turn, glance.framed),
+        Who::Link(_) => tell_link(list, &mut memory.carrying, turn, log.framed(index)),
     }
 }
 

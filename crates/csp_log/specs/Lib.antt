@@ -1,5 +1,6 @@
 pub mod Bytes
 pub mod Drafting
+pub mod Framing
 pub mod Headers
 pub mod Idling
 pub mod Kinds

@@ -2,14 +2,18 @@
 
 ghost use Rattle.std.specs.Prelude.{◌≡◌, ◌+◌, ◌≤◌, [], ◌++◌, length, vec_len, vec_capacity, OnOk};
 ghost use Rattle.csp_buffer.specs.Trails.{trace_of};
+ghost use Rattle.csp_log.specs.Framing.{framed_by};
 ghost use Rattle.csp_log.specs.Moving.{moved_by};
 ghost use Rattle.csp_log.specs.Layout.{IsRoomier, HasTaken};
 ghost use Rattle.csp_log.specs.PlainLog.{entry_with};
 ghost use Rattle.csp_log.specs.Rows.{packet_of, item_of, op_of, answer_of, row_entry, bytes_in, events_in, IsItemLong, IsDeedLong, IsRowIn};
 
+use crate::framed::read_framed;
 use crate::moved::read_moved;
 use crate::row::{Deed, ItemHead, PacketHead, Row};
-use crate::{AnswerShown, Entry, Event, Events, Frame, ItemShown, MAX_EVENTS, Moved, OpShown};
+use crate::{
+    AnswerShown, Entry, Event, Events, Frame, Framed, ItemShown, MAX_EVENTS, Moved, OpShown,
+};
 use csp_base::MAX_PAYLOAD;
 use csp_buffer::{Shown, Trail};
 use std::alloc::AllocError;
@@ -65,6 +69,15 @@ pub fn moved_of<'a>(bytes: &'a [u8], row: &Row) -> Moved<'a>
 {
     let carried = &bytes[row.first_byte..row.first_byte + row.bytes as usize];
     read_moved(carried, &row.trail, &row.deed)
+}
+
+/// The frame that the turn of a row moved.
+pub fn framed_of(bytes: &[u8], row: &Row) -> Framed
+    requires { row.now.first_byte + row.now.bytes ≤ length bytes.now }
+    ensures { result ≡ framed_by (op_of (bytes_in bytes.now row.now) (trace_of row.now.trail) row.now.deed) (answer_of (bytes_in bytes.now row.now) (trace_of row.now.trail) row.now.deed) }
+{
+    let carried = &bytes[row.first_byte..row.first_byte + row.bytes as usize];
+    read_framed(carried, &row.trail, &row.deed)
 }
 
 /// The events of a row.

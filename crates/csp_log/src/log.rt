@@ -3,6 +3,7 @@
 ghost use Rattle.std.specs.Prelude.{◌≡◌, ℕ, ◌+◌, ◌-◌, ◌*◌, ◌^◌, ◌<◌, ◌≤◌, [], ◌++◌, ◌∷◌, length, max, nat_lt, slice_get, slice_range, All, Some, false, ◌&&◌, IfOk, OnOk, OnErr, vec_len, vec_capacity};
 ghost use Rattle.std.specs.Option.{option_map};
 ghost use Rattle.csp_buffer.specs.Trails.{trace_of};
+ghost use Rattle.csp_log.specs.Framing.{framed_in, marked_in};
 ghost use Rattle.csp_log.specs.Headers.{MoveWords};
 ghost use Rattle.csp_log.specs.Idling.{IsIdle, is_idle};
 ghost use Rattle.csp_log.specs.Layout.{IsRoomier, HasTaken};
@@ -13,14 +14,16 @@ ghost use Rattle.csp_log.specs.PlainLog.{with_entry, entry_with, all_events};
 ghost use Rattle.csp_log.specs.Rows.{draft_of, spoken_of, IsDeedLong, IsDeedWord, IsHeadWord, IsKeptIn, Says};
 ghost use Rattle.csp_log.specs.Weights.{weight_of_all};
 
-use crate::deeds::{entry_of, events_at, idle, keep, make_room, moved_of};
+use crate::deeds::{entry_of, events_at, framed_of, idle, keep, make_room, moved_of};
 use crate::draft::Draft;
+use crate::framed::read_mark;
 use crate::noted::{is_still, read_noted};
 use crate::row::{Deed, ItemHead, Line, PacketHead, Row};
 use crate::rows::Rows;
 use crate::weights::surplus;
 use crate::{
-    AnswerShown, Entry, Event, Events, MAX_EVENTS, MAX_WEIGHT, Moved, Noted, OpShown, QueueId,
+    AnswerShown, Entry, Event, Events, Framed, MAX_EVENTS, MAX_WEIGHT, Moved, Noted, OpShown,
+    QueueId,
 };
 use csp_base::{MAX_FRAME, Trace};
 use csp_buffer::Trail;
@@ -145,6 +148,19 @@ impl Log {
         }
     }
 
+    /// At which time the turn of this entry was, counted from 0.
+    pub fn time(&self, index: u64) -> u64
+        requires { index < length self.now.entries }
+        ensures { option_map (λ e. e.time) (slice_get self.now.entries index) ≡ Some result }
+    {
+        match self.lines[index as usize] {
+            Line::Kept { row } => self.rows.row(row as usize).time,
+            Line::Rested { time } => u64::from(time),
+            Line::FoundNoBuffer { time } => u64::from(time),
+            Line::FoundEmpty { time, .. } => u64::from(time),
+        }
+    }
+
     /// What was reported in the entry of this index, counted from 0.
     pub fn events(&self, index: u64) -> &[Event]
         requires { index < length self.now.entries }
@@ -172,6 +188,30 @@ impl Log {
             Line::Kept { row } => moved_of(&self.bytes, &self.rows.row(row as usize)),
             Line::Rested { .. } | Line::FoundNoBuffer { .. } | Line::FoundEmpty { .. } => {
                 Moved::NoPacket
+            }
+        }
+    }
+
+    /// The mark of the packet that the turn of this entry moved, counted from 0.
+    pub fn mark(&self, index: u64) -> Option<u8>
+        requires { index < length self.now.entries }
+        ensures { option_map marked_in (slice_get self.now.entries index) ≡ Some result }
+    {
+        match self.lines[index as usize] {
+            Line::Kept { row } => read_mark(&self.rows.row(row as usize).deed),
+            Line::Rested { .. } | Line::FoundNoBuffer { .. } | Line::FoundEmpty { .. } => None,
+        }
+    }
+
+    /// The frame that the turn of this entry moved, counted from 0.
+    pub fn framed(&self, index: u64) -> Framed
+        requires { index < length self.now.entries }
+        ensures { option_map framed_in (slice_get self.now.entries index) ≡ Some result }
+    {
+        match self.lines[index as usize] {
+            Line::Kept { row } => framed_of(&self.bytes, &self.rows.row(row as usize)),
+            Line::Rested { .. } | Line::FoundNoBuffer { .. } | Line::FoundEmpty { .. } => {
+                Framed::NoFrame
             }
         }
     }

@@ -4,7 +4,7 @@ use Rattle.std.specs.Fmt.{decimal}
 use Rattle.std.specs.Option.{option_map_or, option_and_then}
 use Rattle.csp_base.specs.declared.traces.Origin.{Origin}
 use Rattle.csp_happenings.specs.declared.kinds.Happening.{Happening}
-use Rattle.csp_happenings.specs.declared.kinds.Piece.{Piece}
+use Rattle.csp_log.specs.declared.framed.Piece.{Piece}
 use Rattle.csp_happenings.specs.declared.kinds.What.{What}
 use Rattle.csp_happenings.specs.declared.kinds.What.TheVariants as what
 use Rattle.csp_link.specs.declared.fates.Fate.{Fate}

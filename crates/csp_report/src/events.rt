@@ -16,12 +16,12 @@ use csp_record::{PartyLog, Record, Who};
 use csp_scene::{MAX_NODES, SceneNode};
 use std::alloc::AllocError;
 
-/// The round of the entry of this index, counted from 0. It reads the whole entry.
+/// The round of the entry of this index, counted from 0.
 fn round_at(log: &Log, index: u64) -> u64
     requires { index < length log.now.entries }
     ensures { result ≡ round_at log.now.entries index }
 {
-    log.entry(index).time
+    log.time(index)
 }
 
 /// Appends `event NODE WORD ROUND`, with the round of the entry of this index.

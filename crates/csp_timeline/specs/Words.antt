@@ -10,7 +10,7 @@ use Rattle.csp_base.specs.declared.traces.Tag.{Tag}
 use Rattle.csp_happenings.specs.declared.kinds.Kind.{Kind}
 use Rattle.csp_happenings.specs.declared.kinds.Kind.TheVariants as kind
 use Rattle.csp_happenings.specs.declared.kinds.Parcel.{Parcel}
-use Rattle.csp_happenings.specs.declared.kinds.Piece.{Piece}
+use Rattle.csp_log.specs.declared.framed.Piece.{Piece}
 use Rattle.csp_header.specs.Word.{header_at}
 use Rattle.csp_header.specs.declared.word.Header.{Header}
 use Rattle.csp_link.specs.declared.fates.Fate.{Fate}

@@ -10,9 +10,9 @@ ghost use Rattle.csp_timeline.specs.Words.{word, numbered, hex_pair, end_word, e
 use crate::labels::{node_name, push_iface_label};
 use bitflags::Flags;
 use csp_base::{Addr, Origin, Port, Prio, Tag};
-use csp_happenings::{Fate, Kind, Parcel, Piece};
+use csp_happenings::{Fate, Kind, Parcel};
 use csp_header::Header;
-use csp_log::{Note, UNMARKED};
+use csp_log::{Note, Piece, UNMARKED};
 use csp_report::{push_count, push_counted, push_word, word_of_refusal};
 use csp_scene::Scene;
 use csp_text::{push_hex, push_number};

@@ -1,4 +1,4 @@
--- What is read of an entry besides its events, its note and its packet: the packet's mark, and the frame.
+-- the frame that a turn moved between its party and a queue, and the mark of the packet that it moved
 use Rattle.std.specs.Prelude.{ℕ, Option, Some, None, length}
 use Rattle.csp_log.specs.declared.entry.Entry.{Entry}
 use Rattle.csp_log.specs.declared.frame.Frame.{Frame}
@@ -7,9 +7,9 @@ use Rattle.csp_log.specs.declared.shown.OpShown.{OpShown}
 use Rattle.csp_log.specs.declared.shown.OpShown.TheVariants as op
 use Rattle.csp_log.specs.declared.shown.AnswerShown.{AnswerShown}
 use Rattle.csp_log.specs.declared.shown.AnswerShown.TheVariants as answer
-use Rattle.csp_happenings.specs.declared.entries.Framed.{Framed}
-use Rattle.csp_happenings.specs.declared.entries.Framed.TheVariants as framed
-use Rattle.csp_happenings.specs.declared.kinds.Piece.{Piece}
+use Rattle.csp_log.specs.declared.framed.Framed.{Framed}
+use Rattle.csp_log.specs.declared.framed.Framed.TheVariants as framed
+use Rattle.csp_log.specs.declared.framed.Piece.{Piece}
 
 -- what is told of a frame
 abbrev pub piece_of : Frame → Piece
