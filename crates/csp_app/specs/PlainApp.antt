@@ -15,7 +15,8 @@ use Rattle.csp_log.specs.declared.places.QueueId.{QueueId}
 use Rattle.csp_log.specs.declared.places.QueueId.TheVariants as queue
 use Rattle.csp_log.specs.declared.places.Rule.{Rule}
 use Rattle.csp_log.specs.declared.places.Rule.TheVariants as rule
-use Rattle.csp_log.specs.declared.places.TheConstants.{SLOTS, UNMARKED}
+use Rattle.csp_base.specs.declared.limits.TheConstants.{SLOTS}
+use Rattle.csp_log.specs.declared.places.TheConstants.{UNMARKED}
 
 -- an application: what it keeps from turn to turn, and from question to answer
 pub record PlainApp : Type 0 where

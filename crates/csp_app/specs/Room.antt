@@ -7,8 +7,8 @@ use Rattle.csp_app.specs.declared.plan.Plan.{Plan}
 use Rattle.csp_app.specs.declared.plan.Plan.TheVariants as plan
 use Rattle.csp_app.specs.PlainStep.{PlainStep}
 use Rattle.csp_app.specs.PlainStep as step
-use Rattle.csp_base.specs.declared.limits.TheConstants.{MAX_PAYLOAD}
-use Rattle.csp_log.specs.declared.places.TheConstants.{SLOTS, MAX_DATA}
+use Rattle.csp_base.specs.declared.limits.TheConstants.{MAX_PAYLOAD, SLOTS}
+use Rattle.csp_log.specs.declared.places.TheConstants.{MAX_DATA}
 use Rattle.csp_log.specs.declared.shown.ItemShown.TheVariants as item
 use Rattle.csp_deck.specs.Carried.{IsUpItem}
 use Rattle.csp_sfp.specs.declared.pieces.TheConstants.{MAX_SIZE}

@@ -5,12 +5,13 @@ ghost use Rattle.csp_deck.specs.Keeping.{number_in};
 ghost use Rattle.csp_deck.specs.Step.{times};
 ghost use Rattle.csp_app.specs.Room.{take_steps};
 
-use crate::collecting::{Collectors, SLOT_COUNT};
+use crate::collecting::Collectors;
 use crate::plan::Plan;
 use crate::progress::Progress;
 use crate::script::Script;
 use crate::slot::{Slot, fresh_slot};
 use csp_arena::RegionToken;
+use csp_base::SLOTS;
 use csp_buffer::Buffer;
 use csp_deck::{Hand, Pile};
 use csp_log::UNMARKED;
@@ -30,7 +31,7 @@ pub struct App {
     pub(crate) made: Hand,
     pub(crate) mark: u8,
     pub(crate) held: Pile,
-    pub(crate) slots: [Slot; SLOT_COUNT],
+    pub(crate) slots: [Slot; SLOTS],
     pub(crate) collectors: Collectors,
     pub(crate) doing: Plan,
 }
@@ -99,7 +100,7 @@ impl App {
             made: Hand::empty(region),
             mark: UNMARKED,
             held,
-            slots: [fresh_slot(); SLOT_COUNT],
+            slots: [fresh_slot(); SLOTS],
             collectors,
             doing: Plan::Rest,
         })

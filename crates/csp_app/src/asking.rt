@@ -13,9 +13,10 @@ ghost use Rattle.csp_log.specs.Pictures.{shown_op};
 use crate::plan::Plan;
 use crate::slot::Slot;
 use crate::{App, Step};
+use csp_base::SLOTS;
 use csp_buffer::Buffer;
 use csp_deck::Circle;
-use csp_log::{Item, ItemShown, Note, Op, QueueId, SLOTS};
+use csp_log::{Item, ItemShown, Note, Op, QueueId};
 
 impl App {
     ghost use Rattle.csp_app.specs.PlainApp.{uses, has_ended, holds, with_app};

@@ -8,15 +8,14 @@ ghost use Rattle.csp_deck.specs.Carried.{IsDownItem};
 ghost use Rattle.csp_sfp.specs.Gathering.{after, answer};
 
 use crate::script::Script;
+use csp_base::SLOTS;
 use csp_crc::crc32c;
-use csp_log::{Event, ItemShown, Note, SLOTS};
+use csp_log::{Event, ItemShown, Note};
 use csp_sfp::{Collector, SfpAnswer};
 use std::alloc::{AllocError, Global};
 
-pub(crate) const SLOT_COUNT: usize = SLOTS as usize;
-
 /// The collectors of an application, by its slots: one for each slot that its script collects on.
-pub type Collectors = [Option<Collector>; SLOT_COUNT];
+pub type Collectors = [Option<Collector>; SLOTS];
 
 /// The collectors for an application with this script, each as it opens.
 ///

@@ -8,7 +8,8 @@ ghost use Rattle.std.specs.Option.{option_to_list};
 ghost use Rattle.csp_log.specs.Pictures.{shown_item};
 
 use crate::collecting::{note_end, note_piece};
-use csp_log::{Event, Events, Item, ItemShown, Note, SLOTS};
+use csp_base::SLOTS;
+use csp_log::{Event, Events, Item, ItemShown, Note};
 use csp_sfp::Collector;
 
 /// One slot for a connection.

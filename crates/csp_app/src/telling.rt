@@ -11,8 +11,9 @@ use crate::items::{mark_in, note_in, put_packet};
 use crate::packets::{filled, mark_of, packets_of};
 use crate::plan::Plan;
 use crate::slot::{Slot, note_item, use_packets};
+use csp_base::SLOTS;
 use csp_buffer::Buffer;
-use csp_log::{Answer, AnswerShown, Event, Events, Item, Note, SLOTS};
+use csp_log::{Answer, AnswerShown, Event, Events, Item, Note};
 
 impl App {
     ghost use Rattle.csp_app.specs.PlainApp.{uses, count, with_app};

@@ -4,6 +4,9 @@ ghost use Rattle.std.specs.Prelude.{◌≡◌, ℕ, ◌<◌, IsSome, IfSome, ◌
 
 use std::marker::Model;
 
+/// The address of broadcast, which is every node's.
+pub const BROADCAST: u8 = 31;
+
 /// The address of a node, 0 to 31. 31 is broadcast. Contracts see it as that number.
 #[derive(Clone, Copy, PartialEq, Eq, PartialOrd, Ord, Debug)]
 pub struct Addr(u8);

@@ -17,11 +17,11 @@ mod traces;
 mod turns;
 
 pub use adapters::{ReadSource, WriteSink};
-pub use address::Addr;
-pub use limits::{MAX_BUFFERS, MAX_FRAME, MAX_PAYLOAD};
+pub use address::{Addr, BROADCAST};
+pub use limits::{ALL_SLOTS, MAX_APPS, MAX_BUFFERS, MAX_FRAME, MAX_PAYLOAD, SLOTS};
 pub use memory::{MemSink, MemSource};
 pub use names::Name;
-pub use ports::Port;
+pub use ports::{FIRST_OWN_PORT, Port};
 pub use priority::Prio;
 pub use sequence::{Seq, ahead, between};
 pub use sink::{Sink, write_whole};

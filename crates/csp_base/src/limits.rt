@@ -9,3 +9,14 @@ pub const MAX_FRAME: usize = 3 + 2 * (4 + MAX_PAYLOAD + 4);
 
 /// The most buffers that one node has.
 pub const MAX_BUFFERS: u16 = 1_024;
+
+/// The most applications that one node has.
+pub const MAX_APPS: usize = 4;
+
+/// How many slots for connections each application has.
+pub const SLOTS: usize = 4;
+
+/// The slots of as many applications as there can be.
+pub const ALL_SLOTS: usize = 16;
+
+const _: () = prove!(ALL_SLOTS == MAX_APPS * SLOTS);

@@ -4,6 +4,9 @@ ghost use Rattle.std.specs.Prelude.{◌≡◌, ℕ, ◌<◌, IsSome, IfSome, ◌
 
 use std::marker::Model;
 
+/// The first of the ports that a connection has on its own node.
+pub const FIRST_OWN_PORT: u8 = 48;
+
 /// A port of a node, 0 to 63. Contracts see it as that number.
 #[derive(Clone, Copy, PartialEq, Eq, Debug)]
 pub struct Port(u8);

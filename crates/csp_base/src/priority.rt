@@ -15,12 +15,13 @@ pub enum Prio {
 
 impl Prio {
     ghost use Rattle.std.specs.Prelude.{◌≡◌, ◌<◌, IsSome, IfSome, ◌↔◌};
-    ghost use Rattle.csp_base.specs.Priority.{prio_number};
+    ghost use Rattle.csp_base.specs.Priority.{prio_number, prio_of};
 
     /// The priority with this number, where it is 0 to 3.
     pub fn new(number: u8) -> Option<Prio>
         ensures valid { IsSome result ↔ (number < 4) }
         ensures value { IfSome result (λ p. prio_number p ≡ number) }
+        ensures named { IfSome result (λ p. p ≡ prio_of number) }
     {
         match number {
             0 => Some(Prio::Critical),

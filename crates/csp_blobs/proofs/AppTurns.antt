@@ -26,7 +26,7 @@ use Rattle.csp_log.specs.declared.event.Event.{Event}
 use Rattle.csp_log.specs.declared.note.Note.{Note}
 use Rattle.csp_log.specs.declared.note.Note.TheVariants as note
 use Rattle.csp_log.specs.declared.places.QueueId.TheVariants as queue
-use Rattle.csp_log.specs.declared.places.TheConstants.{SLOTS}
+use Rattle.csp_base.specs.declared.limits.TheConstants.{SLOTS}
 use Rattle.csp_log.specs.declared.shown.AnswerShown.{AnswerShown}
 use Rattle.csp_log.specs.declared.shown.AnswerShown.TheVariants as answer
 use Rattle.csp_log.specs.declared.shown.ItemShown.{ItemShown}

@@ -4,7 +4,7 @@ use Rattle.csp_app.specs.PlainApp as plain_app
 use Rattle.csp_deck.specs.Runs.{IsRun, step_after}
 use Rattle.csp_log.specs.PlainLog.{all_events}
 use Rattle.csp_log.specs.declared.entry.Entry.{Entry}
-use Rattle.csp_log.specs.declared.places.TheConstants.{SLOTS}
+use Rattle.csp_base.specs.declared.limits.TheConstants.{SLOTS}
 use Rattle.csp_party.specs.Any.{PlainParty, an_app}
 use Rattle.csp_record.specs.Record.{PlainRecord}
 use Rattle.csp_record.specs.declared.connections.Opening.{Opening}

@@ -11,7 +11,8 @@ use Rattle.csp_app.specs.PlainStep.{PlainStep}
 use Rattle.csp_app.specs.PlainStep as step
 use Rattle.csp_app.specs.declared.packets.TheConstants.{FIRST_BYTE}
 use Rattle.csp_log.specs.declared.places.QueueId.TheVariants as queue
-use Rattle.csp_log.specs.declared.places.TheConstants.{SLOTS, UNMARKED}
+use Rattle.csp_base.specs.declared.limits.TheConstants.{SLOTS}
+use Rattle.csp_log.specs.declared.places.TheConstants.{UNMARKED}
 use Rattle.csp_log.specs.declared.shown.ItemShown.{ItemShown}
 use Rattle.csp_log.specs.declared.shown.ItemShown.TheVariants as item
 use Rattle.csp_scene.proofs.Lists.{AllByRecursion-append}

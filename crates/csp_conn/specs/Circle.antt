@@ -1,7 +1,8 @@
 -- The own ports in their circle: after the last comes the first.
 use Rattle.std.specs.Prelude.{ℕ, ◌+◌, ◌-◌, ◌%◌, List, map}
 use Rattle.std.specs.List.{range_with_len}
-use Rattle.csp_conn.specs.declared.circle.TheConstants.{FIRST_OWN_PORT, OWN_PORTS}
+use Rattle.csp_base.specs.declared.ports.TheConstants.{FIRST_OWN_PORT}
+use Rattle.csp_conn.specs.declared.circle.TheConstants.{OWN_PORTS}
 
 -- the port so many steps after this one
 abbrev pub port_after : ℕ → ℕ → ℕ

@@ -1,7 +1,8 @@
 -- The slots of a node's applications as plain data.
 use Rattle.std.specs.Prelude.{◌≡◌, ℕ, ◌+◌, ◌*◌, ◌-◌, ◌<◌, ◌≤◌, List, length, replicate, get_or, slice_set, slice_range}
-use Rattle.csp_conn.specs.declared.circle.TheConstants.{FIRST_OWN_PORT, OWN_PORTS}
-use Rattle.csp_conn.specs.declared.conns.TheConstants.{MAX_APPS, SLOTS}
+use Rattle.csp_base.specs.declared.ports.TheConstants.{FIRST_OWN_PORT}
+use Rattle.csp_conn.specs.declared.circle.TheConstants.{OWN_PORTS}
+use Rattle.csp_base.specs.declared.limits.TheConstants.{MAX_APPS, SLOTS}
 use Rattle.csp_conn.specs.declared.slot.Slot.{Slot}
 use Rattle.csp_conn.specs.declared.slot.Slot.TheVariants.{Free}
 

@@ -3,12 +3,9 @@
 ghost use Rattle.std.specs.Prelude.{◌≡◌, ◌≤◌, ◌<◌, ◌+◌};
 ghost use Rattle.csp_conn.specs.Circle.{port_after};
 
-use csp_base::Port;
+use csp_base::{FIRST_OWN_PORT, Port};
 
-/// The first of the ports that a connection has on its own node.
-pub const FIRST_OWN_PORT: u8 = 48;
-
-/// How many there are.
+/// How many ports a connection may have on its own node.
 pub const OWN_PORTS: u8 = 16;
 
 /// The own port so many steps after this one, in a circle.

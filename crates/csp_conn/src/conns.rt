@@ -6,23 +6,12 @@ ghost use Rattle.csp_conn.specs.PlainConns.{IsConns, IsThere, conns_of, place_of
 ghost use Rattle.csp_conn.specs.Opening.{first_free, found, is_refused, is_taken, next_port, opened, own_port_of};
 ghost use Rattle.csp_conn.specs.Slots.{between, is_between, is_free};
 
-use crate::circle::{FIRST_OWN_PORT, OWN_PORTS, port_after};
+use crate::circle::{OWN_PORTS, port_after};
 use crate::slot::{Connection, Slot};
 use arrayvec::ArrayVec;
-use csp_base::{Addr, Port};
+use csp_base::{ALL_SLOTS, Addr, FIRST_OWN_PORT, MAX_APPS, Port, SLOTS};
 use std::marker::Model;
 use thiserror::Error;
-
-/// The most applications of a node.
-pub const MAX_APPS: usize = 4;
-
-/// How many slots an application has.
-pub const SLOTS: usize = 4;
-
-/// The slots of as many applications as there can be.
-const ALL_SLOTS: usize = 16;
-
-const _: () = prove!(ALL_SLOTS == MAX_APPS * SLOTS);
 
 const _: () = prove!(ALL_SLOTS == OWN_PORTS as usize);
 
@@ -60,8 +49,8 @@ impl Model for Conns {
     ghost invariant = { λ c. IsConns (record { apps = c.apps; slots = c.slots.items; last = c.last }) };
 }
 
-// The place of an application's slot among all.
-fn place(app: u8, slot: u8) -> usize
+/// The place of an application's slot among all.
+pub fn place(app: u8, slot: u8) -> usize
     requires app { app < MAX_APPS }
     requires slot { slot < SLOTS }
     ensures value { result ≡ place_of app slot }

@@ -5,6 +5,6 @@ mod circle;
 mod conns;
 mod slot;
 
-pub use circle::{FIRST_OWN_PORT, OWN_PORTS};
-pub use conns::{Conns, MAX_APPS, NoSlot, OpenError, SLOTS};
+pub use circle::OWN_PORTS;
+pub use conns::{Conns, NoSlot, OpenError, place};
 pub use slot::{Connection, Slot};

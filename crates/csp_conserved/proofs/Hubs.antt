@@ -12,7 +12,7 @@ use Rattle.csp_bridge.specs.Telling as bridge_telling
 use Rattle.csp_bridge.specs.declared.doing.Doing.{Doing}
 use Rattle.csp_bridge.specs.declared.doing.Doing.TheVariants as doing
 use Rattle.csp_buffer.specs.Content.{Content}
-use Rattle.csp_conn.specs.declared.conns.TheConstants.{SLOTS}
+use Rattle.csp_base.specs.declared.limits.TheConstants.{SLOTS}
 use Rattle.csp_conn.specs.declared.slot.Slot.TheVariants.{Free}
 use Rattle.csp_conserved.proofs.Homes.{AsksIn, IsHome, asks_in, stays_home}
 use Rattle.csp_consistent.proofs.Names.{Logged}

@@ -7,7 +7,7 @@ use Rattle.std.proofs.lemmas.List.Elements.{All-replicate}
 use Rattle.std.proofs.lemmas.Option.{same_Some}
 use Rattle.csp_app.specs.PlainApp.{opening as app_opening}
 use Rattle.csp_bridge.specs.PlainBridge.{opening as bridge_opening}
-use Rattle.csp_conn.specs.declared.conns.TheConstants.{MAX_APPS, SLOTS}
+use Rattle.csp_base.specs.declared.limits.TheConstants.{MAX_APPS, SLOTS, ALL_SLOTS}
 use Rattle.csp_consistent.proofs.Each.{each_at}
 use Rattle.csp_consistent.proofs.Names.{Logged, are_apart, entries_at}
 use Rattle.csp_consistent.proofs.Owners.{IsOf, IsOwner, are_owners, as_hub, as_link}
@@ -28,7 +28,6 @@ use Rattle.csp_party.specs.Any.{PlainParty, a_bridge, a_hub, a_link, a_router, a
 use Rattle.csp_ports.proofs.Wholes.{idle_whole}
 use Rattle.csp_ports.specs.Keeps.{AreWhole}
 use Rattle.csp_ports.specs.PlainPorts.{PlainStalled, ports_of}
-use Rattle.csp_ports.specs.declared.places.TheConstants.{ALL_SLOTS}
 use Rattle.csp_prefix.proofs.NodeLanes.{router_there}
 use Rattle.csp_prefix.proofs.PacketLists.{each_any, each_both}
 use Rattle.csp_prefix.specs.Routers.{ComesSo}

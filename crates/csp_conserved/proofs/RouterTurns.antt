@@ -5,7 +5,7 @@ use Rattle.std.proofs.lemmas.Bool.{eqb-false, leb-true}
 use Rattle.csp_buffer.specs.Content.{Content}
 use Rattle.csp_buffer.specs.PlainBuffer.{PlainBuffer}
 use Rattle.csp_conn.specs.PlainConns.{place_of, slot_at}
-use Rattle.csp_conn.specs.declared.conns.TheConstants.{MAX_APPS}
+use Rattle.csp_base.specs.declared.limits.TheConstants.{MAX_APPS}
 use Rattle.csp_conn.specs.declared.slot.Slot.{Slot}
 use Rattle.csp_conn.specs.declared.slot.Slot.TheVariants as has
 use Rattle.csp_deck.specs.Keeping.{numbers_of}

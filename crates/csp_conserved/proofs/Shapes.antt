@@ -7,7 +7,7 @@ use Rattle.csp_buffer.specs.Content.{Content}
 use Rattle.csp_conn.specs.Opening.{gone_on, is_refused, own_port_of}
 use Rattle.csp_conn.specs.PlainConns.{PlainConns, place_of, slot_at, with_slot}
 use Rattle.csp_conn.specs.Slots.{between, is_free}
-use Rattle.csp_conn.specs.declared.conns.TheConstants.{SLOTS}
+use Rattle.csp_base.specs.declared.limits.TheConstants.{SLOTS}
 use Rattle.csp_conn.specs.declared.slot.Connection.{Connection}
 use Rattle.csp_conn.specs.declared.slot.Slot.{Slot}
 use Rattle.csp_conn.specs.declared.slot.Slot.TheVariants as has

@@ -13,7 +13,8 @@ use Rattle.csp_log.specs.declared.places.QueueId.{QueueId}
 use Rattle.csp_log.specs.declared.places.QueueId.TheVariants as queue
 use Rattle.csp_log.specs.declared.places.Rule.{Rule}
 use Rattle.csp_log.specs.declared.places.Rule.TheVariants as rule
-use Rattle.csp_log.specs.declared.places.TheConstants.{UNMARKED, IFACES, SLOTS, MAX_DATA}
+use Rattle.csp_base.specs.declared.limits.TheConstants.{SLOTS}
+use Rattle.csp_log.specs.declared.places.TheConstants.{UNMARKED, IFACES, MAX_DATA}
 use Rattle.csp_log.specs.declared.shown.ItemShown.{ItemShown}
 use Rattle.csp_log.specs.declared.shown.ItemShown.TheVariants as item
 

@@ -12,8 +12,7 @@ mod turns;
 pub use csp_log::{
     Answer, AnswerShown, BoxedFrame, Carries, DOWN_ROOM, Discard, Draft, End, Entry, Event, Events,
     Frame, HeldBy, IFACES, Item, ItemShown, LINK_ENDS, LINK_ROOM, Left, LinkKind, Log, MAX_DATA,
-    MAX_EVENTS, Note, OUT_ROOM, Op, OpShown, Place, QueueId, Rule, SLOTS, Spares, UNMARKED,
-    UP_ROOM, Why,
+    MAX_EVENTS, Note, OUT_ROOM, Op, OpShown, Place, QueueId, Rule, Spares, UNMARKED, UP_ROOM, Why,
 };
 pub use deck::Deck;
 pub use desk::Desk;

@@ -9,7 +9,7 @@ use Rattle.csp_can.specs.Identifiers.{identifier_of}
 use Rattle.csp_deck.specs.Runs.{IsRun}
 use Rattle.csp_iface.specs.Heeding.{is_for}
 use Rattle.csp_iface.specs.Sending.{next_node}
-use Rattle.csp_iface.specs.declared.heeding.TheConstants.{BROADCAST}
+use Rattle.csp_base.specs.declared.address.TheConstants.{BROADCAST}
 use Rattle.csp_link.specs.Copies.{damaged}
 use Rattle.csp_link.specs.Fates.{fate_of}
 use Rattle.csp_log.specs.Moving.{moved_in}

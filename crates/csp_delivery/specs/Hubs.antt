@@ -8,7 +8,7 @@ use Rattle.csp_buffer.specs.Content.{Content}
 use Rattle.csp_consistent.specs.Addressed.{addressee}
 use Rattle.csp_consistent.specs.Reading.{entries_of}
 use Rattle.csp_delivery.specs.Delivery.{MakesOfFirst, names, origin_at}
-use Rattle.csp_iface.specs.declared.heeding.TheConstants.{BROADCAST}
+use Rattle.csp_base.specs.declared.address.TheConstants.{BROADCAST}
 use Rattle.csp_log.specs.Moving.{moved_in}
 use Rattle.csp_log.specs.declared.places.End.{End}
 use Rattle.csp_ordinary.specs.AsSent.{IsAsSent}

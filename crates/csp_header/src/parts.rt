@@ -10,12 +10,7 @@ pub fn priority_at(word: u32) -> Prio
     ensures value { result ≡ prio_of (word / 2 ^ 30) }
     ensures number { prio_number result ≡ word / 2 ^ 30 }
 {
-    match word >> 30 {
-        0 => Prio::Critical,
-        1 => Prio::High,
-        2 => Prio::Normal,
-        _ => Prio::Low,
-    }
+    Prio::new((word >> 30) as u8).unwrap()
 }
 
 /// The address in the five lowest bits.

@@ -2,7 +2,7 @@
 use Rattle.std.specs.Prelude.{ℕ, ◌==◌, ◌||◌, Bool, true, Option, Some, None, unwrap_or}
 use Rattle.csp_can.specs.Identifiers.{identifier_of}
 use Rattle.csp_can.specs.declared.identifiers.Identifier.{Identifier}
-use Rattle.csp_iface.specs.declared.heeding.TheConstants.{BROADCAST}
+use Rattle.csp_base.specs.declared.address.TheConstants.{BROADCAST}
 use Rattle.csp_log.specs.declared.frame.Frame.{Frame}
 
 -- a frame with this identifier is for the node of this address: it names that, or every node

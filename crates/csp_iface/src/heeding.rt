@@ -3,12 +3,9 @@
 ghost use Rattle.std.specs.Prelude.{◌≡◌, ◌^◌, ◌<◌, unwrap_or};
 ghost use Rattle.csp_iface.specs.Heeding.{is_for};
 
-use csp_base::Addr;
+use csp_base::{Addr, BROADCAST};
 use csp_can::Identifier;
 use csp_log::Frame;
-
-/// The address of broadcast, which is every node's.
-pub const BROADCAST: u8 = 31;
 
 /// Whether an interface that heeds this address takes a frame: one for that address or for every node. One that heeds
 /// none takes each.

@@ -98,10 +98,5 @@ fn urgency(number: usize) -> Prio
     requires { number < 4 }
     ensures { prio_number result ≡ number }
 {
-    match number {
-        0 => Prio::Critical,
-        1 => Prio::High,
-        2 => Prio::Normal,
-        _ => Prio::Low,
-    }
+    Prio::new(number as u8).unwrap()
 }

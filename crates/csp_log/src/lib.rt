@@ -36,7 +36,7 @@ pub use noted::Noted;
 pub use operation::{Answer, Op};
 pub use places::{
     Carries, DOWN_ROOM, End, IFACES, LINK_ENDS, LINK_ROOM, LinkKind, MAX_DATA, OUT_ROOM, Place,
-    QueueId, Rule, SLOTS, UNMARKED, UP_ROOM,
+    QueueId, Rule, UNMARKED, UP_ROOM,
 };
 pub use remains::{HeldBy, Left};
 pub use shown::{AnswerShown, ItemShown, OpShown};

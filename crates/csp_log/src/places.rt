@@ -12,9 +12,6 @@ pub const UNMARKED: u8 = 255;
 /// The most interfaces of a node.
 pub const IFACES: u8 = 12;
 
-/// The slots for connections of an application.
-pub const SLOTS: u8 = 4;
-
 /// The most bytes that an application sends in one packet: the rest of the payload is left for the
 /// head of the reliable transport (5 bytes) and a checksum (4 bytes).
 pub const MAX_DATA: usize = MAX_PAYLOAD - 9;

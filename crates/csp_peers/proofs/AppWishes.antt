@@ -20,7 +20,8 @@ use Rattle.csp_consistent.specs.Reading.{entries_of, got_by, gets, puts}
 use Rattle.csp_deck.specs.Runs.{IsRun}
 use Rattle.csp_log.specs.declared.entry.Entry.{Entry}
 use Rattle.csp_log.specs.declared.places.QueueId.TheVariants as queue
-use Rattle.csp_log.specs.declared.places.TheConstants.{SLOTS, UNMARKED}
+use Rattle.csp_base.specs.declared.limits.TheConstants.{SLOTS}
+use Rattle.csp_log.specs.declared.places.TheConstants.{UNMARKED}
 use Rattle.csp_log.specs.declared.shown.AnswerShown.{AnswerShown}
 use Rattle.csp_log.specs.declared.shown.AnswerShown.TheVariants as answer
 use Rattle.csp_log.specs.declared.shown.ItemShown.TheVariants as item

@@ -13,7 +13,7 @@ use Rattle.std.proofs.lemmas.List.Sums.{sum_by-le, sum_by-take-le}
 use Rattle.csp_arena.specs.Cells.{RegionName}
 use Rattle.csp_buffer.specs.PlainBuffer.{PlainBuffer}
 use Rattle.csp_conn.specs.PlainConns.{place_of}
-use Rattle.csp_conn.specs.declared.conns.TheConstants.{MAX_APPS, SLOTS}
+use Rattle.csp_base.specs.declared.limits.TheConstants.{MAX_APPS, SLOTS, ALL_SLOTS}
 use Rattle.csp_deck.specs.Keeping.{numbers_of}
 use Rattle.csp_deck.specs.Regions.{nowhere}
 use Rattle.csp_deck.specs.Step.{times}
@@ -23,7 +23,6 @@ use Rattle.csp_ports.specs.Held.{first_out, held, stalled_buffers, without_held,
 use Rattle.csp_ports.specs.Kept.{IsHoused, IsWaiting, stalled_of, wished, wishes}
 use Rattle.csp_ports.specs.PlainPorts.{PortsAt, fresh}
 use Rattle.csp_ports.specs.declared.held.TheConstants.{MAX_HELD}
-use Rattle.csp_ports.specs.declared.places.TheConstants.{ALL_SLOTS}
 use Rattle.csp_ports.specs.declared.stalled.Stalled.{Stalled}
 use Rattle.csp_rdp.specs.Holding.{loose_buffers, rdp_buffers, rdp_numbers, taken_out, taken_out_of, unneeded, useless_buffers}
 use Rattle.csp_rdp.specs.Machine.{PlainRdp, idle}

@@ -4,14 +4,12 @@ use Rattle.std.specs.List.{All}
 use Rattle.std.specs.Option.{option_map}
 use Rattle.std.specs.VecDeque.{deque_capacity}
 use Rattle.csp_arena.specs.Cells.{RegionName}
-use Rattle.csp_base.specs.declared.limits.TheConstants.{MAX_PAYLOAD}
+use Rattle.csp_base.specs.declared.limits.TheConstants.{MAX_PAYLOAD, MAX_APPS, SLOTS, ALL_SLOTS}
 use Rattle.csp_conn.specs.PlainConns.{place_of}
-use Rattle.csp_conn.specs.declared.conns.TheConstants.{MAX_APPS, SLOTS}
 use Rattle.csp_deck.specs.Carried.{IsReply}
 use Rattle.csp_ports.specs.PlainPorts.{PlainPorts, PlainStalled, PortsAt, anywhere, waiting, with_ports_at}
 use Rattle.csp_ports.specs.Steps.{admitted}
 use Rattle.csp_ports.specs.declared.owed.Owed.{Owed}
-use Rattle.csp_ports.specs.declared.places.TheConstants.{ALL_SLOTS}
 use Rattle.csp_ports.specs.declared.ports.Ports.TheInside.{Inside}
 use Rattle.csp_ports.specs.declared.ports.TheConstants.{MAX_OWED, ANSWERS}
 use Rattle.csp_ports.specs.declared.stalled.Stalled.{Stalled}

@@ -6,11 +6,10 @@ use Rattle.csp_base.specs.declared.priority.Prio.TheVariants.{Normal}
 use Rattle.csp_buffer.specs.Content.{Content}
 use Rattle.csp_buffer.specs.PlainBuffer.{PlainBuffer}
 use Rattle.csp_conn.specs.PlainConns.{PlainConns, conns_of, place_of}
-use Rattle.csp_conn.specs.declared.conns.TheConstants.{MAX_APPS}
+use Rattle.csp_base.specs.declared.limits.TheConstants.{MAX_APPS, ALL_SLOTS}
 use Rattle.csp_deck.specs.Regions.{nowhere}
 use Rattle.csp_log.specs.declared.note.Note.{Note}
 use Rattle.csp_ports.specs.declared.owed.Owed.{Owed}
-use Rattle.csp_ports.specs.declared.places.TheConstants.{ALL_SLOTS}
 use Rattle.csp_ports.specs.declared.terms.Terms.{Terms}
 use Rattle.csp_ports.specs.declared.terms.Wish.{Wish}
 use Rattle.csp_ports.specs.declared.terms.Wish.TheVariants as wish

@@ -1,7 +1,7 @@
 -- when trying the timers changes nothing
 use Rattle.std.specs.Prelude.{ℕ, ◌*◌, ◌/◌, ◌%◌, ◌&&◌, not, Bool, true, false, Option, None, Some}
 use Rattle.std.specs.List.{list_any, range_with_len}
-use Rattle.csp_conn.specs.declared.conns.TheConstants.{SLOTS}
+use Rattle.csp_base.specs.declared.limits.TheConstants.{SLOTS}
 use Rattle.csp_ports.specs.PlainPorts.{PlainPorts, PlainStalled, machine_at, stalled_at}
 use Rattle.csp_rdp.specs.Timer.{times_out}
 use Rattle.csp_rdp.specs.declared.answers.State.{State}

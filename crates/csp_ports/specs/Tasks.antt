@@ -4,7 +4,7 @@ use Rattle.std.specs.List.{range_with_len}
 use Rattle.std.specs.Option.{option_map}
 use Rattle.csp_buffer.specs.Content.{Content}
 use Rattle.csp_conn.specs.PlainConns.{place_of}
-use Rattle.csp_conn.specs.declared.conns.TheConstants.{SLOTS}
+use Rattle.csp_base.specs.declared.limits.TheConstants.{SLOTS}
 use Rattle.csp_ports.specs.Came.{Came, then}
 use Rattle.csp_ports.specs.PlainPorts.{PlainPorts, anywhere, machine_at, terms_at, with_machine, with_terms}
 use Rattle.csp_ports.specs.Steps.{dropped, went}

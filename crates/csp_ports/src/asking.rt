@@ -22,7 +22,6 @@ ghost use Rattle.csp_rdp.specs.Placed.{placed};
 use crate::handing::start_of;
 use crate::origin::Origin;
 use crate::owed::Owed;
-use crate::places::place;
 use crate::ports::Ports;
 use crate::request::Request;
 use crate::steps::let_go;

@@ -25,13 +25,12 @@ ghost use Rattle.csp_ports.specs.PlainPorts.{anywhere, begun, machine_at, start_
 ghost use Rattle.csp_ports.specs.Steps.{has_room, stepped};
 
 use crate::origin::Origin;
-use crate::places::place;
 use crate::ports::Ports;
 use crate::steps::let_go;
 use crate::terms::Wish;
-use csp_base::{MAX_PAYLOAD, Prio, Seq, Tag};
+use csp_base::{MAX_PAYLOAD, Prio, SLOTS, Seq, Tag};
 use csp_buffer::Buffer;
-use csp_conn::{Connection, SLOTS};
+use csp_conn::{Connection, place};
 use csp_deck::{Discard, Event, Events, Pile};
 use csp_rdp::{
     Change, Rdp, Result2, State, conserves, keeps_count, keeps_region, keeps_rest, keeps_whole,

@@ -12,11 +12,10 @@ ghost use Rattle.csp_rdp.specs.Holding.{rdp_buffers};
 ghost use Rattle.csp_rdp_window.specs.Places.{held_in, without_held as without_first};
 ghost use Rattle.std.specs.Option.{option_map};
 
-use crate::places::ALL_SLOTS;
 use crate::ports::Ports;
 use crate::stalled::Stalled;
+use csp_base::{ALL_SLOTS, MAX_APPS};
 use csp_buffer::Buffer;
-use csp_conn::MAX_APPS;
 use csp_rdp::Rdp;
 use csp_rdp_window::{RECEIVE_PLACES, SEND_PLACES};
 

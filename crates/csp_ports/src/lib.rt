@@ -8,7 +8,6 @@ mod held;
 mod laws;
 mod origin;
 mod owed;
-mod places;
 mod ports;
 mod request;
 mod stalled;

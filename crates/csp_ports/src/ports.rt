@@ -17,12 +17,11 @@ ghost use Rattle.csp_rdp.specs.Placed.{placed};
 ghost use Rattle.csp_socket.specs.Bound.{owner_of};
 
 use crate::owed::Owed;
-use crate::places::{ALL_SLOTS, place};
 use crate::stalled::Stalled;
 use crate::terms::Terms;
 use csp_arena::RegionToken;
-use csp_base::{Addr, Port};
-use csp_conn::{Conns, MAX_APPS, SLOTS, Slot};
+use csp_base::{ALL_SLOTS, Addr, MAX_APPS, Port, SLOTS};
+use csp_conn::{Conns, Slot, place};
 use csp_deck::Note;
 use csp_rdp::Rdp;
 use csp_socket::Sockets;

@@ -26,13 +26,12 @@ ghost use Rattle.csp_rdp.specs.Regions.{AreAllIn};
 ghost use Rattle.csp_rdp_window.specs.Sending.{is_full};
 ghost use Rattle.csp_rdp.specs.declared.answers.Why.TheVariants as machine_why;
 
-use crate::places::place;
 use crate::ports::Ports;
 use crate::stalled::{Stalled, put};
 use crate::terms::Wish;
-use csp_base::MAX_PAYLOAD;
+use csp_base::{MAX_APPS, MAX_PAYLOAD, SLOTS};
 use csp_buffer::Buffer;
-use csp_conn::{MAX_APPS, SLOTS};
+use csp_conn::place;
 use csp_deck::{Discard, Event, Events, Note, Pile, Why};
 use csp_rdp::{
     Change, Rdp, State, Why as MachineWhy, conserves, keeps_region, keeps_rest, keeps_whole,

@@ -21,13 +21,12 @@ ghost use Rattle.csp_rdp.specs.Jobs.{delivering, delivery, job_of};
 ghost use Rattle.csp_rdp.specs.declared.answers.Why.TheVariants as machine_why;
 ghost use Rattle.csp_rdp_window.specs.Receiving.{is_kept};
 
-use crate::places::{ALL_SLOTS, place};
 use crate::ports::Ports;
 use crate::steps::let_go;
 use crate::task::{Task, task_by};
-use csp_base::MAX_PAYLOAD;
+use csp_base::{ALL_SLOTS, MAX_PAYLOAD, SLOTS};
 use csp_buffer::Buffer;
-use csp_conn::SLOTS;
+use csp_conn::place;
 use csp_deck::{Events, Pile};
 use csp_rdp::{
     Change, Job, Rdp, State, conserves, keeps_region, keeps_rest, keeps_whole, sees_no_region,

@@ -7,8 +7,8 @@ ghost use Rattle.csp_ports.specs.Quiet.{any_stranded, any_times_out, is_quiet, i
 ghost use Rattle.csp_ports.specs.Steps.{timed};
 ghost use Rattle.csp_rdp.specs.Holding.{unneeded};
 
-use crate::places::ALL_SLOTS;
 use crate::ports::Ports;
+use csp_base::ALL_SLOTS;
 use csp_rdp::State;
 
 impl Ports {

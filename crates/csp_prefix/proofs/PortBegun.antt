@@ -6,7 +6,7 @@ use Rattle.csp_base.specs.declared.priority.Prio.{Prio}
 use Rattle.csp_conn.specs.Opening.{is_refused, opened, own_port_of}
 use Rattle.csp_conn.specs.PlainConns.{slot_at, with_slot}
 use Rattle.csp_conn.specs.Slots.{between}
-use Rattle.csp_conn.specs.declared.conns.TheConstants.{SLOTS}
+use Rattle.csp_base.specs.declared.limits.TheConstants.{SLOTS}
 use Rattle.csp_conn.specs.declared.slot.Connection.{Connection}
 use Rattle.csp_conn.specs.declared.slot.Slot.{Slot}
 use Rattle.csp_conn.specs.declared.slot.Slot.TheVariants as has

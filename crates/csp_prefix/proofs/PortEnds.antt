@@ -3,7 +3,7 @@ use Rattle.std.specs.Prelude.{Bool, true, false, None}
 use Rattle.std.proofs.Common.{◌≡◌, ℕ, ◌+◌, ◌<◌, ap, refl, sym, subst, ◌∙◌}
 use Rattle.csp_conn.specs.Slots.{is_free}
 use Rattle.csp_conn.specs.PlainConns.{slot_at}
-use Rattle.csp_conn.specs.declared.conns.TheConstants.{SLOTS}
+use Rattle.csp_base.specs.declared.limits.TheConstants.{SLOTS}
 use Rattle.csp_conn.specs.declared.slot.Connection.{Connection}
 use Rattle.csp_conn.specs.declared.slot.Slot.{Slot}
 use Rattle.csp_conn.specs.declared.slot.Slot.TheVariants as has

@@ -4,7 +4,7 @@ use Rattle.std.proofs.Common.{◌≡◌, ◌⊎◌, inl, inr, ℕ, ◌<◌, [], 
 use Rattle.csp_base.specs.declared.traces.Tag.{Tag}
 use Rattle.csp_buffer.specs.Content.{Content}
 use Rattle.csp_buffer.specs.PlainBuffer.{PlainBuffer}
-use Rattle.csp_conn.specs.declared.conns.TheConstants.{SLOTS}
+use Rattle.csp_base.specs.declared.limits.TheConstants.{SLOTS}
 use Rattle.csp_ports.specs.Came.{Came, come, reporting, then}
 use Rattle.csp_ports.specs.Packets.{back_by, handing, handing_event}
 use Rattle.csp_ports.specs.PlainPorts.{PlainPorts, anywhere, machine_at}

@@ -5,7 +5,7 @@ use Rattle.std.proofs.Common.{◌≡◌, ℕ, ◌+◌, ◌*◌, ◌<◌, ◌≤�
 use Rattle.std.proofs.lemmas.Bool.{eq-eqb, eqb-false, eqb-true}
 use Rattle.std.proofs.lemmas.List.{get_or-set_other, get_or-set_same, length-set}
 use Rattle.csp_conn.specs.PlainConns.{place_of, with_slot}
-use Rattle.csp_conn.specs.declared.conns.TheConstants.{MAX_APPS, SLOTS}
+use Rattle.csp_base.specs.declared.limits.TheConstants.{MAX_APPS, SLOTS, ALL_SLOTS}
 use Rattle.csp_conn.specs.declared.slot.Slot.{Slot}
 use Rattle.csp_conn.specs.declared.slot.Slot.TheVariants as has
 use Rattle.csp_deck.specs.Carried.{IsReply}
@@ -14,7 +14,6 @@ use Rattle.csp_log.specs.declared.note.Note.TheVariants as note
 use Rattle.csp_ports.specs.Kept.{IsOwed}
 use Rattle.csp_ports.specs.PlainPorts.{PlainPorts, PlainStalled, fresh, owing, stalled_at, with_machine, with_stalled, with_terms}
 use Rattle.csp_ports.specs.declared.owed.Owed.{Owed}
-use Rattle.csp_ports.specs.declared.places.TheConstants.{ALL_SLOTS}
 use Rattle.csp_ports.specs.declared.terms.Terms.{Terms}
 use Rattle.csp_ports.specs.declared.terms.Wish.TheVariants as wish
 use Rattle.csp_rdp.specs.Machine.{PlainRdp, idle}

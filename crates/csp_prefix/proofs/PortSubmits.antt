@@ -3,7 +3,7 @@ use Rattle.std.specs.Prelude.{Bool, true, false, None, Option, Some, if◌then�
 use Rattle.std.proofs.Common.{◌≡◌, ◌≢◌, ℕ, ◌<◌, List, [], ◌∷◌, ◌++◌, ap, refl, sym, subst}
 use Rattle.std.proofs.lemmas.Bool.{eq-eqb}
 use Rattle.csp_buffer.specs.Content.{Content}
-use Rattle.csp_conn.specs.declared.conns.TheConstants.{SLOTS}
+use Rattle.csp_base.specs.declared.limits.TheConstants.{SLOTS}
 use Rattle.csp_log.specs.declared.event.Discard.TheVariants as why
 use Rattle.csp_log.specs.declared.event.Event.TheVariants as event
 use Rattle.csp_ports.specs.Packets.{admitting_by, submitting, submitting_in}

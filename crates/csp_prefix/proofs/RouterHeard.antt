@@ -11,7 +11,7 @@ use Rattle.csp_buffer.specs.Content.{Content}
 use Rattle.csp_conn.specs.Opening.{first_free, found}
 use Rattle.csp_conn.specs.PlainConns.{PlainConns, place_of, slot_at, slots_of}
 use Rattle.csp_conn.specs.Slots.{is_between, is_free}
-use Rattle.csp_conn.specs.declared.conns.TheConstants.{SLOTS}
+use Rattle.csp_base.specs.declared.limits.TheConstants.{SLOTS}
 use Rattle.csp_conn.specs.declared.slot.Connection.{Connection}
 use Rattle.csp_conn.specs.declared.slot.Slot.{Slot}
 use Rattle.csp_conn.specs.declared.slot.Slot.TheVariants as has

@@ -4,7 +4,7 @@ use Rattle.std.specs.Prelude.{⊤}
 use Rattle.std.specs.List.{AllByRecursion, slice_get}
 use Rattle.std.proofs.lemmas.List.{append-nil}
 use Rattle.csp_buffer.specs.Content.{Content}
-use Rattle.csp_conn.specs.declared.conns.TheConstants.{MAX_APPS, SLOTS}
+use Rattle.csp_base.specs.declared.limits.TheConstants.{MAX_APPS, SLOTS}
 use Rattle.csp_log.specs.declared.entry.Entry.{Entry}
 use Rattle.csp_log.specs.declared.places.QueueId.TheVariants as queue
 use Rattle.csp_log.specs.declared.shown.AnswerShown.{AnswerShown}

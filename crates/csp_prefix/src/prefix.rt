@@ -2,7 +2,7 @@
 
 ghost use Rattle.csp_consistent.specs.Consistent.{IsConsistent};
 ghost use Rattle.csp_prefix.specs.Prefix.{IsOpened, IsReliablePrefix};
-ghost use Rattle.csp_conn.specs.declared.conns.TheConstants.{SLOTS};
+ghost use Rattle.csp_base.specs.declared.limits.TheConstants.{SLOTS};
 ghost use Rattle.csp_record.specs.declared.connections.Opening.{Opening};
 ghost use Rattle.csp_scene.specs.Links.{node_at};
 ghost use Rattle.csp_record.specs.Passed.{passed};

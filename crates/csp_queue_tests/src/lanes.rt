@@ -3,7 +3,7 @@
 ghost use Rattle.std.specs.Prelude.{◌≡◌, ◌+◌, ◌<◌, ◌≤◌, IfOk, None, vec_len, vec_capacity};
 ghost use Rattle.csp_lane.specs.Ends.{IsEndOf};
 ghost use Rattle.csp_log.specs.declared.places.Carries.TheVariants.{Up};
-ghost use Rattle.csp_log.specs.declared.places.TheConstants.{SLOTS};
+ghost use Rattle.csp_base.specs.declared.limits.TheConstants.{SLOTS};
 
 use csp_arena::{Region, RegionToken};
 use csp_deck::{Carries, Item, Note};

@@ -1,6 +1,6 @@
 -- The connections of a record of which a report tells, and what has to hold of them that what it tells is a reliable prefix.
 use Rattle.std.specs.Prelude.{ℕ, ◌≡◌, ◌<◌, ◌^◌, Some, List, [], ◌++◌, slice_get, IfSome}
-use Rattle.csp_log.specs.declared.places.TheConstants.{SLOTS}
+use Rattle.csp_base.specs.declared.limits.TheConstants.{SLOTS}
 use Rattle.csp_scene.specs.Scene.{PlainNode, PlainApp}
 use Rattle.csp_record.specs.Connections.{openings}
 use Rattle.csp_record.specs.Payloads.{sent, took}

@@ -15,9 +15,10 @@ ghost use Rattle.csp_report.specs.Report.{state_line, app_lines, node_app_lines}
 use crate::conns::push_conns;
 use crate::lines::{begin_line, end_line, push_count, push_counted, push_word};
 use crate::parties::party_at;
+use csp_base::MAX_APPS;
 use csp_log::{Event, Log, Why};
 use csp_record::{PartyLog, Record, Who};
-use csp_scene::{MAX_APPS, MAX_NODES, SceneApp, SceneNode};
+use csp_scene::{MAX_NODES, SceneApp, SceneNode};
 use std::alloc::{AllocError, Global};
 
 /// The node of an application: its name, its router, and all nodes, by which a peer's node has its name.

@@ -15,7 +15,8 @@ use Rattle.csp_log.specs.declared.places.LinkKind.{LinkKind}
 use Rattle.csp_rdp_header.specs.declared.options.Options.{Options}
 use Rattle.csp_route.specs.Routes.{Routes, IsWithin}
 use Rattle.csp_text.specs.Names.{is_name}
-use Rattle.csp_scene.specs.declared.limits.TheConstants.{MAX_UNTIL, MAX_NODES, MAX_LINKS, MAX_APPS, MAX_STEPS, MAX_FAULTS}
+use Rattle.csp_base.specs.declared.limits.TheConstants.{MAX_APPS}
+use Rattle.csp_scene.specs.declared.limits.TheConstants.{MAX_UNTIL, MAX_NODES, MAX_LINKS, MAX_STEPS, MAX_FAULTS}
 use Rattle.csp_scene.specs.Scene.{PlainApp, PlainNode, PlainLink, PlainSchedule}
 use Rattle.csp_scene.specs.Links.{links_at, node_at, fault_count}
 use Rattle.csp_scene.specs.Sharing.{excludes}

@@ -5,7 +5,8 @@ use Rattle.std.specs.Option.{unwrap_or}
 use Rattle.std.specs.FinMap as finite
 use Rattle.csp_app.specs.PlainStep.{PlainStep}
 use Rattle.csp_rdp_header.specs.Options.{usual_options}
-use Rattle.csp_scene.specs.declared.limits.TheConstants.{MAX_NODES, MAX_APPS, MAX_STEPS, DEFAULT_SEED, DEFAULT_INBOX}
+use Rattle.csp_base.specs.declared.limits.TheConstants.{MAX_APPS}
+use Rattle.csp_scene.specs.declared.limits.TheConstants.{MAX_NODES, MAX_STEPS, DEFAULT_SEED, DEFAULT_INBOX}
 use Rattle.csp_scene.specs.declared.table.Keyword.TheVariants as keyword
 use Rattle.csp_scene.specs.declared.table.Part.{Part}
 use Rattle.csp_scene.specs.declared.refusal.SceneKind.{SceneKind}

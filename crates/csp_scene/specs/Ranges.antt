@@ -4,21 +4,22 @@ use Rattle.std.specs.List.{All, AllByRecursion}
 use Rattle.std.specs.FinMap as finite
 use Rattle.csp_app.specs.PlainStep.{PlainStep}
 use Rattle.csp_app.specs.PlainStep as step
-use Rattle.csp_base.specs.declared.limits.TheConstants.{MAX_BUFFERS, MAX_PAYLOAD}
+use Rattle.csp_base.specs.declared.limits.TheConstants.{MAX_BUFFERS, MAX_PAYLOAD, SLOTS, MAX_APPS}
 use Rattle.csp_link.specs.Fates.{IsFault}
 use Rattle.csp_link.specs.declared.fault.Fault.{Fault}
 use Rattle.csp_link.specs.declared.fault.FaultKind.{FaultKind}
 use Rattle.csp_link.specs.declared.fault.FaultKind.TheVariants as fault
 use Rattle.csp_link.specs.declared.fault.TheConstants.{MAX_REPEATS}
 use Rattle.csp_log.specs.declared.places.LinkKind.TheVariants as carried
-use Rattle.csp_log.specs.declared.places.TheConstants.{MAX_DATA, SLOTS}
+use Rattle.csp_log.specs.declared.places.TheConstants.{MAX_DATA}
 use Rattle.csp_rdp_header.specs.declared.options.Options.{Options}
 use Rattle.csp_rdp_header.specs.declared.options.TheConstants.{MAX_WINDOW}
 use Rattle.csp_route.specs.Routes.{IsWithin}
 use Rattle.csp_sfp.specs.declared.pieces.TheConstants.{MAX_SIZE}
 use Rattle.csp_sfp.specs.declared.trailer.TheConstants.{MAX_BLOB}
 use Rattle.csp_text.specs.Names.{is_name}
-use Rattle.csp_scene.specs.declared.limits.TheConstants.{MAX_UNTIL, MAX_ADDR, MAX_NODES, MAX_LINKS, BRIDGE_LINKS, MAX_APPS, MAX_STEPS, MIN_BUFFERS, MAX_SEED, MIN_INBOX, MAX_INBOX, MAX_PORT, FIRST_OWN_PORT, MAX_DEST, CRC_FLAG, RDP_FLAG, FRAG_FLAG, MAX_COUNT, MAX_ROUNDS, MAX_FAULTS, LAST_FRAME, MAX_DELAY, MAX_FLIP, MAX_SHUFFLE, MAX_OPTION, MIN_MTU, MAX_MTU, DEFAULT_MTU, MAX_HUB_NODES}
+use Rattle.csp_base.specs.declared.ports.TheConstants.{FIRST_OWN_PORT}
+use Rattle.csp_scene.specs.declared.limits.TheConstants.{MAX_UNTIL, MAX_ADDR, MAX_NODES, MAX_LINKS, BRIDGE_LINKS, MAX_STEPS, MIN_BUFFERS, MAX_SEED, MIN_INBOX, MAX_INBOX, MAX_PORT, MAX_DEST, CRC_FLAG, RDP_FLAG, FRAG_FLAG, MAX_COUNT, MAX_ROUNDS, MAX_FAULTS, LAST_FRAME, MAX_DELAY, MAX_FLIP, MAX_SHUFFLE, MAX_OPTION, MIN_MTU, MAX_MTU, DEFAULT_MTU, MAX_HUB_NODES}
 use Rattle.csp_log.specs.declared.places.End.{End}
 use Rattle.csp_log.specs.declared.who.Who.{Who}
 use Rattle.csp_log.specs.declared.who.Who.TheVariants as who

@@ -1,6 +1,7 @@
 -- The line forms of the scenario language, a row each.
 use Rattle.std.specs.Prelude.{ℕ, Bool, true, false, not, List, [], ◌∷◌, ◌++◌, codes}
-use Rattle.csp_scene.specs.declared.limits.TheConstants.{MAX_UNTIL, MAX_SHUFFLE, MAX_ADDR, MIN_BUFFERS, MAX_SEED, MIN_INBOX, MAX_INBOX, LAST_FRAME, MAX_COPIES, MAX_DELAY, MAX_FLIP, MAX_SLOT, MAX_PORT, FIRST_OWN_PORT, MAX_DEST, MAX_PRIO, MAX_COUNT, MAX_ROUNDS, MAX_SEND, MAX_RAW, MAX_OPTION, MIN_MTU, MAX_MTU}
+use Rattle.csp_base.specs.declared.ports.TheConstants.{FIRST_OWN_PORT}
+use Rattle.csp_scene.specs.declared.limits.TheConstants.{MAX_UNTIL, MAX_SHUFFLE, MAX_ADDR, MIN_BUFFERS, MAX_SEED, MIN_INBOX, MAX_INBOX, LAST_FRAME, MAX_COPIES, MAX_DELAY, MAX_FLIP, MAX_SLOT, MAX_PORT, MAX_DEST, MAX_PRIO, MAX_COUNT, MAX_ROUNDS, MAX_SEND, MAX_RAW, MAX_OPTION, MIN_MTU, MAX_MTU}
 use Rattle.csp_base.specs.declared.limits.TheConstants.{MAX_BUFFERS}
 use Rattle.csp_rdp_header.specs.declared.options.TheConstants.{MAX_WINDOW}
 use Rattle.csp_sfp.specs.declared.pieces.TheConstants.{MAX_SIZE}

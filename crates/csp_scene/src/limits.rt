@@ -1,8 +1,9 @@
 //! How many of each thing a scenario may have, and which numbers its lines may give.
 
-use csp_base::{MAX_FRAME, MAX_PAYLOAD};
+use csp_base::{MAX_FRAME, MAX_PAYLOAD, SLOTS};
+use csp_header::FlagSet;
 use csp_link::MAX_REPEATS;
-use csp_log::{LINK_ENDS, MAX_DATA, SLOTS};
+use csp_log::{LINK_ENDS, MAX_DATA};
 
 /// The most bytes that a line has.
 pub const MAX_LINE: usize = 8192;
@@ -52,9 +53,6 @@ pub const MAX_FLIP: u32 = MAX_FRAME as u32 * 8 - 1;
 /// The greatest seed of a schedule whose turns are drawn.
 pub const MAX_SHUFFLE: u32 = 4_294_967_295;
 
-/// The most applications of a node.
-pub const MAX_APPS: usize = 4;
-
 /// The most steps of an application.
 pub const MAX_STEPS: usize = 1000;
 
@@ -86,9 +84,6 @@ pub const MAX_SLOT: u32 = SLOTS as u32 - 1;
 /// The greatest port.
 pub const MAX_PORT: u32 = 63;
 
-/// The least port that a connection may have as its own; the most is `MAX_PORT`.
-pub const FIRST_OWN_PORT: u32 = 48;
-
 /// The greatest address that a connection may lead to: that of all nodes.
 pub const MAX_DEST: u32 = MAX_ADDR + 1;
 
@@ -99,13 +94,13 @@ pub const MAX_PRIO: u32 = 3;
 pub const DEFAULT_PRIO: u32 = 2;
 
 /// The header's flag of a checksum at the payload's end.
-pub const CRC_FLAG: u8 = 0x01;
+pub const CRC_FLAG: u8 = FlagSet::CRC32.0;
 
 /// The header's flag of the reliable transport.
-pub const RDP_FLAG: u8 = 0x02;
+pub const RDP_FLAG: u8 = FlagSet::RDP.0;
 
 /// The header's flag of a packet that is a piece of a blob.
-pub const FRAG_FLAG: u8 = 0x10;
+pub const FRAG_FLAG: u8 = FlagSet::FRAG.0;
 
 /// The most packets that a step may send, and the most packets or blobs that it may wait for.
 pub const MAX_COUNT: u32 = 32_767;

@@ -15,7 +15,7 @@ ghost use Rattle.csp_scene.specs.Kept.{IsDraft, Fits, FitsShape, Judged};
 
 use crate::arguments::{bytes_at, name_at, number_at, setting};
 use crate::draft::{Draft, LineError};
-use crate::limits::{DEFAULT_INBOX, DEFAULT_SEED, MAX_APPS, MAX_NODES, MAX_STEPS};
+use crate::limits::{DEFAULT_INBOX, DEFAULT_SEED, MAX_NODES, MAX_STEPS};
 use crate::links::LinkDraft;
 use crate::naming::{is_addr_taken, is_called, is_link_name, is_name_taken, router_named};
 use crate::refusal::SceneKind;
@@ -24,7 +24,7 @@ use crate::sharing::is_excluded;
 use crate::steps::{raw_step, send_step};
 use crate::table::{Form, Keyword, Part};
 use csp_app::{Script, Step};
-use csp_base::{Addr, Name};
+use csp_base::{Addr, MAX_APPS, Name};
 use csp_rdp_header::Options;
 use csp_route::Table;
 use std::alloc::Global;

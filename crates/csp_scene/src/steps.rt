@@ -72,12 +72,7 @@ fn prio_of(number: u32) -> Prio
     requires { number ≤ MAX_PRIO }
     ensures { result ≡ prio_of number }
 {
-    match number {
-        0 => Prio::Critical,
-        1 => Prio::High,
-        2 => Prio::Normal,
-        _ => Prio::Low,
-    }
+    Prio::new(number as u8).unwrap()
 }
 
 /// The priority that a line gives.

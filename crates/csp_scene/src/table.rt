@@ -4,11 +4,11 @@ ghost use Rattle.std.specs.Prelude.{◌≡◌, ◌++◌, List, IfOk, OnOk, map};
 ghost use Rattle.csp_scene.specs.Table.{first_word, keyword_text, is_step, is_fault, is_hub_fault, suits, fixed_of, optional_of, group_of, with_options};
 
 use crate::limits::{
-    FIRST_OWN_PORT, LAST_FRAME, MAX_ADDR, MAX_COPIES, MAX_COUNT, MAX_DELAY, MAX_DEST, MAX_FLIP,
-    MAX_INBOX, MAX_MTU, MAX_OPTION, MAX_PORT, MAX_PRIO, MAX_RAW, MAX_ROUNDS, MAX_SEED, MAX_SEND,
-    MAX_SHUFFLE, MAX_SLOT, MAX_UNTIL, MIN_BUFFERS, MIN_INBOX, MIN_MTU,
+    LAST_FRAME, MAX_ADDR, MAX_COPIES, MAX_COUNT, MAX_DELAY, MAX_DEST, MAX_FLIP, MAX_INBOX, MAX_MTU,
+    MAX_OPTION, MAX_PORT, MAX_PRIO, MAX_RAW, MAX_ROUNDS, MAX_SEED, MAX_SEND, MAX_SHUFFLE, MAX_SLOT,
+    MAX_UNTIL, MIN_BUFFERS, MIN_INBOX, MIN_MTU,
 };
-use csp_base::MAX_BUFFERS;
+use csp_base::{FIRST_OWN_PORT, MAX_BUFFERS};
 use csp_rdp_header::MAX_WINDOW;
 use csp_sfp::{MAX_BLOB, MAX_SIZE};
 use std::alloc::{AllocError, Global};
@@ -461,7 +461,7 @@ static CONNECT_OPTIONS: [Group; 5] = [
     Group::Flag(Keyword::Frag),
     Group::Setting {
         keyword: Keyword::From,
-        low: FIRST_OWN_PORT,
+        low: FIRST_OWN_PORT as u32,
         high: MAX_PORT,
     },
 ];

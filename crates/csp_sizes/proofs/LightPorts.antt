@@ -9,7 +9,7 @@ use Rattle.csp_buffer.specs.PlainBuffer.{PlainBuffer}
 use Rattle.csp_conn.specs.Opening.{is_refused, own_port_of}
 use Rattle.csp_conn.specs.PlainConns.{place_of, slot_at}
 use Rattle.csp_conn.specs.Slots.{is_free}
-use Rattle.csp_conn.specs.declared.conns.TheConstants.{MAX_APPS, SLOTS}
+use Rattle.csp_base.specs.declared.limits.TheConstants.{MAX_APPS, SLOTS, ALL_SLOTS}
 use Rattle.csp_conn.specs.declared.slot.Connection.{Connection}
 use Rattle.csp_conn.specs.declared.slot.Slot.TheVariants.{Free, Held, Open as Opened}
 use Rattle.csp_conn.specs.declared.slot.Slot.{Slot}
@@ -25,7 +25,6 @@ use Rattle.csp_ports.specs.Tasks.{delivered, kept_again, made_in, making, withou
 use Rattle.csp_ports.specs.declared.handing.Invitation.{Invitation}
 use Rattle.csp_ports.specs.declared.origin.Origin.{Origin}
 use Rattle.csp_ports.specs.declared.owed.Owed.{Owed}
-use Rattle.csp_ports.specs.declared.places.TheConstants.{ALL_SLOTS}
 use Rattle.csp_ports.specs.declared.request.Request.{Request}
 use Rattle.csp_ports.specs.declared.terms.Wish.TheVariants as wish
 use Rattle.csp_ports.specs.declared.terms.Wish.{Wish}

@@ -1,7 +1,7 @@
 -- the router of a node before its first turn
 use Rattle.std.specs.Prelude.{ℕ, ◌≤◌, [], None, length}
 use Rattle.csp_arena.specs.Cells.{RegionName}
-use Rattle.csp_conn.specs.declared.conns.TheConstants.{MAX_APPS}
+use Rattle.csp_base.specs.declared.limits.TheConstants.{MAX_APPS}
 use Rattle.csp_route.specs.Routes.{Routes, IsWithin}
 use Rattle.csp_service.specs.Facts.{new_services}
 use Rattle.csp_ports.specs.PlainPorts.{ports_of}

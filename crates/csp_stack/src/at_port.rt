@@ -20,7 +20,8 @@ use crate::packet::Packet;
 use crate::readings::{are_flags_reliable, is_packet_lacking, is_packet_reliable};
 use crate::services::judge_service;
 use crate::state::State;
-use csp_deck::{Discard, Event, Events, SLOTS};
+use csp_base::SLOTS;
+use csp_deck::{Discard, Event, Events};
 
 /// The first of the rules from the fourth on that decides.
 pub fn hear_at_port(facts: &Facts, state: &mut State, now: u64, packet: Packet, report: &mut Events)

@@ -5,11 +5,8 @@ ghost use Rattle.csp_ports.specs.Asking.{is_reliable};
 ghost use Rattle.csp_stack.specs.Readings.{is_checked, is_here, is_secured, lacks};
 
 use bitflags::Flags;
-use csp_base::Addr;
+use csp_base::{Addr, BROADCAST};
 use csp_header::{FlagSet, Header};
-
-/// The address of broadcast, which is every node's.
-const BROADCAST: u8 = 31;
 
 /// Whether a packet is for the node of this address: by its own address, or by broadcast.
 pub fn is_packet_here(addr: Addr, header: &Header) -> bool

@@ -17,9 +17,8 @@ ghost use Rattle.csp_stack.specs.Told.{absorbed, discarded, leaving, spent, unch
 
 use crate::{Outgoing, Plan};
 use csp_arena::RegionToken;
-use csp_base::Addr;
+use csp_base::{Addr, MAX_APPS};
 use csp_buffer::Buffer;
-use csp_conn::MAX_APPS;
 use csp_deck::{Answer, Discard, Event, Events, Item, Pile};
 use csp_ports::{MAX_HELD, Ports};
 use csp_route::{Row, Table};

@@ -11,7 +11,8 @@ use Rattle.csp_log.specs.declared.places.LinkKind.TheVariants as link
 use Rattle.csp_scene.specs.Links.{links_at}
 use Rattle.csp_scene.specs.Ranges.{HasEnds, IsNode, IsScene}
 use Rattle.csp_scene.specs.Scene.{PlainApp, PlainLink, PlainNode, PlainScene}
-use Rattle.csp_scene.specs.declared.limits.TheConstants.{DEFAULT_MTU, MAX_APPS, MAX_LINKS}
+use Rattle.csp_base.specs.declared.limits.TheConstants.{MAX_APPS}
+use Rattle.csp_scene.specs.declared.limits.TheConstants.{DEFAULT_MTU, MAX_LINKS}
 use Rattle.csp_topology.proofs.PlanLemmas.{links_few}
 use Rattle.csp_topology.specs.Parties.{PlainOpening, apps_from, heeded, iface_on, ifaces_from, links_from, parties_at, parties_from, parties_of}
 use Rattle.csp_topology.specs.declared.topology.TheConstants.{MAX_PARTIES}

@@ -5,7 +5,8 @@ use Rattle.csp_lists.specs.PlainDeck.{IsLinkRule}
 use Rattle.csp_log.specs.declared.places.Carries.{Carries}
 use Rattle.csp_scene.specs.Links.{links_at}
 use Rattle.csp_scene.specs.Scene.{PlainNode, PlainLink}
-use Rattle.csp_scene.specs.declared.limits.TheConstants.{MAX_APPS, MAX_LINKS}
+use Rattle.csp_base.specs.declared.limits.TheConstants.{MAX_APPS}
+use Rattle.csp_scene.specs.declared.limits.TheConstants.{MAX_LINKS}
 
 -- of a node: how many buffers its pool has, the room of its inbox for each priority, how many applications it has, and what the link of each of its
 -- interfaces carries

@@ -15,8 +15,9 @@ use crate::plan::{NodePlan, plans_of};
 use crate::wire::Wire;
 use crate::wiring::wires_of;
 use arrayvec::ArrayVec;
+use csp_base::MAX_APPS;
 use csp_log::{End, LINK_ENDS};
-use csp_scene::{MAX_APPS, MAX_LINKS, MAX_NODES, Scene, SceneLink};
+use csp_scene::{MAX_LINKS, MAX_NODES, Scene, SceneLink};
 use std::alloc::{AllocError, Global};
 
 /// No scene has more parties: a node has its router or is a bridge, and has at most one interface for each

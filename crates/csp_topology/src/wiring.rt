@@ -11,7 +11,7 @@ use crate::joint::{Joint, joints_at, joints_of};
 use crate::topology::MAX_PARTIES;
 use crate::wire::{Spots, Wire};
 use csp_record::Who;
-use csp_scene::{MAX_APPS, MAX_LINKS, MAX_NODES, SceneLink, SceneNode};
+use csp_scene::{MAX_LINKS, MAX_NODES, SceneLink, SceneNode};
 use std::alloc::{AllocError, Global};
 
 /// The lanes of all nodes, in their order, where the links are the last parties, from this place on.

@@ -1,5 +1,6 @@
 use Rattle.std.proofs.Common.{◌≡◌, ◌≤◌, ◌+◌, ◌*◌, ◌++◌, drop, map}
-use Rattle.csp_scene.specs.declared.limits.TheConstants.{MAX_APPS, MAX_LINKS}
+use Rattle.csp_base.specs.declared.limits.TheConstants.{MAX_APPS}
+use Rattle.csp_scene.specs.declared.limits.TheConstants.{MAX_LINKS}
 use Rattle.csp_topology.proofs.wiring.wires_of.Given as goal
 use Rattle.csp_topology.specs.Wires.{joints_from}
 use Rattle.csp_topology.specs.Wiring.{wired_from}

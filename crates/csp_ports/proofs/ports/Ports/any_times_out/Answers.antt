@@ -1,5 +1,5 @@
 use Rattle.std.proofs.Common.{◌*◌, sym, ◌∙◌}
-use Rattle.csp_conn.specs.declared.conns.TheConstants.{SLOTS}
+use Rattle.csp_base.specs.declared.limits.TheConstants.{SLOTS}
 use Rattle.csp_ports.proofs.Stilling.{passed}
 use Rattle.csp_ports.specs.Quiet.{times_out_at}
 use Rattle.csp_ports.proofs.ports.Ports.any_times_out.Goals as goal

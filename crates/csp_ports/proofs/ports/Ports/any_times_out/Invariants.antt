@@ -1,6 +1,6 @@
 use Rattle.std.proofs.Common.{◌≡◌, ◌-◌, ◌*◌}
 use Rattle.std.specs.List.{list_any, range_with_len}
-use Rattle.csp_conn.specs.declared.conns.TheConstants.{SLOTS}
+use Rattle.csp_base.specs.declared.limits.TheConstants.{SLOTS}
 use Rattle.csp_ports.specs.Quiet.{any_times_out, times_out_at}
 use Rattle.csp_ports.proofs.ports.Ports.any_times_out.Given as goal
 

@@ -1,6 +1,6 @@
 use Rattle.std.proofs.Common.{[], ◌*◌}
 use Rattle.std.specs.List.{range_with_len}
-use Rattle.csp_conn.specs.declared.conns.TheConstants.{SLOTS}
+use Rattle.csp_base.specs.declared.limits.TheConstants.{SLOTS}
 use Rattle.csp_ports.proofs.Conserving.{flows_timed}
 use Rattle.csp_ports.proofs.Flowing.{keeps_of}
 use Rattle.csp_ports.proofs.Following.{then_comes}

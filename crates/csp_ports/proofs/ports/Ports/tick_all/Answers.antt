@@ -1,6 +1,6 @@
 use Rattle.std.proofs.Common.{ℕ, ◌+◌, ◌-◌, ◌*◌, ◌/◌, ◌%◌, subst, sym, ◌∙◌}
 use Rattle.std.specs.List.{range_with_len}
-use Rattle.csp_conn.specs.declared.conns.TheConstants.{SLOTS}
+use Rattle.csp_base.specs.declared.limits.TheConstants.{SLOTS}
 use Rattle.csp_ports.proofs.Following.{range_next, then_comes}
 use Rattle.csp_ports.specs.Came.{Comes}
 use Rattle.csp_ports.specs.Steps.{timed_at, timed_in}

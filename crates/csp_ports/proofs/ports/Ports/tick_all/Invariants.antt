@@ -1,6 +1,6 @@
 use Rattle.std.proofs.Common.{◌≡◌, ◌-◌, ◌*◌, List, []}
 use Rattle.std.specs.List.{range_with_len}
-use Rattle.csp_conn.specs.declared.conns.TheConstants.{SLOTS}
+use Rattle.csp_base.specs.declared.limits.TheConstants.{SLOTS}
 use Rattle.csp_deck.specs.Keeping.{PlainPile}
 use Rattle.csp_log.specs.declared.event.Event.{Event}
 use Rattle.csp_ports.specs.Came.{Comes}
