@@ -1,9 +1,10 @@
-pub mod Blobs
-pub mod Bursts
-pub mod Collectors
-pub mod Counting
-pub mod Hearing
+mod Blobs
+mod Bursts
+mod Collectors
+mod Counting
+mod Hearing
+mod StepLaws
+mod Popping
+mod Scripts
+mod Takes
 pub mod Laws
-pub mod Popping
-pub mod Scripts
-pub mod Takes

@@ -1,6 +1,6 @@
-pub mod Steps
-pub mod Strips
-pub mod Shells
-pub mod Lodged
-pub mod Order
-pub mod Sorted
+mod Steps
+mod Strips
+mod Shells
+mod Lodged
+mod Order
+mod Sorted

@@ -1,4 +1,5 @@
-pub mod PriorityLaws
-pub mod SequenceLaws
-pub mod MemoryLemmas
-pub mod TransferLemmas
+mod PriorityLaws
+mod SequenceLaws
+mod MemoryLemmas
+mod TransferLemmas
+pub mod Laws

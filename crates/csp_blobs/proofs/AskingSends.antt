@@ -32,13 +32,7 @@ use Rattle.csp_ports.specs.Asking.{is_reliable}
 use Rattle.csp_ports.specs.Packets.{submitting_in}
 use Rattle.csp_ports.specs.PlainPorts.{machine_at, terms_at}
 use Rattle.csp_ports.specs.Steps.{timed as ports_timed}
-use Rattle.csp_prefix.proofs.MachineOpens.{IsEarly}
-use Rattle.csp_prefix.proofs.MachineSender.{sender-kept}
-use Rattle.csp_prefix.proofs.RouterBooks.{IsAmong, Past, among_more, no_past, with_openings}
-use Rattle.csp_prefix.proofs.RouterRun.{past_of, past_with}
-use Rattle.csp_prefix.proofs.RouterStanding.{Stands}
-use Rattle.csp_prefix.proofs.RouterTrue.{opening_stands, past, past_sent}
-use Rattle.csp_prefix.proofs.RouterTurn.{stands_timed}
+use Rattle.csp_prefix.proofs.Laws.{IsEarly, sender-kept, IsAmong, Past, among_more, no_past, with_openings, past_of, past_with, Stands, opening_stands, past, past_sent, stands_timed, told_since, TellsAt, entry_tells, events_are, packet_tells, timed_tells, timed_unsent}
 use Rattle.csp_prefix.specs.Machines.{IsSender}
 use Rattle.csp_prefix.specs.Ports.{IsInUse, IsSlot, now_at}
 use Rattle.csp_prefix.specs.Prefix.{IsBeginning}
@@ -51,7 +45,7 @@ use Rattle.csp_record.specs.Ordinals.{frees, ordinal_at}
 use Rattle.csp_record.specs.Payloads.{carried, is_on, sent, told_on}
 use Rattle.csp_record.specs.declared.connections.Opening.{Opening}
 use Rattle.csp_record.specs.declared.payloads.Way.TheVariants as way
-use Rattle.csp_record.proofs.Ordinals.{Ends}
+use Rattle.csp_record.proofs.Laws.{Ends}
 use Rattle.csp_stack.specs.Config.{opening_state}
 use Rattle.csp_stack.specs.Router.{Facts, Leaving, State, at_rest, origin_of}
 use Rattle.csp_stack.specs.Rules.{by_mark, by_slot, on_connection, served}
@@ -63,10 +57,8 @@ use Rattle.csp_ports.specs.declared.terms.Terms.{Terms}
 use Rattle.csp_buffer.specs.PlainBuffer.{PlainBuffer}
 use Rattle.csp_blobs.specs.Asking.{SendWhatComes}
 use Rattle.csp_blobs.specs.Sending.{payload_on, pushed_on}
-use Rattle.csp_prefix.proofs.RouterKnown.{told_since}
-use Rattle.csp_prefix.proofs.RouterTells.{Tells, entry_tells, events_are, packet_tells, timed_tells, timed_unsent}
-use Rattle.csp_scene.proofs.Lists.{AllByRecursion-append}
-use Rattle.csp_consistent.proofs.Each.{each_at}
+use Rattle.csp_scene.proofs.Laws.{AllByRecursion-append}
+use Rattle.csp_consistent.proofs.Laws.{each_at}
 use Rattle.csp_blobs.proofs.AskingTurns.{IsEnded, IsToldOf, ended_said, ends_so, opening_of, over_aim, senders, senders_aim, told_of, turns, turns_on, used_on}
 
 -- ---- a turn that pops from an application
@@ -458,7 +450,7 @@ nothing_sent f e h s app slot at nth peer step w few low there =
     let early : List Event = (ports_timed e.time s.ports).events in
     let v = stands_timed (senders f) f h (senders_aim f h) h s e.time w in
     let tells = entry_tells (record { facts = f; state = s }) e step in
-    let was : IsEarly (machine_at t.ports app slot).state = not_plain (each_at (Tells f t.ports e.op e.answer) e.events.items at (event.Opened app slot (Some nth) peer) tells there) in
+    let was : IsEarly (machine_at t.ports app slot).state = not_plain (each_at (TellsAt f t.ports e.op e.answer) e.events.items at (event.Opened app slot (Some nth) peer) tells there) in
     let n : Now = now_at t.ports v.books app slot in
     let is : n.book ≡ blank = slot_blank f v.numbering app slot n was (slot_at t.ports.conns app slot) (terms_at t.ports app slot) (v.good.slots app slot (subst (λ k. app < k) (sym v.apps) few) low) in
     let before : h.sent app slot (h.ends app slot) ≡ [] = sym (v.tells.sent app slot) ∙ ap (λ (b : Book). b.sent) is in

@@ -50,7 +50,7 @@ impl Bridge {
     }
 
     /// Whether it holds the buffer of this number.
-    #[tactic(auto, using(crate::proofs::Laws::holds_times))]
+    #[tactic(auto, using(crate::proofs::StepLaws::holds_times))]
     pub fn holds(&self, number: u16) -> bool
         ensures { IsTrue result ↔ (0 < times number (holds self.now.bridge)) }
     {

@@ -46,7 +46,7 @@ impl Bridge {
     }
 
     /// The operation of this turn, whose buffer leaves the bridge.
-    #[tactic(auto, using(crate::proofs::Laws::out_carried))]
+    #[tactic(auto, using(crate::proofs::StepLaws::out_carried))]
     pub(crate) fn ask_now(&mut self) -> Op
         ensures op { shown_op result ≡ asks self.old.bridge }
         ensures of_it { IsOpOf self.old.region result }

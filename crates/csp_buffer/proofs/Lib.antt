@@ -1,2 +1,2 @@
-pub mod Memories
-pub mod Overwriting
+mod Memories
+mod Overwriting

@@ -1,10 +1,11 @@
-pub mod CutLemmas
-pub mod Places
-pub mod Growing
-pub mod Counted
-pub mod Sound
-pub mod Feeding
-pub mod Whole
-pub mod Mapping
-pub mod Own
-pub mod Going
+mod CutLemmas
+mod Places
+mod Growing
+mod Counted
+mod Sound
+mod Feeding
+mod Whole
+mod Mapping
+mod Own
+mod Going
+pub mod Laws

@@ -1,16 +1,16 @@
-pub mod Closed
-pub mod Ended
-pub mod Ending
-pub mod Fabric
-pub mod Gathering
-pub mod Handing
-pub mod Leading
-pub mod Lists
-pub mod Members
-pub mod Nodes
-pub mod Noted
-pub mod Parting
-pub mod Piles
-pub mod Remains
-pub mod Sides
-pub mod Timing
+mod Closed
+mod Ended
+mod Ending
+mod Fabric
+mod Gathering
+mod Handing
+mod Leading
+mod Lists
+mod Members
+mod Nodes
+mod Noted
+mod Parting
+mod Piles
+mod Remains
+mod Sides
+mod Timing

@@ -1,2 +1,3 @@
-pub mod Ports
-pub mod Found
+mod Ports
+mod Found
+pub mod Laws

@@ -1,14 +1,15 @@
-pub mod Across
-pub mod AppQueues
-pub mod Beyond
-pub mod Each
-pub mod Heard
-pub mod IfaceQueues
-pub mod Names
-pub mod OwnQueues
-pub mod Owners
-pub mod Planned
-pub mod QueueNames
-pub mod Received
-pub mod RouterQueues
-pub mod Transmitted
+mod Across
+mod AppQueues
+mod Beyond
+mod Each
+mod Heard
+mod IfaceQueues
+mod Names
+mod OwnQueues
+mod Owners
+mod Planned
+mod QueueNames
+mod Received
+mod RouterQueues
+mod Transmitted
+pub mod Laws

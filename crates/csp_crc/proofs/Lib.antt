@@ -1,6 +1,7 @@
-pub mod Numbers
-pub mod Division
-pub mod Checked
-pub mod Words
-pub mod Blocks
-pub mod Bytes
+mod Numbers
+mod Division
+mod Checked
+mod Words
+mod Blocks
+mod Bytes
+pub mod Laws

@@ -1,3 +1,4 @@
-pub mod Counting
-pub mod Keeping
-pub mod Serving
+mod Counting
+mod Keeping
+mod Serving
+pub mod Laws

@@ -1,12 +1,12 @@
-pub mod Delivered
-pub mod HeededPackets
-pub mod ReceivingCounts
-pub mod ReceivingFrames
-pub mod ReceivingOnce
-pub mod ReceivingTurns
-pub mod SendingCounts
-pub mod SendingFrames
-pub mod SendingOnce
-pub mod SpreadingCopies
-pub mod SpreadingFew
-pub mod SpreadingOver
+mod Delivered
+mod HeededPackets
+mod ReceivingCounts
+mod ReceivingFrames
+mod ReceivingOnce
+mod ReceivingTurns
+mod SendingCounts
+mod SendingFrames
+mod SendingOnce
+mod SpreadingCopies
+mod SpreadingFew
+mod SpreadingOver

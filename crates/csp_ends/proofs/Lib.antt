@@ -1,10 +1,11 @@
 mod Across
 mod AtHome
-pub mod Backs
+mod Backs
 mod Found
 mod Inboxes
-pub mod Kept
-pub mod Lists
+mod Kept
+mod Lists
 mod Splits
-pub mod Still
+mod Still
 mod Ways
+pub mod Laws

@@ -1,7 +1,8 @@
-pub mod Decimals
-pub mod Draws
-pub mod Joining
-pub mod Length
-pub mod Routing
-pub mod Stating
-pub mod Wording
+mod Decimals
+mod Draws
+mod Joining
+mod Length
+mod Routing
+mod Stating
+mod Wording
+pub mod Laws

@@ -1,7 +1,7 @@
-pub mod Rounds
-pub mod Along
-pub mod Sets
-pub mod Counting
-pub mod Told
-pub mod Idle
-pub mod Plans
+mod Rounds
+mod Along
+mod Sets
+mod Counting
+mod Told
+mod Idle
+mod Plans

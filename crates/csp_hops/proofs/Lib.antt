@@ -1,5 +1,5 @@
-pub mod Tables
-pub mod Services
-pub mod Rules
-pub mod Routers
-pub mod Outs
+mod Tables
+mod Services
+mod Rules
+mod Routers
+mod Outs

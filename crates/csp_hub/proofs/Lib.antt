@@ -1,8 +1,9 @@
-pub mod Applying
-pub mod Due
-pub mod Ends
-pub mod Few
-pub mod Others
-pub mod Rounds
-pub mod Sound
-pub mod Stocked
+mod Applying
+mod Due
+mod Ends
+mod Few
+mod Others
+mod Rounds
+mod Sound
+mod Stocked
+pub mod Laws

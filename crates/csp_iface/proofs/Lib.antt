@@ -1,4 +1,5 @@
-pub mod Circling
-pub mod Counting
-pub mod Frames
+mod Circling
+mod Counting
+mod Frames
+mod StepLaws
 pub mod Laws

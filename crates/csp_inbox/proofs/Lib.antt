@@ -1,4 +1,4 @@
-pub mod Closing
-pub mod Drawing
-pub mod Keeps
-pub mod Marks
+mod Closing
+mod Drawing
+mod Keeps
+mod Marks

@@ -1,7 +1,8 @@
-pub mod Cutting
-pub mod Escapes
-pub mod Judging
-pub mod Gaining
-pub mod GoingOn
-pub mod Steps
-pub mod RoundTrip
+mod Cutting
+mod Escapes
+mod Judging
+mod Gaining
+mod GoingOn
+mod Steps
+mod RoundTrip
+pub mod Laws

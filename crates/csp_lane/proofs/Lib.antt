@@ -1,3 +1,3 @@
-pub mod Drawing
-pub mod Keeps
-pub mod Marks
+mod Drawing
+mod Keeps
+mod Marks

@@ -1,7 +1,8 @@
-pub mod Applying
-pub mod Copied
-pub mod Due
-pub mod Kept
-pub mod Named
-pub mod Sound
-pub mod Stocked
+mod Applying
+mod Copied
+mod Due
+mod Kept
+mod Named
+mod Sound
+mod Stocked
+pub mod Laws

@@ -1,9 +1,10 @@
-pub mod Answering
-pub mod Backs
-pub mod Conserving
-pub mod Counting
-pub mod Fifos
-pub mod Fresh
-pub mod Queued
-pub mod Standing
-pub mod Weighing
+mod Answering
+mod Backs
+mod Conserving
+mod Counting
+mod Fifos
+mod Fresh
+mod Queued
+mod Standing
+mod Weighing
+pub mod Laws

@@ -1,5 +1,5 @@
 mod Headers
 mod Idle
-pub mod Logged
+mod Logged
 mod Slots
-pub mod Weighing
+mod Weighing

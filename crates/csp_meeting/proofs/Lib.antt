@@ -1,2 +1,3 @@
-pub mod Keeping
-pub mod Knowing
+mod Keeping
+mod Knowing
+pub mod Laws

@@ -1,7 +1,8 @@
-pub mod ClosingBuffers
-pub mod ClosingParts
-pub mod CountLaws
-pub mod DecksLaws
-pub mod Ends
-pub mod ServingLaws
-pub mod SetLemmas
+mod ClosingBuffers
+mod ClosingParts
+mod CountLaws
+mod DecksLaws
+mod Ends
+mod ServingLaws
+mod SetLemmas
+pub mod Laws

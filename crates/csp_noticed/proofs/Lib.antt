@@ -1,6 +1,7 @@
-pub mod Remainders
-pub mod Flipping
-pub mod Damage
-pub mod Escaping
-pub mod Reading
-pub mod WholeFrames
+mod Remainders
+mod Flipping
+mod Damage
+mod Escaping
+mod Reading
+mod WholeFrames
+pub mod Laws

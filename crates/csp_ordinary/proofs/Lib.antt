@@ -1,11 +1,12 @@
-pub mod AsSent
-pub mod Buses
-pub mod Coming
-pub mod Counting
-pub mod Fragments
-pub mod Hops
-pub mod Nothing
-pub mod Serials
-pub mod Streams
-pub mod Unflipped
-pub mod Headers
+mod AsSent
+mod Buses
+mod Coming
+mod Counting
+mod Fragments
+mod Hops
+mod Nothing
+mod Serials
+mod Streams
+mod Unflipped
+mod Headers
+pub mod Laws

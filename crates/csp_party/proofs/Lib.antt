@@ -1,1 +1,1 @@
-pub mod Circling
+mod Circling

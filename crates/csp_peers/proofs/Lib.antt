@@ -1,17 +1,17 @@
-pub mod Addresses
-pub mod AppWishes
-pub mod MachineFollows
-pub mod PacketsMade
-pub mod ReceiverNear
-pub mod RouterEvents
-pub mod RouterMakes
-pub mod RouterNear
-pub mod SenderBounds
-pub mod StaleCounting
-pub mod StaleNone
-pub mod WindowAcks
-pub mod WindowFacts
-pub mod WindowLast
-pub mod WindowMachine
-pub mod WindowPast
-pub mod WindowSends
+mod Addresses
+mod AppWishes
+mod MachineFollows
+mod PacketsMade
+mod ReceiverNear
+mod RouterEvents
+mod RouterMakes
+mod RouterNear
+mod SenderBounds
+mod StaleCounting
+mod StaleNone
+mod WindowAcks
+mod WindowFacts
+mod WindowLast
+mod WindowMachine
+mod WindowPast
+mod WindowSends

@@ -27,21 +27,12 @@ use Rattle.csp_stack.specs.Readings.{broadcast}
 use Rattle.csp_stack.specs.Router.{Facts}
 use Rattle.csp_stack.specs.Rules.{connection_of}
 use Rattle.csp_topology.specs.Parties.{config_of}
-use Rattle.csp_consistent.proofs.Each.{each_at}
+use Rattle.csp_consistent.proofs.Laws.{each_at}
 use Rattle.csp_consistent.specs.Consistent.{IsConsistent}
 use Rattle.csp_consistent.specs.Reading.{entries_of, gets}
 use Rattle.csp_prefix.specs.Flows.{IsGenuine}
 use Rattle.csp_prefix.specs.Routers.{HearsOnly, IsHeard, IsOfKind, PushesSo, SendsOnly}
-use Rattle.csp_prefix.proofs.FlowReads.{said_so}
-use Rattle.csp_prefix.proofs.GenuinePackets.{are_shown, flows_in, genuine_like, true_router}
-use Rattle.csp_prefix.proofs.HeardPackets.{hears_only}
-use Rattle.csp_prefix.proofs.NodeLanes.{RouterThere}
-use Rattle.csp_prefix.proofs.RouterLaw.{true_routers}
-use Rattle.csp_prefix.proofs.RouterRun.{found_any}
-use Rattle.csp_prefix.proofs.RouterSends.{all_fresh}
-use Rattle.csp_prefix.proofs.RouterStanding.{Aim, IsAim}
-use Rattle.csp_prefix.proofs.RouterTrue.{ComesUp, past, run_known}
-use Rattle.csp_prefix.proofs.RouterTurn.{PushedSo}
+use Rattle.csp_prefix.proofs.Laws.{said_so, are_shown, flows_in, genuine_like, true_router, hears_only, RouterThere, true_routers, found_any, all_fresh, Aim, IsAim, ComesUp, past, run_known, PushedSo}
 use Rattle.csp_peers.specs.Addressed.{AreAddressedApart}
 use Rattle.csp_peers.specs.Clear.{HasClearFlows}
 use Rattle.csp_peers.specs.Nearness.{AreShort as AreFlowsShort, half}

@@ -19,7 +19,7 @@ use Rattle.csp_ports.specs.PlainPorts.{PlainPorts, terms_at}
 use Rattle.csp_ports.specs.Steps.{timed as ports_timed}
 use Rattle.csp_rdp.specs.Machine.{PlainRdp, flow_of, una_of}
 use Rattle.csp_record.specs.Stale.{is_stale}
-use Rattle.csp_scene.proofs.Lists.{AllByRecursion-map}
+use Rattle.csp_scene.proofs.Laws.{AllByRecursion-map}
 use Rattle.csp_stack.specs.Router.{Facts, Leaving, State, origin_of}
 use Rattle.csp_stack.specs.Rules.{connection_of}
 use Rattle.csp_stack.specs.Turn.{asked_at, asks_at, timed, told_at}
@@ -27,13 +27,7 @@ use Rattle.csp_prefix.specs.Flows.{Flows}
 use Rattle.csp_prefix.specs.Ports.{IsInUse, IsSlot, connection_in, now_at}
 use Rattle.csp_prefix.specs.Routers.{router_steps}
 use Rattle.csp_prefix.specs.Slots.{Now}
-use Rattle.csp_prefix.proofs.RouterBooks.{Past, past_after, with_openings}
-use Rattle.csp_prefix.proofs.RouterHeard.{IsFound, found_there}
-use Rattle.csp_prefix.proofs.RouterRun.{IsCome, part_of, past_of, past_with, step_stands}
-use Rattle.csp_prefix.proofs.RouterStanding.{Aim, IsAim, IsPart, Stands}
-use Rattle.csp_prefix.proofs.RouterTells.{IsHanding, Tells, entry_tells}
-use Rattle.csp_prefix.proofs.RouterTurn.{HearsSo, stands_timed, timed_part}
-use Rattle.csp_prefix.proofs.RouterTrue.{past}
+use Rattle.csp_prefix.proofs.Laws.{Past, past_after, with_openings, IsFound, found_there, IsCome, part_of, past_of, past_with, step_stands, Aim, IsAim, IsPart, Stands, IsHanding, TellsAt, entry_tells, HearsSo, stands_timed, timed_part, past}
 use Rattle.csp_peers.specs.Nearness.{AreShort as AreFlowsShort, HasOnePeer, half}
 use Rattle.csp_peers.proofs.ReceiverNear.{not-stale}
 use Rattle.csp_peers.proofs.RouterMakes.{AllowsOne, AreShort, book_short}
@@ -79,7 +73,7 @@ module _ (f : Facts) (es : List Entry) (top bound : ℕ) (flows : Flows) (R : Co
       (not-stale flows R bound within one flows_short w.numbering x.app x.slot n b.trace.tag fed.0 is.1 fed.1 (subst (λ c. R c (flow_of fed.0)) same fed.3) fed.4 (omega (arith, ack, within)) (omega (arith, una, admitted, most, within)))
 
   -- nor does any other event tell of a stale copy
-  event_fresh : (h : Past) (p : PlainPorts) (o : Option Leaving) (w : Stands the_aim f h p o) (x : OpShown) (a : AnswerShown) (e : Event) → IsPart h (past es) → HearsSo the_aim x a → Tells f p x a e → is_stale e ≡ false
+  event_fresh : (h : Past) (p : PlainPorts) (o : Option Leaving) (w : Stands the_aim f h p o) (x : OpShown) (a : AnswerShown) (e : Event) → IsPart h (past es) → HearsSo the_aim x a → TellsAt f p x a e → is_stale e ≡ false
   event_fresh h p o w x a (event.Handed nth peer tag cur una) part heard tells =
       handing_fresh h p o w tells.packet (event.Handed nth peer tag cur una) part (subst (λ b. HearsSo the_aim (op.Pop queue.Inbox) b) tells.answered (subst (λ y. HearsSo the_aim y a) tells.asked heard)) tells.handing
   event_fresh h p o w x a _ part heard tells = refl
@@ -95,7 +89,7 @@ module _ (f : Facts) (es : List Entry) (top bound : ℕ) (flows : Flows) (R : Co
       ap (λ o. past_after o e.answer e.events.items h) step.op ∙ ap (λ (vs : List Event). past_after (asks_at f s e.time) e.answer vs h) step.events in
       let v = stands_timed the_aim f (past es) the_is_aim h s e.time w in
       let old = timed_part the_aim f (past es) the_is_aim h s e.time e.answer w (subst (λ x. IsPart x (past es)) same here) in
-      let fresh = AllByRecursion-map (Tells f (timed s e.time).ports e.op e.answer) (λ v. is_stale v ≡ false) e.events.items
+      let fresh = AllByRecursion-map (TellsAt f (timed s e.time).ports e.op e.answer) (λ v. is_stale v ≡ false) e.events.items
       (λ x tells. event_fresh (with_openings (ports_timed e.time s.ports).events h) (timed s e.time).ports (timed s e.time).out v e.op e.answer x old come.0.hears tells) (entry_tells (record { facts = f; state = s }) e step) in
       let done = step_stands the_aim f (past es) the_is_aim e h s (λ app slot j few low owed. tt) step come.0 here w in
       (fresh, run_fresh rest e.time (past_with e h) (told_at f (asked_at f s e.time) e.time e.answer).state run.2 come.1 part done.0)

@@ -33,33 +33,14 @@ use Rattle.csp_stack.specs.Router.{Facts, Router, State, origin_of}
 use Rattle.csp_stack.specs.Rules.{connection_of}
 use Rattle.csp_stack.specs.Turn.{asked_at, timed, told_at}
 use Rattle.csp_topology.specs.Parties.{config_of}
-use Rattle.csp_consistent.proofs.Each.{each_at, each_first, each_last}
-use Rattle.csp_consistent.proofs.Names.{Logged}
-use Rattle.csp_consistent.proofs.Owners.{IsOf}
-use Rattle.csp_consistent.proofs.Planned.{logged}
+use Rattle.csp_consistent.proofs.Laws.{each_at, each_first, each_last, Logged, IsOf, logged}
 use Rattle.csp_consistent.specs.Consistent.{IsConsistent}
 use Rattle.csp_consistent.specs.Reading.{entries_of, got_by, gets}
 use Rattle.csp_rdp_header.specs.Head.{head_bytes}
 use Rattle.csp_stack.specs.Readings.{is_checked}
 use Rattle.csp_prefix.specs.Flows.{IsGenuine, with_checksum}
 use Rattle.csp_prefix.specs.Routers.{HasNoStale, HearsOnly, IsHeard, IsRouterLog, SendsOnly, opening_router, router_steps}
-use Rattle.csp_prefix.proofs.GenuinePackets.{are_shown, flows_in, hears_genuine}
-use Rattle.csp_prefix.proofs.HeardPackets.{hears_only}
-use Rattle.csp_prefix.proofs.NodeLanes.{RouterThere, router_there}
-use Rattle.csp_prefix.proofs.PacketLists.{events_of, none_counted}
-use Rattle.csp_prefix.proofs.RouterBooks.{Past, no_past}
-use Rattle.csp_prefix.proofs.RouterDelivers.{fed_tag}
-use Rattle.csp_prefix.proofs.RouterHeard.{found_there}
-use Rattle.csp_prefix.proofs.RouterLaw.{true_routers}
-use Rattle.csp_prefix.proofs.RouterRun.{AreFound, IsCome, found_any, part_of, past_of, past_with, step_stands}
-use Rattle.csp_prefix.proofs.RouterSends.{all_fresh, sender_aim, sender_is_aim}
-use Rattle.csp_prefix.proofs.RouterStanding.{Aim, IsAim, IsPart, Stands}
-use Rattle.csp_prefix.proofs.RouterTrue.{all_come, each_comes, heard_all, opening_stands, part_all, past}
-use Rattle.csp_prefix.proofs.RouterTurn.{stands_timed}
-use Rattle.csp_prefix.proofs.MachineSays.{sender-opens}
-use Rattle.csp_prefix.proofs.MachineSender.{sender-kept}
-use Rattle.csp_prefix.proofs.RouterTells.{IsOfPopped, Tells, entry_tells}
-use Rattle.csp_prefix.proofs.PortKept.{ports_kept}
+use Rattle.csp_prefix.proofs.Laws.{are_shown, flows_in, hears_genuine, hears_only, RouterThere, router_there, events_of, none_counted, Past, no_past, fed_tag, found_there, true_routers, AreFound, IsCome, found_any, part_of, past_of, past_with, step_stands, all_fresh, sender_aim, sender_is_aim, Aim, IsAim, IsPart, Stands, all_come, each_comes, heard_all, opening_stands, part_all, past, stands_timed, sender-opens, sender-kept, IsOfPopped, TellsAt, entry_tells, ports_kept}
 use Rattle.csp_prefix.specs.Machines.{IsSender, whatever}
 use Rattle.csp_peers.specs.Window.{HadWindow, HasAsPeer, IsDataHanded, IsDataPacket, IsWithinWindow, LastIsWithinWindow}
 use Rattle.csp_peers.proofs.PacketsMade.{get_past, of_kind, sends_both}
@@ -185,7 +166,7 @@ module _ (scene : PlainScene) (r : PlainRecord) (is : IsScene scene) (con : IsCo
     popped =
         let step : IsStep router_steps last e = run_step 0 (opening_router f t.node.routes) before e [] log.run in
         subst (λ (x : Facts). IsOfPopped x ports e.op e.answer (event.Handed nth (Some peer) (Some tag) cur handed.una)) (facts_stay (opening_router f t.node.routes) before)
-        (each_at (Tells last.facts ports e.op e.answer) e.events.items handed.at (event.Handed nth (Some peer) (Some tag) cur handed.una) (entry_tells last e step) handed.told)
+        (each_at (TellsAt last.facts ports e.op e.answer) e.events.items handed.at (event.Handed nth (Some peer) (Some tag) cur handed.una) (entry_tells last e step) handed.told)
 
     abbrev machine : PlainRdp
     machine = machine_at ports popped.handing.app popped.handing.slot

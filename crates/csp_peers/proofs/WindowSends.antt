@@ -7,7 +7,7 @@ use Rattle.std.proofs.lemmas.Bool.{or_parts}
 use Rattle.std.proofs.lemmas.List.{append_assoc}
 use Rattle.csp_base.specs.Sequence.{number_of}
 use Rattle.csp_base.specs.declared.traces.Tag.{Tag}
-use Rattle.csp_base.proofs.SequenceLaws.{wrapped_small}
+use Rattle.csp_base.proofs.Laws.{wrapped_small}
 use Rattle.csp_buffer.specs.Content.{Content}
 use Rattle.csp_conn.specs.declared.slot.Connection.{Connection}
 use Rattle.csp_deck.specs.Runs.{state_after, step_after}
@@ -35,16 +35,7 @@ use Rattle.csp_prefix.specs.Flows.{Flows, is_data, with_checksum}
 use Rattle.csp_prefix.specs.Ports.{Books, now_at}
 use Rattle.csp_prefix.specs.Routers.{AreShown, HasNoStale, HearsGenuine, IsFlowOf, IsHeard, IsRouterLog, SendsOnly, opening_router, router_steps}
 use Rattle.csp_prefix.specs.Slots.{Numbering}
-use Rattle.csp_prefix.proofs.MachineSays.{sender-says}
-use Rattle.csp_prefix.proofs.PortKept.{ports_kept}
-use Rattle.csp_prefix.proofs.RouterBooks.{Past, Tells, opening_on}
-use Rattle.csp_prefix.proofs.RouterBytes.{checked_back, checked_flag, parted_back, unwrapped_is}
-use Rattle.csp_prefix.proofs.RouterDelivers.{all_fresh, fed_tag}
-use Rattle.csp_prefix.proofs.RouterHeard.{protected_trace}
-use Rattle.csp_prefix.proofs.RouterRun.{AreFound}
-use Rattle.csp_prefix.proofs.RouterSends.{opening_flow, sender_not}
-use Rattle.csp_prefix.proofs.RouterStanding.{Aim, IsAim, IsPart, IsRead, unwrapped}
-use Rattle.csp_prefix.proofs.RouterTrue.{each_comes, past, run_known}
+use Rattle.csp_prefix.proofs.Laws.{sender-says, ports_kept, Past, Tells, opening_on, checked_back, checked_flag, parted_back, unwrapped_is, none_stale, fed_tag, protected_trace, AreFound, opening_flow, sender_not, Aim, IsAim, IsPart, IsRead, unwrapped, each_comes, past, run_known}
 use Rattle.csp_peers.specs.Window.{HadMachine}
 use Rattle.csp_peers.proofs.WindowFacts.{Acknowledges, HasHeard, IsAck, IsAllowedData}
 use Rattle.csp_peers.proofs.WindowMachine.{IsFedWell, IsKeeping, acknowledging, data-within, keeping-kept}
@@ -208,4 +199,4 @@ pub data_allowed : (f : Facts) (routes : Routes) (es : List Entry) (flows : Flow
     → SendsOnly (IsAllowedData f routes es own peer) es
 data_allowed f routes es flows own peer cur log shown here peers none genuine acks =
     let g : Aim = window_aim f routes es own peer in
-    (run_known g f routes es (window_is_aim f routes es flows own peer cur shown here peers acks) log (λ at mark b q. record { at = at; mark = mark; there = q }) (each_comes g (λ i. tt) es) (all_fresh es none) (found_all f routes es)).pushed
+    (run_known g f routes es (window_is_aim f routes es flows own peer cur shown here peers acks) log (λ at mark b q. record { at = at; mark = mark; there = q }) (each_comes g (λ i. tt) es) (none_stale es none) (found_all f routes es)).pushed

@@ -1,2 +1,2 @@
-pub mod Rules
-pub mod Totals
+mod Rules
+mod Totals

@@ -1,20 +1,21 @@
-pub mod Binding
-pub mod Conserving
-pub mod Counting
-pub mod Finding
-pub mod Flowing
-pub mod Following
-pub mod Holding
-pub mod Keeping
-pub mod Letting
-pub mod Owing
-pub mod Quiet
-pub mod Reckoning
-pub mod Serving
-pub mod Sizing
-pub mod Stilling
-pub mod Tasking
-pub mod Waiting
-pub mod Weighing
-pub mod Wholes
-pub mod Wishing
+mod Binding
+mod Conserving
+mod Counting
+mod Finding
+mod Flowing
+mod Following
+mod Holding
+mod Keeping
+mod Letting
+mod Owing
+mod Quiet
+mod Reckoning
+mod Serving
+mod Sizing
+mod Stilling
+mod Tasking
+mod Waiting
+mod Weighing
+mod Wholes
+mod Wishing
+pub mod Laws

@@ -1,11 +1,12 @@
-pub mod Books
-pub mod Crossing
-pub mod Flowing
-pub mod Marking
-pub mod Parties
-pub mod Running
-pub mod Staying
-pub mod Sweeping
-pub mod Tracing
-pub mod Turning
-pub mod TurnsBooks
+mod Books
+mod Crossing
+mod Flowing
+mod Marking
+mod Parties
+mod Running
+mod Staying
+mod Sweeping
+mod Tracing
+mod Turning
+mod TurnsBooks
+pub mod Laws

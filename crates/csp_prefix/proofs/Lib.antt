@@ -1,50 +1,51 @@
-pub mod AppItems
-pub mod AppPuts
-pub mod AppTurns
-pub mod FlowReads
-pub mod GenuinePackets
-pub mod HeardPackets
-pub mod HubLogs
-pub mod MachineHearing
-pub mod MachineKept
-pub mod MachineLists
-pub mod MachineOpens
-pub mod MachineReceiver
-pub mod MachineSays
-pub mod MachineSender
-pub mod MachineSteps
-pub mod MachineWindows
-pub mod NodeLanes
-pub mod OpeningPlaces
-pub mod PacketLists
-pub mod PayloadReads
-pub mod PortAnswers
-pub mod PortBegun
-pub mod PortChanges
-pub mod PortEnds
-pub mod PortFacts
-pub mod PortKept
-pub mod PortPackets
-pub mod PortQuiet
-pub mod PortRoom
-pub mod PortSlots
-pub mod PortSubmits
-pub mod PortTimes
-pub mod PortViews
-pub mod RouterBooks
-pub mod RouterBytes
-pub mod RouterDelivers
-pub mod RouterEntry
-pub mod RouterHeard
-pub mod RouterKnown
-pub mod RouterLaw
-pub mod RouterMute
-pub mod RouterPlans
-pub mod RouterRun
-pub mod RouterSends
-pub mod RouterServed
-pub mod RouterStanding
-pub mod RouterTells
-pub mod RouterTrue
-pub mod RouterTurn
-pub mod TakenPrefix
+mod AppItems
+mod AppPuts
+mod AppTurns
+mod FlowReads
+mod GenuinePackets
+mod HeardPackets
+mod HubLogs
+mod MachineHearing
+mod MachineKept
+mod MachineLists
+mod MachineOpens
+mod MachineReceiver
+mod MachineSays
+mod MachineSender
+mod MachineSteps
+mod MachineWindows
+mod NodeLanes
+mod OpeningPlaces
+mod PacketLists
+mod PayloadReads
+mod PortAnswers
+mod PortBegun
+mod PortChanges
+mod PortEnds
+mod PortFacts
+mod PortKept
+mod PortPackets
+mod PortQuiet
+mod PortRoom
+mod PortSlots
+mod PortSubmits
+mod PortTimes
+mod PortViews
+mod RouterBooks
+mod RouterBytes
+mod RouterDelivers
+mod RouterEntry
+mod RouterHeard
+mod RouterKnown
+mod RouterLaw
+mod RouterMute
+mod RouterPlans
+mod RouterRun
+mod RouterSends
+mod RouterServed
+mod RouterStanding
+mod RouterTells
+mod RouterTrue
+mod RouterTurn
+mod TakenPrefix
+pub mod Laws

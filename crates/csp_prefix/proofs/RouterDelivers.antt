@@ -112,13 +112,13 @@ first_all : {X : Type 0} (P : X → Type 0) (xs ys : List X) → AllByRecursion 
 first_all P [] ys all = (tt, all)
 first_all P (x ∷ xs) ys all = let rest = first_all P xs ys all.1 in ((all.0, rest.0), rest.1)
 
-pub all_fresh : (es : List Entry) → HasNoStale es → AllByRecursion (λ e. AllByRecursion {X = Event} (λ v. is_stale v ≡ false) e.events.items) es
-all_fresh [] all = tt
-all_fresh (e ∷ es) all = let parts = first_all (λ v. is_stale v ≡ false) e.events.items (all_events es) all in (parts.0, all_fresh es parts.1)
+pub none_stale : (es : List Entry) → HasNoStale es → AllByRecursion (λ e. AllByRecursion {X = Event} (λ v. is_stale v ≡ false) e.events.items) es
+none_stale [] all = tt
+none_stale (e ∷ es) all = let parts = first_all (λ v. is_stale v ≡ false) e.events.items (all_events es) all in (parts.0, none_stale es parts.1)
 
 pub delivers_prefix : (f : Facts) (routes : Routes) (es : List Entry) (flows : Flows) → ArePortsKept (origin_of f) (true_packets flows) (IsReceiver flows) → Receives (IsReceiver flows) flows → IsRouterLog f routes es → HearsGenuine flows es → HasNoStale es
     → DeliversPrefix flows es
 delivers_prefix f routes es flows ports receives log hears none app nth x peer is e =
     let k = receiver_is_aim f es flows ports receives in
-    let r = run_known (receiver_aim flows) f routes es k log (λ at mark b q. all_at (IsGenuineItem flows) (gets queue.Inbox es) at (item.Packet mark b) hears q) (each_comes (receiver_aim flows) (λ i. tt) es) (all_fresh es none) (found_any f (opening_state f.apps routes) es) in
+    let r = run_known (receiver_aim flows) f routes es k log (λ at mark b q. all_at (IsGenuineItem flows) (gets queue.Inbox es) at (item.Packet mark b) hears q) (each_comes (receiver_aim flows) (λ i. tt) es) (none_stale es none) (found_any f (opening_state f.apps routes) es) in
     opening_known (receiver_aim flows) f es k r app nth x is nth peer is.numbered e

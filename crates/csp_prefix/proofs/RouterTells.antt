@@ -61,12 +61,12 @@ use Rattle.csp_record.specs.Payloads.{is_on}
 use Rattle.csp_record.specs.declared.payloads.Way.TheVariants as way
 use Rattle.csp_route.specs.Routes.{route_of}
 use Rattle.csp_route.specs.declared.row.Row.{Row}
-use Rattle.csp_scene.proofs.Lists.{AllByRecursion-append, AllByRecursion-map}
+use Rattle.csp_scene.proofs.Laws.{AllByRecursion-append, AllByRecursion-map}
 use Rattle.csp_service.specs.Answers.{answered}
 use Rattle.csp_service.specs.declared.answers.Served.{Served}
 use Rattle.csp_service.specs.declared.answers.Served.TheVariants.{NoService, Refused, Reply, Silent}
 use Rattle.csp_service.specs.declared.stats.Count.TheVariants as count
-use Rattle.csp_stack.proofs.Unmoved.{by_rest, heard_here}
+use Rattle.csp_stack.proofs.Laws.{by_rest, heard_here}
 use Rattle.csp_stack.specs.Comes.{heard_at_port, heard_at_socket, heard_elsewhere}
 use Rattle.csp_stack.specs.Counting.{came_in, counting}
 use Rattle.csp_stack.specs.Readings.{buffer_in, is_checked, is_here, is_pushed, is_secured, item_in}
@@ -107,10 +107,10 @@ pub record IsOfPopped (f : Facts) (p : PlainPorts) (o : OpShown) (a : AnswerShow
   pub handing : IsHanding f p packet e
 
 -- what a turn with this operation and this answer may tell
-abbrev pub Tells : Facts → PlainPorts → OpShown → AnswerShown → Event → Type 0
-Tells f p o a (event.Handed nth peer tag cur una) = IsOfPopped f p o a (event.Handed nth peer tag cur una)
-Tells f p o a (event.Opened app slot nth peer) = (nth ≡ None) ⊎ IsEarly (machine_at p app slot).state
-Tells f p o a _ = ⊤
+abbrev pub TellsAt : Facts → PlainPorts → OpShown → AnswerShown → Event → Type 0
+TellsAt f p o a (event.Handed nth peer tag cur una) = IsOfPopped f p o a (event.Handed nth peer tag cur una)
+TellsAt f p o a (event.Opened app slot nth peer) = (nth ≡ None) ⊎ IsEarly (machine_at p app slot).state
+TellsAt f p o a _ = ⊤
 
 -- no packet is told to be handed to a reliable connection, and none to be open
 abbrev IsCalm : Event → Type 0
@@ -122,7 +122,7 @@ abbrev AreCalm : List Event → Type 0
 AreCalm es = AllByRecursion IsCalm es
 
 -- so it may be told in any turn
-calm_tells : (f : Facts) (p : PlainPorts) (o : OpShown) (a : AnswerShown) (e : Event) → IsCalm e → Tells f p o a e
+calm_tells : (f : Facts) (p : PlainPorts) (o : OpShown) (a : AnswerShown) (e : Event) → IsCalm e → TellsAt f p o a e
 calm_tells f p o a (event.Handed nth peer tag cur una) is = absurd is
 calm_tells f p o a (event.Opened app slot nth peer) is = inl is
 calm_tells f p o a _ is = tt
@@ -388,7 +388,7 @@ at_socket_calm f s time p =
 -- ---- a packet that was popped from the inbox
 module _ (f : Facts) (s : State) (time mark : ℕ) (b : Content) where
   abbrev OfPopped : Event → Type 0
-  OfPopped e = Tells f s.ports (op.Pop queue.Inbox) (answer.Popped (item.Packet mark b)) e
+  OfPopped e = TellsAt f s.ports (op.Pop queue.Inbox) (answer.Popped (item.Packet mark b)) e
 
   abbrev Shows : Told → Type 0
   Shows t = AllByRecursion OfPopped t.events
@@ -516,7 +516,7 @@ making_calm : (f : Facts) (s : State) (app slot : ℕ) (j : Job) (time : ℕ) (o
 making_calm f s app slot j time None = tt
 making_calm f s app slot j time (Some b) = made_calm (slot_at s.ports.conns app slot) j f s app slot time b
 
-hearing_tells : (f : Facts) (s : State) (time : ℕ) (a : AnswerShown) → Fits (op.Pop queue.Inbox) a → AllByRecursion (Tells f s.ports (op.Pop queue.Inbox) a) (told_hearing f s time (packet_in (item_in a))).events
+hearing_tells : (f : Facts) (s : State) (time : ℕ) (a : AnswerShown) → Fits (op.Pop queue.Inbox) a → AllByRecursion (TellsAt f s.ports (op.Pop queue.Inbox) a) (told_hearing f s time (packet_in (item_in a))).events
 hearing_tells f s time (answer.Popped (item.Packet mark b)) fits = heard_shows f (came_in s mark b) time mark b
 hearing_tells f s time (answer.Popped (item.Note n)) fits = tt
 hearing_tells f s time (answer.Popped (item.Frame frame)) fits = tt
@@ -524,10 +524,10 @@ hearing_tells f s time answer.Empty fits = tt
 hearing_tells f s time a fits = absurd fits
 
 -- the events of a plan that hears nothing
-quietly : (q : Plan) (f : Facts) (s : State) (time : ℕ) (a : AnswerShown) → AreCalm (told_by q f (at_rest (asked_by f s q)) time a).events → AllByRecursion (Tells f s.ports (op_of s q) a) (told_by q f (at_rest (asked_by f s q)) time a).events
-quietly q f s time a all = AllByRecursion-map IsCalm (Tells f s.ports (op_of s q) a) (told_by q f (at_rest (asked_by f s q)) time a).events (calm_tells f s.ports (op_of s q) a) all
+quietly : (q : Plan) (f : Facts) (s : State) (time : ℕ) (a : AnswerShown) → AreCalm (told_by q f (at_rest (asked_by f s q)) time a).events → AllByRecursion (TellsAt f s.ports (op_of s q) a) (told_by q f (at_rest (asked_by f s q)) time a).events
+quietly q f s time a all = AllByRecursion-map IsCalm (TellsAt f s.ports (op_of s q) a) (told_by q f (at_rest (asked_by f s q)) time a).events (calm_tells f s.ports (op_of s q) a) all
 
-plan_tells : (q : Plan) (f : Facts) (s : State) (time : ℕ) (a : AnswerShown) → Fits (op_of s q) a → AllByRecursion (Tells f s.ports (op_of s q) a) (told_by q f (at_rest (asked_by f s q)) time a).events
+plan_tells : (q : Plan) (f : Facts) (s : State) (time : ℕ) (a : AnswerShown) → Fits (op_of s q) a → AllByRecursion (TellsAt f s.ports (op_of s q) a) (told_by q f (at_rest (asked_by f s q)) time a).events
 plan_tells plan.Hear f s time a fits = hearing_tells f (at_rest (asked_by f s plan.Hear)) time a fits
 plan_tells plan.Rest f s time a fits = tt
 plan_tells plan.Give f s time a fits = quietly plan.Give f s time a (giving_calm (at_rest (asked_by f s plan.Give)) (buffer_in a))
@@ -560,12 +560,12 @@ events_are f s time a q e =
     ap (λ p. (handed f t p).early ++ (told_by p f (at_rest (asked_by f t p)) time a).events) e ∙ ap (λ es. es ++ (told_by q f (at_rest (asked_by f t q)) time a).events) (handed_early f t q)
 
 -- what each may tell, by the operation, the answer, and the ports once the timers were tried
-pub entry_tells : (r : Router) (e : Entry) → IsStep router_steps r e → AllByRecursion (Tells r.facts (timed r.state e.time).ports e.op e.answer) e.events.items
+pub entry_tells : (r : Router) (e : Entry) → IsStep router_steps r e → AllByRecursion (TellsAt r.facts (timed r.state e.time).ports e.op e.answer) e.events.items
 entry_tells r e step =
     let f : Facts = r.facts in
     let t : State = timed r.state e.time in
     let q : Plan = plan_of f t e.time in
-    let Here : OpShown → Event → Type 0 = λ o. Tells f t.ports o e.answer in
+    let Here : OpShown → Event → Type 0 = λ o. TellsAt f t.ports o e.answer in
     let first = timed_tells (Here (op_of t q)) (λ reason. tt) e.time r.state.ports in
     let all = AllByRecursion-append (Here (op_of t q)) (ports_timed e.time r.state.ports).events (told_by q f (at_rest (asked_by f t q)) e.time e.answer).events first (plan_tells q f t e.time e.answer step.fits) in
     subst (λ o. AllByRecursion (Here o) e.events.items) (sym step.op) (subst (AllByRecursion (Here (asks_at f r.state e.time))) (sym (step.events ∙ events_are f r.state e.time e.answer q refl)) all)

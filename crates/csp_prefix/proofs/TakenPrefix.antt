@@ -24,13 +24,11 @@ use Rattle.csp_consistent.specs.Reading.{entries_of, gets, left_in, puts}
 use Rattle.csp_prefix.specs.Routers.{AreTrueRouters, HasNoStale}
 use Rattle.csp_prefix.proofs.FlowReads.{said_is, said_none}
 use Rattle.csp_prefix.proofs.GenuinePackets.{are_shown, flows_in, hears_genuine, true_router}
-use Rattle.csp_consistent.proofs.Names.{Logged}
+use Rattle.csp_consistent.proofs.Laws.{Logged, IsAppAt, IsOf, logged}
 use Rattle.csp_prefix.proofs.NodeLanes.{RouterThere, app_lanes_there, app_true, owner_of}
-use Rattle.csp_consistent.proofs.Owners.{IsAppAt, IsOf}
 use Rattle.csp_prefix.proofs.OpeningPlaces.{opener}
 use Rattle.csp_prefix.proofs.PacketLists.{events_of, none_counted}
 use Rattle.csp_prefix.proofs.PayloadReads.{delivered_is, payloads_begin}
-use Rattle.csp_consistent.proofs.Planned.{logged}
 
 begins_nothing : {T : Type 0} (xs ys : List T) → xs ≡ [] → IsBeginning xs ys
 begins_nothing xs ys e = record { rest = ys; whole = ap (λ zs. zs ++ ys) e }

@@ -1,9 +1,10 @@
-pub mod BalanceLemmas
-pub mod CountLemmas
-pub mod FarLemmas
-pub mod HoldingLemmas
-pub mod PlacedLemmas
-pub mod RegionLemmas
-pub mod RowLemmas
-pub mod SoundLemmas
-pub mod TimerLemmas
+mod BalanceLemmas
+mod CountLemmas
+mod FarLemmas
+mod HoldingLemmas
+mod PlacedLemmas
+mod RegionLemmas
+mod RowLemmas
+mod SoundLemmas
+mod TimerLemmas
+pub mod Laws

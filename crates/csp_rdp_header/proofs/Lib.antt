@@ -1,3 +1,3 @@
-pub mod HeadLemmas
-pub mod NumberLemmas
-pub mod OptionLemmas
+mod HeadLemmas
+mod NumberLemmas
+mod OptionLemmas

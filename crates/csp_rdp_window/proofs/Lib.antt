@@ -1,4 +1,5 @@
-pub mod CountLemmas
-pub mod PlaceLemmas
-pub mod ReceiveLemmas
-pub mod SendLemmas
+mod CountLemmas
+mod PlaceLemmas
+mod ReceiveLemmas
+mod SendLemmas
+pub mod Laws

@@ -1,5 +1,6 @@
 mod Counting
 mod Gaining
-pub mod Ordinals
-pub mod Passing
+mod Ordinals
+mod Passing
 mod Tables
+pub mod Laws

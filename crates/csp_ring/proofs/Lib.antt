@@ -1,1 +1,1 @@
-pub mod Findings
+mod Findings

@@ -1,14 +1,15 @@
-pub mod PrefixOrder
-pub mod Places
-pub mod Views
-pub mod Matches
-pub mod Cuts
-pub mod Rows
-pub mod Puts
-pub mod Texts
-pub mod Merges
-pub mod Numerals
-pub mod Splits
-pub mod Reading
-pub mod RoundTrip
-pub mod Withins
+mod PrefixOrder
+mod Places
+mod Views
+mod Matches
+mod Cuts
+mod Rows
+mod Puts
+mod Texts
+mod Merges
+mod Numerals
+mod Splits
+mod Reading
+mod RoundTrip
+mod Withins
+pub mod Laws

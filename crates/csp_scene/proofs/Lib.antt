@@ -1,15 +1,16 @@
-pub mod Fitting
-pub mod Shapes
-pub mod Lists
-pub mod Texts
-pub mod Tables
-pub mod Ends
-pub mod Growing
-pub mod Unmixed
-pub mod Drafts
-pub mod Stated
-pub mod Scenes
-pub mod MoveCounts
-pub mod Moving
-pub mod Places
-pub mod NamesApart
+mod Fitting
+mod Shapes
+mod Lists
+mod Texts
+mod Tables
+mod Ends
+mod Growing
+mod Unmixed
+mod Drafts
+mod Stated
+mod Scenes
+mod MoveCounts
+mod Moving
+mod Places
+mod NamesApart
+pub mod Laws

@@ -1,2 +1,3 @@
-pub mod Leading
-pub mod Naming
+mod Leading
+mod Naming
+pub mod Laws

@@ -1,5 +1,6 @@
-pub mod Trailers
-pub mod Cutting
-pub mod Feeding
-pub mod Collecting
-pub mod Joining
+mod Trailers
+mod Cutting
+mod Feeding
+mod Collecting
+mod Joining
+pub mod Laws

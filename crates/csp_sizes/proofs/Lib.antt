@@ -1,17 +1,17 @@
-pub mod LightAnswers
-pub mod LightHolding
-pub mod LightMachines
-pub mod LightSays
-pub mod LightPorts
-pub mod LightServices
-pub mod LightRules
-pub mod LightRouters
-pub mod LightStreams
-pub mod LightFragments
-pub mod LightIfaces
-pub mod LightLinks
-pub mod LightApps
-pub mod LightDecks
-pub mod LightTurns
-pub mod LightOpening
-pub mod Below
+mod LightAnswers
+mod LightHolding
+mod LightMachines
+mod LightSays
+mod LightPorts
+mod LightServices
+mod LightRules
+mod LightRouters
+mod LightStreams
+mod LightFragments
+mod LightIfaces
+mod LightLinks
+mod LightApps
+mod LightDecks
+mod LightTurns
+mod LightOpening
+mod Below

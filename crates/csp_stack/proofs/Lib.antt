@@ -1,6 +1,7 @@
-pub mod Awaiting
-pub mod Circling
-pub mod Keeping
-pub mod Resting
-pub mod Sendable
-pub mod Unmoved
+mod Awaiting
+mod Circling
+mod Keeping
+mod Resting
+mod Sendable
+mod Unmoved
+pub mod Laws

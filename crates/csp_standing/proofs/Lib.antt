@@ -1,21 +1,22 @@
-pub mod Early
-pub mod Heard
-pub mod InScene
-pub mod InboxRounds
-pub mod LaneRounds
-pub mod Leaders
-pub mod ListPlaces
-pub mod Logged
-pub mod MetLogs
-pub mod MetPosts
-pub mod Onward
-pub mod Opening
-pub mod Places
-pub mod PoolRounds
-pub mod RoundsMade
-pub mod Running
-pub mod ShownQueues
-pub mod Sides
-pub mod Tracing
-pub mod Turned
-pub mod Turns
+mod Early
+mod Heard
+mod InScene
+mod InboxRounds
+mod LaneRounds
+mod Leaders
+mod ListPlaces
+mod Logged
+mod MetLogs
+mod MetPosts
+mod Onward
+mod Opening
+mod Places
+mod PoolRounds
+mod RoundsMade
+mod Running
+mod ShownQueues
+mod Sides
+mod Tracing
+mod Turned
+mod Turns
+pub mod Laws

@@ -1,2 +1,2 @@
-pub mod Steps
-pub mod Names
+mod Steps
+mod Names

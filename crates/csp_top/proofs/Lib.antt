@@ -1,5 +1,5 @@
 mod CausalWorlds
-pub mod Generated
+mod Generated
 mod OpeningNumbers
 mod Owing
 mod Prefix

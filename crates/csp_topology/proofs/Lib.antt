@@ -8,5 +8,6 @@ mod Serving
 mod TopologyLemmas
 mod WireOrder
 mod WirePlaces
-pub mod WireSteps
+mod WireSteps
 mod WiringLemmas
+pub mod Laws

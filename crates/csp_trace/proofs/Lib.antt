@@ -1,2 +1,2 @@
-pub mod Owing
-pub mod Rereading
+mod Owing
+mod Rereading

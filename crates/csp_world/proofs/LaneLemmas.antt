@@ -5,14 +5,12 @@ use Rattle.std.specs.List.{AllByRecursion, flat_map, range_with_len}
 use Rattle.std.proofs.lemmas.Bool.{eq-eqb, lt-ltb}
 use Rattle.std.proofs.lemmas.List.{append_assoc, length-append, length-map}
 use Rattle.csp_base.specs.Priority.{prio_number}
-use Rattle.csp_consistent.proofs.Names.{entries_in}
-use Rattle.csp_consistent.proofs.QueueNames.{queue_is}
+use Rattle.csp_consistent.proofs.Laws.{entries_in, queue_is, own_asks}
 use Rattle.csp_consistent.specs.Lanes.{IsFullAfter, IsInOrder, IsRefused}
 use Rattle.csp_topology.specs.Lanes.{PlainLane, app_lanes, leader_of, lanes_from, lanes_within, out_lane}
 use Rattle.csp_topology.specs.Parties.{PlainOpening}
 use Rattle.csp_consistent.specs.Queues.{MayAsk, MayPop, MayPush}
 use Rattle.csp_consistent.specs.Reading.{got_by, gets, is_queue, put_by, puts}
-use Rattle.csp_consistent.proofs.OwnQueues.{own_asks}
 use Rattle.csp_deck.specs.Step.{entry_of}
 use Rattle.csp_log.specs.Kinds.{carried_on}
 use Rattle.csp_lists.specs.PlainDeck.{PlainDeck, answer_of, lane_room, shape_of}

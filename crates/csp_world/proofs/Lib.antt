@@ -1,42 +1,43 @@
-pub mod AnsweredLemmas
-pub mod ClosingEnds
-pub mod ClosingMembers
-pub mod ClosingSums
-pub mod ClosingParts
-pub mod ContentLemmas
-pub mod EndsApart
-pub mod FitLemmas
-pub mod FullLemmas
-pub mod HolderLemmas
-pub mod InboxLemmas
-pub mod InboxNames
-pub mod InboxTurns
-pub mod KeptLemmas
-pub mod LaneLemmas
-pub mod LaneNames
-pub mod LaneRooms
-pub mod LinkLanes
-pub mod LocalLemmas
-pub mod LookingLemmas
-pub mod LoggedLemmas
-pub mod MoveLemmas
-pub mod MovedLemmas
-pub mod OpenedLemmas
-pub mod OpeningLists
-pub mod OpeningMembers
-pub mod OpeningNodes
-pub mod OpeningParties
-pub mod OpeningRules
-pub mod OpeningScene
-pub mod PlaceLemmas
-pub mod QueuedLemmas
-pub mod PoolLemmas
-pub mod ReachedLemmas
-pub mod ReachingLemmas
-pub mod RunLemmas
-pub mod ScheduleLemmas
-pub mod ScheduleNames
-pub mod ScheduleOpening
-pub mod StepLemmas
-pub mod TurnLemmas
-pub mod WholeLemmas
+mod AnsweredLemmas
+mod ClosingEnds
+mod ClosingMembers
+mod ClosingSums
+mod ClosingParts
+mod ContentLemmas
+mod EndsApart
+mod FitLemmas
+mod FullLemmas
+mod HolderLemmas
+mod InboxLemmas
+mod InboxNames
+mod InboxTurns
+mod KeptLemmas
+mod LaneLemmas
+mod LaneNames
+mod LaneRooms
+mod LinkLanes
+mod LocalLemmas
+mod LookingLemmas
+mod LoggedLemmas
+mod MoveLemmas
+mod MovedLemmas
+mod OpenedLemmas
+mod OpeningLists
+mod OpeningMembers
+mod OpeningNodes
+mod OpeningParties
+mod OpeningRules
+mod OpeningScene
+mod PlaceLemmas
+mod QueuedLemmas
+mod PoolLemmas
+mod ReachedLemmas
+mod ReachingLemmas
+mod RunLemmas
+mod ScheduleLemmas
+mod ScheduleNames
+mod ScheduleOpening
+mod StepLemmas
+mod TurnLemmas
+mod WholeLemmas
+pub mod Laws

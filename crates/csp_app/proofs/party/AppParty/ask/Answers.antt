@@ -6,7 +6,7 @@ use Rattle.csp_app.specs.Steps.{plan_of}
 use Rattle.csp_app.specs.Room.{IsStep, plain_app}
 use Rattle.csp_deck.specs.Step.{kind_of}
 use Rattle.csp_app.proofs.Hearing.{IsFit, Heard, asked_hears, handed_stays}
-use Rattle.csp_app.proofs.Laws.{handed_law, same_uses}
+use Rattle.csp_app.proofs.StepLaws.{handed_law, same_uses}
 use Rattle.csp_app.proofs.party.AppParty.ask.Goals as goal
 
 pub returns-clause-uses : goal.returns-clause-uses

@@ -4,7 +4,7 @@ use Rattle.csp_app.specs.Room.{CanHear}
 use Rattle.csp_app.specs.Telling.{tells}
 use Rattle.csp_deck.specs.Step.{times}
 use Rattle.csp_log.specs.declared.shown.AnswerShown.TheVariants as answer
-use Rattle.csp_app.proofs.Laws.{told_law}
+use Rattle.csp_app.proofs.StepLaws.{told_law}
 use Rattle.csp_app.proofs.party.AppParty.miss.Goals as goal
 
 pub returns-clause-holds : goal.returns-clause-holds

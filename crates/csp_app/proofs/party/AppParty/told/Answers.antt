@@ -3,7 +3,7 @@ use Rattle.csp_app.specs.PlainApp.{PlainApp, AppAt}
 use Rattle.csp_app.specs.Room.{CanHear}
 use Rattle.csp_app.specs.Telling.{tells}
 use Rattle.csp_log.specs.Pictures.{shown_answer}
-use Rattle.csp_app.proofs.Laws.{told_law, told_raises, same_uses}
+use Rattle.csp_app.proofs.StepLaws.{told_law, told_raises, same_uses}
 use Rattle.csp_app.proofs.party.AppParty.told.Goals as goal
 
 pub returns-clause-holds : goal.returns-clause-holds

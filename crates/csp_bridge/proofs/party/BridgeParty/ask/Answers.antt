@@ -1,4 +1,4 @@
-use Rattle.csp_bridge.proofs.Laws.{handed_law}
+use Rattle.csp_bridge.proofs.StepLaws.{handed_law}
 use Rattle.csp_bridge.proofs.party.BridgeParty.ask.Goals as goal
 
 pub returns-clause-holds : goal.returns-clause-holds

@@ -2,7 +2,7 @@ use Rattle.std.proofs.Common.{subst}
 use Rattle.csp_bridge.specs.PlainBridge.{PlainBridge, BridgeAt}
 use Rattle.csp_bridge.specs.Room.{CanHear}
 use Rattle.csp_log.specs.Pictures.{shown_answer}
-use Rattle.csp_bridge.proofs.Laws.{told_law}
+use Rattle.csp_bridge.proofs.StepLaws.{told_law}
 use Rattle.csp_bridge.proofs.party.BridgeParty.told.Goals as goal
 
 pub returns-clause-holds : goal.returns-clause-holds

@@ -1,7 +1,7 @@
 use Rattle.std.proofs.Common.{ap, ◌∙◌, arith}
 use Rattle.csp_iface.specs.PlainIface.{IfaceAt}
 use Rattle.csp_log.specs.Pictures.{shown_answer}
-use Rattle.csp_iface.proofs.Laws.{rests}
+use Rattle.csp_iface.proofs.StepLaws.{rests}
 use Rattle.csp_iface.proofs.iface.Iface.told_now.Goals as goal
 
 pub read_on-requires : goal.read_on-requires

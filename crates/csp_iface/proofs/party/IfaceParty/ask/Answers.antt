@@ -1,7 +1,7 @@
 use Rattle.csp_iface.specs.Asking.{asked, handed}
 use Rattle.csp_iface.specs.PlainIface.{PlainIface}
 use Rattle.csp_iface.specs.Planning.{plan_of}
-use Rattle.csp_iface.proofs.Laws.{Stays, handed_law, handed_stays, same_uses}
+use Rattle.csp_iface.proofs.StepLaws.{Stays, handed_law, handed_stays, same_uses}
 use Rattle.csp_iface.proofs.party.IfaceParty.ask.Goals as goal
 
 pub returns-clause-uses : goal.returns-clause-uses

@@ -1,7 +1,7 @@
 use Rattle.std.proofs.Common.{subst}
 use Rattle.csp_iface.specs.PlainIface.{PlainIface, IfaceAt}
 use Rattle.csp_log.specs.Pictures.{shown_answer}
-use Rattle.csp_iface.proofs.Laws.{IsFree, hears_free, rests, tells_law, tells_uses}
+use Rattle.csp_iface.proofs.StepLaws.{IsFree, hears_free, rests, tells_law, tells_uses}
 use Rattle.csp_iface.proofs.party.IfaceParty.told.Goals as goal
 
 pub returns-clause-uses : goal.returns-clause-uses
