@@ -7,4 +7,4 @@ mod StepLaws
 mod Popping
 mod Scripts
 mod Takes
-pub mod Laws
+pub mod Public

@@ -2,4 +2,4 @@ mod PriorityLaws
 mod SequenceLaws
 mod MemoryLemmas
 mod TransferLemmas
-pub mod Laws
+pub mod Public

@@ -29,7 +29,7 @@ use Rattle.csp_ports.specs.declared.request.Request.{Request}
 use Rattle.csp_ports.specs.declared.terms.Terms.{Terms}
 use Rattle.csp_ports.specs.declared.terms.Wish.{Wish}
 use Rattle.csp_ports.specs.declared.terms.Wish.TheVariants as wish
-use Rattle.csp_ports.proofs.Laws.{wishes_earlier, wishes_later}
+use Rattle.csp_ports.proofs.Public.{wishes_earlier, wishes_later}
 use Rattle.csp_rdp.specs.Changes.{change_between}
 use Rattle.csp_rdp.specs.Jobs as jobs
 use Rattle.csp_rdp.specs.Machine.{PlainRdp}

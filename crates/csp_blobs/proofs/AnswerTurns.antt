@@ -39,7 +39,7 @@ use Rattle.csp_ports.specs.declared.owed.Owed.{Owed}
 use Rattle.csp_ports.specs.declared.request.Request.{Request}
 use Rattle.csp_ports.specs.declared.task.Task.{Task}
 use Rattle.csp_ports.specs.declared.task.Task.TheVariants as task
-use Rattle.csp_ports.proofs.Laws.{wishes-none}
+use Rattle.csp_ports.proofs.Public.{wishes-none}
 use Rattle.csp_rdp.specs.Jobs.{delivery}
 use Rattle.csp_rdp.specs.declared.jobs.Job.{Job}
 use Rattle.csp_rdp_header.specs.Head.{parted}
@@ -61,7 +61,7 @@ use Rattle.csp_stack.specs.Rules.{◌>>=◌, Arrival, Decided, Left, Ruling, acc
 use Rattle.csp_stack.specs.Serving.{facts_of, reply_in, with_facts}
 use Rattle.csp_stack.specs.Sources.{place_with_work, source_at}
 use Rattle.csp_stack.specs.Told.{Told, discarded, leaving, with_ports}
-use Rattle.csp_stack.proofs.Laws.{by_rest, heard_here}
+use Rattle.csp_stack.proofs.Public.{by_rest, heard_here}
 use Rattle.csp_stack.specs.Turn.{asked_at, asked_by, asks_at, delivering, giving, jobs_by, op_of, plan_by, plan_for, plan_of, pushing, replying, timed, told_at, told_by, told_delivering, told_giving, told_hearing, told_keeping, told_making, told_noting, told_pushing, told_sending, work_at, work_found}
 use Rattle.csp_stack.specs.declared.plan.Plan.{Plan}
 use Rattle.csp_stack.specs.declared.plan.Plan.TheVariants as plan
@@ -69,7 +69,7 @@ use Rattle.csp_stack.specs.declared.sources.Source.{Source}
 use Rattle.csp_stack.specs.declared.sources.Source.TheVariants as source
 use Rattle.csp_consistent.specs.Reading.{got_by, gets, is_queue, put_by, puts}
 use Rattle.csp_prefix.specs.Routers.{ComesSo, opening_router, router_steps}
-use Rattle.csp_prefix.proofs.Laws.{task_there}
+use Rattle.csp_prefix.proofs.Public.{task_there}
 use Rattle.csp_blobs.specs.Asking as asking
 use Rattle.csp_blobs.specs.Asking.{AnswerNoMore, answered_in, asked_in, is_note}
 use Rattle.csp_blobs.proofs.AnswerItems.{counted, counted_few, counts_append, none_counts, one_counts}

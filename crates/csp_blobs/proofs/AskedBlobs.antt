@@ -17,11 +17,11 @@ use Rattle.csp_scene.specs.Ranges.{IsApp, IsNode, IsScene, IsStep}
 use Rattle.csp_scene.specs.Scene.{PlainNode, PlainScene}
 use Rattle.csp_sfp.specs.Collecting.{all_pieces}
 use Rattle.csp_causal.specs.Causal.{IsCausal}
-use Rattle.csp_consistent.proofs.Laws.{each_at}
+use Rattle.csp_consistent.proofs.Public.{each_at}
 use Rattle.csp_consistent.specs.Consistent.{IsConsistent}
 use Rattle.csp_consistent.specs.Lanes.{IsInOrder}
 use Rattle.csp_consistent.specs.Reading.{entries_of, gets, left_in, puts}
-use Rattle.csp_prefix.proofs.Laws.{RouterThere, app_lanes_there, opener}
+use Rattle.csp_prefix.proofs.Public.{RouterThere, app_lanes_there, opener}
 use Rattle.csp_prefix.specs.Apps.{IsAppLog}
 use Rattle.csp_prefix.specs.Prefix.{IsBeginning, sent_on}
 use Rattle.csp_topology.specs.Lanes.{app_lanes, leader_of}

@@ -32,7 +32,7 @@ use Rattle.csp_ports.specs.Asking.{is_reliable}
 use Rattle.csp_ports.specs.Packets.{submitting_in}
 use Rattle.csp_ports.specs.PlainPorts.{machine_at, terms_at}
 use Rattle.csp_ports.specs.Steps.{timed as ports_timed}
-use Rattle.csp_prefix.proofs.Laws.{IsEarly, sender-kept, IsAmong, Past, among_more, no_past, with_openings, past_of, past_with, Stands, opening_stands, past, past_sent, stands_timed, told_since, TellsAt, entry_tells, events_are, packet_tells, timed_tells, timed_unsent}
+use Rattle.csp_prefix.proofs.Public.{IsEarly, sender-kept, IsAmong, Past, among_more, no_past, with_openings, past_of, past_with, Stands, opening_stands, past, past_sent, stands_timed, told_since, TellsAt, entry_tells, events_are, packet_tells, timed_tells, timed_unsent}
 use Rattle.csp_prefix.specs.Machines.{IsSender}
 use Rattle.csp_prefix.specs.Ports.{IsInUse, IsSlot, now_at}
 use Rattle.csp_prefix.specs.Prefix.{IsBeginning}
@@ -45,7 +45,7 @@ use Rattle.csp_record.specs.Ordinals.{frees, ordinal_at}
 use Rattle.csp_record.specs.Payloads.{carried, is_on, sent, told_on}
 use Rattle.csp_record.specs.declared.connections.Opening.{Opening}
 use Rattle.csp_record.specs.declared.payloads.Way.TheVariants as way
-use Rattle.csp_record.proofs.Laws.{Ends}
+use Rattle.csp_record.proofs.Public.{Ends}
 use Rattle.csp_stack.specs.Config.{opening_state}
 use Rattle.csp_stack.specs.Router.{Facts, Leaving, State, at_rest, origin_of}
 use Rattle.csp_stack.specs.Rules.{by_mark, by_slot, on_connection, served}
@@ -57,8 +57,8 @@ use Rattle.csp_ports.specs.declared.terms.Terms.{Terms}
 use Rattle.csp_buffer.specs.PlainBuffer.{PlainBuffer}
 use Rattle.csp_blobs.specs.Asking.{SendWhatComes}
 use Rattle.csp_blobs.specs.Sending.{payload_on, pushed_on}
-use Rattle.csp_scene.proofs.Laws.{AllByRecursion-append}
-use Rattle.csp_consistent.proofs.Laws.{each_at}
+use Rattle.csp_scene.proofs.Public.{AllByRecursion-append}
+use Rattle.csp_consistent.proofs.Public.{each_at}
 use Rattle.csp_blobs.proofs.AskingTurns.{IsEnded, IsToldOf, ended_said, ends_so, opening_of, over_aim, senders, senders_aim, told_of, turns, turns_on, used_on}
 
 -- ---- a turn that pops from an application

@@ -5,7 +5,7 @@ use Rattle.csp_base.specs.declared.traces.Tag.{Tag}
 use Rattle.csp_buffer.specs.PlainBuffer.{PlainBuffer}
 use Rattle.csp_ports.specs.PlainPorts.{start_of}
 use Rattle.csp_ports.specs.declared.origin.Origin.{Origin}
-use Rattle.csp_prefix.proofs.Laws.{hears-handed, IsEarly, opens-early, sender-kept, sends-over, Delivers, Hears, Ways, answers, delivers, delivers-both, delivers-open, enters, enters_keeping, goes-kept-again, goes-rested, goes-sent, keeps, moves, off, on, over, resets, ways-closing, ways-ticked, sender_not}
+use Rattle.csp_prefix.proofs.Public.{hears-handed, IsEarly, opens-early, sender-kept, sends-over, Delivers, Hears, Ways, answers, delivers, delivers-both, delivers-open, enters, enters_keeping, goes-kept-again, goes-rested, goes-sent, keeps, moves, off, on, over, resets, ways-closing, ways-ticked, sender_not}
 use Rattle.csp_prefix.specs.Machines.{IsOver, IsSender, SendsIn, WasOpened, whatever}
 use Rattle.csp_prefix.specs.Slots.{Book, IsKept, Now, Numbering, after_delivering, after_opening, after_sending, blank, begun, waiting_for, with_machine}
 use Rattle.csp_rdp.specs.Holding.{rested}

@@ -15,7 +15,7 @@ use Rattle.csp_ports.specs.Asking.{is_reliable}
 use Rattle.csp_ports.specs.PlainPorts.{PlainPorts, machine_at, terms_at}
 use Rattle.csp_ports.specs.Steps.{timed as ports_timed}
 use Rattle.csp_ports.specs.declared.terms.Terms.{Terms}
-use Rattle.csp_prefix.proofs.Laws.{sender-kept, IsAmong, IsTold, Past, all_at, past_after, with_openings, split_entry, each_any, hears_any, known_aim, known_is_aim, known_stands, known_turns, told_since, past_with, step_stands, sender_not, Aim, IsAim, Stands, events_are, timed_unsent, part_all}
+use Rattle.csp_prefix.proofs.Public.{sender-kept, IsAmong, IsTold, Past, all_at, past_after, with_openings, split_entry, each_any, hears_any, known_aim, known_is_aim, known_stands, known_turns, told_since, past_with, step_stands, sender_not, Aim, IsAim, Stands, events_are, timed_unsent, part_all}
 use Rattle.csp_prefix.specs.Machines.{IsSender}
 use Rattle.csp_prefix.specs.Ports.{Books, IsInUse, IsSlot, now_at}
 use Rattle.csp_prefix.specs.Routers.{ComesSo, router_steps}

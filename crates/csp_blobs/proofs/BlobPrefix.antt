@@ -12,7 +12,7 @@ use Rattle.csp_log.specs.declared.who.Who.TheVariants as who
 use Rattle.csp_scene.specs.Scene.{PlainApp, PlainNode, PlainScene}
 use Rattle.csp_sfp.specs.Collecting.{CanAllBeCut, CollectsBeginning, Cut, all_pieces, blobs_of, collected, refusals}
 use Rattle.csp_sfp.specs.Gathering.{Gathering, nothing}
-use Rattle.csp_consistent.proofs.Laws.{Logged, IsAppAt, IsOf, IsOwner, logged}
+use Rattle.csp_consistent.proofs.Public.{Logged, IsAppAt, IsOf, IsOwner, logged}
 use Rattle.csp_consistent.specs.Reading.{entries_of}
 use Rattle.csp_consistent.specs.Runs.{AreLogsOf}
 use Rattle.csp_prefix.specs.Apps.{IsAppLog, app_steps}

@@ -12,8 +12,8 @@ use Rattle.csp_log.specs.declared.note.Note.TheVariants as note
 use Rattle.csp_log.specs.declared.shown.ItemShown.{ItemShown}
 use Rattle.csp_log.specs.declared.shown.ItemShown.TheVariants as item
 use Rattle.csp_scene.specs.Ranges.{IsStep}
-use Rattle.csp_sfp.proofs.Laws.{has_pieces}
-use Rattle.csp_consistent.proofs.Laws.{each_at}
+use Rattle.csp_sfp.proofs.Public.{has_pieces}
+use Rattle.csp_consistent.proofs.Public.{each_at}
 use Rattle.csp_blobs.specs.Sending.{all_packets, packets_from, pushed_by, unnumbered}
 
 -- ---- what is ahead

@@ -12,7 +12,7 @@ use Rattle.csp_buffer.specs.Content.{Content}
 use Rattle.csp_deck.specs.Carried.{IsCarried}
 use Rattle.csp_deck.specs.Keeping.{number_in}
 use Rattle.csp_deck.specs.Step.{IsAnswerOf, answer_numbers, op_numbers, times}
-use Rattle.csp_deck.proofs.Laws.{times-append}
+use Rattle.csp_deck.proofs.Public.{times-append}
 use Rattle.csp_log.specs.declared.places.Carries.TheVariants as lane
 use Rattle.csp_log.specs.declared.places.Rule.TheVariants as rule
 use Rattle.csp_log.specs.declared.places.TheConstants.{UNMARKED}

@@ -8,4 +8,4 @@ mod Whole
 mod Mapping
 mod Own
 mod Going
-pub mod Laws
+pub mod Public

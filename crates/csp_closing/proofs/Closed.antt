@@ -28,7 +28,7 @@ use Rattle.csp_record.specs.Record.{PlainPartyLog, PlainRecord}
 use Rattle.csp_scene.specs.Kept.{AreLinksAfter}
 use Rattle.csp_scene.specs.Ranges.{IsScene}
 use Rattle.csp_scene.specs.Scene.{PlainScene}
-use Rattle.csp_standing.proofs.Laws.{Apart, Hubs, Led, post_at, JoinsAll}
+use Rattle.csp_standing.proofs.Public.{Apart, Hubs, Led, post_at, JoinsAll}
 use Rattle.csp_standing.specs.Fabrics.{IsFabricOf, network_of}
 use Rattle.csp_standing.specs.Network.{IsNetworkOf, PlainNetwork}
 use Rattle.csp_standing.specs.Played.{are_done}

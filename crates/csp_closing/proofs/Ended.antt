@@ -16,7 +16,7 @@ use Rattle.csp_closing.proofs.Remains.{sides_of}
 use Rattle.csp_closing.specs.Nodes.{HaveBack, left_numbers, queue_numbers}
 use Rattle.csp_closing.specs.Retired.{IsFresh, PlainRetired, all_homes, all_rest, all_sides, post_of, rest_of, retired_of, to_retire}
 use Rattle.csp_closing.specs.Stores.{CanEndParties, CanGiveBack, PlainPile, parties_back, pile_of, pool_part, with_back}
-use Rattle.csp_consistent.proofs.Laws.{IsOwn, own_told, scene_own}
+use Rattle.csp_consistent.proofs.Public.{IsOwn, own_told, scene_own}
 use Rattle.csp_consistent.specs.Pools.{is_node}
 use Rattle.csp_deck.specs.Runs.{Steps, state_after}
 use Rattle.csp_deck.specs.Step.{times}
@@ -34,7 +34,7 @@ use Rattle.csp_log.specs.declared.who.Who.{Who}
 use Rattle.csp_log.specs.declared.who.Who.TheVariants as who
 use Rattle.csp_scene.specs.Links.{no_node}
 use Rattle.csp_scene.specs.Scene.{PlainNode, PlainScene}
-use Rattle.csp_standing.proofs.Laws.{home_named, post_at}
+use Rattle.csp_standing.proofs.Public.{home_named, post_at}
 use Rattle.csp_standing.specs.Fabrics.{AreStoresOf, CanNote, IsStoreOf, buffers_at}
 use Rattle.csp_standing.specs.Network.{IsNetworkOf, IsPostOf, PlainNetwork}
 use Rattle.csp_standing.specs.declared.fabric.NodeStore.{NodeStore}

@@ -23,7 +23,7 @@ use Rattle.csp_log.specs.declared.places.QueueId.TheVariants as queue
 use Rattle.csp_posts.specs.Posts.{PlainPost}
 use Rattle.csp_log.specs.declared.who.Who.{Who}
 use Rattle.csp_scene.specs.Scene.{PlainNode, PlainScene}
-use Rattle.csp_standing.proofs.Laws.{Apart, Hubs, Led, HasPost, post_at, post_of, JoinsAll}
+use Rattle.csp_standing.proofs.Public.{Apart, Hubs, Led, HasPost, post_at, post_of, JoinsAll}
 use Rattle.csp_standing.specs.Fabrics.{AreRoomsOf, AreStoresOf, network_of, queues_in}
 use Rattle.csp_standing.specs.Network.{AreNodesOf, IsNetworkOf, IsSideAmong, PlainNetwork, sides_from}
 use Rattle.csp_standing.specs.declared.fabric.Fabric.{Fabric}

@@ -21,7 +21,7 @@ use Rattle.csp_log.specs.declared.who.Who.{Who}
 use Rattle.csp_log.specs.declared.who.Who.TheVariants as who
 use Rattle.csp_scene.specs.Links.{links_at}
 use Rattle.csp_scene.specs.Scene.{PlainLink, PlainNode, PlainScene}
-use Rattle.csp_standing.proofs.Laws.{Apart, Hubs, Led, home_in, hub_at, hub_leads, hub_place_of, leads_hub, node_in, IsAt, home_named, post_at, post_of}
+use Rattle.csp_standing.proofs.Public.{Apart, Hubs, Led, home_in, hub_at, hub_leads, hub_place_of, leads_hub, node_in, IsAt, home_named, post_at, post_of}
 use Rattle.csp_standing.specs.Network.{IsHomeIn, IsNetworkOf, IsPostOf, PlainNetwork, leads, mark_for}
 use Rattle.csp_topology.specs.Lanes.{leader_of}
 use Rattle.csp_topology.specs.Parties.{PlainOpening, apps_from, leader_by, ifaces_from, links_from, parties_at, parties_from, parties_of}

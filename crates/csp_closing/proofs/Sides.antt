@@ -6,7 +6,7 @@ use Rattle.std.proofs.lemmas.Option.{same_Some}
 use Rattle.csp_arena.specs.Cells.{RegionName}
 use Rattle.csp_closing.proofs.Lists.{differs, equal, all_at}
 use Rattle.csp_closing.specs.Wires.{AreAllNext, AreLeftAmong, IsEndThere, IsFirstAt, IsLeftAmong, without_all, without_ends, without_first}
-use Rattle.csp_consistent.proofs.Laws.{who_is, who_same}
+use Rattle.csp_consistent.proofs.Public.{who_is, who_same}
 use Rattle.csp_consistent.specs.Pools.{place_named}
 use Rattle.csp_ends.specs.Ends.{PlainNodeQueues, PlainSide, IsSideOf}
 use Rattle.csp_lane.specs.Ends as lane

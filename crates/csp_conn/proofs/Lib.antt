@@ -1,3 +1,3 @@
 mod Ports
 mod Found
-pub mod Laws
+pub mod Public

@@ -2,7 +2,7 @@
 use Rattle.std.proofs.Common.{◌≡◌, ℕ, ◌+◌, Bool, true, false, Option, None, Some, List, [], ◌∷◌, ◌++◌, nat_lt, option_map, slice_get, refl, ap, arith}
 use Rattle.std.specs.Prelude.{⊤}
 use Rattle.std.specs.Option.{option_to_list}
-use Rattle.csp_app.proofs.Laws.{among, among_append, among_cons, holds_times, handed_law}
+use Rattle.csp_app.proofs.Public.{among, among_append, among_cons, holds_times, handed_law}
 use Rattle.csp_app.specs.Asking.{asked, asks, handed}
 use Rattle.csp_app.specs.Making.{filled, mark_in, note_in, packet_in}
 use Rattle.csp_app.specs.PlainApp.{PlainApp, buffers, holds}

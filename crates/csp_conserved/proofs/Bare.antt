@@ -4,7 +4,7 @@ use Rattle.std.specs.Prelude.{if◌then◌else◌}
 use Rattle.std.specs.List.{AllByRecursion}
 use Rattle.csp_conserved.proofs.Frames.{rx_bare, tx_bare}
 use Rattle.csp_conserved.proofs.Ifaces.{IsBare}
-use Rattle.csp_consistent.proofs.Laws.{AreLanes, end_lanes_of, IsJoint, joint, each_last, entries_in, who_is}
+use Rattle.csp_consistent.proofs.Public.{AreLanes, end_lanes_of, IsJoint, joint, each_last, entries_in, who_is}
 use Rattle.csp_consistent.specs.Lanes.{AreInOrder, IsInOrder}
 use Rattle.csp_consistent.specs.Queues.{MayAsk, UseTheirQueues}
 use Rattle.csp_consistent.specs.Reading.{entries_of, gets, left_in, puts}
@@ -16,7 +16,7 @@ use Rattle.csp_log.specs.declared.places.QueueId.TheVariants as queue
 use Rattle.csp_record.specs.Record.{PlainPartyLog, PlainRecord}
 use Rattle.csp_log.specs.Who.{is_who}
 use Rattle.csp_log.specs.declared.who.Who.{Who}
-use Rattle.csp_scene.proofs.Laws.{AllByRecursion-append}
+use Rattle.csp_scene.proofs.Public.{AllByRecursion-append}
 use Rattle.csp_scene.specs.Kept.{AreLinksAfter}
 use Rattle.csp_scene.specs.Links.{links_at}
 use Rattle.csp_scene.specs.Scene.{PlainLink, PlainScene}

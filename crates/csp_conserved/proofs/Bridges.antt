@@ -5,7 +5,7 @@ use Rattle.csp_bridge.specs.PlainBridge.{PlainBridge, holds}
 use Rattle.csp_bridge.specs.Telling.{tells}
 use Rattle.csp_bridge.specs.declared.doing.Doing.{Doing}
 use Rattle.csp_buffer.specs.Content.{Content}
-use Rattle.csp_deck.proofs.Laws.{times-append}
+use Rattle.csp_deck.proofs.Public.{times-append}
 use Rattle.csp_deck.specs.Keeping.{number_in}
 use Rattle.csp_deck.specs.Step.{answer_numbers, op_numbers, times}
 use Rattle.csp_log.specs.Pictures.{Fits}

@@ -5,7 +5,7 @@ use Rattle.std.proofs.lemmas.Grind.{flat_map-append}
 use Rattle.std.proofs.lemmas.List.Sums.{count_by-le-length, length-filter}
 use Rattle.csp_conserved.proofs.Bare.{IsBareAt, bare_at, may_in}
 use Rattle.csp_conserved.proofs.Frames.{iface_gets_bare, tx_bare}
-use Rattle.csp_prefix.proofs.Laws.{each_both, app_lanes_there, out_lane_there}
+use Rattle.csp_prefix.proofs.Public.{each_both, app_lanes_there, out_lane_there}
 use Rattle.csp_conserved.proofs.Homes.{AsksIn}
 use Rattle.csp_conserved.proofs.Hubs.{hub_asks}
 use Rattle.csp_conserved.proofs.Left.{left_there, pool_there}
@@ -16,14 +16,14 @@ use Rattle.csp_conserved.proofs.Sums.{over, over_both, over_none, over_same}
 use Rattle.csp_conserved.proofs.Turns.{all_got, all_put, got_numbers, put_numbers}
 use Rattle.csp_conserved.specs.Flow.{IsFlow, numbers_there}
 use Rattle.csp_conserved.specs.Kept.{KeepNumbers}
-use Rattle.csp_consistent.proofs.Laws.{uses, are_owners}
+use Rattle.csp_consistent.proofs.Public.{uses, are_owners}
 use Rattle.csp_consistent.specs.Inboxes.{AreInboxesInOrder}
 use Rattle.csp_consistent.specs.Lanes.{AreInOrder, IsInOrder}
 use Rattle.csp_consistent.specs.Pools.{AreNumbersKept, left_held, parties_held, pools_held}
 use Rattle.csp_consistent.specs.Queues.{MayAsk}
 use Rattle.csp_consistent.specs.Reading.{entries_of, gets, left_in, puts}
 use Rattle.csp_consistent.specs.Runs.{AreLogsOf}
-use Rattle.csp_deck.proofs.Laws.{times-append}
+use Rattle.csp_deck.proofs.Public.{times-append}
 use Rattle.csp_deck.specs.Step.{times}
 use Rattle.csp_log.specs.declared.entry.Entry.{Entry}
 use Rattle.csp_log.specs.declared.places.QueueId.{QueueId}

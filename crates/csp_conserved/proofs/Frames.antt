@@ -2,7 +2,7 @@
 use Rattle.std.proofs.Common.{◌≡◌, ◌⊎◌, inl, inr, ℕ, ◌+◌, ◌<◌, ◌==◌, Bool, true, false, Option, None, Some, List, [], ◌∷◌, length, slice_get, refl, sym, ap, subst, arith}
 use Rattle.std.specs.List.{AllByRecursion}
 use Rattle.csp_buffer.specs.Content.{Content}
-use Rattle.csp_consistent.proofs.Laws.{end_lanes_of, through, IsIfaceRun, IsJoint, iface_run, joint, each_first, each_if, each_last, one_at, Logged, IsLinkAt, IsOf, as_hub, as_link, PopsWithin, logged, came}
+use Rattle.csp_consistent.proofs.Public.{end_lanes_of, through, IsIfaceRun, IsJoint, iface_run, joint, each_first, each_if, each_last, one_at, Logged, IsLinkAt, IsOf, as_hub, as_link, PopsWithin, logged, came}
 use Rattle.csp_consistent.specs.Lanes.{AreInOrder}
 use Rattle.csp_consistent.specs.Reading.{entries_of, got_by, gets, is_queue, put_by, puts}
 use Rattle.csp_consistent.specs.Runs.{AreLogsOf}
@@ -37,10 +37,10 @@ use Rattle.csp_log.specs.declared.shown.ItemShown.TheVariants as item
 use Rattle.csp_log.specs.declared.shown.OpShown.{OpShown}
 use Rattle.csp_log.specs.declared.shown.OpShown.TheVariants as op
 use Rattle.csp_party.specs.Any.{a_hub, a_link, an_iface}
-use Rattle.csp_prefix.proofs.Laws.{owner_of, run_of}
+use Rattle.csp_prefix.proofs.Public.{owner_of, run_of}
 use Rattle.csp_record.specs.Record.{PlainRecord}
 use Rattle.csp_log.specs.declared.who.Who.TheVariants as who
-use Rattle.csp_scene.proofs.Laws.{AllByRecursion-append}
+use Rattle.csp_scene.proofs.Public.{AllByRecursion-append}
 use Rattle.csp_scene.specs.Kept.{AreLinksAfter}
 use Rattle.csp_scene.specs.Links.{links_at}
 use Rattle.csp_scene.specs.Scene.{PlainLink, PlainScene}

@@ -42,7 +42,7 @@ use Rattle.csp_ports.specs.declared.handing.Invitation.{Invitation}
 use Rattle.csp_ports.specs.declared.owed.Owed.{Owed}
 use Rattle.csp_ports.specs.declared.task.Task.{Task}
 use Rattle.csp_ports.specs.declared.task.Task.TheVariants as task
-use Rattle.csp_prefix.proofs.Laws.{task_there}
+use Rattle.csp_prefix.proofs.Public.{task_there}
 use Rattle.csp_rdp.specs.Jobs.{delivery}
 use Rattle.csp_rdp.specs.declared.jobs.Job.{Job}
 use Rattle.csp_rdp_header.specs.Head.{parted}
@@ -52,12 +52,12 @@ use Rattle.csp_route.specs.Routes.{Hop, IsWithin, Routes, longest_below, route_o
 use Rattle.csp_route.specs.declared.prefix.Prefix.{Prefix}
 use Rattle.csp_route.specs.declared.prefix.TheConstants.{MAX_MASK}
 use Rattle.csp_route.specs.declared.row.Row.{Row}
-use Rattle.csp_service.proofs.Laws.{answered_leads}
+use Rattle.csp_service.proofs.Public.{answered_leads}
 use Rattle.csp_service.specs.Answers.{Outcome, answered}
 use Rattle.csp_service.specs.declared.answers.Served.{Served}
 use Rattle.csp_service.specs.declared.answers.Served.TheVariants.{NoService, Refused, Reply, Silent}
 use Rattle.csp_service.specs.declared.stats.Count.TheVariants as count
-use Rattle.csp_stack.proofs.Laws.{by_rest, heard_here}
+use Rattle.csp_stack.proofs.Public.{by_rest, heard_here}
 use Rattle.csp_stack.specs.Comes.{heard_at_port, heard_at_socket, heard_elsewhere}
 use Rattle.csp_stack.specs.Counting.{came_in, counting, was_full}
 use Rattle.csp_stack.specs.Readings.{buffer_in, is_checked, is_here, is_pushed, is_secured, item_in}

@@ -15,7 +15,7 @@ use Rattle.csp_buffer.specs.Content.{Content}
 use Rattle.csp_base.specs.declared.limits.TheConstants.{SLOTS}
 use Rattle.csp_conn.specs.declared.slot.Slot.TheVariants.{Free}
 use Rattle.csp_conserved.proofs.Homes.{AsksIn, IsHome, asks_in, stays_home}
-use Rattle.csp_consistent.proofs.Laws.{Logged, IsBridgeAt, IsOf, IsRouterAt, logged}
+use Rattle.csp_consistent.proofs.Public.{Logged, IsBridgeAt, IsOf, IsRouterAt, logged}
 use Rattle.csp_consistent.specs.Reading.{entries_of}
 use Rattle.csp_consistent.specs.Runs.{AreLogsOf}
 use Rattle.csp_deck.specs.Runs.{IsRun}
@@ -25,7 +25,7 @@ use Rattle.csp_log.specs.declared.shown.AnswerShown.TheVariants as answer
 use Rattle.csp_log.specs.declared.shown.ItemShown.{ItemShown}
 use Rattle.csp_log.specs.declared.shown.ItemShown.TheVariants as item
 use Rattle.csp_party.specs.Any.{a_bridge, a_router}
-use Rattle.csp_prefix.proofs.Laws.{owner_of, run_of}
+use Rattle.csp_prefix.proofs.Public.{owner_of, run_of}
 use Rattle.csp_record.specs.Record.{PlainRecord}
 use Rattle.csp_log.specs.declared.who.Who.TheVariants as who
 use Rattle.csp_route.specs.Routes.{IsWithin, Routes}

@@ -6,10 +6,10 @@ use Rattle.std.specs.Option.{option_to_list}
 use Rattle.std.proofs.lemmas.Bool.{eq-eqb}
 use Rattle.csp_base.specs.declared.traces.Trace.{Trace}
 use Rattle.csp_buffer.specs.Content.{Content}
-use Rattle.csp_consistent.proofs.Laws.{IsNamed, step_named, waiting}
+use Rattle.csp_consistent.proofs.Public.{IsNamed, step_named, waiting}
 use Rattle.csp_consistent.specs.Reading.{got_by}
 use Rattle.csp_deck.specs.Step.{answer_numbers, item_numbers, times}
-use Rattle.csp_iface.proofs.Laws.{among, holds_times, handed_law}
+use Rattle.csp_iface.proofs.Public.{among, holds_times, handed_law}
 use Rattle.csp_iface.specs.Asking.{asked, asks, delivered, given, op_of, transmitted}
 use Rattle.csp_iface.specs.PlainIface.{PlainIface, holds}
 use Rattle.csp_iface.specs.Planning.{first_rule, plan_of, side_plan}

@@ -10,7 +10,7 @@ use Rattle.csp_conserved.specs.Flow.{numbers_there}
 use Rattle.csp_consistent.specs.Pools.{left_held, pools_held}
 use Rattle.csp_consistent.specs.Reading.{is_queue, left_here}
 use Rattle.csp_consistent.specs.Whole.{AreQueuesLeft, at_node, left_name, queue_name, queues_from}
-use Rattle.csp_deck.proofs.Laws.{times-append}
+use Rattle.csp_deck.proofs.Public.{times-append}
 use Rattle.csp_deck.specs.Carried.{places_of}
 use Rattle.csp_deck.specs.Step.{times}
 use Rattle.csp_lists.specs.Order.{lanes, places_in}

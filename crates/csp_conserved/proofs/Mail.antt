@@ -10,11 +10,11 @@ use Rattle.csp_base.specs.declared.priority.Prio.TheVariants.{Critical, High, No
 use Rattle.csp_buffer.specs.Content.{Content}
 use Rattle.csp_conserved.proofs.Queues.{among, among_if, among_more, got_in, put_in}
 use Rattle.csp_conserved.proofs.Sums.{over, over_both, over_hit, over_miss, over_none, over_same}
-use Rattle.csp_consistent.proofs.Laws.{each_there, Logged, IsIfaceAt, IsOf, logged}
+use Rattle.csp_consistent.proofs.Public.{each_there, Logged, IsIfaceAt, IsOf, logged}
 use Rattle.csp_consistent.specs.Inboxes.{IsInboxInOrder, came_through, writer_of}
 use Rattle.csp_consistent.specs.Reading.{entries_of, gets, left_in, of_mark, of_priority, puts, with_mark, with_priority}
 use Rattle.csp_consistent.specs.Runs.{AreLogsOf}
-use Rattle.csp_deck.proofs.Laws.{times-append}
+use Rattle.csp_deck.proofs.Public.{times-append}
 use Rattle.csp_deck.specs.Carried.{priority_of}
 use Rattle.csp_deck.specs.Step.{item_numbers, times}
 use Rattle.csp_lists.specs.PlainDeck.{numbers_of}
@@ -22,7 +22,7 @@ use Rattle.csp_log.specs.declared.places.QueueId.TheVariants as queue
 use Rattle.csp_log.specs.declared.places.TheConstants.{UNMARKED}
 use Rattle.csp_log.specs.declared.shown.ItemShown.{ItemShown}
 use Rattle.csp_log.specs.declared.shown.ItemShown.TheVariants as item
-use Rattle.csp_prefix.proofs.Laws.{owner_of}
+use Rattle.csp_prefix.proofs.Public.{owner_of}
 use Rattle.csp_record.specs.Record.{PlainRecord}
 use Rattle.csp_log.specs.declared.who.Who.{Who}
 use Rattle.csp_log.specs.declared.who.Who.TheVariants as who

@@ -2,13 +2,13 @@
 use Rattle.std.proofs.Common.{◌≡◌, Bool, true, false, [], length, refl, ap, ◌∙◌}
 use Rattle.std.specs.Prelude.{if◌then◌else◌}
 use Rattle.std.specs.List.{AllByRecursion}
-use Rattle.csp_consistent.proofs.Laws.{IsOf, IsOwner, are_owners}
+use Rattle.csp_consistent.proofs.Public.{IsOf, IsOwner, are_owners}
 use Rattle.csp_hub.specs.PlainHub.{opening as hub_opening}
 use Rattle.csp_link.specs.PlainLink.{opening as link_opening}
 use Rattle.csp_party.specs.Any.{PlainParty, a_hub, a_link, holds}
 use Rattle.csp_log.specs.declared.who.Who.{Who}
 use Rattle.csp_log.specs.declared.who.Who.TheVariants as who
-use Rattle.csp_scene.proofs.Laws.{AllByRecursion-map}
+use Rattle.csp_scene.proofs.Public.{AllByRecursion-map}
 use Rattle.csp_scene.specs.Links.{links_at}
 use Rattle.csp_scene.specs.Scene.{PlainLink, PlainScene}
 use Rattle.csp_stack.specs.Config.{PlainConfig}

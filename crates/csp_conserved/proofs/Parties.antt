@@ -8,7 +8,7 @@ use Rattle.std.proofs.lemmas.Option.{same_Some}
 use Rattle.csp_app.specs.PlainApp.{opening as app_opening}
 use Rattle.csp_bridge.specs.PlainBridge.{opening as bridge_opening}
 use Rattle.csp_base.specs.declared.limits.TheConstants.{MAX_APPS, SLOTS, ALL_SLOTS}
-use Rattle.csp_consistent.proofs.Laws.{each_at, Logged, are_apart, entries_at, IsOf, IsOwner, are_owners, as_hub, as_link, PopsWithin, logged, pops_within}
+use Rattle.csp_consistent.proofs.Public.{each_at, Logged, are_apart, entries_at, IsOf, IsOwner, are_owners, as_hub, as_link, PopsWithin, logged, pops_within}
 use Rattle.csp_consistent.specs.Lanes.{AreInOrder}
 use Rattle.csp_consistent.specs.Reading.{entries_of, got_by}
 use Rattle.csp_consistent.specs.Runs.{AreLogsOf}
@@ -22,10 +22,10 @@ use Rattle.csp_log.specs.declared.places.QueueId.TheVariants as queue
 use Rattle.csp_log.specs.declared.shown.AnswerShown.{AnswerShown}
 use Rattle.csp_log.specs.declared.shown.OpShown.{OpShown}
 use Rattle.csp_party.specs.Any.{PlainParty, a_bridge, a_hub, a_link, a_router, an_app, an_iface, holds}
-use Rattle.csp_ports.proofs.Laws.{idle_whole}
+use Rattle.csp_ports.proofs.Public.{idle_whole}
 use Rattle.csp_ports.specs.Keeps.{AreWhole}
 use Rattle.csp_ports.specs.PlainPorts.{PlainStalled, ports_of}
-use Rattle.csp_prefix.proofs.Laws.{router_there, each_any, each_both}
+use Rattle.csp_prefix.proofs.Public.{router_there, each_any, each_both}
 use Rattle.csp_prefix.specs.Routers.{ComesSo}
 use Rattle.csp_rdp.specs.Balance.{IsWhole}
 use Rattle.csp_rdp.specs.Machine.{idle}

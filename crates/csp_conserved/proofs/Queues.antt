@@ -11,7 +11,7 @@ use Rattle.csp_conserved.proofs.Sums.{over, over_both, over_hit, over_none, over
 use Rattle.csp_conserved.proofs.Turns.{all_got, all_put, entry_more, got_numbers, put_numbers}
 use Rattle.csp_consistent.specs.Queues.{MayAsk}
 use Rattle.csp_consistent.specs.Reading.{got_by, gets, is_queue, put_by, puts}
-use Rattle.csp_deck.proofs.Laws.{times-append}
+use Rattle.csp_deck.proofs.Public.{times-append}
 use Rattle.csp_deck.specs.Step.{item_numbers, times}
 use Rattle.csp_lists.specs.PlainDeck.{numbers_of}
 use Rattle.csp_log.specs.declared.entry.Entry.{Entry}

@@ -10,10 +10,10 @@ use Rattle.csp_conserved.proofs.Sums.{over, over_hit, over_none, parts, parts_bo
 use Rattle.csp_conserved.proofs.Turns.{all_got, all_put, entries_more, got_numbers, log_balanced, put_numbers}
 use Rattle.csp_conserved.specs.Flow.{numbers_there}
 use Rattle.csp_conserved.specs.Kept.{KeepNumbers}
-use Rattle.csp_consistent.proofs.Laws.{entries_in, IsOf, IsOwner}
+use Rattle.csp_consistent.proofs.Public.{entries_in, IsOf, IsOwner}
 use Rattle.csp_consistent.specs.Pools.{given, given_by, held_after, held_by, is_node, parties_held, party_held, taken, taken_by}
 use Rattle.csp_consistent.specs.Runs.{AreLogsOf}
-use Rattle.csp_deck.proofs.Laws.{times-append}
+use Rattle.csp_deck.proofs.Public.{times-append}
 use Rattle.csp_deck.specs.Step.{times}
 use Rattle.csp_log.specs.declared.entry.Entry.{Entry}
 use Rattle.csp_log.specs.declared.places.Place.{Place}

@@ -6,14 +6,14 @@ use Rattle.std.proofs.lemmas.List.{get_or_past}
 use Rattle.csp_buffer.specs.Content.{Content}
 use Rattle.csp_buffer.specs.PlainBuffer.{PlainBuffer}
 use Rattle.csp_conn.specs.PlainConns.{place_of}
-use Rattle.csp_ports.proofs.Laws.{flows_none, flows_replaced, Flows, flows_machine, flows_then, machine_later, machine_whole, whole_at, flows_handed, tally, tally_append, tally_none, tally_same, weight, sent_whole}
+use Rattle.csp_ports.proofs.Public.{flows_none, flows_replaced, Flows, flows_machine, flows_then, machine_later, machine_whole, whole_at, flows_handed, tally, tally_append, tally_none, tally_same, weight, sent_whole}
 use Rattle.csp_ports.specs.Came.{Came, come, reporting, then}
 use Rattle.csp_ports.specs.Keeps.{AreWhole}
 use Rattle.csp_ports.specs.Packets.{back_by, handing, handing_event}
 use Rattle.csp_ports.specs.PlainPorts.{PlainPorts, PlainStalled, anywhere, machine_at, stalled_at, with_machine}
 use Rattle.csp_ports.specs.Steps.{dropped, dropped_on, settled, settled_on, went}
 use Rattle.csp_ports.specs.Tasks.{kept_again, making, turned, without_packet}
-use Rattle.csp_rdp.proofs.Laws.{delivery-balanced, whole-again, whole-taken, far-taken}
+use Rattle.csp_rdp.proofs.Public.{delivery-balanced, whole-again, whole-taken, far-taken}
 use Rattle.csp_rdp.specs.Holding.{rdp_buffers, rdp_numbers, rested}
 use Rattle.csp_rdp.specs.Jobs.{delivery, delivery_in, keeping_again, sent, without_delivery}
 use Rattle.csp_rdp.specs.Machine.{PlainRdp, idle}

@@ -24,7 +24,7 @@ use Rattle.csp_log.specs.declared.note.Note.TheVariants as note
 use Rattle.csp_log.specs.declared.places.TheConstants.{UNMARKED}
 use Rattle.csp_log.specs.declared.shown.ItemShown.{ItemShown}
 use Rattle.csp_log.specs.declared.shown.ItemShown.TheVariants as item
-use Rattle.csp_ports.proofs.Laws.{Flows, flows_connected, flows_ended, flows_invited, flows_submitted}
+use Rattle.csp_ports.proofs.Public.{Flows, flows_connected, flows_ended, flows_invited, flows_submitted}
 use Rattle.csp_ports.specs.Asking.{bind_by, close, connect, is_reliable}
 use Rattle.csp_ports.specs.Came.{Came}
 use Rattle.csp_ports.specs.Keeps.{AreWhole}
@@ -43,7 +43,7 @@ use Rattle.csp_service.specs.declared.answers.Served.TheVariants.{NoService, Ref
 use Rattle.csp_service.specs.declared.stats.Count.TheVariants as count
 use Rattle.csp_socket.specs.Bound.{owner_of}
 use Rattle.csp_socket.specs.declared.sockets.TheConstants.{BINDABLE_PORTS}
-use Rattle.csp_stack.proofs.Laws.{absorbed_keeps, addressed_number, headed_number, holds_apart, kept_keeps, leaving_keeps, spent_keeps, times_both, by_rest, heard_here}
+use Rattle.csp_stack.proofs.Public.{absorbed_keeps, addressed_number, headed_number, holds_apart, kept_keeps, leaving_keeps, spent_keeps, times_both, by_rest, heard_here}
 use Rattle.csp_stack.specs.Comes.{heard_at_socket, heard_elsewhere, heard_at_port}
 use Rattle.csp_stack.specs.Counting.{counting}
 use Rattle.csp_stack.specs.Readings.{is_checked, is_here, is_secured}

@@ -19,7 +19,7 @@ use Rattle.csp_log.specs.declared.shown.AnswerShown.TheVariants as answer
 use Rattle.csp_log.specs.declared.shown.ItemShown.{ItemShown}
 use Rattle.csp_log.specs.declared.shown.ItemShown.TheVariants as item
 use Rattle.csp_log.specs.declared.shown.OpShown.TheVariants as op
-use Rattle.csp_ports.proofs.Laws.{flows_timed, flows_answered, flows_delivered, keeps_again, keeps_made, now_taken}
+use Rattle.csp_ports.proofs.Public.{flows_timed, flows_answered, flows_delivered, keeps_again, keeps_made, now_taken}
 use Rattle.csp_ports.specs.Asking.{answered}
 use Rattle.csp_ports.specs.Keeps.{AreWhole}
 use Rattle.csp_ports.specs.PlainPorts.{PlainPorts, machine_at, stalled_at, terms_at}
@@ -28,13 +28,13 @@ use Rattle.csp_ports.specs.Tasks.{delivered, kept_again, made_in, making, next_t
 use Rattle.csp_ports.specs.declared.owed.Owed.{Owed}
 use Rattle.csp_ports.specs.declared.task.Task.{Task}
 use Rattle.csp_ports.specs.declared.task.Task.TheVariants as task
-use Rattle.csp_prefix.proofs.Laws.{IsTask, deliver_job, found_passes, serves_free, task_there}
+use Rattle.csp_prefix.proofs.Public.{IsTask, deliver_job, found_passes, serves_free, task_there}
 use Rattle.csp_prefix.specs.Routers.{ComesSo}
 use Rattle.csp_rdp.specs.Jobs.{delivery}
 use Rattle.csp_rdp.specs.declared.answers.State.TheVariants as state
 use Rattle.csp_rdp.specs.declared.jobs.Job.{Job}
 use Rattle.csp_rdp_window.specs.Receiving.{is_kept}
-use Rattle.csp_stack.proofs.Laws.{addressed_number, holds_apart, times_both}
+use Rattle.csp_stack.proofs.Public.{addressed_number, holds_apart, times_both}
 use Rattle.csp_stack.specs.Counting.{came_in, was_full, went_out}
 use Rattle.csp_stack.specs.Party.{asked_of, asks_of, told_of}
 use Rattle.csp_stack.specs.Router.{Facts, Leaving, Router, State, at_rest, holds, out_buffers}

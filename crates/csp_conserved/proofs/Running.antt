@@ -1,7 +1,7 @@
 -- A party whose every turn keeps the numbers of its buffers keeps them in a run.
 use Rattle.std.proofs.Common.{◌≡◌, ℕ, ◌+◌, List, [], ◌∷◌, ap, refl, subst, arith}
 use Rattle.std.specs.List.{AllByRecursion}
-use Rattle.csp_deck.proofs.Laws.{times-append}
+use Rattle.csp_deck.proofs.Public.{times-append}
 use Rattle.csp_deck.specs.Runs.{IsRun, Steps, handed_over, received, state_after, step_after}
 use Rattle.csp_deck.specs.Step.{answer_numbers, op_numbers, times}
 use Rattle.csp_log.specs.Pictures.{Fits}

@@ -5,7 +5,7 @@ use Rattle.std.proofs.lemmas.Grind.{flat_map-append}
 use Rattle.csp_conserved.specs.Kept.{KeepsNumbers}
 use Rattle.csp_consistent.specs.Pools.{given, given_by, held_after, taken, taken_by}
 use Rattle.csp_consistent.specs.Runs.{IsLogOf}
-use Rattle.csp_deck.proofs.Laws.{times-append}
+use Rattle.csp_deck.proofs.Public.{times-append}
 use Rattle.csp_deck.specs.Runs.{IsRun, Steps, handed_over, received, step_after}
 use Rattle.csp_deck.specs.Step.{answer_numbers, item_numbers, op_numbers, times}
 use Rattle.csp_log.specs.Pictures.{Fits}

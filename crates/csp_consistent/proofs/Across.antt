@@ -28,7 +28,7 @@ use Rattle.csp_log.specs.declared.shown.OpShown.TheVariants as op
 use Rattle.csp_log.specs.declared.shown.AnswerShown.{AnswerShown}
 use Rattle.csp_log.specs.declared.shown.AnswerShown.TheVariants as answer
 use Rattle.csp_record.specs.Record.{PlainRecord}
-use Rattle.csp_scene.proofs.Laws.{AllByRecursion-append, slice_get-seam}
+use Rattle.csp_scene.proofs.Public.{AllByRecursion-append, slice_get-seam}
 use Rattle.csp_scene.specs.Scene.{PlainScene, PlainLink}
 use Rattle.csp_consistent.specs.Lanes.{IsInOrder, AreInOrder}
 use Rattle.csp_topology.specs.Lanes.{PlainLane, end_lanes, lanes_on, link_lanes, lanes_from, lanes_of}

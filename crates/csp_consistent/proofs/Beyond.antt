@@ -25,7 +25,7 @@ use Rattle.csp_record.specs.Transmissions.{iface_entries, shown_in}
 use Rattle.csp_log.specs.Who.{is_iface, is_who}
 use Rattle.csp_log.specs.declared.who.Who.{Who}
 use Rattle.csp_log.specs.declared.who.Who.TheVariants as who
-use Rattle.csp_scene.proofs.Laws.{AllByRecursion-map}
+use Rattle.csp_scene.proofs.Public.{AllByRecursion-map}
 use Rattle.csp_scene.specs.Kept.{AreLinksAfter, IsLinkAfter, IsEndAfter}
 use Rattle.csp_scene.specs.Links.{links_at, touches}
 use Rattle.csp_scene.specs.Ranges.{HasEnds}

@@ -23,7 +23,7 @@ use Rattle.csp_kiss.specs.GoingOn.{read_on}
 use Rattle.csp_kiss.specs.Reading.{Reading, answers}
 use Rattle.csp_kiss.specs.declared.progress.KissPacket.{KissPacket}
 use Rattle.csp_log.specs.declared.frame.Frame.{Frame}
-use Rattle.csp_scene.proofs.Laws.{AllByRecursion-append}
+use Rattle.csp_scene.proofs.Public.{AllByRecursion-append}
 use Rattle.csp_consistent.proofs.Each.{each_filter}
 
 -- a whole packet is of this kind by its header, payload and trace, where there is one

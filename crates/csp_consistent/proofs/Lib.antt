@@ -12,4 +12,4 @@ mod QueueNames
 mod Received
 mod RouterQueues
 mod Transmitted
-pub mod Laws
+pub mod Public

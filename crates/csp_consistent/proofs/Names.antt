@@ -8,7 +8,7 @@ use Rattle.csp_record.specs.Record.{PlainPartyLog}
 use Rattle.csp_log.specs.Who.{is_who}
 use Rattle.csp_log.specs.declared.who.Who.{Who}
 use Rattle.csp_log.specs.declared.who.Who.TheVariants as who
-use Rattle.csp_scene.proofs.Laws.{AllByRecursion-append, AllByRecursion-map}
+use Rattle.csp_scene.proofs.Public.{AllByRecursion-append, AllByRecursion-map}
 use Rattle.csp_scene.specs.Links.{links_at}
 use Rattle.csp_scene.specs.Scene.{PlainScene, PlainNode, PlainLink, PlainApp}
 use Rattle.csp_topology.specs.Parties.{PlainOpening, parties_of, parties_from, parties_at, links_from, ifaces_from, apps_from, leader_by}

@@ -9,7 +9,7 @@ use Rattle.csp_link.specs.PlainLink as plain_link
 use Rattle.csp_party.specs.Any.{PlainParty, a_bridge, an_iface, an_app, a_link, a_hub}
 use Rattle.csp_log.specs.declared.who.Who.{Who}
 use Rattle.csp_log.specs.declared.who.Who.TheVariants as who
-use Rattle.csp_scene.proofs.Laws.{AllByRecursion-append}
+use Rattle.csp_scene.proofs.Public.{AllByRecursion-append}
 use Rattle.csp_scene.specs.Links.{links_at}
 use Rattle.csp_scene.specs.Scene.{PlainScene, PlainNode, PlainLink, PlainApp}
 use Rattle.csp_topology.specs.Parties.{PlainOpening, parties_of, parties_from, parties_at, link_party, links_from, iface_opening, heeded, ifaces_from, apps_from, leader_by, router_for, config_of}

@@ -5,14 +5,14 @@ use Rattle.std.specs.List.{AllByRecursion}
 use Rattle.std.proofs.lemmas.List.FromFn.{length-map-range_with_len}
 use Rattle.std.proofs.lemmas.List.Sorted.{IsPermutation-refl}
 use Rattle.csp_deck.specs.Runs.{IsRun, state_after, step_after}
-use Rattle.csp_hub.proofs.Laws as hub_applying
-use Rattle.csp_hub.proofs.Laws.{as_many, fates_asked, fates_tells, next_there}
+use Rattle.csp_hub.proofs.Public as hub_applying
+use Rattle.csp_hub.proofs.Public.{as_many, fates_asked, fates_tells, next_there}
 use Rattle.csp_hub.specs.Applied.{hub_steps}
 use Rattle.csp_hub.specs.Asking as hub_asking
 use Rattle.csp_hub.specs.PlainHub as plain_hub
 use Rattle.csp_hub.specs.Planning as hub_plan
 use Rattle.csp_hub.specs.Telling.{told_by}
-use Rattle.csp_link.proofs.Laws.{applies}
+use Rattle.csp_link.proofs.Public.{applies}
 use Rattle.csp_link.specs.Applied.{link_steps, frames_in}
 use Rattle.csp_link.specs.PlainLink.{direction, opening}
 use Rattle.csp_link.specs.PlainLink as plain_link

@@ -35,7 +35,7 @@ use Rattle.csp_service.specs.Answers.{Outcome, answered}
 use Rattle.csp_service.specs.declared.answers.Served.{Served}
 use Rattle.csp_service.specs.declared.answers.Served.TheVariants.{NoService, Refused, Reply, Silent}
 use Rattle.csp_service.specs.declared.stats.Count.TheVariants as count
-use Rattle.csp_stack.proofs.Laws.{by_rest, heard_here}
+use Rattle.csp_stack.proofs.Public.{by_rest, heard_here}
 use Rattle.csp_stack.specs.Comes.{heard_at_port, heard_at_socket, heard_elsewhere}
 use Rattle.csp_stack.specs.Counting.{counting}
 use Rattle.csp_stack.specs.Readings.{buffer_in, is_checked, is_here, is_pushed, is_secured, item_in}

@@ -34,7 +34,7 @@ use Rattle.csp_log.specs.declared.shown.AnswerShown.{AnswerShown}
 use Rattle.csp_log.specs.declared.shown.AnswerShown.TheVariants as answer
 use Rattle.csp_party.specs.Any.{an_iface}
 use Rattle.csp_record.specs.Transmissions.{fetched, is_beginning, shown_in}
-use Rattle.csp_scene.proofs.Laws.{AllByRecursion-append, AllByRecursion-map}
+use Rattle.csp_scene.proofs.Public.{AllByRecursion-append, AllByRecursion-map}
 use Rattle.csp_topology.specs.Parties.{iface_opening, party_steps}
 use Rattle.csp_consistent.specs.Addressed.{addressed_in, goes_to}
 use Rattle.csp_consistent.specs.Reading.{put_by, puts}

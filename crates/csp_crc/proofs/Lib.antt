@@ -4,4 +4,4 @@ mod Checked
 mod Words
 mod Blocks
 mod Bytes
-pub mod Laws
+pub mod Public

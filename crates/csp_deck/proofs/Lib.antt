@@ -1,4 +1,4 @@
 mod Counting
 mod Keeping
 mod Serving
-pub mod Laws
+pub mod Public

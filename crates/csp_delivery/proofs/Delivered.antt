@@ -25,18 +25,18 @@ use Rattle.csp_record.specs.Passed.{put_in}
 use Rattle.csp_record.specs.Record.{PlainRecord}
 use Rattle.csp_record.specs.Transmissions.{shown_in, transmission}
 use Rattle.csp_log.specs.declared.who.Who.TheVariants as who
-use Rattle.csp_scene.proofs.Laws.{AllByRecursion-map}
+use Rattle.csp_scene.proofs.Public.{AllByRecursion-map}
 use Rattle.csp_scene.specs.Ranges.{IsLink, IsScene}
 use Rattle.csp_scene.specs.Scene.{PlainLink, PlainNode, PlainScene}
 use Rattle.csp_topology.specs.Parties.{heeded, iface_opening, party_steps}
 use Rattle.csp_consistent.specs.Addressed.{AreHopsOut, addressed_in, addressee}
 use Rattle.csp_consistent.specs.Consistent.{IsConsistent}
 use Rattle.csp_consistent.specs.Reading.{entries_of, gets, puts}
-use Rattle.csp_consistent.proofs.Laws.{IsIfaceRun, IsJoint, IsOfOther, came_from_others, entries_alike, iface_run, Logged, IsOf, logged, IsPacketOf, IsSuchFrame, IsSuchIfHeeded, such_also, IsSentIn}
+use Rattle.csp_consistent.proofs.Public.{IsIfaceRun, IsJoint, IsOfOther, came_from_others, entries_alike, iface_run, Logged, IsOf, logged, IsPacketOf, IsSuchFrame, IsSuchIfHeeded, such_also, IsSentIn}
 use Rattle.csp_ordinary.specs.AsSent.{IsAsSent, IsPacketAsSent}
 use Rattle.csp_ordinary.specs.Ordinary.{IsOrdinaryOn}
 use Rattle.csp_ordinary.specs.Words.{HasWords}
-use Rattle.csp_ordinary.proofs.Laws.{ShowsWithin, bus_piece, on_bus, IsPacketWith, accepted_all, link_there, on_link, run_on, sends}
+use Rattle.csp_ordinary.proofs.Public.{ShowsWithin, bus_piece, on_bus, IsPacketWith, accepted_all, link_there, on_link, run_on, sends}
 use Rattle.csp_delivery.specs.Delivery.{AreFirstsCopied, IsFirstCopied, firsts, frames_got, names, origin_at}
 use Rattle.csp_delivery.specs.Hubs.{IsCopied, IsDelivery, IsFor, IsOfAnother, accepted}
 use Rattle.csp_delivery.proofs.HeededPackets.{HasArrived, heeded_traces}

@@ -12,10 +12,10 @@ use Rattle.csp_log.specs.declared.places.QueueId.TheVariants as queue
 use Rattle.csp_log.specs.declared.shown.ItemShown.{ItemShown}
 use Rattle.csp_log.specs.declared.shown.ItemShown.TheVariants as item
 use Rattle.csp_party.specs.Any.{an_iface}
-use Rattle.csp_scene.proofs.Laws.{AllByRecursion-map}
+use Rattle.csp_scene.proofs.Public.{AllByRecursion-map}
 use Rattle.csp_topology.specs.Parties.{iface_opening, party_steps}
 use Rattle.csp_consistent.specs.Reading.{gets, puts}
-use Rattle.csp_consistent.proofs.Laws.{each_there, IsPacketOf, IsSuchFrame, IsSuchIfHeeded, heeded, such_also}
+use Rattle.csp_consistent.proofs.Public.{each_there, IsPacketOf, IsSuchFrame, IsSuchIfHeeded, heeded, such_also}
 
 -- a trace of this kind, with one hop more
 pub record HasArrived (T : Trace → Type 0) (t : Trace) : Type 0 where

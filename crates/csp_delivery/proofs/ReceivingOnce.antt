@@ -18,7 +18,7 @@ use Rattle.csp_party.specs.Any.{an_iface}
 use Rattle.csp_record.specs.Passed.{put_in}
 use Rattle.csp_topology.specs.Parties.{iface_opening, party_steps}
 use Rattle.csp_consistent.specs.Reading.{got_by, gets}
-use Rattle.csp_consistent.proofs.Laws.{IsNamed, step_named}
+use Rattle.csp_consistent.proofs.Public.{IsNamed, step_named}
 use Rattle.csp_delivery.specs.Delivery.{is_first_of, names}
 use Rattle.csp_delivery.proofs.ReceivingCounts.{count_append, count_cons}
 use Rattle.csp_delivery.proofs.ReceivingFrames.{IsBus}

@@ -28,7 +28,7 @@ use Rattle.csp_log.specs.declared.shown.OpShown.{OpShown}
 use Rattle.csp_log.specs.declared.shown.OpShown.TheVariants as op
 use Rattle.csp_record.specs.Passed.{put_in}
 use Rattle.csp_consistent.specs.Reading.{got_by}
-use Rattle.csp_consistent.proofs.Laws.{never_taking, read_on_in, taking, told, waiting}
+use Rattle.csp_consistent.proofs.Public.{never_taking, read_on_in, taking, told, waiting}
 use Rattle.csp_delivery.specs.Delivery.{is_first_of}
 use Rattle.csp_delivery.proofs.ReceivingFrames.{IsBus, IsHeardFew, further_few, hears_few, kept_of, named, whole_of}
 

@@ -11,7 +11,7 @@ use Rattle.csp_link.specs.Telling.{frame_in}
 use Rattle.csp_log.specs.declared.frame.Frame.{Frame}
 use Rattle.csp_log.specs.declared.shown.ItemShown.{ItemShown}
 use Rattle.csp_log.specs.declared.shown.ItemShown.TheVariants as item
-use Rattle.csp_consistent.proofs.Laws.{IsSuchFrame}
+use Rattle.csp_consistent.proofs.Public.{IsSuchFrame}
 
 module _ (o : Origin) where
   -- a frame counts 1 where it is one

@@ -25,10 +25,10 @@ use Rattle.csp_log.specs.declared.shown.AnswerShown.TheVariants as answer
 use Rattle.csp_log.specs.declared.shown.ItemShown.{ItemShown}
 use Rattle.csp_log.specs.declared.shown.ItemShown.TheVariants as item
 use Rattle.csp_party.specs.Any.{an_iface}
-use Rattle.csp_scene.proofs.Laws.{AllByRecursion-map}
+use Rattle.csp_scene.proofs.Public.{AllByRecursion-map}
 use Rattle.csp_topology.specs.Parties.{iface_opening, party_steps}
 use Rattle.csp_consistent.specs.Reading.{put_by, puts}
-use Rattle.csp_consistent.proofs.Laws.{IsFrameOf, IsOn, IsSuchFrame, step_on, told, waiting, IsBegun, transmitted_all}
+use Rattle.csp_consistent.proofs.Public.{IsFrameOf, IsOn, IsSuchFrame, step_on, told, waiting, IsBegun, transmitted_all}
 use Rattle.csp_delivery.proofs.SendingCounts.{among_append, first, firsts_cons, none_among}
 use Rattle.csp_delivery.proofs.SendingFrames.{firsts_sent, unnamed}
 

@@ -22,7 +22,7 @@ use Rattle.csp_log.specs.declared.shown.ItemShown.TheVariants as item
 use Rattle.csp_log.specs.declared.shown.OpShown.{OpShown}
 use Rattle.csp_log.specs.declared.shown.OpShown.TheVariants as op
 use Rattle.csp_consistent.specs.Links.{IsSpread}
-use Rattle.csp_consistent.proofs.Laws.{PopsWithin}
+use Rattle.csp_consistent.proofs.Public.{PopsWithin}
 use Rattle.csp_delivery.proofs.SendingCounts.{AreNone, firsts_append, firsts_permuted, none_first}
 use Rattle.csp_delivery.proofs.SpreadingCopies.{copies_none, made_none, made_once}
 

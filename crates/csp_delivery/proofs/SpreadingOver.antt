@@ -33,7 +33,7 @@ use Rattle.csp_topology.specs.Parties.{iface_opening, party_steps}
 use Rattle.csp_consistent.specs.Consistent.{IsConsistent}
 use Rattle.csp_consistent.specs.Lanes.{IsInOrder}
 use Rattle.csp_consistent.specs.Reading.{entries_of, gets, got_by, left_in, put_by, puts}
-use Rattle.csp_consistent.proofs.Laws.{AreLanes, end_lanes_of, IsIfaceRun, iface_run, each_at, one_at, Logged, IsOf as IsOwned, logged, pops_within}
+use Rattle.csp_consistent.proofs.Public.{AreLanes, end_lanes_of, IsIfaceRun, iface_run, each_at, one_at, Logged, IsOf as IsOwned, logged, pops_within}
 use Rattle.csp_delivery.proofs.SendingCounts.{AreNone, among_append, none_first}
 use Rattle.csp_delivery.proofs.SendingOnce.{sent_once, sent_own}
 use Rattle.csp_delivery.proofs.SpreadingFew.{makes_made, makes_one, makes_some, pushed_few}

@@ -5,7 +5,7 @@ use Rattle.std.specs.List.{AllByRecursion}
 use Rattle.std.specs.Option.{option_map, is_some}
 use Rattle.csp_buffer.specs.Content.{Content}
 use Rattle.csp_buffer.specs.PlainBuffer.{PlainBuffer}
-use Rattle.csp_consistent.proofs.Laws.{queue_apart}
+use Rattle.csp_consistent.proofs.Public.{queue_apart}
 use Rattle.csp_consistent.specs.Reading.{is_queue}
 use Rattle.csp_ends.specs.Causes.{HasGotEach, HasPassedOver, HasNoRoomAt, OfPass}
 use Rattle.csp_ends.specs.Ends.{PlainNodeQueues, PlainSide, PlainHome, PlainEnds, AreEnds, inbox_of}

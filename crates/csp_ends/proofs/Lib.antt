@@ -8,4 +8,4 @@ mod Lists
 mod Splits
 mod Still
 mod Ways
-pub mod Laws
+pub mod Public

@@ -7,7 +7,7 @@ use Rattle.std.proofs.lemmas.Bool.{false_from_ne_true}
 use Rattle.std.proofs.lemmas.Option.{same_Some}
 use Rattle.csp_arena.specs.Cells.{RegionName}
 use Rattle.csp_base.specs.declared.priority.Prio.{Prio}
-use Rattle.csp_consistent.proofs.Laws.{queue_is, queue_turned}
+use Rattle.csp_consistent.proofs.Public.{queue_is, queue_turned}
 use Rattle.csp_consistent.specs.Reading.{is_queue}
 use Rattle.csp_deck.specs.Carried.{IsCarried, IsCarriedIn}
 use Rattle.csp_deck.specs.Regions.{IsItemOf}

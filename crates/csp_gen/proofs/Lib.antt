@@ -5,4 +5,4 @@ mod Length
 mod Routing
 mod Stating
 mod Wording
-pub mod Laws
+pub mod Public

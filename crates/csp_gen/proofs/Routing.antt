@@ -5,7 +5,7 @@ use Rattle.std.specs.FinMap as finite
 use Rattle.csp_route.specs.Text.{parsed, added, row_of, put_at, demand, ◌>>=◌}
 use Rattle.csp_route.specs.Routes.{Routes, Hop, key_of, hop_of, with_row, with_entries, merged}
 use Rattle.csp_route.specs.Prefix.{prefix_cmp}
-use Rattle.csp_route.proofs.Laws.{prefix_total}
+use Rattle.csp_route.proofs.Public.{prefix_total}
 use Rattle.csp_route.specs.declared.prefix.Prefix.{Prefix}
 use Rattle.csp_route.specs.declared.row.Row.{Row}
 use Rattle.csp_route.specs.declared.error.RouteKind.TheVariants.{Full}

@@ -1,2 +1,2 @@
 mod WordLaws
-pub mod Laws
+pub mod Public

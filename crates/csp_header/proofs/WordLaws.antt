@@ -1,7 +1,7 @@
 -- a header and its word
 use Rattle.std.proofs.Common.{◌≡◌, ℕ, ◌/◌, ◌%◌, ◌^◌, ◌<◌, ap, ◌∙◌, arith}
 use Rattle.csp_base.specs.Priority.{prio_number, prio_of}
-use Rattle.csp_base.proofs.Laws.{prio_of-prio_number, prio_number-prio_of, prio_number_small}
+use Rattle.csp_base.proofs.Public.{prio_of-prio_number, prio_number-prio_of, prio_number_small}
 use Rattle.csp_header.specs.declared.word.Header.{Header}
 use Rattle.csp_header.specs.Word.{word_of, header_at, IsInRange}
 

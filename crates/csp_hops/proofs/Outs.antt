@@ -3,7 +3,7 @@ use Rattle.std.proofs.Common.{◌≡◌, ◌⊎◌, inl, inr, ℕ, Option, None,
 use Rattle.std.proofs.lemmas.Option.{slice_get_within}
 use Rattle.std.specs.List.{AllByRecursion}
 use Rattle.csp_bridge.specs.PlainBridge as plain_bridge
-use Rattle.csp_consistent.proofs.Laws.{through, each_at, Logged, IsBridgeAt, IsIfaceAt, IsOf, IsRouterAt, logged}
+use Rattle.csp_consistent.proofs.Public.{through, each_at, Logged, IsBridgeAt, IsIfaceAt, IsOf, IsRouterAt, logged}
 use Rattle.csp_consistent.specs.Lanes.{AreInOrder}
 use Rattle.csp_consistent.specs.Reading.{entries_of, gets}
 use Rattle.csp_consistent.specs.Runs.{AreLogsOf}
@@ -12,7 +12,7 @@ use Rattle.csp_consistent.specs.Addressed.{AreHopsOut, IsHopItem}
 use Rattle.csp_hops.specs.Hops.{LeadByAddresses, LeadsByAddresses}
 use Rattle.csp_log.specs.declared.places.QueueId.TheVariants as queue
 use Rattle.csp_party.specs.Any.{a_bridge}
-use Rattle.csp_prefix.proofs.Laws.{out_lane_there, owner_of, run_of}
+use Rattle.csp_prefix.proofs.Public.{out_lane_there, owner_of, run_of}
 use Rattle.csp_prefix.specs.Routers.{opening_router}
 use Rattle.csp_record.specs.Record.{PlainRecord}
 use Rattle.csp_log.specs.declared.who.Who.{Who}

@@ -9,7 +9,7 @@ use Rattle.csp_bridge.specs.Telling as bridge_telling
 use Rattle.csp_buffer.specs.Content.{Content}
 use Rattle.csp_buffer.specs.PlainBuffer.{PlainBuffer}
 use Rattle.csp_conn.specs.PlainConns.{slot_at}
-use Rattle.csp_consistent.proofs.Laws.{each_if}
+use Rattle.csp_consistent.proofs.Public.{each_if}
 use Rattle.csp_consistent.specs.Reading.{put_by, puts}
 use Rattle.csp_deck.specs.Runs.{IsRun}
 use Rattle.csp_hops.proofs.Rules.{GoesByHop, IsMarking, IsTold, heard_marks, made_on_marks, served_marks}
@@ -27,7 +27,7 @@ use Rattle.csp_ports.specs.PlainPorts.{machine_at}
 use Rattle.csp_ports.specs.declared.owed.Owed.{Owed}
 use Rattle.csp_rdp.specs.Jobs.{delivery}
 use Rattle.csp_rdp.specs.declared.jobs.Job.{Job}
-use Rattle.csp_scene.proofs.Laws.{AllByRecursion-append}
+use Rattle.csp_scene.proofs.Public.{AllByRecursion-append}
 use Rattle.csp_stack.specs.Counting.{came_in, was_full}
 use Rattle.csp_stack.specs.Party.{asked_of, told_of}
 use Rattle.csp_stack.specs.Readings.{buffer_in, is_pushed, item_in}

@@ -9,7 +9,7 @@ use Rattle.std.specs.List.{All, AllByRecursion}
 use Rattle.std.specs.Ordering.{eq_by_cmp}
 use Rattle.std.specs.declared.cmp.Ordering.TheVariants.{Less, Equal, Greater}
 use Rattle.csp_hops.specs.Hops.{LeadsByAddresses, NamesAddress}
-use Rattle.csp_route.proofs.Laws.{prefix_total}
+use Rattle.csp_route.proofs.Public.{prefix_total}
 use Rattle.csp_route.specs.Prefix.{prefix_cmp, prefix_of}
 use Rattle.csp_route.specs.Routes.{Hop, Routes, entry_of, hop_of, key_of, longest_below, route_of, row_or, with_row}
 use Rattle.csp_route.specs.declared.prefix.Prefix.{Prefix}

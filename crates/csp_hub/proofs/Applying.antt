@@ -23,7 +23,7 @@ use Rattle.csp_link.specs.Telling.{frame_in}
 use Rattle.csp_link.specs.declared.fates.Fate.{Fate}
 use Rattle.csp_link.specs.declared.fault.Fault.{Fault}
 use Rattle.csp_link.specs.declared.held.Held.{Held}
-use Rattle.csp_link.proofs.Laws.{Stands, stands, fates_are}
+use Rattle.csp_link.proofs.Public.{Stands, stands, fates_are}
 use Rattle.csp_log.specs.Pictures.{Fits}
 use Rattle.csp_log.specs.declared.entry.Entry.{Entry}
 use Rattle.csp_log.specs.declared.frame.Frame.{Frame}

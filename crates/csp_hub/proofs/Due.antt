@@ -6,7 +6,7 @@ use Rattle.std.proofs.lemmas.List.Elements.{All-head, All-tail}
 use Rattle.csp_link.specs.Holding.{first_due}
 use Rattle.csp_link.specs.Room.{AreCarried}
 use Rattle.csp_link.specs.declared.held.Held.{Held}
-use Rattle.csp_link.proofs.Laws.{IsFrameOf}
+use Rattle.csp_link.proofs.Public.{IsFrameOf}
 use Rattle.csp_log.specs.declared.places.LinkKind.TheVariants as kind
 
 due_from : (now n : ℕ) (held : List Held) → AreCarried kind.Can held → IfSome (find (λ p. nat_le p.1.due now) (enumerate_from n held)) (λ p. IsFrameOf kind.Can p.1.frame)

@@ -6,4 +6,4 @@ mod Others
 mod Rounds
 mod Sound
 mod Stocked
-pub mod Laws
+pub mod Public

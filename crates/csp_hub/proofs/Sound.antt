@@ -26,7 +26,7 @@ use Rattle.csp_link.specs.declared.fates.Fate.{Fate}
 use Rattle.csp_link.specs.declared.fault.Fault.{Fault}
 use Rattle.csp_link.specs.declared.held.Held.{Held}
 use Rattle.csp_link.specs.declared.held.TheConstants.{LINK_HOLDS}
-use Rattle.csp_link.proofs.Laws.{IsFrameOf, taken_carried}
+use Rattle.csp_link.proofs.Public.{IsFrameOf, taken_carried}
 use Rattle.csp_log.specs.declared.frame.Frame.{Frame}
 use Rattle.csp_log.specs.declared.places.Carries.TheVariants as carries
 use Rattle.csp_log.specs.declared.places.LinkKind.TheVariants as kind

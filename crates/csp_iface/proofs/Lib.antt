@@ -2,4 +2,4 @@ mod Circling
 mod Counting
 mod Frames
 mod StepLaws
-pub mod Laws
+pub mod Public

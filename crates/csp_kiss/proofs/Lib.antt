@@ -5,4 +5,4 @@ mod Gaining
 mod GoingOn
 mod Steps
 mod RoundTrip
-pub mod Laws
+pub mod Public

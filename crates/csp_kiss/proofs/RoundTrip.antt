@@ -8,7 +8,7 @@ use Rattle.std.proofs.lemmas.List.Elements.{All-append}
 use Rattle.std.proofs.lemmas.List.Splits.{slice_split_at}
 use Rattle.std.proofs.lemmas.Nat.{from_be_bytes-to_be_bytes_4}
 use Rattle.csp_crc.specs.Crc.{crc_of}
-use Rattle.csp_crc.proofs.Laws.{crc_of-lt}
+use Rattle.csp_crc.proofs.Public.{crc_of-lt}
 use Rattle.csp_kiss.specs.declared.TheConstants.{FEND, FESC, TFEND, TFESC}
 use Rattle.csp_kiss.specs.declared.event.KissEvent.TheVariants.{Packet}
 use Rattle.csp_kiss.specs.Frame.{escape_of, escaped, covered, frame}

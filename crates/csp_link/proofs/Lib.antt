@@ -5,4 +5,4 @@ mod Kept
 mod Named
 mod Sound
 mod Stocked
-pub mod Laws
+pub mod Public

@@ -7,4 +7,4 @@ mod Fresh
 mod Queued
 mod Standing
 mod Weighing
-pub mod Laws
+pub mod Public

@@ -6,7 +6,7 @@ use Rattle.std.specs.Option.{option_map}
 use Rattle.csp_arena.specs.Cells.{RegionName}
 use Rattle.csp_base.specs.declared.priority.Prio.{Prio}
 use Rattle.csp_consistent.specs.Reading.{is_queue}
-use Rattle.csp_ends.proofs.Laws.{back_same, tally_of, tally_picked}
+use Rattle.csp_ends.proofs.Public.{back_same, tally_of, tally_picked}
 use Rattle.csp_ends.specs.Ends.{PlainNodeQueues, PlainSide, PlainHome, PlainEnds, AreApart, AreEnds, AreOf, IsHomeOf, IsWithin, inbox_of, region_of, region_or, rule_of, side_named}
 use Rattle.csp_ends.specs.Sides.{IsBacked, back_name, back_of, is_back}
 use Rattle.csp_ends.specs.Traced.{AreMarked, AreTraced, IsHomeTraced, IsMailTraced, IsSideMarked, IsSideTraced, moved, told_of}

@@ -1,3 +1,3 @@
 mod Keeping
 mod Knowing
-pub mod Laws
+pub mod Public

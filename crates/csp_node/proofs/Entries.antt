@@ -13,7 +13,7 @@ use Rattle.csp_posts.specs.Between.{HasHeard}
 use Rattle.csp_posts.specs.Posts.{AreTurns, PlainPost}
 use Rattle.csp_posts.specs.Ready.{HasTurned}
 use Rattle.csp_posts.specs.Seen.{SeenPost}
-use Rattle.csp_standing.proofs.Laws.{early_now}
+use Rattle.csp_standing.proofs.Public.{early_now}
 
 pub sum_mapped : {X Y : Type 0} (f : Y → ℕ) (g : X → Y) (xs : List X) → sum_by f (map g xs) ≡ sum_by (λ x. f (g x)) xs
 sum_mapped f g [] = refl

@@ -5,4 +5,4 @@ mod DecksLaws
 mod Ends
 mod ServingLaws
 mod SetLemmas
-pub mod Laws
+pub mod Public

@@ -6,10 +6,10 @@ use Rattle.std.proofs.lemmas.Nat.{be_bytes_4, from_be_bytes-to_be_bytes_4, xor_l
 use Rattle.std.proofs.Math.Seq.{set_out}
 use Rattle.std.specs.Int.{w32, to_be_bytes, from_be_bytes}
 use Rattle.csp_crc.specs.Crc.{crc_of, checked}
-use Rattle.csp_crc.proofs.Laws.{crc_of-lt}
+use Rattle.csp_crc.proofs.Public.{crc_of-lt}
 use Rattle.csp_kiss.specs.declared.event.KissEvent.TheVariants.{BadCrc}
 use Rattle.csp_kiss.specs.Stream.{judged}
-use Rattle.csp_kiss.proofs.Laws.{judged-joined, compared-wrong}
+use Rattle.csp_kiss.proofs.Public.{judged-joined, compared-wrong}
 use Rattle.csp_noticed.specs.Flipping.{flipped}
 use Rattle.csp_noticed.proofs.Flipping.{top_down, crc-flipped}
 

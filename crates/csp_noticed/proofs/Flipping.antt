@@ -6,7 +6,7 @@ use Rattle.std.proofs.lemmas.List.{length-set}
 use Rattle.std.specs.Int.Bits.{xor_zero_r}
 use Rattle.csp_crc.specs.Bits.{bits_of, number_of, message_bits}
 use Rattle.csp_crc.specs.Crc.{crc_of}
-use Rattle.csp_crc.proofs.Laws.{number_of-append, length-bits_of, message_bits-cons}
+use Rattle.csp_crc.proofs.Public.{number_of-append, length-bits_of, message_bits-cons}
 use Rattle.csp_noticed.specs.Flipping.{flipped, DifferInOneBit}
 use Rattle.csp_noticed.proofs.Remainders.{crc-apart}
 

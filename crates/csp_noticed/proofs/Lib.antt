@@ -4,4 +4,4 @@ mod Damage
 mod Escaping
 mod Reading
 mod WholeFrames
-pub mod Laws
+pub mod Public

@@ -12,7 +12,7 @@ use Rattle.csp_kiss.specs.Frame.{escape_of, escaped}
 use Rattle.csp_kiss.specs.GoingOn.{Progress, packet_of, read_on}
 use Rattle.csp_kiss.specs.Reading.{Reading, room, kept, going, continued, after, told, answer, answers}
 use Rattle.csp_kiss.specs.Stream.{judged}
-use Rattle.csp_kiss.proofs.Laws.{going_on, read_step, judged-take, take_all, take-take-append}
+use Rattle.csp_kiss.proofs.Public.{going_on, read_step, judged-take, take_all, take-take-append}
 use Rattle.csp_noticed.specs.Made.{IsBetween, HasNothingBegun, MakesJust, refused_by}
 
 -- whatever is told of some bytes is told of those after a byte that is answered with nothing

@@ -6,7 +6,7 @@ use Rattle.std.specs.Int.Bits.{xor_assoc, xor_self, xor_zero_l, xor_zero_r}
 use Rattle.csp_crc.specs.Bits.{number_of, message_bits}
 use Rattle.csp_crc.specs.Crc.{crc_of}
 use Rattle.csp_crc.specs.Register.{place, places, left_after}
-use Rattle.csp_crc.proofs.Laws.{place-even, place-odd, places-xor, places-shifted, crc_of-left}
+use Rattle.csp_crc.proofs.Public.{place-even, place-odd, places-xor, places-shifted, crc_of-left}
 
 -- what was added is found again
 xor_back : (a b : ℕ) → bit_xor a (bit_xor a b) ≡ b

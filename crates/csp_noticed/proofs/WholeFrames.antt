@@ -6,13 +6,13 @@ use Rattle.std.proofs.lemmas.Nat.{from_be_bytes-to_be_bytes_4}
 use Rattle.std.proofs.Math.Seq.{get_or-append_seam}
 use Rattle.std.specs.Int.{w32, to_be_bytes, from_be_bytes}
 use Rattle.csp_crc.specs.Crc.{crc_of, checked}
-use Rattle.csp_crc.proofs.Laws.{crc_of-lt}
+use Rattle.csp_crc.proofs.Public.{crc_of-lt}
 use Rattle.csp_kiss.specs.declared.TheConstants.{FEND}
 use Rattle.csp_kiss.specs.declared.event.KissEvent.TheVariants.{Packet, BadCrc}
 use Rattle.csp_kiss.specs.Frame.{escaped, covered, frame}
 use Rattle.csp_kiss.specs.Reading.{Reading}
 use Rattle.csp_kiss.specs.Stream.{judged, compared}
-use Rattle.csp_kiss.proofs.Laws.{judged-joined, compared-right}
+use Rattle.csp_kiss.proofs.Public.{judged-joined, compared-right}
 use Rattle.csp_noticed.specs.Flipping.{flipped}
 use Rattle.csp_noticed.specs.Made.{HasNothingBegun, IsReadyFor, MakesJust, MakesWrong}
 use Rattle.csp_noticed.specs.Plain.{IsPlain, FlipsPlain}

@@ -16,7 +16,7 @@ use Rattle.csp_opening.specs.Opened.{AreTold, told_tally}
 use Rattle.csp_opening.specs.declared.lanes.Pair.{Pair}
 use Rattle.csp_log.specs.declared.who.Who.{Who}
 use Rattle.csp_log.specs.declared.who.Who.TheVariants as who
-use Rattle.csp_scene.proofs.Laws.{AllByRecursion-append}
+use Rattle.csp_scene.proofs.Public.{AllByRecursion-append}
 use Rattle.csp_scene.specs.Scene.{PlainNode, PlainScene}
 use Rattle.csp_topology.specs.Lanes.{PlainEnd, PlainLane, leader_of, out_lane}
 use Rattle.csp_topology.specs.Wired as wired

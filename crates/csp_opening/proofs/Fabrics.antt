@@ -39,7 +39,7 @@ use Rattle.csp_log.specs.declared.who.Who.{Who}
 use Rattle.csp_log.specs.declared.who.Who.TheVariants as who
 use Rattle.csp_scene.specs.Links.{links_at}
 use Rattle.csp_scene.specs.Scene.{PlainNode, PlainScene}
-use Rattle.csp_standing.proofs.Laws.{all_at}
+use Rattle.csp_standing.proofs.Public.{all_at}
 use Rattle.csp_standing.specs.Fabrics.{AreRoomsOf, AreStoresOf, CanNote, IsFabricOf, buffers_at, network_of}
 use Rattle.csp_standing.specs.Network.{AreNodesOf, ArePostsOf, IsNetworkOf, IsPostOf, IsShared, leads}
 use Rattle.csp_standing.specs.declared.fabric.Fabric.{Fabric}

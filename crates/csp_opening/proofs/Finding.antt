@@ -3,7 +3,7 @@ use Rattle.std.proofs.Common.{◌≡◌, ◌<◌, ℕ, zero, suc, Bool, true, Li
 use Rattle.std.specs.Prelude.{slice_get}
 use Rattle.std.specs.List.{find}
 use Rattle.std.proofs.lemmas.Bool.{false_from_ne_true}
-use Rattle.csp_ends.proofs.Laws.{first_of}
+use Rattle.csp_ends.proofs.Public.{first_of}
 
 module _ {X : Type 0} where
   -- the only one of which a test is true

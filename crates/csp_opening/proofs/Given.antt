@@ -8,7 +8,7 @@ use Rattle.std.proofs.lemmas.List.{append-nil, append_assoc}
 use Rattle.std.proofs.lemmas.List.Sums.{sum_by-cons}
 use Rattle.std.proofs.lemmas.Option.{same_Some, slice_get_read}
 use Rattle.csp_ends.specs.Ends.{PlainNodeQueues, PlainSide}
-use Rattle.csp_hub.proofs.Laws.{count_opening}
+use Rattle.csp_hub.proofs.Public.{count_opening}
 use Rattle.csp_opening.specs.Handed.{AreHanded, HaveRoom, ends_among, ends_of, list_at, room_at}
 use Rattle.csp_opening.specs.Parted.{AreLeadsOf, IsLeadOf, IsOpening, after_app, after_iface, changed, leads_past, others}
 use Rattle.csp_arena.specs.declared.token.RegionToken.{RegionToken}

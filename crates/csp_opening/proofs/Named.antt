@@ -13,7 +13,7 @@ use Rattle.csp_opening.specs.declared.lanes.Pair.{Pair}
 use Rattle.csp_log.specs.Who.{is_who}
 use Rattle.csp_log.specs.declared.who.Who.{Who}
 use Rattle.csp_log.specs.declared.who.Who.TheVariants as who
-use Rattle.csp_standing.proofs.Laws.{same_who}
+use Rattle.csp_standing.proofs.Public.{same_who}
 use Rattle.csp_standing.specs.Network.{name_of, sides_among, sides_at, sides_from}
 use Rattle.csp_topology.specs.Lanes.{PlainLane}
 use Rattle.csp_topology.specs.declared.wire.Wire.{Wire}

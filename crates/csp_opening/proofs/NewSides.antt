@@ -6,9 +6,9 @@ use Rattle.std.specs.Option.{option_and_then, option_map}
 use Rattle.std.proofs.lemmas.Bool.{eqb-true}
 use Rattle.std.proofs.lemmas.Option.{same_Some, slice_get-map, slice_get_within}
 use Rattle.csp_arena.specs.Cells.{RegionName}
-use Rattle.csp_consistent.proofs.Laws.{queue_same}
+use Rattle.csp_consistent.proofs.Public.{queue_same}
 use Rattle.csp_consistent.specs.Reading.{is_queue}
-use Rattle.csp_ends.proofs.Laws.{get_within}
+use Rattle.csp_ends.proofs.Public.{get_within}
 use Rattle.csp_ends.specs.Ends.{IsSideOf, PlainNodeQueues, PlainSide}
 use Rattle.csp_ends.specs.Sides.{back_name}
 use Rattle.csp_lane.specs.Ends as ways
@@ -22,9 +22,9 @@ use Rattle.csp_opening.specs.Opened.{AreLanes, AreNodesWith, ends_in, pair_of, p
 use Rattle.csp_opening.specs.declared.lanes.Pair.{Pair}
 use Rattle.csp_opening.specs.declared.nodes.Node.{Node}
 use Rattle.csp_log.specs.declared.who.Who.{Who}
-use Rattle.csp_scene.proofs.Laws.{AllByRecursion-append}
+use Rattle.csp_scene.proofs.Public.{AllByRecursion-append}
 use Rattle.csp_scene.specs.Scene.{PlainNode, PlainScene}
-use Rattle.csp_standing.proofs.Laws.{all_at}
+use Rattle.csp_standing.proofs.Public.{all_at}
 use Rattle.csp_standing.specs.Network.{IsSideAmong}
 use Rattle.csp_topology.specs.Lanes.{PlainEnd, PlainLane}
 use Rattle.csp_topology.specs.Parties.{parties_of}

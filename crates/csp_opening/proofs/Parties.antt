@@ -36,7 +36,7 @@ use Rattle.csp_posts.specs.Through.{IsThrough, WasCrammed}
 use Rattle.csp_log.specs.Who.{node_of}
 use Rattle.csp_log.specs.declared.who.Who.{Who}
 use Rattle.csp_scene.specs.Scene.{PlainScene}
-use Rattle.csp_standing.proofs.Laws.{all_at, all_from}
+use Rattle.csp_standing.proofs.Public.{all_at, all_from}
 use Rattle.csp_standing.specs.Network.{IsPostOf, IsSideAmong, PlainNetwork, name_of, opened_in, sides_of}
 use Rattle.csp_topology.specs.Parties.{PlainOpening, parties_of}
 use Rattle.csp_topology.specs.Wired as wired

@@ -6,7 +6,7 @@ use Rattle.std.specs.Option.{option_map}
 use Rattle.std.proofs.lemmas.Bool.{eq-eqb, eqb-true, false_from_ne_true}
 use Rattle.std.proofs.lemmas.List.Sums.{sum_by-cons}
 use Rattle.std.proofs.lemmas.Option.{same_Some, slice_get-map, slice_get_within}
-use Rattle.csp_ends.proofs.Laws.{get_within}
+use Rattle.csp_ends.proofs.Public.{get_within}
 use Rattle.csp_inbox.specs.Marks.{is_in, with_mark}
 use Rattle.csp_inbox.specs.Passes as inbox
 use Rattle.csp_log.specs.declared.places.TheConstants.{UNMARKED}

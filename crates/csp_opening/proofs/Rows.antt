@@ -16,11 +16,11 @@ use Rattle.csp_opening.proofs.Serving.{AllCalled, AllHome}
 use Rattle.csp_opening.proofs.Zipped.{placed_at, wire_rows}
 use Rattle.csp_opening.specs.Opened.{AreWired}
 use Rattle.csp_log.specs.declared.who.Who.{Who}
-use Rattle.csp_scene.proofs.Laws.{AllByRecursion-append}
+use Rattle.csp_scene.proofs.Public.{AllByRecursion-append}
 use Rattle.csp_scene.specs.Ranges.{IsNode, IsScene}
 use Rattle.csp_scene.specs.Scene.{PlainNode, PlainScene}
-use Rattle.csp_standing.proofs.Laws.{all_at}
-use Rattle.csp_topology.proofs.Laws.{joints_few}
+use Rattle.csp_standing.proofs.Public.{all_at}
+use Rattle.csp_topology.proofs.Public.{joints_few}
 use Rattle.csp_topology.specs.Lanes.{PlainLane, leader_of, out_lane}
 use Rattle.csp_topology.specs.Wired as wired
 use Rattle.csp_topology.specs.Wires.{PlainJoint, down_lane, joints_at, joints_from, rx_lane, tx_lane, up_lane, wires_from, wires_of, wires_with}

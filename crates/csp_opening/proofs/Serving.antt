@@ -5,9 +5,9 @@ use Rattle.std.specs.List.{AllByRecursion, find}
 use Rattle.std.specs.Option.{option_map}
 use Rattle.std.proofs.lemmas.Option.{same_Some, slice_get-map}
 use Rattle.csp_arena.specs.Cells.{RegionName}
-use Rattle.csp_consistent.proofs.Laws.{queue_is, queue_same}
+use Rattle.csp_consistent.proofs.Public.{queue_is, queue_same}
 use Rattle.csp_consistent.specs.Reading.{is_queue}
-use Rattle.csp_ends.proofs.Laws.{none_of}
+use Rattle.csp_ends.proofs.Public.{none_of}
 use Rattle.csp_ends.specs.Ends.{AreApart, AreEnds, IsWithin, PlainEnds, PlainHome, PlainNodeQueues, PlainSide, region_or, rule_of, side_named}
 use Rattle.csp_ends.specs.Sides.{IsBacked, back_name, is_back_by, is_turned}
 use Rattle.csp_lane.specs.Ends as ways
@@ -26,7 +26,7 @@ use Rattle.csp_opening.proofs.Zipped.{placed_at}
 use Rattle.csp_log.specs.Who.{node_of, is_who}
 use Rattle.csp_log.specs.declared.who.Who.{Who}
 use Rattle.csp_scene.specs.Scene.{PlainScene}
-use Rattle.csp_standing.proofs.Laws.{all_at, all_from, home_named, IsIn, both_same, from_end, in_nodes, named_side, to_end}
+use Rattle.csp_standing.proofs.Public.{all_at, all_from, home_named, IsIn, both_same, from_end, in_nodes, named_side, to_end}
 use Rattle.csp_standing.specs.Network.{SideName, name_of, sides_among, sides_at, sides_from, sides_of}
 use Rattle.csp_topology.specs.Lanes.{PlainEnd, PlainLane}
 use Rattle.csp_topology.specs.Wired as wired

@@ -6,8 +6,8 @@ use Rattle.std.proofs.lemmas.Option.{same_Some}
 use Rattle.csp_ends.specs.Ends.{PlainSide}
 use Rattle.csp_opening.specs.Handed.{getting, handed_among, handed_from, handed_of, putting}
 use Rattle.csp_opening.specs.declared.lanes.Pair.{Pair}
-use Rattle.csp_scene.proofs.Laws.{AllByRecursion-append}
-use Rattle.csp_standing.proofs.Laws.{all_at}
+use Rattle.csp_scene.proofs.Public.{AllByRecursion-append}
+use Rattle.csp_standing.proofs.Public.{all_at}
 
 -- two ends are of one lane and one way
 pub record SameSpot (s t : PlainSide) : Type 0 where

@@ -28,7 +28,7 @@ use Rattle.csp_record.specs.Record.{PlainRecord}
 use Rattle.csp_record.specs.Transmissions.{transmission}
 use Rattle.csp_scene.specs.Ranges.{HasEnds}
 use Rattle.csp_scene.specs.Scene.{PlainLink}
-use Rattle.csp_consistent.proofs.Laws.{IsOfOther, IsHeardSo, IsListeningSo, read_by, read_from, reassembled_so}
+use Rattle.csp_consistent.proofs.Public.{IsOfOther, IsHeardSo, IsListeningSo, read_by, read_from, reassembled_so}
 use Rattle.csp_ordinary.specs.AsSent.{IsAsSent}
 use Rattle.csp_ordinary.specs.Ordinary.{AreApartOn, SentFrom}
 use Rattle.csp_ordinary.proofs.Fragments.{IsPieceBy}

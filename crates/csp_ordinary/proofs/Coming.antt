@@ -31,7 +31,7 @@ use Rattle.csp_log.specs.declared.who.Who.TheVariants as who
 use Rattle.csp_scene.specs.Scene.{PlainLink}
 use Rattle.csp_consistent.specs.Addressed.{addressed_in}
 use Rattle.csp_consistent.specs.Reading.{entries_of}
-use Rattle.csp_consistent.proofs.Laws.{entries_alike, IsSentIn}
+use Rattle.csp_consistent.proofs.Public.{entries_alike, IsSentIn}
 use Rattle.csp_ordinary.specs.AsSent.{IsAsSent}
 use Rattle.csp_ordinary.specs.Harmless.{HasNoBit, IsHarmless}
 use Rattle.csp_ordinary.specs.Ordinary.{transmissions}

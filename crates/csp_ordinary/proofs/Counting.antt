@@ -18,12 +18,12 @@ use Rattle.csp_record.specs.Record.{PlainPartyLog, PlainRecord}
 use Rattle.csp_log.specs.Who.{is_any_iface}
 use Rattle.csp_log.specs.declared.who.Who.{Who}
 use Rattle.csp_log.specs.declared.who.Who.TheVariants as who
-use Rattle.csp_scene.proofs.Laws.{AllByRecursion-append}
+use Rattle.csp_scene.proofs.Public.{AllByRecursion-append}
 use Rattle.csp_scene.specs.Scene.{PlainScene}
 use Rattle.csp_topology.specs.Parties.{PlainOpening, parties_of}
 use Rattle.csp_consistent.specs.Reading.{entries_of, put_by, puts}
 use Rattle.csp_consistent.specs.Runs.{AreLogsOf}
-use Rattle.csp_consistent.proofs.Laws.{each_first, each_last, each_there, are_apart, entries_at, entries_in}
+use Rattle.csp_consistent.proofs.Public.{each_first, each_last, each_there, are_apart, entries_at, entries_in}
 
 -- a packet among items is so
 abbrev pub IsPacketWith : (Content → Type 0) → ItemShown → Type 0

@@ -9,7 +9,7 @@ use Rattle.csp_can.specs.declared.frames.CanFrame.{CanFrame}
 use Rattle.csp_can.specs.declared.identifiers.Identifier.{Identifier}
 use Rattle.csp_can.specs.declared.identifiers.Kind.{Kind}
 use Rattle.csp_can.specs.declared.identifiers.Kind.TheVariants.{Begin, More}
-use Rattle.csp_can.proofs.Laws.{fragments_read}
+use Rattle.csp_can.proofs.Public.{fragments_read}
 use Rattle.csp_header.specs.Word.{header_at}
 
 -- a frame with this data is one of a packet of this header and payload, by its kind: the BEGIN frame, or the MORE frame that comes where it says

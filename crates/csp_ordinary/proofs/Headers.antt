@@ -13,8 +13,8 @@ use Rattle.csp_log.specs.declared.places.QueueId.TheVariants as queue
 use Rattle.csp_record.specs.Record.{PlainPartyLog, PlainRecord}
 use Rattle.csp_record.specs.Transmissions.{fetched, iface_entries, is_beginning, shown_in, transmission}
 use Rattle.csp_log.specs.Who.{is_iface}
-use Rattle.csp_scene.proofs.Laws.{AllByRecursion-append}
-use Rattle.csp_consistent.proofs.Laws.{first_given}
+use Rattle.csp_scene.proofs.Public.{AllByRecursion-append}
+use Rattle.csp_consistent.proofs.Public.{first_given}
 use Rattle.csp_ordinary.specs.Words.{HasWords, all_fetched}
 
 -- ---- entry by entry

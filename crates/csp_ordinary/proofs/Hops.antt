@@ -23,7 +23,7 @@ use Rattle.csp_topology.specs.Parties.{iface_opening, party_steps}
 use Rattle.csp_consistent.specs.Addressed.{IsHopItem, addressed_in, goes_to}
 use Rattle.csp_consistent.specs.Queues.{MayAsk}
 use Rattle.csp_consistent.specs.Reading.{got_by, gets}
-use Rattle.csp_consistent.proofs.Laws.{each_first, each_last, first_given, own_run, came}
+use Rattle.csp_consistent.proofs.Public.{each_first, each_last, first_given, own_run, came}
 
 -- a next hop and a destination are addresses of 5 bits
 next_low : (mark header : ℕ) → IsHop mark → next_node mark header < 32

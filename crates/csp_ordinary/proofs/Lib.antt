@@ -9,4 +9,4 @@ mod Serials
 mod Streams
 mod Unflipped
 mod Headers
-pub mod Laws
+pub mod Public

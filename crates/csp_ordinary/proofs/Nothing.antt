@@ -18,7 +18,7 @@ use Rattle.csp_record.specs.Passed.{is_changed, passed}
 use Rattle.csp_record.specs.Record.{PlainRecord}
 use Rattle.csp_record.specs.Transmissions.{shown_in}
 use Rattle.csp_log.specs.declared.who.Who.TheVariants as who
-use Rattle.csp_scene.proofs.Laws.{AllByRecursion-map}
+use Rattle.csp_scene.proofs.Public.{AllByRecursion-map}
 use Rattle.csp_scene.specs.Kept.{AreLinksAfter}
 use Rattle.csp_scene.specs.Links.{links_at}
 use Rattle.csp_scene.specs.Ranges.{IsEnd, IsLink, IsScene}
@@ -27,7 +27,7 @@ use Rattle.csp_topology.specs.Parties.{iface_opening, party_steps}
 use Rattle.csp_consistent.specs.Addressed.{AreHopsOut, addressed_in}
 use Rattle.csp_consistent.specs.Consistent.{IsConsistent}
 use Rattle.csp_consistent.specs.Reading.{entries_of, gets, puts}
-use Rattle.csp_consistent.proofs.Laws.{IsIfaceRun, IsJoint, IsOfOther, came_from_others, iface_run, joint, each_at, IsListeningSo, Logged, IsOf, logged, IsPacketSo, IsSuchFrame, received_so, such_also, IsSentIn, sent_frames}
+use Rattle.csp_consistent.proofs.Public.{IsIfaceRun, IsJoint, IsOfOther, came_from_others, iface_run, joint, each_at, IsListeningSo, Logged, IsOf, logged, IsPacketSo, IsSuchFrame, received_so, such_also, IsSentIn, sent_frames}
 use Rattle.csp_ordinary.specs.AsSent.{IsAsSent, IsPacketAsSent}
 use Rattle.csp_ordinary.specs.Ordinary.{AreApartOn, AreSourcesApart, HasNoHubs, IsOrdinary, IsOrdinaryOn, transmissions}
 use Rattle.csp_ordinary.specs.Words.{HasWords}

@@ -23,7 +23,7 @@ use Rattle.csp_log.specs.declared.shown.ItemShown.TheVariants as item
 use Rattle.csp_party.specs.Any.{an_iface}
 use Rattle.csp_record.specs.Transmissions.{shown_in}
 use Rattle.csp_topology.specs.Parties.{iface_opening, party_steps}
-use Rattle.csp_consistent.proofs.Laws.{told, waiting, Marked, begun_step, caught_serial, handed_serial, kept_serial, pushed_serial, shown_as, turn_silent}
+use Rattle.csp_consistent.proofs.Public.{told, waiting, Marked, begun_step, caught_serial, handed_serial, kept_serial, pushed_serial, shown_as, turn_silent}
 use Rattle.csp_ordinary.specs.Ordinary.{is_transmission, transmissions}
 
 -- how many transmissions events tell

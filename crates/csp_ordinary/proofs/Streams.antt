@@ -17,8 +17,8 @@ use Rattle.csp_log.specs.declared.frame.Frame.{Frame}
 use Rattle.csp_noticed.specs.Flipping.{flipped}
 use Rattle.csp_noticed.specs.Made.{HasNothingBegun, IsReadyFor, MakesJust, MakesWrong}
 use Rattle.csp_noticed.specs.Plain.{FlipsPlain}
-use Rattle.csp_noticed.proofs.Laws.{frame-noticed, frame-read, frame-skipped}
-use Rattle.csp_consistent.proofs.Laws.{IsHeardSo, IsWholeSo, read_from}
+use Rattle.csp_noticed.proofs.Public.{frame-noticed, frame-read, frame-skipped}
+use Rattle.csp_consistent.proofs.Public.{IsHeardSo, IsWholeSo, read_from}
 
 -- one bit of a frame was turned over, on a link whose CRC covers the header: a plain one
 pub record IsFlippedIn (cover : Bool) (whole bytes : List ℕ) : Type 0 where

@@ -8,7 +8,7 @@ use Rattle.csp_link.specs.declared.fault.FaultKind.{FaultKind}
 use Rattle.csp_link.specs.declared.fault.FaultKind.TheVariants as fault
 use Rattle.csp_record.specs.Record.{PlainRecord}
 use Rattle.csp_scene.specs.Scene.{PlainLink, PlainScene}
-use Rattle.csp_consistent.proofs.Laws.{each_at, each_filter}
+use Rattle.csp_consistent.proofs.Public.{each_at, each_filter}
 use Rattle.csp_ordinary.specs.Harmless.{IsHarmless}
 use Rattle.csp_ordinary.specs.Ordinary.{HasNoFlips, IsUndamaged, is_flip}
 

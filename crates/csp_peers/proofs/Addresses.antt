@@ -18,8 +18,8 @@ use Rattle.csp_route.specs.Routes.{Routes, merged}
 use Rattle.csp_route.specs.Text.{parsed}
 use Rattle.csp_route.specs.declared.error.RouteError.{RouteError}
 use Rattle.csp_route.specs.declared.table.TheConstants.{MAX_ROWS}
-use Rattle.csp_prefix.proofs.Laws.{each_flat}
-use Rattle.csp_scene.proofs.Laws.{unlined}
+use Rattle.csp_prefix.proofs.Public.{each_flat}
+use Rattle.csp_scene.proofs.Public.{unlined}
 use Rattle.csp_scene.specs.Arguments.{word_at, number_at, text_from}
 use Rattle.csp_scene.specs.Draft.{PlainDraft, no_draft, demand, and_then, with_node, with_link}
 use Rattle.csp_scene.specs.Faults.{direction_of, planned, link_at, may_add_fault, with_fault_at, state_fault_at, state_fault, end_named, state_fault_from, state_hub_fault_at, state_hub_fault}

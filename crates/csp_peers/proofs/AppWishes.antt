@@ -9,7 +9,7 @@ use Rattle.csp_app.specs.PlainApp as plain_app
 use Rattle.csp_app.specs.PlainStep.{PlainStep}
 use Rattle.csp_app.specs.PlainStep as step
 use Rattle.csp_buffer.specs.Content.{Content}
-use Rattle.csp_consistent.proofs.Laws.{through, each_at, each_first, each_last, Logged, IsAppAt, IsOf, IsRouterAt, logged}
+use Rattle.csp_consistent.proofs.Public.{through, each_at, each_first, each_last, Logged, IsAppAt, IsOf, IsRouterAt, logged}
 use Rattle.csp_consistent.specs.Consistent.{IsConsistent}
 use Rattle.csp_consistent.specs.Lanes.{IsInOrder}
 use Rattle.csp_consistent.specs.Reading.{entries_of, got_by, gets, puts}
@@ -24,7 +24,7 @@ use Rattle.csp_log.specs.declared.shown.ItemShown.TheVariants as item
 use Rattle.csp_log.specs.declared.shown.OpShown.{OpShown}
 use Rattle.csp_log.specs.declared.shown.OpShown.TheVariants as op
 use Rattle.csp_party.specs.Any.{an_app}
-use Rattle.csp_prefix.proofs.Laws.{ServesOwn, app_run, router_run, serves_own, app_lanes_there, owner_of, run_of, PutsSo, app_puts}
+use Rattle.csp_prefix.proofs.Public.{ServesOwn, app_run, router_run, serves_own, app_lanes_there, owner_of, run_of, PutsSo, app_puts}
 use Rattle.csp_prefix.specs.Apps.{IsAppLog}
 use Rattle.csp_prefix.specs.Routers.{opening_router, router_steps}
 use Rattle.csp_record.specs.Record.{PlainRecord}

@@ -14,7 +14,7 @@ use Rattle.csp_rdp.specs.declared.answers.State.{State}
 use Rattle.csp_rdp.specs.declared.answers.State.TheVariants.{Closed, SynSent, SynRcvd, Open, CloseWait}
 use Rattle.csp_prefix.specs.Machines.{whatever}
 use Rattle.csp_prefix.specs.Slots.{GoesOn, IsKept, Now, Numbering}
-use Rattle.csp_prefix.proofs.Laws.{hears-handed, Delivers, Goes, Hears, Ways, answers, delivers, delivers-both, delivers-open, enters, enters_keeping, goes-kept-again, goes-rested, goes-sent, keeps, moves, off, on, over, resets, ways-closing, ways-ticked}
+use Rattle.csp_prefix.proofs.Public.{hears-handed, Delivers, Goes, Hears, Ways, answers, delivers, delivers-both, delivers-open, enters, enters_keeping, goes-kept-again, goes-rested, goes-sent, keeps, moves, off, on, over, resets, ways-closing, ways-ticked}
 
 -- ---- steps
 

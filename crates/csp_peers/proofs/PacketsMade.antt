@@ -27,12 +27,12 @@ use Rattle.csp_stack.specs.Readings.{broadcast}
 use Rattle.csp_stack.specs.Router.{Facts}
 use Rattle.csp_stack.specs.Rules.{connection_of}
 use Rattle.csp_topology.specs.Parties.{config_of}
-use Rattle.csp_consistent.proofs.Laws.{each_at}
+use Rattle.csp_consistent.proofs.Public.{each_at}
 use Rattle.csp_consistent.specs.Consistent.{IsConsistent}
 use Rattle.csp_consistent.specs.Reading.{entries_of, gets}
 use Rattle.csp_prefix.specs.Flows.{IsGenuine}
 use Rattle.csp_prefix.specs.Routers.{HearsOnly, IsHeard, IsOfKind, PushesSo, SendsOnly}
-use Rattle.csp_prefix.proofs.Laws.{said_so, are_shown, flows_in, genuine_like, true_router, hears_only, RouterThere, true_routers, found_any, all_fresh, Aim, IsAim, ComesUp, past, run_known, PushedSo}
+use Rattle.csp_prefix.proofs.Public.{said_so, are_shown, flows_in, genuine_like, true_router, hears_only, RouterThere, true_routers, found_any, all_fresh, Aim, IsAim, ComesUp, past, run_known, PushedSo}
 use Rattle.csp_peers.specs.Addressed.{AreAddressedApart}
 use Rattle.csp_peers.specs.Clear.{HasClearFlows}
 use Rattle.csp_peers.specs.Nearness.{AreShort as AreFlowsShort, half}

@@ -23,7 +23,7 @@ use Rattle.csp_prefix.specs.Flows.{Flows, IsTrueOf}
 use Rattle.csp_prefix.specs.Machines.{IsFed, IsInvited, ReceivesIn}
 use Rattle.csp_peers.specs.Nearness.{AreShort, HasOnePeer, IsHearer, IsAlone, IsPeered, half, of_peers}
 use Rattle.csp_prefix.specs.Slots.{IsKept, Now, Numbering, after_delivering, after_opening, with_machine}
-use Rattle.csp_prefix.proofs.Laws.{hears-handed, next-found, place-next, said-found, receiver-kept, Delivers, Goes, Hears, Ways, answers, delivers, enters, enters_keeping, delivers-both, delivers-open, goes-kept-again, goes-rested, goes-sent, keeps, moves, on, over, off, resets, ways-closing, ways-ticked}
+use Rattle.csp_prefix.proofs.Public.{hears-handed, next-found, place-next, said-found, receiver-kept, Delivers, Goes, Hears, Ways, answers, delivers, enters, enters_keeping, delivers-both, delivers-open, goes-kept-again, goes-rested, goes-sent, keeps, moves, on, over, off, resets, ways-closing, ways-ticked}
 
 -- indices less than half of all numbers are not far from each other
 near-each : (a b : ℕ) → a < half → b < half → is_far a b ≡ false

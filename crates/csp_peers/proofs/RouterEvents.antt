@@ -19,7 +19,7 @@ use Rattle.csp_ports.specs.PlainPorts.{PlainPorts, terms_at}
 use Rattle.csp_ports.specs.Steps.{timed as ports_timed}
 use Rattle.csp_rdp.specs.Machine.{PlainRdp, flow_of, una_of}
 use Rattle.csp_record.specs.Stale.{is_stale}
-use Rattle.csp_scene.proofs.Laws.{AllByRecursion-map}
+use Rattle.csp_scene.proofs.Public.{AllByRecursion-map}
 use Rattle.csp_stack.specs.Router.{Facts, Leaving, State, origin_of}
 use Rattle.csp_stack.specs.Rules.{connection_of}
 use Rattle.csp_stack.specs.Turn.{asked_at, asks_at, timed, told_at}
@@ -27,7 +27,7 @@ use Rattle.csp_prefix.specs.Flows.{Flows}
 use Rattle.csp_prefix.specs.Ports.{IsInUse, IsSlot, connection_in, now_at}
 use Rattle.csp_prefix.specs.Routers.{router_steps}
 use Rattle.csp_prefix.specs.Slots.{Now}
-use Rattle.csp_prefix.proofs.Laws.{Past, past_after, with_openings, IsFound, found_there, IsCome, part_of, past_of, past_with, step_stands, Aim, IsAim, IsPart, Stands, IsHanding, TellsAt, entry_tells, HearsSo, stands_timed, timed_part, past}
+use Rattle.csp_prefix.proofs.Public.{Past, past_after, with_openings, IsFound, found_there, IsCome, part_of, past_of, past_with, step_stands, Aim, IsAim, IsPart, Stands, IsHanding, TellsAt, entry_tells, HearsSo, stands_timed, timed_part, past}
 use Rattle.csp_peers.specs.Nearness.{AreShort as AreFlowsShort, HasOnePeer, half}
 use Rattle.csp_peers.proofs.ReceiverNear.{not-stale}
 use Rattle.csp_peers.proofs.RouterMakes.{AllowsOne, AreShort, book_short}

@@ -14,7 +14,7 @@ use Rattle.csp_conn.specs.PlainConns.{PlainConns, slot_at}
 use Rattle.csp_conn.specs.declared.circle.TheConstants.{OWN_PORTS}
 use Rattle.csp_conn.specs.declared.slot.Connection.{Connection}
 use Rattle.csp_conn.specs.declared.slot.Slot.TheVariants as has
-use Rattle.csp_header.proofs.Laws.{header_at-word_of}
+use Rattle.csp_header.proofs.Public.{header_at-word_of}
 use Rattle.csp_header.specs.Word.{IsInRange, header_at, word_of}
 use Rattle.csp_header.specs.declared.word.Header.{Header}
 use Rattle.csp_log.specs.declared.entry.Entry.{Entry}
@@ -38,7 +38,7 @@ use Rattle.csp_prefix.specs.Ports.{Books, IsAskedSo, connection_in, now_at}
 use Rattle.csp_prefix.specs.Prefix.{IsBeginning}
 use Rattle.csp_prefix.specs.Routers.{IsFlowOf}
 use Rattle.csp_prefix.specs.Slots.{Book, Now, Numbering}
-use Rattle.csp_prefix.proofs.Laws.{sends-over, ports_kept, Past, Tells, opening_on, protected_trace, opening_flow, sender_not, Aim, IsAim, IsPart, past, past_sent}
+use Rattle.csp_prefix.proofs.Public.{sends-over, ports_kept, Past, Tells, opening_on, protected_trace, opening_flow, sender_not, Aim, IsAim, IsPart, past, past_sent}
 use Rattle.csp_peers.specs.Nearness.{IsAddressable, IsMaker, addressable}
 use Rattle.csp_peers.specs.Unforged.{ComesWell}
 use Rattle.csp_peers.proofs.SenderBounds.{maker-kept, maker-says}

@@ -23,7 +23,7 @@ use Rattle.csp_rdp_header.specs.declared.head.RdpHead.{RdpHead}
 use Rattle.csp_prefix.specs.Flows.{Flows, IsGenuine, IsTrueOf}
 use Rattle.csp_prefix.specs.Ports.{Books, now_at}
 use Rattle.csp_prefix.specs.Slots.{Coming, IsKept, Now, Numbering}
-use Rattle.csp_prefix.proofs.Laws.{ports_kept, read_true, protected_trace, sender_not, Aim, IsAim, IsRead, past}
+use Rattle.csp_prefix.proofs.Public.{ports_kept, read_true, protected_trace, sender_not, Aim, IsAim, IsRead, past}
 use Rattle.csp_peers.specs.Nearness.{AreShort, HasOnePeer, IsHearer, IsMaker, addressable, half, of_peers}
 use Rattle.csp_peers.specs.Unforged.{ComesWell}
 use Rattle.csp_peers.proofs.ReceiverNear.{hearer-kept}

@@ -28,7 +28,7 @@ use Rattle.csp_rdp.specs.declared.rows.Row.{Row}
 use Rattle.csp_rdp.specs.declared.rows.Row.TheVariants as row
 use Rattle.csp_peers.specs.Nearness.{IsBounded, IsMaker, SaysNear, addressable}
 use Rattle.csp_prefix.specs.Slots.{IsKept, Now, Numbering, after_delivering, after_opening, after_sending, waiting_for, with_machine}
-use Rattle.csp_prefix.proofs.Laws.{hears-handed, sender-kept, Delivers, Hears, IsSameOwn, Ways, answers, delivers, enters, enters_keeping, delivers-both, delivers-open, goes-kept-again, goes-rested, goes-sent, keeps, moves, on, over, off, resets, ways-closing, ways-ticked}
+use Rattle.csp_prefix.proofs.Public.{hears-handed, sender-kept, Delivers, Hears, IsSameOwn, Ways, answers, delivers, enters, enters_keeping, delivers-both, delivers-open, goes-kept-again, goes-rested, goes-sent, keeps, moves, on, over, off, resets, ways-closing, ways-ticked}
 
 -- ---- una is at most the next index
 

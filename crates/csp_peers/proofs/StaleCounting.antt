@@ -35,17 +35,17 @@ use Rattle.csp_log.specs.declared.shown.AnswerShown.TheVariants as answer
 use Rattle.csp_log.specs.declared.shown.ItemShown.{ItemShown}
 use Rattle.csp_log.specs.declared.shown.ItemShown.TheVariants as item
 use Rattle.csp_party.specs.Any.{PlainParty, a_bridge, a_hub, a_link, a_router, an_app, an_iface, asked, events, tells}
-use Rattle.csp_prefix.proofs.Laws.{blobs_so}
+use Rattle.csp_prefix.proofs.Public.{blobs_so}
 use Rattle.csp_record.specs.Record.{PlainPartyLog, PlainRecord}
 use Rattle.csp_record.specs.Stale.{is_stale, stale}
 use Rattle.csp_log.specs.declared.who.Who.{Who}
 use Rattle.csp_log.specs.declared.who.Who.TheVariants as who
-use Rattle.csp_scene.proofs.Laws.{AllByRecursion-append}
+use Rattle.csp_scene.proofs.Public.{AllByRecursion-append}
 use Rattle.csp_scene.specs.Scene.{PlainLink, PlainNode, PlainScene}
 use Rattle.csp_topology.specs.Parties.{PlainOpening, link_party, parties_of, party_steps}
 use Rattle.csp_consistent.specs.Reading.{entries_of}
 use Rattle.csp_consistent.specs.Runs.{AreLogsOf, IsLogOf}
-use Rattle.csp_consistent.proofs.Laws.{each_at, each_there, are_apart, entries_at, entries_in, IsOf, IsOwner, are_owners}
+use Rattle.csp_consistent.proofs.Public.{each_at, each_there, are_apart, entries_at, entries_in, IsOf, IsOwner, are_owners}
 
 -- ---- what tells of no stale copy
 

@@ -13,11 +13,11 @@ use Rattle.csp_scene.specs.Scene.{PlainScene}
 use Rattle.csp_stack.specs.Config.{opening_state}
 use Rattle.csp_stack.specs.Readings.{broadcast}
 use Rattle.csp_stack.specs.Router.{Facts}
-use Rattle.csp_consistent.proofs.Laws.{Logged, IsOf, logged}
+use Rattle.csp_consistent.proofs.Public.{Logged, IsOf, logged}
 use Rattle.csp_consistent.specs.Consistent.{IsConsistent}
 use Rattle.csp_consistent.specs.Reading.{entries_of}
 use Rattle.csp_prefix.specs.Routers.{IsHeard}
-use Rattle.csp_prefix.proofs.Laws.{flows_in, RouterThere, router_there, no_past, all_fresh, Aim, all_come, heard_all, opening_stands, part_all, past}
+use Rattle.csp_prefix.proofs.Public.{flows_in, RouterThere, router_there, no_past, all_fresh, Aim, all_come, heard_all, opening_stands, part_all, past}
 use Rattle.csp_peers.specs.Addressed.{AreAddressedApart}
 use Rattle.csp_peers.specs.Clear.{HasClearFlows}
 use Rattle.csp_peers.proofs.AppWishes.{router_gets_each}

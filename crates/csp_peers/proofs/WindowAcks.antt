@@ -2,7 +2,7 @@
 use Rattle.std.proofs.Common.{◌≡◌, ◌≢◌, ℕ, pos, ◌<◌, ◌≤◌, ◌==◌, Bool, true, false, Option, None, Some, List, ◌++◌, refl, sym, ap, ◌∙◌, subst, arith}
 use Rattle.std.specs.Prelude.{⊤, if◌then◌else◌, ℤ, ◌+ℤ◌}
 use Rattle.std.specs.Option.{unwrap_or}
-use Rattle.csp_base.proofs.Laws.{wrapped_small}
+use Rattle.csp_base.proofs.Public.{wrapped_small}
 use Rattle.csp_base.specs.Sequence.{number_of}
 use Rattle.csp_base.specs.declared.traces.Tag.{Tag}
 use Rattle.csp_buffer.specs.Content.{Content}
@@ -26,7 +26,7 @@ use Rattle.csp_rdp_header.specs.declared.head.TheConstants.{ACK, RST, SYN}
 use Rattle.csp_prefix.specs.Flows.{Flows, IsGenuine, with_checksum}
 use Rattle.csp_prefix.specs.Machines.{IsFed, IsReceiver, IsSender, ReceivesIn, true_packets, whatever}
 use Rattle.csp_prefix.specs.Slots.{IsKept, Now, Numbering}
-use Rattle.csp_prefix.proofs.Laws.{hears-handed, sender-kept, delivers-both, delivers-open, goes-kept-again, goes-rested, goes-sent, ways-closing, ways-ticked, receiver-kept, ports_kept, all_at, checked_flag, none_stale, fed_tag, read_true, protected_trace, AreFound, found_any, all_fresh, sender_not, Aim, IsAim, IsRead, each_comes, past, run_known}
+use Rattle.csp_prefix.proofs.Public.{hears-handed, sender-kept, delivers-both, delivers-open, goes-kept-again, goes-rested, goes-sent, ways-closing, ways-ticked, receiver-kept, ports_kept, all_at, checked_flag, none_stale, fed_tag, read_true, protected_trace, AreFound, found_any, all_fresh, sender_not, Aim, IsAim, IsRead, each_comes, past, run_known}
 use Rattle.csp_prefix.specs.Ports.{Books, now_at}
 use Rattle.csp_prefix.specs.Routers.{AreShown, HasNoStale, HearsGenuine, IsGenuineItem, IsHeard, IsRouterLog, SendsOnly}
 use Rattle.csp_consistent.specs.Reading.{gets}

@@ -33,14 +33,14 @@ use Rattle.csp_stack.specs.Router.{Facts, Router, State, origin_of}
 use Rattle.csp_stack.specs.Rules.{connection_of}
 use Rattle.csp_stack.specs.Turn.{asked_at, timed, told_at}
 use Rattle.csp_topology.specs.Parties.{config_of}
-use Rattle.csp_consistent.proofs.Laws.{each_at, each_first, each_last, Logged, IsOf, logged}
+use Rattle.csp_consistent.proofs.Public.{each_at, each_first, each_last, Logged, IsOf, logged}
 use Rattle.csp_consistent.specs.Consistent.{IsConsistent}
 use Rattle.csp_consistent.specs.Reading.{entries_of, got_by, gets}
 use Rattle.csp_rdp_header.specs.Head.{head_bytes}
 use Rattle.csp_stack.specs.Readings.{is_checked}
 use Rattle.csp_prefix.specs.Flows.{IsGenuine, with_checksum}
 use Rattle.csp_prefix.specs.Routers.{HasNoStale, HearsOnly, IsHeard, IsRouterLog, SendsOnly, opening_router, router_steps}
-use Rattle.csp_prefix.proofs.Laws.{are_shown, flows_in, hears_genuine, hears_only, RouterThere, router_there, events_of, none_counted, Past, no_past, fed_tag, found_there, true_routers, AreFound, IsCome, found_any, part_of, past_of, past_with, step_stands, all_fresh, sender_aim, sender_is_aim, Aim, IsAim, IsPart, Stands, all_come, each_comes, heard_all, opening_stands, part_all, past, stands_timed, sender-opens, sender-kept, IsOfPopped, TellsAt, entry_tells, ports_kept}
+use Rattle.csp_prefix.proofs.Public.{are_shown, flows_in, hears_genuine, hears_only, RouterThere, router_there, events_of, none_counted, Past, no_past, fed_tag, found_there, true_routers, AreFound, IsCome, found_any, part_of, past_of, past_with, step_stands, all_fresh, sender_aim, sender_is_aim, Aim, IsAim, IsPart, Stands, all_come, each_comes, heard_all, opening_stands, part_all, past, stands_timed, sender-opens, sender-kept, IsOfPopped, TellsAt, entry_tells, ports_kept}
 use Rattle.csp_prefix.specs.Machines.{IsSender, whatever}
 use Rattle.csp_peers.specs.Window.{HadWindow, HasAsPeer, IsDataHanded, IsDataPacket, IsWithinWindow, LastIsWithinWindow}
 use Rattle.csp_peers.proofs.PacketsMade.{get_past, of_kind, sends_both}

@@ -9,7 +9,7 @@ use Rattle.std.proofs.lemmas.Int.{ints}
 use Rattle.std.proofs.lemmas.List.Elements.{All-head, All-nil, All-push, All-tail, All-weaker}
 use Rattle.csp_base.specs.Sequence.{near, number_of}
 use Rattle.csp_base.specs.declared.traces.Tag.{Tag}
-use Rattle.csp_base.proofs.Laws.{near_is}
+use Rattle.csp_base.proofs.Public.{near_is}
 use Rattle.csp_buffer.specs.PlainBuffer.{PlainBuffer}
 use Rattle.csp_ports.specs.PlainPorts.{start_of}
 use Rattle.csp_ports.specs.Steps.{has_room, has_room_in}
@@ -36,7 +36,7 @@ use Rattle.csp_rdp.specs.declared.rows.Row.TheVariants as row
 use Rattle.csp_prefix.specs.Flows.{is_data}
 use Rattle.csp_prefix.specs.Machines.{IsSender, SendsIn}
 use Rattle.csp_prefix.specs.Slots.{Coming, IsKept, Now, Numbering}
-use Rattle.csp_prefix.proofs.Laws.{hears-handed, sender-kept, Delivers, Hears, IsSameOwn, Ways, answers, delivers, enters, enters_keeping, delivers-both, delivers-open, goes-kept-again, goes-rested, goes-sent, keeps, moves, on, over, off, resets, ways-closing, ways-ticked}
+use Rattle.csp_prefix.proofs.Public.{hears-handed, sender-kept, Delivers, Hears, IsSameOwn, Ways, answers, delivers, enters, enters_keeping, delivers-both, delivers-open, goes-kept-again, goes-rested, goes-sent, keeps, moves, on, over, off, resets, ways-closing, ways-ticked}
 
 -- ---- what is known of a connection's window
 

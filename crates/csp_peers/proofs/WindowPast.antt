@@ -20,7 +20,7 @@ use Rattle.csp_prefix.specs.Machines.{IsSender}
 use Rattle.csp_prefix.specs.Ports.{IsReliableOn, now_at}
 use Rattle.csp_prefix.specs.Routers.{ComesSo, IsRouterLog, opening_router, router_steps}
 use Rattle.csp_prefix.specs.Slots.{GoesOn, Now, Numbering}
-use Rattle.csp_prefix.proofs.Laws.{sender-kept, used, Past, no_past, past_after, with_openings, known_aim, known_is_aim, known_stands, known_turns, told_since, AreFound, sender_not, IsAim, Stands, opening_stands, past, stands_timed}
+use Rattle.csp_prefix.proofs.Public.{sender-kept, used, Past, no_past, past_after, with_openings, known_aim, known_is_aim, known_stands, known_turns, told_since, AreFound, sender_not, IsAim, Stands, opening_stands, past, stands_timed}
 use Rattle.csp_peers.proofs.MachineFollows.{Follows, IsHomed, IsPast, anywhere-kept, homed-steady, past-steady, steady-kept}
 use Rattle.csp_peers.proofs.WindowFacts.{IsBefore}
 

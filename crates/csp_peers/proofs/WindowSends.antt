@@ -7,7 +7,7 @@ use Rattle.std.proofs.lemmas.Bool.{or_parts}
 use Rattle.std.proofs.lemmas.List.{append_assoc}
 use Rattle.csp_base.specs.Sequence.{number_of}
 use Rattle.csp_base.specs.declared.traces.Tag.{Tag}
-use Rattle.csp_base.proofs.Laws.{wrapped_small}
+use Rattle.csp_base.proofs.Public.{wrapped_small}
 use Rattle.csp_buffer.specs.Content.{Content}
 use Rattle.csp_conn.specs.declared.slot.Connection.{Connection}
 use Rattle.csp_deck.specs.Runs.{state_after, step_after}
@@ -35,7 +35,7 @@ use Rattle.csp_prefix.specs.Flows.{Flows, is_data, with_checksum}
 use Rattle.csp_prefix.specs.Ports.{Books, now_at}
 use Rattle.csp_prefix.specs.Routers.{AreShown, HasNoStale, HearsGenuine, IsFlowOf, IsHeard, IsRouterLog, SendsOnly, opening_router, router_steps}
 use Rattle.csp_prefix.specs.Slots.{Numbering}
-use Rattle.csp_prefix.proofs.Laws.{sender-says, ports_kept, Past, Tells, opening_on, checked_back, checked_flag, parted_back, unwrapped_is, none_stale, fed_tag, protected_trace, AreFound, opening_flow, sender_not, Aim, IsAim, IsPart, IsRead, unwrapped, each_comes, past, run_known}
+use Rattle.csp_prefix.proofs.Public.{sender-says, ports_kept, Past, Tells, opening_on, checked_back, checked_flag, parted_back, unwrapped_is, none_stale, fed_tag, protected_trace, AreFound, opening_flow, sender_not, Aim, IsAim, IsPart, IsRead, unwrapped, each_comes, past, run_known}
 use Rattle.csp_peers.specs.Window.{HadMachine}
 use Rattle.csp_peers.proofs.WindowFacts.{Acknowledges, HasHeard, IsAck, IsAllowedData}
 use Rattle.csp_peers.proofs.WindowMachine.{IsFedWell, IsKeeping, acknowledging, data-within, keeping-kept}

@@ -34,7 +34,7 @@ use Rattle.csp_rdp.specs.declared.answers.State.{State}
 use Rattle.csp_rdp.specs.declared.answers.State.TheVariants.{Closed, SynSent, SynRcvd, Open, CloseWait}
 use Rattle.csp_rdp.specs.declared.answers.Why.{Why}
 use Rattle.csp_rdp.specs.declared.answers.Why.TheVariants as machine_why
-use Rattle.csp_rdp.proofs.Laws.{admitted-balanced, numbers-ticked, far-ticked}
+use Rattle.csp_rdp.proofs.Public.{admitted-balanced, numbers-ticked, far-ticked}
 
 -- ---- steps that count no further
 

@@ -20,7 +20,7 @@ use Rattle.csp_rdp.specs.Balance.{IsWhole}
 use Rattle.csp_rdp.specs.Counts.{IsFar}
 use Rattle.csp_rdp.specs.Holding.{rdp_buffers, rdp_numbers, rested, unneeded}
 use Rattle.csp_rdp.specs.Machine.{PlainRdp, idle}
-use Rattle.csp_rdp.proofs.Laws.{whole-rested, far-rested}
+use Rattle.csp_rdp.proofs.Public.{whole-rested, far-rested}
 
 -- ---- how far ports have come
 

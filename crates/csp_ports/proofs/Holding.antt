@@ -17,7 +17,7 @@ use Rattle.csp_base.specs.declared.limits.TheConstants.{MAX_APPS, SLOTS, ALL_SLO
 use Rattle.csp_deck.specs.Keeping.{numbers_of}
 use Rattle.csp_deck.specs.Regions.{nowhere}
 use Rattle.csp_deck.specs.Step.{times}
-use Rattle.csp_deck.proofs.Laws.{times-append}
+use Rattle.csp_deck.proofs.Public.{times-append}
 use Rattle.csp_ports.specs.Came.{pictures}
 use Rattle.csp_ports.specs.Held.{first_out, held, stalled_buffers, without_held, without_stalled}
 use Rattle.csp_ports.specs.Kept.{IsHoused, IsWaiting, stalled_of, wished, wishes}
@@ -30,14 +30,14 @@ use Rattle.csp_rdp.specs.Placed.{placed, placed_buffer}
 use Rattle.csp_rdp.specs.Regions.{AreIn}
 use Rattle.csp_rdp.specs.declared.answers.State.{State}
 use Rattle.csp_rdp.specs.declared.answers.State.TheVariants.{Closed, SynSent, SynRcvd, Open, CloseWait}
-use Rattle.csp_rdp.proofs.Laws.{whole-out, numbers-buffers, placed-buffers, placed-out, in-buffers, in-taken-out}
+use Rattle.csp_rdp.proofs.Public.{whole-out, numbers-buffers, placed-buffers, placed-out, in-buffers, in-taken-out}
 use Rattle.csp_rdp_window.specs.Places.{first_held, held_in, without_held as without_first}
 use Rattle.csp_rdp_window.specs.Receiving.{Kept, PlainRecv, recv_numbers, without_first as kept_without}
 use Rattle.csp_rdp_window.specs.Sending.{is_loose, send_numbers}
 use Rattle.csp_rdp_window.specs.declared.pending.Pending.{Pending}
 use Rattle.csp_rdp_window.specs.declared.receive.TheConstants.{RECEIVE_PLACES}
 use Rattle.csp_rdp_window.specs.declared.send.TheConstants.{SEND_PLACES}
-use Rattle.csp_rdp_window.proofs.Laws.{held_in-few, set-item, take-all, take-item, whole-item}
+use Rattle.csp_rdp_window.proofs.Public.{held_in-few, set-item, take-all, take-item, whole-item}
 use Rattle.csp_socket.specs.Bound.{Bound, bound_none, owner_of}
 use Rattle.csp_socket.specs.declared.sockets.TheConstants.{BINDABLE_PORTS}
 

@@ -18,4 +18,4 @@ mod Waiting
 mod Weighing
 mod Wholes
 mod Wishing
-pub mod Laws
+pub mod Public

@@ -52,7 +52,7 @@ use Rattle.csp_rdp.specs.declared.jobs.Job.{Job}
 use Rattle.csp_rdp_header.specs.declared.head.RdpHead.{RdpHead}
 use Rattle.csp_rdp_window.specs.Numbers.{number_in}
 use Rattle.csp_rdp_window.specs.Receiving.{confirmed, is_kept}
-use Rattle.csp_rdp.proofs.Laws.{again-balanced, delivery-balanced, handed-balanced, numbers-closed, numbers-delivered, numbers-sent, missing-taken, whole-again, whole-delivered, whole-handed, whole-taken, far-after, far-closed, far-delivered, far-sent, far-taken, far-taken-out}
+use Rattle.csp_rdp.proofs.Public.{again-balanced, delivery-balanced, handed-balanced, numbers-closed, numbers-delivered, numbers-sent, missing-taken, whole-again, whole-delivered, whole-handed, whole-taken, far-after, far-closed, far-delivered, far-sent, far-taken, far-taken-out}
 
 -- ---- tasks
 

@@ -14,7 +14,7 @@ use Rattle.csp_deck.specs.Keeping.{PlainPile}
 use Rattle.csp_deck.specs.Regions.{nowhere}
 use Rattle.csp_ports.proofs.Keeping.{machine_in, machine_set}
 use Rattle.csp_ports.proofs.Weighing.{long, machine_among, machine_tallied, machine_tally, waiting_tallied}
-use Rattle.csp_rdp.proofs.Laws.{placed-rdp-numbers}
+use Rattle.csp_rdp.proofs.Public.{placed-rdp-numbers}
 use Rattle.csp_ports.specs.Kept.{ArePorts, IsRoomy, plain_ports, ports_at}
 use Rattle.csp_ports.specs.declared.ports.Ports.TheInside.{Inside}
 use Rattle.std.specs.Vec.{with_item}

@@ -16,7 +16,7 @@ use Rattle.csp_ports.specs.PlainPorts.{PlainPorts, PlainStalled, PortsAt, machin
 use Rattle.csp_ports.specs.Quiet.{any_stranded, any_times_out, is_stranded, is_stranded_in, is_stranded_on, times_out_at}
 use Rattle.csp_ports.specs.Steps.{changed, dropped, dropped_in, dropped_of, dropped_on, stepped, timed, timed_at, timed_in, went}
 use Rattle.csp_ports.specs.declared.ports.Ports.TheInside.{Inside}
-use Rattle.csp_rdp.proofs.Laws.{rested-still, placed-unneeded, in_time}
+use Rattle.csp_rdp.proofs.Public.{rested-still, placed-unneeded, in_time}
 use Rattle.csp_rdp.specs.Changes.{change_between}
 use Rattle.csp_rdp.specs.Holding.{unneeded}
 use Rattle.csp_rdp.specs.Machine.{PlainRdp, idle}

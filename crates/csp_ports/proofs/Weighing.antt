@@ -10,7 +10,7 @@ use Rattle.csp_buffer.specs.PlainBuffer.{PlainBuffer}
 use Rattle.csp_conn.specs.PlainConns.{place_of}
 use Rattle.csp_deck.specs.Keeping.{numbers_of}
 use Rattle.csp_deck.specs.Step.{times}
-use Rattle.csp_deck.proofs.Laws.{times-append}
+use Rattle.csp_deck.proofs.Public.{times-append}
 use Rattle.csp_ports.proofs.Holding.{pictured}
 use Rattle.csp_ports.specs.Came.{pictures}
 use Rattle.csp_ports.specs.Held.{held, stalled_buffers}
@@ -18,7 +18,7 @@ use Rattle.csp_ports.specs.PlainPorts.{PlainPorts, PlainStalled, machine_at, sta
 use Rattle.csp_rdp.specs.Balance.{Balanced}
 use Rattle.csp_rdp.specs.Holding.{rdp_buffers, rdp_numbers, rested, unneeded}
 use Rattle.csp_rdp.specs.Machine.{PlainRdp, idle}
-use Rattle.csp_rdp.proofs.Laws.{parted-balanced, numbers-buffers}
+use Rattle.csp_rdp.proofs.Public.{parted-balanced, numbers-buffers}
 
 abbrev pub tally : Option ℕ → List ℕ → ℕ
 tally (Some k) ns = times k ns

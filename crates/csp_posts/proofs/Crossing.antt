@@ -4,11 +4,11 @@ use Rattle.std.specs.Prelude.{if◌then◌else◌}
 use Rattle.std.specs.List.{AllByRecursion}
 use Rattle.std.proofs.lemmas.Grind.{flat_map-append}
 use Rattle.std.proofs.lemmas.Option.{same_Some, slice_get-map}
-use Rattle.csp_consistent.proofs.Laws.{queue_apart, queue_is, queue_turned}
+use Rattle.csp_consistent.proofs.Public.{queue_apart, queue_is, queue_turned}
 use Rattle.csp_consistent.specs.Prompt.{AllAfter, HadNoRoom}
 use Rattle.csp_consistent.specs.Reading.{is_queue, put_by, got_by, puts}
 use Rattle.csp_deck.specs.Carried.{IsCarried}
-use Rattle.csp_ends.proofs.Laws.{whole_kept, all_at, all_from}
+use Rattle.csp_ends.proofs.Public.{whole_kept, all_at, all_from}
 use Rattle.csp_ends.specs.Causes.{CauseOf, HasEnd, HasNoRoomAt, HaveCauses}
 use Rattle.csp_ends.specs.Ends.{PlainNodeQueues, PlainSide, PlainEnds, AreEnds}
 use Rattle.csp_ends.specs.Moves.{ends_after, ends_after_all, moved_by, room_for, side_after}

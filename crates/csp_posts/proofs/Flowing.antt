@@ -11,14 +11,14 @@ use Rattle.csp_base.specs.Priority.{prio_number}
 use Rattle.csp_base.specs.declared.priority.Prio.{Prio}
 use Rattle.csp_base.specs.declared.priority.Prio.TheVariants.{Critical, High, Normal, Low}
 use Rattle.csp_buffer.specs.Content.{Content}
-use Rattle.csp_consistent.proofs.Laws.{queue_apart, queue_is, queue_turned}
+use Rattle.csp_consistent.proofs.Public.{queue_apart, queue_is, queue_turned}
 use Rattle.csp_consistent.specs.Pools.{given_by, taken_by}
 use Rattle.csp_consistent.specs.Reading.{is_queue, put_by, got_by, of_priority, with_priority}
-use Rattle.csp_deck.proofs.Laws.{times-append}
+use Rattle.csp_deck.proofs.Public.{times-append}
 use Rattle.csp_deck.specs.Carried.{priority_of}
 use Rattle.csp_deck.specs.Runs.{handed_over, received}
 use Rattle.csp_deck.specs.Step.{times, op_numbers, answer_numbers, item_numbers}
-use Rattle.csp_ends.proofs.Laws.{whole_kept}
+use Rattle.csp_ends.proofs.Public.{whole_kept}
 use Rattle.csp_ends.specs.Causes.{CauseOf, HaveCauses, HasEnd}
 use Rattle.csp_ends.specs.Ends.{PlainSide, PlainHome, PlainEnds, inbox_of, AreApart, AreEnds}
 use Rattle.csp_ends.specs.Moves.{moved_by, side_after, home_after, post_after, ends_after, ends_after_all}

@@ -9,4 +9,4 @@ mod Sweeping
 mod Tracing
 mod Turning
 mod TurnsBooks
-pub mod Laws
+pub mod Public

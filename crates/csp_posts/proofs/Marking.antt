@@ -5,9 +5,9 @@ use Rattle.std.specs.List.{AllByRecursion, find}
 use Rattle.std.specs.Option.{option_map}
 use Rattle.std.proofs.lemmas.Bool.{and_parts}
 use Rattle.std.proofs.lemmas.List.{append-nil}
-use Rattle.csp_consistent.proofs.Laws.{queue_is}
+use Rattle.csp_consistent.proofs.Public.{queue_is}
 use Rattle.csp_consistent.specs.Reading.{is_queue}
-use Rattle.csp_ends.proofs.Laws.{back_turned, whole_kept}
+use Rattle.csp_ends.proofs.Public.{back_turned, whole_kept}
 use Rattle.csp_ends.specs.Ends.{PlainSide, PlainEnds, AreEnds}
 use Rattle.csp_ends.specs.Moves.{marks_along, moved_by, side_after, ends_after, ends_after_all}
 use Rattle.csp_ends.specs.Sides.{IsBacked, back_name, back_of, beside, count_through, is_back, is_back_by, is_turned}

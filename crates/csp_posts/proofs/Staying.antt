@@ -1,7 +1,7 @@
 -- Turns leave what a party has in hand as it is, but for what went through it and what it found.
 use Rattle.std.proofs.Common.{◌≡◌, ℕ, Option, None, Some, List, [], ◌∷◌, map, refl, ap, ◌∙◌}
 use Rattle.std.specs.Option.{option_map}
-use Rattle.csp_ends.proofs.Laws.{of_it_kept, room_kept, whole_kept}
+use Rattle.csp_ends.proofs.Public.{of_it_kept, room_kept, whole_kept}
 use Rattle.csp_ends.specs.Ends.{PlainNodeQueues, PlainSide, PlainHome, PlainEnds, AreOf, AreEnds}
 use Rattle.csp_ends.specs.Moves.{side_after, hand_after, home_after, post_after, ends_after, ends_after_all, room_for}
 use Rattle.csp_inbox.specs.Passes as inbox

@@ -1,14 +1,14 @@
 -- What an application puts into its `Up` is what an `Up` carries, where its script's numbers are in their ranges.
 use Rattle.std.proofs.Common.{ℕ, List, refl}
 use Rattle.std.specs.List.{AllByRecursion}
-use Rattle.csp_app.proofs.Laws.{up_carries}
+use Rattle.csp_app.proofs.Public.{up_carries}
 use Rattle.csp_app.specs.PlainStep.{PlainStep}
 use Rattle.csp_app.specs.PlainStep as step
 use Rattle.csp_app.specs.Room.{IsStep}
 use Rattle.csp_deck.specs.Carried.{IsUpItem}
 use Rattle.csp_log.specs.declared.entry.Entry.{Entry}
 use Rattle.csp_log.specs.declared.places.QueueId.TheVariants as queue
-use Rattle.csp_scene.proofs.Laws.{AllByRecursion-map}
+use Rattle.csp_scene.proofs.Public.{AllByRecursion-map}
 use Rattle.csp_scene.specs.Ranges as ranges
 use Rattle.csp_prefix.specs.Apps.{IsAppLog}
 use Rattle.csp_consistent.specs.Reading.{puts}

@@ -15,7 +15,7 @@ use Rattle.csp_app.specs.Turn.{Turn, gives, giving_op, op_of, popped, pops, push
 use Rattle.csp_app.specs.declared.plan.Plan.{Plan}
 use Rattle.csp_app.specs.declared.plan.Plan.TheVariants as plan
 use Rattle.csp_buffer.specs.Content.{Content}
-use Rattle.csp_consistent.proofs.Laws.{each_at, each_if}
+use Rattle.csp_consistent.proofs.Public.{each_at, each_if}
 use Rattle.csp_consistent.specs.Reading.{is_queue, put_by, puts}
 use Rattle.csp_deck.specs.Runs.{IsRun, step_after}
 use Rattle.csp_log.specs.Pictures.{Fits}
@@ -30,7 +30,7 @@ use Rattle.csp_log.specs.declared.shown.AnswerShown.TheVariants as answer
 use Rattle.csp_log.specs.declared.shown.ItemShown.{ItemShown}
 use Rattle.csp_log.specs.declared.shown.ItemShown.TheVariants as item
 use Rattle.csp_prefix.specs.Apps.{IsAppLog, app_steps}
-use Rattle.csp_scene.proofs.Laws.{AllByRecursion-append}
+use Rattle.csp_scene.proofs.Public.{AllByRecursion-append}
 
 -- ---- what a step puts
 

@@ -10,7 +10,7 @@ use Rattle.csp_record.specs.Connections.{opened_by, openings}
 use Rattle.csp_record.specs.Payloads.{sent}
 use Rattle.csp_record.specs.declared.connections.Opening.{Opening}
 use Rattle.csp_record.specs.declared.payloads.Way.TheVariants as way
-use Rattle.csp_record.proofs.Laws.{Ends, ended, no_ends, openings_after, openings_are}
+use Rattle.csp_record.proofs.Public.{Ends, ended, no_ends, openings_after, openings_are}
 use Rattle.csp_prefix.specs.Routers.{AreNumbered, IsFlowOf}
 
 -- ---- the first opening with a number

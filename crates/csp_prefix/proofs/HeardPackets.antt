@@ -22,7 +22,7 @@ use Rattle.csp_record.specs.Record.{PlainRecord}
 use Rattle.csp_record.specs.Transmissions.{iface_entries, shown_in, transmission}
 use Rattle.csp_log.specs.declared.who.Who.{Who}
 use Rattle.csp_log.specs.declared.who.Who.TheVariants as who
-use Rattle.csp_scene.proofs.Laws.{AllByRecursion-map}
+use Rattle.csp_scene.proofs.Public.{AllByRecursion-map}
 use Rattle.csp_scene.specs.Links.{links_at}
 use Rattle.csp_scene.specs.Ranges.{IsScene}
 use Rattle.csp_scene.specs.Scene.{PlainNode, PlainScene}
@@ -34,7 +34,7 @@ use Rattle.csp_topology.specs.Lanes.{leader_of, out_lane}
 use Rattle.csp_consistent.specs.Origins.{IsSent}
 use Rattle.csp_consistent.specs.Reading.{entries_of, gets, left_in, puts, with_priority}
 use Rattle.csp_prefix.specs.Routers.{HearsOnly, IsOfKind, SendsOnly}
-use Rattle.csp_consistent.proofs.Laws.{through, each_at, each_first, first_given, Logged, IsBridgeAt, IsIfaceAt, IsOf, logged}
+use Rattle.csp_consistent.proofs.Public.{through, each_at, each_first, first_given, Logged, IsBridgeAt, IsIfaceAt, IsOf, logged}
 use Rattle.csp_prefix.proofs.HubLogs.{bridge_keeps, bridge_puts, iface_shows, router_keeps, router_sends}
 use Rattle.csp_prefix.proofs.NodeLanes.{RouterThere, out_lane_there, owner_of, router_there, run_of}
 use Rattle.csp_prefix.proofs.PacketLists.{accepted_of, by_mark, by_priority, each_any, each_both, each_of_priority, iface_entries_in, none_counted}

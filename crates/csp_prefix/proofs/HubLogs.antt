@@ -40,7 +40,7 @@ use Rattle.csp_ports.specs.Tasks.{next_task}
 use Rattle.csp_ports.specs.PlainPorts.{machine_at}
 use Rattle.csp_rdp.specs.Jobs.{delivery}
 use Rattle.csp_record.specs.Transmissions.{fetched, is_beginning, shown_in}
-use Rattle.csp_scene.proofs.Laws.{AllByRecursion-append}
+use Rattle.csp_scene.proofs.Public.{AllByRecursion-append}
 use Rattle.csp_stack.specs.Router.{Facts, Leaving, Router, State}
 use Rattle.csp_stack.specs.Sources.{place_with_work}
 use Rattle.csp_stack.specs.Turn.{delivering, giving, jobs_by, op_of, plan_by, plan_for, plan_of, pushing, replying, timed, work_at, work_found}
@@ -51,7 +51,7 @@ use Rattle.csp_prefix.specs.Apps.{app_steps}
 use Rattle.csp_topology.specs.Parties.{iface_opening, party_steps}
 use Rattle.csp_consistent.specs.Reading.{got_by, gets, is_queue, put_by, puts}
 use Rattle.csp_prefix.specs.Routers.{ComesSo, IsHeard, IsOfKind, IsUntraced, PushesSo, router_steps}
-use Rattle.csp_consistent.proofs.Laws.{each_first, each_if, each_last, IsNamed, step_named}
+use Rattle.csp_consistent.proofs.Public.{each_first, each_if, each_last, IsNamed, step_named}
 
 -- ---- a party's run is that of what it is
 

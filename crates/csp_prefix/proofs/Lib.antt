@@ -48,4 +48,4 @@ mod RouterTells
 mod RouterTrue
 mod RouterTurn
 mod TakenPrefix
-pub mod Laws
+pub mod Public

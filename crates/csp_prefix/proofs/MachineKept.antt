@@ -10,7 +10,7 @@ use Rattle.std.proofs.lemmas.Int.{ints}
 use Rattle.std.proofs.lemmas.List.Elements.{All-cons, All-filter, All-head, All-nil, All-tail}
 use Rattle.csp_base.specs.Sequence.{near, number_of}
 use Rattle.csp_base.specs.declared.traces.Tag.{Tag}
-use Rattle.csp_base.proofs.Laws.{near_is}
+use Rattle.csp_base.proofs.Public.{near_is}
 use Rattle.csp_buffer.specs.PlainBuffer.{PlainBuffer}
 use Rattle.csp_record.specs.Stale.{is_far}
 use Rattle.csp_rdp_header.specs.declared.head.RdpHead.{RdpHead}

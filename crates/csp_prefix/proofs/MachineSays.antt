@@ -7,7 +7,7 @@ use Rattle.std.proofs.lemmas.Bool.{eqb-true}
 use Rattle.std.proofs.lemmas.Int.{ints}
 use Rattle.std.proofs.lemmas.List.Elements.{All-head, All-tail}
 use Rattle.csp_base.specs.Sequence.{number_of}
-use Rattle.csp_base.proofs.Laws.{wrapped_is}
+use Rattle.csp_base.proofs.Public.{wrapped_is}
 use Rattle.csp_ports.specs.PlainPorts.{start_of}
 use Rattle.csp_ports.specs.declared.origin.Origin.{Origin}
 use Rattle.csp_rdp_window.specs.Receiving.{next_buffer}

@@ -21,7 +21,7 @@ use Rattle.csp_topology.specs.Parties.{config_of, parties_of, party_steps, route
 use Rattle.csp_consistent.specs.Reading.{entries_of, gets, puts}
 use Rattle.csp_prefix.specs.Routers.{IsRouterLog, IsUntraced, opening_router, router_steps}
 use Rattle.csp_consistent.specs.Runs.{AreLogsOf}
-use Rattle.csp_consistent.proofs.Laws.{through, each_at, each_first, each_last, Logged, IsAppAt, IsOf, IsOwner, IsRouterAt, logged}
+use Rattle.csp_consistent.proofs.Public.{through, each_at, each_first, each_last, Logged, IsAppAt, IsOf, IsOwner, IsRouterAt, logged}
 use Rattle.csp_prefix.proofs.AppItems.{puts_up_items}
 use Rattle.csp_prefix.proofs.AppTurns.{true_apps}
 use Rattle.csp_prefix.proofs.HubLogs.{app_run, comes_so, router_run, serves_own}

@@ -12,7 +12,7 @@ use Rattle.csp_scene.specs.Scene.{PlainNode, PlainScene}
 use Rattle.csp_consistent.specs.Consistent.{IsConsistent}
 use Rattle.csp_topology.specs.Parties.{config_of}
 use Rattle.csp_consistent.specs.Reading.{entries_of}
-use Rattle.csp_consistent.proofs.Laws.{Logged, IsOf, logged}
+use Rattle.csp_consistent.proofs.Public.{Logged, IsOf, logged}
 use Rattle.csp_prefix.specs.Prefix.{IsOpened}
 use Rattle.csp_prefix.proofs.NodeLanes.{RouterThere, router_there}
 use Rattle.csp_prefix.proofs.RouterLaw.{true_routers}

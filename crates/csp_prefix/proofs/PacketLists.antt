@@ -27,10 +27,10 @@ use Rattle.csp_record.specs.Transmissions.{iface_entries}
 use Rattle.csp_log.specs.Who.{is_any_iface, is_iface, is_who}
 use Rattle.csp_log.specs.declared.who.Who.{Who}
 use Rattle.csp_log.specs.declared.who.Who.TheVariants as who
-use Rattle.csp_scene.proofs.Laws.{AllByRecursion-append}
+use Rattle.csp_scene.proofs.Public.{AllByRecursion-append}
 use Rattle.csp_consistent.specs.Reading.{is_queue, of_mark, of_priority, put_by, puts, with_mark, with_priority}
 use Rattle.csp_prefix.specs.Routers.{IsOfKind}
-use Rattle.csp_consistent.proofs.Laws.{each_first, each_if, each_last, entries_in}
+use Rattle.csp_consistent.proofs.Public.{each_first, each_if, each_last, entries_in}
 
 -- ---- each element
 

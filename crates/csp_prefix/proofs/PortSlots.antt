@@ -18,7 +18,7 @@ use Rattle.csp_ports.specs.declared.terms.Terms.{Terms}
 use Rattle.csp_ports.specs.declared.terms.Wish.TheVariants as wish
 use Rattle.csp_rdp.specs.Machine.{PlainRdp, idle}
 use Rattle.csp_rdp.specs.declared.answers.State.TheVariants.{Closed, Open}
-use Rattle.csp_scene.proofs.Laws.{AllByRecursion-push}
+use Rattle.csp_scene.proofs.Public.{AllByRecursion-push}
 use Rattle.csp_socket.specs.Bound.{owner_of}
 use Rattle.csp_prefix.proofs.PortViews.{IsOther, View, alike, book_other, book_same, by_slot, count_more, get_other, get_same, now_of, ordinal_other, unlike, view}
 use Rattle.csp_prefix.specs.Ports.{Books, IsSlot, Ordinals, ends_due, is_end, is_end_of, waiting_on, with_book, with_ordinal}

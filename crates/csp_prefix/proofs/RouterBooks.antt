@@ -16,8 +16,8 @@ use Rattle.csp_record.specs.Connections.{opened_by}
 use Rattle.csp_record.specs.Payloads.{carried, told_on}
 use Rattle.csp_record.specs.declared.connections.Opening.{Opening}
 use Rattle.csp_record.specs.declared.payloads.Way.TheVariants as way
-use Rattle.csp_record.proofs.Laws.{Ends, ended}
-use Rattle.csp_scene.proofs.Laws.{AllByRecursion-append, AllByRecursion-map}
+use Rattle.csp_record.proofs.Public.{Ends, ended}
+use Rattle.csp_scene.proofs.Public.{AllByRecursion-append, AllByRecursion-map}
 use Rattle.csp_prefix.specs.Delivered.{delivered_by}
 use Rattle.csp_prefix.specs.Ports.{AreNew, Books, IsNew, Ordinals, noted, noted_by, with_book, with_down, with_opened, with_ordinal, with_sent}
 use Rattle.csp_prefix.specs.Slots.{Book, GoesOn, Numbering, blank}

@@ -6,7 +6,7 @@ use Rattle.std.specs.Int.RustNames.{bit_and}
 use Rattle.std.proofs.Math.Seq.{drop-append_seam, take-append_seam}
 use Rattle.std.proofs.lemmas.Bool.{le-ltb}
 use Rattle.std.proofs.lemmas.Nat.{and_assoc, and_mask, from_be_bytes-to_be_bytes_2, from_be_bytes-to_be_bytes_4}
-use Rattle.csp_crc.proofs.Laws.{payload_of-right, crc_of-lt}
+use Rattle.csp_crc.proofs.Public.{payload_of-right, crc_of-lt}
 use Rattle.csp_crc.specs.Check.{payload_of}
 use Rattle.csp_crc.specs.Crc.{checked, crc_of}
 use Rattle.csp_header.specs.Word.{header_at, word_of}

@@ -15,7 +15,7 @@ use Rattle.csp_base.specs.declared.limits.TheConstants.{SLOTS}
 use Rattle.csp_conn.specs.declared.slot.Connection.{Connection}
 use Rattle.csp_conn.specs.declared.slot.Slot.{Slot}
 use Rattle.csp_conn.specs.declared.slot.Slot.TheVariants as has
-use Rattle.csp_conn.proofs.Laws.{is_between-open}
+use Rattle.csp_conn.proofs.Public.{is_between-open}
 use Rattle.csp_crc.specs.Check.{payload_of}
 use Rattle.csp_header.specs.Word.{header_at}
 use Rattle.csp_header.specs.declared.word.Header.{Header}
@@ -34,7 +34,7 @@ use Rattle.csp_rdp_header.specs.declared.head.RdpHead.{RdpHead}
 use Rattle.csp_rdp_header.specs.declared.head.TheConstants.{ACK, RST, SYN}
 use Rattle.csp_rdp_header.specs.declared.options.Options.{Options}
 use Rattle.csp_record.specs.Connections.{opened_by}
-use Rattle.csp_record.proofs.Laws.{Ends}
+use Rattle.csp_record.proofs.Public.{Ends}
 use Rattle.csp_route.specs.Routes.{route_of}
 use Rattle.csp_route.specs.declared.row.Row.{Row}
 use Rattle.csp_service.specs.Answers.{answered}
@@ -43,7 +43,7 @@ use Rattle.csp_service.specs.declared.answers.Served.TheVariants.{NoService, Ref
 use Rattle.csp_socket.specs.Bound.{owner_of}
 use Rattle.csp_service.specs.declared.stats.Count.TheVariants as count
 use Rattle.csp_stack.specs.Counting.{counting}
-use Rattle.csp_stack.proofs.Laws.{by_rest, heard_here}
+use Rattle.csp_stack.proofs.Public.{by_rest, heard_here}
 use Rattle.csp_stack.specs.Comes.{heard_at_port, heard_at_socket, heard_elsewhere}
 use Rattle.csp_stack.specs.Readings.{is_checked, is_here, is_secured}
 use Rattle.csp_stack.specs.Router.{Facts, Leaving, State, origin_of}

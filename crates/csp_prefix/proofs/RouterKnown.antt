@@ -16,7 +16,7 @@ use Rattle.csp_log.specs.declared.shown.OpShown.TheVariants as op
 use Rattle.csp_ports.specs.Asking.{is_reliable}
 use Rattle.csp_ports.specs.PlainPorts.{PlainPorts, terms_at}
 use Rattle.csp_ports.specs.declared.terms.Terms.{Terms}
-use Rattle.csp_scene.proofs.Laws.{AllByRecursion-map}
+use Rattle.csp_scene.proofs.Public.{AllByRecursion-map}
 use Rattle.csp_stack.specs.Router.{Facts, Leaving, State, at_rest, origin_of}
 use Rattle.csp_stack.specs.Told.{Told}
 use Rattle.csp_stack.specs.Turn.{asked_at, asked_by, asks_at, plan_of, timed, told_at, told_by}

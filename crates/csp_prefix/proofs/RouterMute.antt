@@ -11,7 +11,7 @@ use Rattle.csp_cmp.specs.declared.request.CmpRequest.TheVariants.{Ident, RouteSe
 use Rattle.csp_log.specs.declared.event.Event.{Event}
 use Rattle.csp_log.specs.declared.event.Event.TheVariants as event
 use Rattle.csp_record.specs.Connections.{opened_by}
-use Rattle.csp_record.proofs.Laws.{Ends}
+use Rattle.csp_record.proofs.Public.{Ends}
 use Rattle.csp_route.specs.Routes.{key_of, with_row}
 use Rattle.csp_route.specs.declared.row.Row.{Row}
 use Rattle.csp_service.specs.Answers.{Outcome, answered, has_no_room, iface_of, refused, replied, requested, routed, row_asked, served_by, told_stats, overwritten, with_routes, with_services}

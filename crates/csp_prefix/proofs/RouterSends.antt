@@ -3,7 +3,7 @@ use Rattle.std.proofs.Common.{◌≡◌, ℕ, pos, zero, suc, ◌-◌, ◌<◌, 
 use Rattle.std.specs.Prelude.{⊤, if◌then◌else◌, ℤ, ◌+ℤ◌}
 use Rattle.std.specs.List.{AllByRecursion, slice_get}
 use Rattle.std.specs.Option.{unwrap_or}
-use Rattle.csp_base.proofs.Laws.{wrapped_small}
+use Rattle.csp_base.proofs.Public.{wrapped_small}
 use Rattle.csp_base.specs.Sequence.{number_of}
 use Rattle.csp_base.specs.declared.traces.Tag.{Tag}
 use Rattle.csp_buffer.specs.Content.{Content}

@@ -61,12 +61,12 @@ use Rattle.csp_record.specs.Payloads.{is_on}
 use Rattle.csp_record.specs.declared.payloads.Way.TheVariants as way
 use Rattle.csp_route.specs.Routes.{route_of}
 use Rattle.csp_route.specs.declared.row.Row.{Row}
-use Rattle.csp_scene.proofs.Laws.{AllByRecursion-append, AllByRecursion-map}
+use Rattle.csp_scene.proofs.Public.{AllByRecursion-append, AllByRecursion-map}
 use Rattle.csp_service.specs.Answers.{answered}
 use Rattle.csp_service.specs.declared.answers.Served.{Served}
 use Rattle.csp_service.specs.declared.answers.Served.TheVariants.{NoService, Refused, Reply, Silent}
 use Rattle.csp_service.specs.declared.stats.Count.TheVariants as count
-use Rattle.csp_stack.proofs.Laws.{by_rest, heard_here}
+use Rattle.csp_stack.proofs.Public.{by_rest, heard_here}
 use Rattle.csp_stack.specs.Comes.{heard_at_port, heard_at_socket, heard_elsewhere}
 use Rattle.csp_stack.specs.Counting.{came_in, counting}
 use Rattle.csp_stack.specs.Readings.{buffer_in, is_checked, is_here, is_pushed, is_secured, item_in}

@@ -24,7 +24,7 @@ use Rattle.csp_consistent.specs.Reading.{entries_of, gets, left_in, puts}
 use Rattle.csp_prefix.specs.Routers.{AreTrueRouters, HasNoStale}
 use Rattle.csp_prefix.proofs.FlowReads.{said_is, said_none}
 use Rattle.csp_prefix.proofs.GenuinePackets.{are_shown, flows_in, hears_genuine, true_router}
-use Rattle.csp_consistent.proofs.Laws.{Logged, IsAppAt, IsOf, logged}
+use Rattle.csp_consistent.proofs.Public.{Logged, IsAppAt, IsOf, logged}
 use Rattle.csp_prefix.proofs.NodeLanes.{RouterThere, app_lanes_there, app_true, owner_of}
 use Rattle.csp_prefix.proofs.OpeningPlaces.{opener}
 use Rattle.csp_prefix.proofs.PacketLists.{events_of, none_counted}

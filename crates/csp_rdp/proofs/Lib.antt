@@ -7,4 +7,4 @@ mod RegionLemmas
 mod RowLemmas
 mod SoundLemmas
 mod TimerLemmas
-pub mod Laws
+pub mod Public

@@ -2,4 +2,4 @@ mod CountLemmas
 mod PlaceLemmas
 mod ReceiveLemmas
 mod SendLemmas
-pub mod Laws
+pub mod Public

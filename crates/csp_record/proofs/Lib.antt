@@ -3,4 +3,4 @@ mod Gaining
 mod Ordinals
 mod Passing
 mod Tables
-pub mod Laws
+pub mod Public

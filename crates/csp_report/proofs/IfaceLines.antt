@@ -6,7 +6,7 @@ use Rattle.std.specs.List.{enumerate_from}
 use Rattle.std.specs.Option.{option_map_or}
 use Rattle.csp_log.specs.Idling.{IsIdle}
 use Rattle.csp_log.specs.declared.entry.Entry.{Entry}
-use Rattle.csp_record.proofs.Laws.{taken-over}
+use Rattle.csp_record.proofs.Public.{taken-over}
 use Rattle.csp_scene.specs.Links.{touches, links_at}
 use Rattle.csp_scene.specs.Scene.{PlainLink}
 use Rattle.csp_report.specs.Lines.{Line, ended_line, text_of}

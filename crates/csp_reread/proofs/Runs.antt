@@ -4,7 +4,7 @@ use Rattle.std.proofs.lemmas.List.Concat.{flat_map-cons}
 use Rattle.std.proofs.lemmas.Grind.{flat_map-append}
 use Rattle.std.specs.Prelude.{if◌then◌else◌}
 use Rattle.std.specs.List.{AllByRecursion, flat_map, list_any}
-use Rattle.csp_consistent.proofs.Laws.{waiting, told}
+use Rattle.csp_consistent.proofs.Public.{waiting, told}
 use Rattle.csp_deck.specs.Runs.{IsRun, IsStep}
 use Rattle.csp_exports.specs.Frames.{put_on, written_of, written_for}
 use Rattle.csp_exports.specs.Unused.{is_transmission}
@@ -20,7 +20,7 @@ use Rattle.csp_log.specs.declared.frame.Frame.{Frame}
 use Rattle.csp_log.specs.declared.places.LinkKind.{LinkKind}
 use Rattle.csp_party.specs.Any.{an_iface}
 use Rattle.csp_record.specs.Transmissions.{fetched}
-use Rattle.csp_scene.proofs.Laws.{AllByRecursion-append}
+use Rattle.csp_scene.proofs.Public.{AllByRecursion-append}
 use Rattle.csp_topology.specs.Parties.{iface_opening, party_steps}
 use Rattle.csp_reread.specs.Reread.{covers, read_of, begun_by, sent_in}
 use Rattle.csp_reread.proofs.Steady.{IsOn, step_on}

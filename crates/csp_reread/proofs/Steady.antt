@@ -1,6 +1,6 @@
 -- The kind of its link and its mtu stay an interface's.
 use Rattle.std.proofs.Common.{◌≡◌, ℕ, Bool, true, false, List, [], ◌∷◌}
-use Rattle.csp_consistent.proofs.Laws.{waiting, told}
+use Rattle.csp_consistent.proofs.Public.{waiting, told}
 use Rattle.csp_iface.specs.Asking.{asked}
 use Rattle.csp_iface.specs.PlainIface.{PlainIface}
 use Rattle.csp_iface.specs.Planning.{plan_of}

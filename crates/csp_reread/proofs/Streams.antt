@@ -8,9 +8,9 @@ use Rattle.csp_kiss.specs.Reading.{Reading, after, answer, answers, going, unrea
 use Rattle.csp_kiss.specs.Stream.{events}
 use Rattle.csp_kiss.specs.declared.progress.KissPacket.{KissPacket}
 use Rattle.csp_kiss.specs.declared.stage.Stage.TheVariants.{Start}
-use Rattle.csp_kiss.proofs.Laws.{answers-unread}
+use Rattle.csp_kiss.proofs.Public.{answers-unread}
 use Rattle.csp_noticed.specs.Made.{HasNothingBegun, MakesJust}
-use Rattle.csp_noticed.proofs.Laws.{frame-read}
+use Rattle.csp_noticed.proofs.Public.{frame-read}
 use Rattle.csp_reread.specs.Reread.{packet_event}
 
 answers-then : (r : Reading) (xs ys : List ℕ) → answers r (xs ++ ys) ≡ answers r xs ++ answers (fold after r xs) ys

@@ -6,7 +6,7 @@ use Rattle.std.proofs.lemmas.Bool.{ltb-false}
 use Rattle.std.specs.List.{AllByRecursion, flat_map, list_any}
 use Rattle.csp_buffer.specs.Content.{Content}
 use Rattle.csp_base.specs.declared.traces.Trace.{Trace}
-use Rattle.csp_consistent.proofs.Laws.{waiting, told}
+use Rattle.csp_consistent.proofs.Public.{waiting, told}
 use Rattle.csp_exports.specs.Frames.{put_on, written_of}
 use Rattle.csp_exports.specs.Unused.{is_transmission}
 use Rattle.csp_exports.specs.declared.ends.Form.TheVariants as form

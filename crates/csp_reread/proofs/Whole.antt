@@ -5,7 +5,7 @@ use Rattle.std.proofs.lemmas.Grind.{flat_map-append}
 use Rattle.std.specs.Prelude.{if◌then◌else◌}
 use Rattle.std.specs.List.{AllByRecursion, flat_map}
 use Rattle.csp_base.specs.declared.limits.TheConstants.{MAX_PAYLOAD}
-use Rattle.csp_consistent.proofs.Laws.{each_first, Logged, IsOf, IsOwner, IsIfaceAt, logged}
+use Rattle.csp_consistent.proofs.Public.{each_first, Logged, IsOf, IsOwner, IsIfaceAt, logged}
 use Rattle.csp_consistent.specs.Reading.{entries_of}
 use Rattle.csp_consistent.specs.Runs.{AreLogsOf}
 use Rattle.csp_deck.specs.Runs.{IsRun}

@@ -12,4 +12,4 @@ mod Splits
 mod Reading
 mod RoundTrip
 mod Withins
-pub mod Laws
+pub mod Public

@@ -13,4 +13,4 @@ mod MoveCounts
 mod Moving
 mod Places
 mod NamesApart
-pub mod Laws
+pub mod Public

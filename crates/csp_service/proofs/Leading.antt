@@ -9,7 +9,7 @@ use Rattle.csp_cmp.specs.Replies.{same_bytes}
 use Rattle.csp_cmp.specs.declared.errors.CmpError.{CmpError}
 use Rattle.csp_cmp.specs.declared.request.CmpRequest.{CmpRequest}
 use Rattle.csp_cmp.specs.declared.request.CmpRequest.TheVariants.{Ident, RouteSet, Stats, Peek, Poke, Clock}
-use Rattle.csp_route.proofs.Laws.{row_within}
+use Rattle.csp_route.proofs.Public.{row_within}
 use Rattle.csp_route.specs.Routes.{IsWithin, key_of}
 use Rattle.csp_route.specs.declared.row.Row.{Row}
 use Rattle.csp_service.specs.Answers.{Outcome, answered, has_no_room, iface_of, is_beyond, name_in, requested, routed, row_asked, row_over, served_by, told_stats}

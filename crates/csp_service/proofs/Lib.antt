@@ -1,3 +1,3 @@
 mod Leading
 mod Naming
-pub mod Laws
+pub mod Public

@@ -3,4 +3,4 @@ mod Cutting
 mod Feeding
 mod Collecting
 mod Joining
-pub mod Laws
+pub mod Public

@@ -8,7 +8,7 @@ use Rattle.std.specs.Option.{option_and_then, option_map}
 use Rattle.std.specs.Prelude.{IfSome, nat_lt}
 use Rattle.csp_buffer.specs.Content.{Content}
 use Rattle.csp_deck.specs.Carried.{place_for}
-use Rattle.csp_lists.proofs.Laws.{place_there}
+use Rattle.csp_lists.proofs.Public.{place_there}
 use Rattle.csp_lists.specs.Order.{places_in, position_of}
 use Rattle.csp_lists.specs.PlainDeck.{PlainDeck, PlainQueue, answer_of, front_of, given, opening_deck, opening_queue, popped, pops_at, pushed, queue_at, refilled, shape_of, taken, with_nth, with_queue, with_pool}
 use Rattle.csp_log.specs.Weights.{item_bytes}

@@ -7,7 +7,7 @@ use Rattle.std.specs.List.{All, filter, find}
 use Rattle.std.specs.Option.{is_some, option_map, option_to_list}
 use Rattle.std.specs.Prelude.{IfSome, if◌then◌else◌, nat_le, nat_lt}
 use Rattle.csp_base.specs.declared.traces.Trace.{Trace}
-use Rattle.csp_can.proofs.Laws.{begin_by, measured_by, more_by}
+use Rattle.csp_can.proofs.Public.{begin_by, measured_by, more_by}
 use Rattle.csp_can.specs.Begins.{begin_length}
 use Rattle.csp_can.specs.Fragments.{begin_bytes, first_head, fragments_of, frames_after, more_frame, more_frames}
 use Rattle.csp_can.specs.Frames.{Frame as CanPart, written}

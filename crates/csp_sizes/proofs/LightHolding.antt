@@ -7,7 +7,7 @@ use Rattle.std.specs.Prelude.{if◌then◌else◌, nat_lt}
 use Rattle.csp_buffer.specs.Content.{Content}
 use Rattle.csp_buffer.specs.PlainBuffer.{PlainBuffer}
 use Rattle.csp_ports.specs.Came.{pictures}
-use Rattle.csp_prefix.proofs.Laws.{IsSameSend}
+use Rattle.csp_prefix.proofs.Public.{IsSameSend}
 use Rattle.csp_rdp.specs.Holding.{loose_buffers, rdp_buffers, unneeded, useless_buffers}
 use Rattle.csp_rdp.specs.Machine.{PlainRdp}
 use Rattle.csp_rdp.specs.declared.answers.State.TheVariants.{Closed, SynSent, SynRcvd, Open, CloseWait}

@@ -7,9 +7,9 @@ use Rattle.std.specs.Option.{option_map}
 use Rattle.std.specs.Prelude.{◌==◌, ◌&&◌, IfSome, if◌then◌else◌, nat_le, nat_lt}
 use Rattle.csp_base.specs.declared.traces.Tag.{Tag}
 use Rattle.csp_buffer.specs.PlainBuffer.{PlainBuffer}
-use Rattle.csp_ports.proofs.Laws.{admitted_whole, closed_whole, idle_whole, sent_whole, ticked_whole}
-use Rattle.csp_prefix.proofs.Laws.{same-acked, same-heard, same-marked}
-use Rattle.csp_rdp.proofs.Laws.{whole-again, whole-delivered, whole-handed, whole-rested, whole-taken, data-fresh, entered-recv}
+use Rattle.csp_ports.proofs.Public.{admitted_whole, closed_whole, idle_whole, sent_whole, ticked_whole}
+use Rattle.csp_prefix.proofs.Public.{same-acked, same-heard, same-marked}
+use Rattle.csp_rdp.proofs.Public.{whole-again, whole-delivered, whole-handed, whole-rested, whole-taken, data-fresh, entered-recv}
 use Rattle.csp_rdp.specs.Holding.{recv_rested, rested}
 use Rattle.csp_rdp.specs.Jobs.{admitting, closed_in, closing, delivering, delivery, delivery_in, keeping_again, reset_after, sending_index, sent, taken_in, ticked, timed_out, without_delivery}
 use Rattle.csp_rdp.specs.Machine.{PlainRdp, accepting, broken, connecting, idle, left, owes_rst}

@@ -15,7 +15,7 @@ use Rattle.csp_conn.specs.declared.slot.Slot.TheVariants.{Free, Held, Open as Op
 use Rattle.csp_conn.specs.declared.slot.Slot.{Slot}
 use Rattle.csp_log.specs.declared.note.Note.TheVariants as note
 use Rattle.csp_log.specs.declared.note.Note.{Note}
-use Rattle.csp_ports.proofs.Laws.{all_or}
+use Rattle.csp_ports.proofs.Public.{all_or}
 use Rattle.csp_ports.specs.Asking.{is_reliable, answered, answered_by, close, close_by, connect, connect_by, ended_by, ending_in, held_by, joined}
 use Rattle.csp_ports.specs.Came.{Came, come, pictures, then}
 use Rattle.csp_ports.specs.Packets.{admitting_by, back_by, handing, invited, submitting, submitting_in}
@@ -28,7 +28,7 @@ use Rattle.csp_ports.specs.declared.owed.Owed.{Owed}
 use Rattle.csp_ports.specs.declared.request.Request.{Request}
 use Rattle.csp_ports.specs.declared.terms.Wish.TheVariants as wish
 use Rattle.csp_ports.specs.declared.terms.Wish.{Wish}
-use Rattle.csp_rdp.proofs.Laws.{missing-taken}
+use Rattle.csp_rdp.proofs.Public.{missing-taken}
 use Rattle.csp_rdp.specs.Changes.{change_between}
 use Rattle.csp_rdp.specs.Holding.{rdp_buffers, rested}
 use Rattle.csp_rdp.specs.Jobs.{admitting, closing, head_for, delivering, delivery_in, taken_in, ticked, without_delivery, says}

@@ -30,7 +30,7 @@ use Rattle.csp_log.specs.declared.places.QueueId.{QueueId}
 use Rattle.csp_log.specs.declared.places.TheConstants.{UNMARKED}
 use Rattle.csp_log.specs.declared.shown.ItemShown.TheVariants as item
 use Rattle.csp_log.specs.declared.shown.ItemShown.{ItemShown}
-use Rattle.csp_ports.proofs.Laws.{all_or}
+use Rattle.csp_ports.proofs.Public.{all_or}
 use Rattle.csp_ports.specs.Asking.{close, connect, is_reliable, bind_by}
 use Rattle.csp_ports.specs.Came.{Came}
 use Rattle.csp_ports.specs.Packets.{handing, invited, submitting}
@@ -62,7 +62,7 @@ use Rattle.csp_sizes.specs.Light.{AreFacts, ArePorts, IsData, IsFew, IsHeld, IsL
 use Rattle.csp_socket.specs.Bound.{owner_of}
 use Rattle.csp_socket.specs.declared.sockets.TheConstants.{BINDABLE_PORTS}
 use Rattle.csp_stack.specs.Counting.{counting, came_in, refused_by, sent_to, was_full, went_out}
-use Rattle.csp_stack.proofs.Laws.{by_rest, heard_here}
+use Rattle.csp_stack.proofs.Public.{by_rest, heard_here}
 use Rattle.csp_stack.specs.Comes.{heard_at_port, heard_at_socket, heard_elsewhere}
 use Rattle.csp_stack.specs.Readings.{is_checked, is_here, is_secured}
 use Rattle.csp_stack.specs.Router.{Facts, Leaving, State, origin_of}

@@ -17,7 +17,7 @@ use Rattle.csp_cmp.specs.declared.reading.TheConstants.{REQUEST}
 use Rattle.csp_cmp.specs.declared.replies.TheConstants.{MODEL, REVISION, DATE, TIME, HOST_ROOM, MODEL_ROOM, REVISION_ROOM, DATE_ROOM, TIME_ROOM}
 use Rattle.csp_cmp.specs.declared.request.CmpRequest.TheVariants.{Ident, RouteSet, Stats, Peek, Poke, Clock}
 use Rattle.csp_cmp.specs.declared.request.CmpRequest.{CmpRequest}
-use Rattle.csp_ports.proofs.Laws.{all_or}
+use Rattle.csp_ports.proofs.Public.{all_or}
 use Rattle.csp_route.specs.Routes.{key_of, with_row}
 use Rattle.csp_route.specs.declared.row.Row.{Row}
 use Rattle.csp_service.specs.Answers.{outcome, overwritten, refused, replied, with_routes, with_services, Outcome, answered, has_no_room, iface_of, peeked, poked, requested, rebooted, routed, row_asked, served_by, told_stats}

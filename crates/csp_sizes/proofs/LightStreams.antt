@@ -5,7 +5,7 @@ use Rattle.std.proofs.lemmas.List.{length-drop, length-take}
 use Rattle.std.specs.Int.{from_be_bytes, to_be_bytes, w32}
 use Rattle.std.specs.Prelude.{◌==◌, IfSome, if◌then◌else◌, nat_lt}
 use Rattle.csp_crc.specs.Crc.{crc_of}
-use Rattle.csp_kiss.proofs.Laws.{ended, going_on, read_step}
+use Rattle.csp_kiss.proofs.Public.{ended, going_on, read_step}
 use Rattle.csp_kiss.specs.Frame.{covered, escape_of, escaped, frame}
 use Rattle.csp_kiss.specs.GoingOn.{Progress, packet_of, read_on}
 use Rattle.csp_kiss.specs.Reading.{Reading, after, answer, answers, continued, going, kept, told}

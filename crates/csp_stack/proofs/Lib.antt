@@ -4,4 +4,4 @@ mod Keeping
 mod Resting
 mod Sendable
 mod Unmoved
-pub mod Laws
+pub mod Public

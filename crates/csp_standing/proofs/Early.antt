@@ -5,8 +5,8 @@ use Rattle.std.specs.List.{AllByRecursion}
 use Rattle.csp_consistent.specs.Prompt.{AllAfter}
 use Rattle.csp_consistent.specs.Rounds.{early}
 use Rattle.csp_log.specs.declared.entry.Entry.{Entry}
-use Rattle.csp_posts.proofs.Laws.{after_append}
-use Rattle.csp_scene.proofs.Laws.{AllByRecursion-map}
+use Rattle.csp_posts.proofs.Public.{after_append}
+use Rattle.csp_scene.proofs.Public.{AllByRecursion-map}
 
 none_early : (t : ℕ) (es : List Entry) → AllByRecursion (λ e. t ≤ e.time) es → early t es ≡ []
 none_early t [] all = refl

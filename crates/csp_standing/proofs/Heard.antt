@@ -13,7 +13,7 @@ use Rattle.csp_log.specs.declared.entry.Entry.{Entry}
 use Rattle.csp_log.specs.declared.places.QueueId.TheVariants as queue
 use Rattle.csp_posts.specs.Between.{AreInRounds, AreJoined, HasHeard, HasHeardAny, HasHeardAt, HasHeardHome, HasHeardInbox, HasHeardOf, IsInboxBetween, IsLaneBetween, IsMarked, IsPoolBetween, PassesMarked, ShareInbox, early_given, early_taken, is_home, over_home}
 use Rattle.csp_posts.specs.Posts.{PlainPost}
-use Rattle.csp_scene.proofs.Laws.{AllByRecursion-map}
+use Rattle.csp_scene.proofs.Public.{AllByRecursion-map}
 use Rattle.csp_standing.proofs.InboxRounds.{crammed_more}
 use Rattle.csp_standing.proofs.ListPlaces.{zip_before, zip_each, zip_with}
 use Rattle.csp_standing.proofs.Onward.{lane_named}

@@ -3,7 +3,7 @@ use Rattle.std.proofs.Common.{◌≡◌, ℕ, ◌+◌, ◌<◌, ◌≤◌, true,
 use Rattle.std.proofs.lemmas.Grind.{flat_map-append}
 use Rattle.std.proofs.lemmas.Option.{slice_get-map}
 use Rattle.std.specs.List.{AllByRecursion}
-use Rattle.csp_consistent.proofs.Laws.{queue_turned}
+use Rattle.csp_consistent.proofs.Public.{queue_turned}
 use Rattle.csp_consistent.specs.Prompt.{AllAfter, HadNoRoom, IsLanePrompt, MissedNone}
 use Rattle.csp_consistent.specs.Reading.{gets, got_by, is_queue, puts}
 use Rattle.csp_ends.specs.Causes.{CauseOf, HasNothingAt, HaveCauses}
@@ -17,7 +17,7 @@ use Rattle.csp_log.specs.declared.shown.AnswerShown.{AnswerShown}
 use Rattle.csp_log.specs.declared.shown.AnswerShown.TheVariants as answer
 use Rattle.csp_log.specs.declared.shown.OpShown.{OpShown}
 use Rattle.csp_log.specs.declared.shown.OpShown.TheVariants as op
-use Rattle.csp_posts.proofs.Laws.{pushes}
+use Rattle.csp_posts.proofs.Public.{pushes}
 use Rattle.csp_posts.specs.Between.{HaveMetAt}
 use Rattle.csp_standing.proofs.Early.{after_round}
 use Rattle.csp_standing.proofs.ListPlaces.{each_at}

@@ -19,4 +19,4 @@ mod Sides
 mod Tracing
 mod Turned
 mod Turns
-pub mod Laws
+pub mod Public

@@ -4,7 +4,7 @@ use Rattle.std.proofs.lemmas.List.Sums.{sum_by-cons}
 use Rattle.std.specs.Prelude.{if◌then◌else◌}
 use Rattle.std.specs.List.{AllByRecursion}
 use Rattle.csp_base.specs.declared.priority.Prio.{Prio}
-use Rattle.csp_consistent.proofs.Laws.{HasNone, are_apart, entries_at, entries_in, who_is}
+use Rattle.csp_consistent.proofs.Public.{HasNone, are_apart, entries_at, entries_in, who_is}
 use Rattle.csp_consistent.specs.Pools.{is_node}
 use Rattle.csp_consistent.specs.Reading.{entries_of, puts, with_priority}
 use Rattle.csp_consistent.specs.Runs.{AreLogsOf, IsLogOf}

@@ -17,7 +17,7 @@ use Rattle.csp_lists.specs.PlainDeck.{numbers_of}
 use Rattle.csp_log.specs.declared.entry.Entry.{Entry}
 use Rattle.csp_log.specs.declared.places.QueueId.TheVariants as queue
 use Rattle.csp_log.specs.declared.places.Rule.TheVariants as rule
-use Rattle.csp_meeting.proofs.Laws as keeping
+use Rattle.csp_meeting.proofs.Public as keeping
 use Rattle.csp_meeting.specs.Meeting.{KnowsMoreAt, KnowsMoreInbox, KnowsMoreHomes, KnowsMore}
 use Rattle.csp_party.specs.Any.{PlainParty, holds}
 use Rattle.csp_pool.specs.Tallies.{blank}

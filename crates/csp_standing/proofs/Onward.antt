@@ -18,7 +18,7 @@ use Rattle.csp_pool.specs.Tallies.{known_total}
 use Rattle.csp_posts.specs.Between.{AreAllTraced, AreInRounds, AreJoined, HasMetPool, HaveMet, HaveMetInbox, IsInboxBetween, IsLaneBetween, IsMarked, IsPoolBetween, PassesMarked, ShareInbox, early_given, early_taken, is_home, over_home}
 use Rattle.csp_posts.specs.Posts.{AreTurns, PlainPost}
 use Rattle.csp_log.specs.declared.who.Who.{Who}
-use Rattle.csp_scene.proofs.Laws.{AllByRecursion-append, AllByRecursion-map}
+use Rattle.csp_scene.proofs.Public.{AllByRecursion-append, AllByRecursion-map}
 use Rattle.csp_standing.proofs.Early.{after_round, early_before, early_now}
 use Rattle.csp_standing.proofs.InboxRounds.{crammed_more, inbox_looks, inbox_pushes, same_marked}
 use Rattle.csp_standing.proofs.LaneRounds.{Rounded, lane_goes_on}

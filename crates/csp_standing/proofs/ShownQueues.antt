@@ -6,7 +6,7 @@ use Rattle.std.specs.List.{AllByRecursion}
 use Rattle.csp_base.specs.Priority.{prio_number}
 use Rattle.csp_base.specs.declared.priority.Prio.{Prio}
 use Rattle.csp_buffer.specs.Content.{Content}
-use Rattle.csp_consistent.proofs.Laws.{each_filter, HasNone, none_there, uses}
+use Rattle.csp_consistent.proofs.Public.{each_filter, HasNone, none_there, uses}
 use Rattle.csp_consistent.specs.Inboxes.{writer_of}
 use Rattle.csp_consistent.specs.Pools.{given, given_at, is_node, taken, taken_at}
 use Rattle.csp_consistent.specs.Prompt.{AllAfter, CrammedAt, IsInboxPrompt, IsPoolPrompt, IsPrompt, IsPromptAt, LackedAt, PassedNone, PassesNone, early_log, gives_at, inbox_puts, takes_at}
@@ -35,7 +35,7 @@ use Rattle.csp_record.specs.Record.{PlainPartyLog, PlainRecord}
 use Rattle.csp_log.specs.Who.{node_of}
 use Rattle.csp_log.specs.declared.who.Who.{Who}
 use Rattle.csp_log.specs.declared.who.Who.TheVariants as who
-use Rattle.csp_scene.proofs.Laws.{AllByRecursion-map}
+use Rattle.csp_scene.proofs.Public.{AllByRecursion-map}
 use Rattle.csp_scene.specs.Scene.{PlainNode, PlainScene}
 use Rattle.csp_standing.proofs.Early.{after_map}
 use Rattle.csp_standing.proofs.ListPlaces.{each_at, each_both, each_from, mapped_some, zip_after, zip_before}

@@ -16,7 +16,7 @@ use Rattle.csp_inbox.specs.declared.hand.Role.{Role}
 use Rattle.csp_log.specs.declared.places.QueueId.TheVariants as queue
 use Rattle.csp_log.specs.declared.places.Rule.TheVariants as rule
 use Rattle.csp_standing.specs.Network.{PlainNetwork, SideName, name_of, leads, opened_in, IsHomeAmong, IsSideAmong, IsPostOf, ArePostsOf, IsShared, IsNetworkOf}
-use Rattle.csp_posts.proofs.Laws.{turns_through, turns_full, turns_still, turns_post, turns_got, turns_early}
+use Rattle.csp_posts.proofs.Public.{turns_through, turns_full, turns_still, turns_post, turns_got, turns_early}
 use Rattle.csp_posts.specs.Between.{is_home}
 use Rattle.csp_posts.specs.Posts.{PlainPost, AreTurns}
 use Rattle.csp_posts.specs.Still.{still_side, still_inbox, still_home, still, IsPostFrom}

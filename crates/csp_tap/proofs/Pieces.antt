@@ -8,7 +8,7 @@ use Rattle.csp_base.specs.declared.limits.TheConstants.{MAX_PAYLOAD}
 use Rattle.csp_kiss.specs.Reading.{Reading, going, kept, room}
 use Rattle.csp_kiss.specs.declared.TheConstants.{FEND, FESC}
 use Rattle.csp_kiss.specs.declared.stage.Stage.TheVariants.{Start, Plain}
-use Rattle.csp_kiss.proofs.Laws.{kept_none, take-take-append}
+use Rattle.csp_kiss.proofs.Public.{kept_none, take-take-append}
 use Rattle.csp_tap.specs.Fed.{HasFed}
 use Rattle.csp_tap.specs.Pieces.{HasNoEnd, gone_on, gone_through}
 use Rattle.csp_tap.specs.declared.talks.Tally.{Tally}

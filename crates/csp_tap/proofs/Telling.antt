@@ -13,7 +13,7 @@ use Rattle.csp_kiss.specs.declared.event.KissEvent.{KissEvent}
 use Rattle.csp_kiss.specs.declared.event.KissEvent.TheVariants.{Packet, TooLong, Short, BadCrc}
 use Rattle.csp_kiss.specs.declared.progress.KissPacket.{KissPacket}
 use Rattle.csp_kiss.specs.declared.stage.Stage.TheVariants.{Start}
-use Rattle.csp_kiss.proofs.Laws.{events-more, reading_of-push}
+use Rattle.csp_kiss.proofs.Public.{events-more, reading_of-push}
 use Rattle.csp_tap.specs.Fed.{PlainTap, HasFed, HasTold, talks_with, telling}
 use Rattle.csp_tap.specs.Packets.{event_line, event_lines}
 use Rattle.csp_tap.specs.Talks.{packets_in, table, talk_lines}

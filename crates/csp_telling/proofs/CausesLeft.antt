@@ -6,7 +6,7 @@ use Rattle.std.specs.Prelude.{IfSome, IsSome}
 use Rattle.std.proofs.lemmas.Bool.{eq-eqb}
 use Rattle.std.proofs.lemmas.Option.{same_Some, slice_get_within}
 use Rattle.csp_causal.specs.Causal.{AreCausal, IsCausal}
-use Rattle.csp_consistent.proofs.Laws.{each_first, each_last, Logged, IsAppAt, IsOf, IsOwner, IsRouterAt, logged}
+use Rattle.csp_consistent.proofs.Public.{each_first, each_last, Logged, IsAppAt, IsOf, IsOwner, IsRouterAt, logged}
 use Rattle.csp_consistent.specs.Reading.{entries_of, gets, is_queue}
 use Rattle.csp_ends.specs.Ends.{PlainSide}
 use Rattle.csp_ends.specs.Sides.{IsBacked, back_name, back_of, is_back, is_back_by, is_turned}
@@ -21,7 +21,7 @@ use Rattle.csp_log.specs.declared.who.Who.{Who}
 use Rattle.csp_log.specs.declared.who.Who.TheVariants as who
 use Rattle.csp_scene.specs.Links.{links_at}
 use Rattle.csp_scene.specs.Scene.{PlainLink, PlainNode, PlainScene}
-use Rattle.csp_standing.proofs.Laws.{each_at, post_at}
+use Rattle.csp_standing.proofs.Public.{each_at, post_at}
 use Rattle.csp_standing.specs.Network.{PlainNetwork}
 use Rattle.csp_telling.proofs.Heeded.{heeded_causal}
 use Rattle.csp_telling.proofs.LanesLeft.{HasLeft, from_called, from_entries, from_who, left_of, to_called, to_entries, to_who}

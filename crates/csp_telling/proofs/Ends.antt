@@ -4,7 +4,7 @@ use Rattle.std.specs.Prelude.{slice_get}
 use Rattle.std.specs.List.{AllByRecursion}
 use Rattle.std.specs.Option.{option_and_then, option_map}
 use Rattle.std.proofs.lemmas.Option.{same_Some, slice_get-map, slice_get_within}
-use Rattle.csp_consistent.proofs.Laws.{queue_same}
+use Rattle.csp_consistent.proofs.Public.{queue_same}
 use Rattle.csp_consistent.specs.Reading.{is_queue}
 use Rattle.csp_deck.specs.Carried.{IsCarried}
 use Rattle.csp_deck.specs.Step.{item_numbers}
@@ -21,7 +21,7 @@ use Rattle.csp_posts.specs.Posts.{PlainPost}
 use Rattle.csp_posts.specs.Through.{IsThrough}
 use Rattle.csp_log.specs.Who.{node_of}
 use Rattle.csp_scene.specs.Scene.{PlainScene}
-use Rattle.csp_standing.proofs.Laws.{Apart, IsAt, all_at, home_named, post_at}
+use Rattle.csp_standing.proofs.Public.{Apart, IsAt, all_at, home_named, post_at}
 use Rattle.csp_standing.specs.Network.{IsNetworkOf, PlainNetwork, name_of}
 use Rattle.csp_telling.proofs.Homes.{home_is, is_there}
 use Rattle.csp_telling.proofs.Lanes.{AreAlone, AreHome}

@@ -11,7 +11,7 @@ use Rattle.csp_lane.specs.Marks.{AreHeeded}
 use Rattle.csp_log.specs.declared.entry.Entry.{Entry}
 use Rattle.csp_log.specs.declared.places.QueueId.{QueueId}
 use Rattle.csp_log.specs.declared.shown.ItemShown.{ItemShown}
-use Rattle.csp_scene.proofs.Laws.{AllByRecursion-append}
+use Rattle.csp_scene.proofs.Public.{AllByRecursion-append}
 
 -- ---- how many items entries moved
 

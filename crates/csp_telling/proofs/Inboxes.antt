@@ -25,7 +25,7 @@ use Rattle.csp_record.specs.Record.{PlainPartyLog}
 use Rattle.csp_log.specs.declared.who.Who.{Who}
 use Rattle.csp_log.specs.declared.who.Who.TheVariants as who
 use Rattle.csp_scene.specs.Scene.{PlainScene}
-use Rattle.csp_standing.proofs.Laws.{all_at}
+use Rattle.csp_standing.proofs.Public.{all_at}
 use Rattle.csp_standing.specs.Network.{ArePostsOf, IsNetworkOf, PlainNetwork, leads}
 use Rattle.csp_telling.proofs.Marks.{among}
 use Rattle.csp_telling.specs.Closed.{log_of}

@@ -6,7 +6,7 @@ use Rattle.std.proofs.lemmas.Grind.{flat_map-append}
 use Rattle.std.proofs.lemmas.List.Elements.{filter-append}
 use Rattle.csp_base.specs.Priority.{prio_number}
 use Rattle.csp_base.specs.declared.priority.Prio.{Prio}
-use Rattle.csp_consistent.proofs.Laws.{IsOf, are_owners}
+use Rattle.csp_consistent.proofs.Public.{IsOf, are_owners}
 use Rattle.csp_consistent.specs.Inboxes.{AreInboxesInOrder, came_through, writer_of}
 use Rattle.csp_consistent.specs.Queues.{UsesItsQueues}
 use Rattle.csp_consistent.specs.Reading.{entries_of, gets, left_in, of_priority, put_by, puts, with_mark, with_priority}
@@ -23,10 +23,10 @@ use Rattle.csp_posts.specs.Posts.{PlainPost}
 use Rattle.csp_record.specs.Record.{PlainPartyLog, PlainRecord}
 use Rattle.csp_log.specs.Who.{is_who}
 use Rattle.csp_log.specs.declared.who.Who.{Who}
-use Rattle.csp_scene.proofs.Laws.{AllByRecursion-append}
+use Rattle.csp_scene.proofs.Public.{AllByRecursion-append}
 use Rattle.csp_scene.specs.Scene.{PlainNode, PlainScene}
 use Rattle.csp_scene.specs.declared.limits.TheConstants.{MAX_LINKS}
-use Rattle.csp_standing.proofs.Laws.{HasHub, hub_at, IsAt, post_at}
+use Rattle.csp_standing.proofs.Public.{HasHub, hub_at, IsAt, post_at}
 use Rattle.csp_standing.specs.Network.{ArePostsOf, PlainNetwork, opened_in}
 use Rattle.csp_telling.proofs.LaneNotes.{inbox_left}
 use Rattle.csp_telling.proofs.LanesLeft.{own_entries}

@@ -6,7 +6,7 @@ use Rattle.std.proofs.lemmas.Option.{same_Some}
 use Rattle.csp_base.specs.Priority.{prio_number}
 use Rattle.csp_base.specs.declared.priority.Prio.TheVariants.{Critical, High, Normal, Low}
 use Rattle.csp_base.specs.declared.priority.Prio.{Prio}
-use Rattle.csp_consistent.proofs.Laws.{queue_apart, queue_is, queue_same}
+use Rattle.csp_consistent.proofs.Public.{queue_apart, queue_is, queue_same}
 use Rattle.csp_consistent.specs.Reading.{is_queue, left_here, left_in}
 use Rattle.csp_log.specs.declared.places.QueueId.TheVariants as queue
 use Rattle.csp_log.specs.declared.places.QueueId.{QueueId}

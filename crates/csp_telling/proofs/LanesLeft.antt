@@ -22,9 +22,9 @@ use Rattle.csp_posts.specs.Posts.{PlainPost}
 use Rattle.csp_posts.specs.Through.{WasCrammed}
 use Rattle.csp_record.specs.Record.{PlainRecord}
 use Rattle.csp_log.specs.declared.who.Who.{Who}
-use Rattle.csp_scene.proofs.Laws.{AllByRecursion-map}
+use Rattle.csp_scene.proofs.Public.{AllByRecursion-map}
 use Rattle.csp_scene.specs.Scene.{PlainNode, PlainScene}
-use Rattle.csp_standing.proofs.Laws.{each_at, post_entries, IsAt, post_at}
+use Rattle.csp_standing.proofs.Public.{each_at, post_entries, IsAt, post_at}
 use Rattle.csp_standing.specs.Network.{AreNodesOf, PlainNetwork, name_of}
 use Rattle.csp_telling.proofs.LaneNotes.{lane_left}
 use Rattle.csp_telling.proofs.Logs.{are_logged, are_logs}

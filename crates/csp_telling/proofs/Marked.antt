@@ -25,7 +25,7 @@ use Rattle.csp_log.specs.declared.shown.OpShown.TheVariants as op
 use Rattle.csp_log.specs.declared.shown.OpShown.{OpShown}
 use Rattle.csp_log.specs.declared.who.Who.TheVariants as who
 use Rattle.csp_log.specs.declared.who.Who.{Who}
-use Rattle.csp_scene.proofs.Laws.{AllByRecursion-append}
+use Rattle.csp_scene.proofs.Public.{AllByRecursion-append}
 use Rattle.csp_standing.specs.Network.{mark_for}
 
 -- ---- its mark

@@ -7,7 +7,7 @@ use Rattle.std.proofs.lemmas.Bool.{eq-eqb}
 use Rattle.std.proofs.lemmas.List.Sums.{sum_by-append}
 use Rattle.std.proofs.lemmas.List.{append-nil, length-map}
 use Rattle.std.proofs.lemmas.Option.{get_or_from_slice_get, same_Some, slice_get-map}
-use Rattle.csp_consistent.proofs.Laws.{IsOf, are_owners}
+use Rattle.csp_consistent.proofs.Public.{IsOf, are_owners}
 use Rattle.csp_consistent.specs.Pools.{IsPoolWhole, given, given_at, is_node, taken, taken_at}
 use Rattle.csp_deck.specs.Step.{times}
 use Rattle.csp_ends.specs.Ends.{PlainHome}
@@ -20,7 +20,7 @@ use Rattle.csp_log.specs.Who.{node_of}
 use Rattle.csp_log.specs.declared.who.Who.{Who}
 use Rattle.csp_scene.specs.Links.{no_node, node_at}
 use Rattle.csp_scene.specs.Scene.{PlainNode, PlainScene}
-use Rattle.csp_standing.proofs.Laws.{HasHub, hub_at, hub_leads, hub_node, hub_place_of, each_at, at_home, IsAt, post_at}
+use Rattle.csp_standing.proofs.Public.{HasHub, hub_at, hub_leads, hub_node, hub_place_of, each_at, at_home, IsAt, post_at}
 use Rattle.csp_standing.specs.Network.{ArePostsOf, IsPostOf, PlainNetwork, leads, opened_at, opened_in}
 use Rattle.csp_telling.proofs.Nodes.{IsAtNode, IsEnded, IsKnown, at_scene}
 use Rattle.csp_telling.proofs.Writers.{hub_is, node_is}

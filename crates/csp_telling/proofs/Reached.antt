@@ -5,7 +5,7 @@ use Rattle.csp_ends.specs.Ends.{IsHomeOf, PlainHome, PlainNodeQueues}
 use Rattle.csp_posts.specs.Posts.{PlainPost}
 use Rattle.csp_record.specs.Record.{PlainRecord}
 use Rattle.csp_scene.specs.Scene.{PlainNode, PlainScene}
-use Rattle.csp_standing.proofs.Laws.{post_at}
+use Rattle.csp_standing.proofs.Public.{post_at}
 use Rattle.csp_standing.specs.Network.{AreNodesOf, IsNetworkOf, PlainNetwork}
 use Rattle.csp_standing.specs.Shown.{AreReached}
 use Rattle.csp_telling.proofs.Nodes.{there_too}

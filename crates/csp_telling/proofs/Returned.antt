@@ -5,7 +5,7 @@ use Rattle.std.specs.List.{flat_map, range_with_len, sum_by}
 use Rattle.std.proofs.lemmas.Option.{get_or_from_slice_get, same_Some}
 use Rattle.csp_base.specs.declared.priority.Prio.{Prio}
 use Rattle.csp_base.specs.declared.priority.Prio.TheVariants.{Critical, High, Normal, Low}
-use Rattle.csp_deck.proofs.Laws.{times-append}
+use Rattle.csp_deck.proofs.Public.{times-append}
 use Rattle.csp_deck.specs.Step.{times}
 use Rattle.csp_ends.specs.Ends.{PlainHome, inbox_of}
 use Rattle.csp_ends.specs.Traced.{IsHomeTraced}
@@ -19,7 +19,7 @@ use Rattle.csp_log.specs.Who.{node_of}
 use Rattle.csp_log.specs.declared.who.Who.{Who}
 use Rattle.csp_scene.specs.Links.{no_node, node_at}
 use Rattle.csp_scene.specs.Scene.{PlainNode, PlainScene}
-use Rattle.csp_standing.proofs.Laws.{Apart, Hubs, Led, hub_at, hub_leads, hub_node, hub_place_of, leads_hub, node_in, post_at}
+use Rattle.csp_standing.proofs.Public.{Apart, Hubs, Led, hub_at, hub_leads, hub_node, hub_place_of, leads_hub, node_in, post_at}
 use Rattle.csp_standing.specs.Network.{IsNetworkOf, PlainNetwork, leads, opened_at, opened_in}
 use Rattle.csp_telling.proofs.Ends.{AllStay, ends_alone, ends_home}
 use Rattle.csp_telling.proofs.Homes.{home_both, home_flat, home_is, home_one, home_same, is_there}

@@ -23,7 +23,7 @@ use Rattle.csp_record.specs.Record.{PlainRecord}
 use Rattle.csp_log.specs.Who.{home_of, node_of}
 use Rattle.csp_record.specs.Whole.{IsWhole, weight_at}
 use Rattle.csp_scene.specs.Scene.{PlainNode, PlainScene}
-use Rattle.csp_standing.proofs.Laws.{mapped_at, at_home}
+use Rattle.csp_standing.proofs.Public.{mapped_at, at_home}
 use Rattle.csp_standing.specs.Network.{ArePostsOf, PlainNetwork}
 use Rattle.csp_telling.proofs.NodeNotes.{of_node}
 use Rattle.csp_telling.proofs.Nodes.{IsAtNode, IsEnded, at_scene}

@@ -3,11 +3,11 @@ use Rattle.std.proofs.Common.{◌≡◌, ◌⊎◌, inl, inr, ◌+◌, ℕ, zero
 use Rattle.std.specs.Prelude.{if◌then◌else◌, slice_get}
 use Rattle.std.specs.Option.{option_and_then}
 use Rattle.std.proofs.lemmas.Option.{same_Some}
-use Rattle.csp_consistent.proofs.Laws.{who_is}
+use Rattle.csp_consistent.proofs.Public.{who_is}
 use Rattle.csp_log.specs.Who.{is_who}
 use Rattle.csp_log.specs.declared.who.Who.{Who}
 use Rattle.csp_scene.specs.Scene.{PlainScene}
-use Rattle.csp_standing.proofs.Laws.{IsIn, getting_end, putting_end}
+use Rattle.csp_standing.proofs.Public.{IsIn, getting_end, putting_end}
 use Rattle.csp_standing.specs.Network.{SideName, sides_among, sides_at, sides_from, sides_of}
 use Rattle.csp_topology.specs.Lanes.{PlainLane}
 use Rattle.csp_topology.specs.Wired.{Side, end_on, getting, putting}

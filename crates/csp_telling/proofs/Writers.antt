@@ -7,7 +7,7 @@ use Rattle.std.proofs.lemmas.Bool.{eq-eqb, eqb-false, eqb-true, ne_eqb}
 use Rattle.std.proofs.lemmas.List.Filters.{length-filter_both}
 use Rattle.std.proofs.lemmas.Option.{same_Some, slice_get_within}
 use Rattle.csp_base.specs.declared.priority.Prio.{Prio}
-use Rattle.csp_consistent.proofs.Laws.{who_same, IsOwner}
+use Rattle.csp_consistent.proofs.Public.{who_same, IsOwner}
 use Rattle.csp_consistent.specs.Inboxes.{writer_of}
 use Rattle.csp_consistent.specs.Pools.{is_node}
 use Rattle.csp_consistent.specs.Queues.{MayAsk}
@@ -29,7 +29,7 @@ use Rattle.csp_log.specs.declared.who.Who.{Who}
 use Rattle.csp_scene.specs.Links.{links_at, touches}
 use Rattle.csp_scene.specs.Scene.{PlainLink, PlainNode, PlainScene}
 use Rattle.csp_scene.specs.declared.limits.TheConstants.{MAX_LINKS}
-use Rattle.csp_standing.proofs.Laws.{at_home}
+use Rattle.csp_standing.proofs.Public.{at_home}
 use Rattle.csp_standing.specs.Network.{IsHomeIn, IsPostOf, PlainNetwork, leads, mark_for, opened_in}
 use Rattle.csp_telling.proofs.Marked.{priority_marked, sorted_out}
 use Rattle.csp_telling.specs.Remains.{kept_by, kept_from}

@@ -13,7 +13,7 @@ use Rattle.csp_log.specs.declared.who.Who.{Who}
 use Rattle.csp_sfp.specs.declared.errors.SfpError.{SfpError}
 use Rattle.csp_scene.specs.Scene.{PlainScene}
 use Rattle.csp_topology.specs.Parties.{PlainOpening, parties_of}
-use Rattle.csp_consistent.proofs.Laws.{HasNone, AreApart, entries_in, none_there, who_is, are_apart}
+use Rattle.csp_consistent.proofs.Public.{HasNone, AreApart, entries_in, none_there, who_is, are_apart}
 use Rattle.csp_consistent.specs.Reading.{entries_of}
 use Rattle.csp_consistent.specs.Runs.{AreLogsOf}
 use Rattle.csp_ordinary.specs.Ordinary.{is_transmission, transmissions}

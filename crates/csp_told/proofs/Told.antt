@@ -6,7 +6,7 @@ use Rattle.csp_log.specs.declared.who.Who.TheVariants as who
 use Rattle.csp_scene.specs.Ranges.{IsScene}
 use Rattle.csp_scene.specs.Scene.{PlainScene}
 use Rattle.csp_topology.specs.Parties.{parties_of}
-use Rattle.csp_consistent.proofs.Laws.{Logged, IsIfaceAt, IsOwner, IsOf, logged}
+use Rattle.csp_consistent.proofs.Public.{Logged, IsIfaceAt, IsOwner, IsOf, logged}
 use Rattle.csp_consistent.specs.Reading.{entries_of}
 use Rattle.csp_consistent.specs.Runs.{AreLogsOf}
 use Rattle.csp_ordinary.specs.Ordinary.{transmissions, HasNumbersForAll}

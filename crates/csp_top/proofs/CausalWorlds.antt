@@ -6,7 +6,7 @@ use Rattle.std.proofs.lemmas.Grind.{flat_map-append}
 use Rattle.std.proofs.lemmas.Option.{same_Some, slice_get_within}
 use Rattle.std.specs.Option.{option_map}
 use Rattle.csp_causal.specs.Causal.{AreCausal, IsCausal}
-use Rattle.csp_consistent.proofs.Laws.{Logged, are_apart, entries_in, IsAppAt, IsOf, IsRouterAt, logged}
+use Rattle.csp_consistent.proofs.Public.{Logged, are_apart, entries_in, IsAppAt, IsOf, IsRouterAt, logged}
 use Rattle.csp_consistent.specs.Consistent.{IsConsistent}
 use Rattle.csp_consistent.specs.Lanes.{IsInOrder}
 use Rattle.csp_consistent.specs.Reading.{entries_of, gets, got_by, left_in, puts}
@@ -18,7 +18,7 @@ use Rattle.csp_lists.specs.PlainDeck.{PlainDeck}
 use Rattle.csp_log.specs.declared.shown.AnswerShown.{AnswerShown}
 use Rattle.csp_log.specs.declared.shown.ItemShown.{ItemShown}
 use Rattle.csp_party.specs.Any.{asked, asks, events, has_ended}
-use Rattle.csp_prefix.proofs.Laws.{app_lanes_there, owner_of}
+use Rattle.csp_prefix.proofs.Public.{app_lanes_there, owner_of}
 use Rattle.csp_record.specs.Record.{PlainRecord}
 use Rattle.csp_log.specs.Who.{is_who}
 use Rattle.csp_log.specs.declared.who.Who.{Who}
@@ -26,7 +26,7 @@ use Rattle.csp_log.specs.declared.who.Who.TheVariants as who
 use Rattle.csp_scene.specs.Scene.{PlainNode, PlainScene}
 use Rattle.csp_topology.specs.Lanes.{app_lanes, leader_of}
 use Rattle.csp_topology.specs.Parties.{parties_of}
-use Rattle.csp_world.proofs.Laws.{entries_step, no_entries, AreLogged, logged_tick, logged_turn, members_opened, opening_logged}
+use Rattle.csp_world.proofs.Public.{entries_step, no_entries, AreLogged, logged_tick, logged_turn, members_opened, opening_logged}
 use Rattle.csp_world.specs.Opening.{opening}
 use Rattle.csp_world.specs.Reached.{Happening, IsReached, a_tick, a_turn, world_after}
 use Rattle.csp_world.specs.Record.{member_log, record_of, sim_record}

@@ -13,7 +13,7 @@ use Rattle.csp_record.specs.Record.{PlainPartyLog}
 use Rattle.csp_record.specs.declared.connections.Opening.{Opening}
 use Rattle.csp_record.specs.declared.payloads.Way.TheVariants as way
 use Rattle.csp_log.specs.declared.who.Who.{Who}
-use Rattle.csp_record.proofs.Laws.{Ends, ended, no_ends, openings_after, openings_are}
+use Rattle.csp_record.proofs.Public.{Ends, ended, no_ends, openings_after, openings_are}
 use Rattle.csp_report.specs.Parties.{entries_of}
 use Rattle.csp_report.specs.Shown.{IsNumbered}
 

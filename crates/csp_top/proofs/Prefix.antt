@@ -1,7 +1,7 @@
 -- A record's reliable prefix, as its report shows the record's connections.
 use Rattle.std.proofs.Common.{◌≡◌, ℕ, zero, suc, ◌+◌, ◌<◌, Bool, true, false, cond, Option, None, Some, List, [], ◌∷◌, ◌++◌, length, unwrap_or, slice_get, refl, sym, ap, subst, ◌∙◌, append-nil, arith}
 use Rattle.std.specs.List.{AllByRecursion}
-use Rattle.csp_consistent.proofs.Laws.{HasNone, AreApart, entries_in, none_there, who_same, who_is, are_apart}
+use Rattle.csp_consistent.proofs.Public.{HasNone, AreApart, entries_in, none_there, who_same, who_is, are_apart}
 use Rattle.csp_topology.specs.Parties.{PlainOpening, parties_of, parties_from, parties_at, links_from, ifaces_from, apps_from}
 use Rattle.csp_prefix.specs.Prefix.{IsBeginning, IsOpened, took_on, sent_on, HasPeersPrefix, IsReliablePrefix}
 use Rattle.csp_consistent.specs.Reading.{entries_of}

@@ -10,4 +10,4 @@ mod WireOrder
 mod WirePlaces
 mod WireSteps
 mod WiringLemmas
-pub mod Laws
+pub mod Public

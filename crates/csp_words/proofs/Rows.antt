@@ -7,7 +7,7 @@ use Rattle.std.proofs.lemmas.Bool.{and_parts, cases_lt}
 use Rattle.std.proofs.lemmas.Fmt.{decimal_injective}
 use Rattle.std.proofs.lemmas.Slice.Eq.{bytes_eq-Decides}
 use Rattle.csp_text.specs.Numbers.{is_decimal, number_of}
-use Rattle.csp_gen.proofs.Laws.{is_decimal-decimal, number_of-decimal, decimal-number_of}
+use Rattle.csp_gen.proofs.Public.{is_decimal-decimal, number_of-decimal, decimal-number_of}
 use Rattle.csp_gen.specs.declared.scenario.TheConstants.{MAX_PACKETS}
 use Rattle.csp_words.specs.declared.grammar.Command.{Command}
 use Rattle.csp_words.specs.declared.grammar.Command.TheVariants.{Sim, Run, Gen, Tap}

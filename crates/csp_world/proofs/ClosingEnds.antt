@@ -29,7 +29,7 @@ use Rattle.csp_world.specs.declared.member.Member.{Member}
 use Rattle.csp_world.proofs.ClosingMembers.{own_held, with_members}
 use Rattle.csp_world.proofs.ClosingParts.{emptied_of, numbers_len}
 use Rattle.csp_world.proofs.ClosingSums.{once_each}
-use Rattle.csp_nodes.proofs.Laws.{Gathers, Long, times_joined}
+use Rattle.csp_nodes.proofs.Public.{Gathers, Long, times_joined}
 use Rattle.csp_world.proofs.TurnLemmas.{link_holds}
 
 -- once its queues and parties are emptied, a node is complete

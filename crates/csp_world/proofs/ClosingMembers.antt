@@ -15,7 +15,7 @@ use Rattle.csp_world.specs.Holders.{is_at, is_home, holds_at}
 use Rattle.csp_consistent.specs.Pools.{held_by}
 use Rattle.csp_world.specs.Record.{member_held}
 use Rattle.csp_world.specs.World.{PlainMember}
-use Rattle.csp_nodes.proofs.Laws.{set_here, set_there}
+use Rattle.csp_nodes.proofs.Public.{set_here, set_there}
 
 -- what is left of a node, with all that these parties of it hold
 abbrev pub with_members : List PlainMember → ℕ → Option PlainEmptied → Option PlainEmptied

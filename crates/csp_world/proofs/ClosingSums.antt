@@ -22,7 +22,7 @@ use Rattle.csp_world.specs.Holders.{is_home, holds_at, counts, IsConserved}
 use Rattle.csp_consistent.specs.Pools.{held_by}
 use Rattle.csp_world.specs.Record.{member_held, record_of}
 use Rattle.csp_world.specs.World.{PlainMember, PlainWorld}
-use Rattle.csp_nodes.proofs.Laws.{Gathers, Weighs, times_joined}
+use Rattle.csp_nodes.proofs.Public.{Gathers, Weighs, times_joined}
 
 -- all numbers of a node: those in its queues, those of its parties and those in its pool
 abbrev pub all_numbers : List PlainMember → ℕ → PlainDeck → List ℕ

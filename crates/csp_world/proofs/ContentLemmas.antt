@@ -26,7 +26,7 @@ use Rattle.csp_log.specs.declared.shown.ItemShown.{ItemShown}
 use Rattle.csp_log.specs.declared.shown.OpShown.TheVariants as op
 use Rattle.csp_world.proofs.OpeningRules.{Stands}
 use Rattle.csp_world.proofs.QueuedLemmas.{AreQueued, IsQueued}
-use Rattle.csp_nodes.proofs.Laws.{set_here}
+use Rattle.csp_nodes.proofs.Public.{set_here}
 
 -- ---- where each place stands
 

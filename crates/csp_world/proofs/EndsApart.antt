@@ -4,7 +4,7 @@ use Rattle.std.specs.Prelude.{slice_get, if◌then◌else◌}
 use Rattle.std.specs.List.{list_any}
 use Rattle.std.proofs.lemmas.Bool.{eq-eqb}
 use Rattle.std.proofs.lemmas.Option.{same_Some}
-use Rattle.csp_consistent.proofs.Laws.{more_at, each_at}
+use Rattle.csp_consistent.proofs.Public.{more_at, each_at}
 use Rattle.csp_log.specs.declared.places.End.{End}
 use Rattle.csp_scene.specs.Kept.{AreLinksAfter, IsEndAfter, IsLinkAfter}
 use Rattle.csp_scene.specs.Links.{links_at, touches}

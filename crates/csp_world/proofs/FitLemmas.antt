@@ -8,7 +8,7 @@ use Rattle.csp_lists.specs.PlainDeck.{PlainDeck}
 use Rattle.csp_nodes.specs.DecksAt.{DecksAt}
 use Rattle.csp_nodes.specs.Gathering.{queue_count}
 use Rattle.csp_party.specs.Any.{plain, needs}
-use Rattle.csp_nodes.proofs.Laws.{set_here, set_there}
+use Rattle.csp_nodes.proofs.Public.{set_here, set_there}
 use Rattle.csp_world.specs.Grown.{IsGrown}
 use Rattle.csp_world.specs.Inside.{IsFit, AllFit, HasRoom, rooms}
 use Rattle.csp_world.specs.declared.member.Member.{Member}

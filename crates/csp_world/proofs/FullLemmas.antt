@@ -18,7 +18,7 @@ use Rattle.csp_world.specs.Grown.{IsFullFor}
 use Rattle.csp_world.specs.Holders.{is_at, is_home, holds_at, numbers_at, IsConserved}
 use Rattle.csp_world.specs.Seen.{answer_at_place}
 use Rattle.csp_world.specs.World.{PlainMember, PlainWorld, answered}
-use Rattle.csp_nodes.proofs.Laws.{Gathers, Long, times_joined}
+use Rattle.csp_nodes.proofs.Public.{Gathers, Long, times_joined}
 use Rattle.csp_world.proofs.StepLemmas.{result_known}
 
 -- a node has as many numbers as buffers

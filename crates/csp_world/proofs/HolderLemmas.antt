@@ -14,7 +14,7 @@ use Rattle.csp_log.specs.Who.{home_of}
 use Rattle.csp_world.specs.Inside.{rooms}
 use Rattle.csp_world.specs.Holders.{is_at, is_home, holds_at, holder_at, places_held, deck_holders, holders, counts, HasOneHolder, numbers_at, IsConserved}
 use Rattle.csp_world.specs.World.{PlainMember, PlainWorld}
-use Rattle.csp_nodes.proofs.Laws.{times_joined, sum_set}
+use Rattle.csp_nodes.proofs.Public.{times_joined, sum_set}
 
 times-cons : (k x : ℕ) (xs : List ℕ) → times k (x ∷ xs) ≡ cond (x == k) 1 0 + times k xs
 times-cons k x xs = sum_by-cons (λ n. cond (n == k) 1 0) x xs

@@ -8,7 +8,7 @@ use Rattle.std.proofs.lemmas.List.{append-nil, append_assoc}
 use Rattle.std.proofs.lemmas.Option.{same_Some}
 use Rattle.csp_base.specs.Priority.{prio_number}
 use Rattle.csp_base.specs.declared.priority.Prio.{Prio}
-use Rattle.csp_consistent.proofs.Laws.{AreApart, entries_in, none_there, who_is, IsOf, IsOwner, IsOwn, own_asks, own_told}
+use Rattle.csp_consistent.proofs.Public.{AreApart, entries_in, none_there, who_is, IsOf, IsOwner, IsOwn, own_asks, own_told}
 use Rattle.csp_consistent.specs.Inboxes.{IsInboxInOrder, writer_of}
 use Rattle.csp_topology.specs.Lanes.{leader_of}
 use Rattle.csp_topology.specs.Parties.{PlainOpening, party_steps}
@@ -35,7 +35,7 @@ use Rattle.csp_nodes.specs.Serving.{served}
 use Rattle.csp_party.specs.Any.{PlainParty, asked, asks, events, has_ended}
 use Rattle.csp_log.specs.Who.{is_who}
 use Rattle.csp_log.specs.declared.who.Who.{Who}
-use Rattle.csp_scene.proofs.Laws.{AllByRecursion-append, AllByRecursion-map}
+use Rattle.csp_scene.proofs.Public.{AllByRecursion-append, AllByRecursion-map}
 use Rattle.csp_scene.specs.Scene.{PlainLink, PlainNode, PlainScene}
 use Rattle.csp_buffer.specs.Content.{Content}
 use Rattle.csp_world.proofs.ContentLemmas.{IsRight, PicksOne, content, in_queue, is_named}

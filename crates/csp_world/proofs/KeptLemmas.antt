@@ -14,7 +14,7 @@ use Rattle.csp_log.specs.declared.entry.Entry.{Entry}
 use Rattle.csp_log.specs.declared.shown.AnswerShown.{AnswerShown}
 use Rattle.csp_party.specs.Any.{asked, asks, events, has_ended}
 use Rattle.csp_log.specs.Who.{node_of}
-use Rattle.csp_nodes.proofs.Laws.{times_joined, sum_set}
+use Rattle.csp_nodes.proofs.Public.{times_joined, sum_set}
 use Rattle.csp_world.proofs.LocalLemmas.{local}
 use Rattle.csp_world.proofs.PoolLemmas.{at_home, pooled}
 use Rattle.csp_world.specs.Opening.{new_member}

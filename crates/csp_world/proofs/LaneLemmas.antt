@@ -5,7 +5,7 @@ use Rattle.std.specs.List.{AllByRecursion, flat_map, range_with_len}
 use Rattle.std.proofs.lemmas.Bool.{eq-eqb, lt-ltb}
 use Rattle.std.proofs.lemmas.List.{append_assoc, length-append, length-map}
 use Rattle.csp_base.specs.Priority.{prio_number}
-use Rattle.csp_consistent.proofs.Laws.{entries_in, queue_is, own_asks}
+use Rattle.csp_consistent.proofs.Public.{entries_in, queue_is, own_asks}
 use Rattle.csp_consistent.specs.Lanes.{IsFullAfter, IsInOrder, IsRefused}
 use Rattle.csp_topology.specs.Lanes.{PlainLane, app_lanes, leader_of, lanes_from, lanes_within, out_lane}
 use Rattle.csp_topology.specs.Parties.{PlainOpening}

@@ -4,7 +4,7 @@ use Rattle.std.specs.Prelude.{slice_get, if◌then◌else◌, ⊤}
 use Rattle.std.specs.Option.{option_and_then, option_map}
 use Rattle.std.proofs.lemmas.Bool.{eqb-true}
 use Rattle.std.proofs.lemmas.Option.{same_Some}
-use Rattle.csp_consistent.proofs.Laws.{queue_is, queue_same}
+use Rattle.csp_consistent.proofs.Public.{queue_is, queue_same}
 use Rattle.csp_consistent.specs.Lanes.{IsRefused}
 use Rattle.csp_consistent.specs.Queues.{MayAsk, MayPop, MayPush}
 use Rattle.csp_consistent.specs.Reading.{got_by, is_queue, put_by}

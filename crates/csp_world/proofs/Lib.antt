@@ -40,4 +40,4 @@ mod ScheduleOpening
 mod StepLemmas
 mod TurnLemmas
 mod WholeLemmas
-pub mod Laws
+pub mod Public

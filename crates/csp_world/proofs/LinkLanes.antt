@@ -5,7 +5,7 @@ use Rattle.std.specs.List.{AllByRecursion}
 use Rattle.std.specs.Option.{option_and_then, option_map}
 use Rattle.std.proofs.lemmas.Bool.{eq-eqb, eqb-true, lt-ltb}
 use Rattle.std.proofs.lemmas.Option.{same_Some, slice_get-map, slice_get_within}
-use Rattle.csp_consistent.proofs.Laws.{each_at}
+use Rattle.csp_consistent.proofs.Public.{each_at}
 use Rattle.csp_consistent.specs.Lanes.{IsRefused}
 use Rattle.csp_topology.specs.Lanes.{end_lanes, lanes_from, lanes_of, lanes_on, link_lanes}
 use Rattle.csp_consistent.specs.Queues.{MayAsk, MayPop, MayPush}

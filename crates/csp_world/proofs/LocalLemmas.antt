@@ -10,7 +10,7 @@ use Rattle.csp_log.specs.declared.shown.AnswerShown.{AnswerShown}
 use Rattle.csp_log.specs.declared.shown.OpShown.{OpShown}
 use Rattle.csp_nodes.specs.Serving.{answer_at, answer_in, answer_there, served}
 use Rattle.csp_log.specs.declared.who.Who.{Who}
-use Rattle.csp_nodes.proofs.Laws.{set_here, set_there}
+use Rattle.csp_nodes.proofs.Public.{set_here, set_there}
 
 -- what an operation that is served there, with this answer and these lists after it, made of the lists of a node
 pub record IsLocal (there : Option (ℕ × OpShown)) (r : AnswerShown × List PlainDeck) (node : ℕ) (d : PlainDeck) : Type 0 where

@@ -33,7 +33,7 @@ use Rattle.csp_world.specs.declared.member.Member.{Member}
 use Rattle.csp_world.specs.World.{PlainMember, PlainWorld, answered, turned, turned_by, turn}
 use Rattle.csp_world.proofs.HolderLemmas.{Moves}
 use Rattle.csp_world.proofs.ScheduleLemmas.{first_turn, none_left, turns_both, turns_done}
-use Rattle.csp_nodes.proofs.Laws.{set_here, set_same, set_twice}
+use Rattle.csp_nodes.proofs.Public.{set_here, set_same, set_twice}
 use Rattle.csp_world.proofs.StepLemmas.{turn_known}
 use Rattle.csp_world.proofs.TurnLemmas.{events_told, plain_told}
 

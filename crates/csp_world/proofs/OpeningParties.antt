@@ -8,7 +8,7 @@ use Rattle.std.proofs.lemmas.Option.{same_Some, slice_get-map, slice_get_within}
 use Rattle.csp_app.specs.PlainApp as app
 use Rattle.csp_app.specs.PlainStep.{PlainStep}
 use Rattle.csp_bridge.specs.PlainBridge as bridge
-use Rattle.csp_hub.proofs.Laws.{count_opening}
+use Rattle.csp_hub.proofs.Public.{count_opening}
 use Rattle.csp_hub.specs.PlainHub as hub
 use Rattle.csp_link.specs.PlainLink as link
 use Rattle.csp_log.specs.Kinds.{carried_on}
@@ -25,7 +25,7 @@ use Rattle.csp_nodes.specs.Serving.{at_end, of_frames, rule_there}
 use Rattle.csp_party.specs.Any.{uses, PlainParty, a_bridge, a_hub, a_link, an_iface, an_app}
 use Rattle.csp_log.specs.declared.who.Who.{Who}
 use Rattle.csp_log.specs.declared.who.Who.TheVariants as who
-use Rattle.csp_scene.proofs.Laws.{AllByRecursion-append}
+use Rattle.csp_scene.proofs.Public.{AllByRecursion-append}
 use Rattle.csp_scene.specs.Links.{links_at}
 use Rattle.csp_scene.specs.Ranges.{IsScene}
 use Rattle.csp_scene.specs.Scene.{PlainApp, PlainNode, PlainLink, PlainScene}

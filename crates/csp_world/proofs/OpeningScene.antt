@@ -5,7 +5,7 @@ use Rattle.std.specs.Option.{option_and_then}
 use Rattle.std.proofs.lemmas.Bool.{ltb-true}
 use Rattle.std.proofs.lemmas.List.FromFn.{length-map-range_with_len}
 use Rattle.std.proofs.lemmas.Option.{slice_get-map}
-use Rattle.csp_consistent.proofs.Laws.{each_at}
+use Rattle.csp_consistent.proofs.Public.{each_at}
 use Rattle.csp_hub.specs.PlainHub as hub
 use Rattle.csp_link.specs.PlainLink as link
 use Rattle.csp_log.specs.Kinds.{carried_on}

@@ -23,7 +23,7 @@ use Rattle.csp_nodes.specs.Serving.{answer_in, at_queue, goes}
 use Rattle.csp_log.specs.Who.{node_of}
 use Rattle.csp_log.specs.declared.who.Who.{Who}
 use Rattle.csp_world.proofs.AnsweredLemmas.{fits_answer}
-use Rattle.csp_nodes.proofs.Laws.{times_joined}
+use Rattle.csp_nodes.proofs.Public.{times_joined}
 use Rattle.csp_world.proofs.LocalLemmas.{IsLocal, local}
 
 -- the pool has what it had, less what was taken, with what was given

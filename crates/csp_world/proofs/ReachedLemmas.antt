@@ -2,7 +2,7 @@
 use Rattle.std.proofs.Common.{◌≡◌, ℕ, ◌+◌, Bool, true, false, Option, None, Some, List, [], ◌∷◌, length, map, refl, sym, subst, ap, ◌∙◌, arith}
 use Rattle.std.specs.Prelude.{slice_get, slice_index_or, if◌then◌else◌}
 use Rattle.std.specs.List.{AllByRecursion}
-use Rattle.csp_consistent.proofs.Laws.{are_apart, scene_own, are_owners}
+use Rattle.csp_consistent.proofs.Public.{are_apart, scene_own, are_owners}
 use Rattle.csp_consistent.specs.Inboxes.{AreInboxesInOrder, IsInboxInOrder}
 use Rattle.csp_consistent.specs.Lanes.{AreInOrder, IsInOrder}
 use Rattle.csp_topology.specs.Lanes.{PlainLane, leader_of, lanes_of}
@@ -14,7 +14,7 @@ use Rattle.csp_log.specs.Kinds.{carried_on}
 use Rattle.csp_lists.specs.PlainDeck.{PlainDeck}
 use Rattle.csp_log.specs.declared.places.End.{End}
 use Rattle.csp_nodes.specs.Fresh.{fresh_buffers}
-use Rattle.csp_scene.proofs.Laws.{AllByRecursion-map}
+use Rattle.csp_scene.proofs.Public.{AllByRecursion-map}
 use Rattle.csp_scene.specs.Kept.{AreLinksAfter}
 use Rattle.csp_scene.specs.Links.{links_at}
 use Rattle.csp_scene.specs.Ranges.{IsScene}

@@ -2,7 +2,7 @@ use Rattle.std.proofs.Common.{◌≡◌, Some, true, false, slice_get, sym, ap, 
 use Rattle.std.specs.Option.{option_map}
 use Rattle.std.proofs.lemmas.Option.{same_Some, slice_get_within, slice_get-get_or}
 use Rattle.csp_consistent.specs.Reading.{is_queue}
-use Rattle.csp_ends.proofs.Laws.{first_of, none_of, up_to}
+use Rattle.csp_ends.proofs.Public.{first_of, none_of, up_to}
 use Rattle.csp_log.specs.declared.places.QueueId.TheVariants as queue
 use Rattle.csp_opening.specs.declared.lanes.Pair.{Pair}
 use Rattle.csp_opening.proofs.lanes.down_tally.Goals as goal

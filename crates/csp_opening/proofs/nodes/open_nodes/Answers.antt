@@ -6,7 +6,7 @@ use Rattle.std.specs.Prelude.{slice_get}
 use Rattle.std.proofs.lemmas.Option.{slice_get-map, slice_get_read}
 use Rattle.csp_opening.proofs.Leaving.{can_leave, nodes_more, take_more}
 use Rattle.csp_opening.specs.Opened.{AreNodesWith, CanLeave, IsNodeOf}
-use Rattle.csp_scene.proofs.Laws.{AllByRecursion-push}
+use Rattle.csp_scene.proofs.Public.{AllByRecursion-push}
 use Rattle.csp_topology.specs.declared.wire.Wire.{Wire}
 use Rattle.csp_opening.proofs.nodes.open_nodes.Goals as goal
 

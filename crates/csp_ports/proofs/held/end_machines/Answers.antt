@@ -1,5 +1,5 @@
 use Rattle.std.proofs.Common.{◌∙◌, ap, map}
-use Rattle.csp_rdp.proofs.Laws.{numbers-buffers}
+use Rattle.csp_rdp.proofs.Public.{numbers-buffers}
 use Rattle.csp_ports.proofs.Holding.{last-empty}
 use Rattle.csp_ports.proofs.held.end_machines.Goals as goal
 

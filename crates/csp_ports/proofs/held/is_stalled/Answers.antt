@@ -3,7 +3,7 @@ use Rattle.std.specs.Prelude.{◌==◌, is_some, nat_lt}
 use Rattle.std.proofs.lemmas.Bool.{ne_eqb}
 use Rattle.csp_deck.specs.Step.{times}
 use Rattle.csp_rdp_window.specs.Places.{held_in}
-use Rattle.csp_rdp_window.proofs.Laws.{times-find, found, none-found, passed}
+use Rattle.csp_rdp_window.proofs.Public.{times-find, found, none-found, passed}
 use Rattle.csp_ports.proofs.Holding.{stalled-numbers}
 use Rattle.csp_ports.proofs.held.is_stalled.Goals as goal
 use Rattle.csp_ports.proofs.held.is_stalled.Goals.{in_default-via-in-None-1, in_default-via-in-Some+else-number}

@@ -1,7 +1,7 @@
 use Rattle.std.proofs.Common.{◌≡◌, ◌∙◌, ap, sym, get_or, slice_set, refl, Some, None}
 use Rattle.std.specs.Prelude.{is_some}
 use Rattle.std.proofs.lemmas.List.{set-get_or}
-use Rattle.csp_rdp_window.proofs.Laws.{first_held-at, held_in-none, held_in-whole, without_held-at}
+use Rattle.csp_rdp_window.proofs.Public.{first_held-at, held_in-none, held_in-whole, without_held-at}
 use Rattle.csp_ports.proofs.Holding.{stalled-first}
 use Rattle.csp_ports.proofs.held.take_stalled.Goals as goal
 

@@ -7,7 +7,7 @@ use Rattle.std.specs.Prelude.{All, slice_get, slice_range}
 use Rattle.std.specs.String.{string_bytes}
 use Rattle.csp_log.specs.Idling.{IsIdle}
 use Rattle.csp_log.specs.declared.entry.Entry.{Entry}
-use Rattle.csp_record.proofs.Laws.{dropped-over}
+use Rattle.csp_record.proofs.Public.{dropped-over}
 use Rattle.csp_report.specs.Events.{asked_lines, entry_lines}
 use Rattle.csp_report.specs.Lines.{Line, ended_line, text_of}
 use Rattle.csp_report.proofs.events.push_log.Goals as goal

@@ -2,7 +2,7 @@ use Rattle.std.proofs.Common.{◌≡◌, ap, sym, ◌∙◌, arith}
 use Rattle.csp_base.specs.declared.limits.TheConstants.{MAX_PAYLOAD}
 use Rattle.csp_kiss.specs.declared.event.KissEvent.TheVariants.{BadCrc}
 use Rattle.csp_kiss.specs.Stream.{judged, compared}
-use Rattle.csp_kiss.proofs.Laws.{judged-long, judged-short, judged-parts, compared-right, compared-wrong}
+use Rattle.csp_kiss.proofs.Public.{judged-long, judged-short, judged-parts, compared-right, compared-wrong}
 use Rattle.csp_tap.proofs.piece.judge.Goals as goal
 
 pub returns-then-plain : goal.returns-then-plain

@@ -7,7 +7,7 @@ use Rattle.csp_base.specs.declared.limits.TheConstants.{MAX_PAYLOAD}
 use Rattle.csp_log.specs.declared.places.LinkKind.{LinkKind}
 use Rattle.csp_log.specs.declared.places.LinkKind.TheVariants as link
 use Rattle.csp_log.specs.declared.places.TheConstants.{IFACES}
-use Rattle.csp_scene.proofs.Laws.{AllByRecursion-append, AllByRecursion-at}
+use Rattle.csp_scene.proofs.Public.{AllByRecursion-append, AllByRecursion-at}
 use Rattle.csp_scene.specs.Links.{links_at, touches}
 use Rattle.csp_scene.specs.Ranges.{HasEnds}
 use Rattle.csp_scene.specs.Scene.{PlainLink}

@@ -5,7 +5,7 @@ use Rattle.std.proofs.lemmas.Iterator.Consumers.{YieldsList-from_deque}
 use Rattle.csp_hub.specs.PlainHub.{PlainEnd}
 use Rattle.csp_link.specs.Holding.{first_due}
 use Rattle.csp_link.specs.declared.held.Held.{Held}
-use Rattle.csp_link.proofs.Laws.{place_first_due}
+use Rattle.csp_link.proofs.Public.{place_first_due}
 use Rattle.csp_hub.proofs.end.HubEnd.first_due.Goals as goal
 
 pub returns-clause-place : goal.returns-clause-place

@@ -4,7 +4,7 @@ use Rattle.csp_hub.specs.PlainHub.{PlainEnd}
 use Rattle.csp_hub.specs.Telling.{heard}
 use Rattle.csp_link.specs.Copies.{held_until}
 use Rattle.csp_link.specs.declared.held.Held.{Held}
-use Rattle.csp_link.proofs.Laws.{one_more}
+use Rattle.csp_link.proofs.Public.{one_more}
 use Rattle.csp_log.specs.PlainSpares.{PlainSpares}
 use Rattle.csp_log.specs.declared.frame.Frame.{Frame}
 use Rattle.csp_hub.proofs.end.HubEnd.hear.Goals as goal

@@ -1,5 +1,5 @@
 use Rattle.std.proofs.Common.{sym}
-use Rattle.csp_link.proofs.Laws.{due_inside, due_there}
+use Rattle.csp_link.proofs.Public.{due_inside, due_there}
 use Rattle.csp_hub.proofs.end.HubEnd.take_due.Goals as goal
 
 pub take-held-requires : goal.take-held-requires

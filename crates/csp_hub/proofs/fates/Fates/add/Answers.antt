@@ -3,7 +3,7 @@ use Rattle.std.specs.List.{All}
 use Rattle.std.specs.Map.{values_of}
 use Rattle.csp_link.specs.declared.fates.Fate.{Fate}
 use Rattle.csp_link.specs.declared.fault.TheConstants.{MAX_REPEATS}
-use Rattle.csp_link.proofs.Laws.{all_named}
+use Rattle.csp_link.proofs.Public.{all_named}
 use Rattle.csp_hub.proofs.fates.Fates.add.Goals as goal
 
 pub invariant_of-self-2 : goal.invariant_of-self-2

@@ -1,5 +1,5 @@
 use Rattle.std.proofs.Common.{rules}
-use Rattle.csp_link.proofs.Laws.{most_at}
+use Rattle.csp_link.proofs.Public.{most_at}
 use Rattle.csp_hub.proofs.fates.Fates.of.Goals as goal
 
 pub returns-in-Some-clause-most : goal.returns-in-Some-clause-most

@@ -5,7 +5,7 @@ use Rattle.csp_hub.specs.PlainHub.{PlainEnd, PlainHub, lane_of}
 use Rattle.csp_hub.specs.Room.{plain_hub}
 use Rattle.csp_link.specs.Holding.{first_due}
 use Rattle.csp_link.specs.declared.held.Held.{Held}
-use Rattle.csp_link.proofs.Laws.{IsFrameOf}
+use Rattle.csp_link.proofs.Public.{IsFrameOf}
 use Rattle.csp_log.specs.declared.places.LinkKind.TheVariants as kind
 use Rattle.csp_log.specs.declared.shown.ItemShown.TheVariants as item
 use Rattle.csp_hub.proofs.Due.{due_carried}

@@ -2,7 +2,7 @@ use Rattle.std.proofs.Common.{List, ℕ, ◌-◌, length, drop, take, ap, sym, �
 use Rattle.std.proofs.lemmas.List.{length-drop}
 use Rattle.csp_base.specs.declared.limits.TheConstants.{MAX_PAYLOAD}
 use Rattle.csp_kiss.specs.Reading.{Reading}
-use Rattle.csp_kiss.proofs.Laws.{take_all}
+use Rattle.csp_kiss.proofs.Public.{take_all}
 use Rattle.csp_tap.specs.Pieces.{gone_through, stage_of}
 use Rattle.csp_tap.specs.declared.piece.Stage.{Stage}
 use Rattle.csp_tap.proofs.Pieces.{gone_start}
