@@ -4,6 +4,7 @@ mod Conserving
 mod Counting
 mod Fifos
 mod Fresh
+mod Positions
 mod Queued
 mod Standing
 mod Weighing

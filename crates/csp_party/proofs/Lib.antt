@@ -1,1 +1,3 @@
 mod Circling
+mod Turned
+pub mod Public

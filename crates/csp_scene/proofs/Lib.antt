@@ -13,4 +13,5 @@ mod MoveCounts
 mod Moving
 mod Places
 mod NamesApart
+mod NodesAre
 pub mod Public

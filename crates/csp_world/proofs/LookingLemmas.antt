@@ -35,7 +35,7 @@ use Rattle.csp_world.proofs.HolderLemmas.{Moves}
 use Rattle.csp_world.proofs.ScheduleLemmas.{first_turn, none_left, turns_both, turns_done}
 use Rattle.csp_nodes.proofs.Public.{set_here, set_same, set_twice}
 use Rattle.csp_world.proofs.StepLemmas.{turn_known}
-use Rattle.csp_world.proofs.TurnLemmas.{events_told, plain_told}
+use Rattle.csp_party.proofs.Public.{events_told, plain_told}
 
 -- the steps of a party of any kind
 abbrev pub any_steps : Steps AnyParty

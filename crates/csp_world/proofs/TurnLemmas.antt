@@ -28,23 +28,6 @@ use Rattle.csp_world.specs.Holders.{is_at}
 use Rattle.csp_world.specs.Inside.{IsCalled, IsLink, rooms}
 use Rattle.csp_world.specs.World.{PlainMember}
 
--- what a party's turn makes of its state
-pub plain_told : (p : AnyParty) (time : ℕ) (a : AnswerShown) → plain (with_plain (with_plain p (asked (plain p) time)) (tells (plain (with_plain p (asked (plain p) time))) time a)) ≡ tells (asked (plain p) time) time a
-plain_told (party.Router r) time a = refl
-plain_told (party.Bridge b) time a = refl
-plain_told (party.Iface i) time a = refl
-plain_told (party.App p) time a = refl
-plain_told (party.Link l) time a = refl
-plain_told (party.Hub h) time a = refl
-
-pub events_told : (p : AnyParty) (time : ℕ) (a : AnswerShown) → events (plain (with_plain p (asked (plain p) time))) time a ≡ events (asked (plain p) time) time a
-events_told (party.Router r) time a = refl
-events_told (party.Bridge b) time a = refl
-events_told (party.Iface i) time a = refl
-events_told (party.App p) time a = refl
-events_told (party.Link l) time a = refl
-events_told (party.Hub h) time a = refl
-
 -- a link stays one, and so does a hub
 link_told : (p : AnyParty) (time : ℕ) (a : AnswerShown) → IsLink (plain p) → IsLink (tells (asked (plain p) time) time a)
 link_told (party.Router r) time a h = absurd h
@@ -69,14 +52,6 @@ link_holds (an_iface i) h = absurd h
 link_holds (an_app a) h = absurd h
 link_holds (a_link l) h = refl
 link_holds (a_hub u) h = refl
-
--- the boxes of one turn less serve one turn less
-pub stock_left : (needs spare stock left : ℕ) → 0 < spare → needs * spare ≤ stock → stock ≤ left + needs → needs * (spare - 1) ≤ left
-stock_left needs zero stock left h e f = absurd (omega arith)
-stock_left needs (suc spare) stock left h e f =
-    let less : suc spare - 1 ≡ spare = omega arith in
-    let more : needs * suc spare ≡ needs * spare + needs = grind (arith) in
-    rw less (omega (arith, e, f, more))
 
 -- the lists that serve a party of a node are that node's
 pub served_home : (links : List (List End)) (w : Who) (o : OpShown) (node n : ℕ) → node_of w ≡ Some n → is_served_at links w o node ≡ is_at node w

@@ -12,7 +12,8 @@ use Rattle.csp_party.specs.Any.{plain, asks, needs, has_ended}
 use Rattle.csp_party.specs.declared.any.AnyParty.{AnyParty}
 use Rattle.csp_world.specs.Inside.{IsCalled, rooms}
 use Rattle.csp_world.specs.Seen.{plain_member}
-use Rattle.csp_world.proofs.TurnLemmas.{any_room, called_told, full_for, kept_at, plain_told, stock_left}
+use Rattle.csp_party.proofs.Public.{plain_told, stock_left}
+use Rattle.csp_world.proofs.TurnLemmas.{any_room, called_told, full_for, kept_at}
 use Rattle.csp_world.proofs.member.take_turn.Goals as goal
 
 pub turn-came-requires-clause-served : goal.turn-came-requires-clause-served

@@ -12,7 +12,8 @@ use Rattle.csp_party.specs.Any.{plain, asks, needs, has_ended}
 use Rattle.csp_posts.specs.Posts.{PlainPost, AreTurns}
 use Rattle.csp_posts.specs.Ready.{HasTurned}
 use Rattle.csp_posts.specs.Seen.{SeenPost}
-use Rattle.csp_posts.proofs.Parties.{any_time, plain_told, events_told, stock_left, one_turn, ended_turn}
+use Rattle.csp_party.proofs.Public.{events_told, plain_told, stock_left}
+use Rattle.csp_posts.proofs.Parties.{any_time, one_turn, ended_turn}
 use Rattle.csp_posts.proofs.post.Post.turn.Goals as goal
 
 pub turn-requires-clause-served : goal.turn-requires-clause-served
