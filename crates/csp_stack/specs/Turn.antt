@@ -151,8 +151,9 @@ pushes o until pushed back = record { asks = o; until = until; told = λ a. cond
 abbrev pub pops : QueueId → (until : State) → (popped : Option ItemShown → Told) → Turn
 pops q until popped = record { asks = op.Pop q; until = until; told = λ a. popped (item_in a) }
 
--- ---- the table: what each turn asks, the state until the answer, and what each answer comes to
+-- ---- the table
 
+-- what each turn asks, the state until its answer, and what each answer comes to
 abbrev pub turn_of : Facts → State → ℕ → Plan → Turn
 -- there is no work
 turn_of f s time plan.Rest = rests s
@@ -179,11 +180,11 @@ turn_of f s time (plan.Make app slot j) = takes (at_task f s app slot) (brought 
 abbrev pub asked_by : Facts → State → ℕ → Plan → State
 asked_by f s time p = record (turn_of f s time p).until { doing = p }
 
--- what a turn asks, and the state until its answer
+-- what a turn asks
 abbrev pub asks_at : Facts → State → ℕ → OpShown
 asks_at f s time = (turn_of f (timed s time) time (plan_of f (timed s time) time)).asks
 
--- the state from the question until the answer
+-- the state from its question until the answer
 abbrev pub asked_at : Facts → State → ℕ → State
 asked_at f s time = asked_by f (timed s time) time (plan_of f (timed s time) time)
 
