@@ -33,7 +33,7 @@ use Rattle.csp_log.specs.declared.shown.OpShown.{OpShown}
 use Rattle.csp_log.specs.declared.shown.OpShown.TheVariants as op
 use Rattle.csp_ports.specs.Asking.{answered, is_reliable}
 use Rattle.csp_ports.specs.PlainPorts.{PlainPorts, is_closing, machine_at, ports_of, terms_at}
-use Rattle.csp_ports.specs.Tasks.{made_in, making, next_task}
+use Rattle.csp_ports.specs.Tasks.{kept_again, made_in, making, next_task}
 use Rattle.csp_ports.specs.declared.handing.Invitation.{Invitation}
 use Rattle.csp_ports.specs.declared.owed.Owed.{Owed}
 use Rattle.csp_ports.specs.declared.request.Request.{Request}
@@ -60,9 +60,9 @@ use Rattle.csp_stack.specs.Router.{Facts, Leaving, State, at_rest, origin_of}
 use Rattle.csp_stack.specs.Rules.{◌>>=◌, Arrival, Decided, Left, Ruling, accepting, addressed, answer_flags, at_connection, by_answer, by_connection, by_mark, by_row, by_service, by_slot, by_socket, connection_of, for_this_node, forwarded, heard, invitation_of, inviting, is_lacking, is_mixed, made_on, not_reliable, not_secured, of_no_connection, on_connection, opening, owner_for, packet_in, requested, sent, sent_by, served, to_connection, to_machine, to_no_socket, to_slot, with_payload, without_checksum}
 use Rattle.csp_stack.specs.Serving.{facts_of, reply_in, with_facts}
 use Rattle.csp_stack.specs.Sources.{place_with_work, source_at}
-use Rattle.csp_stack.specs.Told.{Told, discarded, leaving, with_ports}
+use Rattle.csp_stack.specs.Told.{Told, discarded, kept, leaving, unchanged, with_ports}
 use Rattle.csp_stack.proofs.Public.{by_rest, heard_here}
-use Rattle.csp_stack.specs.Turn.{asked_at, asked_by, asks_at, delivering, giving, jobs_by, op_of, plan_by, plan_for, plan_of, pushing, replying, timed, told_at, told_by, told_delivering, told_giving, told_hearing, told_keeping, told_making, told_noting, told_pushing, told_sending, work_at, work_found}
+use Rattle.csp_stack.specs.Turn.{asked_at, asked_by, asks_at, brought, delivering, giving, jobs_by, no_room, plan_by, plan_for, plan_of, pushing, replying, timed, told_at, turn_of, work_at, work_found}
 use Rattle.csp_stack.specs.declared.plan.Plan.{Plan}
 use Rattle.csp_stack.specs.declared.plan.Plan.TheVariants as plan
 use Rattle.csp_stack.specs.declared.sources.Source.{Source}
@@ -252,58 +252,56 @@ module _ (f : Facts) (a : ℕ) where
   pushed_none q i _ e = refl
 
   -- the state when the answer comes
-  abbrev until : State → Plan → State
-  until s p = at_rest (asked_by f s p)
+  abbrev until : State → ℕ → Plan → State
+  until s time p = at_rest (asked_by f s time p)
 
   abbrev Turns : State → ℕ → Plan → AnswerShown → Type 0
-  Turns s time p x = Evens (op_of s p) x s.ports (told_by p f (until s p) time x).state.ports
+  Turns s time p x = Evens (turn_of f s time p).asks x s.ports ((turn_of f (until s time p) time p).told x).state.ports
 
   -- ---- each plan
 
+  -- what comes of an answer adds nothing where what it brings adds nothing
+  brought_so : {X : Type 0} (p : PlainPorts) (s : State) (comes : X → Told) (o : Option X) → NoMore p s.ports → ((x : X) → NoMore p (comes x).state.ports) → NoMore p (brought s comes o).state.ports
+  brought_so p s comes None h each = h
+  brought_so p s comes (Some x) h each = each x
+
+  pushed_so : (p : PlainPorts) (pushed : Bool) (one other : Told) → NoMore p one.state.ports → NoMore p other.state.ports → NoMore p (cond pushed one other).state.ports
+  pushed_so p true one other h g = h
+  pushed_so p false one other h g = g
+
+  back_so : (s : State) (o : Option Arrival) → NoMore s.ports (no_room s o).state.ports
+  back_so s o = brought_so s.ports s _ o (stays s.ports) (λ p. stays s.ports)
+
   turn_give : (s : State) (time : ℕ) (x : AnswerShown) → Turns s time plan.Give x
   turn_give s time x =
-      evens_quiet (giving s.trash) x s.ports (told_giving (until s plan.Give) (buffer_in x)).state.ports (none_put s.trash x) (by_buffer (buffer_in x))
+      let t : State = until s time plan.Give in
+      evens_quiet (giving s.trash) x s.ports _ (none_put s.trash x) (brought_so s.ports t (kept t) (buffer_in x) (stays s.ports) (λ b. stays s.ports))
     where
       none_put : (bs : List Content) (x : AnswerShown) → answered_in (put_by (queue.Down a) (giving bs) x) ≡ 0
       none_put [] x = refl
       none_put (b ∷ bs) x = refl
 
-      by_buffer : (o : Option Content) → NoMore s.ports (told_giving (until s plan.Give) o).state.ports
-      by_buffer None = stays s.ports
-      by_buffer (Some b) = stays s.ports
-
-  back_so : (s : State) (o : Option Arrival) → NoMore s.ports (told_pushing s o).state.ports
-  back_so s None = stays s.ports
-  back_so s (Some p) = stays s.ports
-
   turn_push : (q : QueueId) (bytes : ℕ) (s : State) (time : ℕ) (x : AnswerShown) → Turns s time (plan.Push q bytes) x
   turn_push q bytes s time x =
-      evens_quiet (pushing s.out) x s.ports (told_sending (is_pushed x) q bytes (until s (plan.Push q bytes)) (packet_in (item_in x))).state.ports
-      (none_put s.out x) (by_pushed (is_pushed x) (packet_in (item_in x)))
+      evens_quiet (pushing s.out) x s.ports _ (none_put s.out x)
+      (pushed_so s.ports (is_pushed x) _ _ (stays s.ports) (back_so (was_full (until s time (plan.Push q bytes)) q) (packet_in (item_in x))))
     where
       none_put : (o : Option Leaving) (x : AnswerShown) → answered_in (put_by (queue.Down a) (pushing o) x) ≡ 0
       none_put None x = refl
       none_put (Some o) x = pushed_none o.queue (item.Packet o.mark o.buffer) x refl
 
-      by_pushed : (b : Bool) (o : Option Arrival) → NoMore s.ports (told_sending b q bytes (until s (plan.Push q bytes)) o).state.ports
-      by_pushed true o = stays s.ports
-      by_pushed false o = back_so (was_full (until s (plan.Push q bytes)) q) o
-
   turn_hear : (s : State) (time : ℕ) (x : AnswerShown) → Turns s time plan.Hear x
   turn_hear s time x =
-      evens_quiet (op.Pop queue.Inbox) x s.ports (told_hearing f (until s plan.Hear) time (packet_in (item_in x))).state.ports refl
-      (by_packet (packet_in (item_in x)))
-    where
-      by_packet : (o : Option Arrival) → NoMore s.ports (told_hearing f (until s plan.Hear) time o).state.ports
-      by_packet None = stays s.ports
-      by_packet (Some p) = hears f (came_in (until s plan.Hear) p.mark p.buffer) time p
+      let t : State = until s time plan.Hear in
+      evens_quiet (op.Pop queue.Inbox) x s.ports _ refl
+      (brought_so s.ports t (λ p. heard f (came_in t p.mark p.buffer) time p) (packet_in (item_in x)) (stays s.ports) (λ p. hears f (came_in t p.mark p.buffer) time p))
 
   turn_serve : (k : ℕ) (s : State) (time : ℕ) (x : AnswerShown) → Fits (op.Pop (queue.Up k)) x → ComesSo (op.Pop (queue.Up k)) x → Turns s time (plan.Serve k) x
   turn_serve k s time (answer.Popped i) fits comes =
-      let after : due a (served f (until s (plan.Serve k)) time k i).state.ports ≤ due a s.ports + asked_of (k == a) i =
-      serves i f (until s (plan.Serve k)) a k time comes.0 in
+      let after : due a (served f (until s time (plan.Serve k)) time k i).state.ports ≤ due a s.ports + asked_of (k == a) i =
+      serves i f (until s time (plan.Serve k)) a k time comes.0 in
       let got : asked_in (got_by (queue.Up a) (op.Pop (queue.Up k)) (answer.Popped i)) ≡ asked_of (k == a) i = one_counts asking.asks (k == a) i in
-      evens_served (due a (served f (until s (plan.Serve k)) time k i).state.ports) (due a s.ports) (asked_of (k == a) i)
+      evens_served (due a (served f (until s time (plan.Serve k)) time k i).state.ports) (due a s.ports) (asked_of (k == a) i)
       (asked_in (got_by (queue.Up a) (op.Pop (queue.Up k)) (answer.Popped i))) after got
     where
       evens_served : (m n c d : ℕ) → m ≤ n + c → d ≡ c → 0 + m ≤ d + n
@@ -312,7 +310,7 @@ module _ (f : Facts) (a : ℕ) where
   turn_serve k s time _ fits comes = absurd fits
 
   turn_reply : (k : ℕ) (os : List Owed) (s : State) (time : ℕ) (x : AnswerShown) → s.ports.owed ≡ os → Fits (replying os) x
-      → Evens (replying os) x s.ports (told_by (plan.Reply k) f (until s (plan.Reply k)) time x).state.ports
+      → Evens (replying os) x s.ports ((turn_of f (until s time (plan.Reply k)) time (plan.Reply k)).told x).state.ports
   turn_reply k [] s time answer.Nothing e fits = evens_quiet op.Nothing answer.Nothing s.ports s.ports refl (stays s.ports)
   turn_reply k [] s time _ e fits = absurd fits
   turn_reply k (o ∷ os) s time answer.Pushed e fits =
@@ -327,36 +325,24 @@ module _ (f : Facts) (a : ℕ) where
       evens_replied d b m n c e h k = omega (arith, e, h, k)
   turn_reply k (o ∷ os) s time (answer.Full i) e fits =
       evens_quiet (op.Push (queue.Down o.app) (item.Note o.note)) (answer.Full i) s.ports
-      (told_pushing (until s (plan.Reply k)) (packet_in (Some i))).state.ports refl (back_so (until s (plan.Reply k)) (packet_in (Some i)))
+      (no_room (until s time (plan.Reply k)) (packet_in (Some i))).state.ports refl (back_so (until s time (plan.Reply k)) (packet_in (Some i)))
   turn_reply k (o ∷ os) s time _ e fits = absurd fits
 
   turn_tell : (app slot : ℕ) (s : State) (time : ℕ) (x : AnswerShown) → Turns s time (plan.Tell app slot) x
   turn_tell app slot s time x =
-      evens_quiet (op.Push (queue.Down app) (item.Note (note.Down slot))) x s.ports
-      (told_noting (is_pushed x) (until s (plan.Tell app slot)) app slot (packet_in (item_in x))).state.ports
-      (pushed_none (queue.Down app) (item.Note (note.Down slot)) x refl) (by_pushed (is_pushed x) (packet_in (item_in x)))
-    where
-      by_pushed : (b : Bool) (o : Option Arrival) → NoMore s.ports (told_noting b (until s (plan.Tell app slot)) app slot o).state.ports
-      by_pushed true o = tells app slot s.ports
-      by_pushed false o = back_so (until s (plan.Tell app slot)) o
+      evens_quiet (op.Push (queue.Down app) (item.Note (note.Down slot))) x s.ports _ (pushed_none (queue.Down app) (item.Note (note.Down slot)) x refl)
+      (pushed_so s.ports (is_pushed x) _ _ (tells app slot s.ports) (back_so (until s time (plan.Tell app slot)) (packet_in (item_in x))))
 
   turn_deliver : (app slot : ℕ) (s : State) (time : ℕ) (x : AnswerShown) → slot < SLOTS → Turns s time (plan.Deliver app slot) x
   turn_deliver app slot s time x low =
-      evens_quiet (delivering (delivery (machine_at s.ports app slot)) app slot) x s.ports
-      (told_delivering (is_pushed x) (until s (plan.Deliver app slot)) app slot time (packet_in (item_in x))).state.ports
-      (none_put (delivery (machine_at s.ports app slot))) (by_pushed (is_pushed x) (packet_in (item_in x)))
+      let t : State = until s time (plan.Deliver app slot) in
+      evens_quiet (delivering (delivery (machine_at s.ports app slot)) app slot) x s.ports _ (none_put (delivery (machine_at s.ports app slot)))
+      (pushed_so s.ports (is_pushed x) _ _ (delivers time app slot t.ports low)
+      (brought_so s.ports t (λ p. unchanged (with_ports t (kept_again app slot p.buffer t.ports))) (packet_in (item_in x)) (stays s.ports) (λ p. stays s.ports)))
     where
       none_put : (o : Option PlainBuffer) → answered_in (put_by (queue.Down a) (delivering o app slot) x) ≡ 0
       none_put None = refl
       none_put (Some b) = pushed_none (queue.Down app) (item.Packet slot b.picture) x refl
-
-      by_packet : (o : Option Arrival) → NoMore s.ports (told_keeping (until s (plan.Deliver app slot)) app slot o).state.ports
-      by_packet None = stays s.ports
-      by_packet (Some p) = stays s.ports
-
-      by_pushed : (b : Bool) (o : Option Arrival) → NoMore s.ports (told_delivering b (until s (plan.Deliver app slot)) app slot time o).state.ports
-      by_pushed true o = delivers time app slot (until s (plan.Deliver app slot)).ports low
-      by_pushed false o = by_packet o
 
   made_so : (y : Slot) (j : Job) (s : State) (app slot time : ℕ) (b : Content) → Quiet s (made_on y j f s app slot time b)
   made_so has.Free j s app slot time b = stays s.ports
@@ -364,14 +350,11 @@ module _ (f : Facts) (a : ℕ) where
   made_so (has.Open c) j s app slot time b =
       sends f (with_ports s (making j time app slot s.ports)) (addressed f c (terms_at s.ports app slot) (made_in j time app slot b s.ports))
 
-  making_so : (o : Option Content) (j : Job) (s : State) (app slot time : ℕ) → Quiet s (told_making f s app slot j time o)
-  making_so None j s app slot time = stays s.ports
-  making_so (Some b) j s app slot time = made_so (slot_at s.ports.conns app slot) j s app slot time b
-
   turn_make : (app slot : ℕ) (j : Job) (s : State) (time : ℕ) (x : AnswerShown) → Turns s time (plan.Make app slot j) x
   turn_make app slot j s time x =
-      evens_quiet op.Take x s.ports (told_making f (until s (plan.Make app slot j)) app slot j time (buffer_in x)).state.ports refl
-      (making_so (buffer_in x) j (until s (plan.Make app slot j)) app slot time)
+      let t : State = until s time (plan.Make app slot j) in
+      evens_quiet op.Take x s.ports _ refl
+      (brought_so s.ports t (made_on (slot_at t.ports.conns app slot) j f t app slot time) (buffer_in x) (stays s.ports) (made_so (slot_at t.ports.conns app slot) j t app slot time))
 
   -- ---- the plan of a turn
 
@@ -380,7 +363,7 @@ module _ (f : Facts) (a : ℕ) where
   IsPlaced (plan.Deliver app slot) = slot < SLOTS
   IsPlaced _ = ⊤
 
-  turn : (p : Plan) (s : State) (time : ℕ) (x : AnswerShown) → IsPlaced p → Fits (op_of s p) x → ComesSo (op_of s p) x → Turns s time p x
+  turn : (p : Plan) (s : State) (time : ℕ) (x : AnswerShown) → IsPlaced p → Fits (turn_of f s time p).asks x → ComesSo (turn_of f s time p).asks x → Turns s time p x
   turn plan.Rest s time x low fits comes = evens_quiet op.Nothing x s.ports s.ports refl (stays s.ports)
   turn plan.Give s time x low fits comes = turn_give s time x
   turn (plan.Push q bytes) s time x low fits comes = turn_push q bytes s time x
@@ -426,9 +409,9 @@ module _ (f : Facts) (a : ℕ) where
       let t : State = timed s time in
       let p : Plan = plan_of f t time in
       let first : due a t.ports ≤ due a s.ports = times time s.ports a in
-      let last : Evens (op_of t p) x t.ports (told_by p f (until t p) time x).state.ports = turn p t time x (placed t time) fits comes in
-      evens_after (answered_in (put_by (queue.Down a) (op_of t p) x) + due a (told_by p f (until t p) time x).state.ports)
-      (asked_in (got_by (queue.Up a) (op_of t p) x)) (due a t.ports) (due a s.ports) last first
+      let last : Evens (turn_of f t time p).asks x t.ports ((turn_of f (until t time p) time p).told x).state.ports = turn p t time x (placed t time) fits comes in
+      evens_after (answered_in (put_by (queue.Down a) (turn_of f t time p).asks x) + due a ((turn_of f (until t time p) time p).told x).state.ports)
+      (asked_in (got_by (queue.Up a) (turn_of f t time p).asks x)) (due a t.ports) (due a s.ports) last first
     where
       evens_after : (m c n k : ℕ) → m ≤ c + n → n ≤ k → m ≤ c + k
       evens_after m c n k h g = omega (arith, h, g)

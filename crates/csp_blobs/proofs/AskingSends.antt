@@ -49,7 +49,7 @@ use Rattle.csp_record.proofs.Public.{Ends}
 use Rattle.csp_stack.specs.Config.{opening_state}
 use Rattle.csp_stack.specs.Router.{Facts, Leaving, State, at_rest, origin_of}
 use Rattle.csp_stack.specs.Rules.{by_mark, by_slot, on_connection, served}
-use Rattle.csp_stack.specs.Turn.{asked_at, asked_by, delivering, giving, op_of, plan_of, pushing, replying, timed, told_at, told_by}
+use Rattle.csp_stack.specs.Turn.{asked_at, asked_by, delivering, giving, plan_of, pushing, replying, timed, told_at, turn_of}
 use Rattle.csp_stack.specs.declared.plan.Plan.{Plan}
 use Rattle.csp_stack.specs.declared.plan.Plan.TheVariants as plan
 use Rattle.csp_ports.specs.declared.owed.Owed.{Owed}
@@ -80,20 +80,20 @@ delivering_not None app slot k e = cc
 delivering_not (Some b) app slot k e = cc
 
 -- serves it
-serves : (s : State) (p : Plan) (k : ℕ) → op_of s p ≡ op.Pop (queue.Up k) → p ≡ plan.Serve k
-serves s (plan.Serve j) k e = let same : j ≡ k = cc in ap plan.Serve same
-serves s plan.Rest k e = absurd cc
-serves s plan.Give k e = absurd (giving_not s.trash k e)
-serves s (plan.Push q n) k e = absurd (pushing_not s.out k e)
-serves s plan.Hear k e = absurd cc
-serves s (plan.Reply j) k e = absurd (replying_not s.ports.owed k e)
-serves s (plan.Tell app slot) k e = absurd cc
-serves s (plan.Deliver app slot) k e = absurd (delivering_not _ app slot k e)
-serves s (plan.Make app slot j) k e = absurd cc
+serves : (f : Facts) (s : State) (time : ℕ) (p : Plan) (k : ℕ) → (turn_of f s time p).asks ≡ op.Pop (queue.Up k) → p ≡ plan.Serve k
+serves f s time (plan.Serve j) k e = let same : j ≡ k = cc in ap plan.Serve same
+serves f s time plan.Rest k e = absurd cc
+serves f s time plan.Give k e = absurd (giving_not s.trash k e)
+serves f s time (plan.Push q n) k e = absurd (pushing_not s.out k e)
+serves f s time plan.Hear k e = absurd cc
+serves f s time (plan.Reply j) k e = absurd (replying_not s.ports.owed k e)
+serves f s time (plan.Tell app slot) k e = absurd cc
+serves f s time (plan.Deliver app slot) k e = absurd (delivering_not _ app slot k e)
+serves f s time (plan.Make app slot j) k e = absurd cc
 
 -- the state in which an item of an application is served
 abbrev serving : Facts → State → ℕ → ℕ → State
-serving f s time app = at_rest (asked_by f (timed s time) (plan.Serve app))
+serving f s time app = at_rest (asked_by f (timed s time) time (plan.Serve app))
 
 -- a turn popped this packet of an application
 record IsPopped (e : Entry) (app mark : ℕ) (b : Content) : Type 0 where
@@ -105,9 +105,9 @@ popped_events : (f : Facts) (s : State) (e : Entry) (app mark : ℕ) (b : Conten
     → e.events.items ≡ (ports_timed e.time s.ports).events ++ (served f (serving f s e.time app) e.time app (item.Packet mark b)).events
 popped_events f s e app mark b step p =
     let t : State = timed s e.time in
-    let is : plan_of f t e.time ≡ plan.Serve app = serves t (plan_of f t e.time) app (sym step.op ∙ p.asked) in
+    let is : plan_of f t e.time ≡ plan.Serve app = serves f t e.time (plan_of f t e.time) app (sym step.op ∙ p.asked) in
     step.events ∙ events_are f s e.time e.answer (plan.Serve app) is
-    ∙ ap (λ a. (ports_timed e.time s.ports).events ++ (told_by (plan.Serve app) f (serving f s e.time app) e.time a).events) p.answered
+    ∙ ap (λ a. (ports_timed e.time s.ports).events ++ ((turn_of f (serving f s e.time app) e.time (plan.Serve app)).told a).events) p.answered
 
 -- a packet was lost, or one was sent on this slot
 abbrev IsOfSlot : (slot : ℕ) → Event → Type 0

@@ -280,74 +280,45 @@ go_made (slot.Open c) j f s app number time b h = go_sent f (with_ports s (makin
 
 -- ---- so it stays with each answer
 
-go_giving : (f : Facts) (s : State) (b : Option Content) → IsHome f s → Goes f (turn.told_giving s b)
-go_giving f s None h = h
-go_giving f s (Some b) h = h
+go_brought : {X : Type 0} (f : Facts) (s : State) (comes : X → Told) (o : Option X) → IsHome f s → ((x : X) → Goes f (comes x)) → Goes f (turn.brought s comes o)
+go_brought f s comes None h each = h
+go_brought f s comes (Some x) h each = each x
 
-go_pushing : (f : Facts) (s : State) (p : Option Arrival) → IsHome f s → Goes f (turn.told_pushing s p)
-go_pushing f s None h = h
-go_pushing f s (Some p) h = h
+go_pushed : (f : Facts) (pushed : Bool) (one other : Told) → Goes f one → Goes f other → Goes f (cond pushed one other)
+go_pushed f true one other h g = h
+go_pushed f false one other h g = g
 
-go_sending : (pushed : Bool) (q : QueueId) (bytes : ℕ) (f : Facts) (s : State) (p : Option Arrival) → IsHome f s → Goes f (turn.told_sending pushed q bytes s p)
-go_sending true q bytes f s p h = h
-go_sending false q bytes f s p h = go_pushing f (was_full s q) p h
+go_back : (f : Facts) (s : State) (p : Option Arrival) → IsHome f s → Goes f (turn.no_room s p)
+go_back f s p h = go_brought f s _ p h (λ x. h)
 
-go_hearing : (f : Facts) (s : State) (time : ℕ) (p : Option Arrival) → IsHome f s → Goes f (turn.told_hearing f s time p)
-go_hearing f s time None h = h
-go_hearing f s time (Some p) h = go_heard f (came_in s p.mark p.buffer) time p h
-
-go_serving : (f : Facts) (s : State) (time k : ℕ) (i : Option ItemShown) → IsHome f s → Goes f (turn.told_serving f s time k i)
-go_serving f s time k None h = h
-go_serving f s time k (Some i) h = go_served f s time k i h
-
-go_replying : (pushed : Bool) (f : Facts) (s : State) (p : Option Arrival) → IsHome f s → Goes f (turn.told_replying pushed s p)
-go_replying true f s p h = (answered_shape s.ports ∙ h.0, h.1, h.2)
-go_replying false f s p h = go_pushing f s p h
-
-go_noting : (pushed : Bool) (f : Facts) (s : State) (app slot : ℕ) (p : Option Arrival) → IsHome f s → Goes f (turn.told_noting pushed s app slot p)
-go_noting true f s app slot p h = h
-go_noting false f s app slot p h = go_pushing f s p h
-
-go_keeping : (f : Facts) (s : State) (app slot : ℕ) (p : Option Arrival) → IsHome f s → Goes f (turn.told_keeping s app slot p)
-go_keeping f s app slot None h = h
-go_keeping f s app slot (Some p) h = h
-
-go_delivering : (pushed : Bool) (f : Facts) (s : State) (app slot time : ℕ) (p : Option Arrival) → IsHome f s → Goes f (turn.told_delivering pushed s app slot time p)
-go_delivering true f s app slot time p h = (delivered_shape time app slot s.ports ∙ h.0, h.1, h.2)
-go_delivering false f s app slot time p h = go_keeping f s app slot p h
-
-go_making : (f : Facts) (s : State) (app slot : ℕ) (j : Job) (time : ℕ) (b : Option Content) → IsHome f s → Goes f (turn.told_making f s app slot j time b)
-go_making f s app slot j time None h = h
-go_making f s app slot j time (Some b) h = go_made (slot_at s.ports.conns app slot) j f s app slot time b h
-
-go_told : (p : Plan) (f : Facts) (s : State) (time : ℕ) (a : AnswerShown) → IsHome f s → Goes f (turn.told_by p f s time a)
+go_told : (p : Plan) (f : Facts) (s : State) (time : ℕ) (a : AnswerShown) → IsHome f s → Goes f ((turn.turn_of f s time p).told a)
 go_told plan.Rest f s time a h = h
-go_told plan.Give f s time a h = go_giving f s (buffer_in a) h
-go_told (plan.Push q bytes) f s time a h = go_sending (is_pushed a) q bytes f s (packet_in (item_in a)) h
-go_told plan.Hear f s time a h = go_hearing f s time (packet_in (item_in a)) h
-go_told (plan.Serve k) f s time a h = go_serving f s time k (item_in a) h
-go_told (plan.Reply k) f s time a h = go_replying (is_pushed a) f s (packet_in (item_in a)) h
-go_told (plan.Tell app slot) f s time a h = go_noting (is_pushed a) f s app slot (packet_in (item_in a)) h
-go_told (plan.Deliver app slot) f s time a h = go_delivering (is_pushed a) f s app slot time (packet_in (item_in a)) h
-go_told (plan.Make app slot j) f s time a h = go_making f s app slot j time (buffer_in a) h
+go_told plan.Give f s time a h = go_brought f s _ (buffer_in a) h (λ b. h)
+go_told (plan.Push q bytes) f s time a h = go_pushed f (is_pushed a) _ _ h (go_back f (was_full s q) (packet_in (item_in a)) h)
+go_told plan.Hear f s time a h = go_brought f s _ (packet_in (item_in a)) h (λ p. go_heard f (came_in s p.mark p.buffer) time p h)
+go_told (plan.Serve k) f s time a h = go_brought f s _ (item_in a) h (λ i. go_served f s time k i h)
+go_told (plan.Reply k) f s time a h = go_pushed f (is_pushed a) _ _ (answered_shape s.ports ∙ h.0, h.1, h.2) (go_back f s (packet_in (item_in a)) h)
+go_told (plan.Tell app slot) f s time a h = go_pushed f (is_pushed a) _ _ h (go_back f s (packet_in (item_in a)) h)
+go_told (plan.Deliver app slot) f s time a h = go_pushed f (is_pushed a) _ _ (delivered_shape time app slot s.ports ∙ h.0, h.1, h.2) (go_brought f s _ (packet_in (item_in a)) h (λ p. h))
+go_told (plan.Make app slot j) f s time a h = go_brought f s _ (buffer_in a) h (λ b. go_made (slot_at s.ports.conns app slot) j f s app slot time b h)
 
-go_handed : (f : Facts) (s : State) (p : Plan) → IsHome f s → IsHome f (turn.handed f s p)
-go_handed f s plan.Rest h = h
-go_handed f s plan.Give h = h
-go_handed f s (plan.Push q bytes) h = (h.0, h.1, tt)
-go_handed f s plan.Hear h = h
-go_handed f s (plan.Serve k) h = h
-go_handed f s (plan.Reply k) h = h
-go_handed f s (plan.Tell app slot) h = h
-go_handed f s (plan.Deliver app slot) h = h
-go_handed f s (plan.Make app slot j) h = h
+go_until : (f : Facts) (s : State) (time : ℕ) (p : Plan) → IsHome f s → IsHome f (turn.turn_of f s time p).until
+go_until f s time (plan.Push q bytes) h = (h.0, h.1, tt)
+go_until f s time plan.Rest h = h
+go_until f s time plan.Give h = h
+go_until f s time plan.Hear h = h
+go_until f s time (plan.Serve k) h = h
+go_until f s time (plan.Reply k) h = h
+go_until f s time (plan.Tell app slot) h = h
+go_until f s time (plan.Deliver app slot) h = h
+go_until f s time (plan.Make app slot j) h = h
 
 timed_home : (f : Facts) (s : State) (time : ℕ) → IsHome f s → IsHome f (turn.timed s time)
 timed_home f s time h = (timed_shape time s.ports ∙ h.0, h.1, h.2)
 
 -- after each turn
 pub stays_home : (f : Facts) (s : State) (time : ℕ) (a : AnswerShown) → IsHome f s → IsHome f (turn.told_at f (turn.asked_at f s time) time a).state
-stays_home f s time a h = go_told _ f _ time a (go_handed f (turn.timed s time) (turn.plan_of f (turn.timed s time) time) (timed_home f s time h))
+stays_home f s time a h = go_told _ f _ time a (go_until f (turn.timed s time) time (turn.plan_of f (turn.timed s time) time) (timed_home f s time h))
 
 -- ---- what it asks
 
@@ -391,32 +362,32 @@ plan_in f s time h = by s.trash s.out (turn.work_found f s time (place_with_work
     by [] (Some o) work here = tt
     by [] None work here = here
 
-op_in : (f : Facts) (s : State) (p : Plan) → PlansIn f.apps p → IsHome f s → AsksIn (length f.ifaces) f.apps (turn.op_of s p)
-op_in f s plan.Rest here h = tt
-op_in f s plan.Give here h = by s.trash
+op_in : (f : Facts) (s : State) (time : ℕ) (p : Plan) → PlansIn f.apps p → IsHome f s → AsksIn (length f.ifaces) f.apps (turn.turn_of f s time p).asks
+op_in f s time plan.Rest here h = tt
+op_in f s time plan.Give here h = by s.trash
   where
     by : (bs : List Content) → AsksIn (length f.ifaces) f.apps (turn.giving bs)
     by [] = tt
     by (_ ∷ _) = tt
-op_in f s (plan.Push _ _) here h = by s.out h.2
+op_in f s time (plan.Push _ _) here h = by s.out h.2
   where
     by : (o : Option Leaving) → IsOutIn f o → AsksIn (length f.ifaces) f.apps (turn.pushing o)
     by None g = tt
     by (Some o) g = g
-op_in f s plan.Hear here h = tt
-op_in f s (plan.Serve k) here h = here
-op_in f s (plan.Reply _) here h = by s.ports.owed
+op_in f s time plan.Hear here h = tt
+op_in f s time (plan.Serve k) here h = here
+op_in f s time (plan.Reply _) here h = by s.ports.owed
   where
     by : (os : List Owed) → AsksIn (length f.ifaces) f.apps (turn.replying os)
     by [] = tt
     by (_ ∷ _) = tt
-op_in f s (plan.Tell app slot) here h = tt
-op_in f s (plan.Deliver app slot) here h = by (delivery (machine_at s.ports app slot))
+op_in f s time (plan.Tell app slot) here h = tt
+op_in f s time (plan.Deliver app slot) here h = by (delivery (machine_at s.ports app slot))
   where
     by : (b : Option PlainBuffer) → AsksIn (length f.ifaces) f.apps (turn.delivering b app slot)
     by None = tt
     by (Some b) = here
-op_in f s (plan.Make app slot _) here h = tt
+op_in f s time (plan.Make app slot _) here h = tt
 
 pub asks_in : (f : Facts) (s : State) (time : ℕ) → IsHome f s → AsksIn (length f.ifaces) f.apps (turn.asks_at f s time)
-asks_in f s time h = op_in f (turn.timed s time) (turn.plan_of f (turn.timed s time) time) (plan_in f (turn.timed s time) time (timed_home f s time h)) (timed_home f s time h)
+asks_in f s time h = op_in f (turn.timed s time) time (turn.plan_of f (turn.timed s time) time) (plan_in f (turn.timed s time) time (timed_home f s time h)) (timed_home f s time h)

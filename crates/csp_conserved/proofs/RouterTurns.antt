@@ -40,8 +40,8 @@ use Rattle.csp_stack.specs.Party.{asked_of, asks_of, told_of}
 use Rattle.csp_stack.specs.Router.{Facts, Leaving, Router, State, at_rest, holds, out_buffers}
 use Rattle.csp_stack.specs.Rules.{addressed, made_on, packet_in}
 use Rattle.csp_stack.specs.Sources.{circle, has_work, place_with_work, source_at}
-use Rattle.csp_stack.specs.Told.{with_ports}
-use Rattle.csp_stack.specs.Turn.{asked_by, delivering, giving, jobs_by, op_of, plan_by, plan_for, pushing, replying, timed, told_by, told_delivering, told_giving, told_keeping, told_pushing, told_replying, told_sending, work_at, work_found}
+use Rattle.csp_stack.specs.Told.{kept, ported, unchanged, with_ports}
+use Rattle.csp_stack.specs.Turn.{asked_by, brought, delivering, giving, jobs_by, kept_back, no_room, plan_by, plan_for, pushing, replying, timed, turn_of, work_at, work_found}
 use Rattle.csp_stack.specs.Readings.{buffer_in, is_pushed, item_in}
 use Rattle.csp_stack.specs.declared.plan.Plan.{Plan}
 use Rattle.csp_stack.specs.declared.plan.Plan.TheVariants as plan
@@ -59,30 +59,30 @@ moves_by : (s h t : State) (gone came : List ℕ) → ((k : ℕ) → times k (ho
 moves_by s h t gone came first told = (λ k. omega (arith, first k, told.0 k), told.1)
 
 -- what a full queue hands back joins the trash
-back_adds : (i : ItemShown) (h : State) → AreWhole h.ports → Adds h (told_pushing h (packet_in (Some i))).state (item_numbers i)
+back_adds : (i : ItemShown) (h : State) → AreWhole h.ports → Adds h (no_room h (packet_in (Some i))).state (item_numbers i)
 back_adds (item.Packet mark b) h w = adds_discarded h why.Full b w
 back_adds (item.Frame frame) h w = adds_none h w
 back_adds (item.Note n) h w = adds_none h w
 
 module _ (f : Facts) (few : f.apps ≤ MAX_APPS) where
   abbrev after_told : State → ℕ → Plan → AnswerShown → State
-  after_told s time p a = (told_by p f (at_rest (asked_by f s p)) time a).state
+  after_told s time p a = ((turn_of f (at_rest (asked_by f s time p)) time p).told a).state
 
   -- a turn of this plan keeps the numbers
   abbrev TurnsBy : State → ℕ → Plan → AnswerShown → Type 0
-  TurnsBy s time p a = Fits (op_of s p) a → ComesSo (op_of s p) a → Moves s (after_told s time p a) (op_numbers (op_of s p)) (answer_numbers a)
+  TurnsBy s time p a = Fits (turn_of f s time p).asks a → ComesSo (turn_of f s time p).asks a → Moves s (after_told s time p a) (op_numbers (turn_of f s time p).asks) (answer_numbers a)
 
   -- ---- no work, and the trash
   turn_rest : (s : State) (time : ℕ) (a : AnswerShown) → AreWhole s.ports → TurnsBy s time plan.Rest a
   turn_rest s time answer.Nothing w fits comes = (λ k. omega arith, w)
   turn_rest s time a w fits comes = absurd fits
 
-  giving_first : (trash : List Content) (s : State) → s.trash ≡ trash → (k : ℕ) → times k (holds (at_rest (asked_by f s plan.Give))) + times k (op_numbers (giving trash)) ≡ times k (holds s)
-  giving_first [] s e k = omega (arith, holds_apart k s.trash s.out s.ports, holds_apart k (drop 1 s.trash) s.out s.ports, ap (λ t. times k (numbers_of t)) e, ap (λ (t : List Content). times k (numbers_of (drop 1 t))) e)
-  giving_first (b ∷ bs) s e k =
+  giving_first : (trash : List Content) (s : State) (time : ℕ) → s.trash ≡ trash → (k : ℕ) → times k (holds (at_rest (asked_by f s time plan.Give))) + times k (op_numbers (giving trash)) ≡ times k (holds s)
+  giving_first [] s time e k = omega (arith, holds_apart k s.trash s.out s.ports, holds_apart k (drop 1 s.trash) s.out s.ports, ap (λ t. times k (numbers_of t)) e, ap (λ (t : List Content). times k (numbers_of (drop 1 t))) e)
+  giving_first (b ∷ bs) s time e k =
       omega (arith, holds_apart k s.trash s.out s.ports, holds_apart k (drop 1 s.trash) s.out s.ports, ap (λ t. times k (numbers_of t)) e, ap (λ (t : List Content). times k (numbers_of (drop 1 t))) e, times_both k (b ∷ []) bs)
 
-  giving_told : (trash : List Content) (h : State) (a : AnswerShown) → AreWhole h.ports → Fits (giving trash) a → Adds h (told_giving h (buffer_in a)).state (answer_numbers a)
+  giving_told : (trash : List Content) (h : State) (a : AnswerShown) → AreWhole h.ports → Fits (giving trash) a → Adds h (brought h (kept h) (buffer_in a)).state (answer_numbers a)
   giving_told [] h answer.Nothing w fits = adds_none h w
   giving_told [] h a w fits = absurd fits
   giving_told (b ∷ bs) h answer.Given w fits = adds_none h w
@@ -91,15 +91,15 @@ module _ (f : Facts) (few : f.apps ≤ MAX_APPS) where
 
   turn_give : (s : State) (time : ℕ) (a : AnswerShown) → AreWhole s.ports → TurnsBy s time plan.Give a
   turn_give s time a w fits comes =
-      let h : State = at_rest (asked_by f s plan.Give) in
-      moves_by s h (after_told s time plan.Give a) (op_numbers (giving s.trash)) (answer_numbers a) (giving_first s.trash s refl) (giving_told s.trash h a w fits)
+      let h : State = at_rest (asked_by f s time plan.Give) in
+      moves_by s h (after_told s time plan.Give a) (op_numbers (giving s.trash)) (answer_numbers a) (giving_first s.trash s time refl) (giving_told s.trash h a w fits)
 
   -- ---- a packet that is to go out
-  pushing_first : (o : Option Leaving) (q : QueueId) (bytes : ℕ) (s : State) → s.out ≡ o → (k : ℕ) → times k (holds (at_rest (asked_by f s (plan.Push q bytes)))) + times k (op_numbers (pushing o)) ≡ times k (holds s)
-  pushing_first None q bytes s e k = omega (arith, holds_apart k s.trash s.out s.ports, holds_apart k s.trash None s.ports, ap (λ x. times k (numbers_of (out_buffers x))) e)
-  pushing_first (Some o) q bytes s e k = omega (arith, holds_apart k s.trash s.out s.ports, holds_apart k s.trash None s.ports, ap (λ x. times k (numbers_of (out_buffers x))) e)
+  pushing_first : (o : Option Leaving) (q : QueueId) (bytes : ℕ) (s : State) (time : ℕ) → s.out ≡ o → (k : ℕ) → times k (holds (at_rest (asked_by f s time (plan.Push q bytes)))) + times k (op_numbers (pushing o)) ≡ times k (holds s)
+  pushing_first None q bytes s time e k = omega (arith, holds_apart k s.trash s.out s.ports, holds_apart k s.trash None s.ports, ap (λ x. times k (numbers_of (out_buffers x))) e)
+  pushing_first (Some o) q bytes s time e k = omega (arith, holds_apart k s.trash s.out s.ports, holds_apart k s.trash None s.ports, ap (λ x. times k (numbers_of (out_buffers x))) e)
 
-  pushing_told : (o : Option Leaving) (q : QueueId) (bytes : ℕ) (h : State) (a : AnswerShown) → AreWhole h.ports → Fits (pushing o) a → Adds h (told_sending (is_pushed a) q bytes h (packet_in (item_in a))).state (answer_numbers a)
+  pushing_told : (o : Option Leaving) (q : QueueId) (bytes : ℕ) (h : State) (a : AnswerShown) → AreWhole h.ports → Fits (pushing o) a → Adds h (cond (is_pushed a) (unchanged (went_out h q bytes)) (no_room (was_full h q) (packet_in (item_in a)))).state (answer_numbers a)
   pushing_told None q bytes h answer.Nothing w fits = adds_none (was_full h q) w
   pushing_told None q bytes h a w fits = absurd fits
   pushing_told (Some o) q bytes h answer.Pushed w fits = adds_none (went_out h q bytes) w
@@ -108,13 +108,13 @@ module _ (f : Facts) (few : f.apps ≤ MAX_APPS) where
 
   turn_push : (q : QueueId) (bytes : ℕ) (s : State) (time : ℕ) (a : AnswerShown) → AreWhole s.ports → TurnsBy s time (plan.Push q bytes) a
   turn_push q bytes s time a w fits comes =
-      let h : State = at_rest (asked_by f s (plan.Push q bytes)) in
-      moves_by s h (after_told s time (plan.Push q bytes) a) (op_numbers (pushing s.out)) (answer_numbers a) (pushing_first s.out q bytes s refl) (pushing_told s.out q bytes h a w fits)
+      let h : State = at_rest (asked_by f s time (plan.Push q bytes)) in
+      moves_by s h (after_told s time (plan.Push q bytes) a) (op_numbers (pushing s.out)) (answer_numbers a) (pushing_first s.out q bytes s time refl) (pushing_told s.out q bytes h a w fits)
 
   -- ---- a packet of the inbox, and an item of an application
   turn_hear : (s : State) (time : ℕ) (a : AnswerShown) → s.out ≡ None → AreWhole s.ports → TurnsBy s time plan.Hear a
   turn_hear s time (answer.Popped (item.Packet mark b)) empty w fits comes =
-      let h : State = came_in (at_rest (asked_by f s plan.Hear)) mark b in
+      let h : State = came_in (at_rest (asked_by f s time plan.Hear)) mark b in
       moves_by s h (after_told s time plan.Hear (answer.Popped (item.Packet mark b))) [] (b.number ∷ []) (λ k. omega arith) (heard_adds f h empty w time mark b)
   turn_hear s time (answer.Popped (item.Frame frame)) empty w fits comes = (λ k. omega arith, w)
   turn_hear s time (answer.Popped (item.Note n)) empty w fits comes = (λ k. omega arith, w)
@@ -123,7 +123,7 @@ module _ (f : Facts) (few : f.apps ≤ MAX_APPS) where
 
   turn_serve : (app : ℕ) (s : State) (time : ℕ) (a : AnswerShown) → app < f.apps → stalled_at s.ports app ≡ None → s.out ≡ None → AreWhole s.ports → TurnsBy s time (plan.Serve app) a
   turn_serve app s time (answer.Popped i) low free empty w fits comes =
-      let h : State = at_rest (asked_by f s (plan.Serve app)) in
+      let h : State = at_rest (asked_by f s time (plan.Serve app)) in
       moves_by s h (after_told s time (plan.Serve app) (answer.Popped i)) [] (item_numbers i) (λ k. omega arith) (served_adds i f h app time (omega (arith, low, few)) comes.0 free empty w)
   turn_serve app s time answer.Empty low free empty w fits comes = (λ k. omega arith, w)
   turn_serve app s time a low free empty w fits comes = absurd fits
@@ -133,7 +133,7 @@ module _ (f : Facts) (few : f.apps ≤ MAX_APPS) where
   replying_none [] = refl
   replying_none (o ∷ os) = refl
 
-  replying_told : (owed : List Owed) (h : State) (a : AnswerShown) → AreWhole h.ports → Fits (replying owed) a → Adds h (told_replying (is_pushed a) h (packet_in (item_in a))).state (answer_numbers a)
+  replying_told : (owed : List Owed) (h : State) (a : AnswerShown) → AreWhole h.ports → Fits (replying owed) a → Adds h (cond (is_pushed a) (ported h (answered h.ports)) (no_room h (packet_in (item_in a)))).state (answer_numbers a)
   replying_told [] h answer.Nothing w fits = adds_none h w
   replying_told [] h a w fits = absurd fits
   replying_told (o ∷ os) h answer.Pushed w fits = adds_ported 1 h (answered h.ports) [] (flows_answered h.ports w)
@@ -142,7 +142,7 @@ module _ (f : Facts) (few : f.apps ≤ MAX_APPS) where
 
   turn_reply : (app : ℕ) (s : State) (time : ℕ) (a : AnswerShown) → AreWhole s.ports → TurnsBy s time (plan.Reply app) a
   turn_reply app s time a w fits comes =
-      let h : State = at_rest (asked_by f s (plan.Reply app)) in
+      let h : State = at_rest (asked_by f s time (plan.Reply app)) in
       moves_by s h (after_told s time (plan.Reply app) a) (op_numbers (replying s.ports.owed)) (answer_numbers a) (λ k. omega (arith, ap (times k) (replying_none s.ports.owed))) (replying_told s.ports.owed h a w fits)
 
   -- ---- a Down note
@@ -150,14 +150,14 @@ module _ (f : Facts) (few : f.apps ≤ MAX_APPS) where
   turn_tell app slot s time answer.Pushed w fits comes =
       (λ k. omega arith, still_whole s.ports (told_down app slot (turned app slot s.ports)) refl refl refl w)
   turn_tell app slot s time (answer.Full i) w fits comes =
-      let h : State = at_rest (asked_by f s (plan.Tell app slot)) in
+      let h : State = at_rest (asked_by f s time (plan.Tell app slot)) in
       moves_by s h (after_told s time (plan.Tell app slot) (answer.Full i)) [] (item_numbers i) (λ k. omega arith) (back_adds i h (turned_whole s.ports app slot w))
   turn_tell app slot s time a w fits comes = absurd fits
 
   -- ---- a packet that is delivered
-  taken_first : (app slot : ℕ) (b : PlainBuffer) (s : State) → place_of app slot < 16 → delivery (machine_at s.ports app slot) ≡ Some b → AreWhole s.ports
-      → (k : ℕ) → times k (holds (at_rest (asked_by f s (plan.Deliver app slot)))) + times k (b.picture.number ∷ []) ≡ times k (holds s)
-  taken_first app slot b s there e w k =
+  taken_first : (app slot : ℕ) (b : PlainBuffer) (s : State) (time : ℕ) → place_of app slot < 16 → delivery (machine_at s.ports app slot) ≡ Some b → AreWhole s.ports
+      → (k : ℕ) → times k (holds (at_rest (asked_by f s time (plan.Deliver app slot)))) + times k (b.picture.number ∷ []) ≡ times k (holds s)
+  taken_first app slot b s time there e w k =
       let q : PlainPorts = turned app slot s.ports in
       let flows = flows_taken q app slot b there (turned_whole s.ports app slot w) e in
       omega (arith, holds_apart k s.trash s.out s.ports, holds_apart k s.trash s.out (without_packet app slot q), flows.counts (Some k))
@@ -172,13 +172,13 @@ module _ (f : Facts) (few : f.apps ≤ MAX_APPS) where
 
   -- the packet that came back is the one that was to be delivered
   keeping_adds : (app slot : ℕ) (i : ItemShown) (b : Content) (h : State) → i ≡ item.Packet slot b → place_of app slot < 16 → (machine_at h.ports app slot).state ≡ state.Open → is_kept (machine_at h.ports app slot).recv ((machine_at h.ports app slot).recv.cur + 1) ≡ false → AreWhole h.ports
-      → Adds h (told_keeping h app slot (packet_in (Some i))).state (item_numbers i)
+      → Adds h (kept_back h app slot (packet_in (Some i))).state (item_numbers i)
   keeping_adds app slot (item.Packet mark c) b h e there opened none w = again_adds app slot c h there opened none w
   keeping_adds app slot (item.Frame frame) b h e there opened none w = absurd cc
   keeping_adds app slot (item.Note n) b h e there opened none w = absurd cc
 
   delivering_told : (app slot time : ℕ) (b : Content) (h : State) (a : AnswerShown) → app < 4 → place_of app slot < 16 → (machine_at h.ports app slot).state ≡ state.Open → is_kept (machine_at h.ports app slot).recv ((machine_at h.ports app slot).recv.cur + 1) ≡ false → AreWhole h.ports
-      → Fits (op.Push (queue.Down app) (item.Packet slot b)) a → Adds h (told_delivering (is_pushed a) h app slot time (packet_in (item_in a))).state (answer_numbers a)
+      → Fits (op.Push (queue.Down app) (item.Packet slot b)) a → Adds h (cond (is_pushed a) (ported h (delivered time app slot h.ports)) (kept_back h app slot (packet_in (item_in a)))).state (answer_numbers a)
   delivering_told app slot time b h answer.Pushed low there opened none w fits = adds_ported 1 h (delivered time app slot h.ports) [] (flows_delivered h.ports time app slot low there w opened none)
   delivering_told app slot time b h (answer.Full i) low there opened none w fits = keeping_adds app slot i b h fits there opened none w
   delivering_told app slot time b h a low there opened none w fits = absurd fits
@@ -193,8 +193,8 @@ module _ (f : Facts) (few : f.apps ≤ MAX_APPS) where
       let opened : (machine_at q app slot).state ≡ state.Open = delivers_open (machine_at s.ports app slot) b e in
       let taken = now_taken q app slot there whole opened in
       let flows = flows_taken q app slot b there whole e in
-      let h : State = at_rest (asked_by f s (plan.Deliver app slot)) in
-      moves_by s h (after_told s time (plan.Deliver app slot) a) (b.picture.number ∷ []) (answer_numbers a) (taken_first app slot b s there e w)
+      let h : State = at_rest (asked_by f s time (plan.Deliver app slot)) in
+      moves_by s h (after_told s time (plan.Deliver app slot) a) (b.picture.number ∷ []) (answer_numbers a) (taken_first app slot b s time there e w)
       (delivering_told app slot time b.picture h a low there taken.0 taken.1 flows.whole fits)
 
   -- ---- a packet that is made
@@ -210,7 +210,7 @@ module _ (f : Facts) (few : f.apps ≤ MAX_APPS) where
 
   turn_make : (app slot : ℕ) (j : Job) (s : State) (time : ℕ) (a : AnswerShown) → app < 4 → slot < 4 → s.out ≡ None → AreWhole s.ports → TurnsBy s time (plan.Make app slot j) a
   turn_make app slot j s time (answer.Taken b) low least empty w fits comes =
-      let h : State = at_rest (asked_by f s (plan.Make app slot j)) in
+      let h : State = at_rest (asked_by f s time (plan.Make app slot j)) in
       moves_by s h (after_told s time (plan.Make app slot j) (answer.Taken b)) [] (b.number ∷ []) (λ k. omega arith)
       (made_adds (slot_at h.ports.conns app slot) app slot j time b h (omega (arith, low, least)) empty (turned_whole s.ports app slot w))
   turn_make app slot j s time answer.NoBuffer low least empty w fits comes = (λ k. omega arith, turned_whole s.ports app slot w)

@@ -1,5 +1,5 @@
 -- A router pushes to its applications, its interfaces, and without a mark to its inbox.
-use Rattle.std.proofs.Common.{ℕ, ◌==◌, Bool, true, false, Option, None, Some, List, [], ◌∷◌, Result, Ok, Err, refl}
+use Rattle.std.proofs.Common.{ℕ, ◌==◌, Bool, true, false, cond, Option, None, Some, List, [], ◌∷◌, Result, Ok, Err, refl}
 use Rattle.std.specs.Prelude.{if◌then◌else◌, ⊤}
 use Rattle.csp_buffer.specs.Content.{Content}
 use Rattle.csp_buffer.specs.PlainBuffer.{PlainBuffer}
@@ -37,7 +37,7 @@ use Rattle.csp_service.specs.declared.answers.Served.TheVariants.{NoService, Ref
 use Rattle.csp_service.specs.declared.stats.Count.TheVariants as count
 use Rattle.csp_stack.proofs.Public.{by_rest, heard_here}
 use Rattle.csp_stack.specs.Comes.{heard_at_port, heard_at_socket, heard_elsewhere}
-use Rattle.csp_stack.specs.Counting.{counting}
+use Rattle.csp_stack.specs.Counting.{came_in, counting, was_full}
 use Rattle.csp_stack.specs.Readings.{buffer_in, is_checked, is_here, is_pushed, is_secured, item_in}
 use Rattle.csp_stack.specs.Router.{Facts, Leaving, State}
 use Rattle.csp_stack.specs.Rules.{◌>>=◌, Arrival, Ruling, Decided, Left, packet_in}
@@ -184,72 +184,43 @@ go_made slot.Free j f s app number time b h = h
 go_made slot.Held j f s app number time b h = h
 go_made (slot.Open c) j f s app number time b h = go_sent _ _ _ _ h
 
--- so it is with each answer
-go_giving : (s : State) (b : Option Content) → IsOutward s.out → Goes (turn.told_giving s b)
-go_giving s None h = h
-go_giving s (Some b) h = h
+-- so it is with each answer: what it brings, and whether a push was done
+go_brought : {X : Type 0} (s : State) (comes : X → Told) (o : Option X) → IsOutward s.out → ((x : X) → Goes (comes x)) → Goes (turn.brought s comes o)
+go_brought s comes None h each = h
+go_brought s comes (Some x) h each = each x
 
-go_pushing : (s : State) (p : Option Arrival) → IsOutward s.out → Goes (turn.told_pushing s p)
-go_pushing s None h = h
-go_pushing s (Some p) h = h
+go_pushed : (pushed : Bool) (one other : Told) → Goes one → Goes other → Goes (cond pushed one other)
+go_pushed true one other h g = h
+go_pushed false one other h g = g
 
-go_sending : (pushed : Bool) (q : QueueId) (bytes : ℕ) (s : State) (p : Option Arrival) → IsOutward s.out → Goes (turn.told_sending pushed q bytes s p)
-go_sending true q bytes s p h = h
-go_sending false q bytes s p h = go_pushing _ p h
+go_back : (s : State) (p : Option Arrival) → IsOutward s.out → Goes (turn.no_room s p)
+go_back s p h = go_brought s _ p h (λ x. h)
 
-go_hearing : (f : Facts) (s : State) (time : ℕ) (p : Option Arrival) → IsOutward s.out → Goes (turn.told_hearing f s time p)
-go_hearing f s time None h = h
-go_hearing f s time (Some p) h = go_heard f _ time p h
-
-go_serving : (f : Facts) (s : State) (time k : ℕ) (i : Option ItemShown) → IsOutward s.out → Goes (turn.told_serving f s time k i)
-go_serving f s time k None h = h
-go_serving f s time k (Some i) h = go_served f s time k i h
-
-go_replying : (pushed : Bool) (s : State) (p : Option Arrival) → IsOutward s.out → Goes (turn.told_replying pushed s p)
-go_replying true s p h = h
-go_replying false s p h = go_pushing s p h
-
-go_noting : (pushed : Bool) (s : State) (app slot : ℕ) (p : Option Arrival) → IsOutward s.out → Goes (turn.told_noting pushed s app slot p)
-go_noting true s app slot p h = h
-go_noting false s app slot p h = go_pushing s p h
-
-go_keeping : (s : State) (app slot : ℕ) (p : Option Arrival) → IsOutward s.out → Goes (turn.told_keeping s app slot p)
-go_keeping s app slot None h = h
-go_keeping s app slot (Some p) h = h
-
-go_delivering : (pushed : Bool) (s : State) (app slot time : ℕ) (p : Option Arrival) → IsOutward s.out → Goes (turn.told_delivering pushed s app slot time p)
-go_delivering true s app slot time p h = h
-go_delivering false s app slot time p h = go_keeping s app slot p h
-
-go_making : (f : Facts) (s : State) (app slot : ℕ) (j : Job) (time : ℕ) (b : Option Content) → IsOutward s.out → Goes (turn.told_making f s app slot j time b)
-go_making f s app slot j time None h = h
-go_making f s app slot j time (Some b) h = go_made (slot_at s.ports.conns app slot) j f s app slot time b h
-
-go_told : (p : Plan) (f : Facts) (s : State) (time : ℕ) (a : AnswerShown) → IsOutward s.out → Goes (turn.told_by p f s time a)
+go_told : (p : Plan) (f : Facts) (s : State) (time : ℕ) (a : AnswerShown) → IsOutward s.out → Goes ((turn.turn_of f s time p).told a)
 go_told plan.Rest f s time a h = h
-go_told plan.Give f s time a h = go_giving s (buffer_in a) h
-go_told (plan.Push q bytes) f s time a h = go_sending (is_pushed a) q bytes s (packet_in (item_in a)) h
-go_told plan.Hear f s time a h = go_hearing f s time (packet_in (item_in a)) h
-go_told (plan.Serve k) f s time a h = go_serving f s time k (item_in a) h
-go_told (plan.Reply k) f s time a h = go_replying (is_pushed a) s (packet_in (item_in a)) h
-go_told (plan.Tell app slot) f s time a h = go_noting (is_pushed a) s app slot (packet_in (item_in a)) h
-go_told (plan.Deliver app slot) f s time a h = go_delivering (is_pushed a) s app slot time (packet_in (item_in a)) h
-go_told (plan.Make app slot j) f s time a h = go_making f s app slot j time (buffer_in a) h
+go_told plan.Give f s time a h = go_brought s _ (buffer_in a) h (λ b. h)
+go_told (plan.Push q bytes) f s time a h = go_pushed (is_pushed a) _ _ h (go_back (was_full s q) (packet_in (item_in a)) h)
+go_told plan.Hear f s time a h = go_brought s _ (packet_in (item_in a)) h (λ p. go_heard f (came_in s p.mark p.buffer) time p h)
+go_told (plan.Serve k) f s time a h = go_brought s _ (item_in a) h (λ i. go_served f s time k i h)
+go_told (plan.Reply k) f s time a h = go_pushed (is_pushed a) _ _ h (go_back s (packet_in (item_in a)) h)
+go_told (plan.Tell app slot) f s time a h = go_pushed (is_pushed a) _ _ h (go_back s (packet_in (item_in a)) h)
+go_told (plan.Deliver app slot) f s time a h = go_pushed (is_pushed a) _ _ h (go_brought s _ (packet_in (item_in a)) h (λ p. h))
+go_told (plan.Make app slot j) f s time a h = go_brought s _ (buffer_in a) h (λ b. go_made (slot_at s.ports.conns app slot) j f s app slot time b h)
 
-go_handed : (f : Facts) (s : State) (p : Plan) → IsOutward s.out → IsOutward (turn.handed f s p).out
-go_handed f s plan.Rest h = h
-go_handed f s plan.Give h = h
-go_handed f s (plan.Push q bytes) h = tt
-go_handed f s plan.Hear h = h
-go_handed f s (plan.Serve k) h = h
-go_handed f s (plan.Reply k) h = h
-go_handed f s (plan.Tell app slot) h = h
-go_handed f s (plan.Deliver app slot) h = h
-go_handed f s (plan.Make app slot j) h = h
+go_until : (f : Facts) (s : State) (time : ℕ) (p : Plan) → IsOutward s.out → IsOutward (turn.turn_of f s time p).until.out
+go_until f s time (plan.Push q bytes) h = tt
+go_until f s time plan.Rest h = h
+go_until f s time plan.Give h = h
+go_until f s time plan.Hear h = h
+go_until f s time (plan.Serve k) h = h
+go_until f s time (plan.Reply k) h = h
+go_until f s time (plan.Tell app slot) h = h
+go_until f s time (plan.Deliver app slot) h = h
+go_until f s time (plan.Make app slot j) h = h
 
 -- after each turn
 pub router_outward : (f : Facts) (s : State) (time : ℕ) (a : AnswerShown) → IsOutward s.out → IsOutward (turn.told_at f (turn.asked_at f s time) time a).state.out
-router_outward f s time a h = go_told _ f _ time a (go_handed f (turn.timed s time) (turn.plan_of f (turn.timed s time) time) h)
+router_outward f s time a h = go_told _ f _ time a (go_until f (turn.timed s time) time (turn.plan_of f (turn.timed s time) time) h)
 
 -- and what it asks is what a router may
 may_give : (node : ℕ) (bs : List Content) → MayAsk (who.Router node) (turn.giving bs)
@@ -275,16 +246,16 @@ may_deliver : (node : ℕ) (b : Option PlainBuffer) (app slot : ℕ) → MayAsk 
 may_deliver node None app slot = tt
 may_deliver node (Some b) app slot = tt
 
-may_ask : (node : ℕ) (s : State) (p : Plan) → IsOutward s.out → MayAsk (who.Router node) (turn.op_of s p)
-may_ask node s plan.Rest h = tt
-may_ask node s plan.Give h = may_give node s.trash
-may_ask node s (plan.Push q bytes) h = may_send node s.out h
-may_ask node s plan.Hear h = tt
-may_ask node s (plan.Serve k) h = tt
-may_ask node s (plan.Reply k) h = may_reply node s.ports.owed
-may_ask node s (plan.Tell app slot) h = tt
-may_ask node s (plan.Deliver app slot) h = may_deliver node (delivery (machine_at s.ports app slot)) app slot
-may_ask node s (plan.Make app slot j) h = tt
+may_ask : (node : ℕ) (f : Facts) (s : State) (time : ℕ) (p : Plan) → IsOutward s.out → MayAsk (who.Router node) (turn.turn_of f s time p).asks
+may_ask node f s time plan.Rest h = tt
+may_ask node f s time plan.Give h = may_give node s.trash
+may_ask node f s time (plan.Push q bytes) h = may_send node s.out h
+may_ask node f s time plan.Hear h = tt
+may_ask node f s time (plan.Serve k) h = tt
+may_ask node f s time (plan.Reply k) h = may_reply node s.ports.owed
+may_ask node f s time (plan.Tell app slot) h = tt
+may_ask node f s time (plan.Deliver app slot) h = may_deliver node (delivery (machine_at s.ports app slot)) app slot
+may_ask node f s time (plan.Make app slot j) h = tt
 
 pub router_asks : (node : ℕ) (f : Facts) (s : State) (time : ℕ) → IsOutward s.out → MayAsk (who.Router node) (turn.asks_at f s time)
-router_asks node f s time h = may_ask node (turn.timed s time) (turn.plan_of f (turn.timed s time) time) h
+router_asks node f s time h = may_ask node f (turn.timed s time) time (turn.plan_of f (turn.timed s time) time) h

@@ -1,5 +1,5 @@
 -- What routers and bridges push to interfaces, by their own runs.
-use Rattle.std.proofs.Common.{ℕ, ◌==◌, Bool, true, false, List, [], ◌∷◌, Option, None, Some, refl, sym, subst}
+use Rattle.std.proofs.Common.{ℕ, ◌==◌, Bool, true, false, cond, List, [], ◌∷◌, Option, None, Some, refl, sym, subst}
 use Rattle.std.specs.List.{AllByRecursion}
 use Rattle.std.specs.Prelude.{⊤, IfSome}
 use Rattle.csp_bridge.specs.Asking as bridge_asking
@@ -18,7 +18,6 @@ use Rattle.csp_log.specs.declared.entry.Entry.{Entry}
 use Rattle.csp_log.specs.declared.places.QueueId.TheVariants as queue
 use Rattle.csp_log.specs.declared.shown.AnswerShown.{AnswerShown}
 use Rattle.csp_log.specs.declared.shown.AnswerShown.TheVariants as answer
-use Rattle.csp_log.specs.declared.shown.ItemShown.{ItemShown}
 use Rattle.csp_log.specs.declared.shown.ItemShown.TheVariants as item
 use Rattle.csp_log.specs.declared.shown.OpShown.{OpShown}
 use Rattle.csp_log.specs.declared.shown.OpShown.TheVariants as op
@@ -26,12 +25,11 @@ use Rattle.csp_party.specs.Any.{a_bridge, a_router}
 use Rattle.csp_ports.specs.PlainPorts.{machine_at}
 use Rattle.csp_ports.specs.declared.owed.Owed.{Owed}
 use Rattle.csp_rdp.specs.Jobs.{delivery}
-use Rattle.csp_rdp.specs.declared.jobs.Job.{Job}
 use Rattle.csp_scene.proofs.Public.{AllByRecursion-append}
 use Rattle.csp_stack.specs.Counting.{came_in, was_full}
 use Rattle.csp_stack.specs.Party.{asked_of, told_of}
 use Rattle.csp_stack.specs.Readings.{buffer_in, is_pushed, item_in}
-use Rattle.csp_stack.specs.Router.{Facts, Leaving, Router, State, at_rest}
+use Rattle.csp_stack.specs.Router.{Facts, Leaving, Router, State}
 use Rattle.csp_stack.specs.Rules.{Arrival, packet_in}
 use Rattle.csp_stack.specs.Told.{Told}
 use Rattle.csp_stack.specs.Turn as turn
@@ -62,64 +60,51 @@ delivering_hops : (o : Option PlainBuffer) (app slot : ℕ) → PushesByHop (tur
 delivering_hops None app slot = tt
 delivering_hops (Some b) app slot = tt
 
-op_hops : (s : State) (p : Plan) → IsMarking s → PushesByHop (turn.op_of s p)
-op_hops s plan.Rest h = tt
-op_hops s plan.Give h = giving_hops s.trash
-op_hops s (plan.Push q bytes) h = pushing_hops s.out h.0
-op_hops s plan.Hear h = tt
-op_hops s (plan.Serve k) h = tt
-op_hops s (plan.Reply k) h = replying_hops s.ports.owed
-op_hops s (plan.Tell app slot) h = tt
-op_hops s (plan.Deliver app slot) h = delivering_hops (delivery (machine_at s.ports app slot)) app slot
-op_hops s (plan.Make app slot j) h = tt
+op_hops : (f : Facts) (s : State) (time : ℕ) (p : Plan) → IsMarking s → PushesByHop (turn.turn_of f s time p).asks
+op_hops f s time plan.Rest h = tt
+op_hops f s time plan.Give h = giving_hops s.trash
+op_hops f s time (plan.Push q bytes) h = pushing_hops s.out h.0
+op_hops f s time plan.Hear h = tt
+op_hops f s time (plan.Serve k) h = tt
+op_hops f s time (plan.Reply k) h = replying_hops s.ports.owed
+op_hops f s time (plan.Tell app slot) h = tt
+op_hops f s time (plan.Deliver app slot) h = delivering_hops (delivery (machine_at s.ports app slot)) app slot
+op_hops f s time (plan.Make app slot j) h = tt
 
-told_giving_marks : (s : State) (o : Option Content) → IsMarking s → IsTold (turn.told_giving s o)
-told_giving_marks s None h = h
-told_giving_marks s (Some b) h = h
-
-told_pushing_marks : (s : State) (o : Option Arrival) → IsMarking s → IsTold (turn.told_pushing s o)
-told_pushing_marks s None h = h
-told_pushing_marks s (Some p) h = h
-
-told_hearing_marks : (f : Facts) (s : State) (time : ℕ) (o : Option Arrival) → IsMarking s → IsTold (turn.told_hearing f s time o)
-told_hearing_marks f s time None h = h
-told_hearing_marks f s time (Some p) h = heard_marks f (came_in s p.mark p.buffer) time p h
-
-told_serving_marks : (f : Facts) (s : State) (time k : ℕ) (o : Option ItemShown) → IsMarking s → IsTold (turn.told_serving f s time k o)
-told_serving_marks f s time k None h = h
-told_serving_marks f s time k (Some i) h = served_marks f s time k i h
-
-told_keeping_marks : (s : State) (app slot : ℕ) (o : Option Arrival) → IsMarking s → IsTold (turn.told_keeping s app slot o)
-told_keeping_marks s app slot None h = h
-told_keeping_marks s app slot (Some p) h = h
-
-told_making_marks : (f : Facts) (s : State) (app slot : ℕ) (j : Job) (time : ℕ) (o : Option Content) → IsMarking s → IsTold (turn.told_making f s app slot j time o)
-told_making_marks f s app slot j time None h = h
-told_making_marks f s app slot j time (Some b) h = made_on_marks (slot_at s.ports.conns app slot) j f s app slot time b h
+-- what comes of what an answer brings, or of nothing
+brought_marks : {X : Type 0} (s : State) (comes : X → Told) (o : Option X) → IsMarking s → ((x : X) → IsTold (comes x)) → IsTold (turn.brought s comes o)
+brought_marks s comes None h each = h
+brought_marks s comes (Some x) h each = each x
 
 -- what comes of a push, by whether it was done
-pushed_or : (b : Bool) (t : Bool → Told) → IsTold (t true) → IsTold (t false) → IsTold (t b)
-pushed_or true t one other = one
-pushed_or false t one other = other
+pushed_or : (b : Bool) (one other : Told) → IsTold one → IsTold other → IsTold (cond b one other)
+pushed_or true one other h g = h
+pushed_or false one other h g = g
 
-told_marks : (p : Plan) (f : Facts) (s : State) (time : ℕ) (a : AnswerShown) → IsMarking s → IsTold (turn.told_by p f (at_rest (turn.asked_by f s p)) time a)
+back_marks : (s : State) (o : Option Arrival) → IsMarking s → IsTold (turn.no_room s o)
+back_marks s o h = brought_marks s _ o h (λ p. h)
+
+told_marks : (p : Plan) (f : Facts) (s : State) (time : ℕ) (a : AnswerShown) → IsMarking s → IsTold ((turn.turn_of f s time p).told a)
 told_marks plan.Rest f s time a h = h
-told_marks plan.Give f s time a h = told_giving_marks (at_rest (turn.asked_by f s plan.Give)) (buffer_in a) h
-told_marks (plan.Push q bytes) f s time a h =
-    let t = at_rest (turn.asked_by f s (plan.Push q bytes)) in
-    pushed_or (is_pushed a) (λ b. turn.told_sending b q bytes t (packet_in (item_in a))) (tt, h.1) (told_pushing_marks (was_full t q) (packet_in (item_in a)) (tt, h.1))
-told_marks plan.Hear f s time a h = told_hearing_marks f (at_rest (turn.asked_by f s plan.Hear)) time (packet_in (item_in a)) h
-told_marks (plan.Serve k) f s time a h = told_serving_marks f (at_rest (turn.asked_by f s (plan.Serve k))) time k (item_in a) h
-told_marks (plan.Reply k) f s time a h =
-    let t = at_rest (turn.asked_by f s (plan.Reply k)) in
-    pushed_or (is_pushed a) (λ b. turn.told_replying b t (packet_in (item_in a))) h (told_pushing_marks t (packet_in (item_in a)) h)
-told_marks (plan.Tell app slot) f s time a h =
-    let t = at_rest (turn.asked_by f s (plan.Tell app slot)) in
-    pushed_or (is_pushed a) (λ b. turn.told_noting b t app slot (packet_in (item_in a))) h (told_pushing_marks t (packet_in (item_in a)) h)
-told_marks (plan.Deliver app slot) f s time a h =
-    let t = at_rest (turn.asked_by f s (plan.Deliver app slot)) in
-    pushed_or (is_pushed a) (λ b. turn.told_delivering b t app slot time (packet_in (item_in a))) h (told_keeping_marks t app slot (packet_in (item_in a)) h)
-told_marks (plan.Make app slot j) f s time a h = told_making_marks f (at_rest (turn.asked_by f s (plan.Make app slot j))) app slot j time (buffer_in a) h
+told_marks plan.Give f s time a h = brought_marks s _ (buffer_in a) h (λ b. h)
+told_marks (plan.Push q bytes) f s time a h = pushed_or (is_pushed a) _ _ h (back_marks (was_full s q) (packet_in (item_in a)) h)
+told_marks plan.Hear f s time a h = brought_marks s _ (packet_in (item_in a)) h (λ p. heard_marks f (came_in s p.mark p.buffer) time p h)
+told_marks (plan.Serve k) f s time a h = brought_marks s _ (item_in a) h (λ i. served_marks f s time k i h)
+told_marks (plan.Reply k) f s time a h = pushed_or (is_pushed a) _ _ h (back_marks s (packet_in (item_in a)) h)
+told_marks (plan.Tell app slot) f s time a h = pushed_or (is_pushed a) _ _ h (back_marks s (packet_in (item_in a)) h)
+told_marks (plan.Deliver app slot) f s time a h = pushed_or (is_pushed a) _ _ h (brought_marks s _ (packet_in (item_in a)) h (λ p. h))
+told_marks (plan.Make app slot j) f s time a h = brought_marks s _ (buffer_in a) h (λ b. made_on_marks (slot_at s.ports.conns app slot) j f s app slot time b h)
+
+until_marks : (f : Facts) (s : State) (time : ℕ) (p : Plan) → IsMarking s → IsMarking (turn.turn_of f s time p).until
+until_marks f s time (plan.Push q bytes) h = (tt, h.1)
+until_marks f s time plan.Rest h = h
+until_marks f s time plan.Give h = h
+until_marks f s time plan.Hear h = h
+until_marks f s time (plan.Serve k) h = h
+until_marks f s time (plan.Reply k) h = h
+until_marks f s time (plan.Tell app slot) h = h
+until_marks f s time (plan.Deliver app slot) h = h
+until_marks f s time (plan.Make app slot j) h = h
 
 -- ---- runs
 
@@ -128,8 +113,8 @@ router_pushes [] time r run h = tt
 router_pushes (e ∷ es) time r run h =
     let s : State = turn.timed r.state e.time in
     let p : Plan = turn.plan_of r.facts s e.time in (
-      subst PushesByHop (sym run.1.op) (op_hops s p h),
-      router_pushes es e.time (told_of (asked_of r e.time) e.time e.answer) run.2 (told_marks p r.facts s e.time e.answer h),
+      subst PushesByHop (sym run.1.op) (op_hops r.facts s e.time p h),
+      router_pushes es e.time (told_of (asked_of r e.time) e.time e.answer) run.2 (told_marks p r.facts _ e.time e.answer (until_marks r.facts s e.time p h)),
     )
 
 -- a bridge marks nothing

@@ -43,7 +43,7 @@ use Rattle.csp_record.specs.Transmissions.{fetched, is_beginning, shown_in}
 use Rattle.csp_scene.proofs.Public.{AllByRecursion-append}
 use Rattle.csp_stack.specs.Router.{Facts, Leaving, Router, State}
 use Rattle.csp_stack.specs.Sources.{place_with_work}
-use Rattle.csp_stack.specs.Turn.{delivering, giving, jobs_by, op_of, plan_by, plan_for, plan_of, pushing, replying, timed, work_at, work_found}
+use Rattle.csp_stack.specs.Turn.{delivering, giving, jobs_by, plan_by, plan_for, plan_of, pushing, replying, timed, turn_of, work_at, work_found}
 use Rattle.csp_stack.specs.declared.plan.Plan.{Plan}
 use Rattle.csp_stack.specs.declared.plan.Plan.TheVariants as plan
 use Rattle.csp_stack.specs.declared.sources.Source.TheVariants as source
@@ -99,39 +99,39 @@ own_plan apps (_ ∷ _) out work h = tt
 own_plan apps [] (Some o) work h = tt
 own_plan apps [] None work h = h
 
-own_op : (apps : ℕ) (s : State) (p : Plan) → PlansOwn apps p → ServesOwn apps (op_of s p)
-own_op apps s plan.Rest h = tt
-own_op apps s plan.Give h =
+own_op : (apps : ℕ) (f : Facts) (s : State) (time : ℕ) (p : Plan) → PlansOwn apps p → ServesOwn apps (turn_of f s time p).asks
+own_op apps f s time plan.Rest h = tt
+own_op apps f s time plan.Give h =
     by s.trash
   where
     by : (bs : List Content) → ServesOwn apps (giving bs)
     by [] = tt
     by (_ ∷ _) = tt
-own_op apps s (plan.Push _ _) h =
+own_op apps f s time (plan.Push _ _) h =
     by s.out
   where
     by : (o : Option Leaving) → ServesOwn apps (pushing o)
     by None = tt
     by (Some o) = tt
-own_op apps s plan.Hear h = tt
-own_op apps s (plan.Serve k) h = h
-own_op apps s (plan.Reply _) h =
+own_op apps f s time plan.Hear h = tt
+own_op apps f s time (plan.Serve k) h = h
+own_op apps f s time (plan.Reply _) h =
     by s.ports.owed
   where
     by : (os : List Owed) → ServesOwn apps (replying os)
     by [] = tt
     by (_ ∷ _) = tt
-own_op apps s (plan.Tell app slot) h = tt
-own_op apps s (plan.Deliver app slot) h =
+own_op apps f s time (plan.Tell app slot) h = tt
+own_op apps f s time (plan.Deliver app slot) h =
     by (delivery (machine_at s.ports app slot))
   where
     by : (b : Option PlainBuffer) → ServesOwn apps (delivering b app slot)
     by None = tt
     by (Some b) = tt
-own_op apps s (plan.Make app slot _) h = tt
+own_op apps f s time (plan.Make app slot _) h = tt
 
-own_asks : (f : Facts) (s : State) (time : ℕ) → ServesOwn f.apps (op_of s (plan_of f s time))
-own_asks f s time = own_op f.apps s (plan_of f s time) (own_plan f.apps s.trash s.out (work_found f s time (place_with_work f s time)) (own_found f s time (place_with_work f s time)))
+own_asks : (f : Facts) (s : State) (time : ℕ) → ServesOwn f.apps (turn_of f s time (plan_of f s time)).asks
+own_asks f s time = own_op f.apps f s time (plan_of f s time) (own_plan f.apps s.trash s.out (work_found f s time (place_with_work f s time)) (own_found f s time (place_with_work f s time)))
 
 pub serves_own : (es : List Entry) (time : ℕ) (s : Router) → IsRun router_steps time s es → AllByRecursion (λ e. ServesOwn s.facts.apps e.op) es
 serves_own [] time s run = tt

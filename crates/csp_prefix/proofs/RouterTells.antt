@@ -1,7 +1,7 @@
 -- What the events of a router's turn tell: those of its timers, of lost packets alone; those of an application's packet, besides, that it was sent on its slot.
 -- That a packet was handed to a reliable connection a turn tells only of the one that it popped, and that such a connection is open only of one that was
 -- to become so.
-use Rattle.std.proofs.Common.{◌≡◌, ◌⊎◌, inl, inr, ℕ, ◌*◌, ◌/◌, ◌%◌, ◌==◌, not, Bool, true, false, Option, None, Some, List, [], ◌∷◌, ◌++◌, refl, sym, ap, ◌∙◌, subst}
+use Rattle.std.proofs.Common.{◌≡◌, ◌⊎◌, inl, inr, ℕ, ◌*◌, ◌/◌, ◌%◌, ◌==◌, not, Bool, true, false, cond, Option, None, Some, List, [], ◌∷◌, ◌++◌, refl, sym, ap, ◌∙◌, subst}
 use Rattle.std.specs.Prelude.{if◌then◌else◌, Result, Ok, Err, ⊤}
 use Rattle.std.specs.List.{AllByRecursion, range_with_len}
 use Rattle.csp_buffer.specs.Content.{Content}
@@ -23,7 +23,6 @@ use Rattle.csp_log.specs.declared.event.Event.{Event}
 use Rattle.csp_log.specs.declared.event.Event.TheVariants as event
 use Rattle.csp_log.specs.declared.note.Note.{Note}
 use Rattle.csp_log.specs.declared.note.Note.TheVariants as note
-use Rattle.csp_log.specs.declared.places.QueueId.{QueueId}
 use Rattle.csp_log.specs.declared.places.QueueId.TheVariants as queue
 use Rattle.csp_log.specs.declared.places.TheConstants.{UNMARKED}
 use Rattle.csp_log.specs.declared.shown.AnswerShown.{AnswerShown}
@@ -37,7 +36,7 @@ use Rattle.csp_ports.specs.Came.{Came, come, then as and_then}
 use Rattle.csp_ports.specs.Packets.{back_by, handing, handing_event, submitting_in}
 use Rattle.csp_ports.specs.PlainPorts.{PlainPorts, PlainStalled, anywhere, is_closing, machine_at, stalled_at, terms_at}
 use Rattle.csp_ports.specs.Steps.{changed, closed_by, dropped, dropped_in, dropped_of, dropped_on, refused_by, settled, stepped, timed as ports_timed, timed_at, timed_in, went}
-use Rattle.csp_ports.specs.Tasks.{delivered}
+use Rattle.csp_ports.specs.Tasks.{delivered, kept_again}
 use Rattle.csp_ports.specs.declared.handing.Invitation.{Invitation}
 use Rattle.csp_ports.specs.declared.origin.Origin.{Origin}
 use Rattle.csp_ports.specs.declared.owed.Owed.{Owed}
@@ -68,13 +67,13 @@ use Rattle.csp_service.specs.declared.answers.Served.TheVariants.{NoService, Ref
 use Rattle.csp_service.specs.declared.stats.Count.TheVariants as count
 use Rattle.csp_stack.proofs.Public.{by_rest, heard_here}
 use Rattle.csp_stack.specs.Comes.{heard_at_port, heard_at_socket, heard_elsewhere}
-use Rattle.csp_stack.specs.Counting.{came_in, counting}
+use Rattle.csp_stack.specs.Counting.{came_in, counting, was_full}
 use Rattle.csp_stack.specs.Readings.{buffer_in, is_checked, is_here, is_pushed, is_secured, item_in}
 use Rattle.csp_stack.specs.Router.{Facts, Router, State, at_rest, origin_of}
 use Rattle.csp_stack.specs.Rules.{◌>>=◌, Arrival, Decided, Left, accepting, addressed, arrival, by_answer, by_connection, by_mark, by_row, by_service, by_slot, by_socket, connection_of, differs, forwarded, heard, invitation_of, inviting, is_lacking, is_mixed, made_on, on_connection, opening, owner_for, packet_in, requested, sent, sent_by, served, slot_of, to_connection, to_machine, to_slot, with_payload}
 use Rattle.csp_stack.specs.Serving.{facts_of, reply_in, with_facts}
-use Rattle.csp_stack.specs.Told.{Told, discarded, leaving}
-use Rattle.csp_stack.specs.Turn.{asked_at, asked_by, asks_at, handed, op_of, plan_of, timed, told_at, told_by, told_delivering, told_giving, told_hearing, told_keeping, told_making, told_noting, told_pushing, told_replying, told_sending, told_serving}
+use Rattle.csp_stack.specs.Told.{Told, discarded, kept, leaving, unchanged, with_ports}
+use Rattle.csp_stack.specs.Turn.{asked_at, asked_by, asks_at, brought, no_room, plan_of, timed, told_at, turn_of}
 use Rattle.csp_stack.specs.declared.plan.Plan.{Plan}
 use Rattle.csp_stack.specs.declared.plan.Plan.TheVariants as plan
 use Rattle.csp_prefix.specs.Routers.{router_steps}
@@ -479,44 +478,18 @@ module _ (f : Facts) (s : State) (time mark : ℕ) (b : Content) where
 
 -- ---- what an answer comes to, by the turn's plan
 
-giving_calm : (s : State) (o : Option Content) → AreCalm (told_giving s o).events
-giving_calm s None = tt
-giving_calm s (Some b) = tt
+brought_calm : {X : Type 0} (s : State) (comes : X → Told) (o : Option X) → ((x : X) → AreCalm (comes x).events) → AreCalm (brought s comes o).events
+brought_calm s comes None each = tt
+brought_calm s comes (Some x) each = each x
 
-pushing_calm : (s : State) (o : Option Arrival) → AreCalm (told_pushing s o).events
-pushing_calm s None = tt
-pushing_calm s (Some p) = (tt, tt)
+pushed_calm : (pushed : Bool) (one other : Told) → AreCalm one.events → AreCalm other.events → AreCalm (cond pushed one other).events
+pushed_calm true one other h g = h
+pushed_calm false one other h g = g
 
-sending_calm : (pushed : Bool) (q : QueueId) (bytes : ℕ) (s : State) (o : Option Arrival) → AreCalm (told_sending pushed q bytes s o).events
-sending_calm true q bytes s o = tt
-sending_calm false q bytes s None = tt
-sending_calm false q bytes s (Some p) = (tt, tt)
+back_calm : (s : State) (o : Option Arrival) → AreCalm (no_room s o).events
+back_calm s o = brought_calm s (λ p. discarded s why.Full p.buffer) o (λ p. (tt, tt))
 
-serving_calm : (f : Facts) (s : State) (time k : ℕ) (o : Option ItemShown) → AreCalm (told_serving f s time k o).events
-serving_calm f s time k None = tt
-serving_calm f s time k (Some i) = served_calm f s time k i
-
-replying_calm : (pushed : Bool) (s : State) (o : Option Arrival) → AreCalm (told_replying pushed s o).events
-replying_calm true s o = answered_calm s.ports.owed s.ports
-replying_calm false s o = pushing_calm s o
-
-noting_calm : (pushed : Bool) (s : State) (app slot : ℕ) (o : Option Arrival) → AreCalm (told_noting pushed s app slot o).events
-noting_calm true s app slot o = tt
-noting_calm false s app slot o = pushing_calm s o
-
-keeping_calm : (s : State) (app slot : ℕ) (o : Option Arrival) → AreCalm (told_keeping s app slot o).events
-keeping_calm s app slot None = tt
-keeping_calm s app slot (Some p) = tt
-
-delivering_calm : (pushed : Bool) (s : State) (app slot time : ℕ) (o : Option Arrival) → AreCalm (told_delivering pushed s app slot time o).events
-delivering_calm true s app slot time o = delivered_so IsCalm lost_calm time app slot s.ports
-delivering_calm false s app slot time o = keeping_calm s app slot o
-
-making_calm : (f : Facts) (s : State) (app slot : ℕ) (j : Job) (time : ℕ) (o : Option Content) → AreCalm (told_making f s app slot j time o).events
-making_calm f s app slot j time None = tt
-making_calm f s app slot j time (Some b) = made_calm (slot_at s.ports.conns app slot) j f s app slot time b
-
-hearing_tells : (f : Facts) (s : State) (time : ℕ) (a : AnswerShown) → Fits (op.Pop queue.Inbox) a → AllByRecursion (TellsAt f s.ports (op.Pop queue.Inbox) a) (told_hearing f s time (packet_in (item_in a))).events
+hearing_tells : (f : Facts) (s : State) (time : ℕ) (a : AnswerShown) → Fits (op.Pop queue.Inbox) a → AllByRecursion (TellsAt f s.ports (op.Pop queue.Inbox) a) (brought s (λ p. heard f (came_in s p.mark p.buffer) time p) (packet_in (item_in a))).events
 hearing_tells f s time (answer.Popped (item.Packet mark b)) fits = heard_shows f (came_in s mark b) time mark b
 hearing_tells f s time (answer.Popped (item.Note n)) fits = tt
 hearing_tells f s time (answer.Popped (item.Frame frame)) fits = tt
@@ -524,40 +497,52 @@ hearing_tells f s time answer.Empty fits = tt
 hearing_tells f s time a fits = absurd fits
 
 -- the events of a plan that hears nothing
-quietly : (q : Plan) (f : Facts) (s : State) (time : ℕ) (a : AnswerShown) → AreCalm (told_by q f (at_rest (asked_by f s q)) time a).events → AllByRecursion (TellsAt f s.ports (op_of s q) a) (told_by q f (at_rest (asked_by f s q)) time a).events
-quietly q f s time a all = AllByRecursion-map IsCalm (TellsAt f s.ports (op_of s q) a) (told_by q f (at_rest (asked_by f s q)) time a).events (calm_tells f s.ports (op_of s q) a) all
+quietly : (q : Plan) (f : Facts) (s : State) (time : ℕ) (a : AnswerShown) → AreCalm ((turn_of f (at_rest (asked_by f s time q)) time q).told a).events → AllByRecursion (TellsAt f s.ports (turn_of f s time q).asks a) ((turn_of f (at_rest (asked_by f s time q)) time q).told a).events
+quietly q f s time a all = AllByRecursion-map IsCalm (TellsAt f s.ports (turn_of f s time q).asks a) ((turn_of f (at_rest (asked_by f s time q)) time q).told a).events (calm_tells f s.ports (turn_of f s time q).asks a) all
 
-plan_tells : (q : Plan) (f : Facts) (s : State) (time : ℕ) (a : AnswerShown) → Fits (op_of s q) a → AllByRecursion (TellsAt f s.ports (op_of s q) a) (told_by q f (at_rest (asked_by f s q)) time a).events
-plan_tells plan.Hear f s time a fits = hearing_tells f (at_rest (asked_by f s plan.Hear)) time a fits
+plan_tells : (q : Plan) (f : Facts) (s : State) (time : ℕ) (a : AnswerShown) → Fits (turn_of f s time q).asks a → AllByRecursion (TellsAt f s.ports (turn_of f s time q).asks a) ((turn_of f (at_rest (asked_by f s time q)) time q).told a).events
+plan_tells plan.Hear f s time a fits = hearing_tells f (at_rest (asked_by f s time plan.Hear)) time a fits
 plan_tells plan.Rest f s time a fits = tt
-plan_tells plan.Give f s time a fits = quietly plan.Give f s time a (giving_calm (at_rest (asked_by f s plan.Give)) (buffer_in a))
-plan_tells (plan.Push q n) f s time a fits = quietly (plan.Push q n) f s time a (sending_calm (is_pushed a) q n (at_rest (asked_by f s (plan.Push q n))) (packet_in (item_in a)))
-plan_tells (plan.Serve k) f s time a fits = quietly (plan.Serve k) f s time a (serving_calm f (at_rest (asked_by f s (plan.Serve k))) time k (item_in a))
-plan_tells (plan.Reply k) f s time a fits = quietly (plan.Reply k) f s time a (replying_calm (is_pushed a) (at_rest (asked_by f s (plan.Reply k))) (packet_in (item_in a)))
-plan_tells (plan.Tell app slot) f s time a fits = quietly (plan.Tell app slot) f s time a (noting_calm (is_pushed a) (at_rest (asked_by f s (plan.Tell app slot))) app slot (packet_in (item_in a)))
+plan_tells plan.Give f s time a fits = let t : State = at_rest (asked_by f s time plan.Give) in quietly plan.Give f s time a (brought_calm t (kept t) (buffer_in a) (λ b. tt))
+plan_tells (plan.Push q n) f s time a fits =
+    let t : State = at_rest (asked_by f s time (plan.Push q n)) in
+    quietly (plan.Push q n) f s time a (pushed_calm (is_pushed a) _ _ tt (back_calm (was_full t q) (packet_in (item_in a))))
+plan_tells (plan.Serve k) f s time a fits =
+    let t : State = at_rest (asked_by f s time (plan.Serve k)) in
+    quietly (plan.Serve k) f s time a (brought_calm t (served f t time k) (item_in a) (λ i. served_calm f t time k i))
+plan_tells (plan.Reply k) f s time a fits =
+    let t : State = at_rest (asked_by f s time (plan.Reply k)) in
+    quietly (plan.Reply k) f s time a (pushed_calm (is_pushed a) _ _ (answered_calm t.ports.owed t.ports) (back_calm t (packet_in (item_in a))))
+plan_tells (plan.Tell app slot) f s time a fits =
+    let t : State = at_rest (asked_by f s time (plan.Tell app slot)) in
+    quietly (plan.Tell app slot) f s time a (pushed_calm (is_pushed a) _ _ tt (back_calm t (packet_in (item_in a))))
 plan_tells (plan.Deliver app slot) f s time a fits =
-    quietly (plan.Deliver app slot) f s time a (delivering_calm (is_pushed a) (at_rest (asked_by f s (plan.Deliver app slot))) app slot time (packet_in (item_in a)))
-plan_tells (plan.Make app slot j) f s time a fits = quietly (plan.Make app slot j) f s time a (making_calm f (at_rest (asked_by f s (plan.Make app slot j))) app slot j time (buffer_in a))
+    let t : State = at_rest (asked_by f s time (plan.Deliver app slot)) in
+    quietly (plan.Deliver app slot) f s time a (pushed_calm (is_pushed a) _ _ (delivered_so IsCalm lost_calm time app slot t.ports)
+    (brought_calm t (λ p. unchanged (with_ports t (kept_again app slot p.buffer t.ports))) (packet_in (item_in a)) (λ p. tt)))
+plan_tells (plan.Make app slot j) f s time a fits =
+    let t : State = at_rest (asked_by f s time (plan.Make app slot j)) in
+    quietly (plan.Make app slot j) f s time a (brought_calm t (made_on (slot_at t.ports.conns app slot) j f t app slot time) (buffer_in a) (λ b. made_calm (slot_at t.ports.conns app slot) j f t app slot time b))
 
 -- ---- a whole turn
 
-handed_early : (f : Facts) (s : State) (q : Plan) → (handed f s q).early ≡ s.early
-handed_early f s plan.Rest = refl
-handed_early f s plan.Give = refl
-handed_early f s (plan.Push q n) = refl
-handed_early f s plan.Hear = refl
-handed_early f s (plan.Serve k) = refl
-handed_early f s (plan.Reply k) = refl
-handed_early f s (plan.Tell app slot) = refl
-handed_early f s (plan.Deliver app slot) = refl
-handed_early f s (plan.Make app slot j) = refl
+until_early : (f : Facts) (s : State) (time : ℕ) (q : Plan) → (turn_of f s time q).until.early ≡ s.early
+until_early f s time plan.Rest = refl
+until_early f s time plan.Give = refl
+until_early f s time (plan.Push q n) = refl
+until_early f s time plan.Hear = refl
+until_early f s time (plan.Serve k) = refl
+until_early f s time (plan.Reply k) = refl
+until_early f s time (plan.Tell app slot) = refl
+until_early f s time (plan.Deliver app slot) = refl
+until_early f s time (plan.Make app slot j) = refl
 
 -- what the turn's events are: those of its timers, then those of its plan
 pub events_are : (f : Facts) (s : State) (time : ℕ) (a : AnswerShown) (q : Plan) → plan_of f (timed s time) time ≡ q
-    → (told_at f (asked_at f s time) time a).events ≡ (ports_timed time s.ports).events ++ (told_by q f (at_rest (asked_by f (timed s time) q)) time a).events
+    → (told_at f (asked_at f s time) time a).events ≡ (ports_timed time s.ports).events ++ ((turn_of f (at_rest (asked_by f (timed s time) time q)) time q).told a).events
 events_are f s time a q e =
     let t : State = timed s time in
-    ap (λ p. (handed f t p).early ++ (told_by p f (at_rest (asked_by f t p)) time a).events) e ∙ ap (λ es. es ++ (told_by q f (at_rest (asked_by f t q)) time a).events) (handed_early f t q)
+    ap (λ p. (turn_of f t time p).until.early ++ ((turn_of f (at_rest (asked_by f t time p)) time p).told a).events) e ∙ ap (λ es. es ++ ((turn_of f (at_rest (asked_by f t time q)) time q).told a).events) (until_early f t time q)
 
 -- what each may tell, by the operation, the answer, and the ports once the timers were tried
 pub entry_tells : (r : Router) (e : Entry) → IsStep router_steps r e → AllByRecursion (TellsAt r.facts (timed r.state e.time).ports e.op e.answer) e.events.items
@@ -566,6 +551,6 @@ entry_tells r e step =
     let t : State = timed r.state e.time in
     let q : Plan = plan_of f t e.time in
     let Here : OpShown → Event → Type 0 = λ o. TellsAt f t.ports o e.answer in
-    let first = timed_tells (Here (op_of t q)) (λ reason. tt) e.time r.state.ports in
-    let all = AllByRecursion-append (Here (op_of t q)) (ports_timed e.time r.state.ports).events (told_by q f (at_rest (asked_by f t q)) e.time e.answer).events first (plan_tells q f t e.time e.answer step.fits) in
+    let first = timed_tells (Here (turn_of f t e.time q).asks) (λ reason. tt) e.time r.state.ports in
+    let all = AllByRecursion-append (Here (turn_of f t e.time q).asks) (ports_timed e.time r.state.ports).events ((turn_of f (at_rest (asked_by f t e.time q)) e.time q).told e.answer).events first (plan_tells q f t e.time e.answer step.fits) in
     subst (λ o. AllByRecursion (Here o) e.events.items) (sym step.op) (subst (AllByRecursion (Here (asks_at f r.state e.time))) (sym (step.events ∙ events_are f r.state e.time e.answer q refl)) all)

@@ -44,8 +44,8 @@ use Rattle.csp_stack.specs.Readings.{buffer_in}
 use Rattle.csp_stack.specs.Router.{Facts, Leaving, State, at_rest}
 use Rattle.csp_stack.specs.Rules.{Arrival, addressed, arrival, heard, made_on, packet_in, sent}
 use Rattle.csp_stack.specs.Sources.{circle, has_work, place_with_work, source_at}
-use Rattle.csp_stack.specs.Told.{Told}
-use Rattle.csp_stack.specs.Turn.{asked_at, asked_by, asks_at, delivering, giving, jobs_by, op_of, plan_by, plan_for, plan_of, pushing, replying, timed, told_at, told_by, told_giving, told_keeping, told_pushing, work_at, work_found}
+use Rattle.csp_stack.specs.Told.{Told, kept}
+use Rattle.csp_stack.specs.Turn.{asked_at, asked_by, asks_at, brought, delivering, giving, jobs_by, kept_back, no_room, plan_by, plan_for, plan_of, pushing, replying, timed, told_at, turn_of, work_at, work_found}
 use Rattle.csp_stack.specs.declared.plan.Plan.{Plan}
 use Rattle.csp_stack.specs.declared.plan.Plan.TheVariants as plan
 use Rattle.csp_stack.specs.declared.sources.Source.TheVariants as source
@@ -135,11 +135,11 @@ freed_entry app slot h =
 
 module _ (g : Aim) (f : Facts) (whole : Past) (k : IsAim g f whole) where
   abbrev after_told : State → ℕ → Plan → AnswerShown → Told
-  after_told s time p a = told_by p f (at_rest (asked_by f s p)) time a
+  after_told s time p a = (turn_of f (at_rest (asked_by f s time p)) time p).told a
 
   abbrev Turns : Past → State → ℕ → Plan → AnswerShown → Type 0
-  Turns h s time p a = Fits (op_of s p) a → ComesSo (op_of s p) a → HearsSo g (op_of s p) a → IsPart (past_after (op_of s p) a (after_told s time p a).events h) whole → AllByRecursion g.fresh (after_told s time p a).events
-      → Stands g f (past_after (op_of s p) a (after_told s time p a).events h) (after_told s time p a).state.ports (after_told s time p a).state.out × PushedSo g (op_of s p) a
+  Turns h s time p a = Fits (turn_of f s time p).asks a → ComesSo (turn_of f s time p).asks a → HearsSo g (turn_of f s time p).asks a → IsPart (past_after (turn_of f s time p).asks a (after_told s time p a).events h) whole → AllByRecursion g.fresh (after_told s time p a).events
+      → Stands g f (past_after (turn_of f s time p).asks a (after_told s time p a).events h) (after_told s time p a).state.ports (after_told s time p a).state.out × PushedSo g (turn_of f s time p).asks a
 
   unmoved : (o : OpShown) (a : AnswerShown) (h : Past) (p : PlainPorts) (leaves : Option Leaving) → IsQuiet o a [] → Stands g f h p leaves → Stands g f (past_after o a [] h) p leaves
   unmoved o a h p leaves q w = subst (λ x. Stands g f x p leaves) (no_openings h ∙ quiet_entry o a [] h q) w
@@ -157,12 +157,12 @@ module _ (g : Aim) (f : Facts) (whole : Past) (k : IsAim g f whole) where
   pushed_giving (b ∷ bs) a = tt
 
   told_giving_same : (o : Option Content) (s : State) (h : Past) (x : OpShown) (a : AnswerShown) → ((es : List Event) → IsQuiet x a es) → Stands g f h s.ports s.out
-      → Stands g f (past_after x a (told_giving s o).events h) (told_giving s o).state.ports (told_giving s o).state.out
+      → Stands g f (past_after x a (brought s (kept s) o).events h) (brought s (kept s) o).state.ports (brought s (kept s) o).state.out
   told_giving_same None s h x a q w = unmoved x a h s.ports s.out (q []) w
   told_giving_same (Some b) s h x a q w = unmoved x a h s.ports s.out (q []) w
 
   turn_give : (h : Past) (s : State) (time : ℕ) (a : AnswerShown) → Stands g f h s.ports s.out → Turns h s time plan.Give a
-  turn_give h s time a w = λ fits comes hears part fresh. (told_giving_same (buffer_in a) (at_rest (asked_by f s plan.Give)) h (giving s.trash) a (quiet_giving s.trash a) w, pushed_giving s.trash a)
+  turn_give h s time a w = λ fits comes hears part fresh. (told_giving_same (buffer_in a) (at_rest (asked_by f s time plan.Give)) h (giving s.trash) a (quiet_giving s.trash a) w, pushed_giving s.trash a)
 
   -- ---- a packet that is to go out
   no_out : (h : Past) (p : PlainPorts) (o : Option Leaving) → Stands g f h p o → Stands g f h p None
@@ -201,7 +201,7 @@ module _ (g : Aim) (f : Facts) (whole : Past) (k : IsAim g f whole) where
 
   -- what a full queue hands back changes nothing but the trash
   back_so : (q : QueueId) (i j : ItemShown) (o : Option Arrival) (h : Past) (s : State) → Stands g f h s.ports s.out
-      → Stands g f (past_after (op.Push q i) (answer.Full j) (told_pushing s o).events h) (told_pushing s o).state.ports (told_pushing s o).state.out
+      → Stands g f (past_after (op.Push q i) (answer.Full j) (no_room s o).events h) (no_room s o).state.ports (no_room s o).state.out
   back_so q i j None h s w = unmoved (op.Push q i) (answer.Full j) h s.ports s.out (quiet_full q i j []) w
   back_so q i j (Some p) h s w =
       subst (λ x. Stands g f x s.ports s.out) (quiet_entry (op.Push q i) (answer.Full j) (event.Discarded why.Full ∷ []) h (quiet_full q i j (event.Discarded why.Full ∷ [])))
@@ -212,7 +212,7 @@ module _ (g : Aim) (f : Facts) (whole : Past) (k : IsAim g f whole) where
       (after_told s time (plan.Push o.queue (length o.buffer.payload)) a).state.out × PushedSo g (op.Push o.queue (item.Packet o.mark o.buffer)) a
   sending_so o h s time answer.Pushed w fits = push_so o.queue o.mark o.buffer h s.ports w
   sending_so o h s time (answer.Full i) w fits =
-      (back_so o.queue (item.Packet o.mark o.buffer) i (packet_in (Some i)) h (was_full (at_rest (asked_by f s (plan.Push o.queue (length o.buffer.payload)))) o.queue) (no_out h s.ports _ w), pushed_full o.queue (item.Packet o.mark o.buffer) i)
+      (back_so o.queue (item.Packet o.mark o.buffer) i (packet_in (Some i)) h (was_full (at_rest (asked_by f s time (plan.Push o.queue (length o.buffer.payload)))) o.queue) (no_out h s.ports _ w), pushed_full o.queue (item.Packet o.mark o.buffer) i)
   sending_so o h s time a w fits = absurd fits
 
   turn_push : (o : Leaving) (h : Past) (s : State) (time : ℕ) (a : AnswerShown) → s.out ≡ Some o → Stands g f h s.ports s.out → Turns h s time (plan.Push o.queue (length o.buffer.payload)) a
@@ -225,9 +225,9 @@ module _ (g : Aim) (f : Facts) (whole : Past) (k : IsAim g f whole) where
   -- ---- a packet of the inbox
   turn_hear : (h : Past) (s : State) (time : ℕ) (a : AnswerShown) → Stands g f h s.ports s.out → Turns h s time plan.Hear a
   turn_hear h s time (answer.Popped (item.Packet mark b)) w = λ fits comes hears part fresh.
-      let t = heard f (came_in (at_rest (asked_by f s plan.Hear)) mark b) time (arrival mark b) in (
+      let t = heard f (came_in (at_rest (asked_by f s time plan.Hear)) mark b) time (arrival mark b) in (
         quietly (op.Pop queue.Inbox) (answer.Popped (item.Packet mark b)) h t (record { free = λ app s. refl; sent = λ app s. refl; down = λ app s. refl })
-            (stands_heard g f whole k h (came_in (at_rest (asked_by f s plan.Hear)) mark b) time mark b hears w) fresh,
+            (stands_heard g f whole k h (came_in (at_rest (asked_by f s time plan.Hear)) mark b) time mark b hears w) fresh,
         tt,
       )
   turn_hear h s time (answer.Popped (item.Frame frame)) w = λ fits comes hears part fresh.
@@ -240,7 +240,7 @@ module _ (g : Aim) (f : Facts) (whole : Past) (k : IsAim g f whole) where
   -- ---- an item of an application
   turn_serve : (app : ℕ) (h : Past) (s : State) (time : ℕ) (a : AnswerShown) → app < f.apps → stalled_at s.ports app ≡ None → s.out ≡ None → Stands g f h s.ports s.out → Turns h s time (plan.Serve app) a
   turn_serve app h s time (answer.Popped i) few free empty w = λ fits comes hears part fresh.
-      (stands_served g f whole k i h (at_rest (asked_by f s (plan.Serve app))) app time (subst (λ n. app < n) (sym w.apps) few) comes.0 comes.1 hears free empty w fresh, tt)
+      (stands_served g f whole k i h (at_rest (asked_by f s time (plan.Serve app))) app time (subst (λ n. app < n) (sym w.apps) few) comes.0 comes.1 hears free empty w fresh, tt)
   turn_serve app h s time answer.Empty few free empty w = λ fits comes hears part fresh.
       (unmoved (op.Pop (queue.Up app)) answer.Empty h s.ports s.out (record { free = λ a s. refl; sent = λ a s. refl; down = λ a s. refl }) w, tt)
   turn_serve app h s time a few free empty w = λ fits comes hears part fresh. absurd fits
@@ -283,7 +283,7 @@ module _ (g : Aim) (f : Facts) (whole : Past) (k : IsAim g f whole) where
       subst (λ es. Stands g f (past_after (op.Push (queue.Down o.app) (item.Note o.note)) answer.Pushed es h) c.ports s.out) (sym done.quiet)
       (subst (λ x. Stands g f (past_after (op.Push (queue.Down o.app) (item.Note o.note)) answer.Pushed [] h) c.ports x) (sym empty)
       (answered_so o.note o.app c h s.ports v owed.app owed.reply done))
-  replying_so o rest h s time (answer.Full i) e empty w fits = back_so (queue.Down o.app) (item.Note o.note) i (packet_in (Some i)) h (at_rest (asked_by f s (plan.Reply o.app))) w
+  replying_so o rest h s time (answer.Full i) e empty w fits = back_so (queue.Down o.app) (item.Note o.note) i (packet_in (Some i)) h (at_rest (asked_by f s time (plan.Reply o.app))) w
   replying_so o rest h s time a e empty w fits = absurd fits
 
   pushed_replying : (owed : List Owed) (a : AnswerShown) → PushedSo g (replying owed) a
@@ -311,7 +311,7 @@ module _ (g : Aim) (f : Facts) (whole : Past) (k : IsAim g f whole) where
         tt,
       )
   turn_tell app slot h s time (answer.Full i) w = λ fits comes hears part fresh.
-      (back_so (queue.Down app) (item.Note (note.Down slot)) i (packet_in (Some i)) h (at_rest (asked_by f s (plan.Tell app slot))) (turned_stands app slot h s.ports s.out w), tt)
+      (back_so (queue.Down app) (item.Note (note.Down slot)) i (packet_in (Some i)) h (at_rest (asked_by f s time (plan.Tell app slot))) (turned_stands app slot h s.ports s.out w), tt)
   turn_tell app slot h s time a w = λ fits comes hears part fresh. absurd fits
 
   -- ---- a packet that is delivered
@@ -329,8 +329,8 @@ module _ (g : Aim) (f : Facts) (whole : Past) (k : IsAim g f whole) where
   delivering_so app slot b h s time (answer.Full i) few low e empty w fits =
       let v = turned_stands app slot h s.ports s.out w in
       let q : PlainPorts = turned app slot s.ports in
-      let t : State = at_rest (asked_by f s (plan.Deliver app slot)) in
-      subst (λ j. Stands g f (past_after (op.Push (queue.Down app) (item.Packet slot b.picture)) (answer.Full j) (told_keeping t app slot (packet_in (Some j))).events h) (told_keeping t app slot (packet_in (Some j))).state.ports (told_keeping t app slot (packet_in (Some j))).state.out) (sym fits)
+      let t : State = at_rest (asked_by f s time (plan.Deliver app slot)) in
+      subst (λ j. Stands g f (past_after (op.Push (queue.Down app) (item.Packet slot b.picture)) (answer.Full j) (kept_back t app slot (packet_in (Some j))).events h) (kept_back t app slot (packet_in (Some j))).state.ports (kept_back t app slot (packet_in (Some j))).state.out) (sym fits)
       (unmoved (op.Push (queue.Down app) (item.Packet slot b.picture)) (answer.Full (item.Packet slot b.picture)) h (kept_again app slot b.picture (without_packet app slot q)) s.out (quiet_full (queue.Down app) (item.Packet slot b.picture) (item.Packet slot b.picture) [])
       (record { numbering = v.numbering; books = v.books; good = k.ports.keeps v.numbering h.ends v.books q app slot b few low e v.good; tells = v.tells; apps = v.apps; out = v.out }))
   delivering_so app slot b h s time a few low e empty w fits = absurd fits
@@ -357,7 +357,7 @@ module _ (g : Aim) (f : Facts) (whole : Past) (k : IsAim g f whole) where
   turn_make app slot j h s time (answer.Taken b) so few low e empty w = λ fits comes hears part fresh.
       let v = turned_stands app slot h s.ports s.out w in
       let q : PlainPorts = turned app slot s.ports in
-      let t : State = at_rest (asked_by f s (plan.Make app slot j)) in
+      let t : State = at_rest (asked_by f s time (plan.Make app slot j)) in
       let known = k.ports.owes v.numbering h.ends v.books q app slot time j few low e v.good in
       let x : Content = addressed f known.0.connection (terms_at q app slot) (made_in j time app slot b q) in
       let good : g.good x = k.makes h v.numbering v.books q app slot time j b known.0.connection (part_before op.Take (answer.Taken b) (after_told s time (plan.Make app slot j) (answer.Taken b)).events h whole part) v.tells (v.good.counted app slot few low) known.0.there known.1 so e in
@@ -419,7 +419,7 @@ module _ (g : Aim) (f : Facts) (whole : Past) (k : IsAim g f whole) where
       let c : Came = ports_timed time s.ports in
       let t : State = timed s time in
       let p : Plan = plan_of f t time in
-      split_entry (op_of t p) a c.events (after_told t time p a).events h (timed_unsent time s.ports) ∙ ap (λ es. past_after (op_of t p) a es h) (sym (events_are f s time a p refl))
+      split_entry (turn_of f t time p).asks a c.events (after_told t time p a).events h (timed_unsent time s.ports) ∙ ap (λ es. past_after (turn_of f t time p).asks a es h) (sym (events_are f s time a p refl))
 
   -- so what stands then is a part of the whole
   pub timed_part : (h : Past) (s : State) (time : ℕ) (a : AnswerShown) → Stands g f h s.ports s.out → IsPart (past_after (asks_at f s time) a (told_at f (asked_at f s time) time a).events h) whole

@@ -16,7 +16,7 @@ use Rattle.csp_stack.specs.Party.{rules_of}
 use Rattle.csp_stack.specs.Router.{Facts, Leaving, State, StateAt}
 use Rattle.csp_stack.specs.Sources.{place_past, place_with_work, source_at}
 use Rattle.csp_stack.specs.Told.{Told, after_all, unchanged}
-use Rattle.csp_stack.specs.Turn.{asked_at, asked_by, asks_at, op_of, plan_by, plan_of, told_at, told_by, work_at, work_found}
+use Rattle.csp_stack.specs.Turn.{asked_at, asked_by, asks_at, plan_by, plan_of, told_at, turn_of, work_at, work_found}
 use Rattle.csp_stack.specs.declared.plan.Plan.{Plan}
 use Rattle.csp_stack.specs.declared.plan.Plan.TheVariants as plan
 use Rattle.csp_stack.specs.declared.sources.Source.{Source}
@@ -43,12 +43,12 @@ plan_is : (f : Facts) (s : State) (time : ℕ) → IsIdle s time → plan_of f s
 plan_is f s time h = plan_clear s.trash s.out _ h.clear.trash h.clear.out
 
 -- what it asks, what it is then, and what it is told, where its turn is a look into an empty queue
-asks_is : (f : Facts) (s : State) (time : ℕ) (d : Plan) (q : QueueId) → IsIdle s time → plan_of f s time ≡ d → op_of s d ≡ op.Pop q → asks_at f s time ≡ op.Pop q
-asks_is f s time d q h e pops = ap (λ (x : State). op_of x (plan_of f x time)) h.still ∙ ap (op_of s) e ∙ pops
+asks_is : (f : Facts) (s : State) (time : ℕ) (d : Plan) (q : QueueId) → IsIdle s time → plan_of f s time ≡ d → (turn_of f s time d).asks ≡ op.Pop q → asks_at f s time ≡ op.Pop q
+asks_is f s time d q h e pops = ap (λ (x : State). (turn_of f x time (plan_of f x time)).asks) h.still ∙ ap (λ (p : Plan). (turn_of f s time p).asks) e ∙ pops
 
-asked_is : (f : Facts) (s : State) (time : ℕ) (d : Plan) (past : ℕ) → IsIdle s time → plan_of f s time ≡ d → asked_by f s d ≡ record s { cursor = past; doing = d } →
+asked_is : (f : Facts) (s : State) (time : ℕ) (d : Plan) (past : ℕ) → IsIdle s time → plan_of f s time ≡ d → asked_by f s time d ≡ record s { cursor = past; doing = d } →
     asked_at f s time ≡ record s { cursor = past; doing = d }
-asked_is f s time d past h e asked = ap (λ (x : State). asked_by f x (plan_of f x time)) h.still ∙ ap (asked_by f s) e ∙ asked
+asked_is f s time d past h e asked = ap (λ (x : State). asked_by f x time (plan_of f x time)) h.still ∙ ap (asked_by f s time) e ∙ asked
 
 ends : (s : State) (time past : ℕ) → IsIdle s time → after_all s.early (unchanged (record s { cursor = past; early = []; doing = plan.Rest })) ≡ unchanged (at_cursor s past)
 ends s time past h =
@@ -60,8 +60,8 @@ ends s time past h =
     = ap (λ (d : Plan). unchanged (record s { cursor = past; doing = d })) (sym h.rests) in
     reported ∙ early ∙ doing
 
-told_is : (f : Facts) (s : State) (time : ℕ) (d : Plan) (past : ℕ) → IsIdle s time → plan_of f s time ≡ d → asked_by f s d ≡ record s { cursor = past; doing = d } →
-    ((t : State) → told_by d f t time answer.Empty ≡ unchanged t) → told_at f (asked_at f s time) time answer.Empty ≡ unchanged (at_cursor s past)
+told_is : (f : Facts) (s : State) (time : ℕ) (d : Plan) (past : ℕ) → IsIdle s time → plan_of f s time ≡ d → asked_by f s time d ≡ record s { cursor = past; doing = d } →
+    ((t : State) → (turn_of f t time d).told answer.Empty ≡ unchanged t) → told_at f (asked_at f s time) time answer.Empty ≡ unchanged (at_cursor s past)
 told_is f s time d past h e asked misses =
     let was : told_at f (asked_at f s time) time answer.Empty ≡ told_at f (record s { cursor = past; doing = d }) time answer.Empty
     = ap (λ (x : State). told_at f x time answer.Empty) (asked_is f s time d past h e asked) in
@@ -70,8 +70,8 @@ told_is f s time d past h e asked misses =
     was ∙ nothing ∙ ends s time past h
 
 passes_by : (f : Facts) (s : StateAt) (time cursor : ℕ) (d : Plan) (q : QueueId) (past : ℕ) → IsIdle (at_cursor s.state cursor) time → plan_of f (at_cursor s.state cursor) time ≡ d →
-    op_of (at_cursor s.state cursor) d ≡ op.Pop q → asked_by f (at_cursor s.state cursor) d ≡ record s.state { cursor = past; doing = d } →
-    ((t : State) → told_by d f t time answer.Empty ≡ unchanged t) → IsSome (rules_of f q) → Passes f s time cursor q past
+    (turn_of f (at_cursor s.state cursor) time d).asks ≡ op.Pop q → asked_by f (at_cursor s.state cursor) time d ≡ record s.state { cursor = past; doing = d } →
+    ((t : State) → (turn_of f t time d).told answer.Empty ≡ unchanged t) → IsSome (rules_of f q) → Passes f s time cursor q past
 passes_by f s time cursor d q past h e pops asked misses used =
     let told = told_is f (at_cursor s.state cursor) time d past h e asked misses in
     record {

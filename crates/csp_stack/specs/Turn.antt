@@ -1,5 +1,5 @@
 -- the turns of a router: what one is, what is asked in it, and what the answer comes to
-use Rattle.std.specs.Prelude.{ℕ, ◌+◌, Bool, true, false, List, [], ◌∷◌, ◌++◌, drop, length, Option, None, Some}
+use Rattle.std.specs.Prelude.{ℕ, ◌+◌, cond, List, [], ◌∷◌, ◌++◌, drop, length, Option, None, Some}
 use Rattle.csp_buffer.specs.Content.{Content}
 use Rattle.csp_log.specs.declared.event.Discard.TheVariants as why
 use Rattle.csp_log.specs.declared.places.QueueId.{QueueId}
@@ -22,7 +22,6 @@ use Rattle.csp_ports.specs.declared.task.Task.TheVariants as task
 use Rattle.csp_buffer.specs.PlainBuffer.{PlainBuffer}
 use Rattle.csp_conn.specs.PlainConns.{slot_at}
 use Rattle.csp_rdp.specs.Jobs.{delivery}
-use Rattle.csp_rdp.specs.declared.jobs.Job.{Job}
 use Rattle.csp_stack.specs.Readings.{buffer_in, is_pushed, item_in}
 use Rattle.csp_stack.specs.Router.{Facts, Leaving, State, at_rest}
 use Rattle.csp_stack.specs.Rules.{Arrival, packet_in, heard, made_on, served}
@@ -32,6 +31,8 @@ use Rattle.csp_stack.specs.declared.plan.Plan.{Plan}
 use Rattle.csp_stack.specs.declared.plan.Plan.TheVariants as plan
 use Rattle.csp_stack.specs.declared.sources.Source.{Source}
 use Rattle.csp_stack.specs.declared.sources.Source.TheVariants as source
+
+-- ---- which turn it is
 
 -- the task of a connection
 abbrev pub plan_for : ℕ → ℕ → Task → Plan
@@ -75,6 +76,8 @@ timed_to s c = record s { ports = c.ports; trash = s.trash ++ c.loose; early = c
 abbrev pub timed : State → ℕ → State
 timed s time = timed_to s (ports_timed time s.ports)
 
+-- ---- the words of the table
+
 -- the giving of the first buffer, and the push of a packet
 abbrev pub giving : List Content → OpShown
 giving [] = op.Nothing
@@ -95,18 +98,6 @@ abbrev pub delivering : Option PlainBuffer → ℕ → ℕ → OpShown
 delivering None app slot = op.Nothing
 delivering (Some b) app slot = op.Push (queue.Down app) (item.Packet slot b.picture)
 
--- the operation of each plan
-abbrev pub op_of : State → Plan → OpShown
-op_of s plan.Rest = op.Nothing
-op_of s plan.Give = giving s.trash
-op_of s (plan.Push _ _) = pushing s.out
-op_of s plan.Hear = op.Pop queue.Inbox
-op_of s (plan.Serve k) = op.Pop (queue.Up k)
-op_of s (plan.Reply _) = replying s.ports.owed
-op_of s (plan.Tell app slot) = op.Push (queue.Down app) (item.Note (note.Down slot))
-op_of s (plan.Deliver app slot) = delivering (delivery (machine_at s.ports app slot)) app slot
-op_of s (plan.Make app slot _) = op.Take
-
 -- the cursor past the jobs, and a slot that comes to its task
 abbrev pub at_jobs : Facts → State → State
 at_jobs f s = record s { cursor = place_past f (f.apps + 1) }
@@ -115,93 +106,88 @@ at_jobs f s = record s { cursor = place_past f (f.apps + 1) }
 abbrev pub at_task : Facts → State → ℕ → ℕ → State
 at_task f s app slot = with_ports (at_jobs f s) (turned app slot s.ports)
 
--- what it hands over with the operation it has no more; the cursor is past the source that it looks at
-abbrev pub handed : Facts → State → Plan → State
-handed f s plan.Rest = s
-handed f s plan.Give = record s { trash = drop 1 s.trash }
-handed f s (plan.Push _ _) = record s { out = None }
-handed f s plan.Hear = record s { cursor = place_past f 0 }
-handed f s (plan.Serve k) = record s { cursor = place_past f (k + 1) }
-handed f s (plan.Reply _) = at_jobs f s
-handed f s (plan.Tell app slot) = at_task f s app slot
-handed f s (plan.Deliver app slot) = with_ports (at_jobs f s) (without_packet app slot (turned app slot s.ports))
-handed f s (plan.Make app slot _) = at_task f s app slot
+-- and once the packet that it delivers was taken out
+abbrev pub at_delivery : Facts → State → ℕ → ℕ → State
+at_delivery f s app slot = with_ports (at_jobs f s) (without_packet app slot (turned app slot s.ports))
 
--- the state from the operation of a plan to its answer
-abbrev pub asked_by : Facts → State → Plan → State
-asked_by f s p = record (handed f s p) { doing = p }
+-- what an answer brings comes to this; one that brings nothing leaves the state as it was
+abbrev pub brought : {X : Type 0} → State → (X → Told) → Option X → Told
+brought s comes None = unchanged s
+brought s comes (Some x) = comes x
 
--- what a turn asks, and the state until its answer
+-- a packet that comes back from a full queue is discarded (a note has no buffer: what was to be told stays owed)
+abbrev pub no_room : State → Option Arrival → Told
+no_room s back = brought s (λ p. discarded s why.Full p.buffer) back
+
+-- a packet that comes back from a full lane is kept by its connection again
+abbrev pub kept_back : State → ℕ → ℕ → Option Arrival → Told
+kept_back s app slot back = brought s (λ p. unchanged (with_ports s (kept_again app slot p.buffer s.ports))) back
+
+-- ---- the five forms of a turn
+
+-- what a turn asks, the state until its answer, and what each answer comes to
+pub record Turn : Type 0 where
+  pub asks : OpShown
+  pub until : State
+  pub told : AnswerShown → Told
+
+-- it asks nothing
+abbrev pub rests : State → Turn
+rests s = record { asks = op.Nothing; until = s; told = λ a. unchanged s }
+
+-- it gives a buffer to the pool, which may come back
+abbrev pub gives : List Content → (until : State) → (back : Option Content → Told) → Turn
+gives bs until back = record { asks = giving bs; until = until; told = λ a. back (buffer_in a) }
+
+-- it takes a buffer from the pool, which may have none
+abbrev pub takes : (until : State) → (taken : Option Content → Told) → Turn
+takes until taken = record { asks = op.Take; until = until; told = λ a. taken (buffer_in a) }
+
+-- it pushes: that is done, or what was pushed comes back, which may be a packet
+abbrev pub pushes : OpShown → (until : State) → (pushed : Told) → (back : Option Arrival → Told) → Turn
+pushes o until pushed back = record { asks = o; until = until; told = λ a. cond (is_pushed a) pushed (back (packet_in (item_in a))) }
+
+-- it pops a queue, which may be empty
+abbrev pub pops : QueueId → (until : State) → (popped : Option ItemShown → Told) → Turn
+pops q until popped = record { asks = op.Pop q; until = until; told = λ a. popped (item_in a) }
+
+-- ---- the table
+
+-- what each turn asks, the state until its answer, and what each answer comes to
+abbrev pub turn_of : Facts → State → ℕ → Plan → Turn
+-- there is no work
+turn_of f s time plan.Rest = rests s
+-- the first of the trash is given; where the pool has no room it is the first again
+turn_of f s time plan.Give = gives s.trash (record s { trash = drop 1 s.trash }) (brought s (kept s))
+-- what is to go out is pushed, and counted; where its queue has no room, that is counted, and it is discarded
+turn_of f s time (plan.Push queue bytes) = pushes (pushing s.out) (record s { out = None }) (unchanged (went_out s queue bytes)) (no_room (was_full s queue))
+-- a packet of the inbox is counted, and goes by the rules
+turn_of f s time plan.Hear = pops queue.Inbox (record s { cursor = place_past f 0 }) (λ i. brought s (λ p. heard f (came_in s p.mark p.buffer) time p) (packet_in i))
+-- an item of an application is sent, or answered
+turn_of f s time (plan.Serve k) = pops (queue.Up k) (record s { cursor = place_past f (k + 1) }) (brought s (served f s time k))
+-- an answer to an application is pushed; where its lane has no room it stays owed
+turn_of f s time (plan.Reply _) = pushes (replying s.ports.owed) (at_jobs f s) (ported s (answered s.ports)) (no_room s)
+-- a Down note is pushed; where its lane has no room it stays owed
+turn_of f s time (plan.Tell app slot) = pushes (op.Push (queue.Down app) (item.Note (note.Down slot))) (at_task f s app slot) (unchanged (with_ports s (told_down app slot s.ports))) (no_room s)
+-- a packet is delivered; where its lane has no room the connection keeps it again
+turn_of f s time (plan.Deliver app slot) = pushes (delivering (delivery (machine_at s.ports app slot)) app slot) (at_delivery f s app slot) (ported s (delivered time app slot s.ports)) (kept_back s app slot)
+-- a buffer is taken for a packet that a connection owes; without one the packet stays owed
+turn_of f s time (plan.Make app slot j) = takes (at_task f s app slot) (brought s (made_on (slot_at s.ports.conns app slot) j f s app slot time))
+
+-- ---- a whole turn
+
+-- the state from the question of a plan to its answer
+abbrev pub asked_by : Facts → State → ℕ → Plan → State
+asked_by f s time p = record (turn_of f s time p).until { doing = p }
+
+-- what a turn asks
 abbrev pub asks_at : Facts → State → ℕ → OpShown
-asks_at f s time = op_of (timed s time) (plan_of f (timed s time) time)
+asks_at f s time = (turn_of f (timed s time) time (plan_of f (timed s time) time)).asks
 
--- the state from the question until the answer
+-- the state from its question until the answer
 abbrev pub asked_at : Facts → State → ℕ → State
-asked_at f s time = asked_by f (timed s time) (plan_of f (timed s time) time)
-
--- the pool has no room: the buffer comes back
-abbrev pub told_giving : State → Option Content → Told
-told_giving s None = unchanged s
-told_giving s (Some b) = kept s b
-
--- the queue has no room: the packet comes back
-abbrev pub told_pushing : State → Option Arrival → Told
-told_pushing s None = unchanged s
-told_pushing s (Some p) = discarded s why.Full p.buffer
-
--- a packet was pushed to its queue, or the queue had no room: either is counted
-abbrev pub told_sending : (is_pushed : Bool) → QueueId → ℕ → State → Option Arrival → Told
-told_sending true queue bytes s p = unchanged (went_out s queue bytes)
-told_sending false queue bytes s p = told_pushing (was_full s queue) p
-
--- a packet of the inbox
-abbrev pub told_hearing : Facts → State → ℕ → Option Arrival → Told
-told_hearing f s time None = unchanged s
-told_hearing f s time (Some p) = heard f (came_in s p.mark p.buffer) time p
-
--- an item of an application
-abbrev pub told_serving : Facts → State → ℕ → ℕ → Option ItemShown → Told
-told_serving f s time k None = unchanged s
-told_serving f s time k (Some i) = served f s time k i
-
--- an answer to an application was pushed; where its lane has no room it stays owed (a note has no buffer: a packet never comes back
--- in its place, and would be given back)
-abbrev pub told_replying : (is_pushed : Bool) → State → Option Arrival → Told
-told_replying true s p = ported s (answered s.ports)
-told_replying false s p = told_pushing s p
-
--- a Down note was pushed; where its lane has no room it stays owed (nor does a packet come back here)
-abbrev pub told_noting : (is_pushed : Bool) → State → ℕ → ℕ → Option Arrival → Told
-told_noting true s app slot p = unchanged (with_ports s (told_down app slot s.ports))
-told_noting false s app slot p = told_pushing s p
-
--- a packet was delivered; where its lane has no room the connection keeps it again
-abbrev pub told_keeping : State → ℕ → ℕ → Option Arrival → Told
-told_keeping s app slot None = unchanged s
-told_keeping s app slot (Some p) = unchanged (with_ports s (kept_again app slot p.buffer s.ports))
-
--- what a delivery came to: it was pushed, or its packet is kept again
-abbrev pub told_delivering : (is_pushed : Bool) → State → ℕ → ℕ → ℕ → Option Arrival → Told
-told_delivering true s app slot time p = ported s (delivered time app slot s.ports)
-told_delivering false s app slot time p = told_keeping s app slot p
-
--- a buffer came for a packet that a connection owes; without one the packet stays owed
-abbrev pub told_making : Facts → State → ℕ → ℕ → Job → ℕ → Option Content → Told
-told_making f s app slot j time None = unchanged s
-told_making f s app slot j time (Some b) = made_on (slot_at s.ports.conns app slot) j f s app slot time b
-
--- what an answer comes to, by the turn's plan
-abbrev pub told_by : Plan → Facts → State → ℕ → AnswerShown → Told
-told_by plan.Rest f s time a = unchanged s
-told_by plan.Give f s time a = told_giving s (buffer_in a)
-told_by (plan.Push queue bytes) f s time a = told_sending (is_pushed a) queue bytes s (packet_in (item_in a))
-told_by plan.Hear f s time a = told_hearing f s time (packet_in (item_in a))
-told_by (plan.Serve k) f s time a = told_serving f s time k (item_in a)
-told_by (plan.Reply _) f s time a = told_replying (is_pushed a) s (packet_in (item_in a))
-told_by (plan.Tell app slot) f s time a = told_noting (is_pushed a) s app slot (packet_in (item_in a))
-told_by (plan.Deliver app slot) f s time a = told_delivering (is_pushed a) s app slot time (packet_in (item_in a))
-told_by (plan.Make app slot j) f s time a = told_making f s app slot j time (buffer_in a)
+asked_at f s time = asked_by f (timed s time) time (plan_of f (timed s time) time)
 
 -- a turn's end: nothing is awaited any more, and what the timers reported comes first
 abbrev pub told_at : Facts → State → ℕ → AnswerShown → Told
-told_at f s time a = after_all s.early (told_by s.doing f (at_rest s) time a)
+told_at f s time a = after_all s.early ((turn_of f (at_rest s) time s.doing).told a)

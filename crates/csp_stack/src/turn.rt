@@ -1,25 +1,28 @@
 //! The turns of a router: what one asks, and what its answer comes to.
 
-ghost use Rattle.std.specs.Prelude.{◌≡◌, ◌≢◌, true, ℕ, ◌-◌, ◌+◌, ◌^◌, None, Some, IfSome, MatchOption, [], length, ◌<◌, ◌≤◌};
+ghost use Rattle.std.specs.Prelude.{◌≡◌, ◌≢◌, cond, true, ℕ, ◌-◌, ◌+◌, ◌^◌, None, Some, IfSome, MatchOption, [], length, ◌<◌, ◌≤◌};
 ghost use Rattle.std.specs.Option.{option_map};
 ghost use Rattle.csp_conn.specs.PlainConns.{IsThere};
 ghost use Rattle.csp_deck.specs.Regions.{IsAnswerFrom, IsItemOf, IsOpOf};
 ghost use Rattle.csp_deck.specs.Step.{CanServe, IsAnswerOf, IsCleared, answer_numbers, item_numbers, times};
 ghost use Rattle.csp_log.specs.Pictures.{shown_answer, shown_item, shown_op};
+ghost use Rattle.csp_ports.specs.Asking.{answered};
 ghost use Rattle.csp_ports.specs.Counts.{AreFar, IsCountable};
 ghost use Rattle.csp_ports.specs.Held.{held};
 ghost use Rattle.csp_ports.specs.Keeps.{IsOwedBy};
 ghost use Rattle.csp_ports.specs.PlainPorts.{machine_at, stalled_at, waiting};
-ghost use Rattle.csp_ports.specs.Tasks.{next_task};
+ghost use Rattle.csp_ports.specs.Tasks.{next_task, told_down};
 ghost use Rattle.csp_rdp.specs.Jobs.{job_of};
 ghost use Rattle.csp_stack.specs.Comes.{ComesTo, IsFree, IsServing};
+ghost use Rattle.csp_stack.specs.Counting.{came_in, was_full, went_out};
 ghost use Rattle.csp_stack.specs.Keeps.{Asks, Keeps};
 ghost use Rattle.csp_stack.specs.Party.{Awaits, HasPlace, IsClear, IsDelivering, IsFrom, IsSendable, IsSound, IsTimed, IsWaiting, kind_of_plan, rules_of};
 ghost use Rattle.csp_stack.specs.Readings.{buffer_in, is_pushed, item_in};
 ghost use Rattle.csp_stack.specs.Router.{at_rest, holds};
-ghost use Rattle.csp_stack.specs.Rules.{packet_in};
+ghost use Rattle.csp_stack.specs.Rules.{heard, packet_in};
 ghost use Rattle.csp_stack.specs.Sources.{has_work, place_with_work, source_at};
-ghost use Rattle.csp_stack.specs.Turn.{asked_at, asked_by, asks_at, jobs_by, op_of, plan_for, plan_of, told_at, told_by, told_delivering, told_giving, told_hearing, told_keeping, told_making, told_noting, told_pushing, told_replying, told_sending, told_serving, work_found};
+ghost use Rattle.csp_stack.specs.Told.{kept, ported, unchanged, with_ports};
+ghost use Rattle.csp_stack.specs.Turn.{asked_at, asked_by, asks_at, brought, jobs_by, kept_back, no_room, plan_for, plan_of, told_at, turn_of, work_found};
 ghost use Rattle.csp_stack.specs.declared.state.TheConstants.{TRASH_ROOM};
 
 use crate::counting::{count_full, count_in, count_out};
@@ -54,8 +57,8 @@ pub fn begin(facts: &Facts, state: &mut State, now: u64) -> Op
 fn begin_plan(facts: &Facts, state: &mut State, now: u64) -> Op
     requires sound { IsTimed facts.now state.old.state }
     ensures served { CanServe (rules_of facts.now) (shown_op result) }
-    ensures op { shown_op result ≡ op_of state.old.state (plan_of facts.now state.old.state now) }
-    ensures state { state.new.state ≡ asked_by facts.now state.old.state (plan_of facts.now state.old.state now) }
+    ensures op { shown_op result ≡ (turn_of facts.now state.old.state now (plan_of facts.now state.old.state now)).asks }
+    ensures state { state.new.state ≡ asked_by facts.now state.old.state now (plan_of facts.now state.old.state now) }
     ensures of_it { IsOpOf state.old.region result }
     ensures region { state.new.region ≡ state.old.region }
     ensures asks { Asks facts.now state.old.state state.new.state now (shown_op result) }
@@ -94,7 +97,7 @@ pub fn look(facts: &Facts, state: &mut State, now: u64) -> Option<QueueId>
 fn look_for_work(facts: &Facts, state: &mut State, now: u64) -> Option<QueueId>
     requires sound { IsTimed facts.now state.old.state }
     requires clear { IsClear state.old.state }
-    ensures looks { MatchOption result (state.new ≡ state.old) (λ q. (op_of state.old.state (work_found facts.now state.old.state now (place_with_work facts.now state.old.state now)) ≡ OpShown.Pop q) × (state.new.state ≡ asked_by facts.now state.old.state (work_found facts.now state.old.state now (place_with_work facts.now state.old.state now)))) }
+    ensures looks { MatchOption result (state.new ≡ state.old) (λ q. ((turn_of facts.now state.old.state now (work_found facts.now state.old.state now (place_with_work facts.now state.old.state now))).asks ≡ OpShown.Pop q) × (state.new.state ≡ asked_by facts.now state.old.state now (work_found facts.now state.old.state now (place_with_work facts.now state.old.state now)))) }
     ensures asks { IfSome result (λ q. Asks facts.now state.old.state state.new.state now (OpShown.Pop q)) }
     ensures served { IfSome result (λ q. CanServe (rules_of facts.now) (OpShown.Pop q)) }
     ensures region { state.new.region ≡ state.old.region }
@@ -120,8 +123,8 @@ fn begin_work(facts: &Facts, state: &mut State, now: u64) -> Op
     requires sound { IsTimed facts.now state.old.state }
     requires clear { IsClear state.old.state }
     ensures served { CanServe (rules_of facts.now) (shown_op result) }
-    ensures op { shown_op result ≡ op_of state.old.state (work_found facts.now state.old.state now (place_with_work facts.now state.old.state now)) }
-    ensures state { state.new.state ≡ asked_by facts.now state.old.state (work_found facts.now state.old.state now (place_with_work facts.now state.old.state now)) }
+    ensures op { shown_op result ≡ (turn_of facts.now state.old.state now (work_found facts.now state.old.state now (place_with_work facts.now state.old.state now))).asks }
+    ensures state { state.new.state ≡ asked_by facts.now state.old.state now (work_found facts.now state.old.state now (place_with_work facts.now state.old.state now)) }
     ensures of_it { IsOpOf state.old.region result }
     ensures region { state.new.region ≡ state.old.region }
     ensures asks { Asks facts.now state.old.state state.new.state now (shown_op result) }
@@ -148,7 +151,7 @@ fn rest(facts: &Facts, state: &mut State, _now: u64) -> Op
     requires sound { IsTimed facts.now state.old.state }
     requires clear { IsClear state.old.state }
     ensures op { result ≡ Op.Nothing }
-    ensures state { state.new ≡ record state.old { state = asked_by facts.now state.old.state Plan.Rest } }
+    ensures state { state.new ≡ record state.old { state = asked_by facts.now state.old.state _now Plan.Rest } }
     ensures asks { Asks facts.now state.old.state state.new.state _now (shown_op result) }
 {
     state.doing = Plan::Rest;
@@ -162,8 +165,8 @@ fn begin_job(facts: &Facts, state: &mut State, now: u64) -> Op
     requires sound { IsTimed facts.now state.old.state }
     requires clear { IsClear state.old.state }
     ensures served { CanServe (rules_of facts.now) (shown_op result) }
-    ensures op { shown_op result ≡ op_of state.old.state (jobs_by state.old.state.ports.owed (next_task now state.old.state.ports)) }
-    ensures state { state.new.state ≡ asked_by facts.now state.old.state (jobs_by state.old.state.ports.owed (next_task now state.old.state.ports)) }
+    ensures op { shown_op result ≡ (turn_of facts.now state.old.state now (jobs_by state.old.state.ports.owed (next_task now state.old.state.ports))).asks }
+    ensures state { state.new.state ≡ asked_by facts.now state.old.state now (jobs_by state.old.state.ports.owed (next_task now state.old.state.ports)) }
     ensures of_it { IsOpOf state.old.region result }
     ensures region { state.new.region ≡ state.old.region }
     ensures asks { Asks facts.now state.old.state state.new.state now (shown_op result) }
@@ -186,8 +189,8 @@ fn begin_task(facts: &Facts, state: &mut State, app: u8, slot: u8, task: Task, n
     requires there { IsThere state.old.state.ports.conns app slot }
     requires owed { IsOwedBy task now app slot state.old.state.ports }
     ensures served { CanServe (rules_of facts.now) (shown_op result) }
-    ensures op { shown_op result ≡ op_of state.old.state (plan_for app slot task) }
-    ensures state { state.new.state ≡ asked_by facts.now state.old.state (plan_for app slot task) }
+    ensures op { shown_op result ≡ (turn_of facts.now state.old.state now (plan_for app slot task)).asks }
+    ensures state { state.new.state ≡ asked_by facts.now state.old.state now (plan_for app slot task) }
     ensures of_it { IsOpOf state.old.region result }
     ensures region { state.new.region ≡ state.old.region }
     ensures asks { Asks facts.now state.old.state state.new.state now (shown_op result) }
@@ -206,8 +209,8 @@ fn begin_note(facts: &Facts, state: &mut State, app: u8, slot: u8, _now: u64) ->
     requires clear { IsClear state.old.state }
     requires there { IsThere state.old.state.ports.conns app slot }
     ensures served { CanServe (rules_of facts.now) (shown_op result) }
-    ensures op { shown_op result ≡ op_of state.old.state (Plan.Tell app slot) }
-    ensures state { state.new.state ≡ asked_by facts.now state.old.state (Plan.Tell app slot) }
+    ensures op { shown_op result ≡ (turn_of facts.now state.old.state _now (Plan.Tell app slot)).asks }
+    ensures state { state.new.state ≡ asked_by facts.now state.old.state _now (Plan.Tell app slot) }
     ensures of_it { IsOpOf state.old.region result }
     ensures region { state.new.region ≡ state.old.region }
     ensures asks { Asks facts.now state.old.state state.new.state _now (shown_op result) }
@@ -226,8 +229,8 @@ fn begin_delivery(facts: &Facts, state: &mut State, app: u8, slot: u8, _now: u64
     requires there { IsThere state.old.state.ports.conns app slot }
     requires owed { IsOwedBy Task.Deliver _now app slot state.old.state.ports }
     ensures served { CanServe (rules_of facts.now) (shown_op result) }
-    ensures op { shown_op result ≡ op_of state.old.state (Plan.Deliver app slot) }
-    ensures state { state.new.state ≡ asked_by facts.now state.old.state (Plan.Deliver app slot) }
+    ensures op { shown_op result ≡ (turn_of facts.now state.old.state _now (Plan.Deliver app slot)).asks }
+    ensures state { state.new.state ≡ asked_by facts.now state.old.state _now (Plan.Deliver app slot) }
     ensures of_it { IsOpOf state.old.region result }
     ensures region { state.new.region ≡ state.old.region }
     ensures asks { Asks facts.now state.old.state state.new.state _now (shown_op result) }
@@ -247,7 +250,7 @@ fn begin_packet(facts: &Facts, state: &mut State, app: u8, slot: u8, job: Job, _
     requires there { IsThere state.old.state.ports.conns app slot }
     requires owed { IsOwedBy (Task.Make job) _now app slot state.old.state.ports }
     ensures op { result ≡ Op.Take }
-    ensures state { state.new.state ≡ asked_by facts.now state.old.state (Plan.Make app slot job) }
+    ensures state { state.new.state ≡ asked_by facts.now state.old.state _now (Plan.Make app slot job) }
     ensures region { state.new.region ≡ state.old.region }
     ensures asks { Asks facts.now state.old.state state.new.state _now (shown_op result) }
 {
@@ -337,7 +340,7 @@ fn miss_plan(_facts: &Facts, state: &mut State, _now: u64, doing: Plan, report: 
     requires fits { IsAnswerOf (rules_of _facts.now) (kind_of_plan doing) AnswerShown.Empty }
     requires waits { IsWaiting doing state.old.state _now }
     requires rests { at_rest state.old.state ≡ state.old.state }
-    ensures told { ComesTo state.old state.new report.old.items report.new.items (told_by doing _facts.now state.old.state _now AnswerShown.Empty) }
+    ensures told { ComesTo state.old state.new report.old.items report.new.items ((turn_of _facts.now state.old.state _now doing).told AnswerShown.Empty) }
     ensures sendable { IsSendable _facts.now state.new.state.out }
     ensures keeps { Keeps (length _facts.now.ifaces) state.old.state state.new.state [] }
     ensures room { length state.new.state.trash + length (held state.new.state.ports) ≤ TRASH_ROOM }
@@ -368,7 +371,7 @@ fn finish_plan(
     requires early { now < 2 ^ 62 }
     requires of_it { IsAnswerFrom state.old.region answer }
     requires rests { at_rest state.old.state ≡ state.old.state }
-    ensures told { ComesTo state.old state.new report.old.items report.new.items (told_by doing facts.now state.old.state now (shown_answer answer)) }
+    ensures told { ComesTo state.old state.new report.old.items report.new.items ((turn_of facts.now state.old.state now doing).told (shown_answer answer)) }
     ensures sendable { IsSendable facts.now state.new.state.out }
     ensures keeps { Keeps (length facts.now.ifaces) state.old.state state.new.state (answer_numbers (shown_answer answer)) }
     ensures room { length state.new.state.trash + length (held state.new.state.ports) ≤ TRASH_ROOM }
@@ -408,7 +411,7 @@ fn finish_give(state: &mut State, answer: Answer)
     requires place { HasPlace Plan.Give state.old.state }
     requires fits { item_in (shown_answer answer) ≡ None }
     requires of_it { IsAnswerFrom state.old.region answer }
-    ensures told { ComesTo state.old state.new [] [] (told_giving state.old.state (buffer_in (shown_answer answer))) }
+    ensures told { ComesTo state.old state.new [] [] (brought state.old.state (kept state.old.state) (buffer_in (shown_answer answer))) }
     ensures keeps { (ifaces : ℕ) → Keeps ifaces state.old.state state.new.state (answer_numbers (shown_answer answer)) }
 {
     if let Some(buffer) = state.buffer_of(answer) {
@@ -422,7 +425,7 @@ fn finish_push(state: &mut State, answer: Answer, report: &mut Events)
     requires free { IsFree state.old.state report.old.items }
     requires fits { buffer_in (shown_answer answer) ≡ None }
     requires of_it { IsAnswerFrom state.old.region answer }
-    ensures told { ComesTo state.old state.new report.old.items report.new.items (told_pushing state.old.state (packet_in (item_in (shown_answer answer)))) }
+    ensures told { ComesTo state.old state.new report.old.items report.new.items (no_room state.old.state (packet_in (item_in (shown_answer answer)))) }
     ensures out { state.new.state.out ≡ None }
     ensures keeps { (ifaces : ℕ) → Keeps ifaces state.old.state state.new.state (answer_numbers (shown_answer answer)) }
 {
@@ -437,7 +440,7 @@ fn finish_send(state: &mut State, queue: QueueId, bytes: u32, answer: Answer, re
     requires free { IsFree state.old.state report.old.items }
     requires fits { buffer_in (shown_answer answer) ≡ None }
     requires of_it { IsAnswerFrom state.old.region answer }
-    ensures told { ComesTo state.old state.new report.old.items report.new.items (told_sending (is_pushed (shown_answer answer)) queue bytes state.old.state (packet_in (item_in (shown_answer answer)))) }
+    ensures told { ComesTo state.old state.new report.old.items report.new.items (cond (is_pushed (shown_answer answer)) (unchanged (went_out state.old.state queue bytes)) (no_room (was_full state.old.state queue) (packet_in (item_in (shown_answer answer))))) }
     ensures out { state.new.state.out ≡ None }
     ensures keeps { (ifaces : ℕ) → Keeps ifaces state.old.state state.new.state (answer_numbers (shown_answer answer)) }
 {
@@ -454,7 +457,7 @@ fn finish_send(state: &mut State, queue: QueueId, bytes: u32, answer: Answer, re
 fn refuse(state: &mut State, item: Item, report: &mut Events)
     requires free { IsFree state.old.state report.old.items }
     requires of_it { IsItemOf state.old.region item }
-    ensures told { ComesTo state.old state.new report.old.items report.new.items (told_pushing state.old.state (packet_in (Some (shown_item item)))) }
+    ensures told { ComesTo state.old state.new report.old.items report.new.items (no_room state.old.state (packet_in (Some (shown_item item)))) }
     ensures out { state.new.state.out ≡ None }
     ensures keeps { (ifaces : ℕ) → Keeps ifaces state.old.state state.new.state (item_numbers (shown_item item)) }
 {
@@ -474,7 +477,7 @@ fn finish_hear(facts: &Facts, state: &mut State, now: u64, answer: Answer, repor
     requires of_it { IsAnswerFrom state.old.region answer }
     requires countable { IsCountable state.old.state.ports }
     requires early { now < 2 ^ 62 }
-    ensures told { ComesTo state.old state.new report.old.items report.new.items (told_hearing facts.now state.old.state now (packet_in (item_in (shown_answer answer)))) }
+    ensures told { ComesTo state.old state.new report.old.items report.new.items ((turn_of facts.now state.old.state now Plan.Hear).told (shown_answer answer)) }
     ensures sendable { IsSendable facts.now state.new.state.out }
     ensures keeps { Keeps (length facts.now.ifaces) state.old.state state.new.state (answer_numbers (shown_answer answer)) }
 {
@@ -491,7 +494,7 @@ fn hear_item(facts: &Facts, state: &mut State, now: u64, item: Item, report: &mu
     requires of_it { IsItemOf state.old.region item }
     requires countable { IsCountable state.old.state.ports }
     requires early { now < 2 ^ 62 }
-    ensures told { ComesTo state.old state.new report.old.items report.new.items (told_hearing facts.now state.old.state now (packet_in (Some (shown_item item)))) }
+    ensures told { ComesTo state.old state.new report.old.items report.new.items (brought state.old.state (λ p. heard facts.now (came_in state.old.state p.mark p.buffer) now p) (packet_in (Some (shown_item item)))) }
     ensures sendable { IsSendable facts.now state.new.state.out }
     ensures keeps { Keeps (length facts.now.ifaces) state.old.state state.new.state (item_numbers (shown_item item)) }
 {
@@ -523,7 +526,7 @@ fn finish_serve(
     requires alone { stalled_at state.old.state.ports app ≡ None }
     requires of_it { IsAnswerFrom state.old.region answer }
     requires countable { IsCountable state.old.state.ports }
-    ensures told { ComesTo state.old state.new report.old.items report.new.items (told_serving facts.now state.old.state now app (item_in (shown_answer answer))) }
+    ensures told { ComesTo state.old state.new report.old.items report.new.items ((turn_of facts.now state.old.state now (Plan.Serve app)).told (shown_answer answer)) }
     ensures sendable { IsSendable facts.now state.new.state.out }
     ensures keeps { Keeps (length facts.now.ifaces) state.old.state state.new.state (answer_numbers (shown_answer answer)) }
 {
@@ -539,7 +542,7 @@ fn finish_reply(facts: &Facts, state: &mut State, answer: Answer, report: &mut E
     requires fits { buffer_in (shown_answer answer) ≡ None }
     requires of_it { IsAnswerFrom state.old.region answer }
     requires countable { IsCountable state.old.state.ports }
-    ensures told { ComesTo state.old state.new report.old.items report.new.items (told_replying (is_pushed (shown_answer answer)) state.old.state (packet_in (item_in (shown_answer answer)))) }
+    ensures told { ComesTo state.old state.new report.old.items report.new.items (cond (is_pushed (shown_answer answer)) (ported state.old.state (answered state.old.state.ports)) (no_room state.old.state (packet_in (item_in (shown_answer answer))))) }
     ensures out { state.new.state.out ≡ None }
     ensures keeps { Keeps (length facts.now.ifaces) state.old.state state.new.state (answer_numbers (shown_answer answer)) }
 {
@@ -564,7 +567,7 @@ fn finish_note(
     requires there { IsThere state.old.state.ports.conns app slot }
     requires fits { buffer_in (shown_answer answer) ≡ None }
     requires of_it { IsAnswerFrom state.old.region answer }
-    ensures told { ComesTo state.old state.new report.old.items report.new.items (told_noting (is_pushed (shown_answer answer)) state.old.state app slot (packet_in (item_in (shown_answer answer)))) }
+    ensures told { ComesTo state.old state.new report.old.items report.new.items (cond (is_pushed (shown_answer answer)) (unchanged (with_ports state.old.state (told_down app slot state.old.state.ports))) (no_room state.old.state (packet_in (item_in (shown_answer answer))))) }
     ensures out { state.new.state.out ≡ None }
     ensures keeps { Keeps (length facts.now.ifaces) state.old.state state.new.state (answer_numbers (shown_answer answer)) }
 {
@@ -592,7 +595,7 @@ fn finish_delivery(
     requires fits { buffer_in (shown_answer answer) ≡ None }
     requires of_it { IsAnswerFrom state.old.region answer }
     requires countable { IsCountable state.old.state.ports }
-    ensures told { ComesTo state.old state.new report.old.items report.new.items (told_delivering (is_pushed (shown_answer answer)) state.old.state app slot now (packet_in (item_in (shown_answer answer)))) }
+    ensures told { ComesTo state.old state.new report.old.items report.new.items ((turn_of facts.now state.old.state now (Plan.Deliver app slot)).told (shown_answer answer)) }
     ensures out { state.new.state.out ≡ None }
     ensures keeps { Keeps (length facts.now.ifaces) state.old.state state.new.state (answer_numbers (shown_answer answer)) }
 {
@@ -611,7 +614,7 @@ fn keep_delivery(state: &mut State, app: u8, slot: u8, answer: Answer)
     requires taken { IsDelivering state.old.state app slot }
     requires fits { buffer_in (shown_answer answer) ≡ None }
     requires of_it { IsAnswerFrom state.old.region answer }
-    ensures told { ComesTo state.old state.new [] [] (told_keeping state.old.state app slot (packet_in (item_in (shown_answer answer)))) }
+    ensures told { ComesTo state.old state.new [] [] (kept_back state.old.state app slot (packet_in (item_in (shown_answer answer)))) }
     ensures out { state.new.state.out ≡ None }
     ensures keeps { (ifaces : ℕ) → Keeps ifaces state.old.state state.new.state (answer_numbers (shown_answer answer)) }
 {
@@ -643,7 +646,7 @@ fn finish_packet(
     requires fits { item_in (shown_answer answer) ≡ None }
     requires cleared { IfSome (buffer_in (shown_answer answer)) IsCleared }
     requires of_it { IsAnswerFrom state.old.region answer }
-    ensures told { ComesTo state.old state.new report.old.items report.new.items (told_making facts.now state.old.state app slot job now (buffer_in (shown_answer answer))) }
+    ensures told { ComesTo state.old state.new report.old.items report.new.items ((turn_of facts.now state.old.state now (Plan.Make app slot job)).told (shown_answer answer)) }
     ensures sendable { IsSendable facts.now state.new.state.out }
     ensures keeps { Keeps (length facts.now.ifaces) state.old.state state.new.state (answer_numbers (shown_answer answer)) }
 {
