@@ -96,7 +96,7 @@ limit() {
 
 {
   limit 'nodes and bridges; links, hubs among them; nodes of a hub' csp_scene.MAX_NODES csp_scene.MAX_LINKS csp_log.LINK_ENDS
-  limit 'applications of a node; steps and slots of each' csp_scene.MAX_APPS csp_scene.MAX_STEPS csp_log.SLOTS
+  limit 'applications of a node; steps and slots of each' csp_base.MAX_APPS csp_scene.MAX_STEPS csp_base.SLOTS
   limit 'buffers of a node, at most and at least' csp_base.MAX_BUFFERS csp_scene.MIN_BUFFERS
   limit 'bytes of a payload; sent on a connection; of a frame' csp_base.MAX_PAYLOAD csp_log.MAX_DATA csp_base.MAX_FRAME
   limit 'window of a reliable connection, in packets' csp_rdp_header.MAX_WINDOW

@@ -27,7 +27,7 @@ use crate::request::Request;
 use crate::steps::let_go;
 use crate::terms::Wish;
 use csp_base::Port;
-use csp_conn::OpenError;
+use csp_conn::{OpenError, place};
 use csp_deck::{Event, Events, Note, Pile, Why};
 use csp_rdp::{Rdp, State, conserves, keeps_region, keeps_rest, keeps_whole, sees_no_region};
 use csp_rdp_header::MAX_WINDOW;
