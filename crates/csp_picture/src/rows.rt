@@ -14,6 +14,7 @@ use crate::seen::{Seen, Sent, Start, Window, is_shown, opens};
 use crate::words::{push_fate, push_sent, push_word};
 use csp_base::Origin;
 use csp_happenings::{Fate, Happening, What};
+use csp_log::Piece;
 use csp_record::Who;
 use csp_scene::{MAX_LINKS, MAX_NODES, SceneLink};
 use csp_text::push_number;
