@@ -45,12 +45,15 @@ all_of P (xs ∷ xss) each = AllByRecursion-append P xs (flat_map (λ ys. ys) xs
 
 -- ---- by the places of lanes
 
-pub lane_there : (P : PlainLane → Type 0) (scene : PlainScene) (node k : ℕ) (l : PlainLane) → AllByRecursion P (lanes_of scene) → wire_at scene node k ≡ Some l → P l
+row_by_row : (P : PlainLane → Type 0) (scene : PlainScene) → AllByRecursion P (lanes_of scene) → AllByRecursion P (flat_map (λ ws. ws) (wires_of scene))
 unfolding lanes_of
+row_by_row P scene all = all
+
+pub lane_there : (P : PlainLane → Type 0) (scene : PlainScene) (node k : ℕ) (l : PlainLane) → AllByRecursion P (lanes_of scene) → wire_at scene node k ≡ Some l → P l
 lane_there P scene node k l all e = by (slice_get (wires_of scene) node) refl e where
   by : (o : Option (List PlainLane)) → slice_get (wires_of scene) node ≡ o → option_and_then (λ ws. slice_get ws k) o ≡ Some l → P l
   by None f g = absurd cc
-  by (Some ws) f g = all_at P ws k l (each_of P (wires_of scene) node ws all f) g
+  by (Some ws) f g = all_at P ws k l (each_of P (wires_of scene) node ws (row_by_row P scene all) f) g
 
 pub lanes_all : (P : PlainLane → Type 0) (scene : PlainScene) → ((node k : ℕ) (l : PlainLane) → wire_at scene node k ≡ Some l → P l) → AllByRecursion P (lanes_of scene)
 unfolding lanes_of

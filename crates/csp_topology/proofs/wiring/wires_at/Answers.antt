@@ -11,10 +11,8 @@ pub returns : goal.returns
 returns c =
     let node : PlainNode = c.args.node.now in
     let joints : List PlainJoint = c.args.joints.now in
-    let ifaces : c.len-ifaces.result ≡ length joints = c.len-ifaces.ensures in
     let apps : c.len-apps.result ≡ length node.apps = omega (arith, c.len-apps.ensures, c.node.inside.apps.ok.0, ap (λ (n : PlainNode). length n.apps) c.node.view_is) in
-    listed c.args.spots c.args.place c.leader_of-hub.result joints c.len-ifaces.result c.len-apps.result c.new-wires.result.items c.push_rx.new.wires.items c.push_tx.new.wires.items c.push_out.new.wires.items
+    listed c.args.spots c.args.place c.leader_of-hub.result joints (length joints) c.len-apps.result c.new-wires.result.items c.push_rx.new.wires.items c.push_tx.new.wires.items c.push_out.new.wires.items
     c.push_down.new.wires.items c.push_up.new.wires.items c.new-wires.ensures.items c.in_ok-push_rx.ensures c.in_ok-push_tx.ensures c.in_ok-push_out.ensures c.in_ok-push_down.ensures c.in_ok-push_up.ensures
-    ∙ ap (λ (h : Who). map (wire_by c.args.spots) (wires_with c.args.place h joints c.len-ifaces.result c.len-apps.result)) c.leader_of-hub.ensures
-    ∙ ap (λ (k : ℕ). map (wire_by c.args.spots) (wires_with c.args.place (leader_of c.args.place node.addr) joints k c.len-apps.result)) ifaces
+    ∙ ap (λ (h : Who). map (wire_by c.args.spots) (wires_with c.args.place h joints (length joints) c.len-apps.result)) c.leader_of-hub.ensures
     ∙ ap (λ (k : ℕ). map (wire_by c.args.spots) (wires_with c.args.place (leader_of c.args.place node.addr) joints (length joints) k)) apps
