@@ -19,12 +19,11 @@ use Rattle.csp_sfp.specs.Collecting.{all_pieces}
 use Rattle.csp_causal.specs.Causal.{IsCausal}
 use Rattle.csp_consistent.proofs.Public.{each_at}
 use Rattle.csp_consistent.specs.Consistent.{IsConsistent}
-use Rattle.csp_consistent.specs.Lanes.{IsInOrder}
 use Rattle.csp_consistent.specs.Reading.{entries_of, gets, left_in, puts}
-use Rattle.csp_prefix.proofs.Public.{RouterThere, app_lanes_there, opener}
+use Rattle.csp_prefix.proofs.Public.{AreAppLanes, RouterThere, app_lanes_there, opener}
 use Rattle.csp_prefix.specs.Apps.{IsAppLog}
 use Rattle.csp_prefix.specs.Prefix.{IsBeginning, sent_on}
-use Rattle.csp_topology.specs.Lanes.{app_lanes, leader_of}
+use Rattle.csp_topology.specs.Lanes.{leader_of}
 use Rattle.csp_blobs.proofs.AskedCuts.{gets_append, nothing_comes}
 use Rattle.csp_blobs.proofs.BlobPrefix.{AreOnSlots, app_log}
 use Rattle.csp_blobs.specs.Asking.{AnswerNoMore, AreBlobsWhole, IsConnect, SendWhatComes, WaitForAnswers, asks}
@@ -42,10 +41,10 @@ begins_then xs ys zs a b = record { rest = a.rest ++ b.rest; whole = sym (append
 module _ (scene : PlainScene) (r : PlainRecord) (is : IsScene scene) (con : IsConsistent scene r) (causal : IsCausal r) (answer : AnswerNoMore) (wait : WaitForAnswers) (send : SendWhatComes) (pieces : SendPieces)
     (on_slots : AreOnSlots r) (collects : IsBlobPrefix scene r) where
   -- the lanes between an application and its router are in order
-  lanes_there : (place k : ℕ) (n : PlainNode) (t : RouterThere scene r place) → slice_get scene.nodes place ≡ Some n → k < length n.apps → AllByRecursion (IsInOrder r) (app_lanes place (who.Router place) k)
+  lanes_there : (place k : ℕ) (n : PlainNode) (t : RouterThere scene r place) → slice_get scene.nodes place ≡ Some n → k < length n.apps → AreAppLanes r place (who.Router place) k
   lanes_there place k n t there low =
       let one : n ≡ t.node = ap (λ o. unwrap_or o n) (sym there ∙ t.there) in
-      subst (λ a. AllByRecursion (IsInOrder r) (app_lanes place (leader_of place a) k)) (ap (λ (m : PlainNode). m.addr) one ∙ t.called) (app_lanes_there scene r place k n con.lanes there low)
+      subst (λ a. AreAppLanes r place (leader_of place a) k) (ap (λ (m : PlainNode). m.addr) one ∙ t.called) (app_lanes_there scene r place k n con.lanes there low)
 
   pub blobs_whole : AreBlobsWhole scene r
   blobs_whole node app nth other x y peer steps opened numbered peered at flow sends asked = record {
@@ -72,7 +71,7 @@ module _ (scene : PlainScene) (r : PlainRecord) (is : IsScene scene) (con : IsCo
       low : other < length sends.home.apps
       low = slice_get_within sends.home.apps other sends.own sends.of_it
 
-      lanes : AllByRecursion (IsInOrder r) (app_lanes place (who.Router place) other)
+      lanes : AreAppLanes r place (who.Router place) other
       lanes = lanes_there place other sends.home t sends.there low
 
       log : IsAppLog other steps A
@@ -92,7 +91,7 @@ module _ (scene : PlainScene) (r : PlainRecord) (is : IsScene scene) (con : IsCo
 
       quiet : gets (queue.Up other) (asked.between ++ asked.opens ∷ []) ≡ []
       quiet =
-          nothing_comes other A R up_left (left_in r place (queue.Down other) 0) lanes.0.order lanes.1.0.order (causal place other) (λ before after own i e put. wait other steps A before after own i log e put)
+          nothing_comes other A R up_left (left_in r place (queue.Down other) 0) lanes.0.order lanes.1.order (causal place other) (λ before after own i e put. wait other steps A before after own i log e put)
           (λ before after e. answer _ _ R before after other t.log e) asked.first asked.between asked.later asked.own asked.opens asked.note right asked.got (connect_asks y.slot asked.note asked.connects)
           asked.unanswered
 

@@ -9,7 +9,6 @@ use Rattle.csp_consistent.specs.Lanes.{AreInOrder, IsInOrder}
 use Rattle.csp_consistent.specs.Queues.{MayAsk, UseTheirQueues}
 use Rattle.csp_consistent.specs.Reading.{entries_of, gets, left_in, puts}
 use Rattle.csp_consistent.specs.Runs.{AreLogsOf}
-use Rattle.csp_log.specs.Kinds.{carried_on}
 use Rattle.csp_log.specs.declared.entry.Entry.{Entry}
 use Rattle.csp_log.specs.declared.places.End.{End}
 use Rattle.csp_log.specs.declared.places.QueueId.TheVariants as queue
@@ -20,6 +19,7 @@ use Rattle.csp_scene.proofs.Public.{AllByRecursion-append}
 use Rattle.csp_scene.specs.Kept.{AreLinksAfter}
 use Rattle.csp_scene.specs.Links.{links_at}
 use Rattle.csp_scene.specs.Scene.{PlainLink, PlainScene}
+use Rattle.csp_topology.proofs.Public.{home_placed}
 use Rattle.csp_topology.specs.Lanes.{PlainLane}
 use Rattle.csp_topology.specs.Parties.{parties_of}
 
@@ -32,10 +32,10 @@ lane_bare : (r : PlainRecord) (l : PlainLane) → IsInOrder r l → AllByRecursi
 lane_bare r l order all = each_last IsBare (gets l.to.queue (entries_of r l.to.who)) (left_in r l.node l.queue 0) (subst (AllByRecursion IsBare) (sym order.order) all)
 
 module _ (scene : PlainScene) (r : PlainRecord) (are : AreLogsOf (parties_of scene) r.parties) where
-  end_bare : (number at : ℕ) (l : PlainLink) (end : End) → AreLanes r number (carried_on l.kind) at end → IsBareAt r end.node end.iface
+  end_bare : (number at : ℕ) (l : PlainLink) (end : End) → AreLanes r number l at end → IsBareAt r end.node end.iface
   end_bare number at l end lanes = record {
     tx = lane_bare r _ lanes.0 (tx_bare scene r are end.node end.iface end.iface);
-    rx = lane_bare r _ lanes.1.0 (rx_bare scene r are number at);
+    rx = lane_bare r _ lanes.1 (rx_bare scene r are number at);
   }
 
   pub bare_at : (node number : ℕ) (l : PlainLink) → AreLinksAfter (length scene.nodes) [] scene.links → AreInOrder scene r → slice_get (links_at node scene.links) number ≡ Some l → IsBareAt r node number
@@ -44,7 +44,7 @@ module _ (scene : PlainScene) (r : PlainRecord) (are : AreLogsOf (parties_of sce
       by (subst (λ k. IsJoint scene.links l (record { node = node; iface = k })) first (joint (length scene.nodes) node scene.links [] number l after on))
     where
       by : IsJoint scene.links l (record { node = node; iface = number }) → IsBareAt r node number
-      by j = let end : End = record { node = node; iface = number } in end_bare j.number j.at l end (end_lanes_of scene r j.number l j.at end order j.there j.on)
+      by j = let end : End = record { node = node; iface = number } in end_bare j.number j.at l end (end_lanes_of scene r j.number l j.at end (home_placed scene after) order j.there j.on)
 
 -- the entries of a name are on queues that it may use
 pub may_in : (w : Who) (logs : List PlainPartyLog) → UseTheirQueues logs → AllByRecursion (λ e. MayAsk w e.op) (entries_in w logs)

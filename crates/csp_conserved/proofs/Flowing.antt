@@ -129,7 +129,7 @@ module _ (scene : PlainScene) (r : PlainRecord) (is : IsScene scene) (after : Ar
   downs : over apps (λ j. put_in k of_hub (queue.Down j)) ≡ over apps (λ j. got_in k (of_app j) (queue.Down j)) + over apps (λ j. left (queue.Down j) 0)
   downs =
       over_both apps (λ j. put_in k of_hub (queue.Down j)) (λ j. got_in k (of_app j) (queue.Down j)) (λ j. left (queue.Down j) 0)
-      (λ j low. lane_balanced k r _ (app_lanes_there scene r node j n order there low).1.0)
+      (λ j low. lane_balanced k r _ (app_lanes_there scene r node j n order there low).1)
 
   bare : (j : ℕ) → j < ifaces → IsBareAt r node j
   bare j low = let l = get_there (links_at node scene.links) j low in bare_at scene r are node j l.0 after order l.1

@@ -44,6 +44,7 @@ use Rattle.csp_scene.proofs.Public.{AllByRecursion-append}
 use Rattle.csp_scene.specs.Kept.{AreLinksAfter}
 use Rattle.csp_scene.specs.Links.{links_at}
 use Rattle.csp_scene.specs.Scene.{PlainLink, PlainScene}
+use Rattle.csp_topology.proofs.Public.{AreHome, home_placed}
 use Rattle.csp_topology.specs.Parties.{iface_opening, link_party, parties_of, party_steps}
 use Rattle.csp_conserved.proofs.Ifaces.{IsBare}
 
@@ -144,21 +145,21 @@ module _ (scene : PlainScene) (r : PlainRecord) (are : AreLogsOf (parties_of sce
           either_puts k at.link (entries_of r (who.Link number)) (run_of scene r (who.Link number) (link_party at.link) l at.party)
 
   -- an interface gets of its link nothing with a buffer
-  came_bare : (l : PlainLink) (end : End) → AreInOrder scene r → IsJoint scene.links l end → AllByRecursion IsBare (gets (queue.Rx end.iface) (entries_of r (who.Iface end.node end.iface)))
-  came_bare l end order j = through IsBare r _ (end_lanes_of scene r j.number l j.at end order j.there j.on).1.0 (rx_bare j.number j.at)
+  came_bare : (l : PlainLink) (end : End) → AreHome scene → AreInOrder scene r → IsJoint scene.links l end → AllByRecursion IsBare (gets (queue.Rx end.iface) (entries_of r (who.Iface end.node end.iface)))
+  came_bare l end home order j = through IsBare r _ (end_lanes_of scene r j.number l j.at end home order j.there j.on).1 (rx_bare j.number j.at)
 
   pub iface_gets_bare : (node number : ℕ) (l : PlainLink) → AreLinksAfter (length scene.nodes) [] scene.links → AreInOrder scene r → slice_get (links_at node scene.links) number ≡ Some l
       → AllByRecursion IsBare (gets (queue.Rx number) (entries_of r (who.Iface node number)))
   iface_gets_bare node number l after order on =
       let first : 0 + number ≡ number = omega arith in
-      came_bare l (record { node = node; iface = number }) order
+      came_bare l (record { node = node; iface = number }) (home_placed scene after) order
       (subst (λ k. IsJoint scene.links l (record { node = node; iface = k })) first (joint (length scene.nodes) node scene.links [] number l after on))
 
   -- nor does a link or a hub of the interfaces at its ends
-  pub link_gets_bare : (number : ℕ) (l : PlainLink) (at : ℕ) → AreInOrder scene r → slice_get scene.links number ≡ Some l → at < length l.ends → AllByRecursion IsBare (gets (queue.Tx at) (entries_of r (who.Link number)))
-  link_gets_bare number l at order there low =
+  pub link_gets_bare : (number : ℕ) (l : PlainLink) (at : ℕ) → AreHome scene → AreInOrder scene r → slice_get scene.links number ≡ Some l → at < length l.ends → AllByRecursion IsBare (gets (queue.Tx at) (entries_of r (who.Link number)))
+  link_gets_bare number l at home order there low =
       let end = one_at l.ends at low in
-      through IsBare r _ (end_lanes_of scene r number l at end.0 order there end.1).0 (tx_bare end.0.node end.0.iface end.0.iface)
+      through IsBare r _ (end_lanes_of scene r number l at end.0 home order there end.1).0 (tx_bare end.0.node end.0.iface end.0.iface)
 
 -- each turn got such
 pub each_got : (P : ItemShown → Type 0) (q : QueueId) (es : List Entry) → AllByRecursion P (gets q es) → AllByRecursion (λ e. AllByRecursion P (got_by q e.op e.answer)) es

@@ -9,7 +9,7 @@ use Rattle.csp_conserved.proofs.Sums.{over, over_both, over_hit, over_none, over
 use Rattle.csp_conserved.specs.Flow.{numbers_there}
 use Rattle.csp_consistent.specs.Pools.{left_held, pools_held}
 use Rattle.csp_consistent.specs.Reading.{is_queue, left_here}
-use Rattle.csp_consistent.specs.Whole.{AreQueuesLeft, at_node, left_name, queue_name, queues_from}
+use Rattle.csp_consistent.specs.Whole.{AreQueuesLeft, left_name, queue_name}
 use Rattle.csp_deck.proofs.Public.{times-append}
 use Rattle.csp_deck.specs.Carried.{places_of}
 use Rattle.csp_deck.specs.Step.{times}
@@ -23,6 +23,7 @@ use Rattle.csp_log.specs.declared.places.QueueId.TheVariants as queue
 use Rattle.csp_record.specs.Record.{PlainRecord}
 use Rattle.csp_scene.specs.Links.{links_at}
 use Rattle.csp_scene.specs.Scene.{PlainLink, PlainNode, PlainScene}
+use Rattle.csp_topology.specs.Queues.{at_node, queues_from}
 
 -- ---- pools
 

@@ -36,6 +36,7 @@ use Rattle.csp_scene.specs.Kept.{AreLinksAfter}
 use Rattle.csp_scene.specs.Links.{links_at}
 use Rattle.csp_scene.specs.Ranges.{HasEnds, IsLink as IsSceneLink, IsNode, IsScene}
 use Rattle.csp_scene.specs.Scene.{PlainLink, PlainScene}
+use Rattle.csp_topology.proofs.Public.{home_placed}
 use Rattle.csp_topology.specs.Parties.{PlainOpening, config_of, heeded, iface_opening, link_party, parties_of, party_steps, router_for}
 use Rattle.csp_conserved.proofs.Apps.{app_keeps}
 use Rattle.csp_conserved.proofs.Bridges.{bridge_keeps}
@@ -180,7 +181,7 @@ module _ (scene : PlainScene) (r : PlainRecord) (is : IsScene scene) (after : Ar
       shape = (each_at (IsSceneLink scene.nodes scene.links) scene.links number l is.links there).shape
 
       goes : AllByRecursion (λ e. GoesBare (length l.ends) e.op e.answer) (entries_of r (who.Link number))
-      goes = each_goes (length l.ends) (entries_of r (who.Link number)) (λ at low. link_gets_bare scene r are number l at order there low)
+      goes = each_goes (length l.ends) (entries_of r (who.Link number)) (λ at low. link_gets_bare scene r are number l at (home_placed scene after) order there low)
 
       by : (b : Bool) → l.hub ≡ b → Keeps (who.Link number) (link_party l)
       by true hub =

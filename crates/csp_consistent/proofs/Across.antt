@@ -1,5 +1,5 @@
 -- What crosses a link or a hub and its lanes is what its plan makes of it, and keeps its trace.
-use Rattle.std.proofs.Common.{◌≡◌, ◌≢◌, ℕ, zero, suc, ◌+◌, ◌<◌, ◌==◌, Bool, true, false, Option, Some, None, List, [], ◌∷◌, ◌++◌, length, replicate, slice_get, unwrap_or, refl, sym, ap, ◌∙◌, subst, arith}
+use Rattle.std.proofs.Common.{◌≡◌, ◌≢◌, ℕ, zero, suc, ◌+◌, ◌<◌, ◌==◌, Bool, true, false, Option, Some, None, List, [], ◌∷◌, ◌++◌, length, replicate, slice_get, refl, sym, ap, ◌∙◌, subst, arith}
 use Rattle.std.specs.Prelude.{if◌then◌else◌}
 use Rattle.std.specs.List.{AllByRecursion}
 use Rattle.std.proofs.lemmas.Bool.{eq-eqb, eqb-false}
@@ -10,14 +10,12 @@ use Rattle.csp_hub.specs.Applied as hub
 use Rattle.csp_link.specs.Applied.{frames_popped, frames_pushed, made, made_from, popped_by, pushed_by}
 use Rattle.csp_link.specs.Copies.{copies_of, damaged}
 use Rattle.csp_link.specs.Fates.{fate_of}
-use Rattle.csp_log.specs.Kinds.{carried_on}
 use Rattle.csp_link.specs.Ways.{number, other, from_queue, to_queue}
 use Rattle.csp_link.specs.declared.fates.Fate.{Fate}
 use Rattle.csp_link.specs.declared.fault.Fault.{Fault}
 use Rattle.csp_link.specs.declared.way.Way.{Way}
 use Rattle.csp_log.specs.declared.entry.Entry.{Entry}
 use Rattle.csp_log.specs.declared.frame.Frame.{Frame}
-use Rattle.csp_log.specs.declared.places.Carries.{Carries}
 use Rattle.csp_log.specs.declared.places.End.{End}
 use Rattle.csp_log.specs.declared.places.QueueId.{QueueId}
 use Rattle.csp_log.specs.declared.places.QueueId.TheVariants as queue
@@ -31,7 +29,8 @@ use Rattle.csp_record.specs.Record.{PlainRecord}
 use Rattle.csp_scene.proofs.Public.{AllByRecursion-append, slice_get-seam}
 use Rattle.csp_scene.specs.Scene.{PlainScene, PlainLink}
 use Rattle.csp_consistent.specs.Lanes.{IsInOrder, AreInOrder}
-use Rattle.csp_topology.specs.Lanes.{PlainLane, end_lanes, lanes_on, link_lanes, lanes_from, lanes_of}
+use Rattle.csp_topology.proofs.Public.{AreHome, OfEnd, of_end}
+use Rattle.csp_topology.specs.Lanes.{PlainLane}
 use Rattle.csp_consistent.specs.Links.{IsPlanned, IsSpread}
 use Rattle.csp_consistent.specs.Reading.{entries_of, is_queue, put_by, got_by, puts, gets, left_in}
 use Rattle.csp_consistent.proofs.Each.{each_first, each_last, each_if, each_permuted}
@@ -207,32 +206,8 @@ through P r l order all =
     each_first P (gets l.to.queue (entries_of r l.to.who)) (left_in r l.node l.queue 0) (subst (AllByRecursion P) (sym order.order) all)
 
 -- the two lanes between an end and its link or hub are in order
-abbrev pub AreLanes : PlainRecord → ℕ → Carries → ℕ → End → Type 0
-AreLanes r n carries at end = AllByRecursion (IsInOrder r) (end_lanes n carries at end)
+abbrev pub AreLanes : PlainRecord → ℕ → PlainLink → ℕ → End → Type 0
+AreLanes r n l at end = OfEnd (IsInOrder r) n l at end
 
-end_there : (r : PlainRecord) (n : ℕ) (carries : Carries) (first j at : ℕ) (ends : List End) (end : End) → at ≡ first + j → slice_get ends j ≡ Some end → AllByRecursion (IsInOrder r) (lanes_on n carries first ends) → AreLanes r n carries at end
-end_there r n carries first j at [] end e there all = absurd cc
-end_there r n carries first zero at (x ∷ ends) end e there all =
-    let same : x ≡ end = ap (λ o. unwrap_or o x) there in
-    let place : first ≡ at = omega (arith, e) in
-    subst (AreLanes r n carries at) same (subst (λ k. AreLanes r n carries k x) place (each_first (IsInOrder r) (end_lanes n carries first x) (lanes_on n carries (first + 1) ends) all))
-end_there r n carries first (suc j) at (x ∷ ends) end e there all =
-    end_there r n carries (first + 1) j at ends end (omega (arith, e)) there (each_last (IsInOrder r) (end_lanes n carries first x) (lanes_on n carries (first + 1) ends) all)
-
-link_there : (r : PlainRecord) (n m j : ℕ) (links : List PlainLink) (l : PlainLink) → m ≡ n + j → slice_get links j ≡ Some l → AllByRecursion (IsInOrder r) (link_lanes n links)
-    → AllByRecursion (IsInOrder r) (lanes_on m (carried_on l.kind) 0 l.ends)
-link_there r n m j [] l e there all = absurd cc
-link_there r n m zero (x ∷ links) l e there all =
-    let same : x ≡ l = ap (λ o. unwrap_or o x) there in
-    let place : n ≡ m = omega (arith, e) in
-    subst (λ k. AllByRecursion (IsInOrder r) (lanes_on k (carried_on l.kind) 0 l.ends)) place
-    (subst (λ (y : PlainLink). AllByRecursion (IsInOrder r) (lanes_on n (carried_on y.kind) 0 y.ends)) same
-    (each_first (IsInOrder r) (lanes_on n (carried_on x.kind) 0 x.ends) (link_lanes (n + 1) links) all))
-link_there r n m (suc j) (x ∷ links) l e there all =
-    link_there r (n + 1) m j links l (omega (arith, e)) there (each_last (IsInOrder r) (lanes_on n (carried_on x.kind) 0 x.ends) (link_lanes (n + 1) links) all)
-
-pub end_lanes_of : (scene : PlainScene) (r : PlainRecord) (n : ℕ) (l : PlainLink) (at : ℕ) (end : End) → AreInOrder scene r → slice_get scene.links n ≡ Some l → slice_get l.ends at ≡ Some end → AreLanes r n (carried_on l.kind) at end
-unfolding lanes_of
-end_lanes_of scene r n l at end order there on =
-    end_there r n (carried_on l.kind) 0 at at l.ends end (omega arith) on
-    (link_there r 0 n n scene.links l (omega arith) there (each_last (IsInOrder r) (lanes_from 0 scene.nodes scene.links) (link_lanes 0 scene.links) order))
+pub end_lanes_of : (scene : PlainScene) (r : PlainRecord) (n : ℕ) (l : PlainLink) (at : ℕ) (end : End) → AreHome scene → AreInOrder scene r → slice_get scene.links n ≡ Some l → slice_get l.ends at ≡ Some end → AreLanes r n l at end
+end_lanes_of scene r n l at end home order there on = of_end (IsInOrder r) scene order home n at l end there on

@@ -32,6 +32,7 @@ use Rattle.csp_scene.specs.Ranges.{HasEnds}
 use Rattle.csp_scene.specs.Scene.{PlainScene, PlainLink, PlainNode}
 use Rattle.csp_consistent.specs.Lanes.{AreInOrder}
 use Rattle.csp_consistent.specs.Origins.{IsSent, HaveOrigins}
+use Rattle.csp_topology.proofs.Public.{AreHome, home_placed}
 use Rattle.csp_topology.specs.Parties.{heeded, iface_opening, parties_of, party_steps}
 use Rattle.csp_consistent.specs.Reading.{entries_of, puts, gets}
 use Rattle.csp_consistent.specs.Runs.{AreLogsOf}
@@ -186,15 +187,15 @@ sent_all scene r are node number =
 -- ---- what came over a link
 
 -- what came over a link that is no hub
-pub came_over : (scene : PlainScene) (r : PlainRecord) (l : PlainLink) (end : End) (Q R : Frame → Type 0) → AreLogsOf (parties_of scene) r.parties → AreInOrder scene r → (j : IsJoint scene.links l end) → l.hub ≡ false → (p : IsPair l j.at)
+pub came_over : (scene : PlainScene) (r : PlainRecord) (l : PlainLink) (end : End) (Q R : Frame → Type 0) → AreHome scene → AreLogsOf (parties_of scene) r.parties → AreInOrder scene r → (j : IsJoint scene.links l end) → l.hub ≡ false → (p : IsPair l j.at)
     → ((k : ℕ) (f : Frame) → slice_get (frames_popped p.way (entries_of r (who.Link j.number))) k ≡ Some f → Q f → R (damaged (fate_of (ways.number p.way) (k + 1) l.plan).flip f))
     → AllByRecursion (IsSuchFrame Q) (puts (queue.Tx p.beyond.iface) (entries_of r (who.Iface p.beyond.node p.beyond.iface))) → AllByRecursion (IsSuchFrame R) (gets (queue.Rx end.iface) (entries_of r (who.Iface end.node end.iface)))
-came_over scene r l end Q R are order j is p each all =
+came_over scene r l end Q R home are order j is p each all =
     let es = entries_of r (who.Link j.number) in
-    through (IsSuchFrame R) r _ (end_lanes_of scene r j.number l j.at end order j.there j.on).1.0
+    through (IsSuchFrame R) r _ (end_lanes_of scene r j.number l j.at end home order j.there j.on).1
     (subst (λ k. AllByRecursion (IsSuchFrame R) (puts (queue.Rx k) es)) (sym p.to)
     (across_so Q R l.plan p.way es (are_planned scene r are j.number l p.way j.there is) each
-    (through (IsSuchFrame Q) r _ (end_lanes_of scene r j.number l (ways.number p.way) p.beyond order j.there p.from).0 all)))
+    (through (IsSuchFrame Q) r _ (end_lanes_of scene r j.number l (ways.number p.way) p.beyond home order j.there p.from).0 all)))
 
 -- another end of a link than the one in this place, of which this holds
 pub record IsOfOther (l : PlainLink) (at : ℕ) (R : End → Type 0) : Type 0 where
@@ -205,7 +206,7 @@ pub record IsOfOther (l : PlainLink) (at : ℕ) (R : End → Type 0) : Type 0 wh
   pub holds : R end
 
 -- what came over a link or a hub: by each other end a kind of frames
-module _ (scene : PlainScene) (r : PlainRecord) (l : PlainLink) (end : End) (Q R : End → Frame → Type 0) (are : AreLogsOf (parties_of scene) r.parties) (order : AreInOrder scene r) (j : IsJoint scene.links l end)
+module _ (scene : PlainScene) (r : PlainRecord) (l : PlainLink) (end : End) (Q R : End → Frame → Type 0) (home : AreHome scene) (are : AreLogsOf (parties_of scene) r.parties) (order : AreInOrder scene r) (j : IsJoint scene.links l end)
     (each : (from k : ℕ) (other : End) (f : Frame) → from ≢ j.at → slice_get l.ends from ≡ Some other → slice_get (hub.frames_popped from (entries_of r (who.Link j.number))) k ≡ Some f → Q other f → R other (damaged (fate_of from (k + 1) l.plan).flip f))
     (all : (from : ℕ) (other : End) → from ≢ j.at → slice_get l.ends from ≡ Some other → AllByRecursion (IsSuchFrame (Q other)) (puts (queue.Tx other.iface) (entries_of r (who.Iface other.node other.iface)))) where
   abbrev Comes : Type 0
@@ -217,7 +218,7 @@ module _ (scene : PlainScene) (r : PlainRecord) (l : PlainLink) (end : End) (Q R
       let apart : ways.number p.way ≢ j.at = λ e. ways_apart p.way (e ∙ p.to) in
       AllByRecursion-map (IsSuchFrame (R p.beyond)) (IsSuchFrame (λ f. IsOfOther l j.at (λ other. R other f))) (gets (queue.Rx end.iface) (entries_of r (who.Iface end.node end.iface)))
       (such_also (R p.beyond) (λ f. IsOfOther l j.at (λ other. R other f)) (λ f holds. record { place = ways.number p.way; apart = apart; end = p.beyond; there = p.from; holds = holds }))
-      (came_over scene r l end (Q p.beyond) (R p.beyond) are order j is p
+      (came_over scene r l end (Q p.beyond) (R p.beyond) home are order j is p
       (λ k f there has. each (ways.number p.way) k p.beyond f apart p.from (ap (λ fs. slice_get fs k) (sym (all_popped_alike p.way (entries_of r (who.Link j.number)))) ∙ there) has)
       (all (ways.number p.way) p.beyond apart p.from))
 
@@ -232,13 +233,13 @@ module _ (scene : PlainScene) (r : PlainRecord) (l : PlainLink) (end : End) (Q R
       AllByRecursion-map (IsSuchFrame (IsFromOther (AtPlace R) (length l.ends) j.at)) (IsSuchFrame (λ f. IsOfOther l j.at (λ other. R other f))) (gets (queue.Rx end.iface) (entries_of r (who.Iface end.node end.iface)))
       (such_also (IsFromOther (AtPlace R) (length l.ends) j.at) (λ f. IsOfOther l j.at (λ other. R other f))
       (λ f from. record { place = from.from; apart = from.apart; end = from.holds.0; there = from.holds.1; holds = from.holds.2 }))
-      (through (IsSuchFrame (IsFromOther (AtPlace R) (length l.ends) j.at)) r _ (end_lanes_of scene r j.number l j.at end order j.there j.on).1.0
+      (through (IsSuchFrame (IsFromOther (AtPlace R) (length l.ends) j.at)) r _ (end_lanes_of scene r j.number l j.at end home order j.there j.on).1
       (spread_so (AtPlace Q) (AtPlace R) l.plan (length l.ends) j.at es (are_spread scene r are j.number l j.at j.there is low) (pops_within scene r j.number l are j.there is (omega (arith, low)))
       (λ from k f apart there has. (has.0, has.1, each from k has.0 f apart has.1 there has.2))
       (λ from inside apart.
       let other = one_at l.ends from inside in
       AllByRecursion-map (IsSuchFrame (Q other.0)) (IsSuchFrame (AtPlace Q from)) (gets (queue.Tx from) es) (such_also (Q other.0) (AtPlace Q from) (λ f has. (other.0, other.1, has)))
-      (through (IsSuchFrame (Q other.0)) r _ (end_lanes_of scene r j.number l from other.0 order j.there other.1).0 (all from other.0 apart other.1)))))
+      (through (IsSuchFrame (Q other.0)) r _ (end_lanes_of scene r j.number l from other.0 home order j.there other.1).0 (all from other.0 apart other.1)))))
 
   pub came_from_others : Comes
   came_from_others =
@@ -287,7 +288,7 @@ have_origins scene r after are order end =
         let first : 0 + end.iface ≡ end.iface = omega arith in
         let j : IsJoint scene.links l end = subst (λ k. IsJoint scene.links l (record { node = end.node; iface = k })) first (joint (length scene.nodes) end.node scene.links [] end.iface l after own.on) in
         let got : AllByRecursion (IsSuchFrame (λ f. IsOfOther l j.at (λ from. Begun r from f))) (gets (queue.Rx end.iface) (entries_of r (who.Iface end.node end.iface))) =
-        came_from_others scene r l end (Begun r) (Begun r) are order j
+        came_from_others scene r l end (Begun r) (Begun r) (home_placed scene after) are order j
         (λ at k from f apart on there begun. damaged_of (IsBegun from.node from.iface (entries_of r (who.Iface from.node from.iface))) (fate_of at (k + 1) l.plan).flip f begun) (λ at from apart on. sent_all scene r are from.node from.iface) in
         AllByRecursion-map (IsPacketOf (HasCome r l j.at)) (IsSent scene r end) (puts queue.Inbox (entries_of r (who.Iface end.node end.iface))) (is_sent scene r l end j)
         (received (HasCome r l j.at) end.node end.iface l.kind l.mtu own.heeds (entries_of r (who.Iface end.node end.iface)) own.run

@@ -1,24 +1,19 @@
 -- Consistent, part 3: of each priority of an inbox, what the one party that pops it got, followed by what was left, has each producer's
 -- puts in that producer's order, and nothing else.
-use Rattle.std.specs.Prelude.{◌≡◌, ℕ, ◌==◌, if◌then◌else◌, Some, List, ◌++◌, slice_get}
+use Rattle.std.specs.Prelude.{◌≡◌, ℕ, Some, List, ◌++◌, slice_get}
 use Rattle.std.specs.List.{AllByRecursion}
 use Rattle.csp_base.specs.declared.priority.Prio.{Prio}
 use Rattle.csp_base.specs.Priority.{prio_number}
 use Rattle.csp_deck.specs.Carried.{IsCarried}
 use Rattle.csp_log.specs.declared.places.QueueId.TheVariants as queue
 use Rattle.csp_log.specs.declared.places.Rule.TheVariants as rule
-use Rattle.csp_log.specs.declared.places.TheConstants.{UNMARKED}
 use Rattle.csp_log.specs.declared.shown.ItemShown.{ItemShown}
 use Rattle.csp_record.specs.Record.{PlainRecord}
 use Rattle.csp_log.specs.declared.who.Who.{Who}
-use Rattle.csp_log.specs.declared.who.Who.TheVariants as who
 use Rattle.csp_scene.specs.Scene.{PlainScene, PlainNode}
 use Rattle.csp_topology.specs.Lanes.{leader_of}
+use Rattle.csp_topology.specs.Queues.{writer_of}
 use Rattle.csp_consistent.specs.Reading.{entries_of, gets, left_in, puts, with_mark, with_priority}
-
--- who puts packets with this mark into an inbox: the interface of that number, and the node's own router without one
-abbrev pub writer_of : ℕ → Who → ℕ → Who
-writer_of node hub mark = (if mark == UNMARKED then hub else who.Iface node mark)
 
 -- the packets of a priority that came through the inbox of a node, in the order in which they came: those that were got, then those left
 abbrev pub came_through : PlainRecord → ℕ → Who → Prio → List ItemShown

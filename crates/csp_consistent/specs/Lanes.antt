@@ -10,7 +10,8 @@ use Rattle.csp_log.specs.declared.shown.OpShown.{OpShown}
 use Rattle.csp_log.specs.declared.shown.OpShown.TheVariants as op
 use Rattle.csp_record.specs.Record.{PlainRecord}
 use Rattle.csp_scene.specs.Scene.{PlainScene}
-use Rattle.csp_topology.specs.Lanes.{PlainLane, lanes_of}
+use Rattle.csp_topology.specs.Lanes.{PlainLane}
+use Rattle.csp_topology.specs.Wires.{lanes_of}
 use Rattle.csp_consistent.specs.Reading.{entries_of, gets, is_queue, left_in, puts}
 
 -- a push to this queue was answered Full

@@ -4,7 +4,7 @@ use Rattle.std.specs.Prelude.{◌≡◌, ◌<◌, ◌≤◌, ◌+◌, ⊤, ℕ, 
 use Rattle.std.specs.List.{AllByRecursion, flat_map}
 use Rattle.csp_base.specs.Priority.{prio_number}
 use Rattle.csp_base.specs.declared.priority.Prio.{Prio}
-use Rattle.csp_consistent.specs.Inboxes.{writer_of}
+use Rattle.csp_topology.specs.Queues.{writer_of}
 use Rattle.csp_consistent.specs.Pools.{given_at, is_node, taken_at}
 use Rattle.csp_consistent.specs.Reading.{entries_of, gets, is_queue, puts, with_mark, with_priority}
 use Rattle.csp_consistent.specs.Rounds.{early}
@@ -23,7 +23,8 @@ use Rattle.csp_record.specs.Record.{PlainPartyLog, PlainRecord}
 use Rattle.csp_log.specs.Who.{node_of}
 use Rattle.csp_log.specs.declared.who.Who.{Who}
 use Rattle.csp_scene.specs.Scene.{PlainNode, PlainScene}
-use Rattle.csp_topology.specs.Lanes.{PlainLane, leader_of, lanes_of}
+use Rattle.csp_topology.specs.Lanes.{PlainLane, leader_of}
+use Rattle.csp_topology.specs.Wires.{lanes_of}
 
 -- it holds of each entry, with those before it
 abbrev pub AllAfter : (List Entry → Entry → Type 0) → List Entry → List Entry → Type 0

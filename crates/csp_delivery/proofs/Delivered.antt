@@ -28,6 +28,7 @@ use Rattle.csp_log.specs.declared.who.Who.TheVariants as who
 use Rattle.csp_scene.proofs.Public.{AllByRecursion-map}
 use Rattle.csp_scene.specs.Ranges.{IsLink, IsScene}
 use Rattle.csp_scene.specs.Scene.{PlainLink, PlainNode, PlainScene}
+use Rattle.csp_topology.proofs.Public.{home_ranged}
 use Rattle.csp_topology.specs.Parties.{heeded, iface_opening, party_steps}
 use Rattle.csp_consistent.specs.Addressed.{AreHopsOut, addressed_in, addressee}
 use Rattle.csp_consistent.specs.Consistent.{IsConsistent}
@@ -128,7 +129,7 @@ module _ (scene : PlainScene) (r : PlainRecord) (ranges : IsScene scene) (con : 
   came =
       let j : IsJoint scene.links l end = record { number = number; there = there; at = at; on = on; shape = of_link.shape } in
       let most : l.mtu ≤ MAX_PAYLOAD = omega (arith, of_link.mtu.1) in
-      came_from_others scene r l end (λ from. IsSentIn from.node from.iface l.kind l.mtu (entries_of r (who.Iface from.node from.iface))) (IsGoing r) con.runs con.lanes j
+      came_from_others scene r l end (λ from. IsSentIn from.node from.iface l.kind l.mtu (entries_of r (who.Iface from.node from.iface))) (IsGoing r) (home_ranged scene ranges) con.runs con.lanes j
       (λ place k from f apart joined popped sent. going_still r from (fate_of place (k + 1) l.plan).flip f
       (going r from l.mtu most (sends scene r ranges con words hops l number place from there joined).1 f
       (subst (λ kind. IsSentIn from.node from.iface kind l.mtu (entries_of r (who.Iface from.node from.iface)) f) on_can sent)))

@@ -11,7 +11,6 @@ use Rattle.csp_hub.specs.Applied as hub
 use Rattle.csp_link.specs.Applied.{made_from}
 use Rattle.csp_link.specs.Fates.{fate_of}
 use Rattle.csp_link.specs.Telling.{frame_in}
-use Rattle.csp_log.specs.Kinds.{carried_on}
 use Rattle.csp_log.specs.declared.entry.Entry.{Entry}
 use Rattle.csp_log.specs.declared.frame.Frame.{Frame}
 use Rattle.csp_log.specs.declared.places.End.{End}
@@ -28,6 +27,7 @@ use Rattle.csp_log.specs.declared.who.Who.TheVariants as who
 use Rattle.csp_scene.specs.Links.{links_at}
 use Rattle.csp_scene.specs.Ranges.{IsEnd, IsLink, IsScene}
 use Rattle.csp_scene.specs.Scene.{PlainLink, PlainScene}
+use Rattle.csp_topology.proofs.Public.{home_ranged}
 use Rattle.csp_topology.specs.Lanes.{PlainLane}
 use Rattle.csp_topology.specs.Parties.{iface_opening, party_steps}
 use Rattle.csp_consistent.specs.Consistent.{IsConsistent}
@@ -120,8 +120,8 @@ module _ (scene : PlainScene) (r : PlainRecord) (ranges : IsScene scene) (con : 
     on_it : (at : ℕ) (end : End) → slice_get l.ends at ≡ Some end → slice_get (links_at end.node scene.links) end.iface ≡ Some l
     on_it at end there = (each_at (IsEnd scene.nodes scene.links l) l.ends at end is.ends there).iface
 
-    lanes : (at : ℕ) (end : End) → slice_get l.ends at ≡ Some end → AreLanes r number (carried_on l.kind) at end
-    lanes at end on = end_lanes_of scene r number l at end con.lanes there on
+    lanes : (at : ℕ) (end : End) → slice_get l.ends at ≡ Some end → AreLanes r number l at end
+    lanes at end on = end_lanes_of scene r number l at end (home_ranged scene ranges) con.lanes there on
 
     -- what was popped from an end
     popped_few : (o : Origin) (at : ℕ) (end : End) → slice_get l.ends at ≡ Some end → firsts o (hub.frames_popped at es) ≤ firsts o (frames_among (puts (queue.Tx end.iface) (own end)))
@@ -153,7 +153,7 @@ module _ (scene : PlainScene) (r : PlainRecord) (ranges : IsScene scene) (con : 
         let other = one_at l.ends k inside in
         popped_own o k other.0 other.1 (apart k other.0 other.1 apart_end apart_place)) in
         let made : firsts o (made_from (λ k. fate_of place k l.plan) 1 (hub.frames_popped place es)) ≡ n = makes_made l.plan es place o n (popped_once o place from at_place) makes in
-        omega (arith, lane_few o r _ (lanes at end at_end).1.0, ap (firsts o) (pushed_among at es), pushed, made)
+        omega (arith, lane_few o r _ (lanes at end at_end).1, ap (firsts o) (pushed_among at es), pushed, made)
 
     -- a transmission from an end is of no other
     pub first_copies : (place at : ℕ) (from end : End) (serial n : ℕ) → l.hub ≡ true → slice_get l.ends place ≡ Some from → slice_get l.ends at ≡ Some end

@@ -17,7 +17,8 @@ use Rattle.csp_opening.specs.declared.lanes.Pair.{Pair}
 use Rattle.csp_log.specs.declared.who.Who.{Who}
 use Rattle.csp_log.specs.declared.who.Who.TheVariants as who
 use Rattle.csp_scene.proofs.Public.{AllByRecursion-append}
-use Rattle.csp_scene.specs.Scene.{PlainNode, PlainScene}
+use Rattle.csp_scene.specs.Links.{links_at}
+use Rattle.csp_scene.specs.Scene.{PlainLink, PlainNode, PlainScene}
 use Rattle.csp_topology.specs.Lanes.{PlainEnd, PlainLane, leader_of, out_lane}
 use Rattle.csp_topology.specs.Wired as wired
 use Rattle.csp_topology.specs.Wires.{PlainJoint, down_lane, joints_at, joints_from, rx_lane, tx_lane, up_lane, wire_at, wires_from, wires_of, wires_with}
@@ -144,45 +145,45 @@ all_map P f each [] = tt
 all_map P f each (x ∷ xs) = (each x, all_map P f each xs)
 
 -- what holds of each kind of lane holds of all lanes of a node
-pub each_lane : (P : PlainLane → Type 0) (node : ℕ) (hub : Who) (joints : List PlainJoint) (apps : ℕ) → ((j : PlainJoint) → P (rx_lane j)) → ((j : PlainJoint) → P (tx_lane j)) → ((j : PlainJoint) → P (out_lane node hub j.end.iface))
-    → ((k : ℕ) → P (down_lane node hub k)) → ((k : ℕ) → P (up_lane node hub k)) → AllByRecursion P (wires_with node hub joints apps)
-each_lane P node hub joints apps in_rx in_tx in_out in_down in_up =
+pub each_lane : (P : PlainLane → Type 0) (node : ℕ) (hub : Who) (joints : List PlainJoint) (ifaces apps : ℕ) → ((j : PlainJoint) → P (rx_lane j)) → ((j : PlainJoint) → P (tx_lane j)) → ((k : ℕ) → P (out_lane node hub k))
+    → ((k : ℕ) → P (down_lane node hub k)) → ((k : ℕ) → P (up_lane node hub k)) → AllByRecursion P (wires_with node hub joints ifaces apps)
+each_lane P node hub joints ifaces apps in_rx in_tx in_out in_down in_up =
     let rx = map rx_lane joints in
     let tx = map tx_lane joints in
-    let out = map (λ (j : PlainJoint). out_lane node hub j.end.iface) joints in
+    let out = map (out_lane node hub) (range_with_len 0 ifaces) in
     let down = map (down_lane node hub) (range_with_len 0 apps) in
     let up = map (up_lane node hub) (range_with_len 0 apps) in
     AllByRecursion-append P rx (tx ++ (out ++ (down ++ up))) (all_map P rx_lane in_rx joints)
     (AllByRecursion-append P tx (out ++ (down ++ up)) (all_map P tx_lane in_tx joints)
-    (AllByRecursion-append P out (down ++ up) (all_map P (λ (j : PlainJoint). out_lane node hub j.end.iface) in_out joints)
+    (AllByRecursion-append P out (down ++ up) (all_map P (out_lane node hub) in_out (range_with_len 0 ifaces))
     (AllByRecursion-append P down up (all_map P (down_lane node hub) in_down (range_with_len 0 apps)) (all_map P (up_lane node hub) in_up (range_with_len 0 apps)))))
 
-is_row : (node : ℕ) (hub : Who) (joints : List PlainJoint) (apps : ℕ) → IsRow (wires_with node hub joints apps)
-is_row node hub joints apps =
+is_row : (node : ℕ) (hub : Who) (joints : List PlainJoint) (ifaces apps : ℕ) → IsRow (wires_with node hub joints ifaces apps)
+is_row node hub joints ifaces apps =
     let rx = map rx_lane joints in
     let tx = map tx_lane joints in
-    let out = map (λ (j : PlainJoint). out_lane node hub j.end.iface) joints in
+    let out = map (out_lane node hub) (range_with_len 0 ifaces) in
     let down = map (down_lane node hub) (range_with_len 0 apps) in
     let up = map (up_lane node hub) (range_with_len 0 apps) in
     record {
       hub = hub;
-      named = each_lane (IsNamedLane hub) node hub joints apps (λ j. record { from = refl; to = refl; down = λ n e. absurd cc }) (λ j. record { from = refl; to = refl; down = λ n e. absurd cc })
-          (λ j. record { from = refl; to = refl; down = λ n e. absurd cc }) (λ k. record { from = refl; to = refl; down = λ n e. ap (λ m. named_end hub (queue.Down m)) (eqb-true k n e) })
+      named = each_lane (IsNamedLane hub) node hub joints ifaces apps (λ j. record { from = refl; to = refl; down = λ n e. absurd cc }) (λ j. record { from = refl; to = refl; down = λ n e. absurd cc })
+          (λ k. record { from = refl; to = refl; down = λ n e. absurd cc }) (λ k. record { from = refl; to = refl; down = λ n e. ap (λ m. named_end hub (queue.Down m)) (eqb-true k n e) })
           (λ k. record { from = refl; to = refl; down = λ n e. absurd cc });
       behind =
           past hub rx (tx ++ (out ++ (down ++ up))) (all_map IsMarkless rx_lane (λ j. refl) joints)
           (past hub tx (out ++ (down ++ up)) (all_map IsMarkless tx_lane (λ j. refl) joints)
-          (past hub out (down ++ up) (all_map IsMarkless (λ (j : PlainJoint). out_lane node hub j.end.iface) (λ j. refl) joints) (ups node hub (range_with_len 0 apps))));
+          (past hub out (down ++ up) (all_map IsMarkless (out_lane node hub) (λ k. refl) (range_with_len 0 ifaces)) (ups node hub (range_with_len 0 apps))));
     }
 
-rows_from : (place : ℕ) (nodes : List PlainNode) (joints : List PlainJoint) → AllByRecursion IsRow (wires_from place nodes joints)
-rows_from place [] joints = tt
-rows_from place (n ∷ nodes) joints = (is_row place (leader_of place n.addr) (joints_at place joints) (length n.apps), rows_from (place + 1) nodes joints)
+rows_from : (place : ℕ) (nodes : List PlainNode) (links : List PlainLink) → AllByRecursion IsRow (wires_from place nodes links)
+rows_from place [] links = tt
+rows_from place (n ∷ nodes) links = (is_row place (leader_of place n.addr) (joints_at place (joints_from 0 links)) (length (links_at place links)) (length n.apps), rows_from (place + 1) nodes links)
 
 -- so are those of each node of a scene
 pub rows_are : (scene : PlainScene) → AllByRecursion IsRow (wires_of scene)
 unfolding wires_of
-rows_are scene = rows_from 0 scene.nodes (joints_from 0 scene.links)
+rows_are scene = rows_from 0 scene.nodes scene.links
 
 -- the lane that the marks of a lane tell of is one of its node, and goes the other way: its tally is that of any end of it
 pub record HasBack (scene : PlainScene) (nodes : List PlainNodeQueues) (node : ℕ) (wire : PlainLane) (about : Option ℕ) (q : QueueId) : Type 0 where

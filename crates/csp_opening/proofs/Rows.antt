@@ -17,10 +17,11 @@ use Rattle.csp_opening.proofs.Zipped.{placed_at, wire_rows}
 use Rattle.csp_opening.specs.Opened.{AreWired}
 use Rattle.csp_log.specs.declared.who.Who.{Who}
 use Rattle.csp_scene.proofs.Public.{AllByRecursion-append}
+use Rattle.csp_scene.specs.Links.{links_at}
 use Rattle.csp_scene.specs.Ranges.{IsNode, IsScene}
-use Rattle.csp_scene.specs.Scene.{PlainNode, PlainScene}
+use Rattle.csp_scene.specs.Scene.{PlainLink, PlainNode, PlainScene}
 use Rattle.csp_standing.proofs.Public.{all_at}
-use Rattle.csp_topology.proofs.Public.{joints_few}
+use Rattle.csp_topology.proofs.Public.{joints_few, links_few}
 use Rattle.csp_topology.specs.Lanes.{PlainLane, leader_of, out_lane}
 use Rattle.csp_topology.specs.Wired as wired
 use Rattle.csp_topology.specs.Wires.{PlainJoint, down_lane, joints_at, joints_from, rx_lane, tx_lane, up_lane, wires_from, wires_of, wires_with}
@@ -32,13 +33,13 @@ record IsCalled (l : PlainLane) : Type 0 where
   from : is_queue queue.Inbox l.from.queue ≡ false
   to : is_queue queue.Inbox l.to.queue ≡ false
 
-row_called : (node : ℕ) (hub : Who) (joints : List PlainJoint) (apps : ℕ) → AllByRecursion IsCalled (wires_with node hub joints apps)
-row_called node hub joints apps =
-    each_lane IsCalled node hub joints apps (λ j. record { from = refl; to = refl }) (λ j. record { from = refl; to = refl }) (λ j. record { from = refl; to = refl }) (λ k. record { from = refl; to = refl }) (λ k. record { from = refl; to = refl })
+row_called : (node : ℕ) (hub : Who) (joints : List PlainJoint) (ifaces apps : ℕ) → AllByRecursion IsCalled (wires_with node hub joints ifaces apps)
+row_called node hub joints ifaces apps =
+    each_lane IsCalled node hub joints ifaces apps (λ j. record { from = refl; to = refl }) (λ j. record { from = refl; to = refl }) (λ k. record { from = refl; to = refl }) (λ k. record { from = refl; to = refl }) (λ k. record { from = refl; to = refl })
 
-rows_called : (place : ℕ) (nodes : List PlainNode) (joints : List PlainJoint) → AllByRecursion (AllByRecursion IsCalled) (wires_from place nodes joints)
-rows_called place [] joints = tt
-rows_called place (n ∷ nodes) joints = (row_called place (leader_of place n.addr) (joints_at place joints) (length n.apps), rows_called (place + 1) nodes joints)
+rows_called : (place : ℕ) (nodes : List PlainNode) (links : List PlainLink) → AllByRecursion (AllByRecursion IsCalled) (wires_from place nodes links)
+rows_called place [] links = tt
+rows_called place (n ∷ nodes) links = (row_called place (leader_of place n.addr) (joints_at place (joints_from 0 links)) (length (links_at place links)) (length n.apps), rows_called (place + 1) nodes links)
 
 -- what holds of each of a list of lists holds at a place
 all_placed : {A : Type 0} → (P : A → Type 0) (xss : List (List A)) (node k : ℕ) (x : A) → AllByRecursion (AllByRecursion P) xss → placed_at xss node k ≡ Some x → P x
@@ -48,15 +49,15 @@ all_placed P (xs ∷ xss) (suc node) k x h e = all_placed P xss node k x h.1 e
 
 pub all_called : (scene : PlainScene) → AllCalled scene
 unfolding wires_of
-all_called scene node k l wired.putting at = (all_placed IsCalled (wires_of scene) node k l (rows_called 0 scene.nodes (joints_from 0 scene.links)) at).from
-all_called scene node k l wired.getting at = (all_placed IsCalled (wires_of scene) node k l (rows_called 0 scene.nodes (joints_from 0 scene.links)) at).to
+all_called scene node k l wired.putting at = (all_placed IsCalled (wires_of scene) node k l (rows_called 0 scene.nodes scene.links) at).from
+all_called scene node k l wired.getting at = (all_placed IsCalled (wires_of scene) node k l (rows_called 0 scene.nodes scene.links) at).to
 
 -- a row is short
-row_long : (node : ℕ) (hub : Who) (joints : List PlainJoint) (apps : ℕ) → length (wires_with node hub joints apps) ≡ 3 * length joints + 2 * apps
-row_long node hub joints apps =
+row_long : (node : ℕ) (hub : Who) (joints : List PlainJoint) (ifaces apps : ℕ) → length (wires_with node hub joints ifaces apps) ≡ 2 * length joints + ifaces + 2 * apps
+row_long node hub joints ifaces apps =
     let rx = map rx_lane joints in
     let tx = map tx_lane joints in
-    let out = map (λ (j : PlainJoint). out_lane node hub j.end.iface) joints in
+    let out = map (out_lane node hub) (range_with_len 0 ifaces) in
     let down = map (down_lane node hub) (range_with_len 0 apps) in
     let up = map (up_lane node hub) (range_with_len 0 apps) in
     let a = length-append rx (tx ++ (out ++ (down ++ up))) in
@@ -65,22 +66,24 @@ row_long node hub joints apps =
     let d = length-append down up in
     let e = length-map joints rx_lane in
     let f = length-map joints tx_lane in
-    let g = length-map joints (λ (j : PlainJoint). out_lane node hub j.end.iface) in
+    let g = length-map (range_with_len 0 ifaces) (out_lane node hub) ∙ length-range_with_len 0 ifaces in
     let h = length-map (range_with_len 0 apps) (down_lane node hub) ∙ length-range_with_len 0 apps in
     let i = length-map (range_with_len 0 apps) (up_lane node hub) ∙ length-range_with_len 0 apps in
     omega (arith, a, b, c, d, e, f, g, h, i)
 
-rows_few : (place : ℕ) (nodes : List PlainNode) (joints : List PlainJoint) → ((k : ℕ) → length (joints_at k joints) ≤ 12) → AllByRecursion IsNode nodes → AllByRecursion (λ (row : List PlainLane). length row < 256) (wires_from place nodes joints)
-rows_few place [] joints few is = tt
-rows_few place (n ∷ nodes) joints few is = (
-  (let long = row_long place (leader_of place n.addr) (joints_at place joints) (length n.apps) in let here = few place in let apps = is.0.few in omega (arith, long, here, apps)),
-  rows_few (place + 1) nodes joints few is.1,
+rows_few : (place : ℕ) (nodes : List PlainNode) (links : List PlainLink) → ((k : ℕ) → (length (joints_at k (joints_from 0 links)) ≤ 12) × (length (links_at k links) ≤ 12)) → AllByRecursion IsNode nodes
+    → AllByRecursion (λ (row : List PlainLane). length row < 256) (wires_from place nodes links)
+rows_few place [] links few is = tt
+rows_few place (n ∷ nodes) links few is = (
+  (let long = row_long place (leader_of place n.addr) (joints_at place (joints_from 0 links)) (length (links_at place links)) (length n.apps) in let here = few place in let apps = is.0.few in omega (arith, long, here.0, here.1, apps)),
+  rows_few (place + 1) nodes links few is.1,
 )
 
 pub scene_rows_few : (scene : PlainScene) → IsScene scene → AllByRecursion (λ (row : List PlainLane). length row < 256) (wires_of scene)
 unfolding wires_of
 scene_rows_few scene is =
-    rows_few 0 scene.nodes (joints_from 0 scene.links) (λ k. (let low = joints_few scene.nodes scene.links k 0 scene.links is.links in let most = is.few_links in omega (arith, low, most))) is.nodes
+    rows_few 0 scene.nodes scene.links
+    (λ k. (omega (arith, joints_few scene.nodes scene.links k 0 scene.links is.links, is.few_links), omega (arith, links_few k scene.links, is.few_links))) is.nodes
 
 -- each lane has room
 positive : (q : QueueId) (c : Carries) → wired.IsNamedFor q c → 0 < lane_room q

@@ -23,6 +23,7 @@ use Rattle.csp_scene.specs.Kept.{AreLinksAfter}
 use Rattle.csp_scene.specs.Links.{links_at}
 use Rattle.csp_scene.specs.Ranges.{IsEnd, IsLink, IsScene}
 use Rattle.csp_scene.specs.Scene.{PlainLink, PlainScene}
+use Rattle.csp_topology.proofs.Public.{home_ranged}
 use Rattle.csp_topology.specs.Parties.{iface_opening, party_steps}
 use Rattle.csp_consistent.specs.Addressed.{AreHopsOut, addressed_in}
 use Rattle.csp_consistent.specs.Consistent.{IsConsistent}
@@ -116,7 +117,7 @@ module _ (scene : PlainScene) (r : PlainRecord) (ranges : IsScene scene) (con : 
         let most : l.mtu ≤ MAX_PAYLOAD = omega (arith, is.mtu.1) in
         AllByRecursion-map (IsSuchFrame (λ f. IsOfOther l at (λ from. Comes f))) (IsSuchFrame Comes) (gets (queue.Rx end.iface) (entries_of r (who.Iface end.node end.iface)))
         (such_also (λ f. IsOfOther l at (λ from. Comes f)) Comes (λ f come. come.holds))
-        (came_from_others scene r l end (λ from. IsSentIn from.node from.iface l.kind l.mtu (entries_of r (who.Iface from.node from.iface))) (λ from f. Comes f) con.runs con.lanes j
+        (came_from_others scene r l end (λ from. IsSentIn from.node from.iface l.kind l.mtu (entries_of r (who.Iface from.node from.iface))) (λ from f. Comes f) (home_ranged scene ranges) con.runs con.lanes j
         (λ place k from f apart joined popped sent. comes r from l.mtu words most l at place apart joined l.kind (fate_of place (k + 1) l.plan).flip f
         (λ can. each_at (λ (x : End). transmissions (entries_of r (who.Iface x.node x.iface)) ≤ IDS) l.ends place from (ordinary.numbers can) joined) (sends l number place from there joined).1 sent
         (ordinary.undamaged place k f popped))

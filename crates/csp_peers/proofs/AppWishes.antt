@@ -11,7 +11,6 @@ use Rattle.csp_app.specs.PlainStep as step
 use Rattle.csp_buffer.specs.Content.{Content}
 use Rattle.csp_consistent.proofs.Public.{through, each_at, each_first, each_last, Logged, IsAppAt, IsOf, IsRouterAt, logged}
 use Rattle.csp_consistent.specs.Consistent.{IsConsistent}
-use Rattle.csp_consistent.specs.Lanes.{IsInOrder}
 use Rattle.csp_consistent.specs.Reading.{entries_of, got_by, gets, puts}
 use Rattle.csp_deck.specs.Runs.{IsRun}
 use Rattle.csp_log.specs.declared.entry.Entry.{Entry}
@@ -24,7 +23,7 @@ use Rattle.csp_log.specs.declared.shown.ItemShown.TheVariants as item
 use Rattle.csp_log.specs.declared.shown.OpShown.{OpShown}
 use Rattle.csp_log.specs.declared.shown.OpShown.TheVariants as op
 use Rattle.csp_party.specs.Any.{an_app}
-use Rattle.csp_prefix.proofs.Public.{ServesOwn, app_run, router_run, serves_own, app_lanes_there, owner_of, run_of, PutsSo, app_puts}
+use Rattle.csp_prefix.proofs.Public.{AreAppLanes, ServesOwn, app_run, router_run, serves_own, app_lanes_there, owner_of, run_of, PutsSo, app_puts}
 use Rattle.csp_prefix.specs.Apps.{IsAppLog}
 use Rattle.csp_prefix.specs.Routers.{opening_router, router_steps}
 use Rattle.csp_record.specs.Record.{PlainRecord}
@@ -33,7 +32,7 @@ use Rattle.csp_scene.specs.Links.{links_at}
 use Rattle.csp_scene.specs.Ranges.{IsApp, IsNode, IsOwnPort, IsScene, IsStep}
 use Rattle.csp_scene.specs.Scene.{PlainNode, PlainScene}
 use Rattle.csp_stack.specs.Router.{Router}
-use Rattle.csp_topology.specs.Lanes.{app_lanes, leader_of}
+use Rattle.csp_topology.specs.Lanes.{leader_of}
 use Rattle.csp_topology.specs.Parties.{config_of, router_for}
 use Rattle.csp_peers.specs.Unforged.{ComesWell, GetsWell, HasNoBroadcasts, HasNoForgeries, HasSteps, IsToOne, IsUnforged}
 
@@ -107,7 +106,7 @@ module _ (scene : PlainScene) (r : PlainRecord) (is : IsScene scene) (holds : Is
   pub router_gets_well : (place addr k : ℕ) (n : PlainNode) → slice_get scene.nodes place ≡ Some n → n.addr ≡ Some addr → k < length n.apps
       → AllByRecursion ComesWell (gets (queue.Up k) (entries_of r (who.Router place)))
   router_gets_well place addr k n there called low =
-      let lanes : AllByRecursion (IsInOrder r) (app_lanes place (leader_of place n.addr) k) = app_lanes_there scene r place k n holds.lanes there low in
+      let lanes : AreAppLanes r place (leader_of place n.addr) k = app_lanes_there scene r place k n holds.lanes there low in
       subst (λ a. AllByRecursion ComesWell (gets (queue.Up k) (entries_of r (leader_of place a)))) called
       (through ComesWell r _ lanes.0 (app_puts_well place k))
 

@@ -1,6 +1,6 @@
 -- The lanes of a node are in order, and each name's log is that of its party.
-use Rattle.std.proofs.Common.{◌≡◌, ◌⊎◌, inl, inr, ℕ, zero, suc, ◌+◌, ◌<◌, Some, List, [], ◌∷◌, flat_map, length, slice_get, unwrap_or, refl, sym, ap, ◌∙◌, subst, arith}
-use Rattle.std.specs.List.{AllByRecursion, range_with_len}
+use Rattle.std.proofs.Common.{◌≡◌, ◌⊎◌, inl, inr, ℕ, ◌<◌, Some, List, [], length, slice_get, unwrap_or, refl, sym, ap, ◌∙◌, subst}
+use Rattle.std.specs.List.{AllByRecursion}
 use Rattle.csp_app.specs.PlainApp as plain_app
 use Rattle.csp_deck.specs.Carried.{IsUpItem}
 use Rattle.csp_deck.specs.Runs.{IsRun}
@@ -12,16 +12,18 @@ use Rattle.csp_log.specs.declared.who.Who.{Who}
 use Rattle.csp_log.specs.declared.who.Who.TheVariants as who
 use Rattle.csp_scene.specs.Links.{links_at}
 use Rattle.csp_scene.specs.Ranges.{IsApp, IsNode, IsScene}
-use Rattle.csp_scene.specs.Scene.{PlainLink, PlainNode, PlainScene}
+use Rattle.csp_scene.specs.Scene.{PlainNode, PlainScene}
 use Rattle.csp_stack.specs.Router.{Router}
 use Rattle.csp_prefix.specs.Apps.{IsTrueApp}
 use Rattle.csp_consistent.specs.Lanes.{AreInOrder, IsInOrder}
-use Rattle.csp_topology.specs.Lanes.{PlainLane, app_lanes, leader_of, lanes_from, lanes_of, lanes_within, link_lanes, out_lane}
+use Rattle.csp_topology.proofs.Public.{of_app, of_iface}
+use Rattle.csp_topology.specs.Lanes.{leader_of, out_lane}
+use Rattle.csp_topology.specs.Wires.{down_lane, up_lane}
 use Rattle.csp_topology.specs.Parties.{config_of, parties_of, party_steps, router_for}
 use Rattle.csp_consistent.specs.Reading.{entries_of, gets, puts}
 use Rattle.csp_prefix.specs.Routers.{IsRouterLog, IsUntraced, opening_router, router_steps}
 use Rattle.csp_consistent.specs.Runs.{AreLogsOf}
-use Rattle.csp_consistent.proofs.Public.{through, each_at, each_first, each_last, Logged, IsAppAt, IsOf, IsOwner, IsRouterAt, logged}
+use Rattle.csp_consistent.proofs.Public.{through, each_at, Logged, IsAppAt, IsOf, IsOwner, IsRouterAt, logged}
 use Rattle.csp_prefix.proofs.AppItems.{puts_up_items}
 use Rattle.csp_prefix.proofs.AppTurns.{true_apps}
 use Rattle.csp_prefix.proofs.HubLogs.{app_run, comes_so, router_run, serves_own}
@@ -29,48 +31,16 @@ use Rattle.csp_prefix.proofs.PacketLists.{each_both}
 
 -- ---- lanes
 
--- what holds of what each number gives holds of what this one gives
-at_number : {X : Type 0} (P : X → Type 0) (f : ℕ → List X) (a n k j : ℕ) → j ≡ a + k → k < n → AllByRecursion P (flat_map f (range_with_len a n)) → AllByRecursion P (f j)
-at_number P f a zero k j e low all = absurd (omega (arith, low))
-at_number P f a (suc n) zero j e low all =
-    let same : a ≡ j = omega (arith, e) in
-    subst (λ m. AllByRecursion P (f m)) same (each_first P (f a) (flat_map f (range_with_len (a + 1) n)) all)
-at_number P f a (suc n) (suc k) j e low all = at_number P f (a + 1) n k j (omega (arith, e)) (omega (arith, low)) (each_last P (f a) (flat_map f (range_with_len (a + 1) n)) all)
+-- those between the router or bridge of a node and an application are in order: from the application, and to it
+abbrev pub AreAppLanes : PlainRecord → ℕ → Who → ℕ → Type 0
+AreAppLanes r place hub k = IsInOrder r (up_lane place hub k) × IsInOrder r (down_lane place hub k)
 
--- those of the node at this place
-abbrev lanes_at : ℕ → PlainNode → List PlainLink → List PlainLane
-lanes_at place n links = lanes_within place (leader_of place n.addr) (length n.apps) (length (links_at place links))
-
-node_lanes : (r : PlainRecord) (links : List PlainLink) (m j place : ℕ) (n : PlainNode) (nodes : List PlainNode) → place ≡ m + j → slice_get nodes j ≡ Some n
-    → AllByRecursion (IsInOrder r) (lanes_from m nodes links) → AllByRecursion (IsInOrder r) (lanes_at place n links)
-node_lanes r links m j place n [] e there all = absurd cc
-node_lanes r links m zero place n (x ∷ nodes) e there all =
-    let same : x ≡ n = ap (λ o. unwrap_or o x) there in
-    let here : m ≡ place = omega (arith, e) in
-    subst (λ y. AllByRecursion (IsInOrder r) (lanes_at place y links)) same
-    (subst (λ k. AllByRecursion (IsInOrder r) (lanes_at k x links)) here (each_first (IsInOrder r) (lanes_at m x links) (lanes_from (m + 1) nodes links) all))
-node_lanes r links m (suc j) place n (x ∷ nodes) e there all =
-    node_lanes r links (m + 1) j place n nodes (omega (arith, e)) there (each_last (IsInOrder r) (lanes_at m x links) (lanes_from (m + 1) nodes links) all)
-
-pub lanes_there : (scene : PlainScene) (r : PlainRecord) (place : ℕ) (n : PlainNode) → AreInOrder scene r → slice_get scene.nodes place ≡ Some n → AllByRecursion (IsInOrder r) (lanes_at place n scene.links)
-unfolding lanes_of
-lanes_there scene r place n order there =
-    node_lanes r scene.links 0 place place n scene.nodes (omega arith) there (each_first (IsInOrder r) (lanes_from 0 scene.nodes scene.links) (link_lanes 0 scene.links) order)
-
--- from an application and to it, and to an interface
-pub app_lanes_there : (scene : PlainScene) (r : PlainRecord) (place k : ℕ) (n : PlainNode) → AreInOrder scene r → slice_get scene.nodes place ≡ Some n → k < length n.apps
-    → AllByRecursion (IsInOrder r) (app_lanes place (leader_of place n.addr) k)
-app_lanes_there scene r place k n order there low =
-    at_number (IsInOrder r) (app_lanes place (leader_of place n.addr)) 0 (length n.apps) k k (omega arith) low
-    (each_first (IsInOrder r) (flat_map (app_lanes place (leader_of place n.addr)) (range_with_len 0 (length n.apps)))
-    (flat_map (λ j. out_lane place (leader_of place n.addr) j ∷ []) (range_with_len 0 (length (links_at place scene.links)))) (lanes_there scene r place n order there))
+pub app_lanes_there : (scene : PlainScene) (r : PlainRecord) (place k : ℕ) (n : PlainNode) → AreInOrder scene r → slice_get scene.nodes place ≡ Some n → k < length n.apps → AreAppLanes r place (leader_of place n.addr) k
+app_lanes_there scene r place k n order there low = of_app (IsInOrder r) scene order place k n there low
 
 pub out_lane_there : (scene : PlainScene) (r : PlainRecord) (place k : ℕ) (n : PlainNode) → AreInOrder scene r → slice_get scene.nodes place ≡ Some n → k < length (links_at place scene.links)
     → IsInOrder r (out_lane place (leader_of place n.addr) k)
-out_lane_there scene r place k n order there low =
-    (at_number (IsInOrder r) (λ j. out_lane place (leader_of place n.addr) j ∷ []) 0 (length (links_at place scene.links)) k k (omega arith) low
-    (each_last (IsInOrder r) (flat_map (app_lanes place (leader_of place n.addr)) (range_with_len 0 (length n.apps)))
-    (flat_map (λ j. out_lane place (leader_of place n.addr) j ∷ []) (range_with_len 0 (length (links_at place scene.links)))) (lanes_there scene r place n order there))).0
+out_lane_there scene r place k n order there low = of_iface (IsInOrder r) scene order place k n there low
 
 -- ---- the logs of names
 
@@ -119,7 +89,7 @@ app_items scene r place number is are =
 up_items : (scene : PlainScene) (r : PlainRecord) (place k : ℕ) (n : PlainNode) → IsScene scene → AreLogsOf (parties_of scene) r.parties → AreInOrder scene r → slice_get scene.nodes place ≡ Some n → k < length n.apps
     → AllByRecursion (λ i. IsUpItem i × IsUntraced i) (gets (queue.Up k) (entries_of r (leader_of place n.addr)))
 up_items scene r place k n is are order there low =
-    let lanes : AllByRecursion (IsInOrder r) (app_lanes place (leader_of place n.addr) k) = app_lanes_there scene r place k n order there low in
+    let lanes : AreAppLanes r place (leader_of place n.addr) k = app_lanes_there scene r place k n order there low in
     through (λ i. IsUpItem i × IsUntraced i) r _ lanes.0
     (each_both IsUpItem IsUntraced (λ i. IsUpItem i × IsUntraced i) (puts (queue.Up k) (entries_of r (who.App place k))) (λ i a b. (a, b)) (app_items scene r place k is are) (app_true scene r place k are).untraced)
 

@@ -29,7 +29,7 @@ pub use Rattle.csp_prefix.proofs.MachineSteps.{Delivers, Goes, Hears, IsSameOwn,
 -- what a step leaves of the packets of a send window
 pub use Rattle.csp_prefix.proofs.MachineWindows.{IsSameSend, same-acked, same-heard, same-marked}
 -- the lanes of a node are in order, and each name's log is that of its party
-pub use Rattle.csp_prefix.proofs.NodeLanes.{RouterThere, app_lanes_there, out_lane_there, owner_of, router_there, run_of}
+pub use Rattle.csp_prefix.proofs.NodeLanes.{AreAppLanes, RouterThere, app_lanes_there, out_lane_there, owner_of, router_there, run_of}
 -- each connection that became open is on a slot of an application that its node has
 pub use Rattle.csp_prefix.proofs.OpeningPlaces.{opener}
 -- what holds of each packet among items: of those of each priority, or with each mark; and what is read off a record's logs

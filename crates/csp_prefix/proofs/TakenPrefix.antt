@@ -1,6 +1,5 @@
 -- What was taken on a reliable connection is a beginning of what was sent on its peer's.
 use Rattle.std.proofs.Common.{◌≡◌, ◌⊎◌, inl, inr, ℕ, false, Some, List, [], ◌∷◌, ◌++◌, flat_map, slice_get, unwrap_or, refl, sym, ap, ◌∙◌, subst, append_assoc}
-use Rattle.std.specs.List.{AllByRecursion}
 use Rattle.std.proofs.lemmas.Option.{slice_get_within}
 use Rattle.csp_log.specs.PlainLog.{all_events}
 use Rattle.csp_log.specs.declared.entry.Entry.{Entry}
@@ -17,15 +16,14 @@ use Rattle.csp_scene.specs.Scene.{PlainNode, PlainScene}
 use Rattle.csp_consistent.specs.Consistent.{IsConsistent}
 use Rattle.csp_prefix.specs.Delivered.{delivered}
 use Rattle.csp_prefix.specs.Items.{payloads_in}
-use Rattle.csp_consistent.specs.Lanes.{IsInOrder}
-use Rattle.csp_topology.specs.Lanes.{app_lanes, leader_of}
+use Rattle.csp_topology.specs.Lanes.{leader_of}
 use Rattle.csp_prefix.specs.Prefix.{IsBeginning, IsOfFlow, IsOpened, IsReliablePrefix, sent_on, took_on}
 use Rattle.csp_consistent.specs.Reading.{entries_of, gets, left_in, puts}
 use Rattle.csp_prefix.specs.Routers.{AreTrueRouters, HasNoStale}
 use Rattle.csp_prefix.proofs.FlowReads.{said_is, said_none}
 use Rattle.csp_prefix.proofs.GenuinePackets.{are_shown, flows_in, hears_genuine, true_router}
 use Rattle.csp_consistent.proofs.Public.{Logged, IsAppAt, IsOf, logged}
-use Rattle.csp_prefix.proofs.NodeLanes.{RouterThere, app_lanes_there, app_true, owner_of}
+use Rattle.csp_prefix.proofs.NodeLanes.{AreAppLanes, RouterThere, app_lanes_there, app_true, owner_of}
 use Rattle.csp_prefix.proofs.OpeningPlaces.{opener}
 use Rattle.csp_prefix.proofs.PacketLists.{events_of, none_counted}
 use Rattle.csp_prefix.proofs.PayloadReads.{delivered_is, payloads_begin}
@@ -56,21 +54,21 @@ module _ (scene : PlainScene) (r : PlainRecord) (is : IsScene scene) (con : IsCo
   took_begins place app slot ordinal t =
       by (logged scene r (who.App place app) con.runs)
     where
-      lane : (n : PlainNode) → slice_get scene.nodes place ≡ Some n → AllByRecursion (IsInOrder r) (app_lanes place (leader_of place n.addr) app) → AllByRecursion (IsInOrder r) (app_lanes place (who.Router place) app)
+      lane : (n : PlainNode) → slice_get scene.nodes place ≡ Some n → AreAppLanes r place (leader_of place n.addr) app → AreAppLanes r place (who.Router place) app
       lane n there all =
           let one : n ≡ t.node = ap (λ o. unwrap_or o n) (sym there ∙ t.there) in
-          subst (λ a. AllByRecursion (IsInOrder r) (app_lanes place (leader_of place a) app)) (ap (λ (m : PlainNode). m.addr) one ∙ t.called) all
+          subst (λ a. AreAppLanes r place (leader_of place a) app) (ap (λ (m : PlainNode). m.addr) one ∙ t.called) all
 
       by : (entries_of r (who.App place app) ≡ []) ⊎ Logged (IsOf scene) (who.App place app) r.parties → IsBeginning (took app slot ordinal (entries_of r (who.App place app))) (delivered app slot ordinal (entries_of r (who.Router place)))
       by (inl none) = begins_nothing (took app slot ordinal (entries_of r (who.App place app))) (delivered app slot ordinal (entries_of r (who.Router place))) (ap (took app slot ordinal) none)
       by (inr l) =
           let at : IsAppAt scene.nodes place app l.opening.party = owner_of scene r (who.App place app) l in
-          let lanes : AllByRecursion (IsInOrder r) (app_lanes place (who.Router place) app) = lane at.node at.there (app_lanes_there scene r place app at.node con.lanes at.there (slice_get_within at.node.apps app at.app at.of_it)) in
+          let lanes : AreAppLanes r place (who.Router place) app = lane at.node at.there (app_lanes_there scene r place app at.node con.lanes at.there (slice_get_within at.node.apps app at.app at.of_it)) in
           let got : List ItemShown = gets (queue.Down app) (entries_of r (who.App place app)) in
           let put : List ItemShown = puts (queue.Down app) (entries_of r (who.Router place)) in
           begins_same (payloads_in slot ordinal got) (took app slot ordinal (entries_of r (who.App place app))) (payloads_in slot ordinal put) (delivered app slot ordinal (entries_of r (who.Router place)))
           ((app_true scene r place app con.runs).takes slot ordinal) (sym (delivered_is app slot ordinal (entries_of r (who.Router place))))
-          (payloads_begin slot ordinal got (left_in r place (queue.Down app) 0) put lanes.1.0.order)
+          (payloads_begin slot ordinal got (left_in r place (queue.Down app) 0) put lanes.1.order)
 
   -- so it begins what the flow of the peer says
   took_said : (place app nth : ℕ) (x : Opening) (peer : ℕ × ℕ) → IsOpened r place app x → x.nth ≡ Some nth → x.peer ≡ Some peer → IsBeginning (took_on r place app x) ((flows_in scene r).said peer)

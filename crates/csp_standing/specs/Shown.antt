@@ -15,7 +15,8 @@ use Rattle.csp_log.specs.Who.{node_of}
 use Rattle.csp_log.specs.declared.who.Who.{Who}
 use Rattle.csp_log.specs.declared.who.Who.TheVariants as who
 use Rattle.csp_scene.specs.Scene.{PlainNode, PlainScene}
-use Rattle.csp_topology.specs.Lanes.{PlainLane, leader_of, lanes_of}
+use Rattle.csp_topology.specs.Lanes.{PlainLane, leader_of}
+use Rattle.csp_topology.specs.Wires.{lanes_of}
 
 -- two of the posts have the ends of a lane: its producer the one that puts, its consumer the one that gets, by the names that they call it
 pub record IsWiredAt (posts : List PlainPost) (l : PlainLane) : Type 0 where

@@ -1,12 +1,12 @@
 -- The record of a run in threads is causal: what an application and its router have got of each other was put before.
-use Rattle.std.proofs.Common.{◌≡◌, ◌⊎◌, inl, inr, ℕ, zero, suc, ◌+◌, ◌<◌, ◌&&◌, Bool, true, false, cond, Option, None, Some, List, [], ◌∷◌, ◌++◌, flat_map, length, not, refl, sym, ap, ◌∙◌, subst, arith, slice_get}
-use Rattle.std.specs.List.{AllByRecursion, find, range_with_len}
+use Rattle.std.proofs.Common.{◌≡◌, ◌⊎◌, inl, inr, ℕ, zero, suc, ◌+◌, ◌&&◌, Bool, true, false, cond, Option, None, Some, List, [], ◌∷◌, ◌++◌, length, not, refl, sym, ap, ◌∙◌, subst, arith, slice_get}
+use Rattle.std.specs.List.{AllByRecursion, find}
 use Rattle.std.specs.Option.{option_map}
 use Rattle.std.specs.Prelude.{IfSome, IsSome}
 use Rattle.std.proofs.lemmas.Bool.{eq-eqb}
 use Rattle.std.proofs.lemmas.Option.{same_Some, slice_get_within}
 use Rattle.csp_causal.specs.Causal.{AreCausal, IsCausal}
-use Rattle.csp_consistent.proofs.Public.{each_first, each_last, Logged, IsAppAt, IsOf, IsOwner, IsRouterAt, logged}
+use Rattle.csp_consistent.proofs.Public.{Logged, IsAppAt, IsOf, IsOwner, IsRouterAt, logged}
 use Rattle.csp_consistent.specs.Reading.{entries_of, gets, is_queue}
 use Rattle.csp_ends.specs.Ends.{PlainSide}
 use Rattle.csp_ends.specs.Sides.{IsBacked, back_name, back_of, is_back, is_back_by, is_turned}
@@ -19,47 +19,18 @@ use Rattle.csp_posts.specs.Posts.{PlainPost}
 use Rattle.csp_record.specs.Record.{PlainRecord}
 use Rattle.csp_log.specs.declared.who.Who.{Who}
 use Rattle.csp_log.specs.declared.who.Who.TheVariants as who
-use Rattle.csp_scene.specs.Links.{links_at}
-use Rattle.csp_scene.specs.Scene.{PlainLink, PlainNode, PlainScene}
+use Rattle.csp_scene.specs.Scene.{PlainNode, PlainScene}
 use Rattle.csp_standing.proofs.Public.{each_at, post_at}
 use Rattle.csp_standing.specs.Network.{PlainNetwork}
 use Rattle.csp_telling.proofs.Heeded.{heeded_causal}
 use Rattle.csp_telling.proofs.LanesLeft.{HasLeft, from_called, from_entries, from_who, left_of, to_called, to_entries, to_who}
 use Rattle.csp_telling.proofs.Logs.{are_logs}
 use Rattle.csp_telling.proofs.Nodes.{IsEnded}
-use Rattle.csp_topology.specs.Lanes.{PlainLane, app_lanes, leader_of, lanes_from, lanes_of, lanes_within, link_lanes, out_lane}
+use Rattle.csp_topology.proofs.Public.{of_app}
+use Rattle.csp_topology.specs.Lanes.{leader_of}
 use Rattle.csp_topology.specs.Parties.{PlainOpening, parties_of}
 use Rattle.csp_topology.specs.Wired.{IsWire}
-use Rattle.csp_topology.specs.Wires.{down_lane, up_lane}
-
--- ---- the lanes of an application
-
--- what holds of what each number gives holds of what this one gives
-at_number : {X : Type 0} (P : X → Type 0) (f : ℕ → List X) (a n k j : ℕ) → j ≡ a + k → k < n → AllByRecursion P (flat_map f (range_with_len a n)) → AllByRecursion P (f j)
-at_number P f a zero k j e low all = absurd (omega (arith, low))
-at_number P f a (suc n) zero j e low all =
-    let same : a ≡ j = omega (arith, e) in
-    subst (λ m. AllByRecursion P (f m)) same (each_first P (f a) (flat_map f (range_with_len (a + 1) n)) all)
-at_number P f a (suc n) (suc k) j e low all = at_number P f (a + 1) n k j (omega (arith, e)) (omega (arith, low)) (each_last P (f a) (flat_map f (range_with_len (a + 1) n)) all)
-
-module _ (P : PlainLane → Type 0) (links : List PlainLink) where
-  -- those of the node at this place
-  abbrev lanes_at : ℕ → PlainNode → List PlainLane
-  lanes_at place n = lanes_within place (leader_of place n.addr) (length n.apps) (length (links_at place links))
-
-  node_lanes : (m j place : ℕ) (n : PlainNode) (nodes : List PlainNode) → place ≡ m + j → slice_get nodes j ≡ Some n → AllByRecursion P (lanes_from m nodes links) → AllByRecursion P (lanes_at place n)
-  node_lanes m j place n [] e there all = absurd cc
-  node_lanes m zero place n (x ∷ nodes) e there all =
-      let here : m ≡ place = omega (arith, e) in
-      subst (λ y. AllByRecursion P (lanes_at place y)) (same_Some x n there) (subst (λ k. AllByRecursion P (lanes_at k x)) here (each_first P (lanes_at m x) (lanes_from (m + 1) nodes links) all))
-  node_lanes m (suc j) place n (x ∷ nodes) e there all = node_lanes (m + 1) j place n nodes (omega (arith, e)) there (each_last P (lanes_at m x) (lanes_from (m + 1) nodes links) all)
-
-app_lanes_there : (P : PlainLane → Type 0) (scene : PlainScene) (node k : ℕ) (n : PlainNode) → AllByRecursion P (lanes_of scene) → slice_get scene.nodes node ≡ Some n → k < length n.apps → AllByRecursion P (app_lanes node (leader_of node n.addr) k)
-unfolding lanes_of
-app_lanes_there P scene node k n all there low =
-    at_number P (app_lanes node (leader_of node n.addr)) 0 (length n.apps) k k (omega arith) low
-    (each_first P (flat_map (app_lanes node (leader_of node n.addr)) (range_with_len 0 (length n.apps))) (flat_map (λ j. out_lane node (leader_of node n.addr) j ∷ []) (range_with_len 0 (length (links_at node scene.links))))
-    (node_lanes P scene.links 0 node node n scene.nodes (omega arith) there (each_first P (lanes_from 0 scene.nodes scene.links) (link_lanes 0 scene.links) all)))
+use Rattle.csp_topology.specs.Wires.{down_lane, lanes_of, up_lane}
 
 -- ---- the marks of an end
 
@@ -179,6 +150,7 @@ module _ (scene : PlainScene) (n : PlainNetwork) (posts : List PlainPost) (r : P
           let app : IsAppAt scene.nodes node k l.opening.party = subst (λ w. IsOwner scene.nodes scene.links w l.opening.party) l.name l.holds in
           let router : IsRouterAt scene.nodes scene.links node m.opening.party = subst (λ w. IsOwner scene.nodes scene.links w m.opening.party) m.name m.holds in
           let one : app.node ≡ router.node = same_Some app.node router.node (sym app.there ∙ router.there) in
-          let wires : AllByRecursion (IsWire scene) (app_lanes node (who.Router node) k) = subst (λ a. AllByRecursion (IsWire scene) (app_lanes node (leader_of node a) k)) (ap (λ (c : PlainNode). c.addr) one ∙ router.called)
-          (app_lanes_there (IsWire scene) scene node k app.node known.wires app.there (slice_get_within app.node.apps k app.app app.of_it)) in
-          pair_causal node k (who.Router node) wires.0 wires.1.0
+          let wires : IsWire scene (up_lane node (who.Router node) k) × IsWire scene (down_lane node (who.Router node) k) =
+          subst (λ a. IsWire scene (up_lane node (leader_of node a) k) × IsWire scene (down_lane node (leader_of node a) k)) (ap (λ (c : PlainNode). c.addr) one ∙ router.called)
+          (of_app (IsWire scene) scene known.wires node k app.node app.there (slice_get_within app.node.apps k app.app app.of_it)) in
+          pair_causal node k (who.Router node) wires.0 wires.1

@@ -7,7 +7,8 @@ use Rattle.std.proofs.lemmas.List.Elements.{filter-append}
 use Rattle.csp_base.specs.Priority.{prio_number}
 use Rattle.csp_base.specs.declared.priority.Prio.{Prio}
 use Rattle.csp_consistent.proofs.Public.{IsOf, are_owners}
-use Rattle.csp_consistent.specs.Inboxes.{AreInboxesInOrder, came_through, writer_of}
+use Rattle.csp_consistent.specs.Inboxes.{AreInboxesInOrder, came_through}
+use Rattle.csp_topology.specs.Queues.{writer_of}
 use Rattle.csp_consistent.specs.Queues.{UsesItsQueues}
 use Rattle.csp_consistent.specs.Reading.{entries_of, gets, left_in, of_priority, put_by, puts, with_mark, with_priority}
 use Rattle.csp_deck.specs.Carried.{IsCarried}

@@ -31,10 +31,10 @@ use Rattle.csp_telling.proofs.Logs.{are_logged, are_logs}
 use Rattle.csp_telling.proofs.Nodes.{IsAtNode, IsEnded, IsKnown, at_scene, there_too}
 use Rattle.csp_telling.proofs.WireNames.{HasWire, wire_named}
 use Rattle.csp_telling.specs.Remains.{IsLaneLeft}
-use Rattle.csp_topology.specs.Lanes.{PlainLane, lanes_of}
+use Rattle.csp_topology.specs.Lanes.{PlainLane}
 use Rattle.csp_topology.specs.Parties.{parties_of}
 use Rattle.csp_topology.specs.Wired.{IsWire}
-use Rattle.csp_topology.specs.Wires.{wire_at, wires_of}
+use Rattle.csp_topology.specs.Wires.{lanes_of, wire_at, wires_of}
 
 -- ---- a refused push
 

@@ -17,10 +17,10 @@ use Rattle.csp_standing.specs.Network.{IsNetworkOf, PlainNetwork}
 use Rattle.csp_telling.proofs.PlacesApart.{AreNamedApart, named_apart}
 use Rattle.csp_telling.specs.Closed.{IsClosed}
 use Rattle.csp_telling.specs.Remains.{AreLeftAt, AreRemains, PlainRemains}
-use Rattle.csp_topology.specs.Lanes.{PlainLane, leader_of, lanes_of}
+use Rattle.csp_topology.specs.Lanes.{PlainLane, leader_of}
 use Rattle.csp_topology.specs.Parties.{PlainOpening, parties_of}
 use Rattle.csp_topology.specs.Wired.{IsWire, Stands}
-use Rattle.csp_topology.specs.Wires.{wires_of}
+use Rattle.csp_topology.specs.Wires.{lanes_of, wires_of}
 
 -- what stands in one of two lists of one length stands in the other
 pub there_too : {X Y : Type 0} (xs : List X) (ys : List Y) (k : ℕ) (x : X) → length xs ≡ length ys → slice_get xs k ≡ Some x → (y : Y) × (slice_get ys k ≡ Some y)

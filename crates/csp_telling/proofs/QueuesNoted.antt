@@ -1,7 +1,7 @@
 -- The notes of a run speak of each queue of the scene once, in their order.
 use Rattle.std.proofs.Common.{◌≡◌, ◌+◌, ℕ, suc, Some, List, [], ◌∷◌, ◌++◌, length, map, refl, sym, ap, ◌∙◌, subst, arith, slice_get}
 use Rattle.std.proofs.lemmas.List.{map-append}
-use Rattle.csp_consistent.specs.Whole.{AreQueuesLeft, at_node, left_name, queue_name, queues_from}
+use Rattle.csp_consistent.specs.Whole.{AreQueuesLeft, left_name, queue_name}
 use Rattle.csp_deck.specs.Carried.{places_of}
 use Rattle.csp_lists.specs.Order.{places_in}
 use Rattle.csp_log.specs.declared.places.Place.TheVariants as place
@@ -18,6 +18,7 @@ use Rattle.csp_telling.proofs.Nodes.{IsEnded}
 use Rattle.csp_telling.specs.Closed.{all_notes, inbox_notes, lane_notes, node_notes}
 use Rattle.csp_telling.specs.Remains.{PlainRemains}
 use Rattle.csp_topology.specs.Lanes.{PlainLane}
+use Rattle.csp_topology.specs.Queues.{at_node, queues_from}
 use Rattle.csp_topology.specs.Wires.{wires_of}
 
 -- the places of the lanes of a node

@@ -8,7 +8,7 @@ use Rattle.std.proofs.lemmas.List.Filters.{length-filter_both}
 use Rattle.std.proofs.lemmas.Option.{same_Some, slice_get_within}
 use Rattle.csp_base.specs.declared.priority.Prio.{Prio}
 use Rattle.csp_consistent.proofs.Public.{who_same, IsOwner}
-use Rattle.csp_consistent.specs.Inboxes.{writer_of}
+use Rattle.csp_topology.specs.Queues.{writer_of}
 use Rattle.csp_consistent.specs.Pools.{is_node}
 use Rattle.csp_consistent.specs.Queues.{MayAsk}
 use Rattle.csp_consistent.specs.Reading.{puts, with_priority}

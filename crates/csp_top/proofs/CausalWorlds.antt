@@ -1,14 +1,12 @@
 -- The record of each world that turns and ticks make of a scene's opening is causal.
 use Rattle.std.proofs.Common.{◌≡◌, ◌⊎◌, inl, inr, ℕ, ◌+◌, ◌≤◌, Bool, true, false, Option, None, Some, List, [], ◌∷◌, ◌++◌, length, map, slice_get, unwrap_or, refl, sym, ap, ◌∙◌, subst, append-nil, arith, length-append}
 use Rattle.std.specs.Prelude.{if◌then◌else◌}
-use Rattle.std.specs.List.{AllByRecursion}
 use Rattle.std.proofs.lemmas.Grind.{flat_map-append}
 use Rattle.std.proofs.lemmas.Option.{same_Some, slice_get_within}
 use Rattle.std.specs.Option.{option_map}
 use Rattle.csp_causal.specs.Causal.{AreCausal, IsCausal}
 use Rattle.csp_consistent.proofs.Public.{Logged, are_apart, entries_in, IsAppAt, IsOf, IsRouterAt, logged}
 use Rattle.csp_consistent.specs.Consistent.{IsConsistent}
-use Rattle.csp_consistent.specs.Lanes.{IsInOrder}
 use Rattle.csp_consistent.specs.Reading.{entries_of, gets, got_by, left_in, puts}
 use Rattle.csp_deck.specs.Step.{entry_of}
 use Rattle.csp_log.specs.declared.entry.Entry.{Entry}
@@ -18,13 +16,13 @@ use Rattle.csp_lists.specs.PlainDeck.{PlainDeck}
 use Rattle.csp_log.specs.declared.shown.AnswerShown.{AnswerShown}
 use Rattle.csp_log.specs.declared.shown.ItemShown.{ItemShown}
 use Rattle.csp_party.specs.Any.{asked, asks, events, has_ended}
-use Rattle.csp_prefix.proofs.Public.{app_lanes_there, owner_of}
+use Rattle.csp_prefix.proofs.Public.{AreAppLanes, app_lanes_there, owner_of}
 use Rattle.csp_record.specs.Record.{PlainRecord}
 use Rattle.csp_log.specs.Who.{is_who}
 use Rattle.csp_log.specs.declared.who.Who.{Who}
 use Rattle.csp_log.specs.declared.who.Who.TheVariants as who
 use Rattle.csp_scene.specs.Scene.{PlainNode, PlainScene}
-use Rattle.csp_topology.specs.Lanes.{app_lanes, leader_of}
+use Rattle.csp_topology.specs.Lanes.{leader_of}
 use Rattle.csp_topology.specs.Parties.{parties_of}
 use Rattle.csp_world.proofs.Public.{entries_step, no_entries, AreLogged, logged_tick, logged_turn, members_opened, opening_logged}
 use Rattle.csp_world.specs.Opening.{opening}
@@ -115,14 +113,14 @@ module _ (first_grows : FirstGrows) (second_grows : SecondGrows) where
           let app : IsAppAt scene.nodes node k l.opening.party = owner_of scene r (who.App node k) l in
           let router : IsRouterAt scene.nodes scene.links node m.opening.party = owner_of scene r (who.Router node) m in
           let one : app.node ≡ router.node = ap (λ o. unwrap_or o app.node) (sym app.there ∙ router.there) in
-          let lanes : AllByRecursion (IsInOrder r) (app_lanes node (who.Router node) k) =
-          subst (λ a. AllByRecursion (IsInOrder r) (app_lanes node (leader_of node a) k)) (ap (λ (n : PlainNode). n.addr) one ∙ router.called)
+          let lanes : AreAppLanes r node (who.Router node) k =
+          subst (λ a. AreAppLanes r node (leader_of node a) k) (ap (λ (n : PlainNode). n.addr) one ∙ router.called)
           (app_lanes_there scene r node k app.node con.lanes app.there (slice_get_within app.node.apps k app.app app.of_it)) in
           inr (inr (record {
             up_left = left_in r node (queue.Up k) 0;
             down_left = left_in r node (queue.Down k) 0;
             up = lanes.0.order;
-            down = lanes.1.0.order;
+            down = lanes.1.order;
           }))
 
   by_relation : (k : ℕ) (first second before earlier : List Entry) (e : Entry) (t u : Bool) → first ≡ before ++ one_if t e → second ≡ earlier ++ one_if u e

@@ -16,7 +16,7 @@ use Rattle.csp_topology.proofs.Joints.{ArePlaced, IsAt, joint_is, joints_count, 
 use Rattle.csp_topology.proofs.PartyPlaces.{app_there, begins, ends, hub_home, hub_stands, iface_there, link_there}
 use Rattle.csp_topology.proofs.Places.{get-within}
 use Rattle.csp_topology.proofs.PlanLemmas.{link_rule}
-use Rattle.csp_topology.proofs.WirePlaces.{Wire, down, ifaces_of, out, rx, tx, up, wire_is}
+use Rattle.csp_topology.proofs.WirePlaces.{Wire, count_of, down, ifaces_of, out, rx, tx, up, wire_is}
 use Rattle.csp_topology.specs.Lanes.{PlainEnd, PlainLane, leader_of, out_lane}
 use Rattle.csp_topology.specs.Parties.{PlainOpening, app_at, heeded, iface_on, link_at, parties_of}
 use Rattle.csp_topology.specs.Wired.{IsEndOf, Joins, Side, Stands, StaysHome, end_on, getting, putting}
@@ -77,10 +77,8 @@ join_wire scene are node k l (rx n j there at is) =
 join_wire scene are node k l (tx n j p there at place is) =
     let h = joint_is scene are node p j at in
     subst (Joins scene) (sym is) (join scene (tx_lane j) (joint_stands scene are node p n j there at) (link_stands scene j.link h.link h.there) (iface_apart j.link j.end.node j.end.iface))
-join_wire scene are node k l (out n j p there at place is) =
-    let h = joint_is scene are node p j at in
-    let stands = subst (λ (m : ℕ). Stands scene (who.Iface m j.end.iface)) h.node_is (joint_stands scene are node p n j there at) in
-    subst (Joins scene) (sym is) (join scene (out_lane node (leader_of node n.addr) j.end.iface) (hub_stands scene node n there) stands (hub_from_iface n.addr node node j.end.iface))
+join_wire scene are node k l (out n p there few place is) =
+    subst (Joins scene) (sym is) (join scene (out_lane node (leader_of node n.addr) p) (hub_stands scene node n there) (iface_stands scene node p n there few) (hub_from_iface n.addr node node p))
 join_wire scene are node k l (down n p there few place is) =
     subst (Joins scene) (sym is) (join scene (down_lane node (leader_of node n.addr) p) (hub_stands scene node n there) (app_stands scene node p n there few) (hub_from_app n.addr node node p))
 join_wire scene are node k l (up n p there few place is) =
@@ -104,8 +102,8 @@ spot_in scene node queue.Inbox = 0
 spot_in scene node (queue.Rx k) = k
 spot_in scene node (queue.Tx k) = ifaces_of scene node + k
 spot_in scene node (queue.Out k) = ifaces_of scene node + (ifaces_of scene node + k)
-spot_in scene node (queue.Down k) = ifaces_of scene node + (ifaces_of scene node + (ifaces_of scene node + k))
-spot_in scene node (queue.Up k) = ifaces_of scene node + (ifaces_of scene node + (ifaces_of scene node + (apps_of scene node + k)))
+spot_in scene node (queue.Down k) = ifaces_of scene node + (ifaces_of scene node + (count_of scene node + k))
+spot_in scene node (queue.Up k) = ifaces_of scene node + (ifaces_of scene node + (count_of scene node + (apps_of scene node + k)))
 
 abbrev pair : ℕ → ℕ → ℕ × ℕ
 pair node k = (node, k)
@@ -186,18 +184,18 @@ tx_spots scene node k p j h place getting = record {
   side = refl;
 }
 
-out_spots : (scene : PlainScene) (node k p : ℕ) (n : PlainNode) (j : PlainJoint) → IsAt scene node p j → k ≡ ifaces_of scene node + (ifaces_of scene node + p) → AreSpots scene node k (out_lane node (leader_of node n.addr) j.end.iface)
-out_spots scene node k p n j h place putting = hub_spot scene n.addr node k (queue.Out j.end.iface) putting (ap (λ (i : ℕ). spot_in scene node (queue.Out i)) h.iface_is ∙ sym place) refl
-out_spots scene node k p n j h place getting = record { at = ap (λ (i : ℕ). own_spot scene node (queue.Out i)) h.iface_is ∙ ap (spot node) (sym place); side = refl }
+out_spots : (scene : PlainScene) (node k p : ℕ) (n : PlainNode) → k ≡ ifaces_of scene node + (ifaces_of scene node + p) → AreSpots scene node k (out_lane node (leader_of node n.addr) p)
+out_spots scene node k p n place putting = hub_spot scene n.addr node k (queue.Out p) putting (sym place) refl
+out_spots scene node k p n place getting = record { at = ap (spot node) (sym place); side = refl }
 
-down_spots : (scene : PlainScene) (node k p : ℕ) (n : PlainNode) → k ≡ ifaces_of scene node + (ifaces_of scene node + (ifaces_of scene node + p)) → AreSpots scene node k (down_lane node (leader_of node n.addr) p)
+down_spots : (scene : PlainScene) (node k p : ℕ) (n : PlainNode) → k ≡ ifaces_of scene node + (ifaces_of scene node + (count_of scene node + p)) → AreSpots scene node k (down_lane node (leader_of node n.addr) p)
 down_spots scene node k p n place putting = hub_spot scene n.addr node k (queue.Down p) putting (sym place) refl
 down_spots scene node k p n place getting = record { at = ap (spot node) (sym place); side = refl }
 
-up_place : (scene : PlainScene) (node k p : ℕ) (n : PlainNode) → slice_get scene.nodes node ≡ Some n → k ≡ ifaces_of scene node + (ifaces_of scene node + (ifaces_of scene node + (length n.apps + p))) → spot_in scene node (queue.Up p) ≡ k
-up_place scene node k p n there place = ap (λ (c : ℕ). ifaces_of scene node + (ifaces_of scene node + (ifaces_of scene node + (c + p)))) (apps_are scene node n there) ∙ sym place
+up_place : (scene : PlainScene) (node k p : ℕ) (n : PlainNode) → slice_get scene.nodes node ≡ Some n → k ≡ ifaces_of scene node + (ifaces_of scene node + (count_of scene node + (length n.apps + p))) → spot_in scene node (queue.Up p) ≡ k
+up_place scene node k p n there place = ap (λ (c : ℕ). ifaces_of scene node + (ifaces_of scene node + (count_of scene node + (c + p)))) (apps_are scene node n there) ∙ sym place
 
-up_spots : (scene : PlainScene) (node k p : ℕ) (n : PlainNode) → slice_get scene.nodes node ≡ Some n → k ≡ ifaces_of scene node + (ifaces_of scene node + (ifaces_of scene node + (length n.apps + p)))
+up_spots : (scene : PlainScene) (node k p : ℕ) (n : PlainNode) → slice_get scene.nodes node ≡ Some n → k ≡ ifaces_of scene node + (ifaces_of scene node + (count_of scene node + (length n.apps + p)))
     → AreSpots scene node k (up_lane node (leader_of node n.addr) p)
 up_spots scene node k p n there place putting = record { at = ap (spot node) (up_place scene node k p n there place); side = refl }
 up_spots scene node k p n there place getting = hub_spot scene n.addr node k (queue.Up p) getting (up_place scene node k p n there place) refl
@@ -205,7 +203,7 @@ up_spots scene node k p n there place getting = hub_spot scene n.addr node k (qu
 spots : (scene : PlainScene) → ArePlaced scene → (node k : ℕ) (l : PlainLane) → Wire scene node k l → AreSpots scene node k l
 spots scene are node k l (rx n j there at is) = subst (AreSpots scene node k) (sym is) (rx_spots scene node k j (joint_is scene are node k j at))
 spots scene are node k l (tx n j p there at place is) = subst (AreSpots scene node k) (sym is) (tx_spots scene node k p j (joint_is scene are node p j at) place)
-spots scene are node k l (out n j p there at place is) = subst (AreSpots scene node k) (sym is) (out_spots scene node k p n j (joint_is scene are node p j at) place)
+spots scene are node k l (out n p there few place is) = subst (AreSpots scene node k) (sym is) (out_spots scene node k p n place)
 spots scene are node k l (down n p there few place is) = subst (AreSpots scene node k) (sym is) (down_spots scene node k p n place)
 spots scene are node k l (up n p there few place is) = subst (AreSpots scene node k) (sym is) (up_spots scene node k p n there place)
 
@@ -246,12 +244,12 @@ stays scene are node k l (tx n j p there at place is) =
       from = own_end node (tx_lane j) (who.Iface j.end.node j.end.iface) (queue.Tx j.end.iface) (ap (λ (m : ℕ). Some m) h.node_is) refl;
       to = inr (record { number = j.link; link = refl; frames = frames });
     })
-stays scene are node k l (out n j p there at place is) = subst (StaysHome scene node) (sym is) (record {
+stays scene are node k l (out n p there few place is) = subst (StaysHome scene node) (sym is) (record {
   low = slice_get_within scene.nodes node n there;
   home = refl;
   named = refl;
-  from = own_end node (out_lane node (leader_of node n.addr) j.end.iface) (leader_of node n.addr) (queue.Out j.end.iface) (hub_home n.addr node) refl;
-  to = own_end node (out_lane node (leader_of node n.addr) j.end.iface) (who.Iface node j.end.iface) (queue.Out j.end.iface) refl refl;
+  from = own_end node (out_lane node (leader_of node n.addr) p) (leader_of node n.addr) (queue.Out p) (hub_home n.addr node) refl;
+  to = own_end node (out_lane node (leader_of node n.addr) p) (who.Iface node p) (queue.Out p) refl refl;
 })
 stays scene are node k l (down n p there few place is) = subst (StaysHome scene node) (sym is) (record {
   low = slice_get_within scene.nodes node n there;

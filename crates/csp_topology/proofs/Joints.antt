@@ -13,11 +13,7 @@ use Rattle.csp_scene.specs.Links.{links_at, touches}
 use Rattle.csp_scene.specs.Ranges.{AreApart, HasEnds}
 use Rattle.csp_scene.specs.Scene.{PlainLink, PlainScene}
 use Rattle.csp_topology.proofs.Places.{Among, all_at, among, get-first, get-made, get-second, kept-from, kept-there, made-from, of_first, of_second, range-from}
-use Rattle.csp_topology.specs.Wires.{PlainJoint, is_at, joints_at, joints_from, joints_on}
-
--- the end of a link at a place
-abbrev pub joint_of : ℕ → Carries → ℕ → End → PlainJoint
-joint_of number carries place end = record { link = number; carries = carries; place = place; end = end }
+use Rattle.csp_topology.specs.Wires.{PlainJoint, is_at, joint_of, joints_at, joints_from, joints_on}
 
 -- ---- of which end of which link one is
 
@@ -49,7 +45,7 @@ pub record IsJoint (number : ℕ) (links : List PlainLink) (j : PlainJoint) : Ty
   pub at : slice_get link.ends place ≡ Some end
   pub is : j ≡ joint_of (number + index) (carried_on link.kind) place end
 
-is_joint : (number : ℕ) (links : List PlainLink) (i : ℕ) (j : PlainJoint) → slice_get (joints_from number links) i ≡ Some j → IsJoint number links j
+pub is_joint : (number : ℕ) (links : List PlainLink) (i : ℕ) (j : PlainJoint) → slice_get (joints_from number links) i ≡ Some j → IsJoint number links j
 is_joint number [] i j e = absurd cc
 is_joint number (l ∷ links) i j e = by (among (joints_on number (carried_on l.kind) 0 l.ends) (joints_from (number + 1) links) i j e) (λ k f. is_joint (number + 1) links k j f) where
   by : Among (joints_on number (carried_on l.kind) 0 l.ends) (joints_from (number + 1) links) i j → ((k : ℕ) → slice_get (joints_from (number + 1) links) k ≡ Some j → IsJoint (number + 1) links j) → IsJoint number (l ∷ links) j
@@ -70,7 +66,7 @@ is_joint number (l ∷ links) i j e = by (among (joints_on number (carried_on l.
       let h = rest k f in
       record { index = suc h.index; link = h.link; place = h.place; end = h.end; there = h.there; at = h.at; is = h.is ∙ ap (λ (m : ℕ). joint_of m (carried_on h.link.kind) h.place h.end) (omega arith) }
 
-joint_there : (number : ℕ) (links : List PlainLink) (i place : ℕ) (l : PlainLink) (x : End) → slice_get links i ≡ Some l → slice_get l.ends place ≡ Some x
+pub joint_there : (number : ℕ) (links : List PlainLink) (i place : ℕ) (l : PlainLink) (x : End) → slice_get links i ≡ Some l → slice_get l.ends place ≡ Some x
     → (k : ℕ) × (slice_get (joints_from number links) k ≡ Some (joint_of (number + i) (carried_on l.kind) place x))
 joint_there number [] i place l x there at = absurd cc
 joint_there number (y ∷ links) zero place l x there at =

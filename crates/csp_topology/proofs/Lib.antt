@@ -1,3 +1,4 @@
+mod AllLanes
 mod Ends
 mod Joints
 mod PartyLemmas

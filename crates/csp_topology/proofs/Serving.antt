@@ -22,16 +22,16 @@ use Rattle.csp_scene.specs.Links.{links_at}
 use Rattle.csp_scene.specs.Ranges.{HasEnds, IsEnd, IsLink, IsScene}
 use Rattle.csp_scene.specs.Scene.{PlainApp, PlainLink, PlainNode, PlainScene}
 use Rattle.csp_scene.specs.declared.limits.TheConstants.{BRIDGE_LINKS}
-use Rattle.csp_topology.proofs.Joints.{ArePlaced, end_joint, joint_is, joint_of, joints_count, joints_of, link_joint}
+use Rattle.csp_topology.proofs.Joints.{ArePlaced, end_joint, joint_is, link_joint}
 use Rattle.csp_topology.proofs.PartyPlaces.{IsParty, party_at}
 use Rattle.csp_topology.proofs.PartyPlaces as party
 use Rattle.csp_topology.proofs.PartyLemmas.{opened_ends}
 use Rattle.csp_topology.proofs.Places.{all_at, get-within}
-use Rattle.csp_topology.proofs.WirePlaces.{down_there, ifaces_of, out_there, rx_there, tx_there, up_there}
+use Rattle.csp_topology.proofs.WirePlaces.{count_of, down_there, ifaces_of, out_there, rx_there, tx_there, up_there}
 use Rattle.csp_topology.specs.Lanes.{PlainEnd, leader_of, out_lane}
 use Rattle.csp_topology.specs.Parties.{PlainOpening, app_at, heeded, leader_by, hub_with, iface_on, link_at, link_party, link_with, parties_of}
 use Rattle.csp_topology.specs.Wired.{IsServed, getting, inbox_rule, putting}
-use Rattle.csp_topology.specs.Wires.{PlainJoint, down_lane, rx_lane, tx_lane, up_lane}
+use Rattle.csp_topology.specs.Wires.{PlainJoint, down_lane, joint_of, rx_lane, tx_lane, up_lane}
 
 -- what a party uses among so many, and under one number
 within : (r s : Rule) (k count : ℕ) (low : Bool) → nat_lt k count ≡ low → cond low (Some s) None ≡ Some r → (k < count) × (r ≡ s)
@@ -62,7 +62,7 @@ module _ (scene : PlainScene) (are : ArePlaced scene) (node : ℕ) (n : PlainNod
   hub_up : (k : ℕ) (r : Rule) → k < length n.apps → r ≡ rule.Lane lane.Up → IsServed scene (leader_of node n.addr) (queue.Up k) r
   hub_up k r low is = inr (record {
     node = node;
-    place = ifaces_of scene node + (ifaces_of scene node + (ifaces_of scene node + (length n.apps + k)));
+    place = ifaces_of scene node + (ifaces_of scene node + (count_of scene node + (length n.apps + k)));
     wire = up_lane node (leader_of node n.addr) k;
     at = up_there scene node n there k low;
     side = getting;
@@ -73,7 +73,7 @@ module _ (scene : PlainScene) (are : ArePlaced scene) (node : ℕ) (n : PlainNod
   hub_down : (k : ℕ) (r : Rule) → k < length n.apps → r ≡ rule.Lane lane.Down → IsServed scene (leader_of node n.addr) (queue.Down k) r
   hub_down k r low is = inr (record {
     node = node;
-    place = ifaces_of scene node + (ifaces_of scene node + (ifaces_of scene node + k));
+    place = ifaces_of scene node + (ifaces_of scene node + (count_of scene node + k));
     wire = down_lane node (leader_of node n.addr) k;
     at = down_there scene node n there k low;
     side = putting;
@@ -82,18 +82,15 @@ module _ (scene : PlainScene) (are : ArePlaced scene) (node : ℕ) (n : PlainNod
   })
 
   hub_out : (k : ℕ) (r : Rule) → k < length (links_at node scene.links) → r ≡ rule.Lane lane.Out → IsServed scene (leader_of node n.addr) (queue.Out k) r
-  hub_out k r low is =
-      let count = joints_count scene are node in
-      let (j, at) = get-within (joints_of scene node) k (omega (arith, low, count)) in
-      inr (record {
-        node = node;
-        place = ifaces_of scene node + (ifaces_of scene node + k);
-        wire = out_lane node (leader_of node n.addr) j.end.iface;
-        at = out_there scene node n there k j at;
-        side = putting;
-        called = ap (λ (i : ℕ). end_named (leader_of node n.addr) (queue.Out i)) (joint_is scene are node k j at).iface_is;
-        carries = is;
-      })
+  hub_out k r low is = inr (record {
+    node = node;
+    place = ifaces_of scene node + (ifaces_of scene node + k);
+    wire = out_lane node (leader_of node n.addr) k;
+    at = out_there scene node n there k low;
+    side = putting;
+    called = refl;
+    carries = is;
+  })
 
   router_served : (addr : ℕ) (q : QueueId) (r : Rule) → uses (leader_by (Some addr) node n (links_at node scene.links)).party q ≡ Some r → IsServed scene (leader_of node n.addr) q r
   router_served addr queue.Inbox r e = an_inbox scene (leader_of node n.addr) r (hub_inbox n.addr node) e
@@ -125,19 +122,16 @@ module _ (scene : PlainScene) (are : ArePlaced scene) (node : ℕ) (n : PlainNod
   iface_called : (k : ℕ) (j : PlainJoint) (name : ℕ → QueueId) → j.end.node ≡ node → j.end.iface ≡ k → end_named (who.Iface j.end.node j.end.iface) (name j.end.iface) ≡ end_named (who.Iface node k) (name k)
   iface_called k j name at number = ap (λ (m : ℕ). end_named (who.Iface m j.end.iface) (name j.end.iface)) at ∙ ap (λ (i : ℕ). end_named (who.Iface node i) (name i)) number
 
-  iface_out : (k : ℕ) (l : PlainLink) (r : Rule) → slice_get (links_at node scene.links) k ≡ Some l → r ≡ rule.Lane lane.Out → IsServed scene (who.Iface node k) (queue.Out k) r
-  iface_out k l r on is =
-      let (j, at, carries) = link_joint scene are node k l on in
-      let h = joint_is scene are node k j at in
-      inr (record {
-        node = node;
-        place = ifaces_of scene node + (ifaces_of scene node + k);
-        wire = out_lane node (leader_of node n.addr) j.end.iface;
-        at = out_there scene node n there k j at;
-        side = getting;
-        called = ap (λ (i : ℕ). end_named (who.Iface node i) (queue.Out i)) h.iface_is;
-        carries = is;
-      })
+  iface_out : (k : ℕ) (r : Rule) → k < length (links_at node scene.links) → r ≡ rule.Lane lane.Out → IsServed scene (who.Iface node k) (queue.Out k) r
+  iface_out k r low is = inr (record {
+    node = node;
+    place = ifaces_of scene node + (ifaces_of scene node + k);
+    wire = out_lane node (leader_of node n.addr) k;
+    at = out_there scene node n there k low;
+    side = getting;
+    called = refl;
+    carries = is;
+  })
 
   iface_tx : (k : ℕ) (l : PlainLink) (r : Rule) → slice_get (links_at node scene.links) k ≡ Some l → r ≡ rule.Lane (carried_on l.kind) → IsServed scene (who.Iface node k) (queue.Tx k) r
   iface_tx k l r on is =
@@ -171,7 +165,7 @@ module _ (scene : PlainScene) (are : ArePlaced scene) (node : ℕ) (n : PlainNod
   iface_served k l on queue.Inbox r e = an_inbox scene (who.Iface node k) r refl e
   iface_served k l on (queue.Out m) r e =
       let (same, is) = own r (rule.Lane lane.Out) m k _ refl e in
-      subst (λ (i : ℕ). IsServed scene (who.Iface node k) (queue.Out i) r) (sym same) (iface_out k l r on is)
+      subst (λ (i : ℕ). IsServed scene (who.Iface node k) (queue.Out i) r) (sym same) (iface_out k r (slice_get_within (links_at node scene.links) k l on) is)
   iface_served k l on (queue.Tx m) r e =
       let (same, is) = own r (rule.Lane (carried_on l.kind)) m k _ refl e in
       subst (λ (i : ℕ). IsServed scene (who.Iface node k) (queue.Tx i) r) (sym same) (iface_tx k l r on is)
@@ -186,7 +180,7 @@ module _ (scene : PlainScene) (are : ArePlaced scene) (node : ℕ) (n : PlainNod
   app_up : (k : ℕ) (r : Rule) → k < length n.apps → r ≡ rule.Lane lane.Up → IsServed scene (who.App node k) (queue.Up k) r
   app_up k r low is = inr (record {
     node = node;
-    place = ifaces_of scene node + (ifaces_of scene node + (ifaces_of scene node + (length n.apps + k)));
+    place = ifaces_of scene node + (ifaces_of scene node + (count_of scene node + (length n.apps + k)));
     wire = up_lane node (leader_of node n.addr) k;
     at = up_there scene node n there k low;
     side = putting;
@@ -197,7 +191,7 @@ module _ (scene : PlainScene) (are : ArePlaced scene) (node : ℕ) (n : PlainNod
   app_down : (k : ℕ) (r : Rule) → k < length n.apps → r ≡ rule.Lane lane.Down → IsServed scene (who.App node k) (queue.Down k) r
   app_down k r low is = inr (record {
     node = node;
-    place = ifaces_of scene node + (ifaces_of scene node + (ifaces_of scene node + k));
+    place = ifaces_of scene node + (ifaces_of scene node + (count_of scene node + k));
     wire = down_lane node (leader_of node n.addr) k;
     at = down_there scene node n there k low;
     side = getting;

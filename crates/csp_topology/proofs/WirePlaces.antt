@@ -6,45 +6,46 @@ use Rattle.std.proofs.lemmas.List.{length-map}
 use Rattle.std.proofs.lemmas.List.FromFn.{length-map-range_with_len}
 use Rattle.std.proofs.lemmas.Option.{same_Some}
 use Rattle.csp_log.specs.declared.who.Who.{Who}
-use Rattle.csp_scene.specs.Scene.{PlainNode, PlainScene}
-use Rattle.csp_topology.proofs.Joints.{all_joints, joints_of}
+use Rattle.csp_scene.specs.Links.{links_at}
+use Rattle.csp_scene.specs.Scene.{PlainLink, PlainNode, PlainScene}
+use Rattle.csp_topology.proofs.Joints.{joints_of}
 use Rattle.csp_topology.proofs.Places.{Among, among, get-first, get-made, get-second, made-from, of_first, of_second, range-at, range-from}
 use Rattle.csp_topology.specs.Lanes.{PlainLane, leader_of, out_lane}
-use Rattle.csp_topology.specs.Wires.{PlainJoint, down_lane, rx_lane, tx_lane, up_lane, wire_at, wires_at, wires_from, wires_of, wires_with}
+use Rattle.csp_topology.specs.Wires.{PlainJoint, down_lane, rx_lane, tx_lane, up_lane, wire_at, wires_at, wires_from, wires_of}
 
 -- ---- of which node
 
-wires_in : (place : ℕ) (nodes : List PlainNode) (js : List PlainJoint) (k m : ℕ) (n : PlainNode) → slice_get nodes k ≡ Some n → m ≡ place + k → slice_get (wires_from place nodes js) k ≡ Some (wires_at m n js)
-wires_in place [] js k m n there at = absurd cc
-wires_in place (x ∷ nodes) js zero m n there at =
+wires_in : (place : ℕ) (nodes : List PlainNode) (links : List PlainLink) (k m : ℕ) (n : PlainNode) → slice_get nodes k ≡ Some n → m ≡ place + k → slice_get (wires_from place nodes links) k ≡ Some (wires_at m n links)
+wires_in place [] links k m n there at = absurd cc
+wires_in place (x ∷ nodes) links zero m n there at =
     let here : place ≡ m = omega (arith, at) in
-    ap (λ (y : PlainNode). Some (wires_at place y js)) (same_Some x n there) ∙ ap (λ (p : ℕ). Some (wires_at p n js)) here
-wires_in place (x ∷ nodes) js (suc k) m n there at = wires_in (place + 1) nodes js k m n there (omega (arith, at))
+    ap (λ (y : PlainNode). Some (wires_at place y links)) (same_Some x n there) ∙ ap (λ (p : ℕ). Some (wires_at p n links)) here
+wires_in place (x ∷ nodes) links (suc k) m n there at = wires_in (place + 1) nodes links k m n there (omega (arith, at))
 
-node_of_wires : (place : ℕ) (nodes : List PlainNode) (js : List PlainJoint) (k : ℕ) (ws : List PlainLane) → slice_get (wires_from place nodes js) k ≡ Some ws → (n : PlainNode) × (slice_get nodes k ≡ Some n)
-node_of_wires place [] js k ws e = absurd cc
-node_of_wires place (x ∷ nodes) js zero ws e = (x, refl)
-node_of_wires place (x ∷ nodes) js (suc k) ws e = node_of_wires (place + 1) nodes js k ws e
+node_of_wires : (place : ℕ) (nodes : List PlainNode) (links : List PlainLink) (k : ℕ) (ws : List PlainLane) → slice_get (wires_from place nodes links) k ≡ Some ws → (n : PlainNode) × (slice_get nodes k ≡ Some n)
+node_of_wires place [] links k ws e = absurd cc
+node_of_wires place (x ∷ nodes) links zero ws e = (x, refl)
+node_of_wires place (x ∷ nodes) links (suc k) ws e = node_of_wires (place + 1) nodes links k ws e
 
-pub wires_count : (place : ℕ) (nodes : List PlainNode) (js : List PlainJoint) → length (wires_from place nodes js) ≡ length nodes
-wires_count place [] js = refl
-wires_count place (n ∷ nodes) js = ap suc (wires_count (place + 1) nodes js)
+pub wires_count : (place : ℕ) (nodes : List PlainNode) (links : List PlainLink) → length (wires_from place nodes links) ≡ length nodes
+wires_count place [] links = refl
+wires_count place (n ∷ nodes) links = ap suc (wires_count (place + 1) nodes links)
 
 pub all_count : (scene : PlainScene) → length (wires_of scene) ≡ length scene.nodes
 unfolding wires_of
-all_count scene = wires_count 0 scene.nodes (all_joints scene)
+all_count scene = wires_count 0 scene.nodes scene.links
 
 -- the lanes of a node of a scene
 abbrev pub wires_here : PlainScene → ℕ → PlainNode → List PlainLane
-wires_here scene node n = wires_with node (leader_of node n.addr) (joints_of scene node) (length n.apps)
+wires_here scene node n = wires_at node n scene.links
 
 pub wires_there : (scene : PlainScene) (node : ℕ) (n : PlainNode) → slice_get scene.nodes node ≡ Some n → slice_get (wires_of scene) node ≡ Some (wires_here scene node n)
 unfolding wires_of
-wires_there scene node n there = wires_in 0 scene.nodes (all_joints scene) node node n there (omega arith)
+wires_there scene node n there = wires_in 0 scene.nodes scene.links node node n there (omega arith)
 
 pub some_node : (scene : PlainScene) (node : ℕ) (ws : List PlainLane) → slice_get (wires_of scene) node ≡ Some ws → (n : PlainNode) × (slice_get scene.nodes node ≡ Some n)
 unfolding wires_of
-some_node scene node ws e = node_of_wires 0 scene.nodes (all_joints scene) node ws e
+some_node scene node ws e = node_of_wires 0 scene.nodes scene.links node ws e
 
 -- a lane of a node is one of those that its joints and applications give
 pub record IsHere (scene : PlainScene) (node k : ℕ) (l : PlainLane) : Type 0 where
@@ -70,13 +71,17 @@ wire_there scene node k n l there at = ap (option_and_then (λ (ws : List PlainL
 abbrev pub ifaces_of : PlainScene → ℕ → ℕ
 ifaces_of scene node = length (joints_of scene node)
 
+-- and on how many links it is
+abbrev pub count_of : PlainScene → ℕ → ℕ
+count_of scene node = length (links_at node scene.links)
+
 -- from a link, to a link, to an interface, to an application, from one
 pub data Wire (scene : PlainScene) (node k : ℕ) (l : PlainLane) : Type 0 where
   rx : (n : PlainNode) (j : PlainJoint) → slice_get scene.nodes node ≡ Some n → slice_get (joints_of scene node) k ≡ Some j → l ≡ rx_lane j → Wire scene node k l
   tx : (n : PlainNode) (j : PlainJoint) (p : ℕ) → slice_get scene.nodes node ≡ Some n → slice_get (joints_of scene node) p ≡ Some j → k ≡ ifaces_of scene node + p → l ≡ tx_lane j → Wire scene node k l
-  out : (n : PlainNode) (j : PlainJoint) (p : ℕ) → slice_get scene.nodes node ≡ Some n → slice_get (joints_of scene node) p ≡ Some j → k ≡ ifaces_of scene node + (ifaces_of scene node + p) → l ≡ out_lane node (leader_of node n.addr) j.end.iface → Wire scene node k l
-  down : (n : PlainNode) (p : ℕ) → slice_get scene.nodes node ≡ Some n → p < length n.apps → k ≡ ifaces_of scene node + (ifaces_of scene node + (ifaces_of scene node + p)) → l ≡ down_lane node (leader_of node n.addr) p → Wire scene node k l
-  up : (n : PlainNode) (p : ℕ) → slice_get scene.nodes node ≡ Some n → p < length n.apps → k ≡ ifaces_of scene node + (ifaces_of scene node + (ifaces_of scene node + (length n.apps + p))) → l ≡ up_lane node (leader_of node n.addr) p → Wire scene node k l
+  out : (n : PlainNode) (p : ℕ) → slice_get scene.nodes node ≡ Some n → p < count_of scene node → k ≡ ifaces_of scene node + (ifaces_of scene node + p) → l ≡ out_lane node (leader_of node n.addr) p → Wire scene node k l
+  down : (n : PlainNode) (p : ℕ) → slice_get scene.nodes node ≡ Some n → p < length n.apps → k ≡ ifaces_of scene node + (ifaces_of scene node + (count_of scene node + p)) → l ≡ down_lane node (leader_of node n.addr) p → Wire scene node k l
+  up : (n : PlainNode) (p : ℕ) → slice_get scene.nodes node ≡ Some n → p < length n.apps → k ≡ ifaces_of scene node + (ifaces_of scene node + (count_of scene node + (length n.apps + p))) → l ≡ up_lane node (leader_of node n.addr) p → Wire scene node k l
 
 -- a lane that a function makes of a number below a count
 of_count : (f : ℕ → PlainLane) (count k : ℕ) (l : PlainLane) → slice_get (map f (range_with_len 0 count)) k ≡ Some l → (k < count) × (l ≡ f k)
@@ -96,9 +101,6 @@ module _ (scene : PlainScene) (node : ℕ) (n : PlainNode) where
   abbrev hub : Who
   hub = leader_of node n.addr
 
-  abbrev to_iface : PlainJoint → PlainLane
-  to_iface j = out_lane node hub j.end.iface
-
   abbrev ups : List PlainLane
   ups = map (up_lane node hub) (range_with_len 0 (length n.apps))
 
@@ -106,7 +108,7 @@ module _ (scene : PlainScene) (node : ℕ) (n : PlainNode) where
   downs = map (down_lane node hub) (range_with_len 0 (length n.apps))
 
   abbrev outs : List PlainLane
-  outs = map to_iface js
+  outs = map (out_lane node hub) (range_with_len 0 (count_of scene node))
 
   abbrev txs : List PlainLane
   txs = map tx_lane js
@@ -122,8 +124,8 @@ module _ (scene : PlainScene) (node : ℕ) (n : PlainNode) where
     tx_long : length txs ≡ ifaces_of scene node
     tx_long = length-map js tx_lane
 
-    out_long : length outs ≡ ifaces_of scene node
-    out_long = length-map js to_iface
+    out_long : length outs ≡ count_of scene node
+    out_long = length-map-range_with_len (out_lane node hub) 0 (count_of scene node)
 
     down_long : length downs ≡ length n.apps
     down_long = length-map-range_with_len (down_lane node hub) 0 (length n.apps)
@@ -138,8 +140,8 @@ module _ (scene : PlainScene) (node : ℕ) (n : PlainNode) where
 
     at_out : (a b : ℕ) → k ≡ length rxs + a → a ≡ length txs + b → Among outs (downs ++ ups) b l → Wire scene node k l
     at_out a b ak ba (of_first f) =
-        let (j, at, is) = made-from to_iface js b l f in
-        out n j b there at (omega (arith, ak, ba, rx_long, tx_long)) (sym is)
+        let (few, is) = of_count (out_lane node hub) (count_of scene node) b l f in
+        out n b there few (omega (arith, ak, ba, rx_long, tx_long)) is
     at_out a b ak ba (of_second c cb f) = at_down a b c 0 ak ba cb (among downs ups c l f)
 
     at_tx : (a : ℕ) → k ≡ length rxs + a → Among txs (outs ++ (downs ++ ups)) a l → Wire scene node k l
@@ -165,9 +167,9 @@ module _ (scene : PlainScene) (node : ℕ) (n : PlainNode) where
       let far : ifaces_of scene node + k ≡ length txs + k = ap (λ (c : ℕ). c + k) (sym (length-map js tx_lane)) in
       ap (slice_get (txs ++ (outs ++ (downs ++ ups)))) far ∙ get-second txs (outs ++ (downs ++ ups)) k ∙ e
 
-  after_out : (k : ℕ) (l : PlainLane) → slice_get (downs ++ ups) k ≡ Some l → slice_get (outs ++ (downs ++ ups)) (ifaces_of scene node + k) ≡ Some l
+  after_out : (k : ℕ) (l : PlainLane) → slice_get (downs ++ ups) k ≡ Some l → slice_get (outs ++ (downs ++ ups)) (count_of scene node + k) ≡ Some l
   after_out k l e =
-      let far : ifaces_of scene node + k ≡ length outs + k = ap (λ (c : ℕ). c + k) (sym (length-map js to_iface)) in
+      let far : count_of scene node + k ≡ length outs + k = ap (λ (c : ℕ). c + k) (sym (length-map-range_with_len (out_lane node hub) 0 (count_of scene node))) in
       ap (slice_get (outs ++ (downs ++ ups))) far ∙ get-second outs (downs ++ ups) k ∙ e
 
   after_down : (k : ℕ) (l : PlainLane) → slice_get ups k ≡ Some l → slice_get (downs ++ ups) (length n.apps + k) ≡ Some l
@@ -184,22 +186,23 @@ module _ (scene : PlainScene) (node : ℕ) (n : PlainNode) where
         wire_there scene node (ifaces_of scene node + p) n (tx_lane j) there
         (after_rx p (tx_lane j) (get-first txs (outs ++ (downs ++ ups)) p (tx_lane j) (get-made tx_lane js p j at)))
 
-    pub out_there : (p : ℕ) (j : PlainJoint) → slice_get (joints_of scene node) p ≡ Some j → wire_at scene node (ifaces_of scene node + (ifaces_of scene node + p)) ≡ Some (out_lane node (leader_of node n.addr) j.end.iface)
-    out_there p j at =
-        wire_there scene node (ifaces_of scene node + (ifaces_of scene node + p)) n (to_iface j) there
-        (after_rx (ifaces_of scene node + p) (to_iface j) (after_tx p (to_iface j) (get-first outs (downs ++ ups) p (to_iface j) (get-made to_iface js p j at))))
+    pub out_there : (p : ℕ) → p < count_of scene node → wire_at scene node (ifaces_of scene node + (ifaces_of scene node + p)) ≡ Some (out_lane node (leader_of node n.addr) p)
+    out_there p few =
+        let l = out_lane node hub p in
+        wire_there scene node (ifaces_of scene node + (ifaces_of scene node + p)) n l there
+        (after_rx (ifaces_of scene node + p) l (after_tx p l (get-first outs (downs ++ ups) p l (in_count (out_lane node hub) (count_of scene node) p few))))
 
-    pub down_there : (p : ℕ) → p < length n.apps → wire_at scene node (ifaces_of scene node + (ifaces_of scene node + (ifaces_of scene node + p))) ≡ Some (down_lane node (leader_of node n.addr) p)
+    pub down_there : (p : ℕ) → p < length n.apps → wire_at scene node (ifaces_of scene node + (ifaces_of scene node + (count_of scene node + p))) ≡ Some (down_lane node (leader_of node n.addr) p)
     down_there p few =
         let l = down_lane node hub p in
-        wire_there scene node (ifaces_of scene node + (ifaces_of scene node + (ifaces_of scene node + p))) n l there
-        (after_rx (ifaces_of scene node + (ifaces_of scene node + p)) l (after_tx (ifaces_of scene node + p) l (after_out p l (get-first downs ups p l (in_count (down_lane node hub) (length n.apps) p few)))))
+        wire_there scene node (ifaces_of scene node + (ifaces_of scene node + (count_of scene node + p))) n l there
+        (after_rx (ifaces_of scene node + (count_of scene node + p)) l (after_tx (count_of scene node + p) l (after_out p l (get-first downs ups p l (in_count (down_lane node hub) (length n.apps) p few)))))
 
-    pub up_there : (p : ℕ) → p < length n.apps → wire_at scene node (ifaces_of scene node + (ifaces_of scene node + (ifaces_of scene node + (length n.apps + p)))) ≡ Some (up_lane node (leader_of node n.addr) p)
+    pub up_there : (p : ℕ) → p < length n.apps → wire_at scene node (ifaces_of scene node + (ifaces_of scene node + (count_of scene node + (length n.apps + p)))) ≡ Some (up_lane node (leader_of node n.addr) p)
     up_there p few =
         let l = up_lane node hub p in
-        wire_there scene node (ifaces_of scene node + (ifaces_of scene node + (ifaces_of scene node + (length n.apps + p)))) n l there
-        (after_rx (ifaces_of scene node + (ifaces_of scene node + (length n.apps + p))) l (after_tx (ifaces_of scene node + (length n.apps + p)) l
+        wire_there scene node (ifaces_of scene node + (ifaces_of scene node + (count_of scene node + (length n.apps + p)))) n l there
+        (after_rx (ifaces_of scene node + (count_of scene node + (length n.apps + p))) l (after_tx (count_of scene node + (length n.apps + p)) l
         (after_out (length n.apps + p) l (after_down p l (in_count (up_lane node hub) (length n.apps) p few)))))
 
 pub wire_is : (scene : PlainScene) (node k : ℕ) (l : PlainLane) → wire_at scene node k ≡ Some l → Wire scene node k l

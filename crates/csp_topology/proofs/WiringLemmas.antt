@@ -7,9 +7,9 @@ use Rattle.csp_log.specs.Who.{node_of}
 use Rattle.csp_log.specs.declared.who.Who.{Who}
 use Rattle.csp_log.specs.declared.who.Who.TheVariants as who
 use Rattle.csp_scene.specs.Links.{links_at}
-use Rattle.csp_scene.specs.Scene.{PlainNode, PlainScene}
+use Rattle.csp_scene.specs.Scene.{PlainLink, PlainNode, PlainScene}
 use Rattle.csp_topology.proofs.Ends.{all_join, all_stay}
-use Rattle.csp_topology.proofs.Joints.{ArePlaced, all_joints, joints_count, joints_of}
+use Rattle.csp_topology.proofs.Joints.{ArePlaced}
 use Rattle.csp_topology.proofs.PartyLemmas.{node_count}
 use Rattle.csp_topology.proofs.PartyPlaces.{begins, ends, party_at, place_of, stands_so, start}
 use Rattle.csp_topology.proofs.Places.{get-made, made-from}
@@ -18,81 +18,76 @@ use Rattle.csp_topology.specs.Lanes.{PlainEnd, PlainLane}
 use Rattle.csp_topology.specs.Parties.{PlainOpening, parties_of}
 use Rattle.csp_topology.specs.Wired as wired
 use Rattle.csp_topology.specs.Wired.{Stands}
-use Rattle.csp_topology.specs.Wires.{PlainJoint, joints_at, wire_at, wires_at}
+use Rattle.csp_topology.specs.Wires.{wire_at, wires_at}
 use Rattle.csp_topology.specs.Wiring.{AreWires, IsWireOf, place_by, wire_by, wired_at, wired_from}
 use Rattle.csp_topology.specs.declared.wire.Spots.{Spots}
 use Rattle.csp_topology.specs.declared.wire.Wire.{Wire}
 
 -- ---- where the parties of a node begin
 
-abbrev size_of : ℕ → PlainNode → List PlainJoint → ℕ
-size_of place n js = 1 + length (joints_at place js) + length n.apps
+abbrev first_of : ℕ → ℕ → List PlainNode → List PlainLink → ℕ → ℕ
+first_of place first [] links k = first
+first_of place first (n ∷ nodes) links zero = first
+first_of place first (n ∷ nodes) links (suc k) = first_of (place + 1) (first + 1 + length (links_at place links) + length n.apps) nodes links k
 
-abbrev first_of : ℕ → ℕ → List PlainNode → List PlainJoint → ℕ → ℕ
-first_of place first [] js k = first
-first_of place first (n ∷ nodes) js zero = first
-first_of place first (n ∷ nodes) js (suc k) = first_of (place + 1) (first + 1 + length (joints_at place js) + length n.apps) nodes js k
+first_start : (place first : ℕ) (nodes : List PlainNode) (links : List PlainLink) (k : ℕ) → first_of place first nodes links k ≡ first + start place nodes links k
+first_start place first [] links k = omega arith
+first_start place first (n ∷ nodes) links zero = omega arith
+first_start place first (n ∷ nodes) links (suc k) =
+    let rest = first_start (place + 1) (first + 1 + length (links_at place links) + length n.apps) nodes links k in
+    let size = node_count place n (links_at place links) in
+    omega (arith, rest, size)
 
-first_start : (scene : PlainScene) → ArePlaced scene → (place first : ℕ) (nodes : List PlainNode) (k : ℕ) → first_of place first nodes (all_joints scene) k ≡ first + start place nodes scene.links k
-first_start scene are place first [] k = omega arith
-first_start scene are place first (n ∷ nodes) zero = omega arith
-first_start scene are place first (n ∷ nodes) (suc k) =
-    let rest = first_start scene are (place + 1) (first + 1 + length (joints_at place (all_joints scene)) + length n.apps) nodes k in
-    let size = node_count place n (links_at place scene.links) in
-    let count = joints_count scene are place in
-    omega (arith, rest, size, count)
-
-abbrev spots_for : ℕ → ℕ → ℕ → List PlainJoint → Spots
-spots_for first place links js = record { first = first; ifaces = length (joints_at place js); links = links }
+abbrev spots_for : ℕ → ℕ → ℕ → List PlainLink → Spots
+spots_for first place last links = record { first = first; ifaces = length (links_at place links); links = last }
 
 -- the lanes of a node
-wired_in : (place first links : ℕ) (nodes : List PlainNode) (js : List PlainJoint) (k m : ℕ) (n : PlainNode) → slice_get nodes k ≡ Some n → m ≡ place + k
-    → slice_get (wired_from place first links nodes js) k ≡ Some (map (wire_by (spots_for (first_of place first nodes js k) m links js)) (wires_at m n js))
-wired_in place first links [] js k m n there at = absurd cc
-wired_in place first links (x ∷ nodes) js zero m n there at =
+wired_in : (place first last : ℕ) (nodes : List PlainNode) (links : List PlainLink) (k m : ℕ) (n : PlainNode) → slice_get nodes k ≡ Some n → m ≡ place + k
+    → slice_get (wired_from place first last nodes links) k ≡ Some (map (wire_by (spots_for (first_of place first nodes links k) m last links)) (wires_at m n links))
+wired_in place first last [] links k m n there at = absurd cc
+wired_in place first last (x ∷ nodes) links zero m n there at =
     let here : place ≡ m = omega (arith, at) in
-    ap (λ (y : PlainNode). Some (map (wire_by (spots_for first place links js)) (wires_at place y js))) (same_Some x n there)
-    ∙ ap (λ (p : ℕ). Some (map (wire_by (spots_for first p links js)) (wires_at p n js))) here
-wired_in place first links (x ∷ nodes) js (suc k) m n there at = wired_in (place + 1) (first + 1 + length (joints_at place js) + length x.apps) links nodes js k m n there (omega (arith, at))
+    ap (λ (y : PlainNode). Some (map (wire_by (spots_for first place last links)) (wires_at place y links))) (same_Some x n there)
+    ∙ ap (λ (p : ℕ). Some (map (wire_by (spots_for first p last links)) (wires_at p n links))) here
+wired_in place first last (x ∷ nodes) links (suc k) m n there at = wired_in (place + 1) (first + 1 + length (links_at place links) + length x.apps) last nodes links k m n there (omega (arith, at))
 
-wired_node : (place first links : ℕ) (nodes : List PlainNode) (js : List PlainJoint) (k : ℕ) (ws : List Wire) → slice_get (wired_from place first links nodes js) k ≡ Some ws → (n : PlainNode) × (slice_get nodes k ≡ Some n)
-wired_node place first links [] js k ws e = absurd cc
-wired_node place first links (x ∷ nodes) js zero ws e = (x, refl)
-wired_node place first links (x ∷ nodes) js (suc k) ws e = wired_node (place + 1) (first + 1 + length (joints_at place js) + length x.apps) links nodes js k ws e
+wired_node : (place first last : ℕ) (nodes : List PlainNode) (links : List PlainLink) (k : ℕ) (ws : List Wire) → slice_get (wired_from place first last nodes links) k ≡ Some ws → (n : PlainNode) × (slice_get nodes k ≡ Some n)
+wired_node place first last [] links k ws e = absurd cc
+wired_node place first last (x ∷ nodes) links zero ws e = (x, refl)
+wired_node place first last (x ∷ nodes) links (suc k) ws e = wired_node (place + 1) (first + 1 + length (links_at place links) + length x.apps) last nodes links k ws e
 
-wired_count : (place first links : ℕ) (nodes : List PlainNode) (js : List PlainJoint) → length (wired_from place first links nodes js) ≡ length nodes
-wired_count place first links [] js = refl
-wired_count place first links (x ∷ nodes) js = ap suc (wired_count (place + 1) (first + 1 + length (joints_at place js) + length x.apps) links nodes js)
+wired_count : (place first last : ℕ) (nodes : List PlainNode) (links : List PlainLink) → length (wired_from place first last nodes links) ≡ length nodes
+wired_count place first last [] links = refl
+wired_count place first last (x ∷ nodes) links = ap suc (wired_count (place + 1) (first + 1 + length (links_at place links) + length x.apps) last nodes links)
 
 -- ---- of a scene
 
 abbrev spots_of : PlainScene → ℕ → Spots
-spots_of scene node = spots_for (first_of 0 0 scene.nodes (all_joints scene) node) node (ends scene) (all_joints scene)
+spots_of scene node = spots_for (first_of 0 0 scene.nodes scene.links node) node (ends scene) scene.links
 
 abbrev pub all_wired : PlainScene → List (List Wire)
-all_wired scene = wired_from 0 0 (ends scene) scene.nodes (all_joints scene)
+all_wired scene = wired_from 0 0 (ends scene) scene.nodes scene.links
 
-place_same : (scene : PlainScene) → ArePlaced scene → (node : ℕ) (w : Who) → (node_of w ≡ Some node) ⊎ ((k : ℕ) × (w ≡ who.Link k)) → place_by (spots_of scene node) w ≡ place_of scene w
-place_same scene are node (who.Router m) (inl home) = first_start scene are 0 0 scene.nodes node ∙ begin ∙ ap (begins scene) (sym (same_Some m node home)) where
+place_same : (scene : PlainScene) (node : ℕ) (w : Who) → (node_of w ≡ Some node) ⊎ ((k : ℕ) × (w ≡ who.Link k)) → place_by (spots_of scene node) w ≡ place_of scene w
+place_same scene node (who.Router m) (inl home) = first_start 0 0 scene.nodes scene.links node ∙ begin ∙ ap (begins scene) (sym (same_Some m node home)) where
   begin : 0 + start 0 scene.nodes scene.links node ≡ begins scene node
   begin = omega arith
-place_same scene are node (who.Bridge m) (inl home) = first_start scene are 0 0 scene.nodes node ∙ begin ∙ ap (begins scene) (sym (same_Some m node home)) where
+place_same scene node (who.Bridge m) (inl home) = first_start 0 0 scene.nodes scene.links node ∙ begin ∙ ap (begins scene) (sym (same_Some m node home)) where
   begin : 0 + start 0 scene.nodes scene.links node ≡ begins scene node
   begin = omega arith
-place_same scene are node (who.Iface m k) (inl home) =
-    let first = first_start scene are 0 0 scene.nodes node in
-    let here : first_of 0 0 scene.nodes (all_joints scene) node + 1 + k ≡ begins scene node + suc k = omega (arith, first) in
+place_same scene node (who.Iface m k) (inl home) =
+    let first = first_start 0 0 scene.nodes scene.links node in
+    let here : first_of 0 0 scene.nodes scene.links node + 1 + k ≡ begins scene node + suc k = omega (arith, first) in
     here ∙ ap (λ (x : ℕ). begins scene x + suc k) (sym (same_Some m node home))
-place_same scene are node (who.App m k) (inl home) =
-    let first = first_start scene are 0 0 scene.nodes node in
-    let count = joints_count scene are node in
-    let here : first_of 0 0 scene.nodes (all_joints scene) node + 1 + length (joints_of scene node) + k ≡ begins scene node + suc (length (links_at node scene.links) + k) = omega (arith, first, count) in
+place_same scene node (who.App m k) (inl home) =
+    let first = first_start 0 0 scene.nodes scene.links node in
+    let here : first_of 0 0 scene.nodes scene.links node + 1 + length (links_at node scene.links) + k ≡ begins scene node + suc (length (links_at node scene.links) + k) = omega (arith, first) in
     here ∙ ap (λ (x : ℕ). begins scene x + suc (length (links_at x scene.links) + k)) (sym (same_Some m node home))
-place_same scene are node (who.Link k) home = refl
-place_same scene are node (who.Router m) (inr (k, e)) = absurd cc
-place_same scene are node (who.Bridge m) (inr (k, e)) = absurd cc
-place_same scene are node (who.Iface m i) (inr (k, e)) = absurd cc
-place_same scene are node (who.App m i) (inr (k, e)) = absurd cc
+place_same scene node (who.Link k) home = refl
+place_same scene node (who.Router m) (inr (k, e)) = absurd cc
+place_same scene node (who.Bridge m) (inr (k, e)) = absurd cc
+place_same scene node (who.Iface m i) (inr (k, e)) = absurd cc
+place_same scene node (who.App m i) (inr (k, e)) = absurd cc
 
 named_there : (scene : PlainScene) (w : Who) → Stands scene w → slice_get (map (λ (o : PlainOpening). o.who) (parties_of scene)) (place_of scene w) ≡ Some w
 named_there scene w s =
@@ -113,19 +108,19 @@ wire_fits scene are node k l e =
       named = refl;
       carries = refl;
       room = refl;
-      from = record { party = ap (slice_get named) (place_same scene are node l.from.who (of_end node l l.from stays.from)) ∙ named_there scene l.from.who joins.from; called = refl };
-      to = record { party = ap (slice_get named) (place_same scene are node l.to.who (of_end node l l.to stays.to)) ∙ named_there scene l.to.who joins.to; called = refl };
+      from = record { party = ap (slice_get named) (place_same scene node l.from.who (of_end node l l.from stays.from)) ∙ named_there scene l.from.who joins.from; called = refl };
+      to = record { party = ap (slice_get named) (place_same scene node l.to.who (of_end node l l.to stays.to)) ∙ named_there scene l.to.who joins.to; called = refl };
     }
 
 wired_here : (scene : PlainScene) (node : ℕ) (n : PlainNode) → slice_get scene.nodes node ≡ Some n → slice_get (all_wired scene) node ≡ Some (map (wire_by (spots_of scene node)) (wires_here scene node n))
-wired_here scene node n there = wired_in 0 0 (ends scene) scene.nodes (all_joints scene) node node n there (omega arith)
+wired_here scene node n there = wired_in 0 0 (ends scene) scene.nodes scene.links node node n there (omega arith)
 
 some_and : {X : Type 0} (P : X → Type 0) (o : Option X) (x : X) → o ≡ Some x → P x → IsSomeAnd o P
 some_and P o x e p = subst (λ (y : Option _). IsSomeAnd y P) (sym e) p
 
 pub all_are_wires : (scene : PlainScene) → ArePlaced scene → AreWires scene (all_wired scene)
 all_are_wires scene are = record {
-  count = wired_count 0 0 (ends scene) scene.nodes (all_joints scene);
+  count = wired_count 0 0 (ends scene) scene.nodes scene.links;
   each = each;
   only = only;
 } where
@@ -141,7 +136,7 @@ all_are_wires scene are = record {
     by : (o : Option (List Wire)) → slice_get (all_wired scene) node ≡ o → option_and_then (λ ws. slice_get ws k) o ≡ Some w → IsSomeAnd (wire_at scene node k) (λ l. IsWireOf scene l w)
     by None f g = absurd cc
     by (Some ws) f g =
-        let (n, there) = wired_node 0 0 (ends scene) scene.nodes (all_joints scene) node ws f in
+        let (n, there) = wired_node 0 0 (ends scene) scene.nodes scene.links node ws f in
         let same : ws ≡ map (wire_by (spots_of scene node)) (wires_here scene node n) = same_Some ws (map (wire_by (spots_of scene node)) (wires_here scene node n)) (sym f ∙ wired_here scene node n there) in
         let (l, at, is) = made-from (wire_by (spots_of scene node)) (wires_here scene node n) k w (ap (λ (xs : List Wire). slice_get xs k) (sym same) ∙ g) in
         let wire = wire_there scene node k n l there at in

@@ -2,6 +2,7 @@ pub mod Lanes
 pub mod Opening
 pub mod Parties
 pub mod Plan
+pub mod Queues
 pub mod Topology
 pub mod Wired
 pub mod Wires

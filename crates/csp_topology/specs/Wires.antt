@@ -1,6 +1,6 @@
 -- The lanes of each node of a scene, in the order in which a record tells of them.
 use Rattle.std.specs.Prelude.{ℕ, ◌+◌, ◌==◌, Bool, Option, List, [], ◌∷◌, ◌++◌, filter, length, map, slice_get}
-use Rattle.std.specs.List.{range_with_len}
+use Rattle.std.specs.List.{flat_map, range_with_len}
 use Rattle.std.specs.Option.{option_and_then}
 use Rattle.csp_log.specs.Kinds.{carried_on}
 use Rattle.csp_log.specs.declared.places.Carries.{Carries}
@@ -9,6 +9,7 @@ use Rattle.csp_log.specs.declared.places.End.{End}
 use Rattle.csp_log.specs.declared.places.QueueId.TheVariants as queue
 use Rattle.csp_log.specs.declared.who.Who.{Who}
 use Rattle.csp_log.specs.declared.who.Who.TheVariants as who
+use Rattle.csp_scene.specs.Links.{links_at}
 use Rattle.csp_scene.specs.Scene.{PlainScene, PlainNode, PlainLink}
 use Rattle.csp_topology.specs.Lanes.{PlainLane, leader_of, lane_at, out_lane}
 
@@ -19,10 +20,14 @@ pub record PlainJoint : Type 0 where
   pub place : ℕ
   pub end : End
 
+-- the end in a place of the link of this number, which carries this
+abbrev pub joint_of : (number : ℕ) → Carries → (place : ℕ) → End → PlainJoint
+joint_of number carries place end = record { link = number; carries = carries; place = place; end = end }
+
 -- the ends of a link, from this place on
 abbrev pub joints_on : ℕ → Carries → ℕ → List End → List PlainJoint
 joints_on number carries at [] = []
-joints_on number carries at (end ∷ ends) = record { link = number; carries = carries; place = at; end = end } ∷ joints_on number carries (at + 1) ends
+joints_on number carries at (end ∷ ends) = joint_of number carries at end ∷ joints_on number carries (at + 1) ends
 
 -- the ends of these links, from this number on
 abbrev pub joints_from : ℕ → List PlainLink → List PlainJoint
@@ -65,25 +70,30 @@ down_lane node hub k = lane_at node (queue.Down k) lane.Down hub (who.App node k
 abbrev pub up_lane : ℕ → Who → ℕ → PlainLane
 up_lane node hub k = lane_at node (queue.Up k) lane.Up (who.App node k) hub
 
--- those of a node with this router or bridge, with interfaces at these ends, and so many applications
-abbrev pub wires_with : ℕ → Who → List PlainJoint → ℕ → List PlainLane
-wires_with node hub joints apps =
+-- those of a node with this router or bridge, where links end so, with so many interfaces and applications: from its links, to them, to its interfaces,
+-- to its applications, and from them
+abbrev pub wires_with : (node : ℕ) → Who → List PlainJoint → (ifaces apps : ℕ) → List PlainLane
+wires_with node hub joints ifaces apps =
     map rx_lane joints
     ++ (map tx_lane joints
-    ++ (map (λ j. out_lane node hub j.end.iface) joints ++ (map (down_lane node hub) (range_with_len 0 apps) ++ map (up_lane node hub) (range_with_len 0 apps))))
+    ++ (map (out_lane node hub) (range_with_len 0 ifaces) ++ (map (down_lane node hub) (range_with_len 0 apps) ++ map (up_lane node hub) (range_with_len 0 apps))))
 
--- those of the node at this place, where links end so
-abbrev pub wires_at : ℕ → PlainNode → List PlainJoint → List PlainLane
-wires_at place n joints = wires_with place (leader_of place n.addr) (joints_at place joints) (length n.apps)
+-- those of the node at this place, where these are the links
+abbrev pub wires_at : ℕ → PlainNode → List PlainLink → List PlainLane
+wires_at place n links = wires_with place (leader_of place n.addr) (joints_at place (joints_from 0 links)) (length (links_at place links)) (length n.apps)
 
 -- those of each of the nodes from this place on
-abbrev pub wires_from : ℕ → List PlainNode → List PlainJoint → List (List PlainLane)
-wires_from place [] joints = []
-wires_from place (n ∷ nodes) joints = wires_at place n joints ∷ wires_from (place + 1) nodes joints
+abbrev pub wires_from : ℕ → List PlainNode → List PlainLink → List (List PlainLane)
+wires_from place [] links = []
+wires_from place (n ∷ nodes) links = wires_at place n links ∷ wires_from (place + 1) nodes links
 
 -- the lanes of each node of a scene
 unfoldable pub wires_of : PlainScene → List (List PlainLane)
-wires_of scene = wires_from 0 scene.nodes (joints_from 0 scene.links)
+wires_of scene = wires_from 0 scene.nodes scene.links
+
+-- all lanes of a scene: those of its nodes, one node after the other
+unfoldable pub lanes_of : PlainScene → List PlainLane
+lanes_of scene = flat_map (λ lanes. lanes) (wires_of scene)
 
 -- the lane at a place among those of a node
 abbrev pub wire_at : PlainScene → ℕ → ℕ → Option PlainLane

@@ -4,10 +4,11 @@ use Rattle.std.specs.Option.{option_and_then}
 use Rattle.csp_lists.specs.PlainDeck.{lane_room}
 use Rattle.csp_log.specs.declared.who.Who.{Who}
 use Rattle.csp_log.specs.declared.who.Who.TheVariants as who
-use Rattle.csp_scene.specs.Scene.{PlainScene, PlainNode}
+use Rattle.csp_scene.specs.Links.{links_at}
+use Rattle.csp_scene.specs.Scene.{PlainScene, PlainNode, PlainLink}
 use Rattle.csp_topology.specs.Lanes.{PlainEnd, PlainLane}
 use Rattle.csp_topology.specs.Parties.{parties_of}
-use Rattle.csp_topology.specs.Wires.{PlainJoint, joints_at, wire_at, wires_at}
+use Rattle.csp_topology.specs.Wires.{wire_at, wires_at}
 use Rattle.csp_topology.specs.declared.wire.Spots.{Spots}
 use Rattle.csp_topology.specs.declared.wire.Wire.{Wire}
 use Rattle.csp_topology.specs.declared.wire.WireEnd.{WireEnd}
@@ -54,8 +55,8 @@ pub record AreWires (scene : PlainScene) (ws : List (List Wire)) : Type 0 where
   pub only : (node k : ℕ) (w : Wire) → wired_at ws node k ≡ Some w → IsSomeAnd (wire_at scene node k) (λ l. IsWireOf scene l w)
 
 -- the lanes of the nodes from this place on, whose parties stand from this place on, before links from the other
-abbrev pub wired_from : ℕ → ℕ → ℕ → List PlainNode → List PlainJoint → List (List Wire)
-wired_from place first links [] joints = []
-wired_from place first links (n ∷ nodes) joints =
-    map (wire_by (record { first = first; ifaces = length (joints_at place joints); links = links })) (wires_at place n joints)
-    ∷ wired_from (place + 1) (first + 1 + length (joints_at place joints) + length n.apps) links nodes joints
+abbrev pub wired_from : ℕ → ℕ → ℕ → List PlainNode → List PlainLink → List (List Wire)
+wired_from place first last [] links = []
+wired_from place first last (n ∷ nodes) links =
+    map (wire_by (record { first = first; ifaces = length (links_at place links); links = last })) (wires_at place n links)
+    ∷ wired_from (place + 1) (first + 1 + length (links_at place links) + length n.apps) last nodes links

@@ -14,10 +14,10 @@ ghost use Rattle.csp_scene.specs.Kept.{AreLinksAfter};
 ghost use Rattle.csp_scene.specs.Links.{links_at};
 ghost use Rattle.csp_scene.specs.Ranges.{IsScene};
 ghost use Rattle.csp_scene.specs.Scene.{PlainScene, PlainNode};
-ghost use Rattle.csp_topology.specs.Lanes.{PlainLane, leader_of, lanes_of};
+ghost use Rattle.csp_topology.specs.Lanes.{PlainLane, leader_of};
 ghost use Rattle.csp_topology.specs.Parties.{PlainOpening, parties_of};
 ghost use Rattle.csp_topology.specs.Wired.{IsLed, IsServed, IsWire, Joins, Side, Stands, StaysHome, end_on, inbox_rule};
-ghost use Rattle.csp_topology.specs.Wires.{wire_at, wires_of};
+ghost use Rattle.csp_topology.specs.Wires.{lanes_of, wire_at, wires_of};
 
 use crate::topology::MAX_PARTIES;
 

@@ -4,7 +4,7 @@ ghost use Rattle.std.specs.Prelude.{◌≡◌, ◌≤◌, ◌+◌, ◌++◌, ◌
 ghost use Rattle.std.specs.List.{AllByRecursion, range_with_len};
 ghost use Rattle.csp_scene.specs.Ranges.{IsLink, IsNode};
 ghost use Rattle.csp_topology.specs.Lanes.{leader_of, out_lane};
-ghost use Rattle.csp_topology.specs.Wires.{down_lane, joints_from, rx_lane, tx_lane, up_lane, wires_with};
+ghost use Rattle.csp_topology.specs.Wires.{down_lane, rx_lane, tx_lane, up_lane, wires_with};
 ghost use Rattle.csp_topology.specs.Wiring.{wire_by, wired_from};
 
 use crate::joint::{Joint, joints_at, joints_of};
@@ -27,7 +27,7 @@ pub(crate) fn wires_of(
     requires few_links { length links.now ≤ MAX_LINKS }
     requires ends { AllByRecursion (IsLink nodes.now links.now) links.now }
     requires links { first_link ≤ MAX_PARTIES }
-    ensures { IfOk result (λ wires. map (λ ws. ws.items) wires.items ≡ wired_from 0 0 first_link nodes.now (joints_from 0 links.now)) }
+    ensures { IfOk result (λ wires. map (λ ws. ws.items) wires.items ≡ wired_from 0 0 first_link nodes.now links.now) }
 {
     let joints = joints_of(alloc, links)?;
     let mut first = 0;
@@ -54,17 +54,19 @@ fn wires_at(
     spots: Spots,
 ) -> Result<Vec<Wire>, AllocError>
     requires node { IsNode node.now }
+    requires few { length joints.now ≤ MAX_LINKS }
     requires first { spots.first ≤ MAX_PARTIES }
     requires ifaces { spots.ifaces ≤ MAX_PARTIES }
     requires links { spots.links ≤ MAX_PARTIES }
-    ensures { IfOk result (λ wires. wires.items ≡ map (wire_by spots) (wires_with place (leader_of place node.now.addr) joints.now (length node.now.apps))) }
+    ensures { IfOk result (λ wires. wires.items ≡ map (wire_by spots) (wires_with place (leader_of place node.now.addr) joints.now (length joints.now) (length node.now.apps))) }
 {
     let hub = leader_of(place, node);
+    let ifaces = joints.len() as u8;
     let apps = node.apps.len() as u8;
     let mut wires = Vec::new(alloc);
     push_rx(&mut wires, joints, spots)?;
     push_tx(&mut wires, joints, spots)?;
-    push_out(&mut wires, place, hub, joints, spots)?;
+    push_out(&mut wires, place, hub, ifaces, spots)?;
     push_down(&mut wires, place, hub, apps, spots)?;
     push_up(&mut wires, place, hub, apps, spots)?;
     Ok(wires)
@@ -106,21 +108,21 @@ fn push_tx(wires: &mut Vec<Wire>, joints: &[Joint], spots: Spots) -> Result<(), 
     Ok(())
 }
 
-/// Appends the lanes from the router or bridge of this node to the interfaces at these ends.
+/// Appends the lanes from the router or bridge of this node to so many interfaces.
 fn push_out(
     wires: &mut Vec<Wire>,
     node: u8,
     hub: Who,
-    joints: &[Joint],
+    ifaces: u8,
     spots: Spots,
 ) -> Result<(), AllocError>
     requires first { spots.first ≤ MAX_PARTIES }
     requires ifaces { spots.ifaces ≤ MAX_PARTIES }
     requires links { spots.links ≤ MAX_PARTIES }
-    ensures { OnOk result (wires.new.items ≡ wires.old.items ++ map (wire_by spots) (map (λ j. out_lane node hub j.end.iface) joints.now)) }
+    ensures { OnOk result (wires.new.items ≡ wires.old.items ++ map (λ k. wire_by spots (out_lane node hub k)) (range_with_len 0 ifaces)) }
 {
-    for joint in joints {
-        wires.push(spots.out(node, hub, joint.end.iface))?;
+    for number in 0..ifaces {
+        wires.push(spots.out(node, hub, number))?;
     }
     Ok(())
 }

@@ -9,7 +9,8 @@ use Rattle.std.proofs.lemmas.Option.{same_Some}
 use Rattle.csp_base.specs.Priority.{prio_number}
 use Rattle.csp_base.specs.declared.priority.Prio.{Prio}
 use Rattle.csp_consistent.proofs.Public.{AreApart, entries_in, none_there, who_is, IsOf, IsOwner, IsOwn, own_asks, own_told}
-use Rattle.csp_consistent.specs.Inboxes.{IsInboxInOrder, writer_of}
+use Rattle.csp_consistent.specs.Inboxes.{IsInboxInOrder}
+use Rattle.csp_topology.specs.Queues.{writer_of}
 use Rattle.csp_topology.specs.Lanes.{leader_of}
 use Rattle.csp_topology.specs.Parties.{PlainOpening, party_steps}
 use Rattle.csp_consistent.specs.Queues.{MayAsk}

@@ -10,7 +10,7 @@ use Rattle.csp_base.specs.declared.priority.Prio.{Prio}
 use Rattle.csp_base.specs.declared.priority.Prio.TheVariants.{Critical, High, Normal, Low}
 use Rattle.csp_buffer.specs.Content.{Content}
 use Rattle.csp_consistent.proofs.Public.{IsOwner}
-use Rattle.csp_consistent.specs.Inboxes.{writer_of}
+use Rattle.csp_topology.specs.Queues.{writer_of}
 use Rattle.csp_topology.specs.Lanes.{leader_of}
 use Rattle.csp_consistent.specs.Reading.{is_queue, put_by, with_mark, with_priority}
 use Rattle.csp_deck.specs.Carried.{place_for, priority_of}

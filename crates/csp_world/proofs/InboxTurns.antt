@@ -8,7 +8,7 @@ use Rattle.std.proofs.lemmas.Option.{same_Some}
 use Rattle.csp_base.specs.Priority.{prio_number}
 use Rattle.csp_base.specs.declared.priority.Prio.{Prio}
 use Rattle.csp_buffer.specs.Content.{Content}
-use Rattle.csp_consistent.specs.Inboxes.{writer_of}
+use Rattle.csp_topology.specs.Queues.{writer_of}
 use Rattle.csp_topology.specs.Lanes.{leader_of}
 use Rattle.csp_consistent.specs.Queues.{MayAsk}
 use Rattle.csp_consistent.specs.Reading.{got_by, is_queue, put_by, with_mark, with_priority}

@@ -1,13 +1,13 @@
 -- What came through each lane within a node is what was put there, in order.
-use Rattle.std.proofs.Common.{◌≡◌, ◌<◌, ◌≤◌, ℕ, zero, suc, ◌+◌, ◌==◌, ◌&&◌, Bool, true, false, Option, None, Some, List, [], ◌∷◌, ◌++◌, length, map, refl, sym, subst, ap, ◌∙◌, arith}
+use Rattle.std.proofs.Common.{◌≡◌, ◌<◌, ◌≤◌, ℕ, ◌+◌, ◌==◌, ◌&&◌, Bool, true, false, Option, None, Some, List, [], ◌∷◌, ◌++◌, length, map, refl, sym, subst, ap, ◌∙◌, arith}
 use Rattle.std.specs.Prelude.{slice_get, if◌then◌else◌, IsSome}
-use Rattle.std.specs.List.{AllByRecursion, flat_map, range_with_len}
 use Rattle.std.proofs.lemmas.Bool.{eq-eqb, lt-ltb}
 use Rattle.std.proofs.lemmas.List.{append_assoc, length-append, length-map}
 use Rattle.csp_base.specs.Priority.{prio_number}
 use Rattle.csp_consistent.proofs.Public.{entries_in, queue_is, own_asks}
 use Rattle.csp_consistent.specs.Lanes.{IsFullAfter, IsInOrder, IsRefused}
-use Rattle.csp_topology.specs.Lanes.{PlainLane, app_lanes, leader_of, lanes_from, lanes_within, out_lane}
+use Rattle.csp_topology.proofs.Public.{OfApp, OfIface}
+use Rattle.csp_topology.specs.Lanes.{PlainLane, leader_of}
 use Rattle.csp_topology.specs.Parties.{PlainOpening}
 use Rattle.csp_consistent.specs.Queues.{MayAsk, MayPop, MayPush}
 use Rattle.csp_consistent.specs.Reading.{got_by, gets, is_queue, put_by, puts}
@@ -134,7 +134,7 @@ module _ (scene : PlainScene) (links : List (List End)) (node : ℕ) (x : PlainN
   out_getter k (who.App n j) is may = absurd may
   out_getter k (who.Link n) is may = absurd may
 
-  apps_lanes : (k : ℕ) → k < length x.apps → AllByRecursion (IsLaneOf scene links) (app_lanes node (leader_of node x.addr) k)
+  pub apps_lanes : (k : ℕ) → k < length x.apps → OfApp (IsLaneOf scene links) node x k
   unfolding hub
   apps_lanes k low = (
     record {
@@ -146,61 +146,28 @@ module _ (scene : PlainScene) (links : List (List End)) (node : ℕ) (x : PlainN
       gets = λ w is. gets_within links (queue.Up k) tt node hub w (up_getter k w is);
       refused = λ w is. refused_there links (queue.Up k) node (who.App node k) w (up_putter k w is);
     },
-    (
-      record {
-        node = x;
-        there = at;
-        lane = refl;
-        stands = rw (lt-ltb k (length x.apps) low) refl;
-        puts = λ w is. puts_within links (queue.Down k) tt node hub w (down_putter k w is);
-        gets = λ w is. gets_within links (queue.Down k) tt node (who.App node k) w (down_getter k w is);
-        refused = λ w is. refused_there links (queue.Down k) node hub w (down_putter k w is);
-      },
-      tt,
-    ),
-  )
-
-  outs_lanes : (k : ℕ) → k < length (links_at node scene.links) → AllByRecursion (IsLaneOf scene links) (out_lane node (leader_of node x.addr) k ∷ [])
-  unfolding hub
-  outs_lanes k low = (
     record {
       node = x;
       there = at;
       lane = refl;
-      stands = rw (lt-ltb k (length (carried_at node scene.links)) (as_many node scene.links k low)) refl;
-      puts = λ w is. puts_within links (queue.Out k) tt node hub w (out_putter k w is);
-      gets = λ w is. gets_within links (queue.Out k) tt node (who.Iface node k) w (out_getter k w is);
-      refused = λ w is. refused_there links (queue.Out k) node hub w (out_putter k w is);
+      stands = rw (lt-ltb k (length x.apps) low) refl;
+      puts = λ w is. puts_within links (queue.Down k) tt node hub w (down_putter k w is);
+      gets = λ w is. gets_within links (queue.Down k) tt node (who.App node k) w (down_getter k w is);
+      refused = λ w is. refused_there links (queue.Down k) node hub w (down_putter k w is);
     },
-    tt,
   )
 
-pub all-append : {X : Type 0} (P : X → Type 0) (xs ys : List X) → AllByRecursion P xs → AllByRecursion P ys → AllByRecursion P (xs ++ ys)
-all-append P [] ys h g = g
-all-append P (x ∷ xs) ys h g = (h.0, all-append P xs ys h.1 g)
-
-all-flat : {X : Type 0} (P : X → Type 0) (f : ℕ → List X) (count : ℕ) → ((k : ℕ) → k < count → AllByRecursion P (f k)) → (first n : ℕ) → first + n ≡ count → AllByRecursion P (flat_map f (range_with_len first n))
-all-flat P f count each first zero e = tt
-all-flat P f count each first (suc n) e = all-append P (f first) (flat_map f (range_with_len (first + 1) n)) (each first (omega (arith, e))) (all-flat P f count each (first + 1) n (omega (arith, e)))
-
-node_lanes_of : (scene : PlainScene) (links : List (List End)) (place : ℕ) (n : PlainNode) → slice_get scene.nodes place ≡ Some n → AllByRecursion (IsLaneOf scene links) (lanes_within place (leader_of place n.addr) (length n.apps) (length (links_at place scene.links)))
-node_lanes_of scene links place n at =
-    let hub = leader_of place n.addr in
-    let apps = length n.apps in
-    let ifaces = length (links_at place scene.links) in
-    all-append (IsLaneOf scene links) (flat_map (app_lanes place hub) (range_with_len 0 apps)) (flat_map (λ k. out_lane place hub k ∷ []) (range_with_len 0 ifaces))
-    (all-flat (IsLaneOf scene links) (app_lanes place hub) apps (apps_lanes scene links place n at) 0 apps (omega arith))
-    (all-flat (IsLaneOf scene links) (λ k. out_lane place hub k ∷ []) ifaces (outs_lanes scene links place n at) 0 ifaces (omega arith))
-
-lanes_of_nodes : (scene : PlainScene) (links : List (List End)) (place : ℕ) (nodes : List PlainNode) → ((k : ℕ) → slice_get scene.nodes (place + k) ≡ slice_get nodes k) → AllByRecursion (IsLaneOf scene links) (lanes_from place nodes scene.links)
-lanes_of_nodes scene links place [] same = tt
-lanes_of_nodes scene links place (n ∷ nodes) same =
-    all-append (IsLaneOf scene links) (lanes_within place (leader_of place n.addr) (length n.apps) (length (links_at place scene.links))) (lanes_from (place + 1) nodes scene.links)
-    (node_lanes_of scene links place n (ap (slice_get scene.nodes) (omega arith) ∙ same 0))
-    (lanes_of_nodes scene links (place + 1) nodes (λ k. ap (slice_get scene.nodes) (omega arith) ∙ same (suc k)))
-
-pub lanes_of_scene : (scene : PlainScene) (links : List (List End)) → AllByRecursion (IsLaneOf scene links) (lanes_from 0 scene.nodes scene.links)
-lanes_of_scene scene links = lanes_of_nodes scene links 0 scene.nodes (λ k. ap (slice_get scene.nodes) (omega arith))
+  pub outs_lanes : (k : ℕ) → k < length (links_at node scene.links) → OfIface (IsLaneOf scene links) node x k
+  unfolding hub
+  outs_lanes k low = record {
+    node = x;
+    there = at;
+    lane = refl;
+    stands = rw (lt-ltb k (length (carried_at node scene.links)) (as_many node scene.links k low)) refl;
+    puts = λ w is. puts_within links (queue.Out k) tt node hub w (out_putter k w is);
+    gets = λ w is. gets_within links (queue.Out k) tt node (who.Iface node k) w (out_getter k w is);
+    refused = λ w is. refused_there links (queue.Out k) node hub w (out_putter k w is);
+  }
 
 -- ---- what came through a lane
 

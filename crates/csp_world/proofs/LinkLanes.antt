@@ -1,5 +1,5 @@
 -- What a link puts into the lanes at its ends, and gets there.
-use Rattle.std.proofs.Common.{◌≡◌, ◌<◌, ℕ, zero, suc, ◌+◌, ◌==◌, ◌&&◌, Bool, true, false, Option, None, Some, List, [], ◌∷◌, length, refl, sym, subst, ap, ◌∙◌, arith}
+use Rattle.std.proofs.Common.{◌≡◌, ◌<◌, ℕ, ◌==◌, ◌&&◌, Bool, true, false, Option, None, Some, List, [], length, refl, sym, subst, ap, ◌∙◌}
 use Rattle.std.specs.Prelude.{slice_get, if◌then◌else◌}
 use Rattle.std.specs.List.{AllByRecursion}
 use Rattle.std.specs.Option.{option_and_then, option_map}
@@ -7,7 +7,8 @@ use Rattle.std.proofs.lemmas.Bool.{eq-eqb, eqb-true, lt-ltb}
 use Rattle.std.proofs.lemmas.Option.{same_Some, slice_get-map, slice_get_within}
 use Rattle.csp_consistent.proofs.Public.{each_at}
 use Rattle.csp_consistent.specs.Lanes.{IsRefused}
-use Rattle.csp_topology.specs.Lanes.{end_lanes, lanes_from, lanes_of, lanes_on, link_lanes}
+use Rattle.csp_topology.proofs.Public.{OfEnd, all_lanes}
+use Rattle.csp_topology.specs.Wires.{joint_of, lanes_of, rx_lane, tx_lane}
 use Rattle.csp_consistent.specs.Queues.{MayAsk, MayPop, MayPush}
 use Rattle.csp_consistent.specs.Reading.{got_by, is_queue, put_by}
 use Rattle.csp_log.specs.Kinds.{carried_on}
@@ -32,10 +33,9 @@ use Rattle.csp_scene.specs.Scene.{PlainLink, PlainNode, PlainScene}
 use Rattle.csp_world.proofs.ContentLemmas.{if_named, popped_out, pushed_in}
 use Rattle.csp_world.proofs.EndsApart.{AreEndsApart, ends_apart, ends_in}
 use Rattle.csp_world.proofs.InboxNames.{pop_is, push_is}
-use Rattle.csp_world.proofs.LaneLemmas.{IsLaneOf, all-append, as_many, carried_at, iface_user, lanes_of_scene}
+use Rattle.csp_world.proofs.LaneLemmas.{IsLaneOf, apps_lanes, as_many, carried_at, iface_user, outs_lanes}
 use Rattle.csp_world.proofs.LaneNames.{IsPushedTo, IsUser, PopsAway, PushesAway, gets_same, no_got, no_put, own_apart, puts_same, refused_there}
 use Rattle.csp_world.proofs.MovedLemmas.{got_at, got_there, put_at, put_there}
-use Rattle.csp_world.proofs.OpeningScene.{one_there}
 
 -- the end of a link at a place
 abbrev pub end_of : List (List End) → ℕ → ℕ → Option End
@@ -286,7 +286,7 @@ module _ (scene : PlainScene) (links : List (List End)) (apart : AreEndsApart li
   rx_refused (who.App m k) o y this e = absurd cc
   rx_refused (who.Link k) _ _ this e = absurd e
 
-  lanes_of_end : (carries : Carries) → x.iface < length (links_at x.node scene.links) → AllByRecursion (IsLaneOf scene links) (end_lanes j carries a x)
+  lanes_of_end : (carries : Carries) → x.iface < length (links_at x.node scene.links) → IsLaneOf scene links (tx_lane (joint_of j carries a x)) × IsLaneOf scene links (rx_lane (joint_of j carries a x))
   lanes_of_end carries low = (
     record {
       node = n;
@@ -297,47 +297,27 @@ module _ (scene : PlainScene) (links : List (List End)) (apart : AreEndsApart li
       gets = λ w is. tx_gets w;
       refused = λ w is. refused_there links (queue.Tx x.iface) x.node (who.Iface x.node x.iface) w (tx_putter w);
     },
-    (
-      record {
-        node = n;
-        there = at;
-        lane = refl;
-        stands = rw (lt-ltb x.iface (length (carried_at x.node scene.links)) (as_many x.node scene.links x.iface low)) refl;
-        puts = λ w is. rx_puts w;
-        gets = λ w is. gets_same links (queue.Rx x.iface) refl x.node (who.Iface x.node x.iface) w (rx_pops w) (rx_getter w);
-        refused = λ w is o may y. rx_refused w o y;
-      },
-      tt,
-    ),
+    record {
+      node = n;
+      there = at;
+      lane = refl;
+      stands = rw (lt-ltb x.iface (length (carried_at x.node scene.links)) (as_many x.node scene.links x.iface low)) refl;
+      puts = λ w is. rx_puts w;
+      gets = λ w is. gets_same links (queue.Rx x.iface) refl x.node (who.Iface x.node x.iface) w (rx_pops w) (rx_getter w);
+      refused = λ w is o may y. rx_refused w o y;
+    },
   )
 
--- ---- the lanes of all links
+-- ---- all lanes
 
-module _ (scene : PlainScene) (apart : AreEndsApart (ends_in scene.links)) where
-  of_ends : (j : ℕ) (l : PlainLink) → slice_get scene.links j ≡ Some l → IsLink scene.nodes scene.links l → (carries : Carries) (at : ℕ) (ends : List End) → ((k : ℕ) → slice_get l.ends (at + k) ≡ slice_get ends k)
-      → AllByRecursion (IsLaneOf scene (ends_in scene.links)) (lanes_on j carries at ends)
-  of_ends j l there is carries at [] same = tt
-  of_ends j l there is carries at (x ∷ ends) same =
-      let links = ends_in scene.links in
-      let here : slice_get l.ends at ≡ Some x = ap (slice_get l.ends) (omega arith) ∙ same 0 in
-      let end = each_at (IsEnd scene.nodes scene.links l) l.ends at x is.ends here in
-      let (n, on) = one_there scene.nodes x.node end.node in
-      let link : slice_get links j ≡ Some l.ends = slice_get-map (λ (y : PlainLink). y.ends) scene.links j ∙ ap (option_map (λ (y : PlainLink). y.ends)) there in
-      all-append (IsLaneOf scene links) (end_lanes j carries at x) (lanes_on j carries (at + 1) ends)
-      (lanes_of_end scene links apart j at l.ends x link here n on carries (slice_get_within (links_at x.node scene.links) x.iface l end.iface))
-      (of_ends j l there is carries (at + 1) ends (λ k. ap (slice_get l.ends) (omega arith) ∙ same (suc k)))
-
-  of_links : (number : ℕ) (links : List PlainLink) → ((k : ℕ) → slice_get scene.links (number + k) ≡ slice_get links k) → AllByRecursion (IsLink scene.nodes scene.links) links
-      → AllByRecursion (IsLaneOf scene (ends_in scene.links)) (link_lanes number links)
-  of_links number [] same all = tt
-  of_links number (l ∷ links) same all =
-      all-append (IsLaneOf scene (ends_in scene.links)) (lanes_on number (carried_on l.kind) 0 l.ends) (link_lanes (number + 1) links)
-      (of_ends number l (ap (slice_get scene.links) (omega arith) ∙ same 0) all.0 (carried_on l.kind) 0 l.ends (λ k. ap (slice_get l.ends) (omega arith)))
-      (of_links (number + 1) links (λ k. ap (slice_get scene.links) (omega arith) ∙ same (suc k)) all.1)
+module _ (scene : PlainScene) (apart : AreEndsApart (ends_in scene.links)) (is : IsScene scene) where
+  ends_lanes : (number place : ℕ) (l : PlainLink) (x : End) (n : PlainNode) → slice_get scene.links number ≡ Some l → slice_get l.ends place ≡ Some x → slice_get scene.nodes x.node ≡ Some n → OfEnd (IsLaneOf scene (ends_in scene.links)) number l place x
+  ends_lanes number place l x n there at on =
+      let link : slice_get (ends_in scene.links) number ≡ Some l.ends = slice_get-map (λ (y : PlainLink). y.ends) scene.links number ∙ ap (option_map (λ (y : PlainLink). y.ends)) there in
+      let end = each_at (IsEnd scene.nodes scene.links l) l.ends place x (each_at (IsLink scene.nodes scene.links) scene.links number l is.links there).ends at in
+      lanes_of_end scene (ends_in scene.links) apart number place l.ends x link at n on (carried_on l.kind) (slice_get_within (links_at x.node scene.links) x.iface l end.iface)
 
 pub all_lanes_of : (scene : PlainScene) → IsScene scene → AreLinksAfter (length scene.nodes) [] scene.links → AllByRecursion (IsLaneOf scene (ends_in scene.links)) (lanes_of scene)
-unfolding lanes_of
 all_lanes_of scene is after =
-    all-append (IsLaneOf scene (ends_in scene.links)) (lanes_from 0 scene.nodes scene.links) (link_lanes 0 scene.links)
-    (lanes_of_scene scene (ends_in scene.links))
-    (of_links scene (ends_apart (length scene.nodes) scene.links after) 0 scene.links (λ k. ap (slice_get scene.links) (omega arith)) is.links)
+    all_lanes (IsLaneOf scene (ends_in scene.links)) scene (λ node k n there low. apps_lanes scene (ends_in scene.links) node n there k low) (λ node k n there low. outs_lanes scene (ends_in scene.links) node n there k low)
+    (ends_lanes scene (ends_apart (length scene.nodes) scene.links after) is)

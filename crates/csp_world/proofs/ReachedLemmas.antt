@@ -5,7 +5,8 @@ use Rattle.std.specs.List.{AllByRecursion}
 use Rattle.csp_consistent.proofs.Public.{are_apart, scene_own, are_owners}
 use Rattle.csp_consistent.specs.Inboxes.{AreInboxesInOrder, IsInboxInOrder}
 use Rattle.csp_consistent.specs.Lanes.{AreInOrder, IsInOrder}
-use Rattle.csp_topology.specs.Lanes.{PlainLane, leader_of, lanes_of}
+use Rattle.csp_topology.specs.Lanes.{PlainLane, leader_of}
+use Rattle.csp_topology.specs.Wires.{lanes_of}
 use Rattle.csp_topology.specs.Parties.{parties_of}
 use Rattle.csp_consistent.specs.Pools.{AreNumbersKept, IsPoolWhole}
 use Rattle.csp_consistent.specs.Runs.{AreLogsOf}

@@ -8,7 +8,8 @@ use Rattle.std.proofs.lemmas.Option.{same_Some}
 use Rattle.csp_base.specs.declared.priority.Prio.TheVariants.{Critical, High, Normal, Low}
 use Rattle.csp_topology.specs.Parties.{PlainOpening, parties_of}
 use Rattle.csp_consistent.specs.Pools.{held_by, left_held, parties_held, party_held, place_named, pools_held}
-use Rattle.csp_consistent.specs.Whole.{AreQueuesLeft, at_node, left_name, queue_name, queues_from, queues_of}
+use Rattle.csp_consistent.specs.Whole.{AreQueuesLeft, left_name, queue_name}
+use Rattle.csp_topology.specs.Queues.{at_node, queues_from, queues_of}
 use Rattle.csp_log.specs.Kinds.{carried_on}
 use Rattle.csp_lists.specs.Gathered.{held_at, left_at, prio_named, queue_named}
 use Rattle.csp_lists.specs.Order.{places_in}

@@ -1,9 +1,10 @@
-use Rattle.std.proofs.Common.{◌≡◌, ◌++◌, map, take}
+use Rattle.std.proofs.Common.{◌≡◌, ◌++◌, map}
+use Rattle.std.specs.List.{range_with_len}
 use Rattle.csp_topology.proofs.wiring.push_out.Given as goal
 use Rattle.csp_topology.specs.Lanes.{out_lane}
 use Rattle.csp_topology.specs.Wiring.{wire_by}
 
-abbrev pub invariant-loop-joint : goal.invariant-loop-joint
-invariant-loop-joint l = record {
-  wires : l.wires.items ≡ l.fn.wires.items ++ map (wire_by l.spots) (map (λ j. out_lane l.node l.hub j.end.iface) (take l.joint-index l.joints));
+abbrev pub invariant-loop-number : goal.invariant-loop-number
+invariant-loop-number l = record {
+  wires : l.wires.items ≡ l.fn.wires.items ++ map (λ k. wire_by l.spots (out_lane l.node l.hub k)) (range_with_len 0 l.number);
 }

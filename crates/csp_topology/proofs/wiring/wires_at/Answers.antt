@@ -1,17 +1,18 @@
-use Rattle.std.proofs.Common.{◌≡◌, ℕ, length, map, ap, ◌∙◌, arith}
+use Rattle.std.proofs.Common.{◌≡◌, ℕ, List, length, map, ap, ◌∙◌, arith}
 use Rattle.csp_log.specs.declared.who.Who.{Who}
 use Rattle.csp_scene.specs.Scene.{PlainNode}
 use Rattle.csp_topology.proofs.WireSteps.{listed}
 use Rattle.csp_topology.proofs.wiring.wires_at.Goals as goal
 use Rattle.csp_topology.specs.Lanes.{leader_of}
-use Rattle.csp_topology.specs.Wires.{wires_with}
+use Rattle.csp_topology.specs.Wires.{PlainJoint, wires_with}
 use Rattle.csp_topology.specs.Wiring.{wire_by}
 
 pub returns : goal.returns
 returns c =
     let node : PlainNode = c.args.node.now in
+    let joints : List PlainJoint = c.args.joints.now in
     let apps : c.len-apps.result ≡ length node.apps = omega (arith, c.len-apps.ensures, c.node.inside.apps.ok.0, ap (λ (n : PlainNode). length n.apps) c.node.view_is) in
-    listed c.args.spots c.args.place c.leader_of-hub.result c.args.joints.now c.len-apps.result c.new-wires.result.items c.push_rx.new.wires.items c.push_tx.new.wires.items c.push_out.new.wires.items
+    listed c.args.spots c.args.place c.leader_of-hub.result joints (length joints) c.len-apps.result c.new-wires.result.items c.push_rx.new.wires.items c.push_tx.new.wires.items c.push_out.new.wires.items
     c.push_down.new.wires.items c.push_up.new.wires.items c.new-wires.ensures.items c.in_ok-push_rx.ensures c.in_ok-push_tx.ensures c.in_ok-push_out.ensures c.in_ok-push_down.ensures c.in_ok-push_up.ensures
-    ∙ ap (λ (h : Who). map (wire_by c.args.spots) (wires_with c.args.place h c.args.joints.now c.len-apps.result)) c.leader_of-hub.ensures
-    ∙ ap (λ (k : ℕ). map (wire_by c.args.spots) (wires_with c.args.place (leader_of c.args.place node.addr) c.args.joints.now k)) apps
+    ∙ ap (λ (h : Who). map (wire_by c.args.spots) (wires_with c.args.place h joints (length joints) c.len-apps.result)) c.leader_of-hub.ensures
+    ∙ ap (λ (k : ℕ). map (wire_by c.args.spots) (wires_with c.args.place (leader_of c.args.place node.addr) joints (length joints) k)) apps
