@@ -1,5 +1,6 @@
 mod Ends
 mod Joints
+mod NewParties
 mod PartyLemmas
 mod PartyPlaces
 mod Places
