@@ -178,11 +178,7 @@ impl World {
 }
 
 /// Takes room for one more party.
-fn member_room(
-    members: &mut Vec<Member>,
-    room: &mut Room,
-    nodes: usize,
-) -> Result<(), AllocError>
+fn member_room(members: &mut Vec<Member>, room: &mut Room, nodes: usize) -> Result<(), AllocError>
     requires few { room.old.queues + length members.old.items + 1 + nodes < 2 ^ 64 }
     requires no_logs { room.old.logs.items ≡ [] }
     requires no_held { room.old.held.items ≡ [] }
