@@ -5,4 +5,5 @@ mod DecksLaws
 mod Ends
 mod ServingLaws
 mod SetLemmas
+mod Unused
 pub mod Public

@@ -7,3 +7,4 @@ pub mod NodeAt
 pub mod Returned
 pub mod Seeing
 pub mod Serving
+pub mod Unused

@@ -1,6 +1,7 @@
 //! The lists of all nodes, as the party whose turn it is sees them.
 
 ghost use Rattle.std.specs.Prelude.{◌≡◌, ◌+◌, ◌<◌, ◌≤◌, ◌++◌, [], ◌∷◌, Some, length, map, slice_get, All, ℕ, OnOk, OnErr, IsSomeAnd, max, vec_len, vec_capacity};
+ghost use Rattle.std.specs.List.{AllByRecursion};
 ghost use Rattle.csp_lists.specs.Gathered.{queued_numbers};
 ghost use Rattle.csp_lists.specs.PlainDeck.{opening_deck, holders_of, IsLinkRule};
 ghost use Rattle.csp_nodes.specs.Emptied.{emptied_in};
@@ -8,6 +9,7 @@ ghost use Rattle.csp_nodes.specs.Fresh.{fresh_buffers};
 ghost use Rattle.csp_nodes.specs.Gathering.{all_left, queues_held, queue_count};
 ghost use Rattle.csp_nodes.specs.Seeing.{decks_of, regions_of};
 ghost use Rattle.csp_nodes.specs.Serving.{at_end, goes};
+ghost use Rattle.csp_nodes.specs.Unused.{IsUnused};
 
 use crate::emptied::Emptied;
 use crate::laws::keeps_shape;
@@ -25,7 +27,7 @@ use std::marker::Model;
 /// that party: over the lists of its node, and a link over those of the nodes at its ends, where the
 /// link's lanes have the names of the interfaces there. Contracts see it as a `DecksAt`.
 ///
-/// It must be spent by `gather`.
+/// It must be spent by `gather`, or by `leave`.
 pub struct Decks {
     pub(crate) nodes: Vec<NodeDeck>,
     pub(crate) links: Vec<ArrayVec<End, LINK_ENDS>>,
@@ -148,6 +150,18 @@ impl Decks {
             whose: _,
         } = self;
         empty_queues(nodes, emptied, left, held);
+    }
+
+    /// Closes the lists of nodes with which nothing was done. It takes no memory.
+    pub fn leave(self)
+        requires { AllByRecursion IsUnused self.decks }
+    {
+        let Decks {
+            nodes,
+            links: _,
+            whose: _,
+        } = self;
+        leave_nodes(nodes);
     }
 
     /// Where a queue of the party whose turn it is stands: at which node, and its name there.
@@ -334,6 +348,17 @@ fn empty_queues(
     while let Some(node) = nodes.pop_front() {
         emptied.push_reserved(node.gather(place, left, held));
         place += 1;
+    }
+    nodes.destroy_empty();
+}
+
+/// Closes the lists of nodes with which nothing was done.
+fn leave_nodes(nodes: Vec<NodeDeck>)
+    requires { AllByRecursion IsUnused (decks_of nodes.items) }
+{
+    let mut nodes = VecDeque::from_vec(nodes);
+    while let Some(node) = nodes.pop_front() {
+        node.leave();
     }
     nodes.destroy_empty();
 }

@@ -4,6 +4,7 @@ ghost use Rattle.std.specs.Prelude.{◌≡◌, ◌+◌, ◌<◌, ◌≤◌, ◌+
 ghost use Rattle.csp_lists.specs.Gathered.{queued_numbers, left_at, held_at};
 ghost use Rattle.csp_lists.specs.PlainDeck.{opening_deck, holders_of, IsLinkRule};
 ghost use Rattle.csp_nodes.specs.Fresh.{fresh_buffers};
+ghost use Rattle.csp_nodes.specs.Unused.{IsUnused};
 
 use crate::emptied::Emptied;
 use csp_arena::RegionToken;
@@ -112,6 +113,19 @@ impl NodeDeck {
             gathered,
             memory,
         }
+    }
+
+    /// Closes the lists of a node with which nothing was done. It takes no memory.
+    pub(crate) fn leave(self)
+        requires { IsUnused self.deck }
+    {
+        let NodeDeck {
+            deck,
+            mut gathered,
+            memory,
+        } = self;
+        deck.close(&mut gathered);
+        memory.close(gathered);
     }
 }
 

@@ -10,7 +10,7 @@ use Rattle.csp_opening.proofs.Rows.{are_wired}
 use Rattle.csp_opening.proofs.Whos.{named_apart, parties_low}
 use Rattle.csp_opening.proofs.Zipped.{wire_rows}
 use Rattle.csp_opening.specs.Opened.{AreNodesWith, AreWired}
-use Rattle.csp_opening.specs.Seated.{AreParties, IsSeated, seat_name}
+use Rattle.csp_opening.specs.Seated.{IsSeated, seat_name}
 use Rattle.csp_opening.specs.Whole.{AreBlanks, AreLists, CanAssemble, posts_of, whos}
 use Rattle.csp_opening.specs.declared.lists.Blanks.{Blanks}
 use Rattle.csp_opening.specs.declared.lists.Lists.{Lists}
@@ -23,6 +23,7 @@ use Rattle.csp_scene.specs.Ranges.{IsScene}
 use Rattle.csp_scene.specs.Scene.{PlainNode, PlainScene}
 use Rattle.csp_standing.specs.Fabrics.{IsFabricOf}
 use Rattle.csp_standing.specs.declared.fabric.Fabric.{Fabric}
+use Rattle.csp_topology.specs.Opened.{AreParties}
 use Rattle.csp_topology.specs.Opening.{CanOpen, opening_of}
 use Rattle.csp_topology.specs.Parties.{PlainOpening, parties_of}
 use Rattle.csp_topology.specs.Wires.{wires_of}

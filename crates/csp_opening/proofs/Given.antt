@@ -1,41 +1,21 @@
 -- Small facts about the lists that are counted and filled.
-use Rattle.std.proofs.Common.{◌≡◌, ◌+◌, ◌*◌, ◌==◌, ◌<◌, ◌≤◌, ℕ, zero, suc, Bool, true, false, true≢false, List, [], ◌∷◌, ◌++◌, None, Some, length, take, get_or, refl, sym, ap, ◌∙◌, subst, arith}
+use Rattle.std.proofs.Common.{◌≡◌, ◌+◌, ◌*◌, ◌==◌, ◌<◌, ◌≤◌, ℕ, zero, suc, Bool, true, false, true≢false, List, [], ◌∷◌, ◌++◌, Some, length, take, get_or, refl, sym, ap, ◌∙◌, subst, arith}
 use Rattle.std.specs.Global.{Vec}
-use Rattle.std.specs.Prelude.{Err, IfOk, IsSome, IsSomeAnd, Ok, Result, slice_get, slice_set, if◌then◌else◌, vec_len, vec_capacity}
+use Rattle.std.specs.Prelude.{IsSome, IsSomeAnd, slice_get, slice_set, if◌then◌else◌, vec_len, vec_capacity}
 use Rattle.std.specs.List.{AllByRecursion, sum_by}
 use Rattle.std.proofs.lemmas.Bool.{eq-eqb, eqb-true}
 use Rattle.std.proofs.lemmas.List.{append-nil, append_assoc}
 use Rattle.std.proofs.lemmas.List.Sums.{sum_by-cons}
 use Rattle.std.proofs.lemmas.Option.{same_Some, slice_get_read}
 use Rattle.csp_ends.specs.Ends.{PlainNodeQueues, PlainSide}
-use Rattle.csp_hub.proofs.Public.{count_opening}
 use Rattle.csp_opening.specs.Handed.{AreHanded, HaveRoom, ends_among, ends_of, list_at, room_at}
 use Rattle.csp_opening.specs.Parted.{AreLeadsOf, IsLeadOf, IsOpening, after_app, after_iface, changed, leads_past, others}
-use Rattle.csp_arena.specs.declared.token.RegionToken.{RegionToken}
-use Rattle.csp_opening.specs.Opened.{region_in}
-use Rattle.csp_opening.specs.Seated.{IsNewParty, IsSeated, count_at, count_or, region_at, region_or, seat_name}
-use Rattle.csp_opening.specs.declared.nodes.Node.{Node}
-use Rattle.csp_opening.specs.declared.seats.Seat.{Seat}
-use Rattle.csp_party.specs.Any.{region_of}
-use Rattle.csp_log.specs.Who.{node_of}
-use Rattle.csp_topology.specs.Parties.{PlainOpening}
 use Rattle.csp_opening.specs.Whole.{queue_count}
 use Rattle.csp_opening.specs.declared.homes.Lead.{Lead}
 use Rattle.csp_log.specs.declared.who.Who.{Who}
 use Rattle.csp_log.specs.declared.who.Who.TheVariants as who
-use Rattle.csp_topology.specs.Opening.{IsOfRegion, opening_of}
-use Rattle.csp_topology.specs.declared.opening.Opening.{Opening}
 use Rattle.csp_topology.specs.declared.opening.Opening.TheVariants as opening
 use Rattle.csp_topology.specs.declared.wire.Wire.{Wire}
-
--- a party before its first turn
-pub new_party : (o : Opening) → IsNewParty (opening_of o).party
-new_party (opening.Router c) = record { ready = λ e. tt; counted = refl; holds = refl }
-new_party (opening.Bridge n) = record { ready = λ e. tt; counted = refl; holds = refl }
-new_party (opening.Iface n k kind mtu heeds) = record { ready = λ e. refl; counted = refl; holds = refl }
-new_party (opening.App n k script) = record { ready = λ e. tt; counted = refl; holds = refl }
-new_party (opening.Link k kind plan) = record { ready = λ e. tt; counted = refl; holds = refl }
-new_party (opening.Hub k ends plan) = record { ready = λ e. tt; counted = count_opening ends plan.items; holds = refl }
 
 two_ends : (p : ℕ) (w : Wire) → ends_of p w ≤ 2
 two_ends p w = by (w.from.party == p) (w.to.party == p) where
@@ -247,32 +227,3 @@ room_pushed [] v (suc p) least before here low = absurd (omega (arith, low))
 room_pushed (x ∷ sides) v zero least before here low = before (omega arith)
 room_pushed (x ∷ sides) v (suc p) least before here low =
     room_pushed sides v p least (λ l. before (omega (arith, l))) (λ e. here (ap suc e)) (omega (arith, low))
-
--- a party of a node, as it was opened, where it was
-pub seated_if : {E : Type 0} → (nodes : List Node) (o : Opening) (place : ℕ) (x : Node) (region : RegionToken) (count : ℕ) (r : Result Seat E) → node_of (opening_of o).who ≡ Some place → slice_get nodes place ≡ Some x
-    → region.name ≡ region_in x → count ≡ x.base.pool.capacity → IfOk r (λ (s : Seat). seat_name s ≡ opening_of o) → IfOk r (λ (s : Seat). IsOfRegion (node_of (opening_of o).who) (Some region) s.party)
-    → IfOk r (λ (s : Seat). s.numbers.items ≡ []) → IfOk r (λ (s : Seat). vec_capacity s.numbers ≡ count) → IfOk r (IsSeated nodes)
-seated_if nodes o place x region count (Ok s) who at token many name of_it unnoted numbers =
-    let its : node_of s.who ≡ Some place = ap (λ (z : PlainOpening). node_of z.who) name ∙ who in
-    let same : region_of s.party ≡ region.name = subst (λ n. IsOfRegion n (Some region) s.party) who of_it in
-    record {
-      party = subst IsNewParty (sym (ap (λ (z : PlainOpening). z.party) name)) (new_party o);
-      region = same ∙ token ∙ sym (ap (region_at nodes) its ∙ ap region_or at);
-      unnoted = unnoted;
-      numbers = (let all = ap (count_at nodes) its ∙ ap count_or at in omega (arith, all, many, numbers));
-    }
-seated_if nodes o place x region count (Err e) who at token many name of_it unnoted numbers = tt
-
--- a party of none, as it was opened, where it was
-pub seated_apart : {E : Type 0} → (nodes : List Node) (o : Opening) (r : Result Seat E) → node_of (opening_of o).who ≡ None → IfOk r (λ (s : Seat). seat_name s ≡ opening_of o)
-    → IfOk r (λ (s : Seat). IsOfRegion (node_of (opening_of o).who) None s.party) → IfOk r (λ (s : Seat). s.numbers.items ≡ []) → IfOk r (λ (s : Seat). vec_capacity s.numbers ≡ 0) → IfOk r (IsSeated nodes)
-seated_apart nodes o (Ok s) who name of_it unnoted numbers =
-    let its : node_of s.who ≡ None = ap (λ (z : PlainOpening). node_of z.who) name ∙ who in
-    let same : region_of s.party ≡ region_at nodes None = subst (λ n. IsOfRegion n None s.party) who of_it in
-    record {
-      party = subst IsNewParty (sym (ap (λ (z : PlainOpening). z.party) name)) (new_party o);
-      region = same ∙ sym (ap (region_at nodes) its);
-      unnoted = unnoted;
-      numbers = (let none : count_at nodes (node_of s.who) ≡ 0 = ap (count_at nodes) its in omega (arith, none, numbers));
-    }
-seated_apart nodes o (Err e) who name of_it unnoted numbers = tt

@@ -13,6 +13,7 @@ mod Ordered
 mod Parties
 mod Passing
 mod Rows
+mod Seating
 mod Serving
 mod Spread
 mod Stores

@@ -1,26 +1,28 @@
 -- Parties that have nothing of the queues in hand yet.
-use Rattle.std.specs.Prelude.{◌≡◌, ◌<◌, ◌≤◌, ℕ, false, Option, None, Some, List, [], map, IfSome, slice_get, vec_capacity}
-use Rattle.std.specs.List.{AllByRecursion}
+use Rattle.std.specs.Prelude.{◌≡◌, ℕ, Option, None, Some, List, [], slice_get, vec_capacity}
 use Rattle.csp_arena.specs.Cells.{RegionName}
 use Rattle.csp_deck.specs.Regions.{nowhere}
 use Rattle.csp_opening.specs.Opened.{region_in}
 use Rattle.csp_opening.specs.declared.nodes.Node.{Node}
 use Rattle.csp_opening.specs.declared.seats.Seat.{Seat}
-use Rattle.csp_party.specs.Any.{PlainParty, plain, region_of, is_ready, count, has_ended, holds}
+use Rattle.csp_party.specs.Any.{plain, region_of}
 use Rattle.csp_log.specs.Who.{node_of}
-use Rattle.csp_topology.specs.Opening.{CanOpen, opening_of}
+use Rattle.csp_topology.specs.Opened.{IsNewParty}
 use Rattle.csp_topology.specs.Parties.{PlainOpening}
-use Rattle.csp_topology.specs.declared.opening.Opening.{Opening}
+use Rattle.csp_topology.specs.declared.opened.NewParty.{NewParty}
+use Rattle.csp_topology.specs.declared.opened.NodeBuffers.{NodeBuffers}
 
 -- who a party is, and its state
 abbrev pub seat_name : Seat → PlainOpening
 seat_name s = record { who = s.who; party = plain s.party }
 
--- a party before its first turn can be asked, has counted nothing, and holds no buffer
-pub record IsNewParty (p : PlainParty) : Type 0 where
-  pub ready : has_ended p ≡ false → is_ready p 0
-  pub counted : count p ≡ 0
-  pub holds : holds p ≡ []
+-- the party as it was opened
+abbrev pub unseated : Seat → NewParty
+unseated s = record { who = s.who; party = s.party; numbers = s.numbers }
+
+-- the buffers of a node, of which its parties have theirs
+abbrev pub buffers_in : Node → NodeBuffers
+buffers_in x = record { region = record { name = region_in x }; count = x.base.pool.capacity }
 
 -- the region of the buffers of a node
 abbrev pub region_or : Option Node → RegionName
@@ -48,8 +50,3 @@ pub record IsSeated (nodes : List Node) (s : Seat) : Type 0 where
   pub region : region_of s.party ≡ region_at nodes (node_of s.who)
   pub unnoted : s.numbers.items ≡ []
   pub numbers : vec_capacity s.numbers ≡ count_at nodes (node_of s.who)
-
--- parties of so many nodes that can be opened
-pub record AreParties (nodes : ℕ) (parties : List Opening) : Type 0 where
-  pub ready : AllByRecursion CanOpen parties
-  pub there : AllByRecursion (λ o. IfSome (node_of o.who) (λ node. node < nodes)) (map opening_of parties)

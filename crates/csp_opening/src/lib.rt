@@ -15,4 +15,5 @@ mod posts;
 mod seats;
 mod sides;
 
+pub use nodes::{Node, leave_nodes, open_nodes};
 pub use opening::open_fabric;

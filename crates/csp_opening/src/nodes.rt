@@ -19,16 +19,16 @@ use std::sync::Wait;
 /// The queues of an inbox.
 const INBOX_QUEUES: usize = 4;
 
-/// A node of whose memory and queues nothing was handed out yet. It must be spent by `leave`, or taken apart.
-pub(crate) struct Node {
+/// A node of whose memory and queues nothing was handed out yet. It must be spent by `leave_nodes`, or taken apart.
+pub struct Node {
     /// Its memory and its pool.
-    pub base: Base,
+    pub(crate) base: Base,
     /// Room for the numbers of its buffers.
-    pub numbers: Vec<u16>,
+    pub(crate) numbers: Vec<u16>,
     /// Its inbox.
-    pub mail: Mail,
+    pub(crate) mail: Mail,
     /// Its lanes.
-    pub lanes: Lanes,
+    pub(crate) lanes: Lanes,
 }
 
 impl Node {
@@ -115,7 +115,7 @@ fn room_in(node: &SceneNode, wires: &[Wire]) -> usize
 }
 
 /// Opens the nodes of a scene, each with the lanes of its wires, in a list with just the room for them.
-pub(crate) fn open_nodes<R: Wait>(
+pub fn open_nodes<R: Wait>(
     rt: &R,
     alloc: Global,
     nodes: &[SceneNode],
@@ -139,7 +139,7 @@ pub(crate) fn open_nodes<R: Wait>(
 }
 
 /// Closes nodes.
-pub(crate) fn leave_nodes<R: Wait>(rt: &R, nodes: Vec<Node>)
+pub fn leave_nodes<R: Wait>(rt: &R, nodes: Vec<Node>)
     requires { AllByRecursion CanLeave nodes.items }
 {
     let mut nodes = VecDeque::from_vec(nodes);

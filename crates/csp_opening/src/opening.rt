@@ -3,12 +3,13 @@
 ghost use Rattle.std.specs.Prelude.{◌≡◌, [], IfOk, IfSome, length, map};
 ghost use Rattle.std.specs.List.{AllByRecursion};
 ghost use Rattle.csp_opening.specs.Opened.{AreNodesWith, AreWired, queues_in};
-ghost use Rattle.csp_opening.specs.Seated.{AreParties, IsSeated, seat_name};
+ghost use Rattle.csp_opening.specs.Seated.{IsSeated, seat_name};
 ghost use Rattle.csp_opening.specs.Whole.{AreBlanks, AreLists, CanAssemble, posts_of, rooms_in, store_in};
 ghost use Rattle.csp_posts.specs.Books.{IsFresh};
 ghost use Rattle.csp_scene.specs.Kept.{AreLinksAfter};
 ghost use Rattle.csp_scene.specs.Ranges.{IsScene};
 ghost use Rattle.csp_standing.specs.Fabrics.{IsFabricOf};
+ghost use Rattle.csp_topology.specs.Opened.{AreParties};
 ghost use Rattle.csp_topology.specs.Opening.{opening_of};
 
 use crate::hands::Hands;

@@ -1,18 +1,17 @@
 //! The parties, before they have anything of the queues in hand.
 
-ghost use Rattle.std.specs.Prelude.{◌≡◌, ◌<◌, ◌≤◌, [], length, map, IfOk, IfSome, IsSome, vec_capacity};
+ghost use Rattle.std.specs.Prelude.{◌≡◌, [], length, map, IfOk, vec_capacity};
 ghost use Rattle.std.specs.List.{AllByRecursion};
-ghost use Rattle.csp_opening.specs.Seated.{AreParties, IsNewParty, IsSeated, seat_name};
-ghost use Rattle.csp_party.specs.Any.{plain};
-ghost use Rattle.csp_log.specs.Who.{node_of};
-ghost use Rattle.csp_topology.specs.Opening.{CanOpen, IsOfRegion, opening_of};
+ghost use Rattle.csp_opening.specs.Seated.{IsSeated, buffers_in, seat_name, unseated};
+ghost use Rattle.csp_party.specs.Any.{holds, plain};
+ghost use Rattle.csp_topology.specs.Opened.{AreParties};
+ghost use Rattle.csp_topology.specs.Opening.{opening_of};
 
 use crate::nodes::Node;
-use csp_arena::RegionToken;
 use csp_deck::Desk;
 use csp_party::AnyParty;
 use csp_record::Who;
-use csp_topology::Opening;
+use csp_topology::{NewParty, NodeBuffers, Opening, end_parties, open_parties};
 use std::alloc::{AllocError, Global};
 use std::collections::VecDeque;
 
@@ -29,56 +28,35 @@ pub(crate) struct Seat {
 }
 
 impl Seat {
-    /// Opens a party of a node with so many buffers, of this region; or a link or a hub.
-    fn open(
-        alloc: Global,
-        opening: Opening,
-        region: Option<RegionToken>,
-        buffers: usize,
-    ) -> Result<Seat, AllocError>
-        requires ready { CanOpen opening }
-        requires region { IsSome (node_of (opening_of opening).who) → IsSome region }
-        ensures name { IfOk result (λ s. seat_name s ≡ opening_of opening) }
-        ensures region { IfOk result (λ s. IsOfRegion (node_of (opening_of opening).who) region s.party) }
-        ensures unnoted { IfOk result (λ s. s.numbers.items ≡ []) }
-        ensures numbers { IfOk result (λ s. vec_capacity s.numbers ≡ buffers) }
+    /// Gives a party that holds no buffer a desk. A refusal ends it.
+    fn open(alloc: Global, party: NewParty) -> Result<Seat, AllocError>
+        requires { holds (plain party.party) ≡ [] }
+        ensures { IfOk result (λ s. unseated s ≡ party) }
     {
-        let desk = Desk::open(alloc)?;
-        let numbers = Vec::with_capacity(alloc, buffers)?;
-        let who = opening.who();
-        let party = opening.open(alloc, region)?;
-        Ok(Seat {
-            who,
-            party,
-            desk,
-            numbers,
-        })
-    }
-
-    /// Opens a party of one of these nodes, or a link or a hub.
-    fn open_at(alloc: Global, opening: Opening, nodes: &[Node]) -> Result<Seat, AllocError>
-        requires ready { CanOpen opening }
-        requires there { IfSome (node_of (opening_of opening).who) (λ node. node < length nodes.now) }
-        ensures name { IfOk result (λ s. seat_name s ≡ opening_of opening) }
-        ensures seated { IfOk result (IsSeated nodes.now) }
-    {
-        match opening.who().node() {
-            Some(place) => {
-                let base = &nodes[usize::from(place)].base;
-                Seat::open(
-                    alloc,
-                    opening,
-                    Some(base.store.token()),
-                    base.pool.capacity(),
-                )
+        match Desk::open(alloc) {
+            Ok(desk) => {
+                let NewParty {
+                    who,
+                    party,
+                    numbers,
+                } = party;
+                Ok(Seat {
+                    who,
+                    party,
+                    desk,
+                    numbers,
+                })
             }
-            None => Seat::open(alloc, opening, None, 0),
+            Err(error) => {
+                party.end();
+                Err(error)
+            }
         }
     }
 
-    /// Ends the party.
+    /// Ends the party, which holds no buffer.
     fn leave(self)
-        requires { IsNewParty (plain self.party) }
+        requires { holds (plain self.party) ≡ [] }
     {
         let Seat {
             who: _,
@@ -101,23 +79,58 @@ pub(crate) fn open_seats(
     ensures seated { IfOk result (λ r. AllByRecursion (IsSeated nodes.now) r.items) }
     ensures room { IfOk result (λ r. vec_capacity r ≡ length openings.items) }
 {
-    let mut seats = Vec::with_capacity(alloc, openings.len())?;
-    let mut openings = VecDeque::from_vec(openings);
-    while let Some(opening) = openings.pop_front() {
-        match Seat::open_at(alloc, opening, nodes) {
+    let buffers = buffers_of(alloc, nodes)?;
+    let parties = open_parties(alloc, openings, &buffers)?;
+    let seats = seat_all(alloc, parties)?;
+    Ok(seats)
+}
+
+/// The buffers of each of these nodes.
+fn buffers_of(alloc: Global, nodes: &[Node]) -> Result<Vec<NodeBuffers>, AllocError>
+    ensures { IfOk result (λ all. all.items ≡ map buffers_in nodes.now) }
+{
+    let mut all = Vec::with_capacity(alloc, nodes.len())?;
+    for node in nodes {
+        all.push(NodeBuffers {
+            region: node.base.store.token(),
+            count: node.base.pool.capacity(),
+        })?;
+    }
+    Ok(all)
+}
+
+/// Gives parties that hold no buffer a desk each, in a list with just the room for them. A refusal ends them all.
+fn seat_all(alloc: Global, parties: Vec<NewParty>) -> Result<Vec<Seat>, AllocError>
+    requires { AllByRecursion (λ p. holds (plain p.party) ≡ []) parties.items }
+    ensures same { IfOk result (λ r. map unseated r.items ≡ parties.items) }
+    ensures room { IfOk result (λ r. vec_capacity r ≡ length parties.items) }
+{
+    let count = parties.len();
+    let mut parties = VecDeque::from_vec(parties);
+    let mut seats = match Vec::with_capacity(alloc, count) {
+        Ok(seats) => seats,
+        Err(error) => {
+            end_parties(parties);
+            return Err(error);
+        }
+    };
+    while let Some(party) = parties.pop_front() {
+        match Seat::open(alloc, party) {
             Ok(seat) => seats.push_reserved(seat),
             Err(error) => {
                 leave_seats(seats);
+                end_parties(parties);
                 return Err(error);
             }
         }
     }
+    parties.destroy_empty();
     Ok(seats)
 }
 
-/// Ends parties.
+/// Ends parties that hold no buffer.
 fn leave_seats(seats: Vec<Seat>)
-    requires { AllByRecursion (λ s. IsNewParty (plain s.party)) seats.items }
+    requires { AllByRecursion (λ s. holds (plain s.party) ≡ []) seats.items }
 {
     let mut seats = VecDeque::from_vec(seats);
     while let Some(seat) = seats.pop_front() {

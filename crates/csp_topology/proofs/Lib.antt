@@ -1,6 +1,7 @@
 mod AllLanes
 mod Ends
 mod Joints
+mod NewParties
 mod PartyLemmas
 mod PartyPlaces
 mod Places

@@ -1,4 +1,5 @@
 pub mod Lanes
+pub mod Opened
 pub mod Opening
 pub mod Parties
 pub mod Plan

@@ -5,6 +5,7 @@
 mod joint;
 mod laws;
 mod links;
+mod opened;
 mod opening;
 mod parties;
 mod plan;
@@ -16,6 +17,7 @@ pub use laws::{
     counts_parties, joins_parties, names_ends_apart, names_parties_apart, orders_wires,
     puts_leaders_first, serves_parties, stays_home, wires_lanes,
 };
+pub use opened::{NewParty, NodeBuffers, end_parties, open_parties};
 pub use opening::Opening;
 pub use plan::NodePlan;
 pub use topology::{MAX_PARTIES, Topology};

@@ -37,6 +37,7 @@ mod RunLemmas
 mod ScheduleLemmas
 mod ScheduleNames
 mod ScheduleOpening
+mod Settled
 mod StepLemmas
 mod TurnLemmas
 mod WholeLemmas

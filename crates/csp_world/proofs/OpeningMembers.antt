@@ -1,42 +1,37 @@
 -- Lemmas on a world to which a party is added that is new.
-use Rattle.std.proofs.Common.{◌≡◌, ℕ, ◌+◌, ◌≤◌, Bool, true, false, List, [], ◌∷◌, ◌++◌, Option, Some, None, length, map, ap, refl, sym, ◌∙◌, subst, arith, slice_get, IsSomeAnd, vec_capacity, Vec, Global, length-append, if◌then◌else◌}
+use Rattle.std.proofs.Common.{◌≡◌, ℕ, ◌+◌, ◌≤◌, Bool, true, false, List, [], ◌∷◌, ◌++◌, Option, length, map, ap, refl, sym, ◌∙◌, subst, arith, vec_capacity, Vec, Global, length-append, if◌then◌else◌}
 use Rattle.std.specs.List.{flat_map}
 use Rattle.std.proofs.lemmas.List.{map-append}
 use Rattle.csp_deck.specs.Step.{times}
 use Rattle.csp_lists.specs.PlainDeck.{PlainDeck, numbers_in}
 use Rattle.csp_nodes.specs.DecksAt.{DecksAt}
-use Rattle.csp_party.specs.Any.{holds, plain, region_of}
+use Rattle.csp_party.specs.Any.{holds, plain}
 use Rattle.csp_log.specs.Who.{node_of}
-use Rattle.csp_topology.specs.Parties.{opens}
+use Rattle.csp_topology.specs.declared.opened.NewParty.{NewParty}
 use Rattle.csp_topology.specs.declared.topology.TheConstants.{MAX_PARTIES}
 use Rattle.csp_world.proofs.OpeningLists.{each-push, flat_map-push_none}
 use Rattle.csp_world.specs.Holders.{holds_at, is_home, IsConserved}
-use Rattle.csp_world.specs.Inside.{world_of, rooms, IsFit, IsNew, AllFit, HasRoom, IsWorld}
+use Rattle.csp_world.specs.Inside.{world_of, IsFit, AllFit, HasRoom, IsWorld}
 use Rattle.csp_world.specs.Seen.{plain_member}
+use Rattle.csp_world.specs.Settling.{CanSettle}
 use Rattle.csp_world.specs.declared.member.Member.{Member}
 use Rattle.csp_world.specs.declared.room.Room.{Room}
 use Rattle.csp_world.specs.declared.world.World.TheInside.{Inside}
 
--- there is room for the numbers of a party's node
-abbrev pub HasNumbers : List PlainDeck → Option ℕ → ℕ → Type 0
-HasNumbers decks home count = (node : ℕ) → home ≡ Some node → IsSomeAnd (slice_get (rooms decks) node) (λ room. room ≤ count)
+-- a party of a world as it was before it was one
+abbrev pub as_new : Member → NewParty
+as_new m = record { who = m.who; party = m.party; numbers = m.numbers }
 
-enough : (count more : ℕ) (o : Option ℕ) → count ≤ more → IsSomeAnd o (λ room. room ≤ count) → IsSomeAnd o (λ room. room ≤ more)
-enough count more None le h = h
-enough count more (Some room) le h = omega (arith, le, h)
-
--- a party that is new, with an empty log and room for the numbers of its node, is fit
-pub new_fit : (d : DecksAt) (time buffers : ℕ) (ms : List Member) (m : Member) → IsNew d.decks d.links (opens m.who (plain m.party)) → HasNumbers d.decks (node_of m.who) buffers
-    → ((node : ℕ) → node_of m.who ≡ Some node → slice_get d.regions node ≡ Some (region_of m.party))
-    → m.numbers.items ≡ [] → buffers ≤ vec_capacity m.numbers → m.log.spare ≡ 0 → IsFit d time m
-new_fit d time buffers ms m new room home none fits spare = record {
-  ready = λ later from until goes. new.ready later until goes;
-  counted = omega (arith, new.counted);
-  served = new.served;
-  called = new.called;
-  home = home;
-  unnoted = none;
-  room = λ node at. enough buffers (vec_capacity m.numbers) (slice_get (rooms d.decks) node) fits (room node at);
+-- where it could be one it is fit, with an empty log
+new_fit : (d : DecksAt) (time : ℕ) (m : Member) → CanSettle d.decks d.links d.regions (as_new m) → m.log.spare ≡ 0 → IsFit d time m
+new_fit d time m can spare = record {
+  ready = λ later from until goes. can.new.ready later until goes;
+  counted = omega (arith, can.new.counted);
+  served = can.new.served;
+  called = can.new.called;
+  home = can.home;
+  unnoted = can.unnoted;
+  room = can.room;
   stock = rw spare (omega arith);
 }
 
@@ -89,18 +84,14 @@ has_room-kept decks count r s h no_logs logs no_held held left emptied queues = 
 }
 
 -- a world with one party more
-pub world-push : (w : Inside) (members : Vec Member Global) (room : Room) (buffers : ℕ) (m : Member) → IsWorld w
-    → members.items ≡ w.members.items ++ m ∷ [] → IsNew w.decks.decks w.decks.links (opens m.who (plain m.party)) → HasNumbers w.decks.decks (node_of m.who) buffers
-    → ((node : ℕ) → node_of m.who ≡ Some node → slice_get w.decks.regions node ≡ Some (region_of m.party))
-    → m.numbers.items ≡ [] → buffers ≤ vec_capacity m.numbers → m.log.spare ≡ 0
+pub world-push : (w : Inside) (members : Vec Member Global) (room : Room) (m : Member) → IsWorld w → members.items ≡ w.members.items ++ m ∷ [] → CanSettle w.decks.decks w.decks.links w.decks.regions (as_new m) → m.log.spare ≡ 0
     → length w.members.items + 1 ≤ MAX_PARTIES → HasRoom w.decks.decks (length w.members.items + 1) room
     → IsWorld (record { decks = w.decks; members = members; time = w.time; room = room; desk = w.desk; boxes = w.boxes })
-world-push w members room buffers m h e new numbers home none fits spare few more =
+world-push w members room m h e can spare few more =
     let l : length members.items ≡ length w.members.items + 1 = ap (λ (ms : List Member). length ms) e ∙ length-append w.members.items (m ∷ []) in
     record {
-      fit = subst (λ (ms : List Member). AllFit w.decks w.time ms) (sym e)
-          (each-push (λ _ (x : Member). IsFit w.decks w.time x) w.members.items m h.fit (new_fit w.decks w.time buffers w.members.items m new numbers home none fits spare));
-      conserved = subst (λ (ms : List Member). IsConserved (world_of w.decks ms w.time)) (sym e) (conserved-push w.decks w.time w.members.items m h.conserved new.holds);
+      fit = subst (λ (ms : List Member). AllFit w.decks w.time ms) (sym e) (each-push (λ _ (x : Member). IsFit w.decks w.time x) w.members.items m h.fit (new_fit w.decks w.time m can spare));
+      conserved = subst (λ (ms : List Member). IsConserved (world_of w.decks ms w.time)) (sym e) (conserved-push w.decks w.time w.members.items m h.conserved can.new.holds);
       room = subst (λ (n : ℕ). HasRoom w.decks.decks n room) (sym l) more;
       early = h.early;
       few_decks = h.few_decks;

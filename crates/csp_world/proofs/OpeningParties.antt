@@ -1,5 +1,5 @@
 -- A router, a bridge, an interface, an application and a link at their opening are new over the lists of their nodes.
-use Rattle.std.proofs.Common.{◌≡◌, ℕ, suc, ◌+◌, ◌<◌, ◌≤◌, Bool, true, false, ◌==◌, cond, nat_lt, List, [], ◌∷◌, ◌++◌, Option, Some, None, length, map, option_map, refl, subst, ap, ◌∙◌, arith, slice_get, IsSomeAnd, if◌then◌else◌}
+use Rattle.std.proofs.Common.{◌≡◌, ℕ, suc, ◌+◌, ◌<◌, ◌≤◌, Bool, true, false, ◌==◌, cond, nat_lt, List, [], ◌∷◌, ◌++◌, Option, Some, None, length, map, option_map, refl, ap, ◌∙◌, arith, slice_get, if◌then◌else◌}
 use Rattle.std.specs.List.{AllByRecursion}
 use Rattle.std.specs.Option.{option_and_then}
 use Rattle.std.proofs.lemmas.Bool.{eqb-true, ltb-true}
@@ -20,10 +20,8 @@ use Rattle.csp_log.specs.declared.places.QueueId.{QueueId}
 use Rattle.csp_log.specs.declared.places.QueueId.TheVariants as queue
 use Rattle.csp_log.specs.declared.places.Rule.{Rule}
 use Rattle.csp_log.specs.declared.places.Rule.TheVariants as rule
-use Rattle.csp_nodes.specs.Fresh.{fresh_buffers}
 use Rattle.csp_nodes.specs.Serving.{at_end, of_frames, rule_there}
 use Rattle.csp_party.specs.Any.{uses, PlainParty, a_bridge, a_hub, a_link, an_iface, an_app}
-use Rattle.csp_log.specs.declared.who.Who.{Who}
 use Rattle.csp_log.specs.declared.who.Who.TheVariants as who
 use Rattle.csp_scene.proofs.Public.{AllByRecursion-append}
 use Rattle.csp_scene.specs.Links.{links_at}
@@ -31,11 +29,10 @@ use Rattle.csp_scene.specs.Ranges.{IsScene}
 use Rattle.csp_scene.specs.Scene.{PlainApp, PlainNode, PlainLink, PlainScene}
 use Rattle.csp_scene.specs.declared.limits.TheConstants.{BRIDGE_LINKS}
 use Rattle.csp_topology.specs.Parties.{PlainOpening, app_with, apps_from, bridge_at, config_of, heeded, leader_by, iface_on, iface_opening, ifaces_from, link_at, links_from, opens, parties_at, parties_from, parties_of, router_for}
-use Rattle.csp_topology.specs.Plan.{PlainNodePlan, plans_from}
-use Rattle.csp_world.proofs.OpeningNodes.{fresh_long}
+use Rattle.csp_topology.specs.Plan.{plans_from}
 use Rattle.csp_world.proofs.OpeningRules.{Stands, up_rule, down_rule, out_rule, tx_rule, rx_rule}
 use Rattle.csp_world.proofs.OpeningScene.{all_join, deck_there}
-use Rattle.csp_world.specs.Inside.{IsNew, rooms}
+use Rattle.csp_world.specs.Inside.{IsNew}
 use Rattle.csp_world.specs.Opening.{CanJoin, deck_of, opened_deck}
 use Rattle.csp_world.specs.World.{PlainWorld}
 
@@ -232,16 +229,3 @@ scene_new stands scene is decks links os same_decks same_links same_parties = rw
       let to : j ≡ k = omega (arith, same) in
       let at : slice_get scene.nodes j ≡ Some n = ap (slice_get scene.nodes) to ∙ e in
       (deck_there scene.nodes scene.links j n at, (is.joined j n at).bridge)
-
--- a party is new by who it is and what it is
-pub new_as : (decks : List PlainDeck) (links : List (List End)) (o : PlainOpening) (w : Who) (p : PlainParty) → w ≡ o.who → p ≡ o.party → IsNew decks links o → IsNew decks links (opens w p)
-new_as decks links o w p same_who same_party h = rw (same_who, same_party) h
-
--- the pool of a node has no more room than it has buffers
-pub room_at : (nodes : List PlainNodePlan) (place : ℕ) (n : PlainNodePlan) (buffers : ℕ) → slice_get nodes place ≡ Some n → n.buffers ≡ buffers
-    → (node : ℕ) → Some place ≡ Some node → IsSomeAnd (slice_get (rooms (map deck_of nodes)) node) (λ room. room ≤ buffers)
-room_at nodes place n buffers at same node e =
-    let there : slice_get (rooms (map deck_of nodes)) place ≡ Some (length (fresh_buffers n.buffers)) =
-    slice_get-map (λ (d : PlainDeck). d.pool.room) (map deck_of nodes) place
-    ∙ ap (option_map (λ (d : PlainDeck). d.pool.room)) (slice_get-map deck_of nodes place ∙ ap (option_map deck_of) at) in
-    subst (λ (k : ℕ). IsSomeAnd (slice_get (rooms (map deck_of nodes)) k) (λ room. room ≤ buffers)) (same_Some place node e) (rw there (omega (arith, fresh_long n.buffers, same)))

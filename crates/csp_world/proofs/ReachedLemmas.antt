@@ -30,7 +30,7 @@ use Rattle.csp_world.proofs.LocalLemmas.{Keeps, all_kept}
 use Rattle.csp_world.proofs.LoggedLemmas.{AreLogged, logged_logs, logged_tick, logged_turn}
 use Rattle.csp_world.proofs.MovedLemmas.{KeepsShape, right-kept}
 use Rattle.csp_world.proofs.OpenedLemmas.{members_opened, opening_logged}
-use Rattle.csp_world.proofs.OpeningNodes.{fresh_numbers}
+use Rattle.csp_nodes.proofs.Public.{fresh_numbers}
 use Rattle.csp_world.proofs.OpeningRules.{Stands}
 use Rattle.csp_world.proofs.OpeningScene.{deck_there}
 use Rattle.csp_world.proofs.QueuedLemmas.{AreQueued, KeepsQueues, queued-kept, queued-opening}

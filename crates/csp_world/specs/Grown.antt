@@ -1,4 +1,4 @@
--- What a turn, and the opening of one more node, leave of the lists as it was.
+-- What a turn leaves of the lists as it was.
 use Rattle.std.specs.Prelude.{ℕ, ◌≡◌, ◌≤◌, List, Some, length, slice_get}
 use Rattle.csp_deck.specs.Step.{times}
 use Rattle.csp_lists.specs.PlainDeck.{PlainDeck}

@@ -8,5 +8,6 @@ pub mod Record
 pub mod Schedule
 pub mod Seen
 pub mod SeenWorld
+pub mod Settling
 pub mod Taking
 pub mod World

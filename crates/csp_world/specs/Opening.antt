@@ -1,5 +1,5 @@
 -- The world of a scene before its first turn.
-use Rattle.std.specs.Prelude.{◌≡◌, Some, List, [], map, All}
+use Rattle.std.specs.Prelude.{◌≡◌, ◌+◌, ◌*◌, ℕ, Some, List, [], length, map, All}
 use Rattle.std.specs.Option.{option_and_then}
 use Rattle.csp_link.specs.Fates.{IsFault}
 use Rattle.csp_lists.specs.PlainDeck.{PlainDeck, opening_deck}
@@ -18,7 +18,11 @@ use Rattle.csp_world.specs.World.{PlainMember, PlainWorld}
 abbrev pub deck_of : PlainNodePlan → PlainDeck
 deck_of n = opening_deck (fresh_buffers n.buffers) n.inbox n.apps n.lanes
 
--- those of a node on these links
+-- how many queues a node has: those of its inbox, two lanes for each application and three for each interface
+abbrev pub queues_of : PlainNodePlan → ℕ
+queues_of n = 4 + 2 * n.apps + 3 * length n.lanes
+
+-- the lists of a node on these links
 abbrev pub opened_deck : PlainNode → List PlainLink → PlainDeck
 opened_deck n links = deck_of (plan_of n links)
 

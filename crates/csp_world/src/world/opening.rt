@@ -1,50 +1,51 @@
 //! The world of a scene before its first turn.
 
-ghost use Rattle.std.specs.Prelude.{◌≡◌, ◌+◌, ◌<◌, ◌≤◌, ◌^◌, ◌++◌, ◌∷◌, ℕ, [], Some, length, map, max, slice_get, vec_len, vec_capacity, OnOk, IfOk, IsSomeAnd};
+ghost use Rattle.std.specs.Prelude.{◌≡◌, ◌+◌, ◌<◌, ◌≤◌, ◌^◌, ◌++◌, ◌∷◌, [], length, map, max, vec_len, vec_capacity, OnOk, IfOk};
 ghost use Rattle.std.specs.List.{AllByRecursion};
-ghost use Rattle.csp_party.specs.Any.{plain, region_of};
-ghost use Rattle.csp_log.specs.Who.{node_of};
+ghost use Rattle.csp_party.specs.Any.{holds, plain};
 ghost use Rattle.csp_scene.specs.Ranges.{IsScene};
+ghost use Rattle.csp_topology.specs.Opened.{opened_as};
 ghost use Rattle.csp_topology.specs.Opening.{CanOpen, opening_of};
 ghost use Rattle.csp_topology.specs.Plan.{IsPlan};
 ghost use Rattle.csp_world.specs.Holders.{HasOneHolder};
-ghost use Rattle.csp_world.specs.Inside.{IsNew, rooms};
+ghost use Rattle.csp_world.specs.Inside.{IsNew};
 ghost use Rattle.csp_world.specs.Opening.{deck_of, new_member, opening};
 ghost use Rattle.csp_world.specs.Reached.{IsReached};
+ghost use Rattle.csp_world.specs.Settling.{AreBuffersOf, CanSettle};
 
+use crate::decks::open_decks;
 use crate::member::Member;
 use crate::room::Room;
 use crate::world::World;
 use arrayvec::ArrayVec;
 use csp_deck::{Desk, End, LINK_ENDS, Log, Spares};
 use csp_lists::opens;
-use csp_nodes::Decks;
-use csp_party::AnyParty;
-use csp_record::Who;
 use csp_scene::{MAX_NODES, Scene};
-use csp_topology::{MAX_PARTIES, NodePlan, Opening, Topology, counts_parties};
+use csp_topology::{
+    MAX_PARTIES, NewParty, NodeBuffers, NodePlan, Opening, Topology, counts_parties, end_parties,
+    open_parties,
+};
 use std::alloc::{AllocError, Global};
 use std::collections::VecDeque;
 
-/// The queues of an inbox.
-const INBOX_QUEUES: usize = 4;
-
-/// The lanes of an application.
-const APP_QUEUES: usize = 2;
-
-/// The lanes of an interface.
-const IFACE_QUEUES: usize = 3;
-
 impl World {
     /// The world of a scene in which nothing has happened: each pool is full, and each queue empty.
+    #[tactic(auto, unfolding(crate::specs::Opening::opening))]
     pub fn open(alloc: Global, scene: &Scene) -> Result<World, AllocError>
         requires { IsScene scene.now }
         ensures plain { IfOk result (λ world. world.plain ≡ opening scene.now) }
         ensures reached { IfOk result (λ world. IsReached scene.now world.plain) }
         ensures one_holder { IfOk result (λ world. HasOneHolder world.plain) }
     {
-        let mut world = World::bare(alloc)?;
-        match world.add_scene(alloc, scene) {
+        opens();
+        counts_parties();
+        let Topology {
+            nodes,
+            links,
+            parties,
+        } = Topology::of(alloc, scene)?;
+        let mut world = World::over(alloc, &nodes, links)?;
+        match world.add_parties(alloc, &nodes, parties) {
             Ok(()) => {
                 world.one_holder();
                 Ok(world)
@@ -56,172 +57,108 @@ impl World {
         }
     }
 
-    /// A world without a party.
-    fn bare(alloc: Global) -> Result<World, AllocError>
-        ensures { IfOk result (λ world. world.plain ≡ record { decks = []; links = []; members = []; time = 0 }) }
-    {
-        let desk = Desk::open(alloc)?;
-        Ok(World {
-            decks: Decks::new(alloc),
-            members: Vec::new(alloc),
-            time: 0,
-            room: Room {
-                logs: Vec::new(alloc),
-                left: Vec::new(alloc),
-                held: Vec::new(alloc),
-                emptied: Vec::new(alloc),
-                queues: 0,
-            },
-            desk,
-            boxes: Spares::new(alloc),
-        })
-    }
-
-    /// Adds the nodes, the links and the parties of a scene to a world without a party.
-    #[tactic(auto, unfolding(crate::specs::Opening::opening))]
-    fn add_scene(&mut self, alloc: Global, scene: &Scene) -> Result<(), AllocError>
-        requires scene { IsScene scene.now }
-        requires bare { self.old.plain ≡ record { decks = []; links = []; members = []; time = 0 } }
-        ensures { OnOk result (self.new.plain ≡ opening scene.now) }
-    {
-        opens();
-        counts_parties();
-        let Topology {
-            nodes,
-            links,
-            parties,
-        } = Topology::of(alloc, scene)?;
-        self.add_nodes(alloc, &nodes)?;
-        self.add_links(links)?;
-        self.add_parties(alloc, &nodes, parties)
-    }
-
-    /// Adds the lists of nodes to a world without a party.
-    fn add_nodes(&mut self, alloc: Global, nodes: &[NodePlan]) -> Result<(), AllocError>
-        requires bare { self.old.plain ≡ record { decks = []; links = []; members = []; time = 0 } }
-        requires nodes { AllByRecursion IsPlan nodes.now }
+    /// The world without a party of the nodes with these plans, and links with these ends.
+    fn over(
+        alloc: Global,
+        nodes: &[NodePlan],
+        links: Vec<ArrayVec<End, LINK_ENDS>>,
+    ) -> Result<World, AllocError>
+        requires plans { AllByRecursion IsPlan nodes.now }
         requires few { length nodes.now ≤ MAX_NODES }
-        ensures { OnOk result (self.new.plain ≡ record { decks = map deck_of nodes.now; links = []; members = []; time = 0 }) }
-    {
-        for node in nodes {
-            self.add_node(alloc, node)?;
-        }
-        Ok(())
-    }
-
-    /// Adds the lists of a node.
-    fn add_node(&mut self, alloc: Global, node: &NodePlan) -> Result<(), AllocError>
-        requires node { IsPlan node.now }
-        requires few { length self.old.plain.decks < 255 }
-        ensures { OnOk result (self.new.plain ≡ record self.old.plain { decks = self.old.plain.decks ++ deck_of node.now ∷ [] }) }
+        ensures { IfOk result (λ world. world.plain ≡ record { decks = map deck_of nodes.now; links = map (λ ends. ends.items) links.items; members = []; time = 0 }) }
     {
         opens();
-        let queues = self.room.queues
-            + INBOX_QUEUES
-            + APP_QUEUES * usize::from(node.apps)
-            + IFACE_QUEUES * node.lanes.len();
-        let queues = node_room(
-            &mut self.room,
-            queues,
-            self.members.len(),
-            self.decks.len() + 1,
-        )?;
-        self.decks.add_node(
-            alloc,
-            node.buffers,
-            node.inbox,
-            node.apps,
-            node.lanes.as_slice(),
-        )?;
-        self.room.queues = queues;
-        Ok(())
-    }
-
-    /// Adds links, by their ends, to a world without a link.
-    fn add_links(&mut self, links: Vec<ArrayVec<End, LINK_ENDS>>) -> Result<(), AllocError>
-        requires bare { self.old.plain.links ≡ [] }
-        ensures { OnOk result (self.new.plain ≡ record self.old.plain { links = map (λ ends. ends.items) links.items }) }
-    {
-        let mut links = VecDeque::from_vec(links);
-        while let Some(ends) = links.pop_front() {
-            self.add_link(ends)?;
+        let desk = Desk::open(alloc)?;
+        let decks = open_decks(alloc, nodes, links)?;
+        match Room::open(alloc, nodes) {
+            Ok(room) => Ok(World {
+                decks,
+                members: Vec::new(alloc),
+                time: 0,
+                room,
+                desk,
+                boxes: Spares::new(alloc),
+            }),
+            Err(error) => {
+                decks.leave();
+                Err(error)
+            }
         }
-        Ok(())
     }
 
-    /// Adds one link, by its ends.
-    fn add_link(&mut self, ends: ArrayVec<End, LINK_ENDS>) -> Result<(), AllocError>
-        ensures { OnOk result (self.new.plain ≡ record self.old.plain { links = self.old.plain.links ++ ends.items ∷ [] }) }
-    {
-        self.decks.add_link(ends)?;
-        Ok(())
-    }
-
-    /// Adds parties to a world without a party, whose nodes are these.
+    /// Opens parties, and adds them to a world without a party, whose nodes are these.
     fn add_parties(
         &mut self,
         alloc: Global,
         nodes: &[NodePlan],
-        parties: Vec<Opening>,
+        openings: Vec<Opening>,
     ) -> Result<(), AllocError>
         requires bare { self.old.plain.members ≡ [] }
         requires decks { self.old.plain.decks ≡ map deck_of nodes.now }
-        requires ready { AllByRecursion CanOpen parties.items }
-        requires new { AllByRecursion (IsNew self.old.plain.decks self.old.plain.links) (map opening_of parties.items) }
+        requires few_nodes { length nodes.now ≤ MAX_NODES }
+        requires ready { AllByRecursion CanOpen openings.items }
+        requires new { AllByRecursion (IsNew self.old.plain.decks self.old.plain.links) (map opening_of openings.items) }
+        requires few { length openings.items ≤ MAX_PARTIES }
+        ensures { OnOk result (self.new.plain ≡ record self.old.plain { members = map new_member (map opening_of openings.items) }) }
+    {
+        let buffers = self.buffers(alloc, nodes)?;
+        let parties = open_parties(alloc, openings, &buffers)?;
+        self.settle(alloc, parties)
+    }
+
+    /// The buffers of each node, where the nodes are these.
+    fn buffers(&self, alloc: Global, nodes: &[NodePlan]) -> Result<Vec<NodeBuffers>, AllocError>
+        requires decks { self.now.plain.decks ≡ map deck_of nodes.now }
+        requires few { length nodes.now ≤ MAX_NODES }
+        ensures { IfOk result (λ all. AreBuffersOf self.now.plain.decks self.now.regions all.items) }
+    {
+        let mut all = Vec::with_capacity(alloc, nodes.len())?;
+        for (place, node) in nodes.iter().enumerate() {
+            all.push(NodeBuffers {
+                region: self.decks.token(place as u8),
+                count: usize::from(node.buffers),
+            })?;
+        }
+        Ok(all)
+    }
+
+    /// Adds parties that were opened to a world without a party. A refusal ends those that were not added.
+    fn settle(&mut self, alloc: Global, parties: Vec<NewParty>) -> Result<(), AllocError>
+        requires bare { self.old.plain.members ≡ [] }
+        requires can { AllByRecursion (CanSettle self.old.plain.decks self.old.plain.links self.old.regions) parties.items }
+        requires empty { AllByRecursion (λ p. holds (plain p.party) ≡ []) parties.items }
         requires few { length parties.items ≤ MAX_PARTIES }
-        ensures { OnOk result (self.new.plain ≡ record self.old.plain { members = map new_member (map opening_of parties.items) }) }
+        ensures { OnOk result (self.new.plain ≡ record self.old.plain { members = map new_member (map opened_as parties.items) }) }
     {
         let mut parties = VecDeque::from_vec(parties);
         while let Some(party) = parties.pop_front() {
-            self.add_party(alloc, nodes, party)?;
+            match self.add_member(alloc, party) {
+                Ok(()) => {}
+                Err(error) => {
+                    end_parties(parties);
+                    return Err(error);
+                }
+            }
         }
+        parties.destroy_empty();
         Ok(())
     }
 
-    /// Opens a party and adds it to a world whose nodes are these.
-    fn add_party(
-        &mut self,
-        alloc: Global,
-        nodes: &[NodePlan],
-        party: Opening,
-    ) -> Result<(), AllocError>
-        requires ready { CanOpen party }
-        requires new { IsNew self.old.plain.decks self.old.plain.links (opening_of party) }
-        requires decks { self.old.plain.decks ≡ map deck_of nodes.now }
+    /// Adds a party that was opened. A refusal ends it.
+    fn add_member(&mut self, alloc: Global, party: NewParty) -> Result<(), AllocError>
+        requires can { CanSettle self.old.plain.decks self.old.plain.links self.old.regions party }
         requires few { length self.old.plain.members + 1 ≤ MAX_PARTIES }
-        ensures { OnOk result (self.new.plain ≡ record self.old.plain { members = self.old.plain.members ++ new_member (opening_of party) ∷ [] }) }
-    {
-        let who = party.who();
-        match who.node() {
-            Some(node) => {
-                let plan = &nodes[usize::from(node)];
-                let opened = party.open(alloc, Some(self.decks.token(node)))?;
-                self.add_member(alloc, who, opened, plan.buffers)
-            }
-            None => {
-                let opened = party.open(alloc, None)?;
-                self.add_member(alloc, who, opened, 0)
-            }
-        }
-    }
-
-    /// Adds a party: of a node with so many buffers, or a link, which has none.
-    fn add_member(
-        &mut self,
-        alloc: Global,
-        who: Who,
-        party: AnyParty,
-        buffers: u16,
-    ) -> Result<(), AllocError>
-        requires new { IsNew self.old.plain.decks self.old.plain.links (record { who = who; party = plain party }) }
-        requires room { (node : ℕ) → node_of who ≡ Some node → IsSomeAnd (slice_get (rooms self.old.plain.decks) node) (λ room. room ≤ buffers) }
-        requires home { (node : ℕ) → node_of who ≡ Some node → slice_get self.old.regions node ≡ Some (region_of party) }
-        requires few { length self.old.plain.members + 1 ≤ MAX_PARTIES }
-        ensures { OnOk result (self.new.plain ≡ record self.old.plain { members = self.old.plain.members ++ new_member (record { who = who; party = plain party }) ∷ [] }) }
+        ensures plain { OnOk result (self.new.plain ≡ record self.old.plain { members = self.old.plain.members ++ new_member (opened_as party) ∷ [] }) }
+        ensures regions { self.new.regions ≡ self.old.regions }
     {
         let nodes = self.decks.len();
-        match member_room(alloc, &mut self.members, &mut self.room, nodes, buffers) {
-            Ok(numbers) => {
+        match member_room(&mut self.members, &mut self.room, nodes) {
+            Ok(()) => {
+                let NewParty {
+                    who,
+                    party,
+                    numbers,
+                } = party;
                 self.members.push_reserved(Member {
                     who,
                     party,
@@ -240,48 +177,11 @@ impl World {
     }
 }
 
-/// Takes room for what is left of so many queues and nodes at the end, and tells for how many queues.
-fn node_room(
-    room: &mut Room,
-    queues: usize,
-    members: usize,
-    nodes: usize,
-) -> Result<usize, AllocError>
-    requires few { queues + members + nodes < 2 ^ 64 }
-    requires no_left { room.old.left.items ≡ [] }
-    requires no_held { room.old.held.items ≡ [] }
-    requires no_emptied { room.old.emptied.items ≡ [] }
-    ensures told { IfOk result (λ n. n ≡ queues) }
-    ensures left { room.new.left.items ≡ [] }
-    ensures left_room { OnOk result (vec_capacity room.new.left ≡ max (vec_capacity room.old.left) queues) }
-    ensures left_capacity { vec_capacity room.old.left ≤ vec_capacity room.new.left }
-    ensures held { room.new.held.items ≡ [] }
-    ensures held_room { OnOk result (vec_capacity room.new.held ≡ max (vec_capacity room.old.held) (queues + members + nodes)) }
-    ensures held_capacity { vec_capacity room.old.held ≤ vec_capacity room.new.held }
-    ensures emptied { room.new.emptied.items ≡ [] }
-    ensures emptied_room { OnOk result (vec_capacity room.new.emptied ≡ max (vec_capacity room.old.emptied) nodes) }
-    ensures emptied_capacity { vec_capacity room.old.emptied ≤ vec_capacity room.new.emptied }
-    ensures logs { room.new.logs ≡ room.old.logs }
-    ensures queues { room.new.queues ≡ room.old.queues }
-{
-    room.left.reserve_exact(queues)?;
-    room.held.reserve_exact(queues + members + nodes)?;
-    room.emptied.reserve_exact(nodes)?;
-    Ok(queues)
-}
-
-/// Takes room for one more party, and for the numbers of so many buffers that it may hold at the end.
-fn member_room(
-    alloc: Global,
-    members: &mut Vec<Member>,
-    room: &mut Room,
-    nodes: usize,
-    buffers: u16,
-) -> Result<Vec<u16>, AllocError>
+/// Takes room for one more party.
+fn member_room(members: &mut Vec<Member>, room: &mut Room, nodes: usize) -> Result<(), AllocError>
     requires few { room.old.queues + length members.old.items + 1 + nodes < 2 ^ 64 }
     requires no_logs { room.old.logs.items ≡ [] }
     requires no_held { room.old.held.items ≡ [] }
-    ensures numbers { IfOk result (λ numbers. (numbers.items ≡ []) × (vec_capacity numbers ≡ buffers)) }
     ensures members { members.new.items ≡ members.old.items }
     ensures more { OnOk result (vec_len members.new + 1 ≤ vec_capacity members.new) }
     ensures members_room { OnOk result (vec_capacity members.new ≡ max (vec_capacity members.old) (length members.old.items + 1)) }
@@ -298,6 +198,5 @@ fn member_room(
     members.reserve_exact(1)?;
     room.logs.reserve_exact(members.len() + 1)?;
     room.held
-        .reserve_exact(room.queues + members.len() + 1 + nodes)?;
-    Vec::with_capacity(alloc, buffers as usize)
+        .reserve_exact(room.queues + members.len() + 1 + nodes)
 }

@@ -7,10 +7,11 @@ use Rattle.csp_opening.proofs.Fabrics.{AreOpened}
 use Rattle.csp_opening.proofs.Finish.{IsPlanned, IsReady, blanks_as, can_of, finished, lists_as, opened_of, parties_as, rows_of, wired_of}
 use Rattle.csp_opening.proofs.Leaving.{as_many}
 use Rattle.csp_opening.specs.Opened.{AreWired}
-use Rattle.csp_opening.specs.Seated.{AreParties, seat_name}
+use Rattle.csp_opening.specs.Seated.{seat_name}
 use Rattle.csp_posts.specs.declared.retired.Retired.{Retired}
 use Rattle.csp_record.specs.declared.record.PartyLog.{PartyLog}
 use Rattle.csp_scene.specs.Scene.{PlainNode, PlainScene}
+use Rattle.csp_topology.specs.Opened.{AreParties}
 use Rattle.csp_topology.specs.Opening.{opening_of}
 use Rattle.csp_topology.specs.Parties.{PlainOpening}
 use Rattle.csp_topology.specs.Topology.{PlainTopology}

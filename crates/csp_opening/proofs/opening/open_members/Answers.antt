@@ -1,7 +1,7 @@
 use Rattle.std.proofs.Common.{List, length, map, sym, subst, ap, ◌∙◌}
 use Rattle.std.specs.Global.{Vec}
 use Rattle.csp_opening.proofs.Leaving.{all_leave, as_many}
-use Rattle.csp_opening.specs.Seated.{AreParties}
+use Rattle.csp_topology.specs.Opened.{AreParties}
 use Rattle.csp_opening.specs.declared.nodes.Node.{Node}
 use Rattle.csp_topology.specs.declared.wire.Wire.{Wire}
 use Rattle.csp_opening.proofs.opening.open_members.Goals as goal

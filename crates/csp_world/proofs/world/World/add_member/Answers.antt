@@ -1,13 +1,10 @@
-use Rattle.std.proofs.Common.{ℕ, ◌≡◌, ◌≤◌, ◌+◌, Some, length, vec_capacity, arith, refl, subst, sym, slice_get}
+use Rattle.std.proofs.Common.{◌≤◌, ◌+◌, length, vec_capacity, arith, refl, subst, sym}
 use Rattle.std.proofs.lemmas.List.{length-map}
-use Rattle.csp_party.specs.Any.{plain, region_of}
-use Rattle.csp_log.specs.Who.{node_of}
-use Rattle.csp_topology.specs.Parties.{opens}
 use Rattle.csp_topology.specs.declared.topology.TheConstants.{MAX_PARTIES}
-use Rattle.csp_world.proofs.OpeningMembers.{HasNumbers, has_room-push, has_room-kept, world-push, world-kept}
-use Rattle.csp_world.specs.Inside.{IsNew}
+use Rattle.csp_world.proofs.OpeningMembers.{has_room-push, has_room-kept, world-push, world-kept}
 use Rattle.csp_world.specs.Seen.{plain_member}
 use Rattle.csp_world.specs.SeenWorld.{SeenWorld}
+use Rattle.csp_world.specs.Settling.{CanSettle}
 use Rattle.csp_world.proofs.world.World.add_member.Goals as goal
 
 pub member_room-requires-clause-few : goal.member_room-requires-clause-few
@@ -17,14 +14,12 @@ pub invariant_of-self : goal.invariant_of-self
 invariant_of-self c =
     let w = c.self.inside in
     let e = c.in-Ok.ensures in
-    let new = subst (λ (v : SeenWorld). IsNew v.plain.decks v.plain.links (opens c.args.who (plain c.args.party))) (sym c.self.view_is) c.requires.new in
-    let numbers = subst (λ (v : SeenWorld). HasNumbers v.plain.decks (node_of c.args.who) c.args.buffers) (sym c.self.view_is) c.requires.room in
-    let home = subst (λ (v : SeenWorld). (node : ℕ) → node_of c.args.who ≡ Some node → slice_get v.regions node ≡ Some (region_of c.args.party)) (sym c.self.view_is) c.requires.home in
+    let can = subst (λ (v : SeenWorld). CanSettle v.plain.decks v.plain.links v.regions c.args.party) (sym c.self.view_is) c.requires.can in
     let few : length w.members.items + 1 ≤ MAX_PARTIES = omega (arith, subst (λ (v : SeenWorld). length v.plain.members + 1 ≤ MAX_PARTIES) (sym c.self.view_is) c.requires.few, length-map w.members.items plain_member) in
     let held : w.room.queues + length w.members.items + 1 + length w.decks.decks ≤ vec_capacity c.member_room.new.room.held = omega (arith, e.held_room, c.len-nodes.ensures.count) in
-    world-push w c.push_reserved.new.self c.member_room.new.room c.args.buffers _ c.self.invariant
+    world-push w c.push_reserved.new.self c.member_room.new.room _ c.self.invariant
     (rw e.members at c.push_reserved.ensures.items)
-    new numbers home e.numbers.0 (omega (arith, e.numbers.1)) (rw c.new.ensures refl) few
+    can (rw c.new.ensures refl) few
     (has_room-push w.decks.decks _ w.room c.member_room.new.room c.self.invariant.room e.logs (omega (arith, e.logs_room)) e.held held e.left e.emptied e.queues)
 
 pub invariant_of-self-in-Err : goal.invariant_of-self-in-Err
