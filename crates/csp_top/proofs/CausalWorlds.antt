@@ -121,8 +121,8 @@ module _ (first_grows : FirstGrows) (second_grows : SecondGrows) where
           inr (inr (record {
             up_left = left_in r node (queue.Up k) 0;
             down_left = left_in r node (queue.Down k) 0;
-            up = lanes.0.order;
-            down = lanes.1.0.order;
+            up = lanes.0.kept.order;
+            down = lanes.1.0.kept.order;
           }))
 
   by_relation : (k : ℕ) (first second before earlier : List Entry) (e : Entry) (t u : Bool) → first ≡ before ++ one_if t e → second ≡ earlier ++ one_if u e
