@@ -7,8 +7,10 @@ use Rattle.std.proofs.lemmas.Bool.{eq-eqb, eqb-false, eqb-true, ne_eqb}
 use Rattle.std.proofs.lemmas.Grind.{flat_map-append}
 use Rattle.std.proofs.lemmas.List.Filters.{length-filter_both}
 use Rattle.std.proofs.lemmas.Option.{same_Some, slice_get_within}
-use Rattle.csp_base.specs.Priority.{prio_number}
+use Rattle.csp_base.specs.Priority.{prio_number, prio_of}
+use Rattle.csp_base.specs.declared.priority.Prio.TheVariants.{Critical, High, Normal, Low}
 use Rattle.csp_base.specs.declared.priority.Prio.{Prio}
+use Rattle.csp_buffer.specs.Content.{Content}
 use Rattle.csp_consistent.proofs.Names.{entries_in}
 use Rattle.csp_consistent.proofs.Owners.{IsOf, IsOwner}
 use Rattle.csp_consistent.specs.Inboxes.{writer_of}
@@ -16,10 +18,11 @@ use Rattle.csp_consistent.specs.Pools.{is_node}
 use Rattle.csp_consistent.specs.Queues.{MayAsk, MayPush, UseTheirQueues}
 use Rattle.csp_consistent.specs.Reading.{of_mark, of_priority, put_by, puts, with_mark, with_priority}
 use Rattle.csp_consistent.specs.Runs.{AreLogsOf}
-use Rattle.csp_deck.specs.Carried.{priority_of}
+use Rattle.csp_deck.specs.Carried.{IsCarried, priority_of}
 use Rattle.csp_log.specs.Who.{is_who, node_of}
 use Rattle.csp_log.specs.declared.entry.Entry.{Entry}
 use Rattle.csp_log.specs.declared.places.QueueId.TheVariants as queue
+use Rattle.csp_log.specs.declared.places.Rule.TheVariants as rule
 use Rattle.csp_log.specs.declared.places.TheConstants.{UNMARKED}
 use Rattle.csp_log.specs.declared.shown.AnswerShown.TheVariants as answer
 use Rattle.csp_log.specs.declared.shown.AnswerShown.{AnswerShown}
@@ -101,7 +104,7 @@ own_put w (op.Push queue.Inbox i) answer.Pushed may = (may, tt)
 own_put w (op.Push q i) answer.Pushed may = tt
 own_put w _ _ may = tt
 
-own_puts : (w : Who) (es : List Entry) → AllByRecursion (λ e. MayAsk w e.op) es → AllByRecursion (MayPush w queue.Inbox) (puts queue.Inbox es)
+pub own_puts : (w : Who) (es : List Entry) → AllByRecursion (λ e. MayAsk w e.op) es → AllByRecursion (MayPush w queue.Inbox) (puts queue.Inbox es)
 own_puts w [] may = tt
 own_puts w (e ∷ es) may = AllByRecursion-append (MayPush w queue.Inbox) (put_by queue.Inbox e.op e.answer) (puts queue.Inbox es) (own_put w e.op e.answer may.0) (own_puts w es may.1)
 
@@ -119,7 +122,7 @@ of_all P p (item.Note n ∷ is) all = of_all P p is all.1
 abbrev if_so : {X : Type 0} → Bool → List X → List X
 if_so so xs = (if so then xs else [])
 
-if_empty : (so : Bool) → if_so {ItemShown} so [] ≡ []
+if_empty : (so : Bool) → if_so {X = ItemShown} so [] ≡ []
 if_empty true = refl
 if_empty false = refl
 
@@ -162,6 +165,15 @@ apps_put_none n k es may = none_put (who.App n k) (λ i on. absurd on) es may
 pub links_put_none : (n : ℕ) (es : List Entry) → AllByRecursion (λ e. MayAsk (who.Link n) e.op) es → puts queue.Inbox es ≡ []
 links_put_none n es may = none_put (who.Link n) (λ i on. absurd on) es may
 
+-- ---- what entries put of a priority
+
+pub if_put : (p : Prio) (so : Bool) (es : List Entry) → if_so so (with_priority p (puts queue.Inbox es)) ≡ with_priority p (puts queue.Inbox (if_so so es))
+if_put p true es = refl
+if_put p false es = refl
+
+pub more_put : (p : Prio) (es fs : List Entry) → with_priority p (puts queue.Inbox (es ++ fs)) ≡ with_priority p (puts queue.Inbox es) ++ with_priority p (puts queue.Inbox fs)
+more_put p es fs = ap (with_priority p) (flat_map-append (λ (e : Entry). put_by queue.Inbox e.op e.answer) es fs) ∙ flat_map-append (of_priority p) (puts queue.Inbox es) (puts queue.Inbox fs)
+
 -- ---- what a node's parties put with a mark
 
 module _ (scene : PlainScene) (few : length scene.links ≤ MAX_LINKS) (node : ℕ) (x : PlainNode) (at : slice_get scene.nodes node ≡ Some x) (mark : ℕ) (p : Prio) where
@@ -177,7 +189,7 @@ module _ (scene : PlainScene) (few : length scene.links ≤ MAX_LINKS) (node : �
   marked false is js e = refl
 
   -- what one party put
-  one_put : (w : Who) (party : PlainParty) (es : List Entry) → IsOwner scene.nodes scene.links w party → AllByRecursion (λ e. MayAsk w e.op) es
+  pub one_put : (w : Who) (party : PlainParty) (es : List Entry) → IsOwner scene.nodes scene.links w party → AllByRecursion (λ e. MayAsk w e.op) es
       → with_mark mark (if_so (is_node node (node_of w)) (with_priority p (puts queue.Inbox es))) ≡ if_so (is_who writer w) (with_priority p (puts queue.Inbox es))
   one_put (who.Router n) party es own may =
       let is = with_priority p (puts queue.Inbox es) in
@@ -191,13 +203,6 @@ module _ (scene : PlainScene) (few : length scene.links ≤ MAX_LINKS) (node : �
   one_put (who.App n k) party es own may = nothing (n == node) (is_who writer (who.App n k)) (puts queue.Inbox es) (apps_put_none n k es may)
   one_put (who.Link n) party es own may = nothing false (is_who writer (who.Link n)) (puts queue.Inbox es) (links_put_none n es may)
 
-  if_put : (so : Bool) (es : List Entry) → if_so so (with_priority p (puts queue.Inbox es)) ≡ with_priority p (puts queue.Inbox (if_so so es))
-  if_put true es = refl
-  if_put false es = refl
-
-  more_put : (es fs : List Entry) → with_priority p (puts queue.Inbox (es ++ fs)) ≡ with_priority p (puts queue.Inbox es) ++ with_priority p (puts queue.Inbox fs)
-  more_put es fs = ap (with_priority p) (flat_map-append (λ (e : Entry). put_by queue.Inbox e.op e.answer) es fs) ∙ flat_map-append (of_priority p) (puts queue.Inbox es) (puts queue.Inbox fs)
-
   abbrev put_here : PlainPartyLog → List ItemShown
   put_here log = if_so (is_node node (node_of log.who)) (with_priority p (puts queue.Inbox log.entries))
 
@@ -209,5 +214,28 @@ module _ (scene : PlainScene) (few : length scene.links ≤ MAX_LINKS) (node : �
   all_put (o ∷ os) (log ∷ logs) are own uses =
       let mine : IsOwner scene.nodes scene.links log.who o.party = subst (λ w. IsOwner scene.nodes scene.links w o.party) (sym are.0.who) own.0 in
       flat_map-append (of_mark mark) (put_here log) (flat_map put_here logs)
-      ∙ (λ i. (one_put log.who o.party log.entries mine uses.0 ∙ if_put (is_who writer log.who) log.entries) i ++ all_put os logs are.1 own.1 uses.1 i)
-      ∙ sym (more_put (if_so (is_who writer log.who) log.entries) (entries_in writer logs))
+      ∙ (λ i. (one_put log.who o.party log.entries mine uses.0 ∙ if_put p (is_who writer log.who) log.entries) i ++ all_put os logs are.1 own.1 uses.1 i)
+      ∙ sym (more_put p (if_so (is_who writer log.who) log.entries) (entries_in writer logs))
+
+-- ---- what an inbox carries, of one priority
+
+prio_back : (p : Prio) → prio_of (prio_number p) ≡ p
+prio_back Critical = refl
+prio_back High = refl
+prio_back Normal = refl
+prio_back Low = refl
+
+-- priorities are known by their numbers
+pub prio_is : (p q : Prio) → (prio_number q == prio_number p) ≡ true → q ≡ p
+prio_is p q e = sym (prio_back q) ∙ ap prio_of (eqb-true (prio_number q) (prio_number p) e) ∙ prio_back p
+
+packet_carried : (p : Prio) (c : Bool) (k : ℕ) (b : Content) (rest : List ItemShown) → (prio_number (priority_of b) == prio_number p) ≡ c → IsCarried rule.Inbox (item.Packet k b) → AllByRecursion (IsCarried (rule.Priority p)) rest
+    → AllByRecursion (IsCarried (rule.Priority p)) ((if c then item.Packet k b ∷ [] else []) ++ rest)
+packet_carried p true k b rest e h all = ((h, prio_is p (priority_of b) e), all)
+packet_carried p false k b rest e h all = all
+
+pub priority_carried : (p : Prio) (is : List ItemShown) → AllByRecursion (IsCarried rule.Inbox) is → AllByRecursion (IsCarried (rule.Priority p)) (with_priority p is)
+priority_carried p [] all = tt
+priority_carried p (item.Packet k b ∷ is) all = packet_carried p (prio_number (priority_of b) == prio_number p) k b (with_priority p is) refl all.0 (priority_carried p is all.1)
+priority_carried p (item.Frame f ∷ is) all = absurd all.0
+priority_carried p (item.Note n ∷ is) all = absurd all.0

@@ -5,7 +5,7 @@ use Rattle.std.specs.Option.{option_map}
 use Rattle.std.specs.Prelude.{IfSome, if◌then◌else◌}
 use Rattle.csp_base.specs.Priority.{prio_number}
 use Rattle.csp_base.specs.declared.priority.Prio.{Prio}
-use Rattle.csp_consistent.proofs.Public.{apps_put_none, links_put_none}
+use Rattle.csp_consistent.proofs.Public.{apps_put_none, links_put_none, priority_carried}
 use Rattle.csp_consistent.specs.Inboxes.{came_through}
 use Rattle.csp_consistent.specs.Prompt.{inbox_puts}
 use Rattle.csp_consistent.specs.Queues.{MayAsk, UsesItsQueues}
@@ -31,7 +31,7 @@ use Rattle.csp_standing.proofs.Public.{HasHub, hub_at, IsAt, at_home, post_at}
 use Rattle.csp_standing.specs.Network.{ArePostsOf, IsHomeIn, IsPostOf, PlainNetwork, mark_for, opened_in}
 use Rattle.csp_telling.proofs.LaneNotes.{inbox_left}
 use Rattle.csp_telling.proofs.LanesLeft.{own_entries}
-use Rattle.csp_telling.proofs.Marked.{logs_marks, priority_carried, put_at, same_marked}
+use Rattle.csp_telling.proofs.Marked.{logs_marks, put_at, same_marked}
 use Rattle.csp_telling.proofs.Nodes.{IsAtNode, IsEnded, IsKnown, at_scene}
 use Rattle.csp_telling.specs.Closed.{log_of}
 use Rattle.csp_telling.specs.Remains.{kept_at, kept_by, kept_from}

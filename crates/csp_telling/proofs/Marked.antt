@@ -1,12 +1,10 @@
--- Among packets the two ways to look for a mark find the same; and what an inbox carries of a priority.
+-- Among packets the two ways to look for a mark find the same.
 use Rattle.std.proofs.Common.{◌≡◌, ℕ, ◌==◌, Bool, true, false, cond, List, [], ◌∷◌, ◌++◌, flat_map, refl, sym, ap, ◌∙◌}
 use Rattle.std.specs.List.{AllByRecursion}
 use Rattle.std.specs.Prelude.{if◌then◌else◌}
-use Rattle.std.proofs.lemmas.Bool.{eqb-true}
 use Rattle.std.proofs.lemmas.Grind.{flat_map-append}
 use Rattle.std.proofs.lemmas.List.Elements.{filter-append}
-use Rattle.csp_base.specs.Priority.{prio_number, prio_of}
-use Rattle.csp_base.specs.declared.priority.Prio.TheVariants.{Critical, High, Normal, Low}
+use Rattle.csp_base.specs.Priority.{prio_number}
 use Rattle.csp_base.specs.declared.priority.Prio.{Prio}
 use Rattle.csp_buffer.specs.Content.{Content}
 use Rattle.csp_consistent.specs.Pools.{is_node}
@@ -58,25 +56,3 @@ logs_marks node p m (log ∷ logs) =
     by : (c : Bool) → marks.with_mark m (if c then mine else []) ≡ with_mark m (if c then mine else [])
     by true = priority_marks p m (puts queue.Inbox log.entries)
     by false = refl
-
--- ---- what an inbox carries, of one priority
-
-prio_back : (p : Prio) → prio_of (prio_number p) ≡ p
-prio_back Critical = refl
-prio_back High = refl
-prio_back Normal = refl
-prio_back Low = refl
-
-prio_is : (p q : Prio) → (prio_number q == prio_number p) ≡ true → q ≡ p
-prio_is p q e = sym (prio_back q) ∙ ap prio_of (eqb-true (prio_number q) (prio_number p) e) ∙ prio_back p
-
-packet_carried : (p : Prio) (c : Bool) (k : ℕ) (b : Content) (rest : List ItemShown) → (prio_number (priority_of b) == prio_number p) ≡ c → IsCarried rule.Inbox (item.Packet k b) → AllByRecursion (IsCarried (rule.Priority p)) rest
-    → AllByRecursion (IsCarried (rule.Priority p)) ((if c then item.Packet k b ∷ [] else []) ++ rest)
-packet_carried p true k b rest e h all = ((h, prio_is p (priority_of b) e), all)
-packet_carried p false k b rest e h all = all
-
-pub priority_carried : (p : Prio) (is : List ItemShown) → AllByRecursion (IsCarried rule.Inbox) is → AllByRecursion (IsCarried (rule.Priority p)) (with_priority p is)
-priority_carried p [] all = tt
-priority_carried p (item.Packet k b ∷ is) all = packet_carried p (prio_number (priority_of b) == prio_number p) k b (with_priority p is) refl all.0 (priority_carried p is all.1)
-priority_carried p (item.Frame f ∷ is) all = absurd all.0
-priority_carried p (item.Note n ∷ is) all = absurd all.0

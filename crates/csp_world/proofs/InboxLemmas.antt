@@ -8,7 +8,7 @@ use Rattle.std.proofs.lemmas.List.{append-nil, append_assoc}
 use Rattle.std.proofs.lemmas.Option.{same_Some}
 use Rattle.csp_base.specs.Priority.{prio_number}
 use Rattle.csp_base.specs.declared.priority.Prio.{Prio}
-use Rattle.csp_consistent.proofs.Public.{AreApart, entries_in, none_there, who_is, IsOf, IsOwner, IsOwn, own_asks, own_told}
+use Rattle.csp_consistent.proofs.Public.{AreApart, entries_in, more_put, none_there, prio_is, who_is, IsOf, IsOwner, IsOwn, own_asks, own_told}
 use Rattle.csp_consistent.specs.Inboxes.{IsInboxInOrder, writer_of}
 use Rattle.csp_topology.specs.Lanes.{leader_of}
 use Rattle.csp_topology.specs.Parties.{PlainOpening, party_steps}
@@ -39,7 +39,7 @@ use Rattle.csp_scene.proofs.Public.{AllByRecursion-append, AllByRecursion-map}
 use Rattle.csp_scene.specs.Scene.{PlainLink, PlainNode, PlainScene}
 use Rattle.csp_buffer.specs.Content.{Content}
 use Rattle.csp_world.proofs.ContentLemmas.{IsRight, PicksOne, content, in_queue, is_named}
-use Rattle.csp_world.proofs.InboxNames.{IsParty, prio_is}
+use Rattle.csp_world.proofs.InboxNames.{IsParty}
 use Rattle.csp_world.proofs.InboxTurns.{AllOf, IsUrgent, got_same, got_urgent, in_inbox, put_carried, put_same, urgent_alone}
 use Rattle.csp_world.proofs.KeptLemmas.{flat-push}
 use Rattle.csp_world.proofs.LocalLemmas.{IsLocal, Keeps, local}
@@ -201,10 +201,10 @@ inbox_turned scene os known node x at w logged k m found h = record {
       ap (with_mark mark) (grown p)
       ∙ flat_map-append (of_mark mark) (through node x p h.deck w.members) (put_there queue.Inbox (prio_number p) node there r.0)
       ∙ ap (λ is. is ++ with_mark mark (put_there queue.Inbox (prio_number p) node there r.0)) (h.order p mark)
-      ∙ ap (λ is. written node x p mark w.members ++ is) (sym (put_same scene.nodes scene.links w.links node x at m.who party o may p mark r.0))
-      ∙ sym (flat_map-append (of_priority p) (puts queue.Inbox (old (writer_of node hub mark))) (if is_who (writer_of node hub mark) m.who then put_by queue.Inbox o r.0 else []))
-      ∙ ap (with_priority p) (sym (puts-push queue.Inbox (old (writer_of node hub mark)) (is_who (writer_of node hub mark) m.who) e) ∙ ap (puts queue.Inbox) (sym (longer (writer_of node hub mark))));
-  carried = λ p. subst (AllOf p) (sym (grown p)) (AllByRecursion-append (IsOfPriority p) (through node x p h.deck w.members) (put_there queue.Inbox (prio_number p) node there r.0) (h.carried p) (put_carried scene.nodes scene.links w.links node m.who party o may p r.0));
+      ∙ ap (λ is. written node x p mark w.members ++ is) (sym (put_same scene w.links node x at m.who party e may p mark))
+      ∙ sym (more_put p (old (writer_of node hub mark)) (if is_who (writer_of node hub mark) m.who then e ∷ [] else []))
+      ∙ ap (λ es. with_priority p (puts queue.Inbox es)) (sym (longer (writer_of node hub mark)));
+  carried = λ p. subst (AllOf p) (sym (grown p)) (AllByRecursion-append (IsOfPriority p) (through node x p h.deck w.members) (put_there queue.Inbox (prio_number p) node there r.0) (h.carried p) (put_carried scene w.links node m.who party e may p));
   got =
       subst (AllByRecursion IsInboxItem) (sym more)
       (AllByRecursion-append IsInboxItem (gets queue.Inbox (old hub)) (got_urgent h.deck node there r.0) h.got
@@ -250,12 +250,12 @@ inbox_turned scene os known node x at w logged k m found h = record {
       (subst (AllOf u) (sym (move u))
       (AllByRecursion-append (IsOfPriority u) (content queue.Inbox (prio_number u) h.deck) (put_there queue.Inbox (prio_number u) node there r.0)
       (all-second u (with_priority u (gets queue.Inbox (old hub))) (content queue.Inbox (prio_number u) h.deck) (h.carried u))
-      (put_carried scene.nodes scene.links w.links node m.who party o may u r.0)))
+      (put_carried scene w.links node m.who party e may u)))
 
   more : gets queue.Inbox (entries_in hub (map member_log (turned w k m).members)) ≡ gets queue.Inbox (old hub) ++ got_urgent h.deck node there r.0
   more =
       ap (gets queue.Inbox) (longer hub) ∙ gets-push queue.Inbox (old hub) (is_who hub m.who) e
-      ∙ ap (λ is. gets queue.Inbox (old hub) ++ is) (got_same scene.nodes scene.links w.links node x at m.who party o may h.deck r.0)
+      ∙ ap (λ is. gets queue.Inbox (old hub) ++ is) (got_same scene w.links node x at h.deck r.0 m.who party o may)
 
   grown : (p : Prio) → through node x p l.after (turned w k m).members ≡ through node x p h.deck w.members ++ put_there queue.Inbox (prio_number p) node there r.0
   grown p =
