@@ -26,27 +26,30 @@ use Rattle.csp_world.proofs.MovedLemmas.{got_there, put_there}
 use Rattle.csp_world.proofs.OpeningLists.{filter_long}
 
 -- a lane of a party is a lane where it is
-end_lane : (ends : List End) (r : QueueId) → IfSome (at_end ends r) (λ s. is_queue queue.Inbox s.1 ≡ false)
+abbrev IsElsewhere : ℕ × QueueId → Type 0
+IsElsewhere s = is_queue queue.Inbox s.1 ≡ false
+
+end_lane : (ends : List End) (r : QueueId) → IfSome (at_end ends r) IsElsewhere
 end_lane ends queue.Inbox = tt
 end_lane ends (queue.Up k) = tt
 end_lane ends (queue.Down k) = tt
 end_lane ends (queue.Out k) = tt
 end_lane ends (queue.Tx k) = by (slice_get ends k) where
-  by : (o : Option End) → IfSome (option_map (λ (x : End). (x.node, queue.Tx x.iface)) o) (λ s. is_queue queue.Inbox s.1 ≡ false)
+  by : (o : Option End) → IfSome (option_map (λ (x : End). (x.node, queue.Tx x.iface)) o) IsElsewhere
   by None = tt
   by (Some x) = refl
 end_lane ends (queue.Rx k) = by (slice_get ends k) where
-  by : (o : Option End) → IfSome (option_map (λ (x : End). (x.node, queue.Rx x.iface)) o) (λ s. is_queue queue.Inbox s.1 ≡ false)
+  by : (o : Option End) → IfSome (option_map (λ (x : End). (x.node, queue.Rx x.iface)) o) IsElsewhere
   by None = tt
   by (Some x) = refl
 
-goes_lane : (links : List (List End)) (w : Who) (r : QueueId) → is_queue queue.Inbox r ≡ false → IfSome (goes links w r) (λ s. is_queue queue.Inbox s.1 ≡ false)
+goes_lane : (links : List (List End)) (w : Who) (r : QueueId) → is_queue queue.Inbox r ≡ false → IfSome (goes links w r) IsElsewhere
 goes_lane links (who.Router n) r lane = lane
 goes_lane links (who.Bridge n) r lane = lane
 goes_lane links (who.Iface n k) r lane = lane
 goes_lane links (who.App n k) r lane = lane
 goes_lane links (who.Link l) r lane = by (slice_get links l) where
-  by : (o : Option (List End)) → IfSome (option_and_then (λ ends. at_end ends r) o) (λ s. is_queue queue.Inbox s.1 ≡ false)
+  by : (o : Option (List End)) → IfSome (option_and_then (λ ends. at_end ends r) o) IsElsewhere
   by None = tt
   by (Some ends) = end_lane ends r
 
@@ -70,13 +73,13 @@ lane_popped d (queue.Rx k) pn e = refl
 -- so nothing comes there of an operation on a lane
 pub no_got_lane : (links : List (List End)) (w : Who) (r : QueueId) (pn : ℕ) (d : PlainDeck) (node : ℕ) (a : AnswerShown) → is_queue queue.Inbox r ≡ false → got_there queue.Inbox pn d node (served links w (op.Pop r)) a ≡ []
 no_got_lane links w r pn d node a lane = by (goes links w r) (goes_lane links w r lane) where
-  by : (there : Option (ℕ × QueueId)) → IfSome there (λ s. is_queue queue.Inbox s.1 ≡ false) → got_there queue.Inbox pn d node (option_map (at_queue op.Pop) there) a ≡ []
+  by : (there : Option (ℕ × QueueId)) → IfSome there IsElsewhere → got_there queue.Inbox pn d node (option_map (at_queue op.Pop) there) a ≡ []
   by None e = refl
   by (Some s) e = ap (λ b. if_named (s.0 == node) (if_named b (popped_out a))) (lane_popped d s.1 pn e) ∙ empty_if (s.0 == node)
 
 pub no_put_lane : (links : List (List End)) (w : Who) (r : QueueId) (i : ItemShown) (pn node : ℕ) (a : AnswerShown) → is_queue queue.Inbox r ≡ false → put_there queue.Inbox pn node (served links w (op.Push r i)) a ≡ []
 no_put_lane links w r i pn node a lane = by (goes links w r) (goes_lane links w r lane) where
-  by : (there : Option (ℕ × QueueId)) → IfSome there (λ s. is_queue queue.Inbox s.1 ≡ false) → put_there queue.Inbox pn node (option_map (at_queue (λ x. op.Push x i)) there) a ≡ []
+  by : (there : Option (ℕ × QueueId)) → IfSome there IsElsewhere → put_there queue.Inbox pn node (option_map (at_queue (λ x. op.Push x i)) there) a ≡ []
   by None e = refl
   by (Some s) e = ap (λ b. if_named (s.0 == node) (if_named b (pushed_in i a))) (lane_pushed s.1 i pn e) ∙ empty_if (s.0 == node)
 

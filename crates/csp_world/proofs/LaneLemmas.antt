@@ -119,8 +119,8 @@ module _ (links : List (List End)) (node : ℕ) (q : QueueId) where
   own_popped Is user away none named (who.Link m) is r may = ap (λ b. b && is_queue q r) (none m) ∙ sym (link_popped away m r may)
 
 -- a number is that of the party that uses its own lanes alone
-pub numbered : (node n j k : ℕ) → j ≡ k → ((n == node) && (j == k)) ≡ (n == node)
-numbered node n j k e = ap (λ b. (n == node) && b) (eq-eqb j k e) ∙ and_true (n == node)
+pub numbered : (node n j k : ℕ) → k ≡ j → ((n == node) && (j == k)) ≡ (n == node)
+numbered node n j k e = ap (λ b. (n == node) && b) (eq-eqb j k (sym e)) ∙ and_true (n == node)
 
 module _ (scene : PlainScene) (links : List (List End)) (node : ℕ) (x : PlainNode) (at : slice_get scene.nodes node ≡ Some x) where
   abbrev hub : Who
