@@ -32,7 +32,7 @@ use Rattle.csp_log.specs.declared.shown.ItemShown.{ItemShown}
 use Rattle.csp_log.specs.declared.shown.OpShown.{OpShown}
 use Rattle.csp_nodes.specs.Gathering.{all_left}
 use Rattle.csp_nodes.specs.Serving.{served}
-use Rattle.csp_party.specs.Any.{PlainParty, asked, asks, events, has_ended}
+use Rattle.csp_party.specs.Any.{PlainParty, asked, asks, events}
 use Rattle.csp_log.specs.Who.{is_who}
 use Rattle.csp_log.specs.declared.who.Who.{Who}
 use Rattle.csp_scene.proofs.Public.{AllByRecursion-append, AllByRecursion-map}
@@ -49,7 +49,7 @@ use Rattle.csp_world.proofs.OpeningRules.{Stands}
 use Rattle.csp_world.proofs.QueuedLemmas.{KeepsQueues, IsQueued, queued-opening}
 use Rattle.csp_world.specs.Opening.{new_member}
 use Rattle.csp_world.specs.Record.{member_log, record_of}
-use Rattle.csp_world.specs.World.{PlainMember, PlainWorld, answered, told, turn, turn_at, turned}
+use Rattle.csp_world.specs.World.{PlainMember, PlainWorld, answered, told, turned}
 
 -- ---- what was left in a queue is what is in it
 
@@ -191,7 +191,7 @@ pub record IsKnown (scene : PlainScene) (os : List PlainOpening) : Type 0 where
   pub few : length scene.links ≤ IFACES
 
 -- so it stays in a turn
-inbox_turned : (scene : PlainScene) (os : List PlainOpening) → IsKnown scene os → (node : ℕ) (x : PlainNode) → slice_get scene.nodes node ≡ Some x → (w : PlainWorld) → AreLogged w.time os w.members
+pub inbox_turned : (scene : PlainScene) (os : List PlainOpening) → IsKnown scene os → (node : ℕ) (x : PlainNode) → slice_get scene.nodes node ≡ Some x → (w : PlainWorld) → AreLogged w.time os w.members
     → (k : ℕ) (m : PlainMember) → slice_get w.members k ≡ Some m → IsInboxKept node x w.decks w.members → IsInboxKept node x (turned w k m).decks (turned w k m).members
 inbox_turned scene os known node x at w logged k m found h = record {
   deck = l.after;
@@ -268,22 +268,6 @@ inbox_turned scene os known node x at w logged k m found h = record {
       ∙ append_assoc before got (content queue.Inbox (prio_number p) l.after)
       ∙ ap (λ is. before ++ is) (move p)
       ∙ sym (append_assoc before (content queue.Inbox (prio_number p) h.deck) (put_there queue.Inbox (prio_number p) node there r.0))
-
-inbox_turn_at : (scene : PlainScene) (os : List PlainOpening) → IsKnown scene os → (node : ℕ) (x : PlainNode) → slice_get scene.nodes node ≡ Some x → (w : PlainWorld) → AreLogged w.time os w.members
-    → (k : ℕ) (found : Option PlainMember) → slice_get w.members k ≡ found → IsInboxKept node x w.decks w.members → IsInboxKept node x (turn_at w k found).decks (turn_at w k found).members
-inbox_turn_at scene os known node x at w logged k None found h = h
-inbox_turn_at scene os known node x at w logged k (Some m) found h = by (has_ended m.party) where
-  after : Bool → PlainWorld
-  after ended = (if ended then w else turned w k m)
-
-  by : (ended : Bool) → IsInboxKept node x (after ended).decks (after ended).members
-  by true = h
-  by false = inbox_turned scene os known node x at w logged k m found h
-
-pub inbox_turn : (scene : PlainScene) (os : List PlainOpening) → IsKnown scene os → (node : ℕ) (x : PlainNode) → slice_get scene.nodes node ≡ Some x → (w : PlainWorld) → AreLogged w.time os w.members
-    → (k : ℕ) → IsInboxKept node x w.decks w.members → IsInboxKept node x (turn w k).decks (turn w k).members
-unfolding turn
-inbox_turn scene os known node x at w logged k h = inbox_turn_at scene os known node x at w logged k (slice_get w.members k) refl h
 
 -- at the opening nothing came through
 if_empty : {X : Type 0} (so : Bool) (rest : List X) → rest ≡ [] → (if so then [] else []) ++ rest ≡ []

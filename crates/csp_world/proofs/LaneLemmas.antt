@@ -32,7 +32,7 @@ use Rattle.csp_log.specs.declared.shown.OpShown.{OpShown}
 use Rattle.csp_log.specs.declared.shown.OpShown.TheVariants as op
 use Rattle.csp_nodes.specs.Fresh.{fresh_buffers}
 use Rattle.csp_nodes.specs.Serving.{at_end, goes, served}
-use Rattle.csp_party.specs.Any.{asked, asks, events, has_ended}
+use Rattle.csp_party.specs.Any.{asked, asks, events}
 use Rattle.csp_log.specs.Who.{is_who, node_of}
 use Rattle.csp_log.specs.declared.who.Who.{Who}
 use Rattle.csp_log.specs.declared.who.Who.TheVariants as who
@@ -49,7 +49,7 @@ use Rattle.csp_world.proofs.MovedLemmas.{got_there, kept_after, moved, put_there
 use Rattle.csp_world.proofs.QueuedLemmas.{IsQueued}
 use Rattle.csp_world.specs.Opening.{new_member, opened_deck}
 use Rattle.csp_world.specs.Record.{member_log, record_of}
-use Rattle.csp_world.specs.World.{PlainMember, PlainWorld, answered, told, turn, turn_at, turned}
+use Rattle.csp_world.specs.World.{PlainMember, PlainWorld, answered, told, turned}
 
 -- what the links of a node carry
 abbrev pub carried_at : ℕ → List PlainLink → List Carries
@@ -267,7 +267,7 @@ pub record IsLaneKept (l : PlainLane) (decks : List PlainDeck) (ms : List PlainM
   pub order : gets l.to.queue (entries_in l.to.who (map member_log ms)) ++ content l.queue 0 deck ≡ puts l.from.queue (entries_in l.from.who (map member_log ms))
   pub full : IsFullAfter (lane_room l.queue) l.from.queue (entries_in l.from.who (map member_log ms))
 
-lane_turned : (scene : PlainScene) (os : List PlainOpening) → IsKnown scene os → (l : PlainLane) (w : PlainWorld) → IsLaneOf scene w.links l → AreLogged w.time os w.members
+pub lane_turned : (scene : PlainScene) (os : List PlainOpening) → IsKnown scene os → (l : PlainLane) (w : PlainWorld) → IsLaneOf scene w.links l → AreLogged w.time os w.members
     → (k : ℕ) (m : PlainMember) → slice_get w.members k ≡ Some m → IsLaneKept l w.decks w.members → IsLaneKept l (turned w k m).decks (turned w k m).members
 lane_turned scene os known l w is logged k m found h = record {
   deck = near.after;
@@ -327,22 +327,6 @@ lane_turned scene os known l w is logged k m found h = record {
       let most = as_full l.queue is.lane (lane_one l.queue is.lane) h.deck h.roomy to.item (subst IsFull same (refused_full l.from.queue o r.0 refused)) in
       let long = sym (length-append before (content l.queue 0 h.deck)) ∙ ap (λ (xs : List ItemShown). length xs) h.order in
       omega (arith, most, long)
-
-lane_turn_at : (scene : PlainScene) (os : List PlainOpening) → IsKnown scene os → (l : PlainLane) (w : PlainWorld) → IsLaneOf scene w.links l → AreLogged w.time os w.members
-    → (k : ℕ) (found : Option PlainMember) → slice_get w.members k ≡ found → IsLaneKept l w.decks w.members → IsLaneKept l (turn_at w k found).decks (turn_at w k found).members
-lane_turn_at scene os known l w is logged k None found h = h
-lane_turn_at scene os known l w is logged k (Some m) found h = by (has_ended m.party) where
-  after : Bool → PlainWorld
-  after ended = (if ended then w else turned w k m)
-
-  by : (ended : Bool) → IsLaneKept l (after ended).decks (after ended).members
-  by true = h
-  by false = lane_turned scene os known l w is logged k m found h
-
-pub lane_turn : (scene : PlainScene) (os : List PlainOpening) → IsKnown scene os → (l : PlainLane) (w : PlainWorld) → IsLaneOf scene w.links l → AreLogged w.time os w.members
-    → (k : ℕ) → IsLaneKept l w.decks w.members → IsLaneKept l (turn w k).decks (turn w k).members
-unfolding turn
-lane_turn scene os known l w is logged k h = lane_turn_at scene os known l w is logged k (slice_get w.members k) refl h
 
 pub lane_opened : (scene : PlainScene) (os : List PlainOpening) → IsKnown scene os → (links : List (List End)) (l : PlainLane) (is : IsLaneOf scene links l) (decks : List PlainDeck) → slice_get decks l.node ≡ Some (opened_deck is.node (links_at l.node scene.links))
     → IsLaneKept l decks (map new_member os)
