@@ -42,7 +42,7 @@ use Rattle.csp_world.specs.Record.{record_of}
 use Rattle.csp_world.specs.World.{PlainWorld}
 
 -- each party has taken the turns of its log
-all_logged : (scene : PlainScene) (hs : List Happening) → AreLogged (world_after scene hs).time (parties_of scene) (world_after scene hs).members
+pub all_logged : (scene : PlainScene) (hs : List Happening) → AreLogged (world_after scene hs).time (parties_of scene) (world_after scene hs).members
 all_logged scene =
     always scene (λ w. AreLogged w.time (parties_of scene) w.members) (opening_logged scene)
     (λ hs h k m at e. logged_turned (world_after scene hs) (parties_of scene) k m at e h) (λ w h. logged_tick w.time (parties_of scene) w.members h)
