@@ -13,7 +13,7 @@ use Rattle.csp_consistent.specs.Pools.{is_node}
 use Rattle.csp_topology.specs.Lanes.{PlainLane, app_lanes, leader_of, lanes_from, lanes_within, out_lane}
 use Rattle.csp_topology.specs.Parties.{PlainOpening}
 use Rattle.csp_consistent.specs.Queues.{MayAsk, MayPop, MayPush}
-use Rattle.csp_consistent.specs.Reading.{got_by, gets, is_queue, put_by, puts}
+use Rattle.csp_consistent.specs.Reading.{gets, is_queue, puts}
 use Rattle.csp_deck.specs.Step.{entry_of}
 use Rattle.csp_log.specs.Kinds.{carried_on}
 use Rattle.csp_lists.specs.PlainDeck.{PlainDeck, answer_of, lane_room, shape_of}

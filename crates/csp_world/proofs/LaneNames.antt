@@ -6,7 +6,6 @@ use Rattle.std.proofs.Math.Bool.{and-false}
 use Rattle.std.proofs.lemmas.Bool.{eqb-true}
 use Rattle.csp_consistent.proofs.Public.{queue_is, queue_same}
 use Rattle.csp_consistent.specs.Lanes.{IsRefused}
-use Rattle.csp_consistent.specs.Pools.{is_node}
 use Rattle.csp_consistent.specs.Queues.{MayAsk, MayPop, MayPush}
 use Rattle.csp_consistent.specs.Reading.{got_by, is_queue, put_by}
 use Rattle.csp_deck.specs.Carried.{place_for}
