@@ -91,7 +91,7 @@ module _ (scene : PlainScene) (r : PlainRecord) (is : IsScene scene) (con : IsCo
 
       quiet : gets (queue.Up other) (asked.between ++ asked.opens ∷ []) ≡ []
       quiet =
-          nothing_comes other A R up_left (left_in r place (queue.Down other) 0) lanes.0.order lanes.1.order (causal place other) (λ before after own i e put. wait other steps A before after own i log e put)
+          nothing_comes other A R up_left (left_in r place (queue.Down other) 0) lanes.0.kept.order lanes.1.kept.order (causal place other) (λ before after own i e put. wait other steps A before after own i log e put)
           (λ before after e. answer _ _ R before after other t.log e) asked.first asked.between asked.later asked.own asked.opens asked.note right asked.got (connect_asks y.slot asked.note asked.connects)
           asked.unanswered
 
@@ -114,7 +114,7 @@ module _ (scene : PlainScene) (r : PlainRecord) (is : IsScene scene) (con : IsCo
           ∙ (λ k. before ++ (asked.got k ++ rest_got k))
 
       all_put : puts (queue.Up other) A ≡ before ++ item.Note asked.note ∷ (later ++ up_left)
-      all_put = sym lanes.0.order ∙ ap (λ l. l ++ up_left) all_got ∙ append_assoc before (item.Note asked.note ∷ later) up_left
+      all_put = sym lanes.0.kept.order ∙ ap (λ l. l ++ up_left) all_got ∙ append_assoc before (item.Note asked.note ∷ later) up_left
 
       since : IsSince y.slot steps before (later ++ up_left) asked.note
       since = all.after before (later ++ up_left) asked.note all_put

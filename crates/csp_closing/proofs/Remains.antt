@@ -59,9 +59,8 @@ lane_left posts node number left h =
       };
       node_is = h.x_node;
       lane_is = h.x_lane;
-      order = h.order;
+      kept = record { order = sym h.order; few = h.few };
       carried = h.carried;
-      few = h.few;
       heeded = h.heeded;
     }
 

@@ -29,7 +29,7 @@ pub record IsBareAt (r : PlainRecord) (node number : ℕ) : Type 0 where
   pub rx : AllByRecursion IsBare (left_in r node (queue.Rx number) 0)
 
 lane_bare : (r : PlainRecord) (l : PlainLane) → IsInOrder r l → AllByRecursion IsBare (puts l.from.queue (entries_of r l.from.who)) → AllByRecursion IsBare (left_in r l.node l.queue 0)
-lane_bare r l order all = each_last IsBare (gets l.to.queue (entries_of r l.to.who)) (left_in r l.node l.queue 0) (subst (AllByRecursion IsBare) (sym order.order) all)
+lane_bare r l order all = each_last IsBare (gets l.to.queue (entries_of r l.to.who)) (left_in r l.node l.queue 0) (subst (AllByRecursion IsBare) (sym order.kept.order) all)
 
 module _ (scene : PlainScene) (r : PlainRecord) (are : AreLogsOf (parties_of scene) r.parties) where
   end_bare : (number at : ℕ) (l : PlainLink) (end : End) → AreLanes r number l at end → IsBareAt r end.node end.iface

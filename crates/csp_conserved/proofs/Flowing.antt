@@ -48,7 +48,7 @@ get_there (x ∷ xs) (suc k) low = get_there xs k (omega (arith, low))
 -- of a lane: what came and what was left is what was put
 lane_balanced : (k : ℕ) (r : PlainRecord) (l : PlainLane) → IsInOrder r l
     → put_in k (entries_of r l.from.who) l.from.queue ≡ got_in k (entries_of r l.to.who) l.to.queue + among k (left_in r l.node l.queue 0)
-lane_balanced k r l order = ap (among k) (sym order.order) ∙ among_more k (gets l.to.queue (entries_of r l.to.who)) (left_in r l.node l.queue 0)
+lane_balanced k r l order = ap (among k) (sym order.kept.order) ∙ among_more k (gets l.to.queue (entries_of r l.to.who)) (left_in r l.node l.queue 0)
 
 module _ (scene : PlainScene) (r : PlainRecord) (is : IsScene scene) (after : AreLinksAfter (length scene.nodes) [] scene.links) (are : AreLogsOf (parties_of scene) r.parties) (order : AreInOrder scene r)
     (node : ℕ) (n : PlainNode) (there : slice_get scene.nodes node ≡ Some n) (k : ℕ) where

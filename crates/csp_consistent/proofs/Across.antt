@@ -203,7 +203,7 @@ damaged_of Q (Some bit) f here = here
 -- what holds of all that was put into a lane holds of all that was got from it
 pub through : (P : ItemShown → Type 0) (r : PlainRecord) (l : PlainLane) → IsInOrder r l → AllByRecursion P (puts l.from.queue (entries_of r l.from.who)) → AllByRecursion P (gets l.to.queue (entries_of r l.to.who))
 through P r l order all =
-    each_first P (gets l.to.queue (entries_of r l.to.who)) (left_in r l.node l.queue 0) (subst (AllByRecursion P) (sym order.order) all)
+    each_first P (gets l.to.queue (entries_of r l.to.who)) (left_in r l.node l.queue 0) (subst (AllByRecursion P) (sym order.kept.order) all)
 
 -- the two lanes between an end and its link or hub are in order
 abbrev pub AreLanes : PlainRecord → ℕ → PlainLink → ℕ → End → Type 0

@@ -11,5 +11,7 @@ mod Planned
 mod QueueNames
 mod Received
 mod RouterQueues
+mod ToldQueues
 mod Transmitted
+mod Writers
 pub mod Public

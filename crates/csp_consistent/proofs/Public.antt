@@ -22,3 +22,5 @@ pub use Rattle.csp_consistent.proofs.QueueNames.{queue_apart, queue_is, queue_sa
 pub use Rattle.csp_consistent.proofs.Received.{IsFrameOf, IsNamed, IsOn, IsPacketOf, IsPacketSo, IsSuchFrame, IsSuchIfHeeded, came, heeded, never_taking, read_on_in, received_so, step_named, step_on, such_also, taking, told, waiting}
 -- what an interface hands to its link is a frame of a transmission: of the packet in the first entry that shows its serial. It has its trace
 pub use Rattle.csp_consistent.proofs.Transmitted.{IsBegun, IsSentIn, Marked, begun_step, caught_serial, handed_serial, kept_serial, pushed_serial, sent_frames, shown_as, transmitted_all, turn_silent}
+-- who leads a node is its router or its bridge; with which marks its parties put into its inbox, and what an inbox carries of a priority
+pub use Rattle.csp_consistent.proofs.Writers.{apps_put_none, if_put, leader_bridge, leader_router, links_put_none, more_put, one_put, own_puts, prio_is, priority_carried}

@@ -12,6 +12,7 @@ use Rattle.csp_record.specs.Record.{PlainRecord}
 use Rattle.csp_scene.specs.Scene.{PlainScene}
 use Rattle.csp_topology.specs.Lanes.{PlainLane}
 use Rattle.csp_topology.specs.Wires.{lanes_of}
+use Rattle.csp_consistent.specs.Promises.{IsLaneKept}
 use Rattle.csp_consistent.specs.Reading.{entries_of, gets, is_queue, left_in, puts}
 
 -- a push to this queue was answered Full
@@ -23,11 +24,10 @@ IsRefused q _ _ = ⊥
 abbrev pub IsFullAfter : ℕ → QueueId → List Entry → Type 0
 IsFullAfter room q es = (before after : List Entry) (e : Entry) → es ≡ before ++ e ∷ after → IsRefused q e.op e.answer → room ≤ length (puts q before)
 
--- the lane is in order: what was got, followed by what was left, is what was put; no more was left than it has room for; and a push was answered
--- Full only after as many puts as that
+-- the lane is in order: it kept its promise of what the logs of its parties put and got and what the record says was left; and a push was answered
+-- Full only after as many puts as it has room for
 pub record IsInOrder (r : PlainRecord) (l : PlainLane) : Type 0 where
-  pub order : gets l.to.queue (entries_of r l.to.who) ++ left_in r l.node l.queue 0 ≡ puts l.from.queue (entries_of r l.from.who)
-  pub few : length (left_in r l.node l.queue 0) ≤ lane_room l.queue
+  pub kept : IsLaneKept (lane_room l.queue) (puts l.from.queue (entries_of r l.from.who)) (gets l.to.queue (entries_of r l.to.who)) (left_in r l.node l.queue 0)
   pub full : IsFullAfter (lane_room l.queue) l.from.queue (entries_of r l.from.who)
 
 -- each lane of the scene is in order

@@ -5,10 +5,12 @@ pub mod Lanes
 pub mod Links
 pub mod Origins
 pub mod Pools
+pub mod Promises
 pub mod Prompt
 pub mod Queues
 pub mod Reading
 pub mod Rounds
 pub mod Runs
 pub mod Threaded
+pub mod Told
 pub mod Whole

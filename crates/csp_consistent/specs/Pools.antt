@@ -5,7 +5,6 @@ use Rattle.std.specs.List.{flat_map, range_with_len}
 use Rattle.std.specs.Option.{option_map, option_to_list}
 use Rattle.csp_base.specs.Priority.{prio_of}
 use Rattle.csp_deck.specs.Runs.{state_after}
-use Rattle.csp_deck.specs.Step.{times}
 use Rattle.csp_lists.specs.PlainDeck.{numbers_of}
 use Rattle.csp_log.specs.Remains.{PlainLeft, PlainHeld}
 use Rattle.csp_log.specs.declared.entry.Entry.{Entry}
@@ -22,6 +21,7 @@ use Rattle.csp_record.specs.Record.{PlainPartyLog, PlainRecord}
 use Rattle.csp_log.specs.Who.{home_of, node_of}
 use Rattle.csp_scene.specs.Scene.{PlainScene, PlainNode}
 use Rattle.csp_topology.specs.Parties.{PlainOpening, parties_of, party_steps}
+use Rattle.csp_consistent.specs.Promises.{IsPoolKept}
 use Rattle.csp_consistent.specs.Whole.{AreQueuesLeft}
 
 -- the number of a buffer that a turn gave to its pool, if it did, and of one that it took
@@ -55,11 +55,9 @@ given_at node log = (if is_node node (node_of log.who) then given log.entries el
 abbrev pub taken_at : ℕ → PlainPartyLog → List ℕ
 taken_at node log = (if is_node node (node_of log.who) then taken log.entries else [])
 
--- the pool of a node with so many buffers, in which these were left
+-- the pool of a node with so many buffers, in which these were left, kept its promise of what the logs of the node's parties gave and took
 abbrev pub IsPoolWhole : PlainRecord → (node count : ℕ) → List ℕ → Type 0
-IsPoolWhole r node count left =
-    (k : ℕ) → times k (range_with_len 0 count) + times k (flat_map (given_at node) r.parties)
-    ≡ times k (flat_map (taken_at node) r.parties) + times k left
+IsPoolWhole r node count left = IsPoolKept (range_with_len 0 count) (flat_map (given_at node) r.parties) (flat_map (taken_at node) r.parties) left
 
 -- a queue held the numbers of what was left in it: of the inbox that of a priority
 abbrev pub place_named : QueueId → ℕ → Place

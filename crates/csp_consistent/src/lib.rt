@@ -5,5 +5,5 @@
 mod laws;
 mod queues;
 
-pub use laws::{applies_plans, names_origins, spreads_by_plans};
+pub use laws::{applies_plans, keeps_promises, names_origins, spreads_by_plans};
 pub use queues::use_their_own;

@@ -81,7 +81,7 @@ pushed_among k (e ∷ es) = (λ i. pushed_one k e.op e.answer i ++ pushed_among 
 -- of a lane no more come than went in
 pub lane_few : (o : Origin) (r : PlainRecord) (l : PlainLane) → IsInOrder r l → firsts o (frames_among (gets l.to.queue (entries_of r l.to.who))) ≤ firsts o (frames_among (puts l.from.queue (entries_of r l.from.who)))
 lane_few o r l order =
-    let all : firsts o (frames_among (gets l.to.queue (entries_of r l.to.who) ++ left_in r l.node l.queue 0)) ≡ firsts o (frames_among (puts l.from.queue (entries_of r l.from.who))) = ap (λ is. firsts o (frames_among is)) order.order in
+    let all : firsts o (frames_among (gets l.to.queue (entries_of r l.to.who) ++ left_in r l.node l.queue 0)) ≡ firsts o (frames_among (puts l.from.queue (entries_of r l.from.who))) = ap (λ is. firsts o (frames_among is)) order.kept.order in
     omega (arith, all, among_append o (gets l.to.queue (entries_of r l.to.who)) (left_in r l.node l.queue 0))
 
 -- another place than this

@@ -68,7 +68,7 @@ module _ (scene : PlainScene) (r : PlainRecord) (is : IsScene scene) (con : IsCo
           let put : List ItemShown = puts (queue.Down app) (entries_of r (who.Router place)) in
           begins_same (payloads_in slot ordinal got) (took app slot ordinal (entries_of r (who.App place app))) (payloads_in slot ordinal put) (delivered app slot ordinal (entries_of r (who.Router place)))
           ((app_true scene r place app con.runs).takes slot ordinal) (sym (delivered_is app slot ordinal (entries_of r (who.Router place))))
-          (payloads_begin slot ordinal got (left_in r place (queue.Down app) 0) put lanes.1.order)
+          (payloads_begin slot ordinal got (left_in r place (queue.Down app) 0) put lanes.1.kept.order)
 
   -- so it begins what the flow of the peer says
   took_said : (place app nth : ℕ) (x : Opening) (peer : ℕ × ℕ) → IsOpened r place app x → x.nth ≡ Some nth → x.peer ≡ Some peer → IsBeginning (took_on r place app x) ((flows_in scene r).said peer)

@@ -115,7 +115,7 @@ got_only k y none = by y.puts refl where
 left_moved : (k : ℕ) (posts : List PlainPost) (node lane : ℕ) (left : List ItemShown) (l : IsLaneLeft posts node lane left) → times_put k l.x ≡ times_got k l.y + among k left
 left_moved k posts node lane left l =
     ap (λ (b : Bool). if b then among k l.x.end.items else 0) l.joined.puts
-    ∙ ap (among k) l.order
+    ∙ ap (among k) (sym l.kept.order)
     ∙ among-append k l.y.end.items left
     ∙ ap (λ n. n + among k left) (sym (ap (λ (b : Bool). if b then 0 else among k l.y.end.items) l.joined.gets))
 

@@ -1,12 +1,15 @@
 -- What went through each lane, and what was left there.
 use Rattle.std.proofs.Common.{◌≡◌, ◌≤◌, ℕ, zero, suc, List, [], ◌∷◌, ◌++◌, Option, None, Some, length, map, refl, sym, ap, ◌∙◌, subst, slice_get}
+use Rattle.std.specs.List.{AllByRecursion}
 use Rattle.std.specs.Option.{option_and_then, option_map}
 use Rattle.std.specs.Prelude.{IsSomeAnd}
 use Rattle.std.proofs.lemmas.List.{append-nil, append_assoc}
 use Rattle.std.proofs.lemmas.Option.{same_Some, slice_get-map}
-use Rattle.csp_consistent.specs.Lanes.{AreInOrder, IsFullAfter, IsInOrder, IsRefused}
+use Rattle.csp_consistent.specs.Lanes.{IsFullAfter, IsRefused}
+use Rattle.csp_consistent.specs.Promises.{IsLaneKept}
 use Rattle.csp_consistent.specs.Prompt.{AllAfter, HadNoRoom}
 use Rattle.csp_consistent.specs.Reading.{entries_of, gets, left_in, puts}
+use Rattle.csp_consistent.specs.Told.{IsLaneTold}
 use Rattle.csp_ends.specs.Ends.{IsSideOf, PlainNodeQueues, PlainSide}
 use Rattle.csp_ends.specs.Traced.{IsSideTraced, moved}
 use Rattle.csp_lane.specs.Ends.{IsEndOf as IsEndThere, PlainEnd, PlainLane as Queue}
@@ -165,10 +168,15 @@ module _ (scene : PlainScene) (n : PlainNetwork) (posts : List PlainPost) (r : P
         (subst (λ q. IsFullAfter is.x.end.room q (entries_of r l.from.who)) from_called
         (subst (λ es. IsFullAfter is.x.end.room is.x.queue es) from_entries (full_after is.x.queue is.x.end.room is.s.entries full)))
 
-    in_order : (ls : IsThere scene l.node w.place l) → left_in r l.node l.queue 0 ≡ left → IsInOrder r l
-    in_order ls noted = record {
-      order = (λ i. sym got_there i ++ noted i) ∙ sym is.order ∙ put_there;
-      few = subst (λ items. length items ≤ lane_room l.queue) (sym noted) (subst (λ k. length left ≤ k) (room ls) is.few);
+    told : (ls : IsThere scene l.node w.place l) → left_in r l.node l.queue 0 ≡ left → IsLaneTold r l
+    told ls noted = record {
+      put = is.x.end.items;
+      got = is.y.end.items;
+      left = left;
+      kept = subst (λ k. IsLaneKept k is.x.end.items is.y.end.items left) (room ls) is.kept;
+      puts = put_there;
+      gets = got_there;
+      noted = sym noted;
       full = crammed (lane_room l.queue) (room ls);
     }
 
@@ -186,10 +194,10 @@ module _ (scene : PlainScene) (n : PlainNetwork) (posts : List PlainPost) (r : P
         noted = lane_left r (wires_of scene) ended.closed.all ended.closed.told.left l.node x.lanes x.has.remains x.at x.has.there x.names w.place l left.0 here left.1;
       }
 
-  lane_in_order : (l : PlainLane) → IsWire scene l → IsInOrder r l
-  lane_in_order l w =
+  lane_told : (l : PlainLane) → IsWire scene l → IsLaneTold r l
+  lane_told l w =
       let h = left_of l w in
-      in_order l w h.left h.is (wire_there scene l.node w.place l w.at) h.noted
+      told l w h.left h.is (wire_there scene l.node w.place l w.at) h.noted
 
-  pub lanes_in_order : IsKnown scene r → AreInOrder scene r
-  lanes_in_order known = AllByRecursion-map (IsWire scene) (IsInOrder r) (lanes_of scene) lane_in_order known.wires
+  pub lanes_told : IsKnown scene r → AllByRecursion (IsLaneTold r) (lanes_of scene)
+  lanes_told known = AllByRecursion-map (IsWire scene) (IsLaneTold r) (lanes_of scene) lane_told known.wires

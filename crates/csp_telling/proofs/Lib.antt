@@ -12,15 +12,13 @@ mod Marked
 mod Marks
 mod NodeNotes
 mod Nodes
-mod NumbersKept
 mod PlacesApart
 mod PoolsLeft
 mod QueuesNoted
+mod QueuesTold
 mod Reached
 mod Returned
 mod Sums
-mod Together
 mod WholeNotes
 mod WireNames
 mod Wires
-mod Writers

@@ -1,5 +1,5 @@
 -- What was left at each node of a scene.
-use Rattle.std.proofs.Common.{◌≡◌, ◌≤◌, ℕ, zero, suc, List, [], ◌∷◌, ◌++◌, Some, length, map, refl, sym, ap, ◌∙◌, arith, slice_get}
+use Rattle.std.proofs.Common.{◌≡◌, ℕ, zero, suc, List, [], ◌∷◌, ◌++◌, Some, length, map, refl, sym, ap, ◌∙◌, arith, slice_get}
 use Rattle.std.specs.List.{AllByRecursion}
 use Rattle.std.specs.Option.{option_map}
 use Rattle.std.proofs.lemmas.Option.{same_Some, slice_get-map}
@@ -12,7 +12,6 @@ use Rattle.csp_posts.specs.Posts.{PlainPost}
 use Rattle.csp_record.specs.Record.{PlainRecord}
 use Rattle.csp_scene.specs.Links.{links_at}
 use Rattle.csp_scene.specs.Scene.{PlainNode, PlainScene}
-use Rattle.csp_scene.specs.declared.limits.TheConstants.{MAX_LINKS}
 use Rattle.csp_standing.specs.Network.{IsNetworkOf, PlainNetwork}
 use Rattle.csp_telling.proofs.PlacesApart.{AreNamedApart, named_apart}
 use Rattle.csp_telling.specs.Closed.{IsClosed}
@@ -69,7 +68,6 @@ pub record IsEnded (scene : PlainScene) (n : PlainNetwork) (posts : List PlainPo
 
 -- what csp_topology says besides of the scene and its parties, and csp_consistent of their logs
 pub record IsKnown (scene : PlainScene) (r : PlainRecord) : Type 0 where
-  pub few : length scene.links ≤ MAX_LINKS
   pub wires : AllByRecursion (IsWire scene) (lanes_of scene)
   pub hubs : (node : ℕ) (c : PlainNode) → slice_get scene.nodes node ≡ Some c → Stands scene (leader_of node c.addr)
   pub apart : (i j : ℕ) (o p : PlainOpening) → slice_get (parties_of scene) i ≡ Some o → slice_get (parties_of scene) j ≡ Some p → o.who ≡ p.who → i ≡ j

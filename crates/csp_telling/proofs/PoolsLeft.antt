@@ -7,8 +7,9 @@ use Rattle.std.proofs.lemmas.Bool.{eq-eqb}
 use Rattle.std.proofs.lemmas.List.Sums.{sum_by-append}
 use Rattle.std.proofs.lemmas.List.{append-nil, length-map}
 use Rattle.std.proofs.lemmas.Option.{get_or_from_slice_get, same_Some, slice_get-map}
-use Rattle.csp_consistent.proofs.Public.{IsOf, are_owners}
-use Rattle.csp_consistent.specs.Pools.{IsPoolWhole, given, given_at, is_node, taken, taken_at}
+use Rattle.csp_consistent.proofs.Public.{IsOf, IsOwner, are_owners, leader_bridge, leader_router, who_is}
+use Rattle.csp_consistent.specs.Pools.{given, given_at, is_node, taken, taken_at}
+use Rattle.csp_consistent.specs.Told.{IsPoolTold}
 use Rattle.csp_deck.specs.Step.{times}
 use Rattle.csp_ends.specs.Ends.{PlainHome}
 use Rattle.csp_ends.specs.Traced.{IsHomeTraced}
@@ -17,13 +18,14 @@ use Rattle.csp_posts.specs.Between.{is_home}
 use Rattle.csp_posts.specs.Posts.{PlainPost}
 use Rattle.csp_record.specs.Record.{PlainRecord}
 use Rattle.csp_log.specs.Who.{node_of}
+use Rattle.csp_log.specs.declared.who.Who.TheVariants as who
 use Rattle.csp_log.specs.declared.who.Who.{Who}
 use Rattle.csp_scene.specs.Links.{no_node, node_at}
-use Rattle.csp_scene.specs.Scene.{PlainNode, PlainScene}
+use Rattle.csp_party.specs.Any.{PlainParty}
+use Rattle.csp_scene.specs.Scene.{PlainLink, PlainNode, PlainScene}
 use Rattle.csp_standing.proofs.Public.{HasHub, hub_at, hub_leads, hub_node, hub_place_of, each_at, at_home, IsAt, post_at}
 use Rattle.csp_standing.specs.Network.{ArePostsOf, IsPostOf, PlainNetwork, leads, opened_at, opened_in}
 use Rattle.csp_telling.proofs.Nodes.{IsAtNode, IsEnded, IsKnown, at_scene}
-use Rattle.csp_telling.proofs.Writers.{hub_is, node_is}
 use Rattle.csp_telling.specs.Closed.{log_of}
 use Rattle.csp_telling.specs.Remains as remains
 use Rattle.csp_telling.specs.Remains.{PlainRemains, put_at, put_from, taken_from}
@@ -35,6 +37,14 @@ times_joined : (k : ℕ) (xs ys : List ℕ) → times k (xs ++ ys) ≡ times k x
 times_joined k xs ys = sum_by-append (λ n. cond (n == k) 1 0) xs ys
 
 -- ---- what the parties of a node opened with is its leader's
+
+-- who leads a node is its router or bridge
+hub_is : (nodes : List PlainNode) (links : List PlainLink) (node : ℕ) (c : PlainNode) → slice_get nodes node ≡ Some c → (v : Who) (party : PlainParty) → IsOwner nodes links v party → leads v ≡ true → is_node node (node_of v) ≡ true → v ≡ leader_of node c.addr
+hub_is nodes links node c there (who.Router a) party owner lead here = sym (who_is (leader_of node c.addr) (who.Router a) (leader_router nodes links node c there a party owner ∙ here))
+hub_is nodes links node c there (who.Bridge a) party owner lead here = sym (who_is (leader_of node c.addr) (who.Bridge a) (leader_bridge nodes links node c there a party owner ∙ here))
+hub_is nodes links node c there (who.Iface a k) party owner lead here = absurd cc
+hub_is nodes links node c there (who.App a k) party owner lead here = absurd cc
+hub_is nodes links node c there (who.Link k) party owner lead here = absurd cc
 
 -- a list of which one element alone gives something gives what that does
 none_gives : {X Y : Type 0} (f : X → List Y) (xs : List X) → ((b : ℕ) (z : X) → slice_get xs b ≡ Some z → f z ≡ []) → flat_map f xs ≡ []
@@ -141,7 +151,7 @@ module _ (scene : PlainScene) (n : PlainNetwork) (posts : List PlainPost) (r : P
       by true lead here =
           let owner = each_at (IsOf scene) (parties_of scene) b x.party (are_owners scene) x.there in
           let named : x.party.who ≡ leader_of node c.addr
-          = hub_is scene.nodes scene.links x.party.who x.party.party node c owner there (ap leads (sym x.post.who) ∙ lead) (ap node_of (sym x.post.who) ∙ node_is node (node_of z.who) here) in
+          = hub_is scene.nodes scene.links node c there x.party.who x.party.party owner (ap leads (sym x.post.who) ∙ lead) (ap (λ w. is_node node (node_of w)) (sym x.post.who) ∙ here) in
           absurd (away (known.apart b stands.place x.party stands.party x.there stands.at (named ∙ sym stands.named) ∙ sym (hub_place_of scene n posts ended.net node c.addr stands)))
 
     hub_opens : opened_here scene node hub.post ≡ range_with_len 0 c.buffers
@@ -162,14 +172,18 @@ module _ (scene : PlainScene) (n : PlainNetwork) (posts : List PlainPost) (r : P
     ordered : (put all_of given taken got left : ℕ) → put ≡ got + left → put ≡ all_of + given → got ≡ taken → all_of + given ≡ taken + left
     ordered put all_of given taken got left e f g = omega (arith, e, f, g)
 
-    pub pool_whole : IsPoolWhole r node c.buffers (slice_index_or (in_pools ended.closed.all) node [])
-    pool_whole k =
-        let logs = sym ended.closed.told.parties in
-        (λ i. times k (range_with_len 0 c.buffers) + times k (flat_map (given_at node) (ended.closed.told.parties i)))
-        ∙ ordered (times k (put_at node posts)) (times k (range_with_len 0 c.buffers)) (times k (flat_map (given_at node) (map log_of posts))) (times k (flat_map (taken_at node) (map log_of posts))) (times k (remains.taken_at node posts))
-        (times k here.has.remains.pool)
-        (here.has.left.pool.whole k)
-        (all_put scene n node k (parties_of scene) posts ended.net.parties
-        ∙ ap (λ ns. times k ns + times k (flat_map (given_at node) (map log_of posts))) (one_gives (opened_here scene node) posts hub.at hub.post hub.there others_none ∙ hub_opens))
-        (ap (times k) (all_taken scene n node (parties_of scene) posts ended.net.parties))
-        ∙ (λ i. times k (flat_map (taken_at node) (logs i)) + times k (sym pool_there i))
+    pub pool_told : IsPoolTold r node c.buffers (slice_index_or (in_pools ended.closed.all) node [])
+    pool_told = record {
+      given = flat_map (given_at node) (map log_of posts);
+      taken = flat_map (taken_at node) (map log_of posts);
+      kept = λ k.
+          ordered (times k (put_at node posts)) (times k (range_with_len 0 c.buffers)) (times k (flat_map (given_at node) (map log_of posts))) (times k (flat_map (taken_at node) (map log_of posts))) (times k (remains.taken_at node posts))
+          (times k here.has.remains.pool)
+          (here.has.left.pool.whole k)
+          (all_put scene n node k (parties_of scene) posts ended.net.parties
+          ∙ ap (λ ns. times k ns + times k (flat_map (given_at node) (map log_of posts))) (one_gives (opened_here scene node) posts hub.at hub.post hub.there others_none ∙ hub_opens))
+          (ap (times k) (all_taken scene n node (parties_of scene) posts ended.net.parties))
+          ∙ ap (λ ns. times k (flat_map (taken_at node) (map log_of posts)) + times k ns) (sym pool_there);
+      gives = ap (λ logs. flat_map (given_at node) logs) (sym ended.closed.told.parties);
+      takes = ap (λ logs. flat_map (taken_at node) logs) (sym ended.closed.told.parties);
+    }

@@ -3,6 +3,7 @@ use Rattle.std.specs.Prelude.{◌≡◌, ◌+◌, ◌≤◌, ◌++◌, ℕ, true
 use Rattle.std.specs.List.{AllByRecursion, flat_map}
 use Rattle.csp_base.specs.declared.priority.Prio.{Prio}
 use Rattle.csp_base.specs.declared.priority.Prio.TheVariants.{Critical, High, Normal, Low}
+use Rattle.csp_consistent.specs.Promises.{IsLaneKept}
 use Rattle.csp_deck.specs.Carried.{IsCarried}
 use Rattle.csp_deck.specs.Step.{times}
 use Rattle.csp_ends.specs.Ends.{PlainSide, PlainHome}
@@ -57,8 +58,8 @@ put_at node posts = flat_map (λ s. if is_home node s.ends.home then put_from s.
 abbrev pub taken_at : ℕ → List PlainPost → List ℕ
 taken_at node posts = flat_map (λ s. if is_home node s.ends.home then taken_from s.ends.home else []) posts
 
--- what was left in a lane of a node: two posts have its ends, and what the one put is what the other got and then what was left, which the lane carries,
--- no more than it has room for; and the marks of what was got keep to their bounds
+-- what was left in a lane of a node: two posts have its ends, of what the one put and the other got the lane kept its promise, it carries what was left,
+-- and the marks of what was got keep to their bounds
 pub record IsLaneLeft (posts : List PlainPost) (node lane : ℕ) (left : List ItemShown) : Type 0 where
   pub i : ℕ
   pub j : ℕ
@@ -69,9 +70,8 @@ pub record IsLaneLeft (posts : List PlainPost) (node lane : ℕ) (left : List It
   pub joined : AreJoined posts i j s x t y
   pub node_is : x.node ≡ node
   pub lane_is : x.lane ≡ lane
-  pub order : x.end.items ≡ y.end.items ++ left
+  pub kept : IsLaneKept x.end.room x.end.items y.end.items left
   pub carried : AllByRecursion (IsCarried (rule.Lane x.end.carries)) left
-  pub few : length left ≤ x.end.room
   pub heeded : AreHeeded x.end.marks y.end.marks
 
 -- what was left in the inbox of a node, of a priority: under each mark, what the parties put is what its reader got and then what was left; all that

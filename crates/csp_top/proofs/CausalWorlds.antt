@@ -24,7 +24,7 @@ use Rattle.csp_log.specs.declared.who.Who.TheVariants as who
 use Rattle.csp_scene.specs.Scene.{PlainNode, PlainScene}
 use Rattle.csp_topology.specs.Lanes.{leader_of}
 use Rattle.csp_topology.specs.Parties.{parties_of}
-use Rattle.csp_world.proofs.Public.{entries_step, no_entries, AreLogged, logged_tick, logged_turn, members_opened, opening_logged}
+use Rattle.csp_world.proofs.Public.{entries_step, no_entries, AreLogged, all_logged, members_opened}
 use Rattle.csp_world.specs.Opening.{opening}
 use Rattle.csp_world.specs.Reached.{Happening, IsReached, a_tick, a_turn, world_after}
 use Rattle.csp_world.specs.Record.{member_log, record_of, sim_record}
@@ -119,8 +119,8 @@ module _ (first_grows : FirstGrows) (second_grows : SecondGrows) where
           inr (inr (record {
             up_left = left_in r node (queue.Up k) 0;
             down_left = left_in r node (queue.Down k) 0;
-            up = lanes.0.order;
-            down = lanes.1.order;
+            up = lanes.0.kept.order;
+            down = lanes.1.kept.order;
           }))
 
   by_relation : (k : ℕ) (first second before earlier : List Entry) (e : Entry) (t u : Bool) → first ≡ before ++ one_if t e → second ≡ earlier ++ one_if u e
@@ -135,11 +135,6 @@ module _ (first_grows : FirstGrows) (second_grows : SecondGrows) where
   -- ---- worlds
 
   module _ (scene : PlainScene) (con : (w : PlainWorld) → IsReached scene w → IsConsistent scene (record_of w)) where
-    all_logged : (hs : List Happening) → AreLogged (world_after scene hs).time (parties_of scene) (world_after scene hs).members
-    all_logged [] = opening_logged scene
-    all_logged (a_turn place ∷ hs) = logged_turn (world_after scene hs) (parties_of scene) place (all_logged hs)
-    all_logged (a_tick ∷ hs) = logged_tick _ (parties_of scene) _ (all_logged hs)
-
     causal_turned : (w : PlainWorld) (place : ℕ) (m : PlainMember) → slice_get w.members place ≡ Some m → AreLogged w.time (parties_of scene) w.members → IsConsistent scene (record_of (turned w place m))
         → IsCausal (record_of w) → IsCausal (record_of (turned w place m))
     causal_turned w place m found logs con_after causal node k =
@@ -179,7 +174,7 @@ module _ (first_grows : FirstGrows) (second_grows : SecondGrows) where
         none_first (queue.Up k) (queue.Down k) (entries_of (record_of (opening scene)) (who.App node k)) (entries_of (record_of (opening scene)) (who.Router node))
         (ap (λ ms. entries_in (who.App node k) (map member_log ms)) (members_opened scene) ∙ no_entries (who.App node k) (parties_of scene))
     causal_after (a_turn place ∷ hs) =
-        causal_turn (world_after scene hs) place (all_logged hs) (con (turn (world_after scene hs) place) (record { happenings = a_turn place ∷ hs; there = refl })) (causal_after hs)
+        causal_turn (world_after scene hs) place (all_logged scene hs) (con (turn (world_after scene hs) place) (record { happenings = a_turn place ∷ hs; there = refl })) (causal_after hs)
     causal_after (a_tick ∷ hs) = causal_after hs
 
     pub reached_causal : (w : PlainWorld) → IsReached scene w → IsCausal (record_of w)

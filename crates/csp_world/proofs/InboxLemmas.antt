@@ -1,5 +1,5 @@
 -- What came through each inbox is what its producers put, in their orders.
-use Rattle.std.proofs.Common.{◌≡◌, ℕ, zero, suc, ◌+◌, ◌<◌, ◌≤◌, ◌==◌, Bool, true, false, Option, None, Some, List, [], ◌∷◌, ◌++◌, length, map, set, refl, sym, subst, ap, ◌∙◌, arith}
+use Rattle.std.proofs.Common.{◌≡◌, ℕ, zero, suc, ◌+◌, ◌<◌, ◌≤◌, ◌==◌, Bool, true, false, Option, Some, List, [], ◌∷◌, ◌++◌, length, map, set, refl, sym, subst, ap, ◌∙◌, arith}
 use Rattle.std.specs.Prelude.{slice_get, if◌then◌else◌}
 use Rattle.std.specs.List.{AllByRecursion, flat_map}
 use Rattle.std.proofs.lemmas.Bool.Decides.{nat_tests}
@@ -8,7 +8,7 @@ use Rattle.std.proofs.lemmas.List.{append-nil, append_assoc}
 use Rattle.std.proofs.lemmas.Option.{same_Some}
 use Rattle.csp_base.specs.Priority.{prio_number}
 use Rattle.csp_base.specs.declared.priority.Prio.{Prio}
-use Rattle.csp_consistent.proofs.Public.{AreApart, entries_in, none_there, who_is, IsOf, IsOwner, IsOwn, own_asks, own_told}
+use Rattle.csp_consistent.proofs.Public.{AreApart, entries_in, more_put, none_there, prio_is, who_is, IsOf, IsOwner, IsOwn, own_asks, own_told}
 use Rattle.csp_consistent.specs.Inboxes.{IsInboxInOrder}
 use Rattle.csp_topology.specs.Queues.{writer_of}
 use Rattle.csp_topology.specs.Lanes.{leader_of}
@@ -33,14 +33,14 @@ use Rattle.csp_log.specs.declared.shown.ItemShown.{ItemShown}
 use Rattle.csp_log.specs.declared.shown.OpShown.{OpShown}
 use Rattle.csp_nodes.specs.Gathering.{all_left}
 use Rattle.csp_nodes.specs.Serving.{served}
-use Rattle.csp_party.specs.Any.{PlainParty, asked, asks, events, has_ended}
+use Rattle.csp_party.specs.Any.{PlainParty, asked, asks, events}
 use Rattle.csp_log.specs.Who.{is_who}
 use Rattle.csp_log.specs.declared.who.Who.{Who}
 use Rattle.csp_scene.proofs.Public.{AllByRecursion-append, AllByRecursion-map}
 use Rattle.csp_scene.specs.Scene.{PlainLink, PlainNode, PlainScene}
 use Rattle.csp_buffer.specs.Content.{Content}
 use Rattle.csp_world.proofs.ContentLemmas.{IsRight, PicksOne, content, in_queue, is_named}
-use Rattle.csp_world.proofs.InboxNames.{IsParty, prio_is}
+use Rattle.csp_world.proofs.InboxNames.{IsParty}
 use Rattle.csp_world.proofs.InboxTurns.{AllOf, IsUrgent, got_same, got_urgent, in_inbox, put_carried, put_same, urgent_alone}
 use Rattle.csp_world.proofs.KeptLemmas.{flat-push}
 use Rattle.csp_world.proofs.LocalLemmas.{IsLocal, Keeps, local}
@@ -50,7 +50,7 @@ use Rattle.csp_world.proofs.OpeningRules.{Stands}
 use Rattle.csp_world.proofs.QueuedLemmas.{KeepsQueues, IsQueued, queued-opening}
 use Rattle.csp_world.specs.Opening.{new_member}
 use Rattle.csp_world.specs.Record.{member_log, record_of}
-use Rattle.csp_world.specs.World.{PlainMember, PlainWorld, answered, told, turn, turn_at, turned}
+use Rattle.csp_world.specs.World.{PlainMember, PlainWorld, answered, told, turned}
 
 -- ---- what was left in a queue is what is in it
 
@@ -192,7 +192,7 @@ pub record IsKnown (scene : PlainScene) (os : List PlainOpening) : Type 0 where
   pub few : length scene.links ≤ IFACES
 
 -- so it stays in a turn
-inbox_turned : (scene : PlainScene) (os : List PlainOpening) → IsKnown scene os → (node : ℕ) (x : PlainNode) → slice_get scene.nodes node ≡ Some x → (w : PlainWorld) → AreLogged w.time os w.members
+pub inbox_turned : (scene : PlainScene) (os : List PlainOpening) → IsKnown scene os → (node : ℕ) (x : PlainNode) → slice_get scene.nodes node ≡ Some x → (w : PlainWorld) → AreLogged w.time os w.members
     → (k : ℕ) (m : PlainMember) → slice_get w.members k ≡ Some m → IsInboxKept node x w.decks w.members → IsInboxKept node x (turned w k m).decks (turned w k m).members
 inbox_turned scene os known node x at w logged k m found h = record {
   deck = l.after;
@@ -202,10 +202,10 @@ inbox_turned scene os known node x at w logged k m found h = record {
       ap (with_mark mark) (grown p)
       ∙ flat_map-append (of_mark mark) (through node x p h.deck w.members) (put_there queue.Inbox (prio_number p) node there r.0)
       ∙ ap (λ is. is ++ with_mark mark (put_there queue.Inbox (prio_number p) node there r.0)) (h.order p mark)
-      ∙ ap (λ is. written node x p mark w.members ++ is) (sym (put_same scene.nodes scene.links w.links node x at m.who party o may p mark r.0))
-      ∙ sym (flat_map-append (of_priority p) (puts queue.Inbox (old (writer_of node hub mark))) (if is_who (writer_of node hub mark) m.who then put_by queue.Inbox o r.0 else []))
-      ∙ ap (with_priority p) (sym (puts-push queue.Inbox (old (writer_of node hub mark)) (is_who (writer_of node hub mark) m.who) e) ∙ ap (puts queue.Inbox) (sym (longer (writer_of node hub mark))));
-  carried = λ p. subst (AllOf p) (sym (grown p)) (AllByRecursion-append (IsOfPriority p) (through node x p h.deck w.members) (put_there queue.Inbox (prio_number p) node there r.0) (h.carried p) (put_carried scene.nodes scene.links w.links node m.who party o may p r.0));
+      ∙ ap (λ is. written node x p mark w.members ++ is) (sym (put_same scene w.links node x at m.who party e may p mark))
+      ∙ sym (more_put p (old (writer_of node hub mark)) (if is_who (writer_of node hub mark) m.who then e ∷ [] else []))
+      ∙ ap (λ es. with_priority p (puts queue.Inbox es)) (sym (longer (writer_of node hub mark)));
+  carried = λ p. subst (AllOf p) (sym (grown p)) (AllByRecursion-append (IsOfPriority p) (through node x p h.deck w.members) (put_there queue.Inbox (prio_number p) node there r.0) (h.carried p) (put_carried scene w.links node m.who party e may p));
   got =
       subst (AllByRecursion IsInboxItem) (sym more)
       (AllByRecursion-append IsInboxItem (gets queue.Inbox (old hub)) (got_urgent h.deck node there r.0) h.got
@@ -251,12 +251,12 @@ inbox_turned scene os known node x at w logged k m found h = record {
       (subst (AllOf u) (sym (move u))
       (AllByRecursion-append (IsOfPriority u) (content queue.Inbox (prio_number u) h.deck) (put_there queue.Inbox (prio_number u) node there r.0)
       (all-second u (with_priority u (gets queue.Inbox (old hub))) (content queue.Inbox (prio_number u) h.deck) (h.carried u))
-      (put_carried scene.nodes scene.links w.links node m.who party o may u r.0)))
+      (put_carried scene w.links node m.who party e may u)))
 
   more : gets queue.Inbox (entries_in hub (map member_log (turned w k m).members)) ≡ gets queue.Inbox (old hub) ++ got_urgent h.deck node there r.0
   more =
       ap (gets queue.Inbox) (longer hub) ∙ gets-push queue.Inbox (old hub) (is_who hub m.who) e
-      ∙ ap (λ is. gets queue.Inbox (old hub) ++ is) (got_same scene.nodes scene.links w.links node x at m.who party o may h.deck r.0)
+      ∙ ap (λ is. gets queue.Inbox (old hub) ++ is) (got_same scene w.links node x at h.deck r.0 m.who party o may)
 
   grown : (p : Prio) → through node x p l.after (turned w k m).members ≡ through node x p h.deck w.members ++ put_there queue.Inbox (prio_number p) node there r.0
   grown p =
@@ -269,22 +269,6 @@ inbox_turned scene os known node x at w logged k m found h = record {
       ∙ append_assoc before got (content queue.Inbox (prio_number p) l.after)
       ∙ ap (λ is. before ++ is) (move p)
       ∙ sym (append_assoc before (content queue.Inbox (prio_number p) h.deck) (put_there queue.Inbox (prio_number p) node there r.0))
-
-inbox_turn_at : (scene : PlainScene) (os : List PlainOpening) → IsKnown scene os → (node : ℕ) (x : PlainNode) → slice_get scene.nodes node ≡ Some x → (w : PlainWorld) → AreLogged w.time os w.members
-    → (k : ℕ) (found : Option PlainMember) → slice_get w.members k ≡ found → IsInboxKept node x w.decks w.members → IsInboxKept node x (turn_at w k found).decks (turn_at w k found).members
-inbox_turn_at scene os known node x at w logged k None found h = h
-inbox_turn_at scene os known node x at w logged k (Some m) found h = by (has_ended m.party) where
-  after : Bool → PlainWorld
-  after ended = (if ended then w else turned w k m)
-
-  by : (ended : Bool) → IsInboxKept node x (after ended).decks (after ended).members
-  by true = h
-  by false = inbox_turned scene os known node x at w logged k m found h
-
-pub inbox_turn : (scene : PlainScene) (os : List PlainOpening) → IsKnown scene os → (node : ℕ) (x : PlainNode) → slice_get scene.nodes node ≡ Some x → (w : PlainWorld) → AreLogged w.time os w.members
-    → (k : ℕ) → IsInboxKept node x w.decks w.members → IsInboxKept node x (turn w k).decks (turn w k).members
-unfolding turn
-inbox_turn scene os known node x at w logged k h = inbox_turn_at scene os known node x at w logged k (slice_get w.members k) refl h
 
 -- at the opening nothing came through
 if_empty : {X : Type 0} (so : Bool) (rest : List X) → rest ≡ [] → (if so then [] else []) ++ rest ≡ []

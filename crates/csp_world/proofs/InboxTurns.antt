@@ -1,136 +1,119 @@
 -- What each turn puts into the inbox of a node, and gets there, is what the logs of its parties say.
-use Rattle.std.proofs.Common.{◌≡◌, ◌≢◌, ℕ, ◌<◌, ◌==◌, ◌&&◌, Bool, true, false, Option, None, Some, List, [], ◌∷◌, ◌++◌, refl, sym, subst, ap, ◌∙◌}
+use Rattle.std.proofs.Common.{◌≡◌, ℕ, ◌<◌, ◌==◌, Bool, true, false, Option, None, Some, List, [], ◌∷◌, ◌++◌, refl, sym, subst, ap, ◌∙◌}
 use Rattle.std.specs.Prelude.{slice_get, if◌then◌else◌}
 use Rattle.std.specs.List.{AllByRecursion}
-use Rattle.std.specs.Option.{option_map}
 use Rattle.std.proofs.lemmas.Bool.{eq-eqb}
-use Rattle.std.proofs.lemmas.Option.{same_Some}
 use Rattle.csp_base.specs.Priority.{prio_number}
 use Rattle.csp_base.specs.declared.priority.Prio.{Prio}
 use Rattle.csp_buffer.specs.Content.{Content}
+use Rattle.csp_consistent.proofs.Public.{if_put, leader_bridge, leader_router, one_put, own_puts, priority_carried}
 use Rattle.csp_topology.specs.Queues.{writer_of}
+use Rattle.csp_consistent.specs.Pools.{is_node}
 use Rattle.csp_topology.specs.Lanes.{leader_of}
-use Rattle.csp_consistent.specs.Queues.{MayAsk}
-use Rattle.csp_consistent.specs.Reading.{got_by, is_queue, put_by, with_mark, with_priority}
+use Rattle.csp_consistent.specs.Queues.{MayAsk, MayPush}
+use Rattle.csp_consistent.specs.Reading.{got_by, is_queue, put_by, puts, with_mark, with_priority}
 use Rattle.csp_deck.specs.Carried.{IsInboxItem, IsOfPriority, priority_of}
 use Rattle.csp_lists.specs.PlainDeck.{PlainDeck, most_urgent}
+use Rattle.csp_log.specs.declared.entry.Entry.{Entry}
 use Rattle.csp_log.specs.declared.places.End.{End}
 use Rattle.csp_log.specs.declared.places.QueueId.{QueueId}
 use Rattle.csp_log.specs.declared.places.QueueId.TheVariants as queue
-use Rattle.csp_log.specs.declared.places.TheConstants.{IFACES, UNMARKED}
+use Rattle.csp_log.specs.declared.places.TheConstants.{IFACES}
 use Rattle.csp_log.specs.declared.shown.AnswerShown.{AnswerShown}
 use Rattle.csp_log.specs.declared.shown.AnswerShown.TheVariants as answer
 use Rattle.csp_log.specs.declared.shown.ItemShown.{ItemShown}
 use Rattle.csp_log.specs.declared.shown.ItemShown.TheVariants as item
 use Rattle.csp_log.specs.declared.shown.OpShown.{OpShown}
 use Rattle.csp_log.specs.declared.shown.OpShown.TheVariants as op
-use Rattle.csp_nodes.specs.Serving.{served}
+use Rattle.csp_nodes.specs.Serving.{goes, served}
 use Rattle.csp_log.specs.Who.{node_of, is_who}
 use Rattle.csp_log.specs.declared.who.Who.{Who}
 use Rattle.csp_log.specs.declared.who.Who.TheVariants as who
-use Rattle.csp_scene.specs.Scene.{PlainLink, PlainNode}
+use Rattle.csp_scene.proofs.Public.{AllByRecursion-map}
+use Rattle.csp_scene.specs.Scene.{PlainNode, PlainScene}
 use Rattle.csp_world.proofs.ContentLemmas.{if_named, popped_out, pushed_in}
-use Rattle.csp_world.proofs.InboxNames.{IsParty, home_is, hub_bridge, hub_router, if_none, iface_few, lane_put, no_got, no_got_lane, no_put, no_put_lane, none_if, prio_is, sides, writer_iface, writer_router}
-use Rattle.csp_world.proofs.MovedLemmas.{got_at, got_there, put_at, put_there}
+use Rattle.csp_world.proofs.InboxNames.{IsParty, iface_few, no_got_lane, no_put_lane}
+use Rattle.csp_world.proofs.LaneNames.{empty_if, got_as, home_got, home_put, pop_put, push_got, put_as}
+use Rattle.csp_world.proofs.MovedLemmas.{got_at, got_there, put_there}
 
 -- ---- what is put
 
-pub put_same : (nodes : List PlainNode) (links : List PlainLink) (ends : List (List End)) (node : ℕ) (x : PlainNode) → slice_get nodes node ≡ Some x → (w : Who) → IsParty nodes links w → (o : OpShown) → MayAsk w o
-    → (p : Prio) (mark : ℕ) (a : AnswerShown)
-    → with_priority p (if is_who (writer_of node (leader_of node x.addr) mark) w then put_by queue.Inbox o a else []) ≡ with_mark mark (put_there queue.Inbox (prio_number p) node (served ends w o) a)
-put_same nodes links ends node x at w is op.Nothing may p mark a =
-    none_if p (is_who (writer_of node (leader_of node x.addr) mark) w) ∙ sym (ap (with_mark mark) (no_put (prio_number p) node _ a (λ t e. subst (λ (o : OpShown). put_at queue.Inbox (prio_number p) o a ≡ []) (home_is (node_of w) op.Nothing t e) refl)))
-put_same nodes links ends node x at w is op.Take may p mark a =
-    none_if p (is_who (writer_of node (leader_of node x.addr) mark) w) ∙ sym (ap (with_mark mark) (no_put (prio_number p) node _ a (λ t e. subst (λ (o : OpShown). put_at queue.Inbox (prio_number p) o a ≡ []) (home_is (node_of w) op.Take t e) refl)))
-put_same nodes links ends node x at w is (op.Give b) may p mark a =
-    none_if p (is_who (writer_of node (leader_of node x.addr) mark) w) ∙ sym (ap (with_mark mark) (no_put (prio_number p) node _ a (λ t e. subst (λ (o : OpShown). put_at queue.Inbox (prio_number p) o a ≡ []) (home_is (node_of w) (op.Give b) t e) refl)))
-put_same nodes links ends node x at w is (op.Pop r) may p mark a =
-    none_if p (is_who (writer_of node (leader_of node x.addr) mark) w) ∙ sym (ap (with_mark mark) (no_pop (served ends w (op.Pop r)) (λ t e. popped_is _ t e))) where
-      popped_is : (there : Option (ℕ × QueueId)) (t : ℕ × OpShown) → option_map (λ (s : ℕ × QueueId). (s.0, op.Pop s.1)) there ≡ Some t → put_at queue.Inbox (prio_number p) t.1 a ≡ []
-      popped_is None t e = absurd cc
-      popped_is (Some s) t e = subst (λ (u : ℕ × OpShown). put_at queue.Inbox (prio_number p) u.1 a ≡ []) (same_Some (s.0, op.Pop s.1) t e) refl
+module _ (p : Prio) where
+  -- what an entry puts of a priority
+  abbrev of_it : OpShown → AnswerShown → List ItemShown
+  of_it o a = with_priority p (put_by queue.Inbox o a ++ [])
 
-      no_pop : (there : Option (ℕ × OpShown)) → ((t : ℕ × OpShown) → there ≡ Some t → put_at queue.Inbox (prio_number p) t.1 a ≡ []) → put_there queue.Inbox (prio_number p) node there a ≡ []
-      no_pop there none = no_put (prio_number p) node there a none
-put_same nodes links ends node x at w is (op.Push (queue.Up k) i) may p mark a = lane_put p (is_who (writer_of node (leader_of node x.addr) mark) w) (queue.Up k) i a refl ∙ sym (ap (with_mark mark) (no_put_lane ends w (queue.Up k) i (prio_number p) node a refl))
-put_same nodes links ends node x at w is (op.Push (queue.Down k) i) may p mark a = lane_put p (is_who (writer_of node (leader_of node x.addr) mark) w) (queue.Down k) i a refl ∙ sym (ap (with_mark mark) (no_put_lane ends w (queue.Down k) i (prio_number p) node a refl))
-put_same nodes links ends node x at w is (op.Push (queue.Out k) i) may p mark a = lane_put p (is_who (writer_of node (leader_of node x.addr) mark) w) (queue.Out k) i a refl ∙ sym (ap (with_mark mark) (no_put_lane ends w (queue.Out k) i (prio_number p) node a refl))
-put_same nodes links ends node x at w is (op.Push (queue.Tx k) i) may p mark a = lane_put p (is_who (writer_of node (leader_of node x.addr) mark) w) (queue.Tx k) i a refl ∙ sym (ap (with_mark mark) (no_put_lane ends w (queue.Tx k) i (prio_number p) node a refl))
-put_same nodes links ends node x at w is (op.Push (queue.Rx k) i) may p mark a = lane_put p (is_who (writer_of node (leader_of node x.addr) mark) w) (queue.Rx k) i a refl ∙ sym (ap (with_mark mark) (no_put_lane ends w (queue.Rx k) i (prio_number p) node a refl))
-put_same nodes links ends node x at (who.Router n) is (op.Push queue.Inbox (item.Packet mk b)) may p mark a =
-    ap (λ (so : Bool). with_priority p (if so then put_by queue.Inbox (op.Push queue.Inbox (item.Packet mk b)) a else []))
-    (writer_router nodes links node x at n mark is ∙ ap (λ k. (n == node) && (k == mark)) (sym may))
-    ∙ sides (n == node) (mk == mark) p mk mark b a refl
-put_same nodes links ends node x at (who.Iface n k) is (op.Push queue.Inbox (item.Packet mk b)) may p mark a =
-    ap (λ (so : Bool). with_priority p (if so then put_by queue.Inbox (op.Push queue.Inbox (item.Packet mk b)) a else []))
-    (writer_iface nodes links node x n k mark is ∙ ap (λ j. (n == node) && (j == mark)) (sym may))
-    ∙ sides (n == node) (mk == mark) p mk mark b a refl
-put_same nodes links ends node x at (who.Bridge n) is (op.Push queue.Inbox (item.Packet mk b)) may p mark a = absurd may
-put_same nodes links ends node x at (who.App n k) is (op.Push queue.Inbox (item.Packet mk b)) may p mark a = absurd may
-put_same nodes links ends node x at (who.Link l) is (op.Push queue.Inbox (item.Packet mk b)) may p mark a = absurd may
-put_same nodes links ends node x at (who.Router n) is (op.Push queue.Inbox (item.Frame f)) may p mark a = absurd may
-put_same nodes links ends node x at (who.Iface n k) is (op.Push queue.Inbox (item.Frame f)) may p mark a = absurd may
-put_same nodes links ends node x at (who.Bridge n) is (op.Push queue.Inbox (item.Frame f)) may p mark a = absurd may
-put_same nodes links ends node x at (who.App n k) is (op.Push queue.Inbox (item.Frame f)) may p mark a = absurd may
-put_same nodes links ends node x at (who.Link l) is (op.Push queue.Inbox (item.Frame f)) may p mark a = absurd may
-put_same nodes links ends node x at (who.Router n) is (op.Push queue.Inbox (item.Note f)) may p mark a = absurd may
-put_same nodes links ends node x at (who.Iface n k) is (op.Push queue.Inbox (item.Note f)) may p mark a = absurd may
-put_same nodes links ends node x at (who.Bridge n) is (op.Push queue.Inbox (item.Note f)) may p mark a = absurd may
-put_same nodes links ends node x at (who.App n k) is (op.Push queue.Inbox (item.Note f)) may p mark a = absurd may
-put_same nodes links ends node x at (who.Link l) is (op.Push queue.Inbox (item.Note f)) may p mark a = absurd may
+  lane_put : (here : Bool) (r : QueueId) (i : ItemShown) (a : AnswerShown) → is_queue queue.Inbox r ≡ false → if_named here (of_it (op.Push r i) a) ≡ []
+  lane_put here r i a lane = ap (λ is. if_named here (with_priority p (is ++ []))) (put_as queue.Inbox r i a ∙ ap (λ b. if_named b (pushed_in i a)) lane) ∙ empty_if here
+
+  packet_put : (mk : ℕ) (b : Content) (a : AnswerShown) → if_named (prio_number (priority_of b) == prio_number p) (pushed_in (item.Packet mk b) a) ≡ of_it (op.Push queue.Inbox (item.Packet mk b)) a
+  packet_put mk b answer.Pushed = by (prio_number (priority_of b) == prio_number p) where
+    by : (so : Bool) → if_named so (item.Packet mk b ∷ []) ≡ if_named so (item.Packet mk b ∷ []) ++ []
+    by true = refl
+    by false = refl
+  packet_put mk b answer.Nothing = empty_if (prio_number (priority_of b) == prio_number p)
+  packet_put mk b (answer.Taken c) = empty_if (prio_number (priority_of b) == prio_number p)
+  packet_put mk b answer.NoBuffer = empty_if (prio_number (priority_of b) == prio_number p)
+  packet_put mk b answer.Given = empty_if (prio_number (priority_of b) == prio_number p)
+  packet_put mk b (answer.PoolFull c) = empty_if (prio_number (priority_of b) == prio_number p)
+  packet_put mk b (answer.Full j) = empty_if (prio_number (priority_of b) == prio_number p)
+  packet_put mk b (answer.Popped j) = empty_if (prio_number (priority_of b) == prio_number p)
+  packet_put mk b answer.Empty = empty_if (prio_number (priority_of b) == prio_number p)
+
+  -- comes to the inbox of its party's node
+  put_where : (ends : List (List End)) (node : ℕ) (w : Who) (o : OpShown) → MayAsk w o → (a : AnswerShown) → put_there queue.Inbox (prio_number p) node (served ends w o) a ≡ if_named (is_node node (node_of w)) (of_it o a)
+  put_where ends node w op.Nothing may a = home_put queue.Inbox (prio_number p) node (node_of w) op.Nothing a refl ∙ sym (empty_if (is_node node (node_of w)))
+  put_where ends node w op.Take may a = home_put queue.Inbox (prio_number p) node (node_of w) op.Take a refl ∙ sym (empty_if (is_node node (node_of w)))
+  put_where ends node w (op.Give b) may a = home_put queue.Inbox (prio_number p) node (node_of w) (op.Give b) a refl ∙ sym (empty_if (is_node node (node_of w)))
+  put_where ends node w (op.Pop r) may a = pop_put queue.Inbox (prio_number p) node (goes ends w r) a ∙ sym (empty_if (is_node node (node_of w)))
+  put_where ends node w (op.Push (queue.Up k) i) may a = no_put_lane ends w (queue.Up k) i (prio_number p) node a refl ∙ sym (lane_put (is_node node (node_of w)) (queue.Up k) i a refl)
+  put_where ends node w (op.Push (queue.Down k) i) may a = no_put_lane ends w (queue.Down k) i (prio_number p) node a refl ∙ sym (lane_put (is_node node (node_of w)) (queue.Down k) i a refl)
+  put_where ends node w (op.Push (queue.Out k) i) may a = no_put_lane ends w (queue.Out k) i (prio_number p) node a refl ∙ sym (lane_put (is_node node (node_of w)) (queue.Out k) i a refl)
+  put_where ends node w (op.Push (queue.Tx k) i) may a = no_put_lane ends w (queue.Tx k) i (prio_number p) node a refl ∙ sym (lane_put (is_node node (node_of w)) (queue.Tx k) i a refl)
+  put_where ends node w (op.Push (queue.Rx k) i) may a = no_put_lane ends w (queue.Rx k) i (prio_number p) node a refl ∙ sym (lane_put (is_node node (node_of w)) (queue.Rx k) i a refl)
+  put_where ends node (who.Router n) (op.Push queue.Inbox (item.Packet mk b)) may a = ap (if_named (n == node)) (packet_put mk b a)
+  put_where ends node (who.Iface n k) (op.Push queue.Inbox (item.Packet mk b)) may a = ap (if_named (n == node)) (packet_put mk b a)
+  put_where ends node (who.Router n) (op.Push queue.Inbox (item.Frame f)) may a = absurd may
+  put_where ends node (who.Router n) (op.Push queue.Inbox (item.Note f)) may a = absurd may
+  put_where ends node (who.Iface n k) (op.Push queue.Inbox (item.Frame f)) may a = absurd may
+  put_where ends node (who.Iface n k) (op.Push queue.Inbox (item.Note f)) may a = absurd may
+  put_where ends node (who.Bridge n) (op.Push queue.Inbox i) may a = absurd may
+  put_where ends node (who.App n k) (op.Push queue.Inbox i) may a = absurd may
+  put_where ends node (who.Link l) (op.Push queue.Inbox i) may a = absurd may
+
+-- with a mark it is what the party puts whose mark it is
+pub put_same : (scene : PlainScene) (ends : List (List End)) (node : ℕ) (x : PlainNode) → slice_get scene.nodes node ≡ Some x → (w : Who) → IsParty scene.nodes scene.links w → (e : Entry) → MayAsk w e.op → (p : Prio) (mark : ℕ)
+    → with_priority p (puts queue.Inbox (if is_who (writer_of node (leader_of node x.addr) mark) w then e ∷ [] else [])) ≡ with_mark mark (put_there queue.Inbox (prio_number p) node (served ends w e.op) e.answer)
+put_same scene ends node x at w is e may p mark =
+    sym (if_put p (is_who (writer_of node (leader_of node x.addr) mark) w) (e ∷ []))
+    ∙ sym (one_put scene is.few node x at mark p w is.party (e ∷ []) is.owner (may, tt))
+    ∙ ap (with_mark mark) (sym (put_where p ends node w e.op may e.answer))
 
 -- each packet that is put is one that an inbox carries
 abbrev pub AllOf : Prio → List ItemShown → Type 0
 AllOf p is = AllByRecursion (IsOfPriority p) is
 
-all_empty : (p : Prio) (is : List ItemShown) → is ≡ [] → AllOf p is
-all_empty p is e = subst (AllOf p) (sym e) tt
+put_item : (scene : PlainScene) (w : Who) → IsParty scene.nodes scene.links w → (i : ItemShown) → MayPush w queue.Inbox i → IsInboxItem i
+put_item scene (who.Router n) is (item.Packet mk b) may = λ away. absurd (away may)
+put_item scene (who.Iface n k) is (item.Packet mk b) may = λ away. subst (λ j. j < IFACES) (sym may) (iface_few scene.nodes scene.links n k is)
+put_item scene (who.Router n) is (item.Frame f) may = absurd may
+put_item scene (who.Router n) is (item.Note f) may = absurd may
+put_item scene (who.Iface n k) is (item.Frame f) may = absurd may
+put_item scene (who.Iface n k) is (item.Note f) may = absurd may
+put_item scene (who.Bridge n) is i may = absurd may
+put_item scene (who.App n k) is i may = absurd may
+put_item scene (who.Link l) is i may = absurd may
 
-put_packet : (p : Prio) (mk : ℕ) (b : Content) (a : AnswerShown) (here : Bool) → (mk ≢ UNMARKED → mk < IFACES)
-    → AllOf p (if here then if_named (prio_number (priority_of b) == prio_number p) (pushed_in (item.Packet mk b) a) else [])
-put_packet p mk b a false marked = tt
-put_packet p mk b a true marked = by (prio_number (priority_of b) == prio_number p) refl a where
-  by : (so : Bool) → (prio_number (priority_of b) == prio_number p) ≡ so → (y : AnswerShown) → AllOf p (if_named so (pushed_in (item.Packet mk b) y))
-  by false e y = tt
-  by true e answer.Pushed = ((marked, prio_is p (priority_of b) e), tt)
-  by true e answer.Nothing = tt
-  by true e (answer.Taken c) = tt
-  by true e answer.NoBuffer = tt
-  by true e answer.Given = tt
-  by true e (answer.PoolFull c) = tt
-  by true e (answer.Full j) = tt
-  by true e (answer.Popped j) = tt
-  by true e answer.Empty = tt
+pub put_carried : (scene : PlainScene) (ends : List (List End)) (node : ℕ) (w : Who) → IsParty scene.nodes scene.links w → (e : Entry) → MayAsk w e.op → (p : Prio) → AllOf p (put_there queue.Inbox (prio_number p) node (served ends w e.op) e.answer)
+put_carried scene ends node w is e may p =
+    subst (AllOf p) (sym (put_where p ends node w e.op may e.answer)) (by (is_node node (node_of w)))
+  where
+    all : AllOf p (with_priority p (puts queue.Inbox (e ∷ [])))
+    all = priority_carried p (puts queue.Inbox (e ∷ [])) (AllByRecursion-map (MayPush w queue.Inbox) IsInboxItem (puts queue.Inbox (e ∷ [])) (put_item scene w is) (own_puts w (e ∷ []) (may, tt)))
 
-pub put_carried : (nodes : List PlainNode) (links : List PlainLink) (ends : List (List End)) (node : ℕ) (w : Who) → IsParty nodes links w → (o : OpShown) → MayAsk w o → (p : Prio) (a : AnswerShown)
-    → AllOf p (put_there queue.Inbox (prio_number p) node (served ends w o) a)
-put_carried nodes links ends node w is op.Nothing may p a = all_empty p _ (no_put (prio_number p) node _ a (λ t e. subst (λ (o : OpShown). put_at queue.Inbox (prio_number p) o a ≡ []) (home_is (node_of w) op.Nothing t e) refl))
-put_carried nodes links ends node w is op.Take may p a = all_empty p _ (no_put (prio_number p) node _ a (λ t e. subst (λ (o : OpShown). put_at queue.Inbox (prio_number p) o a ≡ []) (home_is (node_of w) op.Take t e) refl))
-put_carried nodes links ends node w is (op.Give b) may p a = all_empty p _ (no_put (prio_number p) node _ a (λ t e. subst (λ (o : OpShown). put_at queue.Inbox (prio_number p) o a ≡ []) (home_is (node_of w) (op.Give b) t e) refl))
-put_carried nodes links ends node w is (op.Pop r) may p a = all_empty p _ (no_put (prio_number p) node _ a (λ t e. popped_is _ t e)) where
-  popped_is : (there : Option (ℕ × QueueId)) (t : ℕ × OpShown) → option_map (λ (s : ℕ × QueueId). (s.0, op.Pop s.1)) there ≡ Some t → put_at queue.Inbox (prio_number p) t.1 a ≡ []
-  popped_is None t e = absurd cc
-  popped_is (Some s) t e = subst (λ (u : ℕ × OpShown). put_at queue.Inbox (prio_number p) u.1 a ≡ []) (same_Some (s.0, op.Pop s.1) t e) refl
-put_carried nodes links ends node w is (op.Push (queue.Up k) i) may p a = all_empty p _ (no_put_lane ends w (queue.Up k) i (prio_number p) node a refl)
-put_carried nodes links ends node w is (op.Push (queue.Down k) i) may p a = all_empty p _ (no_put_lane ends w (queue.Down k) i (prio_number p) node a refl)
-put_carried nodes links ends node w is (op.Push (queue.Out k) i) may p a = all_empty p _ (no_put_lane ends w (queue.Out k) i (prio_number p) node a refl)
-put_carried nodes links ends node w is (op.Push (queue.Tx k) i) may p a = all_empty p _ (no_put_lane ends w (queue.Tx k) i (prio_number p) node a refl)
-put_carried nodes links ends node w is (op.Push (queue.Rx k) i) may p a = all_empty p _ (no_put_lane ends w (queue.Rx k) i (prio_number p) node a refl)
-put_carried nodes links ends node (who.Router n) is (op.Push queue.Inbox (item.Packet mk b)) may p a = put_packet p mk b a (n == node) (λ away. absurd (away may))
-put_carried nodes links ends node (who.Iface n k) is (op.Push queue.Inbox (item.Packet mk b)) may p a = put_packet p mk b a (n == node) (λ away. subst (λ j. j < IFACES) (sym may) (iface_few nodes links n k is))
-put_carried nodes links ends node (who.Bridge n) is (op.Push queue.Inbox (item.Packet mk b)) may p a = absurd may
-put_carried nodes links ends node (who.App n k) is (op.Push queue.Inbox (item.Packet mk b)) may p a = absurd may
-put_carried nodes links ends node (who.Link l) is (op.Push queue.Inbox (item.Packet mk b)) may p a = absurd may
-put_carried nodes links ends node (who.Router n) is (op.Push queue.Inbox (item.Frame f)) may p a = absurd may
-put_carried nodes links ends node (who.Iface n k) is (op.Push queue.Inbox (item.Frame f)) may p a = absurd may
-put_carried nodes links ends node (who.Bridge n) is (op.Push queue.Inbox (item.Frame f)) may p a = absurd may
-put_carried nodes links ends node (who.App n k) is (op.Push queue.Inbox (item.Frame f)) may p a = absurd may
-put_carried nodes links ends node (who.Link l) is (op.Push queue.Inbox (item.Frame f)) may p a = absurd may
-put_carried nodes links ends node (who.Router n) is (op.Push queue.Inbox (item.Note f)) may p a = absurd may
-put_carried nodes links ends node (who.Iface n k) is (op.Push queue.Inbox (item.Note f)) may p a = absurd may
-put_carried nodes links ends node (who.Bridge n) is (op.Push queue.Inbox (item.Note f)) may p a = absurd may
-put_carried nodes links ends node (who.App n k) is (op.Push queue.Inbox (item.Note f)) may p a = absurd may
-put_carried nodes links ends node (who.Link l) is (op.Push queue.Inbox (item.Note f)) may p a = absurd may
+    by : (here : Bool) → AllOf p (if_named here (with_priority p (puts queue.Inbox (e ∷ []))))
+    by true = all
+    by false = tt
 
 -- ---- what is got
 
@@ -142,57 +125,31 @@ abbrev pub got_urgent : PlainDeck → ℕ → Option (ℕ × OpShown) → Answer
 got_urgent d node there a = got_there queue.Inbox (prio_number (most_urgent d)) d node there a
 
 got_inbox : (d : PlainDeck) (here : Bool) (a : AnswerShown)
-    → (if here then got_by queue.Inbox (op.Pop queue.Inbox) a else []) ≡ (if here then if_named (prio_number (most_urgent d) == prio_number (most_urgent d)) (popped_out a) else [])
-got_inbox d false a = refl
-got_inbox d true a = by a ∙ ap (λ (so : Bool). if_named so (popped_out a)) (sym (same_prio (most_urgent d))) where
-  by : (y : AnswerShown) → got_by queue.Inbox (op.Pop queue.Inbox) y ≡ popped_out y
-  by (answer.Popped i) = refl
-  by answer.Nothing = refl
-  by (answer.Taken c) = refl
-  by answer.NoBuffer = refl
-  by answer.Given = refl
-  by (answer.PoolFull c) = refl
-  by answer.Pushed = refl
-  by (answer.Full j) = refl
-  by answer.Empty = refl
+    → if_named here (got_by queue.Inbox (op.Pop queue.Inbox) a) ≡ if_named here (if_named (prio_number (most_urgent d) == prio_number (most_urgent d)) (popped_out a))
+got_inbox d here a = ap (if_named here) (got_as queue.Inbox queue.Inbox a ∙ ap (λ b. if_named b (popped_out a)) (sym (same_prio (most_urgent d))))
 
-lane_got : (so : Bool) (r : QueueId) (a : AnswerShown) → is_queue queue.Inbox r ≡ false → (if so then got_by queue.Inbox (op.Pop r) a else []) ≡ []
-lane_got false r a e = refl
-lane_got true r (answer.Popped i) e = rw e refl
-lane_got true r answer.Nothing e = refl
-lane_got true r (answer.Taken c) e = refl
-lane_got true r answer.NoBuffer e = refl
-lane_got true r answer.Given e = refl
-lane_got true r (answer.PoolFull c) e = refl
-lane_got true r answer.Pushed e = refl
-lane_got true r (answer.Full j) e = refl
-lane_got true r answer.Empty e = refl
+lane_got : (so : Bool) (r : QueueId) (a : AnswerShown) → is_queue queue.Inbox r ≡ false → if_named so (got_by queue.Inbox (op.Pop r) a) ≡ []
+lane_got so r a lane = ap (if_named so) (got_as queue.Inbox r a ∙ ap (λ b. if_named b (popped_out a)) lane) ∙ empty_if so
 
-pub got_same : (nodes : List PlainNode) (links : List PlainLink) (ends : List (List End)) (node : ℕ) (x : PlainNode) → slice_get nodes node ≡ Some x → (w : Who) → IsParty nodes links w → (o : OpShown) → MayAsk w o
-    → (d : PlainDeck) (a : AnswerShown) → (if is_who (leader_of node x.addr) w then got_by queue.Inbox o a else []) ≡ got_urgent d node (served ends w o) a
-got_same nodes links ends node x at w is op.Nothing may d a =
-    if_none (is_who (leader_of node x.addr) w) [] refl ∙ sym (no_got (prio_number (most_urgent d)) d node _ a (λ t e. subst (λ (o : OpShown). got_at queue.Inbox (prio_number (most_urgent d)) d o a ≡ []) (home_is (node_of w) op.Nothing t e) refl))
-got_same nodes links ends node x at w is op.Take may d a =
-    if_none (is_who (leader_of node x.addr) w) [] refl ∙ sym (no_got (prio_number (most_urgent d)) d node _ a (λ t e. subst (λ (o : OpShown). got_at queue.Inbox (prio_number (most_urgent d)) d o a ≡ []) (home_is (node_of w) op.Take t e) refl))
-got_same nodes links ends node x at w is (op.Give b) may d a =
-    if_none (is_who (leader_of node x.addr) w) [] refl ∙ sym (no_got (prio_number (most_urgent d)) d node _ a (λ t e. subst (λ (o : OpShown). got_at queue.Inbox (prio_number (most_urgent d)) d o a ≡ []) (home_is (node_of w) (op.Give b) t e) refl))
-got_same nodes links ends node x at w is (op.Push r i) may d a =
-    if_none (is_who (leader_of node x.addr) w) [] refl ∙ sym (no_got (prio_number (most_urgent d)) d node _ a (λ t e. pushed_is _ t e)) where
-      pushed_is : (there : Option (ℕ × QueueId)) (t : ℕ × OpShown) → option_map (λ (s : ℕ × QueueId). (s.0, op.Push s.1 i)) there ≡ Some t → got_at queue.Inbox (prio_number (most_urgent d)) d t.1 a ≡ []
-      pushed_is None t e = absurd cc
-      pushed_is (Some s) t e = subst (λ (u : ℕ × OpShown). got_at queue.Inbox (prio_number (most_urgent d)) d u.1 a ≡ []) (same_Some (s.0, op.Push s.1 i) t e) refl
-got_same nodes links ends node x at w is (op.Pop (queue.Up k)) may d a = lane_got (is_who (leader_of node x.addr) w) (queue.Up k) a refl ∙ sym (no_got_lane ends w (queue.Up k) (prio_number (most_urgent d)) d node a refl)
-got_same nodes links ends node x at w is (op.Pop (queue.Down k)) may d a = lane_got (is_who (leader_of node x.addr) w) (queue.Down k) a refl ∙ sym (no_got_lane ends w (queue.Down k) (prio_number (most_urgent d)) d node a refl)
-got_same nodes links ends node x at w is (op.Pop (queue.Out k)) may d a = lane_got (is_who (leader_of node x.addr) w) (queue.Out k) a refl ∙ sym (no_got_lane ends w (queue.Out k) (prio_number (most_urgent d)) d node a refl)
-got_same nodes links ends node x at w is (op.Pop (queue.Tx k)) may d a = lane_got (is_who (leader_of node x.addr) w) (queue.Tx k) a refl ∙ sym (no_got_lane ends w (queue.Tx k) (prio_number (most_urgent d)) d node a refl)
-got_same nodes links ends node x at w is (op.Pop (queue.Rx k)) may d a = lane_got (is_who (leader_of node x.addr) w) (queue.Rx k) a refl ∙ sym (no_got_lane ends w (queue.Rx k) (prio_number (most_urgent d)) d node a refl)
-got_same nodes links ends node x at (who.Router n) is (op.Pop queue.Inbox) may d a =
-    ap (λ (so : Bool). if so then got_by queue.Inbox (op.Pop queue.Inbox) a else []) (hub_router nodes links node x at n is x.addr refl) ∙ got_inbox d (n == node) a
-got_same nodes links ends node x at (who.Bridge n) is (op.Pop queue.Inbox) may d a =
-    ap (λ (so : Bool). if so then got_by queue.Inbox (op.Pop queue.Inbox) a else []) (hub_bridge nodes links node x at n is x.addr refl) ∙ got_inbox d (n == node) a
-got_same nodes links ends node x at (who.Iface n k) is (op.Pop queue.Inbox) may d a = absurd may
-got_same nodes links ends node x at (who.App n k) is (op.Pop queue.Inbox) may d a = absurd may
-got_same nodes links ends node x at (who.Link l) is (op.Pop queue.Inbox) may d a = absurd may
+module _ (scene : PlainScene) (ends : List (List End)) (node : ℕ) (x : PlainNode) (at : slice_get scene.nodes node ≡ Some x) (d : PlainDeck) (a : AnswerShown) where
+  abbrev hub : Who
+  hub = leader_of node x.addr
+
+  pub got_same : (w : Who) → IsParty scene.nodes scene.links w → (o : OpShown) → MayAsk w o → (if is_who hub w then got_by queue.Inbox o a else []) ≡ got_urgent d node (served ends w o) a
+  got_same w is op.Nothing may = empty_if (is_who hub w) ∙ sym (home_got queue.Inbox (prio_number (most_urgent d)) node (node_of w) op.Nothing d a refl)
+  got_same w is op.Take may = empty_if (is_who hub w) ∙ sym (home_got queue.Inbox (prio_number (most_urgent d)) node (node_of w) op.Take d a refl)
+  got_same w is (op.Give b) may = empty_if (is_who hub w) ∙ sym (home_got queue.Inbox (prio_number (most_urgent d)) node (node_of w) (op.Give b) d a refl)
+  got_same w is (op.Push r i) may = empty_if (is_who hub w) ∙ sym (push_got queue.Inbox (prio_number (most_urgent d)) node (goes ends w r) i d a)
+  got_same w is (op.Pop (queue.Up k)) may = lane_got (is_who hub w) (queue.Up k) a refl ∙ sym (no_got_lane ends w (queue.Up k) (prio_number (most_urgent d)) d node a refl)
+  got_same w is (op.Pop (queue.Down k)) may = lane_got (is_who hub w) (queue.Down k) a refl ∙ sym (no_got_lane ends w (queue.Down k) (prio_number (most_urgent d)) d node a refl)
+  got_same w is (op.Pop (queue.Out k)) may = lane_got (is_who hub w) (queue.Out k) a refl ∙ sym (no_got_lane ends w (queue.Out k) (prio_number (most_urgent d)) d node a refl)
+  got_same w is (op.Pop (queue.Tx k)) may = lane_got (is_who hub w) (queue.Tx k) a refl ∙ sym (no_got_lane ends w (queue.Tx k) (prio_number (most_urgent d)) d node a refl)
+  got_same w is (op.Pop (queue.Rx k)) may = lane_got (is_who hub w) (queue.Rx k) a refl ∙ sym (no_got_lane ends w (queue.Rx k) (prio_number (most_urgent d)) d node a refl)
+  got_same (who.Router n) is (op.Pop queue.Inbox) may = ap (λ so. if_named so (got_by queue.Inbox (op.Pop queue.Inbox) a)) (leader_router scene.nodes scene.links node x at n is.party is.owner) ∙ got_inbox d (n == node) a
+  got_same (who.Bridge n) is (op.Pop queue.Inbox) may = ap (λ so. if_named so (got_by queue.Inbox (op.Pop queue.Inbox) a)) (leader_bridge scene.nodes scene.links node x at n is.party is.owner) ∙ got_inbox d (n == node) a
+  got_same (who.Iface n k) is (op.Pop queue.Inbox) may = absurd may
+  got_same (who.App n k) is (op.Pop queue.Inbox) may = absurd may
+  got_same (who.Link l) is (op.Pop queue.Inbox) may = absurd may
 
 -- what is popped is of that priority, and so of no other
 abbrev pub IsUrgent : PlainDeck → ℕ → Option (ℕ × OpShown) → AnswerShown → Type 0

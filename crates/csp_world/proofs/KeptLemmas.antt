@@ -1,6 +1,6 @@
 -- Of each pool, its numbers at the opening with those given are those taken with those in it.
-use Rattle.std.proofs.Common.{◌≡◌, ℕ, ◌+◌, Bool, true, false, Option, None, Some, List, [], ◌∷◌, ◌++◌, map, set, refl, sym, ap, ◌∙◌, arith, sum_by}
-use Rattle.std.specs.Prelude.{slice_get, if◌then◌else◌}
+use Rattle.std.proofs.Common.{◌≡◌, ℕ, ◌+◌, Bool, true, false, Some, List, [], ◌∷◌, ◌++◌, map, set, refl, sym, ap, ◌∙◌, arith, sum_by}
+use Rattle.std.specs.Prelude.{slice_get}
 use Rattle.std.specs.List.{flat_map, range_with_len}
 use Rattle.std.proofs.lemmas.Grind.{flat_map-append}
 use Rattle.std.proofs.lemmas.List.{append-nil}
@@ -12,14 +12,14 @@ use Rattle.csp_deck.specs.Step.{entry_of, times}
 use Rattle.csp_lists.specs.PlainDeck.{PlainDeck, buffer_numbers}
 use Rattle.csp_log.specs.declared.entry.Entry.{Entry}
 use Rattle.csp_log.specs.declared.shown.AnswerShown.{AnswerShown}
-use Rattle.csp_party.specs.Any.{asked, asks, events, has_ended}
+use Rattle.csp_party.specs.Any.{asked, asks, events}
 use Rattle.csp_log.specs.Who.{node_of}
 use Rattle.csp_nodes.proofs.Public.{times_joined, sum_set}
 use Rattle.csp_world.proofs.LocalLemmas.{local}
 use Rattle.csp_world.proofs.PoolLemmas.{at_home, pooled}
 use Rattle.csp_world.specs.Opening.{new_member}
 use Rattle.csp_world.specs.Record.{member_log}
-use Rattle.csp_world.specs.World.{PlainMember, PlainWorld, answered, told, turn, turn_at, turned}
+use Rattle.csp_world.specs.World.{PlainMember, PlainWorld, answered, told, turned}
 
 -- how often a number is among those of all parties
 times_all : {X : Type 0} (k : ℕ) (f : X → List ℕ) (xs : List X) → times k (flat_map f xs) ≡ sum_by (λ x. times k (f x)) xs
@@ -67,7 +67,7 @@ pub record IsPoolKept (node count : ℕ) (decks : List PlainDeck) (ms : List Pla
   pub there : slice_get decks node ≡ Some deck
   pub kept : (k : ℕ) → times k (range_with_len 0 count) + times k (flat_map (gave node) ms) ≡ times k (flat_map (took node) ms) + times k (buffer_numbers deck.pool.items)
 
-kept_turned : (node count : ℕ) (w : PlainWorld) (place : ℕ) (m : PlainMember) → slice_get w.members place ≡ Some m → IsPoolKept node count w.decks w.members
+pub kept_turned : (node count : ℕ) (w : PlainWorld) (place : ℕ) (m : PlainMember) → slice_get w.members place ≡ Some m → IsPoolKept node count w.decks w.members
     → IsPoolKept node count (turned w place m).decks (turned w place m).members
 kept_turned node count w place m at h =
     let a = answered w.decks w.links w.time m in
@@ -82,21 +82,6 @@ kept_turned node count w place m at h =
           let before = h.kept k in
           omega (arith, moved, gives, takes, before);
     }
-
-kept_turn_at : (node count : ℕ) (w : PlainWorld) (place : ℕ) (found : Option PlainMember) → slice_get w.members place ≡ found → IsPoolKept node count w.decks w.members
-    → IsPoolKept node count (turn_at w place found).decks (turn_at w place found).members
-kept_turn_at node count w place None at h = h
-kept_turn_at node count w place (Some m) at h = by (has_ended m.party) where
-  after : Bool → PlainWorld
-  after ended = (if ended then w else turned w place m)
-
-  by : (ended : Bool) → IsPoolKept node count (after ended).decks (after ended).members
-  by true = h
-  by false = kept_turned node count w place m at h
-
-pub kept_turn : (node count : ℕ) (w : PlainWorld) (place : ℕ) → IsPoolKept node count w.decks w.members → IsPoolKept node count (turn w place).decks (turn w place).members
-unfolding turn
-kept_turn node count w place h = kept_turn_at node count w place (slice_get w.members place) refl h
 
 -- at the opening none was given or taken
 none_at : (here : Bool) → at_home here [] ≡ []

@@ -1,16 +1,20 @@
 -- What came through each lane within a node is what was put there, in order.
 use Rattle.std.proofs.Common.{◌≡◌, ◌<◌, ◌≤◌, ℕ, ◌+◌, ◌==◌, ◌&&◌, Bool, true, false, Option, None, Some, List, [], ◌∷◌, ◌++◌, length, map, refl, sym, subst, ap, ◌∙◌, arith}
 use Rattle.std.specs.Prelude.{slice_get, if◌then◌else◌, IsSome}
+use Rattle.std.specs.List.{AllByRecursion, flat_map, range_with_len}
+use Rattle.std.specs.Option.{option_and_then, option_map}
+use Rattle.std.proofs.Math.Bool.{and-false}
 use Rattle.std.proofs.lemmas.Bool.{eq-eqb, lt-ltb}
 use Rattle.std.proofs.lemmas.List.{append_assoc, length-append, length-map}
 use Rattle.csp_base.specs.Priority.{prio_number}
-use Rattle.csp_consistent.proofs.Public.{entries_in, queue_is, own_asks}
+use Rattle.csp_consistent.proofs.Public.{entries_in, leader_bridge, leader_router, own_asks, queue_is}
 use Rattle.csp_consistent.specs.Lanes.{IsFullAfter, IsInOrder, IsRefused}
+use Rattle.csp_consistent.specs.Pools.{is_node}
 use Rattle.csp_topology.proofs.Public.{OfApp, OfIface}
 use Rattle.csp_topology.specs.Lanes.{PlainLane, leader_of}
 use Rattle.csp_topology.specs.Parties.{PlainOpening}
 use Rattle.csp_consistent.specs.Queues.{MayAsk, MayPop, MayPush}
-use Rattle.csp_consistent.specs.Reading.{got_by, gets, is_queue, put_by, puts}
+use Rattle.csp_consistent.specs.Reading.{gets, is_queue, puts}
 use Rattle.csp_deck.specs.Step.{entry_of}
 use Rattle.csp_log.specs.Kinds.{carried_on}
 use Rattle.csp_lists.specs.PlainDeck.{PlainDeck, answer_of, lane_room, shape_of}
@@ -28,17 +32,17 @@ use Rattle.csp_log.specs.declared.shown.ItemShown.{ItemShown}
 use Rattle.csp_log.specs.declared.shown.OpShown.{OpShown}
 use Rattle.csp_log.specs.declared.shown.OpShown.TheVariants as op
 use Rattle.csp_nodes.specs.Fresh.{fresh_buffers}
-use Rattle.csp_nodes.specs.Serving.{served}
-use Rattle.csp_party.specs.Any.{asked, asks, events, has_ended}
-use Rattle.csp_log.specs.Who.{is_who}
+use Rattle.csp_nodes.specs.Serving.{at_end, goes, served}
+use Rattle.csp_party.specs.Any.{asked, asks, events}
+use Rattle.csp_log.specs.Who.{is_who, node_of}
 use Rattle.csp_log.specs.declared.who.Who.{Who}
 use Rattle.csp_log.specs.declared.who.Who.TheVariants as who
 use Rattle.csp_scene.specs.Links.{links_at}
 use Rattle.csp_scene.specs.Scene.{PlainLink, PlainNode, PlainScene}
 use Rattle.csp_world.proofs.ContentLemmas.{PicksOne, content, is_named}
 use Rattle.csp_world.proofs.InboxLemmas.{IsKnown, entries_step, gets-push, left_is, member_own, member_party, no_content, no_entries, puts-push, right_opening}
-use Rattle.csp_world.proofs.InboxNames.{IsParty, hub_bridge, hub_router}
-use Rattle.csp_world.proofs.LaneNames.{IsPushedTo, IsUser, gets_within, puts_within, refused_there}
+use Rattle.csp_world.proofs.InboxNames.{IsParty}
+use Rattle.csp_world.proofs.LaneNames.{Pops, Pushes, and_true, gets_same, goes_is, own_named, puts_same, refused_there}
 use Rattle.csp_world.proofs.LaneRooms.{IsFull, IsRoomy, as_full, full-push, full_none, left_few, refused_full, roomy_kept, roomy_opened}
 use Rattle.csp_world.proofs.LocalLemmas.{IsLocal, local}
 use Rattle.csp_world.proofs.LoggedLemmas.{AreLogged}
@@ -46,7 +50,7 @@ use Rattle.csp_world.proofs.MovedLemmas.{got_there, kept_after, moved, put_there
 use Rattle.csp_world.proofs.QueuedLemmas.{IsQueued}
 use Rattle.csp_world.specs.Opening.{new_member, opened_deck}
 use Rattle.csp_world.specs.Record.{member_log, record_of}
-use Rattle.csp_world.specs.World.{PlainMember, PlainWorld, answered, told, turn, turn_at, turned}
+use Rattle.csp_world.specs.World.{PlainMember, PlainWorld, answered, told, turned}
 
 -- what the links of a node carry
 abbrev pub carried_at : ℕ → List PlainLink → List Carries
@@ -55,80 +59,120 @@ carried_at node links = map (λ l. carried_on l.kind) (links_at node links)
 pub as_many : (node : ℕ) (links : List PlainLink) (k : ℕ) → k < length (links_at node links) → k < length (carried_at node links)
 as_many node links k few = rw (length-map (links_at node links) (λ (l : PlainLink). carried_on l.kind)) few
 
--- a lane of a scene, where the links have these ends: its node is there and has it, who puts and who gets there are its ends alone, and what
--- is refused is a push there
+-- a lane of a scene, where the links have these ends: its node is there and has it, and who pushes there and pops are its ends alone
 pub record IsLaneOf (scene : PlainScene) (links : List (List End)) (l : PlainLane) : Type 0 where
   pub node : PlainNode
   pub there : slice_get scene.nodes l.node ≡ Some node
   pub lane : is_queue l.queue queue.Inbox ≡ false
   pub stands : IsSome (position_of (shape_of (length node.apps) (carried_at l.node scene.links)) (place.Lane l.queue))
-  pub puts : (w : Who) → IsParty scene.nodes scene.links w → (o : OpShown) → MayAsk w o → (a : AnswerShown) → (if is_who l.from.who w then put_by l.from.queue o a else []) ≡ put_there l.queue 0 l.node (served links w o) a
-  pub gets : (w : Who) → IsParty scene.nodes scene.links w → (o : OpShown) → MayAsk w o → (d : PlainDeck) (a : AnswerShown) → (if is_who l.to.who w then got_by l.to.queue o a else []) ≡ got_there l.queue 0 d l.node (served links w o) a
-  pub refused : (w : Who) → IsParty scene.nodes scene.links w → (o : OpShown) → MayAsk w o → (a : AnswerShown) → is_who l.from.who w ≡ true → IsRefused l.from.queue o a → IsPushedTo (served links w o) l.node l.queue
+  pub pushes : (w : Who) → IsParty scene.nodes scene.links w → Pushes links l w
+  pub pops : (w : Who) → IsParty scene.nodes scene.links w → Pops links l w
 
 -- ---- the lanes within a node
 
+module _ (links : List (List End)) (node : ℕ) (q : QueueId) where
+  -- a link pushes to an `Rx` alone, and pops a `Tx`
+  link_pushed : ((k : ℕ) → is_queue q (queue.Rx k) ≡ false) → (m : ℕ) (r : QueueId) (i : ItemShown) → MayPush (who.Link m) r i → goes_is node q (goes links (who.Link m) r) ≡ false
+  link_pushed away m (queue.Rx b) i may = by (slice_get links m) where
+    at : (o : Option End) → goes_is node q (option_map (λ e. (e.node, queue.Rx e.iface)) o) ≡ false
+    at None = refl
+    at (Some e) = ap (λ t. (e.node == node) && t) (away e.iface) ∙ and-false (e.node == node)
+
+    by : (o : Option (List End)) → goes_is node q (option_and_then (λ ends. at_end ends (queue.Rx b)) o) ≡ false
+    by None = refl
+    by (Some ends) = at (slice_get ends b)
+  link_pushed away m queue.Inbox i may = absurd may
+  link_pushed away m (queue.Up b) i may = absurd may
+  link_pushed away m (queue.Down b) i may = absurd may
+  link_pushed away m (queue.Out b) i may = absurd may
+  link_pushed away m (queue.Tx b) i may = absurd may
+
+  link_popped : ((k : ℕ) → is_queue q (queue.Tx k) ≡ false) → (m : ℕ) (r : QueueId) → MayPop (who.Link m) r → goes_is node q (goes links (who.Link m) r) ≡ false
+  link_popped away m (queue.Tx b) may = by (slice_get links m) where
+    at : (o : Option End) → goes_is node q (option_map (λ e. (e.node, queue.Tx e.iface)) o) ≡ false
+    at None = refl
+    at (Some e) = ap (λ t. (e.node == node) && t) (away e.iface) ∙ and-false (e.node == node)
+
+    by : (o : Option (List End)) → goes_is node q (option_and_then (λ ends. at_end ends (queue.Tx b)) o) ≡ false
+    by None = refl
+    by (Some ends) = at (slice_get ends b)
+  link_popped away m queue.Inbox may = absurd may
+  link_popped away m (queue.Up b) may = absurd may
+  link_popped away m (queue.Down b) may = absurd may
+  link_popped away m (queue.Out b) may = absurd may
+  link_popped away m (queue.Rx b) may = absurd may
+
+  -- so a lane is pushed to by its user where no other party of the node may
+  pub own_pushed : (Is : Who → Type 0) (user : Who) → ((k : ℕ) → is_queue q (queue.Rx k) ≡ false) → ((m : ℕ) → is_who user (who.Link m) ≡ false) → ((w : Who) → Is w → (i : ItemShown) → MayPush w q i → is_who user w ≡ is_node node (node_of w))
+      → (w : Who) → Is w → (r : QueueId) (i : ItemShown) → MayPush w r i → (is_who user w && is_queue q r) ≡ goes_is node q (goes links w r)
+  own_pushed Is user away none named (who.Router n) is r i may = own_named (is_who user (who.Router n)) (n == node) q r (λ s. MayPush (who.Router n) s i) may (named (who.Router n) is i)
+  own_pushed Is user away none named (who.Bridge n) is r i may = own_named (is_who user (who.Bridge n)) (n == node) q r (λ s. MayPush (who.Bridge n) s i) may (named (who.Bridge n) is i)
+  own_pushed Is user away none named (who.Iface n k) is r i may = own_named (is_who user (who.Iface n k)) (n == node) q r (λ s. MayPush (who.Iface n k) s i) may (named (who.Iface n k) is i)
+  own_pushed Is user away none named (who.App n k) is r i may = own_named (is_who user (who.App n k)) (n == node) q r (λ s. MayPush (who.App n k) s i) may (named (who.App n k) is i)
+  own_pushed Is user away none named (who.Link m) is r i may = ap (λ b. b && is_queue q r) (none m) ∙ sym (link_pushed away m r i may)
+
+  pub own_popped : (Is : Who → Type 0) (user : Who) → ((k : ℕ) → is_queue q (queue.Tx k) ≡ false) → ((m : ℕ) → is_who user (who.Link m) ≡ false) → ((w : Who) → Is w → MayPop w q → is_who user w ≡ is_node node (node_of w))
+      → (w : Who) → Is w → (r : QueueId) → MayPop w r → (is_who user w && is_queue q r) ≡ goes_is node q (goes links w r)
+  own_popped Is user away none named (who.Router n) is r may = own_named (is_who user (who.Router n)) (n == node) q r (MayPop (who.Router n)) may (named (who.Router n) is)
+  own_popped Is user away none named (who.Bridge n) is r may = own_named (is_who user (who.Bridge n)) (n == node) q r (MayPop (who.Bridge n)) may (named (who.Bridge n) is)
+  own_popped Is user away none named (who.Iface n k) is r may = own_named (is_who user (who.Iface n k)) (n == node) q r (MayPop (who.Iface n k)) may (named (who.Iface n k) is)
+  own_popped Is user away none named (who.App n k) is r may = own_named (is_who user (who.App n k)) (n == node) q r (MayPop (who.App n k)) may (named (who.App n k) is)
+  own_popped Is user away none named (who.Link m) is r may = ap (λ b. b && is_queue q r) (none m) ∙ sym (link_popped away m r may)
+
+-- a number is that of the party that uses its own lanes alone
+pub numbered : (node n j k : ℕ) → k ≡ j → ((n == node) && (j == k)) ≡ (n == node)
+numbered node n j k e = ap (λ b. (n == node) && b) (eq-eqb j k (sym e)) ∙ and_true (n == node)
+
 module _ (scene : PlainScene) (links : List (List End)) (node : ℕ) (x : PlainNode) (at : slice_get scene.nodes node ≡ Some x) where
-  hub : Who
+  abbrev hub : Who
   hub = leader_of node x.addr
 
-  app_user : (k : ℕ) (q : QueueId) (n j : ℕ) → k ≡ j → IsUser links q node (who.App node k) (who.App n j)
-  app_user k q n j e = record { home = n; goes_to = refl; same = ap (λ b. (n == node) && b) (eq-eqb j k (sym e)) ∙ and (n == node) } where
-    and : (b : Bool) → (b && true) ≡ b
-    and true = refl
-    and false = refl
+  abbrev IsThere : Who → Type 0
+  IsThere w = IsParty scene.nodes scene.links w
 
-  pub iface_user : (k : ℕ) (q : QueueId) (n j : ℕ) → k ≡ j → IsUser links q node (who.Iface node k) (who.Iface n j)
-  iface_user k q n j e = record { home = n; goes_to = refl; same = ap (λ b. (n == node) && b) (eq-eqb j k (sym e)) ∙ and (n == node) } where
-    and : (b : Bool) → (b && true) ≡ b
-    and true = refl
-    and false = refl
+  no_link : (m : ℕ) → is_who hub (who.Link m) ≡ false
+  no_link m = by x.addr where
+    by : (addr : Option ℕ) → is_who (leader_of node addr) (who.Link m) ≡ false
+    by None = refl
+    by (Some a) = refl
 
-  router_user : (q : QueueId) (n : ℕ) → IsParty scene.nodes scene.links (who.Router n) → IsUser links q node hub (who.Router n)
-  unfolding hub
-  router_user q n is = record { home = n; goes_to = refl; same = hub_router scene.nodes scene.links node x at n is x.addr refl }
-
-  bridge_user : (q : QueueId) (n : ℕ) → IsParty scene.nodes scene.links (who.Bridge n) → IsUser links q node hub (who.Bridge n)
-  unfolding hub
-  bridge_user q n is = record { home = n; goes_to = refl; same = hub_bridge scene.nodes scene.links node x at n is x.addr refl }
-
-  up_putter : (k : ℕ) (w : Who) → IsParty scene.nodes scene.links w → (i : ItemShown) → MayPush w (queue.Up k) i → IsUser links (queue.Up k) node (who.App node k) w
-  up_putter k (who.App n j) is i may = app_user k (queue.Up k) n j may
+  up_putter : (k : ℕ) (w : Who) → IsThere w → (i : ItemShown) → MayPush w (queue.Up k) i → is_who (who.App node k) w ≡ is_node node (node_of w)
+  up_putter k (who.App n j) is i may = numbered node n j k may
   up_putter k (who.Router n) is i may = absurd may
   up_putter k (who.Bridge n) is i may = absurd may
   up_putter k (who.Iface n j) is i may = absurd may
   up_putter k (who.Link n) is i may = absurd may
 
-  up_getter : (k : ℕ) (w : Who) → IsParty scene.nodes scene.links w → MayPop w (queue.Up k) → IsUser links (queue.Up k) node hub w
-  up_getter k (who.Router n) is may = router_user (queue.Up k) n is
+  up_getter : (k : ℕ) (w : Who) → IsThere w → MayPop w (queue.Up k) → is_who hub w ≡ is_node node (node_of w)
+  up_getter k (who.Router n) is may = leader_router scene.nodes scene.links node x at n is.party is.owner
   up_getter k (who.App n j) is may = absurd may
   up_getter k (who.Bridge n) is may = absurd may
   up_getter k (who.Iface n j) is may = absurd may
   up_getter k (who.Link n) is may = absurd may
 
-  down_putter : (k : ℕ) (w : Who) → IsParty scene.nodes scene.links w → (i : ItemShown) → MayPush w (queue.Down k) i → IsUser links (queue.Down k) node hub w
-  down_putter k (who.Router n) is i may = router_user (queue.Down k) n is
+  down_putter : (k : ℕ) (w : Who) → IsThere w → (i : ItemShown) → MayPush w (queue.Down k) i → is_who hub w ≡ is_node node (node_of w)
+  down_putter k (who.Router n) is i may = leader_router scene.nodes scene.links node x at n is.party is.owner
   down_putter k (who.App n j) is i may = absurd may
   down_putter k (who.Bridge n) is i may = absurd may
   down_putter k (who.Iface n j) is i may = absurd may
   down_putter k (who.Link n) is i may = absurd may
 
-  down_getter : (k : ℕ) (w : Who) → IsParty scene.nodes scene.links w → MayPop w (queue.Down k) → IsUser links (queue.Down k) node (who.App node k) w
-  down_getter k (who.App n j) is may = app_user k (queue.Down k) n j may
+  down_getter : (k : ℕ) (w : Who) → IsThere w → MayPop w (queue.Down k) → is_who (who.App node k) w ≡ is_node node (node_of w)
+  down_getter k (who.App n j) is may = numbered node n j k may
   down_getter k (who.Router n) is may = absurd may
   down_getter k (who.Bridge n) is may = absurd may
   down_getter k (who.Iface n j) is may = absurd may
   down_getter k (who.Link n) is may = absurd may
 
-  out_putter : (k : ℕ) (w : Who) → IsParty scene.nodes scene.links w → (i : ItemShown) → MayPush w (queue.Out k) i → IsUser links (queue.Out k) node hub w
-  out_putter k (who.Router n) is i may = router_user (queue.Out k) n is
-  out_putter k (who.Bridge n) is i may = bridge_user (queue.Out k) n is
+  out_putter : (k : ℕ) (w : Who) → IsThere w → (i : ItemShown) → MayPush w (queue.Out k) i → is_who hub w ≡ is_node node (node_of w)
+  out_putter k (who.Router n) is i may = leader_router scene.nodes scene.links node x at n is.party is.owner
+  out_putter k (who.Bridge n) is i may = leader_bridge scene.nodes scene.links node x at n is.party is.owner
   out_putter k (who.App n j) is i may = absurd may
   out_putter k (who.Iface n j) is i may = absurd may
   out_putter k (who.Link n) is i may = absurd may
 
-  out_getter : (k : ℕ) (w : Who) → IsParty scene.nodes scene.links w → MayPop w (queue.Out k) → IsUser links (queue.Out k) node (who.Iface node k) w
-  out_getter k (who.Iface n j) is may = iface_user k (queue.Out k) n j may
+  out_getter : (k : ℕ) (w : Who) → IsThere w → MayPop w (queue.Out k) → is_who (who.Iface node k) w ≡ is_node node (node_of w)
+  out_getter k (who.Iface n j) is may = numbered node n j k may
   out_getter k (who.Router n) is may = absurd may
   out_getter k (who.Bridge n) is may = absurd may
   out_getter k (who.App n j) is may = absurd may
@@ -142,18 +186,16 @@ module _ (scene : PlainScene) (links : List (List End)) (node : ℕ) (x : PlainN
       there = at;
       lane = refl;
       stands = rw (lt-ltb k (length x.apps) low) refl;
-      puts = λ w is. puts_within links (queue.Up k) tt node (who.App node k) w (up_putter k w is);
-      gets = λ w is. gets_within links (queue.Up k) tt node hub w (up_getter k w is);
-      refused = λ w is. refused_there links (queue.Up k) node (who.App node k) w (up_putter k w is);
+      pushes = own_pushed links node (queue.Up k) IsThere (who.App node k) (λ j. refl) (λ m. refl) (up_putter k);
+      pops = own_popped links node (queue.Up k) IsThere hub (λ j. refl) no_link (up_getter k);
     },
     record {
       node = x;
       there = at;
       lane = refl;
       stands = rw (lt-ltb k (length x.apps) low) refl;
-      puts = λ w is. puts_within links (queue.Down k) tt node hub w (down_putter k w is);
-      gets = λ w is. gets_within links (queue.Down k) tt node (who.App node k) w (down_getter k w is);
-      refused = λ w is. refused_there links (queue.Down k) node hub w (down_putter k w is);
+      pushes = own_pushed links node (queue.Down k) IsThere hub (λ j. refl) no_link (down_putter k);
+      pops = own_popped links node (queue.Down k) IsThere (who.App node k) (λ j. refl) (λ m. refl) (down_getter k);
     },
   )
 
@@ -164,9 +206,8 @@ module _ (scene : PlainScene) (links : List (List End)) (node : ℕ) (x : PlainN
     there = at;
     lane = refl;
     stands = rw (lt-ltb k (length (carried_at node scene.links)) (as_many node scene.links k low)) refl;
-    puts = λ w is. puts_within links (queue.Out k) tt node hub w (out_putter k w is);
-    gets = λ w is. gets_within links (queue.Out k) tt node (who.Iface node k) w (out_getter k w is);
-    refused = λ w is. refused_there links (queue.Out k) node hub w (out_putter k w is);
+    pushes = own_pushed links node (queue.Out k) IsThere hub (λ j. refl) no_link (out_putter k);
+    pops = own_popped links node (queue.Out k) IsThere (who.Iface node k) (λ j. refl) (λ m. refl) (out_getter k);
   }
 
 -- ---- what came through a lane
@@ -196,19 +237,19 @@ pub record IsLaneKept (l : PlainLane) (decks : List PlainDeck) (ms : List PlainM
   pub order : gets l.to.queue (entries_in l.to.who (map member_log ms)) ++ content l.queue 0 deck ≡ puts l.from.queue (entries_in l.from.who (map member_log ms))
   pub full : IsFullAfter (lane_room l.queue) l.from.queue (entries_in l.from.who (map member_log ms))
 
-lane_turned : (scene : PlainScene) (os : List PlainOpening) → IsKnown scene os → (l : PlainLane) (w : PlainWorld) → IsLaneOf scene w.links l → AreLogged w.time os w.members
+pub lane_turned : (scene : PlainScene) (os : List PlainOpening) → IsKnown scene os → (l : PlainLane) (w : PlainWorld) → IsLaneOf scene w.links l → AreLogged w.time os w.members
     → (k : ℕ) (m : PlainMember) → slice_get w.members k ≡ Some m → IsLaneKept l w.decks w.members → IsLaneKept l (turned w k m).decks (turned w k m).members
 lane_turned scene os known l w is logged k m found h = record {
   deck = near.after;
   there = near.got;
   roomy = kept_after (IsRoomy l.queue) (roomy_kept known.queues known.shape known.keeps l.queue) h.deck h.roomy l.node there r near;
   order =
-      ap (λ xs. xs ++ content l.queue 0 near.after) (ap (gets l.to.queue) (longer l.to.who) ∙ gets-push l.to.queue (old l.to.who) (is_who l.to.who m.who) e ∙ ap (λ xs. before ++ xs) (is.gets m.who party o may h.deck r.0))
+      ap (λ xs. xs ++ content l.queue 0 near.after) (ap (gets l.to.queue) (longer l.to.who) ∙ gets-push l.to.queue (old l.to.who) (is_who l.to.who m.who) e ∙ ap (λ xs. before ++ xs) (gets_same w.links l is.lane m.who (is.pops m.who party) o may h.deck r.0))
       ∙ append_assoc before got (content l.queue 0 near.after)
       ∙ ap (λ xs. before ++ xs) (moved known.stands known.keeps l.queue 0 (lane_one l.queue is.lane) h.deck h.roomy.right l.node there r near)
       ∙ sym (append_assoc before (content l.queue 0 h.deck) put)
       ∙ ap (λ xs. xs ++ put) h.order
-      ∙ ap (λ xs. puts l.from.queue (old l.from.who) ++ xs) (sym (is.puts m.who party o may r.0))
+      ∙ ap (λ xs. puts l.from.queue (old l.from.who) ++ xs) (sym (puts_same w.links l is.lane m.who (is.pushes m.who party) o may r.0))
       ∙ sym (puts-push l.from.queue (old l.from.who) (is_who l.from.who m.who) e)
       ∙ ap (puts l.from.queue) (sym (longer l.from.who));
   full = subst (IsFullAfter (lane_room l.queue) l.from.queue) (sym (longer l.from.who)) (full-push (lane_room l.queue) l.from.queue (old l.from.who) (is_who l.from.who m.who) e h.full filled);
@@ -251,27 +292,11 @@ lane_turned scene os known l w is logged k m found h = record {
 
   filled : is_who l.from.who m.who ≡ true → IsRefused l.from.queue o r.0 → lane_room l.queue ≤ length (puts l.from.queue (old l.from.who))
   filled this refused =
-      let to = is.refused m.who party o may r.0 this refused in
+      let to = refused_there w.links l is.lane m.who (is.pushes m.who party) o may r.0 this refused in
       let same : r.0 ≡ (answer_of h.deck (op.Push l.queue to.item)).0 = (near.here (l.node, op.Push l.queue to.item) to.at refl).0 in
       let most = as_full l.queue is.lane (lane_one l.queue is.lane) h.deck h.roomy to.item (subst IsFull same (refused_full l.from.queue o r.0 refused)) in
       let long = sym (length-append before (content l.queue 0 h.deck)) ∙ ap (λ (xs : List ItemShown). length xs) h.order in
       omega (arith, most, long)
-
-lane_turn_at : (scene : PlainScene) (os : List PlainOpening) → IsKnown scene os → (l : PlainLane) (w : PlainWorld) → IsLaneOf scene w.links l → AreLogged w.time os w.members
-    → (k : ℕ) (found : Option PlainMember) → slice_get w.members k ≡ found → IsLaneKept l w.decks w.members → IsLaneKept l (turn_at w k found).decks (turn_at w k found).members
-lane_turn_at scene os known l w is logged k None found h = h
-lane_turn_at scene os known l w is logged k (Some m) found h = by (has_ended m.party) where
-  after : Bool → PlainWorld
-  after ended = (if ended then w else turned w k m)
-
-  by : (ended : Bool) → IsLaneKept l (after ended).decks (after ended).members
-  by true = h
-  by false = lane_turned scene os known l w is logged k m found h
-
-pub lane_turn : (scene : PlainScene) (os : List PlainOpening) → IsKnown scene os → (l : PlainLane) (w : PlainWorld) → IsLaneOf scene w.links l → AreLogged w.time os w.members
-    → (k : ℕ) → IsLaneKept l w.decks w.members → IsLaneKept l (turn w k).decks (turn w k).members
-unfolding turn
-lane_turn scene os known l w is logged k h = lane_turn_at scene os known l w is logged k (slice_get w.members k) refl h
 
 pub lane_opened : (scene : PlainScene) (os : List PlainOpening) → IsKnown scene os → (links : List (List End)) (l : PlainLane) (is : IsLaneOf scene links l) (decks : List PlainDeck) → slice_get decks l.node ≡ Some (opened_deck is.node (links_at l.node scene.links))
     → IsLaneKept l decks (map new_member os)
@@ -300,7 +325,9 @@ lane_in_order w scene links l is h =
     let left = left_is w l.node l.queue 0 h.deck h.there in
     let few = left_few l.queue is.lane (lane_one l.queue is.lane) h.deck h.roomy in
     record {
-      order = ap (λ xs. gets l.to.queue (entries_in l.to.who (map member_log w.members)) ++ xs) left ∙ h.order;
-      few = subst (λ (xs : List ItemShown). length xs ≤ lane_room l.queue) (sym left) few;
+      kept = record {
+        order = ap (λ xs. gets l.to.queue (entries_in l.to.who (map member_log w.members)) ++ xs) left ∙ h.order;
+        few = subst (λ (xs : List ItemShown). length xs ≤ lane_room l.queue) (sym left) few;
+      };
       full = h.full;
     }

@@ -1,9 +1,9 @@
--- What a turn puts into a lane within a node, and gets there, by the name of its party.
-use Rattle.std.proofs.Common.{◌≡◌, ℕ, ◌==◌, Bool, true, false, Option, None, Some, List, [], refl, sym, subst, ap, ◌∙◌}
-use Rattle.std.specs.Prelude.{slice_get, if◌then◌else◌, ⊤}
-use Rattle.std.specs.Option.{option_and_then, option_map}
+-- What a turn puts into a lane, and gets there, by the name of its party.
+use Rattle.std.proofs.Common.{◌≡◌, ℕ, ◌==◌, ◌&&◌, Bool, true, false, Option, None, Some, List, [], refl, sym, subst, ap, ◌∙◌}
+use Rattle.std.specs.Prelude.{if◌then◌else◌}
+use Rattle.std.specs.Option.{option_map}
+use Rattle.std.proofs.Math.Bool.{and-false}
 use Rattle.std.proofs.lemmas.Bool.{eqb-true}
-use Rattle.std.proofs.lemmas.Option.{same_Some}
 use Rattle.csp_consistent.proofs.Public.{queue_is, queue_same}
 use Rattle.csp_consistent.specs.Lanes.{IsRefused}
 use Rattle.csp_consistent.specs.Queues.{MayAsk, MayPop, MayPush}
@@ -20,96 +20,22 @@ use Rattle.csp_log.specs.declared.shown.ItemShown.{ItemShown}
 use Rattle.csp_log.specs.declared.shown.ItemShown.TheVariants as item
 use Rattle.csp_log.specs.declared.shown.OpShown.{OpShown}
 use Rattle.csp_log.specs.declared.shown.OpShown.TheVariants as op
-use Rattle.csp_nodes.specs.Serving.{at_end, at_queue, goes, served}
+use Rattle.csp_nodes.specs.Serving.{at_queue, goes, served}
 use Rattle.csp_log.specs.Who.{node_of, is_who}
 use Rattle.csp_log.specs.declared.who.Who.{Who}
-use Rattle.csp_log.specs.declared.who.Who.TheVariants as who
+use Rattle.csp_topology.specs.Lanes.{PlainLane}
 use Rattle.csp_world.proofs.ContentLemmas.{if_named, is_named, popped_out, pushed_in}
-use Rattle.csp_world.proofs.InboxNames.{home_is, if_none, pop_is, push_is}
 use Rattle.csp_world.proofs.MovedLemmas.{got_at, got_there, put_at, put_there}
 
--- a lane within a node: no link uses one
-abbrev pub IsWithin : QueueId → Type 0
-IsWithin (queue.Up k) = ⊤
-IsWithin (queue.Down k) = ⊤
-IsWithin (queue.Out k) = ⊤
-IsWithin _ = ⊥
+-- ---- the place of a lane
 
-end_apart : (q : QueueId) → IsWithin q → (ends : List End) (r : QueueId) (s : ℕ × QueueId) → at_end ends r ≡ Some s → is_queue q s.1 ≡ false
-end_apart q within ends queue.Inbox s e = absurd cc
-end_apart q within ends (queue.Up k) s e = absurd cc
-end_apart q within ends (queue.Down k) s e = absurd cc
-end_apart q within ends (queue.Out k) s e = absurd cc
-end_apart q within ends (queue.Tx k) s e = by (slice_get ends k) e where
-  none : (x : QueueId) (n : ℕ) → IsWithin x → is_queue x (queue.Tx n) ≡ false
-  none (queue.Up j) n h = refl
-  none (queue.Down j) n h = refl
-  none (queue.Out j) n h = refl
-  none queue.Inbox n h = absurd h
-  none (queue.Tx j) n h = absurd h
-  none (queue.Rx j) n h = absurd h
-
-  by : (o : Option End) → option_map (λ (x : End). (x.node, queue.Tx x.iface)) o ≡ Some s → is_queue q s.1 ≡ false
-  by None g = absurd cc
-  by (Some x) g = ap (λ (t : ℕ × QueueId). is_queue q t.1) (sym (same_Some (x.node, queue.Tx x.iface) s g)) ∙ none q x.iface within
-end_apart q within ends (queue.Rx k) s e = by (slice_get ends k) e where
-  none : (x : QueueId) (n : ℕ) → IsWithin x → is_queue x (queue.Rx n) ≡ false
-  none (queue.Up j) n h = refl
-  none (queue.Down j) n h = refl
-  none (queue.Out j) n h = refl
-  none queue.Inbox n h = absurd h
-  none (queue.Tx j) n h = absurd h
-  none (queue.Rx j) n h = absurd h
-
-  by : (o : Option End) → option_map (λ (x : End). (x.node, queue.Rx x.iface)) o ≡ Some s → is_queue q s.1 ≡ false
-  by None g = absurd cc
-  by (Some x) g = ap (λ (t : ℕ × QueueId). is_queue q t.1) (sym (same_Some (x.node, queue.Rx x.iface) s g)) ∙ none q x.iface within
-
-pub own_apart : (q : QueueId) (n : ℕ) (r : QueueId) (s : ℕ × QueueId) → is_queue q r ≡ false → Some (n, r) ≡ Some s → is_queue q s.1 ≡ false
-own_apart q n r s apart e = ap (λ (t : ℕ × QueueId). is_queue q t.1) (sym (same_Some (n, r) s e)) ∙ apart
-
-goes_apart : (q : QueueId) → IsWithin q → (links : List (List End)) (w : Who) (r : QueueId) (s : ℕ × QueueId) → is_queue q r ≡ false → goes links w r ≡ Some s → is_queue q s.1 ≡ false
-goes_apart q within links (who.Router n) r s apart e = own_apart q n r s apart e
-goes_apart q within links (who.Bridge n) r s apart e = own_apart q n r s apart e
-goes_apart q within links (who.Iface n k) r s apart e = own_apart q n r s apart e
-goes_apart q within links (who.App n k) r s apart e = own_apart q n r s apart e
-goes_apart q within links (who.Link l) r s apart e = by (slice_get links l) e where
-  by : (o : Option (List End)) → option_and_then (λ ends. at_end ends r) o ≡ Some s → is_queue q s.1 ≡ false
-  by None g = absurd cc
-  by (Some ends) g = end_apart q within ends r s g
-
--- a lane, within a node or to a link
 abbrev pub IsLane : QueueId → Type 0
 IsLane q = is_queue q queue.Inbox ≡ false
 
-pub within_lane : (q : QueueId) → IsWithin q → IsLane q
-within_lane (queue.Up k) h = refl
-within_lane (queue.Down k) h = refl
-within_lane (queue.Out k) h = refl
-within_lane queue.Inbox h = absurd h
-within_lane (queue.Tx k) h = absurd h
-within_lane (queue.Rx k) h = absurd h
+pub and_true : (b : Bool) → (b && true) ≡ b
+and_true true = refl
+and_true false = refl
 
--- a push to another queue goes to another place
-pushed_apart : (q : QueueId) → IsLane q → (r : QueueId) (i : ItemShown) → is_queue q r ≡ false → is_named q 0 (place_for r i) ≡ false
-pushed_apart q h queue.Inbox (item.Packet mk b) e = rw h refl
-pushed_apart q h queue.Inbox (item.Frame f) e = rw h refl
-pushed_apart q h queue.Inbox (item.Note x) e = rw h refl
-pushed_apart q h (queue.Up k) i e = rw e refl
-pushed_apart q h (queue.Down k) i e = rw e refl
-pushed_apart q h (queue.Out k) i e = rw e refl
-pushed_apart q h (queue.Tx k) i e = rw e refl
-pushed_apart q h (queue.Rx k) i e = rw e refl
-
-popped_apart : (q : QueueId) → IsLane q → (d : PlainDeck) (r : QueueId) → is_queue q r ≡ false → is_named q 0 (pops_at d r) ≡ false
-popped_apart q h d queue.Inbox e = rw h refl
-popped_apart q h d (queue.Up k) e = rw e refl
-popped_apart q h d (queue.Down k) e = rw e refl
-popped_apart q h d (queue.Out k) e = rw e refl
-popped_apart q h d (queue.Tx k) e = rw e refl
-popped_apart q h d (queue.Rx k) e = rw e refl
-
--- and one to it, to its own
 pub lane_named : (q : QueueId) → is_named q 0 (place.Lane q) ≡ true
 lane_named q = rw (queue_same q) refl
 
@@ -121,173 +47,149 @@ lane_place (queue.Out n) h i = refl
 lane_place (queue.Tx n) h i = refl
 lane_place (queue.Rx n) h i = refl
 
-lane_pop : (q : QueueId) → IsLane q → (d : PlainDeck) → pops_at d q ≡ place.Lane q
-lane_pop queue.Inbox h d = absurd cc
-lane_pop (queue.Up n) h d = refl
-lane_pop (queue.Down n) h d = refl
-lane_pop (queue.Out n) h d = refl
-lane_pop (queue.Tx n) h d = refl
-lane_pop (queue.Rx n) h d = refl
+-- a push goes there, and a pop, where its queue is the lane
+pushed_named : (q : QueueId) → IsLane q → (r : QueueId) (i : ItemShown) → is_named q 0 (place_for r i) ≡ is_queue q r
+pushed_named q h queue.Inbox (item.Packet mk b) = rw h refl
+pushed_named q h queue.Inbox (item.Frame f) = rw h refl
+pushed_named q h queue.Inbox (item.Note x) = rw h refl
+pushed_named q h (queue.Up k) i = and_true (is_queue q (queue.Up k))
+pushed_named q h (queue.Down k) i = and_true (is_queue q (queue.Down k))
+pushed_named q h (queue.Out k) i = and_true (is_queue q (queue.Out k))
+pushed_named q h (queue.Tx k) i = and_true (is_queue q (queue.Tx k))
+pushed_named q h (queue.Rx k) i = and_true (is_queue q (queue.Rx k))
 
-pushed_own : (q : QueueId) → IsLane q → (i : ItemShown) → is_named q 0 (place_for q i) ≡ true
-pushed_own q h i = ap (is_named q 0) (lane_place q h i) ∙ lane_named q
+popped_named : (q : QueueId) → IsLane q → (d : PlainDeck) (r : QueueId) → is_named q 0 (pops_at d r) ≡ is_queue q r
+popped_named q h d queue.Inbox = rw h refl
+popped_named q h d (queue.Up k) = and_true (is_queue q (queue.Up k))
+popped_named q h d (queue.Down k) = and_true (is_queue q (queue.Down k))
+popped_named q h d (queue.Out k) = and_true (is_queue q (queue.Out k))
+popped_named q h d (queue.Tx k) = and_true (is_queue q (queue.Tx k))
+popped_named q h d (queue.Rx k) = and_true (is_queue q (queue.Rx k))
 
-popped_own : (q : QueueId) → IsLane q → (d : PlainDeck) → is_named q 0 (pops_at d q) ≡ true
-popped_own q h d = ap (is_named q 0) (lane_pop q h d) ∙ lane_named q
+-- ---- what an entry moves
 
--- ---- who uses it
-
--- a party that uses a queue of this name uses that of its node, and is this one just where the node is this
-pub record IsUser (links : List (List End)) (q : QueueId) (node : ℕ) (user w : Who) : Type 0 where
-  pub home : ℕ
-  pub goes_to : goes links w q ≡ Some (home, q)
-  pub same : is_who user w ≡ (home == node)
-
-put_none : (q r : QueueId) (so : Bool) (i : ItemShown) (a : AnswerShown) → is_queue q r ≡ false → (if so then put_by q (op.Push r i) a else []) ≡ []
-put_none q r false i a e = refl
-put_none q r true i answer.Pushed e = rw e refl
-put_none q r true i answer.Nothing e = refl
-put_none q r true i (answer.Taken c) e = refl
-put_none q r true i answer.NoBuffer e = refl
-put_none q r true i answer.Given e = refl
-put_none q r true i (answer.PoolFull c) e = refl
-put_none q r true i (answer.Full j) e = refl
-put_none q r true i (answer.Popped j) e = refl
-put_none q r true i answer.Empty e = refl
-
-got_none : (q r : QueueId) (so : Bool) (a : AnswerShown) → is_queue q r ≡ false → (if so then got_by q (op.Pop r) a else []) ≡ []
-got_none q r false a e = refl
-got_none q r true (answer.Popped i) e = rw e refl
-got_none q r true answer.Nothing e = refl
-got_none q r true (answer.Taken c) e = refl
-got_none q r true answer.NoBuffer e = refl
-got_none q r true answer.Given e = refl
-got_none q r true (answer.PoolFull c) e = refl
-got_none q r true answer.Pushed e = refl
-got_none q r true (answer.Full j) e = refl
-got_none q r true answer.Empty e = refl
-
-put_own : (q : QueueId) (i : ItemShown) (a : AnswerShown) → put_by q (op.Push q i) a ≡ pushed_in i a
-put_own q i answer.Pushed = rw (queue_same q) refl
-put_own q i answer.Nothing = refl
-put_own q i (answer.Taken c) = refl
-put_own q i answer.NoBuffer = refl
-put_own q i answer.Given = refl
-put_own q i (answer.PoolFull c) = refl
-put_own q i (answer.Full j) = refl
-put_own q i (answer.Popped j) = refl
-put_own q i answer.Empty = refl
-
-got_own : (q : QueueId) (a : AnswerShown) → got_by q (op.Pop q) a ≡ popped_out a
-got_own q (answer.Popped i) = rw (queue_same q) refl
-got_own q answer.Nothing = refl
-got_own q (answer.Taken c) = refl
-got_own q answer.NoBuffer = refl
-got_own q answer.Given = refl
-got_own q (answer.PoolFull c) = refl
-got_own q answer.Pushed = refl
-got_own q (answer.Full j) = refl
-got_own q answer.Empty = refl
-
--- nothing comes of other operations
-pub no_put : (q : QueueId) (node : ℕ) (there : Option (ℕ × OpShown)) (a : AnswerShown) → ((t : ℕ × OpShown) → there ≡ Some t → put_at q 0 t.1 a ≡ []) → put_there q 0 node there a ≡ []
-no_put q node None a none = refl
-no_put q node (Some t) a none = if_none (t.0 == node) _ (none t refl)
-
-pub no_got : (q : QueueId) (d : PlainDeck) (node : ℕ) (there : Option (ℕ × OpShown)) (a : AnswerShown) → ((t : ℕ × OpShown) → there ≡ Some t → got_at q 0 d t.1 a ≡ []) → got_there q 0 d node there a ≡ []
-no_got q d node None a none = refl
-no_got q d node (Some t) a none = if_none (t.0 == node) _ (none t refl)
-
--- what it puts
-push_same : (links : List (List End)) (q : QueueId) → IsLane q → (node : ℕ) (user w : Who) (i : ItemShown) (a : AnswerShown) → IsUser links q node user w
-    → (if is_who user w then put_by q (op.Push q i) a else []) ≡ put_there q 0 node (served links w (op.Push q i)) a
-push_same links q lane node user w i a u =
-    ap (λ (so : Bool). if so then put_by q (op.Push q i) a else []) u.same
-    ∙ ap (λ (is : List ItemShown). if u.home == node then is else []) (put_own q i a ∙ sym (ap (λ (so : Bool). if_named so (pushed_in i a)) (pushed_own q lane i)))
-    ∙ sym (ap (λ (there : Option (ℕ × QueueId)). put_there q 0 node (option_map (at_queue (λ r. op.Push r i)) there) a) u.goes_to)
-
-pop_same : (links : List (List End)) (q : QueueId) → IsLane q → (node : ℕ) (user w : Who) (d : PlainDeck) (a : AnswerShown) → IsUser links q node user w
-    → (if is_who user w then got_by q (op.Pop q) a else []) ≡ got_there q 0 d node (served links w (op.Pop q)) a
-pop_same links q lane node user w d a u =
-    ap (λ (so : Bool). if so then got_by q (op.Pop q) a else []) u.same
-    ∙ ap (λ (is : List ItemShown). if u.home == node then is else []) (got_own q a ∙ sym (ap (λ (so : Bool). if_named so (popped_out a)) (popped_own q lane d)))
-    ∙ sym (ap (λ (there : Option (ℕ × QueueId)). got_there q 0 d node (option_map (at_queue op.Pop) there) a) u.goes_to)
-
-abbrev no_items : List ItemShown
-no_items = []
-
-empty_if : (so : Bool) → (if so then [] else []) ≡ no_items
+pub empty_if : (so : Bool) → if_named so [] ≡ []
 empty_if true = refl
 empty_if false = refl
 
-abbrev pub Puts : List (List End) → QueueId → ℕ → Who → Who → Type 0
-Puts links q node user w = (o : OpShown) → MayAsk w o → (a : AnswerShown) → (if is_who user w then put_by q o a else []) ≡ put_there q 0 node (served links w o) a
+if_both : (so other : Bool) (is : List ItemShown) → if_named so (if_named other is) ≡ if_named (so && other) is
+if_both true other is = refl
+if_both false other is = refl
 
-abbrev pub Gets : List (List End) → QueueId → ℕ → Who → Who → Type 0
-Gets links q node user w = (o : OpShown) → MayAsk w o → (d : PlainDeck) (a : AnswerShown) → (if is_who user w then got_by q o a else []) ≡ got_there q 0 d node (served links w o) a
+pub put_as : (q r : QueueId) (i : ItemShown) (a : AnswerShown) → put_by q (op.Push r i) a ≡ if_named (is_queue q r) (pushed_in i a)
+put_as q r i answer.Pushed = refl
+put_as q r i answer.Nothing = sym (empty_if (is_queue q r))
+put_as q r i (answer.Taken c) = sym (empty_if (is_queue q r))
+put_as q r i answer.NoBuffer = sym (empty_if (is_queue q r))
+put_as q r i answer.Given = sym (empty_if (is_queue q r))
+put_as q r i (answer.PoolFull c) = sym (empty_if (is_queue q r))
+put_as q r i (answer.Full j) = sym (empty_if (is_queue q r))
+put_as q r i (answer.Popped j) = sym (empty_if (is_queue q r))
+put_as q r i answer.Empty = sym (empty_if (is_queue q r))
 
--- what it puts elsewhere, and gets, is not there
-abbrev pub PushesAway : List (List End) → QueueId → Who → Type 0
-PushesAway links q w = (r : QueueId) (i : ItemShown) (s : ℕ × QueueId) → MayPush w r i → is_queue q r ≡ false → goes links w r ≡ Some s → is_queue q s.1 ≡ false
+pub got_as : (q r : QueueId) (a : AnswerShown) → got_by q (op.Pop r) a ≡ if_named (is_queue q r) (popped_out a)
+got_as q r (answer.Popped i) = refl
+got_as q r answer.Nothing = sym (empty_if (is_queue q r))
+got_as q r (answer.Taken c) = sym (empty_if (is_queue q r))
+got_as q r answer.NoBuffer = sym (empty_if (is_queue q r))
+got_as q r answer.Given = sym (empty_if (is_queue q r))
+got_as q r (answer.PoolFull c) = sym (empty_if (is_queue q r))
+got_as q r answer.Pushed = sym (empty_if (is_queue q r))
+got_as q r (answer.Full j) = sym (empty_if (is_queue q r))
+got_as q r answer.Empty = sym (empty_if (is_queue q r))
 
-abbrev pub PopsAway : List (List End) → QueueId → Who → Type 0
-PopsAway links q w = (r : QueueId) (s : ℕ × QueueId) → MayPop w r → is_queue q r ≡ false → goes links w r ≡ Some s → is_queue q s.1 ≡ false
+-- ---- who uses a lane
 
-pub puts_same : (links : List (List End)) (q : QueueId) → IsLane q → (node : ℕ) (user w : Who) → PushesAway links q w → ((i : ItemShown) → MayPush w q i → IsUser links q node user w) → Puts links q node user w
-puts_same links q lane node user w away uses op.Nothing may a = empty_if (is_who user w) ∙ sym (no_put q node _ a (λ t e. subst (λ (o : OpShown). put_at q 0 o a ≡ []) (home_is (node_of w) op.Nothing t e) refl))
-puts_same links q lane node user w away uses op.Take may a = empty_if (is_who user w) ∙ sym (no_put q node _ a (λ t e. subst (λ (o : OpShown). put_at q 0 o a ≡ []) (home_is (node_of w) op.Take t e) refl))
-puts_same links q lane node user w away uses (op.Give b) may a = empty_if (is_who user w) ∙ sym (no_put q node _ a (λ t e. subst (λ (o : OpShown). put_at q 0 o a ≡ []) (home_is (node_of w) (op.Give b) t e) refl))
-puts_same links q lane node user w away uses (op.Pop r) may a = empty_if (is_who user w) ∙ sym (no_put q node _ a (λ t e. let (s, at, is) = pop_is (goes links w r) t e in subst (λ (o : OpShown). put_at q 0 o a ≡ []) is refl))
-puts_same links q lane node user w away uses (op.Push r i) may a = by (is_queue q r) refl where
-  by : (so : Bool) → is_queue q r ≡ so → (if is_who user w then put_by q (op.Push r i) a else []) ≡ put_there q 0 node (served links w (op.Push r i)) a
-  by true e =
-      let same : r ≡ q = sym (queue_is q r e) in
-      subst (λ (x : QueueId). (if is_who user w then put_by q (op.Push x i) a else []) ≡ put_there q 0 node (served links w (op.Push x i)) a) (sym same)
-      (push_same links q lane node user w i a (uses i (subst (λ (x : QueueId). MayPush w x i) same may)))
-  by false e = put_none q r (is_who user w) i a e ∙ sym (no_put q node _ a (λ t g.
-      let (s, at, is) = push_is (goes links w r) i t g in
-      subst (λ (o : OpShown). put_at q 0 o a ≡ []) is (ap (λ (so : Bool). if_named so (pushed_in i a)) (pushed_apart q lane s.1 i (away r i s may e at)))))
+-- whether a queue that a party names is this one of this node
+abbrev pub goes_is : ℕ → QueueId → Option (ℕ × QueueId) → Bool
+goes_is node q None = false
+goes_is node q (Some s) = (s.0 == node) && is_queue q s.1
 
-pub gets_same : (links : List (List End)) (q : QueueId) → IsLane q → (node : ℕ) (user w : Who) → PopsAway links q w → (MayPop w q → IsUser links q node user w) → Gets links q node user w
-gets_same links q lane node user w away uses op.Nothing may d a = empty_if (is_who user w) ∙ sym (no_got q d node _ a (λ t e. subst (λ (o : OpShown). got_at q 0 d o a ≡ []) (home_is (node_of w) op.Nothing t e) refl))
-gets_same links q lane node user w away uses op.Take may d a = empty_if (is_who user w) ∙ sym (no_got q d node _ a (λ t e. subst (λ (o : OpShown). got_at q 0 d o a ≡ []) (home_is (node_of w) op.Take t e) refl))
-gets_same links q lane node user w away uses (op.Give b) may d a = empty_if (is_who user w) ∙ sym (no_got q d node _ a (λ t e. subst (λ (o : OpShown). got_at q 0 d o a ≡ []) (home_is (node_of w) (op.Give b) t e) refl))
-gets_same links q lane node user w away uses (op.Push r i) may d a = empty_if (is_who user w) ∙ sym (no_got q d node _ a (λ t e. let (s, at, is) = push_is (goes links w r) i t e in subst (λ (o : OpShown). got_at q 0 d o a ≡ []) is refl))
-gets_same links q lane node user w away uses (op.Pop r) may d a = by (is_queue q r) refl where
-  by : (so : Bool) → is_queue q r ≡ so → (if is_who user w then got_by q (op.Pop r) a else []) ≡ got_there q 0 d node (served links w (op.Pop r)) a
-  by true e =
-      let same : r ≡ q = sym (queue_is q r e) in
-      subst (λ (x : QueueId). (if is_who user w then got_by q (op.Pop x) a else []) ≡ got_there q 0 d node (served links w (op.Pop x)) a) (sym same)
-      (pop_same links q lane node user w d a (uses (subst (MayPop w) same may)))
-  by false e = got_none q r (is_who user w) a e ∙ sym (no_got q d node _ a (λ t g.
-      let (s, at, is) = pop_is (goes links w r) t g in
-      subst (λ (o : OpShown). got_at q 0 d o a ≡ []) is (ap (λ (so : Bool). if_named so (popped_out a)) (popped_apart q lane d s.1 (away r s may e at)))))
+-- of all that a party may push, what goes to a lane is what it pushes to the lane's one end by the name of that; and so of what it may pop
+abbrev pub Pushes : List (List End) → PlainLane → Who → Type 0
+Pushes links l w = (r : QueueId) (i : ItemShown) → MayPush w r i → (is_who l.from.who w && is_queue l.from.queue r) ≡ goes_is l.node l.queue (goes links w r)
 
--- of a lane within a node no name is another's
-pub puts_within : (links : List (List End)) (q : QueueId) → IsWithin q → (node : ℕ) (user w : Who) → ((i : ItemShown) → MayPush w q i → IsUser links q node user w) → Puts links q node user w
-puts_within links q within node user w uses = puts_same links q (within_lane q within) node user w (λ r i s may apart at. goes_apart q within links w r s apart at) uses
-
-pub gets_within : (links : List (List End)) (q : QueueId) → IsWithin q → (node : ℕ) (user w : Who) → (MayPop w q → IsUser links q node user w) → Gets links q node user w
-gets_within links q within node user w uses = gets_same links q (within_lane q within) node user w (λ r s may apart at. goes_apart q within links w r s apart at) uses
-
--- ---- what is refused
+abbrev pub Pops : List (List End) → PlainLane → Who → Type 0
+Pops links l w = (r : QueueId) → MayPop w r → (is_who l.to.who w && is_queue l.to.queue r) ≡ goes_is l.node l.queue (goes links w r)
 
 -- an operation is a push to this queue of this node
 pub record IsPushedTo (there : Option (ℕ × OpShown)) (node : ℕ) (q : QueueId) : Type 0 where
   pub item : ItemShown
   pub at : there ≡ Some (node, op.Push q item)
 
-pub refused_there : (links : List (List End)) (q : QueueId) (node : ℕ) (user w : Who) → ((i : ItemShown) → MayPush w q i → IsUser links q node user w) → (o : OpShown) → MayAsk w o → (a : AnswerShown) → is_who user w ≡ true → IsRefused q o a
-    → IsPushedTo (served links w o) node q
-refused_there links q node user w uses (op.Push r i) may (answer.Full j) this e =
-    let same : r ≡ q = sym (queue_is q r e) in
-    let u : IsUser links q node user w = uses i (subst (λ (x : QueueId). MayPush w x i) same may) in
-    let home : u.home ≡ node = eqb-true u.home node (sym u.same ∙ this) in
-    record {
-      item = i;
-      at =
-          ap (λ (x : QueueId). served links w (op.Push x i)) same
-          ∙ ap (option_map (at_queue (λ (x : QueueId). op.Push x i))) u.goes_to
-          ∙ ap (λ (n : ℕ). Some (n, op.Push q i)) home;
-    }
-refused_there links q node user w uses _ may _ this e = absurd e
+-- nothing comes to a queue of a push that is no push, and of a pop that is none
+module _ (q : QueueId) (prio node : ℕ) where
+  pub home_put : (home : Option ℕ) (o : OpShown) (a : AnswerShown) → put_at q prio o a ≡ [] → put_there q prio node (option_map (λ n. (n, o)) home) a ≡ []
+  home_put None o a none = refl
+  home_put (Some n) o a none = ap (if_named (n == node)) none ∙ empty_if (n == node)
+
+  pub home_got : (home : Option ℕ) (o : OpShown) (d : PlainDeck) (a : AnswerShown) → got_at q prio d o a ≡ [] → got_there q prio d node (option_map (λ n. (n, o)) home) a ≡ []
+  home_got None o d a none = refl
+  home_got (Some n) o d a none = ap (if_named (n == node)) none ∙ empty_if (n == node)
+
+  pub pop_put : (there : Option (ℕ × QueueId)) (a : AnswerShown) → put_there q prio node (option_map (at_queue op.Pop) there) a ≡ []
+  pop_put None a = refl
+  pop_put (Some s) a = empty_if (s.0 == node)
+
+  pub push_got : (there : Option (ℕ × QueueId)) (i : ItemShown) (d : PlainDeck) (a : AnswerShown) → got_there q prio d node (option_map (at_queue (λ r. op.Push r i)) there) a ≡ []
+  push_got None i d a = refl
+  push_got (Some s) i d a = empty_if (s.0 == node)
+
+module _ (links : List (List End)) (l : PlainLane) (lane : IsLane l.queue) (w : Who) where
+  push_put : (there : Option (ℕ × QueueId)) (i : ItemShown) (a : AnswerShown) → put_there l.queue 0 l.node (option_map (at_queue (λ r. op.Push r i)) there) a ≡ if_named (goes_is l.node l.queue there) (pushed_in i a)
+  push_put None i a = refl
+  push_put (Some s) i a =
+      ap (λ b. if_named (s.0 == l.node) (if_named b (pushed_in i a))) (pushed_named l.queue lane s.1 i) ∙ if_both (s.0 == l.node) (is_queue l.queue s.1) (pushed_in i a)
+
+  pop_got : (there : Option (ℕ × QueueId)) (d : PlainDeck) (a : AnswerShown) → got_there l.queue 0 d l.node (option_map (at_queue op.Pop) there) a ≡ if_named (goes_is l.node l.queue there) (popped_out a)
+  pop_got None d a = refl
+  pop_got (Some s) d a =
+      ap (λ b. if_named (s.0 == l.node) (if_named b (popped_out a))) (popped_named l.queue lane d s.1) ∙ if_both (s.0 == l.node) (is_queue l.queue s.1) (popped_out a)
+
+  -- what it puts and gets by its own names is what goes there
+  pub puts_same : Pushes links l w → (o : OpShown) → MayAsk w o → (a : AnswerShown) → (if is_who l.from.who w then put_by l.from.queue o a else []) ≡ put_there l.queue 0 l.node (served links w o) a
+  puts_same named op.Nothing may a = empty_if (is_who l.from.who w) ∙ sym (home_put l.queue 0 l.node (node_of w) op.Nothing a refl)
+  puts_same named op.Take may a = empty_if (is_who l.from.who w) ∙ sym (home_put l.queue 0 l.node (node_of w) op.Take a refl)
+  puts_same named (op.Give b) may a = empty_if (is_who l.from.who w) ∙ sym (home_put l.queue 0 l.node (node_of w) (op.Give b) a refl)
+  puts_same named (op.Pop r) may a = empty_if (is_who l.from.who w) ∙ sym (pop_put l.queue 0 l.node (goes links w r) a)
+  puts_same named (op.Push r i) may a =
+      ap (if_named (is_who l.from.who w)) (put_as l.from.queue r i a)
+      ∙ if_both (is_who l.from.who w) (is_queue l.from.queue r) (pushed_in i a)
+      ∙ ap (λ b. if_named b (pushed_in i a)) (named r i may)
+      ∙ sym (push_put (goes links w r) i a)
+
+  pub gets_same : Pops links l w → (o : OpShown) → MayAsk w o → (d : PlainDeck) (a : AnswerShown) → (if is_who l.to.who w then got_by l.to.queue o a else []) ≡ got_there l.queue 0 d l.node (served links w o) a
+  gets_same named op.Nothing may d a = empty_if (is_who l.to.who w) ∙ sym (home_got l.queue 0 l.node (node_of w) op.Nothing d a refl)
+  gets_same named op.Take may d a = empty_if (is_who l.to.who w) ∙ sym (home_got l.queue 0 l.node (node_of w) op.Take d a refl)
+  gets_same named (op.Give b) may d a = empty_if (is_who l.to.who w) ∙ sym (home_got l.queue 0 l.node (node_of w) (op.Give b) d a refl)
+  gets_same named (op.Push r i) may d a = empty_if (is_who l.to.who w) ∙ sym (push_got l.queue 0 l.node (goes links w r) i d a)
+  gets_same named (op.Pop r) may d a =
+      ap (if_named (is_who l.to.who w)) (got_as l.to.queue r a)
+      ∙ if_both (is_who l.to.who w) (is_queue l.to.queue r) (popped_out a)
+      ∙ ap (λ b. if_named b (popped_out a)) (named r may)
+      ∙ sym (pop_got (goes links w r) d a)
+
+  -- and what is refused is a push there
+  pub refused_there : Pushes links l w → (o : OpShown) → MayAsk w o → (a : AnswerShown) → is_who l.from.who w ≡ true → IsRefused l.from.queue o a → IsPushedTo (served links w o) l.node l.queue
+  refused_there named (op.Push r i) may (answer.Full j) this e =
+      by (goes links w r) (sym (named r i may) ∙ (λ k. this k && e k))
+    where
+      both : (s t : Bool) → (s && t) ≡ true → (s ≡ true) × (t ≡ true)
+      both true t g = (refl, g)
+      both false t g = absurd cc
+
+      by : (there : Option (ℕ × QueueId)) → goes_is l.node l.queue there ≡ true → IsPushedTo (option_map (at_queue (λ x. op.Push x i)) there) l.node l.queue
+      by None g = absurd cc
+      by (Some s) g =
+          let (home, called) = both (s.0 == l.node) (is_queue l.queue s.1) g in
+          record { item = i; at = λ k. Some (eqb-true s.0 l.node home k, op.Push (sym (queue_is l.queue s.1 called) k) i) }
+  refused_there named _ may _ this e = absurd e
+
+-- ---- a queue of a node's own party
+
+-- of a queue that it may not use by another name it is enough to know whether it is of the node
+pub own_named : (so here : Bool) (q r : QueueId) (May : QueueId → Type 0) → May r → (May q → so ≡ here) → (so && is_queue q r) ≡ (here && is_queue q r)
+own_named so here q r May may same = by (is_queue q r) refl where
+  by : (b : Bool) → is_queue q r ≡ b → (so && b) ≡ (here && b)
+  by true e = ap (λ t. t && true) (same (subst May (sym (queue_is q r e)) may))
+  by false e = and-false so ∙ sym (and-false here)

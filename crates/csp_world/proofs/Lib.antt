@@ -1,3 +1,4 @@
+mod AlwaysLemmas
 mod AnsweredLemmas
 mod ClosingEnds
 mod ClosingMembers

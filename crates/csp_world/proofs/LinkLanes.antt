@@ -1,41 +1,35 @@
--- What a link puts into the lanes at its ends, and gets there.
-use Rattle.std.proofs.Common.{◌≡◌, ◌<◌, ℕ, ◌==◌, ◌&&◌, Bool, true, false, Option, None, Some, List, [], length, refl, sym, subst, ap, ◌∙◌}
-use Rattle.std.specs.Prelude.{slice_get, if◌then◌else◌}
+-- Who uses the lanes at the ends of links.
+use Rattle.std.proofs.Common.{◌≡◌, ◌<◌, ℕ, suc, ◌+◌, ◌==◌, ◌&&◌, Bool, true, false, Option, None, Some, List, [], ◌∷◌, length, refl, sym, ap, ◌∙◌, arith}
+use Rattle.std.specs.Prelude.{slice_get}
 use Rattle.std.specs.List.{AllByRecursion}
 use Rattle.std.specs.Option.{option_and_then, option_map}
 use Rattle.std.proofs.lemmas.Bool.{eq-eqb, eqb-true, lt-ltb}
 use Rattle.std.proofs.lemmas.Option.{same_Some, slice_get-map, slice_get_within}
 use Rattle.csp_consistent.proofs.Public.{each_at}
-use Rattle.csp_consistent.specs.Lanes.{IsRefused}
+use Rattle.csp_consistent.specs.Pools.{is_node}
 use Rattle.csp_topology.proofs.Public.{OfEnd, all_lanes}
 use Rattle.csp_topology.specs.Wires.{joint_of, lanes_of, rx_lane, tx_lane}
-use Rattle.csp_consistent.specs.Queues.{MayAsk, MayPop, MayPush}
-use Rattle.csp_consistent.specs.Reading.{got_by, is_queue, put_by}
+use Rattle.csp_consistent.specs.Queues.{MayPop, MayPush}
+use Rattle.csp_consistent.specs.Reading.{is_queue}
 use Rattle.csp_log.specs.Kinds.{carried_on}
-use Rattle.csp_lists.specs.PlainDeck.{PlainDeck}
 use Rattle.csp_log.specs.declared.places.Carries.{Carries}
 use Rattle.csp_log.specs.declared.places.End.{End}
 use Rattle.csp_log.specs.declared.places.QueueId.{QueueId}
 use Rattle.csp_log.specs.declared.places.QueueId.TheVariants as queue
-use Rattle.csp_log.specs.declared.shown.AnswerShown.{AnswerShown}
-use Rattle.csp_log.specs.declared.shown.AnswerShown.TheVariants as answer
 use Rattle.csp_log.specs.declared.shown.ItemShown.{ItemShown}
-use Rattle.csp_log.specs.declared.shown.OpShown.{OpShown}
-use Rattle.csp_log.specs.declared.shown.OpShown.TheVariants as op
-use Rattle.csp_nodes.specs.Serving.{at_end, at_queue, goes, served}
-use Rattle.csp_log.specs.Who.{is_who}
+use Rattle.csp_nodes.specs.Serving.{at_end, goes}
+use Rattle.csp_log.specs.Who.{is_who, node_of}
 use Rattle.csp_log.specs.declared.who.Who.{Who}
 use Rattle.csp_log.specs.declared.who.Who.TheVariants as who
 use Rattle.csp_scene.specs.Kept.{AreLinksAfter}
 use Rattle.csp_scene.specs.Links.{links_at}
 use Rattle.csp_scene.specs.Ranges.{IsEnd, IsLink, IsScene}
 use Rattle.csp_scene.specs.Scene.{PlainLink, PlainNode, PlainScene}
-use Rattle.csp_world.proofs.ContentLemmas.{if_named, popped_out, pushed_in}
 use Rattle.csp_world.proofs.EndsApart.{AreEndsApart, ends_apart, ends_in}
-use Rattle.csp_world.proofs.InboxNames.{pop_is, push_is}
-use Rattle.csp_world.proofs.LaneLemmas.{IsLaneOf, apps_lanes, as_many, carried_at, iface_user, outs_lanes}
-use Rattle.csp_world.proofs.LaneNames.{IsPushedTo, IsUser, PopsAway, PushesAway, gets_same, no_got, no_put, own_apart, puts_same, refused_there}
-use Rattle.csp_world.proofs.MovedLemmas.{got_at, got_there, put_at, put_there}
+use Rattle.csp_world.proofs.InboxNames.{IsParty}
+use Rattle.csp_world.proofs.LaneLemmas.{IsLaneOf, apps_lanes, as_many, carried_at, numbered, outs_lanes, own_popped, own_pushed}
+use Rattle.csp_world.proofs.LaneNames.{goes_is, own_named}
+use Rattle.csp_world.proofs.OpeningScene.{one_there}
 
 -- the end of a link at a place
 abbrev pub end_of : List (List End) → ℕ → ℕ → Option End
@@ -88,7 +82,7 @@ module _ (links : List (List End)) (apart : AreEndsApart links) (j a : ℕ) (es 
         let bad : None ≡ Some x = sym e ∙ at in
         absurd cc
 
--- ---- what a link gets and puts
+-- ---- where a link's lanes are
 
 -- a lane of a link is that of the interface at its end
 tx_goes : (links : List (List End)) (k b : ℕ) → goes links (who.Link k) (queue.Tx b) ≡ option_map (λ (y : End). (y.node, queue.Tx y.iface)) (end_of links k b)
@@ -103,188 +97,57 @@ rx_goes links k b = by (slice_get links k) where
   by None = refl
   by (Some ends) = refl
 
-empty_if : (so : Bool) (items : List ItemShown) → items ≡ [] → (if so then items else []) ≡ []
-empty_if true items e = e
-empty_if false items e = refl
-
--- two tests, one after the other
-twice : (s t : Bool) (items : List ItemShown) → (if s then if t then items else [] else []) ≡ (if s && t then items else [])
-twice true t items = refl
-twice false t items = refl
-
-got_tx : (a b : ℕ) (x : AnswerShown) → got_by (queue.Tx a) (op.Pop (queue.Tx b)) x ≡ (if b == a then popped_out x else [])
-got_tx a b (answer.Popped i) = refl
-got_tx a b answer.Nothing = sym (empty_if (b == a) [] refl)
-got_tx a b (answer.Taken c) = sym (empty_if (b == a) [] refl)
-got_tx a b answer.NoBuffer = sym (empty_if (b == a) [] refl)
-got_tx a b answer.Given = sym (empty_if (b == a) [] refl)
-got_tx a b (answer.PoolFull c) = sym (empty_if (b == a) [] refl)
-got_tx a b answer.Pushed = sym (empty_if (b == a) [] refl)
-got_tx a b (answer.Full j) = sym (empty_if (b == a) [] refl)
-got_tx a b answer.Empty = sym (empty_if (b == a) [] refl)
-
-put_rx : (a b : ℕ) (i : ItemShown) (x : AnswerShown) → put_by (queue.Rx a) (op.Push (queue.Rx b) i) x ≡ (if b == a then pushed_in i x else [])
-put_rx a b i answer.Pushed = refl
-put_rx a b i answer.Nothing = sym (empty_if (b == a) [] refl)
-put_rx a b i (answer.Taken c) = sym (empty_if (b == a) [] refl)
-put_rx a b i answer.NoBuffer = sym (empty_if (b == a) [] refl)
-put_rx a b i answer.Given = sym (empty_if (b == a) [] refl)
-put_rx a b i (answer.PoolFull c) = sym (empty_if (b == a) [] refl)
-put_rx a b i (answer.Full j) = sym (empty_if (b == a) [] refl)
-put_rx a b i (answer.Popped j) = sym (empty_if (b == a) [] refl)
-put_rx a b i answer.Empty = sym (empty_if (b == a) [] refl)
-
-and-true : (b : Bool) → (b && true) ≡ b
-and-true true = refl
-and-true false = refl
-
-module _ (links : List (List End)) (apart : AreEndsApart links) (j a : ℕ) (es : List End) (x : End) (link : slice_get links j ≡ Some es) (there : slice_get es a ≡ Some x) where
-  pub link_gets : (k b : ℕ) (d : PlainDeck) (y : AnswerShown) → (if is_who (who.Link j) (who.Link k) then got_by (queue.Tx a) (op.Pop (queue.Tx b)) y else []) ≡ got_there (queue.Tx x.iface) 0 d x.node (served links (who.Link k) (op.Pop (queue.Tx b))) y
-  link_gets k b d y =
-      ap (λ (is : List ItemShown). if k == j then is else []) (got_tx a b y)
-      ∙ twice (k == j) (b == a) (popped_out y)
-      ∙ by (end_of links k b) refl
-      ∙ sym (ap (λ (o : Option (ℕ × QueueId)). got_there (queue.Tx x.iface) 0 d x.node (option_map (at_queue op.Pop) o) y) (tx_goes links k b)) where
-        by : (o : Option End) → end_of links k b ≡ o → (if (k == j) && (b == a) then popped_out y else []) ≡ got_there (queue.Tx x.iface) 0 d x.node (option_map (at_queue op.Pop) (option_map (λ (z : End). (z.node, queue.Tx z.iface)) o)) y
-        by None e = ap (λ (so : Bool). if so then popped_out y else []) (no_end links apart j a es x link there k b e)
-        by (Some z) e =
-            ap (λ (so : Bool). if so then popped_out y else []) (same_end links apart j a es x link there k b z e)
-            ∙ sym (twice (z.node == x.node) (z.iface == x.iface) (popped_out y))
-            ∙ ap (λ (so : Bool). if z.node == x.node then if_named so (popped_out y) else []) (sym (and-true (z.iface == x.iface)))
-
-  pub link_puts : (k b : ℕ) (i : ItemShown) (y : AnswerShown) → (if is_who (who.Link j) (who.Link k) then put_by (queue.Rx a) (op.Push (queue.Rx b) i) y else []) ≡ put_there (queue.Rx x.iface) 0 x.node (served links (who.Link k) (op.Push (queue.Rx b) i)) y
-  link_puts k b i y =
-      ap (λ (is : List ItemShown). if k == j then is else []) (put_rx a b i y)
-      ∙ twice (k == j) (b == a) (pushed_in i y)
-      ∙ by (end_of links k b) refl
-      ∙ sym (ap (λ (o : Option (ℕ × QueueId)). put_there (queue.Rx x.iface) 0 x.node (option_map (at_queue (λ r. op.Push r i)) o) y) (rx_goes links k b)) where
-        by : (o : Option End) → end_of links k b ≡ o → (if (k == j) && (b == a) then pushed_in i y else []) ≡ put_there (queue.Rx x.iface) 0 x.node (option_map (at_queue (λ r. op.Push r i)) (option_map (λ (z : End). (z.node, queue.Rx z.iface)) o)) y
-        by None e = ap (λ (so : Bool). if so then pushed_in i y else []) (no_end links apart j a es x link there k b e)
-        by (Some z) e =
-            ap (λ (so : Bool). if so then pushed_in i y else []) (same_end links apart j a es x link there k b z e)
-            ∙ sym (twice (z.node == x.node) (z.iface == x.iface) (pushed_in i y))
-            ∙ ap (λ (so : Bool). if z.node == x.node then if_named so (pushed_in i y) else []) (sym (and-true (z.iface == x.iface)))
-
 -- ---- the lanes of an end
 
 module _ (scene : PlainScene) (links : List (List End)) (apart : AreEndsApart links) (j a : ℕ) (es : List End) (x : End) (link : slice_get links j ≡ Some es) (there : slice_get es a ≡ Some x) (n : PlainNode) (at : slice_get scene.nodes x.node ≡ Some n) where
-  -- no link puts into the lane to it
-  tx_pushes : (w : Who) → PushesAway links (queue.Tx x.iface) w
-  tx_pushes (who.Router m) r i s may e g = own_apart (queue.Tx x.iface) m r s e g
-  tx_pushes (who.Bridge m) r i s may e g = own_apart (queue.Tx x.iface) m r s e g
-  tx_pushes (who.Iface m k) r i s may e g = own_apart (queue.Tx x.iface) m r s e g
-  tx_pushes (who.App m k) r i s may e g = own_apart (queue.Tx x.iface) m r s e g
-  tx_pushes (who.Link k) (queue.Rx b) i s may e g = by (end_of links k b) (sym (rx_goes links k b) ∙ g) where
-    by : (o : Option End) → option_map (λ (y : End). (y.node, queue.Rx y.iface)) o ≡ Some s → is_queue (queue.Tx x.iface) s.1 ≡ false
-    by None f = absurd cc
-    by (Some y) f = ap (λ (t : ℕ × QueueId). is_queue (queue.Tx x.iface) t.1) (sym (same_Some (y.node, queue.Rx y.iface) s f))
-  tx_pushes (who.Link k) queue.Inbox i s may e g = absurd may
-  tx_pushes (who.Link k) (queue.Up b) i s may e g = absurd may
-  tx_pushes (who.Link k) (queue.Down b) i s may e g = absurd may
-  tx_pushes (who.Link k) (queue.Out b) i s may e g = absurd may
-  tx_pushes (who.Link k) (queue.Tx b) i s may e g = absurd may
+  abbrev IsThere : Who → Type 0
+  IsThere w = IsParty scene.nodes scene.links w
 
-  -- and none gets from the lane from it
-  rx_pops : (w : Who) → PopsAway links (queue.Rx x.iface) w
-  rx_pops (who.Router m) r s may e g = own_apart (queue.Rx x.iface) m r s e g
-  rx_pops (who.Bridge m) r s may e g = own_apart (queue.Rx x.iface) m r s e g
-  rx_pops (who.Iface m k) r s may e g = own_apart (queue.Rx x.iface) m r s e g
-  rx_pops (who.App m k) r s may e g = own_apart (queue.Rx x.iface) m r s e g
-  rx_pops (who.Link k) (queue.Tx b) s may e g = by (end_of links k b) (sym (tx_goes links k b) ∙ g) where
-    by : (o : Option End) → option_map (λ (y : End). (y.node, queue.Tx y.iface)) o ≡ Some s → is_queue (queue.Rx x.iface) s.1 ≡ false
-    by None f = absurd cc
-    by (Some y) f = ap (λ (t : ℕ × QueueId). is_queue (queue.Rx x.iface) t.1) (sym (same_Some (y.node, queue.Tx y.iface) s f))
-  rx_pops (who.Link k) queue.Inbox s may e g = absurd may
-  rx_pops (who.Link k) (queue.Up b) s may e g = absurd may
-  rx_pops (who.Link k) (queue.Down b) s may e g = absurd may
-  rx_pops (who.Link k) (queue.Out b) s may e g = absurd may
-  rx_pops (who.Link k) (queue.Rx b) s may e g = absurd may
+  -- to and from the link its interface uses them
+  tx_putter : (w : Who) → IsThere w → (i : ItemShown) → MayPush w (queue.Tx x.iface) i → is_who (who.Iface x.node x.iface) w ≡ is_node x.node (node_of w)
+  tx_putter (who.Iface m k) is i may = numbered x.node m k x.iface may
+  tx_putter (who.Router m) is i may = absurd may
+  tx_putter (who.Bridge m) is i may = absurd may
+  tx_putter (who.App m k) is i may = absurd may
+  tx_putter (who.Link k) is i may = absurd may
 
-  -- its interface does
-  tx_putter : (w : Who) (i : ItemShown) → MayPush w (queue.Tx x.iface) i → IsUser links (queue.Tx x.iface) x.node (who.Iface x.node x.iface) w
-  tx_putter (who.Iface m k) i may = iface_user scene links x.node n at x.iface (queue.Tx x.iface) m k may
-  tx_putter (who.Router m) i may = absurd may
-  tx_putter (who.Bridge m) i may = absurd may
-  tx_putter (who.App m k) i may = absurd may
-  tx_putter (who.Link k) i may = absurd may
+  rx_getter : (w : Who) → IsThere w → MayPop w (queue.Rx x.iface) → is_who (who.Iface x.node x.iface) w ≡ is_node x.node (node_of w)
+  rx_getter (who.Iface m k) is may = numbered x.node m k x.iface may
+  rx_getter (who.Router m) is may = absurd may
+  rx_getter (who.Bridge m) is may = absurd may
+  rx_getter (who.App m k) is may = absurd may
+  rx_getter (who.Link k) is may = absurd may
 
-  rx_getter : (w : Who) → MayPop w (queue.Rx x.iface) → IsUser links (queue.Rx x.iface) x.node (who.Iface x.node x.iface) w
-  rx_getter (who.Iface m k) may = iface_user scene links x.node n at x.iface (queue.Rx x.iface) m k may
-  rx_getter (who.Router m) may = absurd may
-  rx_getter (who.Bridge m) may = absurd may
-  rx_getter (who.App m k) may = absurd may
-  rx_getter (who.Link k) may = absurd may
+  -- and of links this one, by the place of the end
+  tx_getter : (w : Who) (r : QueueId) → MayPop w r → (is_who (who.Link j) w && is_queue (queue.Tx a) r) ≡ goes_is x.node (queue.Tx x.iface) (goes links w r)
+  tx_getter (who.Router m) r may = own_named false (m == x.node) (queue.Tx x.iface) r (MayPop (who.Router m)) may (λ on. absurd on)
+  tx_getter (who.Bridge m) r may = own_named false (m == x.node) (queue.Tx x.iface) r (MayPop (who.Bridge m)) may (λ on. absurd on)
+  tx_getter (who.Iface m k) r may = own_named false (m == x.node) (queue.Tx x.iface) r (MayPop (who.Iface m k)) may (λ on. absurd on)
+  tx_getter (who.App m k) r may = own_named false (m == x.node) (queue.Tx x.iface) r (MayPop (who.App m k)) may (λ on. absurd on)
+  tx_getter (who.Link k) (queue.Tx b) may = by (end_of links k b) refl ∙ sym (ap (goes_is x.node (queue.Tx x.iface)) (tx_goes links k b)) where
+    by : (o : Option End) → end_of links k b ≡ o → ((k == j) && (b == a)) ≡ goes_is x.node (queue.Tx x.iface) (option_map (λ (z : End). (z.node, queue.Tx z.iface)) o)
+    by None e = no_end links apart j a es x link there k b e
+    by (Some z) e = same_end links apart j a es x link there k b z e
+  tx_getter (who.Link k) queue.Inbox may = absurd may
+  tx_getter (who.Link k) (queue.Up b) may = absurd may
+  tx_getter (who.Link k) (queue.Down b) may = absurd may
+  tx_getter (who.Link k) (queue.Out b) may = absurd may
+  tx_getter (who.Link k) (queue.Rx b) may = absurd may
 
-  -- what its link gets
-  abbrev GetsTx : Who → OpShown → Type 0
-  GetsTx w o = (d : PlainDeck) (y : AnswerShown) → (if is_who (who.Link j) w then got_by (queue.Tx a) o y else []) ≡ got_there (queue.Tx x.iface) 0 d x.node (served links w o) y
-
-  link_gets_tx : (k : ℕ) (o : OpShown) → MayAsk (who.Link k) o → GetsTx (who.Link k) o
-  link_gets_tx k op.Nothing may d y = empty_if (k == j) [] refl
-  link_gets_tx k op.Take may d y = empty_if (k == j) [] refl
-  link_gets_tx k (op.Give b) may d y = empty_if (k == j) [] refl
-  link_gets_tx k (op.Push r i) may d y =
-      empty_if (k == j) [] refl
-      ∙ sym (no_got (queue.Tx x.iface) d x.node _ y (λ t e. let (s, on, is) = push_is (goes links (who.Link k) r) i t e in subst (λ (o : OpShown). got_at (queue.Tx x.iface) 0 d o y ≡ []) is refl))
-  link_gets_tx k (op.Pop (queue.Tx b)) may d y = link_gets links apart j a es x link there k b d y
-  link_gets_tx k (op.Pop queue.Inbox) may d y = absurd may
-  link_gets_tx k (op.Pop (queue.Up b)) may d y = absurd may
-  link_gets_tx k (op.Pop (queue.Down b)) may d y = absurd may
-  link_gets_tx k (op.Pop (queue.Out b)) may d y = absurd may
-  link_gets_tx k (op.Pop (queue.Rx b)) may d y = absurd may
-
-  tx_gets : (w : Who) (o : OpShown) → MayAsk w o → GetsTx w o
-  tx_gets (who.Link k) o may d y = link_gets_tx k o may d y
-  tx_gets (who.Router m) o may d y = gets_same links (queue.Tx x.iface) refl x.node (who.Link j) (who.Router m) (λ r s on e g. own_apart (queue.Tx x.iface) m r s e g) (λ on. absurd on) o may d y
-  tx_gets (who.Bridge m) o may d y = gets_same links (queue.Tx x.iface) refl x.node (who.Link j) (who.Bridge m) (λ r s on e g. own_apart (queue.Tx x.iface) m r s e g) (λ on. absurd on) o may d y
-  tx_gets (who.Iface m k) o may d y = gets_same links (queue.Tx x.iface) refl x.node (who.Link j) (who.Iface m k) (λ r s on e g. own_apart (queue.Tx x.iface) m r s e g) (λ on. absurd on) o may d y
-  tx_gets (who.App m k) o may d y = gets_same links (queue.Tx x.iface) refl x.node (who.Link j) (who.App m k) (λ r s on e g. own_apart (queue.Tx x.iface) m r s e g) (λ on. absurd on) o may d y
-
-  -- and puts
-  abbrev PutsRx : Who → OpShown → Type 0
-  PutsRx w o = (y : AnswerShown) → (if is_who (who.Link j) w then put_by (queue.Rx a) o y else []) ≡ put_there (queue.Rx x.iface) 0 x.node (served links w o) y
-
-  link_puts_rx : (k : ℕ) (o : OpShown) → MayAsk (who.Link k) o → PutsRx (who.Link k) o
-  link_puts_rx k op.Nothing may y = empty_if (k == j) [] refl
-  link_puts_rx k op.Take may y = empty_if (k == j) [] refl
-  link_puts_rx k (op.Give b) may y = empty_if (k == j) [] refl
-  link_puts_rx k (op.Pop r) may y =
-      empty_if (k == j) [] refl
-      ∙ sym (no_put (queue.Rx x.iface) x.node _ y (λ t e. let (s, on, is) = pop_is (goes links (who.Link k) r) t e in subst (λ (o : OpShown). put_at (queue.Rx x.iface) 0 o y ≡ []) is refl))
-  link_puts_rx k (op.Push (queue.Rx b) i) may y = link_puts links apart j a es x link there k b i y
-  link_puts_rx k (op.Push queue.Inbox i) may y = absurd may
-  link_puts_rx k (op.Push (queue.Up b) i) may y = absurd may
-  link_puts_rx k (op.Push (queue.Down b) i) may y = absurd may
-  link_puts_rx k (op.Push (queue.Out b) i) may y = absurd may
-  link_puts_rx k (op.Push (queue.Tx b) i) may y = absurd may
-
-  rx_puts : (w : Who) (o : OpShown) → MayAsk w o → PutsRx w o
-  rx_puts (who.Link k) o may y = link_puts_rx k o may y
-  rx_puts (who.Router m) o may y = puts_same links (queue.Rx x.iface) refl x.node (who.Link j) (who.Router m) (λ r i s on e g. own_apart (queue.Rx x.iface) m r s e g) (λ i on. absurd on) o may y
-  rx_puts (who.Bridge m) o may y = puts_same links (queue.Rx x.iface) refl x.node (who.Link j) (who.Bridge m) (λ r i s on e g. own_apart (queue.Rx x.iface) m r s e g) (λ i on. absurd on) o may y
-  rx_puts (who.Iface m k) o may y = puts_same links (queue.Rx x.iface) refl x.node (who.Link j) (who.Iface m k) (λ r i s on e g. own_apart (queue.Rx x.iface) m r s e g) (λ i on. absurd on) o may y
-  rx_puts (who.App m k) o may y = puts_same links (queue.Rx x.iface) refl x.node (who.Link j) (who.App m k) (λ r i s on e g. own_apart (queue.Rx x.iface) m r s e g) (λ i on. absurd on) o may y
-
-  rx_refused : (w : Who) (o : OpShown) (y : AnswerShown) → is_who (who.Link j) w ≡ true → IsRefused (queue.Rx a) o y → IsPushedTo (served links w o) x.node (queue.Rx x.iface)
-  rx_refused (who.Link k) (op.Push (queue.Rx b) i) (answer.Full z) this e =
-      let here : end_of links j a ≡ Some x = ap (λ o. option_and_then (λ (ends : List End). slice_get ends a) o) link ∙ there in
-      let end : end_of links k b ≡ Some x = ap (λ m. end_of links m b) (eqb-true k j this) ∙ ap (end_of links j) (eqb-true b a e) ∙ here in
-      record {
-        item = i;
-        at =
-            ap (option_map (at_queue (λ r. op.Push r i))) (rx_goes links k b)
-            ∙ ap (λ (o : Option End). option_map (at_queue (λ r. op.Push r i)) (option_map (λ (z : End). (z.node, queue.Rx z.iface)) o)) end;
-      }
-  rx_refused (who.Link k) (op.Push queue.Inbox i) (answer.Full z) this e = absurd cc
-  rx_refused (who.Link k) (op.Push (queue.Up b) i) (answer.Full z) this e = absurd cc
-  rx_refused (who.Link k) (op.Push (queue.Down b) i) (answer.Full z) this e = absurd cc
-  rx_refused (who.Link k) (op.Push (queue.Out b) i) (answer.Full z) this e = absurd cc
-  rx_refused (who.Link k) (op.Push (queue.Tx b) i) (answer.Full z) this e = absurd cc
-  rx_refused (who.Router m) o y this e = absurd cc
-  rx_refused (who.Bridge m) o y this e = absurd cc
-  rx_refused (who.Iface m k) o y this e = absurd cc
-  rx_refused (who.App m k) o y this e = absurd cc
-  rx_refused (who.Link k) _ _ this e = absurd e
+  rx_putter : (w : Who) (r : QueueId) (i : ItemShown) → MayPush w r i → (is_who (who.Link j) w && is_queue (queue.Rx a) r) ≡ goes_is x.node (queue.Rx x.iface) (goes links w r)
+  rx_putter (who.Router m) r i may = own_named false (m == x.node) (queue.Rx x.iface) r (λ s. MayPush (who.Router m) s i) may (λ on. absurd on)
+  rx_putter (who.Bridge m) r i may = own_named false (m == x.node) (queue.Rx x.iface) r (λ s. MayPush (who.Bridge m) s i) may (λ on. absurd on)
+  rx_putter (who.Iface m k) r i may = own_named false (m == x.node) (queue.Rx x.iface) r (λ s. MayPush (who.Iface m k) s i) may (λ on. absurd on)
+  rx_putter (who.App m k) r i may = own_named false (m == x.node) (queue.Rx x.iface) r (λ s. MayPush (who.App m k) s i) may (λ on. absurd on)
+  rx_putter (who.Link k) (queue.Rx b) i may = by (end_of links k b) refl ∙ sym (ap (goes_is x.node (queue.Rx x.iface)) (rx_goes links k b)) where
+    by : (o : Option End) → end_of links k b ≡ o → ((k == j) && (b == a)) ≡ goes_is x.node (queue.Rx x.iface) (option_map (λ (z : End). (z.node, queue.Rx z.iface)) o)
+    by None e = no_end links apart j a es x link there k b e
+    by (Some z) e = same_end links apart j a es x link there k b z e
+  rx_putter (who.Link k) queue.Inbox i may = absurd may
+  rx_putter (who.Link k) (queue.Up b) i may = absurd may
+  rx_putter (who.Link k) (queue.Down b) i may = absurd may
+  rx_putter (who.Link k) (queue.Out b) i may = absurd may
+  rx_putter (who.Link k) (queue.Tx b) i may = absurd may
 
   lanes_of_end : (carries : Carries) → x.iface < length (links_at x.node scene.links) → IsLaneOf scene links (tx_lane (joint_of j carries a x)) × IsLaneOf scene links (rx_lane (joint_of j carries a x))
   lanes_of_end carries low = (
@@ -293,18 +156,16 @@ module _ (scene : PlainScene) (links : List (List End)) (apart : AreEndsApart li
       there = at;
       lane = refl;
       stands = rw (lt-ltb x.iface (length (carried_at x.node scene.links)) (as_many x.node scene.links x.iface low)) refl;
-      puts = λ w is. puts_same links (queue.Tx x.iface) refl x.node (who.Iface x.node x.iface) w (tx_pushes w) (tx_putter w);
-      gets = λ w is. tx_gets w;
-      refused = λ w is. refused_there links (queue.Tx x.iface) x.node (who.Iface x.node x.iface) w (tx_putter w);
+      pushes = own_pushed links x.node (queue.Tx x.iface) IsThere (who.Iface x.node x.iface) (λ k. refl) (λ m. refl) tx_putter;
+      pops = λ w is. tx_getter w;
     },
     record {
       node = n;
       there = at;
       lane = refl;
       stands = rw (lt-ltb x.iface (length (carried_at x.node scene.links)) (as_many x.node scene.links x.iface low)) refl;
-      puts = λ w is. rx_puts w;
-      gets = λ w is. gets_same links (queue.Rx x.iface) refl x.node (who.Iface x.node x.iface) w (rx_pops w) (rx_getter w);
-      refused = λ w is o may y. rx_refused w o y;
+      pushes = λ w is. rx_putter w;
+      pops = own_popped links x.node (queue.Rx x.iface) IsThere (who.Iface x.node x.iface) (λ k. refl) (λ m. refl) rx_getter;
     },
   )
 

@@ -1,6 +1,6 @@
 -- The log of each party is that of a run of its turns from its opening.
-use Rattle.std.proofs.Common.{◌≡◌, ℕ, zero, suc, ◌+◌, ◌≤◌, Bool, true, false, Option, None, Some, List, [], ◌∷◌, ◌++◌, map, set, refl, sym, subst, ap, ◌∙◌, arith}
-use Rattle.std.specs.Prelude.{slice_get, if◌then◌else◌}
+use Rattle.std.proofs.Common.{◌≡◌, ℕ, zero, suc, ◌+◌, ◌≤◌, false, Some, List, [], ◌∷◌, ◌++◌, map, set, refl, sym, subst, ap, ◌∙◌, arith}
+use Rattle.std.specs.Prelude.{slice_get}
 use Rattle.std.proofs.lemmas.Option.{same_Some}
 use Rattle.csp_topology.specs.Parties.{PlainOpening, party_steps}
 use Rattle.csp_consistent.specs.Runs.{AreLogsOf}
@@ -13,7 +13,7 @@ use Rattle.csp_party.specs.Any.{PlainParty, asked, asks, events, has_ended, pres
 use Rattle.csp_world.proofs.AnsweredLemmas.{fits_answer}
 use Rattle.csp_world.specs.Opening.{new_member}
 use Rattle.csp_world.specs.Record.{member_log}
-use Rattle.csp_world.specs.World.{PlainMember, PlainWorld, answered, told, turn, turn_at, turned}
+use Rattle.csp_world.specs.World.{PlainMember, PlainWorld, answered, told, turned}
 
 -- a party has taken the turns of its log from this opening, none of them after this time
 pub record IsLogged (time : ℕ) (o : PlainOpening) (m : PlainMember) : Type 0 where
@@ -62,22 +62,12 @@ logged_set time (o ∷ os) (x ∷ ms) zero m n at f h = (f o (subst (IsLogged ti
 logged_set time (o ∷ os) (x ∷ ms) (suc place) m n at f h = (h.0, logged_set time os ms place m n at f h.1)
 
 -- in a turn of a world
-logged_turn_at : (w : PlainWorld) (os : List PlainOpening) (place : ℕ) (found : Option PlainMember) → slice_get w.members place ≡ found → AreLogged w.time os w.members → AreLogged (turn_at w place found).time os (turn_at w place found).members
-logged_turn_at w os place None at h = h
-logged_turn_at w os place (Some m) at h = by (has_ended m.party) refl where
-  after : Bool → PlainWorld
-  after ended = (if ended then w else turned w place m)
-
-  by : (ended : Bool) → has_ended m.party ≡ ended → AreLogged (after ended).time os (after ended).members
-  by true e = h
-  by false e =
-      let a = answered w.decks w.links w.time m in
-      logged_set w.time os w.members place m (told m w.time a.0) at
-      (λ o l. logged_told w.time o m a.0 e (fits_answer w.decks w.links m.who (asks m.party w.time)) l) h
-
-pub logged_turn : (w : PlainWorld) (os : List PlainOpening) (place : ℕ) → AreLogged w.time os w.members → AreLogged (turn w place).time os (turn w place).members
-unfolding turn
-logged_turn w os place h = logged_turn_at w os place (slice_get w.members place) refl h
+pub logged_turned : (w : PlainWorld) (os : List PlainOpening) (place : ℕ) (m : PlainMember) → slice_get w.members place ≡ Some m → has_ended m.party ≡ false → AreLogged w.time os w.members
+    → AreLogged (turned w place m).time os (turned w place m).members
+logged_turned w os place m at e h =
+    let a = answered w.decks w.links w.time m in
+    logged_set w.time os w.members place m (told m w.time a.0) at
+    (λ o l. logged_told w.time o m a.0 e (fits_answer w.decks w.links m.who (asks m.party w.time)) l) h
 
 -- and in a tick
 pub logged_tick : (time : ℕ) (os : List PlainOpening) (ms : List PlainMember) → AreLogged time os ms → AreLogged (time + 1) os ms

@@ -1,6 +1,6 @@
 -- What is true of each world that turns and ticks make of a scene's opening.
-use Rattle.std.proofs.Common.{◌≡◌, ℕ, ◌+◌, Bool, true, false, Option, None, Some, List, [], ◌∷◌, length, map, refl, sym, subst, ap, ◌∙◌, arith}
-use Rattle.std.specs.Prelude.{slice_get, slice_index_or, if◌then◌else◌}
+use Rattle.std.proofs.Common.{◌≡◌, ℕ, ◌+◌, Some, List, [], ◌∷◌, length, map, refl, sym, subst, ap, arith}
+use Rattle.std.specs.Prelude.{slice_get, slice_index_or}
 use Rattle.std.specs.List.{AllByRecursion}
 use Rattle.csp_consistent.proofs.Public.{are_apart, scene_own, are_owners}
 use Rattle.csp_consistent.specs.Inboxes.{AreInboxesInOrder, IsInboxInOrder}
@@ -20,14 +20,15 @@ use Rattle.csp_scene.specs.Kept.{AreLinksAfter}
 use Rattle.csp_scene.specs.Links.{links_at}
 use Rattle.csp_scene.specs.Ranges.{IsScene}
 use Rattle.csp_scene.specs.Scene.{PlainLink, PlainNode, PlainScene}
-use Rattle.csp_party.specs.Any.{asks, has_ended}
+use Rattle.csp_party.specs.Any.{asks}
+use Rattle.csp_world.proofs.AlwaysLemmas.{always}
 use Rattle.csp_world.proofs.EndsApart.{ends_in}
-use Rattle.csp_world.proofs.InboxLemmas.{IsInboxKept, IsKnown, inbox_in_order, inbox_opened, inbox_turn}
-use Rattle.csp_world.proofs.KeptLemmas.{IsPoolKept, gave_logs, kept_opened, kept_turn, took_logs}
-use Rattle.csp_world.proofs.LaneLemmas.{IsLaneKept, IsLaneOf, lane_in_order, lane_opened, lane_turn}
+use Rattle.csp_world.proofs.InboxLemmas.{IsInboxKept, IsKnown, inbox_in_order, inbox_opened, inbox_turned}
+use Rattle.csp_world.proofs.KeptLemmas.{IsPoolKept, gave_logs, kept_opened, kept_turned, took_logs}
+use Rattle.csp_world.proofs.LaneLemmas.{IsLaneKept, IsLaneOf, lane_in_order, lane_opened, lane_turned}
 use Rattle.csp_world.proofs.LinkLanes.{all_lanes_of}
 use Rattle.csp_world.proofs.LocalLemmas.{Keeps, all_kept}
-use Rattle.csp_world.proofs.LoggedLemmas.{AreLogged, logged_logs, logged_tick, logged_turn}
+use Rattle.csp_world.proofs.LoggedLemmas.{AreLogged, logged_logs, logged_tick, logged_turned}
 use Rattle.csp_world.proofs.MovedLemmas.{KeepsShape, right-kept}
 use Rattle.csp_world.proofs.OpenedLemmas.{members_opened, opening_logged}
 use Rattle.csp_nodes.proofs.Public.{fresh_numbers}
@@ -37,35 +38,24 @@ use Rattle.csp_world.proofs.QueuedLemmas.{AreQueued, KeepsQueues, queued-kept, q
 use Rattle.csp_world.proofs.WholeLemmas.{held_each, in_pool, in_pool_at, left_each, many_pools, rows_after}
 use Rattle.csp_topology.specs.Plan.{plans_from}
 use Rattle.csp_world.specs.Opening.{deck_of, opened_deck, opening}
-use Rattle.csp_world.specs.Reached.{Happening, IsReached, a_tick, a_turn, world_after}
+use Rattle.csp_world.specs.Reached.{Happening, IsReached, world_after}
 use Rattle.csp_world.specs.Record.{record_of}
-use Rattle.csp_world.specs.World.{PlainMember, PlainWorld, turn, turn_at, turned}
+use Rattle.csp_world.specs.World.{PlainWorld}
 
 -- each party has taken the turns of its log
-all_logged : (scene : PlainScene) (hs : List Happening) → AreLogged (world_after scene hs).time (parties_of scene) (world_after scene hs).members
-all_logged scene [] = opening_logged scene
-all_logged scene (a_turn place ∷ hs) = logged_turn (world_after scene hs) (parties_of scene) place (all_logged scene hs)
-all_logged scene (a_tick ∷ hs) = logged_tick _ (parties_of scene) _ (all_logged scene hs)
+pub all_logged : (scene : PlainScene) (hs : List Happening) → AreLogged (world_after scene hs).time (parties_of scene) (world_after scene hs).members
+all_logged scene =
+    always scene (λ w. AreLogged w.time (parties_of scene) w.members) (opening_logged scene)
+    (λ hs h k m at e. logged_turned (world_after scene hs) (parties_of scene) k m at e h) (λ w h. logged_tick w.time (parties_of scene) w.members h)
 
 pub reached_logs : (scene : PlainScene) (w : PlainWorld) → IsReached scene w → AreLogsOf (parties_of scene) (record_of w).parties
 reached_logs scene w r = rw r.there (logged_logs _ (parties_of scene) _ (all_logged scene r.happenings))
 
 -- what the answers keep of the lists of each node
-all_turn_at : (P : PlainDeck → Type 0) → Keeps P → (w : PlainWorld) (place : ℕ) (found : Option PlainMember) → AllByRecursion P w.decks → AllByRecursion P (turn_at w place found).decks
-all_turn_at P keeps w place None all = all
-all_turn_at P keeps w place (Some m) all = by (has_ended m.party) where
-  by : (ended : Bool) → AllByRecursion P (if ended then w else turned w place m).decks
-  by true = all
-  by false = all_kept P keeps w.decks w.links m.who (asks m.party w.time) all
-
-all_turn : (P : PlainDeck → Type 0) → Keeps P → (w : PlainWorld) (place : ℕ) → AllByRecursion P w.decks → AllByRecursion P (turn w place).decks
-unfolding turn
-all_turn P keeps w place all = all_turn_at P keeps w place (slice_get w.members place) all
-
 pub all_after : (P : PlainDeck → Type 0) → Keeps P → (scene : PlainScene) → AllByRecursion P (opening scene).decks → (hs : List Happening) → AllByRecursion P (world_after scene hs).decks
-all_after P keeps scene all [] = all
-all_after P keeps scene all (a_turn place ∷ hs) = all_turn P keeps (world_after scene hs) place (all_after P keeps scene all hs)
-all_after P keeps scene all (a_tick ∷ hs) = all_after P keeps scene all hs
+all_after P keeps scene all =
+    always scene (λ w. AllByRecursion P w.decks) all
+    (λ hs h k m at e. let w = world_after scene hs in all_kept P keeps w.decks w.links m.who (asks m.party w.time) h) (λ w h. h)
 
 -- each queue stands where a queue does
 decks_queued : (place : ℕ) (nodes : List PlainNode) (links : List PlainLink) → AllByRecursion AreQueued (map deck_of (plans_from place nodes links))
@@ -85,9 +75,8 @@ opening_kept : (scene : PlainScene) (node : ℕ) (n : PlainNode) → slice_get s
 opening_kept scene node n at = rw (members_opened scene) (kept_opened node n.buffers _ (opened_deck n (links_at node scene.links)) (parties_of scene) (opening_there scene node n at) (fresh_numbers n.buffers))
 
 all_pooled : (scene : PlainScene) (node : ℕ) (n : PlainNode) → slice_get scene.nodes node ≡ Some n → (hs : List Happening) → IsPoolKept node n.buffers (world_after scene hs).decks (world_after scene hs).members
-all_pooled scene node n at [] = opening_kept scene node n at
-all_pooled scene node n at (a_turn place ∷ hs) = kept_turn node n.buffers (world_after scene hs) place (all_pooled scene node n at hs)
-all_pooled scene node n at (a_tick ∷ hs) = all_pooled scene node n at hs
+all_pooled scene node n at =
+    always scene (λ w. IsPoolKept node n.buffers w.decks w.members) (opening_kept scene node n at) (λ hs h k m found e. kept_turned node n.buffers (world_after scene hs) k m found h) (λ w h. h)
 
 -- so each pool is whole, with what is in it
 pool_whole : (w : PlainWorld) (node count : ℕ) → IsPoolKept node count w.decks w.members → IsPoolWhole (record_of w) node count (slice_index_or (map in_pool w.decks) node [])
@@ -131,9 +120,9 @@ opening_inbox scene node n at =
     (inbox_opened node n (fresh_buffers n.buffers) n.inbox (length n.apps) (map (λ l. carried_on l.kind) (links_at node scene.links)) (opening scene).decks (parties_of scene) (opening_there scene node n at))
 
 all_inboxes : (scene : PlainScene) → IsKnown scene (parties_of scene) → (node : ℕ) (n : PlainNode) → slice_get scene.nodes node ≡ Some n → (hs : List Happening) → IsInboxKept node n (world_after scene hs).decks (world_after scene hs).members
-all_inboxes scene known node n at [] = opening_inbox scene node n at
-all_inboxes scene known node n at (a_turn place ∷ hs) = inbox_turn scene (parties_of scene) known node n at (world_after scene hs) (all_logged scene hs) place (all_inboxes scene known node n at hs)
-all_inboxes scene known node n at (a_tick ∷ hs) = all_inboxes scene known node n at hs
+all_inboxes scene known node n at =
+    always scene (λ w. IsInboxKept node n w.decks w.members) (opening_inbox scene node n at)
+    (λ hs h k m found e. inbox_turned scene (parties_of scene) known node n at (world_after scene hs) (all_logged scene hs) k m found h) (λ w h. h)
 
 pub reached_inboxes : Stands → KeepsQueues → KeepsShape → (scene : PlainScene) (w : PlainWorld) → IsScene scene → IsReached scene w → AreInboxesInOrder scene (record_of w)
 reached_inboxes stands queues shape scene w is r = λ node n at.
@@ -141,28 +130,12 @@ reached_inboxes stands queues shape scene w is r = λ node n at.
     (inbox_in_order (world_after scene r.happenings) node n (all_inboxes scene (scene_known stands queues shape scene is) node n at r.happenings))
 
 -- the links have their ends still
-links_turn_at : (w : PlainWorld) (place : ℕ) (found : Option PlainMember) → (turn_at w place found).links ≡ w.links
-links_turn_at w place None = refl
-links_turn_at w place (Some m) = by (has_ended m.party) where
-  after : Bool → PlainWorld
-  after ended = (if ended then w else turned w place m)
-
-  by : (ended : Bool) → (after ended).links ≡ w.links
-  by true = refl
-  by false = refl
-
-links_turn : (w : PlainWorld) (place : ℕ) → (turn w place).links ≡ w.links
-unfolding turn
-links_turn w place = links_turn_at w place (slice_get w.members place)
-
 links_opening : (scene : PlainScene) → (opening scene).links ≡ ends_in scene.links
 unfolding opening
 links_opening scene = refl
 
 links_after : (scene : PlainScene) (hs : List Happening) → (world_after scene hs).links ≡ ends_in scene.links
-links_after scene [] = links_opening scene
-links_after scene (a_turn place ∷ hs) = links_turn (world_after scene hs) place ∙ links_after scene hs
-links_after scene (a_tick ∷ hs) = links_after scene hs
+links_after scene = always scene (λ w. w.links ≡ ends_in scene.links) (links_opening scene) (λ hs same k m at e. same) (λ w same. same)
 
 -- and so each lane is in order
 opening_lane : (scene : PlainScene) → IsKnown scene (parties_of scene) → (l : PlainLane) → IsLaneOf scene (ends_in scene.links) l → IsLaneKept l (opening scene).decks (opening scene).members
@@ -170,11 +143,10 @@ opening_lane scene known l is =
     rw (members_opened scene) (lane_opened scene (parties_of scene) known (ends_in scene.links) l is (opening scene).decks (opening_there scene l.node is.node is.there))
 
 all_lanes : (scene : PlainScene) → IsKnown scene (parties_of scene) → (l : PlainLane) → IsLaneOf scene (ends_in scene.links) l → (hs : List Happening) → IsLaneKept l (world_after scene hs).decks (world_after scene hs).members
-all_lanes scene known l is [] = opening_lane scene known l is
-all_lanes scene known l is (a_turn place ∷ hs) =
-    let w = world_after scene hs in
-    lane_turn scene (parties_of scene) known l w (subst (λ (links : List (List End)). IsLaneOf scene links l) (sym (links_after scene hs)) is) (all_logged scene hs) place (all_lanes scene known l is hs)
-all_lanes scene known l is (a_tick ∷ hs) = all_lanes scene known l is hs
+all_lanes scene known l is =
+    always scene (λ w. IsLaneKept l w.decks w.members) (opening_lane scene known l is)
+    (λ hs h k m found e. lane_turned scene (parties_of scene) known l (world_after scene hs) (subst (λ (links : List (List End)). IsLaneOf scene links l) (sym (links_after scene hs)) is) (all_logged scene hs) k m found h)
+    (λ w h. h)
 
 pub reached_lanes : Stands → KeepsQueues → KeepsShape → (scene : PlainScene) (w : PlainWorld) → IsScene scene → AreLinksAfter (length scene.nodes) [] scene.links → IsReached scene w → AreInOrder scene (record_of w)
 reached_lanes stands queues shape scene w is after r =

@@ -1,6 +1,6 @@
 -- The record of a reached world speaks of each queue and each place of the scene once, and of no other.
-use Rattle.std.proofs.Common.{◌≡◌, ℕ, zero, suc, ◌+◌, Bool, true, false, Option, None, Some, List, [], ◌∷◌, ◌++◌, length, map, set, refl, sym, ap, ◌∙◌}
-use Rattle.std.specs.Prelude.{slice_get, slice_index_or, if◌then◌else◌}
+use Rattle.std.proofs.Common.{◌≡◌, ℕ, zero, suc, ◌+◌, Option, None, Some, List, [], ◌∷◌, ◌++◌, length, map, set, refl, sym, ap, ◌∙◌}
+use Rattle.std.specs.Prelude.{slice_get, slice_index_or}
 use Rattle.std.specs.List.{AllByRecursion, flat_map}
 use Rattle.std.specs.Option.{option_map, option_to_list}
 use Rattle.std.proofs.lemmas.List.{length-map, map-append}
@@ -25,18 +25,19 @@ use Rattle.csp_log.specs.declared.shown.OpShown.{OpShown}
 use Rattle.csp_nodes.specs.Gathering as nodes
 use Rattle.csp_nodes.specs.Gathering.{all_left, queues_held}
 use Rattle.csp_nodes.specs.Serving.{answer_at, answer_in, answer_there, served}
-use Rattle.csp_party.specs.Any.{PlainParty, asks, has_ended, holds}
+use Rattle.csp_party.specs.Any.{PlainParty, asks, holds}
 use Rattle.csp_log.specs.Who.{home_of}
 use Rattle.csp_log.specs.declared.who.Who.{Who}
 use Rattle.csp_scene.specs.Links.{links_at}
 use Rattle.csp_scene.specs.Scene.{PlainLink, PlainNode, PlainScene}
+use Rattle.csp_world.proofs.AlwaysLemmas.{always}
 use Rattle.csp_world.proofs.LoggedLemmas.{AreLogged}
 use Rattle.csp_world.proofs.QueuedLemmas.{AreQueued, IsQueued, KeepsQueues}
 use Rattle.csp_topology.specs.Plan.{plans_from}
 use Rattle.csp_world.specs.Opening.{deck_of, opening}
-use Rattle.csp_world.specs.Reached.{Happening, a_tick, a_turn, world_after}
+use Rattle.csp_world.specs.Reached.{Happening, world_after}
 use Rattle.csp_world.specs.Record.{member_held, member_log, record_of}
-use Rattle.csp_world.specs.World.{PlainMember, PlainWorld, turn, turn_at, turned}
+use Rattle.csp_world.specs.World.{PlainMember, PlainWorld}
 
 -- where the queues of each node stand
 abbrev pub row : PlainDeck → List Place
@@ -62,21 +63,10 @@ rows_there law decks o (Some s) = rows_at law decks o s (slice_get decks s.0) re
 rows_answered : KeepsQueues → (decks : List PlainDeck) (links : List (List End)) (w : Who) (o : OpShown) → rows (answer_in decks links w o).1 ≡ rows decks
 rows_answered law decks links w o = rows_there law decks o (served links w o)
 
-rows_turn_at : KeepsQueues → (w : PlainWorld) (place : ℕ) (found : Option PlainMember) → rows (turn_at w place found).decks ≡ rows w.decks
-rows_turn_at law w place None = refl
-rows_turn_at law w place (Some m) = by (has_ended m.party) where
-  by : (ended : Bool) → rows (if ended then w else turned w place m).decks ≡ rows w.decks
-  by true = refl
-  by false = rows_answered law w.decks w.links m.who (asks m.party w.time)
-
-rows_turn : KeepsQueues → (w : PlainWorld) (place : ℕ) → rows (turn w place).decks ≡ rows w.decks
-unfolding turn
-rows_turn law w place = rows_turn_at law w place (slice_get w.members place)
-
 pub rows_after : KeepsQueues → (scene : PlainScene) (hs : List Happening) → rows (world_after scene hs).decks ≡ rows (opening scene).decks
-rows_after law scene [] = refl
-rows_after law scene (a_turn place ∷ hs) = rows_turn law (world_after scene hs) place ∙ rows_after law scene hs
-rows_after law scene (a_tick ∷ hs) = rows_after law scene hs
+rows_after law scene =
+    always scene (λ w. rows w.decks ≡ rows (opening scene).decks) refl
+    (λ hs same k m at e. let w = world_after scene hs in rows_answered law w.decks w.links m.who (asks m.party w.time) ∙ same) (λ w same. same)
 
 -- the places of rows, from this node on
 abbrev places_from : ℕ → List (List Place) → List (ℕ × Place)
