@@ -255,8 +255,12 @@ module _ (f : Facts) (a : ℕ) where
   abbrev until : State → ℕ → Plan → State
   until s time p = at_rest (asked_by f s time p)
 
+  -- the ports after it
+  abbrev ports_after : State → ℕ → Plan → AnswerShown → PlainPorts
+  ports_after s time p x = ((turn_of f (until s time p) time p).told x).state.ports
+
   abbrev Turns : State → ℕ → Plan → AnswerShown → Type 0
-  Turns s time p x = Evens (turn_of f s time p).asks x s.ports ((turn_of f (until s time p) time p).told x).state.ports
+  Turns s time p x = Evens (turn_of f s time p).asks x s.ports (ports_after s time p x)
 
   -- ---- each plan
 
@@ -275,7 +279,7 @@ module _ (f : Facts) (a : ℕ) where
   turn_give : (s : State) (time : ℕ) (x : AnswerShown) → Turns s time plan.Give x
   turn_give s time x =
       let t : State = until s time plan.Give in
-      evens_quiet (giving s.trash) x s.ports _ (none_put s.trash x) (brought_so s.ports t (kept t) (buffer_in x) (stays s.ports) (λ b. stays s.ports))
+      evens_quiet (giving s.trash) x s.ports (ports_after s time plan.Give x) (none_put s.trash x) (brought_so s.ports t (kept t) (buffer_in x) (stays s.ports) (λ b. stays s.ports))
     where
       none_put : (bs : List Content) (x : AnswerShown) → answered_in (put_by (queue.Down a) (giving bs) x) ≡ 0
       none_put [] x = refl
@@ -283,7 +287,7 @@ module _ (f : Facts) (a : ℕ) where
 
   turn_push : (q : QueueId) (bytes : ℕ) (s : State) (time : ℕ) (x : AnswerShown) → Turns s time (plan.Push q bytes) x
   turn_push q bytes s time x =
-      evens_quiet (pushing s.out) x s.ports _ (none_put s.out x)
+      evens_quiet (pushing s.out) x s.ports (ports_after s time (plan.Push q bytes) x) (none_put s.out x)
       (pushed_so s.ports (is_pushed x) _ _ (stays s.ports) (back_so (was_full (until s time (plan.Push q bytes)) q) (packet_in (item_in x))))
     where
       none_put : (o : Option Leaving) (x : AnswerShown) → answered_in (put_by (queue.Down a) (pushing o) x) ≡ 0
@@ -293,7 +297,7 @@ module _ (f : Facts) (a : ℕ) where
   turn_hear : (s : State) (time : ℕ) (x : AnswerShown) → Turns s time plan.Hear x
   turn_hear s time x =
       let t : State = until s time plan.Hear in
-      evens_quiet (op.Pop queue.Inbox) x s.ports _ refl
+      evens_quiet (op.Pop queue.Inbox) x s.ports (ports_after s time plan.Hear x) refl
       (brought_so s.ports t (λ p. heard f (came_in t p.mark p.buffer) time p) (packet_in (item_in x)) (stays s.ports) (λ p. hears f (came_in t p.mark p.buffer) time p))
 
   turn_serve : (k : ℕ) (s : State) (time : ℕ) (x : AnswerShown) → Fits (op.Pop (queue.Up k)) x → ComesSo (op.Pop (queue.Up k)) x → Turns s time (plan.Serve k) x
@@ -310,7 +314,7 @@ module _ (f : Facts) (a : ℕ) where
   turn_serve k s time _ fits comes = absurd fits
 
   turn_reply : (k : ℕ) (os : List Owed) (s : State) (time : ℕ) (x : AnswerShown) → s.ports.owed ≡ os → Fits (replying os) x
-      → Evens (replying os) x s.ports ((turn_of f (until s time (plan.Reply k)) time (plan.Reply k)).told x).state.ports
+      → Evens (replying os) x s.ports (ports_after s time (plan.Reply k) x)
   turn_reply k [] s time answer.Nothing e fits = evens_quiet op.Nothing answer.Nothing s.ports s.ports refl (stays s.ports)
   turn_reply k [] s time _ e fits = absurd fits
   turn_reply k (o ∷ os) s time answer.Pushed e fits =
@@ -330,13 +334,13 @@ module _ (f : Facts) (a : ℕ) where
 
   turn_tell : (app slot : ℕ) (s : State) (time : ℕ) (x : AnswerShown) → Turns s time (plan.Tell app slot) x
   turn_tell app slot s time x =
-      evens_quiet (op.Push (queue.Down app) (item.Note (note.Down slot))) x s.ports _ (pushed_none (queue.Down app) (item.Note (note.Down slot)) x refl)
+      evens_quiet (op.Push (queue.Down app) (item.Note (note.Down slot))) x s.ports (ports_after s time (plan.Tell app slot) x) (pushed_none (queue.Down app) (item.Note (note.Down slot)) x refl)
       (pushed_so s.ports (is_pushed x) _ _ (tells app slot s.ports) (back_so (until s time (plan.Tell app slot)) (packet_in (item_in x))))
 
   turn_deliver : (app slot : ℕ) (s : State) (time : ℕ) (x : AnswerShown) → slot < SLOTS → Turns s time (plan.Deliver app slot) x
   turn_deliver app slot s time x low =
       let t : State = until s time (plan.Deliver app slot) in
-      evens_quiet (delivering (delivery (machine_at s.ports app slot)) app slot) x s.ports _ (none_put (delivery (machine_at s.ports app slot)))
+      evens_quiet (delivering (delivery (machine_at s.ports app slot)) app slot) x s.ports (ports_after s time (plan.Deliver app slot) x) (none_put (delivery (machine_at s.ports app slot)))
       (pushed_so s.ports (is_pushed x) _ _ (delivers time app slot t.ports low)
       (brought_so s.ports t (λ p. unchanged (with_ports t (kept_again app slot p.buffer t.ports))) (packet_in (item_in x)) (stays s.ports) (λ p. stays s.ports)))
     where
@@ -353,7 +357,7 @@ module _ (f : Facts) (a : ℕ) where
   turn_make : (app slot : ℕ) (j : Job) (s : State) (time : ℕ) (x : AnswerShown) → Turns s time (plan.Make app slot j) x
   turn_make app slot j s time x =
       let t : State = until s time (plan.Make app slot j) in
-      evens_quiet op.Take x s.ports _ refl
+      evens_quiet op.Take x s.ports (ports_after s time (plan.Make app slot j) x) refl
       (brought_so s.ports t (made_on (slot_at t.ports.conns app slot) j f t app slot time) (buffer_in x) (stays s.ports) (made_so (slot_at t.ports.conns app slot) j t app slot time))
 
   -- ---- the plan of a turn
@@ -409,8 +413,8 @@ module _ (f : Facts) (a : ℕ) where
       let t : State = timed s time in
       let p : Plan = plan_of f t time in
       let first : due a t.ports ≤ due a s.ports = times time s.ports a in
-      let last : Evens (turn_of f t time p).asks x t.ports ((turn_of f (until t time p) time p).told x).state.ports = turn p t time x (placed t time) fits comes in
-      evens_after (answered_in (put_by (queue.Down a) (turn_of f t time p).asks x) + due a ((turn_of f (until t time p) time p).told x).state.ports)
+      let last : Evens (turn_of f t time p).asks x t.ports (ports_after t time p x) = turn p t time x (placed t time) fits comes in
+      evens_after (answered_in (put_by (queue.Down a) (turn_of f t time p).asks x) + due a (ports_after t time p x))
       (asked_in (got_by (queue.Up a) (turn_of f t time p).asks x)) (due a t.ports) (due a s.ports) last first
     where
       evens_after : (m c n k : ℕ) → m ≤ c + n → n ≤ k → m ≤ c + k
