@@ -88,6 +88,7 @@ impl World {
         counts_parties();
         let Topology {
             nodes,
+            lanes: _,
             links,
             parties,
         } = Topology::of(alloc, scene)?;
