@@ -58,14 +58,7 @@ pub fn open_fabric<R: Wait>(
         &topology.lanes,
         topology.parties,
     )?;
-    Ok(assemble(
-        alloc,
-        topology.lanes,
-        blanks,
-        lists,
-        nodes,
-        seats,
-    ))
+    Ok(assemble(alloc, topology.lanes, blanks, lists, nodes, seats))
 }
 
 /// Opens the nodes of a scene with the lanes of these wires, and these parties.
