@@ -51,10 +51,15 @@ pub fn open_fabric<R: Wait>(
     serves_parties();
     stays_home();
     let topology = Topology::of(alloc, scene)?;
-    let wires = topology.wires(alloc, scene)?;
-    let blanks = Blanks::open(alloc, topology.parties.len() as u16, &wires)?;
-    let (lists, nodes, seats) = open_all(rt, alloc, &scene.nodes, &wires, topology.parties)?;
-    Ok(assemble(alloc, wires, blanks, lists, nodes, seats))
+    let blanks = Blanks::open(alloc, topology.parties.len() as u16, &topology.lanes)?;
+    let (lists, nodes, seats) = open_all(
+        rt,
+        alloc,
+        &scene.nodes,
+        &topology.lanes,
+        topology.parties,
+    )?;
+    Ok(assemble(alloc, topology.lanes, blanks, lists, nodes, seats))
 }
 
 /// Opens the nodes of a scene with the lanes of these wires, and these parties.

@@ -29,6 +29,9 @@ pub const MAX_PARTIES: usize = MAX_NODES * (1 + MAX_LINKS + MAX_APPS) + MAX_LINK
 pub struct Topology {
     /// The pool and the queues of each node, in the order of the nodes.
     pub nodes: Vec<NodePlan>,
+    /// The lanes of each node, in the order in which a record tells of them: those from the node's links, to its links, to
+    /// its interfaces, to its applications, and from its applications.
+    pub lanes: Vec<Vec<Wire>>,
     /// The ends of each link, in the order of the links.
     pub links: Vec<ArrayVec<End, LINK_ENDS>>,
     /// The parties: of each node its router or bridge, its interfaces in the order of the links, its applications; then
@@ -44,32 +47,20 @@ impl Topology {
     pub fn of(alloc: Global, scene: &Scene) -> Result<Topology, AllocError>
         requires { IsScene scene.now }
         ensures whole { IfOk result (λ t. seen_topology t ≡ topology_of scene.now) }
+        ensures lanes { AreLinksAfter (length scene.now.nodes) [] scene.now.links → IfOk result (λ t. AreWires scene.now (map (λ ws. ws.items) t.lanes.items)) }
         ensures nodes { IfOk result (λ t. AllByRecursion IsPlan t.nodes.items) }
         ensures ready { IfOk result (λ t. AllByRecursion CanOpen t.parties.items) }
     {
         let mut parties = Vec::new(alloc);
         push_nodes(&mut parties, alloc, &scene.nodes, &scene.links)?;
+        let first_link = parties.len() as u16;
         push_links(&mut parties, alloc, &scene.links)?;
         Ok(Topology {
             nodes: plans_of(alloc, &scene.nodes, &scene.links)?,
             links: ends_of(alloc, &scene.links)?,
+            lanes: wires_of(alloc, &scene.nodes, &scene.links, first_link)?,
             parties,
         })
-    }
-
-    /// The lanes of each node of the scene whose network this is, in the order in which a record tells of them: those
-    /// from the node's links, to its links, to its interfaces, to its applications, and from its applications.
-    ///
-    /// # Errors
-    /// Want of memory.
-    pub fn wires(&self, alloc: Global, scene: &Scene) -> Result<Vec<Vec<Wire>>, AllocError>
-        requires scene { IsScene scene.now }
-        requires whole { seen_topology self.now ≡ topology_of scene.now }
-        ensures { AreLinksAfter (length scene.now.nodes) [] scene.now.links → IfOk result (λ wires. AreWires scene.now (map (λ ws. ws.items) wires.items)) }
-    {
-        let parties = self.parties.len();
-        let links = self.links.len();
-        wires_of(alloc, &scene.nodes, &scene.links, (parties - links) as u16)
     }
 }
 

@@ -41,6 +41,7 @@ impl World {
         counts_parties();
         let Topology {
             nodes,
+            lanes: _,
             links,
             parties,
         } = Topology::of(alloc, scene)?;

@@ -17,11 +17,11 @@ use Rattle.csp_topology.specs.Parties.{PlainOpening}
 use Rattle.csp_topology.specs.Topology.{PlainTopology}
 use Rattle.csp_topology.specs.declared.wire.Wire.{Wire}
 use Rattle.csp_opening.proofs.opening.open_fabric.Given.{Over}
-use Rattle.csp_opening.proofs.opening.open_fabric.Goals.{After-deref-2, In_ok-lists, In_ok-wires}
+use Rattle.csp_opening.proofs.opening.open_fabric.Goals.{After-deref-2, In_ok-lists, In_ok-topology}
 use Rattle.csp_opening.proofs.opening.open_fabric.Goals as goal
 
 -- what is known of the scene before its nodes are opened
-planned : (g : Over) (c : In_ok-wires g) → IsPlanned c.args.scene.now c.in_ok-wires.wires.items c.in_ok-topology.topology.parties.items
+planned : (g : Over) (c : In_ok-topology g) → IsPlanned c.args.scene.now c.in_ok-topology.topology.lanes.items c.in_ok-topology.topology.parties.items
 planned g c =
     let scene = c.args.scene.now in
     let links = c.requires.links in
@@ -33,7 +33,7 @@ planned g c =
         served = c.serves_parties.ensures.queues scene c.requires.scene links;
       };
       count = c.orders_wires.ensures.count scene;
-      are = c.in_ok-wires.ensures links;
+      are = c.in_ok-topology.ensures.lanes links;
       parties = ap (λ (t : PlainTopology). t.parties) c.in_ok-topology.ensures.whole;
       apart = c.names_parties_apart.ensures scene;
       ready = c.in_ok-topology.ensures.ready;
@@ -44,11 +44,11 @@ of_scene : (g : Over) (c : After-deref-2 g) → c.deref-2.result.now ≡ c.args.
 of_scene g c = c.deref-2.ensures.value ∙ ap (λ (s : PlainScene). s.nodes) c.scene.view_is
 
 -- what was opened, and the lists for it
-ready : (g : Over) (c : In_ok-lists g) → IsPlanned c.args.scene.now c.in_ok-wires.wires.items c.in_ok-topology.topology.parties.items → c.deref-2.result.now ≡ c.args.scene.now.nodes
-    → IsReady c.args.scene.now c.in_ok-wires.wires.items c.in_ok-topology.topology.parties.items c.in_ok-lists.nodes.items c.in_ok-lists.seats.items c.in_ok-blanks.blanks c.in_ok-lists.lists
+ready : (g : Over) (c : In_ok-lists g) → IsPlanned c.args.scene.now c.in_ok-topology.topology.lanes.items c.in_ok-topology.topology.parties.items → c.deref-2.result.now ≡ c.args.scene.now.nodes
+    → IsReady c.args.scene.now c.in_ok-topology.topology.lanes.items c.in_ok-topology.topology.parties.items c.in_ok-lists.nodes.items c.in_ok-lists.seats.items c.in_ok-blanks.blanks c.in_ok-lists.lists
 ready g c plan nodes =
     let scene = c.args.scene.now in
-    let wires = c.in_ok-wires.wires.items in
+    let wires = c.in_ok-topology.topology.lanes.items in
     let openings = c.in_ok-topology.topology.parties.items in
     let xs = c.in_ok-lists.nodes.items in
     let seats = c.in_ok-lists.seats.items in
@@ -72,13 +72,13 @@ ready g c plan nodes =
 
 pub open-requires-clause-few : goal.open-requires-clause-few
 open-requires-clause-few g c =
-    let plan = planned g (goal.at.open-requires-clause-few g c).In_ok-wires in
+    let plan = planned g (goal.at.open-requires-clause-few g c).In_ok-topology in
     subst (AllByRecursion (λ (ws : Vec Wire). length ws.items < 256)) (sym c.deref.ensures.value) (wired_of _ _ _ plan).few
 
 pub open_all-requires : goal.open_all-requires
 open_all-requires g c =
     let at = goal.at.open_all-requires g c in
-    let plan = planned g at.In_ok-wires in
+    let plan = planned g at.In_ok-topology in
     let nodes = of_scene g at.After-deref-2 in
     record {
       wired = subst (λ ns. AreWired ns c.deref-3.result.now) (sym nodes) (subst (AreWired c.args.scene.now.nodes) (sym c.deref-3.ensures.value) (wired_of _ _ _ plan));
@@ -88,13 +88,13 @@ open_all-requires g c =
 pub assemble-requires : goal.assemble-requires
 assemble-requires g c =
     let at = goal.at.assemble-requires g c in
-    let is = ready g at.In_ok-lists (planned g at.In_ok-wires) (of_scene g at.After-deref-2) in
+    let is = ready g at.In_ok-lists (planned g at.In_ok-topology) (of_scene g at.After-deref-2) in
     record { blanks = is.blanks; lists = is.lists; can = can_of _ _ _ _ _ _ _ is }
 
 pub returns : goal.returns
 returns g c =
     let at = goal.at.returns g c in
-    let is = ready g at.In_ok-lists (planned g at.In_ok-wires) (of_scene g at.After-deref-2) in
+    let is = ready g at.In_ok-lists (planned g at.In_ok-topology) (of_scene g at.After-deref-2) in
     let made = c.assemble.ensures in
     let done = finished _ _ _ _ _ _ _ c.assemble.result.0 c.assemble.result.1.items is (record {
       queues = made.queues;

@@ -1,13 +1,19 @@
-use Rattle.std.proofs.Common.{◌≡◌, ◌++◌, List, All, length, map, ap, sym, subst, ◌∙◌}
+use Rattle.std.proofs.Common.{◌≡◌, ℕ, ◌++◌, List, [], All, length, map, ap, sym, subst, ◌∙◌, arith}
 use Rattle.std.specs.List.{AllByRecursion}
+use Rattle.std.proofs.lemmas.List.{length-map}
 use Rattle.csp_scene.specs.Ranges.{HasEnds, IsPlanned}
 use Rattle.csp_scene.specs.Scene.{PlainLink, PlainNode, PlainScene}
+use Rattle.csp_topology.proofs.PartyLemmas.{nodes_few}
 use Rattle.csp_topology.proofs.PlanLemmas.{links_fit, links_planned, links_shaped, plans_fit}
 use Rattle.csp_topology.proofs.TopologyLemmas.{topology_is}
+use Rattle.csp_topology.proofs.WiringLemmas.{all_are_wires}
 use Rattle.csp_topology.proofs.topology.Topology.of.Goals as goal
 use Rattle.csp_topology.specs.Opening.{FitsBuffers, opening_of}
 use Rattle.csp_topology.specs.Parties.{PlainOpening, links_from, parties_from}
 use Rattle.csp_topology.specs.Plan.{IsPlan, PlainNodePlan, plans_from}
+use Rattle.csp_topology.specs.Wiring.{AreWires, wired_from}
+use Rattle.csp_topology.specs.declared.opening.Opening.{Opening}
+use Rattle.csp_topology.specs.declared.wire.Wire.{Wire}
 
 pub push_links-requires-clause-planned : goal.push_links-requires-clause-planned
 push_links-requires-clause-planned c =
@@ -59,3 +65,46 @@ returns-clause-nodes c =
     subst (λ (ns : List PlainNodePlan). AllByRecursion IsPlan ns)
     (sym (c.in_ok-plans_of.ensures ∙ ap (λ (ns : List PlainNode). plans_from 0 ns c.deref-5.result.now) nodes ∙ ap (λ (ls : List PlainLink). plans_from 0 scene.nodes ls) links))
     (plans_fit 0 scene.nodes scene.links c.requires.nodes c.requires.few_links)
+
+-- the links stand after the parties of the nodes
+first_link : (scene : PlainScene) (ns : List PlainNode) (ls : List PlainLink) (before after : List Opening) → map opening_of after ≡ map opening_of before ++ parties_from 0 ns ls → before ≡ [] → ns ≡ scene.nodes → ls ≡ scene.links
+    → length after ≡ length (parties_from 0 scene.nodes scene.links)
+first_link scene ns ls before after parties none nodes links =
+    sym (length-map after opening_of)
+    ∙ ap (λ (ps : List PlainOpening). length ps)
+    (parties
+    ∙ ap (λ (os : List Opening). map opening_of os ++ parties_from 0 ns ls) none
+    ∙ ap (λ (xs : List PlainNode). parties_from 0 xs ls) nodes
+    ∙ ap (λ (xs : List PlainLink). parties_from 0 scene.nodes xs) links)
+
+pub overflow_cast-first_link : goal.overflow_cast-first_link
+overflow_cast-first_link c =
+    let scene : PlainScene = c.args.scene.now in
+    let nodes = c.deref.ensures.value ∙ ap (λ (s : PlainScene). s.nodes) c.scene.view_is in
+    let links = c.deref-2.ensures.value ∙ ap (λ (s : PlainScene). s.links) c.scene.view_is in
+    let count = first_link scene c.deref.result.now c.deref-2.result.now c.new-parties.result.items c.push_nodes.new.openings.items c.in_ok-push_nodes.ensures.parties c.new-parties.ensures.items nodes links in
+    omega (arith, count, nodes_few scene c.requires, c.len-first_link.ensures, c.push_nodes.new.openings.ok.0)
+
+pub wires_of-requires-clause-links : goal.wires_of-requires-clause-links
+wires_of-requires-clause-links c =
+    let scene : PlainScene = c.args.scene.now in
+    let nodes = c.deref.ensures.value ∙ ap (λ (s : PlainScene). s.nodes) c.scene.view_is in
+    let links = c.deref-2.ensures.value ∙ ap (λ (s : PlainScene). s.links) c.scene.view_is in
+    let count = first_link scene c.deref.result.now c.deref-2.result.now c.new-parties.result.items c.push_nodes.new.openings.items c.in_ok-push_nodes.ensures.parties c.new-parties.ensures.items nodes links in
+    omega (arith, count, nodes_few scene c.requires, c.len-first_link.ensures, c.push_nodes.new.openings.ok.0)
+
+pub returns-clause-lanes : goal.returns-clause-lanes
+returns-clause-lanes c are =
+    let scene : PlainScene = c.args.scene.now in
+    let first : ℕ = length (parties_from 0 scene.nodes scene.links) in
+    let nodes_are : c.scene.inside.nodes.items ≡ scene.nodes = ap (λ (s : PlainScene). s.nodes) c.scene.view_is in
+    let links_are : c.scene.inside.links.items ≡ scene.links = ap (λ (s : PlainScene). s.links) c.scene.view_is in
+    let count = first_link scene c.deref.result.now c.deref-2.result.now c.new-parties.result.items c.push_nodes.new.openings.items c.in_ok-push_nodes.ensures.parties c.new-parties.ensures.items
+    (c.deref.ensures.value ∙ nodes_are) (c.deref-2.ensures.value ∙ links_are) in
+    let begins : c.len-first_link.result ≡ first = omega (arith, count, c.len-first_link.ensures, c.push_nodes.new.openings.ok.0) in
+    subst (λ (ws : List (List Wire)). AreWires scene ws)
+    (sym (c.in_ok-wires_of.ensures
+    ∙ ap (λ (n : ℕ). wired_from 0 0 n c.deref-7.result.now c.deref-8.result.now) begins
+    ∙ ap (λ (ns : List PlainNode). wired_from 0 0 first ns c.deref-8.result.now) (c.deref-7.ensures.value ∙ nodes_are)
+    ∙ ap (λ (ls : List PlainLink). wired_from 0 0 first scene.nodes ls) (c.deref-8.ensures.value ∙ links_are)))
+    (all_are_wires scene are)
