@@ -6,7 +6,9 @@ use Rattle.csp_world.proofs.OpeningParties.{scene_new}
 use Rattle.csp_world.proofs.OpeningScene.{plans_count}
 use Rattle.csp_world.proofs.ReachingLemmas.{reached_opening}
 use Rattle.csp_world.proofs.world.World.open.Goals as goal
-use Rattle.csp_world.specs.Opening.{deck_of}
+use Rattle.csp_topology.specs.Opening.{opening_of}
+use Rattle.csp_world.proofs.OpenedLemmas.{opens_as}
+use Rattle.csp_world.specs.Opening.{deck_of, new_member}
 use Rattle.csp_world.specs.Reached.{IsReached}
 use Rattle.csp_world.specs.World.{PlainWorld}
 
@@ -31,6 +33,13 @@ add_parties-requires-clause-new c =
     (ap (λ (w : PlainWorld). w.decks) c.in_ok-world.ensures ∙ ap (λ (ns : List PlainNodePlan). map deck_of ns) nodes)
     (ap (λ (w : PlainWorld). w.links) c.in_ok-world.ensures ∙ ap (λ (t : PlainTopology). t.links) whole)
     (ap (λ (t : PlainTopology). t.parties) whole)
+
+pub returns-in-Ok-clause-plain : goal.returns-in-Ok-clause-plain
+returns-in-Ok-clause-plain c =
+    let links = map (λ ends. ends.items) c.in_ok-nodes.field-0.links.items in
+    let members = map new_member (map opening_of c.in_ok-nodes.field-0.parties.items) in
+    c.in-Ok.ensures ∙ ap (λ (w : PlainWorld). record w { members = members }) c.in_ok-world.ensures
+    ∙ ap (λ (ns : List PlainNodePlan). record { decks = map deck_of ns; links = links; members = members; time = 0 }) c.deref.ensures.value ∙ opens_as c.args.scene.now _ c.in_ok-nodes.ensures.whole
 
 pub returns-in-Ok-clause-reached : goal.returns-in-Ok-clause-reached
 returns-in-Ok-clause-reached c = subst (IsReached c.args.scene.now) (sym (returns-in-Ok-clause-plain c)) (reached_opening c.args.scene.now)
