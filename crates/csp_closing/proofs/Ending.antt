@@ -77,9 +77,11 @@ lane_ended sides w l region node number m n s t p c next is_p is_c h = record {
     x_lane = next.x_there.lane_is;
     y_node = next.y_there.node_is;
     y_lane = next.y_there.lane_is;
-    order = ap (λ (e : PlainEnd). e.items) (sym is_p) ∙ h.whole.order ∙ ap (λ (e : PlainEnd). e.items ++ h.left) is_c;
+    kept = record {
+      order = sym (ap (λ (e : PlainEnd). e.items) (sym is_p) ∙ h.whole.order ∙ ap (λ (e : PlainEnd). e.items ++ h.left) is_c);
+      few = (let few = h.whole.few in let room = next.x_there.of_it.room in omega (arith, few, room));
+    };
     carried = subst (λ (e : PlainEnd). AllByRecursion (IsCarried (rule.Lane e.carries)) h.left) is_p h.whole.carried;
-    few = (let few = h.whole.few in let room = next.x_there.of_it.room in omega (arith, few, room));
     heeded = subst (λ (e : PlainEnd). AreHeeded e.marks next.y.end.marks) is_p (subst (λ (e : PlainEnd). AreHeeded p.marks e.marks) is_c h.whole.heeded);
   };
   noted = h.noted ∙ ap (λ (a : Place). with_queue m node w.queue 0 a h.left n.queues) (sym next.named);

@@ -59,7 +59,7 @@ lane_left posts node number left h =
       };
       node_is = h.x_node;
       lane_is = h.x_lane;
-      kept = record { order = sym h.order; few = h.few };
+      kept = h.kept;
       carried = h.carried;
       heeded = h.heeded;
     }

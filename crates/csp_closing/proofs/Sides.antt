@@ -291,9 +291,8 @@ left_before sides before node number left later h =
       x_lane = h.x_lane;
       y_node = h.y_node;
       y_lane = h.y_lane;
-      order = h.order;
+      kept = h.kept;
       carried = h.carried;
-      few = h.few;
       heeded = h.heeded;
     }
 

@@ -3,6 +3,7 @@ use Rattle.std.specs.Prelude.{◌≡◌, ◌≢◌, ◌≤◌, ◌+◌, ℕ, zer
 use Rattle.std.specs.List.{AllByRecursion, flat_map}
 use Rattle.csp_arena.specs.Cells.{RegionName}
 use Rattle.csp_consistent.specs.Pools.{left_held, place_named}
+use Rattle.csp_consistent.specs.Promises.{IsLaneKept}
 use Rattle.csp_deck.specs.Carried.{IsCarried}
 use Rattle.csp_ending.specs.Notes.{PlainNotes, left_note}
 use Rattle.csp_ending.specs.Stores.{PlainStore, TakesBack}
@@ -73,8 +74,8 @@ abbrev pub rooms_in : List PlainLane → ℕ
 rooms_in [] = 0
 rooms_in (l ∷ lanes) = l.room + rooms_in lanes
 
--- what was left in a lane of a node, by the ends of all parties: what the one put is what the other got and then what was left, which the lane carries, no more
--- than it has room for; and the marks of what was got keep to their bounds
+-- what was left in a lane of a node, by the ends of all parties: of what the one put and the other got the lane kept its promise, it carries what was left,
+-- and the marks of what was got keep to their bounds
 pub record IsLeftAmong (sides : List (List PlainSide)) (node lane : ℕ) (left : List ItemShown) : Type 0 where
   pub i : ℕ
   pub j : ℕ
@@ -95,9 +96,8 @@ pub record IsLeftAmong (sides : List (List PlainSide)) (node lane : ℕ) (left :
   pub x_lane : x.lane ≡ lane
   pub y_node : y.node ≡ node
   pub y_lane : y.lane ≡ lane
-  pub order : x.end.items ≡ y.end.items ++ left
+  pub kept : IsLaneKept x.end.room x.end.items y.end.items left
   pub carried : AllByRecursion (IsCarried (rule.Lane x.end.carries)) left
-  pub few : length left ≤ x.end.room
   pub heeded : AreHeeded x.end.marks y.end.marks
 
 -- the notes with these on queues, and what the queues held by them

@@ -14,7 +14,9 @@ ghost use Rattle.csp_standing.specs.Shown.{AreLoggedBy, AreReached};
 ghost use Rattle.csp_telling.specs.Closed.{IsClosed};
 
 use crate::buffers::returns_all;
-use csp_consistent::{applies_plans, keeps_promises, names_origins, spreads_by_plans, use_their_own};
+use csp_consistent::{
+    applies_plans, keeps_promises, names_origins, spreads_by_plans, use_their_own,
+};
 use csp_lists::weighs;
 use csp_topology::{names_parties_apart, orders_wires, puts_leaders_first, wires_lanes};
 

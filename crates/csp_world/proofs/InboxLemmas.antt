@@ -2,6 +2,7 @@
 use Rattle.std.proofs.Common.{◌≡◌, ℕ, zero, suc, ◌+◌, ◌<◌, ◌≤◌, ◌==◌, Bool, true, false, Option, Some, List, [], ◌∷◌, ◌++◌, length, map, set, refl, sym, subst, ap, ◌∙◌, arith}
 use Rattle.std.specs.Prelude.{slice_get, if◌then◌else◌}
 use Rattle.std.specs.List.{AllByRecursion, flat_map}
+use Rattle.std.proofs.Math.Path.{transport}
 use Rattle.std.proofs.lemmas.Bool.Decides.{nat_tests}
 use Rattle.std.proofs.lemmas.Grind.{flat_map-append}
 use Rattle.std.proofs.lemmas.List.{append-nil, append_assoc}
@@ -9,7 +10,8 @@ use Rattle.std.proofs.lemmas.Option.{same_Some}
 use Rattle.csp_base.specs.Priority.{prio_number}
 use Rattle.csp_base.specs.declared.priority.Prio.{Prio}
 use Rattle.csp_consistent.proofs.Public.{AreApart, entries_in, more_put, none_there, prio_is, who_is, IsOf, IsOwner, IsOwn, own_asks, own_told}
-use Rattle.csp_consistent.specs.Inboxes.{IsInboxInOrder}
+use Rattle.csp_consistent.specs.Inboxes.{IsInboxInOrder, put_with}
+use Rattle.csp_consistent.specs.Promises.{IsInboxKept}
 use Rattle.csp_topology.specs.Queues.{writer_of}
 use Rattle.csp_topology.specs.Lanes.{leader_of}
 use Rattle.csp_topology.specs.Parties.{PlainOpening, party_steps}
@@ -164,13 +166,12 @@ through node x p d ms = with_priority p (gets queue.Inbox (entries_in (leader_of
 abbrev pub written : ℕ → PlainNode → Prio → ℕ → List PlainMember → List ItemShown
 written node x p mark ms = with_priority p (puts queue.Inbox (entries_in (writer_of node (leader_of node x.addr) mark) (map member_log ms)))
 
-pub record IsInboxKept (node : ℕ) (x : PlainNode) (decks : List PlainDeck) (ms : List PlainMember) : Type 0 where
+-- the lists of its node have kept the inbox's promise so far, of what the logs say
+pub record HasKeptInbox (node : ℕ) (x : PlainNode) (decks : List PlainDeck) (ms : List PlainMember) : Type 0 where
   pub deck : PlainDeck
   pub there : slice_get decks node ≡ Some deck
   pub right : IsRight deck
-  pub order : (p : Prio) (mark : ℕ) → with_mark mark (through node x p deck ms) ≡ written node x p mark ms
-  pub carried : (p : Prio) → AllOf p (through node x p deck ms)
-  pub got : AllByRecursion IsInboxItem (gets queue.Inbox (entries_in (leader_of node x.addr) (map member_log ms)))
+  pub kept : IsInboxKept (λ p mark. written node x p mark ms) (gets queue.Inbox (entries_in (leader_of node x.addr) (map member_log ms))) (λ p. content queue.Inbox (prio_number p) deck)
 
 all-first : (p : Prio) (xs ys : List ItemShown) → AllOf p (xs ++ ys) → AllOf p xs
 all-first p [] ys h = tt
@@ -193,23 +194,29 @@ pub record IsKnown (scene : PlainScene) (os : List PlainOpening) : Type 0 where
 
 -- so it stays in a turn
 pub inbox_turned : (scene : PlainScene) (os : List PlainOpening) → IsKnown scene os → (node : ℕ) (x : PlainNode) → slice_get scene.nodes node ≡ Some x → (w : PlainWorld) → AreLogged w.time os w.members
-    → (k : ℕ) (m : PlainMember) → slice_get w.members k ≡ Some m → IsInboxKept node x w.decks w.members → IsInboxKept node x (turned w k m).decks (turned w k m).members
+    → (k : ℕ) (m : PlainMember) → slice_get w.members k ≡ Some m → HasKeptInbox node x w.decks w.members → HasKeptInbox node x (turned w k m).decks (turned w k m).members
 inbox_turned scene os known node x at w logged k m found h = record {
   deck = l.after;
   there = l.got;
   right = right_after known.keeps h.deck h.right node there r l;
-  order = λ p mark.
-      ap (with_mark mark) (grown p)
-      ∙ flat_map-append (of_mark mark) (through node x p h.deck w.members) (put_there queue.Inbox (prio_number p) node there r.0)
-      ∙ ap (λ is. is ++ with_mark mark (put_there queue.Inbox (prio_number p) node there r.0)) (h.order p mark)
-      ∙ ap (λ is. written node x p mark w.members ++ is) (sym (put_same scene w.links node x at m.who party e may p mark))
-      ∙ sym (more_put p (old (writer_of node hub mark)) (if is_who (writer_of node hub mark) m.who then e ∷ [] else []))
-      ∙ ap (λ es. with_priority p (puts queue.Inbox es)) (sym (longer (writer_of node hub mark)));
-  carried = λ p. subst (AllOf p) (sym (grown p)) (AllByRecursion-append (IsOfPriority p) (through node x p h.deck w.members) (put_there queue.Inbox (prio_number p) node there r.0) (h.carried p) (put_carried scene w.links node m.who party e may p));
-  got =
-      subst (AllByRecursion IsInboxItem) (sym more)
-      (AllByRecursion-append IsInboxItem (gets queue.Inbox (old hub)) (got_urgent h.deck node there r.0) h.got
-      (AllByRecursion-map (IsOfPriority (most_urgent h.deck)) IsInboxItem (got_urgent h.deck node there r.0) (in_inbox (most_urgent h.deck)) urgent));
+  kept = record {
+    priorities = λ p. record {
+      order = λ mark.
+          ap (with_mark mark) (grown p)
+          ∙ flat_map-append (of_mark mark) (through node x p h.deck w.members) (put_there queue.Inbox (prio_number p) node there r.0)
+          ∙ ap (λ is. is ++ with_mark mark (put_there queue.Inbox (prio_number p) node there r.0)) ((h.kept.priorities p).order mark)
+          ∙ ap (λ is. written node x p mark w.members ++ is) (sym (put_same scene w.links node x at m.who party e may p mark))
+          ∙ sym (more_put p (old (writer_of node hub mark)) (if is_who (writer_of node hub mark) m.who then e ∷ [] else []))
+          ∙ ap (λ es. with_priority p (puts queue.Inbox es)) (sym (longer (writer_of node hub mark)));
+      carried =
+          subst (AllOf p) (sym (grown p))
+          (AllByRecursion-append (IsOfPriority p) (through node x p h.deck w.members) (put_there queue.Inbox (prio_number p) node there r.0) (h.kept.priorities p).carried (put_carried scene w.links node m.who party e may p));
+    };
+    got =
+        subst (AllByRecursion IsInboxItem) (sym more)
+        (AllByRecursion-append IsInboxItem (gets queue.Inbox (old hub)) (got_urgent h.deck node there r.0) h.kept.got
+        (AllByRecursion-map (IsOfPriority (most_urgent h.deck)) IsInboxItem (got_urgent h.deck node there r.0) (in_inbox (most_urgent h.deck)) urgent));
+  };
 } where
   hub : Who
   hub = leader_of node x.addr
@@ -250,7 +257,7 @@ inbox_turned scene os known node x at w logged k m found h = record {
       all-first u (got_there queue.Inbox (prio_number u) h.deck node there r.0) (content queue.Inbox (prio_number u) l.after)
       (subst (AllOf u) (sym (move u))
       (AllByRecursion-append (IsOfPriority u) (content queue.Inbox (prio_number u) h.deck) (put_there queue.Inbox (prio_number u) node there r.0)
-      (all-second u (with_priority u (gets queue.Inbox (old hub))) (content queue.Inbox (prio_number u) h.deck) (h.carried u))
+      (all-second u (with_priority u (gets queue.Inbox (old hub))) (content queue.Inbox (prio_number u) h.deck) (h.kept.priorities u).carried)
       (put_carried scene w.links node m.who party e may u)))
 
   more : gets queue.Inbox (entries_in hub (map member_log (turned w k m).members)) ≡ gets queue.Inbox (old hub) ++ got_urgent h.deck node there r.0
@@ -291,29 +298,24 @@ pub right_opening : (buffers : List Content) (inbox apps : ℕ) (links : List Ca
 right_opening buffers inbox apps links = record { queued = queued-opening buffers inbox apps links; right = places_stand inbox links (places_in (shape_of apps links)) }
 
 pub inbox_opened : (node : ℕ) (x : PlainNode) (buffers : List Content) (inbox apps : ℕ) (links : List Carries) (decks : List PlainDeck) (os : List PlainOpening) → slice_get decks node ≡ Some (opening_deck buffers inbox apps links)
-    → IsInboxKept node x decks (map new_member os)
+    → HasKeptInbox node x decks (map new_member os)
 inbox_opened node x buffers inbox apps links decks os at = record {
   deck = opening_deck buffers inbox apps links;
   there = at;
   right = right_opening buffers inbox apps links;
-  order = λ p mark. ap (with_mark mark) (nothing p) ∙ sym (ap (λ es. with_priority p (puts queue.Inbox es)) (no_entries (writer_of node (leader_of node x.addr) mark) os));
-  carried = λ p. subst (AllOf p) (sym (nothing p)) tt;
-  got = subst (λ es. AllByRecursion IsInboxItem (gets queue.Inbox es)) (sym (no_entries (leader_of node x.addr) os)) tt;
+  kept = record {
+    priorities = λ p. record {
+      order = λ mark. ap (with_mark mark) (nothing p) ∙ sym (ap (λ es. with_priority p (puts queue.Inbox es)) (no_entries (writer_of node (leader_of node x.addr) mark) os));
+      carried = subst (AllOf p) (sym (nothing p)) tt;
+    };
+    got = subst (λ es. AllByRecursion IsInboxItem (gets queue.Inbox es)) (sym (no_entries (leader_of node x.addr) os)) tt;
+  };
 } where
   nothing : (p : Prio) → through node x p (opening_deck buffers inbox apps links) (map new_member os) ≡ []
   nothing p = rw (no_entries (leader_of node x.addr) os) (no_content queue.Inbox (prio_number p) inbox links (places_in (shape_of apps links)))
 
 -- so the record says
-pub inbox_in_order : (w : PlainWorld) (node : ℕ) (x : PlainNode) → IsInboxKept node x w.decks w.members → IsInboxInOrder (record_of w) node (leader_of node x.addr)
-inbox_in_order w node x h = record {
-  priorities = λ p. record {
-    order = λ mark. ap (λ is. with_mark mark (came p ++ is)) (left p) ∙ h.order p mark;
-    carried = subst (λ is. AllOf p (came p ++ is)) (sym (left p)) (h.carried p);
-  };
-  got = h.got;
-} where
-  came : Prio → List ItemShown
-  came p = with_priority p (gets queue.Inbox (entries_in (leader_of node x.addr) (map member_log w.members)))
-
-  left : (p : Prio) → left_in (record_of w) node queue.Inbox (prio_number p) ≡ content queue.Inbox (prio_number p) h.deck
-  left p = left_is w node queue.Inbox (prio_number p) h.deck h.there
+pub inbox_in_order : (w : PlainWorld) (node : ℕ) (x : PlainNode) → HasKeptInbox node x w.decks w.members → IsInboxInOrder (record_of w) node (leader_of node x.addr)
+inbox_in_order w node x h =
+    transport (λ i. IsInboxKept (put_with (record_of w) node (leader_of node x.addr)) (gets queue.Inbox (entries_in (leader_of node x.addr) (map member_log w.members)))
+    (λ p. sym (left_is w node queue.Inbox (prio_number p) h.deck h.there) i)) h.kept

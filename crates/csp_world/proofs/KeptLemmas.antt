@@ -8,6 +8,7 @@ use Rattle.std.proofs.lemmas.List.Folds.{flat_map-map}
 use Rattle.std.proofs.lemmas.List.Sums.{sum_by-cons}
 use Rattle.csp_topology.specs.Parties.{PlainOpening}
 use Rattle.csp_consistent.specs.Pools.{given, given_at, given_by, is_node, taken, taken_at, taken_by}
+use Rattle.csp_consistent.specs.Promises.{IsPoolKept}
 use Rattle.csp_deck.specs.Step.{entry_of, times}
 use Rattle.csp_lists.specs.PlainDeck.{PlainDeck, buffer_numbers}
 use Rattle.csp_log.specs.declared.entry.Entry.{Entry}
@@ -61,14 +62,14 @@ took_told k node time m a =
     ap (λ (ns : List ℕ). times k (at_home here ns)) (flat-push (λ x. taken_by x.answer) m.entries (entry_of time (asks m.party time) a (events (asked m.party time) time a)))
     ∙ home_more k here (taken m.entries) _
 
--- of a node with so many buffers, over these lists and parties
-pub record IsPoolKept (node count : ℕ) (decks : List PlainDeck) (ms : List PlainMember) : Type 0 where
+-- the lists of a node with so many buffers have kept the pool's promise so far, of what the logs say
+pub record HasKeptPool (node count : ℕ) (decks : List PlainDeck) (ms : List PlainMember) : Type 0 where
   pub deck : PlainDeck
   pub there : slice_get decks node ≡ Some deck
-  pub kept : (k : ℕ) → times k (range_with_len 0 count) + times k (flat_map (gave node) ms) ≡ times k (flat_map (took node) ms) + times k (buffer_numbers deck.pool.items)
+  pub kept : IsPoolKept (range_with_len 0 count) (flat_map (gave node) ms) (flat_map (took node) ms) (buffer_numbers deck.pool.items)
 
-pub kept_turned : (node count : ℕ) (w : PlainWorld) (place : ℕ) (m : PlainMember) → slice_get w.members place ≡ Some m → IsPoolKept node count w.decks w.members
-    → IsPoolKept node count (turned w place m).decks (turned w place m).members
+pub kept_turned : (node count : ℕ) (w : PlainWorld) (place : ℕ) (m : PlainMember) → slice_get w.members place ≡ Some m → HasKeptPool node count w.decks w.members
+    → HasKeptPool node count (turned w place m).decks (turned w place m).members
 kept_turned node count w place m at h =
     let a = answered w.decks w.links w.time m in
     let l = local w.decks w.links m.who (asks m.party w.time) node h.deck h.there in
@@ -97,7 +98,7 @@ none_taken node [] = refl
 none_taken node (o ∷ os) = rw (none_at (is_node node (node_of o.who)), none_taken node os) refl
 
 pub kept_opened : (node count : ℕ) (decks : List PlainDeck) (d : PlainDeck) (os : List PlainOpening) → slice_get decks node ≡ Some d → buffer_numbers d.pool.items ≡ range_with_len 0 count
-    → IsPoolKept node count decks (map new_member os)
+    → HasKeptPool node count decks (map new_member os)
 kept_opened node count decks d os at all = record {
   deck = d;
   there = at;

@@ -13,6 +13,7 @@ use Rattle.csp_consistent.specs.Pools.{is_node}
 use Rattle.csp_topology.proofs.Public.{OfApp, OfIface}
 use Rattle.csp_topology.specs.Lanes.{PlainLane, leader_of}
 use Rattle.csp_topology.specs.Parties.{PlainOpening}
+use Rattle.csp_consistent.specs.Promises.{IsLaneKept}
 use Rattle.csp_consistent.specs.Queues.{MayAsk, MayPop, MayPush}
 use Rattle.csp_consistent.specs.Reading.{gets, is_queue, puts}
 use Rattle.csp_deck.specs.Step.{entry_of}
@@ -230,28 +231,32 @@ lane_is q apart (place.App k) h e = absurd h
 lane_one : (q : QueueId) → is_queue q queue.Inbox ≡ false → PicksOne q 0
 lane_one q apart x y h g e f = lane_is q apart y g f ∙ sym (lane_is q apart x h e)
 
-pub record IsLaneKept (l : PlainLane) (decks : List PlainDeck) (ms : List PlainMember) : Type 0 where
+-- the lists of its node have kept the lane's promise so far, of what the logs say
+pub record HasKeptLane (l : PlainLane) (decks : List PlainDeck) (ms : List PlainMember) : Type 0 where
   pub deck : PlainDeck
   pub there : slice_get decks l.node ≡ Some deck
   pub roomy : IsRoomy l.queue deck
-  pub order : gets l.to.queue (entries_in l.to.who (map member_log ms)) ++ content l.queue 0 deck ≡ puts l.from.queue (entries_in l.from.who (map member_log ms))
+  pub kept : IsLaneKept (lane_room l.queue) (puts l.from.queue (entries_in l.from.who (map member_log ms))) (gets l.to.queue (entries_in l.to.who (map member_log ms))) (content l.queue 0 deck)
   pub full : IsFullAfter (lane_room l.queue) l.from.queue (entries_in l.from.who (map member_log ms))
 
 pub lane_turned : (scene : PlainScene) (os : List PlainOpening) → IsKnown scene os → (l : PlainLane) (w : PlainWorld) → IsLaneOf scene w.links l → AreLogged w.time os w.members
-    → (k : ℕ) (m : PlainMember) → slice_get w.members k ≡ Some m → IsLaneKept l w.decks w.members → IsLaneKept l (turned w k m).decks (turned w k m).members
+    → (k : ℕ) (m : PlainMember) → slice_get w.members k ≡ Some m → HasKeptLane l w.decks w.members → HasKeptLane l (turned w k m).decks (turned w k m).members
 lane_turned scene os known l w is logged k m found h = record {
   deck = near.after;
   there = near.got;
-  roomy = kept_after (IsRoomy l.queue) (roomy_kept known.queues known.shape known.keeps l.queue) h.deck h.roomy l.node there r near;
-  order =
-      ap (λ xs. xs ++ content l.queue 0 near.after) (ap (gets l.to.queue) (longer l.to.who) ∙ gets-push l.to.queue (old l.to.who) (is_who l.to.who m.who) e ∙ ap (λ xs. before ++ xs) (gets_same w.links l is.lane m.who (is.pops m.who party) o may h.deck r.0))
-      ∙ append_assoc before got (content l.queue 0 near.after)
-      ∙ ap (λ xs. before ++ xs) (moved known.stands known.keeps l.queue 0 (lane_one l.queue is.lane) h.deck h.roomy.right l.node there r near)
-      ∙ sym (append_assoc before (content l.queue 0 h.deck) put)
-      ∙ ap (λ xs. xs ++ put) h.order
-      ∙ ap (λ xs. puts l.from.queue (old l.from.who) ++ xs) (sym (puts_same w.links l is.lane m.who (is.pushes m.who party) o may r.0))
-      ∙ sym (puts-push l.from.queue (old l.from.who) (is_who l.from.who m.who) e)
-      ∙ ap (puts l.from.queue) (sym (longer l.from.who));
+  roomy = roomy;
+  kept = record {
+    order =
+        ap (λ xs. xs ++ content l.queue 0 near.after) (ap (gets l.to.queue) (longer l.to.who) ∙ gets-push l.to.queue (old l.to.who) (is_who l.to.who m.who) e ∙ ap (λ xs. before ++ xs) (gets_same w.links l is.lane m.who (is.pops m.who party) o may h.deck r.0))
+        ∙ append_assoc before got (content l.queue 0 near.after)
+        ∙ ap (λ xs. before ++ xs) (moved known.stands known.keeps l.queue 0 (lane_one l.queue is.lane) h.deck h.roomy.right l.node there r near)
+        ∙ sym (append_assoc before (content l.queue 0 h.deck) put)
+        ∙ ap (λ xs. xs ++ put) h.kept.order
+        ∙ ap (λ xs. puts l.from.queue (old l.from.who) ++ xs) (sym (puts_same w.links l is.lane m.who (is.pushes m.who party) o may r.0))
+        ∙ sym (puts-push l.from.queue (old l.from.who) (is_who l.from.who m.who) e)
+        ∙ ap (puts l.from.queue) (sym (longer l.from.who));
+    few = left_few l.queue is.lane (lane_one l.queue is.lane) near.after roomy;
+  };
   full = subst (IsFullAfter (lane_room l.queue) l.from.queue) (sym (longer l.from.who)) (full-push (lane_room l.queue) l.from.queue (old l.from.who) (is_who l.from.who m.who) e h.full filled);
 } where
   o : OpShown
@@ -265,6 +270,9 @@ lane_turned scene os known l w is logged k m found h = record {
 
   near : IsLocal there r l.node h.deck
   near = local w.decks w.links m.who o l.node h.deck h.there
+
+  roomy : IsRoomy l.queue near.after
+  roomy = kept_after (IsRoomy l.queue) (roomy_kept known.queues known.shape known.keeps l.queue) h.deck h.roomy l.node there r near
 
   e : Entry
   e = entry_of w.time o r.0 (events (asked m.party w.time) w.time r.0)
@@ -295,19 +303,22 @@ lane_turned scene os known l w is logged k m found h = record {
       let to = refused_there w.links l is.lane m.who (is.pushes m.who party) o may r.0 this refused in
       let same : r.0 ≡ (answer_of h.deck (op.Push l.queue to.item)).0 = (near.here (l.node, op.Push l.queue to.item) to.at refl).0 in
       let most = as_full l.queue is.lane (lane_one l.queue is.lane) h.deck h.roomy to.item (subst IsFull same (refused_full l.from.queue o r.0 refused)) in
-      let long = sym (length-append before (content l.queue 0 h.deck)) ∙ ap (λ (xs : List ItemShown). length xs) h.order in
+      let long = sym (length-append before (content l.queue 0 h.deck)) ∙ ap (λ (xs : List ItemShown). length xs) h.kept.order in
       omega (arith, most, long)
 
 pub lane_opened : (scene : PlainScene) (os : List PlainOpening) → IsKnown scene os → (links : List (List End)) (l : PlainLane) (is : IsLaneOf scene links l) (decks : List PlainDeck) → slice_get decks l.node ≡ Some (opened_deck is.node (links_at l.node scene.links))
-    → IsLaneKept l decks (map new_member os)
+    → HasKeptLane l decks (map new_member os)
 lane_opened scene os known links l is decks at = record {
   deck = opened_deck n (links_at l.node scene.links);
   there = at;
   roomy = roomy_opened known.stands l.queue buffers n.inbox (length n.apps) carried (right_opening buffers n.inbox (length n.apps) carried) is.stands;
-  order =
-      ap (λ es. gets l.to.queue es ++ content l.queue 0 (opened_deck n (links_at l.node scene.links))) (no_entries l.to.who os)
-      ∙ no_content l.queue 0 n.inbox carried (places_in (shape_of (length n.apps) carried))
-      ∙ ap (puts l.from.queue) (sym (no_entries l.from.who os));
+  kept = record {
+    order =
+        ap (λ es. gets l.to.queue es ++ content l.queue 0 (opened_deck n (links_at l.node scene.links))) (no_entries l.to.who os)
+        ∙ nothing
+        ∙ ap (puts l.from.queue) (sym (no_entries l.from.who os));
+    few = subst (λ (xs : List ItemShown). length xs ≤ lane_room l.queue) (sym nothing) (omega arith);
+  };
   full = subst (IsFullAfter (lane_room l.queue) l.from.queue) (sym (no_entries l.from.who os)) (full_none (lane_room l.queue) l.from.queue);
 } where
   n : PlainNode
@@ -319,15 +330,12 @@ lane_opened scene os known links l is decks at = record {
   carried : List Carries
   carried = carried_at l.node scene.links
 
+  nothing : content l.queue 0 (opened_deck n (links_at l.node scene.links)) ≡ []
+  nothing = no_content l.queue 0 n.inbox carried (places_in (shape_of (length n.apps) carried))
+
 -- so the record says
-pub lane_in_order : (w : PlainWorld) (scene : PlainScene) (links : List (List End)) (l : PlainLane) → IsLaneOf scene links l → IsLaneKept l w.decks w.members → IsInOrder (record_of w) l
-lane_in_order w scene links l is h =
-    let left = left_is w l.node l.queue 0 h.deck h.there in
-    let few = left_few l.queue is.lane (lane_one l.queue is.lane) h.deck h.roomy in
-    record {
-      kept = record {
-        order = ap (λ xs. gets l.to.queue (entries_in l.to.who (map member_log w.members)) ++ xs) left ∙ h.order;
-        few = subst (λ (xs : List ItemShown). length xs ≤ lane_room l.queue) (sym left) few;
-      };
-      full = h.full;
-    }
+pub lane_in_order : (w : PlainWorld) (scene : PlainScene) (links : List (List End)) (l : PlainLane) → IsLaneOf scene links l → HasKeptLane l w.decks w.members → IsInOrder (record_of w) l
+lane_in_order w scene links l is h = record {
+  kept = subst (IsLaneKept (lane_room l.queue) (puts l.from.queue (entries_in l.from.who (map member_log w.members))) (gets l.to.queue (entries_in l.to.who (map member_log w.members)))) (sym (left_is w l.node l.queue 0 h.deck h.there)) h.kept;
+  full = h.full;
+}

@@ -1,7 +1,8 @@
 -- What is true of each world that turns and ticks make of a scene's opening.
-use Rattle.std.proofs.Common.{◌≡◌, ℕ, ◌+◌, Some, List, [], ◌∷◌, length, map, refl, sym, subst, ap, arith}
+use Rattle.std.proofs.Common.{◌≡◌, ℕ, ◌+◌, Some, List, [], ◌∷◌, length, map, refl, sym, subst}
 use Rattle.std.specs.Prelude.{slice_get, slice_index_or}
-use Rattle.std.specs.List.{AllByRecursion}
+use Rattle.std.proofs.Math.Path.{transport}
+use Rattle.std.specs.List.{AllByRecursion, range_with_len}
 use Rattle.csp_consistent.proofs.Public.{are_apart, scene_own, are_owners}
 use Rattle.csp_consistent.specs.Inboxes.{AreInboxesInOrder, IsInboxInOrder}
 use Rattle.csp_consistent.specs.Lanes.{AreInOrder, IsInOrder}
@@ -9,8 +10,8 @@ use Rattle.csp_topology.specs.Lanes.{PlainLane, leader_of}
 use Rattle.csp_topology.specs.Wires.{lanes_of}
 use Rattle.csp_topology.specs.Parties.{parties_of}
 use Rattle.csp_consistent.specs.Pools.{AreNumbersKept, IsPoolWhole}
+use Rattle.csp_consistent.specs.Promises.{IsPoolKept}
 use Rattle.csp_consistent.specs.Runs.{AreLogsOf}
-use Rattle.csp_deck.specs.Step.{times}
 use Rattle.csp_log.specs.Kinds.{carried_on}
 use Rattle.csp_lists.specs.PlainDeck.{PlainDeck}
 use Rattle.csp_log.specs.declared.places.End.{End}
@@ -23,9 +24,9 @@ use Rattle.csp_scene.specs.Scene.{PlainLink, PlainNode, PlainScene}
 use Rattle.csp_party.specs.Any.{asks}
 use Rattle.csp_world.proofs.AlwaysLemmas.{always}
 use Rattle.csp_world.proofs.EndsApart.{ends_in}
-use Rattle.csp_world.proofs.InboxLemmas.{IsInboxKept, IsKnown, inbox_in_order, inbox_opened, inbox_turned}
-use Rattle.csp_world.proofs.KeptLemmas.{IsPoolKept, gave_logs, kept_opened, kept_turned, took_logs}
-use Rattle.csp_world.proofs.LaneLemmas.{IsLaneKept, IsLaneOf, lane_in_order, lane_opened, lane_turned}
+use Rattle.csp_world.proofs.InboxLemmas.{HasKeptInbox, IsKnown, inbox_in_order, inbox_opened, inbox_turned}
+use Rattle.csp_world.proofs.KeptLemmas.{HasKeptPool, gave_logs, kept_opened, kept_turned, took_logs}
+use Rattle.csp_world.proofs.LaneLemmas.{HasKeptLane, IsLaneOf, lane_in_order, lane_opened, lane_turned}
 use Rattle.csp_world.proofs.LinkLanes.{all_lanes_of}
 use Rattle.csp_world.proofs.LocalLemmas.{Keeps, all_kept}
 use Rattle.csp_world.proofs.LoggedLemmas.{AreLogged, logged_logs, logged_tick, logged_turned}
@@ -71,21 +72,17 @@ unfolding opening
 opening_there scene node n at = deck_there scene.nodes scene.links node n at
 
 -- each pool is kept
-opening_kept : (scene : PlainScene) (node : ℕ) (n : PlainNode) → slice_get scene.nodes node ≡ Some n → IsPoolKept node n.buffers (opening scene).decks (opening scene).members
+opening_kept : (scene : PlainScene) (node : ℕ) (n : PlainNode) → slice_get scene.nodes node ≡ Some n → HasKeptPool node n.buffers (opening scene).decks (opening scene).members
 opening_kept scene node n at = rw (members_opened scene) (kept_opened node n.buffers _ (opened_deck n (links_at node scene.links)) (parties_of scene) (opening_there scene node n at) (fresh_numbers n.buffers))
 
-all_pooled : (scene : PlainScene) (node : ℕ) (n : PlainNode) → slice_get scene.nodes node ≡ Some n → (hs : List Happening) → IsPoolKept node n.buffers (world_after scene hs).decks (world_after scene hs).members
+all_pooled : (scene : PlainScene) (node : ℕ) (n : PlainNode) → slice_get scene.nodes node ≡ Some n → (hs : List Happening) → HasKeptPool node n.buffers (world_after scene hs).decks (world_after scene hs).members
 all_pooled scene node n at =
-    always scene (λ w. IsPoolKept node n.buffers w.decks w.members) (opening_kept scene node n at) (λ hs h k m found e. kept_turned node n.buffers (world_after scene hs) k m found h) (λ w h. h)
+    always scene (λ w. HasKeptPool node n.buffers w.decks w.members) (opening_kept scene node n at) (λ hs h k m found e. kept_turned node n.buffers (world_after scene hs) k m found h) (λ w h. h)
 
 -- so each pool is whole, with what is in it
-pool_whole : (w : PlainWorld) (node count : ℕ) → IsPoolKept node count w.decks w.members → IsPoolWhole (record_of w) node count (slice_index_or (map in_pool w.decks) node [])
-pool_whole w node count h k =
-    let gives = ap (times k) (gave_logs node w.members) in
-    let takes = ap (times k) (took_logs node w.members) in
-    let left = ap (times k) (in_pool_at w.decks node h.deck h.there) in
-    let kept = h.kept k in
-    omega (arith, gives, takes, left, kept)
+pool_whole : (w : PlainWorld) (node count : ℕ) → HasKeptPool node count w.decks w.members → IsPoolWhole (record_of w) node count (slice_index_or (map in_pool w.decks) node [])
+pool_whole w node count h =
+    transport (λ i. IsPoolKept (range_with_len 0 count) (sym (gave_logs node w.members) i) (sym (took_logs node w.members) i) (sym (in_pool_at w.decks node h.deck h.there) i)) h.kept
 
 -- so the numbers are kept
 pub reached_numbers : KeepsQueues → (scene : PlainScene) (w : PlainWorld) → IsReached scene w → AreNumbersKept scene (record_of w)
@@ -114,14 +111,14 @@ scene_known stands queues shape scene is = record {
   few = is.few_links;
 }
 
-opening_inbox : (scene : PlainScene) (node : ℕ) (n : PlainNode) → slice_get scene.nodes node ≡ Some n → IsInboxKept node n (opening scene).decks (opening scene).members
+opening_inbox : (scene : PlainScene) (node : ℕ) (n : PlainNode) → slice_get scene.nodes node ≡ Some n → HasKeptInbox node n (opening scene).decks (opening scene).members
 opening_inbox scene node n at =
     rw (members_opened scene)
     (inbox_opened node n (fresh_buffers n.buffers) n.inbox (length n.apps) (map (λ l. carried_on l.kind) (links_at node scene.links)) (opening scene).decks (parties_of scene) (opening_there scene node n at))
 
-all_inboxes : (scene : PlainScene) → IsKnown scene (parties_of scene) → (node : ℕ) (n : PlainNode) → slice_get scene.nodes node ≡ Some n → (hs : List Happening) → IsInboxKept node n (world_after scene hs).decks (world_after scene hs).members
+all_inboxes : (scene : PlainScene) → IsKnown scene (parties_of scene) → (node : ℕ) (n : PlainNode) → slice_get scene.nodes node ≡ Some n → (hs : List Happening) → HasKeptInbox node n (world_after scene hs).decks (world_after scene hs).members
 all_inboxes scene known node n at =
-    always scene (λ w. IsInboxKept node n w.decks w.members) (opening_inbox scene node n at)
+    always scene (λ w. HasKeptInbox node n w.decks w.members) (opening_inbox scene node n at)
     (λ hs h k m found e. inbox_turned scene (parties_of scene) known node n at (world_after scene hs) (all_logged scene hs) k m found h) (λ w h. h)
 
 pub reached_inboxes : Stands → KeepsQueues → KeepsShape → (scene : PlainScene) (w : PlainWorld) → IsScene scene → IsReached scene w → AreInboxesInOrder scene (record_of w)
@@ -138,13 +135,13 @@ links_after : (scene : PlainScene) (hs : List Happening) → (world_after scene 
 links_after scene = always scene (λ w. w.links ≡ ends_in scene.links) (links_opening scene) (λ hs same k m at e. same) (λ w same. same)
 
 -- and so each lane is in order
-opening_lane : (scene : PlainScene) → IsKnown scene (parties_of scene) → (l : PlainLane) → IsLaneOf scene (ends_in scene.links) l → IsLaneKept l (opening scene).decks (opening scene).members
+opening_lane : (scene : PlainScene) → IsKnown scene (parties_of scene) → (l : PlainLane) → IsLaneOf scene (ends_in scene.links) l → HasKeptLane l (opening scene).decks (opening scene).members
 opening_lane scene known l is =
     rw (members_opened scene) (lane_opened scene (parties_of scene) known (ends_in scene.links) l is (opening scene).decks (opening_there scene l.node is.node is.there))
 
-all_lanes : (scene : PlainScene) → IsKnown scene (parties_of scene) → (l : PlainLane) → IsLaneOf scene (ends_in scene.links) l → (hs : List Happening) → IsLaneKept l (world_after scene hs).decks (world_after scene hs).members
+all_lanes : (scene : PlainScene) → IsKnown scene (parties_of scene) → (l : PlainLane) → IsLaneOf scene (ends_in scene.links) l → (hs : List Happening) → HasKeptLane l (world_after scene hs).decks (world_after scene hs).members
 all_lanes scene known l is =
-    always scene (λ w. IsLaneKept l w.decks w.members) (opening_lane scene known l is)
+    always scene (λ w. HasKeptLane l w.decks w.members) (opening_lane scene known l is)
     (λ hs h k m found e. lane_turned scene (parties_of scene) known l (world_after scene hs) (subst (λ (links : List (List End)). IsLaneOf scene links l) (sym (links_after scene hs)) is) (all_logged scene hs) k m found h)
     (λ w h. h)
 
