@@ -109,10 +109,10 @@ step_cut slot (step.Blob own len size) h = by (own == slot)
   where
     this : CanBeCut (blob_bytes len) size
     this = record {
-      some = subst (λ n. 0 < n) (sym (burst_length len FIRST_BYTE)) (omega (arith, h.1));
-      fits = subst (λ n. n ≤ MAX_BLOB) (sym (burst_length len FIRST_BYTE)) h.2;
-      wide = omega (arith, h.3);
-      short = h.4;
+      some = subst (λ n. 0 < n) (sym (burst_length len FIRST_BYTE)) (omega (arith, h.0.1));
+      fits = subst (λ n. n ≤ MAX_BLOB) (sym (burst_length len FIRST_BYTE)) h.0.2;
+      wide = omega (arith, h.0.3);
+      short = h.0.4;
     }
 
     by : (t : Bool) → AllByRecursion IsCut (if t then record { blob = blob_bytes len; size = size } ∷ [] else [])

@@ -97,8 +97,8 @@ IsDue found sent = sends_at found ≡ true → sent < (batch_at found).count
 
 due_some : (found : Option PlainStep) → IfSome found IsStep → IsDue found 0
 due_some (Some (step.Send slot bytes)) h e = omega arith
-due_some (Some (step.Burst slot count len)) h e = omega (arith, h.1)
-due_some (Some (step.Blob slot len size)) h e = has_pieces len size (omega (arith, h.1)) (omega (arith, h.3))
+due_some (Some (step.Burst slot count len)) h e = omega (arith, h.0.1)
+due_some (Some (step.Blob slot len size)) h e = has_pieces len size (omega (arith, h.0.1)) (omega (arith, h.0.3))
 due_some (Some (step.Raw header bytes)) h e = omega arith
 due_some _ h e = absurd cc
 

@@ -14,21 +14,6 @@ use Rattle.csp_prefix.specs.Apps.{IsAppLog}
 use Rattle.csp_consistent.specs.Reading.{puts}
 use Rattle.csp_prefix.proofs.AppPuts.{NotesSo, PutsSo, app_puts}
 
--- the numbers of a scene's steps are in the ranges of an application's
-in_range : (x : PlainStep) → ranges.IsStep x → IsStep x
-in_range step.Take h = tt
-in_range step.Give h = tt
-in_range (step.Bind _ _) h = tt
-in_range (step.Connect slot dest port prio flags from) h = h.0
-in_range (step.Send slot bytes) h = h
-in_range (step.Burst slot count len) h = (h.0, h.1, h.3, h.4)
-in_range (step.Blob slot len size) h = h
-in_range (step.Raw header bytes) h = h.1
-in_range (step.Recv slot count rounds) h = h.0
-in_range (step.Collect slot count rounds) h = h.0
-in_range (step.Close slot) h = h
-in_range (step.Wait rounds) h = tt
-
 -- the note that a step asks is a request
 notes_up : (x : PlainStep) → IsStep x → NotesSo IsUpItem x
 notes_up (step.Bind port need) h = tt
@@ -37,7 +22,7 @@ notes_up (step.Close slot) h = h
 notes_up _ h = tt
 
 step_up : (x : PlainStep) → ranges.IsStep x → PutsSo IsUpItem x
-step_up x h = ((λ j b. up_carries x j b (in_range x h)), notes_up x (in_range x h))
+step_up x h = ((λ j b. up_carries x j b h.0), notes_up x h.0)
 
 -- from its opening on
 pub puts_up_items : (number : ℕ) (steps : List PlainStep) (es : List Entry) → AllByRecursion ranges.IsStep steps → IsAppLog number steps es → AllByRecursion IsUpItem (puts (queue.Up number) es)

@@ -214,8 +214,8 @@ IsDraft-app d place app is within router here room =
 
 -- a step's packet has no more bytes than a packet may have
 pub step_of_packet : (step : PlainStep) → IsStep step → IsOfPacket step
-step_of_packet (step.Send slot bytes) is = omega (arith, is.2)
-step_of_packet (step.Raw header bytes) is = is.1
+step_of_packet (step.Send slot bytes) is = omega (arith, is.0.2)
+step_of_packet (step.Raw header bytes) is = is.0
 step_of_packet _ is = omega arith
 
 -- a step

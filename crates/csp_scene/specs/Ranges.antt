@@ -4,19 +4,17 @@ use Rattle.std.specs.List.{All, AllByRecursion}
 use Rattle.std.specs.FinMap as finite
 use Rattle.csp_app.specs.PlainStep.{PlainStep}
 use Rattle.csp_app.specs.PlainStep as step
-use Rattle.csp_base.specs.declared.limits.TheConstants.{MAX_BUFFERS, MAX_PAYLOAD, SLOTS, MAX_APPS}
+use Rattle.csp_app.specs.Room as application
+use Rattle.csp_base.specs.declared.limits.TheConstants.{MAX_BUFFERS, MAX_APPS}
 use Rattle.csp_link.specs.Fates.{IsFault}
 use Rattle.csp_link.specs.declared.fault.Fault.{Fault}
 use Rattle.csp_link.specs.declared.fault.FaultKind.{FaultKind}
 use Rattle.csp_link.specs.declared.fault.FaultKind.TheVariants as fault
 use Rattle.csp_link.specs.declared.fault.TheConstants.{MAX_REPEATS}
 use Rattle.csp_log.specs.declared.places.LinkKind.TheVariants as carried
-use Rattle.csp_log.specs.declared.places.TheConstants.{MAX_DATA}
 use Rattle.csp_rdp_header.specs.declared.options.Options.{Options}
 use Rattle.csp_rdp_header.specs.declared.options.TheConstants.{MAX_WINDOW}
 use Rattle.csp_route.specs.Routes.{IsWithin}
-use Rattle.csp_sfp.specs.declared.pieces.TheConstants.{MAX_SIZE}
-use Rattle.csp_sfp.specs.declared.trailer.TheConstants.{MAX_BLOB}
 use Rattle.csp_text.specs.Names.{is_name}
 use Rattle.csp_base.specs.declared.ports.TheConstants.{FIRST_OWN_PORT}
 use Rattle.csp_scene.specs.declared.limits.TheConstants.{MAX_UNTIL, MAX_ADDR, MAX_NODES, MAX_LINKS, BRIDGE_LINKS, MAX_STEPS, MIN_BUFFERS, MAX_SEED, MIN_INBOX, MAX_INBOX, MAX_PORT, MAX_DEST, CRC_FLAG, RDP_FLAG, FRAG_FLAG, MAX_COUNT, MAX_ROUNDS, MAX_FAULTS, LAST_FRAME, MAX_DELAY, MAX_FLIP, MAX_SHUFFLE, MAX_OPTION, MIN_MTU, MAX_MTU, DEFAULT_MTU, MAX_HUB_NODES}
@@ -45,21 +43,25 @@ AreConnectFlags flags = AreFlags (flags % FRAG_FLAG) × (flags < 2 * FRAG_FLAG)
 abbrev pub IsOwnPort : ℕ → Type 0
 IsOwnPort port = (FIRST_OWN_PORT ≤ port) × (port ≤ MAX_PORT)
 
--- a step's numbers: ports, addresses and flags of the header, a header word, as many bytes as a packet, a blob or a piece has; a slot
--- that there is, a number of packets, of blobs, of rounds
+-- a step's numbers that its application takes as they are: ports, addresses and flags of the header, a header word; a number of packets, of
+-- blobs, of rounds
+abbrev pub FitsLine : PlainStep → Type 0
+FitsLine step.Take = ⊤
+FitsLine step.Give = ⊤
+FitsLine (step.Bind port need) = (port ≤ MAX_PORT) × AreFlags need
+FitsLine (step.Connect _ dest port _ flags from) = (dest ≤ MAX_DEST) × (port ≤ MAX_PORT) × AreConnectFlags flags × IfSome from IsOwnPort
+FitsLine (step.Send _ _) = ⊤
+FitsLine (step.Burst _ count _) = count ≤ MAX_COUNT
+FitsLine (step.Blob _ _ _) = ⊤
+FitsLine (step.Raw header _) = header < 2 ^ 32
+FitsLine (step.Recv _ count rounds) = (1 ≤ count) × (count ≤ MAX_COUNT) × IfSome rounds IsWait
+FitsLine (step.Collect _ count rounds) = (1 ≤ count) × (count ≤ MAX_COUNT) × IfSome rounds IsWait
+FitsLine (step.Close _) = ⊤
+FitsLine (step.Wait rounds) = IsWait rounds
+
+-- a step's numbers: those that its application needs in their ranges, and the others
 abbrev pub IsStep : PlainStep → Type 0
-IsStep step.Take = ⊤
-IsStep step.Give = ⊤
-IsStep (step.Bind port need) = (port ≤ MAX_PORT) × AreFlags need
-IsStep (step.Connect slot dest port prio flags from) = (slot < SLOTS) × (dest ≤ MAX_DEST) × (port ≤ MAX_PORT) × AreConnectFlags flags × IfSome from IsOwnPort
-IsStep (step.Send slot bytes) = (slot < SLOTS) × (1 ≤ length bytes) × (length bytes ≤ MAX_DATA)
-IsStep (step.Burst slot count len) = (slot < SLOTS) × (1 ≤ count) × (count ≤ MAX_COUNT) × (1 ≤ len) × (len ≤ MAX_DATA)
-IsStep (step.Blob slot len size) = (slot < SLOTS) × (1 ≤ len) × (len ≤ MAX_BLOB) × (1 ≤ size) × (size ≤ MAX_SIZE)
-IsStep (step.Raw header bytes) = (header < 2 ^ 32) × (length bytes ≤ MAX_PAYLOAD)
-IsStep (step.Recv slot count rounds) = (slot < SLOTS) × (1 ≤ count) × (count ≤ MAX_COUNT) × IfSome rounds IsWait
-IsStep (step.Collect slot count rounds) = (slot < SLOTS) × (1 ≤ count) × (count ≤ MAX_COUNT) × IfSome rounds IsWait
-IsStep (step.Close slot) = slot < SLOTS
-IsStep (step.Wait rounds) = IsWait rounds
+IsStep s = application.IsStep s × FitsLine s
 
 -- an application has a name, and no more steps than an application may have, each with its numbers in their ranges; packets and blobs
 -- are not mixed on a slot
