@@ -1,10 +1,14 @@
 -- Parties that were opened, each with a desk.
-use Rattle.std.proofs.Common.{◌≡◌, ℕ, List, [], ◌∷◌, Option, None, Some, map, option_map, refl, sym, ap, ◌∙◌, subst}
+use Rattle.std.proofs.Common.{◌≡◌, ℕ, List, [], ◌∷◌, Option, None, Some, length, map, option_map, refl, sym, ap, ◌∙◌, subst}
 use Rattle.std.specs.Prelude.{slice_get}
 use Rattle.std.specs.List.{AllByRecursion}
+use Rattle.std.proofs.lemmas.List.{length-map}
 use Rattle.std.proofs.lemmas.Option.{slice_get-map}
+use Rattle.csp_arena.specs.Cells.{RegionName}
+use Rattle.csp_deck.specs.Regions.{nowhere}
 use Rattle.csp_log.specs.Who.{node_of}
-use Rattle.csp_opening.specs.Seated.{IsSeated, buffers_in, count_at, count_or, region_at, region_or, seat_name, unseated}
+use Rattle.csp_opening.specs.Opened.{region_in}
+use Rattle.csp_opening.specs.Seated.{AreBuffersIn, IsSeated, count_at, count_or, region_at, region_or, seat_name, unseated}
 use Rattle.csp_opening.specs.declared.nodes.Node.{Node}
 use Rattle.csp_opening.specs.declared.seats.Seat.{Seat}
 use Rattle.csp_party.specs.Any.{holds, plain}
@@ -14,36 +18,62 @@ use Rattle.csp_topology.specs.Parties.{PlainOpening}
 use Rattle.csp_topology.specs.declared.opened.NewParty.{NewParty}
 use Rattle.csp_topology.specs.declared.opened.NodeBuffers.{NodeBuffers}
 
--- the region of the node at a place, and how many buffers it has
-region_same : (xs : List Node) (home : Option ℕ) → opened.region_or (buffers_at (map buffers_in xs) home) ≡ region_at xs home
-region_same xs None = refl
-region_same xs (Some k) = ap opened.region_or (slice_get-map buffers_in xs k) ∙ by (slice_get xs k) where
-  by : (o : Option Node) → opened.region_or (option_map buffers_in o) ≡ region_or o
-  by None = refl
-  by (Some x) = refl
+-- there are as many as there are nodes
+pub as_many_buffers : (xs : List Node) (bs : List NodeBuffers) → AreBuffersIn xs bs → length bs ≡ length xs
+as_many_buffers xs bs are = sym (length-map bs (λ (b : NodeBuffers). b.region.name)) ∙ ap (λ (rs : List RegionName). length rs) are.regions ∙ length-map xs region_in
 
-count_same : (xs : List Node) (home : Option ℕ) → opened.count_or (buffers_at (map buffers_in xs) home) ≡ count_at xs home
-count_same xs None = refl
-count_same xs (Some k) = ap opened.count_or (slice_get-map buffers_in xs k) ∙ by (slice_get xs k) where
-  by : (o : Option Node) → opened.count_or (option_map buffers_in o) ≡ count_or o
-  by None = refl
-  by (Some x) = refl
+-- the region of the node at a place
+region_same : (xs : List Node) (bs : List NodeBuffers) (home : Option ℕ) → AreBuffersIn xs bs → opened.region_or (buffers_at bs home) ≡ region_at xs home
+region_same xs bs None are = refl
+region_same xs bs (Some k) are =
+    one (slice_get bs k) ∙ ap name_or (sym (slice_get-map (λ (b : NodeBuffers). b.region.name) bs k) ∙ ap (λ (rs : List RegionName). slice_get rs k) are.regions ∙ slice_get-map region_in xs k) ∙ sym (two (slice_get xs k))
+  where
+    name_or : Option RegionName → RegionName
+    name_or None = nowhere
+    name_or (Some r) = r
+
+    one : (o : Option NodeBuffers) → opened.region_or o ≡ name_or (option_map (λ (b : NodeBuffers). b.region.name) o)
+    one None = refl
+    one (Some b) = refl
+
+    two : (o : Option Node) → region_or o ≡ name_or (option_map region_in o)
+    two None = refl
+    two (Some x) = refl
+
+-- and how many buffers it has
+count_same : (xs : List Node) (bs : List NodeBuffers) (home : Option ℕ) → AreBuffersIn xs bs → opened.count_or (buffers_at bs home) ≡ count_at xs home
+count_same xs bs None are = refl
+count_same xs bs (Some k) are =
+    one (slice_get bs k) ∙ ap number_or (sym (slice_get-map (λ (b : NodeBuffers). b.count) bs k) ∙ ap (λ (ns : List ℕ). slice_get ns k) are.counts ∙ slice_get-map (λ (x : Node). x.base.pool.capacity) xs k)
+    ∙ sym (two (slice_get xs k))
+  where
+    number_or : Option ℕ → ℕ
+    number_or None = 0
+    number_or (Some n) = n
+
+    one : (o : Option NodeBuffers) → opened.count_or o ≡ number_or (option_map (λ (b : NodeBuffers). b.count) o)
+    one None = refl
+    one (Some b) = refl
+
+    two : (o : Option Node) → count_or o ≡ number_or (option_map (λ (x : Node). x.base.pool.capacity) o)
+    two None = refl
+    two (Some x) = refl
 
 -- a party that was opened over the buffers of these nodes
-seated_one : (xs : List Node) (s : Seat) → IsOpened (map buffers_in xs) (unseated s) → IsSeated xs s
-seated_one xs s is = record {
+seated_one : (xs : List Node) (bs : List NodeBuffers) (s : Seat) → AreBuffersIn xs bs → IsOpened bs (unseated s) → IsSeated xs s
+seated_one xs bs s are is = record {
   party = is.party;
-  region = is.region ∙ region_same xs (node_of s.who);
+  region = is.region ∙ region_same xs bs (node_of s.who) are;
   unnoted = is.unnoted;
-  numbers = is.numbers ∙ count_same xs (node_of s.who);
+  numbers = is.numbers ∙ count_same xs bs (node_of s.who) are;
 }
 
 -- and all of them
-pub all_seated : (xs : List Node) (bs : List NodeBuffers) (seats : List Seat) (ps : List NewParty) → bs ≡ map buffers_in xs → map unseated seats ≡ ps → AllByRecursion (IsOpened bs) ps → AllByRecursion (IsSeated xs) seats
-all_seated xs bs seats ps buffers same all = by seats (subst (λ cs. AllByRecursion (IsOpened cs) (map unseated seats)) buffers (subst (AllByRecursion (IsOpened bs)) (sym same) all)) where
-  by : (ss : List Seat) → AllByRecursion (IsOpened (map buffers_in xs)) (map unseated ss) → AllByRecursion (IsSeated xs) ss
+pub all_seated : (xs : List Node) (bs : List NodeBuffers) (seats : List Seat) (ps : List NewParty) → AreBuffersIn xs bs → map unseated seats ≡ ps → AllByRecursion (IsOpened bs) ps → AllByRecursion (IsSeated xs) seats
+all_seated xs bs seats ps are same all = by seats (subst (AllByRecursion (IsOpened bs)) (sym same) all) where
+  by : (ss : List Seat) → AllByRecursion (IsOpened bs) (map unseated ss) → AllByRecursion (IsSeated xs) ss
   by [] h = tt
-  by (s ∷ ss) h = (seated_one xs s h.0, by ss h.1)
+  by (s ∷ ss) h = (seated_one xs bs s are h.0, by ss h.1)
 
 -- they are who they were
 pub same_names : (seats : List Seat) (ps : List NewParty) (os : List PlainOpening) → map unseated seats ≡ ps → map opened_as ps ≡ os → map seat_name seats ≡ os

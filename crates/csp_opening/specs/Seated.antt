@@ -1,5 +1,5 @@
 -- Parties that have nothing of the queues in hand yet.
-use Rattle.std.specs.Prelude.{◌≡◌, ℕ, Option, None, Some, List, [], slice_get, vec_capacity}
+use Rattle.std.specs.Prelude.{◌≡◌, ℕ, Option, None, Some, List, [], map, slice_get, vec_capacity}
 use Rattle.csp_arena.specs.Cells.{RegionName}
 use Rattle.csp_deck.specs.Regions.{nowhere}
 use Rattle.csp_opening.specs.Opened.{region_in}
@@ -20,9 +20,10 @@ seat_name s = record { who = s.who; party = plain s.party }
 abbrev pub unseated : Seat → NewParty
 unseated s = record { who = s.who; party = s.party; numbers = s.numbers }
 
--- the buffers of a node, of which its parties have theirs
-abbrev pub buffers_in : Node → NodeBuffers
-buffers_in x = record { region = record { name = region_in x }; count = x.base.pool.capacity }
+-- these are the buffers of those nodes: the region of each, and how many there are
+pub record AreBuffersIn (nodes : List Node) (all : List NodeBuffers) : Type 0 where
+  pub regions : map (λ b. b.region.name) all ≡ map region_in nodes
+  pub counts : map (λ b. b.count) all ≡ map (λ x. x.base.pool.capacity) nodes
 
 -- the region of the buffers of a node
 abbrev pub region_or : Option Node → RegionName

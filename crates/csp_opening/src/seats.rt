@@ -2,7 +2,8 @@
 
 ghost use Rattle.std.specs.Prelude.{◌≡◌, [], length, map, IfOk, vec_capacity};
 ghost use Rattle.std.specs.List.{AllByRecursion};
-ghost use Rattle.csp_opening.specs.Seated.{IsSeated, buffers_in, seat_name, unseated};
+ghost use Rattle.csp_opening.specs.Opened.{region_in};
+ghost use Rattle.csp_opening.specs.Seated.{IsSeated, seat_name, unseated};
 ghost use Rattle.csp_party.specs.Any.{holds, plain};
 ghost use Rattle.csp_topology.specs.Opened.{AreParties};
 ghost use Rattle.csp_topology.specs.Opening.{opening_of};
@@ -87,7 +88,8 @@ pub(crate) fn open_seats(
 
 /// The buffers of each of these nodes.
 fn buffers_of(alloc: Global, nodes: &[Node]) -> Result<Vec<NodeBuffers>, AllocError>
-    ensures { IfOk result (λ all. all.items ≡ map buffers_in nodes.now) }
+    ensures regions { IfOk result (λ all. map (λ b. b.region.name) all.items ≡ map region_in nodes.now) }
+    ensures counts { IfOk result (λ all. map (λ b. b.count) all.items ≡ map (λ x. x.base.pool.capacity) nodes.now) }
 {
     let mut all = Vec::with_capacity(alloc, nodes.len())?;
     for node in nodes {

@@ -1,5 +1,5 @@
 -- Lemmas on longer lists, and on what a filter keeps of a list.
-use Rattle.std.proofs.Common.{◌≡◌, ℕ, ◌<◌, ◌≤◌, Bool, true, false, not, cond, zero, suc, List, [], ◌∷◌, ◌++◌, Some, length, take, ap, refl, ◌∙◌, subst, arith, flat_map, slice_get, IsSomeAnd}
+use Rattle.std.proofs.Common.{◌≡◌, ℕ, ◌≤◌, Bool, true, false, not, cond, zero, suc, List, [], ◌∷◌, ◌++◌, Some, length, take, ap, refl, ◌∙◌, subst, arith, flat_map, slice_get}
 use Rattle.std.specs.List.{filter}
 use Rattle.std.proofs.lemmas.List.Filters.{length-filter_both}
 use Rattle.std.proofs.lemmas.Option.{same_Some}
@@ -12,22 +12,10 @@ each-push P [] x h p (suc k) y e = absurd cc
 each-push P (z ∷ xs) x h p zero y e = h zero y e
 each-push P (z ∷ xs) x h p (suc k) y e = each-push (λ j. P (suc j)) xs x (λ j. h (suc j)) p k y e
 
--- the element at a place of a list is there in a longer one too
-pub get-longer : {A : Type 0} (xs ys : List A) (k : ℕ) (x : A) → slice_get xs k ≡ Some x → slice_get (xs ++ ys) k ≡ Some x
-get-longer [] ys k x e = absurd cc
-get-longer (z ∷ xs) ys zero x e = e
-get-longer (z ∷ xs) ys (suc k) x e = get-longer xs ys k x e
-
 -- the element after a list
 pub get-push : {A : Type 0} (xs : List A) (x : A) → slice_get (xs ++ x ∷ []) (length xs) ≡ Some x
 get-push [] x = refl
 get-push (z ∷ xs) x = get-push xs x
-
--- the place of an element is within the list
-pub some-within : {A : Type 0} (Q : A → Type 0) (xs : List A) (k : ℕ) → IsSomeAnd (slice_get xs k) Q → k < length xs
-some-within Q [] k h = absurd h
-some-within Q (x ∷ xs) zero h = omega arith
-some-within Q (x ∷ xs) (suc k) h = omega (arith, some-within Q xs k h)
 
 -- where the last element gives nothing, a list gives what it gives without it
 pub flat_map-push_none : {A B : Type 0} (f : A → List B) (xs : List A) (x : A) → f x ≡ [] → flat_map f (xs ++ x ∷ []) ≡ flat_map f xs
