@@ -17,7 +17,7 @@ use crate::room::Room;
 use crate::world::World;
 use arrayvec::ArrayVec;
 use csp_deck::{Desk, End, LINK_ENDS, Log, Spares};
-use csp_lists::opens;
+use csp_lists::{APP_QUEUES, IFACE_QUEUES, INBOX_QUEUES, opens};
 use csp_nodes::Decks;
 use csp_party::AnyParty;
 use csp_record::Who;
@@ -25,15 +25,6 @@ use csp_scene::{MAX_NODES, Scene};
 use csp_topology::{MAX_PARTIES, NodePlan, Opening, Topology, counts_parties};
 use std::alloc::{AllocError, Global};
 use std::collections::VecDeque;
-
-/// The queues of an inbox.
-const INBOX_QUEUES: usize = 4;
-
-/// The lanes of an application.
-const APP_QUEUES: usize = 2;
-
-/// The lanes of an interface.
-const IFACE_QUEUES: usize = 3;
 
 impl World {
     /// The world of a scene in which nothing has happened: each pool is full, and each queue empty.
