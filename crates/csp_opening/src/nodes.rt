@@ -10,14 +10,12 @@ use crate::bases::Base;
 use crate::lanes::Lanes;
 use crate::mails::Mail;
 use csp_arena::RegionToken;
+use csp_lists::INBOX_QUEUES;
 use csp_scene::SceneNode;
 use csp_topology::Wire;
 use std::alloc::{AllocError, Global};
 use std::collections::VecDeque;
 use std::sync::Wait;
-
-/// The queues of an inbox.
-const INBOX_QUEUES: usize = 4;
 
 /// A node of whose memory and queues nothing was handed out yet. It must be spent by `leave_nodes`, or taken apart.
 pub struct Node {
