@@ -7,6 +7,15 @@ ghost use Rattle.csp_lists.specs.Order.{position_of, queue_count};
 use csp_base::Prio;
 use csp_deck::{Place, QueueId};
 
+/// The lanes of an interface: `Rx`, `Tx` and `Out`.
+pub const IFACE_QUEUES: usize = 3;
+
+/// The lanes of an application: `Down` and `Up`.
+pub const APP_QUEUES: usize = 2;
+
+/// The queues of an inbox, one for each priority.
+pub const INBOX_QUEUES: usize = 4;
+
 /// How many interfaces and applications a deck serves, and so which queues it has.
 #[derive(Clone, Copy)]
 pub struct Shape {
@@ -21,7 +30,7 @@ impl Shape {
     pub fn queues(self) -> usize
         ensures { result ≡ queue_count self }
     {
-        3 * usize::from(self.ifaces) + 2 * usize::from(self.apps) + 4
+        IFACE_QUEUES * usize::from(self.ifaces) + APP_QUEUES * usize::from(self.apps) + INBOX_QUEUES
     }
 
     /// The position of the queue of a place.

@@ -34,16 +34,18 @@ use Rattle.csp_pool.specs.declared.hand.Hand.{Hand}
 use Rattle.csp_log.specs.declared.who.Who.{Who}
 use Rattle.csp_log.specs.declared.who.Who.TheVariants as who
 use Rattle.csp_scene.specs.Ranges.{IsScene}
-use Rattle.csp_scene.specs.Scene.{PlainNode, PlainScene}
+use Rattle.csp_scene.specs.Scene.{PlainScene}
 use Rattle.csp_standing.proofs.Public.{all_at, all_from}
 use Rattle.csp_topology.specs.Lanes.{PlainLane}
+use Rattle.csp_topology.proofs.Public.{plans_count}
 use Rattle.csp_topology.specs.Parties.{PlainOpening, parties_of}
+use Rattle.csp_topology.specs.Plan.{PlainNodePlan, plans_from}
 use Rattle.csp_topology.specs.Wires.{wires_of}
 use Rattle.csp_topology.specs.Wiring.{IsWireOf}
 use Rattle.csp_topology.specs.declared.wire.Wire.{Wire}
 
 -- the passes of the nodes are their leads
-leads_are : (nodes : List PlainNode) (wires : List (List Wire)) (xs : List Node) → AreNodesWith nodes wires xs → AreLeadsOf (map queues_in xs) (map lead_in xs)
+leads_are : (nodes : List PlainNodePlan) (wires : List (List Wire)) (xs : List Node) → AreNodesWith nodes wires xs → AreLeadsOf (map queues_in xs) (map lead_in xs)
 leads_are [] [] [] h = tt
 leads_are (n ∷ nodes) (ws ∷ wires) (x ∷ xs) h = (
   record {
@@ -59,7 +61,7 @@ leads_are [] [] (x ∷ xs) h = absurd h
 leads_are (n ∷ nodes) [] xs h = absurd h
 leads_are (n ∷ nodes) (ws ∷ wires) [] h = absurd h
 
-openings_are : (nodes : List PlainNode) (wires : List (List Wire)) (xs : List Node) → AreNodesWith nodes wires xs → AllByRecursion IsOpening (map lead_in xs)
+openings_are : (nodes : List PlainNodePlan) (wires : List (List Wire)) (xs : List Node) → AreNodesWith nodes wires xs → AllByRecursion IsOpening (map lead_in xs)
 openings_are [] [] [] h = tt
 openings_are (n ∷ nodes) (ws ∷ wires) (x ∷ xs) h =
     (record { mark = ap (λ (p : mails.PlainPass). p.role.mark) h.0.pass; reads = ap (λ (p : mails.PlainPass). p.role.reads) h.0.pass }, openings_are nodes wires xs h.1)
@@ -69,7 +71,7 @@ openings_are (n ∷ nodes) [] xs h = absurd h
 openings_are (n ∷ nodes) (ws ∷ wires) [] h = absurd h
 
 -- they are ready to be parted
-ready_for : (nodes : List PlainNode) (wires : List (List Wire)) (xs : List Node) (names : List Who) → AreNodesWith nodes wires xs → (k m : ℕ) (l : Lead) → slice_get (map lead_in xs) k ≡ Some l → IsReadyFor m names l
+ready_for : (nodes : List PlainNodePlan) (wires : List (List Wire)) (xs : List Node) (names : List Who) → AreNodesWith nodes wires xs → (k m : ℕ) (l : Lead) → slice_get (map lead_in xs) k ≡ Some l → IsReadyFor m names l
 ready_for (n ∷ nodes) (ws ∷ wires) (x ∷ xs) names h zero m l e = subst (IsReadyFor m names) (same_Some (lead_in x) l e) (record {
   mark = ap (λ (p : mails.PlainPass). p.role.mark) h.0.pass;
   free = λ j place out at. true≢false (sym out ∙ ap (λ (p : mails.PlainPass). is_in p.role.out j) h.0.pass);
@@ -90,7 +92,7 @@ pairs_few region [] ls = omega arith
 pairs_few region (w ∷ ws) [] = omega arith
 pairs_few region (w ∷ ws) (l ∷ ls) = let r = pairs_few region ws ls in omega (arith, r)
 
-few_pairs : (nodes : List PlainNode) (wires : List (List Wire)) (xs : List Node) → AreNodesWith nodes wires xs → AllByRecursion (λ (ws : List Wire). length ws < 256) wires → AllByRecursion (λ (pairs : List Pair). length pairs < 256) (map ends_in xs)
+few_pairs : (nodes : List PlainNodePlan) (wires : List (List Wire)) (xs : List Node) → AreNodesWith nodes wires xs → AllByRecursion (λ (ws : List Wire). length ws < 256) wires → AllByRecursion (λ (pairs : List Pair). length pairs < 256) (map ends_in xs)
 few_pairs [] [] [] h few = tt
 few_pairs (n ∷ nodes) (ws ∷ wires) (x ∷ xs) h few = (
   (let long = ap (λ (ps : List Pair). length ps) h.0.lanes.ends in let low = pairs_few (region_in x) ws x.lanes.lanes.items in let most = few.0 in omega (arith, long, low, most)),
@@ -106,10 +108,10 @@ all_among : {A : Type 0} → (P : A → Type 0) (xss : List (List A)) → ((node
 all_among P [] h = tt
 all_among P (xs ∷ xss) h = (all_from P xs (h 0), all_among P xss (λ node. h (suc node)))
 
-pair_among : (scene : PlainScene) (wires : List (List Wire)) (xs : List Node) (count : ℕ) → count ≡ length (parties_of scene) → AreNodesWith scene.nodes wires xs → AllZip (AllZip (IsWireOf scene)) (wires_of scene) wires
+pair_among : (scene : PlainScene) (wires : List (List Wire)) (xs : List Node) (count : ℕ) → count ≡ length (parties_of scene) → AreNodesWith (plans_from 0 scene.nodes scene.links) wires xs → AllZip (AllZip (IsWireOf scene)) (wires_of scene) wires
     → AllByRecursion (λ (pairs : List Pair). AllByRecursion (IsAmong count) pairs) (map ends_in xs)
 pair_among scene wires xs count many nodes rows = all_among (IsAmong count) (map ends_in xs) (λ node k x e.
-    let r = pair_at (IsWireOf scene) scene.nodes wires xs (wires_of scene) node k x nodes rows e in
+    let r = pair_at (IsWireOf scene) (plans_from 0 scene.nodes scene.links) wires xs (wires_of scene) node k x nodes rows e in
     let names = map (λ (o : PlainOpening). o.who) (parties_of scene) in
     let long = length-map (parties_of scene) (λ (o : PlainOpening). o.who) in
     record {
@@ -136,7 +138,7 @@ row_handed p node k region (w ∷ ws) (l ∷ ls) =
     let d = row_handed p node (k + 1) region ws ls in
     omega (arith, a, b, c, d)
 
-rows_handed : (p node : ℕ) (nodes : List PlainNode) (wires : List (Vec Wire)) (xs : List Node) → AreNodesWith nodes (map (λ (ws : Vec Wire). ws.items) wires) xs
+rows_handed : (p node : ℕ) (nodes : List PlainNodePlan) (wires : List (Vec Wire)) (xs : List Node) → AreNodesWith nodes (map (λ (ws : Vec Wire). ws.items) wires) xs
     → length (handed_from p node (map ends_in xs)) ≤ sum_by (λ (ws : Vec Wire). ends_among p ws.items) wires
 rows_handed p node [] [] [] h = omega arith
 rows_handed p node (n ∷ nodes) (ws ∷ wires) (x ∷ xs) h =
@@ -170,7 +172,8 @@ pub can_assemble : (scene : PlainScene) (wires : List (Vec Wire)) (xs : List Nod
     → ((p : ℕ) → p < length seats → sum_by (λ (ws : Vec Wire). ends_among p ws.items) wires ≤ room_at sides p) → CanAssemble sides xs seats
 can_assemble scene wires xs seats sides is opened few count blank roomy =
     let rows = map (λ (ws : Vec Wire). ws.items) wires in
-    let long = as_many scene.nodes rows xs opened.nodes in
+    let plans = plans_from 0 scene.nodes scene.links in
+    let long = as_many plans rows xs opened.nodes ∙ plans_count 0 scene.nodes scene.links in
     let parties : length seats ≡ length (parties_of scene) = sym (length-map seats seat_name) ∙ ap (λ (os : List PlainOpening). length os) opened.names in
     let names = whos_are scene seats opened.names in
     let order = in_order scene seats opened.names in
@@ -178,15 +181,15 @@ can_assemble scene wires xs seats sides is opened few count blank roomy =
       count = count;
       blank = blank;
       low = (let a = length-map xs ends_in in let most = is.few in omega (arith, a, long, most));
-      few = few_pairs scene.nodes rows xs opened.nodes few;
+      few = few_pairs plans rows xs opened.nodes few;
       among = pair_among scene rows xs (length sides) (count ∙ parties) opened.nodes opened.rows;
       room = λ p low.
-          (let none = ap (λ (l : List PlainSide). length l) (blank p) in let a = rows_handed p 0 scene.nodes wires xs opened.nodes in let b = roomy p (omega (arith, low, count)) in omega (arith, none, a, b));
-      lead = leads_are scene.nodes rows xs opened.nodes;
+          (let none = ap (λ (l : List PlainSide). length l) (blank p) in let a = rows_handed p 0 plans wires xs opened.nodes in let b = roomy p (omega (arith, low, count)) in omega (arith, none, a, b));
+      lead = leads_are plans rows xs opened.nodes;
       part = subst (λ ws. CanPartAll (map lead_in xs) ws) (sym names)
           (can_part_all (length scene.nodes) (map lead_in xs) (map (λ (o : PlainOpening). o.who) (parties_of scene)) (length-map xs lead_in ∙ long) (all_markable scene is) opened.apart
-          (λ m l e. ready_for scene.nodes rows xs (map (λ (o : PlainOpening). o.who) (parties_of scene)) opened.nodes m m l e));
-      opening = opening_stays (map lead_in xs) (parts_left (map lead_in xs) (whos seats)) (all_fixed (map lead_in xs) (whos seats)) (openings_are scene.nodes rows xs opened.nodes);
+          (λ m l e. ready_for plans rows xs (map (λ (o : PlainOpening). o.who) (parties_of scene)) opened.nodes m m l e));
+      opening = opening_stays (map lead_in xs) (parts_left (map lead_in xs) (whos seats)) (all_fixed (map lead_in xs) (whos seats)) (openings_are plans rows xs opened.nodes);
       post = can_plain (map ends_in xs) (parts_left (map lead_in xs) (whos seats)) seats (part_homes (map lead_in xs) (whos seats)) order
           (subst (CanPostPlain 0 (map ends_in xs) (parts_left (map lead_in xs) (whos seats)) seats) (sym (homes_same (map lead_in xs) (map lead_in xs) (whos seats) refl))
           (can_posts xs (whos seats) 0 seats (λ k j t e same.

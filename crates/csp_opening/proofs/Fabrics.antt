@@ -38,44 +38,47 @@ use Rattle.csp_log.specs.Who.{node_of}
 use Rattle.csp_log.specs.declared.who.Who.{Who}
 use Rattle.csp_log.specs.declared.who.Who.TheVariants as who
 use Rattle.csp_scene.specs.Links.{links_at}
-use Rattle.csp_scene.specs.Scene.{PlainNode, PlainScene}
+use Rattle.csp_scene.specs.Scene.{PlainLink, PlainNode, PlainScene}
 use Rattle.csp_standing.proofs.Public.{all_at}
 use Rattle.csp_standing.specs.Fabrics.{AreRoomsOf, AreStoresOf, CanNote, IsFabricOf, buffers_at, network_of}
 use Rattle.csp_standing.specs.Network.{AreNodesOf, ArePostsOf, IsNetworkOf, IsPostOf, IsShared, leads}
 use Rattle.csp_standing.specs.declared.fabric.Fabric.{Fabric}
 use Rattle.csp_standing.specs.declared.fabric.NodeStore.{NodeStore}
+use Rattle.csp_topology.proofs.Public.{plans_count}
 use Rattle.csp_topology.specs.Lanes.{PlainLane}
 use Rattle.csp_topology.specs.Parties.{PlainOpening, parties_of}
+use Rattle.csp_topology.specs.Plan.{PlainNodePlan, plan_of, plans_from}
 use Rattle.csp_topology.specs.Wires.{wires_of}
 use Rattle.csp_topology.specs.Wiring.{AreWires, IsWireOf}
 use Rattle.csp_topology.specs.declared.wire.Wire.{Wire}
 
 -- what holds of no node, and of one more with its lanes, holds of all
 row_by_row : (scene : PlainScene) (Q : List PlainNode → List (List PlainLane) → List Node → Type 0) → Q [] [] []
-    → ((n : PlainNode) (row : List PlainLane) (ws : List Wire) (x : Node) (nodes : List PlainNode) (rows : List (List PlainLane)) (xs : List Node) → IsNodeOf n ws x → AllZip (IsWireOf scene) row ws → Q nodes rows xs → Q (n ∷ nodes) (row ∷ rows) (x ∷ xs))
-    → (nodes : List PlainNode) (rows : List (List PlainLane)) (wires : List (List Wire)) (xs : List Node) → AreNodesWith nodes wires xs → AllZip (AllZip (IsWireOf scene)) rows wires → Q nodes rows xs
-row_by_row scene Q none more [] [] [] [] h z = none
-row_by_row scene Q none more (n ∷ nodes) (row ∷ rows) (ws ∷ wires) (x ∷ xs) h z = more n row ws x nodes rows xs h.0 z.0 (row_by_row scene Q none more nodes rows wires xs h.1 z.1)
-row_by_row scene Q none more [] (row ∷ rows) [] xs h z = absurd z
-row_by_row scene Q none more [] rows (ws ∷ wires) xs h z = absurd h
-row_by_row scene Q none more [] [] [] (x ∷ xs) h z = absurd h
-row_by_row scene Q none more (n ∷ nodes) rows [] xs h z = absurd h
-row_by_row scene Q none more (n ∷ nodes) rows (ws ∷ wires) [] h z = absurd h
-row_by_row scene Q none more (n ∷ nodes) [] (ws ∷ wires) (x ∷ xs) h z = absurd z
+    → ((n : PlainNode) (links : List PlainLink) (row : List PlainLane) (ws : List Wire) (x : Node) (nodes : List PlainNode) (rows : List (List PlainLane)) (xs : List Node) → IsNodeOf (plan_of n links) ws x → AllZip (IsWireOf scene) row ws → Q nodes rows xs
+    → Q (n ∷ nodes) (row ∷ rows) (x ∷ xs))
+    → (place : ℕ) (nodes : List PlainNode) (rows : List (List PlainLane)) (wires : List (List Wire)) (xs : List Node) → AreNodesWith (plans_from place nodes scene.links) wires xs → AllZip (AllZip (IsWireOf scene)) rows wires → Q nodes rows xs
+row_by_row scene Q none more place [] [] [] [] h z = none
+row_by_row scene Q none more place (n ∷ nodes) (row ∷ rows) (ws ∷ wires) (x ∷ xs) h z = more n (links_at place scene.links) row ws x nodes rows xs h.0 z.0 (row_by_row scene Q none more (place + 1) nodes rows wires xs h.1 z.1)
+row_by_row scene Q none more place [] (row ∷ rows) [] xs h z = absurd z
+row_by_row scene Q none more place [] rows (ws ∷ wires) xs h z = absurd h
+row_by_row scene Q none more place [] [] [] (x ∷ xs) h z = absurd h
+row_by_row scene Q none more place (n ∷ nodes) rows [] xs h z = absurd h
+row_by_row scene Q none more place (n ∷ nodes) rows (ws ∷ wires) [] h z = absurd h
+row_by_row scene Q none more place (n ∷ nodes) [] (ws ∷ wires) (x ∷ xs) h z = absurd z
 
 -- the queues of the nodes are those of the scene
-nodes_of : (scene : PlainScene) (nodes : List PlainNode) (rows : List (List PlainLane)) (wires : List (List Wire)) (xs : List Node) → AreNodesWith nodes wires xs → AllZip (AllZip (IsWireOf scene)) rows wires
+nodes_of : (scene : PlainScene) (place : ℕ) (nodes : List PlainNode) (rows : List (List PlainLane)) (wires : List (List Wire)) (xs : List Node) → AreNodesWith (plans_from place nodes scene.links) wires xs → AllZip (AllZip (IsWireOf scene)) rows wires
     → AreNodesOf nodes rows (map queues_in xs)
-nodes_of scene = row_by_row scene (λ nodes rows xs. AreNodesOf nodes rows (map queues_in xs)) tt (λ n row ws x nodes rows xs is z rest.
+nodes_of scene = row_by_row scene (λ nodes rows xs. AreNodesOf nodes rows (map queues_in xs)) tt (λ n links row ws x nodes rows xs is z rest.
     (record { pool = is.base.capacity ∙ is.count; inbox = is.inbox; lanes = is.lanes.rooms ∙ sym (row_rooms scene row ws z) }, rest))
 
 -- the room in the lanes of a row
 row_sum : (scene : PlainScene) (row : List PlainLane) (ws : List Wire) → AllZip (IsWireOf scene) row ws → sum_by (λ (l : PlainLane). lane_room l.queue) row ≡ sum_by (λ (w : Wire). w.room) ws
 row_sum scene row ws z = sym (sum-map (λ (l : PlainLane). lane_room l.queue) row) ∙ ap (sum_by (λ (k : ℕ). k)) (row_rooms scene row ws z) ∙ sum-map (λ (w : Wire). w.room) ws
 
-stores_of : (scene : PlainScene) (nodes : List PlainNode) (rows : List (List PlainLane)) (wires : List (List Wire)) (xs : List Node) → AreNodesWith nodes wires xs → AllZip (AllZip (IsWireOf scene)) rows wires
+stores_of : (scene : PlainScene) (place : ℕ) (nodes : List PlainNode) (rows : List (List PlainLane)) (wires : List (List Wire)) (xs : List Node) → AreNodesWith (plans_from place nodes scene.links) wires xs → AllZip (AllZip (IsWireOf scene)) rows wires
     → AreStoresOf nodes rows (map store_in xs)
-stores_of scene = row_by_row scene (λ nodes rows xs. AreStoresOf nodes rows (map store_in xs)) tt (λ n row ws x nodes rows xs is z rest. (
+stores_of scene = row_by_row scene (λ nodes rows xs. AreStoresOf nodes rows (map store_in xs)) tt (λ n links row ws x nodes rows xs is z rest. (
   record {
     count = is.count;
     none = is.base.none;
@@ -86,9 +89,9 @@ stores_of scene = row_by_row scene (λ nodes rows xs. AreStoresOf nodes rows (ma
   rest,
 ))
 
-rooms_of : (scene : PlainScene) (nodes : List PlainNode) (rows : List (List PlainLane)) (wires : List (List Wire)) (xs : List Node) → AreNodesWith nodes wires xs → AllZip (AllZip (IsWireOf scene)) rows wires
+rooms_of : (scene : PlainScene) (place : ℕ) (nodes : List PlainNode) (rows : List (List PlainLane)) (wires : List (List Wire)) (xs : List Node) → AreNodesWith (plans_from place nodes scene.links) wires xs → AllZip (AllZip (IsWireOf scene)) rows wires
     → AreRoomsOf nodes rows (map rooms_in xs)
-rooms_of scene = row_by_row scene (λ nodes rows xs. AreRoomsOf nodes rows (map rooms_in xs)) tt (λ n row ws x nodes rows xs is z rest. (record { inbox = is.left; lanes = is.lanes.spare ∙ sym (row_rooms scene row ws z) }, rest))
+rooms_of scene = row_by_row scene (λ nodes rows xs. AreRoomsOf nodes rows (map rooms_in xs)) tt (λ n links row ws x nodes rows xs is z rest. (record { inbox = is.left; lanes = is.lanes.spare ∙ sym (row_rooms scene row ws z) }, rest))
 
 -- as many queues as a record speaks of
 queues_counted : (scene : PlainScene) (rows : List (List PlainLane)) (wires : List (Vec Wire)) → AllZip (AllZip (IsWireOf scene)) rows (map (λ (ws : Vec Wire). ws.items) wires)
@@ -104,7 +107,7 @@ queues_counted scene [] (ws ∷ wires) z = absurd z
 queues_counted scene (row ∷ rows) [] z = absurd z
 
 -- the pairs of each node are of the lanes of its row
-lanes_long : (n : PlainNode) (ws : List Wire) (x : Node) → IsNodeOf n ws x → length x.lanes.lanes.items ≡ length ws
+lanes_long : (n : PlainNodePlan) (ws : List Wire) (x : Node) → IsNodeOf n ws x → length x.lanes.lanes.items ≡ length ws
 lanes_long n ws x is = sym (length-map x.lanes.lanes.items (λ (l : lane.PlainLane). l.room)) ∙ ap (λ (ks : List ℕ). length ks) is.lanes.rooms ∙ length-map ws (λ (w : Wire). w.room)
 
 row_named : (scene : PlainScene) (row : List PlainLane) (ws : List Wire) → AllZip (IsWireOf scene) row ws → AllZip (IsNamedIn (map (λ (o : PlainOpening). o.who) (parties_of scene))) row ws
@@ -114,10 +117,10 @@ row_named scene (l ∷ row) (w ∷ ws) z =
 row_named scene [] (w ∷ ws) z = absurd z
 row_named scene (l ∷ row) [] z = absurd z
 
-pub pair_rows : (scene : PlainScene) (nodes : List PlainNode) (rows : List (List PlainLane)) (wires : List (List Wire)) (xs : List Node) → AreNodesWith nodes wires xs → AllZip (AllZip (IsWireOf scene)) rows wires
+pub pair_rows : (scene : PlainScene) (place : ℕ) (nodes : List PlainNode) (rows : List (List PlainLane)) (wires : List (List Wire)) (xs : List Node) → AreNodesWith (plans_from place nodes scene.links) wires xs → AllZip (AllZip (IsWireOf scene)) rows wires
     → AllZip (IsPairRow (map (λ (o : PlainOpening). o.who) (parties_of scene))) rows (map ends_in xs)
-pair_rows scene = row_by_row scene (λ nodes rows xs. AllZip (IsPairRow (map (λ (o : PlainOpening). o.who) (parties_of scene))) rows (map ends_in xs)) tt (λ n row ws x nodes rows xs is z rest. (
-  record { region = region_in x; wires = ws; lanes = x.lanes.lanes.items; is = is.lanes.ends; named = row_named scene row ws z; long = lanes_long n ws x is },
+pair_rows scene = row_by_row scene (λ nodes rows xs. AllZip (IsPairRow (map (λ (o : PlainOpening). o.who) (parties_of scene))) rows (map ends_in xs)) tt (λ n links row ws x nodes rows xs is z rest. (
+  record { region = region_in x; wires = ws; lanes = x.lanes.lanes.items; is = is.lanes.ends; named = row_named scene row ws z; long = lanes_long (plan_of n links) ws x is },
   rest,
 ))
 
@@ -139,7 +142,7 @@ posts_are xs seats order =
 -- nodes and parties that were opened for a scene
 pub record AreOpened (scene : PlainScene) (wires : List (List Wire)) (xs : List Node) (seats : List Seat) : Type 0 where
   pub laws : Laws scene
-  pub nodes : AreNodesWith scene.nodes wires xs
+  pub nodes : AreNodesWith (plans_from 0 scene.nodes scene.links) wires xs
   pub rows : AllZip (AllZip (IsWireOf scene)) (wires_of scene) wires
   pub names : map seat_name seats ≡ parties_of scene
   pub seated : AllByRecursion (IsSeated xs) seats
@@ -158,7 +161,7 @@ opening_at scene seats k t e at = ap (λ os. slice_get os k) (sym e) ∙ slice_g
 pub its_new : (scene : PlainScene) (wires : List (List Wire)) (xs : List Node) (seats : List Seat) (k : ℕ) (t : Seat) → AreOpened scene wires xs seats → slice_get seats k ≡ Some t → IsPartyNew scene xs (whos seats) k t.who
 its_new scene wires xs seats k t is at =
     let o = opening_at scene seats k t is.names at in
-    party_new scene wires xs (whos seats) k t.who is.laws is.nodes is.rows (pair_rows scene scene.nodes (wires_of scene) wires xs is.nodes is.rows) is.apart
+    party_new scene wires xs (whos seats) k t.who is.laws is.nodes is.rows (pair_rows scene 0 scene.nodes (wires_of scene) wires xs is.nodes is.rows) is.apart
     (slice_get-map (λ (z : PlainOpening). z.who) (parties_of scene) k ∙ ap (option_map (λ (z : PlainOpening). z.who)) o)
     (node_low (length scene.nodes) scene.links t.who (all_at (λ (z : PlainOpening). IsThere (length scene.nodes) scene.links z.who) (parties_of scene) k (seat_name t) (parties_there scene) o))
 
@@ -207,7 +210,7 @@ hub_shared : (scene : PlainScene) (wires : List (List Wire)) (xs : List Node) (s
     → option_map (lead_home m) (slice_get (parts_left (map lead_in xs) (whos seats)) m) ≡ Some h → IsShared scene (map (λ (s : SeenPost). s.plain) (new_posts xs (whos seats) 0 seats)) h
 unfolding parties_of
 hub_shared scene wires xs seats m h is low its =
-    let t = node_there scene.nodes wires xs is.nodes m low in
+    let t = node_there 0 scene.nodes scene.links wires xs is.nodes m low in
     let l = parts_at_node (map lead_in xs) (whos seats) m (lead_in t.node) (slice_get-map lead_in xs m ∙ ap (option_map lead_in) t.at) in
     subst (IsShared scene (map (λ (s : SeenPost). s.plain) (new_posts xs (whos seats) 0 seats))) (same_Some (lead_home m l.0) h (ap (option_map (lead_home m)) (sym l.1) ∙ its)) (record {
       pool =
@@ -245,12 +248,12 @@ all_shared scene wires xs seats is k s h at lead its =
       by (who.Link j) low e f = absurd cc
 
 -- a party can note the numbers of all buffers of its node
-can_note : (scene : PlainScene) (wires : List (List Wire)) (xs : List Node) (t : Seat) → AreNodesWith scene.nodes wires xs → IsSeated xs t → IfSome (node_of t.who) (λ m. m < length scene.nodes) → buffers_at scene (node_of t.who) ≤ vec_capacity t.numbers
+can_note : (scene : PlainScene) (wires : List (List Wire)) (xs : List Node) (t : Seat) → AreNodesWith (plans_from 0 scene.nodes scene.links) wires xs → IsSeated xs t → IfSome (node_of t.who) (λ m. m < length scene.nodes) → buffers_at scene (node_of t.who) ≤ vec_capacity t.numbers
 can_note scene wires xs t nodes seated low = by (node_of t.who) low (let many = seated.numbers in omega (arith, many)) where
   by : (o : Option ℕ) → IfSome o (λ m. m < length scene.nodes) → count_at xs o ≤ vec_capacity t.numbers → buffers_at scene o ≤ vec_capacity t.numbers
   by None low few = few
   by (Some m) low few =
-      let x = node_there scene.nodes wires xs nodes m low in
+      let x = node_there 0 scene.nodes scene.links wires xs nodes m low in
       let has = ap count_or x.at in
       let same = ap (λ (n : PlainNode). n.buffers) (node_is scene.nodes m x.plain x.plain_at) in
       let many = x.is.base.capacity ∙ x.is.count in
@@ -287,7 +290,7 @@ is_fabric scene wires xs seats f are is made =
     let long = new_long xs (whos seats) 0 seats in
     record {
       network = subst (λ n. IsNetworkOf scene n (map (λ (s : SeenPost). s.plain) posts)) (sym net) (record {
-        nodes = nodes_of scene scene.nodes (wires_of scene) rows xs is.nodes is.rows;
+        nodes = nodes_of scene 0 scene.nodes (wires_of scene) rows xs is.nodes is.rows;
         regions = length-map xs region_in ∙ sym (length-map xs queues_in);
         parties = posts_from_here scene xs (whos seats) 0 (parties_of scene) seats is.names (λ k j t e same.
             is_post scene xs (whos seats) j t (seat_name t) refl (all_at (IsSeated xs) seats k t is.seated e)
@@ -295,12 +298,12 @@ is_fabric scene wires xs seats f are is made =
         shared = all_shared scene rows xs seats is;
       });
       wires = subst (λ ws. AreWires scene (map (λ (v : Vec Wire). v.items) ws)) (sym made.wires) are;
-      stores = subst (AreStoresOf scene.nodes (wires_of scene)) (sym made.stores) (stores_of scene scene.nodes (wires_of scene) rows xs is.nodes is.rows);
-      rooms = subst (AreRoomsOf scene.nodes (wires_of scene)) (sym made.rooms) (rooms_of scene scene.nodes (wires_of scene) rows xs is.nodes is.rows);
+      stores = subst (AreStoresOf scene.nodes (wires_of scene)) (sym made.stores) (stores_of scene 0 scene.nodes (wires_of scene) rows xs is.nodes is.rows);
+      rooms = subst (AreRoomsOf scene.nodes (wires_of scene)) (sym made.rooms) (rooms_of scene 0 scene.nodes (wires_of scene) rows xs is.nodes is.rows);
       unleft = ap (λ (n : PlainNotes). n.left) made.notes;
       unheld = ap (λ (n : PlainNotes). n.held) made.notes;
       queues = (let a = queues_counted scene (wires_of scene) wires is.rows in let b = ap (λ (n : PlainNotes). n.queues) made.notes in omega (arith, a, b));
-      others = (let b = ap (λ (n : PlainNotes). n.others) made.notes in let c = as_many scene.nodes rows xs is.nodes in omega (arith, long, b, c));
+      others = (let b = ap (λ (n : PlainNotes). n.others) made.notes in let c = as_many (plans_from 0 scene.nodes scene.links) rows xs is.nodes in let d = plans_count 0 scene.nodes scene.links in omega (arith, long, b, c, d));
       unlogged = made.logs;
       logs = (let room = made.logs_room in omega (arith, long, room));
       none = made.retired;

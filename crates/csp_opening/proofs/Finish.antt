@@ -20,12 +20,14 @@ use Rattle.csp_posts.specs.Books.{IsFresh}
 use Rattle.csp_posts.specs.Seen.{SeenPost}
 use Rattle.csp_log.specs.Who.{node_of}
 use Rattle.csp_scene.specs.Ranges.{IsScene}
-use Rattle.csp_scene.specs.Scene.{PlainNode, PlainScene}
+use Rattle.csp_scene.specs.Scene.{PlainScene}
 use Rattle.csp_standing.specs.Fabrics.{IsFabricOf}
 use Rattle.csp_standing.specs.declared.fabric.Fabric.{Fabric}
+use Rattle.csp_topology.proofs.Public.{plans_count}
 use Rattle.csp_topology.specs.Opened.{AreParties}
 use Rattle.csp_topology.specs.Opening.{CanOpen, opening_of}
 use Rattle.csp_topology.specs.Parties.{PlainOpening, parties_of}
+use Rattle.csp_topology.specs.Plan.{PlainNodePlan, plans_from}
 use Rattle.csp_topology.specs.Wires.{wires_of}
 use Rattle.csp_topology.specs.Wiring.{AreWires}
 use Rattle.csp_topology.specs.declared.opening.Opening.{Opening}
@@ -45,13 +47,15 @@ pub record IsPlanned (scene : PlainScene) (wires : List (Vec Wire)) (openings : 
   pub apart : (i j : ℕ) (o p : PlainOpening) → slice_get (parties_of scene) i ≡ Some o → slice_get (parties_of scene) j ≡ Some p → o.who ≡ p.who → i ≡ j
   pub ready : AllByRecursion CanOpen openings
 
-pub wired_of : (scene : PlainScene) (wires : List (Vec Wire)) (openings : List Opening) → IsPlanned scene wires openings → AreWired scene.nodes wires
+pub wired_of : (scene : PlainScene) (wires : List (Vec Wire)) (openings : List Opening) → IsPlanned scene wires openings → AreWired (plans_from 0 scene.nodes scene.links) wires
 wired_of scene wires openings h = are_wired scene wires h.is h.laws.stays h.count h.are
 
-pub parties_as : (scene : PlainScene) (wires : List (Vec Wire)) (openings : List Opening) → IsPlanned scene wires openings → AreParties (length scene.nodes) openings
-parties_as scene wires openings h = record { ready = h.ready; there = subst (AllByRecursion (λ (o : PlainOpening). IfSome (node_of o.who) (λ m. m < length scene.nodes))) (sym h.parties) (parties_low scene) }
+pub parties_as : (scene : PlainScene) (wires : List (Vec Wire)) (openings : List Opening) → IsPlanned scene wires openings → AreParties (length (plans_from 0 scene.nodes scene.links)) openings
+parties_as scene wires openings h =
+    subst (λ k. AreParties k openings) (sym (plans_count 0 scene.nodes scene.links))
+    (record { ready = h.ready; there = subst (AllByRecursion (λ (o : PlainOpening). IfSome (node_of o.who) (λ m. m < length scene.nodes))) (sym h.parties) (parties_low scene) })
 
-pub opened_of : (scene : PlainScene) (wires : List (Vec Wire)) (openings : List Opening) (ns : List PlainNode) (ws : List (Vec Wire)) (xs : List Node) (seats : List Seat) → IsPlanned scene wires openings → ns ≡ scene.nodes → ws ≡ wires
+pub opened_of : (scene : PlainScene) (wires : List (Vec Wire)) (openings : List Opening) (ns : List PlainNodePlan) (ws : List (Vec Wire)) (xs : List Node) (seats : List Seat) → IsPlanned scene wires openings → ns ≡ plans_from 0 scene.nodes scene.links → ws ≡ wires
     → AreNodesWith ns (rows_of ws) xs → map seat_name seats ≡ map opening_of openings → AllByRecursion (IsSeated xs) seats → AreOpened scene (rows_of wires) xs seats
 opened_of scene wires openings ns ws xs seats h nodes same opened names seated = record {
   laws = h.laws;

@@ -22,7 +22,7 @@ use Rattle.csp_opening.specs.declared.lanes.Pair.{Pair}
 use Rattle.csp_opening.specs.declared.mails.Mail.{Mail}
 use Rattle.csp_opening.specs.declared.nodes.Node.{Node}
 use Rattle.csp_opening.specs.declared.seats.Seat.{Seat}
-use Rattle.csp_scene.specs.Scene.{PlainNode}
+use Rattle.csp_topology.specs.Plan.{PlainNodePlan}
 use Rattle.csp_topology.specs.declared.wire.Wire.{Wire}
 
 -- lanes that were just opened are unused
@@ -64,7 +64,7 @@ is_mail region m count pass room left = record {
   none Low = ap (λ (p : mails.PlainPass). p.low.kept) pass
 
 -- so can a node
-pub can_leave : (n : PlainNode) (ws : List Wire) (x : Node) → IsNodeOf n ws x → CanLeave x
+pub can_leave : (n : PlainNodePlan) (ws : List Wire) (x : Node) → IsNodeOf n ws x → CanLeave x
 can_leave n ws x h = record { base = h.base; mail = is_mail x.base.store.region x.mail n.inbox h.pass h.inbox h.left; lanes = are_unused x.base.store.region ws x.lanes h.lanes }
 
 -- one lane more
@@ -86,7 +86,7 @@ lanes_more region ws w a b h more = record {
 }
 
 -- one node more
-pub nodes_more : (ns : List PlainNode) (wires : List (List Wire)) (xs : List Node) (n : PlainNode) (ws : List Wire) (x : Node) → AreNodesWith ns wires xs → IsNodeOf n ws x → AreNodesWith (ns ++ n ∷ []) (wires ++ ws ∷ []) (xs ++ x ∷ [])
+pub nodes_more : (ns : List PlainNodePlan) (wires : List (List Wire)) (xs : List Node) (n : PlainNodePlan) (ws : List Wire) (x : Node) → AreNodesWith ns wires xs → IsNodeOf n ws x → AreNodesWith (ns ++ n ∷ []) (wires ++ ws ∷ []) (xs ++ x ∷ [])
 nodes_more [] [] [] n ws x h is = (is, tt)
 nodes_more (m ∷ ns) (vs ∷ wires) (y ∷ xs) n ws x h is = (h.0, nodes_more ns wires xs n ws x h.1 is)
 nodes_more [] (vs ∷ wires) xs n ws x h is = absurd h
@@ -113,8 +113,8 @@ pub lists_rest : (sides after : List (Vec PlainSide)) (one more : ℕ → List P
 lists_rest sides after one more p low handed = ap (λ xs. xs ++ more p) (handed.lists p low) ∙ append_assoc (list_at sides p) (one p) (more p)
 
 -- what holds of no node, and of one more, holds of all
-pub node_by_node : (Q : List PlainNode → List (List Wire) → List Node → Type 0) → Q [] [] [] → ((n : PlainNode) (ws : List Wire) (x : Node) (ns : List PlainNode) (wires : List (List Wire)) (xs : List Node) → IsNodeOf n ws x → Q ns wires xs → Q (n ∷ ns) (ws ∷ wires) (x ∷ xs))
-    → (ns : List PlainNode) (wires : List (List Wire)) (xs : List Node) → AreNodesWith ns wires xs → Q ns wires xs
+pub node_by_node : (Q : List PlainNodePlan → List (List Wire) → List Node → Type 0) → Q [] [] [] → ((n : PlainNodePlan) (ws : List Wire) (x : Node) (ns : List PlainNodePlan) (wires : List (List Wire)) (xs : List Node) → IsNodeOf n ws x → Q ns wires xs → Q (n ∷ ns) (ws ∷ wires) (x ∷ xs))
+    → (ns : List PlainNodePlan) (wires : List (List Wire)) (xs : List Node) → AreNodesWith ns wires xs → Q ns wires xs
 node_by_node Q none more [] [] [] h = none
 node_by_node Q none more (n ∷ ns) (ws ∷ wires) (x ∷ xs) h = more n ws x ns wires xs h.0 (node_by_node Q none more ns wires xs h.1)
 node_by_node Q none more [] (ws ∷ wires) xs h = absurd h
@@ -123,10 +123,10 @@ node_by_node Q none more (n ∷ ns) [] xs h = absurd h
 node_by_node Q none more (n ∷ ns) (ws ∷ wires) [] h = absurd h
 
 -- all of them can
-pub all_leave : (ns : List PlainNode) (wires : List (List Wire)) (xs : List Node) → AreNodesWith ns wires xs → AllByRecursion CanLeave xs
+pub all_leave : (ns : List PlainNodePlan) (wires : List (List Wire)) (xs : List Node) → AreNodesWith ns wires xs → AllByRecursion CanLeave xs
 all_leave = node_by_node (λ ns wires xs. AllByRecursion CanLeave xs) tt (λ n ws x ns wires xs is rest. (can_leave n ws x is, rest))
 
-pub as_many : (ns : List PlainNode) (wires : List (List Wire)) (xs : List Node) → AreNodesWith ns wires xs → length xs ≡ length ns
+pub as_many : (ns : List PlainNodePlan) (wires : List (List Wire)) (xs : List Node) → AreNodesWith ns wires xs → length xs ≡ length ns
 as_many = node_by_node (λ ns wires xs. length xs ≡ length ns) refl (λ n ws x ns wires xs is rest. ap suc rest)
 
 -- the first elements, and one more

@@ -1,5 +1,5 @@
 -- The passes that the parties of nodes have before their first turn.
-use Rattle.std.proofs.Common.{◌≡◌, ◌<◌, ℕ, zero, suc, true, List, [], ◌∷◌, Option, None, Some, length, map, refl, sym, ap, ◌∙◌, subst, arith}
+use Rattle.std.proofs.Common.{◌≡◌, ◌+◌, ◌<◌, ℕ, zero, suc, true, List, [], ◌∷◌, Option, None, Some, length, map, refl, sym, ap, ◌∙◌, subst, arith}
 use Rattle.std.specs.Prelude.{⊤, IfSome, IsSomeAnd, slice_get, if◌then◌else◌}
 use Rattle.std.specs.List.{range_with_len}
 use Rattle.std.specs.Option.{option_map}
@@ -31,9 +31,10 @@ use Rattle.csp_posts.specs.Books.{IsFresh}
 use Rattle.csp_log.specs.Who.{node_of}
 use Rattle.csp_log.specs.declared.who.Who.{Who}
 use Rattle.csp_log.specs.declared.who.Who.TheVariants as who
-use Rattle.csp_scene.specs.Links.{node_at}
-use Rattle.csp_scene.specs.Scene.{PlainNode, PlainScene}
+use Rattle.csp_scene.specs.Links.{links_at, node_at}
+use Rattle.csp_scene.specs.Scene.{PlainLink, PlainNode, PlainScene}
 use Rattle.csp_standing.specs.Network.{IsHomeAmong, leads, mark_for, opened_in}
+use Rattle.csp_topology.specs.Plan.{PlainNodePlan, plan_of, plans_from}
 use Rattle.csp_topology.specs.Wired.{inbox_rule}
 use Rattle.csp_topology.specs.declared.wire.Wire.{Wire}
 
@@ -61,10 +62,10 @@ record IsLeadNew (x : Node) (buffers : ℕ) (l : Lead) : Type 0 where
   hand : record l.pool.hand { out = 0 } ≡ opening_hand (region_in x) (range_with_len 0 buffers)
   inbox : record l.inbox { role = inbox.role l.inbox.role.token.name l.inbox.role.room l.inbox.role.mark l.inbox.role.writes l.inbox.role.reads [] } ≡ inbox.opening_pass x.mail.inbox (region_in x)
 
-hand_is : (n : PlainNode) (ws : List Wire) (x : Node) → IsNodeOf n ws x → x.base.pass.hand ≡ opening_hand (region_in x) (range_with_len 0 n.buffers)
+hand_is : (n : PlainNodePlan) (ws : List Wire) (x : Node) → IsNodeOf n ws x → x.base.pass.hand ≡ opening_hand (region_in x) (range_with_len 0 n.buffers)
 hand_is n ws x is = is.base.hand ∙ ap (λ c. opening_hand (region_in x) (range_with_len 0 c)) is.count
 
-lead_new : (n : PlainNode) (ws : List Wire) (x : Node) (l : Lead) → IsNodeOf n ws x → fixed l ≡ fixed (lead_in x) → IsLeadNew x n.buffers l
+lead_new : (n : PlainNodePlan) (ws : List Wire) (x : Node) (l : Lead) → IsNodeOf n ws x → fixed l ≡ fixed (lead_in x) → IsLeadNew x n.buffers l
 lead_new n ws x l is same = record {
   pool = ap (λ (y : Lead). y.pool.pool) same ∙ is.base.of_it;
   hand = ap (λ (y : Lead). y.pool.hand) same ∙ ap (λ (v : Hand). record v { out = 0 }) (hand_is n ws x is);
@@ -129,7 +130,7 @@ hub_new xs m x buffers l w at is lead node mark =
     }
 
 -- the home of an interface
-iface_new : (xs : List Node) (m number : ℕ) (x : Node) (n : PlainNode) (ws : List Wire) → slice_get xs m ≡ Some x → IsNodeOf n ws x
+iface_new : (xs : List Node) (m number : ℕ) (x : Node) (n : PlainNodePlan) (ws : List Wire) → slice_get xs m ≡ Some x → IsNodeOf n ws x
     → IsHomeNew (map queues_in xs) (map region_in xs) (who.Iface m number) [] (Some (iface_home m number (lead_in x)))
 iface_new xs m number x n ws at is =
     let region : x.base.pass.hand.region ≡ region_in x = ap (λ (v : Hand). v.region) (hand_is n ws x is) in
@@ -157,7 +158,7 @@ iface_new xs m number x n ws at is =
       split_empty Low = refl
 
 -- that of an application
-app_new : (xs : List Node) (m number : ℕ) (x : Node) (n : PlainNode) (ws : List Wire) → slice_get xs m ≡ Some x → IsNodeOf n ws x
+app_new : (xs : List Node) (m number : ℕ) (x : Node) (n : PlainNodePlan) (ws : List Wire) → slice_get xs m ≡ Some x → IsNodeOf n ws x
     → IsHomeNew (map queues_in xs) (map region_in xs) (who.App m number) [] (Some (app_home m (lead_in x)))
 app_new xs m number x n ws at is =
     let region : x.base.pass.hand.region ≡ region_in x = ap (λ (v : Hand). v.region) (hand_is n ws x is) in
@@ -185,24 +186,25 @@ link_new nodes regions number = record {
   serves = λ e. absurd cc;
 }
 
--- a node at a place, as it was opened
+-- a node of a scene at a place, as it was opened: on these links
 pub record HasNode (nodes : List PlainNode) (wires : List (List Wire)) (xs : List Node) (m : ℕ) : Type 0 where
   pub plain : PlainNode
+  pub on : List PlainLink
   pub row : List Wire
   pub node : Node
   pub plain_at : slice_get nodes m ≡ Some plain
   pub row_at : slice_get wires m ≡ Some row
   pub at : slice_get xs m ≡ Some node
-  pub is : IsNodeOf plain row node
+  pub is : IsNodeOf (plan_of plain on) row node
 
-pub node_there : (nodes : List PlainNode) (wires : List (List Wire)) (xs : List Node) → AreNodesWith nodes wires xs → (m : ℕ) → m < length nodes → HasNode nodes wires xs m
-node_there (n ∷ nodes) (ws ∷ wires) (x ∷ xs) h zero low = record { plain = n; row = ws; node = x; plain_at = refl; row_at = refl; at = refl; is = h.0 }
-node_there (n ∷ nodes) (ws ∷ wires) (x ∷ xs) h (suc m) low =
-    let r = node_there nodes wires xs h.1 m (omega (arith, low)) in
-    record { plain = r.plain; row = r.row; node = r.node; plain_at = r.plain_at; row_at = r.row_at; at = r.at; is = r.is }
-node_there [] wires xs h m low = absurd (omega (arith, low))
-node_there (n ∷ nodes) [] xs h m low = absurd h
-node_there (n ∷ nodes) (ws ∷ wires) [] h m low = absurd h
+pub node_there : (place : ℕ) (nodes : List PlainNode) (links : List PlainLink) (wires : List (List Wire)) (xs : List Node) → AreNodesWith (plans_from place nodes links) wires xs → (m : ℕ) → m < length nodes → HasNode nodes wires xs m
+node_there place (n ∷ nodes) links (ws ∷ wires) (x ∷ xs) h zero low = record { plain = n; on = links_at place links; row = ws; node = x; plain_at = refl; row_at = refl; at = refl; is = h.0 }
+node_there place (n ∷ nodes) links (ws ∷ wires) (x ∷ xs) h (suc m) low =
+    let r = node_there (place + 1) nodes links wires xs h.1 m (omega (arith, low)) in
+    record { plain = r.plain; on = r.on; row = r.row; node = r.node; plain_at = r.plain_at; row_at = r.row_at; at = r.at; is = r.is }
+node_there place [] links wires xs h m low = absurd (omega (arith, low))
+node_there place (n ∷ nodes) links [] xs h m low = absurd h
+node_there place (n ∷ nodes) links (ws ∷ wires) [] h m low = absurd h
 
 lead_there : (xs : List Node) (m : ℕ) (x : Node) → slice_get xs m ≡ Some x → slice_get (map lead_in xs) m ≡ Some (lead_in x)
 lead_there xs m x at = slice_get-map lead_in xs m ∙ ap (option_map lead_in) at
@@ -214,24 +216,24 @@ node_is (x ∷ nodes) zero n e = same_Some x n e
 node_is (x ∷ nodes) (suc m) n e = node_is nodes m n e
 
 -- so it is of each party, once the passes of all were split off
-pub home_new : (scene : PlainScene) (wires : List (List Wire)) (xs : List Node) (ws : List Who) (w : Who) → AreNodesWith scene.nodes wires xs → IfSome (node_of w) (λ m. m < length scene.nodes)
+pub home_new : (scene : PlainScene) (wires : List (List Wire)) (xs : List Node) (ws : List Who) (w : Who) → AreNodesWith (plans_from 0 scene.nodes scene.links) wires xs → IfSome (node_of w) (λ m. m < length scene.nodes)
     → IsHomeNew (map queues_in xs) (map region_in xs) w (opened_in scene w) (home_in (parts_left (map lead_in xs) ws) w (part_home (map lead_in xs) w))
 home_new scene wires xs ws (who.Router m) nodes low =
-    let t = node_there scene.nodes wires xs nodes m low in
+    let t = node_there 0 scene.nodes scene.links wires xs nodes m low in
     let l = parts_at_node (map lead_in xs) ws m (lead_in t.node) (lead_there xs m t.node t.at) in
     subst (λ o. IsHomeNew (map queues_in xs) (map region_in xs) (who.Router m) (opened_in scene (who.Router m)) (option_map (lead_home m) o)) (sym l.1)
     (subst (λ (n : PlainNode). IsHomeNew (map queues_in xs) (map region_in xs) (who.Router m) (range_with_len 0 n.buffers) (Some (lead_home m l.0))) (sym (node_is scene.nodes m t.plain t.plain_at))
-    (hub_new xs m t.node t.plain.buffers l.0 (who.Router m) t.at (lead_new t.plain t.row t.node l.0 t.is l.2.fixed) refl refl refl))
+    (hub_new xs m t.node t.plain.buffers l.0 (who.Router m) t.at (lead_new (plan_of t.plain t.on) t.row t.node l.0 t.is l.2.fixed) refl refl refl))
 home_new scene wires xs ws (who.Bridge m) nodes low =
-    let t = node_there scene.nodes wires xs nodes m low in
+    let t = node_there 0 scene.nodes scene.links wires xs nodes m low in
     let l = parts_at_node (map lead_in xs) ws m (lead_in t.node) (lead_there xs m t.node t.at) in
     subst (λ o. IsHomeNew (map queues_in xs) (map region_in xs) (who.Bridge m) (opened_in scene (who.Bridge m)) (option_map (lead_home m) o)) (sym l.1)
     (subst (λ (n : PlainNode). IsHomeNew (map queues_in xs) (map region_in xs) (who.Bridge m) (range_with_len 0 n.buffers) (Some (lead_home m l.0))) (sym (node_is scene.nodes m t.plain t.plain_at))
-    (hub_new xs m t.node t.plain.buffers l.0 (who.Bridge m) t.at (lead_new t.plain t.row t.node l.0 t.is l.2.fixed) refl refl refl))
+    (hub_new xs m t.node t.plain.buffers l.0 (who.Bridge m) t.at (lead_new (plan_of t.plain t.on) t.row t.node l.0 t.is l.2.fixed) refl refl refl))
 home_new scene wires xs ws (who.Iface m k) nodes low =
-    let t = node_there scene.nodes wires xs nodes m low in
-    subst (λ o. IsHomeNew (map queues_in xs) (map region_in xs) (who.Iface m k) [] (option_map (iface_home m k) o)) (sym (lead_there xs m t.node t.at)) (iface_new xs m k t.node t.plain t.row t.at t.is)
+    let t = node_there 0 scene.nodes scene.links wires xs nodes m low in
+    subst (λ o. IsHomeNew (map queues_in xs) (map region_in xs) (who.Iface m k) [] (option_map (iface_home m k) o)) (sym (lead_there xs m t.node t.at)) (iface_new xs m k t.node (plan_of t.plain t.on) t.row t.at t.is)
 home_new scene wires xs ws (who.App m k) nodes low =
-    let t = node_there scene.nodes wires xs nodes m low in
-    subst (λ o. IsHomeNew (map queues_in xs) (map region_in xs) (who.App m k) [] (option_map (app_home m) o)) (sym (lead_there xs m t.node t.at)) (app_new xs m k t.node t.plain t.row t.at t.is)
+    let t = node_there 0 scene.nodes scene.links wires xs nodes m low in
+    subst (λ o. IsHomeNew (map queues_in xs) (map region_in xs) (who.App m k) [] (option_map (app_home m) o)) (sym (lead_there xs m t.node t.at)) (app_new xs m k t.node (plan_of t.plain t.on) t.row t.at t.is)
 home_new scene wires xs ws (who.Link k) nodes low = link_new (map queues_in xs) (map region_in xs) k

@@ -23,11 +23,12 @@ use Rattle.csp_opening.specs.declared.lanes.Pair.{Pair}
 use Rattle.csp_opening.specs.declared.nodes.Node.{Node}
 use Rattle.csp_log.specs.declared.who.Who.{Who}
 use Rattle.csp_scene.proofs.Public.{AllByRecursion-append}
-use Rattle.csp_scene.specs.Scene.{PlainNode, PlainScene}
+use Rattle.csp_scene.specs.Scene.{PlainScene}
 use Rattle.csp_standing.proofs.Public.{all_at}
 use Rattle.csp_standing.specs.Network.{IsSideAmong}
 use Rattle.csp_topology.specs.Lanes.{PlainEnd, PlainLane}
 use Rattle.csp_topology.specs.Parties.{parties_of}
+use Rattle.csp_topology.specs.Plan.{PlainNodePlan, plans_from}
 use Rattle.csp_topology.specs.Wired as wired
 use Rattle.csp_topology.specs.Wires.{wire_at, wires_of}
 use Rattle.csp_topology.specs.Wiring.{IsWireOf}
@@ -72,7 +73,7 @@ pair_in R row [] region lanes k x h e = absurd cc
 pair_in R row (w ∷ ws) region [] k x h e = absurd cc
 pair_in R [] (w ∷ ws) region (y ∷ lanes) k x h e = absurd h
 
-pub pair_at : (R : PlainLane → Wire → Type 0) (nodes : List PlainNode) (wires : List (List Wire)) (xs : List Node) (rows : List (List PlainLane)) (node k : ℕ) (x : Pair) → AreNodesWith nodes wires xs
+pub pair_at : (R : PlainLane → Wire → Type 0) (nodes : List PlainNodePlan) (wires : List (List Wire)) (xs : List Node) (rows : List (List PlainLane)) (node k : ℕ) (x : Pair) → AreNodesWith nodes wires xs
     → AllZip (AllZip R) rows wires → placed_at (map ends_in xs) node k ≡ Some x → IsPairAt R rows xs node k x
 pair_at R (n ∷ nodes) (ws ∷ wires) (y ∷ xs) (row ∷ rows) zero k x h z e =
     let r = pair_in R row ws (region_in y) y.lanes.lanes.items k x z.0 (ap (λ ps. slice_get ps k) (sym h.0.lanes.ends) ∙ e) in
@@ -94,7 +95,7 @@ record IsRowOf (R : PlainLane → Wire → Type 0) (rows : List (List PlainLane)
   zip : AllZip R row wires
   lanes : AreLanes (region_in y) wires y.lanes
 
-row_of : (R : PlainLane → Wire → Type 0) (nodes : List PlainNode) (wires : List (List Wire)) (xs : List Node) (rows : List (List PlainLane)) (node : ℕ) (y : Node) → AreNodesWith nodes wires xs → AllZip (AllZip R) rows wires
+row_of : (R : PlainLane → Wire → Type 0) (nodes : List PlainNodePlan) (wires : List (List Wire)) (xs : List Node) (rows : List (List PlainLane)) (node : ℕ) (y : Node) → AreNodesWith nodes wires xs → AllZip (AllZip R) rows wires
     → slice_get xs node ≡ Some y → IsRowOf R rows node y
 row_of R (n ∷ nodes) (ws ∷ wires) (x ∷ xs) (row ∷ rows) zero y h z e = subst (IsRowOf R (row ∷ rows) 0) (same_Some x y e) (record { row = row; at = refl; wires = ws; zip = z.0; lanes = h.0.lanes })
 row_of R (n ∷ nodes) (ws ∷ wires) (x ∷ xs) (row ∷ rows) (suc node) y h z e =
@@ -161,10 +162,10 @@ record IsLaneTold (scene : PlainScene) (nodes : List PlainNodeQueues) (node : �
   to : back_name wire.to.queue ≡ back_name wire.queue
   tells : TellsOf scene nodes node wire about (back_name wire.queue)
 
-lane_told : (scene : PlainScene) (wires : List (List Wire)) (xs : List Node) (node k : ℕ) (x : Pair) → EndsApart scene → AreNodesWith scene.nodes wires xs → AllZip (AllZip (IsWireOf scene)) (wires_of scene) wires
+lane_told : (scene : PlainScene) (wires : List (List Wire)) (xs : List Node) (node k : ℕ) (x : Pair) → EndsApart scene → AreNodesWith (plans_from 0 scene.nodes scene.links) wires xs → AllZip (AllZip (IsWireOf scene)) (wires_of scene) wires
     → placed_at (map ends_in xs) node k ≡ Some x → (r : IsPairAt (IsWireOf scene) (wires_of scene) xs node k x) → IsLaneTold scene (map queues_in xs) node r.wire x.producer.about
 lane_told scene wires xs node k x apart nodes rows e r =
-    let y = row_of (IsWireOf scene) scene.nodes wires xs (wires_of scene) node r.opened nodes rows r.there in
+    let y = row_of (IsWireOf scene) (plans_from 0 scene.nodes scene.links) wires xs (wires_of scene) node r.opened nodes rows r.there in
     let row = all_at IsRow (wires_of scene) node y.row (rows_are scene) y.at in
     let at : slice_get y.row k ≡ Some r.wire = ap (option_and_then (λ (ls : List PlainLane). slice_get ls k)) (sym y.at) ∙ r.at in
     let named = all_at (IsNamedLane row.hub) y.row k r.wire row.named at in
@@ -230,10 +231,10 @@ lane_there xs node k x l e there at is =
 party_is : (ws : List Who) (p k : ℕ) (v w : Who) → slice_get ws p ≡ Some v → slice_get ws k ≡ Some w → (k == p) ≡ true → w ≡ v
 party_is ws p k v w at there e = same_Some w v (sym there ∙ ap (slice_get ws) (eqb-true k p e) ∙ at)
 
-both_ends : (scene : PlainScene) (wires : List (List Wire)) (xs : List Node) (p : ℕ) (v : Who) → EndsApart scene → slice_get (map (λ o. o.who) (parties_of scene)) p ≡ Some v → AreNodesWith scene.nodes wires xs
+both_ends : (scene : PlainScene) (wires : List (List Wire)) (xs : List Node) (p : ℕ) (v : Who) → EndsApart scene → slice_get (map (λ o. o.who) (parties_of scene)) p ≡ Some v → AreNodesWith (plans_from 0 scene.nodes scene.links) wires xs
     → AllZip (AllZip (IsWireOf scene)) (wires_of scene) wires → (node k : ℕ) (x : Pair) → placed_at (map ends_in xs) node k ≡ Some x → AreSo (IsSideNew scene (map queues_in xs) (map region_in xs) v) p node k x
 both_ends scene wires xs p v apart at nodes rows node k x e =
-    let r = pair_at (IsWireOf scene) scene.nodes wires xs (wires_of scene) node k x nodes rows e in
+    let r = pair_at (IsWireOf scene) (plans_from 0 scene.nodes scene.links) wires xs (wires_of scene) node k x nodes rows e in
     let region = slice_get-map region_in xs node ∙ ap (option_map region_in) r.there in
     let producer : x.producer ≡ ways.fresh_end r.lane (region_in r.opened) x.wire.carries = ap (λ (q : Pair). q.producer) r.is in
     let consumer : x.consumer ≡ ways.fresh_end r.lane (region_in r.opened) x.wire.carries = ap (λ (q : Pair). q.consumer) r.is in
@@ -266,7 +267,7 @@ both_ends scene wires xs p v apart at nodes rows node k x e =
     }
 
 -- so is each end that a party is handed
-pub sides_new : (scene : PlainScene) (wires : List (List Wire)) (xs : List Node) (p : ℕ) (v : Who) → EndsApart scene → slice_get (map (λ o. o.who) (parties_of scene)) p ≡ Some v → AreNodesWith scene.nodes wires xs
+pub sides_new : (scene : PlainScene) (wires : List (List Wire)) (xs : List Node) (p : ℕ) (v : Who) → EndsApart scene → slice_get (map (λ o. o.who) (parties_of scene)) p ≡ Some v → AreNodesWith (plans_from 0 scene.nodes scene.links) wires xs
     → AllZip (AllZip (IsWireOf scene)) (wires_of scene) wires → AllByRecursion (IsSideNew scene (map queues_in xs) (map region_in xs) v) (handed_from p 0 (map ends_in xs))
 sides_new scene wires xs p v apart at nodes rows =
     so_from (IsSideNew scene (map queues_in xs) (map region_in xs) v) p 0 (map ends_in xs) (λ node j k x e same.

@@ -39,6 +39,7 @@ use Rattle.csp_scene.specs.Scene.{PlainScene}
 use Rattle.csp_standing.proofs.Public.{all_at, all_from}
 use Rattle.csp_standing.specs.Network.{IsPostOf, IsSideAmong, PlainNetwork, name_of, opened_in, sides_of}
 use Rattle.csp_topology.specs.Parties.{PlainOpening, parties_of}
+use Rattle.csp_topology.specs.Plan.{plans_from}
 use Rattle.csp_topology.specs.Wired as wired
 use Rattle.csp_topology.specs.Wires.{wires_of}
 use Rattle.csp_topology.specs.Wiring.{IsWireOf}
@@ -69,7 +70,7 @@ pub record IsPartyNew (scene : PlainScene) (xs : List Node) (ws : List Who) (p :
   pub ends : AreEnds (its_ends xs ws p w)
   pub names : map name_of (handed_from p 0 (map ends_in xs)) ≡ sides_of scene w
 
-pub party_new : (scene : PlainScene) (wires : List (List Wire)) (xs : List Node) (ws : List Who) (p : ℕ) (w : Who) → Laws scene → AreNodesWith scene.nodes wires xs → AllZip (AllZip (IsWireOf scene)) (wires_of scene) wires
+pub party_new : (scene : PlainScene) (wires : List (List Wire)) (xs : List Node) (ws : List Who) (p : ℕ) (w : Who) → Laws scene → AreNodesWith (plans_from 0 scene.nodes scene.links) wires xs → AllZip (AllZip (IsWireOf scene)) (wires_of scene) wires
     → AllZip (IsPairRow (map (λ (o : PlainOpening). o.who) (parties_of scene))) (wires_of scene) (map ends_in xs) → NamedApart (map (λ (o : PlainOpening). o.who) (parties_of scene))
     → slice_get (map (λ (o : PlainOpening). o.who) (parties_of scene)) p ≡ Some w → IfSome (node_of w) (λ m. m < length scene.nodes) → IsPartyNew scene xs ws p w
 party_new scene wires xs ws p w laws nodes rows pairs named at low =

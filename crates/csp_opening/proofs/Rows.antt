@@ -14,15 +14,16 @@ use Rattle.csp_log.specs.declared.places.QueueId.TheVariants as queue
 use Rattle.csp_opening.proofs.Backs.{each_lane}
 use Rattle.csp_opening.proofs.Serving.{AllCalled, AllHome}
 use Rattle.csp_opening.proofs.Zipped.{placed_at, wire_rows}
-use Rattle.csp_opening.specs.Opened.{AreWired}
+use Rattle.csp_opening.specs.Opened.{AreWired, IsRoomy}
 use Rattle.csp_log.specs.declared.who.Who.{Who}
 use Rattle.csp_scene.proofs.Public.{AllByRecursion-append}
 use Rattle.csp_scene.specs.Links.{links_at}
 use Rattle.csp_scene.specs.Ranges.{IsNode, IsScene}
 use Rattle.csp_scene.specs.Scene.{PlainLink, PlainNode, PlainScene}
 use Rattle.csp_standing.proofs.Public.{all_at}
-use Rattle.csp_topology.proofs.Public.{joints_few, links_few}
+use Rattle.csp_topology.proofs.Public.{joints_few, links_few, plans_count}
 use Rattle.csp_topology.specs.Lanes.{PlainLane, leader_of, out_lane}
+use Rattle.csp_topology.specs.Plan.{plans_from}
 use Rattle.csp_topology.specs.Wired as wired
 use Rattle.csp_topology.specs.Wires.{PlainJoint, down_lane, joints_at, joints_from, rx_lane, tx_lane, up_lane, wires_from, wires_of, wires_with}
 use Rattle.csp_topology.specs.Wiring.{AreWires, IsWireOf}
@@ -125,14 +126,19 @@ rows_short scene (row ∷ rows) (ws ∷ wires) few h = (
 rows_short scene [] (ws ∷ wires) few h = absurd h
 rows_short scene (row ∷ rows) [] few h = absurd h
 
+-- the plans of nodes of a scene have room
+plans_roomy : (place : ℕ) (nodes : List PlainNode) (links : List PlainLink) → AllByRecursion IsNode nodes → AllByRecursion IsRoomy (plans_from place nodes links)
+plans_roomy place [] links is = tt
+plans_roomy place (n ∷ nodes) links is = (record { some = omega (arith, is.0.least); inbox = omega (arith, is.0.some_inbox) }, plans_roomy (place + 1) nodes links is.1)
+
 -- the nodes of a scene can be opened with its wires
-pub are_wired : (scene : PlainScene) (wires : List (Vec Wire)) → IsScene scene → AllHome scene → length (wires_of scene) ≡ length scene.nodes → AreWires scene (map (λ (ws : Vec Wire). ws.items) wires) → AreWired scene.nodes wires
+pub are_wired : (scene : PlainScene) (wires : List (Vec Wire)) → IsScene scene → AllHome scene → length (wires_of scene) ≡ length scene.nodes → AreWires scene (map (λ (ws : Vec Wire). ws.items) wires) → AreWired (plans_from 0 scene.nodes scene.links) wires
 are_wired scene wires is stays count are =
     let rows = wire_rows scene (map (λ (ws : Vec Wire). ws.items) wires) count are in
     let long : length wires ≡ length scene.nodes = sym (length-map wires (λ (ws : Vec Wire). ws.items)) ∙ are.count in
     record {
-      nodes = is.nodes;
-      count = long;
+      nodes = plans_roomy 0 scene.nodes scene.links is.nodes;
+      count = (let plans = plans_count 0 scene.nodes scene.links in omega (arith, long, plans));
       low = (let few = is.few in omega (arith, long, few));
       few = rows_short scene (wires_of scene) wires (scene_rows_few scene is) rows;
       rooms = rows_roomy scene 0 (wires_of scene) wires (λ node j k l e same. subst (λ m. wired.StaysHome scene m l) (omega (arith, same)) (stays node k l e)) rows;

@@ -18,8 +18,7 @@ use Rattle.csp_opening.specs.declared.lanes.Pair.{Pair}
 use Rattle.csp_opening.specs.declared.mails.Mail.{Mail}
 use Rattle.csp_opening.specs.declared.nodes.Node.{Node}
 use Rattle.csp_pool.specs.Hands.{opening_hand}
-use Rattle.csp_scene.specs.Ranges.{IsNode}
-use Rattle.csp_scene.specs.Scene.{PlainNode}
+use Rattle.csp_topology.specs.Plan.{PlainNodePlan}
 use Rattle.csp_topology.specs.declared.wire.Wire.{Wire}
 
 -- all buffers of a memory are in its pool, and nothing else was done there; they have room to come back
@@ -96,11 +95,11 @@ pub record CanLeave (x : Node) : Type 0 where
   pub lanes : AreUnused x.lanes.lanes.items x.lanes.rooms.items x.lanes.ends.items
 
 -- for how many buffers there is room in all queues of a node with these wires
-abbrev pub room_with : PlainNode → List Wire → ℕ
+abbrev pub room_with : PlainNodePlan → List Wire → ℕ
 room_with n wires = n.buffers + 4 * n.inbox + sum_by (λ (w : Wire). w.room) wires
 
--- a node of a scene, as it was opened with these wires
-pub record IsNodeOf (n : PlainNode) (wires : List Wire) (x : Node) : Type 0 where
+-- a node with this plan, as it was opened with these wires
+pub record IsNodeOf (n : PlainNodePlan) (wires : List Wire) (x : Node) : Type 0 where
   pub base : IsBase x.base
   pub count : x.base.store.count ≡ n.buffers
   pub room : x.base.store.room ≡ room_with n wires
@@ -112,7 +111,7 @@ pub record IsNodeOf (n : PlainNode) (wires : List Wire) (x : Node) : Type 0 wher
   pub lanes : AreLanes x.base.store.region wires x.lanes
 
 -- so is each node
-abbrev pub AreNodesWith : List PlainNode → List (List Wire) → List Node → Type 0
+abbrev pub AreNodesWith : List PlainNodePlan → List (List Wire) → List Node → Type 0
 AreNodesWith [] [] [] = ⊤
 AreNodesWith (n ∷ nodes) (ws ∷ wires) (x ∷ opened) = IsNodeOf n ws x × AreNodesWith nodes wires opened
 AreNodesWith _ _ _ = ⊥
@@ -133,9 +132,14 @@ lead_in x = record { pool = x.base.pass; inbox = x.mail.pass }
 abbrev pub ends_in : Node → List Pair
 ends_in x = x.lanes.ends.items
 
--- nodes of a scene, each with its wires, which have room
-pub record AreWired (ns : List PlainNode) (wires : List (Vec Wire)) : Type 0 where
-  pub nodes : AllByRecursion IsNode ns
+-- a node with this plan has a buffer, and its inbox has room
+pub record IsRoomy (n : PlainNodePlan) : Type 0 where
+  pub some : 0 < n.buffers
+  pub inbox : 0 < n.inbox
+
+-- the plans of nodes, each with its wires, which have room
+pub record AreWired (ns : List PlainNodePlan) (wires : List (Vec Wire)) : Type 0 where
+  pub nodes : AllByRecursion IsRoomy ns
   pub count : length wires ≡ length ns
   pub low : length wires < 256
   pub few : AllByRecursion (λ (ws : Vec Wire). length ws.items < 256) wires

@@ -9,14 +9,12 @@ use crate::lanes::Pair;
 use crate::sides::blank_sides;
 use csp_ending::Notes;
 use csp_ends::{Home, NodeQueues, Side};
+use csp_lists::INBOX_QUEUES;
 use csp_posts::{Post, Retired};
 use csp_record::PartyLog;
 use csp_standing::{NodeRooms, NodeStore};
 use csp_topology::Wire;
 use std::alloc::{AllocError, Global};
-
-/// The queues of an inbox.
-const INBOX_QUEUES: usize = 4;
 
 /// The lists of what may be let go, with their room.
 #[derive(Drop)]

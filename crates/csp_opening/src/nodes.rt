@@ -3,21 +3,17 @@
 ghost use Rattle.std.specs.Prelude.{◌≡◌, ◌<◌, ◌≤◌, IfOk, length, map, vec_capacity};
 ghost use Rattle.std.specs.List.{AllByRecursion};
 ghost use Rattle.csp_inbox.specs.Passes.{opening_pass};
-ghost use Rattle.csp_opening.specs.Opened.{AreLanes, AreNodesWith, AreWired, CanLeave, IsNodeOf, room_with};
-ghost use Rattle.csp_scene.specs.Ranges.{IsNode};
+ghost use Rattle.csp_opening.specs.Opened.{AreLanes, AreNodesWith, AreWired, CanLeave, IsNodeOf, IsRoomy, room_with};
 
 use crate::bases::Base;
 use crate::lanes::Lanes;
 use crate::mails::Mail;
 use csp_arena::RegionToken;
-use csp_scene::SceneNode;
-use csp_topology::Wire;
+use csp_lists::INBOX_QUEUES;
+use csp_topology::{NodePlan, Wire};
 use std::alloc::{AllocError, Global};
 use std::collections::VecDeque;
 use std::sync::Wait;
-
-/// The queues of an inbox.
-const INBOX_QUEUES: usize = 4;
 
 /// A node of whose memory and queues nothing was handed out yet. It must be spent by `leave_nodes`, or taken apart.
 pub struct Node {
@@ -32,14 +28,14 @@ pub struct Node {
 }
 
 impl Node {
-    /// Opens a node of a scene, with the lanes of these wires.
+    /// Opens a node with this plan, with the lanes of these wires.
     fn open<R: Wait>(
         rt: &R,
         alloc: Global,
-        node: &SceneNode,
+        node: &NodePlan,
         wires: &[Wire],
     ) -> Result<Node, AllocError>
-        requires node { IsNode node.now }
+        requires node { IsRoomy node.now }
         requires few { length wires.now < 256 }
         requires rooms { AllByRecursion (λ w. 0 < w.room) wires.now }
         ensures { IfOk result (IsNodeOf node.now wires.now) }
@@ -103,7 +99,7 @@ fn open_queues<R: Wait>(
 }
 
 /// For how many buffers there is room in all queues of a node.
-fn room_in(node: &SceneNode, wires: &[Wire]) -> usize
+fn room_in(node: &NodePlan, wires: &[Wire]) -> usize
     requires { length wires.now < 256 }
     ensures { result ≡ room_with node.now wires.now }
 {
@@ -114,11 +110,11 @@ fn room_in(node: &SceneNode, wires: &[Wire]) -> usize
     room
 }
 
-/// Opens the nodes of a scene, each with the lanes of its wires, in a list with just the room for them.
+/// Opens the nodes with these plans, each with the lanes of its wires, in a list with just the room for them.
 pub fn open_nodes<R: Wait>(
     rt: &R,
     alloc: Global,
-    nodes: &[SceneNode],
+    nodes: &[NodePlan],
     wires: &[Vec<Wire>],
 ) -> Result<Vec<Node>, AllocError>
     requires { AreWired nodes.now wires.now }

@@ -19,11 +19,11 @@ use crate::parting::Parts;
 use crate::seats::{Seat, open_seats};
 use csp_ends::Queues;
 use csp_posts::Post;
-use csp_scene::{Scene, SceneNode};
+use csp_scene::Scene;
 use csp_standing::Fabric;
 use csp_topology::{
-    Opening, Topology, Wire, counts_parties, names_ends_apart, names_parties_apart, orders_wires,
-    serves_parties, stays_home,
+    NodePlan, Opening, Topology, Wire, counts_parties, names_ends_apart, names_parties_apart,
+    orders_wires, serves_parties, stays_home,
 };
 use std::alloc::{AllocError, Global};
 use std::sync::Wait;
@@ -50,23 +50,22 @@ pub fn open_fabric<R: Wait>(
     orders_wires();
     serves_parties();
     stays_home();
-    let topology = Topology::of(alloc, scene)?;
-    let blanks = Blanks::open(alloc, topology.parties.len() as u16, &topology.lanes)?;
-    let (lists, nodes, seats) = open_all(
-        rt,
-        alloc,
-        &scene.nodes,
-        &topology.lanes,
-        topology.parties,
-    )?;
-    Ok(assemble(alloc, topology.lanes, blanks, lists, nodes, seats))
+    let Topology {
+        nodes: plans,
+        lanes,
+        links: _,
+        parties,
+    } = Topology::of(alloc, scene)?;
+    let blanks = Blanks::open(alloc, parties.len() as u16, &lanes)?;
+    let (lists, nodes, seats) = open_all(rt, alloc, &plans, &lanes, parties)?;
+    Ok(assemble(alloc, lanes, blanks, lists, nodes, seats))
 }
 
-/// Opens the nodes of a scene with the lanes of these wires, and these parties.
+/// Opens the nodes with these plans and the lanes of these wires, and these parties.
 fn open_all<R: Wait>(
     rt: &R,
     alloc: Global,
-    nodes: &[SceneNode],
+    nodes: &[NodePlan],
     wires: &[Vec<Wire>],
     parties: Vec<Opening>,
 ) -> Result<(Lists, Vec<Node>, Vec<Seat>), AllocError>
@@ -87,11 +86,11 @@ fn open_all<R: Wait>(
     }
 }
 
-/// Opens the nodes of a scene, and then these parties.
+/// Opens the nodes with these plans, and then these parties.
 fn open_members<R: Wait>(
     rt: &R,
     alloc: Global,
-    nodes: &[SceneNode],
+    nodes: &[NodePlan],
     wires: &[Vec<Wire>],
     parties: Vec<Opening>,
 ) -> Result<(Vec<Node>, Vec<Seat>), AllocError>

@@ -4,6 +4,8 @@ use Rattle.std.specs.Option.{option_and_then}
 use Rattle.std.proofs.lemmas.Option.{get_or_from_slice_get, same_Some, slice_get_within}
 use Rattle.csp_log.specs.Kinds.{carried_on}
 use Rattle.csp_lists.specs.PlainDeck.{IsLinkRule}
+use Rattle.csp_log.specs.declared.places.Carries.{Carries}
+use Rattle.csp_log.specs.declared.places.Carries.TheVariants as lane
 use Rattle.csp_log.specs.declared.places.End.{End}
 use Rattle.csp_log.specs.declared.places.QueueId.{QueueId}
 use Rattle.csp_log.specs.declared.places.QueueId.TheVariants as queue
@@ -17,9 +19,9 @@ use Rattle.csp_topology.proofs.PartyPlaces.{app_there, begins, ends, hub_home, h
 use Rattle.csp_topology.proofs.Places.{get-within}
 use Rattle.csp_topology.proofs.PlanLemmas.{link_rule}
 use Rattle.csp_topology.proofs.WirePlaces.{Wire, count_of, down, ifaces_of, out, rx, tx, up, wire_is}
-use Rattle.csp_topology.specs.Lanes.{PlainEnd, PlainLane, leader_of, out_lane}
+use Rattle.csp_topology.specs.Lanes.{PlainEnd, PlainLane, lane_at, leader_of, out_lane}
 use Rattle.csp_topology.specs.Parties.{PlainOpening, app_at, heeded, iface_on, link_at, parties_of}
-use Rattle.csp_topology.specs.Wired.{IsEndOf, Joins, Side, Stands, StaysHome, end_on, getting, putting}
+use Rattle.csp_topology.specs.Wired.{IsEndOf, IsNamedFor, Joins, Side, Stands, StaysHome, end_on, getting, putting}
 use Rattle.csp_topology.specs.Wires.{PlainJoint, down_lane, rx_lane, tx_lane, up_lane, wire_at}
 
 -- ---- parties that are there
@@ -223,6 +225,16 @@ own_end node l w q home called = inl (record { home = home; called = called })
 frames_on : (j : PlainJoint) (l : PlainLink) → j.carries ≡ carried_on l.kind → IsLinkRule j.carries
 frames_on j l same = subst IsLinkRule (sym same) (link_rule l.kind)
 
+-- a lane between two parties of a node, which both call it by its name
+inner_stays : (scene : PlainScene) (node : ℕ) (q : QueueId) (carries : Carries) (from to : Who) → node < length scene.nodes → IsNamedFor q carries → node_of from ≡ Some node → node_of to ≡ Some node → StaysHome scene node (lane_at node q carries from to)
+inner_stays scene node q carries from to low named puts gets = record {
+  low = low;
+  home = refl;
+  named = named;
+  from = own_end node (lane_at node q carries from to) from q puts refl;
+  to = own_end node (lane_at node q carries from to) to q gets refl;
+}
+
 stays : (scene : PlainScene) → ArePlaced scene → (node k : ℕ) (l : PlainLane) → Wire scene node k l → StaysHome scene node l
 stays scene are node k l (rx n j there at is) =
     let h = joint_is scene are node k j at in
@@ -244,27 +256,12 @@ stays scene are node k l (tx n j p there at place is) =
       from = own_end node (tx_lane j) (who.Iface j.end.node j.end.iface) (queue.Tx j.end.iface) (ap (λ (m : ℕ). Some m) h.node_is) refl;
       to = inr (record { number = j.link; link = refl; frames = frames });
     })
-stays scene are node k l (out n p there few place is) = subst (StaysHome scene node) (sym is) (record {
-  low = slice_get_within scene.nodes node n there;
-  home = refl;
-  named = refl;
-  from = own_end node (out_lane node (leader_of node n.addr) p) (leader_of node n.addr) (queue.Out p) (hub_home n.addr node) refl;
-  to = own_end node (out_lane node (leader_of node n.addr) p) (who.Iface node p) (queue.Out p) refl refl;
-})
-stays scene are node k l (down n p there few place is) = subst (StaysHome scene node) (sym is) (record {
-  low = slice_get_within scene.nodes node n there;
-  home = refl;
-  named = refl;
-  from = own_end node (down_lane node (leader_of node n.addr) p) (leader_of node n.addr) (queue.Down p) (hub_home n.addr node) refl;
-  to = own_end node (down_lane node (leader_of node n.addr) p) (who.App node p) (queue.Down p) refl refl;
-})
-stays scene are node k l (up n p there few place is) = subst (StaysHome scene node) (sym is) (record {
-  low = slice_get_within scene.nodes node n there;
-  home = refl;
-  named = refl;
-  from = own_end node (up_lane node (leader_of node n.addr) p) (who.App node p) (queue.Up p) refl refl;
-  to = own_end node (up_lane node (leader_of node n.addr) p) (leader_of node n.addr) (queue.Up p) (hub_home n.addr node) refl;
-})
+stays scene are node k l (out n p there few place is) = subst (StaysHome scene node) (sym is)
+    (inner_stays scene node (queue.Out p) lane.Out (leader_of node n.addr) (who.Iface node p) (slice_get_within scene.nodes node n there) refl (hub_home n.addr node) refl)
+stays scene are node k l (down n p there few place is) = subst (StaysHome scene node) (sym is)
+    (inner_stays scene node (queue.Down p) lane.Down (leader_of node n.addr) (who.App node p) (slice_get_within scene.nodes node n there) refl (hub_home n.addr node) refl)
+stays scene are node k l (up n p there few place is) = subst (StaysHome scene node) (sym is)
+    (inner_stays scene node (queue.Up p) lane.Up (who.App node p) (leader_of node n.addr) (slice_get_within scene.nodes node n there) refl refl (hub_home n.addr node))
 
 pub all_stay : (scene : PlainScene) → ArePlaced scene → (node k : ℕ) (l : PlainLane) → wire_at scene node k ≡ Some l → StaysHome scene node l
 all_stay scene are node k l e = stays scene are node k l (wire_is scene node k l e)

@@ -1,5 +1,5 @@
 -- Lemmas on the pool and the queues of a node.
-use Rattle.std.proofs.Common.{ℕ, ◌+◌, ◌≤◌, List, [], ◌∷◌, All, length, arith}
+use Rattle.std.proofs.Common.{◌≡◌, ℕ, suc, ◌+◌, ◌≤◌, List, [], ◌∷◌, All, length, refl, ap, arith}
 use Rattle.std.specs.List.{AllByRecursion}
 use Rattle.std.proofs.lemmas.List.{length-map}
 use Rattle.std.proofs.lemmas.List.Elements.{All-map}
@@ -24,6 +24,11 @@ pub link_rule : (k : LinkKind) → IsLinkRule (carried_on k)
 link_rule kind.Kiss = tt
 link_rule kind.KissHeader = tt
 link_rule kind.Can = tt
+
+-- there is a plan of each node
+pub plans_count : (place : ℕ) (nodes : List PlainNode) (links : List PlainLink) → length (plans_from place nodes links) ≡ length nodes
+plans_count place [] links = refl
+plans_count place (n ∷ nodes) links = ap suc (plans_count (place + 1) nodes links)
 
 -- a node of a scene can be opened
 plan_fits : (place : ℕ) (n : PlainNode) (links : List PlainLink) → IsNode n → length links ≤ MAX_LINKS → IsPlan (plan_of n (links_at place links))

@@ -27,11 +27,11 @@ use Rattle.csp_topology.proofs.PartyPlaces.{IsParty, party_at}
 use Rattle.csp_topology.proofs.PartyPlaces as party
 use Rattle.csp_topology.proofs.PartyLemmas.{opened_ends}
 use Rattle.csp_topology.proofs.Places.{all_at, get-within}
-use Rattle.csp_topology.proofs.WirePlaces.{count_of, down_there, ifaces_of, out_there, rx_there, tx_there, up_there}
-use Rattle.csp_topology.specs.Lanes.{PlainEnd, leader_of, out_lane}
-use Rattle.csp_topology.specs.Parties.{PlainOpening, app_at, heeded, leader_by, hub_with, iface_on, link_at, link_party, link_with, parties_of}
-use Rattle.csp_topology.specs.Wired.{IsServed, getting, inbox_rule, putting}
-use Rattle.csp_topology.specs.Wires.{PlainJoint, down_lane, joint_of, rx_lane, tx_lane, up_lane}
+use Rattle.csp_topology.proofs.WirePlaces.{down_there, ifaces_of, out_there, rx_there, tx_there, up_there}
+use Rattle.csp_topology.specs.Lanes.{PlainEnd, PlainLane, leader_of, out_lane}
+use Rattle.csp_topology.specs.Parties.{PlainOpening, app_at, heeded, leader_by, hub_with, iface_on, link_party, link_with, parties_of}
+use Rattle.csp_topology.specs.Wired.{IsServed, Side, end_on, getting, inbox_rule, putting}
+use Rattle.csp_topology.specs.Wires.{PlainJoint, down_lane, joint_of, rx_lane, tx_lane, up_lane, wire_at}
 
 -- what a party uses among so many, and under one number
 within : (r s : Rule) (k count : ℕ) (low : Bool) → nat_lt k count ≡ low → cond low (Some s) None ≡ Some r → (k < count) × (r ≡ s)
@@ -49,6 +49,10 @@ own r s k number false h e = absurd cc
 an_inbox : (scene : PlainScene) (w : Who) (r : Rule) → inbox_rule w ≡ Some rule.Inbox → Some rule.Inbox ≡ Some r → IsServed scene w queue.Inbox r
 an_inbox scene w r used e = inl (record { inbox = refl; takes = sym (same_Some rule.Inbox r e); used = used })
 
+-- a lane among those of its node serves the party at each of its sides
+by_lane : (scene : PlainScene) (node place : ℕ) (l : PlainLane) (side : Side) (r : Rule) → wire_at scene node place ≡ Some l → r ≡ rule.Lane l.carries → IsServed scene (end_on side l).who (end_on side l).queue r
+by_lane scene node place l side r at is = inr (record { node = node; place = place; wire = l; at = at; side = side; called = refl; carries = is })
+
 abbrev end_named : Who → QueueId → PlainEnd
 end_named w q = record { who = w; queue = q }
 
@@ -60,37 +64,13 @@ hub_inbox None node = refl
 
 module _ (scene : PlainScene) (are : ArePlaced scene) (node : ℕ) (n : PlainNode) (there : slice_get scene.nodes node ≡ Some n) where
   hub_up : (k : ℕ) (r : Rule) → k < length n.apps → r ≡ rule.Lane lane.Up → IsServed scene (leader_of node n.addr) (queue.Up k) r
-  hub_up k r low is = inr (record {
-    node = node;
-    place = ifaces_of scene node + (ifaces_of scene node + (count_of scene node + (length n.apps + k)));
-    wire = up_lane node (leader_of node n.addr) k;
-    at = up_there scene node n there k low;
-    side = getting;
-    called = refl;
-    carries = is;
-  })
+  hub_up k r low is = by_lane scene node _ (up_lane node (leader_of node n.addr) k) getting r (up_there scene node n there k low) is
 
   hub_down : (k : ℕ) (r : Rule) → k < length n.apps → r ≡ rule.Lane lane.Down → IsServed scene (leader_of node n.addr) (queue.Down k) r
-  hub_down k r low is = inr (record {
-    node = node;
-    place = ifaces_of scene node + (ifaces_of scene node + (count_of scene node + k));
-    wire = down_lane node (leader_of node n.addr) k;
-    at = down_there scene node n there k low;
-    side = putting;
-    called = refl;
-    carries = is;
-  })
+  hub_down k r low is = by_lane scene node _ (down_lane node (leader_of node n.addr) k) putting r (down_there scene node n there k low) is
 
   hub_out : (k : ℕ) (r : Rule) → k < length (links_at node scene.links) → r ≡ rule.Lane lane.Out → IsServed scene (leader_of node n.addr) (queue.Out k) r
-  hub_out k r low is = inr (record {
-    node = node;
-    place = ifaces_of scene node + (ifaces_of scene node + k);
-    wire = out_lane node (leader_of node n.addr) k;
-    at = out_there scene node n there k low;
-    side = putting;
-    called = refl;
-    carries = is;
-  })
+  hub_out k r low is = by_lane scene node _ (out_lane node (leader_of node n.addr) k) putting r (out_there scene node n there k low) is
 
   router_served : (addr : ℕ) (q : QueueId) (r : Rule) → uses (leader_by (Some addr) node n (links_at node scene.links)).party q ≡ Some r → IsServed scene (leader_of node n.addr) q r
   router_served addr queue.Inbox r e = an_inbox scene (leader_of node n.addr) r (hub_inbox n.addr node) e
@@ -123,15 +103,7 @@ module _ (scene : PlainScene) (are : ArePlaced scene) (node : ℕ) (n : PlainNod
   iface_called k j name at number = ap (λ (m : ℕ). end_named (who.Iface m j.end.iface) (name j.end.iface)) at ∙ ap (λ (i : ℕ). end_named (who.Iface node i) (name i)) number
 
   iface_out : (k : ℕ) (r : Rule) → k < length (links_at node scene.links) → r ≡ rule.Lane lane.Out → IsServed scene (who.Iface node k) (queue.Out k) r
-  iface_out k r low is = inr (record {
-    node = node;
-    place = ifaces_of scene node + (ifaces_of scene node + k);
-    wire = out_lane node (leader_of node n.addr) k;
-    at = out_there scene node n there k low;
-    side = getting;
-    called = refl;
-    carries = is;
-  })
+  iface_out k r low is = by_lane scene node _ (out_lane node (leader_of node n.addr) k) getting r (out_there scene node n there k low) is
 
   iface_tx : (k : ℕ) (l : PlainLink) (r : Rule) → slice_get (links_at node scene.links) k ≡ Some l → r ≡ rule.Lane (carried_on l.kind) → IsServed scene (who.Iface node k) (queue.Tx k) r
   iface_tx k l r on is =
@@ -178,26 +150,10 @@ module _ (scene : PlainScene) (are : ArePlaced scene) (node : ℕ) (n : PlainNod
   -- ---- an application
 
   app_up : (k : ℕ) (r : Rule) → k < length n.apps → r ≡ rule.Lane lane.Up → IsServed scene (who.App node k) (queue.Up k) r
-  app_up k r low is = inr (record {
-    node = node;
-    place = ifaces_of scene node + (ifaces_of scene node + (count_of scene node + (length n.apps + k)));
-    wire = up_lane node (leader_of node n.addr) k;
-    at = up_there scene node n there k low;
-    side = putting;
-    called = refl;
-    carries = is;
-  })
+  app_up k r low is = by_lane scene node _ (up_lane node (leader_of node n.addr) k) putting r (up_there scene node n there k low) is
 
   app_down : (k : ℕ) (r : Rule) → k < length n.apps → r ≡ rule.Lane lane.Down → IsServed scene (who.App node k) (queue.Down k) r
-  app_down k r low is = inr (record {
-    node = node;
-    place = ifaces_of scene node + (ifaces_of scene node + (count_of scene node + k));
-    wire = down_lane node (leader_of node n.addr) k;
-    at = down_there scene node n there k low;
-    side = getting;
-    called = refl;
-    carries = is;
-  })
+  app_down k r low is = by_lane scene node _ (down_lane node (leader_of node n.addr) k) getting r (down_there scene node n there k low) is
 
   app_served : (k : ℕ) (a : PlainApp) → slice_get n.apps k ≡ Some a → (q : QueueId) (r : Rule) → uses (app_at node k a).party q ≡ Some r → IsServed scene (who.App node k) q r
   app_served k a of_it (queue.Up m) r e =
@@ -236,30 +192,14 @@ module _ (scene : PlainScene) (are : ArePlaced scene) (i : ℕ) (l : PlainLink) 
   link_tx : (place : ℕ) (r : Rule) → place < length l.ends → r ≡ rule.Lane (carried_on l.kind) → IsServed scene (who.Link i) (queue.Tx place) r
   link_tx place r low same =
       let h = has_end scene l is place low in
-      let x = h.end in
-      inr (record {
-        node = x.node;
-        place = ifaces_of scene x.node + x.iface;
-        wire = tx_lane (joint_of i (carried_on l.kind) place x);
-        at = tx_there scene x.node h.n h.there x.iface (joint_of i (carried_on l.kind) place x) (end_joint scene are i place l x there h.at);
-        side = getting;
-        called = refl;
-        carries = same;
-      })
+      let j = joint_of i (carried_on l.kind) place h.end in
+      by_lane scene h.end.node _ (tx_lane j) getting r (tx_there scene h.end.node h.n h.there h.end.iface j (end_joint scene are i place l h.end there h.at)) same
 
   link_rx : (place : ℕ) (r : Rule) → place < length l.ends → r ≡ rule.Lane (carried_on l.kind) → IsServed scene (who.Link i) (queue.Rx place) r
   link_rx place r low same =
       let h = has_end scene l is place low in
-      let x = h.end in
-      inr (record {
-        node = x.node;
-        place = x.iface;
-        wire = rx_lane (joint_of i (carried_on l.kind) place x);
-        at = rx_there scene x.node h.n h.there x.iface (joint_of i (carried_on l.kind) place x) (end_joint scene are i place l x there h.at);
-        side = putting;
-        called = refl;
-        carries = same;
-      })
+      let j = joint_of i (carried_on l.kind) place h.end in
+      by_lane scene h.end.node _ (rx_lane j) putting r (rx_there scene h.end.node h.n h.there h.end.iface j (end_joint scene are i place l h.end there h.at)) same
 
   pair_served : l.hub ≡ false → (q : QueueId) (r : Rule) → uses (link_with i l.kind l.plan).party q ≡ Some r → IsServed scene (who.Link i) q r
   pair_served pair (queue.Tx k) r e = let (low, same) = if_within r (rule.Lane (carried_on l.kind)) k 2 _ refl e in link_tx k r (omega (arith, low, shape.pair pair)) same

@@ -1,5 +1,5 @@
 -- What a topology is seen as.
-use Rattle.std.proofs.Common.{◌≡◌, ◌+◌, ◌++◌, List, map, refl}
+use Rattle.std.proofs.Common.{◌≡◌, ◌++◌, List, map, refl}
 use Rattle.csp_log.specs.declared.places.End.{End}
 use Rattle.csp_scene.specs.Scene.{PlainScene}
 use Rattle.csp_topology.specs.Parties.{PlainOpening, links_from, parties_from, parties_of}

@@ -1,5 +1,5 @@
 -- The lanes of a node stand in the order of its queues.
-use Rattle.std.proofs.Common.{◌≡◌, ℕ, ◌+◌, Some, List, [], ◌∷◌, ◌++◌, length, map, slice_get, ap, refl, sym, ◌∙◌}
+use Rattle.std.proofs.Common.{◌≡◌, ℕ, Some, List, [], ◌∷◌, ◌++◌, length, map, slice_get, ap, refl, sym, ◌∙◌}
 use Rattle.std.specs.List.{range_with_len}
 use Rattle.std.proofs.lemmas.List.{append_assoc, map-append}
 use Rattle.std.proofs.lemmas.Option.{same_Some}
@@ -9,9 +9,8 @@ use Rattle.csp_log.specs.declared.places.Place.{Place}
 use Rattle.csp_log.specs.declared.places.Place.TheVariants as place
 use Rattle.csp_log.specs.declared.places.QueueId.{QueueId}
 use Rattle.csp_log.specs.declared.places.QueueId.TheVariants as queue
-use Rattle.csp_log.specs.declared.who.Who.{Who}
 use Rattle.csp_scene.specs.Links.{links_at}
-use Rattle.csp_scene.specs.Scene.{PlainLink, PlainNode, PlainScene}
+use Rattle.csp_scene.specs.Scene.{PlainNode, PlainScene}
 use Rattle.csp_topology.proofs.Joints.{ArePlaced, iface_at, joints_of, joints_ordered}
 use Rattle.csp_topology.proofs.WirePlaces.{wires_here, wires_there}
 use Rattle.csp_topology.specs.Lanes.{PlainLane, leader_of, out_lane}
@@ -42,44 +41,26 @@ then_all xs ys zs ps e =
     ∙ append_assoc (map place_for xs) (map place_for ys) zs
     ∙ ap (λ (qs : List Place). qs ++ (map place_for ys ++ zs)) e
 
-module _ (scene : PlainScene) (are : ArePlaced scene) (node : ℕ) (n : PlainNode) where
-  abbrev js : List PlainJoint
-  js = joints_of scene node
+-- five lists, one after the other
+then_five : (a b c d e : List PlainLane) {pa pb pc pd pe : List Place} (zs : List Place) → map place_for a ≡ pa → map place_for b ≡ pb → map place_for c ≡ pc → map place_for d ≡ pd → map place_for e ≡ pe
+    → map place_for (a ++ (b ++ (c ++ (d ++ e)))) ++ zs ≡ pa ++ (pb ++ (pc ++ (pd ++ (pe ++ zs))))
+then_five a b c d e {pa = pa} {pb = pb} {pc = pc} {pd = pd} zs ha hb hc hd he =
+    then_all a (b ++ (c ++ (d ++ e))) zs pa ha
+    ∙ ap (λ (ps : List Place). pa ++ ps) (then_all b (c ++ (d ++ e)) zs pb hb
+    ∙ ap (λ (ps : List Place). pb ++ ps) (then_all c (d ++ e) zs pc hc
+    ∙ ap (λ (ps : List Place). pc ++ ps) (then_all d e zs pd hd
+    ∙ ap (λ (ps : List Place). pd ++ (ps ++ zs)) he)))
 
-  abbrev hub : Who
-  hub = leader_of node n.addr
+joined : (scene : PlainScene) → ArePlaced scene → (node : ℕ) (g : PlainJoint → PlainLane) (name : ℕ → QueueId) → ((j : PlainJoint) → (g j).queue ≡ name j.end.iface) → map place_for (map g (joints_of scene node)) ≡ lanes name (length (links_at node scene.links))
+joined scene are node g name is = named_joints g name is (joints_of scene node) ∙ ap (λ (ks : List ℕ). map (λ k. place.Lane (name k)) ks) (joints_ordered scene are node).0
 
-  abbrev ifaces : ℕ
-  ifaces = length (links_at node scene.links)
-
-  abbrev inbox : List Place
-  inbox = places_of queue.Inbox
-
-  abbrev ups : List PlainLane
-  ups = map (up_lane node hub) (range_with_len 0 (length n.apps))
-
-  abbrev downs : List PlainLane
-  downs = map (down_lane node hub) (range_with_len 0 (length n.apps))
-
-  abbrev outs : List PlainLane
-  outs = map (out_lane node hub) (range_with_len 0 ifaces)
-
-  abbrev txs : List PlainLane
-  txs = map tx_lane js
-
-  abbrev rxs : List PlainLane
-  rxs = map rx_lane js
-
-  joined : (g : PlainJoint → PlainLane) (name : ℕ → QueueId) → ((j : PlainJoint) → (g j).queue ≡ name j.end.iface) → map place_for (map g js) ≡ lanes name ifaces
-  joined g name is = named_joints g name is js ∙ ap (λ (ks : List ℕ). map (λ k. place.Lane (name k)) ks) (joints_ordered scene are node).0
-
-  in_order : map place_for (wires_here scene node n) ++ places_of queue.Inbox ≡ places_in (record { ifaces = length (links_at node scene.links); apps = length n.apps })
-  in_order =
-      then_all rxs (txs ++ (outs ++ (downs ++ ups))) inbox (lanes queue.Rx ifaces) (joined rx_lane queue.Rx (λ j. refl))
-      ∙ ap (λ (ps : List Place). lanes queue.Rx ifaces ++ ps) (then_all txs (outs ++ (downs ++ ups)) inbox (lanes queue.Tx ifaces) (joined tx_lane queue.Tx (λ j. refl))
-      ∙ ap (λ (ps : List Place). lanes queue.Tx ifaces ++ ps) (then_all outs (downs ++ ups) inbox (lanes queue.Out ifaces) (named_numbers (out_lane node hub) queue.Out (λ k. refl) (range_with_len 0 ifaces))
-      ∙ ap (λ (ps : List Place). lanes queue.Out ifaces ++ ps) (then_all downs ups inbox (lanes queue.Down (length n.apps)) (named_numbers (down_lane node hub) queue.Down (λ k. refl) (range_with_len 0 (length n.apps)))
-      ∙ ap (λ (ps : List Place). lanes queue.Down (length n.apps) ++ (ps ++ inbox)) (named_numbers (up_lane node hub) queue.Up (λ k. refl) (range_with_len 0 (length n.apps))))))
+in_order : (scene : PlainScene) → ArePlaced scene → (node : ℕ) (n : PlainNode) → map place_for (wires_here scene node n) ++ places_of queue.Inbox ≡ places_in (record { ifaces = length (links_at node scene.links); apps = length n.apps })
+in_order scene are node n =
+    let hub = leader_of node n.addr in
+    let ifaces = range_with_len 0 (length (links_at node scene.links)) in
+    let apps = range_with_len 0 (length n.apps) in
+    then_five _ _ _ _ _ (places_of queue.Inbox) (joined scene are node rx_lane queue.Rx (λ j. refl)) (joined scene are node tx_lane queue.Tx (λ j. refl)) (named_numbers (out_lane node hub) queue.Out (λ k. refl) ifaces)
+    (named_numbers (down_lane node hub) queue.Down (λ k. refl) apps) (named_numbers (up_lane node hub) queue.Up (λ k. refl) apps)
 
 pub wires_ordered : (scene : PlainScene) → ArePlaced scene → (node : ℕ) (n : PlainNode) (wires : List PlainLane) → slice_get scene.nodes node ≡ Some n → slice_get (wires_of scene) node ≡ Some wires
     → map place_for wires ++ places_of queue.Inbox ≡ places_in (record { ifaces = length (links_at node scene.links); apps = length n.apps })

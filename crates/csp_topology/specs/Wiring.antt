@@ -6,12 +6,20 @@ use Rattle.csp_log.specs.declared.who.Who.{Who}
 use Rattle.csp_log.specs.declared.who.Who.TheVariants as who
 use Rattle.csp_scene.specs.Links.{links_at}
 use Rattle.csp_scene.specs.Scene.{PlainScene, PlainNode, PlainLink}
-use Rattle.csp_topology.specs.Lanes.{PlainEnd, PlainLane}
+use Rattle.csp_topology.specs.Lanes.{PlainEnd, PlainLane, out_lane}
 use Rattle.csp_topology.specs.Parties.{parties_of}
-use Rattle.csp_topology.specs.Wires.{wire_at, wires_at}
+use Rattle.csp_topology.specs.Wires.{down_lane, up_lane, wire_at, wires_at}
+use Rattle.csp_topology.specs.declared.wire.Inner.{Inner}
+use Rattle.csp_topology.specs.declared.wire.Inner.TheVariants as inner
 use Rattle.csp_topology.specs.declared.wire.Spots.{Spots}
 use Rattle.csp_topology.specs.declared.wire.Wire.{Wire}
 use Rattle.csp_topology.specs.declared.wire.WireEnd.{WireEnd}
+
+-- the lane of this kind between the router or bridge of a node and its interface or application of this number
+abbrev pub inner_lane : Inner → (node : ℕ) → Who → (number : ℕ) → PlainLane
+inner_lane inner.Out node hub number = out_lane node hub number
+inner_lane inner.Down node hub number = down_lane node hub number
+inner_lane inner.Up node hub number = up_lane node hub number
 
 -- where a party of a node stands, or a link
 abbrev pub place_by : Spots → Who → ℕ

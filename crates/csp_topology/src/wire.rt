@@ -2,9 +2,8 @@
 
 ghost use Rattle.std.specs.Prelude.{◌≡◌, ◌≤◌};
 ghost use Rattle.csp_lists.specs.PlainDeck.{lane_room};
-ghost use Rattle.csp_topology.specs.Lanes.{out_lane};
-ghost use Rattle.csp_topology.specs.Wires.{down_lane, rx_lane, tx_lane, up_lane};
-ghost use Rattle.csp_topology.specs.Wiring.{place_by, wire_by};
+ghost use Rattle.csp_topology.specs.Wires.{rx_lane, tx_lane};
+ghost use Rattle.csp_topology.specs.Wiring.{inner_lane, place_by, wire_by};
 
 use crate::joint::Joint;
 use crate::topology::MAX_PARTIES;
@@ -33,6 +32,17 @@ pub struct Wire {
     pub from: WireEnd,
     /// Who gets from it.
     pub to: WireEnd,
+}
+
+/// A kind of lane inside a node, whose ends both call it by its name.
+#[derive(Clone, Copy)]
+pub(crate) enum Inner {
+    /// From the router or bridge to an interface.
+    Out,
+    /// From the router to an application.
+    Down,
+    /// From an application to the router.
+    Up,
 }
 
 /// Where parties stand among those of a scene: those of one node, and the links.
@@ -109,54 +119,42 @@ impl Spots {
         }
     }
 
-    /// The lane to the interface from the router or bridge of this node.
-    pub(crate) fn out(self, node: u8, hub: Who, number: u8) -> Wire
+    /// The lane of this kind between the router or bridge of this node and its interface or application of this number.
+    pub(crate) fn inner(self, kind: Inner, node: u8, hub: Who, number: u8) -> Wire
         requires first { self.first ≤ MAX_PARTIES }
         requires ifaces { self.ifaces ≤ MAX_PARTIES }
         requires links { self.links ≤ MAX_PARTIES }
-        ensures { result ≡ wire_by self (out_lane node hub number) }
+        ensures { result ≡ wire_by self (inner_lane kind node hub number) }
     {
-        let queue = QueueId::Out(number);
+        let (queue, carries, room, from, to) = match kind {
+            Inner::Out => (
+                QueueId::Out(number),
+                Carries::Out,
+                OUT_ROOM,
+                hub,
+                Who::Iface(node, number),
+            ),
+            Inner::Down => (
+                QueueId::Down(number),
+                Carries::Down,
+                DOWN_ROOM,
+                hub,
+                Who::App(node, number),
+            ),
+            Inner::Up => (
+                QueueId::Up(number),
+                Carries::Up,
+                UP_ROOM,
+                Who::App(node, number),
+                hub,
+            ),
+        };
         Wire {
             queue,
-            carries: Carries::Out,
-            room: OUT_ROOM,
-            from: self.end(hub, queue),
-            to: self.end(Who::Iface(node, number), queue),
-        }
-    }
-
-    /// The lane to the application from the router of this node.
-    pub(crate) fn down(self, node: u8, hub: Who, number: u8) -> Wire
-        requires first { self.first ≤ MAX_PARTIES }
-        requires ifaces { self.ifaces ≤ MAX_PARTIES }
-        requires links { self.links ≤ MAX_PARTIES }
-        ensures { result ≡ wire_by self (down_lane node hub number) }
-    {
-        let queue = QueueId::Down(number);
-        Wire {
-            queue,
-            carries: Carries::Down,
-            room: DOWN_ROOM,
-            from: self.end(hub, queue),
-            to: self.end(Who::App(node, number), queue),
-        }
-    }
-
-    /// The lane from the application to the router of this node.
-    pub(crate) fn up(self, node: u8, hub: Who, number: u8) -> Wire
-        requires first { self.first ≤ MAX_PARTIES }
-        requires ifaces { self.ifaces ≤ MAX_PARTIES }
-        requires links { self.links ≤ MAX_PARTIES }
-        ensures { result ≡ wire_by self (up_lane node hub number) }
-    {
-        let queue = QueueId::Up(number);
-        Wire {
-            queue,
-            carries: Carries::Up,
-            room: UP_ROOM,
-            from: self.end(Who::App(node, number), queue),
-            to: self.end(hub, queue),
+            carries,
+            room,
+            from: self.end(from, queue),
+            to: self.end(to, queue),
         }
     }
 }

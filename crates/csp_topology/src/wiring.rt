@@ -3,13 +3,13 @@
 ghost use Rattle.std.specs.Prelude.{◌≡◌, ◌≤◌, ◌+◌, ◌++◌, ◌*◌, length, map, IfOk, OnOk};
 ghost use Rattle.std.specs.List.{AllByRecursion, range_with_len};
 ghost use Rattle.csp_scene.specs.Ranges.{IsLink, IsNode};
-ghost use Rattle.csp_topology.specs.Lanes.{leader_of, out_lane};
-ghost use Rattle.csp_topology.specs.Wires.{down_lane, rx_lane, tx_lane, up_lane, wires_with};
-ghost use Rattle.csp_topology.specs.Wiring.{wire_by, wired_from};
+ghost use Rattle.csp_topology.specs.Lanes.{leader_of};
+ghost use Rattle.csp_topology.specs.Wires.{rx_lane, tx_lane, wires_with};
+ghost use Rattle.csp_topology.specs.Wiring.{inner_lane, wire_by, wired_from};
 
 use crate::joint::{Joint, joints_at, joints_of};
 use crate::topology::MAX_PARTIES;
-use crate::wire::{Spots, Wire};
+use crate::wire::{Inner, Spots, Wire};
 use csp_record::Who;
 use csp_scene::{MAX_LINKS, MAX_NODES, SceneLink, SceneNode};
 use std::alloc::{AllocError, Global};
@@ -66,9 +66,9 @@ fn wires_at(
     let mut wires = Vec::new(alloc);
     push_rx(&mut wires, joints, spots)?;
     push_tx(&mut wires, joints, spots)?;
-    push_out(&mut wires, place, hub, ifaces, spots)?;
-    push_down(&mut wires, place, hub, apps, spots)?;
-    push_up(&mut wires, place, hub, apps, spots)?;
+    push_inner(&mut wires, Inner::Out, place, hub, ifaces, spots)?;
+    push_inner(&mut wires, Inner::Down, place, hub, apps, spots)?;
+    push_inner(&mut wires, Inner::Up, place, hub, apps, spots)?;
     Ok(wires)
 }
 
@@ -108,59 +108,22 @@ fn push_tx(wires: &mut Vec<Wire>, joints: &[Joint], spots: Spots) -> Result<(), 
     Ok(())
 }
 
-/// Appends the lanes from the router or bridge of this node to so many interfaces.
-fn push_out(
+/// Appends the lanes of this kind between the router or bridge of this node and so many interfaces or applications.
+fn push_inner(
     wires: &mut Vec<Wire>,
+    kind: Inner,
     node: u8,
     hub: Who,
-    ifaces: u8,
+    count: u8,
     spots: Spots,
 ) -> Result<(), AllocError>
     requires first { spots.first ≤ MAX_PARTIES }
     requires ifaces { spots.ifaces ≤ MAX_PARTIES }
     requires links { spots.links ≤ MAX_PARTIES }
-    ensures { OnOk result (wires.new.items ≡ wires.old.items ++ map (λ k. wire_by spots (out_lane node hub k)) (range_with_len 0 ifaces)) }
+    ensures { OnOk result (wires.new.items ≡ wires.old.items ++ map (λ k. wire_by spots (inner_lane kind node hub k)) (range_with_len 0 count)) }
 {
-    for number in 0..ifaces {
-        wires.push(spots.out(node, hub, number))?;
-    }
-    Ok(())
-}
-
-/// Appends the lanes from the router of this node to so many applications.
-fn push_down(
-    wires: &mut Vec<Wire>,
-    node: u8,
-    hub: Who,
-    apps: u8,
-    spots: Spots,
-) -> Result<(), AllocError>
-    requires first { spots.first ≤ MAX_PARTIES }
-    requires ifaces { spots.ifaces ≤ MAX_PARTIES }
-    requires links { spots.links ≤ MAX_PARTIES }
-    ensures { OnOk result (wires.new.items ≡ wires.old.items ++ map (λ k. wire_by spots (down_lane node hub k)) (range_with_len 0 apps)) }
-{
-    for number in 0..apps {
-        wires.push(spots.down(node, hub, number))?;
-    }
-    Ok(())
-}
-
-/// Appends the lanes from so many applications to the router of this node.
-fn push_up(
-    wires: &mut Vec<Wire>,
-    node: u8,
-    hub: Who,
-    apps: u8,
-    spots: Spots,
-) -> Result<(), AllocError>
-    requires first { spots.first ≤ MAX_PARTIES }
-    requires ifaces { spots.ifaces ≤ MAX_PARTIES }
-    requires links { spots.links ≤ MAX_PARTIES }
-    ensures { OnOk result (wires.new.items ≡ wires.old.items ++ map (λ k. wire_by spots (up_lane node hub k)) (range_with_len 0 apps)) }
-{
-    for number in 0..apps {
-        wires.push(spots.up(node, hub, number))?;
+    for number in 0..count {
+        wires.push(spots.inner(kind, node, hub, number))?;
     }
     Ok(())
 }

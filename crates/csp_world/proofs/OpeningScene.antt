@@ -117,8 +117,3 @@ can_join stands nodes links l is = record {
 pub all_join : Stands → (nodes : List PlainNode) (links all : List PlainLink) → AllByRecursion (IsLink nodes links) all → AllByRecursion (CanJoin (map deck_of (plans_from 0 nodes links))) all
 all_join stands nodes links [] is = tt
 all_join stands nodes links (l ∷ all) is = (can_join stands nodes links l is.0, all_join stands nodes links all is.1)
-
--- there is a plan for each node
-pub plans_count : (place : ℕ) (nodes : List PlainNode) (links : List PlainLink) → length (plans_from place nodes links) ≡ length nodes
-plans_count place [] links = refl
-plans_count place (n ∷ nodes) links = ap suc (plans_count (place + 1) nodes links)

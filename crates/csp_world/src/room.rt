@@ -7,21 +7,12 @@ ghost use Rattle.csp_world.specs.Inside.{HasRoom};
 ghost use Rattle.csp_world.specs.Opening.{deck_of, queues_of};
 
 use csp_base::MAX_APPS;
-use csp_lists::opens;
+use csp_lists::{APP_QUEUES, IFACE_QUEUES, INBOX_QUEUES, opens};
 use csp_nodes::Emptied;
 use csp_record::{HeldBy, Left, PartyLog};
 use csp_scene::{MAX_LINKS, MAX_NODES};
 use csp_topology::NodePlan;
 use std::alloc::{AllocError, Global};
-
-/// The queues of an inbox.
-const INBOX_QUEUES: usize = 4;
-
-/// The lanes of an application.
-const APP_QUEUES: usize = 2;
-
-/// The lanes of an interface.
-const IFACE_QUEUES: usize = 3;
 
 /// Lists with room for a record, and for what is left of the nodes once their queues are emptied.
 pub struct Room {

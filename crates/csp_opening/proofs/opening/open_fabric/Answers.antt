@@ -10,18 +10,18 @@ use Rattle.csp_opening.specs.Opened.{AreWired}
 use Rattle.csp_opening.specs.Seated.{seat_name}
 use Rattle.csp_posts.specs.declared.retired.Retired.{Retired}
 use Rattle.csp_record.specs.declared.record.PartyLog.{PartyLog}
-use Rattle.csp_scene.specs.Scene.{PlainNode, PlainScene}
 use Rattle.csp_topology.specs.Opened.{AreParties}
 use Rattle.csp_topology.specs.Opening.{opening_of}
 use Rattle.csp_topology.specs.Parties.{PlainOpening}
+use Rattle.csp_topology.specs.Plan.{PlainNodePlan, plans_from}
 use Rattle.csp_topology.specs.Topology.{PlainTopology}
 use Rattle.csp_topology.specs.declared.wire.Wire.{Wire}
 use Rattle.csp_opening.proofs.opening.open_fabric.Given.{Over}
-use Rattle.csp_opening.proofs.opening.open_fabric.Goals.{After-deref-2, In_ok-lists, In_ok-topology}
+use Rattle.csp_opening.proofs.opening.open_fabric.Goals.{After-deref-2, In_ok-lists, In_ok-plans}
 use Rattle.csp_opening.proofs.opening.open_fabric.Goals as goal
 
 -- what is known of the scene before its nodes are opened
-planned : (g : Over) (c : In_ok-topology g) → IsPlanned c.args.scene.now c.in_ok-topology.topology.lanes.items c.in_ok-topology.topology.parties.items
+planned : (g : Over) (c : In_ok-plans g) → IsPlanned c.args.scene.now c.in_ok-plans.field-0.lanes.items c.in_ok-plans.field-0.parties.items
 planned g c =
     let scene = c.args.scene.now in
     let links = c.requires.links in
@@ -33,68 +33,69 @@ planned g c =
         served = c.serves_parties.ensures.queues scene c.requires.scene links;
       };
       count = c.orders_wires.ensures.count scene;
-      are = c.in_ok-topology.ensures.lanes links;
-      parties = ap (λ (t : PlainTopology). t.parties) c.in_ok-topology.ensures.whole;
+      are = c.in_ok-plans.ensures.lanes links;
+      parties = ap (λ (t : PlainTopology). t.parties) c.in_ok-plans.ensures.whole;
       apart = c.names_parties_apart.ensures scene;
-      ready = c.in_ok-topology.ensures.ready;
+      ready = c.in_ok-plans.ensures.ready;
     }
 
 -- the nodes that are opened are the scene's
-of_scene : (g : Over) (c : After-deref-2 g) → c.deref-2.result.now ≡ c.args.scene.now.nodes
-of_scene g c = c.deref-2.ensures.value ∙ ap (λ (s : PlainScene). s.nodes) c.scene.view_is
+of_scene : (g : Over) (c : After-deref-2 g) → c.deref-2.result.now ≡ plans_from 0 c.args.scene.now.nodes c.args.scene.now.links
+of_scene g c = c.deref-2.ensures.value ∙ ap (λ (t : PlainTopology). t.nodes) c.in_ok-plans.ensures.whole
 
 -- what was opened, and the lists for it
-ready : (g : Over) (c : In_ok-lists g) → IsPlanned c.args.scene.now c.in_ok-topology.topology.lanes.items c.in_ok-topology.topology.parties.items → c.deref-2.result.now ≡ c.args.scene.now.nodes
-    → IsReady c.args.scene.now c.in_ok-topology.topology.lanes.items c.in_ok-topology.topology.parties.items c.in_ok-lists.nodes.items c.in_ok-lists.seats.items c.in_ok-blanks.blanks c.in_ok-lists.lists
+ready : (g : Over) (c : In_ok-lists g) → IsPlanned c.args.scene.now c.in_ok-plans.field-0.lanes.items c.in_ok-plans.field-0.parties.items → c.deref-2.result.now ≡ plans_from 0 c.args.scene.now.nodes c.args.scene.now.links
+    → IsReady c.args.scene.now c.in_ok-plans.field-0.lanes.items c.in_ok-plans.field-0.parties.items c.in_ok-lists.nodes.items c.in_ok-lists.seats.items c.in_ok-blanks.blanks c.in_ok-lists.lists
 ready g c plan nodes =
     let scene = c.args.scene.now in
-    let wires = c.in_ok-topology.topology.lanes.items in
-    let openings = c.in_ok-topology.topology.parties.items in
+    let wires = c.in_ok-plans.field-0.lanes.items in
+    let openings = c.in_ok-plans.field-0.parties.items in
     let xs = c.in_ok-lists.nodes.items in
     let seats = c.in_ok-lists.seats.items in
     let told = c.in_ok-lists.ensures in
     let opened : AreOpened scene (rows_of wires) xs seats = opened_of scene wires openings c.deref-2.result.now c.deref-3.result.now xs seats plan nodes c.deref-3.ensures.value told.nodes told.names told.seated in
     let many : length seats ≡ length openings = sym (length-map seats seat_name) ∙ ap (λ (os : List PlainOpening). length os) told.names ∙ length-map openings opening_of in
-    let long : length xs ≡ length scene.nodes = as_many scene.nodes (rows_of wires) xs opened.nodes in
+    let plans = plans_from 0 scene.nodes scene.links in
+    let long : length xs ≡ length plans = as_many plans (rows_of wires) xs opened.nodes in
     record {
       plan = plan;
       opened = opened;
       blanks =
           let len = c.len.ensures in
-          let ok = c.in_ok-topology.topology.parties.ok.0 in
+          let ok = c.in_ok-plans.field-0.parties.ok.0 in
           let count = (wired_of scene wires openings plan).count in
           let same = ap (λ (ws : List (Vec Wire)). length ws) c.deref.ensures.value in
           blanks_as _ (length seats) (length c.deref.result.now) (length xs) c.deref.result.now wires c.in_ok-blanks.blanks c.in_ok-blanks.ensures (omega (arith, len, ok, many)) (omega (arith, count, same, long)) c.deref.ensures.value;
       lists =
-          let same = ap (λ (ns : List PlainNode). length ns) nodes in
+          let same = ap (λ (ns : List PlainNodePlan). length ns) nodes in
           lists_as (length openings) (length seats) (length c.deref-2.result.now) (length xs) c.in_ok-lists.lists told.lists (sym many) (omega (arith, same, long));
     }
 
 pub open-requires-clause-few : goal.open-requires-clause-few
 open-requires-clause-few g c =
-    let plan = planned g (goal.at.open-requires-clause-few g c).In_ok-topology in
+    let plan = planned g (goal.at.open-requires-clause-few g c).In_ok-plans in
     subst (AllByRecursion (λ (ws : Vec Wire). length ws.items < 256)) (sym c.deref.ensures.value) (wired_of _ _ _ plan).few
 
 pub open_all-requires : goal.open_all-requires
 open_all-requires g c =
     let at = goal.at.open_all-requires g c in
-    let plan = planned g at.In_ok-topology in
+    let plan = planned g at.In_ok-plans in
     let nodes = of_scene g at.After-deref-2 in
     record {
-      wired = subst (λ ns. AreWired ns c.deref-3.result.now) (sym nodes) (subst (AreWired c.args.scene.now.nodes) (sym c.deref-3.ensures.value) (wired_of _ _ _ plan));
-      parties = subst (λ (ns : List PlainNode). AreParties (length ns) c.in_ok-topology.topology.parties.items) (sym nodes) (parties_as _ _ _ plan);
+      wired = subst (λ ns. AreWired ns c.deref-3.result.now) (sym nodes) (subst (AreWired (plans_from 0 c.args.scene.now.nodes c.args.scene.now.links)) (sym c.deref-3.ensures.value) (wired_of _ _ _ plan));
+      parties = subst (λ (ns : List PlainNodePlan). AreParties (length ns) c.in_ok-plans.field-0.parties.items) (sym nodes) (parties_as _ _ _ plan);
     }
 
 pub assemble-requires : goal.assemble-requires
 assemble-requires g c =
     let at = goal.at.assemble-requires g c in
-    let is = ready g at.In_ok-lists (planned g at.In_ok-topology) (of_scene g at.After-deref-2) in
+    let is = ready g at.In_ok-lists (planned g at.In_ok-plans) (of_scene g at.After-deref-2) in
     record { blanks = is.blanks; lists = is.lists; can = can_of _ _ _ _ _ _ _ is }
 
 pub returns : goal.returns
 returns g c =
     let at = goal.at.returns g c in
-    let is = ready g at.In_ok-lists (planned g at.In_ok-topology) (of_scene g at.After-deref-2) in
+    let is = ready g at.In_ok-lists (planned g at.In_ok-plans) (of_scene g at.After-deref-2) in
     let made = c.assemble.ensures in
     let done = finished _ _ _ _ _ _ _ c.assemble.result.0 c.assemble.result.1.items is (record {
       queues = made.queues;

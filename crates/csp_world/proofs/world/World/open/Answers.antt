@@ -1,9 +1,9 @@
 use Rattle.std.proofs.Common.{◌≡◌, List, length, map, ap, subst, sym, ◌∙◌, arith}
 use Rattle.csp_scene.specs.Scene.{PlainScene}
+use Rattle.csp_topology.proofs.Public.{plans_count}
 use Rattle.csp_topology.specs.Plan.{PlainNodePlan, plans_from}
 use Rattle.csp_topology.specs.Topology.{PlainTopology}
 use Rattle.csp_world.proofs.OpeningParties.{scene_new}
-use Rattle.csp_world.proofs.OpeningScene.{plans_count}
 use Rattle.csp_world.proofs.ReachingLemmas.{reached_opening}
 use Rattle.csp_world.proofs.world.World.open.Goals as goal
 use Rattle.csp_topology.specs.Opening.{opening_of}
