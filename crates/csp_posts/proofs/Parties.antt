@@ -1,5 +1,5 @@
 -- What a turn makes of a party, whichever it is.
-use Rattle.std.proofs.Common.{◌≡◌, inl, inr, ℕ, zero, suc, ◌+◌, ◌*◌, ◌-◌, ◌<◌, ◌≤◌, true, false, List, [], ◌∷◌, ◌++◌, refl, sym, ap, ◌∙◌, arith}
+use Rattle.std.proofs.Common.{◌≡◌, inl, inr, ℕ, ◌+◌, ◌*◌, ◌-◌, ◌<◌, ◌≤◌, true, false, List, [], ◌∷◌, ◌++◌, refl, sym, ap, ◌∙◌, arith}
 use Rattle.std.proofs.lemmas.List.{append-nil}
 use Rattle.csp_deck.specs.Step.{entry_of, op_numbers, answer_numbers, times}
 use Rattle.csp_ends.specs.Causes.{CauseOf}
@@ -7,8 +7,7 @@ use Rattle.csp_ends.specs.Ends.{PlainNodeQueues}
 use Rattle.csp_ends.specs.Moves.{ends_after, room_for}
 use Rattle.csp_log.specs.Pictures.{Fits}
 use Rattle.csp_log.specs.declared.shown.AnswerShown.{AnswerShown}
-use Rattle.csp_party.specs.Any.{PlainParty, a_router, a_bridge, an_iface, an_app, a_link, a_hub, plain, with_plain, is_ready, has_ended, asks, asked, tells, events, holds}
-use Rattle.csp_party.specs.declared.any.AnyParty.{AnyParty}
+use Rattle.csp_party.specs.Any.{PlainParty, a_router, a_bridge, an_iface, an_app, a_link, a_hub, is_ready, has_ended, asks, asked, tells, events, holds}
 use Rattle.csp_party.specs.declared.any.AnyParty.TheVariants as party
 use Rattle.csp_posts.specs.Posts.{PlainPost, AreTurns}
 

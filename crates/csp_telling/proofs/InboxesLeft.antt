@@ -11,7 +11,6 @@ use Rattle.csp_consistent.specs.Prompt.{inbox_puts}
 use Rattle.csp_consistent.specs.Queues.{MayAsk, UsesItsQueues}
 use Rattle.csp_consistent.specs.Reading.{entries_of, gets, left_in, puts, with_mark, with_priority}
 use Rattle.csp_consistent.specs.Told.{IsInboxTold, IsPriorityTold}
-use Rattle.csp_topology.specs.Queues.{writer_of}
 use Rattle.csp_deck.specs.Carried.{IsCarried}
 use Rattle.csp_ends.specs.Ends.{PlainHome}
 use Rattle.csp_ends.specs.Traced.{IsHomeTraced, IsMailTraced}

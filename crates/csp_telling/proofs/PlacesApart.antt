@@ -1,15 +1,10 @@
 -- The queues of a node stand in their order, each once.
-use Rattle.std.proofs.Common.{◌≡◌, ℕ, zero, suc, ◌+◌, ◌*◌, ◌<◌, true, false, nat_lt, Some, List, [], ◌∷◌, ◌++◌, length, map, refl, sym, subst, ap, ◌∙◌, arith, slice_get}
-use Rattle.std.specs.List.{range_with_len}
+use Rattle.std.proofs.Common.{◌≡◌, ℕ, zero, suc, ◌+◌, ◌*◌, ◌<◌, false, Some, List, [], ◌∷◌, ◌++◌, map, refl, sym, ap, ◌∙◌, slice_get}
 use Rattle.std.specs.Option.{option_map}
-use Rattle.std.proofs.lemmas.Bool.Decides.{nat_tests}
-use Rattle.std.proofs.lemmas.List.FromFn.{length-range_with_len}
-use Rattle.std.proofs.lemmas.List.{length-map}
 use Rattle.std.proofs.lemmas.Option.{same_Some, slice_get-map}
-use Rattle.csp_base.specs.declared.priority.Prio.TheVariants.{Critical, High, Normal, Low}
 use Rattle.csp_consistent.specs.Reading.{is_queue}
 use Rattle.csp_deck.specs.Carried.{places_of}
-use Rattle.csp_lists.specs.Order.{lanes, nth_from, places_in, position_of}
+use Rattle.csp_lists.specs.Order.{lanes, places_in, position_of}
 use Rattle.csp_lists.specs.declared.shape.Shape.{Shape}
 use Rattle.csp_log.specs.declared.places.Place.TheVariants as place
 use Rattle.csp_log.specs.declared.places.Place.{Place}

@@ -1,16 +1,13 @@
 -- What an operation moves into a queue of a node, and out of it.
 use Rattle.std.proofs.Common.{◌≡◌, ℕ, zero, suc, ◌+◌, ◌*◌, ◌<◌, ◌==◌, ◌&&◌, Bool, true, false, nat_lt, cond, Option, None, Some, List, [], ◌∷◌, ◌++◌, length, map, replicate, set, refl, sym, subst, ap, ◌∙◌, arith}
 use Rattle.std.specs.Prelude.{slice_get, if◌then◌else◌, IsSome}
-use Rattle.std.specs.List.{AllByRecursion, flat_map, range_with_len}
+use Rattle.std.specs.List.{AllByRecursion, flat_map}
 use Rattle.std.specs.Option.{option_map, option_and_then}
-use Rattle.std.proofs.lemmas.Bool.Decides.{nat_tests}
-use Rattle.std.proofs.lemmas.List.{append-nil, length-map, length-replicate}
-use Rattle.std.proofs.lemmas.List.FromFn.{length-range_with_len}
+use Rattle.std.proofs.lemmas.List.{append-nil, length-replicate}
 use Rattle.std.proofs.lemmas.Option.{same_Some, slice_get-map}
-use Rattle.csp_base.specs.declared.priority.Prio.TheVariants.{Critical, High, Normal, Low}
 use Rattle.csp_consistent.specs.Reading.{is_queue}
-use Rattle.csp_deck.specs.Carried.{place_for, places_of}
-use Rattle.csp_lists.specs.Order.{lanes, nth_from, places_in, position_of}
+use Rattle.csp_deck.specs.Carried.{place_for}
+use Rattle.csp_lists.specs.Order.{places_in, position_of}
 use Rattle.csp_lists.specs.Gathered.{prio_named, queue_named}
 use Rattle.csp_lists.specs.PlainDeck.{PlainDeck, PlainQueue, answer_of, emptied, front_of, opening_queue, popped, pops_at, pushed, queue_at, refilled, shape_of, with_nth, with_queue}
 use Rattle.csp_lists.specs.declared.shape.Shape.{Shape}

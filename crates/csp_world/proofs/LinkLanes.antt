@@ -1,5 +1,5 @@
 -- Who uses the lanes at the ends of links.
-use Rattle.std.proofs.Common.{◌≡◌, ◌<◌, ℕ, suc, ◌+◌, ◌==◌, ◌&&◌, Bool, true, false, Option, None, Some, List, [], ◌∷◌, length, refl, sym, ap, ◌∙◌, arith}
+use Rattle.std.proofs.Common.{◌≡◌, ◌<◌, ℕ, ◌+◌, ◌==◌, ◌&&◌, Bool, true, false, Option, None, Some, List, [], ◌∷◌, length, refl, sym, ap, ◌∙◌}
 use Rattle.std.specs.Prelude.{slice_get}
 use Rattle.std.specs.List.{AllByRecursion}
 use Rattle.std.specs.Option.{option_and_then, option_map}
@@ -29,7 +29,6 @@ use Rattle.csp_world.proofs.EndsApart.{AreEndsApart, ends_apart, ends_in}
 use Rattle.csp_world.proofs.InboxNames.{IsParty}
 use Rattle.csp_world.proofs.LaneLemmas.{IsLaneOf, apps_lanes, as_many, carried_at, numbered, outs_lanes, own_popped, own_pushed}
 use Rattle.csp_world.proofs.LaneNames.{goes_is, own_named}
-use Rattle.csp_world.proofs.OpeningScene.{one_there}
 
 -- the end of a link at a place
 abbrev pub end_of : List (List End) → ℕ → ℕ → Option End

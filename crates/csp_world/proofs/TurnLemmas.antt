@@ -1,5 +1,5 @@
 -- Lemmas on one turn of a party.
-use Rattle.std.proofs.Common.{◌≡◌, ◌==◌, ℕ, zero, suc, ◌+◌, ◌*◌, ◌-◌, ◌<◌, ◌≤◌, Bool, true, false, cond, Option, None, Some, List, [], ◌∷◌, refl, sym, ◌∙◌, ap, subst, arith}
+use Rattle.std.proofs.Common.{◌≡◌, ◌==◌, ℕ, ◌+◌, ◌*◌, ◌-◌, ◌<◌, ◌≤◌, Bool, true, false, cond, Option, None, Some, List, [], ◌∷◌, refl, sym, ◌∙◌, ap, subst, arith}
 use Rattle.std.specs.Prelude.{slice_get, if◌then◌else◌, IsSomeAnd, ⊤}
 use Rattle.std.specs.Option.{option_map}
 use Rattle.std.proofs.lemmas.Bool.Decides.{nat_tests}
@@ -17,7 +17,7 @@ use Rattle.csp_log.specs.declared.shown.AnswerShown.{AnswerShown}
 use Rattle.csp_log.specs.declared.shown.OpShown.{OpShown}
 use Rattle.csp_nodes.specs.DecksAt.{DecksAt, IsEmpty, IsFull}
 use Rattle.csp_nodes.specs.Serving.{IsThere, is_served_at, or_none, place_in}
-use Rattle.csp_party.specs.Any.{PlainParty, a_router, a_bridge, an_iface, an_app, a_link, a_hub, plain, with_plain, asked, tells, events, holds}
+use Rattle.csp_party.specs.Any.{PlainParty, a_router, a_bridge, an_iface, an_app, a_link, a_hub, plain, asked, tells, holds}
 use Rattle.csp_party.specs.declared.any.AnyParty.{AnyParty}
 use Rattle.csp_party.specs.declared.any.AnyParty.TheVariants as party
 use Rattle.csp_log.specs.Who.{node_of}
