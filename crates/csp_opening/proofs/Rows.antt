@@ -16,7 +16,6 @@ use Rattle.csp_opening.proofs.Serving.{AllCalled, AllHome}
 use Rattle.csp_opening.proofs.Zipped.{placed_at, wire_rows}
 use Rattle.csp_opening.specs.Opened.{AreWired, IsRoomy}
 use Rattle.csp_log.specs.declared.who.Who.{Who}
-use Rattle.csp_scene.proofs.Public.{AllByRecursion-append}
 use Rattle.csp_scene.specs.Links.{links_at}
 use Rattle.csp_scene.specs.Ranges.{IsNode, IsScene}
 use Rattle.csp_scene.specs.Scene.{PlainLink, PlainNode, PlainScene}

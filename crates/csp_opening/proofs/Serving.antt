@@ -1,9 +1,9 @@
 -- What a party has in hand before its first turn is what it uses.
-use Rattle.std.proofs.Common.{◌≡◌, ◌+◌, ◌⊎◌, inl, inr, ℕ, zero, suc, Bool, true, false, true≢false, List, [], ◌∷◌, ◌++◌, Option, None, Some, map, refl, sym, ap, ◌∙◌, subst, arith}
+use Rattle.std.proofs.Common.{◌≡◌, ◌⊎◌, inl, inr, ℕ, Bool, true, false, true≢false, List, Option, None, Some, map, refl, sym, ap, ◌∙◌, subst, arith}
 use Rattle.std.specs.Prelude.{IfSome, IsSomeAnd, not, slice_get, if◌then◌else◌}
 use Rattle.std.specs.List.{AllByRecursion, find}
 use Rattle.std.specs.Option.{option_map}
-use Rattle.std.proofs.lemmas.Option.{same_Some, slice_get-map}
+use Rattle.std.proofs.lemmas.Option.{same_Some}
 use Rattle.csp_arena.specs.Cells.{RegionName}
 use Rattle.csp_consistent.proofs.Public.{queue_is, queue_same}
 use Rattle.csp_consistent.specs.Reading.{is_queue}
@@ -22,12 +22,11 @@ use Rattle.csp_opening.proofs.NewHomes.{IsHomeNew}
 use Rattle.csp_opening.proofs.Named.{both_true}
 use Rattle.csp_opening.proofs.NewSides.{IsSideNew, side_by}
 use Rattle.csp_opening.proofs.Spread.{SameSpot}
-use Rattle.csp_opening.proofs.Zipped.{placed_at}
-use Rattle.csp_log.specs.Who.{node_of, is_who}
+use Rattle.csp_log.specs.Who.{node_of}
 use Rattle.csp_log.specs.declared.who.Who.{Who}
 use Rattle.csp_scene.specs.Scene.{PlainScene}
 use Rattle.csp_standing.proofs.Public.{all_at, all_from, home_named, IsIn, both_same, from_end, in_nodes, named_side, to_end}
-use Rattle.csp_standing.specs.Network.{SideName, name_of, sides_among, sides_at, sides_from, sides_of}
+use Rattle.csp_standing.specs.Network.{SideName, name_of, sides_at, sides_of}
 use Rattle.csp_topology.specs.Lanes.{PlainEnd, PlainLane}
 use Rattle.csp_topology.specs.Wired as wired
 use Rattle.csp_topology.specs.Wires.{wire_at, wires_of}
