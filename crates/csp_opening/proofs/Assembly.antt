@@ -32,11 +32,9 @@ use Rattle.csp_opening.specs.declared.nodes.Node.{Node}
 use Rattle.csp_opening.specs.declared.seats.Seat.{Seat}
 use Rattle.csp_pool.specs.declared.hand.Hand.{Hand}
 use Rattle.csp_log.specs.declared.who.Who.{Who}
-use Rattle.csp_log.specs.declared.who.Who.TheVariants as who
 use Rattle.csp_scene.specs.Ranges.{IsScene}
 use Rattle.csp_scene.specs.Scene.{PlainScene}
 use Rattle.csp_standing.proofs.Public.{all_at, all_from}
-use Rattle.csp_topology.specs.Lanes.{PlainLane}
 use Rattle.csp_topology.proofs.Public.{plans_count}
 use Rattle.csp_topology.specs.Parties.{PlainOpening, parties_of}
 use Rattle.csp_topology.specs.Plan.{PlainNodePlan, plans_from}

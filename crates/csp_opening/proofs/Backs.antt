@@ -15,7 +15,6 @@ use Rattle.csp_log.specs.declared.places.QueueId.TheVariants as queue
 use Rattle.csp_opening.specs.Opened.{AreTold, told_tally}
 use Rattle.csp_opening.specs.declared.lanes.Pair.{Pair}
 use Rattle.csp_log.specs.declared.who.Who.{Who}
-use Rattle.csp_log.specs.declared.who.Who.TheVariants as who
 use Rattle.csp_scene.proofs.Public.{AllByRecursion-append}
 use Rattle.csp_scene.specs.Links.{links_at}
 use Rattle.csp_scene.specs.Scene.{PlainLink, PlainNode, PlainScene}

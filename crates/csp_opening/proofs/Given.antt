@@ -14,7 +14,6 @@ use Rattle.csp_opening.specs.Whole.{queue_count}
 use Rattle.csp_opening.specs.declared.homes.Lead.{Lead}
 use Rattle.csp_log.specs.declared.who.Who.{Who}
 use Rattle.csp_log.specs.declared.who.Who.TheVariants as who
-use Rattle.csp_topology.specs.declared.opening.Opening.TheVariants as opening
 use Rattle.csp_topology.specs.declared.wire.Wire.{Wire}
 
 two_ends : (p : ℕ) (w : Wire) → ends_of p w ≤ 2

@@ -26,7 +26,7 @@ use Rattle.csp_scene.proofs.Public.{AllByRecursion-append}
 use Rattle.csp_scene.specs.Scene.{PlainScene}
 use Rattle.csp_standing.proofs.Public.{all_at}
 use Rattle.csp_standing.specs.Network.{IsSideAmong}
-use Rattle.csp_topology.specs.Lanes.{PlainEnd, PlainLane}
+use Rattle.csp_topology.specs.Lanes.{PlainLane}
 use Rattle.csp_topology.specs.Parties.{parties_of}
 use Rattle.csp_topology.specs.Plan.{PlainNodePlan, plans_from}
 use Rattle.csp_topology.specs.Wired as wired

@@ -30,7 +30,7 @@ use Rattle.csp_opening.specs.Posted.{CanPost, ends_with, post_with}
 use Rattle.csp_opening.specs.Seated.{IsSeated, region_at, region_or, seat_name}
 use Rattle.csp_opening.specs.declared.nodes.Node.{Node}
 use Rattle.csp_opening.specs.declared.seats.Seat.{Seat}
-use Rattle.csp_party.specs.Any.{holds, plain, uses}
+use Rattle.csp_party.specs.Any.{uses}
 use Rattle.csp_posts.specs.Balance.{times_got, times_put}
 use Rattle.csp_posts.specs.Through.{IsThrough, WasCrammed}
 use Rattle.csp_log.specs.Who.{node_of}

@@ -1,5 +1,5 @@
 -- Parties as posts.
-use Rattle.std.specs.Prelude.{◌≡◌, ◌+◌, ⊤, ℕ, false, Option, None, Some, List, [], ◌∷◌, map, vec_capacity}
+use Rattle.std.specs.Prelude.{◌≡◌, ◌+◌, ⊤, ℕ, false, Option, Some, List, [], ◌∷◌, vec_capacity}
 use Rattle.std.specs.Global.{Vec}
 use Rattle.csp_ends.specs.Ends.{PlainEnds, PlainHome, PlainSide, rule_of, AreEnds}
 use Rattle.csp_ends.specs.Ends as hands
