@@ -33,7 +33,7 @@ pub use Rattle.csp_prefix.proofs.NodeLanes.{AreAppLanes, RouterThere, app_lanes_
 -- each connection that became open is on a slot of an application that its node has
 pub use Rattle.csp_prefix.proofs.OpeningPlaces.{opener}
 -- what holds of each packet among items: of those of each priority, or with each mark; and what is read off a record's logs
-pub use Rattle.csp_prefix.proofs.PacketLists.{each_any, each_both, each_flat, events_of, none_counted}
+pub use Rattle.csp_prefix.proofs.PacketLists.{each_any, each_both, events_of, none_counted}
 -- ports that are good, by their slots; one step after another; and what is on a slot
 pub use Rattle.csp_prefix.proofs.PortFacts.{used}
 -- every step of the ports keeps what is known of each connection
