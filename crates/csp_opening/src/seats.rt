@@ -90,13 +90,14 @@ pub(crate) fn open_seats(
 fn buffers_of(alloc: Global, nodes: &[Node]) -> Result<Vec<NodeBuffers>, AllocError>
     ensures regions { IfOk result (λ all. map (λ b. b.region.name) all.items ≡ map region_in nodes.now) }
     ensures counts { IfOk result (λ all. map (λ b. b.count) all.items ≡ map (λ x. x.base.pool.capacity) nodes.now) }
+    ensures room { IfOk result (λ all. vec_capacity all ≡ length nodes.now) }
 {
     let mut all = Vec::with_capacity(alloc, nodes.len())?;
     for node in nodes {
-        all.push(NodeBuffers {
+        all.push_reserved(NodeBuffers {
             region: node.base.store.token(),
             count: node.base.pool.capacity(),
-        })?;
+        });
     }
     Ok(all)
 }

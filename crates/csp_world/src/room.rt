@@ -1,6 +1,6 @@
 //! The room that the end of a run needs, taken before its first turn.
 
-ghost use Rattle.std.specs.Prelude.{◌≡◌, ◌+◌, ◌*◌, ◌≤◌, IfOk, length, map, sum_by};
+ghost use Rattle.std.specs.Prelude.{◌≡◌, ◌+◌, ◌*◌, ◌≤◌, IfOk, length, map, sum_by, vec_capacity};
 ghost use Rattle.std.specs.List.{AllByRecursion};
 ghost use Rattle.csp_topology.specs.Plan.{IsPlan};
 ghost use Rattle.csp_world.specs.Inside.{HasRoom};
@@ -25,11 +25,15 @@ pub struct Room {
 }
 
 impl Room {
-    /// The room for what is left of the nodes with these plans, where there is no party yet.
+    /// The room for what is left of the nodes with these plans, where there is no party yet, and no more.
     pub(crate) fn open(alloc: Global, nodes: &[NodePlan]) -> Result<Room, AllocError>
         requires plans { AllByRecursion IsPlan nodes.now }
         requires few { length nodes.now ≤ MAX_NODES }
-        ensures { IfOk result (HasRoom (map deck_of nodes.now) 0) }
+        ensures has { IfOk result (HasRoom (map deck_of nodes.now) 0) }
+        ensures logs_room { IfOk result (λ r. vec_capacity r.logs ≡ 0) }
+        ensures left_room { IfOk result (λ r. vec_capacity r.left ≡ r.queues) }
+        ensures held_room { IfOk result (λ r. vec_capacity r.held ≡ r.queues + length nodes.now) }
+        ensures emptied_room { IfOk result (λ r. vec_capacity r.emptied ≡ length nodes.now) }
     {
         opens();
         let queues = queues_in(nodes);

@@ -111,14 +111,15 @@ impl World {
     fn buffers(&self, alloc: Global, nodes: &[NodePlan]) -> Result<Vec<NodeBuffers>, AllocError>
         requires decks { self.now.plain.decks ≡ map deck_of nodes.now }
         requires few { length nodes.now ≤ MAX_NODES }
-        ensures { IfOk result (λ all. AreBuffersOf self.now.plain.decks self.now.regions all.items) }
+        ensures buffers { IfOk result (λ all. AreBuffersOf self.now.plain.decks self.now.regions all.items) }
+        ensures room { IfOk result (λ all. vec_capacity all ≡ length nodes.now) }
     {
         let mut all = Vec::with_capacity(alloc, nodes.len())?;
         for (place, node) in nodes.iter().enumerate() {
-            all.push(NodeBuffers {
+            all.push_reserved(NodeBuffers {
                 region: self.decks.token(place as u8),
                 count: usize::from(node.buffers),
-            })?;
+            });
         }
         Ok(all)
     }

@@ -4,8 +4,8 @@ use Rattle.csp_world.proofs.OpeningNodes.{queues_all}
 use Rattle.csp_world.proofs.room.Room.open.Goals as goal
 use Rattle.csp_world.specs.Opening.{deck_of}
 
-pub returns : goal.returns
-returns c =
+pub returns-clause-has : goal.returns-clause-has
+returns-clause-has c =
     let nodes = c.args.nodes.now in
     let queues = c.queues_in-queues.ensures.count in
     let all = queues_all c.opens.ensures.queues nodes in

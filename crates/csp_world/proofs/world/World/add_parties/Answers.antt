@@ -10,11 +10,11 @@ use Rattle.csp_world.proofs.world.World.add_parties.Goals as goal
 pub open_parties-requires : goal.open_parties-requires
 open_parties-requires c =
     are_parties c.args.self.now.plain.decks c.args.self.now.plain.links c.args.openings.items _ c.requires.ready c.requires.new
-    (ap (λ (bs : List NodeBuffers). length bs) c.deref.ensures.value ∙ c.in_ok-buffers.ensures.many)
+    (ap (λ (bs : List NodeBuffers). length bs) c.deref.ensures.value ∙ c.in_ok-buffers.ensures.buffers.many)
 
 pub settle-requires-clause-can : goal.settle-requires-clause-can
 settle-requires-clause-can c =
-    all_settle c.args.self.now.plain.decks c.args.self.now.plain.links c.args.self.now.regions c.in_ok-buffers.buffers.items c.in_ok-parties.parties.items (map opening_of c.args.openings.items) c.in_ok-buffers.ensures c.in_ok-parties.ensures.parties c.requires.new
+    all_settle c.args.self.now.plain.decks c.args.self.now.plain.links c.args.self.now.regions c.in_ok-buffers.buffers.items c.in_ok-parties.parties.items (map opening_of c.args.openings.items) c.in_ok-buffers.ensures.buffers c.in_ok-parties.ensures.parties c.requires.new
     (rw c.deref.ensures.value at c.in_ok-parties.ensures.opened)
 
 pub settle-requires-clause-empty : goal.settle-requires-clause-empty

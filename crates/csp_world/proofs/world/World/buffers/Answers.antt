@@ -1,4 +1,4 @@
-use Rattle.std.proofs.Common.{◌≡◌, ℕ, ◌<◌, ◌++◌, [], ◌∷◌, Some, List, length, ap, refl, sym, ◌∙◌, subst, arith, slice_get, length-append}
+use Rattle.std.proofs.Common.{◌≡◌, ℕ, ◌<◌, ◌+◌, ◌++◌, [], ◌∷◌, Some, List, length, ap, refl, sym, ◌∙◌, subst, arith, slice_get, length-append}
 use Rattle.std.proofs.lemmas.Option.{slice_get_read}
 use Rattle.csp_topology.specs.Plan.{PlainNodePlan}
 use Rattle.csp_topology.specs.declared.opened.NodeBuffers.{NodeBuffers}
@@ -20,7 +20,7 @@ loop-place-preserved c =
     let low : place < length nodes = c.loop-place-test.true in
     let node : slice_get nodes place ≡ Some c.index-nodes-place.result = slice_get_read nodes (length nodes) place c.index-nodes-place.result refl low c.index-nodes-place.is in
     let b : NodeBuffers = record { region = c.token.result; count = c.from.result } in
-    let items : c.push.new.self.items ≡ old ++ b ∷ [] = c.in_ok-push.ensures.items in
+    let items : c.push_reserved.new.self.items ≡ old ++ b ∷ [] = c.push_reserved.ensures.items in
     let long = ap (λ (bs : List NodeBuffers). length bs) items in
     let two = length-append old (b ∷ []) in
     let here : AreBuffersAt decks regions place b = record {
@@ -31,4 +31,6 @@ loop-place-preserved c =
       many = omega (arith, long, two, many);
       each = subst (λ (bs : List NodeBuffers). (k : ℕ) (x : NodeBuffers) → slice_get bs k ≡ Some x → AreBuffersAt decks regions k x) (sym items)
           (each-push (AreBuffersAt decks regions) old b before.each (subst (λ k. AreBuffersAt decks regions k b) (sym many) here));
+      len = c.push_reserved.ensures.len ∙ ap (λ k. k + 1) before.len;
+      room = c.push_reserved.ensures.capacity ∙ before.room;
     }
