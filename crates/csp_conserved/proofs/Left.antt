@@ -1,5 +1,6 @@
 -- What a record says that the queues and the pool of a node held.
 use Rattle.std.proofs.Common.{◌≡◌, ℕ, zero, suc, ◌+◌, ◌<◌, ◌≤◌, ◌==◌, ◌&&◌, Bool, true, false, Some, List, [], ◌∷◌, ◌++◌, map, length, slice_get, refl, sym, ◌∙◌, subst, arith}
+use Rattle.std.proofs.lemmas.List.{length-map}
 use Rattle.std.proofs.lemmas.Option.{same_Some}
 use Rattle.std.specs.Prelude.{if◌then◌else◌, slice_index_or}
 use Rattle.std.specs.List.{AllByRecursion, flat_map, range_with_len}
@@ -15,6 +16,7 @@ use Rattle.csp_deck.specs.Carried.{places_of}
 use Rattle.csp_deck.specs.Step.{times}
 use Rattle.csp_lists.specs.Order.{lanes, places_in}
 use Rattle.csp_lists.specs.PlainDeck.{numbers_of}
+use Rattle.csp_log.specs.Kinds.{carried_on}
 use Rattle.csp_log.specs.Remains.{PlainLeft}
 use Rattle.csp_log.specs.declared.places.Place.{Place}
 use Rattle.csp_log.specs.declared.places.Place.TheVariants as place
@@ -23,6 +25,7 @@ use Rattle.csp_log.specs.declared.places.QueueId.TheVariants as queue
 use Rattle.csp_record.specs.Record.{PlainRecord}
 use Rattle.csp_scene.specs.Links.{links_at}
 use Rattle.csp_scene.specs.Scene.{PlainLink, PlainNode, PlainScene}
+use Rattle.csp_topology.specs.Plan.{plan_of, plans_from}
 use Rattle.csp_topology.specs.Queues.{at_node, queues_from}
 
 -- ---- pools
@@ -100,28 +103,34 @@ module _ (node ifaces apps : ℕ) where
   other_places home [] other = tt
   other_places home (p ∷ ps) other = ((λ e. absurd (other e)), other_places home ps other)
 
-named_later : (node ifaces apps first : ℕ) (nodes : List PlainNode) (links : List PlainLink) → node < first → AllByRecursion (IsNamedIn node ifaces apps) (map queue_name (queues_from first nodes links))
+-- the queues of a node of the scene
+abbrev own_at : ℕ → PlainNode → List PlainLink → List Place
+own_at place n links = let plan = plan_of n (links_at place links) in places_in (record { ifaces = length plan.lanes; apps = plan.apps })
+
+named_later : (node ifaces apps first : ℕ) (nodes : List PlainNode) (links : List PlainLink) → node < first → AllByRecursion (IsNamedIn node ifaces apps) (map queue_name (queues_from first (plans_from first nodes links)))
 named_later node ifaces apps first [] links low = tt
 named_later node ifaces apps first (x ∷ nodes) links low =
-    map_more (IsNamedIn node ifaces apps) queue_name (at_node first (places_in (record { ifaces = length (links_at first links); apps = length x.apps }))) (queues_from (first + 1) nodes links)
-    (other_places node ifaces apps first (places_in (record { ifaces = length (links_at first links); apps = length x.apps })) (λ e. omega (arith, low, e)))
+    map_more (IsNamedIn node ifaces apps) queue_name (at_node first (own_at first x links)) (queues_from (first + 1) (plans_from (first + 1) nodes links))
+    (other_places node ifaces apps first (own_at first x links) (λ e. omega (arith, low, e)))
     (named_later node ifaces apps (first + 1) nodes links (omega (arith, low)))
 
 named_from : (node first j : ℕ) (n : PlainNode) (nodes : List PlainNode) (links : List PlainLink) → first + j ≡ node → slice_get nodes j ≡ Some n
-    → AllByRecursion (IsNamedIn node (length (links_at node links)) (length n.apps)) (map queue_name (queues_from first nodes links))
+    → AllByRecursion (IsNamedIn node (length (links_at node links)) (length n.apps)) (map queue_name (queues_from first (plans_from first nodes links)))
 named_from node first j n [] links e there = absurd cc
 named_from node first zero n (x ∷ nodes) links e there =
     let same : x ≡ n = same_Some x n there in
     let at : first ≡ node = omega (arith, e) in
-    let mine : AllByRecursion (IsNamedIn node (length (links_at node links)) (length n.apps)) (map queue_name (at_node first (places_in (record { ifaces = length (links_at first links); apps = length x.apps })))) =
-    subst (λ (y : PlainNode). AllByRecursion (IsNamedIn node (length (links_at node links)) (length n.apps)) (map queue_name (at_node first (places_in (record { ifaces = length (links_at first links); apps = length y.apps }))))) (sym same)
-    (subst (λ m. AllByRecursion (IsNamedIn node (length (links_at node links)) (length n.apps)) (map queue_name (at_node first (places_in (record { ifaces = length (links_at m links); apps = length n.apps }))))) (sym at)
-    (own_places node (length (links_at node links)) (length n.apps) first)) in
-    map_more (IsNamedIn node (length (links_at node links)) (length n.apps)) queue_name (at_node first (places_in (record { ifaces = length (links_at first links); apps = length x.apps }))) (queues_from (first + 1) nodes links)
+    let named : List (ℕ × QueueId × ℕ) → Type 0 = AllByRecursion (IsNamedIn node (length (links_at node links)) (length n.apps)) in
+    let count = length-map (links_at node links) (λ (l : PlainLink). carried_on l.kind) in
+    let mine : named (map queue_name (at_node first (own_at first x links))) =
+    subst (λ (y : PlainNode). named (map queue_name (at_node first (own_at first y links)))) (sym same)
+    (subst (λ m. named (map queue_name (at_node first (own_at m n links)))) (sym at)
+    (subst (λ ifaces. named (map queue_name (at_node first (places_in (record { ifaces = ifaces; apps = length n.apps }))))) (sym count) (own_places node (length (links_at node links)) (length n.apps) first))) in
+    map_more (IsNamedIn node (length (links_at node links)) (length n.apps)) queue_name (at_node first (own_at first x links)) (queues_from (first + 1) (plans_from (first + 1) nodes links))
     mine (named_later node (length (links_at node links)) (length n.apps) (first + 1) nodes links (omega (arith, e)))
 named_from node first (suc j) n (x ∷ nodes) links e there =
-    map_more (IsNamedIn node (length (links_at node links)) (length n.apps)) queue_name (at_node first (places_in (record { ifaces = length (links_at first links); apps = length x.apps }))) (queues_from (first + 1) nodes links)
-    (other_places node (length (links_at node links)) (length n.apps) first (places_in (record { ifaces = length (links_at first links); apps = length x.apps })) (λ g. omega (arith, e, g)))
+    map_more (IsNamedIn node (length (links_at node links)) (length n.apps)) queue_name (at_node first (own_at first x links)) (queues_from (first + 1) (plans_from (first + 1) nodes links))
+    (other_places node (length (links_at node links)) (length n.apps) first (own_at first x links) (λ g. omega (arith, e, g)))
     (named_from node (first + 1) j n nodes links (omega (arith, e)) there)
 
 -- what all queues of a node have, each with its priority

@@ -12,7 +12,7 @@ use Rattle.csp_conserved.proofs.Queues.{among, among_if, among_more, got_in, put
 use Rattle.csp_conserved.proofs.Sums.{over, over_both, over_hit, over_miss, over_none, over_same}
 use Rattle.csp_consistent.proofs.Public.{each_there, Logged, IsIfaceAt, IsOf, logged}
 use Rattle.csp_consistent.specs.Inboxes.{IsInboxInOrder, came_through}
-use Rattle.csp_topology.specs.Queues.{writer_of}
+use Rattle.csp_topology.specs.Writers.{writer_of}
 use Rattle.csp_consistent.specs.Reading.{entries_of, gets, left_in, of_mark, of_priority, puts, with_mark, with_priority}
 use Rattle.csp_consistent.specs.Runs.{AreLogsOf}
 use Rattle.csp_deck.proofs.Public.{times-append}

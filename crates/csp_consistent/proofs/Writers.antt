@@ -13,7 +13,7 @@ use Rattle.csp_base.specs.declared.priority.Prio.{Prio}
 use Rattle.csp_buffer.specs.Content.{Content}
 use Rattle.csp_consistent.proofs.Names.{entries_in}
 use Rattle.csp_consistent.proofs.Owners.{IsOf, IsOwner}
-use Rattle.csp_topology.specs.Queues.{writer_of}
+use Rattle.csp_topology.specs.Writers.{writer_of}
 use Rattle.csp_consistent.specs.Pools.{is_node}
 use Rattle.csp_consistent.specs.Queues.{MayAsk, MayPush, UseTheirQueues}
 use Rattle.csp_consistent.specs.Reading.{of_mark, of_priority, put_by, puts, with_mark, with_priority}

@@ -4,7 +4,7 @@ use Rattle.std.specs.Prelude.{◌≡◌, ◌<◌, ◌≤◌, ◌+◌, ⊤, ℕ, 
 use Rattle.std.specs.List.{AllByRecursion, flat_map}
 use Rattle.csp_base.specs.Priority.{prio_number}
 use Rattle.csp_base.specs.declared.priority.Prio.{Prio}
-use Rattle.csp_topology.specs.Queues.{writer_of}
+use Rattle.csp_topology.specs.Writers.{writer_of}
 use Rattle.csp_consistent.specs.Pools.{given_at, is_node, taken_at}
 use Rattle.csp_consistent.specs.Reading.{entries_of, gets, is_queue, puts, with_mark, with_priority}
 use Rattle.csp_consistent.specs.Rounds.{early}

@@ -1,5 +1,7 @@
 -- Parties that have nothing of the queues in hand yet.
-use Rattle.std.specs.Prelude.{◌≡◌, ℕ, Option, None, Some, List, [], map, slice_get, vec_capacity}
+use Rattle.std.specs.Global.{Vec}
+use Rattle.std.specs.List.{AllByRecursion}
+use Rattle.std.specs.Prelude.{◌≡◌, ℕ, Option, None, Some, List, [], length, map, slice_get, vec_capacity}
 use Rattle.csp_arena.specs.Cells.{RegionName}
 use Rattle.csp_deck.specs.Regions.{nowhere}
 use Rattle.csp_opening.specs.Opened.{region_in}
@@ -8,9 +10,11 @@ use Rattle.csp_opening.specs.declared.seats.Seat.{Seat}
 use Rattle.csp_party.specs.Any.{plain, region_of}
 use Rattle.csp_log.specs.Who.{node_of}
 use Rattle.csp_topology.specs.Opened.{IsNewParty}
+use Rattle.csp_topology.specs.Opening.{opening_of}
 use Rattle.csp_topology.specs.Parties.{PlainOpening}
 use Rattle.csp_topology.specs.declared.opened.NewParty.{NewParty}
 use Rattle.csp_topology.specs.declared.opened.NodeBuffers.{NodeBuffers}
+use Rattle.csp_topology.specs.declared.opening.Opening.{Opening}
 
 -- who a party is, and its state
 abbrev pub seat_name : Seat → PlainOpening
@@ -51,3 +55,9 @@ pub record IsSeated (nodes : List Node) (s : Seat) : Type 0 where
   pub region : region_of s.party ≡ region_at nodes (node_of s.who)
   pub unnoted : s.numbers.items ≡ []
   pub numbers : vec_capacity s.numbers ≡ count_at nodes (node_of s.who)
+
+-- the parties of these openings, each of its node, in a list with just the room for them
+pub record AreSeated (nodes : List Node) (openings : List Opening) (seats : Vec Seat) : Type 0 where
+  pub names : map seat_name seats.items ≡ map opening_of openings
+  pub seated : AllByRecursion (IsSeated nodes) seats.items
+  pub room : vec_capacity seats ≡ length openings

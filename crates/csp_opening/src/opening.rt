@@ -53,6 +53,7 @@ pub fn open_fabric<R: Wait>(
     let Topology {
         nodes: plans,
         lanes,
+        writers: _,
         links: _,
         parties,
     } = Topology::of(alloc, scene)?;

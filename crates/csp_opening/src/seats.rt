@@ -3,10 +3,9 @@
 ghost use Rattle.std.specs.Prelude.{◌≡◌, [], length, map, IfOk, vec_capacity};
 ghost use Rattle.std.specs.List.{AllByRecursion};
 ghost use Rattle.csp_opening.specs.Opened.{region_in};
-ghost use Rattle.csp_opening.specs.Seated.{IsSeated, seat_name, unseated};
+ghost use Rattle.csp_opening.specs.Seated.{AreSeated, unseated};
 ghost use Rattle.csp_party.specs.Any.{holds, plain};
 ghost use Rattle.csp_topology.specs.Opened.{AreParties};
-ghost use Rattle.csp_topology.specs.Opening.{opening_of};
 
 use crate::nodes::Node;
 use csp_deck::Desk;
@@ -76,9 +75,7 @@ pub(crate) fn open_seats(
     nodes: &[Node],
 ) -> Result<Vec<Seat>, AllocError>
     requires { AreParties (length nodes.now) openings.items }
-    ensures names { IfOk result (λ r. map seat_name r.items ≡ map opening_of openings.items) }
-    ensures seated { IfOk result (λ r. AllByRecursion (IsSeated nodes.now) r.items) }
-    ensures room { IfOk result (λ r. vec_capacity r ≡ length openings.items) }
+    ensures { IfOk result (AreSeated nodes.now openings.items) }
 {
     let buffers = buffers_of(alloc, nodes)?;
     let parties = open_parties(alloc, openings, &buffers)?;

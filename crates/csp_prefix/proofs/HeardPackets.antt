@@ -28,7 +28,7 @@ use Rattle.csp_scene.specs.Ranges.{IsScene}
 use Rattle.csp_scene.specs.Scene.{PlainNode, PlainScene}
 use Rattle.csp_consistent.specs.Consistent.{IsConsistent}
 use Rattle.csp_consistent.specs.Inboxes.{came_through}
-use Rattle.csp_topology.specs.Queues.{writer_of}
+use Rattle.csp_topology.specs.Writers.{writer_of}
 use Rattle.csp_consistent.specs.Lanes.{IsInOrder}
 use Rattle.csp_topology.specs.Parties.{heeded, iface_opening}
 use Rattle.csp_topology.specs.Lanes.{leader_of, out_lane}

@@ -7,7 +7,7 @@ use Rattle.csp_base.specs.Priority.{prio_number}
 use Rattle.csp_base.specs.declared.priority.Prio.{Prio}
 use Rattle.csp_buffer.specs.Content.{Content}
 use Rattle.csp_consistent.proofs.Public.{each_filter, HasNone, none_there, uses}
-use Rattle.csp_topology.specs.Queues.{writer_of}
+use Rattle.csp_topology.specs.Writers.{writer_of}
 use Rattle.csp_consistent.specs.Pools.{given, given_at, is_node, taken, taken_at}
 use Rattle.csp_consistent.specs.Prompt.{AllAfter, CrammedAt, IsInboxPrompt, IsPoolPrompt, IsPrompt, IsPromptAt, LackedAt, PassedNone, PassesNone, early_log, gives_at, inbox_puts, takes_at}
 use Rattle.csp_consistent.specs.Queues.{MayAsk, MayPush, UsesItsQueues}

@@ -1,9 +1,10 @@
 -- The notes of a run speak of each queue of the scene once, in their order.
 use Rattle.std.proofs.Common.{◌≡◌, ◌+◌, ℕ, suc, Some, List, [], ◌∷◌, ◌++◌, length, map, refl, sym, ap, ◌∙◌, subst, arith, slice_get}
-use Rattle.std.proofs.lemmas.List.{map-append}
+use Rattle.std.proofs.lemmas.List.{length-map, map-append}
 use Rattle.csp_consistent.specs.Whole.{AreQueuesLeft, left_name, queue_name}
 use Rattle.csp_deck.specs.Carried.{places_of}
 use Rattle.csp_lists.specs.Order.{places_in}
+use Rattle.csp_log.specs.Kinds.{carried_on}
 use Rattle.csp_log.specs.declared.places.Place.TheVariants as place
 use Rattle.csp_log.specs.declared.places.Place.{Place}
 use Rattle.csp_log.specs.declared.places.QueueId.TheVariants as queue
@@ -18,6 +19,7 @@ use Rattle.csp_telling.proofs.Nodes.{IsEnded}
 use Rattle.csp_telling.specs.Closed.{all_notes, inbox_notes, lane_notes, node_notes}
 use Rattle.csp_telling.specs.Remains.{PlainRemains}
 use Rattle.csp_topology.specs.Lanes.{PlainLane}
+use Rattle.csp_topology.specs.Plan.{plan_of, plans_from}
 use Rattle.csp_topology.specs.Queues.{at_node, queues_from}
 use Rattle.csp_topology.specs.Wires.{wires_of}
 
@@ -67,16 +69,19 @@ pub rest_same : (a b : ℕ) (xs ys : List ℕ) → a ∷ xs ≡ b ∷ ys → xs 
 rest_same a b xs ys e = cc
 
 all_named : (base : ℕ) (links : List PlainLink) (nodes : List PlainNode) (wires : List (List PlainLane)) (all : List PlainRemains) → length wires ≡ length nodes → many all ≡ counts wires → AreOrdered base links nodes wires
-    → map left_name (all_notes base wires all) ≡ map queue_name (queues_from base nodes links)
+    → map left_name (all_notes base wires all) ≡ map queue_name (queues_from base (plans_from base nodes links))
 all_named base links [] [] all e f are = refl
 all_named base links [] (ls ∷ wires) all e f are = absurd cc
 all_named base links (c ∷ nodes) [] all e f are = absurd cc
 all_named base links (c ∷ nodes) (ls ∷ wires) [] e f are = absurd cc
 all_named base links (c ∷ nodes) (ls ∷ wires) (m ∷ all) e f are =
     map-append left_name (node_notes base ls m) (all_notes (base + 1) wires all)
-    ∙ (λ i. (node_named base ls m (first_same _ _ (many all) (counts wires) f) ∙ ap (λ ps. map queue_name (at_node base ps)) (order_here base links c nodes ls wires are)) i
+    ∙ (λ i. (node_named base ls m (first_same _ _ (many all) (counts wires) f) ∙ ap (λ ps. map queue_name (at_node base ps)) (order_here base links c nodes ls wires are ∙ planned)) i
     ++ all_named (base + 1) links nodes wires all (omega (arith, e)) (rest_same (length m.lanes) (length ls) _ _ f) (order_after base links c nodes ls wires are) i)
-    ∙ sym (map-append queue_name (at_node base (places_in (record { ifaces = length (links_at base links); apps = length c.apps }))) (queues_from (base + 1) nodes links))
+    ∙ sym (map-append queue_name (at_node base (places_in (record { ifaces = length (plan_of c (links_at base links)).lanes; apps = length c.apps }))) (queues_from (base + 1) (plans_from (base + 1) nodes links)))
+  where
+    planned : places_in (record { ifaces = length (links_at base links); apps = length c.apps }) ≡ places_in (record { ifaces = length (plan_of c (links_at base links)).lanes; apps = length c.apps })
+    planned = ap (λ (ifaces : ℕ). places_in (record { ifaces = ifaces; apps = length c.apps })) (sym (length-map (links_at base links) (λ (l : PlainLink). carried_on l.kind)))
 
 pub queues_noted : (scene : PlainScene) (n : PlainNetwork) (posts : List PlainPost) (r : PlainRecord) → IsEnded scene n posts r → AreQueuesLeft scene r
 queues_noted scene n posts r ended =

@@ -1,10 +1,11 @@
 -- Where each lane of a node stands among them, and who uses it.
-use Rattle.std.proofs.Common.{◌≡◌, ℕ, zero, suc, ◌+◌, ◌<◌, Option, Some, None, List, [], ◌∷◌, ◌++◌, length, map, slice_get, ap, refl, sym, ◌∙◌, arith}
+use Rattle.std.proofs.Common.{◌≡◌, ℕ, zero, suc, ◌+◌, ◌<◌, Option, Some, None, List, [], ◌∷◌, ◌++◌, length, map, slice_get, ap, refl, sym, subst, ◌∙◌, arith}
 use Rattle.std.specs.List.{range_with_len}
 use Rattle.std.specs.Option.{option_and_then}
 use Rattle.std.proofs.lemmas.List.{length-map}
 use Rattle.std.proofs.lemmas.List.FromFn.{length-map-range_with_len}
 use Rattle.std.proofs.lemmas.Option.{same_Some}
+use Rattle.csp_lists.specs.PlainDeck.{lane_room}
 use Rattle.csp_log.specs.declared.who.Who.{Who}
 use Rattle.csp_scene.specs.Links.{links_at}
 use Rattle.csp_scene.specs.Scene.{PlainLink, PlainNode, PlainScene}
@@ -209,3 +210,16 @@ pub wire_is : (scene : PlainScene) (node k : ℕ) (l : PlainLane) → wire_at sc
 wire_is scene node k l e =
     let h = is_here scene node k l e in
     wire_from scene node h.n h.there k l h.at
+
+-- each has the room that its name says
+abbrev HasItsRoom : PlainLane → Type 0
+HasItsRoom x = x.room ≡ lane_room x.queue
+
+pub room_named : (scene : PlainScene) (node k : ℕ) (l : PlainLane) → wire_at scene node k ≡ Some l → l.room ≡ lane_room l.queue
+room_named scene node k l e = by (wire_is scene node k l e) where
+  by : Wire scene node k l → l.room ≡ lane_room l.queue
+  by (rx n j there at is) = subst HasItsRoom (sym is) refl
+  by (tx n j p there at place is) = subst HasItsRoom (sym is) refl
+  by (out n p there few place is) = subst HasItsRoom (sym is) refl
+  by (down n p there few place is) = subst HasItsRoom (sym is) refl
+  by (up n p there few place is) = subst HasItsRoom (sym is) refl

@@ -86,7 +86,7 @@ listed s node hub js ifaces apps v w x y z u none rx tx out down up =
 abbrev pub spots_at : ℕ → ℕ → ℕ → Spots
 spots_at first ifaces links = record { first = first; ifaces = ifaces; links = links }
 
-node_there : (nodes : List PlainNode) (k : ℕ) (x : PlainNode) → k < length nodes → x ≡ slice_index_or nodes k x → drop k nodes ≡ x ∷ drop (k + 1) nodes
+pub node_there : (nodes : List PlainNode) (k : ℕ) (x : PlainNode) → k < length nodes → x ≡ slice_index_or nodes k x → drop k nodes ≡ x ∷ drop (k + 1) nodes
 node_there [] k x low is = absurd (omega (arith, low))
 node_there (y ∷ nodes) zero x low is = ap (λ (z : PlainNode). z ∷ nodes) (sym is)
 node_there (y ∷ nodes) (suc k) x low is =

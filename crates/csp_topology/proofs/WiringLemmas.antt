@@ -13,7 +13,7 @@ use Rattle.csp_topology.proofs.Joints.{ArePlaced}
 use Rattle.csp_topology.proofs.PartyLemmas.{node_count}
 use Rattle.csp_topology.proofs.PartyPlaces.{begins, ends, party_at, place_of, stands_so, start}
 use Rattle.csp_topology.proofs.Places.{get-made, made-from}
-use Rattle.csp_topology.proofs.WirePlaces.{is_here, wire_there, wires_here}
+use Rattle.csp_topology.proofs.WirePlaces.{is_here, room_named, wire_there, wires_here}
 use Rattle.csp_topology.specs.Lanes.{PlainEnd, PlainLane}
 use Rattle.csp_topology.specs.Parties.{PlainOpening, parties_of}
 use Rattle.csp_topology.specs.Wired as wired
@@ -107,7 +107,7 @@ wire_fits scene are node k l e =
     record {
       named = refl;
       carries = refl;
-      room = refl;
+      room = room_named scene node k l e;
       from = record { party = ap (slice_get named) (place_same scene node l.from.who (of_end node l l.from stays.from)) ∙ named_there scene l.from.who joins.from; called = refl };
       to = record { party = ap (slice_get named) (place_same scene node l.to.who (of_end node l l.to stays.to)) ∙ named_there scene l.to.who joins.to; called = refl };
     }

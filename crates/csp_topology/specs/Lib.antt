@@ -8,3 +8,4 @@ pub mod Topology
 pub mod Wired
 pub mod Wires
 pub mod Wiring
+pub mod Writers

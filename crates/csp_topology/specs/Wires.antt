@@ -11,7 +11,7 @@ use Rattle.csp_log.specs.declared.who.Who.{Who}
 use Rattle.csp_log.specs.declared.who.Who.TheVariants as who
 use Rattle.csp_scene.specs.Links.{links_at}
 use Rattle.csp_scene.specs.Scene.{PlainScene, PlainNode, PlainLink}
-use Rattle.csp_topology.specs.Lanes.{PlainLane, leader_of, lane_at, out_lane}
+use Rattle.csp_topology.specs.Lanes.{PlainLane, leader_of, lane_at, lane_between, out_lane}
 
 -- an end of a link: the link's number, what it carries, the place of the end among the link's ends, and where that is
 pub record PlainJoint : Type 0 where
@@ -44,23 +44,15 @@ joints_at node joints = filter (is_at node) joints
 
 -- the lane from a link to the interface at its end
 abbrev pub rx_lane : PlainJoint → PlainLane
-rx_lane j = record {
-  node = j.end.node;
-  queue = queue.Rx j.end.iface;
-  carries = j.carries;
-  from = record { who = who.Link j.link; queue = queue.Rx j.place };
-  to = record { who = who.Iface j.end.node j.end.iface; queue = queue.Rx j.end.iface };
-}
+rx_lane j =
+    lane_between j.end.node (queue.Rx j.end.iface) j.carries (record { who = who.Link j.link; queue = queue.Rx j.place })
+    (record { who = who.Iface j.end.node j.end.iface; queue = queue.Rx j.end.iface })
 
 -- the lane from the interface to the link
 abbrev pub tx_lane : PlainJoint → PlainLane
-tx_lane j = record {
-  node = j.end.node;
-  queue = queue.Tx j.end.iface;
-  carries = j.carries;
-  from = record { who = who.Iface j.end.node j.end.iface; queue = queue.Tx j.end.iface };
-  to = record { who = who.Link j.link; queue = queue.Tx j.place };
-}
+tx_lane j =
+    lane_between j.end.node (queue.Tx j.end.iface) j.carries (record { who = who.Iface j.end.node j.end.iface; queue = queue.Tx j.end.iface })
+    (record { who = who.Link j.link; queue = queue.Tx j.place })
 
 -- the lane to an application
 abbrev pub down_lane : ℕ → Who → ℕ → PlainLane

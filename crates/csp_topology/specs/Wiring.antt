@@ -1,4 +1,4 @@
--- The lanes of the nodes of a scene, with the places of the parties that use them.
+-- The lanes of the nodes of a scene as the program has them, with the places of the parties that use them.
 use Rattle.std.specs.Prelude.{◌≡◌, ℕ, ◌+◌, Option, Some, IsSomeAnd, List, [], ◌∷◌, length, map, slice_get}
 use Rattle.std.specs.Option.{option_and_then}
 use Rattle.csp_lists.specs.PlainDeck.{lane_room}
@@ -8,12 +8,19 @@ use Rattle.csp_scene.specs.Links.{links_at}
 use Rattle.csp_scene.specs.Scene.{PlainScene, PlainNode, PlainLink}
 use Rattle.csp_topology.specs.Lanes.{PlainEnd, PlainLane, out_lane}
 use Rattle.csp_topology.specs.Parties.{parties_of}
-use Rattle.csp_topology.specs.Wires.{down_lane, up_lane, wire_at, wires_at}
+use Rattle.csp_topology.specs.Wires.{PlainJoint, down_lane, rx_lane, tx_lane, up_lane, wire_at, wires_at}
 use Rattle.csp_topology.specs.declared.wire.Inner.{Inner}
 use Rattle.csp_topology.specs.declared.wire.Inner.TheVariants as inner
+use Rattle.csp_topology.specs.declared.wire.Outer.{Outer}
+use Rattle.csp_topology.specs.declared.wire.Outer.TheVariants as outer
 use Rattle.csp_topology.specs.declared.wire.Spots.{Spots}
 use Rattle.csp_topology.specs.declared.wire.Wire.{Wire}
 use Rattle.csp_topology.specs.declared.wire.WireEnd.{WireEnd}
+
+-- the lane of this kind at the end of a link
+abbrev pub outer_lane : Outer → PlainJoint → PlainLane
+outer_lane outer.Rx j = rx_lane j
+outer_lane outer.Tx j = tx_lane j
 
 -- the lane of this kind between the router or bridge of a node and its interface or application of this number
 abbrev pub inner_lane : Inner → (node : ℕ) → Who → (number : ℕ) → PlainLane
@@ -34,15 +41,28 @@ abbrev pub wire_by : Spots → PlainLane → Wire
 wire_by s l = record {
   queue = l.queue;
   carries = l.carries;
-  room = lane_room l.queue;
-  from = record { party = place_by s l.from.who; queue = l.from.queue };
-  to = record { party = place_by s l.to.who; queue = l.to.queue };
+  room = l.room;
+  from = record { who = l.from.who; party = place_by s l.from.who; queue = l.from.queue };
+  to = record { who = l.to.who; party = place_by s l.to.who; queue = l.to.queue };
 }
 
 -- an end of a lane names the party at that place of the list of parties
 pub record IsEndOf (scene : PlainScene) (e : PlainEnd) (w : WireEnd) : Type 0 where
   pub party : slice_get (map (λ o. o.who) (parties_of scene)) w.party ≡ Some e.who
   pub called : w.queue ≡ e.queue
+
+-- an end of a lane without the place of its party
+abbrev pub end_seen : WireEnd → PlainEnd
+end_seen e = record { who = e.who; queue = e.queue }
+
+-- a lane of the node at this place
+abbrev pub lane_seen : ℕ → Wire → PlainLane
+lane_seen node w = record { node = node; queue = w.queue; carries = w.carries; room = w.room; from = end_seen w.from; to = end_seen w.to }
+
+-- those of the nodes from this place on
+abbrev pub lanes_seen : ℕ → List (List Wire) → List (List PlainLane)
+lanes_seen place [] = []
+lanes_seen place (ws ∷ rest) = map (lane_seen place) ws ∷ lanes_seen (place + 1) rest
 
 -- a lane with its room and its ends
 pub record IsWireOf (scene : PlainScene) (l : PlainLane) (w : Wire) : Type 0 where

@@ -1,5 +1,6 @@
 //! A scene's network, worked out once: its parties in order, each with all that its opening needs, the pool and the
-//! queues of each node, its lanes with who puts into each and who gets, and the ends of each link.
+//! queues of each node, its lanes with who puts into each and who gets, who puts into its inbox under
+//! which mark, and the ends of each link.
 #![tactic(auto)]
 
 mod joint;
@@ -12,6 +13,7 @@ mod plan;
 mod topology;
 mod wire;
 mod wiring;
+mod writers;
 
 pub use laws::{
     counts_parties, joins_parties, names_ends_apart, names_parties_apart, orders_wires,
@@ -22,3 +24,4 @@ pub use opening::Opening;
 pub use plan::NodePlan;
 pub use topology::{MAX_PARTIES, Topology};
 pub use wire::{Wire, WireEnd};
+pub use writers::Writer;

@@ -28,6 +28,16 @@ pub(crate) fn lanes_at(
     Ok(lanes)
 }
 
+/// How many links a node is on: as many as it has interfaces.
+pub(crate) fn count_at(place: u8, links: &[SceneLink]) -> u8
+    requires { length links.now ≤ MAX_LINKS }
+    ensures value { result ≡ length (links_at place links.now) }
+    ensures few { result ≤ MAX_LINKS }
+{
+    let place = usize::from(place);
+    links.iter().filter(|link| link.touches(place)).count() as u8
+}
+
 /// The names of a node's links, in their order: those of its interfaces.
 pub(crate) fn names_at(place: u8, links: &[SceneLink]) -> ArrayVec<Name, IFACE_ROOM>
     requires { length links.now ≤ MAX_LINKS }

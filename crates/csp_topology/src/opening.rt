@@ -119,7 +119,11 @@ impl Opening {
                     script,
                 },
                 Some(region),
-            ) => Ok(AnyParty::App(open_app(alloc, number, script, region)?)),
+            ) => {
+                let collectors = open_collectors(alloc, &script)?;
+                let app = App::with_sfp(alloc, number, script, region, collectors)?;
+                Ok(AnyParty::App(app))
+            }
             (
                 Opening::Link {
                     number: _,
@@ -159,19 +163,4 @@ fn open_iface(
         Some(addr) => Iface::hub(node, number, addr, region),
         None => Iface::new(node, number, kind, mtu, region),
     }
-}
-
-/// Opens an application, with a collector for each slot that its script collects on.
-fn open_app(
-    alloc: Global,
-    number: u8,
-    script: Script,
-    region: RegionToken,
-) -> Result<App, AllocError>
-    requires few { length script + 1 < 2 ^ 32 }
-    requires slots { All IsStep script }
-    ensures { IfOk result (λ a. a ≡ record { region = region.name; app = opening number script }) }
-{
-    let collectors = open_collectors(alloc, &script)?;
-    App::with_sfp(alloc, number, script, region, collectors)
 }

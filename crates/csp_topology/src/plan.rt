@@ -19,10 +19,10 @@ pub struct NodePlan {
     pub buffers: u16,
     /// For how many packets each queue of its inbox has room.
     pub inbox: u16,
-    /// How many applications it has: each has an `Up` and a `Down`.
-    pub apps: u8,
     /// What the link of each interface carries: each interface has an `Out`, a `Tx` and an `Rx`.
     pub lanes: Vec<Carries>,
+    /// How many applications it has: each has an `Up` and a `Down`.
+    pub apps: u8,
 }
 
 impl Model for NodePlan {

@@ -14,6 +14,7 @@ use crate::parties::{push_links, push_nodes};
 use crate::plan::{NodePlan, plans_of};
 use crate::wire::Wire;
 use crate::wiring::wires_of;
+use crate::writers::{Writer, writers_of};
 use arrayvec::ArrayVec;
 use csp_base::MAX_APPS;
 use csp_log::{End, LINK_ENDS};
@@ -32,6 +33,9 @@ pub struct Topology {
     /// The lanes of each node, in the order in which a record tells of them: those from the node's links, to its links, to
     /// its interfaces, to its applications, and from its applications.
     pub lanes: Vec<Vec<Wire>>,
+    /// Who puts into the inbox of each node, and under which marks: its router or bridge under `UNMARKED`, and each
+    /// interface under its number.
+    pub writers: Vec<Vec<Writer>>,
     /// The ends of each link, in the order of the links.
     pub links: Vec<ArrayVec<End, LINK_ENDS>>,
     /// The parties: of each node its router or bridge, its interfaces in the order of the links, its applications; then
@@ -47,7 +51,7 @@ impl Topology {
     pub fn of(alloc: Global, scene: &Scene) -> Result<Topology, AllocError>
         requires { IsScene scene.now }
         ensures whole { IfOk result (λ t. seen_topology t ≡ topology_of scene.now) }
-        ensures lanes { AreLinksAfter (length scene.now.nodes) [] scene.now.links → IfOk result (λ t. AreWires scene.now (map (λ ws. ws.items) t.lanes.items)) }
+        ensures wires { AreLinksAfter (length scene.now.nodes) [] scene.now.links → IfOk result (λ t. AreWires scene.now (map (λ ws. ws.items) t.lanes.items)) }
         ensures nodes { IfOk result (λ t. AllByRecursion IsPlan t.nodes.items) }
         ensures ready { IfOk result (λ t. AllByRecursion CanOpen t.parties.items) }
     {
@@ -59,6 +63,7 @@ impl Topology {
             nodes: plans_of(alloc, &scene.nodes, &scene.links)?,
             links: ends_of(alloc, &scene.links)?,
             lanes: wires_of(alloc, &scene.nodes, &scene.links, first_link)?,
+            writers: writers_of(alloc, &scene.nodes, &scene.links)?,
             parties,
         })
     }

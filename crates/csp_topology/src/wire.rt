@@ -2,8 +2,7 @@
 
 ghost use Rattle.std.specs.Prelude.{◌≡◌, ◌≤◌};
 ghost use Rattle.csp_lists.specs.PlainDeck.{lane_room};
-ghost use Rattle.csp_topology.specs.Wires.{rx_lane, tx_lane};
-ghost use Rattle.csp_topology.specs.Wiring.{inner_lane, place_by, wire_by};
+ghost use Rattle.csp_topology.specs.Wiring.{inner_lane, outer_lane, place_by, wire_by};
 
 use crate::joint::Joint;
 use crate::topology::MAX_PARTIES;
@@ -13,7 +12,9 @@ use csp_record::Who;
 /// An end of a lane.
 #[derive(Clone, Copy)]
 pub struct WireEnd {
-    /// The place of the party that uses it, among the parties of the topology.
+    /// Which party uses it.
+    pub who: Who,
+    /// The place of that party among the parties of the topology.
     pub party: u16,
     /// What that party calls the lane: a link names its lanes by its ends.
     pub queue: QueueId,
@@ -32,6 +33,15 @@ pub struct Wire {
     pub from: WireEnd,
     /// Who gets from it.
     pub to: WireEnd,
+}
+
+/// A kind of lane at the end of a link.
+#[derive(Clone, Copy)]
+pub(crate) enum Outer {
+    /// From the link to the interface.
+    Rx,
+    /// From the interface to the link.
+    Tx,
 }
 
 /// A kind of lane inside a node, whose ends both call it by its name.
@@ -77,45 +87,42 @@ impl Spots {
         requires first { self.first ≤ MAX_PARTIES }
         requires ifaces { self.ifaces ≤ MAX_PARTIES }
         requires links { self.links ≤ MAX_PARTIES }
-        ensures { result ≡ record { party = place_by self who; queue = queue } }
+        ensures { result ≡ record { who = who; party = place_by self who; queue = queue } }
     {
         WireEnd {
+            who,
             party: self.place(who),
             queue,
         }
     }
 
-    /// The lane from a link to the interface at its end.
-    pub(crate) fn rx(self, joint: &Joint) -> Wire
+    /// The lane of this kind between a link and the interface at this end.
+    pub(crate) fn outer(self, kind: Outer, joint: &Joint) -> Wire
         requires first { self.first ≤ MAX_PARTIES }
         requires ifaces { self.ifaces ≤ MAX_PARTIES }
         requires links { self.links ≤ MAX_PARTIES }
-        ensures { result ≡ wire_by self (rx_lane joint.now) }
+        ensures { result ≡ wire_by self (outer_lane kind joint.now) }
     {
-        let queue = QueueId::Rx(joint.end.iface);
+        let link = Who::Link(joint.link);
+        let iface = Who::Iface(joint.end.node, joint.end.iface);
+        let (queue, from, to) = match kind {
+            Outer::Rx => {
+                let queue = QueueId::Rx(joint.end.iface);
+                let from = self.end(link, QueueId::Rx(joint.place));
+                (queue, from, self.end(iface, queue))
+            }
+            Outer::Tx => {
+                let queue = QueueId::Tx(joint.end.iface);
+                let to = self.end(link, QueueId::Tx(joint.place));
+                (queue, self.end(iface, queue), to)
+            }
+        };
         Wire {
             queue,
             carries: joint.carries,
             room: LINK_ROOM,
-            from: self.end(Who::Link(joint.link), QueueId::Rx(joint.place)),
-            to: self.end(Who::Iface(joint.end.node, joint.end.iface), queue),
-        }
-    }
-
-    /// The lane from the interface to the link.
-    pub(crate) fn tx(self, joint: &Joint) -> Wire
-        requires first { self.first ≤ MAX_PARTIES }
-        requires ifaces { self.ifaces ≤ MAX_PARTIES }
-        requires links { self.links ≤ MAX_PARTIES }
-        ensures { result ≡ wire_by self (tx_lane joint.now) }
-    {
-        let queue = QueueId::Tx(joint.end.iface);
-        Wire {
-            queue,
-            carries: joint.carries,
-            room: LINK_ROOM,
-            from: self.end(Who::Iface(joint.end.node, joint.end.iface), queue),
-            to: self.end(Who::Link(joint.link), QueueId::Tx(joint.place)),
+            from,
+            to,
         }
     }
 

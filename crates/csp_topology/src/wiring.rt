@@ -4,12 +4,12 @@ ghost use Rattle.std.specs.Prelude.{◌≡◌, ◌≤◌, ◌+◌, ◌++◌, ◌
 ghost use Rattle.std.specs.List.{AllByRecursion, range_with_len};
 ghost use Rattle.csp_scene.specs.Ranges.{IsLink, IsNode};
 ghost use Rattle.csp_topology.specs.Lanes.{leader_of};
-ghost use Rattle.csp_topology.specs.Wires.{rx_lane, tx_lane, wires_with};
-ghost use Rattle.csp_topology.specs.Wiring.{inner_lane, wire_by, wired_from};
+ghost use Rattle.csp_topology.specs.Wires.{wires_with};
+ghost use Rattle.csp_topology.specs.Wiring.{inner_lane, outer_lane, wire_by, wired_from};
 
 use crate::joint::{Joint, joints_at, joints_of};
 use crate::topology::MAX_PARTIES;
-use crate::wire::{Inner, Spots, Wire};
+use crate::wire::{Inner, Outer, Spots, Wire};
 use csp_record::Who;
 use csp_scene::{MAX_LINKS, MAX_NODES, SceneLink, SceneNode};
 use std::alloc::{AllocError, Global};
@@ -64,8 +64,8 @@ fn wires_at(
     let ifaces = joints.len() as u8;
     let apps = node.apps.len() as u8;
     let mut wires = Vec::new(alloc);
-    push_rx(&mut wires, joints, spots)?;
-    push_tx(&mut wires, joints, spots)?;
+    push_outer(&mut wires, Outer::Rx, joints, spots)?;
+    push_outer(&mut wires, Outer::Tx, joints, spots)?;
     push_inner(&mut wires, Inner::Out, place, hub, ifaces, spots)?;
     push_inner(&mut wires, Inner::Down, place, hub, apps, spots)?;
     push_inner(&mut wires, Inner::Up, place, hub, apps, spots)?;
@@ -73,7 +73,7 @@ fn wires_at(
 }
 
 /// The router of the node at this place, or the bridge that stands in its place.
-fn leader_of(place: u8, node: &SceneNode) -> Who
+pub(crate) fn leader_of(place: u8, node: &SceneNode) -> Who
     ensures { result ≡ leader_of place node.now.addr }
 {
     match node.addr {
@@ -82,28 +82,20 @@ fn leader_of(place: u8, node: &SceneNode) -> Who
     }
 }
 
-/// Appends the lanes from links to the interfaces at these ends.
-fn push_rx(wires: &mut Vec<Wire>, joints: &[Joint], spots: Spots) -> Result<(), AllocError>
+/// Appends the lanes of this kind between links and the interfaces at these ends.
+fn push_outer(
+    wires: &mut Vec<Wire>,
+    kind: Outer,
+    joints: &[Joint],
+    spots: Spots,
+) -> Result<(), AllocError>
     requires first { spots.first ≤ MAX_PARTIES }
     requires ifaces { spots.ifaces ≤ MAX_PARTIES }
     requires links { spots.links ≤ MAX_PARTIES }
-    ensures { OnOk result (wires.new.items ≡ wires.old.items ++ map (wire_by spots) (map rx_lane joints.now)) }
+    ensures { OnOk result (wires.new.items ≡ wires.old.items ++ map (wire_by spots) (map (outer_lane kind) joints.now)) }
 {
     for joint in joints {
-        wires.push(spots.rx(joint))?;
-    }
-    Ok(())
-}
-
-/// Appends the lanes from the interfaces at these ends to links.
-fn push_tx(wires: &mut Vec<Wire>, joints: &[Joint], spots: Spots) -> Result<(), AllocError>
-    requires first { spots.first ≤ MAX_PARTIES }
-    requires ifaces { spots.ifaces ≤ MAX_PARTIES }
-    requires links { spots.links ≤ MAX_PARTIES }
-    ensures { OnOk result (wires.new.items ≡ wires.old.items ++ map (wire_by spots) (map tx_lane joints.now)) }
-{
-    for joint in joints {
-        wires.push(spots.tx(joint))?;
+        wires.push(spots.outer(kind, joint))?;
     }
     Ok(())
 }

@@ -12,7 +12,7 @@ use Rattle.csp_base.specs.declared.priority.Prio.{Prio}
 use Rattle.csp_consistent.proofs.Public.{AreApart, entries_in, more_put, none_there, prio_is, who_is, IsOf, IsOwner, IsOwn, own_asks, own_told}
 use Rattle.csp_consistent.specs.Inboxes.{IsInboxInOrder, put_with}
 use Rattle.csp_consistent.specs.Promises.{IsInboxKept}
-use Rattle.csp_topology.specs.Queues.{writer_of}
+use Rattle.csp_topology.specs.Writers.{writer_of}
 use Rattle.csp_topology.specs.Lanes.{leader_of}
 use Rattle.csp_topology.specs.Parties.{PlainOpening, party_steps}
 use Rattle.csp_consistent.specs.Queues.{MayAsk}

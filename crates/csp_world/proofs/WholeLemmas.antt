@@ -33,7 +33,7 @@ use Rattle.csp_scene.specs.Scene.{PlainLink, PlainNode, PlainScene}
 use Rattle.csp_world.proofs.AlwaysLemmas.{always}
 use Rattle.csp_world.proofs.LoggedLemmas.{AreLogged}
 use Rattle.csp_world.proofs.QueuedLemmas.{AreQueued, IsQueued, KeepsQueues}
-use Rattle.csp_topology.specs.Plan.{plans_from}
+use Rattle.csp_topology.specs.Plan.{PlainNodePlan, plans_from}
 use Rattle.csp_world.specs.Opening.{deck_of, opening}
 use Rattle.csp_world.specs.Reached.{Happening, world_after}
 use Rattle.csp_world.specs.Record.{member_held, member_log, record_of}
@@ -78,21 +78,15 @@ row_opened : (inbox : ℕ) (links : List Carries) (ps : List Place) → map (λ 
 row_opened inbox links [] = refl
 row_opened inbox links (p ∷ ps) = ap (λ (rest : List Place). p ∷ rest) (row_opened inbox links ps)
 
-node_opened : (n : PlainNode) (links : List PlainLink) → map (λ q. q.place) (map emptied (map (opening_queue n.inbox (map (λ l. carried_on l.kind) links)) (places_in (shape_of (length n.apps) (map (λ l. carried_on l.kind) links)))))
-    ≡ places_in (record { ifaces = length links; apps = length n.apps })
-node_opened n links =
-    row_opened n.inbox (map (λ l. carried_on l.kind) links) (places_in (shape_of (length n.apps) (map (λ l. carried_on l.kind) links)))
-    ∙ ap (λ (ifaces : ℕ). places_in (record { ifaces = ifaces; apps = length n.apps })) (length-map links (λ l. carried_on l.kind))
-
-nodes_opened : (node : ℕ) (nodes : List PlainNode) (links : List PlainLink) → places_from node (rows (map deck_of (plans_from node nodes links))) ≡ queues_from node nodes links
-nodes_opened node [] links = refl
-nodes_opened node (n ∷ nodes) links =
-    ap (λ (ps : List Place). at_node node ps ++ places_from (node + 1) (rows (map deck_of (plans_from (node + 1) nodes links)))) (node_opened n (links_at node links))
-    ∙ ap (λ (more : List (ℕ × Place)). at_node node (places_in (record { ifaces = length (links_at node links); apps = length n.apps })) ++ more) (nodes_opened (node + 1) nodes links)
+nodes_opened : (node : ℕ) (nodes : List PlainNodePlan) → places_from node (rows (map deck_of nodes)) ≡ queues_from node nodes
+nodes_opened node [] = refl
+nodes_opened node (n ∷ nodes) =
+    ap (λ (ps : List Place). at_node node ps ++ places_from (node + 1) (rows (map deck_of nodes))) (row_opened n.inbox n.lanes (places_in (shape_of n.apps n.lanes)))
+    ∙ ap (λ (more : List (ℕ × Place)). at_node node (places_in (shape_of n.apps n.lanes)) ++ more) (nodes_opened (node + 1) nodes)
 
 scene_opened : (scene : PlainScene) → places_from 0 (rows (opening scene).decks) ≡ queues_of scene
 unfolding opening
-scene_opened scene = nodes_opened 0 scene.nodes scene.links
+scene_opened scene = nodes_opened 0 (plans_from 0 scene.nodes scene.links)
 
 count_opened : (node : ℕ) (nodes : List PlainNode) (links : List PlainLink) → length (map deck_of (plans_from node nodes links)) ≡ length nodes
 count_opened node [] links = refl

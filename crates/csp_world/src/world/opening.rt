@@ -42,6 +42,7 @@ impl World {
         let Topology {
             nodes,
             lanes: _,
+            writers: _,
             links,
             parties,
         } = Topology::of(alloc, scene)?;

@@ -33,7 +33,7 @@ planned g c =
         served = c.serves_parties.ensures.queues scene c.requires.scene links;
       };
       count = c.orders_wires.ensures.count scene;
-      are = c.in_ok-plans.ensures.lanes links;
+      are = c.in_ok-plans.ensures.wires links;
       parties = ap (λ (t : PlainTopology). t.parties) c.in_ok-plans.ensures.whole;
       apart = c.names_parties_apart.ensures scene;
       ready = c.in_ok-plans.ensures.ready;

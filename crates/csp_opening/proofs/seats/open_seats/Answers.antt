@@ -1,7 +1,9 @@
-use Rattle.std.proofs.Common.{List, length, map, sym, ap, ◌∙◌, subst}
+use Rattle.std.proofs.Common.{List, length, map, sym, ap, ◌∙◌, subst, arith}
+use Rattle.std.proofs.lemmas.List.{length-map}
 use Rattle.csp_opening.proofs.Seating.{all_empty, all_seated, as_many_buffers, same_names}
-use Rattle.csp_topology.specs.Opened.{AreParties}
+use Rattle.csp_topology.specs.Opened.{AreParties, opened_as}
 use Rattle.csp_topology.specs.Opening.{opening_of}
+use Rattle.csp_topology.specs.Parties.{PlainOpening}
 use Rattle.csp_topology.specs.declared.opened.NodeBuffers.{NodeBuffers}
 use Rattle.csp_opening.proofs.seats.open_seats.Goals as goal
 
@@ -14,11 +16,17 @@ open_parties-requires c =
 pub seat_all-requires : goal.seat_all-requires
 seat_all-requires c = all_empty _ c.in_ok-parties.parties.items c.in_ok-parties.ensures.opened
 
-pub returns-clause-names : goal.returns-clause-names
-returns-clause-names c = same_names c.in_ok-seats.seats.items c.in_ok-parties.parties.items (map opening_of c.args.openings.items) c.in_ok-seats.ensures.same c.in_ok-parties.ensures.parties
-
-pub returns-clause-seated : goal.returns-clause-seated
-returns-clause-seated c =
+pub returns : goal.returns
+returns c =
+    let seats = c.in_ok-seats.seats.items in
+    let parties = c.in_ok-parties.parties.items in
     let buffers = c.in_ok-buffers.ensures in
-    all_seated c.args.nodes.now c.in_ok-buffers.buffers.items c.in_ok-seats.seats.items c.in_ok-parties.parties.items (record { regions = buffers.regions; counts = buffers.counts }) c.in_ok-seats.ensures.same
-    (rw c.deref.ensures.value at c.in_ok-parties.ensures.opened)
+    let many = ap (λ (os : List PlainOpening). length os) c.in_ok-parties.ensures.parties in
+    let all = length-map parties opened_as in
+    let openings = length-map c.args.openings.items opening_of in
+    record {
+      names = same_names seats parties (map opening_of c.args.openings.items) c.in_ok-seats.ensures.same c.in_ok-parties.ensures.parties;
+      seated = all_seated c.args.nodes.now c.in_ok-buffers.buffers.items seats parties (record { regions = buffers.regions; counts = buffers.counts }) c.in_ok-seats.ensures.same
+          (rw c.deref.ensures.value at c.in_ok-parties.ensures.opened);
+      room = omega (arith, c.in_ok-seats.ensures.room, many, all, openings);
+    }

@@ -5,13 +5,15 @@ use Rattle.csp_scene.specs.Ranges.{HasEnds, IsPlanned}
 use Rattle.csp_scene.specs.Scene.{PlainLink, PlainNode, PlainScene}
 use Rattle.csp_topology.proofs.PartyLemmas.{nodes_few}
 use Rattle.csp_topology.proofs.PlanLemmas.{links_fit, links_planned, links_shaped, plans_fit}
+use Rattle.csp_topology.proofs.SeenLanes.{lanes_are}
 use Rattle.csp_topology.proofs.TopologyLemmas.{topology_is}
 use Rattle.csp_topology.proofs.WiringLemmas.{all_are_wires}
 use Rattle.csp_topology.proofs.topology.Topology.of.Goals as goal
 use Rattle.csp_topology.specs.Opening.{FitsBuffers, opening_of}
 use Rattle.csp_topology.specs.Parties.{PlainOpening, links_from, parties_from}
 use Rattle.csp_topology.specs.Plan.{IsPlan, PlainNodePlan, plans_from}
-use Rattle.csp_topology.specs.Wiring.{AreWires, wired_from}
+use Rattle.csp_topology.specs.Wiring.{AreWires, lanes_seen, wired_from}
+use Rattle.csp_topology.specs.Writers.{writers_from}
 use Rattle.csp_topology.specs.declared.opening.Opening.{Opening}
 use Rattle.csp_topology.specs.declared.wire.Wire.{Wire}
 
@@ -44,10 +46,17 @@ returns-clause-whole c =
     let scene : PlainScene = c.args.scene.now in
     let nodes_are : c.scene.inside.nodes.items ≡ scene.nodes = ap (λ (s : PlainScene). s.nodes) c.scene.view_is in
     let links_are : c.scene.inside.links.items ≡ scene.links = ap (λ (s : PlainScene). s.links) c.scene.view_is in
-    topology_is c.in_ok-plans_of.field-0.items (map (λ ends. ends.items) c.in_ok-ends_of.field-0.items) (map opening_of c.push_links.new.openings.items) scene
+    topology_is c.in_ok-plans_of.field-0.items (lanes_seen 0 (map (λ ws. ws.items) c.in_ok-wires_of.field-0.items)) (map (λ ws. ws.items) c.in_ok-writers_of.field-0.items) (map (λ ends. ends.items) c.in_ok-ends_of.field-0.items) (map opening_of c.push_links.new.openings.items) scene
     (c.in_ok-plans_of.ensures
     ∙ ap (λ (ns : List PlainNode). plans_from 0 ns c.deref-5.result.now) (c.deref-4.ensures.value ∙ nodes_are)
     ∙ ap (λ (ls : List PlainLink). plans_from 0 scene.nodes ls) (c.deref-5.ensures.value ∙ links_are))
+    (ap (lanes_seen 0) (c.in_ok-wires_of.ensures
+    ∙ ap (λ (ns : List PlainNode). wired_from 0 0 c.len-first_link.result ns c.deref-8.result.now) (c.deref-7.ensures.value ∙ nodes_are)
+    ∙ ap (λ (ls : List PlainLink). wired_from 0 0 c.len-first_link.result scene.nodes ls) (c.deref-8.ensures.value ∙ links_are))
+    ∙ lanes_are scene c.len-first_link.result)
+    (c.in_ok-writers_of.ensures
+    ∙ ap (λ (ns : List PlainNode). writers_from 0 ns c.deref-10.result.now) (c.deref-9.ensures.value ∙ nodes_are)
+    ∙ ap (λ (ls : List PlainLink). writers_from 0 scene.nodes ls) (c.deref-10.ensures.value ∙ links_are))
     (c.in_ok-ends_of.ensures ∙ ap (λ (ls : List PlainLink). map (λ l. l.ends) ls) (c.deref-6.ensures.value ∙ links_are))
     (c.in_ok-push_links.ensures.parties
     ∙ ap (λ (os : List PlainOpening). os ++ links_from 0 c.deref-3.result.now)
@@ -93,8 +102,8 @@ wires_of-requires-clause-links c =
     let count = first_link scene c.deref.result.now c.deref-2.result.now c.new-parties.result.items c.push_nodes.new.openings.items c.in_ok-push_nodes.ensures.parties c.new-parties.ensures.items nodes links in
     omega (arith, count, nodes_few scene c.requires, c.len-first_link.ensures, c.push_nodes.new.openings.ok.0)
 
-pub returns-clause-lanes : goal.returns-clause-lanes
-returns-clause-lanes c are =
+pub returns-clause-wires : goal.returns-clause-wires
+returns-clause-wires c are =
     let scene : PlainScene = c.args.scene.now in
     let first : ℕ = length (parties_from 0 scene.nodes scene.links) in
     let nodes_are : c.scene.inside.nodes.items ≡ scene.nodes = ap (λ (s : PlainScene). s.nodes) c.scene.view_is in
