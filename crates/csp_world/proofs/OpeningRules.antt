@@ -14,7 +14,6 @@ use Rattle.csp_log.specs.declared.places.Place.TheVariants as place
 use Rattle.csp_log.specs.declared.places.QueueId.TheVariants as queue
 use Rattle.csp_log.specs.declared.places.Rule.TheVariants as rule
 use Rattle.csp_nodes.specs.Fresh.{fresh_buffers}
-use Rattle.csp_log.specs.declared.who.Who.TheVariants as who
 use Rattle.csp_scene.specs.Scene.{PlainNode, PlainLink}
 use Rattle.csp_world.specs.Opening.{opened_deck}
 

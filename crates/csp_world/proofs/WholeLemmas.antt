@@ -10,7 +10,6 @@ use Rattle.csp_topology.specs.Parties.{PlainOpening, parties_of}
 use Rattle.csp_consistent.specs.Pools.{held_by, left_held, parties_held, party_held, place_named, pools_held}
 use Rattle.csp_consistent.specs.Whole.{AreQueuesLeft, left_name, queue_name}
 use Rattle.csp_topology.specs.Queues.{at_node, queues_from, queues_of}
-use Rattle.csp_log.specs.Kinds.{carried_on}
 use Rattle.csp_lists.specs.Gathered.{held_at, left_at, prio_named, queue_named}
 use Rattle.csp_lists.specs.Order.{places_in}
 use Rattle.csp_lists.specs.PlainDeck.{PlainDeck, PlainQueue, answer_of, buffer_numbers, emptied, numbers_of, opening_queue, shape_of}
@@ -28,7 +27,6 @@ use Rattle.csp_nodes.specs.Serving.{answer_at, answer_in, answer_there, served}
 use Rattle.csp_party.specs.Any.{PlainParty, asks, holds}
 use Rattle.csp_log.specs.Who.{home_of}
 use Rattle.csp_log.specs.declared.who.Who.{Who}
-use Rattle.csp_scene.specs.Links.{links_at}
 use Rattle.csp_scene.specs.Scene.{PlainLink, PlainNode, PlainScene}
 use Rattle.csp_world.proofs.AlwaysLemmas.{always}
 use Rattle.csp_world.proofs.LoggedLemmas.{AreLogged}
