@@ -30,7 +30,7 @@ abbrev pub is_ack_due : ℕ → PlainRdp → Bool
 is_ack_due time r =
     r.owed.ack
     || (nat_lt 0 r.owed.delivered
-    && (r.options.delayed == 0 || nat_lt r.options.ack_count r.owed.delivered || has_passed (Some r.owed.first) r.options.ack_timeout time))
+    && (r.options.delayed == 0 || nat_lt r.options.ack_count r.owed.delivered || has_passed r.owed.first r.options.ack_timeout time))
 
 -- by state: the first that is owed
 abbrev pub job_in : State → ℕ → PlainRdp → Option Job
@@ -104,7 +104,7 @@ filled j time r b = filled_with (says j time r) r b
 
 -- a packet that acknowledges clears what is owed so
 abbrev pub without_ack : Owed → Owed
-without_ack o = record o { ack = false; delivered = 0 }
+without_ack o = record o { ack = false; delivered = 0; first = None }
 
 -- what is owed once the opening packet was made
 abbrev pub syn_owed_after : State → ℕ → Owed → Owed
@@ -150,7 +150,7 @@ keeping_again b r = record r { recv = with_kept (r.recv.cur + 1) b r.recv }
 
 -- one more packet is delivered
 abbrev pub counted : ℕ → Owed → Owed
-counted time o = record o { delivered = o.delivered + 1; first = if o.delivered == 0 then time else o.first }
+counted time o = record o { delivered = o.delivered + 1; first = Some (unwrap_or o.first time) }
 
 -- a reset that waits, once all before it is delivered
 abbrev pub reset_after : Option ℕ → ℕ → PlainRdp → PlainRdp

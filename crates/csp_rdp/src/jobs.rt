@@ -34,8 +34,8 @@ pub struct Owed {
     pub ack: bool,
     /// How many packets were delivered since the last packet that acknowledged.
     pub delivered: u64,
-    /// When the first of them was delivered.
-    pub first: u64,
+    /// When the first of them was delivered, if any was.
+    pub first: Option<u64>,
 }
 
 impl Owed {
@@ -53,7 +53,7 @@ impl Owed {
             eak: false,
             ack: false,
             delivered: 0,
-            first: 0,
+            first: None,
         }
     }
 
@@ -74,7 +74,7 @@ impl Owed {
     {
         Owed {
             delivered: self.delivered + 1,
-            first: if self.delivered == 0 { now } else { self.first },
+            first: Some(self.first.unwrap_or(now)),
             ..self
         }
     }
