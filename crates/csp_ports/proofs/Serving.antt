@@ -47,7 +47,7 @@ use Rattle.csp_rdp.specs.Machine.{PlainRdp, accepting, connecting, idle}
 use Rattle.csp_rdp.specs.Table.{back_of, handed, row_of}
 use Rattle.csp_rdp.specs.declared.answers.State.{State}
 use Rattle.csp_rdp.specs.declared.answers.State.TheVariants.{Closed, SynSent, SynRcvd, Open, CloseWait}
-use Rattle.csp_rdp.specs.declared.answers.Why.TheVariants as machine_why
+use Rattle.csp_rdp.specs.declared.answers.Cause.TheVariants as machine_why
 use Rattle.csp_rdp.specs.declared.jobs.Job.{Job}
 use Rattle.csp_rdp_header.specs.declared.head.RdpHead.{RdpHead}
 use Rattle.csp_rdp_window.specs.Numbers.{number_in}

@@ -21,7 +21,7 @@ use Rattle.csp_rdp.specs.Machine.{PlainRdp, accepting, una_of}
 use Rattle.csp_rdp.specs.Table.{back_of, handed, is_stray, row_of}
 use Rattle.csp_rdp.specs.declared.answers.State.{State}
 use Rattle.csp_rdp.specs.declared.answers.State.TheVariants as state
-use Rattle.csp_rdp.specs.declared.answers.Why.TheVariants as machine_why
+use Rattle.csp_rdp.specs.declared.answers.Cause.TheVariants as machine_why
 use Rattle.csp_rdp_header.specs.declared.head.RdpHead.{RdpHead}
 
 -- ---- packets that open a connection

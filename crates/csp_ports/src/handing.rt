@@ -19,7 +19,7 @@ ghost use Rattle.csp_rdp.specs.Changes.{change_between};
 ghost use Rattle.csp_rdp.specs.Holding.{rdp_numbers, rested, unneeded};
 ghost use Rattle.csp_rdp.specs.Regions.{IsIn};
 ghost use Rattle.csp_rdp.specs.Table.{back_of, handed, is_stray, row_of};
-ghost use Rattle.csp_rdp.specs.declared.answers.Why.TheVariants as machine_why;
+ghost use Rattle.csp_rdp.specs.declared.answers.Cause.TheVariants as machine_why;
 ghost use Rattle.csp_ports.specs.Packets.{accepted, admitting_by, handing, handing_event, invited, stray_events, submitting};
 ghost use Rattle.csp_ports.specs.PlainPorts.{anywhere, begun, machine_at, start_of, stalled_at, terms_at, waiting, with_ports_at};
 ghost use Rattle.csp_ports.specs.Steps.{has_room, stepped};

@@ -14,7 +14,7 @@ use Rattle.csp_ports.specs.Steps.{changed, dropped, settled, stepped, went}
 use Rattle.csp_rdp.specs.Changes.{change_between}
 use Rattle.csp_rdp.specs.Table.{back_of, handed, is_stray, row_of}
 use Rattle.csp_rdp.specs.declared.answers.Change.{Change}
-use Rattle.csp_rdp.specs.declared.answers.Why.TheVariants as machine_why
+use Rattle.csp_rdp.specs.declared.answers.Cause.TheVariants as machine_why
 use Rattle.csp_ports.proofs.Flowing.{keeps_of}
 use Rattle.csp_ports.proofs.Serving.{flows_handed}
 use Rattle.csp_ports.proofs.Wholes.{there_few}
