@@ -57,7 +57,7 @@ use Rattle.csp_rdp.specs.declared.jobs.Job.{Job}
 use Rattle.csp_rdp_header.specs.Head.{parted}
 use Rattle.csp_rdp_header.specs.declared.head.RdpHead.{RdpHead}
 use Rattle.csp_record.specs.Payloads.{is_on}
-use Rattle.csp_record.specs.declared.payloads.Way.TheVariants as way
+use Rattle.csp_record.specs.declared.payloads.Transfer.TheVariants as way
 use Rattle.csp_route.specs.Routes.{route_of}
 use Rattle.csp_route.specs.declared.row.Row.{Row}
 use Rattle.csp_scene.proofs.Public.{AllByRecursion-append, AllByRecursion-map}
