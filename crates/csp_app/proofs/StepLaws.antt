@@ -16,8 +16,8 @@ use Rattle.csp_app.specs.Steps.{batch, turn_of, pushed_one, answered, recv_end, 
 use Rattle.csp_app.specs.Telling.{told_by, at_rest}
 use Rattle.csp_app.specs.Told.{next}
 use Rattle.csp_app.specs.Turn.{giving_op, pushing_op, op_of, popped}
-use Rattle.csp_app.specs.declared.plan.Plan.{Plan}
-use Rattle.csp_app.specs.declared.plan.Plan.TheVariants as plan
+use Rattle.csp_app.specs.declared.plan.AppPlan.{AppPlan}
+use Rattle.csp_app.specs.declared.plan.AppPlan.TheVariants as plan
 use Rattle.csp_app.specs.declared.slot.Slot.{Slot}
 use Rattle.csp_buffer.specs.Content.{Content}
 use Rattle.csp_deck.specs.Step.{times, op_numbers, item_numbers, answer_numbers}
@@ -48,7 +48,7 @@ give_numbers k [] = refl
 give_numbers k (b ∷ bs) = omega (arith, among_cons k b bs)
 
 -- what it hands over it holds no more
-pub handed_law : (s : PlainApp) (now : ℕ) (p : Plan) (k : ℕ) → times k (holds (handed s now p)) + times k (op_numbers (op_of s.number (turn_of s now p))) ≡ times k (holds s)
+pub handed_law : (s : PlainApp) (now : ℕ) (p : AppPlan) (k : ℕ) → times k (holds (handed s now p)) + times k (op_numbers (op_of s.number (turn_of s now p))) ≡ times k (holds s)
 handed_law s now plan.Return k = omega (arith, holds_times k s, holds_times k (record s { taken = None }), given_numbers k s.taken)
 handed_law s now plan.Give k = omega (arith, holds_times k s, holds_times k (record s { held = drop 1 s.held }), give_numbers k s.held)
 handed_law s now plan.Push k = omega (arith, holds_times k s, holds_times k (record s { made = None }), pushed_numbers k s.number s.mark s.made)
@@ -141,7 +141,7 @@ made_law : (k mark : ℕ) (s : PlainApp) (t : Option Content) → s.made ≡ Non
 made_law k mark s t e = omega (arith, holds_times k s, holds_times k (record s { made = t; mark = mark }), ap (λ (o : Option Content). among k (option_to_list o)) e)
 
 -- it holds besides what it was given
-pub told_law : (s : PlainApp) (now : ℕ) (p : Plan) (a : AnswerShown) → Fitting s p a → CanHear s p
+pub told_law : (s : PlainApp) (now : ℕ) (p : AppPlan) (a : AnswerShown) → Fitting s p a → CanHear s p
     → (k : ℕ) → times k (holds (told_by (at_rest s) now p a).state) ≡ times k (holds s) + times k (answer_numbers a)
 told_law s now plan.Rest answer.Nothing h c k = omega arith
 told_law s now plan.Return answer.Given h c k = omega arith
@@ -179,7 +179,7 @@ passed s t p = record { number = p.number; count = omega (arith, p.no_more) }
 popped_passed : (s t : PlainApp) (i : ItemShown) → Passes (popped i s) t → Raises s t
 popped_passed s t i p = record { number = p.number; count = omega (arith, p.no_more, after_counted i s.collectors s.slots) }
 
-pub told_raises : (s : PlainApp) (now : ℕ) (p : Plan) (a : AnswerShown) → Raises (at_rest s) (told_by (at_rest s) now p a).state
+pub told_raises : (s : PlainApp) (now : ℕ) (p : AppPlan) (a : AnswerShown) → Raises (at_rest s) (told_by (at_rest s) now p a).state
 told_raises s now plan.Look (answer.Popped i) = popped_passed (at_rest s) (popped i (at_rest s)) i (stays _)
 told_raises s now plan.Await (answer.Popped i) = popped_passed (at_rest s) _ i (answered_passes (note_in i) (popped i (at_rest s)))
 told_raises s now plan.Push answer.Pushed = passed (at_rest s) _ (pushed_one_passes (nat_lt (s.sent + 1) (batch s).count) (at_rest s))

@@ -3,8 +3,8 @@ use Rattle.std.specs.Prelude.{ℕ, ◌+◌, ◌==◌, ◌&&◌, Bool, false, Opt
 use Rattle.std.specs.Option.{option_to_list}
 use Rattle.csp_app.specs.Collecting.{Collectors, collectors_for}
 use Rattle.csp_app.specs.Slots.{fresh, counted}
-use Rattle.csp_app.specs.declared.plan.Plan.{Plan}
-use Rattle.csp_app.specs.declared.plan.Plan.TheVariants as plan
+use Rattle.csp_app.specs.declared.plan.AppPlan.{AppPlan}
+use Rattle.csp_app.specs.declared.plan.AppPlan.TheVariants as plan
 use Rattle.csp_app.specs.declared.slot.Slot.{Slot}
 use Rattle.csp_app.specs.PlainStep.{PlainStep}
 use Rattle.csp_arena.specs.Cells.{RegionName}
@@ -44,7 +44,7 @@ pub record PlainApp : Type 0 where
   pub slots : List Slot
   pub collectors : Collectors
   -- what this turn is, from the operation to its answer
-  pub doing : Plan
+  pub doing : AppPlan
 
 -- an application whose buffers are of this region
 pub record AppAt : Type 0 where

@@ -6,8 +6,8 @@ use Rattle.csp_app.specs.PlainApp.{PlainApp}
 use Rattle.csp_app.specs.Slots.{slot_at, used_on}
 use Rattle.csp_app.specs.Told.{Told, still, over, over_with, put_off, not_an_answer}
 use Rattle.csp_app.specs.Turn.{Turn, rests, takes, gives, pushes, pops}
-use Rattle.csp_app.specs.declared.plan.Plan.{Plan}
-use Rattle.csp_app.specs.declared.plan.Plan.TheVariants as plan
+use Rattle.csp_app.specs.declared.plan.AppPlan.{AppPlan}
+use Rattle.csp_app.specs.declared.plan.AppPlan.TheVariants as plan
 use Rattle.csp_app.specs.PlainStep.{PlainStep}
 use Rattle.csp_app.specs.PlainStep as step
 use Rattle.csp_buffer.specs.Content.{Content}
@@ -20,28 +20,28 @@ use Rattle.csp_log.specs.declared.shown.ItemShown.TheVariants as item
 -- ---- which turn it is
 
 -- (1) a packet that was popped is given back; (2) else, after a refused operation, `Down` is popped once; (3) else it is the step's
-abbrev pub first_rule : (taken : Option Content) → (refused : Bool) → (own : Plan) → Plan
+abbrev pub first_rule : (taken : Option Content) → (refused : Bool) → (own : AppPlan) → AppPlan
 first_rule (Some _) refused own = plan.Return
 first_rule None true own = plan.Look
 first_rule None false own = own
 
 -- `give` gives the buffer held longest; with none it does nothing
-abbrev pub give_plan : (held : List Content) → Plan
+abbrev pub give_plan : (held : List Content) → AppPlan
 give_plan [] = plan.Skip
 give_plan (_ ∷ _) = plan.Give
 
 -- a note is pushed, and then its answer is awaited
-abbrev pub note_plan : (asked : Bool) → Note → Plan
+abbrev pub note_plan : (asked : Bool) → Note → AppPlan
 note_plan false n = plan.Ask n
 note_plan true n = plan.Await
 
 -- a packet is made in a buffer, and then pushed
-abbrev pub packet_plan : (made : Option Content) → Plan
+abbrev pub packet_plan : (made : Option Content) → AppPlan
 packet_plan None = plan.Fill
 packet_plan (Some _) = plan.Push
 
 -- `recv` does nothing once where there are enough packets at its start; and so does `collect`, where there are enough blobs
-abbrev pub recv_plan : (slot packets : ℕ) → (rounds since : Option ℕ) → (is_enough : Bool) → Plan
+abbrev pub recv_plan : (slot packets : ℕ) → (rounds since : Option ℕ) → (is_enough : Bool) → AppPlan
 recv_plan slot packets rounds None true = plan.Use slot packets
 recv_plan slot packets rounds None false = plan.Receive slot packets rounds
 recv_plan slot packets rounds (Some _) _ = plan.Receive slot packets rounds
@@ -51,7 +51,7 @@ abbrev pub is_enough : ℕ → ℕ → PlainApp → Bool
 is_enough slot packets s = nat_le packets (slot_at s.slots slot).unused
 
 -- where the present step stands
-abbrev pub step_plan : PlainApp → Option PlainStep → Plan
+abbrev pub step_plan : PlainApp → Option PlainStep → AppPlan
 step_plan s (Some step.Take) = plan.Take
 step_plan s (Some step.Give) = give_plan s.held
 step_plan s (Some (step.Bind port need)) = note_plan s.asked (note.Bind port need)
@@ -67,7 +67,7 @@ step_plan s (Some (step.Wait rounds)) = plan.Wait rounds
 step_plan s None = plan.Rest
 
 -- what the next turn is
-abbrev pub plan_of : PlainApp → Plan
+abbrev pub plan_of : PlainApp → AppPlan
 plan_of s = first_rule s.taken s.refused (step_plan s (slice_get s.steps s.done))
 
 -- ---- the words of the table
@@ -145,7 +145,7 @@ waited rounds now s = wait_end (has_passed rounds now s) s
 -- ---- the table: what each turn asks, and what each answer comes to
 
 -- the table of the steps: each plan's turn, with what each answer comes to
-abbrev pub turn_of : PlainApp → ℕ → Plan → Turn
+abbrev pub turn_of : PlainApp → ℕ → AppPlan → Turn
 turn_of s now plan.Rest = rests (still s)
 -- (1) a packet that was popped is given back; from a full pool, which no run meets, it comes back, is still to be given, and `Down` is popped
 -- once after it is

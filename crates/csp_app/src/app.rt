@@ -6,7 +6,7 @@ ghost use Rattle.csp_deck.specs.Step.{times};
 ghost use Rattle.csp_app.specs.Room.{take_steps};
 
 use crate::collecting::Collectors;
-use crate::plan::Plan;
+use crate::plan::AppPlan;
 use crate::progress::Progress;
 use crate::script::Script;
 use crate::slot::{Slot, fresh_slot};
@@ -33,7 +33,7 @@ pub struct App {
     pub(crate) held: Pile,
     pub(crate) slots: [Slot; SLOTS],
     pub(crate) collectors: Collectors,
-    pub(crate) doing: Plan,
+    pub(crate) doing: AppPlan,
 }
 
 impl Model for App {
@@ -102,7 +102,7 @@ impl App {
             held,
             slots: [fresh_slot(); SLOTS],
             collectors,
-            doing: Plan::Rest,
+            doing: AppPlan::Rest,
         })
     }
 

@@ -15,8 +15,8 @@ use Rattle.csp_app.specs.Steps.{answered, batch, gives_up, has_passed, is_enough
 use Rattle.csp_app.specs.Telling.{at_rest}
 use Rattle.csp_app.specs.Told.{Told}
 use Rattle.csp_app.specs.Turn.{Turn, gives, giving_op, op_of, popped, pops, pushes, pushing_op, rests, takes, told_of, until_told}
-use Rattle.csp_app.specs.declared.plan.Plan.{Plan}
-use Rattle.csp_app.specs.declared.plan.Plan.TheVariants as plan
+use Rattle.csp_app.specs.declared.plan.AppPlan.{AppPlan}
+use Rattle.csp_app.specs.declared.plan.AppPlan.TheVariants as plan
 use Rattle.csp_app.specs.declared.slot.Slot.{Slot}
 use Rattle.csp_buffer.specs.Content.{Content}
 use Rattle.csp_deck.specs.Runs.{IsRun, step_after}
@@ -83,7 +83,7 @@ module _ (number k o : ℕ) where
   comes_waited n c true s h = (h, silent)
   comes_waited n c false s h = (h, silent)
 
-  leaves : (n : ℕ) (c : Option Gathering) (s : PlainApp) (now : ℕ) (p : Plan) → Stands number k n c s → Leaves n c (turn_of s now p)
+  leaves : (n : ℕ) (c : Option Gathering) (s : PlainApp) (now : ℕ) (p : AppPlan) → Stands number k n c s → Leaves n c (turn_of s now p)
   leaves n c s now plan.Rest h = (h, silent)
   leaves n c s now plan.Return h = (h, (h, silent), λ b. (h, silent))
   leaves n c s now plan.Look h = (h, λ m d i t g. (g, silent))
@@ -135,7 +135,7 @@ module _ (number k o : ℕ) where
   IsLike _ (pops _ _) = ⊥
   IsLike _ _ = ⊤
 
-  alike : (s t : PlainApp) (now : ℕ) (p : Plan) → IsLike (turn_of s now p) (turn_of t now p)
+  alike : (s t : PlainApp) (now : ℕ) (p : AppPlan) → IsLike (turn_of s now p) (turn_of t now p)
   alike s t now plan.Rest = tt
   alike s t now _ = tt
 

@@ -56,7 +56,7 @@ bridge_op apps (Some b) out to low = tt
 bridge_op apps None (Some b) to low = low
 bridge_op apps None None to low = tt
 
-bridge_handed : (p : bridge_planning.Plan) (s : PlainBridge) → s.to < 2 → (bridge_asking.handed p s).to < 2
+bridge_handed : (p : bridge_planning.BridgePlan) (s : PlainBridge) → s.to < 2 → (bridge_asking.handed p s).to < 2
 bridge_handed (bridge_planning.give b) s low = low
 bridge_handed (bridge_planning.send to b) s low = low
 bridge_handed bridge_planning.hear s low = low

@@ -11,8 +11,8 @@ use Rattle.csp_iface.specs.Circling.{all_read, circle}
 use Rattle.csp_iface.specs.PlainIface.{PlainIface, IfaceAt, with_iface}
 use Rattle.csp_iface.specs.Telling.{tells, events}
 use Rattle.csp_iface.specs.declared.packet.Packet.{Packet}
-use Rattle.csp_iface.specs.declared.plan.Plan.{Plan}
-use Rattle.csp_iface.specs.declared.plan.Plan.TheVariants as plan
+use Rattle.csp_iface.specs.declared.plan.IfacePlan.{IfacePlan}
+use Rattle.csp_iface.specs.declared.plan.IfacePlan.TheVariants as plan
 use Rattle.csp_iface.specs.declared.plan.Side.{Side}
 use Rattle.csp_iface.specs.declared.plan.Side.TheVariants as side
 use Rattle.csp_iface.specs.declared.receiver.Receiver.{Receiver}
@@ -73,4 +73,4 @@ rest_round a now side.Receiving None None None [] (by.Can _) = (record { goes_on
 pub goes_round : (a : IfaceAt) (now : ℕ) → a.iface.doing ≡ plan.Rest → GoesRound a now
 goes_round a now rests =
     let s : PlainIface = a.iface in
-    subst (λ (d : Plan). GoesRound (with_iface a (record s { doing = d })) now) (sym rests) (rest_round a now s.side s.back s.accepted s.whole s.frames s.receiver)
+    subst (λ (d : IfacePlan). GoesRound (with_iface a (record s { doing = d })) now) (sym rests) (rest_round a now s.side s.back s.accepted s.whole s.frames s.receiver)

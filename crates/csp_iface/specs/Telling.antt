@@ -7,8 +7,8 @@ use Rattle.csp_iface.specs.PlainIface.{PlainIface}
 use Rattle.csp_iface.specs.Receiving.{Heard, heard, read_further}
 use Rattle.csp_iface.specs.Sending.{sent_trace, next_node, frames_of}
 use Rattle.csp_iface.specs.declared.packet.Packet.{Packet}
-use Rattle.csp_iface.specs.declared.plan.Plan.{Plan}
-use Rattle.csp_iface.specs.declared.plan.Plan.TheVariants as plan
+use Rattle.csp_iface.specs.declared.plan.IfacePlan.{IfacePlan}
+use Rattle.csp_iface.specs.declared.plan.IfacePlan.TheVariants as plan
 use Rattle.csp_log.specs.declared.event.Event.{Event}
 use Rattle.csp_log.specs.declared.event.Event.TheVariants as event
 use Rattle.csp_log.specs.declared.frame.Frame.{Frame}
@@ -91,7 +91,7 @@ caught now (item.Packet _ _) s = quiet s
 caught now (item.Note _) s = quiet s
 
 -- what each answer makes of it
-abbrev pub told_by : PlainIface → ℕ → Plan → AnswerShown → Outcome
+abbrev pub told_by : PlainIface → ℕ → IfacePlan → AnswerShown → Outcome
 -- 1. a buffer is given back; from a full pool it comes back, and is still to be given
 told_by s now plan.Return answer.Given = quiet s
 told_by s now plan.Return (answer.PoolFull b) = quiet (record s { back = Some b })

@@ -13,8 +13,8 @@ use Rattle.csp_app.specs.Steps.{answered, answered_by, batch, gives_up, has_pass
 use Rattle.csp_app.specs.Telling.{at_rest, tells}
 use Rattle.csp_app.specs.Told.{Told, over, still}
 use Rattle.csp_app.specs.Turn.{rests, giving_op, op_of, popped, pushing_op, told_of, until_told}
-use Rattle.csp_app.specs.declared.plan.Plan.TheVariants as plan
-use Rattle.csp_app.specs.declared.plan.Plan.{Plan}
+use Rattle.csp_app.specs.declared.plan.AppPlan.TheVariants as plan
+use Rattle.csp_app.specs.declared.plan.AppPlan.{AppPlan as Plan}
 use Rattle.csp_buffer.specs.Content.{Content}
 use Rattle.csp_log.specs.Weights.{item_bytes}
 use Rattle.csp_log.specs.declared.note.Note.TheVariants as note
