@@ -16,7 +16,7 @@ use Rattle.csp_app.specs.Turn.{kind_of_turn, op_of}
 use Rattle.csp_app.specs.declared.app.App.TheInside.{Inside}
 use Rattle.csp_app.specs.declared.plan.AppPlan.{AppPlan}
 use Rattle.csp_app.specs.declared.plan.AppPlan.TheVariants as plan
-use Rattle.csp_app.specs.declared.slot.Slot.{Slot}
+use Rattle.csp_app.specs.declared.slot.KnownSlot.{KnownSlot}
 use Rattle.csp_app.specs.PlainStep.{PlainStep}
 use Rattle.csp_app.specs.PlainStep as step
 use Rattle.csp_app.proofs.Takes.{takes_take}
@@ -71,7 +71,7 @@ recv_hears s now slot packets rounds None false free few more e = record { hears
 recv_hears s now slot packets rounds (Some _) true free few more e = record { hears = (more, free, few); room = omega arith; kind = refl; served = down_served s.number }
 recv_hears s now slot packets rounds (Some _) false free few more e = record { hears = (more, free, few); room = omega arith; kind = refl; served = down_served s.number }
 
-own_hears : (number : ℕ) (steps : List PlainStep) (done : ℕ) (since : Option ℕ) (asked : Bool) (sent : ℕ) (refused : Bool) (taken made : Option Content) (mark : ℕ) (held : List Content) (slots : List Slot) (collectors : Collectors) (doing : AppPlan) (now : ℕ) (found : Option PlainStep)
+own_hears : (number : ℕ) (steps : List PlainStep) (done : ℕ) (since : Option ℕ) (asked : Bool) (sent : ℕ) (refused : Bool) (taken made : Option Content) (mark : ℕ) (held : List Content) (slots : List KnownSlot) (collectors : Collectors) (doing : AppPlan) (now : ℕ) (found : Option PlainStep)
     → let s : PlainApp = record { number = number; steps = steps; done = done; since = since; asked = asked; sent = sent; refused = refused; taken = taken; made = made; mark = mark; held = held; slots = slots; collectors = collectors; doing = doing } in
     slice_get steps done ≡ found → IfSome found IsStep → IsFit s → (taken ≡ None → done < length steps) → Heard s now (own s found)
 own_hears number steps done since asked sent refused (Some b) made mark held slots collectors doing now found e ok up more = record { hears = refl; room = omega arith; kind = refl; served = tt }

@@ -18,7 +18,7 @@ use Rattle.csp_app.specs.Told.{next}
 use Rattle.csp_app.specs.Turn.{giving_op, pushing_op, op_of, popped}
 use Rattle.csp_app.specs.declared.plan.AppPlan.{AppPlan}
 use Rattle.csp_app.specs.declared.plan.AppPlan.TheVariants as plan
-use Rattle.csp_app.specs.declared.slot.Slot.{Slot}
+use Rattle.csp_app.specs.declared.slot.KnownSlot.{KnownSlot}
 use Rattle.csp_buffer.specs.Content.{Content}
 use Rattle.csp_deck.specs.Step.{times, op_numbers, item_numbers, answer_numbers}
 use Rattle.csp_log.specs.declared.shown.ItemShown.{ItemShown}
@@ -60,15 +60,15 @@ item_law k (item.Frame _) = refl
 item_law k (item.Note _) = refl
 
 -- a change of one slot that adds at most so much
-set_counted : (f : Slot → Slot) (more : ℕ) → ((s : Slot) → (f s).ordinal + (f s).unused ≤ s.ordinal + s.unused + more) → (slots : List Slot) (k : ℕ) → counted (slice_set slots k (f (slot_at slots k))) ≤ counted slots + more
+set_counted : (f : KnownSlot → KnownSlot) (more : ℕ) → ((s : KnownSlot) → (f s).ordinal + (f s).unused ≤ s.ordinal + s.unused + more) → (slots : List KnownSlot) (k : ℕ) → counted (slice_set slots k (f (slot_at slots k))) ≤ counted slots + more
 set_counted f more h [] k = omega arith
-set_counted f more h (x ∷ xs) zero = omega (arith, h x, sum_by-cons (λ (s : Slot). s.ordinal + s.unused) x xs, sum_by-cons (λ (s : Slot). s.ordinal + s.unused) (f x) xs)
-set_counted f more h (x ∷ xs) (suc k) = omega (arith, set_counted f more h xs k, sum_by-cons (λ (s : Slot). s.ordinal + s.unused) x xs, sum_by-cons (λ (s : Slot). s.ordinal + s.unused) x (slice_set xs k (f (slot_at xs k))))
+set_counted f more h (x ∷ xs) zero = omega (arith, h x, sum_by-cons (λ (s : KnownSlot). s.ordinal + s.unused) x xs, sum_by-cons (λ (s : KnownSlot). s.ordinal + s.unused) (f x) xs)
+set_counted f more h (x ∷ xs) (suc k) = omega (arith, set_counted f more h xs k, sum_by-cons (λ (s : KnownSlot). s.ordinal + s.unused) x xs, sum_by-cons (λ (s : KnownSlot). s.ordinal + s.unused) x (slice_set xs k (f (slot_at xs k))))
 
-used_counted : (slot packets : ℕ) (slots : List Slot) → counted (used_on slot packets slots) ≤ counted slots + 0
+used_counted : (slot packets : ℕ) (slots : List KnownSlot) → counted (used_on slot packets slots) ≤ counted slots + 0
 used_counted slot packets slots = set_counted (λ s. record s { unused = s.unused - packets }) 0 (λ s. omega arith) slots slot
 
-noted_counted : (n : Note) (slots : List Slot) → counted (noted n slots) ≤ counted slots + 1
+noted_counted : (n : Note) (slots : List KnownSlot) → counted (noted n slots) ≤ counted slots + 1
 noted_counted (note.Closed k) slots = set_counted (λ s. record s { ordinal = s.ordinal + 1; down = false }) 1 (λ s. omega arith) slots k
 noted_counted (note.Down k) slots = omega (arith, set_counted (λ s. record s { down = true }) 0 (λ s. omega arith) slots k)
 noted_counted _ slots = omega arith
@@ -80,7 +80,7 @@ counts_one (Some (Ok Whole)) = omega arith
 counts_one (Some (Ok Part)) = omega arith
 counts_one (Some (Err why)) = omega arith
 
-after_counted : (i : ItemShown) (collectors : Collectors) (slots : List Slot) → counted (slots_after i collectors slots) ≤ counted slots + 1
+after_counted : (i : ItemShown) (collectors : Collectors) (slots : List KnownSlot) → counted (slots_after i collectors slots) ≤ counted slots + 1
 after_counted (item.Packet k b) collectors slots =
     let more : ℕ = counts (answer_of (collector_at collectors k) b.payload) in
     omega (arith, set_counted (λ s. record s { unused = s.unused + more }) more (λ s. omega arith) slots k, counts_one (answer_of (collector_at collectors k) b.payload))
@@ -128,7 +128,7 @@ waited_passes : (rounds now : ℕ) (s : PlainApp) → Passes s (waited rounds no
 waited_passes rounds now s = wait_end_passes (has_passed rounds now s) s
 
 -- an item is popped, and then a step goes on or ends
-pop_law : (k : ℕ) (s : PlainApp) (t : Option Content) (slots : List Slot) (collectors : Collectors) → s.taken ≡ None → times k (holds (record s { taken = t; slots = slots; collectors = collectors })) ≡ times k (holds s) + among k (option_to_list t)
+pop_law : (k : ℕ) (s : PlainApp) (t : Option Content) (slots : List KnownSlot) (collectors : Collectors) → s.taken ≡ None → times k (holds (record s { taken = t; slots = slots; collectors = collectors })) ≡ times k (holds s) + among k (option_to_list t)
 pop_law k s t slots collectors e = omega (arith, holds_times k s, holds_times k (record s { taken = t; slots = slots; collectors = collectors }), ap (λ (o : Option Content). among k (option_to_list o)) e)
 
 popped_law : (k : ℕ) (s t : PlainApp) (i : ItemShown) → s.taken ≡ None → Passes (popped i s) t → times k (holds t) ≡ times k (holds s) + times k (item_numbers i)

@@ -5,7 +5,7 @@ use Rattle.csp_app.specs.Collecting.{Collectors, collectors_for}
 use Rattle.csp_app.specs.Slots.{fresh, counted}
 use Rattle.csp_app.specs.declared.plan.AppPlan.{AppPlan}
 use Rattle.csp_app.specs.declared.plan.AppPlan.TheVariants as plan
-use Rattle.csp_app.specs.declared.slot.Slot.{Slot}
+use Rattle.csp_app.specs.declared.slot.KnownSlot.{KnownSlot}
 use Rattle.csp_app.specs.PlainStep.{PlainStep}
 use Rattle.csp_arena.specs.Cells.{RegionName}
 use Rattle.csp_buffer.specs.Content.{Content}
@@ -41,7 +41,7 @@ pub record PlainApp : Type 0 where
   -- the buffers got by `take`, the oldest first
   pub held : List Content
   -- what it knows of its slots, and the collectors of those that collect
-  pub slots : List Slot
+  pub slots : List KnownSlot
   pub collectors : Collectors
   -- what this turn is, from the operation to its answer
   pub doing : AppPlan

@@ -9,7 +9,7 @@ use crate::collecting::Collectors;
 use crate::plan::AppPlan;
 use crate::progress::Progress;
 use crate::script::Script;
-use crate::slot::{Slot, fresh_slot};
+use crate::slot::{KnownSlot, fresh_slot};
 use csp_arena::RegionToken;
 use csp_base::SLOTS;
 use csp_buffer::Buffer;
@@ -31,7 +31,7 @@ pub struct App {
     pub(crate) made: Hand,
     pub(crate) mark: u8,
     pub(crate) held: Pile,
-    pub(crate) slots: [Slot; SLOTS],
+    pub(crate) slots: [KnownSlot; SLOTS],
     pub(crate) collectors: Collectors,
     pub(crate) doing: AppPlan,
 }

@@ -11,7 +11,7 @@ ghost use Rattle.csp_deck.specs.Regions.{IsOpOf};
 ghost use Rattle.csp_log.specs.Pictures.{shown_op};
 
 use crate::plan::AppPlan;
-use crate::slot::Slot;
+use crate::slot::KnownSlot;
 use crate::{App, Step};
 use csp_base::SLOTS;
 use csp_buffer::Buffer;
@@ -188,7 +188,7 @@ impl App {
         requires slot { slot < SLOTS }
         ensures { result ≡ receives_on slot count rounds now self.now.app }
     {
-        let Slot { unused, down, .. } = self.slots[slot as usize];
+        let KnownSlot { unused, down, .. } = self.slots[slot as usize];
         self.progress.since.is_some()
             && unused < count
             && !rounds.is_some_and(|rounds| self.progress.has_passed(rounds, now))

@@ -10,7 +10,7 @@ use crate::App;
 use crate::items::{mark_in, note_in, put_packet};
 use crate::packets::{filled, mark_of, packets_of};
 use crate::plan::AppPlan;
-use crate::slot::{Slot, note_item, use_packets};
+use crate::slot::{KnownSlot, note_item, use_packets};
 use csp_base::SLOTS;
 use csp_buffer::Buffer;
 use csp_log::{Answer, AnswerShown, Event, Events, Item, Note};
@@ -333,7 +333,7 @@ impl App {
         ensures state { self.new ≡ with_app self.old (received slot count rounds now self.old.app).state }
     {
         let step = self.progress.done as u32 + 1;
-        let Slot { unused, down, .. } = self.slots[slot as usize];
+        let KnownSlot { unused, down, .. } = self.slots[slot as usize];
         if count <= unused {
             use_packets(&mut self.slots, slot, count);
             self.progress.advance();

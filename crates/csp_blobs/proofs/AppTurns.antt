@@ -17,7 +17,7 @@ use Rattle.csp_app.specs.Told.{Told}
 use Rattle.csp_app.specs.Turn.{Turn, gives, giving_op, op_of, popped, pops, pushes, pushing_op, rests, takes, told_of, until_told}
 use Rattle.csp_app.specs.declared.plan.AppPlan.{AppPlan}
 use Rattle.csp_app.specs.declared.plan.AppPlan.TheVariants as plan
-use Rattle.csp_app.specs.declared.slot.Slot.{Slot}
+use Rattle.csp_app.specs.declared.slot.KnownSlot.{KnownSlot}
 use Rattle.csp_buffer.specs.Content.{Content}
 use Rattle.csp_deck.specs.Runs.{IsRun, step_after}
 use Rattle.csp_log.specs.PlainLog.{all_events}
@@ -237,7 +237,7 @@ no_collector steps k none = by (leb_tells SLOTS k)
     by (inr low) = collector_first steps k low.1 ∙ none
 
 slot_first : (k : ℕ) → k < SLOTS → Knows k 0 (Some nothing) (replicate SLOTS fresh)
-slot_first k low = (low, ap (λ (s : Slot). s.ordinal) (get_or-replicate SLOTS k fresh fresh low))
+slot_first k low = (low, ap (λ (s : KnownSlot). s.ordinal) (get_or-replicate SLOTS k fresh fresh low))
 
 -- a connection's own collector is one that begins with nothing
 begins_with_nothing : (b : Bool) → begun_with b (Some nothing) ≡ Some nothing
