@@ -30,8 +30,8 @@ use Rattle.csp_rdp.specs.declared.answers.State.{State}
 use Rattle.csp_rdp.specs.declared.answers.State.TheVariants.{Closed, SynSent, SynRcvd, Open, CloseWait}
 use Rattle.csp_rdp.specs.declared.jobs.Job.{Job}
 use Rattle.csp_rdp.specs.declared.jobs.Job.TheVariants as job
-use Rattle.csp_rdp.specs.declared.rows.Row.{Row}
-use Rattle.csp_rdp.specs.declared.rows.Row.TheVariants as row
+use Rattle.csp_rdp.specs.declared.rows.StateRow.{StateRow}
+use Rattle.csp_rdp.specs.declared.rows.StateRow.TheVariants as row
 use Rattle.csp_rdp.proofs.CountLemmas.{times-append}
 use Rattle.csp_rdp.proofs.RowLemmas.{data-fresh, entered-recv}
 use Rattle.csp_rdp.proofs.SoundLemmas.{marked-buffer, unopened-drained, unopened-over}
@@ -336,7 +336,7 @@ answer-keeps-none Closed r h bytes e un = cc
 back : (r : PlainRdp) (ns : List ℕ) (p : PlainBuffer) → ns ≡ rdp_numbers r → Balanced (ns ++ p.picture.number ∷ []) (rdp_numbers r ++ p.picture.number ∷ [])
 back r ns p e = same _ _ (ap (λ l. l ++ p.picture.number ∷ []) e)
 
-pub handed-balanced : (y : Row) (h : RdpHead) (tag : Option Tag) (p : PlainBuffer) (time : ℕ) (r : PlainRdp) → row_in r.state r h p.picture.payload ≡ y → IsWhole r →
+pub handed-balanced : (y : StateRow) (h : RdpHead) (tag : Option Tag) (p : PlainBuffer) (time : ℕ) (r : PlainRdp) → row_in r.state r h p.picture.payload ≡ y → IsWhole r →
     Balanced (rdp_numbers (after y h tag p time r) ++ number_in (back_of y p)) (rdp_numbers r ++ p.picture.number ∷ [])
 handed-balanced row.Stray h tag p time r e whole = same _ _ refl
 handed-balanced row.Refused h tag p time r e whole = back r _ p (numbers-left Closed time r)
@@ -393,7 +393,7 @@ above w t e = go (nat_lt w.cur t) refl e
     go true p q = ltb-true w.cur t p
     go false p q = cc
 
-pub whole-handed : (y : Row) (h : RdpHead) (tag : Option Tag) (p : PlainBuffer) (time : ℕ) (r : PlainRdp) → row_in r.state r h p.picture.payload ≡ y → IsWhole r →
+pub whole-handed : (y : StateRow) (h : RdpHead) (tag : Option Tag) (p : PlainBuffer) (time : ℕ) (r : PlainRdp) → row_in r.state r h p.picture.payload ≡ y → IsWhole r →
     IsWhole (after y h tag p time r)
 whole-handed row.Stray h tag p time r e whole = whole
 whole-handed row.Refused h tag p time r e whole = whole-left Closed time r tt whole

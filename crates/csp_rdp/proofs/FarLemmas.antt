@@ -19,8 +19,8 @@ use Rattle.csp_rdp.specs.declared.answers.State.{State}
 use Rattle.csp_rdp.specs.declared.answers.State.TheVariants.{Closed, SynSent, SynRcvd, Open, CloseWait}
 use Rattle.csp_rdp.specs.declared.jobs.Job.{Job}
 use Rattle.csp_rdp.specs.declared.jobs.Job.TheVariants as job
-use Rattle.csp_rdp.specs.declared.rows.Row.{Row}
-use Rattle.csp_rdp.specs.declared.rows.Row.TheVariants as row
+use Rattle.csp_rdp.specs.declared.rows.StateRow.{StateRow}
+use Rattle.csp_rdp.specs.declared.rows.StateRow.TheVariants as row
 
 -- another state of it, which is as far
 far-left : (n : ℕ) (state : State) (time : ℕ) (r : PlainRdp) → IsFar n r → IsFar n (left state time r)
@@ -57,7 +57,7 @@ far-listing n true bytes time r far = record { admitted = far.admitted; delivere
 far-heard : (n : ℕ) (h : RdpHead) (time : ℕ) (r : PlainRdp) → IsFar n r → IsFar n (acknowledged h.ack.0 time (entered time r))
 far-heard n h time r far = far-acknowledged n h.ack.0 time (entered time r) (far-entered n r.state time r far)
 
-pub far-after : (n : ℕ) (y : Row) (h : RdpHead) (tag : Option Tag) (p : PlainBuffer) (time : ℕ) (r : PlainRdp) → IsFar n r → IsFar n (after y h tag p time r)
+pub far-after : (n : ℕ) (y : StateRow) (h : RdpHead) (tag : Option Tag) (p : PlainBuffer) (time : ℕ) (r : PlainRdp) → IsFar n r → IsFar n (after y h tag p time r)
 far-after n row.Stray h tag p time r far = far
 far-after n row.Refused h tag p time r far = far-left n Closed time r far
 far-after n row.Answered h tag p time r far = record { admitted = far.admitted; delivered = omega arith }

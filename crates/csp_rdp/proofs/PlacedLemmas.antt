@@ -28,8 +28,8 @@ use Rattle.csp_rdp.specs.declared.answers.State.{State}
 use Rattle.csp_rdp.specs.declared.answers.State.TheVariants.{Closed, SynSent, SynRcvd, Open, CloseWait}
 use Rattle.csp_rdp.specs.declared.jobs.Job.{Job}
 use Rattle.csp_rdp.specs.declared.jobs.Job.TheVariants as job
-use Rattle.csp_rdp.specs.declared.rows.Row.{Row}
-use Rattle.csp_rdp.specs.declared.rows.Row.TheVariants as row
+use Rattle.csp_rdp.specs.declared.rows.StateRow.{StateRow}
+use Rattle.csp_rdp.specs.declared.rows.StateRow.TheVariants as row
 use Rattle.csp_rdp.proofs.HoldingLemmas.{keeping_, sending}
 
 -- the windows with their buffers of this region
@@ -193,7 +193,7 @@ placed-ack-row n h bytes r =
     ap (λ y. if has_flag h EAK then row.Lists else if length bytes == 0 then row.Acknowledges else y) (placed-data-row n (index_in r.recv h.seq.0) r)
 
 -- the rows of SynRcvd and Open, where a reset and an acknowledgement come to these
-abbrev syn_rcvd_by : Row → Row → PlainRdp → RdpHead → List ℕ → Row
+abbrev syn_rcvd_by : StateRow → StateRow → PlainRdp → RdpHead → List ℕ → StateRow
 syn_rcvd_by reset ack r h bytes =
     if has_flag h RST then reset
     else if has_flag h SYN && not (has_flag h ACK) && h.seq.0 == r.recv.start then row.Repeated
@@ -202,7 +202,7 @@ syn_rcvd_by reset ack r h bytes =
     else if h.ack.0 == r.send.start then ack
     else row.Stray
 
-abbrev open_by : Row → Row → PlainRdp → RdpHead → List ℕ → Row
+abbrev open_by : StateRow → StateRow → PlainRdp → RdpHead → List ℕ → StateRow
 open_by reset ack r h bytes =
     if has_flag h RST then reset
     else if has_flag h SYN && h.seq.0 == r.recv.start then row.Late
@@ -224,7 +224,7 @@ placed-row-in n Closed h bytes r = refl
 pub placed-row : (n : RegionName) (h : RdpHead) (bytes : List ℕ) (r : PlainRdp) → row_of (placed n r) h bytes ≡ row_of r h bytes
 placed-row n h bytes r = placed-row-in n r.state h bytes r
 
-pub placed-back : (n : RegionName) (y : Row) (p : PlainBuffer) → back_of y (placed_buffer n p) ≡ option_map (placed_buffer n) (back_of y p)
+pub placed-back : (n : RegionName) (y : StateRow) (p : PlainBuffer) → back_of y (placed_buffer n p) ≡ option_map (placed_buffer n) (back_of y p)
 placed-back n row.Stray p = refl
 placed-back n row.Refused p = refl
 placed-back n row.Answered p = refl
@@ -277,7 +277,7 @@ placed-keeping n t p r =
 placed-heard-now : (n : RegionName) (h : RdpHead) (time : ℕ) (r : PlainRdp) → acknowledged h.ack.0 time (entered time (placed n r)) ≡ placed n (acknowledged h.ack.0 time (entered time r))
 placed-heard-now n h time r = ap (acknowledged h.ack.0 time) (placed-entered n r.state time r) ∙ placed-acknowledged n h.ack.0 time (entered time r)
 
-placed-after : (n : RegionName) (y : Row) (h : RdpHead) (tag : Option Tag) (p : PlainBuffer) (time : ℕ) (r : PlainRdp) →
+placed-after : (n : RegionName) (y : StateRow) (h : RdpHead) (tag : Option Tag) (p : PlainBuffer) (time : ℕ) (r : PlainRdp) →
     after y h tag (placed_buffer n p) time (placed n r) ≡ placed n (after y h tag p time r)
 placed-after n row.Stray h tag p time r = refl
 placed-after n row.Refused h tag p time r = placed-left n Closed time r

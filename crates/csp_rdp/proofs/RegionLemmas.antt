@@ -25,8 +25,8 @@ use Rattle.csp_rdp.specs.declared.answers.State.{State}
 use Rattle.csp_rdp.specs.declared.answers.State.TheVariants.{Closed, SynSent, SynRcvd, Open, CloseWait}
 use Rattle.csp_rdp.specs.declared.jobs.Job.{Job}
 use Rattle.csp_rdp.specs.declared.jobs.Job.TheVariants as job
-use Rattle.csp_rdp.specs.declared.rows.Row.{Row}
-use Rattle.csp_rdp.specs.declared.rows.Row.TheVariants as row
+use Rattle.csp_rdp.specs.declared.rows.StateRow.{StateRow}
+use Rattle.csp_rdp.specs.declared.rows.StateRow.TheVariants as row
 use Rattle.csp_rdp.proofs.SoundLemmas.{marked-buffer}
 
 -- the buffers of packets, and of what is kept
@@ -129,7 +129,7 @@ in-listing name true bytes time r all = record { sending = in-heard name (number
 in-heard-now : (name : RegionName) (h : RdpHead) (time : ℕ) (r : PlainRdp) → AreAllIn name r → AreAllIn name (acknowledged h.ack.0 time (entered time r))
 in-heard-now name h time r all = in-acknowledged name h.ack.0 time (entered time r) (in-entered name r.state time r all)
 
-pub in-after : (name : RegionName) (y : Row) (h : RdpHead) (tag : Option Tag) (p : PlainBuffer) (time : ℕ) (r : PlainRdp) → AreAllIn name r → p.region ≡ name →
+pub in-after : (name : RegionName) (y : StateRow) (h : RdpHead) (tag : Option Tag) (p : PlainBuffer) (time : ℕ) (r : PlainRdp) → AreAllIn name r → p.region ≡ name →
     AreAllIn name (after y h tag p time r)
 in-after name row.Stray h tag p time r all e = all
 in-after name row.Refused h tag p time r all e = in-left name Closed time r all

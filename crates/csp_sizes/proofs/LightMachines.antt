@@ -18,8 +18,8 @@ use Rattle.csp_rdp.specs.declared.answers.State.TheVariants.{Closed, SynSent, Sy
 use Rattle.csp_rdp.specs.declared.answers.State.{State}
 use Rattle.csp_rdp.specs.declared.jobs.Job.TheVariants as job
 use Rattle.csp_rdp.specs.declared.jobs.Job.{Job}
-use Rattle.csp_rdp.specs.declared.rows.Row.TheVariants as row
-use Rattle.csp_rdp.specs.declared.rows.Row.{Row}
+use Rattle.csp_rdp.specs.declared.rows.StateRow.TheVariants as row
+use Rattle.csp_rdp.specs.declared.rows.StateRow.{StateRow}
 use Rattle.csp_rdp_header.specs.Numbers.{numbers_of}
 use Rattle.csp_rdp_header.specs.declared.head.RdpHead.{RdpHead}
 use Rattle.csp_rdp_header.specs.declared.options.Options.{Options}
@@ -147,7 +147,7 @@ awaited_near w t e narrow = go (nat_lt w.cur t) (nat_le t (w.cur + 2 * w.window)
     go true false p q = cc
     go true true p q = let low = leb-true t (w.cur + 2 * w.window) p in omega (arith, low, narrow)
 
-sized_after : (y : Row) (h : RdpHead) (tag : Option Tag) (p : PlainBuffer) (time : ℕ) (r : PlainRdp) → row_in r.state r h p.picture.payload ≡ y → IsLight p.picture → IsSized r → IsSized (after y h tag p time r)
+sized_after : (y : StateRow) (h : RdpHead) (tag : Option Tag) (p : PlainBuffer) (time : ℕ) (r : PlainRdp) → row_in r.state r h p.picture.payload ≡ y → IsLight p.picture → IsSized r → IsSized (after y h tag p time r)
 sized_after row.Stray h tag p time r e light z = z
 sized_after row.Refused h tag p time r e light z = sized_left Closed time r z
 sized_after row.Answered h tag p time r e light z = record { sends = z.sends; keeps = All-nil (IsLightKept 0); narrow = z.options; options = z.options }
@@ -173,7 +173,7 @@ handed_light h tag p time r light z = record {
 }
 
 -- and what comes back is the packet
-pub back_light : (y : Row) (p : PlainBuffer) → IsLight p.picture → IfSome (back_of y p) (λ b. IsLight b.picture)
+pub back_light : (y : StateRow) (p : PlainBuffer) → IsLight p.picture → IfSome (back_of y p) (λ b. IsLight b.picture)
 back_light row.Stray p light = light
 back_light row.Refused p light = light
 back_light row.Answered p light = light
