@@ -38,7 +38,7 @@ use Rattle.csp_scene.specs.Faults.{direction_of, planned, link_at, may_add_fault
 use Rattle.csp_scene.specs.Moves.{move_of}
 use Rattle.csp_scene.specs.Schedule.{state_schedule, add_moves, state_moves}
 use Rattle.csp_scene.specs.State.{state, are_joined, finish, finish_with}
-use Rattle.csp_scene.specs.Rows.{PlainRow, all_rows}
+use Rattle.csp_scene.specs.Rows.{PlainFormRow, all_rows}
 use Rattle.csp_scene.specs.Judge.{is_printable, row_for, is_comment, judge_words, judge, is_in_app, in_line, Refusal, scene_from, scene_of}
 
 -- how many moves a scene in the making has
@@ -202,11 +202,11 @@ by_comment : (most : ℕ) (comment : Bool) (ignored told : Result PlainDraft Sce
 by_comment most true ignored told h k = h
 by_comment most false ignored told h k = k
 
-words_has : (rows : List PlainRow) (in_app : Bool) (d : PlainDraft) (words : List (List ℕ)) → HasAtMost (move_count d + length words) (judge_words rows in_app d words)
+words_has : (rows : List PlainFormRow) (in_app : Bool) (d : PlainDraft) (words : List (List ℕ)) → HasAtMost (move_count d + length words) (judge_words rows in_app d words)
 words_has rows in_app d [] = ok_has (move_count d + 0) d (omega arith)
 words_has rows in_app d (first ∷ args) =
     let most = move_count d + length (first ∷ args) in
-    let next : PlainRow → Result PlainDraft SceneKind = λ row. state row.form row.shape d args in
+    let next : PlainFormRow → Result PlainDraft SceneKind = λ row. state row.form row.shape d args in
     by_comment most (is_comment first) (Ok d) (and_then (row_for rows in_app (is_hub_called (word_at args 0) d.links) first args) next) (ok_has most d (omega arith))
     (then_has most (row_for rows in_app (is_hub_called (word_at args 0) d.links) first args) next (λ row. more_has (move_count d + length args) most (state row.form row.shape d args) (omega arith) (state_has row.form row.shape d args)))
 
@@ -229,7 +229,7 @@ filled_count c (piece ∷ next ∷ pieces) =
 words_within : (line : List ℕ) → length (words_of line) ≤ length line
 words_within line = omega (arith, filled_count 32 (slice_split (λ b. eqb b 32) line), ap length (join_with_byte-slice_split 32 line))
 
-judge_has : (rows : List PlainRow) (in_app : Bool) (d : PlainDraft) (line : List ℕ) → HasAtMost (move_count d + length line) (judge rows in_app d line)
+judge_has : (rows : List PlainFormRow) (in_app : Bool) (d : PlainDraft) (line : List ℕ) → HasAtMost (move_count d + length line) (judge rows in_app d line)
 judge_has rows in_app d line =
     let most = move_count d + length line in
     let told = judge_words rows in_app d (words_of line) in
@@ -278,7 +278,7 @@ pub unlined : {A B : Type 0} (P : B → Type 0) (count : ℕ) (told : Result A S
 unlined P count (Ok a) next b h e = h a refl e
 unlined P count (Err kind) next b h e = absurd (cc)
 
-from_has : (rows : List PlainRow) (lines earlier : List (List ℕ)) (d : PlainDraft) (scene : PlainScene) → scene_from rows earlier d lines ≡ Ok scene → length (moves_in scene.schedule) ≤ move_count d + total lines
+from_has : (rows : List PlainFormRow) (lines earlier : List (List ℕ)) (d : PlainDraft) (scene : PlainScene) → scene_from rows earlier d lines ≡ Ok scene → length (moves_in scene.schedule) ≤ move_count d + total lines
 unfolding scene_from
 from_has rows [] earlier d scene e =
     unlined (λ (s : PlainScene). length (moves_in s.schedule) ≤ move_count d + 0) (length earlier) (finish d) (λ s. Ok s) scene

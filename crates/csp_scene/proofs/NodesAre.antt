@@ -36,7 +36,7 @@ use Rattle.csp_scene.specs.Faults.{direction_of, planned, link_at, may_add_fault
 use Rattle.csp_scene.specs.Moves.{move_of}
 use Rattle.csp_scene.specs.Schedule.{state_schedule, add_moves, state_moves}
 use Rattle.csp_scene.specs.State.{state, are_joined, finish, finish_with}
-use Rattle.csp_scene.specs.Rows.{PlainRow, all_rows}
+use Rattle.csp_scene.specs.Rows.{PlainFormRow, all_rows}
 use Rattle.csp_scene.specs.Judge.{is_printable, row_for, is_comment, judge_words, judge, is_in_app, scene_from, scene_of}
 use Rattle.csp_scene.proofs.MoveCounts.{unlined}
 
@@ -196,14 +196,14 @@ module _ (Are : List PlainNode → Type 0) (is : IsOfNodes Are) (d : PlainDraft)
   by_comment true ignored told h k = h
   by_comment false ignored told h k = k
 
-  words_leave : (rows : List PlainRow) (in_app : Bool) (words : List (List ℕ)) → Leaves Are (judge_words rows in_app d words)
+  words_leave : (rows : List PlainFormRow) (in_app : Bool) (words : List (List ℕ)) → Leaves Are (judge_words rows in_app d words)
   words_leave rows in_app [] = ok_leaves Are d all
   words_leave rows in_app (first ∷ args) =
-      let next : PlainRow → Result PlainDraft SceneKind = λ row. state row.form row.shape d args in
+      let next : PlainFormRow → Result PlainDraft SceneKind = λ row. state row.form row.shape d args in
       by_comment (is_comment first) (Ok d) (and_then (row_for rows in_app (is_hub_called (word_at args 0) d.links) first args) next) (ok_leaves Are d all)
       (then_leaves (row_for rows in_app (is_hub_called (word_at args 0) d.links) first args) next (λ row. state_leaves row.form row.shape args))
 
-  judge_leaves : (rows : List PlainRow) (in_app : Bool) (line : List ℕ) → Leaves Are (judge rows in_app d line)
+  judge_leaves : (rows : List PlainFormRow) (in_app : Bool) (line : List ℕ) → Leaves Are (judge rows in_app d line)
   judge_leaves rows in_app line =
       let told = judge_words rows in_app d (words_of line) in
       demanded (list_all is_printable line) kind.Byte (demand (leb (length line) MAX_LINE) kind.Long told)
@@ -221,7 +221,7 @@ module _ (Are : List PlainNode → Type 0) (is : IsOfNodes Are) (d : PlainDraft)
       by_demand true made = let same : whole ≡ scene = cc in subst (λ (one : PlainScene). Are one.nodes) same all
       by_demand false made = absurd (cc)
 
-from_leaves : (Are : List PlainNode → Type 0) (is : IsOfNodes Are) (rows : List PlainRow) (lines earlier : List (List ℕ)) (d : PlainDraft) (scene : PlainScene) → Are d.nodes → scene_from rows earlier d lines ≡ Ok scene → Are scene.nodes
+from_leaves : (Are : List PlainNode → Type 0) (is : IsOfNodes Are) (rows : List PlainFormRow) (lines earlier : List (List ℕ)) (d : PlainDraft) (scene : PlainScene) → Are d.nodes → scene_from rows earlier d lines ≡ Ok scene → Are scene.nodes
 unfolding scene_from
 from_leaves Are is rows [] earlier d scene all e =
     unlined (λ (s : PlainScene). Are s.nodes) (length earlier) (finish d) (λ s. Ok s) scene

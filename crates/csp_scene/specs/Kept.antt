@@ -11,7 +11,7 @@ use Rattle.csp_scene.specs.Ranges.{HasEnds, IsMtu, IsNode, IsPlanned, IsSchedule
 use Rattle.csp_scene.specs.Table.{keyword_text, fixed_of, optional_of, shapes_of}
 use Rattle.csp_scene.specs.Checks.{all_pass, has_count}
 use Rattle.csp_scene.specs.Arguments.{keyword_place}
-use Rattle.csp_scene.specs.Rows.{PlainRow}
+use Rattle.csp_scene.specs.Rows.{PlainFormRow}
 use Rattle.csp_scene.specs.Judge.{Refusal, is_in_app, scene_from}
 use Rattle.csp_scene.specs.Draft.{PlainDraft}
 use Rattle.csp_scene.specs.declared.limits.TheConstants.{MAX_UNTIL, MAX_NODES, MAX_LINKS, MAX_HUB_NODES, DEFAULT_MTU, MAX_FAULTS}
@@ -151,7 +151,7 @@ Judged (Err (Kind kind)) d told = told ≡ Err kind
 Judged (Err NoMemory) d told = Unit {0}
 
 -- after some lines a draft stands, the next line has this number, a step may stand there or not, and with the lines left the text gives what it is told to
-pub record IsRead (rows : List PlainRow) (number : ℕ) (in_app : Bool) (d : PlainDraft) (left : List (List ℕ)) (told : Result PlainScene Refusal) : Type 0 where
+pub record IsRead (rows : List PlainFormRow) (number : ℕ) (in_app : Bool) (d : PlainDraft) (left : List (List ℕ)) (told : Result PlainScene Refusal) : Type 0 where
   pub earlier : List (List ℕ)
   pub counted : number ≡ length earlier + 1
   pub stands : in_app ≡ is_in_app rows earlier

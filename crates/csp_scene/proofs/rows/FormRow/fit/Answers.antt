@@ -3,7 +3,7 @@ use Rattle.std.proofs.lemmas.List.{length-map}
 use Rattle.csp_scene.specs.Checks.{has_count}
 use Rattle.csp_scene.specs.Kept.{IsShapeOf}
 use Rattle.csp_scene.proofs.Shapes.{counted, Fits-from_shape, FitsShape-from_shape}
-use Rattle.csp_scene.proofs.rows.Row.fit.Goals as goal
+use Rattle.csp_scene.proofs.rows.FormRow.fit.Goals as goal
 
 pub returns-clause-fits : goal.returns-clause-fits
 returns-clause-fits c =
