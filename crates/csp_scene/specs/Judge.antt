@@ -9,7 +9,7 @@ use Rattle.csp_scene.specs.Arguments.{word_at}
 use Rattle.csp_scene.specs.Naming.{is_hub_called}
 use Rattle.csp_scene.specs.Checks.{whole_passes}
 use Rattle.csp_scene.specs.Rows.{PlainFormRow, all_rows, begins, begins_step, begins_count, has_choice}
-use Rattle.csp_scene.specs.Draft.{PlainDraft, no_draft, demand, and_then}
+use Rattle.csp_scene.specs.Sketch.{PlainSketch, no_sketch, demand, and_then}
 use Rattle.csp_scene.specs.State.{state, finish}
 use Rattle.csp_scene.specs.declared.limits.TheConstants.{MAX_LINE}
 use Rattle.csp_scene.specs.declared.checks.Check.TheVariants as check
@@ -44,14 +44,14 @@ is_comment [] = false
 is_comment (byte ∷ bytes) = byte == 35
 
 -- a line by its words: one without words, or a comment, is ignored
-abbrev pub judge_words : List PlainFormRow → Bool → PlainDraft → List (List ℕ) → Result PlainDraft SceneKind
+abbrev pub judge_words : List PlainFormRow → Bool → PlainSketch → List (List ℕ) → Result PlainSketch SceneKind
 judge_words rows in_app d [] = Ok d
 judge_words rows in_app d (first ∷ args) =
     if is_comment first then Ok d
     else and_then (row_for rows in_app (is_hub_called (word_at args 0) d.links) first args) (λ row. state row.form row.shape d args)
 
--- the draft after a line, or the first kind that fits the line
-abbrev pub judge : List PlainFormRow → Bool → PlainDraft → List ℕ → Result PlainDraft SceneKind
+-- the sketch after a line, or the first kind that fits the line
+abbrev pub judge : List PlainFormRow → Bool → PlainSketch → List ℕ → Result PlainSketch SceneKind
 judge rows in_app d line =
     demand (list_all is_printable line) kind.Byte
     (demand (nat_le (length line) MAX_LINE) kind.Long
@@ -83,11 +83,11 @@ in_line earlier (Ok a) next = next a
 in_line earlier (Err kind) next = Err (record { line = earlier + 1; kind = kind })
 
 -- the scene of the lines that are left, after earlier lines, the last of them first, and what they state
-unfoldable pub scene_from : List PlainFormRow → List (List ℕ) → PlainDraft → List (List ℕ) → Result PlainScene Refusal
+unfoldable pub scene_from : List PlainFormRow → List (List ℕ) → PlainSketch → List (List ℕ) → Result PlainScene Refusal
 scene_from rows earlier d [] = in_line (length earlier) (finish d) (λ scene. Ok scene)
 scene_from rows earlier d (line ∷ lines) =
     in_line (length earlier) (judge rows (is_in_app rows earlier) d line) (λ next. scene_from rows (line ∷ earlier) next lines)
 
 -- the scene of a text, or its first refused line with the first kind that fits it
 abbrev pub scene_of : List ℕ → Result PlainScene Refusal
-scene_of text = scene_from all_rows [] no_draft (lines_of text)
+scene_of text = scene_from all_rows [] no_sketch (lines_of text)

@@ -10,14 +10,14 @@ ghost use Rattle.csp_scene.specs.Arguments.{word_at};
 ghost use Rattle.csp_scene.specs.Rows.{begins, begins_step, begins_count, has_choice};
 ghost use Rattle.csp_scene.specs.Judge.{is_printable, fit, row_for, is_comment, judge_words, judge, is_passed_over, begins_app};
 ghost use Rattle.csp_text.specs.Cut.{words_of};
-ghost use Rattle.csp_scene.specs.Kept.{IsDraft, Fits, FitsShape, Judged};
+ghost use Rattle.csp_scene.specs.Kept.{IsSketch, Fits, FitsShape, Judged};
 
 use crate::arguments::word_at;
-use crate::draft::{Draft, LineError};
 use crate::limits::MAX_LINE;
 use crate::naming::is_hub_called;
 use crate::refusal::SceneKind;
 use crate::rows::FormRow;
+use crate::sketch::{LineError, Sketch};
 use crate::table::Form;
 use csp_text::words;
 use std::alloc::Global;
@@ -118,7 +118,7 @@ fn stays_in_app(table: &[FormRow], in_app: bool, words: &[&[u8]]) -> bool
     *first == Form::App.word()
 }
 
-impl Draft {
+impl Sketch {
     /// Which row a line is of, by its words and the hubs that there are.
     fn row_of<'a>(
         &self,
@@ -143,9 +143,9 @@ impl Draft {
         in_app: bool,
         words: &[&[u8]],
     ) -> Result<(), LineError>
-        requires { IsDraft self.old }
+        requires { IsSketch self.old }
         ensures answer { Judged result self.new (judge_words table.now in_app self.old (map (λ word. word.now) words.now)) }
-        ensures kept { OnOk result (IsDraft self.new) }
+        ensures kept { OnOk result (IsSketch self.new) }
     {
         let Some((first, args)) = words.split_first() else {
             return Ok(());
@@ -168,10 +168,10 @@ impl Draft {
         in_app: bool,
         line: &[u8],
     ) -> Result<bool, LineError>
-        requires { IsDraft self.old }
+        requires { IsSketch self.old }
         ensures answer { Judged result self.new (judge table.now in_app self.old line.now) }
         ensures stays { IfOk result (λ stays. stays ≡ (if is_passed_over table.now (words_of line.now) then in_app else begins_app (words_of line.now))) }
-        ensures kept { OnOk result (IsDraft self.new) }
+        ensures kept { OnOk result (IsSketch self.new) }
     {
         if !is_printable(line) {
             return Err(LineError::Kind(SceneKind::Byte));
