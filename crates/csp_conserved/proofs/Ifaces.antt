@@ -15,7 +15,7 @@ use Rattle.csp_iface.specs.PlainIface.{PlainIface, holds}
 use Rattle.csp_iface.specs.Planning.{first_rule, plan_of, side_plan}
 use Rattle.csp_iface.specs.Sending.{frames_of, next_node, sent_trace}
 use Rattle.csp_iface.specs.Telling.{begun, caught, fetched, filled, is_too_big, kept, packet_in, pushed, taken_up, tells, told_by}
-use Rattle.csp_iface.specs.declared.packet.Packet.{Packet}
+use Rattle.csp_iface.specs.declared.packet.WholePacket.{WholePacket}
 use Rattle.csp_iface.specs.declared.plan.IfacePlan.{IfacePlan}
 use Rattle.csp_iface.specs.declared.plan.IfacePlan.TheVariants as plan
 use Rattle.csp_iface.specs.declared.plan.Side.{Side}
@@ -54,7 +54,7 @@ item_among k (item.Packet _ _) = refl
 item_among k (item.Frame _) = refl
 item_among k (item.Note _) = refl
 
-filled_among : (k : ℕ) (p : Option Packet) (b : Content) → among k (filled p b ∷ []) ≡ among k (b ∷ [])
+filled_among : (k : ℕ) (p : Option WholePacket) (b : Content) → among k (filled p b ∷ []) ≡ among k (b ∷ [])
 filled_among k None b = refl
 filled_among k (Some _) b = refl
 
@@ -166,7 +166,7 @@ side_free s side.Sending [] e free = (free, e)
 side_free s side.Sending (f ∷ fs) e free = free
 side_free s side.Receiving frames e free = tt
 
-first_free : (s : PlainIface) (back accepted : Option Content) (whole : Option Packet) → s.back ≡ back → s.accepted ≡ accepted → IsFree s (first_rule back accepted whole (side_plan s.side s.frames))
+first_free : (s : PlainIface) (back accepted : Option Content) (whole : Option WholePacket) → s.back ≡ back → s.accepted ≡ accepted → IsFree s (first_rule back accepted whole (side_plan s.side s.frames))
 first_free s (Some b) accepted whole e f = tt
 first_free s None (Some b) whole e f = e
 first_free s None None (Some p) e f = f

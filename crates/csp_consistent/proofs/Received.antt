@@ -13,7 +13,7 @@ use Rattle.csp_iface.specs.Links.{receiver_for}
 use Rattle.csp_iface.specs.Planning.{plan_of, first_rule, side_plan}
 use Rattle.csp_iface.specs.Receiving.{Heard, arrived, heard, read_further}
 use Rattle.csp_iface.specs.Telling.{told_by, fetched, caught, hearing, pushed, kept, filled, going_on, has_packet, is_too_big, read_after, taken_up, tells, resting, unmoved}
-use Rattle.csp_iface.specs.declared.packet.Packet.{Packet}
+use Rattle.csp_iface.specs.declared.packet.WholePacket.{WholePacket as Packet}
 use Rattle.csp_iface.specs.declared.plan.IfacePlan.{IfacePlan as Plan}
 use Rattle.csp_iface.specs.declared.plan.IfacePlan.TheVariants as plan
 use Rattle.csp_iface.specs.declared.plan.Side.{Side}

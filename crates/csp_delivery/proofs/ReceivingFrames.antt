@@ -15,7 +15,7 @@ use Rattle.csp_can.specs.declared.identifiers.Kind.TheVariants.{Begin, More}
 use Rattle.csp_can.specs.declared.partials.Partial.{Partial}
 use Rattle.csp_can.specs.declared.partials.TheConstants.{MAX_PARTIALS}
 use Rattle.csp_iface.specs.Receiving.{Heard, heard, heard_by, packet_of, read_further, reassembled}
-use Rattle.csp_iface.specs.declared.packet.Packet.{Packet}
+use Rattle.csp_iface.specs.declared.packet.WholePacket.{WholePacket}
 use Rattle.csp_iface.specs.declared.receiver.Receiver.{Receiver}
 use Rattle.csp_iface.specs.declared.receiver.Receiver.TheVariants as by
 use Rattle.csp_iface.specs.declared.receiver.TheConstants.{MAX_HOPS}
@@ -34,7 +34,7 @@ module _ (o : Origin) where
   named t = cond (names o t) 1 0
 
   -- a whole packet, where there is one
-  abbrev pub whole_of : Option Packet → ℕ
+  abbrev pub whole_of : Option WholePacket → ℕ
   whole_of p = option_map_or (λ k. named k.trace) p 0
 
   -- the partial packets whose traces name it

@@ -12,7 +12,7 @@ use Rattle.csp_iface.specs.PlainIface.{PlainIface}
 use Rattle.csp_iface.specs.Planning.{plan_of, side_plan}
 use Rattle.csp_iface.specs.Receiving.{heard, read_further}
 use Rattle.csp_iface.specs.Telling.{fetched, filled, going_on, has_packet, hearing, is_too_big, kept, pushed, taken_up, tells, unmoved}
-use Rattle.csp_iface.specs.declared.packet.Packet.{Packet}
+use Rattle.csp_iface.specs.declared.packet.WholePacket.{WholePacket}
 use Rattle.csp_iface.specs.declared.plan.IfacePlan.{IfacePlan}
 use Rattle.csp_iface.specs.declared.plan.IfacePlan.TheVariants as plan
 use Rattle.csp_link.specs.Telling.{frame_in}
@@ -126,7 +126,7 @@ module _ (o : Origin) where
   fetched_few n (item.Note _) s h = h
 
   -- a whole packet takes a buffer
-  filled_few : (accepted : Option Content) (whole : Option Packet) (b : Content) (kept n : ℕ) → (k : Packet) × (whole ≡ Some k) → accepted_of accepted + (whole_of o whole + kept) ≤ n → accepted_of (Some (filled whole b)) + (0 + kept) ≤ n
+  filled_few : (accepted : Option Content) (whole : Option WholePacket) (b : Content) (kept n : ℕ) → (k : WholePacket) × (whole ≡ Some k) → accepted_of accepted + (whole_of o whole + kept) ≤ n → accepted_of (Some (filled whole b)) + (0 + kept) ≤ n
   filled_few accepted None b kept n there h = absurd cc
   filled_few accepted (Some p) b kept n there h = omega (arith, h)
 
@@ -144,7 +144,7 @@ module _ (o : Origin) where
           (new.bus, omega (arith, h.1, new.few))
       by false = more_few n (cond (is_first_of o f) 1 0) s h
 
-  told_few : (n : ℕ) (s : PlainIface) (now : ℕ) (p : IfacePlan) (a : AnswerShown) → (p ≡ plan.Take → (k : Packet) × (s.whole ≡ Some k)) → HoldsFew n (waiting s p)
+  told_few : (n : ℕ) (s : PlainIface) (now : ℕ) (p : IfacePlan) (a : AnswerShown) → (p ≡ plan.Take → (k : WholePacket) × (s.whole ≡ Some k)) → HoldsFew n (waiting s p)
       → HoldsFew (n + came_there (queue.Rx s.number) (op_of s p) a) (told s now p a)
   told_few n s now plan.Return answer.Given take h = more_few n _ s h
   told_few n s now plan.Return (answer.PoolFull b) take h = more_few n _ s h
@@ -173,7 +173,7 @@ module _ (o : Origin) where
       let p : IfacePlan = plan_of s in
       let came : ℕ = came_there (queue.Rx s.number) (op_of s p) a in
       let handed : put_there (op_of s p) a + held_by (waiting s p) ≤ held_by s = handed_few s p a in
-      let take : p ≡ plan.Take → (k : Packet) × (s.whole ≡ Some k) = taking s.back s.accepted s.whole (side_plan s.side s.frames) (never_taking s.side s.frames) in
+      let take : p ≡ plan.Take → (k : WholePacket) × (s.whole ≡ Some k) = taking s.back s.accepted s.whole (side_plan s.side s.frames) (never_taking s.side s.frames) in
       let after : HoldsFew (held_by (waiting s p) + came) (tells (asked s now) now a) =
       reads_few (held_by (waiting s p) + came) (told s now p a) (told_few (held_by (waiting s p)) s now p a take (waiting_bus s p bus, omega arith)) in
       record { bus = after.0; few = omega (arith, handed, after.1) }

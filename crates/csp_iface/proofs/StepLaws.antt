@@ -13,7 +13,7 @@ use Rattle.csp_iface.specs.PlainIface.{PlainIface, uses, holds}
 use Rattle.csp_iface.specs.Room.{CanHear, plain_iface}
 use Rattle.csp_iface.specs.Telling.{told_by, packet_in, filled, pushed, kept, begun, is_too_big, taken_up, fetched, caught, resting, answered, tells}
 use Rattle.csp_iface.specs.declared.iface.Iface.TheInside.{Inside}
-use Rattle.csp_iface.specs.declared.packet.Packet.{Packet}
+use Rattle.csp_iface.specs.declared.packet.WholePacket.{WholePacket}
 use Rattle.csp_iface.specs.declared.plan.IfacePlan.{IfacePlan}
 use Rattle.csp_iface.specs.declared.plan.IfacePlan.TheVariants as plan
 use Rattle.csp_log.specs.Kinds.{carried_on}
@@ -109,7 +109,7 @@ item_law k (item.Packet _ _) = refl
 item_law k (item.Frame _) = refl
 item_law k (item.Note _) = refl
 
-filled_number : (k : ℕ) (p : Option Packet) (b : Content) → among k (filled p b ∷ []) ≡ among k (b ∷ [])
+filled_number : (k : ℕ) (p : Option WholePacket) (b : Content) → among k (filled p b ∷ []) ≡ among k (b ∷ [])
 filled_number k None b = refl
 filled_number k (Some _) b = refl
 

@@ -2,7 +2,7 @@
 use Rattle.std.specs.Prelude.{Option, Some, None, List, [], ◌∷◌}
 use Rattle.csp_buffer.specs.Content.{Content}
 use Rattle.csp_iface.specs.PlainIface.{PlainIface}
-use Rattle.csp_iface.specs.declared.packet.Packet.{Packet}
+use Rattle.csp_iface.specs.declared.packet.WholePacket.{WholePacket}
 use Rattle.csp_iface.specs.declared.plan.IfacePlan.{IfacePlan}
 use Rattle.csp_iface.specs.declared.plan.IfacePlan.TheVariants as plan
 use Rattle.csp_iface.specs.declared.plan.Side.{Side}
@@ -16,7 +16,7 @@ side_plan side.Sending (_ ∷ _) = plan.Transmit
 side_plan side.Receiving _ = plan.Receive
 
 -- 1. a buffer to be given back; 2. an accepted packet in its buffer; 3. a whole packet without one; 4. else the side whose turn it is
-abbrev pub first_rule : Option Content → Option Content → Option Packet → IfacePlan → IfacePlan
+abbrev pub first_rule : Option Content → Option Content → Option WholePacket → IfacePlan → IfacePlan
 first_rule (Some _) accepted whole own = plan.Return
 first_rule None (Some _) whole own = plan.Deliver
 first_rule None None (Some _) own = plan.Take

@@ -6,7 +6,7 @@ use Rattle.csp_iface.specs.Heeding.{is_for}
 use Rattle.csp_iface.specs.PlainIface.{PlainIface}
 use Rattle.csp_iface.specs.Receiving.{Heard, heard, read_further}
 use Rattle.csp_iface.specs.Sending.{sent_trace, next_node, frames_of}
-use Rattle.csp_iface.specs.declared.packet.Packet.{Packet}
+use Rattle.csp_iface.specs.declared.packet.WholePacket.{WholePacket}
 use Rattle.csp_iface.specs.declared.plan.IfacePlan.{IfacePlan}
 use Rattle.csp_iface.specs.declared.plan.IfacePlan.TheVariants as plan
 use Rattle.csp_log.specs.declared.event.Event.{Event}
@@ -38,7 +38,7 @@ packet_in (item.Frame _) = None
 packet_in (item.Note _) = None
 
 -- the whole packet in a cleared buffer
-abbrev pub filled : Option Packet → Content → Content
+abbrev pub filled : Option WholePacket → Content → Content
 filled (Some p) b = record { number = b.number; header = p.header; payload = p.payload.items; trace = p.trace }
 filled None b = b
 

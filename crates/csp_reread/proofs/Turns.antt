@@ -15,7 +15,7 @@ use Rattle.csp_iface.specs.PlainIface.{PlainIface}
 use Rattle.csp_iface.specs.Planning.{plan_of, first_rule, side_plan}
 use Rattle.csp_iface.specs.Sending.{sent_trace, next_node, frames_of}
 use Rattle.csp_iface.specs.Telling.{told_by, caught, pushed, bad, is_too_big, taken_up}
-use Rattle.csp_iface.specs.declared.packet.Packet.{Packet}
+use Rattle.csp_iface.specs.declared.packet.WholePacket.{WholePacket}
 use Rattle.csp_iface.specs.declared.plan.IfacePlan.{IfacePlan}
 use Rattle.csp_iface.specs.declared.plan.IfacePlan.TheVariants as plan
 use Rattle.csp_iface.specs.declared.plan.Side.{Side}
@@ -255,7 +255,7 @@ module _ (cover : Bool) (s : PlainIface) (now k : ℕ) (covered : covers s.kind 
   fetch_turn (answer.Full i) = idle (answer.Full i) (none_made (reports s now k plan.Fetch (answer.Full i)) None refl) refl
 
 -- a packet is fetched only where no frame is left
-spent_by : (back accepted : Option Content) (whole : Option Packet) (which : Side) (fs : List Frame) → first_rule back accepted whole (side_plan which fs) ≡ plan.Fetch → fs ≡ []
+spent_by : (back accepted : Option Content) (whole : Option WholePacket) (which : Side) (fs : List Frame) → first_rule back accepted whole (side_plan which fs) ≡ plan.Fetch → fs ≡ []
 spent_by back accepted whole which [] e = refl
 spent_by (Some _) accepted whole which (f ∷ fs) e = absurd cc
 spent_by None (Some _) whole which (f ∷ fs) e = absurd cc

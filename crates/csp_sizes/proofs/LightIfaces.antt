@@ -19,7 +19,7 @@ use Rattle.csp_iface.specs.Receiving.{Heard, arrived, followed, heard, heard_by,
 use Rattle.csp_iface.specs.Sending.{frames_of, kiss_frame, next_node, sent_trace}
 use Rattle.csp_iface.specs.Telling as telling
 use Rattle.csp_iface.specs.Telling.{tells}
-use Rattle.csp_iface.specs.declared.packet.Packet.{Packet}
+use Rattle.csp_iface.specs.declared.packet.WholePacket.{WholePacket}
 use Rattle.csp_iface.specs.declared.plan.IfacePlan.TheVariants as plan
 use Rattle.csp_iface.specs.declared.plan.IfacePlan.{IfacePlan}
 use Rattle.csp_iface.specs.declared.receiver.Receiver.TheVariants as by
@@ -152,7 +152,7 @@ packet_back (item.Packet mark b) h = h
 packet_back (item.Frame f) h = tt
 packet_back (item.Note n) h = tt
 
-filled_light : (o : Option Packet) (b : Content) → IfSome o (λ p. length p.payload.items ≤ 531) → IsLight b → IsLight (telling.filled o b)
+filled_light : (o : Option WholePacket) (b : Content) → IfSome o (λ p. length p.payload.items ≤ 531) → IsLight b → IsLight (telling.filled o b)
 filled_light None b short light = light
 filled_light (Some p) b short light = short
 
