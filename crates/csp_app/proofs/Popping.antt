@@ -8,7 +8,7 @@ use Rattle.csp_app.specs.Room.{CanHear, CanLook}
 use Rattle.csp_app.specs.Slots.{took}
 use Rattle.csp_app.specs.Steps.{turn_of}
 use Rattle.csp_app.specs.Telling.{told_by, at_rest}
-use Rattle.csp_app.specs.Told.{after}
+use Rattle.csp_app.specs.ToldApp.{after}
 use Rattle.csp_app.specs.Turn.{kind_of_turn, looked, popped}
 use Rattle.csp_app.specs.declared.plan.AppPlan.{AppPlan}
 use Rattle.csp_app.specs.declared.plan.AppPlan.TheVariants as plan

@@ -14,7 +14,7 @@ use Rattle.csp_app.specs.Room.{CanHear}
 use Rattle.csp_app.specs.Slots.{slot_at, slots_after, used_on, noted, counted}
 use Rattle.csp_app.specs.Steps.{batch, turn_of, pushed_one, answered, recv_end, received, wait_end, waited, is_enough, gives_up, has_passed}
 use Rattle.csp_app.specs.Telling.{told_by, at_rest}
-use Rattle.csp_app.specs.Told.{next}
+use Rattle.csp_app.specs.ToldApp.{next}
 use Rattle.csp_app.specs.Turn.{giving_op, pushing_op, op_of, popped}
 use Rattle.csp_app.specs.declared.plan.AppPlan.{AppPlan}
 use Rattle.csp_app.specs.declared.plan.AppPlan.TheVariants as plan

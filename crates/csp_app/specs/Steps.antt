@@ -4,7 +4,7 @@ use Rattle.std.specs.Option.{option_map}
 use Rattle.csp_app.specs.Making.{Batch, batch_at, filled, packet_in, mark_in}
 use Rattle.csp_app.specs.PlainApp.{PlainApp}
 use Rattle.csp_app.specs.Slots.{slot_at, used_on}
-use Rattle.csp_app.specs.Told.{Told, still, over, over_with, put_off, not_an_answer}
+use Rattle.csp_app.specs.ToldApp.{ToldApp, still, over, over_with, put_off, not_an_answer}
 use Rattle.csp_app.specs.Turn.{Turn, rests, takes, gives, pushes, pops}
 use Rattle.csp_app.specs.declared.plan.AppPlan.{AppPlan}
 use Rattle.csp_app.specs.declared.plan.AppPlan.TheVariants as plan
@@ -85,12 +85,12 @@ abbrev pub packet_made : PlainApp → Option ItemShown
 packet_made s = option_map (λ b. item.Packet s.mark b) s.made
 
 -- one more packet of the step was pushed: with the last of them it is done
-abbrev pub pushed_one : (is_more : Bool) → PlainApp → Told
+abbrev pub pushed_one : (is_more : Bool) → PlainApp → ToldApp
 pushed_one true s = still (record s { sent = s.sent + 1 })
 pushed_one false s = over s
 
 -- a note that came while an answer is awaited: each but Down is the answer, and Refused is reported
-abbrev pub answered_by : PlainApp → Note → Told
+abbrev pub answered_by : PlainApp → Note → ToldApp
 answered_by s note.Bound = over s
 answered_by s (note.Connected _) = over s
 answered_by s (note.Closed _) = over s
@@ -101,7 +101,7 @@ answered_by s (note.Connect _ _ _ _ _ _) = not_an_answer s
 answered_by s (note.Close _) = not_an_answer s
 
 -- an answer is awaited, and this note came, if it is one
-abbrev pub answered : Option Note → PlainApp → Told
+abbrev pub answered : Option Note → PlainApp → ToldApp
 answered None s = still s
 answered (Some n) s = answered_by s n
 
@@ -119,27 +119,27 @@ gives_up (Some rounds) now s = has_passed rounds now s
 gives_up None now s = false
 
 -- `recv` is satisfied and uses its packets
-abbrev pub satisfied : ℕ → ℕ → PlainApp → Told
+abbrev pub satisfied : ℕ → ℕ → PlainApp → ToldApp
 satisfied slot packets s = over (record s { slots = used_on slot packets s.slots })
 
 -- after each pop of `recv`, in this order: there are enough packets; the rounds have passed; the slot is down
-abbrev pub recv_end : ℕ → ℕ → (enough passed down : Bool) → PlainApp → Told
+abbrev pub recv_end : ℕ → ℕ → (enough passed down : Bool) → PlainApp → ToldApp
 recv_end slot packets true _ _ s = satisfied slot packets s
 recv_end slot packets false true _ s = over_with (event.GaveUp (s.done + 1)) s
 recv_end slot packets false false true s = over_with (event.SlotDown (s.done + 1)) s
 recv_end slot packets false false false s = still s
 
 -- a `recv` step after a pop, as the packets, rounds and slot now stand
-abbrev pub received : ℕ → ℕ → Option ℕ → ℕ → PlainApp → Told
+abbrev pub received : ℕ → ℕ → Option ℕ → ℕ → PlainApp → ToldApp
 received slot packets rounds now s = recv_end slot packets (is_enough slot packets s) (gives_up rounds now s) (slot_at s.slots slot).down s
 
 -- after each pop of `wait`: the rounds have passed
-abbrev pub wait_end : (passed : Bool) → PlainApp → Told
+abbrev pub wait_end : (passed : Bool) → PlainApp → ToldApp
 wait_end true s = over s
 wait_end false s = still s
 
 -- a `wait` step after a pop
-abbrev pub waited : ℕ → ℕ → PlainApp → Told
+abbrev pub waited : ℕ → ℕ → PlainApp → ToldApp
 waited rounds now s = wait_end (has_passed rounds now s) s
 
 -- ---- the table: what each turn asks, and what each answer comes to

@@ -21,7 +21,7 @@ impl App {
     ghost use Rattle.csp_app.specs.Room.{CanLook, GoesOn};
     ghost use Rattle.csp_app.specs.Steps.{batch, making, pushed_one, answered_by, received, waited, turn_of};
     ghost use Rattle.csp_app.specs.Telling.{tells, events, at_rest};
-    ghost use Rattle.csp_app.specs.Told.{next};
+    ghost use Rattle.csp_app.specs.ToldApp.{next};
     ghost use Rattle.csp_app.specs.Turn.{looked};
     ghost use Rattle.std.specs.Prelude.{slice_get, nat_lt, ◌++◌};
 

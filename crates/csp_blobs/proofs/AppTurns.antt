@@ -13,7 +13,7 @@ use Rattle.csp_app.specs.PlainStep.{PlainStep}
 use Rattle.csp_app.specs.Slots.{fresh, slot_at, took}
 use Rattle.csp_app.specs.Steps.{answered, batch, gives_up, has_passed, is_enough, plan_of, pushed_one, recv_end, turn_of, wait_end}
 use Rattle.csp_app.specs.Telling.{at_rest}
-use Rattle.csp_app.specs.Told.{Told}
+use Rattle.csp_app.specs.ToldApp.{ToldApp}
 use Rattle.csp_app.specs.Turn.{Turn, gives, giving_op, op_of, popped, pops, pushes, pushing_op, rests, takes, told_of, until_told}
 use Rattle.csp_app.specs.declared.plan.AppPlan.{AppPlan}
 use Rattle.csp_app.specs.declared.plan.AppPlan.TheVariants as plan
@@ -49,7 +49,7 @@ IsSilent k o es = Tells k o es [] []
 
 module _ (number k o : ℕ) where
   -- a turn comes to this
-  abbrev Comes : ℕ → Option Gathering → Told → Type 0
+  abbrev Comes : ℕ → Option Gathering → ToldApp → Type 0
   Comes n c t = Stands number k n c t.state × IsSilent k o t.events
 
   silent : IsSilent k o []
@@ -109,12 +109,12 @@ module _ (number k o : ℕ) where
   -- ---- what came of a turn
 
   -- it popped nothing
-  record IsQuiet (n : ℕ) (c : Option Gathering) (op : OpShown) (a : AnswerShown) (t : Told) : Type 0 where
+  record IsQuiet (n : ℕ) (c : Option Gathering) (op : OpShown) (a : AnswerShown) (t : ToldApp) : Type 0 where
     pub none : got_by (queue.Down number) op a ≡ []
     pub comes : Comes n c t
 
   -- it popped an item, in this state
-  record HasPopped (n : ℕ) (c : Option Gathering) (s : PlainApp) (op : OpShown) (a : AnswerShown) (t : Told) : Type 0 where
+  record HasPopped (n : ℕ) (c : Option Gathering) (s : PlainApp) (op : OpShown) (a : AnswerShown) (t : ToldApp) : Type 0 where
     pub got : ItemShown
     pub one : got_by (queue.Down number) op a ≡ got ∷ []
     pub rest : List Event
@@ -122,7 +122,7 @@ module _ (number k o : ℕ) where
     pub silence : IsSilent k o rest
     pub state : Stands number k (ends_by k n got) (collector_by k got c) t.state
 
-  abbrev HasGone : ℕ → Option Gathering → PlainApp → OpShown → AnswerShown → Told → Type 0
+  abbrev HasGone : ℕ → Option Gathering → PlainApp → OpShown → AnswerShown → ToldApp → Type 0
   HasGone n c s op a t = IsQuiet n c op a t ⊎ HasPopped n c s op a t
 
   stands_popped : (n : ℕ) (c : Option Gathering) (i : ItemShown) (s : PlainApp) → Stands number k n c s → Stands number k (ends_by k n i) (collector_by k i c) (popped i s)
@@ -193,7 +193,7 @@ module _ (number k o : ℕ) where
   -- ---- the run
 
   -- what a turn tells, and then what later ones tell
-  then_tells : (n : ℕ) (c : Option Gathering) (s : PlainApp) (op : OpShown) (a : AnswerShown) (t : Told) (js : List ItemShown) (es : List Event) → Stands number k n c s → HasGone n c s op a t
+  then_tells : (n : ℕ) (c : Option Gathering) (s : PlainApp) (op : OpShown) (a : AnswerShown) (t : ToldApp) (js : List ItemShown) (es : List Event) → Stands number k n c s → HasGone n c s op a t
       → ((m : ℕ) (d : Option Gathering) → Stands number k m d t.state → TellsOf k o m d js es) → TellsOf k o n c (got_by (queue.Down number) op a ++ js) (t.events ++ es)
   then_tells n c s op a t js es h (inl quiet) later =
       subst (λ is. TellsOf k o n c (is ++ js) (t.events ++ es)) (sym quiet.none)
@@ -213,7 +213,7 @@ module _ (number k o : ℕ) where
       tells_same k o [] [] (blobs_by (begun_with (n == o) c) []) [] (refusals_by (begun_with (n == o) c) []) (sym (blobs_of_none (begun_with (n == o) c))) (sym (refusals_of_none (begun_with (n == o) c))) silent
   run_tells (e ∷ es) n c time s run h =
       let rest : PlainApp = at_rest (asked s e.time) in
-      let t : Told = told_of rest (turn_of rest e.time (plan_of s)) e.answer in
+      let t : ToldApp = told_of rest (turn_of rest e.time (plan_of s)) e.answer in
       let gone = step_goes n c s e.time e.answer h in
       let told : TellsOf k o n c (got_by (queue.Down number) (asks s e.time) e.answer ++ gets (queue.Down number) es) (t.events ++ all_events es) =
       then_tells n c rest (asks s e.time) e.answer t (gets (queue.Down number) es) (all_events es) gone.0 gone.1 (λ m d g. run_tells es m d e.time (step_after app_steps s e) run.2 g) in

@@ -9,7 +9,7 @@ use Rattle.csp_app.specs.PlainApp.{PlainApp}
 use Rattle.csp_app.specs.Slots.{slot_at, took}
 use Rattle.csp_app.specs.Steps.{answered, batch, gives_up, has_passed, is_enough, pushed_one, recv_end, turn_of, wait_end}
 use Rattle.csp_app.specs.Telling as app_telling
-use Rattle.csp_app.specs.Told.{Told}
+use Rattle.csp_app.specs.ToldApp.{ToldApp}
 use Rattle.csp_app.specs.Turn.{Turn, gives, pops, pushes, rests, takes, told_of}
 use Rattle.csp_app.specs.declared.plan.AppPlan.{AppPlan}
 use Rattle.csp_app.specs.declared.plan.AppPlan.TheVariants as app_plan
@@ -114,7 +114,7 @@ iface_clear s now a =
 -- ---- an application
 
 -- what a turn comes to tells of none
-abbrev IsToldClear : Told → Type 0
+abbrev IsToldClear : ToldApp → Type 0
 IsToldClear t = AreClear t.events
 
 -- nor does all that a turn may come to
