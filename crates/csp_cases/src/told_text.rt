@@ -7,16 +7,16 @@ use std::fmt::Display;
 
 /// A text, and what went wrong on the way. Who tells need not stop for it.
 #[derive(Drop)]
-pub(crate) struct Told {
+pub(crate) struct ToldText {
     text: String,
     is_misread: bool,
     lacks_memory: bool,
 }
 
-impl Told {
+impl ToldText {
     /// An empty text.
-    pub(crate) fn new(alloc: Global) -> Told {
-        Told {
+    pub(crate) fn new(alloc: Global) -> ToldText {
+        ToldText {
             text: String::new(alloc),
             is_misread: false,
             lacks_memory: false,
@@ -24,8 +24,8 @@ impl Told {
     }
 
     /// An empty text for what is read in this one, where as much went wrong.
-    pub(crate) fn of(alloc: Global, read: &Told) -> Told {
-        Told {
+    pub(crate) fn of(alloc: Global, read: &ToldText) -> ToldText {
+        ToldText {
             text: String::new(alloc),
             is_misread: read.is_misread,
             lacks_memory: read.lacks_memory,
@@ -108,7 +108,7 @@ impl Told {
     }
 
     /// Appends what was found in the case that ends in this line, where it is not what is wanted.
-    pub(crate) fn push_difference(&mut self, line: u64, found: &Told, wanted: &str) {
+    pub(crate) fn push_difference(&mut self, line: u64, found: &ToldText, wanted: &str) {
         self.lacks_memory = self.lacks_memory || found.lacks_memory;
         let answer = found.answer();
         if found.is_misread || answer != wanted {
