@@ -27,7 +27,7 @@ use Rattle.csp_ports.specs.declared.terms.Wish.TheVariants as wish
 use Rattle.csp_rdp.specs.Changes.{change_between}
 use Rattle.csp_rdp.specs.Jobs.{closing, delivering, ticked}
 use Rattle.csp_rdp.specs.Machine.{PlainRdp}
-use Rattle.csp_rdp.specs.Table.{handed}
+use Rattle.csp_rdp.specs.Table.{after_packet}
 use Rattle.csp_rdp.specs.declared.answers.Change.{Change}
 use Rattle.csp_rdp.specs.declared.answers.Change.TheVariants as change
 use Rattle.csp_rdp.specs.declared.answers.State.{State}
@@ -139,8 +139,8 @@ invited_shape o p app slot c prio flags i time = accepted_shape p app slot c pri
 pub handing_shape : (p : PlainPorts) (app slot : ℕ) (h : RdpHead) (b : Content) (time : ℕ) → shape (handing p app slot h b time).ports ≡ shape p
 handing_shape p app slot h b time =
     let r = machine_at p app slot in
-    let gone = (went r.state machine_why.Reset app slot (handed h b.trace.tag (anywhere b) time r) p).ports in
-    settled_shape time app (dropped app gone).ports ∙ dropped_shape app gone ∙ went_shape r.state machine_why.Reset app slot (handed h b.trace.tag (anywhere b) time r) p
+    let gone = (went r.state machine_why.Reset app slot (after_packet h b.trace.tag (anywhere b) time r) p).ports in
+    settled_shape time app (dropped app gone).ports ∙ dropped_shape app gone ∙ went_shape r.state machine_why.Reset app slot (after_packet h b.trace.tag (anywhere b) time r) p
 
 pub submitting_shape : (p : PlainPorts) (app slot : ℕ) (b : Content) (time : ℕ) → shape (submitting p app slot b time).ports ≡ shape p
 submitting_shape p app slot b time = by (machine_at p app slot).state

@@ -44,7 +44,7 @@ use Rattle.csp_rdp.specs.Counts.{IsFar}
 use Rattle.csp_rdp.specs.Holding.{rdp_buffers, rdp_numbers, rested, taken_out, unneeded}
 use Rattle.csp_rdp.specs.Jobs.{closing, counted, delivering, delivery, keeping_again, sent, taken_in, without_delivery}
 use Rattle.csp_rdp.specs.Machine.{PlainRdp, accepting, connecting, idle}
-use Rattle.csp_rdp.specs.Table.{back_of, handed, row_of}
+use Rattle.csp_rdp.specs.Table.{back_of, after_packet, row_of}
 use Rattle.csp_rdp.specs.declared.answers.State.{State}
 use Rattle.csp_rdp.specs.declared.answers.State.TheVariants.{Closed, SynSent, SynRcvd, Open, CloseWait}
 use Rattle.csp_rdp.specs.declared.answers.Cause.TheVariants as machine_why
@@ -128,7 +128,7 @@ pub flows_handed : (p : PlainPorts) (app slot : ℕ) (head : RdpHead) (b : Conte
 flows_handed p app slot head b time few there h =
     let r = machine_at p app slot in
     let row = row_of r head b.payload in
-    let new = handed head b.trace.tag (anywhere b) time r in
+    let new = after_packet head b.trace.tag (anywhere b) time r in
     let back = pictures (option_to_list (back_of row (anywhere b))) in
     let whole = whole_at p app slot h in
     let one = went r.state machine_why.Reset app slot new p in

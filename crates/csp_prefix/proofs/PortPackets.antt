@@ -13,7 +13,7 @@ use Rattle.csp_ports.specs.Tasks.{delivered, without_packet}
 use Rattle.csp_ports.specs.declared.origin.Origin.{Origin}
 use Rattle.csp_rdp.specs.Jobs.{delivering, delivery, delivery_in, without_delivery}
 use Rattle.csp_rdp.specs.Machine.{PlainRdp}
-use Rattle.csp_rdp.specs.Table.{after, back_of, handed, is_stray, row_in, row_of}
+use Rattle.csp_rdp.specs.Table.{after, back_of, after_packet as handed, is_stray, row_in, row_of}
 use Rattle.csp_rdp.specs.declared.answers.State.{State}
 use Rattle.csp_rdp.specs.declared.answers.State.TheVariants.{Closed, CloseWait, Open, SynRcvd, SynSent}
 use Rattle.csp_rdp.specs.declared.answers.Cause.TheVariants as machine_why

@@ -46,7 +46,7 @@ use Rattle.csp_ports.specs.declared.terms.Wish.TheVariants as wish
 use Rattle.csp_rdp.specs.Changes.{change_between}
 use Rattle.csp_rdp.specs.Jobs.{delivering, ticked}
 use Rattle.csp_rdp.specs.Machine.{PlainRdp}
-use Rattle.csp_rdp.specs.Table.{back_of, handed as machine_handed, is_stray, row_of}
+use Rattle.csp_rdp.specs.Table.{back_of, after_packet as machine_handed, is_stray, row_of}
 use Rattle.csp_rdp.specs.declared.answers.Change.{Change}
 use Rattle.csp_rdp.specs.declared.answers.Change.TheVariants as change
 use Rattle.csp_rdp.specs.declared.answers.State.{State as MachineState}

@@ -23,7 +23,7 @@ use Rattle.csp_rdp.specs.Holding.{loose_buffers, rdp_buffers, rdp_numbers, recv_
 use Rattle.csp_rdp.specs.Jobs.{Says, admitting, closed_in, delivery_in, filled, filled_with, is_ack_due, job_in, job_of, keeping_again, reset_after, says, sending_index, sent, syn_in, taken_in, ticked, timed_out, without_ack}
 use Rattle.csp_rdp.specs.Machine.{PlainRdp, broken, left, owes_eak, owes_rst}
 use Rattle.csp_rdp.specs.Placed.{placed, placed_buffer, placed_kept, placed_pending}
-use Rattle.csp_rdp.specs.Table.{ack_row, acknowledged, after, back_of, data_row, entered, entered_from, handed, is_bad_list, keeping, listing, reset_row, row_in, row_of, since_moved}
+use Rattle.csp_rdp.specs.Table.{ack_row, acknowledged, after, back_of, data_row, entered, entered_from, after_packet, is_bad_list, keeping, listing, reset_row, row_in, row_of, since_moved}
 use Rattle.csp_rdp.specs.declared.answers.State.{State}
 use Rattle.csp_rdp.specs.declared.answers.State.TheVariants.{Closed, SynSent, SynRcvd, Open, CloseWait}
 use Rattle.csp_rdp.specs.declared.jobs.Job.{Job}
@@ -302,7 +302,7 @@ placed-after n (row.Data t) h tag p time r =
     ap (keeping t (placed_buffer n p)) (placed-heard-now n h time r) ∙ placed-keeping n t p (acknowledged h.ack.0 time (entered time r))
 
 pub placed-handed : (n : RegionName) (h : RdpHead) (tag : Option Tag) (p : PlainBuffer) (time : ℕ) (r : PlainRdp) →
-    handed h tag (placed_buffer n p) time (placed n r) ≡ placed n (handed h tag p time r)
+    after_packet h tag (placed_buffer n p) time (placed n r) ≡ placed n (after_packet h tag p time r)
 placed-handed n h tag p time r =
     ap (λ y. after y h tag (placed_buffer n p) time (placed n r)) (placed-row n h p.picture.payload r)
     ∙ placed-after n (row_of r h p.picture.payload) h tag p time r

@@ -158,5 +158,5 @@ back_of (row.Data _) p = None
 back_of _ p = Some p
 
 -- the connection after a packet, by the row that it comes to
-abbrev pub handed : RdpHead → Option Tag → PlainBuffer → ℕ → PlainRdp → PlainRdp
-handed h tag p time r = after (row_of r h p.picture.payload) h tag p time r
+abbrev pub after_packet : RdpHead → Option Tag → PlainBuffer → ℕ → PlainRdp → PlainRdp
+after_packet h tag p time r = after (row_of r h p.picture.payload) h tag p time r

@@ -8,7 +8,7 @@ ghost use Rattle.csp_rdp.specs.Jobs.{admitting, closing, delivering, delivery, f
 ghost use Rattle.csp_rdp.specs.Machine.{accepting, connecting, flow_of, idle, made, una_of};
 ghost use Rattle.csp_rdp.specs.Sound.{IsUnopened};
 ghost use Rattle.csp_rdp.specs.Timer.{times_out, waits_in};
-ghost use Rattle.csp_rdp.specs.Table.{back_of, handed, is_stray, row_of};
+ghost use Rattle.csp_rdp.specs.Table.{back_of, after_packet, is_stray, row_of};
 ghost use Rattle.csp_rdp.specs.declared.answers.Cause.TheVariants as cause;
 ghost use Rattle.csp_rdp_window.specs.Numbers.{left_over, number_in, times};
 ghost use Rattle.csp_rdp_window.specs.Receiving.{is_kept};
@@ -134,7 +134,7 @@ impl Rdp {
 
     /// Hands over a packet, whose head was cut off. It comes to a row of the table of states.
     pub fn handed(&mut self, head: RdpHead, tag: Option<Tag>, packet: Buffer, now: u64) -> Result2
-        ensures state { self.new ≡ handed head tag packet now self.old }
+        ensures state { self.new ≡ after_packet head tag packet now self.old }
         ensures back { result.back ≡ back_of (row_of self.old head packet.picture.payload) packet }
         ensures change { result.change ≡ change_between self.old.state self.new.state cause.Reset }
         ensures stray { result.stray ≡ is_stray (row_of self.old head packet.picture.payload) }

@@ -13,7 +13,7 @@ use Rattle.csp_rdp.proofs.Public.{whole-again, whole-delivered, whole-handed, wh
 use Rattle.csp_rdp.specs.Holding.{recv_rested, rested}
 use Rattle.csp_rdp.specs.Jobs.{admitting, closed_in, closing, delivering, delivery, delivery_in, keeping_again, reset_after, sending_index, sent, taken_in, ticked, timed_out, without_delivery}
 use Rattle.csp_rdp.specs.Machine.{PlainRdp, accepting, broken, connecting, idle, left, owes_rst}
-use Rattle.csp_rdp.specs.Table.{acknowledged, after, back_of, entered, entered_from, handed, keeping, listing, row_in}
+use Rattle.csp_rdp.specs.Table.{acknowledged, after, back_of, entered, entered_from, after_packet, keeping, listing, row_in}
 use Rattle.csp_rdp.specs.declared.answers.State.TheVariants.{Closed, SynSent, SynRcvd, Open, CloseWait}
 use Rattle.csp_rdp.specs.declared.answers.State.{State}
 use Rattle.csp_rdp.specs.declared.jobs.Job.TheVariants as job
@@ -166,7 +166,7 @@ sized_after (row.Data t) h tag p time r e light z =
     let near : t ≤ (entered time r).recv.cur + 41 = subst (λ (w : PlainRecv). t ≤ w.cur + 41) (sym (entered-recv r.state time r)) (awaited_near r.recv t fresh.awaited z.narrow) in
     sized_keeping t p (acknowledged h.ack.0 time (entered time r)) near light (sized_acknowledged h.ack.0 time (entered time r) (sized_entered r.state time r z))
 
-pub handed_light : (h : RdpHead) (tag : Option Tag) (p : PlainBuffer) (time : ℕ) (r : PlainRdp) → IsLight p.picture → IsLightMachine r → IsLightMachine (handed h tag p time r)
+pub handed_light : (h : RdpHead) (tag : Option Tag) (p : PlainBuffer) (time : ℕ) (r : PlainRdp) → IsLight p.picture → IsLightMachine r → IsLightMachine (after_packet h tag p time r)
 handed_light h tag p time r light z = record {
   whole = whole-handed (row_in r.state r h p.picture.payload) h tag p time r refl z.whole;
   sized = sized_after (row_in r.state r h p.picture.payload) h tag p time r refl light z.sized;

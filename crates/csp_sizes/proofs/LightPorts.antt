@@ -33,7 +33,7 @@ use Rattle.csp_rdp.specs.Changes.{change_between}
 use Rattle.csp_rdp.specs.Holding.{rdp_buffers, rested}
 use Rattle.csp_rdp.specs.Jobs.{admitting, closing, head_for, delivering, delivery_in, taken_in, ticked, without_delivery, says}
 use Rattle.csp_rdp.specs.Machine.{PlainRdp, idle}
-use Rattle.csp_rdp.specs.Table.{back_of, handed, row_of, is_stray}
+use Rattle.csp_rdp.specs.Table.{back_of, after_packet, row_of, is_stray}
 use Rattle.csp_rdp.specs.declared.answers.Change.TheVariants as change
 use Rattle.csp_rdp.specs.declared.answers.Change.{Change}
 use Rattle.csp_rdp.specs.declared.answers.State.TheVariants.{Closed, SynSent, SynRcvd, Open, CloseWait}
@@ -195,7 +195,7 @@ pub handing_light : (p : PlainPorts) (app slot : ℕ) (head : RdpHead) (b : Cont
 handing_light p app slot head b time light h =
     let r = machine_at p app slot in
     let y = row_of r head b.payload in
-    let next = handed head b.trace.tag (anywhere b) time r in
+    let next = after_packet head b.trace.tag (anywhere b) time r in
     let third : PlainPorts → Came = λ q. come (settled time app q) in
     let second : PlainPorts → Came = λ q. then (dropped app q) third in
     let first : PlainPorts → Came = λ q. then (went r.state machine_why.Reset app slot next q) second in
