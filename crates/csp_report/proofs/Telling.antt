@@ -7,7 +7,7 @@ use Rattle.std.proofs.lemmas.List.{map-append}
 use Rattle.std.proofs.lemmas.List.Elements.{filter-append}
 use Rattle.std.proofs.lemmas.List.Sums.{take_while-cons}
 use Rattle.csp_report.specs.Lines.{Line}
-use Rattle.csp_report.specs.ReliablePrefix.{is_conn, is_on, following, text_in, ToldConnection, told_by, all_told}
+use Rattle.csp_report.specs.ReliablePrefix.{is_conn, is_on, following, text_in, ToldConnection, told_connection, all_told}
 use Rattle.csp_report.proofs.Cutting.{recut}
 
 -- ---- lines that tell nothing of connections
@@ -54,7 +54,7 @@ all_follow conn (line ∷ lines) rest all closed =
 pub skipped : (lines rest : List Line) → AllByRecursion (λ l. is_conn l ≡ false) lines → all_told (lines ++ rest) ≡ all_told rest
 skipped [] rest all = refl
 skipped (line ∷ lines) rest all =
-    ap (λ t. cond t (told_by line (lines ++ rest) ∷ []) [] ++ all_told (lines ++ rest)) all.0 ∙ skipped lines rest all.1
+    ap (λ t. cond t (told_connection line (lines ++ rest) ∷ []) [] ++ all_told (lines ++ rest)) all.0 ∙ skipped lines rest all.1
 
 -- ---- what lines tell, whatever comes after them
 
@@ -153,7 +153,7 @@ module _ (conn : Line) (sents tooks : List Line) (is : IsBlock conn sents tooks)
       ∙ ap (λ (ls : List Line). ls ++ filter (is_on (codes "took") conn) tooks) (none_pass (is_on (codes "took") conn) sents (each_as (λ l. (is_conn l ≡ false) × (is_on (codes "sent") conn l ≡ true) × (is_on (codes "took") conn l ≡ false)) (λ l. is_on (codes "took") conn l ≡ false) (λ l h. h.2) sents is.sents_told))
       ∙ all_pass (is_on (codes "took") conn) tooks (each_as (λ l. (is_conn l ≡ false) × (is_on (codes "sent") conn l ≡ false) × (is_on (codes "took") conn l ≡ true)) (λ l. is_on (codes "took") conn l ≡ true) (λ l h. h.2) tooks is.tooks_told)
 
-  told_is : (rest : List Line) → IsClosed rest → told_by conn ((sents ++ tooks) ++ rest) ≡ told_block conn sents tooks
+  told_is : (rest : List Line) → IsClosed rest → told_connection conn ((sents ++ tooks) ++ rest) ≡ told_block conn sents tooks
   told_is rest closed =
       ap (λ (ls : List Line). record { line = conn; sent = map text_in (filter (is_on (codes "sent") conn) ls); took = map text_in (filter (is_on (codes "took") conn) ls) }) (block_follows rest closed)
       ∙ ap (λ (ls : List Line). record { line = conn; sent = map text_in ls; took = map text_in (filter (is_on (codes "took") conn) (sents ++ tooks)) }) sent_filtered
@@ -172,7 +172,7 @@ module _ (conn : Line) (sents tooks : List Line) (is : IsBlock conn sents tooks)
 
   block_tells : (rest : List Line) → IsClosed rest → all_told ((conn ∷ sents ++ tooks) ++ rest) ≡ told_block conn sents tooks ∷ all_told rest
   block_tells rest closed =
-      ap (λ t. cond t (told_by conn ((sents ++ tooks) ++ rest) ∷ []) [] ++ all_told ((sents ++ tooks) ++ rest)) is.is_own
+      ap (λ t. cond t (told_connection conn ((sents ++ tooks) ++ rest) ∷ []) [] ++ all_told ((sents ++ tooks) ++ rest)) is.is_own
       ∙ ap (λ (x : ToldConnection). x ∷ all_told ((sents ++ tooks) ++ rest)) (told_is rest closed)
       ∙ ap (λ (ts : List ToldConnection). told_block conn sents tooks ∷ ts) (skipped (sents ++ tooks) rest no_more)
 

@@ -37,13 +37,13 @@ pub record ToldConnection : Type 0 where
   pub took : List (List ℕ)
 
 -- by its line and the lines after it
-abbrev pub told_by : Line → List Line → ToldConnection
-told_by conn lines = record { line = conn; sent = texts_by (codes "sent") conn lines; took = texts_by (codes "took") conn lines }
+abbrev pub told_connection : Line → List Line → ToldConnection
+told_connection conn lines = record { line = conn; sent = texts_by (codes "sent") conn lines; took = texts_by (codes "took") conn lines }
 
 -- all of which lines tell
 abbrev pub all_told : List Line → List ToldConnection
 all_told [] = []
-all_told (line ∷ lines) = (if is_conn line then told_by line lines ∷ [] else []) ++ all_told lines
+all_told (line ∷ lines) = (if is_conn line then told_connection line lines ∷ [] else []) ++ all_told lines
 
 -- its line is `conn NODE APP SLOT ORD rdp NTH ..`, of this node and with this number
 pub record IsOfFlow (node nth : List ℕ) (x : ToldConnection) : Type 0 where
