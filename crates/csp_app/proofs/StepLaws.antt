@@ -11,7 +11,7 @@ use Rattle.csp_app.specs.PlainApp.{PlainApp, uses, holds, buffers}
 use Rattle.csp_app.specs.Asking.{handed}
 use Rattle.csp_app.specs.Making.{packet_in, mark_in, note_in, filled}
 use Rattle.csp_app.specs.Room.{CanHear}
-use Rattle.csp_app.specs.Slots.{slot_at, slots_after, used_on, noted, counted}
+use Rattle.csp_app.specs.Slots.{slot_at, slots_after, used_on, noted, slots_count}
 use Rattle.csp_app.specs.Steps.{batch, turn_of, pushed_one, answered, recv_end, received, wait_end, waited, is_enough, gives_up, has_passed}
 use Rattle.csp_app.specs.Telling.{told_by, at_rest}
 use Rattle.csp_app.specs.ToldApp.{next}
@@ -60,15 +60,15 @@ item_law k (item.Frame _) = refl
 item_law k (item.Note _) = refl
 
 -- a change of one slot that adds at most so much
-set_counted : (f : KnownSlot → KnownSlot) (more : ℕ) → ((s : KnownSlot) → (f s).ordinal + (f s).unused ≤ s.ordinal + s.unused + more) → (slots : List KnownSlot) (k : ℕ) → counted (slice_set slots k (f (slot_at slots k))) ≤ counted slots + more
+set_counted : (f : KnownSlot → KnownSlot) (more : ℕ) → ((s : KnownSlot) → (f s).ordinal + (f s).unused ≤ s.ordinal + s.unused + more) → (slots : List KnownSlot) (k : ℕ) → slots_count (slice_set slots k (f (slot_at slots k))) ≤ slots_count slots + more
 set_counted f more h [] k = omega arith
 set_counted f more h (x ∷ xs) zero = omega (arith, h x, sum_by-cons (λ (s : KnownSlot). s.ordinal + s.unused) x xs, sum_by-cons (λ (s : KnownSlot). s.ordinal + s.unused) (f x) xs)
 set_counted f more h (x ∷ xs) (suc k) = omega (arith, set_counted f more h xs k, sum_by-cons (λ (s : KnownSlot). s.ordinal + s.unused) x xs, sum_by-cons (λ (s : KnownSlot). s.ordinal + s.unused) x (slice_set xs k (f (slot_at xs k))))
 
-used_counted : (slot packets : ℕ) (slots : List KnownSlot) → counted (used_on slot packets slots) ≤ counted slots + 0
+used_counted : (slot packets : ℕ) (slots : List KnownSlot) → slots_count (used_on slot packets slots) ≤ slots_count slots + 0
 used_counted slot packets slots = set_counted (λ s. record s { unused = s.unused - packets }) 0 (λ s. omega arith) slots slot
 
-noted_counted : (n : Note) (slots : List KnownSlot) → counted (noted n slots) ≤ counted slots + 1
+noted_counted : (n : Note) (slots : List KnownSlot) → slots_count (noted n slots) ≤ slots_count slots + 1
 noted_counted (note.Closed k) slots = set_counted (λ s. record s { ordinal = s.ordinal + 1; down = false }) 1 (λ s. omega arith) slots k
 noted_counted (note.Down k) slots = omega (arith, set_counted (λ s. record s { down = true }) 0 (λ s. omega arith) slots k)
 noted_counted _ slots = omega arith
@@ -80,7 +80,7 @@ counts_one (Some (Ok Whole)) = omega arith
 counts_one (Some (Ok Part)) = omega arith
 counts_one (Some (Err why)) = omega arith
 
-after_counted : (i : ItemShown) (collectors : Collectors) (slots : List KnownSlot) → counted (slots_after i collectors slots) ≤ counted slots + 1
+after_counted : (i : ItemShown) (collectors : Collectors) (slots : List KnownSlot) → slots_count (slots_after i collectors slots) ≤ slots_count slots + 1
 after_counted (item.Packet k b) collectors slots =
     let more : ℕ = counts (answer_of (collector_at collectors k) b.payload) in
     omega (arith, set_counted (λ s. record s { unused = s.unused + more }) more (λ s. omega arith) slots k, counts_one (answer_of (collector_at collectors k) b.payload))
@@ -91,7 +91,7 @@ after_counted (item.Frame _) collectors slots = omega arith
 record Passes (s t : PlainApp) : Type 0 where
   same : buffers t ≡ buffers s
   number : t.number ≡ s.number
-  no_more : counted t.slots ≤ counted s.slots
+  no_more : slots_count t.slots ≤ slots_count s.slots
 
 stays : (s : PlainApp) → Passes s s
 stays s = record { same = refl; number = refl; no_more = omega arith }
@@ -171,7 +171,7 @@ told_law s now _ _ h c k = absurd h
 -- what a turn changes at most: the number stays, and the numbers that turns raise are raised by one at most
 pub record Raises (s t : PlainApp) : Type 0 where
   pub number : t.number ≡ s.number
-  pub count : counted t.slots ≤ counted s.slots + 1
+  pub count : slots_count t.slots ≤ slots_count s.slots + 1
 
 passed : (s t : PlainApp) → Passes s t → Raises s t
 passed s t p = record { number = p.number; count = omega (arith, p.no_more) }

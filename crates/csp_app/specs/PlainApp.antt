@@ -2,7 +2,7 @@
 use Rattle.std.specs.Prelude.{ℕ, ◌+◌, ◌==◌, ◌&&◌, Bool, false, Option, Some, None, is_none, List, [], ◌++◌, length, replicate, nat_le, if◌then◌else◌}
 use Rattle.std.specs.Option.{option_to_list}
 use Rattle.csp_app.specs.Collecting.{Collectors, collectors_for}
-use Rattle.csp_app.specs.Slots.{fresh, counted}
+use Rattle.csp_app.specs.Slots.{fresh, slots_count}
 use Rattle.csp_app.specs.declared.plan.AppPlan.{AppPlan}
 use Rattle.csp_app.specs.declared.plan.AppPlan.TheVariants as plan
 use Rattle.csp_app.specs.declared.slot.KnownSlot.{KnownSlot}
@@ -101,4 +101,4 @@ uses s (queue.Rx _) = None
 
 -- the numbers that its turns raise, added up
 abbrev pub count : PlainApp → ℕ
-count s = counted s.slots
+count s = slots_count s.slots

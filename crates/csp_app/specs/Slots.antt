@@ -57,5 +57,5 @@ took (item.Note _) collectors slots = []
 took (item.Frame _) collectors slots = []
 
 -- the numbers that turns raise, added up
-abbrev pub counted : List KnownSlot → ℕ
-counted slots = sum_by (λ s. s.ordinal + s.unused) slots
+abbrev pub slots_count : List KnownSlot → ℕ
+slots_count slots = sum_by (λ s. s.ordinal + s.unused) slots

@@ -2,7 +2,7 @@
 
 ghost use Rattle.std.specs.Prelude.{◌≡◌, ◌+◌, ◌-◌, ◌^◌, ◌<◌, ◌≤◌, [], ◌∷◌, length, sum_by};
 ghost use Rattle.csp_app.specs.Collecting.{collectors_after};
-ghost use Rattle.csp_app.specs.Slots.{fresh, slot_at, slots_after, noted, took, used_on, counted};
+ghost use Rattle.csp_app.specs.Slots.{fresh, slot_at, slots_after, noted, took, used_on, slots_count};
 ghost use Rattle.csp_deck.specs.Carried.{IsDownItem};
 ghost use Rattle.std.specs.Option.{option_to_list};
 ghost use Rattle.csp_log.specs.Pictures.{shown_item};
@@ -45,7 +45,7 @@ pub fn note_item(
     requires slots { length slots.old ≡ SLOTS }
     requires collectors { length collectors.old ≡ SLOTS }
     requires item { IsDownItem (shown_item item.now) }
-    requires room { counted slots.old < 2 ^ 32 - 1 }
+    requires room { slots_count slots.old < 2 ^ 32 - 1 }
     requires unwritten { report.old.items ≡ [] }
     ensures slots { slots.new ≡ slots_after (shown_item item.now) collectors.old slots.old }
     ensures collectors { collectors.new ≡ collectors_after (shown_item item.now) collectors.old }
@@ -77,7 +77,7 @@ pub fn note_item(
 fn note_note(slots: &mut [KnownSlot], note: &Note)
     requires slots { length slots.old ≡ SLOTS }
     requires item { IsDownItem (ItemShown.Note note.now) }
-    requires room { counted slots.old < 2 ^ 32 - 1 }
+    requires room { slots_count slots.old < 2 ^ 32 - 1 }
     ensures { slots.new ≡ noted note.now slots.old }
 {
     match note {

@@ -6,7 +6,7 @@ ghost use Rattle.csp_can.specs.Chains.{Completes};
 ghost use Rattle.csp_can.specs.Identifiers.{identifier_of};
 ghost use Rattle.csp_can.specs.Listening.{answered, heard, silent};
 ghost use Rattle.csp_can.specs.Maps.{IsMap};
-ghost use Rattle.csp_can.specs.Open.{answer, counted, open_after, whole_frames};
+ghost use Rattle.csp_can.specs.Open.{answer, shown_partials, open_after, whole_frames};
 ghost use Rattle.csp_can.specs.Rules.{Arrival, arrival};
 ghost use Rattle.csp_can.specs.Steps.{GoesOnLast};
 
@@ -42,7 +42,7 @@ impl Reassembly {
     pub fn new(mtu: u16) -> Reassembly
         requires { mtu ≤ MAX_PAYLOAD }
         ensures empty { result ≡ silent mtu }
-        ensures whole { result.partials ≡ counted (open_after mtu []) }
+        ensures whole { result.partials ≡ shown_partials (open_after mtu []) }
 
         // Whatever comes, the partial packets are a map from keys to frames.
         ensures map { (history : List Arrival) → IsMap (open_after mtu history) }
@@ -66,14 +66,14 @@ impl Reassembly {
 
         // The same by whole frames, over every history of frames and times.
         ensures whole { let a = arrival (identifier_of id) bytes.now trace now in
-            (history : List Arrival) → self.old.partials ≡ counted (open_after self.old.mtu history)
-            → (self.new.partials ≡ counted (open_after self.old.mtu (history ++ a ∷ [])))
+            (history : List Arrival) → self.old.partials ≡ shown_partials (open_after self.old.mtu history)
+            → (self.new.partials ≡ shown_partials (open_after self.old.mtu (history ++ a ∷ [])))
             × (result ≡ answer whole_frames self.old.mtu (open_after self.old.mtu history) a) }
 
         // Whole comes exactly where the frame makes its key's list of frames a chain, of no more payload bytes than
         // a packet has.
         ensures chain { let a = arrival (identifier_of id) bytes.now trace now in
-            (history : List Arrival) → self.old.partials ≡ counted (open_after self.old.mtu history)
+            (history : List Arrival) → self.old.partials ≡ shown_partials (open_after self.old.mtu history)
             → (header : ℕ) (payload : List ℕ) (begun : Trace)
             → (result.event ≡ CanEvent.Whole header (record { items = payload }) begun)
             ↔ Completes self.old.mtu (open_after self.old.mtu history) a header payload begun }

@@ -22,7 +22,7 @@ use Rattle.csp_rdp_window.specs.declared.pending.Pending.{Pending}
 use Rattle.csp_rdp.specs.Balance.{Balanced, IsInOrder, IsWhole}
 use Rattle.csp_rdp.specs.Holding.{handing_out, loose_buffers, rdp_numbers, recv_rested, rested, taken_out_of, unneeded, unneeded_in, unneeded_or, useless_buffers, without_kept}
 use Rattle.csp_rdp.proofs.HoldingLemmas.{parted-numbers}
-use Rattle.csp_rdp.specs.Jobs.{admitting, closed_in, counted, delivering, delivery_in, keeping_again, reset_after, sending_index, sent, taken_in, ticked, timed_out}
+use Rattle.csp_rdp.specs.Jobs.{admitting, closed_in, one_more_delivered, delivering, delivery_in, keeping_again, reset_after, sending_index, sent, taken_in, ticked, timed_out}
 use Rattle.csp_rdp.specs.Machine.{PlainRdp, broken, left, owes_rst}
 use Rattle.csp_rdp.specs.Sound.{IsOver, IsUnopened}
 use Rattle.csp_rdp.specs.Table.{acknowledged, after, back_of, entered, entered_from, listing, row_in}
@@ -442,7 +442,7 @@ whole-reset (Some t) time r whole = go (nat_le t (r.recv.cur + 1))
 
 pub whole-delivered : (time : ℕ) (r : PlainRdp) → r.state ≡ Open → is_kept r.recv (r.recv.cur + 1) ≡ false → IsWhole r → IsWhole (delivering time r)
 whole-delivered time r e none whole =
-    whole-reset r.reset_at time (record r { recv = confirmed r.recv; owed = counted time r.owed })
+    whole-reset r.reset_at time (record r { recv = confirmed r.recv; owed = one_more_delivered time r.owed })
     (record { unopened = open-unopened r.state _ e; ordered = order-next r.recv.cur r.recv.kept none whole.ordered })
 
 pub whole-again : (b : PlainBuffer) (r : PlainRdp) → r.state ≡ Open → is_kept r.recv (r.recv.cur + 1) ≡ false → IsWhole r → IsWhole (keeping_again b r)

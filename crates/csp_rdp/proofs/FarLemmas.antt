@@ -12,7 +12,7 @@ use Rattle.csp_rdp_window.specs.declared.pending.Mark.TheVariants.{Acknowledged}
 use Rattle.csp_rdp_window.specs.declared.pending.Pending.{Pending}
 use Rattle.csp_rdp.specs.Counts.{IsFar}
 use Rattle.csp_rdp.specs.Holding.{recv_rested, rested, taken_out, taken_out_of}
-use Rattle.csp_rdp.specs.Jobs.{closed_in, counted, delivering, reset_after, sent, taken_in, timed_out, ticked}
+use Rattle.csp_rdp.specs.Jobs.{closed_in, one_more_delivered, delivering, reset_after, sent, taken_in, timed_out, ticked}
 use Rattle.csp_rdp.specs.Machine.{PlainRdp, broken, left, owes_rst}
 use Rattle.csp_rdp.specs.Table.{acknowledged, after, entered, entered_from, listing}
 use Rattle.csp_rdp.specs.declared.answers.State.{State}
@@ -100,7 +100,7 @@ pub far-delivered : (n time : ℕ) (r : PlainRdp) → IsFar n r → IsFar (n + 1
 far-delivered n time r far =
     let sent = far.admitted in
     let cur = far.delivered in
-    far-reached (n + 1) r.reset_at time (record r { recv = confirmed r.recv; owed = counted time r.owed }) (record { admitted = omega (arith, sent); delivered = omega (arith, cur) })
+    far-reached (n + 1) r.reset_at time (record r { recv = confirmed r.recv; owed = one_more_delivered time r.owed }) (record { admitted = omega (arith, sent); delivered = omega (arith, cur) })
 
 far-timed : (n : ℕ) (state : State) (time : ℕ) (r : PlainRdp) → IsFar n r → IsFar n (timed_out state time r)
 far-timed n SynSent time r far = far-left n Closed time r far

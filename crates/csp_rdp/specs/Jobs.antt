@@ -149,8 +149,8 @@ abbrev pub keeping_again : PlainBuffer → PlainRdp → PlainRdp
 keeping_again b r = record r { recv = with_kept (r.recv.cur + 1) b r.recv }
 
 -- one more packet is delivered
-abbrev pub counted : ℕ → Owed → Owed
-counted time o = record o { delivered = o.delivered + 1; first = Some (unwrap_or o.first time) }
+abbrev pub one_more_delivered : ℕ → Owed → Owed
+one_more_delivered time o = record o { delivered = o.delivered + 1; first = Some (unwrap_or o.first time) }
 
 -- a reset that waits, once all before it is delivered
 abbrev pub reset_after : Option ℕ → ℕ → PlainRdp → PlainRdp
@@ -159,7 +159,7 @@ reset_after (Some t) time r = if nat_le t (r.recv.cur + 1) then owes_rst (left C
 
 -- the connection once a packet was delivered
 abbrev pub delivering : ℕ → PlainRdp → PlainRdp
-delivering time r = reset_after r.reset_at time (record r { recv = confirmed r.recv; owed = counted time r.owed })
+delivering time r = reset_after r.reset_at time (record r { recv = confirmed r.recv; owed = one_more_delivered time r.owed })
 
 -- what the timer does, by state
 abbrev pub timed_out : State → ℕ → PlainRdp → PlainRdp

@@ -39,7 +39,7 @@ pub struct Owed {
 }
 
 impl Owed {
-    ghost use Rattle.csp_rdp.specs.Jobs.{counted};
+    ghost use Rattle.csp_rdp.specs.Jobs.{one_more_delivered};
     ghost use Rattle.csp_rdp.specs.Machine.{nothing_owed, opening_owed};
 
     /// Nothing is owed.
@@ -70,7 +70,7 @@ impl Owed {
     /// The same, once one more packet is delivered.
     pub(crate) fn counting(self, now: u64) -> Owed
         requires { self.delivered < 2 ^ 32 }
-        ensures { result ≡ counted now self }
+        ensures { result ≡ one_more_delivered now self }
     {
         Owed {
             delivered: self.delivered + 1,
