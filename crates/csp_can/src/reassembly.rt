@@ -4,7 +4,7 @@ ghost use Rattle.std.specs.Prelude.{◌≡◌, ◌↔◌, ℕ, ◌<◌, ◌≤�
 ghost use Rattle.csp_base.specs.declared.traces.Trace.{Trace};
 ghost use Rattle.csp_can.specs.Chains.{Completes};
 ghost use Rattle.csp_can.specs.Identifiers.{identifier_of};
-ghost use Rattle.csp_can.specs.Listening.{answered, heard, silent};
+ghost use Rattle.csp_can.specs.Listening.{answered, listened, silent};
 ghost use Rattle.csp_can.specs.Maps.{IsMap};
 ghost use Rattle.csp_can.specs.Open.{answer, shown_partials, open_after, whole_frames};
 ghost use Rattle.csp_can.specs.Rules.{Arrival, arrival};
@@ -62,7 +62,7 @@ impl Reassembly {
         ensures answer { let a = arrival (identifier_of id) bytes.now trace now in
             result ≡ answered self.old a }
         ensures state { let a = arrival (identifier_of id) bytes.now trace now in
-            self.new ≡ heard self.old a }
+            self.new ≡ listened self.old a }
 
         // The same by whole frames, over every history of frames and times.
         ensures whole { let a = arrival (identifier_of id) bytes.now trace now in
@@ -85,7 +85,7 @@ impl Reassembly {
     fn hear(&mut self, head: &Identifier, bytes: &[u8], trace: Trace, now: u64) -> CanAnswer
         requires bytes { length bytes.now ≤ MAX_DATA }
         ensures answer { result ≡ answered self.old (arrival head.now bytes.now trace now) }
-        ensures state { self.new ≡ heard self.old (arrival head.now bytes.now trace now) }
+        ensures state { self.new ≡ listened self.old (arrival head.now bytes.now trace now) }
     {
         self.partials.give_up(now);
         match head.kind {
@@ -101,7 +101,7 @@ impl Reassembly {
         requires bytes { length bytes.now ≤ MAX_DATA }
         ensures when { (trace : Trace) → (result ≡ true) ↔ (((identifier_of id).kind ≡ Kind.More) × GoesOnLast self.old.partials (arrival (identifier_of id) bytes.now trace now)) }
         ensures answer { result ≡ true → (trace : Trace) → answered self.old (arrival (identifier_of id) bytes.now trace now) ≡ record { restarted = false; event = CanEvent.Part } }
-        ensures state { result ≡ true → (trace : Trace) → self.new ≡ heard self.old (arrival (identifier_of id) bytes.now trace now) }
+        ensures state { result ≡ true → (trace : Trace) → self.new ≡ listened self.old (arrival (identifier_of id) bytes.now trace now) }
         ensures left { result ≡ false → self.new ≡ self.old }
     {
         let head = Identifier::decode(id);

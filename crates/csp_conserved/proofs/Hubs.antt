@@ -65,7 +65,7 @@ beyond_low : (b : Bool) → (if b then 1 else 0) < 2
 beyond_low true = omega arith
 beyond_low false = omega arith
 
-bridge_heard : (i : ItemShown) (s : PlainBridge) → s.to < 2 → (bridge_telling.heard i s).to < 2
+bridge_heard : (i : ItemShown) (s : PlainBridge) → s.to < 2 → (bridge_telling.crossing i s).to < 2
 bridge_heard (item.Packet mark b) s low = beyond_low (mark == 0)
 bridge_heard (item.Frame f) s low = low
 bridge_heard (item.Note n) s low = low

@@ -14,7 +14,7 @@ use Rattle.csp_can.specs.declared.identifiers.Kind.{Kind}
 use Rattle.csp_can.specs.declared.identifiers.Kind.TheVariants.{Begin, More}
 use Rattle.csp_can.specs.declared.partials.Partial.{Partial}
 use Rattle.csp_can.specs.declared.partials.TheConstants.{MAX_PARTIALS}
-use Rattle.csp_iface.specs.Receiving.{arrived, Heard, heard, heard_by, packet_of, reassembled, traced, followed, read_further}
+use Rattle.csp_iface.specs.Receiving.{arrived, Heard, frame_heard as heard, heard_by, packet_of, reassembled, traced, followed, read_further}
 use Rattle.csp_iface.specs.declared.packet.WholePacket.{WholePacket}
 use Rattle.csp_iface.specs.declared.receiver.Receiver.{Receiver}
 use Rattle.csp_iface.specs.declared.receiver.Receiver.TheVariants as by

@@ -10,7 +10,7 @@ use Rattle.csp_iface.specs.Asking.{asked, asks, delivered, given, op_of, transmi
 use Rattle.csp_iface.specs.Heeding.{is_for}
 use Rattle.csp_iface.specs.PlainIface.{PlainIface}
 use Rattle.csp_iface.specs.Planning.{plan_of, side_plan}
-use Rattle.csp_iface.specs.Receiving.{heard, read_further}
+use Rattle.csp_iface.specs.Receiving.{frame_heard, read_further}
 use Rattle.csp_iface.specs.Telling.{fetched, filled, going_on, has_packet, hearing, is_too_big, kept, pushed, taken_up, tells, unmoved}
 use Rattle.csp_iface.specs.declared.packet.WholePacket.{WholePacket}
 use Rattle.csp_iface.specs.declared.plan.IfacePlan.{IfacePlan}
@@ -138,9 +138,9 @@ module _ (o : Origin) where
   heard_few n s now f h =
       by (is_for s.heeds f)
     where
-      by : (b : Bool) → HoldsFew (n + cond (is_first_of o f) 1 0) (hearing (if b then heard now s.receiver f else unmoved s) (waiting s plan.Receive)).iface
+      by : (b : Bool) → HoldsFew (n + cond (is_first_of o f) 1 0) (hearing (if b then frame_heard now s.receiver f else unmoved s) (waiting s plan.Receive)).iface
       by true =
-          let new : IsHeardFew o (kept_of o s.receiver + cond (is_first_of o f) 1 0) (heard now s.receiver f) = hears_few o now s.receiver f h.0 in
+          let new : IsHeardFew o (kept_of o s.receiver + cond (is_first_of o f) 1 0) (frame_heard now s.receiver f) = hears_few o now s.receiver f h.0 in
           (new.bus, omega (arith, h.1, new.few))
       by false = more_few n (cond (is_first_of o f) 1 0) s h
 

@@ -3,7 +3,7 @@ use Rattle.std.specs.Prelude.{ℕ, ◌+◌, ◌==◌, if◌then◌else◌, Optio
 use Rattle.std.specs.Option.{option_map}
 use Rattle.csp_base.specs.declared.traces.Trace.{Trace}
 use Rattle.csp_can.specs.Identifiers.{identifier_of}
-use Rattle.csp_can.specs.Listening.{Listening, answered, heard as listened}
+use Rattle.csp_can.specs.Listening.{Listening, answered, listened}
 use Rattle.csp_can.specs.Rules.{Arrival, arrival}
 use Rattle.csp_can.specs.declared.answers.CanEvent.{CanEvent}
 use Rattle.csp_can.specs.declared.answers.CanEvent.TheVariants as can
@@ -62,8 +62,8 @@ heard_by now (by.Kiss s) f = in_hand s f
 heard_by now (by.Can l) f = reassembled l (arrival (identifier_of (unwrap_or f.can 0)) f.bytes.items (arrived f.trace) now)
 
 -- a frame at the last hop number is used up at once, as one that is refused
-abbrev pub heard : ℕ → Receiver → Frame → Heard
-heard now r f = if f.trace.hops == MAX_HOPS then record { receiver = r; whole = None; refused = 1 } else heard_by now r f
+abbrev pub frame_heard : ℕ → Receiver → Frame → Heard
+frame_heard now r f = if f.trace.hops == MAX_HOPS then record { receiver = r; whole = None; refused = 1 } else heard_by now r f
 
 -- a packet of a stream, with its trace
 abbrev pub traced : Trace → KissPacket → WholePacket

@@ -4,7 +4,7 @@ use Rattle.std.specs.Option.{is_some}
 use Rattle.csp_buffer.specs.Content.{Content}
 use Rattle.csp_iface.specs.Heeding.{is_for}
 use Rattle.csp_iface.specs.PlainIface.{PlainIface}
-use Rattle.csp_iface.specs.Receiving.{Heard, heard, read_further}
+use Rattle.csp_iface.specs.Receiving.{Heard, frame_heard, read_further}
 use Rattle.csp_iface.specs.Sending.{sent_trace, next_node, frames_of}
 use Rattle.csp_iface.specs.declared.packet.WholePacket.{WholePacket}
 use Rattle.csp_iface.specs.declared.plan.IfacePlan.{IfacePlan}
@@ -86,7 +86,7 @@ unmoved s = record { receiver = s.receiver; whole = s.whole; refused = 0 }
 
 -- an item of `Rx`: a frame for the interface is heard, and one for another node of a hub is used up at once
 abbrev pub caught : ℕ → ItemShown → PlainIface → Outcome
-caught now (item.Frame f) s = hearing (if is_for s.heeds f then heard now s.receiver f else unmoved s) s
+caught now (item.Frame f) s = hearing (if is_for s.heeds f then frame_heard now s.receiver f else unmoved s) s
 caught now (item.Packet _ _) s = quiet s
 caught now (item.Note _) s = quiet s
 

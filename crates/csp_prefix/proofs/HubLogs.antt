@@ -204,7 +204,7 @@ bridge_put R q None (Some b) to answer.Pushed h = each_if (IsOfKind R) (is_queue
 bridge_put R q None (Some b) to _ h = tt
 bridge_put R q None None to a h = tt
 
-bridge_heard : (R : Content → Type 0) (i : ItemShown) (s : PlainBridge) → IfSome s.out R → IsOfKind R i → IfSome (bridge_telling.heard i s).out R
+bridge_heard : (R : Content → Type 0) (i : ItemShown) (s : PlainBridge) → IfSome s.out R → IsOfKind R i → IfSome (bridge_telling.crossing i s).out R
 bridge_heard R (item.Packet mark b) s h g = g
 bridge_heard R (item.Frame _) s h g = h
 bridge_heard R (item.Note _) s h g = h

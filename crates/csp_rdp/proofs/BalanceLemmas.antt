@@ -13,7 +13,7 @@ use Rattle.csp_rdp_header.specs.Numbers.{numbers_of}
 use Rattle.csp_rdp_header.specs.declared.head.RdpHead.{RdpHead}
 use Rattle.csp_rdp_window.specs.Numbers.{number_in, times}
 use Rattle.csp_rdp_window.specs.Receiving.{Kept, PlainRecv, confirmed, first_buffer, is_awaited, is_kept, kept_with, recv_numbers, without_first}
-use Rattle.csp_rdp_window.specs.Sending.{PlainSend, acked_at, acknowledges, fresh, heard, is_inside, is_loose, listed, loose_buffer, marked, needed_if, newest_of, send_numbers, with_mark, without_listed, without_loose}
+use Rattle.csp_rdp_window.specs.Sending.{PlainSend, acked_at, acknowledges, fresh, list_heard, is_inside, is_loose, listed, loose_buffer, marked, needed_if, newest_of, send_numbers, with_mark, without_listed, without_loose}
 use Rattle.csp_rdp_window.specs.Shown.{shown}
 use Rattle.csp_rdp_window.specs.Times.{has_passed}
 use Rattle.csp_rdp_window.specs.declared.pending.Mark.{Mark}
@@ -186,7 +186,7 @@ numbers-listed : (ts : List ℕ) (ps : List Pending) → map sending (map (λ p.
 numbers-listed ts [] = refl
 numbers-listed ts (p ∷ ps) = ap (λ l. sending p ∷ l) (numbers-listed ts ps)
 
-numbers-heard : (ns : List Seq) (time timeout : ℕ) (w : PlainSend) → send_numbers (heard ns time timeout w) ≡ send_numbers w
+numbers-heard : (ns : List Seq) (time timeout : ℕ) (w : PlainSend) → send_numbers (list_heard ns time timeout w) ≡ send_numbers w
 numbers-heard ns time timeout w =
     numbers-marked (Missed (newest_of (listed w ns)) time timeout) (without_listed (listed w ns) w).packets
     ∙ numbers-listed (listed w ns) w.packets

@@ -13,7 +13,7 @@ use Rattle.csp_rdp_header.specs.Numbers.{numbers_of}
 use Rattle.csp_rdp_header.specs.declared.head.RdpHead.{RdpHead}
 use Rattle.csp_rdp_header.specs.declared.head.TheConstants.{RST, EAK, ACK, SYN}
 use Rattle.csp_rdp_window.specs.Receiving.{Kept, PlainRecv, index_in, is_awaited, is_kept, kept_numbers, kept_with, missing_from, next_buffer, without_first, without_next}
-use Rattle.csp_rdp_window.specs.Sending.{PlainSend, acked, acked_at, acknowledges, admitted, due_index, fresh, heard, is_due, is_inside, is_loose, listed, listed_at, marked, missed_at, needed_if, newest_of, payload_at, sent_at, with_mark, without_listed}
+use Rattle.csp_rdp_window.specs.Sending.{PlainSend, acked, acked_at, acknowledges, admitted, due_index, fresh, list_heard, is_due, is_inside, is_loose, listed, listed_at, marked, missed_at, needed_if, newest_of, payload_at, sent_at, with_mark, without_listed}
 use Rattle.csp_rdp_window.specs.Shown.{shown}
 use Rattle.csp_rdp_window.specs.Times.{has_passed}
 use Rattle.csp_rdp_window.specs.declared.pending.Mark.{Mark}
@@ -126,7 +126,7 @@ placed-without-listed : (n : RegionName) (ts : List ℕ) (w : PlainSend) → wit
 placed-without-listed n ts w =
     ap (λ ps. record w { packets = ps }) (mapped (λ p. needed_if (not (list_any (λ t. t == p.index) ts)) p) (placed_pending n) (placed_pending n) w.packets (λ p. refl))
 
-placed-heard : (n : RegionName) (ns : List Seq) (time timeout : ℕ) (w : PlainSend) → heard ns time timeout (placed_send n w) ≡ placed_send n (heard ns time timeout w)
+placed-heard : (n : RegionName) (ns : List Seq) (time timeout : ℕ) (w : PlainSend) → list_heard ns time timeout (placed_send n w) ≡ placed_send n (list_heard ns time timeout w)
 placed-heard n ns time timeout w =
     let m : Mark = Missed (newest_of (listed w ns)) time timeout in
     ap (λ ts. with_mark (Missed (newest_of ts) time timeout) (without_listed ts (placed_send n w))) (placed-listed n ns w)

@@ -10,7 +10,7 @@ use Rattle.csp_buffer.specs.PlainBuffer.{PlainBuffer}
 use Rattle.csp_rdp_header.specs.Numbers.{numbers_of}
 use Rattle.csp_rdp_header.specs.declared.head.RdpHead.{RdpHead}
 use Rattle.csp_rdp_window.specs.Receiving.{Kept, PlainRecv, first_buffer, kept_with, without_first}
-use Rattle.csp_rdp_window.specs.Sending.{PlainSend, acked_at, acknowledges, admitted, fresh, heard, is_inside, is_loose, listed, loose_buffer, marked, needed_if, newest_of, with_mark, without_listed, without_loose}
+use Rattle.csp_rdp_window.specs.Sending.{PlainSend, acked_at, acknowledges, admitted, fresh, list_heard, is_inside, is_loose, listed, loose_buffer, marked, needed_if, newest_of, with_mark, without_listed, without_loose}
 use Rattle.csp_rdp_window.specs.Shown.{shown}
 use Rattle.csp_rdp_window.specs.Times.{has_passed}
 use Rattle.csp_rdp_window.specs.declared.pending.Mark.{Mark}
@@ -54,7 +54,7 @@ in-acked name (Some t) w in_ = go (is_inside w t)
     go true = in-marked name (Acknowledged t) w.packets in_
     go false = in_
 
-in-heard : (name : RegionName) (ns : List Seq) (time timeout : ℕ) (w : PlainSend) → AreIn name (sending w.packets) → AreIn name (sending (heard ns time timeout w).packets)
+in-heard : (name : RegionName) (ns : List Seq) (time timeout : ℕ) (w : PlainSend) → AreIn name (sending w.packets) → AreIn name (sending (list_heard ns time timeout w).packets)
 in-heard name ns time timeout w in_ =
     in-marked name (Missed (newest_of (listed w ns)) time timeout) (without_listed (listed w ns) w).packets (in-listed name (listed w ns) w.packets in_)
 

@@ -7,7 +7,7 @@ use Rattle.csp_rdp_header.specs.Numbers.{is_malformed, numbers_of}
 use Rattle.csp_rdp_header.specs.declared.head.RdpHead.{RdpHead}
 use Rattle.csp_rdp_header.specs.declared.head.TheConstants.{RST, EAK, ACK, SYN}
 use Rattle.csp_rdp_window.specs.Receiving.{index_in, is_awaited, is_kept, first_missing, with_kept}
-use Rattle.csp_rdp_window.specs.Sending.{acked, acknowledges, heard}
+use Rattle.csp_rdp_window.specs.Sending.{acked, acknowledges, list_heard}
 use Rattle.csp_rdp.specs.Machine.{PlainRdp, started, opened, left, owes_rst, owes_syn, owes_eak, owes_ack, broken}
 use Rattle.csp_rdp.specs.declared.answers.State.{State}
 use Rattle.csp_rdp.specs.declared.answers.State.TheVariants.{Closed, SynSent, SynRcvd, Open, CloseWait}
@@ -107,7 +107,7 @@ acknowledged number time r = let send = acked number r.send in record r { send =
 -- and the list, where the number was inside
 abbrev pub listing : Bool → List ℕ → ℕ → PlainRdp → PlainRdp
 listing false bytes time r = r
-listing true bytes time r = record r { send = heard (numbers_of bytes) time r.options.packet_timeout r.send }
+listing true bytes time r = record r { send = list_heard (numbers_of bytes) time r.options.packet_timeout r.send }
 
 -- the least index of a reset that waits
 abbrev pub least : Option ℕ → ℕ → Option ℕ

@@ -15,7 +15,7 @@ use Rattle.csp_iface.specs.Heeding.{is_for}
 use Rattle.csp_iface.specs.Links.{receiver_for}
 use Rattle.csp_iface.specs.PlainIface.{PlainIface, opening}
 use Rattle.csp_iface.specs.Planning.{plan_of}
-use Rattle.csp_iface.specs.Receiving.{Heard, arrived, followed, heard, heard_by, read_further, reassembled, traced}
+use Rattle.csp_iface.specs.Receiving.{Heard, arrived, followed, frame_heard, heard_by, read_further, reassembled, traced}
 use Rattle.csp_iface.specs.Sending.{frames_of, kiss_frame, next_node, sent_trace}
 use Rattle.csp_iface.specs.Telling as telling
 use Rattle.csp_iface.specs.Telling.{tells}
@@ -126,7 +126,7 @@ heard_by_light : (now : ℕ) (r : Receiver) (f : Frame) → IsLightReceiver r �
 heard_by_light now (by.Kiss s) f h = record { receiver = h; whole = tt }
 heard_by_light now (by.Can l) f h = reassembled_light l (arrival (identifier_of (unwrap_or f.can 0)) f.bytes.items (arrived f.trace) now) h
 
-heard_light : (now : ℕ) (r : Receiver) (f : Frame) → IsLightReceiver r → IsLightHeard (heard now r f)
+heard_light : (now : ℕ) (r : Receiver) (f : Frame) → IsLightReceiver r → IsLightHeard (frame_heard now r f)
 heard_light now r f h = go (f.trace.hops == MAX_HOPS)
   where
     go : (b : Bool) → IsLightHeard (if b then record { receiver = r; whole = None; refused = 1 } else heard_by now r f)
@@ -137,7 +137,7 @@ caught_light : (now : ℕ) (i : ItemShown) (s : PlainIface) → IsLightIface s �
 caught_light now (item.Frame f) s h =
     by (is_for s.heeds f)
   where
-    by : (b : Bool) → IsLightIface (telling.hearing (if b then heard now s.receiver f else telling.unmoved s) s).iface
+    by : (b : Bool) → IsLightIface (telling.hearing (if b then frame_heard now s.receiver f else telling.unmoved s) s).iface
     by true =
         let x = heard_light now s.receiver f h.receiver in
         record { mtu = h.mtu; back = h.back; sending = h.sending; frames = h.frames; receiver = x.receiver; whole = x.whole; accepted = h.accepted }
