@@ -14,9 +14,9 @@ use Rattle.csp_app.specs.Slots.{slot_at}
 use Rattle.csp_app.specs.Steps.{first_rule, note_plan, recv_plan, step_plan, plan_of, turn_of}
 use Rattle.csp_app.specs.Turn.{kind_of_turn, op_of}
 use Rattle.csp_app.specs.declared.app.App.TheInside.{Inside}
-use Rattle.csp_app.specs.declared.plan.Plan.{Plan}
-use Rattle.csp_app.specs.declared.plan.Plan.TheVariants as plan
-use Rattle.csp_app.specs.declared.slot.Slot.{Slot}
+use Rattle.csp_app.specs.declared.plan.AppPlan.{AppPlan}
+use Rattle.csp_app.specs.declared.plan.AppPlan.TheVariants as plan
+use Rattle.csp_app.specs.declared.slot.KnownSlot.{KnownSlot}
 use Rattle.csp_app.specs.PlainStep.{PlainStep}
 use Rattle.csp_app.specs.PlainStep as step
 use Rattle.csp_app.proofs.Takes.{takes_take}
@@ -49,11 +49,11 @@ abbrev pub IsFit : PlainApp → Type 0
 IsFit s = IfSome s.made (λ b. IsUpItem (item.Packet s.mark b))
 
 -- the turn of a state in which this step was found
-abbrev pub own : PlainApp → Option PlainStep → Plan
+abbrev pub own : PlainApp → Option PlainStep → AppPlan
 own s found = first_rule s.taken s.refused (step_plan s found)
 
 -- what an application finds at the answer, what comes back fits where it was, what it waits for is what it asked, and its queues serve that
-pub record Heard (s : PlainApp) (now : ℕ) (p : Plan) : Type 0 where
+pub record Heard (s : PlainApp) (now : ℕ) (p : AppPlan) : Type 0 where
   pub hears : CanHear (record (handed s now p) { doing = p }) p
   pub room : length (handed s now p).held + lent p ≤ length s.held
   pub kind : kind_of_turn (handed s now p).number (turn_of (record (handed s now p) { doing = p }) 0 p) ≡ kind_of (op_of s.number (turn_of s now p))
@@ -71,7 +71,7 @@ recv_hears s now slot packets rounds None false free few more e = record { hears
 recv_hears s now slot packets rounds (Some _) true free few more e = record { hears = (more, free, few); room = omega arith; kind = refl; served = down_served s.number }
 recv_hears s now slot packets rounds (Some _) false free few more e = record { hears = (more, free, few); room = omega arith; kind = refl; served = down_served s.number }
 
-own_hears : (number : ℕ) (steps : List PlainStep) (done : ℕ) (since : Option ℕ) (asked : Bool) (sent : ℕ) (refused : Bool) (taken made : Option Content) (mark : ℕ) (held : List Content) (slots : List Slot) (collectors : Collectors) (doing : Plan) (now : ℕ) (found : Option PlainStep)
+own_hears : (number : ℕ) (steps : List PlainStep) (done : ℕ) (since : Option ℕ) (asked : Bool) (sent : ℕ) (refused : Bool) (taken made : Option Content) (mark : ℕ) (held : List Content) (slots : List KnownSlot) (collectors : Collectors) (doing : AppPlan) (now : ℕ) (found : Option PlainStep)
     → let s : PlainApp = record { number = number; steps = steps; done = done; since = since; asked = asked; sent = sent; refused = refused; taken = taken; made = made; mark = mark; held = held; slots = slots; collectors = collectors; doing = doing } in
     slice_get steps done ≡ found → IfSome found IsStep → IsFit s → (taken ≡ None → done < length steps) → Heard s now (own s found)
 own_hears number steps done since asked sent refused (Some b) made mark held slots collectors doing now found e ok up more = record { hears = refl; room = omega arith; kind = refl; served = tt }
@@ -113,11 +113,11 @@ pub record Stays (s t : PlainApp) : Type 0 where
   pub done : t.done ≡ s.done
   pub slots : t.slots ≡ s.slots
 
-pub handed_stays : (s : PlainApp) (now : ℕ) (p : Plan) → Stays s (handed s now p)
+pub handed_stays : (s : PlainApp) (now : ℕ) (p : AppPlan) → Stays s (handed s now p)
 handed_stays s now plan.Rest = record { number = refl; steps = refl; done = refl; slots = refl }
 handed_stays s now _ = record { number = refl; steps = refl; done = refl; slots = refl }
 
-handed_fit : (s : PlainApp) (now : ℕ) (p : Plan) → IsFit s → IsFit (handed s now p)
+handed_fit : (s : PlainApp) (now : ℕ) (p : AppPlan) → IsFit s → IsFit (handed s now p)
 handed_fit s now plan.Push up = tt
 handed_fit s now _ up = up
 
@@ -135,7 +135,7 @@ asked_ready a b w now r view_at ends after kept regions =
     let goes : has_ended (plain_app a) ≡ false = ap has_ended view ∙ ends in
     let e : plain_app b ≡ asked (plain_app a) now = after ∙ sym (ap (λ (x : PlainApp). asked x now) view) in
     let s : PlainApp = plain_app a in
-    let p : Plan = plan_of s in
+    let p : AppPlan = plan_of s in
     let st : Stays s (handed s now p) = handed_stays s now p in
     let h : Heard s now p = asked_hears s now r.steps r.made goes in
     let steps : b.script ≡ a.script = ap (λ (x : PlainApp). x.steps) e ∙ st.steps in

@@ -11,14 +11,14 @@ use Rattle.csp_app.specs.PlainApp.{PlainApp, uses, holds, buffers}
 use Rattle.csp_app.specs.Asking.{handed}
 use Rattle.csp_app.specs.Making.{packet_in, mark_in, note_in, filled}
 use Rattle.csp_app.specs.Room.{CanHear}
-use Rattle.csp_app.specs.Slots.{slot_at, slots_after, used_on, noted, counted}
+use Rattle.csp_app.specs.Slots.{slot_at, slots_after, used_on, noted, slots_count}
 use Rattle.csp_app.specs.Steps.{batch, turn_of, pushed_one, answered, recv_end, received, wait_end, waited, is_enough, gives_up, has_passed}
 use Rattle.csp_app.specs.Telling.{told_by, at_rest}
-use Rattle.csp_app.specs.Told.{next}
+use Rattle.csp_app.specs.ToldApp.{next}
 use Rattle.csp_app.specs.Turn.{giving_op, pushing_op, op_of, popped}
-use Rattle.csp_app.specs.declared.plan.Plan.{Plan}
-use Rattle.csp_app.specs.declared.plan.Plan.TheVariants as plan
-use Rattle.csp_app.specs.declared.slot.Slot.{Slot}
+use Rattle.csp_app.specs.declared.plan.AppPlan.{AppPlan}
+use Rattle.csp_app.specs.declared.plan.AppPlan.TheVariants as plan
+use Rattle.csp_app.specs.declared.slot.KnownSlot.{KnownSlot}
 use Rattle.csp_buffer.specs.Content.{Content}
 use Rattle.csp_deck.specs.Step.{times, op_numbers, item_numbers, answer_numbers}
 use Rattle.csp_log.specs.declared.shown.ItemShown.{ItemShown}
@@ -48,7 +48,7 @@ give_numbers k [] = refl
 give_numbers k (b ∷ bs) = omega (arith, among_cons k b bs)
 
 -- what it hands over it holds no more
-pub handed_law : (s : PlainApp) (now : ℕ) (p : Plan) (k : ℕ) → times k (holds (handed s now p)) + times k (op_numbers (op_of s.number (turn_of s now p))) ≡ times k (holds s)
+pub handed_law : (s : PlainApp) (now : ℕ) (p : AppPlan) (k : ℕ) → times k (holds (handed s now p)) + times k (op_numbers (op_of s.number (turn_of s now p))) ≡ times k (holds s)
 handed_law s now plan.Return k = omega (arith, holds_times k s, holds_times k (record s { taken = None }), given_numbers k s.taken)
 handed_law s now plan.Give k = omega (arith, holds_times k s, holds_times k (record s { held = drop 1 s.held }), give_numbers k s.held)
 handed_law s now plan.Push k = omega (arith, holds_times k s, holds_times k (record s { made = None }), pushed_numbers k s.number s.mark s.made)
@@ -60,15 +60,15 @@ item_law k (item.Frame _) = refl
 item_law k (item.Note _) = refl
 
 -- a change of one slot that adds at most so much
-set_counted : (f : Slot → Slot) (more : ℕ) → ((s : Slot) → (f s).ordinal + (f s).unused ≤ s.ordinal + s.unused + more) → (slots : List Slot) (k : ℕ) → counted (slice_set slots k (f (slot_at slots k))) ≤ counted slots + more
+set_counted : (f : KnownSlot → KnownSlot) (more : ℕ) → ((s : KnownSlot) → (f s).ordinal + (f s).unused ≤ s.ordinal + s.unused + more) → (slots : List KnownSlot) (k : ℕ) → slots_count (slice_set slots k (f (slot_at slots k))) ≤ slots_count slots + more
 set_counted f more h [] k = omega arith
-set_counted f more h (x ∷ xs) zero = omega (arith, h x, sum_by-cons (λ (s : Slot). s.ordinal + s.unused) x xs, sum_by-cons (λ (s : Slot). s.ordinal + s.unused) (f x) xs)
-set_counted f more h (x ∷ xs) (suc k) = omega (arith, set_counted f more h xs k, sum_by-cons (λ (s : Slot). s.ordinal + s.unused) x xs, sum_by-cons (λ (s : Slot). s.ordinal + s.unused) x (slice_set xs k (f (slot_at xs k))))
+set_counted f more h (x ∷ xs) zero = omega (arith, h x, sum_by-cons (λ (s : KnownSlot). s.ordinal + s.unused) x xs, sum_by-cons (λ (s : KnownSlot). s.ordinal + s.unused) (f x) xs)
+set_counted f more h (x ∷ xs) (suc k) = omega (arith, set_counted f more h xs k, sum_by-cons (λ (s : KnownSlot). s.ordinal + s.unused) x xs, sum_by-cons (λ (s : KnownSlot). s.ordinal + s.unused) x (slice_set xs k (f (slot_at xs k))))
 
-used_counted : (slot packets : ℕ) (slots : List Slot) → counted (used_on slot packets slots) ≤ counted slots + 0
+used_counted : (slot packets : ℕ) (slots : List KnownSlot) → slots_count (used_on slot packets slots) ≤ slots_count slots + 0
 used_counted slot packets slots = set_counted (λ s. record s { unused = s.unused - packets }) 0 (λ s. omega arith) slots slot
 
-noted_counted : (n : Note) (slots : List Slot) → counted (noted n slots) ≤ counted slots + 1
+noted_counted : (n : Note) (slots : List KnownSlot) → slots_count (noted n slots) ≤ slots_count slots + 1
 noted_counted (note.Closed k) slots = set_counted (λ s. record s { ordinal = s.ordinal + 1; down = false }) 1 (λ s. omega arith) slots k
 noted_counted (note.Down k) slots = omega (arith, set_counted (λ s. record s { down = true }) 0 (λ s. omega arith) slots k)
 noted_counted _ slots = omega arith
@@ -80,7 +80,7 @@ counts_one (Some (Ok Whole)) = omega arith
 counts_one (Some (Ok Part)) = omega arith
 counts_one (Some (Err why)) = omega arith
 
-after_counted : (i : ItemShown) (collectors : Collectors) (slots : List Slot) → counted (slots_after i collectors slots) ≤ counted slots + 1
+after_counted : (i : ItemShown) (collectors : Collectors) (slots : List KnownSlot) → slots_count (slots_after i collectors slots) ≤ slots_count slots + 1
 after_counted (item.Packet k b) collectors slots =
     let more : ℕ = counts (answer_of (collector_at collectors k) b.payload) in
     omega (arith, set_counted (λ s. record s { unused = s.unused + more }) more (λ s. omega arith) slots k, counts_one (answer_of (collector_at collectors k) b.payload))
@@ -91,7 +91,7 @@ after_counted (item.Frame _) collectors slots = omega arith
 record Passes (s t : PlainApp) : Type 0 where
   same : buffers t ≡ buffers s
   number : t.number ≡ s.number
-  no_more : counted t.slots ≤ counted s.slots
+  no_more : slots_count t.slots ≤ slots_count s.slots
 
 stays : (s : PlainApp) → Passes s s
 stays s = record { same = refl; number = refl; no_more = omega arith }
@@ -128,7 +128,7 @@ waited_passes : (rounds now : ℕ) (s : PlainApp) → Passes s (waited rounds no
 waited_passes rounds now s = wait_end_passes (has_passed rounds now s) s
 
 -- an item is popped, and then a step goes on or ends
-pop_law : (k : ℕ) (s : PlainApp) (t : Option Content) (slots : List Slot) (collectors : Collectors) → s.taken ≡ None → times k (holds (record s { taken = t; slots = slots; collectors = collectors })) ≡ times k (holds s) + among k (option_to_list t)
+pop_law : (k : ℕ) (s : PlainApp) (t : Option Content) (slots : List KnownSlot) (collectors : Collectors) → s.taken ≡ None → times k (holds (record s { taken = t; slots = slots; collectors = collectors })) ≡ times k (holds s) + among k (option_to_list t)
 pop_law k s t slots collectors e = omega (arith, holds_times k s, holds_times k (record s { taken = t; slots = slots; collectors = collectors }), ap (λ (o : Option Content). among k (option_to_list o)) e)
 
 popped_law : (k : ℕ) (s t : PlainApp) (i : ItemShown) → s.taken ≡ None → Passes (popped i s) t → times k (holds t) ≡ times k (holds s) + times k (item_numbers i)
@@ -141,7 +141,7 @@ made_law : (k mark : ℕ) (s : PlainApp) (t : Option Content) → s.made ≡ Non
 made_law k mark s t e = omega (arith, holds_times k s, holds_times k (record s { made = t; mark = mark }), ap (λ (o : Option Content). among k (option_to_list o)) e)
 
 -- it holds besides what it was given
-pub told_law : (s : PlainApp) (now : ℕ) (p : Plan) (a : AnswerShown) → Fitting s p a → CanHear s p
+pub told_law : (s : PlainApp) (now : ℕ) (p : AppPlan) (a : AnswerShown) → Fitting s p a → CanHear s p
     → (k : ℕ) → times k (holds (told_by (at_rest s) now p a).state) ≡ times k (holds s) + times k (answer_numbers a)
 told_law s now plan.Rest answer.Nothing h c k = omega arith
 told_law s now plan.Return answer.Given h c k = omega arith
@@ -171,7 +171,7 @@ told_law s now _ _ h c k = absurd h
 -- what a turn changes at most: the number stays, and the numbers that turns raise are raised by one at most
 pub record Raises (s t : PlainApp) : Type 0 where
   pub number : t.number ≡ s.number
-  pub count : counted t.slots ≤ counted s.slots + 1
+  pub count : slots_count t.slots ≤ slots_count s.slots + 1
 
 passed : (s t : PlainApp) → Passes s t → Raises s t
 passed s t p = record { number = p.number; count = omega (arith, p.no_more) }
@@ -179,7 +179,7 @@ passed s t p = record { number = p.number; count = omega (arith, p.no_more) }
 popped_passed : (s t : PlainApp) (i : ItemShown) → Passes (popped i s) t → Raises s t
 popped_passed s t i p = record { number = p.number; count = omega (arith, p.no_more, after_counted i s.collectors s.slots) }
 
-pub told_raises : (s : PlainApp) (now : ℕ) (p : Plan) (a : AnswerShown) → Raises (at_rest s) (told_by (at_rest s) now p a).state
+pub told_raises : (s : PlainApp) (now : ℕ) (p : AppPlan) (a : AnswerShown) → Raises (at_rest s) (told_by (at_rest s) now p a).state
 told_raises s now plan.Look (answer.Popped i) = popped_passed (at_rest s) (popped i (at_rest s)) i (stays _)
 told_raises s now plan.Await (answer.Popped i) = popped_passed (at_rest s) _ i (answered_passes (note_in i) (popped i (at_rest s)))
 told_raises s now plan.Push answer.Pushed = passed (at_rest s) _ (pushed_one_passes (nat_lt (s.sent + 1) (batch s).count) (at_rest s))

@@ -9,6 +9,6 @@ pub mod Room
 pub mod Slots
 pub mod Steps
 pub mod Telling
-pub mod Told
+pub mod ToldApp
 pub mod Turn
 pub mod Waiting

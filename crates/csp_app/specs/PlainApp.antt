@@ -2,10 +2,10 @@
 use Rattle.std.specs.Prelude.{ℕ, ◌+◌, ◌==◌, ◌&&◌, Bool, false, Option, Some, None, is_none, List, [], ◌++◌, length, replicate, nat_le, if◌then◌else◌}
 use Rattle.std.specs.Option.{option_to_list}
 use Rattle.csp_app.specs.Collecting.{Collectors, collectors_for}
-use Rattle.csp_app.specs.Slots.{fresh, counted}
-use Rattle.csp_app.specs.declared.plan.Plan.{Plan}
-use Rattle.csp_app.specs.declared.plan.Plan.TheVariants as plan
-use Rattle.csp_app.specs.declared.slot.Slot.{Slot}
+use Rattle.csp_app.specs.Slots.{fresh, slots_count}
+use Rattle.csp_app.specs.declared.plan.AppPlan.{AppPlan}
+use Rattle.csp_app.specs.declared.plan.AppPlan.TheVariants as plan
+use Rattle.csp_app.specs.declared.slot.KnownSlot.{KnownSlot}
 use Rattle.csp_app.specs.PlainStep.{PlainStep}
 use Rattle.csp_arena.specs.Cells.{RegionName}
 use Rattle.csp_buffer.specs.Content.{Content}
@@ -41,10 +41,10 @@ pub record PlainApp : Type 0 where
   -- the buffers got by `take`, the oldest first
   pub held : List Content
   -- what it knows of its slots, and the collectors of those that collect
-  pub slots : List Slot
+  pub slots : List KnownSlot
   pub collectors : Collectors
   -- what this turn is, from the operation to its answer
-  pub doing : Plan
+  pub doing : AppPlan
 
 -- an application whose buffers are of this region
 pub record AppAt : Type 0 where
@@ -101,4 +101,4 @@ uses s (queue.Rx _) = None
 
 -- the numbers that its turns raise, added up
 abbrev pub count : PlainApp → ℕ
-count s = counted s.slots
+count s = slots_count s.slots

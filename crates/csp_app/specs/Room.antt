@@ -3,8 +3,8 @@ use Rattle.std.specs.Prelude.{◌≡◌, ℕ, ◌+◌, ◌^◌, ◌<◌, ◌≤�
 use Rattle.csp_app.specs.PlainApp.{PlainApp, AppAt}
 use Rattle.csp_app.specs.Slots.{slot_at}
 use Rattle.csp_app.specs.declared.app.App.TheInside.{Inside}
-use Rattle.csp_app.specs.declared.plan.Plan.{Plan}
-use Rattle.csp_app.specs.declared.plan.Plan.TheVariants as plan
+use Rattle.csp_app.specs.declared.plan.AppPlan.{AppPlan}
+use Rattle.csp_app.specs.declared.plan.AppPlan.TheVariants as plan
 use Rattle.csp_app.specs.PlainStep.{PlainStep}
 use Rattle.csp_app.specs.PlainStep as step
 use Rattle.csp_base.specs.declared.limits.TheConstants.{MAX_PAYLOAD, SLOTS}
@@ -72,7 +72,7 @@ abbrev pub take_steps : List PlainStep → ℕ
 take_steps steps = count_by is_take steps
 
 -- a held buffer that was handed over, and may come back
-abbrev pub lent : Plan → ℕ
+abbrev pub lent : AppPlan → ℕ
 lent plan.Rest = 0
 lent plan.Return = 0
 lent plan.Look = 0
@@ -92,7 +92,7 @@ abbrev pub GoesOn : PlainApp → Type 0
 GoesOn s = s.done < length s.steps
 
 -- what each answer that may come finds: an empty place for its buffer, and a step that it ends
-abbrev pub CanHear : PlainApp → Plan → Type 0
+abbrev pub CanHear : PlainApp → AppPlan → Type 0
 CanHear s plan.Rest = ⊤
 CanHear s plan.Return = s.taken ≡ None
 CanHear s plan.Look = s.taken ≡ None
@@ -108,7 +108,7 @@ CanHear s (plan.Receive slot _ _) = GoesOn s × (s.taken ≡ None) × (slot < SL
 CanHear s (plan.Wait _) = GoesOn s × (s.taken ≡ None)
 
 -- what a look after a pop finds: a step that it ends
-abbrev pub CanLook : PlainApp → Plan → Type 0
+abbrev pub CanLook : PlainApp → AppPlan → Type 0
 CanLook s plan.Rest = ⊥
 CanLook s plan.Return = ⊥
 CanLook s plan.Look = ⊤

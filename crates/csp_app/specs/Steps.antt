@@ -4,10 +4,10 @@ use Rattle.std.specs.Option.{option_map}
 use Rattle.csp_app.specs.Making.{Batch, batch_at, filled, packet_in, mark_in}
 use Rattle.csp_app.specs.PlainApp.{PlainApp}
 use Rattle.csp_app.specs.Slots.{slot_at, used_on}
-use Rattle.csp_app.specs.Told.{Told, still, over, over_with, put_off, not_an_answer}
+use Rattle.csp_app.specs.ToldApp.{ToldApp, still, over, over_with, put_off, not_an_answer}
 use Rattle.csp_app.specs.Turn.{Turn, rests, takes, gives, pushes, pops}
-use Rattle.csp_app.specs.declared.plan.Plan.{Plan}
-use Rattle.csp_app.specs.declared.plan.Plan.TheVariants as plan
+use Rattle.csp_app.specs.declared.plan.AppPlan.{AppPlan}
+use Rattle.csp_app.specs.declared.plan.AppPlan.TheVariants as plan
 use Rattle.csp_app.specs.PlainStep.{PlainStep}
 use Rattle.csp_app.specs.PlainStep as step
 use Rattle.csp_buffer.specs.Content.{Content}
@@ -20,28 +20,28 @@ use Rattle.csp_log.specs.declared.shown.ItemShown.TheVariants as item
 -- ---- which turn it is
 
 -- (1) a packet that was popped is given back; (2) else, after a refused operation, `Down` is popped once; (3) else it is the step's
-abbrev pub first_rule : (taken : Option Content) → (refused : Bool) → (own : Plan) → Plan
+abbrev pub first_rule : (taken : Option Content) → (refused : Bool) → (own : AppPlan) → AppPlan
 first_rule (Some _) refused own = plan.Return
 first_rule None true own = plan.Look
 first_rule None false own = own
 
 -- `give` gives the buffer held longest; with none it does nothing
-abbrev pub give_plan : (held : List Content) → Plan
+abbrev pub give_plan : (held : List Content) → AppPlan
 give_plan [] = plan.Skip
 give_plan (_ ∷ _) = plan.Give
 
 -- a note is pushed, and then its answer is awaited
-abbrev pub note_plan : (asked : Bool) → Note → Plan
+abbrev pub note_plan : (asked : Bool) → Note → AppPlan
 note_plan false n = plan.Ask n
 note_plan true n = plan.Await
 
 -- a packet is made in a buffer, and then pushed
-abbrev pub packet_plan : (made : Option Content) → Plan
+abbrev pub packet_plan : (made : Option Content) → AppPlan
 packet_plan None = plan.Fill
 packet_plan (Some _) = plan.Push
 
 -- `recv` does nothing once where there are enough packets at its start; and so does `collect`, where there are enough blobs
-abbrev pub recv_plan : (slot packets : ℕ) → (rounds since : Option ℕ) → (is_enough : Bool) → Plan
+abbrev pub recv_plan : (slot packets : ℕ) → (rounds since : Option ℕ) → (is_enough : Bool) → AppPlan
 recv_plan slot packets rounds None true = plan.Use slot packets
 recv_plan slot packets rounds None false = plan.Receive slot packets rounds
 recv_plan slot packets rounds (Some _) _ = plan.Receive slot packets rounds
@@ -51,7 +51,7 @@ abbrev pub is_enough : ℕ → ℕ → PlainApp → Bool
 is_enough slot packets s = nat_le packets (slot_at s.slots slot).unused
 
 -- where the present step stands
-abbrev pub step_plan : PlainApp → Option PlainStep → Plan
+abbrev pub step_plan : PlainApp → Option PlainStep → AppPlan
 step_plan s (Some step.Take) = plan.Take
 step_plan s (Some step.Give) = give_plan s.held
 step_plan s (Some (step.Bind port need)) = note_plan s.asked (note.Bind port need)
@@ -67,7 +67,7 @@ step_plan s (Some (step.Wait rounds)) = plan.Wait rounds
 step_plan s None = plan.Rest
 
 -- what the next turn is
-abbrev pub plan_of : PlainApp → Plan
+abbrev pub plan_of : PlainApp → AppPlan
 plan_of s = first_rule s.taken s.refused (step_plan s (slice_get s.steps s.done))
 
 -- ---- the words of the table
@@ -85,12 +85,12 @@ abbrev pub packet_made : PlainApp → Option ItemShown
 packet_made s = option_map (λ b. item.Packet s.mark b) s.made
 
 -- one more packet of the step was pushed: with the last of them it is done
-abbrev pub pushed_one : (is_more : Bool) → PlainApp → Told
+abbrev pub pushed_one : (is_more : Bool) → PlainApp → ToldApp
 pushed_one true s = still (record s { sent = s.sent + 1 })
 pushed_one false s = over s
 
 -- a note that came while an answer is awaited: each but Down is the answer, and Refused is reported
-abbrev pub answered_by : PlainApp → Note → Told
+abbrev pub answered_by : PlainApp → Note → ToldApp
 answered_by s note.Bound = over s
 answered_by s (note.Connected _) = over s
 answered_by s (note.Closed _) = over s
@@ -101,7 +101,7 @@ answered_by s (note.Connect _ _ _ _ _ _) = not_an_answer s
 answered_by s (note.Close _) = not_an_answer s
 
 -- an answer is awaited, and this note came, if it is one
-abbrev pub answered : Option Note → PlainApp → Told
+abbrev pub answered : Option Note → PlainApp → ToldApp
 answered None s = still s
 answered (Some n) s = answered_by s n
 
@@ -119,33 +119,33 @@ gives_up (Some rounds) now s = has_passed rounds now s
 gives_up None now s = false
 
 -- `recv` is satisfied and uses its packets
-abbrev pub satisfied : ℕ → ℕ → PlainApp → Told
+abbrev pub satisfied : ℕ → ℕ → PlainApp → ToldApp
 satisfied slot packets s = over (record s { slots = used_on slot packets s.slots })
 
 -- after each pop of `recv`, in this order: there are enough packets; the rounds have passed; the slot is down
-abbrev pub recv_end : ℕ → ℕ → (enough passed down : Bool) → PlainApp → Told
+abbrev pub recv_end : ℕ → ℕ → (enough passed down : Bool) → PlainApp → ToldApp
 recv_end slot packets true _ _ s = satisfied slot packets s
 recv_end slot packets false true _ s = over_with (event.GaveUp (s.done + 1)) s
 recv_end slot packets false false true s = over_with (event.SlotDown (s.done + 1)) s
 recv_end slot packets false false false s = still s
 
 -- a `recv` step after a pop, as the packets, rounds and slot now stand
-abbrev pub received : ℕ → ℕ → Option ℕ → ℕ → PlainApp → Told
+abbrev pub received : ℕ → ℕ → Option ℕ → ℕ → PlainApp → ToldApp
 received slot packets rounds now s = recv_end slot packets (is_enough slot packets s) (gives_up rounds now s) (slot_at s.slots slot).down s
 
 -- after each pop of `wait`: the rounds have passed
-abbrev pub wait_end : (passed : Bool) → PlainApp → Told
+abbrev pub wait_end : (passed : Bool) → PlainApp → ToldApp
 wait_end true s = over s
 wait_end false s = still s
 
 -- a `wait` step after a pop
-abbrev pub waited : ℕ → ℕ → PlainApp → Told
+abbrev pub waited : ℕ → ℕ → PlainApp → ToldApp
 waited rounds now s = wait_end (has_passed rounds now s) s
 
 -- ---- the table: what each turn asks, and what each answer comes to
 
 -- the table of the steps: each plan's turn, with what each answer comes to
-abbrev pub turn_of : PlainApp → ℕ → Plan → Turn
+abbrev pub turn_of : PlainApp → ℕ → AppPlan → Turn
 turn_of s now plan.Rest = rests (still s)
 -- (1) a packet that was popped is given back; from a full pool, which no run meets, it comes back, is still to be given, and `Down` is popped
 -- once after it is

@@ -2,10 +2,10 @@
 use Rattle.std.specs.Prelude.{ℕ, List}
 use Rattle.csp_app.specs.PlainApp.{PlainApp}
 use Rattle.csp_app.specs.Steps.{turn_of}
-use Rattle.csp_app.specs.Told.{Told}
+use Rattle.csp_app.specs.ToldApp.{ToldApp}
 use Rattle.csp_app.specs.Turn.{told_of}
-use Rattle.csp_app.specs.declared.plan.Plan.{Plan}
-use Rattle.csp_app.specs.declared.plan.Plan.TheVariants as plan
+use Rattle.csp_app.specs.declared.plan.AppPlan.{AppPlan}
+use Rattle.csp_app.specs.declared.plan.AppPlan.TheVariants as plan
 use Rattle.csp_log.specs.declared.event.Event.{Event}
 use Rattle.csp_log.specs.declared.shown.AnswerShown.{AnswerShown}
 
@@ -14,11 +14,11 @@ abbrev pub at_rest : PlainApp → PlainApp
 at_rest s = record s { doing = plan.Rest }
 
 -- what an answer in the turn of this plan comes to
-abbrev pub told_by : PlainApp → ℕ → Plan → AnswerShown → Told
+abbrev pub told_by : PlainApp → ℕ → AppPlan → AnswerShown → ToldApp
 told_by s now p a = told_of s (turn_of s now p) a
 
 -- a turn ends with its answer
-abbrev pub told : PlainApp → ℕ → AnswerShown → Told
+abbrev pub told : PlainApp → ℕ → AnswerShown → ToldApp
 told s now a = told_by (at_rest s) now s.doing a
 
 -- the application after an answer

@@ -4,7 +4,7 @@ use Rattle.csp_app.specs.Collecting.{collectors_after}
 use Rattle.csp_app.specs.Making.{packet_in, note_in}
 use Rattle.csp_app.specs.PlainApp.{PlainApp}
 use Rattle.csp_app.specs.Slots.{slots_after, took}
-use Rattle.csp_app.specs.Told.{Told, after, not_an_answer}
+use Rattle.csp_app.specs.ToldApp.{ToldApp, after, not_an_answer}
 use Rattle.csp_buffer.specs.Content.{Content}
 use Rattle.csp_deck.specs.Step.{Kind, nothing, taking, giving, pushing, popping}
 use Rattle.csp_log.specs.declared.note.Note.{Note}
@@ -18,15 +18,15 @@ use Rattle.csp_log.specs.declared.shown.OpShown.TheVariants as op
 -- the five forms of a turn, each with what every answer comes to
 pub data Turn : Type 0 where
   -- it does nothing
-  rests : (told : Told) → Turn
+  rests : (told : ToldApp) → Turn
   -- it takes a buffer from the pool: one is taken, or there is none
-  takes : (taken : Content → Told) → (none : Told) → Turn
+  takes : (taken : Content → ToldApp) → (none : ToldApp) → Turn
   -- it gives a buffer to the pool: it is given, or comes back
-  gives : Option Content → (until : PlainApp) → (given : Told) → (back : Content → Told) → Turn
+  gives : Option Content → (until : PlainApp) → (given : ToldApp) → (back : Content → ToldApp) → Turn
   -- it pushes an item to `Up`: it is pushed, or comes back
-  pushes : Option ItemShown → (until : PlainApp) → (pushed : Told) → (back : ItemShown → Told) → Turn
+  pushes : Option ItemShown → (until : PlainApp) → (pushed : ToldApp) → (back : ItemShown → ToldApp) → Turn
   -- it pops `Down`, and looks what comes of that, with the note that came if one did
-  pops : (until : PlainApp) → (look : Option Note → PlainApp → Told) → Turn
+  pops : (until : PlainApp) → (look : Option Note → PlainApp → ToldApp) → Turn
 
 -- a buffer goes to the pool
 abbrev pub giving_op : Option Content → OpShown
@@ -67,7 +67,7 @@ abbrev pub popped : ItemShown → PlainApp → PlainApp
 popped i s = record s { taken = packet_in i; slots = slots_after i s.collectors s.slots; collectors = collectors_after i s.collectors }
 
 -- what it looks for when `Down` was popped
-abbrev pub looked : Turn → Option Note → PlainApp → Told
+abbrev pub looked : Turn → Option Note → PlainApp → ToldApp
 looked (rests _) _ s = not_an_answer s
 looked (takes _ _) _ s = not_an_answer s
 looked (gives _ _ _ _) _ s = not_an_answer s
@@ -75,7 +75,7 @@ looked (pushes _ _ _ _) _ s = not_an_answer s
 looked (pops _ look) n s = look n s
 
 -- what each answer comes to
-abbrev pub told_of : PlainApp → Turn → AnswerShown → Told
+abbrev pub told_of : PlainApp → Turn → AnswerShown → ToldApp
 told_of s (rests told) answer.Nothing = told
 told_of s (takes taken none) (answer.Taken b) = taken b
 told_of s (takes taken none) answer.NoBuffer = none

@@ -3,13 +3,13 @@ use Rattle.std.specs.Prelude.{ℕ, Bool, true, false, not, ◌&&◌, Option, is_
 use Rattle.csp_app.specs.PlainApp.{PlainApp}
 use Rattle.csp_app.specs.Slots.{slot_at}
 use Rattle.csp_app.specs.Steps.{plan_of, is_enough, has_passed, gives_up}
-use Rattle.csp_app.specs.declared.plan.Plan.{Plan}
-use Rattle.csp_app.specs.declared.plan.Plan.TheVariants as plan
+use Rattle.csp_app.specs.declared.plan.AppPlan.{AppPlan}
+use Rattle.csp_app.specs.declared.plan.AppPlan.TheVariants as plan
 use Rattle.csp_log.specs.declared.places.QueueId.{QueueId}
 use Rattle.csp_log.specs.declared.places.QueueId.TheVariants as queue
 
 -- between two turns
-abbrev pub is_rest : Plan → Bool
+abbrev pub is_rest : AppPlan → Bool
 is_rest plan.Rest = true
 is_rest plan.Return = false
 is_rest plan.Look = false
@@ -29,7 +29,7 @@ abbrev pub receives_on : ℕ → ℕ → Option ℕ → ℕ → PlainApp → Boo
 receives_on slot packets rounds now s = is_some s.since && (not (is_enough slot packets s) && (not (gives_up rounds now s) && not (slot_at s.slots slot).down))
 
 -- the turn of this plan looks into `Down`, and where that is empty all stays as it is
-abbrev pub waits_on : PlainApp → ℕ → Plan → Bool
+abbrev pub waits_on : PlainApp → ℕ → AppPlan → Bool
 waits_on s now plan.Rest = false
 waits_on s now plan.Return = false
 -- the next turn is the step's own again

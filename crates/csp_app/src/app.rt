@@ -6,10 +6,10 @@ ghost use Rattle.csp_deck.specs.Step.{times};
 ghost use Rattle.csp_app.specs.Room.{take_steps};
 
 use crate::collecting::Collectors;
-use crate::plan::Plan;
+use crate::plan::AppPlan;
 use crate::progress::Progress;
 use crate::script::Script;
-use crate::slot::{Slot, fresh_slot};
+use crate::slot::{KnownSlot, fresh_slot};
 use csp_arena::RegionToken;
 use csp_base::SLOTS;
 use csp_buffer::Buffer;
@@ -31,9 +31,9 @@ pub struct App {
     pub(crate) made: Hand,
     pub(crate) mark: u8,
     pub(crate) held: Pile,
-    pub(crate) slots: [Slot; SLOTS],
+    pub(crate) slots: [KnownSlot; SLOTS],
     pub(crate) collectors: Collectors,
-    pub(crate) doing: Plan,
+    pub(crate) doing: AppPlan,
 }
 
 impl Model for App {
@@ -102,7 +102,7 @@ impl App {
             held,
             slots: [fresh_slot(); SLOTS],
             collectors,
-            doing: Plan::Rest,
+            doing: AppPlan::Rest,
         })
     }
 

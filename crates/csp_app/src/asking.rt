@@ -10,8 +10,8 @@ ghost use Rattle.csp_arena.specs.Cells.{RegionName};
 ghost use Rattle.csp_deck.specs.Regions.{IsOpOf};
 ghost use Rattle.csp_log.specs.Pictures.{shown_op};
 
-use crate::plan::Plan;
-use crate::slot::Slot;
+use crate::plan::AppPlan;
+use crate::slot::KnownSlot;
 use crate::{App, Step};
 use csp_base::SLOTS;
 use csp_buffer::Buffer;
@@ -27,18 +27,18 @@ impl App {
     ghost use Rattle.csp_app.specs.Waiting.{waits_on, receives_on, vain_looks};
 
     /// What this turn is.
-    fn plan(&self) -> Plan
+    fn plan(&self) -> AppPlan
         requires { has_ended self.now.app ≡ false }
         ensures { result ≡ plan_of self.now.app }
     {
         if !self.taken.is_empty() {
-            return Plan::Return;
+            return AppPlan::Return;
         }
         if self.refused {
-            return Plan::Look;
+            return AppPlan::Look;
         }
         match self.script.step(self.progress.done) {
-            Step::Take => Plan::Take,
+            Step::Take => AppPlan::Take,
             Step::Give => self.give_plan(),
             Step::Bind { port, need } => self.note_plan(Note::Bind { port, need }),
             Step::Connect {
@@ -70,52 +70,52 @@ impl App {
                 rounds,
             } => self.recv_plan(slot, count, rounds),
             Step::Close { slot } => self.note_plan(Note::Close { slot }),
-            Step::Wait { rounds } => Plan::Wait { rounds },
+            Step::Wait { rounds } => AppPlan::Wait { rounds },
         }
     }
 
     /// A `give` step gives the buffer held longest, or does nothing.
-    fn give_plan(&self) -> Plan
+    fn give_plan(&self) -> AppPlan
         ensures { result ≡ give_plan self.now.app.held }
     {
         if self.held.len() == 0 {
-            Plan::Skip
+            AppPlan::Skip
         } else {
-            Plan::Give
+            AppPlan::Give
         }
     }
 
     /// A step that asks pushes its note, and then looks for the answer.
-    fn note_plan(&self, note: Note) -> Plan
+    fn note_plan(&self, note: Note) -> AppPlan
         ensures { result ≡ note_plan self.now.app.asked note }
     {
         if self.progress.asked {
-            Plan::Await
+            AppPlan::Await
         } else {
-            Plan::Ask(note)
+            AppPlan::Ask(note)
         }
     }
 
     /// A step that sends takes a buffer for its packet, and pushes the packet.
-    fn packet_plan(&self) -> Plan
+    fn packet_plan(&self) -> AppPlan
         ensures { result ≡ packet_plan self.now.app.made }
     {
         if self.made.is_empty() {
-            Plan::Fill
+            AppPlan::Fill
         } else {
-            Plan::Push
+            AppPlan::Push
         }
     }
 
     /// A `recv` step does nothing where its packets are there at its start, and else looks for one.
-    fn recv_plan(&self, slot: u8, count: u32, rounds: Option<u32>) -> Plan
+    fn recv_plan(&self, slot: u8, count: u32, rounds: Option<u32>) -> AppPlan
         requires { slot < SLOTS }
         ensures { result ≡ recv_plan slot count rounds self.now.app.since (is_enough slot count self.now.app) }
     {
         if self.progress.since.is_none() && count <= self.slots[slot as usize].unused {
-            Plan::Use { slot, count }
+            AppPlan::Use { slot, count }
         } else {
-            Plan::Receive {
+            AppPlan::Receive {
                 slot,
                 count,
                 rounds,
@@ -134,11 +134,12 @@ impl App {
     {
         let plan = self.plan();
         match &plan {
-            Plan::Look => self.refused = false,
-            Plan::Await => {}
-            Plan::Receive { .. } | Plan::Wait { .. } => self.progress.note(now),
-            Plan::Rest | Plan::Skip | Plan::Use { .. } | Plan::Return => return None,
-            Plan::Take | Plan::Fill | Plan::Give | Plan::Ask(_) | Plan::Push => return None,
+            AppPlan::Look => self.refused = false,
+            AppPlan::Await => {}
+            AppPlan::Receive { .. } | AppPlan::Wait { .. } => self.progress.note(now),
+            AppPlan::Rest | AppPlan::Skip | AppPlan::Use { .. } | AppPlan::Return => return None,
+            AppPlan::Take | AppPlan::Fill | AppPlan::Give | AppPlan::Ask(_) | AppPlan::Push =>
+                return None,
         }
         self.doing = plan;
         Some(QueueId::Down(self.number))
@@ -151,7 +152,7 @@ impl App {
         ensures { result.items ≡ vain_looks self.now.app now }
     {
         let mut circle = Circle::new();
-        if matches!(self.doing, Plan::Rest) && self.waits_on(now) {
+        if matches!(self.doing, AppPlan::Rest) && self.waits_on(now) {
             circle.push(QueueId::Down(self.number));
         }
         circle
@@ -163,17 +164,22 @@ impl App {
         ensures { result ≡ waits_on self.now.app now (plan_of self.now.app) }
     {
         match self.plan() {
-            Plan::Await => true,
-            Plan::Receive {
+            AppPlan::Await => true,
+            AppPlan::Receive {
                 slot,
                 count,
                 rounds,
             } => self.receives_on(slot, count, rounds, now),
-            Plan::Wait { rounds } => {
+            AppPlan::Wait { rounds } => {
                 self.progress.since.is_some() && !self.progress.has_passed(rounds, now)
             }
-            Plan::Rest | Plan::Return | Plan::Look | Plan::Take | Plan::Give | Plan::Skip => false,
-            Plan::Ask(_) | Plan::Fill | Plan::Push | Plan::Use { .. } => false,
+            AppPlan::Rest
+            | AppPlan::Return
+            | AppPlan::Look
+            | AppPlan::Take
+            | AppPlan::Give
+            | AppPlan::Skip => false,
+            AppPlan::Ask(_) | AppPlan::Fill | AppPlan::Push | AppPlan::Use { .. } => false,
         }
     }
 
@@ -182,7 +188,7 @@ impl App {
         requires slot { slot < SLOTS }
         ensures { result ≡ receives_on slot count rounds now self.now.app }
     {
-        let Slot { unused, down, .. } = self.slots[slot as usize];
+        let KnownSlot { unused, down, .. } = self.slots[slot as usize];
         self.progress.since.is_some()
             && unused < count
             && !rounds.is_some_and(|rounds| self.progress.has_passed(rounds, now))
@@ -199,18 +205,18 @@ impl App {
     {
         let plan = self.plan();
         let op = match &plan {
-            Plan::Rest | Plan::Skip | Plan::Use { .. } => Op::Nothing,
-            Plan::Return => given(self.taken.take()),
-            Plan::Look => {
+            AppPlan::Rest | AppPlan::Skip | AppPlan::Use { .. } => Op::Nothing,
+            AppPlan::Return => given(self.taken.take()),
+            AppPlan::Look => {
                 self.refused = false;
                 Op::Pop(QueueId::Down(self.number))
             }
-            Plan::Take | Plan::Fill => Op::Take,
-            Plan::Give => given(self.held.pop()),
-            Plan::Ask(note) => Op::Push(QueueId::Up(self.number), Item::Note(*note)),
-            Plan::Await => Op::Pop(QueueId::Down(self.number)),
-            Plan::Push => pushed(self.number, self.mark, self.made.take()),
-            Plan::Receive { .. } | Plan::Wait { .. } => {
+            AppPlan::Take | AppPlan::Fill => Op::Take,
+            AppPlan::Give => given(self.held.pop()),
+            AppPlan::Ask(note) => Op::Push(QueueId::Up(self.number), Item::Note(*note)),
+            AppPlan::Await => Op::Pop(QueueId::Down(self.number)),
+            AppPlan::Push => pushed(self.number, self.mark, self.made.take()),
+            AppPlan::Receive { .. } | AppPlan::Wait { .. } => {
                 self.progress.note(now);
                 Op::Pop(QueueId::Down(self.number))
             }

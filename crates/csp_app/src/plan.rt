@@ -4,7 +4,7 @@ use csp_log::Note;
 
 /// What a turn is, from its operation to the answer.
 #[derive(Clone, Copy)]
-pub enum Plan {
+pub enum AppPlan {
     /// Between two turns.
     Rest,
     /// The buffer of a packet that was popped is given back.

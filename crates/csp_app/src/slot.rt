@@ -2,7 +2,7 @@
 
 ghost use Rattle.std.specs.Prelude.{◌≡◌, ◌+◌, ◌-◌, ◌^◌, ◌<◌, ◌≤◌, [], ◌∷◌, length, sum_by};
 ghost use Rattle.csp_app.specs.Collecting.{collectors_after};
-ghost use Rattle.csp_app.specs.Slots.{fresh, slot_at, slots_after, noted, took, used_on, counted};
+ghost use Rattle.csp_app.specs.Slots.{fresh, slot_at, slots_after, noted, took, used_on, slots_count};
 ghost use Rattle.csp_deck.specs.Carried.{IsDownItem};
 ghost use Rattle.std.specs.Option.{option_to_list};
 ghost use Rattle.csp_log.specs.Pictures.{shown_item};
@@ -14,7 +14,7 @@ use csp_sfp::Collector;
 
 /// One slot for a connection.
 #[derive(Clone, Copy)]
-pub struct Slot {
+pub struct KnownSlot {
     /// How many of its connections were closed.
     pub ordinal: u32,
     /// How many packets were taken on it that no `recv` has used. On a slot that collects, how many blobs that no
@@ -25,10 +25,10 @@ pub struct Slot {
 }
 
 /// A slot before anything came for it.
-pub fn fresh_slot() -> Slot
+pub fn fresh_slot() -> KnownSlot
     ensures { result ≡ fresh }
 {
-    Slot {
+    KnownSlot {
         ordinal: 0,
         unused: 0,
         down: false,
@@ -37,7 +37,7 @@ pub fn fresh_slot() -> Slot
 
 /// An item was popped. Reports what there is to report of it.
 pub fn note_item(
-    slots: &mut [Slot],
+    slots: &mut [KnownSlot],
     collectors: &mut [Option<Collector>],
     item: &Item,
     report: &mut Events,
@@ -45,7 +45,7 @@ pub fn note_item(
     requires slots { length slots.old ≡ SLOTS }
     requires collectors { length collectors.old ≡ SLOTS }
     requires item { IsDownItem (shown_item item.now) }
-    requires room { counted slots.old < 2 ^ 32 - 1 }
+    requires room { slots_count slots.old < 2 ^ 32 - 1 }
     requires unwritten { report.old.items ≡ [] }
     ensures slots { slots.new ≡ slots_after (shown_item item.now) collectors.old slots.old }
     ensures collectors { collectors.new ≡ collectors_after (shown_item item.now) collectors.old }
@@ -74,10 +74,10 @@ pub fn note_item(
 }
 
 /// A note was popped.
-fn note_note(slots: &mut [Slot], note: &Note)
+fn note_note(slots: &mut [KnownSlot], note: &Note)
     requires slots { length slots.old ≡ SLOTS }
     requires item { IsDownItem (ItemShown.Note note.now) }
-    requires room { counted slots.old < 2 ^ 32 - 1 }
+    requires room { slots_count slots.old < 2 ^ 32 - 1 }
     ensures { slots.new ≡ noted note.now slots.old }
 {
     match note {
@@ -97,7 +97,7 @@ fn note_note(slots: &mut [Slot], note: &Note)
 }
 
 /// A `recv` uses so many packets of a slot, which has them.
-pub fn use_packets(slots: &mut [Slot], slot: u8, count: u32)
+pub fn use_packets(slots: &mut [KnownSlot], slot: u8, count: u32)
     requires slot { slot < length slots.old }
     requires enough { count ≤ (slot_at slots.old slot).unused }
     ensures { slots.new ≡ used_on slot count slots.old }

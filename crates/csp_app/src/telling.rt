@@ -9,8 +9,8 @@ ghost use Rattle.csp_log.specs.Pictures.{shown_answer, shown_item};
 use crate::App;
 use crate::items::{mark_in, note_in, put_packet};
 use crate::packets::{filled, mark_of, packets_of};
-use crate::plan::Plan;
-use crate::slot::{Slot, note_item, use_packets};
+use crate::plan::AppPlan;
+use crate::slot::{KnownSlot, note_item, use_packets};
 use csp_base::SLOTS;
 use csp_buffer::Buffer;
 use csp_log::{Answer, AnswerShown, Event, Events, Item, Note};
@@ -21,7 +21,7 @@ impl App {
     ghost use Rattle.csp_app.specs.Room.{CanLook, GoesOn};
     ghost use Rattle.csp_app.specs.Steps.{batch, making, pushed_one, answered_by, received, waited, turn_of};
     ghost use Rattle.csp_app.specs.Telling.{tells, events, at_rest};
-    ghost use Rattle.csp_app.specs.Told.{next};
+    ghost use Rattle.csp_app.specs.ToldApp.{next};
     ghost use Rattle.csp_app.specs.Turn.{looked};
     ghost use Rattle.std.specs.Prelude.{slice_get, nat_lt, ◌++◌};
 
@@ -71,14 +71,14 @@ impl App {
         ensures state { self.new ≡ with_app self.old (tells self.old.app now AnswerShown.Nothing) }
     {
         match self.doing {
-            Plan::Skip => self.progress.advance(),
-            Plan::Use { slot, count } => {
+            AppPlan::Skip => self.progress.advance(),
+            AppPlan::Use { slot, count } => {
                 use_packets(&mut self.slots, slot, count);
                 self.progress.advance();
             }
             _ => {}
         }
-        self.doing = Plan::Rest;
+        self.doing = AppPlan::Rest;
     }
 
     fn told_taken(&mut self, buffer: Buffer, now: u64, report: &mut Events)
@@ -89,26 +89,26 @@ impl App {
         ensures state { self.new ≡ with_app self.old (tells self.old.app now (AnswerShown.Taken buffer.picture)) }
     {
         match self.doing {
-            Plan::Take => self.hold(buffer),
-            Plan::Fill => self.make(buffer),
+            AppPlan::Take => self.hold(buffer),
+            AppPlan::Fill => self.make(buffer),
             _ => unreachable!(),
         }
     }
 
     /// A `take` step has its buffer.
     fn hold(&mut self, buffer: Buffer)
-        requires doing { self.old.app.doing ≡ Plan.Take }
+        requires doing { self.old.app.doing ≡ AppPlan.Take }
         requires of_it { buffer.region ≡ self.old.region }
         ensures { self.new ≡ with_app self.old (next (record (at_rest self.old.app) { held = self.old.app.held ++ buffer.picture ∷ [] })) }
     {
         self.held.add(buffer);
         self.progress.advance();
-        self.doing = Plan::Rest;
+        self.doing = AppPlan::Rest;
     }
 
     /// A step has the buffer for its packet.
     fn make(&mut self, buffer: Buffer)
-        requires doing { self.old.app.doing ≡ Plan.Fill }
+        requires doing { self.old.app.doing ≡ AppPlan.Fill }
         requires of_it { buffer.region ≡ self.old.region }
         ensures { self.new ≡ with_app self.old (making (batch self.old.app) buffer.picture (at_rest self.old.app)) }
     {
@@ -116,7 +116,7 @@ impl App {
         self.mark = mark_of(&step);
         let packet = filled(&step, self.progress.sent, buffer);
         self.made.put(packet);
-        self.doing = Plan::Rest;
+        self.doing = AppPlan::Rest;
     }
 
     fn told_no_buffer(&mut self, now: u64, report: &mut Events)
@@ -126,10 +126,10 @@ impl App {
         ensures state { self.new ≡ with_app self.old (tells self.old.app now AnswerShown.NoBuffer) }
     {
         match self.doing {
-            Plan::Take => report.push(self.miss()),
-            Plan::Fill => {
+            AppPlan::Take => report.push(self.miss()),
+            AppPlan::Fill => {
                 self.refused = true;
-                self.doing = Plan::Rest;
+                self.doing = AppPlan::Rest;
             }
             _ => unreachable!(),
         }
@@ -137,13 +137,13 @@ impl App {
 
     /// A `take` step found the pool empty.
     fn miss(&mut self) -> Event
-        requires { self.old.app.doing ≡ Plan.Take }
+        requires { self.old.app.doing ≡ AppPlan.Take }
         ensures event { result ≡ Event.TookEmpty (self.old.app.done + 1) }
         ensures state { self.new ≡ with_app self.old (next (at_rest self.old.app)) }
     {
         let step = self.progress.done as u32 + 1;
         self.progress.advance();
-        self.doing = Plan::Rest;
+        self.doing = AppPlan::Rest;
         Event::TookEmpty { step }
     }
 
@@ -154,10 +154,10 @@ impl App {
         ensures events { report.new.items ≡ events self.old.app now AnswerShown.Given }
         ensures state { self.new ≡ with_app self.old (tells self.old.app now AnswerShown.Given) }
     {
-        if let Plan::Give = self.doing {
+        if let AppPlan::Give = self.doing {
             self.progress.advance();
         }
-        self.doing = Plan::Rest;
+        self.doing = AppPlan::Rest;
     }
 
     fn told_pool_full(&mut self, buffer: Buffer, now: u64, report: &mut Events)
@@ -168,12 +168,12 @@ impl App {
         ensures state { self.new ≡ with_app self.old (tells self.old.app now (AnswerShown.PoolFull buffer.picture)) }
     {
         match self.doing {
-            Plan::Return => self.taken.put(buffer),
-            Plan::Give => self.held.put_back(buffer),
+            AppPlan::Return => self.taken.put(buffer),
+            AppPlan::Give => self.held.put_back(buffer),
             _ => unreachable!(),
         }
         self.refused = true;
-        self.doing = Plan::Rest;
+        self.doing = AppPlan::Rest;
     }
 
     fn told_pushed(&mut self, now: u64, report: &mut Events)
@@ -183,11 +183,11 @@ impl App {
         ensures state { self.new ≡ with_app self.old (tells self.old.app now AnswerShown.Pushed) }
     {
         match self.doing {
-            Plan::Ask(_) => {
+            AppPlan::Ask(_) => {
                 self.progress.asked = true;
-                self.doing = Plan::Rest;
+                self.doing = AppPlan::Rest;
             }
-            Plan::Push => self.count_packet(),
+            AppPlan::Push => self.count_packet(),
             _ => unreachable!(),
         }
     }
@@ -195,10 +195,10 @@ impl App {
     /// One more packet of a step was pushed: with the last of them it is done.
     #[tactic(auto, using(crate::proofs::Takes::takes_less))]
     fn count_packet(&mut self)
-        requires { self.old.app.doing ≡ Plan.Push }
+        requires { self.old.app.doing ≡ AppPlan.Push }
         ensures { self.new ≡ with_app self.old (pushed_one (nat_lt (self.old.app.sent + 1) (batch self.old.app).count) (at_rest self.old.app)).state }
     {
-        self.doing = Plan::Rest;
+        self.doing = AppPlan::Rest;
         let packets = packets_of(&self.script.step(self.progress.done));
         if self.progress.has_more(packets) {
             self.progress.sent += 1;
@@ -215,15 +215,15 @@ impl App {
         ensures state { self.new ≡ with_app self.old (tells self.old.app now (AnswerShown.Full (shown_item item))) }
     {
         match self.doing {
-            Plan::Ask(_) => put_packet(&mut self.taken, item),
-            Plan::Push => {
+            AppPlan::Ask(_) => put_packet(&mut self.taken, item),
+            AppPlan::Push => {
                 self.mark = mark_in(&item);
                 put_packet(&mut self.made, item);
             }
             _ => unreachable!(),
         }
         self.refused = true;
-        self.doing = Plan::Rest;
+        self.doing = AppPlan::Rest;
     }
 
     #[tactic(auto, using(crate::proofs::Popping::popped_hears, crate::proofs::Popping::popped_comes))]
@@ -237,7 +237,7 @@ impl App {
     {
         let plan = self.doing;
         let note = note_in(&item);
-        self.doing = Plan::Rest;
+        self.doing = AppPlan::Rest;
         note_item(&mut self.slots, &mut self.collectors, &item, report);
         put_packet(&mut self.taken, item);
         if let Some(event) = self.look_on(plan, note, now) {
@@ -253,7 +253,7 @@ impl App {
         ensures state { self.new ≡ with_app self.old (tells self.old.app now AnswerShown.Empty) }
     {
         let plan = self.doing;
-        self.doing = Plan::Rest;
+        self.doing = AppPlan::Rest;
         if let Some(event) = self.look_on(plan, None, now) {
             report.push(event);
         }
@@ -261,24 +261,24 @@ impl App {
 
     /// `Down` was popped, and what came is noted: a step that waits looks whether it is done.
     #[inline(always)]
-    fn look_on(&mut self, plan: Plan, note: Option<Note>, now: u64) -> Option<Event>
-        requires resting { self.old.app.doing ≡ Plan.Rest }
+    fn look_on(&mut self, plan: AppPlan, note: Option<Note>, now: u64) -> Option<Event>
+        requires resting { self.old.app.doing ≡ AppPlan.Rest }
         requires step { CanLook self.old.app plan }
         ensures event { option_to_list result ≡ (looked (turn_of self.old.app now plan) note self.old.app).events }
         ensures state { self.new ≡ with_app self.old (looked (turn_of self.old.app now plan) note self.old.app).state }
     {
         match plan {
-            Plan::Look => None,
-            Plan::Await => match &note {
+            AppPlan::Look => None,
+            AppPlan::Await => match &note {
                 Some(note) => self.look_at_note(note),
                 None => None,
             },
-            Plan::Receive {
+            AppPlan::Receive {
                 slot,
                 count,
                 rounds,
             } => self.look_for(slot, count, rounds, now),
-            Plan::Wait { rounds } => {
+            AppPlan::Wait { rounds } => {
                 self.look_at_time(rounds, now);
                 None
             }
@@ -289,7 +289,7 @@ impl App {
     /// A step that asked looks whether this note is its answer.
     #[tactic(auto, using(crate::proofs::Takes::takes_less))]
     fn look_at_note(&mut self, note: &Note) -> Option<Event>
-        requires resting { self.old.app.doing ≡ Plan.Rest }
+        requires resting { self.old.app.doing ≡ AppPlan.Rest }
         requires step { GoesOn self.old.app }
         ensures event { option_to_list result ≡ (answered_by self.old.app note.now).events }
         ensures state { self.new ≡ with_app self.old (answered_by self.old.app note.now).state }
@@ -313,7 +313,7 @@ impl App {
     /// A `wait` step looks whether its rounds have passed.
     #[tactic(auto, using(crate::proofs::Takes::takes_less))]
     fn look_at_time(&mut self, rounds: u32, now: u64)
-        requires resting { self.old.app.doing ≡ Plan.Rest }
+        requires resting { self.old.app.doing ≡ AppPlan.Rest }
         requires step { GoesOn self.old.app }
         ensures { self.new ≡ with_app self.old (waited rounds now self.old.app).state }
     {
@@ -326,14 +326,14 @@ impl App {
     #[tactic(auto, using(crate::proofs::Takes::takes_less))]
     #[inline(always)]
     fn look_for(&mut self, slot: u8, count: u32, rounds: Option<u32>, now: u64) -> Option<Event>
-        requires resting { self.old.app.doing ≡ Plan.Rest }
+        requires resting { self.old.app.doing ≡ AppPlan.Rest }
         requires step { GoesOn self.old.app }
         requires slot { slot < SLOTS }
         ensures event { option_to_list result ≡ (received slot count rounds now self.old.app).events }
         ensures state { self.new ≡ with_app self.old (received slot count rounds now self.old.app).state }
     {
         let step = self.progress.done as u32 + 1;
-        let Slot { unused, down, .. } = self.slots[slot as usize];
+        let KnownSlot { unused, down, .. } = self.slots[slot as usize];
         if count <= unused {
             use_packets(&mut self.slots, slot, count);
             self.progress.advance();

@@ -33,13 +33,13 @@ use Rattle.csp_ports.proofs.Public.{wishes_earlier, wishes_later}
 use Rattle.csp_rdp.specs.Changes.{change_between}
 use Rattle.csp_rdp.specs.Jobs as jobs
 use Rattle.csp_rdp.specs.Machine.{PlainRdp}
-use Rattle.csp_rdp.specs.Table.{handed}
+use Rattle.csp_rdp.specs.Table.{after_packet}
 use Rattle.csp_rdp.specs.declared.answers.Change.{Change}
 use Rattle.csp_rdp.specs.declared.answers.Change.TheVariants as change
 use Rattle.csp_rdp.specs.declared.answers.State.{State}
 use Rattle.csp_rdp.specs.declared.answers.State.TheVariants as state
-use Rattle.csp_rdp.specs.declared.answers.Why.{Why as MachineWhy}
-use Rattle.csp_rdp.specs.declared.answers.Why.TheVariants as machine_why
+use Rattle.csp_rdp.specs.declared.answers.Cause.{Cause as MachineWhy}
+use Rattle.csp_rdp.specs.declared.answers.Cause.TheVariants as machine_why
 use Rattle.csp_rdp_header.specs.declared.head.RdpHead.{RdpHead}
 
 -- ---- what is due
@@ -283,7 +283,7 @@ invites o p app slot c prio flags i time = accepts p app slot c prio flags
 pub hands : (p : PlainPorts) (app slot : ℕ) (h : RdpHead) (b : Content) (time : ℕ) → slot < SLOTS → NoMore p (handing p app slot h b time).ports
 hands p app slot h b time low =
     let r : PlainRdp = machine_at p app slot in
-    let next : PlainRdp = handed h b.trace.tag (anywhere b) time r in
+    let next : PlainRdp = after_packet h b.trace.tag (anywhere b) time r in
     let q : PlainPorts = (went r.state machine_why.Reset app slot next p).ports in
     let d : PlainPorts = (dropped app q).ports in
     both p q (settled time app d) (goes r.state machine_why.Reset app slot next p low) (both q d (settled time app d) (drops app q) (settles time app d))

@@ -13,11 +13,11 @@ use Rattle.csp_app.specs.PlainStep.{PlainStep}
 use Rattle.csp_app.specs.Slots.{fresh, slot_at, took}
 use Rattle.csp_app.specs.Steps.{answered, batch, gives_up, has_passed, is_enough, plan_of, pushed_one, recv_end, turn_of, wait_end}
 use Rattle.csp_app.specs.Telling.{at_rest}
-use Rattle.csp_app.specs.Told.{Told}
+use Rattle.csp_app.specs.ToldApp.{ToldApp}
 use Rattle.csp_app.specs.Turn.{Turn, gives, giving_op, op_of, popped, pops, pushes, pushing_op, rests, takes, told_of, until_told}
-use Rattle.csp_app.specs.declared.plan.Plan.{Plan}
-use Rattle.csp_app.specs.declared.plan.Plan.TheVariants as plan
-use Rattle.csp_app.specs.declared.slot.Slot.{Slot}
+use Rattle.csp_app.specs.declared.plan.AppPlan.{AppPlan}
+use Rattle.csp_app.specs.declared.plan.AppPlan.TheVariants as plan
+use Rattle.csp_app.specs.declared.slot.KnownSlot.{KnownSlot}
 use Rattle.csp_buffer.specs.Content.{Content}
 use Rattle.csp_deck.specs.Runs.{IsRun, step_after}
 use Rattle.csp_log.specs.PlainLog.{all_events}
@@ -49,7 +49,7 @@ IsSilent k o es = Tells k o es [] []
 
 module _ (number k o : ℕ) where
   -- a turn comes to this
-  abbrev Comes : ℕ → Option Gathering → Told → Type 0
+  abbrev Comes : ℕ → Option Gathering → ToldApp → Type 0
   Comes n c t = Stands number k n c t.state × IsSilent k o t.events
 
   silent : IsSilent k o []
@@ -83,7 +83,7 @@ module _ (number k o : ℕ) where
   comes_waited n c true s h = (h, silent)
   comes_waited n c false s h = (h, silent)
 
-  leaves : (n : ℕ) (c : Option Gathering) (s : PlainApp) (now : ℕ) (p : Plan) → Stands number k n c s → Leaves n c (turn_of s now p)
+  leaves : (n : ℕ) (c : Option Gathering) (s : PlainApp) (now : ℕ) (p : AppPlan) → Stands number k n c s → Leaves n c (turn_of s now p)
   leaves n c s now plan.Rest h = (h, silent)
   leaves n c s now plan.Return h = (h, (h, silent), λ b. (h, silent))
   leaves n c s now plan.Look h = (h, λ m d i t g. (g, silent))
@@ -109,12 +109,12 @@ module _ (number k o : ℕ) where
   -- ---- what came of a turn
 
   -- it popped nothing
-  record IsQuiet (n : ℕ) (c : Option Gathering) (op : OpShown) (a : AnswerShown) (t : Told) : Type 0 where
+  record IsQuiet (n : ℕ) (c : Option Gathering) (op : OpShown) (a : AnswerShown) (t : ToldApp) : Type 0 where
     pub none : got_by (queue.Down number) op a ≡ []
     pub comes : Comes n c t
 
   -- it popped an item, in this state
-  record HasPopped (n : ℕ) (c : Option Gathering) (s : PlainApp) (op : OpShown) (a : AnswerShown) (t : Told) : Type 0 where
+  record HasPopped (n : ℕ) (c : Option Gathering) (s : PlainApp) (op : OpShown) (a : AnswerShown) (t : ToldApp) : Type 0 where
     pub got : ItemShown
     pub one : got_by (queue.Down number) op a ≡ got ∷ []
     pub rest : List Event
@@ -122,7 +122,7 @@ module _ (number k o : ℕ) where
     pub silence : IsSilent k o rest
     pub state : Stands number k (ends_by k n got) (collector_by k got c) t.state
 
-  abbrev HasGone : ℕ → Option Gathering → PlainApp → OpShown → AnswerShown → Told → Type 0
+  abbrev HasGone : ℕ → Option Gathering → PlainApp → OpShown → AnswerShown → ToldApp → Type 0
   HasGone n c s op a t = IsQuiet n c op a t ⊎ HasPopped n c s op a t
 
   stands_popped : (n : ℕ) (c : Option Gathering) (i : ItemShown) (s : PlainApp) → Stands number k n c s → Stands number k (ends_by k n i) (collector_by k i c) (popped i s)
@@ -135,7 +135,7 @@ module _ (number k o : ℕ) where
   IsLike _ (pops _ _) = ⊥
   IsLike _ _ = ⊤
 
-  alike : (s t : PlainApp) (now : ℕ) (p : Plan) → IsLike (turn_of s now p) (turn_of t now p)
+  alike : (s t : PlainApp) (now : ℕ) (p : AppPlan) → IsLike (turn_of s now p) (turn_of t now p)
   alike s t now plan.Rest = tt
   alike s t now _ = tt
 
@@ -193,7 +193,7 @@ module _ (number k o : ℕ) where
   -- ---- the run
 
   -- what a turn tells, and then what later ones tell
-  then_tells : (n : ℕ) (c : Option Gathering) (s : PlainApp) (op : OpShown) (a : AnswerShown) (t : Told) (js : List ItemShown) (es : List Event) → Stands number k n c s → HasGone n c s op a t
+  then_tells : (n : ℕ) (c : Option Gathering) (s : PlainApp) (op : OpShown) (a : AnswerShown) (t : ToldApp) (js : List ItemShown) (es : List Event) → Stands number k n c s → HasGone n c s op a t
       → ((m : ℕ) (d : Option Gathering) → Stands number k m d t.state → TellsOf k o m d js es) → TellsOf k o n c (got_by (queue.Down number) op a ++ js) (t.events ++ es)
   then_tells n c s op a t js es h (inl quiet) later =
       subst (λ is. TellsOf k o n c (is ++ js) (t.events ++ es)) (sym quiet.none)
@@ -213,7 +213,7 @@ module _ (number k o : ℕ) where
       tells_same k o [] [] (blobs_by (begun_with (n == o) c) []) [] (refusals_by (begun_with (n == o) c) []) (sym (blobs_of_none (begun_with (n == o) c))) (sym (refusals_of_none (begun_with (n == o) c))) silent
   run_tells (e ∷ es) n c time s run h =
       let rest : PlainApp = at_rest (asked s e.time) in
-      let t : Told = told_of rest (turn_of rest e.time (plan_of s)) e.answer in
+      let t : ToldApp = told_of rest (turn_of rest e.time (plan_of s)) e.answer in
       let gone = step_goes n c s e.time e.answer h in
       let told : TellsOf k o n c (got_by (queue.Down number) (asks s e.time) e.answer ++ gets (queue.Down number) es) (t.events ++ all_events es) =
       then_tells n c rest (asks s e.time) e.answer t (gets (queue.Down number) es) (all_events es) gone.0 gone.1 (λ m d g. run_tells es m d e.time (step_after app_steps s e) run.2 g) in
@@ -237,7 +237,7 @@ no_collector steps k none = by (leb_tells SLOTS k)
     by (inr low) = collector_first steps k low.1 ∙ none
 
 slot_first : (k : ℕ) → k < SLOTS → Knows k 0 (Some nothing) (replicate SLOTS fresh)
-slot_first k low = (low, ap (λ (s : Slot). s.ordinal) (get_or-replicate SLOTS k fresh fresh low))
+slot_first k low = (low, ap (λ (s : KnownSlot). s.ordinal) (get_or-replicate SLOTS k fresh fresh low))
 
 -- a connection's own collector is one that begins with nothing
 begins_with_nothing : (b : Bool) → begun_with b (Some nothing) ≡ Some nothing

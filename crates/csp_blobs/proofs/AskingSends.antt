@@ -44,7 +44,7 @@ use Rattle.csp_record.specs.Connections.{opened_by}
 use Rattle.csp_record.specs.Ordinals.{frees, ordinal_at}
 use Rattle.csp_record.specs.Payloads.{carried, is_on, sent, told_on}
 use Rattle.csp_record.specs.declared.connections.Opening.{Opening}
-use Rattle.csp_record.specs.declared.payloads.Way.TheVariants as way
+use Rattle.csp_record.specs.declared.payloads.Transfer.TheVariants as way
 use Rattle.csp_record.proofs.Public.{Ends}
 use Rattle.csp_stack.specs.Config.{opening_state}
 use Rattle.csp_stack.specs.Router.{Facts, Leaving, State, at_rest, origin_of}

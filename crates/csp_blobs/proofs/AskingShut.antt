@@ -11,7 +11,7 @@ use Rattle.csp_prefix.specs.Slots.{Book, IsKept, Now, Numbering, after_deliverin
 use Rattle.csp_rdp.specs.Holding.{rested}
 use Rattle.csp_rdp.specs.Jobs.{admitting, closing, delivering, keeping_again, sent, ticked, without_delivery}
 use Rattle.csp_rdp.specs.Machine.{PlainRdp, accepting, connecting}
-use Rattle.csp_rdp.specs.Table.{handed}
+use Rattle.csp_rdp.specs.Table.{after_packet as handed}
 use Rattle.csp_rdp.specs.declared.answers.State.{State}
 use Rattle.csp_rdp.specs.declared.answers.State.TheVariants.{Closed, CloseWait, Open, SynRcvd, SynSent}
 use Rattle.csp_rdp_header.specs.declared.head.RdpHead.{RdpHead}

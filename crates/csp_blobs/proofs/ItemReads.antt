@@ -11,7 +11,7 @@ use Rattle.std.proofs.lemmas.List.{get_or-set_other, get_or-set_same, length-set
 use Rattle.std.proofs.lemmas.List.Elements.{filter_map-append}
 use Rattle.csp_app.specs.Collecting.{Collectors, answer_of, blobs_told, collector_at, collectors_after, counts, piece_told}
 use Rattle.csp_app.specs.Slots.{closed_on, fresh, slot_at, slots_after, took}
-use Rattle.csp_app.specs.declared.slot.Slot.{Slot}
+use Rattle.csp_app.specs.declared.slot.KnownSlot.{KnownSlot as Slot}
 use Rattle.csp_crc.specs.Crc.{crc_of}
 use Rattle.csp_log.specs.declared.event.Event.{Event}
 use Rattle.csp_log.specs.declared.note.Note.TheVariants as note

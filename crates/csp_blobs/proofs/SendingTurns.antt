@@ -13,10 +13,10 @@ use Rattle.csp_app.specs.PlainStep as step
 use Rattle.csp_app.specs.Slots.{slot_at, used_on}
 use Rattle.csp_app.specs.Steps.{answered, batch, first_rule, gives_up, give_plan, has_passed, is_enough, note_plan, packet_plan, plan_of, pushed_one, recv_end, recv_plan, step_plan, turn_of, wait_end}
 use Rattle.csp_app.specs.Telling.{at_rest, tells, told_by}
-use Rattle.csp_app.specs.Told.{next}
+use Rattle.csp_app.specs.ToldApp.{next}
 use Rattle.csp_app.specs.Turn.{Turn, gives, giving_op, op_of, popped, pops, pushes, pushing_op, rests, takes, told_of, until_told}
-use Rattle.csp_app.specs.declared.plan.Plan.{Plan}
-use Rattle.csp_app.specs.declared.plan.Plan.TheVariants as plan
+use Rattle.csp_app.specs.declared.plan.AppPlan.{AppPlan as Plan}
+use Rattle.csp_app.specs.declared.plan.AppPlan.TheVariants as plan
 use Rattle.csp_buffer.specs.Content.{Content}
 use Rattle.csp_deck.specs.Runs.{IsRun, state_after, step_after}
 use Rattle.csp_log.specs.Pictures.{Fits}

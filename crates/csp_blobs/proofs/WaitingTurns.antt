@@ -11,10 +11,10 @@ use Rattle.csp_app.specs.PlainStep as step
 use Rattle.csp_app.specs.Slots.{slot_at, used_on}
 use Rattle.csp_app.specs.Steps as steps_of
 use Rattle.csp_app.specs.Telling.{at_rest, tells, told_by}
-use Rattle.csp_app.specs.Told.{next}
+use Rattle.csp_app.specs.ToldApp.{next}
 use Rattle.csp_app.specs.Turn.{Turn, gives, giving_op, op_of, popped, pops, pushes, pushing_op, rests, takes, told_of, until_told}
-use Rattle.csp_app.specs.declared.plan.Plan.{Plan}
-use Rattle.csp_app.specs.declared.plan.Plan.TheVariants as plan
+use Rattle.csp_app.specs.declared.plan.AppPlan.{AppPlan as Plan}
+use Rattle.csp_app.specs.declared.plan.AppPlan.TheVariants as plan
 use Rattle.csp_buffer.specs.Content.{Content}
 use Rattle.csp_deck.specs.Runs.{IsRun, step_after}
 use Rattle.csp_log.specs.Pictures.{Fits}

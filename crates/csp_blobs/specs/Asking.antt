@@ -18,7 +18,7 @@ use Rattle.csp_record.specs.Ordinals.{ordinal_at}
 use Rattle.csp_record.specs.Payloads.{sent}
 use Rattle.csp_record.specs.Record.{PlainRecord}
 use Rattle.csp_record.specs.declared.connections.Opening.{Opening}
-use Rattle.csp_record.specs.declared.payloads.Way.TheVariants as way
+use Rattle.csp_record.specs.declared.payloads.Transfer.TheVariants as way
 use Rattle.csp_log.specs.declared.who.Who.TheVariants as who
 use Rattle.csp_route.specs.Routes.{Routes}
 use Rattle.csp_scene.specs.Scene.{PlainApp, PlainNode, PlainScene}

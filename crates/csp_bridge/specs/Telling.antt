@@ -16,10 +16,10 @@ abbrev pub beyond : ℕ → ℕ
 beyond mark = (if mark == 0 then 1 else 0)
 
 -- a packet that came in is to go out at the other side
-abbrev pub heard : ItemShown → PlainBridge → PlainBridge
-heard (item.Packet mark b) s = record s { out = Some b; to = beyond mark }
-heard (item.Frame _) s = s
-heard (item.Note _) s = s
+abbrev pub crossing : ItemShown → PlainBridge → PlainBridge
+crossing (item.Packet mark b) s = record s { out = Some b; to = beyond mark }
+crossing (item.Frame _) s = s
+crossing (item.Note _) s = s
 
 -- a packet for which there was no room is discarded
 abbrev pub discarded : ItemShown → PlainBridge → PlainBridge
@@ -33,7 +33,7 @@ told_by doing.Give answer.Given s = s
 told_by doing.Give (answer.PoolFull b) s = record s { trash = Some b }
 told_by doing.Send answer.Pushed s = s
 told_by doing.Send (answer.Full i) s = discarded i s
-told_by doing.Hear (answer.Popped i) s = heard i s
+told_by doing.Hear (answer.Popped i) s = crossing i s
 told_by doing.Hear answer.Empty s = s
 -- no other answer comes
 told_by _ _ s = s

@@ -3,7 +3,7 @@ use Rattle.std.proofs.Common.{◌≡◌, ◌+◌, true, false, cond, None, Some,
 use Rattle.std.specs.Prelude.{◌==◌, nat_le, nat_lt, Option}
 use Rattle.std.specs.Option.{option_map}
 use Rattle.csp_can.specs.Identifiers.{key_of}
-use Rattle.csp_can.specs.Listening.{Listening, answered, heard}
+use Rattle.csp_can.specs.Listening.{Listening, answered, listened}
 use Rattle.csp_can.specs.Open.{answer_of, counters, done, fresh, gone_on, ruling, standing}
 use Rattle.csp_can.specs.Rules.{Arrival, Ruling, ends, goes_on, grown_partial, measured, more_ruling, refused, ruling_of}
 use Rattle.csp_can.specs.Steps.{GoesOnLast, after, more_said}
@@ -49,5 +49,5 @@ module _ (l : Listening) (a : Arrival) (more : a.frame.head.kind ≡ More) (goes
       ∙ (λ i. record { restarted = more_restarts (standing counters (key_of a.frame.head) l.partials) a i; event = goes.event i })
 
   -- and stands with the frame
-  pub goes_state : record { mtu = l.mtu; partials = after (more_said l.partials a) l.partials a } ≡ heard l a
+  pub goes_state : record { mtu = l.mtu; partials = after (more_said l.partials a) l.partials a } ≡ listened l a
   goes_state = sym (λ i. record { mtu = l.mtu; partials = done counters (said i).deed (key_of a.frame.head) (counters.opened a) (gone_on counters (goes.fresh i) a) (goes.fresh i) })

@@ -18,7 +18,7 @@ use Rattle.csp_can.specs.Begins.{begin_header, begin_length, begin_payload}
 use Rattle.csp_can.specs.Identifiers.{key_of, same_key}
 use Rattle.csp_can.specs.Frames.{Frame}
 use Rattle.csp_can.specs.Rules.{Arrival, Deed, leaves, ends, opens, goes_on, Ruling, refused, opened_partial, grown_partial, measured, begin_ruling, more_ruling, ruling_of}
-use Rattle.csp_can.specs.Open.{remove_first, fresh, standing, without, ruling, done, gone_on, answer, next, Kept, last_of, joined, shown_frames, whole_frames, open_after, counters, counted}
+use Rattle.csp_can.specs.Open.{remove_first, fresh, standing, without, ruling, done, gone_on, answer, next, Kept, last_of, joined, shown_frames, whole_frames, open_after, counters, shown_partials}
 use Rattle.csp_can.specs.Chains.{CountsDown, IsChain, Chain, list_by, trace_by, Completes}
 use Rattle.csp_can.proofs.Counted.{joined-push, answer_counted}
 
@@ -366,7 +366,7 @@ whole_exactly mtu history a h p t =
 
 -- the same for what the counters answer
 pub counters_exactly : (mtu : ℕ) (old : List Partial) (a : Arrival) (r : CanAnswer) → r ≡ answer counters mtu old a
-    → (history : List Arrival) → old ≡ counted (open_after mtu history) → (h : ℕ) (p : List ℕ) (t : Trace)
+    → (history : List Arrival) → old ≡ shown_partials (open_after mtu history) → (h : ℕ) (p : List ℕ) (t : Trace)
     → (r.event ≡ Whole h (record { items = p }) t) ↔ Completes mtu (open_after mtu history) a h p t
 counters_exactly mtu old a r said history was h p t =
     let told : r ≡ answer whole_frames mtu (open_after mtu history) a = said ∙ ap (λ (ps : List Partial). answer counters mtu ps a) was ∙ sym (answer_counted mtu (open_after mtu history) a) in

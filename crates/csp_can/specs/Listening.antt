@@ -19,5 +19,5 @@ abbrev pub answered : Listening → Arrival → CanAnswer
 answered l a = answer counters l.mtu l.partials a
 
 -- and what stands after it
-abbrev pub heard : Listening → Arrival → Listening
-heard l a = record { mtu = l.mtu; partials = next counters l.mtu l.partials a }
+abbrev pub listened : Listening → Arrival → Listening
+listened l a = record { mtu = l.mtu; partials = next counters l.mtu l.partials a }

@@ -109,5 +109,5 @@ abbrev pub open_after : (mtu : ℕ) → List Arrival → List Kept
 open_after mtu history = fold (next whole_frames mtu) [] history
 
 -- what the counters show of the frames kept
-abbrev pub counted : List Kept → List Partial
-counted ks = map shown_frames ks
+abbrev pub shown_partials : List Kept → List Partial
+shown_partials ks = map shown_frames ks

@@ -4,9 +4,9 @@ ghost use Rattle.std.specs.Prelude.{◌≡◌, ◌↔◌, ℕ, ◌<◌, ◌≤�
 ghost use Rattle.csp_base.specs.declared.traces.Trace.{Trace};
 ghost use Rattle.csp_can.specs.Chains.{Completes};
 ghost use Rattle.csp_can.specs.Identifiers.{identifier_of};
-ghost use Rattle.csp_can.specs.Listening.{answered, heard, silent};
+ghost use Rattle.csp_can.specs.Listening.{answered, listened, silent};
 ghost use Rattle.csp_can.specs.Maps.{IsMap};
-ghost use Rattle.csp_can.specs.Open.{answer, counted, open_after, whole_frames};
+ghost use Rattle.csp_can.specs.Open.{answer, shown_partials, open_after, whole_frames};
 ghost use Rattle.csp_can.specs.Rules.{Arrival, arrival};
 ghost use Rattle.csp_can.specs.Steps.{GoesOnLast};
 
@@ -42,7 +42,7 @@ impl Reassembly {
     pub fn new(mtu: u16) -> Reassembly
         requires { mtu ≤ MAX_PAYLOAD }
         ensures empty { result ≡ silent mtu }
-        ensures whole { result.partials ≡ counted (open_after mtu []) }
+        ensures whole { result.partials ≡ shown_partials (open_after mtu []) }
 
         // Whatever comes, the partial packets are a map from keys to frames.
         ensures map { (history : List Arrival) → IsMap (open_after mtu history) }
@@ -62,18 +62,18 @@ impl Reassembly {
         ensures answer { let a = arrival (identifier_of id) bytes.now trace now in
             result ≡ answered self.old a }
         ensures state { let a = arrival (identifier_of id) bytes.now trace now in
-            self.new ≡ heard self.old a }
+            self.new ≡ listened self.old a }
 
         // The same by whole frames, over every history of frames and times.
         ensures whole { let a = arrival (identifier_of id) bytes.now trace now in
-            (history : List Arrival) → self.old.partials ≡ counted (open_after self.old.mtu history)
-            → (self.new.partials ≡ counted (open_after self.old.mtu (history ++ a ∷ [])))
+            (history : List Arrival) → self.old.partials ≡ shown_partials (open_after self.old.mtu history)
+            → (self.new.partials ≡ shown_partials (open_after self.old.mtu (history ++ a ∷ [])))
             × (result ≡ answer whole_frames self.old.mtu (open_after self.old.mtu history) a) }
 
         // Whole comes exactly where the frame makes its key's list of frames a chain, of no more payload bytes than
         // a packet has.
         ensures chain { let a = arrival (identifier_of id) bytes.now trace now in
-            (history : List Arrival) → self.old.partials ≡ counted (open_after self.old.mtu history)
+            (history : List Arrival) → self.old.partials ≡ shown_partials (open_after self.old.mtu history)
             → (header : ℕ) (payload : List ℕ) (begun : Trace)
             → (result.event ≡ CanEvent.Whole header (record { items = payload }) begun)
             ↔ Completes self.old.mtu (open_after self.old.mtu history) a header payload begun }
@@ -85,7 +85,7 @@ impl Reassembly {
     fn hear(&mut self, head: &Identifier, bytes: &[u8], trace: Trace, now: u64) -> CanAnswer
         requires bytes { length bytes.now ≤ MAX_DATA }
         ensures answer { result ≡ answered self.old (arrival head.now bytes.now trace now) }
-        ensures state { self.new ≡ heard self.old (arrival head.now bytes.now trace now) }
+        ensures state { self.new ≡ listened self.old (arrival head.now bytes.now trace now) }
     {
         self.partials.give_up(now);
         match head.kind {
@@ -101,7 +101,7 @@ impl Reassembly {
         requires bytes { length bytes.now ≤ MAX_DATA }
         ensures when { (trace : Trace) → (result ≡ true) ↔ (((identifier_of id).kind ≡ Kind.More) × GoesOnLast self.old.partials (arrival (identifier_of id) bytes.now trace now)) }
         ensures answer { result ≡ true → (trace : Trace) → answered self.old (arrival (identifier_of id) bytes.now trace now) ≡ record { restarted = false; event = CanEvent.Part } }
-        ensures state { result ≡ true → (trace : Trace) → self.new ≡ heard self.old (arrival (identifier_of id) bytes.now trace now) }
+        ensures state { result ≡ true → (trace : Trace) → self.new ≡ listened self.old (arrival (identifier_of id) bytes.now trace now) }
         ensures left { result ≡ false → self.new ≡ self.old }
     {
         let head = Identifier::decode(id);

@@ -2,7 +2,7 @@
 
 ghost use Rattle.std.specs.Prelude.{◌<◌, ◌≤◌, length};
 
-use crate::told::Told;
+use crate::told_text::ToldText;
 use csp_base::{Addr, Port};
 use csp_text::{byte_digits, hex_word, is_bytes, is_hex_word};
 use std::alloc::{AllocError, Global};
@@ -14,23 +14,23 @@ use std::fmt::{Debug, Display};
 pub struct Case<'a> {
     alloc: Global,
     asked: &'a str,
-    told: Told,
+    told: ToldText,
     is_next: bool,
 }
 
 impl<'a> Case<'a> {
     /// A case that asks this, of which nothing is told.
-    pub(crate) fn of(alloc: Global, asked: &'a Told) -> Case<'a> {
+    pub(crate) fn of(alloc: Global, asked: &'a ToldText) -> Case<'a> {
         Case {
             alloc,
             asked: asked.as_str(),
-            told: Told::of(alloc, asked),
+            told: ToldText::of(alloc, asked),
             is_next: false,
         }
     }
 
     /// What was told.
-    pub(crate) fn told(&self) -> &Told {
+    pub(crate) fn told(&self) -> &ToldText {
         &self.told
     }
 

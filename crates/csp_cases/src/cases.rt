@@ -2,7 +2,7 @@
 
 use crate::case::Case;
 use crate::texts::expanded;
-use crate::told::Told;
+use crate::told_text::ToldText;
 use std::alloc::{AllocError, Global};
 
 /// Who answers the cases of a table.
@@ -18,9 +18,9 @@ struct Reading {
     alloc: Global,
     line: u64,
     pieces: String,
-    asked: Told,
+    asked: ToldText,
     cases: u64,
-    differing: Told,
+    differing: ToldText,
 }
 
 /// How many cases a table has, and a line for each that differs. A line that begins with `#` and a blank one are no part of a case; a line
@@ -30,9 +30,9 @@ pub fn judged<A: Answers>(alloc: Global, who: &A, text: &str) -> Result<String, 
         alloc,
         line: 0,
         pieces: String::new(alloc),
-        asked: Told::new(alloc),
+        asked: ToldText::new(alloc),
         cases: 0,
-        differing: Told::new(alloc),
+        differing: ToldText::new(alloc),
     };
     for line in text.lines() {
         reading.line(who, line);

@@ -6,7 +6,7 @@ mod case;
 mod cases;
 mod folder;
 mod texts;
-mod told;
+mod told_text;
 
 pub use case::{Case, Steps, stepped};
 pub use cases::{Answers, judged};

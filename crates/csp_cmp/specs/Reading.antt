@@ -29,9 +29,9 @@ chunk_of Poke bytes = slice_get bytes 6
 chunk_of Clock bytes = None
 
 -- a count, or 0 where none is there
-abbrev pub counted : Option ℕ → ℕ
-counted None = 0
-counted (Some n) = n
+abbrev pub count_or_zero : Option ℕ → ℕ
+count_or_zero None = 0
+count_or_zero (Some n) = n
 
 -- how many bytes a request needs, its type and its code with them
 abbrev pub need_of : Code → List ℕ → ℕ
@@ -39,7 +39,7 @@ need_of Ident bytes = 2
 need_of RouteSet bytes = 15
 need_of Stats bytes = 13
 need_of Peek bytes = 7
-need_of Poke bytes = 7 + counted (chunk_of Poke bytes)
+need_of Poke bytes = 7 + count_or_zero (chunk_of Poke bytes)
 need_of Clock bytes = 10
 
 -- the request that so many bytes are
@@ -47,8 +47,8 @@ abbrev pub read_as : Code → List ℕ → CmpRequest
 read_as Ident bytes = request.Ident
 read_as RouteSet bytes = request.RouteSet (slice_index bytes 2) (slice_index bytes 3) (name_at bytes 4)
 read_as Stats bytes = request.Stats (name_at bytes 2)
-read_as Peek bytes = request.Peek (number_at bytes 2) (counted (chunk_of Peek bytes))
-read_as Poke bytes = request.Poke (number_at bytes 2) (record { items = take (counted (chunk_of Poke bytes)) (drop 7 bytes) })
+read_as Peek bytes = request.Peek (number_at bytes 2) (count_or_zero (chunk_of Peek bytes))
+read_as Poke bytes = request.Poke (number_at bytes 2) (record { items = take (count_or_zero (chunk_of Poke bytes)) (drop 7 bytes) })
 read_as Clock bytes = request.Clock (number_at bytes 2) (number_at bytes 6)
 
 -- a request whose count of memory is this is refused where that is over MAX_CHUNK

@@ -1,7 +1,7 @@
 //! Reads requests.
 
 ghost use Rattle.std.specs.Prelude.{◌≡◌, ◌+◌, ◌≤◌, ◌<◌, ◌^◌, Some, length, take, drop, IfOk};
-ghost use Rattle.csp_cmp.specs.Reading.{by_code, chunk_of, counted, decoded, name_at, need_of, number_at, read_as};
+ghost use Rattle.csp_cmp.specs.Reading.{by_code, chunk_of, count_or_zero, decoded, name_at, need_of, number_at, read_as};
 ghost use Rattle.csp_cmp.specs.Requests.{Begins, chunk_in, code_in, fields_of, request_bytes};
 
 use crate::{CmpError, CmpRequest, Code, NAME_LEN};
@@ -64,7 +64,7 @@ fn chunk_len(code: Code, bytes: &[u8]) -> Option<u8>
 
 /// The same, or 0 where it does not say.
 fn chunk_count(code: Code, bytes: &[u8]) -> u8
-    ensures { result ≡ counted (chunk_of code bytes.now) }
+    ensures { result ≡ count_or_zero (chunk_of code bytes.now) }
 {
     chunk_len(code, bytes).unwrap_or(0)
 }
@@ -86,7 +86,7 @@ fn need(code: Code, bytes: &[u8]) -> usize
 
 /// The request of a code, of bytes that are as many as it needs.
 fn read(code: Code, bytes: &[u8]) -> CmpRequest
-    requires few { counted (chunk_of code bytes.now) ≤ MAX_CHUNK }
+    requires few { count_or_zero (chunk_of code bytes.now) ≤ MAX_CHUNK }
     requires whole { need_of code bytes.now ≤ length bytes.now }
     ensures value { result ≡ read_as code bytes.now }
     ensures code { code_in result ≡ code }
@@ -141,9 +141,9 @@ fn read_name(bytes: &[u8], at: usize) -> [u8; NAME_LEN]
 
 /// The bytes of memory that a poke brings.
 fn read_chunk(bytes: &[u8]) -> ArrayVec<u8, MAX_CHUNK>
-    requires few { counted (chunk_of Code.Poke bytes.now) ≤ MAX_CHUNK }
+    requires few { count_or_zero (chunk_of Code.Poke bytes.now) ≤ MAX_CHUNK }
     requires whole { need_of Code.Poke bytes.now ≤ length bytes.now }
-    ensures { result.items ≡ take (counted (chunk_of Code.Poke bytes.now)) (drop 7 bytes.now) }
+    ensures { result.items ≡ take (count_or_zero (chunk_of Code.Poke bytes.now)) (drop 7 bytes.now) }
 {
     let count = usize::from(chunk_count(Code::Poke, bytes));
     let mut chunk = ArrayVec::new();

@@ -12,8 +12,8 @@ use Rattle.csp_app.specs.Slots.{slot_at}
 use Rattle.csp_app.specs.Steps.{answered, batch, first_rule, give_plan, gives_up, has_passed, is_enough, note_plan, packet_plan, plan_of, pushed_one, received, recv_end, recv_plan, step_plan, turn_of, wait_end, waited}
 use Rattle.csp_app.specs.Telling.{at_rest, tells, told_by}
 use Rattle.csp_app.specs.Turn.{giving_op, op_of, popped, pushing_op}
-use Rattle.csp_app.specs.declared.plan.Plan.{Plan}
-use Rattle.csp_app.specs.declared.plan.Plan.TheVariants as plan
+use Rattle.csp_app.specs.declared.plan.AppPlan.{AppPlan as Plan}
+use Rattle.csp_app.specs.declared.plan.AppPlan.TheVariants as plan
 use Rattle.csp_buffer.specs.Content.{Content}
 use Rattle.csp_deck.specs.Step.{answer_numbers, item_numbers, op_numbers, times}
 use Rattle.csp_log.specs.Pictures.{Fits}

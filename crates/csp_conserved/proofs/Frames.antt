@@ -15,12 +15,12 @@ use Rattle.csp_hub.specs.Planning as hub_planning
 use Rattle.csp_iface.specs.Asking as iface_asking
 use Rattle.csp_iface.specs.PlainIface.{PlainIface}
 use Rattle.csp_iface.specs.Planning as iface_planning
-use Rattle.csp_iface.specs.declared.plan.Plan as iface_plans
-use Rattle.csp_iface.specs.declared.plan.Plan.TheVariants as iface_plan
+use Rattle.csp_iface.specs.declared.plan.IfacePlan as iface_plans
+use Rattle.csp_iface.specs.declared.plan.IfacePlan.TheVariants as iface_plan
 use Rattle.csp_link.specs.Asking.{op_of}
 use Rattle.csp_link.specs.PlainLink as plain_link
 use Rattle.csp_link.specs.PlainLink.{PlainLink as LinkState}
-use Rattle.csp_link.specs.Planning.{Plan, plan_of, pop, push, wait}
+use Rattle.csp_link.specs.Planning.{LinkPlan as Plan, plan_of, pop, push, wait}
 use Rattle.csp_link.specs.Ways.{to_queue}
 use Rattle.csp_link.specs.declared.way.Way.{Way}
 use Rattle.csp_link.specs.declared.way.Way.TheVariants.{Back, Forth}
@@ -65,7 +65,7 @@ transmitted_bare k number None a = tt
 transmitted_bare k number (Some f) answer.Pushed = each_if IsBare (number == k) (item.Frame f) refl
 transmitted_bare k number (Some f) _ = tt
 
-iface_put : (k : ℕ) (s : PlainIface) (p : iface_plans.Plan) (a : AnswerShown) → AllByRecursion IsBare (put_by (queue.Tx k) (iface_asking.op_of s p) a)
+iface_put : (k : ℕ) (s : PlainIface) (p : iface_plans.IfacePlan) (a : AnswerShown) → AllByRecursion IsBare (put_by (queue.Tx k) (iface_asking.op_of s p) a)
 iface_put k s iface_plan.Rest a = tt
 iface_put k s iface_plan.Return a = given_bare k s.back a
 iface_put k s iface_plan.Deliver a = delivered_bare k s.number s.accepted a

@@ -56,7 +56,7 @@ bridge_op apps (Some b) out to low = tt
 bridge_op apps None (Some b) to low = low
 bridge_op apps None None to low = tt
 
-bridge_handed : (p : bridge_planning.Plan) (s : PlainBridge) → s.to < 2 → (bridge_asking.handed p s).to < 2
+bridge_handed : (p : bridge_planning.BridgePlan) (s : PlainBridge) → s.to < 2 → (bridge_asking.handed p s).to < 2
 bridge_handed (bridge_planning.give b) s low = low
 bridge_handed (bridge_planning.send to b) s low = low
 bridge_handed bridge_planning.hear s low = low
@@ -65,7 +65,7 @@ beyond_low : (b : Bool) → (if b then 1 else 0) < 2
 beyond_low true = omega arith
 beyond_low false = omega arith
 
-bridge_heard : (i : ItemShown) (s : PlainBridge) → s.to < 2 → (bridge_telling.heard i s).to < 2
+bridge_heard : (i : ItemShown) (s : PlainBridge) → s.to < 2 → (bridge_telling.crossing i s).to < 2
 bridge_heard (item.Packet mark b) s low = beyond_low (mark == 0)
 bridge_heard (item.Frame f) s low = low
 bridge_heard (item.Note n) s low = low

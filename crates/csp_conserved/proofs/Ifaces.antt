@@ -15,9 +15,9 @@ use Rattle.csp_iface.specs.PlainIface.{PlainIface, holds}
 use Rattle.csp_iface.specs.Planning.{first_rule, plan_of, side_plan}
 use Rattle.csp_iface.specs.Sending.{frames_of, next_node, sent_trace}
 use Rattle.csp_iface.specs.Telling.{begun, caught, fetched, filled, is_too_big, kept, packet_in, pushed, taken_up, tells, told_by}
-use Rattle.csp_iface.specs.declared.packet.Packet.{Packet}
-use Rattle.csp_iface.specs.declared.plan.Plan.{Plan}
-use Rattle.csp_iface.specs.declared.plan.Plan.TheVariants as plan
+use Rattle.csp_iface.specs.declared.packet.WholePacket.{WholePacket}
+use Rattle.csp_iface.specs.declared.plan.IfacePlan.{IfacePlan}
+use Rattle.csp_iface.specs.declared.plan.IfacePlan.TheVariants as plan
 use Rattle.csp_iface.specs.declared.plan.Side.{Side}
 use Rattle.csp_iface.specs.declared.plan.Side.TheVariants as side
 use Rattle.csp_log.specs.Pictures.{Fits}
@@ -54,7 +54,7 @@ item_among k (item.Packet _ _) = refl
 item_among k (item.Frame _) = refl
 item_among k (item.Note _) = refl
 
-filled_among : (k : ℕ) (p : Option Packet) (b : Content) → among k (filled p b ∷ []) ≡ among k (b ∷ [])
+filled_among : (k : ℕ) (p : Option WholePacket) (b : Content) → among k (filled p b ∷ []) ≡ among k (b ∷ [])
 filled_among k None b = refl
 filled_among k (Some _) b = refl
 
@@ -152,7 +152,7 @@ told_rest s now a done fits = absurd fits
 -- ---- what the plan finds
 
 -- the places that the answers of a plan fill are empty; and what is pushed is the first of the frames left
-abbrev IsFree : PlainIface → Plan → Type 0
+abbrev IsFree : PlainIface → IfacePlan → Type 0
 IsFree s plan.Rest = ⊤
 IsFree s plan.Return = ⊤
 IsFree s plan.Deliver = s.back ≡ None
@@ -166,7 +166,7 @@ side_free s side.Sending [] e free = (free, e)
 side_free s side.Sending (f ∷ fs) e free = free
 side_free s side.Receiving frames e free = tt
 
-first_free : (s : PlainIface) (back accepted : Option Content) (whole : Option Packet) → s.back ≡ back → s.accepted ≡ accepted → IsFree s (first_rule back accepted whole (side_plan s.side s.frames))
+first_free : (s : PlainIface) (back accepted : Option Content) (whole : Option WholePacket) → s.back ≡ back → s.accepted ≡ accepted → IsFree s (first_rule back accepted whole (side_plan s.side s.frames))
 first_free s (Some b) accepted whole e f = tt
 first_free s None (Some b) whole e f = e
 first_free s None None (Some p) e f = f
@@ -174,7 +174,7 @@ first_free s None None None e f = side_free s s.side s.frames refl e
 
 -- ---- a whole turn
 
-told_so : (s : PlainIface) (now : ℕ) (p : Plan) (a : AnswerShown) → IsFree s p → IsDone s.frames s.sending → AllByRecursion IsBare (got_by (queue.Rx s.number) (op_of s p) a) → Fits (op_of s p) a
+told_so : (s : PlainIface) (now : ℕ) (p : IfacePlan) (a : AnswerShown) → IsFree s p → IsDone s.frames s.sending → AllByRecursion IsBare (got_by (queue.Rx s.number) (op_of s p) a) → Fits (op_of s p) a
     → Tells (waiting s p) (told_by (waiting s p) now p a).iface a
 told_so s now plan.Rest a free done bare fits = told_rest (waiting s plan.Rest) now a done fits
 told_so s now plan.Return a free done bare fits = told_return s.back (waiting s plan.Return) now a refl done fits
@@ -192,7 +192,7 @@ pub record IsBetween (node number : ℕ) (s : PlainIface) : Type 0 where
 pub iface_keeps : (node number : ℕ) (s : PlainIface) (now : ℕ) (a : AnswerShown) → IsBetween node number s → Fits (asks s now) a → AllByRecursion IsBare (got_by (queue.Rx number) (asks s now) a)
     → Turns (IsBetween node number) holds s (tells (asked s now) now a) (asks s now) a
 iface_keeps node number s now a is fits got =
-    let p : Plan = plan_of s in
+    let p : IfacePlan = plan_of s in
     let own = subst (λ n. AllByRecursion IsBare (got_by (queue.Rx n) (asks s now) a)) (sym is.named.1) got in
     let told = told_so s now p a (first_free s s.back s.accepted s.whole refl refl) is.done own fits in
     let first = handed_law s p in

@@ -17,10 +17,10 @@ use Rattle.csp_rdp.proofs.Public.{delivery-balanced, whole-again, whole-taken, f
 use Rattle.csp_rdp.specs.Holding.{rdp_buffers, rdp_numbers, rested}
 use Rattle.csp_rdp.specs.Jobs.{delivery, delivery_in, keeping_again, sent, without_delivery}
 use Rattle.csp_rdp.specs.Machine.{PlainRdp, idle}
-use Rattle.csp_rdp.specs.Table.{back_of, handed, is_stray, row_of}
+use Rattle.csp_rdp.specs.Table.{back_of, after_packet, is_stray, row_of}
 use Rattle.csp_rdp.specs.declared.answers.State.{State}
 use Rattle.csp_rdp.specs.declared.answers.State.TheVariants.{CloseWait, Closed, Open, SynRcvd, SynSent}
-use Rattle.csp_rdp.specs.declared.answers.Why.TheVariants as machine_why
+use Rattle.csp_rdp.specs.declared.answers.Cause.TheVariants as machine_why
 use Rattle.csp_rdp.specs.declared.jobs.Job.{Job}
 use Rattle.csp_rdp_header.specs.declared.head.RdpHead.{RdpHead}
 use Rattle.csp_rdp_window.specs.Numbers.{number_in}
@@ -37,7 +37,7 @@ abbrev handing_to : PlainRdp → PlainPorts → ℕ → ℕ → RdpHead → Cont
 handing_to r p app slot h b time =
     reporting (handing_event r b.trace.tag)
     (then (back_by (back_of (row_of r h b.payload) (anywhere b)) (is_stray (row_of r h b.payload)) p) (λ p.
-    then (went r.state machine_why.Reset app slot (handed h b.trace.tag (anywhere b) time r) p) (λ p.
+    then (went r.state machine_why.Reset app slot (after_packet h b.trace.tag (anywhere b) time r) p) (λ p.
     then (dropped app p) (λ p.
     come (settled time app p)))))
 

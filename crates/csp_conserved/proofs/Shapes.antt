@@ -27,13 +27,13 @@ use Rattle.csp_ports.specs.declared.terms.Wish.TheVariants as wish
 use Rattle.csp_rdp.specs.Changes.{change_between}
 use Rattle.csp_rdp.specs.Jobs.{closing, delivering, ticked}
 use Rattle.csp_rdp.specs.Machine.{PlainRdp}
-use Rattle.csp_rdp.specs.Table.{handed}
+use Rattle.csp_rdp.specs.Table.{after_packet}
 use Rattle.csp_rdp.specs.declared.answers.Change.{Change}
 use Rattle.csp_rdp.specs.declared.answers.Change.TheVariants as change
 use Rattle.csp_rdp.specs.declared.answers.State.{State}
 use Rattle.csp_rdp.specs.declared.answers.State.TheVariants.{Closed, SynSent, SynRcvd, Open, CloseWait}
-use Rattle.csp_rdp.specs.declared.answers.Why.{Why}
-use Rattle.csp_rdp.specs.declared.answers.Why.TheVariants as machine_why
+use Rattle.csp_rdp.specs.declared.answers.Cause.{Cause}
+use Rattle.csp_rdp.specs.declared.answers.Cause.TheVariants as machine_why
 use Rattle.csp_rdp_header.specs.declared.head.RdpHead.{RdpHead}
 use Rattle.csp_socket.specs.Bound.{owner_of}
 use Rattle.csp_socket.specs.declared.sockets.TheConstants.{BINDABLE_PORTS}
@@ -61,7 +61,7 @@ connected_shape wish.Connection app slot p = refl
 connected_shape wish.End app slot p = refl
 connected_shape wish.Ended app slot p = refl
 
-refused_shape : (w : Wish) (why : Why) (app slot : ℕ) (p : PlainPorts) → shape (refused_by w why app slot p).ports ≡ shape p
+refused_shape : (w : Wish) (why : Cause) (app slot : ℕ) (p : PlainPorts) → shape (refused_by w why app slot p).ports ≡ shape p
 refused_shape wish.Nothing why app slot p = vacated_shape (terms_at p app slot).ordinal app slot p
 refused_shape wish.Connection why app slot p = vacated_shape (terms_at p app slot).ordinal app slot p
 refused_shape wish.End why app slot p = vacated_shape (terms_at p app slot).ordinal app slot p
@@ -81,7 +81,7 @@ changed_shape (change.Refused why) app slot p = refused_shape (terms_at p app sl
 changed_shape change.Down app slot p = refl
 changed_shape change.Closed app slot p = closed_shape (terms_at p app slot).wish (machine_at p app slot).was_open app slot p
 
-went_shape : (before : State) (why : Why) (app slot : ℕ) (r : PlainRdp) (p : PlainPorts) → shape (went before why app slot r p).ports ≡ shape p
+went_shape : (before : State) (why : Cause) (app slot : ℕ) (r : PlainRdp) (p : PlainPorts) → shape (went before why app slot r p).ports ≡ shape p
 went_shape before why app slot r p = changed_shape (change_between before r.state why) app slot (stepped app slot r p).ports
 
 -- ---- the packet that waits
@@ -139,8 +139,8 @@ invited_shape o p app slot c prio flags i time = accepted_shape p app slot c pri
 pub handing_shape : (p : PlainPorts) (app slot : ℕ) (h : RdpHead) (b : Content) (time : ℕ) → shape (handing p app slot h b time).ports ≡ shape p
 handing_shape p app slot h b time =
     let r = machine_at p app slot in
-    let gone = (went r.state machine_why.Reset app slot (handed h b.trace.tag (anywhere b) time r) p).ports in
-    settled_shape time app (dropped app gone).ports ∙ dropped_shape app gone ∙ went_shape r.state machine_why.Reset app slot (handed h b.trace.tag (anywhere b) time r) p
+    let gone = (went r.state machine_why.Reset app slot (after_packet h b.trace.tag (anywhere b) time r) p).ports in
+    settled_shape time app (dropped app gone).ports ∙ dropped_shape app gone ∙ went_shape r.state machine_why.Reset app slot (after_packet h b.trace.tag (anywhere b) time r) p
 
 pub submitting_shape : (p : PlainPorts) (app slot : ℕ) (b : Content) (time : ℕ) → shape (submitting p app slot b time).ports ≡ shape p
 submitting_shape p app slot b time = by (machine_at p app slot).state

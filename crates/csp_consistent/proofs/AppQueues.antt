@@ -8,10 +8,10 @@ use Rattle.csp_app.specs.Slots.{slot_at}
 use Rattle.csp_app.specs.Steps as steps
 use Rattle.csp_app.specs.Steps.{plan_of, turn_of}
 use Rattle.csp_app.specs.Telling as telling
-use Rattle.csp_app.specs.Told.{Told}
+use Rattle.csp_app.specs.ToldApp.{ToldApp}
 use Rattle.csp_app.specs.Turn.{Turn, gives, giving_op, op_of, popped, pops, pushes, pushing_op, rests, takes, told_of, until_told}
-use Rattle.csp_app.specs.declared.plan.Plan.{Plan}
-use Rattle.csp_app.specs.declared.plan.Plan.TheVariants as plan
+use Rattle.csp_app.specs.declared.plan.AppPlan.{AppPlan}
+use Rattle.csp_app.specs.declared.plan.AppPlan.TheVariants as plan
 use Rattle.csp_buffer.specs.Content.{Content}
 use Rattle.csp_consistent.specs.Queues.{MayAsk}
 use Rattle.csp_log.specs.declared.note.Note.{Note}
@@ -22,7 +22,7 @@ use Rattle.csp_log.specs.declared.shown.ItemShown.{ItemShown}
 use Rattle.csp_log.specs.declared.who.Who.TheVariants as who
 
 -- whatever comes of a turn, the application has this number
-abbrev Has : ℕ → Told → Type 0
+abbrev Has : ℕ → ToldApp → Type 0
 Has number t = t.state.number ≡ number
 
 abbrev Leaves : ℕ → Turn → Type 0
@@ -57,7 +57,7 @@ number_waited : (number : ℕ) (passed : Bool) (s : PlainApp) → s.number ≡ n
 number_waited number true s e = e
 number_waited number false s e = e
 
-leaves : (number : ℕ) (s : PlainApp) (now : ℕ) (p : Plan) → s.number ≡ number → Leaves number (turn_of s now p)
+leaves : (number : ℕ) (s : PlainApp) (now : ℕ) (p : AppPlan) → s.number ≡ number → Leaves number (turn_of s now p)
 leaves number s now plan.Rest e = e
 leaves number s now plan.Return e = (e, e, λ b. e)
 leaves number s now plan.Look e = (e, λ n t f. f)

@@ -14,8 +14,8 @@ use Rattle.csp_can.specs.declared.identifiers.Kind.{Kind}
 use Rattle.csp_can.specs.declared.identifiers.Kind.TheVariants.{Begin, More}
 use Rattle.csp_can.specs.declared.partials.Partial.{Partial}
 use Rattle.csp_can.specs.declared.partials.TheConstants.{MAX_PARTIALS}
-use Rattle.csp_iface.specs.Receiving.{arrived, Heard, heard, heard_by, packet_of, reassembled, traced, followed, read_further}
-use Rattle.csp_iface.specs.declared.packet.Packet.{Packet}
+use Rattle.csp_iface.specs.Receiving.{arrived, Heard, frame_heard as heard, heard_by, packet_of, reassembled, traced, followed, read_further}
+use Rattle.csp_iface.specs.declared.packet.WholePacket.{WholePacket}
 use Rattle.csp_iface.specs.declared.receiver.Receiver.{Receiver}
 use Rattle.csp_iface.specs.declared.receiver.Receiver.TheVariants as by
 use Rattle.csp_iface.specs.declared.receiver.TheConstants.{MAX_HOPS}
@@ -27,12 +27,12 @@ use Rattle.csp_scene.proofs.Public.{AllByRecursion-append}
 use Rattle.csp_consistent.proofs.Each.{each_filter}
 
 -- a whole packet is of this kind by its header, payload and trace, where there is one
-abbrev pub IsWholeSo : (ℕ → List ℕ → Trace → Type 0) → Option Packet → Type 0
+abbrev pub IsWholeSo : (ℕ → List ℕ → Trace → Type 0) → Option WholePacket → Type 0
 IsWholeSo W None = ⊤
 IsWholeSo W (Some p) = W p.header p.payload.items p.trace
 
 -- it has a trace of this kind
-abbrev pub IsWholeOf : (Trace → Type 0) → Option Packet → Type 0
+abbrev pub IsWholeOf : (Trace → Type 0) → Option WholePacket → Type 0
 IsWholeOf P o = IsWholeSo (λ header payload trace. P trace) o
 
 -- what is kept of a bus: partial packets of a kind

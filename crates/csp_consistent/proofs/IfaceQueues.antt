@@ -7,8 +7,8 @@ use Rattle.csp_iface.specs.Asking as asking
 use Rattle.csp_iface.specs.PlainIface.{PlainIface}
 use Rattle.csp_iface.specs.Planning.{plan_of}
 use Rattle.csp_iface.specs.Telling as telling
-use Rattle.csp_iface.specs.declared.plan.Plan.{Plan}
-use Rattle.csp_iface.specs.declared.plan.Plan.TheVariants as plan
+use Rattle.csp_iface.specs.declared.plan.IfacePlan.{IfacePlan}
+use Rattle.csp_iface.specs.declared.plan.IfacePlan.TheVariants as plan
 use Rattle.csp_log.specs.declared.frame.Frame.{Frame}
 use Rattle.csp_log.specs.declared.shown.AnswerShown.{AnswerShown}
 use Rattle.csp_log.specs.declared.shown.AnswerShown.TheVariants as answer
@@ -39,7 +39,7 @@ number_caught now (item.Packet mark b) s = refl
 number_caught now (item.Frame f) s = refl
 number_caught now (item.Note n) s = refl
 
-number_told : (s : PlainIface) (now : ℕ) (p : Plan) (a : AnswerShown) → (telling.told_by s now p a).iface.number ≡ s.number
+number_told : (s : PlainIface) (now : ℕ) (p : IfacePlan) (a : AnswerShown) → (telling.told_by s now p a).iface.number ≡ s.number
 number_told s now plan.Rest answer.Nothing = refl
 number_told s now plan.Rest (answer.Taken b) = refl
 number_told s now plan.Rest answer.NoBuffer = refl
@@ -104,7 +104,7 @@ number_told s now plan.Receive (answer.Full i) = refl
 number_told s now plan.Receive (answer.Popped i) = number_caught now i s
 number_told s now plan.Receive answer.Empty = refl
 
-number_handed : (s : PlainIface) (p : Plan) → (asking.handed s p).number ≡ s.number
+number_handed : (s : PlainIface) (p : IfacePlan) → (asking.handed s p).number ≡ s.number
 number_handed s plan.Rest = refl
 number_handed s plan.Return = refl
 number_handed s plan.Deliver = refl
@@ -129,7 +129,7 @@ may_transmit : (node number own : ℕ) (f : Option Frame) → own ≡ number →
 may_transmit node number own None e = tt
 may_transmit node number own (Some f) e = e
 
-may_ask : (node number : ℕ) (s : PlainIface) (p : Plan) → s.number ≡ number → MayAsk (who.Iface node number) (asking.op_of s p)
+may_ask : (node number : ℕ) (s : PlainIface) (p : IfacePlan) → s.number ≡ number → MayAsk (who.Iface node number) (asking.op_of s p)
 may_ask node number s plan.Rest e = tt
 may_ask node number s plan.Return e = may_give node number s.back
 may_ask node number s plan.Deliver e = may_deliver node number s.number s.accepted e

@@ -37,17 +37,17 @@ IsOwn (who.Link number) (a_link l) = ⊤
 IsOwn (who.Link number) (a_hub h) = ⊤
 IsOwn _ _ = ⊥
 
-bridge_asks : (node : ℕ) (p : bridge_plan.Plan) → MayAsk (who.Bridge node) (bridge_asking.op_of p)
+bridge_asks : (node : ℕ) (p : bridge_plan.BridgePlan) → MayAsk (who.Bridge node) (bridge_asking.op_of p)
 bridge_asks node (bridge_plan.give b) = tt
 bridge_asks node (bridge_plan.send to b) = tt
 bridge_asks node bridge_plan.hear = tt
 
-link_asks : (number : ℕ) (way : Way) (p : link_plan.Plan) → MayAsk (who.Link number) (link_asking.op_of way p)
+link_asks : (number : ℕ) (way : Way) (p : link_plan.LinkPlan) → MayAsk (who.Link number) (link_asking.op_of way p)
 link_asks number way (link_plan.push place h) = tt
 link_asks number way link_plan.pop = tt
 link_asks number way link_plan.wait = tt
 
-hub_asks : (number end : ℕ) (p : link_plan.Plan) → MayAsk (who.Link number) (hub_asking.op_of end p)
+hub_asks : (number end : ℕ) (p : link_plan.LinkPlan) → MayAsk (who.Link number) (hub_asking.op_of end p)
 hub_asks number end (link_plan.push place h) = tt
 hub_asks number end link_plan.pop = tt
 hub_asks number end link_plan.wait = tt

@@ -124,7 +124,7 @@ abbrev pub PopsWithin : ℕ → OpShown → Type 0
 PopsWithin n (op.Pop (queue.Tx from)) = from < n
 PopsWithin n _ = ⊤
 
-asks_within : (n end : ℕ) (p : link_plan.Plan) → end < n → PopsWithin n (hub_asking.op_of end p)
+asks_within : (n end : ℕ) (p : link_plan.LinkPlan) → end < n → PopsWithin n (hub_asking.op_of end p)
 asks_within n end (link_plan.push place h) low = tt
 asks_within n end link_plan.pop low = low
 asks_within n end link_plan.wait low = tt

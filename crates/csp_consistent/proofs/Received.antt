@@ -11,11 +11,11 @@ use Rattle.csp_iface.specs.Heeding.{is_for}
 use Rattle.csp_iface.specs.PlainIface.{PlainIface}
 use Rattle.csp_iface.specs.Links.{receiver_for}
 use Rattle.csp_iface.specs.Planning.{plan_of, first_rule, side_plan}
-use Rattle.csp_iface.specs.Receiving.{Heard, arrived, heard, read_further}
+use Rattle.csp_iface.specs.Receiving.{Heard, arrived, frame_heard as heard, read_further}
 use Rattle.csp_iface.specs.Telling.{told_by, fetched, caught, hearing, pushed, kept, filled, going_on, has_packet, is_too_big, read_after, taken_up, tells, resting, unmoved}
-use Rattle.csp_iface.specs.declared.packet.Packet.{Packet}
-use Rattle.csp_iface.specs.declared.plan.Plan.{Plan}
-use Rattle.csp_iface.specs.declared.plan.Plan.TheVariants as plan
+use Rattle.csp_iface.specs.declared.packet.WholePacket.{WholePacket as Packet}
+use Rattle.csp_iface.specs.declared.plan.IfacePlan.{IfacePlan as Plan}
+use Rattle.csp_iface.specs.declared.plan.IfacePlan.TheVariants as plan
 use Rattle.csp_iface.specs.declared.plan.Side.{Side}
 use Rattle.csp_iface.specs.declared.plan.Side.TheVariants as side
 use Rattle.csp_iface.specs.declared.receiver.Receiver.{Receiver}

@@ -14,8 +14,8 @@ use Rattle.csp_iface.specs.PlainIface.{PlainIface}
 use Rattle.csp_iface.specs.Planning.{plan_of}
 use Rattle.csp_iface.specs.Sending.{sent_trace, next_node, frames_of, can_frame}
 use Rattle.csp_iface.specs.Telling.{told_by, caught, pushed, kept, fetched as told_fetched, tells, bad, concluded, is_too_big, taken_up}
-use Rattle.csp_iface.specs.declared.plan.Plan.{Plan}
-use Rattle.csp_iface.specs.declared.plan.Plan.TheVariants as plan
+use Rattle.csp_iface.specs.declared.plan.IfacePlan.{IfacePlan as Plan}
+use Rattle.csp_iface.specs.declared.plan.IfacePlan.TheVariants as plan
 use Rattle.csp_iface.specs.declared.sender.TheConstants.{IDS}
 use Rattle.csp_log.specs.Moving.{moved_by}
 use Rattle.csp_log.specs.Pictures.{Fits}

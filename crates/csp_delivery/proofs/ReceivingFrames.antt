@@ -14,8 +14,8 @@ use Rattle.csp_can.specs.declared.identifiers.Kind.{Kind}
 use Rattle.csp_can.specs.declared.identifiers.Kind.TheVariants.{Begin, More}
 use Rattle.csp_can.specs.declared.partials.Partial.{Partial}
 use Rattle.csp_can.specs.declared.partials.TheConstants.{MAX_PARTIALS}
-use Rattle.csp_iface.specs.Receiving.{Heard, heard, heard_by, packet_of, read_further, reassembled}
-use Rattle.csp_iface.specs.declared.packet.Packet.{Packet}
+use Rattle.csp_iface.specs.Receiving.{Heard, frame_heard, heard_by, packet_of, read_further, reassembled}
+use Rattle.csp_iface.specs.declared.packet.WholePacket.{WholePacket}
 use Rattle.csp_iface.specs.declared.receiver.Receiver.{Receiver}
 use Rattle.csp_iface.specs.declared.receiver.Receiver.TheVariants as by
 use Rattle.csp_iface.specs.declared.receiver.TheConstants.{MAX_HOPS}
@@ -34,7 +34,7 @@ module _ (o : Origin) where
   named t = cond (names o t) 1 0
 
   -- a whole packet, where there is one
-  abbrev pub whole_of : Option Packet → ℕ
+  abbrev pub whole_of : Option WholePacket → ℕ
   whole_of p = option_map_or (λ k. named k.trace) p 0
 
   -- the partial packets whose traces name it
@@ -142,7 +142,7 @@ module _ (o : Origin) where
       record { bus = tt; few = omega (arith, fewer, ruled) }
 
   -- any frame
-  pub hears_few : (now : ℕ) (r : Receiver) (f : Frame) → IsBus r → IsHeardFew (kept_of r + cond (is_first_of o f) 1 0) (heard now r f)
+  pub hears_few : (now : ℕ) (r : Receiver) (f : Frame) → IsBus r → IsHeardFew (kept_of r + cond (is_first_of o f) 1 0) (frame_heard now r f)
   hears_few now (by.Kiss s) f bus = absurd bus
   hears_few now (by.Can l) f bus =
       chosen (f.trace.hops == MAX_HOPS)

@@ -10,11 +10,11 @@ use Rattle.csp_iface.specs.Asking.{asked, asks, delivered, given, op_of, transmi
 use Rattle.csp_iface.specs.Heeding.{is_for}
 use Rattle.csp_iface.specs.PlainIface.{PlainIface}
 use Rattle.csp_iface.specs.Planning.{plan_of, side_plan}
-use Rattle.csp_iface.specs.Receiving.{heard, read_further}
+use Rattle.csp_iface.specs.Receiving.{frame_heard, read_further}
 use Rattle.csp_iface.specs.Telling.{fetched, filled, going_on, has_packet, hearing, is_too_big, kept, pushed, taken_up, tells, unmoved}
-use Rattle.csp_iface.specs.declared.packet.Packet.{Packet}
-use Rattle.csp_iface.specs.declared.plan.Plan.{Plan}
-use Rattle.csp_iface.specs.declared.plan.Plan.TheVariants as plan
+use Rattle.csp_iface.specs.declared.packet.WholePacket.{WholePacket}
+use Rattle.csp_iface.specs.declared.plan.IfacePlan.{IfacePlan}
+use Rattle.csp_iface.specs.declared.plan.IfacePlan.TheVariants as plan
 use Rattle.csp_link.specs.Telling.{frame_in}
 use Rattle.csp_log.specs.Moving.{moved_by}
 use Rattle.csp_log.specs.declared.frame.Frame.{Frame}
@@ -69,7 +69,7 @@ module _ (o : Origin) where
   popped_few q n (answer.Popped (item.Note _)) = omega arith
   popped_few q n _ = omega arith
 
-  handed_few : (s : PlainIface) (p : Plan) (a : AnswerShown) → put_there (op_of s p) a + held_by (waiting s p) ≤ held_by s
+  handed_few : (s : PlainIface) (p : IfacePlan) (a : AnswerShown) → put_there (op_of s p) a + held_by (waiting s p) ≤ held_by s
   handed_few s plan.Rest a = omega arith
   handed_few s plan.Return a = given_few (held_by s) s.back a
   handed_few s plan.Deliver a = delivered_few s.number (whole_of o s.whole + kept_of o s.receiver) s.accepted a
@@ -78,7 +78,7 @@ module _ (o : Origin) where
   handed_few s plan.Fetch a = popped_few (queue.Out s.number) (held_by s) a
   handed_few s plan.Receive a = popped_few (queue.Rx s.number) (held_by s) a
 
-  waiting_bus : (s : PlainIface) (p : Plan) → IsBus s.receiver → IsBus (waiting s p).receiver
+  waiting_bus : (s : PlainIface) (p : IfacePlan) → IsBus s.receiver → IsBus (waiting s p).receiver
   waiting_bus s plan.Rest bus = bus
   waiting_bus s plan.Return bus = bus
   waiting_bus s plan.Deliver bus = bus
@@ -126,7 +126,7 @@ module _ (o : Origin) where
   fetched_few n (item.Note _) s h = h
 
   -- a whole packet takes a buffer
-  filled_few : (accepted : Option Content) (whole : Option Packet) (b : Content) (kept n : ℕ) → (k : Packet) × (whole ≡ Some k) → accepted_of accepted + (whole_of o whole + kept) ≤ n → accepted_of (Some (filled whole b)) + (0 + kept) ≤ n
+  filled_few : (accepted : Option Content) (whole : Option WholePacket) (b : Content) (kept n : ℕ) → (k : WholePacket) × (whole ≡ Some k) → accepted_of accepted + (whole_of o whole + kept) ≤ n → accepted_of (Some (filled whole b)) + (0 + kept) ≤ n
   filled_few accepted None b kept n there h = absurd cc
   filled_few accepted (Some p) b kept n there h = omega (arith, h)
 
@@ -138,13 +138,13 @@ module _ (o : Origin) where
   heard_few n s now f h =
       by (is_for s.heeds f)
     where
-      by : (b : Bool) → HoldsFew (n + cond (is_first_of o f) 1 0) (hearing (if b then heard now s.receiver f else unmoved s) (waiting s plan.Receive)).iface
+      by : (b : Bool) → HoldsFew (n + cond (is_first_of o f) 1 0) (hearing (if b then frame_heard now s.receiver f else unmoved s) (waiting s plan.Receive)).iface
       by true =
-          let new : IsHeardFew o (kept_of o s.receiver + cond (is_first_of o f) 1 0) (heard now s.receiver f) = hears_few o now s.receiver f h.0 in
+          let new : IsHeardFew o (kept_of o s.receiver + cond (is_first_of o f) 1 0) (frame_heard now s.receiver f) = hears_few o now s.receiver f h.0 in
           (new.bus, omega (arith, h.1, new.few))
       by false = more_few n (cond (is_first_of o f) 1 0) s h
 
-  told_few : (n : ℕ) (s : PlainIface) (now : ℕ) (p : Plan) (a : AnswerShown) → (p ≡ plan.Take → (k : Packet) × (s.whole ≡ Some k)) → HoldsFew n (waiting s p)
+  told_few : (n : ℕ) (s : PlainIface) (now : ℕ) (p : IfacePlan) (a : AnswerShown) → (p ≡ plan.Take → (k : WholePacket) × (s.whole ≡ Some k)) → HoldsFew n (waiting s p)
       → HoldsFew (n + came_there (queue.Rx s.number) (op_of s p) a) (told s now p a)
   told_few n s now plan.Return answer.Given take h = more_few n _ s h
   told_few n s now plan.Return (answer.PoolFull b) take h = more_few n _ s h
@@ -170,10 +170,10 @@ module _ (o : Origin) where
 
   pub step_paid : (s : PlainIface) (now : ℕ) (a : AnswerShown) → IsBus s.receiver → IsPaid s (tells (asked s now) now a) (put_there (asks s now) a) (came_there (queue.Rx s.number) (asks s now) a)
   step_paid s now a bus =
-      let p : Plan = plan_of s in
+      let p : IfacePlan = plan_of s in
       let came : ℕ = came_there (queue.Rx s.number) (op_of s p) a in
       let handed : put_there (op_of s p) a + held_by (waiting s p) ≤ held_by s = handed_few s p a in
-      let take : p ≡ plan.Take → (k : Packet) × (s.whole ≡ Some k) = taking s.back s.accepted s.whole (side_plan s.side s.frames) (never_taking s.side s.frames) in
+      let take : p ≡ plan.Take → (k : WholePacket) × (s.whole ≡ Some k) = taking s.back s.accepted s.whole (side_plan s.side s.frames) (never_taking s.side s.frames) in
       let after : HoldsFew (held_by (waiting s p) + came) (tells (asked s now) now a) =
       reads_few (held_by (waiting s p) + came) (told s now p a) (told_few (held_by (waiting s p)) s now p a take (waiting_bus s p bus, omega arith)) in
       record { bus = after.0; few = omega (arith, handed, after.1) }

@@ -12,8 +12,8 @@ use Rattle.csp_iface.specs.PlainIface.{PlainIface}
 use Rattle.csp_iface.specs.Planning.{plan_of}
 use Rattle.csp_iface.specs.Sending.{next_node}
 use Rattle.csp_iface.specs.Telling.{begun, caught, fetched, is_too_big, kept, pushed, taken_up, tells}
-use Rattle.csp_iface.specs.declared.plan.Plan.{Plan}
-use Rattle.csp_iface.specs.declared.plan.Plan.TheVariants as plan
+use Rattle.csp_iface.specs.declared.plan.IfacePlan.{IfacePlan}
+use Rattle.csp_iface.specs.declared.plan.IfacePlan.TheVariants as plan
 use Rattle.csp_link.specs.Telling.{frame_in}
 use Rattle.csp_log.specs.Pictures.{Fits}
 use Rattle.csp_log.specs.declared.entry.Entry.{Entry}
@@ -65,7 +65,7 @@ module _ (o : Origin) (n : ℕ) where
   left s = firsts o s.frames + yet o.serial s.serial
 
   -- how many a turn put there
-  abbrev now_put : PlainIface → Plan → AnswerShown → ℕ
+  abbrev now_put : PlainIface → IfacePlan → AnswerShown → ℕ
   now_put s p a = firsts o (frames_among (put_by (queue.Tx n) (op_of s p) a))
 
   -- ---- what a turn puts there it has no more
@@ -88,7 +88,7 @@ module _ (o : Origin) (n : ℕ) where
   delivered_none m (Some b) answer.Pushed = refl
   delivered_none m (Some b) _ = refl
 
-  put_few : (s : PlainIface) (p : Plan) (a : AnswerShown) → now_put s p a + left (waiting s p) ≤ left s
+  put_few : (s : PlainIface) (p : IfacePlan) (a : AnswerShown) → now_put s p a + left (waiting s p) ≤ left s
   put_few s plan.Rest a = omega arith
   put_few s plan.Return a = omega (arith, given_none s.back a)
   put_few s plan.Deliver a = omega (arith, delivered_none s.number s.accepted a)
@@ -134,7 +134,7 @@ module _ (o : Origin) (n : ℕ) where
   caught_few now (item.Packet _ _) s = refl
   caught_few now (item.Note _) s = refl
 
-  told_few : (s : PlainIface) (now : ℕ) (p : Plan) (a : AnswerShown) → s.mtu ≤ MAX_PAYLOAD → Fits (op_of s p) a → now_put s p a + left (told s now p a) ≤ left s
+  told_few : (s : PlainIface) (now : ℕ) (p : IfacePlan) (a : AnswerShown) → s.mtu ≤ MAX_PAYLOAD → Fits (op_of s p) a → now_put s p a + left (told s now p a) ≤ left s
   told_few s now plan.Return answer.Given most fits = put_few s plan.Return answer.Given
   told_few s now plan.Return (answer.PoolFull b) most fits = put_few s plan.Return (answer.PoolFull b)
   told_few s now plan.Deliver answer.Pushed most fits = put_few s plan.Deliver answer.Pushed
@@ -155,7 +155,7 @@ module _ (o : Origin) (n : ℕ) where
       → firsts o (frames_among (puts (queue.Tx n) es)) ≤ left s
   run_few node number kind mtu most [] time s run on = omega arith
   run_few node number kind mtu most (e ∷ es) time s run on =
-      let p : Plan = plan_of s in
+      let p : IfacePlan = plan_of s in
       let t : PlainIface = tells (asked s e.time) e.time e.answer in
       let cut : firsts o (frames_among (puts (queue.Tx n) (e ∷ es))) ≡ firsts o (frames_among (put_by (queue.Tx n) e.op e.answer)) + firsts o (frames_among (puts (queue.Tx n) es)) = among_append o (put_by (queue.Tx n) e.op e.answer) (puts (queue.Tx n) es) in
       let this : firsts o (frames_among (put_by (queue.Tx n) e.op e.answer)) ≡ now_put s p e.answer = ap (λ q. firsts o (frames_among (put_by (queue.Tx n) q e.answer))) run.1.op in

@@ -7,7 +7,7 @@ use Rattle.csp_app.specs.PlainStep.{PlainStep}
 use Rattle.csp_app.specs.PlainStep as step
 use Rattle.csp_link.specs.declared.fault.Fault.{Fault}
 use Rattle.csp_route.specs.Routes.{Routes, with_row, merged}
-use Rattle.csp_scene.specs.Draft.{PlainDraft, no_draft, demand}
+use Rattle.csp_scene.specs.Sketch.{PlainSketch, no_sketch, demand}
 use Rattle.csp_scene.specs.Joining.{routed, with_routes}
 use Rattle.csp_scene.specs.Rows.{all_rows}
 use Rattle.csp_scene.specs.Judge.{is_printable, judge, judge_words, scene_from, in_line, is_in_app}
@@ -37,17 +37,17 @@ use Rattle.csp_gen.specs.GenText.{network_lines, frame_at, fault_line, fault_lin
 use Rattle.csp_gen.proofs.Routing.{no_rows_len, more_rows, merged_len, ground_routes, relay_routes, payload_routes}
 
 -- a line that is not refused
-pub next_line : (earlier lines : List (List ℕ)) (d after : PlainDraft) (line : List ℕ) → judge all_rows (is_in_app all_rows earlier) d line ≡ Ok after → scene_from all_rows earlier d (line ∷ lines) ≡ scene_from all_rows (line ∷ earlier) after lines
+pub next_line : (earlier lines : List (List ℕ)) (d after : PlainSketch) (line : List ℕ) → judge all_rows (is_in_app all_rows earlier) d line ≡ Ok after → scene_from all_rows earlier d (line ∷ lines) ≡ scene_from all_rows (line ∷ earlier) after lines
 unfolding scene_from
 next_line earlier lines d after line e = ap (λ r. in_line (length earlier) r (λ next. scene_from all_rows (line ∷ earlier) next lines)) e
 
-abbrev pub draft : Routes → Routes → Routes → List Fault → List PlainApp → List PlainApp → Option ℕ → PlainDraft
-draft r0 r1 r2 plan ground payload host = record { until = Some 40000; schedule = None; nodes = nodes r0 r1 r2 ground payload; links = links plan; host = host; tuned = [] }
+abbrev pub sketch : Routes → Routes → Routes → List Fault → List PlainApp → List PlainApp → Option ℕ → PlainSketch
+sketch r0 r1 r2 plan ground payload host = record { until = Some 40000; schedule = None; nodes = nodes r0 r1 r2 ground payload; links = links plan; host = host; tuned = [] }
 
 -- the network without its routes
-six : (rest : List (List ℕ)) → scene_from all_rows [] no_draft (network_lines ++ rest)
+six : (rest : List (List ℕ)) → scene_from all_rows [] no_sketch (network_lines ++ rest)
     ≡ scene_from all_rows (codes "link bus can relay payload" ∷ codes "link radio kiss ground relay" ∷ codes "node payload 3 buffers 32" ∷ codes "node relay 2 buffers 32" ∷ codes "node ground 1 buffers 32 seed 65400" ∷ codes "until 40000" ∷ [])
-    (draft no_rows no_rows no_rows [] [] [] None) (codes "route ground 0/0 radio" ∷ codes "route relay 1 radio, 3 bus" ∷ codes "route payload 0/0 bus" ∷ rest)
+    (sketch no_rows no_rows no_rows [] [] [] None) (codes "route ground 0/0 radio" ∷ codes "route relay 1 radio, 3 bus" ∷ codes "route payload 0/0 bus" ∷ rest)
 unfolding scene_from
 six rest = refl
 
@@ -57,19 +57,19 @@ fits more n h few = let all = merged_len no_rows more in let none = no_rows_len 
 few_to : (iface : ℕ) → finite.len (all_to iface) ≤ 1
 few_to iface = more_rows no_rows (row 0 0 iface) 0 (omega (arith, no_rows_len))
 
-ground_line : judge all_rows false (draft no_rows no_rows no_rows [] [] [] None) (codes "route ground 0/0 radio") ≡ Ok (draft (merged no_rows (all_to 0)) no_rows no_rows [] [] [] None)
+ground_line : judge all_rows false (sketch no_rows no_rows no_rows [] [] [] None) (codes "route ground 0/0 radio") ≡ Ok (sketch (merged no_rows (all_to 0)) no_rows no_rows [] [] [] None)
 ground_line =
-    let d = draft no_rows no_rows no_rows [] [] [] None in
+    let d = sketch no_rows no_rows no_rows [] [] [] None in
     ap (routed d (Some 0)) ground_routes ∙ ap (λ t. demand t kind.Full (Ok (with_routes 0 (merged no_rows (all_to 0)) d))) (fits (all_to 0) 1 (few_to 0) (omega arith))
 
-relay_line : judge all_rows false (draft (merged no_rows (all_to 0)) no_rows no_rows [] [] [] None) (codes "route relay 1 radio, 3 bus") ≡ Ok (draft (merged no_rows (all_to 0)) (merged no_rows relay_table) no_rows [] [] [] None)
+relay_line : judge all_rows false (sketch (merged no_rows (all_to 0)) no_rows no_rows [] [] [] None) (codes "route relay 1 radio, 3 bus") ≡ Ok (sketch (merged no_rows (all_to 0)) (merged no_rows relay_table) no_rows [] [] [] None)
 relay_line =
-    let d = draft (merged no_rows (all_to 0)) no_rows no_rows [] [] [] None in
+    let d = sketch (merged no_rows (all_to 0)) no_rows no_rows [] [] [] None in
     ap (routed d (Some 1)) relay_routes ∙ ap (λ t. demand t kind.Full (Ok (with_routes 1 (merged no_rows relay_table) d))) (fits relay_table 2 (more_rows (with_row no_rows (row 1 5 0)) (row 3 5 1) 1 (more_rows no_rows (row 1 5 0) 0 (omega (arith, no_rows_len)))) (omega arith))
 
-payload_line : judge all_rows false (draft (merged no_rows (all_to 0)) (merged no_rows relay_table) no_rows [] [] [] None) (codes "route payload 0/0 bus") ≡ Ok (draft (merged no_rows (all_to 0)) (merged no_rows relay_table) (merged no_rows (all_to 0)) [] [] [] None)
+payload_line : judge all_rows false (sketch (merged no_rows (all_to 0)) (merged no_rows relay_table) no_rows [] [] [] None) (codes "route payload 0/0 bus") ≡ Ok (sketch (merged no_rows (all_to 0)) (merged no_rows relay_table) (merged no_rows (all_to 0)) [] [] [] None)
 payload_line =
-    let d = draft (merged no_rows (all_to 0)) (merged no_rows relay_table) no_rows [] [] [] None in
+    let d = sketch (merged no_rows (all_to 0)) (merged no_rows relay_table) no_rows [] [] [] None in
     ap (routed d (Some 2)) payload_routes ∙ ap (λ t. demand t kind.Full (Ok (with_routes 2 (merged no_rows (all_to 0)) d))) (fits (all_to 0) 1 (few_to 0) (omega arith))
 
 -- the lines of the network, the last first
@@ -78,16 +78,16 @@ network_before =
     codes "route payload 0/0 bus" ∷ codes "route relay 1 radio, 3 bus" ∷ codes "route ground 0/0 radio" ∷ codes "link bus can relay payload" ∷ codes "link radio kiss ground relay"
     ∷ codes "node payload 3 buffers 32" ∷ codes "node relay 2 buffers 32" ∷ codes "node ground 1 buffers 32 seed 65400" ∷ codes "until 40000" ∷ []
 
--- the draft after the network and some faults
-abbrev pub at_fault : List Fault → List PlainApp → List PlainApp → Option ℕ → PlainDraft
-at_fault plan ground payload host = draft (merged no_rows (all_to 0)) (merged no_rows relay_table) (merged no_rows (all_to 0)) plan ground payload host
+-- the sketch after the network and some faults
+abbrev pub at_fault : List Fault → List PlainApp → List PlainApp → Option ℕ → PlainSketch
+at_fault plan ground payload host = sketch (merged no_rows (all_to 0)) (merged no_rows relay_table) (merged no_rows (all_to 0)) plan ground payload host
 
-pub network_stated : (rest : List (List ℕ)) → scene_from all_rows [] no_draft (network_lines ++ rest) ≡ scene_from all_rows network_before (at_fault [] [] [] None) rest
+pub network_stated : (rest : List (List ℕ)) → scene_from all_rows [] no_sketch (network_lines ++ rest) ≡ scene_from all_rows network_before (at_fault [] [] [] None) rest
 network_stated rest =
     six rest
-    ∙ next_line _ (codes "route relay 1 radio, 3 bus" ∷ codes "route payload 0/0 bus" ∷ rest) (draft no_rows no_rows no_rows [] [] [] None) (draft (merged no_rows (all_to 0)) no_rows no_rows [] [] [] None) (codes "route ground 0/0 radio") ground_line
-    ∙ next_line _ (codes "route payload 0/0 bus" ∷ rest) (draft (merged no_rows (all_to 0)) no_rows no_rows [] [] [] None) (draft (merged no_rows (all_to 0)) (merged no_rows relay_table) no_rows [] [] [] None) (codes "route relay 1 radio, 3 bus") relay_line
-    ∙ next_line _ rest (draft (merged no_rows (all_to 0)) (merged no_rows relay_table) no_rows [] [] [] None) (at_fault [] [] [] None) (codes "route payload 0/0 bus") payload_line
+    ∙ next_line _ (codes "route relay 1 radio, 3 bus" ∷ codes "route payload 0/0 bus" ∷ rest) (sketch no_rows no_rows no_rows [] [] [] None) (sketch (merged no_rows (all_to 0)) no_rows no_rows [] [] [] None) (codes "route ground 0/0 radio") ground_line
+    ∙ next_line _ (codes "route payload 0/0 bus" ∷ rest) (sketch (merged no_rows (all_to 0)) no_rows no_rows [] [] [] None) (sketch (merged no_rows (all_to 0)) (merged no_rows relay_table) no_rows [] [] [] None) (codes "route relay 1 radio, 3 bus") relay_line
+    ∙ next_line _ rest (sketch (merged no_rows (all_to 0)) (merged no_rows relay_table) no_rows [] [] [] None) (at_fault [] [] [] None) (codes "route payload 0/0 bus") payload_line
 
 -- ---- the faults
 
@@ -132,15 +132,15 @@ record Adds (packets j : ℕ) (ia : Bool) (plan : List Fault) (words : List (Lis
   adds : judge_words all_rows ia (at_fault plan [] [] None) words ≡ Ok (at_fault (plan ++ record { dir = 0; frame = frame_at packets j; kind = what } ∷ []) [] [] None)
 
 -- an answer that is no refusal
-abbrev ok_draft : PlainDraft → Result PlainDraft SceneKind
-ok_draft d = Ok d
+abbrev ok_sketch : PlainSketch → Result PlainSketch SceneKind
+ok_sketch d = Ok d
 
 pub record JudgedFault (packets j : ℕ) (ia : Bool) (plan : List Fault) : Type 0 where
   pub what : FaultKind
   pub judged : judge all_rows ia (at_fault plan [] [] None) (fault_line packets j) ≡ Ok (at_fault (plan ++ record { dir = 0; frame = frame_at packets j; kind = what } ∷ []) [] [] None)
 
 -- a line judged by its words
-judged_by : (ia : Bool) (d after : PlainDraft) (line : List ℕ) (words : List (List ℕ)) → list_all is_printable line ≡ true → length line ≤ MAX_LINE → words_of line ≡ words → judge_words all_rows ia d words ≡ Ok after → judge all_rows ia d line ≡ Ok after
+judged_by : (ia : Bool) (d after : PlainSketch) (line : List ℕ) (words : List (List ℕ)) → list_all is_printable line ≡ true → length line ≤ MAX_LINE → words_of line ≡ words → judge_words all_rows ia d words ≡ Ok after → judge all_rows ia d line ≡ Ok after
 judged_by ia d after line words bytes short are adds =
     ap (λ t. demand t kind.Byte (demand (leb (length line) MAX_LINE) kind.Long (judge_words all_rows ia d (words_of line)))) bytes
     ∙ ap (λ t. demand t kind.Long (judge_words all_rows ia d (words_of line))) (le-leb (length line) MAX_LINE short)
@@ -171,8 +171,8 @@ module _ (packets j : ℕ) (few : j ≤ 25) (ia : Bool) (plan : List Fault) (bef
   space : ltb (fault_count (links plan)) MAX_FAULTS ≡ true
   space = let count : fault_count (links plan) ≡ length plan = omega arith in le-leb (suc (fault_count (links plan))) MAX_FAULTS (omega arith)
 
-  shown : (what : FaultKind) → ok_draft (at_fault (plan ++ record { dir = 0; frame = number_of (decimal (frame_at packets j)); kind = what } ∷ []) [] [] None) ≡ ok_draft (at_fault (plan ++ record { dir = 0; frame = frame_at packets j; kind = what } ∷ []) [] [] None)
-  shown what = ap (λ f. ok_draft (at_fault (plan ++ record { dir = 0; frame = f; kind = what } ∷ []) [] [] None)) value
+  shown : (what : FaultKind) → ok_sketch (at_fault (plan ++ record { dir = 0; frame = number_of (decimal (frame_at packets j)); kind = what } ∷ []) [] [] None) ≡ ok_sketch (at_fault (plan ++ record { dir = 0; frame = frame_at packets j; kind = what } ∷ []) [] [] None)
+  shown what = ap (λ f. ok_sketch (at_fault (plan ++ record { dir = 0; frame = f; kind = what } ∷ []) [] [] None)) value
 
   words_for : (t u : Bool) → Adds packets j ia plan (codes "fault" ∷ codes "radio" ∷ codes "ab" ∷ decimal (frame_at packets j) ∷ cond t (codes "lose" ∷ []) (cond u (codes "repeat" ∷ codes "1" ∷ []) (codes "delay" ∷ codes "5" ∷ [])))
   words_for true u = record { what = fault.Lose; adds = lose_words ia plan [] [] None (decimal (frame_at packets j)) parts.0 parts.1 low high (new fault.Lose) space ∙ shown fault.Lose }
@@ -306,14 +306,14 @@ module _ (packets : ℕ) (least : 1 ≤ packets) (most : packets ≤ MAX_PACKETS
       judged_by true (at_fault plan (ops (connecting ∷ [])) [] (Some 0)) (at_fault plan (ops (connecting ∷ step.Burst 0 packets 100 ∷ [])) [] (Some 0)) (codes "burst 0 " ++ decimal packets ++ codes " 100") (codes "burst" ∷ codes "0" ∷ decimal packets ∷ codes "100" ∷ [])
       burst_printable (let all = length-append (codes "burst 0 " ++ decimal packets) (codes " 100") in let some = length-append (codes "burst 0 ") (decimal packets) in let few = digits_short in omega arith)
       (ap words_of (regroup (codes "burst 0 ") (decimal packets) (codes " 100")) ∙ words_back (codes "burst") (codes "0" ∷ decimal packets ∷ codes "100" ∷ []) (literal (codes "burst") refl (omega arith), (literal (codes "0") refl (omega arith), (packets_word, (literal (codes "100") refl (omega arith), tt)))))
-      (burst_words plan (decimal packets) number_parts.0 number_parts.1 number_low number_high ∙ ap (λ n. ok_draft (at_fault plan (ops (connecting ∷ step.Burst 0 n 100 ∷ [])) [] (Some 0))) number_value)
+      (burst_words plan (decimal packets) number_parts.0 number_parts.1 number_low number_high ∙ ap (λ n. ok_sketch (at_fault plan (ops (connecting ∷ step.Burst 0 n 100 ∷ [])) [] (Some 0))) number_value)
 
   recvs : (plan : List Fault) (steps : List PlainStep) → judge all_rows true (at_fault plan (ops steps) (cam (binding ∷ [])) (Some 2)) (codes "recv 0 " ++ decimal packets) ≡ Ok (at_fault plan (ops steps) (cam (binding ∷ step.Recv 0 packets None ∷ [])) (Some 2))
   recvs plan steps =
       judged_by true (at_fault plan (ops steps) (cam (binding ∷ [])) (Some 2)) (at_fault plan (ops steps) (cam (binding ∷ step.Recv 0 packets None ∷ [])) (Some 2)) (codes "recv 0 " ++ decimal packets) (codes "recv" ∷ codes "0" ∷ decimal packets ∷ [])
       recv_printable (let all = length-append (codes "recv 0 ") (decimal packets) in let few = digits_short in omega arith)
       (words_back (codes "recv") (codes "0" ∷ decimal packets ∷ []) (literal (codes "recv") refl (omega arith), (literal (codes "0") refl (omega arith), (packets_word, tt))))
-      (recv_words plan steps (decimal packets) number_parts.0 number_parts.1 number_low number_high ∙ ap (λ n. ok_draft (at_fault plan (ops steps) (cam (binding ∷ step.Recv 0 n None ∷ [])) (Some 2))) number_value)
+      (recv_words plan steps (decimal packets) number_parts.0 number_parts.1 number_low number_high ∙ ap (λ n. ok_sketch (at_fault plan (ops steps) (cam (binding ∷ step.Recv 0 n None ∷ [])) (Some 2))) number_value)
 
   -- the lines of the applications, after the faults
   apps_stated : (before : List (List ℕ)) (plan : List Fault) → scene_from all_rows before (at_fault plan [] [] None) (sender_lines packets ++ taker_lines packets) ≡ Ok (gen_scene packets plan)
@@ -366,7 +366,7 @@ text_states packets least most =
     let faults = faults_stated packets 1 (packets / 20) network_before [] (sender_lines packets ++ taker_lines packets) (omega arith) tt (omega arith) in
     record {
       plan = faults.all;
-      stated = ap (scene_from all_rows [] no_draft) (lines_cut packets least most ∙ in_order network_lines (fault_lines packets) (sender_lines packets) (taker_lines packets))
+      stated = ap (scene_from all_rows [] no_sketch) (lines_cut packets least most ∙ in_order network_lines (fault_lines packets) (sender_lines packets) (taker_lines packets))
           ∙ network_stated (fault_lines packets ++ (sender_lines packets ++ taker_lines packets))
           ∙ faults.stated ∙ apps_stated packets least most faults.before faults.all;
     }

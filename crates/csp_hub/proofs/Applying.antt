@@ -13,7 +13,7 @@ use Rattle.csp_hub.specs.Applied.{AppliesPlan, hub_steps, popped_by, pushed_by, 
 use Rattle.csp_hub.specs.Asking.{asked, doing_of, op_of, without}
 use Rattle.csp_hub.specs.PlainHub.{PlainEnd, PlainHub, end_at, no_end, opening, opening_end, others, served, with_served}
 use Rattle.csp_hub.specs.Planning.{has_room}
-use Rattle.csp_hub.specs.Telling.{fate_of_next, heard, heard_by_others, kept, sent, tells, told_by}
+use Rattle.csp_hub.specs.Telling.{fate_of_next, copies_held, held_for_others, kept, sent, tells, told_by}
 use Rattle.csp_link.specs.Applied.{frames_in}
 use Rattle.csp_link.specs.Copies.{copies_of, held_copies, held_until}
 use Rattle.csp_link.specs.Fates.{fate_at, fate_of, fates_of}
@@ -72,7 +72,7 @@ frames_held due [] = refl
 frames_held due (f ∷ fs) = ap (λ gs. f ∷ gs) (frames_held due fs)
 
 -- copies of a frame are held for it
-went_heard : (e : PlainEnd) (fate : Fate) (now : ℕ) (f : Frame) → Went e (heard (held_copies fate now f) e) [] (copies_of fate f) []
+went_heard : (e : PlainEnd) (fate : Fate) (now : ℕ) (f : Frame) → Went e (copies_held (held_copies fate now f) e) [] (copies_of fate f) []
 went_heard e fate now f =
     let all : frames_in e.held ++ copies_of fate f ≡ frames_in (e.held ++ held_copies fate now f) =
     ap (λ fs. frames_in e.held ++ fs) (sym (frames_held (now + fate.delay) (copies_of fate f))) ∙ sym (map-append (λ (x : Held). x.frame) e.held (held_copies fate now f)) in
@@ -95,15 +95,15 @@ at_set_same k es e within = get_or-set_same es k e no_end within
 at_set_other : (k j : ℕ) (es : List PlainEnd) (e : PlainEnd) → k ≢ j → end_at j (slice_set es k e) ≡ end_at j es
 at_set_other k j es e apart = get_or-set_other es k j e no_end (λ same. apart (sym same))
 
-at_own : (k : ℕ) (copies : List Held) (es : List PlainEnd) → end_at k (heard_by_others k copies es) ≡ end_at k es
+at_own : (k : ℕ) (copies : List Held) (es : List PlainEnd) → end_at k (held_for_others k copies es) ≡ end_at k es
 at_own k copies [] = refl
 at_own zero copies (e ∷ es) = refl
 at_own (suc k) copies (e ∷ es) = at_own k copies es
 
-at_other : (k j : ℕ) (copies : List Held) (es : List PlainEnd) → k ≢ j → j < length es → end_at j (heard_by_others k copies es) ≡ heard copies (end_at j es)
+at_other : (k j : ℕ) (copies : List Held) (es : List PlainEnd) → k ≢ j → j < length es → end_at j (held_for_others k copies es) ≡ copies_held copies (end_at j es)
 at_other k j copies [] apart within = absurd (omega arith)
 at_other zero zero copies (e ∷ es) apart within = absurd (apart refl)
-at_other zero (suc j) copies (e ∷ es) apart within = get_or-map (heard copies) es j no_end no_end (omega arith)
+at_other zero (suc j) copies (e ∷ es) apart within = get_or-map (copies_held copies) es j no_end no_end (omega arith)
 at_other (suc k) zero copies (e ∷ es) apart within = refl
 at_other (suc k) (suc j) copies (e ∷ es) apart within = at_other k j copies es (λ same. apart (ap suc same)) (omega arith)
 
@@ -140,18 +140,18 @@ back_at s place h i es within stood is =
 
 -- a frame is popped from the end that is served
 popped_at : (s k now : ℕ) (f : Frame) (fate : Fate) (es : List PlainEnd) → s < length es → k < length es → fate ≡ fate_of_next (end_at s es)
-    → Went (end_at k es) (end_at k (heard_by_others s (held_copies (fate_of_next (end_at s es)) now f) (slice_set es s (sent (end_at s es)))))
+    → Went (end_at k es) (end_at k (held_for_others s (held_copies (fate_of_next (end_at s es)) now f) (slice_set es s (sent (end_at s es)))))
     (if eqb s k then f ∷ [] else []) (if eqb s k then [] else copies_of fate f) []
 popped_at s k now f fate es within inside is =
     let copies : List Held = held_copies (fate_of_next (end_at s es)) now f in
     let after : List PlainEnd = slice_set es s (sent (end_at s es)) in
-    let next : List PlainEnd = heard_by_others s copies after in
+    let next : List PlainEnd = held_for_others s copies after in
     each s k (λ j b. Went (end_at j es) (end_at j next) (if b then f ∷ [] else []) (if b then [] else copies_of fate f) [])
     (subst (λ (e : PlainEnd). Went (end_at s es) e (f ∷ []) [] []) (sym (at_own s copies after ∙ at_set_same s es (sent (end_at s es)) within)) (went_sent (end_at s es) f))
     (λ apart.
     let long : k < length after = (let same = length-set es s (sent (end_at s es)) in omega (arith, same, inside)) in
-    subst (λ (e : PlainEnd). Went (end_at k es) e [] (copies_of fate f) []) (sym (at_other s k copies after apart long ∙ ap (heard copies) (at_set_other s k es (sent (end_at s es)) apart)))
-    (subst (λ (x : Fate). Went (end_at k es) (heard copies (end_at k es)) [] (copies_of x f) []) (sym is) (went_heard (end_at k es) (fate_of_next (end_at s es)) now f)))
+    subst (λ (e : PlainEnd). Went (end_at k es) e [] (copies_of fate f) []) (sym (at_other s k copies after apart long ∙ ap (copies_held copies) (at_set_other s k es (sent (end_at s es)) apart)))
+    (subst (λ (x : Fate). Went (end_at k es) (copies_held copies (end_at k es)) [] (copies_of x f) []) (sym is) (went_heard (end_at k es) (fate_of_next (end_at s es)) now f)))
 
 -- ---- a turn
 
@@ -172,7 +172,7 @@ turn_by plan before h now k (Some p) few (answer.Full i) within inside fate e f 
     went_alike k h.ends (tells (asked_by h (Some p) few) now (answer.Full i)).ends (back_at h.serving p.0 p.1 i h.ends within (stands (λ x. nat_le x.due now) (served h).held p.0 p.1 e) f)
 turn_by plan before h now k None true (answer.Popped (item.Frame g)) within inside fate e f =
     subst (λ (es : List PlainEnd). Went (end_at k h.ends)
-    (end_at k (heard_by_others h.serving (held_copies (fate_of_next (end_at h.serving es)) now g) (slice_set es h.serving (sent (end_at h.serving es)))))
+    (end_at k (held_for_others h.serving (held_copies (fate_of_next (end_at h.serving es)) now g) (slice_set es h.serving (sent (end_at h.serving es)))))
     (if eqb h.serving k then g ∷ [] else []) (if eqb h.serving k then [] else copies_of (fate_of h.serving (length (frames_popped h.serving before) + 1) plan) g) [])
     (sym (asked_same h.serving h.ends)) (popped_at h.serving k now g (fate_of h.serving (length (frames_popped h.serving before) + 1) plan) h.ends within inside fate)
 turn_by plan before h now k None true (answer.Popped (item.Packet _ _)) within inside fate e f = went_alike k h.ends (slice_set h.ends h.serving (served h)) (asked_same h.serving h.ends)

@@ -6,7 +6,7 @@ use Rattle.std.proofs.lemmas.List.{length-map}
 use Rattle.std.proofs.lemmas.List.Sums.{sum_by-cons, sum-map}
 use Rattle.csp_hub.specs.Asking.{asked, without}
 use Rattle.csp_hub.specs.PlainHub.{PlainEnd, PlainHub, count, end_at, opening, opening_end, served, uses, with_served}
-use Rattle.csp_hub.specs.Telling.{fate_of_next, heard, heard_by_others, kept, sent, taken, tells, told_by}
+use Rattle.csp_hub.specs.Telling.{fate_of_next, copies_held, held_for_others, kept, sent, taken, tells, told_by}
 use Rattle.csp_hub.specs.declared.doing.Doing.{Doing}
 use Rattle.csp_hub.specs.declared.doing.Doing.TheVariants as doing
 use Rattle.csp_link.specs.Copies.{held_copies}
@@ -27,12 +27,12 @@ module _ {X : Type 0} (f : PlainEnd → X) where
   like_with zero (x ∷ xs) e same = ap (λ y. y ∷ map f xs) same
   like_with (suc k) (x ∷ xs) e same = ap (λ ys. f x ∷ ys) (like_with k xs e same)
 
-  like_heard : (copies : List Held) → ((e : PlainEnd) → f (heard copies e) ≡ f e) → (es : List PlainEnd) → map f (map (heard copies) es) ≡ map f es
+  like_heard : (copies : List Held) → ((e : PlainEnd) → f (copies_held copies e) ≡ f e) → (es : List PlainEnd) → map f (map (copies_held copies) es) ≡ map f es
   like_heard copies same [] = refl
   like_heard copies same (x ∷ xs) = λ i. same x i ∷ like_heard copies same xs i
 
   -- frames that are held besides
-  pub like_others : (k : ℕ) (copies : List Held) → ((e : PlainEnd) → f (heard copies e) ≡ f e) → (es : List PlainEnd) → map f (heard_by_others k copies es) ≡ map f es
+  pub like_others : (k : ℕ) (copies : List Held) → ((e : PlainEnd) → f (copies_held copies e) ≡ f e) → (es : List PlainEnd) → map f (held_for_others k copies es) ≡ map f es
   like_others k copies same [] = refl
   like_others zero copies same (x ∷ xs) = ap (λ ys. f x ∷ ys) (like_heard copies same xs)
   like_others (suc k) copies same (x ∷ xs) = λ i. same x i ∷ like_others k copies same xs i
@@ -109,7 +109,7 @@ count_taken : (h : PlainHub) (now : ℕ) (found : Option Frame) → count (taken
 count_taken h now (Some frame) =
     let copies : List Held = held_copies (fate_of_next (served h)) now frame in
     let after : List PlainEnd = slice_set h.ends h.serving (sent (served h)) in
-    let same = count_is (heard_by_others h.serving copies after) after (like_others (λ e. e.popped) h.serving copies (λ e. refl) after) in
+    let same = count_is (held_for_others h.serving copies after) after (like_others (λ e. e.popped) h.serving copies (λ e. refl) after) in
     let one = count_sent h.serving h.ends in omega (arith, same, one)
 count_taken h now None = omega arith
 

@@ -8,7 +8,7 @@ use Rattle.std.proofs.lemmas.List.Folds.{list_all-append}
 use Rattle.csp_hub.specs.PlainHub.{PlainEnd}
 use Rattle.csp_hub.specs.Planning.{has_room}
 use Rattle.csp_hub.specs.Stocking.{copy_count, less}
-use Rattle.csp_hub.specs.Telling.{heard, heard_by_others}
+use Rattle.csp_hub.specs.Telling.{copies_held, held_for_others}
 use Rattle.csp_link.specs.Copies.{damaged, held_copies, held_until}
 use Rattle.csp_link.specs.declared.fates.Fate.{Fate}
 use Rattle.csp_link.specs.declared.held.Held.{Held}
@@ -20,10 +20,10 @@ use Rattle.csp_log.specs.declared.frame.Frame.{Frame}
 
 -- held for those before it and then for those after it, copies are held for every other
 before_and_after : (from : ℕ) (copies : List Held) (es : List PlainEnd) → from < length es
-    → take (suc from) (map (heard copies) (take from es) ++ drop from es) ++ map (heard copies) (drop (suc from) es) ≡ heard_by_others from copies es
+    → take (suc from) (map (copies_held copies) (take from es) ++ drop from es) ++ map (copies_held copies) (drop (suc from) es) ≡ held_for_others from copies es
 before_and_after from copies [] within = absurd (omega arith)
 before_and_after zero copies (e ∷ es) within = refl
-before_and_after (suc from) copies (e ∷ es) within = ap (λ xs. heard copies e ∷ xs) (before_and_after from copies es (omega arith))
+before_and_after (suc from) copies (e ∷ es) within = ap (λ xs. copies_held copies e ∷ xs) (before_and_after from copies es (omega arith))
 
 -- those after it are as they were
 after_same : (from : ℕ) (f : PlainEnd → PlainEnd) (es : List PlainEnd) → from < length es → drop (suc from) (map f (take from es) ++ drop from es) ≡ drop (suc from) es
@@ -41,9 +41,9 @@ part_after from f es xs within is =
     ∙ after_same from f es within
 
 -- the whole slice once copies are held for both parts
-pub held_by_parts : (from : ℕ) (copies : List Held) (es xs ys : List PlainEnd) → from < length es → xs ≡ map (heard copies) (take from es)
-    → ys ≡ map (heard copies) (take (length (xs ++ drop from es) - (from + 1)) (drop (from + 1) (xs ++ drop from es)))
-    → take (from + 1) (xs ++ drop from es) ++ (ys ++ drop (length (xs ++ drop from es) - (from + 1)) (drop (from + 1) (xs ++ drop from es))) ≡ heard_by_others from copies es
+pub held_by_parts : (from : ℕ) (copies : List Held) (es xs ys : List PlainEnd) → from < length es → xs ≡ map (copies_held copies) (take from es)
+    → ys ≡ map (copies_held copies) (take (length (xs ++ drop from es) - (from + 1)) (drop (from + 1) (xs ++ drop from es)))
+    → take (from + 1) (xs ++ drop from es) ++ (ys ++ drop (length (xs ++ drop from es) - (from + 1)) (drop (from + 1) (xs ++ drop from es))) ≡ held_for_others from copies es
 held_by_parts from copies es xs ys within before after =
     let all : List PlainEnd = xs ++ drop from es in
     let none : drop (length all - (from + 1)) (drop (from + 1) all) ≡ [] =
@@ -52,8 +52,8 @@ held_by_parts from copies es xs ys within before after =
     ap (λ zs. take (from + 1) all ++ (ys ++ zs)) none
     ∙ ap (λ zs. take (from + 1) all ++ zs) (append-nil ys)
     ∙ ap (λ k. take k all ++ ys) next
-    ∙ ap (λ zs. take (suc from) all ++ zs) (after ∙ ap (map (heard copies)) (part_after from (heard copies) es xs within before))
-    ∙ ap (λ zs. take (suc from) (zs ++ drop from es) ++ map (heard copies) (drop (suc from) es)) before
+    ∙ ap (λ zs. take (suc from) all ++ zs) (after ∙ ap (map (copies_held copies)) (part_after from (copies_held copies) es xs within before))
+    ∙ ap (λ zs. take (suc from) (zs ++ drop from es) ++ map (copies_held copies) (drop (suc from) es)) before
     ∙ before_and_after from copies es within
 
 -- ---- room

@@ -13,7 +13,7 @@ use Rattle.csp_hub.specs.Asking.{kind_of_doing, op_of, without}
 use Rattle.csp_hub.specs.PlainHub.{PlainEnd, PlainHub, end_at, lane_of, no_end, next_end, opening, opening_end, others, served, uses}
 use Rattle.csp_hub.specs.Planning.{has_room, plan_of}
 use Rattle.csp_hub.specs.Room.{IsHub}
-use Rattle.csp_hub.specs.Telling.{heard, heard_by_others, kept}
+use Rattle.csp_hub.specs.Telling.{copies_held, held_for_others, kept}
 use Rattle.csp_hub.specs.declared.doing.Doing.{Doing}
 use Rattle.csp_hub.specs.declared.doing.Doing.TheVariants as doing
 use Rattle.csp_hub.specs.declared.hub.TheConstants.{MIN_ENDS, MAX_ENDS}
@@ -54,19 +54,19 @@ kept_sound place due frame e all carried =
     All-append IsSoundHeld (take place e.held) (held_until due frame ∷ drop place e.held) (All-take IsSoundHeld place e.held all)
     (All-cons IsSoundHeld (held_until due frame) (drop place e.held) carried (All-drop IsSoundHeld place e.held all))
 
-heard_sound : (copies : List Held) (e : PlainEnd) → AreCarried kind.Can copies → IsSoundEnd e → IsSoundEnd (heard copies e)
+heard_sound : (copies : List Held) (e : PlainEnd) → AreCarried kind.Can copies → IsSoundEnd e → IsSoundEnd (copies_held copies e)
 heard_sound copies e new all = All-append IsSoundHeld e.held copies all new
 
-all_heard_sound : (copies : List Held) (es : List PlainEnd) → AreCarried kind.Can copies → All IsSoundEnd es → All IsSoundEnd (map (heard copies) es)
+all_heard_sound : (copies : List Held) (es : List PlainEnd) → AreCarried kind.Can copies → All IsSoundEnd es → All IsSoundEnd (map (copies_held copies) es)
 all_heard_sound copies [] new all = all
 all_heard_sound copies (e ∷ es) new all =
-    All-cons IsSoundEnd (heard copies e) (map (heard copies) es) (heard_sound copies e new (All-head IsSoundEnd e es all)) (all_heard_sound copies es new (All-tail IsSoundEnd e es all))
+    All-cons IsSoundEnd (copies_held copies e) (map (copies_held copies) es) (heard_sound copies e new (All-head IsSoundEnd e es all)) (all_heard_sound copies es new (All-tail IsSoundEnd e es all))
 
-others_sound : (k : ℕ) (copies : List Held) (es : List PlainEnd) → AreCarried kind.Can copies → All IsSoundEnd es → All IsSoundEnd (heard_by_others k copies es)
+others_sound : (k : ℕ) (copies : List Held) (es : List PlainEnd) → AreCarried kind.Can copies → All IsSoundEnd es → All IsSoundEnd (held_for_others k copies es)
 others_sound k copies [] new all = all
-others_sound zero copies (e ∷ es) new all = All-cons IsSoundEnd e (map (heard copies) es) (All-head IsSoundEnd e es all) (all_heard_sound copies es new (All-tail IsSoundEnd e es all))
+others_sound zero copies (e ∷ es) new all = All-cons IsSoundEnd e (map (copies_held copies) es) (All-head IsSoundEnd e es all) (all_heard_sound copies es new (All-tail IsSoundEnd e es all))
 others_sound (suc k) copies (e ∷ es) new all =
-    All-cons IsSoundEnd (heard copies e) (heard_by_others k copies es) (heard_sound copies e new (All-head IsSoundEnd e es all)) (others_sound k copies es new (All-tail IsSoundEnd e es all))
+    All-cons IsSoundEnd (copies_held copies e) (held_for_others k copies es) (heard_sound copies e new (All-head IsSoundEnd e es all)) (others_sound k copies es new (All-tail IsSoundEnd e es all))
 
 pub served_sound : (h : PlainHub) → IsHub h → IsSoundEnd (served h)
 served_sound h hub = All-get_or IsSoundEnd h.ends h.serving no_end hub.serving hub.carried
@@ -142,12 +142,12 @@ back_hub h k s n j e hub sound next many =
       hears = tt;
     }
 
-pub long_others : (k : ℕ) (copies : List Held) (es : List PlainEnd) → length (heard_by_others k copies es) ≡ length es
+pub long_others : (k : ℕ) (copies : List Held) (es : List PlainEnd) → length (held_for_others k copies es) ≡ length es
 long_others k copies es =
-    sym (length-map (heard_by_others k copies es) (λ (e : PlainEnd). e.popped)) ∙ ap length (like_others (λ e. e.popped) k copies (λ e. refl) es) ∙ length-map es (λ (e : PlainEnd). e.popped)
+    sym (length-map (held_for_others k copies es) (λ (e : PlainEnd). e.popped)) ∙ ap length (like_others (λ e. e.popped) k copies (λ e. refl) es) ∙ length-map es (λ (e : PlainEnd). e.popped)
 
 pub taken_hub : (h : PlainHub) (k s n j now : ℕ) (fate : Fate) (frame : Frame) (e : PlainEnd) (ends : List PlainEnd) → IsHub h → IsSoundEnd e → IsFrameOf kind.Can frame
-    → ends ≡ heard_by_others k (held_copies fate now frame) (slice_set h.ends k e) → s ≡ next_end n j → n ≡ length h.ends → IsHub (record { ends = ends; serving = s; doing = doing.Rest })
+    → ends ≡ held_for_others k (held_copies fate now frame) (slice_set h.ends k e) → s ≡ next_end n j → n ≡ length h.ends → IsHub (record { ends = ends; serving = s; doing = doing.Rest })
 taken_hub h k s n j now fate frame e ends hub sound carried is next many =
     let copies : List Held = held_copies fate now frame in
     let long : length ends ≡ length h.ends = ap length is ∙ long_others k copies (slice_set h.ends k e) ∙ length-set h.ends k e in

@@ -3,7 +3,7 @@ use Rattle.std.specs.Prelude.{ℕ, Bool, ◌&&◌, List, length, nat_le, is_none
 use Rattle.std.specs.List.{list_all}
 use Rattle.csp_hub.specs.PlainHub.{PlainEnd, PlainHub, served, others}
 use Rattle.csp_link.specs.Holding.{first_due}
-use Rattle.csp_link.specs.Planning.{Plan, first_rule}
+use Rattle.csp_link.specs.Planning.{LinkPlan, first_rule}
 use Rattle.csp_link.specs.declared.held.TheConstants.{MOST_HELD}
 
 -- few enough frames are held for an end that one more and all its copies find room
@@ -11,11 +11,11 @@ abbrev pub has_room : PlainEnd → Bool
 has_room e = nat_le (length e.held) MOST_HELD
 
 -- the first frame that is held for the end and due is pushed; else, with room at every other end, one is popped; else nothing
-abbrev pub plan_in : (served : PlainEnd) → (others : List PlainEnd) → ℕ → Plan
+abbrev pub plan_in : (served : PlainEnd) → (others : List PlainEnd) → ℕ → LinkPlan
 plan_in e others now = first_rule (first_due now e.held) (list_all has_room others)
 
 -- what the next turn is
-abbrev pub plan_of : PlainHub → ℕ → Plan
+abbrev pub plan_of : PlainHub → ℕ → LinkPlan
 plan_of h now = plan_in (served h) (others h) now
 
 -- there is room at an end, and nothing is due to go on to it

@@ -28,18 +28,18 @@ abbrev pub fate_of_next : PlainEnd → Fate
 fate_of_next e = fate_at e.fates (e.popped + 1)
 
 -- these copies are held for an end besides
-abbrev pub heard : List Held → PlainEnd → PlainEnd
-heard copies e = record e { held = e.held ++ copies }
+abbrev pub copies_held : List Held → PlainEnd → PlainEnd
+copies_held copies e = record e { held = e.held ++ copies }
 
 -- they are held for every end but that of this number, which is the one that the frame came from
-abbrev pub heard_by_others : (from : ℕ) → List Held → List PlainEnd → List PlainEnd
-heard_by_others from copies [] = []
-heard_by_others zero copies (e ∷ es) = e ∷ map (heard copies) es
-heard_by_others (suc from) copies (e ∷ es) = heard copies e ∷ heard_by_others from copies es
+abbrev pub held_for_others : (from : ℕ) → List Held → List PlainEnd → List PlainEnd
+held_for_others from copies [] = []
+held_for_others zero copies (e ∷ es) = e ∷ map (copies_held copies) es
+held_for_others (suc from) copies (e ∷ es) = copies_held copies e ∷ held_for_others from copies es
 
 -- a frame was popped from the end that is served, the next in number: what the plan makes of it is held for every other end
 abbrev pub taken : ℕ → Option Frame → PlainHub → PlainHub
-taken now (Some frame) h = record h { ends = heard_by_others h.serving (held_copies (fate_of_next (served h)) now frame) (with_served h (sent (served h))).ends }
+taken now (Some frame) h = record h { ends = held_for_others h.serving (held_copies (fate_of_next (served h)) now frame) (with_served h (sent (served h))).ends }
 taken now None h = h
 
 -- what each answer makes of the hub

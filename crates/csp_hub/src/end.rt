@@ -7,7 +7,7 @@ ghost use Rattle.csp_hub.specs.Asking.{without};
 ghost use Rattle.csp_hub.specs.PlainHub.{opening_end};
 ghost use Rattle.csp_hub.specs.Planning.{has_room, is_idle};
 ghost use Rattle.csp_hub.specs.Stocking.{less};
-ghost use Rattle.csp_hub.specs.Telling.{fate_of_next, heard, kept, sent};
+ghost use Rattle.csp_hub.specs.Telling.{fate_of_next, copies_held, kept, sent};
 ghost use Rattle.csp_link.specs.Copies.{held_until};
 ghost use Rattle.csp_link.specs.Fates.{most_copies, IsFault};
 ghost use Rattle.csp_link.specs.Holding.{first_due};
@@ -137,7 +137,7 @@ impl HubEnd {
     /// Holds a frame for it besides.
     fn add(&mut self, due: u64, frame: BoxedFrame)
         requires room { length self.old.held < LINK_HOLDS }
-        ensures { self.new ≡ heard (held_until due frame ∷ []) self.old }
+        ensures { self.new ≡ copies_held (held_until due frame ∷ []) self.old }
     {
         self.held.push_back_reserved(Held { due, frame });
     }
@@ -147,7 +147,7 @@ impl HubEnd {
         requires few { copies ≤ MAX_REPEATS + 1 }
         requires room { length self.old.held ≤ MOST_HELD }
         requires stock { copies ≤ spares.old.boxes }
-        ensures held { self.new ≡ heard (replicate copies (held_until due frame.now)) self.old }
+        ensures held { self.new ≡ copies_held (replicate copies (held_until due frame.now)) self.old }
         ensures stock { spares.new ≡ less copies spares.old }
     {
         for _ in 0..copies {

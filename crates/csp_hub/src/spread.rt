@@ -4,7 +4,7 @@ ghost use Rattle.std.specs.Prelude.{◌≡◌, ◌+◌, ◌-◌, ◌*◌, ◌^�
 ghost use Rattle.std.specs.List.{list_all, remove};
 ghost use Rattle.csp_hub.specs.Planning.{has_room};
 ghost use Rattle.csp_hub.specs.Stocking.{copy_count, less, stock_after};
-ghost use Rattle.csp_hub.specs.Telling.{heard, heard_by_others};
+ghost use Rattle.csp_hub.specs.Telling.{copies_held, held_for_others};
 ghost use Rattle.csp_link.specs.Copies.{damaged, flipped, held_copies, held_until};
 
 use crate::end::HubEnd;
@@ -41,7 +41,7 @@ pub fn spread(
     requires room { list_all has_room (remove ends.old from) ≡ true }
     requires early { now < 2 ^ 62 }
     requires stock { (length ends.old - 1) * copy_count fate ≤ spares.old.boxes }
-    ensures held { ends.new ≡ heard_by_others from (held_copies fate now frame) ends.old }
+    ensures held { ends.new ≡ held_for_others from (held_copies fate now frame) ends.old }
     ensures stock { spares.new ≡ stock_after (length ends.old - 1) fate spares.old }
 {
     let frame = damaged(fate.flip, frame);
@@ -57,7 +57,7 @@ fn hold_all(ends: &mut [HubEnd], copies: u8, due: u64, frame: &BoxedFrame, spare
     requires few { copies ≤ MAX_REPEATS + 1 }
     requires room { list_all has_room ends.old ≡ true }
     requires stock { length ends.old * copies ≤ spares.old.boxes }
-    ensures held { ends.new ≡ map (heard (replicate copies (held_until due frame.now))) ends.old }
+    ensures held { ends.new ≡ map (copies_held (replicate copies (held_until due frame.now))) ends.old }
     ensures stock { spares.new ≡ less (length ends.old * copies) spares.old }
 {
     for end in ends.iter_mut() {

@@ -10,9 +10,9 @@ use Rattle.csp_iface.specs.Asking.{asks, asked}
 use Rattle.csp_iface.specs.Circling.{all_read, circle}
 use Rattle.csp_iface.specs.PlainIface.{PlainIface, IfaceAt, with_iface}
 use Rattle.csp_iface.specs.Telling.{tells, events}
-use Rattle.csp_iface.specs.declared.packet.Packet.{Packet}
-use Rattle.csp_iface.specs.declared.plan.Plan.{Plan}
-use Rattle.csp_iface.specs.declared.plan.Plan.TheVariants as plan
+use Rattle.csp_iface.specs.declared.packet.WholePacket.{WholePacket}
+use Rattle.csp_iface.specs.declared.plan.IfacePlan.{IfacePlan}
+use Rattle.csp_iface.specs.declared.plan.IfacePlan.TheVariants as plan
 use Rattle.csp_iface.specs.declared.plan.Side.{Side}
 use Rattle.csp_iface.specs.declared.plan.Side.TheVariants as side
 use Rattle.csp_iface.specs.declared.receiver.Receiver.{Receiver}
@@ -50,7 +50,7 @@ abbrev GoesRound : IfaceAt → ℕ → Type 0
 GoesRound a now = LooksInto steps now a (circle a.iface) a
 
 -- the interface at rest with this to do
-abbrev at_rest : IfaceAt → Side → (back accepted : Option Content) → Option Packet → List Frame → Receiver → IfaceAt
+abbrev at_rest : IfaceAt → Side → (back accepted : Option Content) → Option WholePacket → List Frame → Receiver → IfaceAt
 at_rest a next back accepted whole frames receiver = with_iface a (record a.iface { side = next; back = back; accepted = accepted; whole = whole; frames = frames; receiver = receiver; doing = plan.Rest })
 
 -- on a KISS link: in a frame that is read to its end there is nothing to read on
@@ -60,7 +60,7 @@ kiss_round a now side.Sending reading [] trace = (record { goes_on = refl; asks 
 kiss_round a now side.Receiving reading [] trace = (record { goes_on = refl; asks = refl; events = refl }, (record { goes_on = refl; asks = refl; events = refl }, refl))
 kiss_round a now next reading (_ ∷ _) trace = refl
 
-rest_round : (a : IfaceAt) (now : ℕ) (next : Side) (back accepted : Option Content) (whole : Option Packet) (frames : List Frame) (receiver : Receiver) → GoesRound (at_rest a next back accepted whole frames receiver) now
+rest_round : (a : IfaceAt) (now : ℕ) (next : Side) (back accepted : Option Content) (whole : Option WholePacket) (frames : List Frame) (receiver : Receiver) → GoesRound (at_rest a next back accepted whole frames receiver) now
 rest_round a now next (Some _) accepted whole frames receiver = refl
 rest_round a now next None (Some _) whole frames receiver = refl
 rest_round a now next None None (Some _) frames receiver = refl
@@ -73,4 +73,4 @@ rest_round a now side.Receiving None None None [] (by.Can _) = (record { goes_on
 pub goes_round : (a : IfaceAt) (now : ℕ) → a.iface.doing ≡ plan.Rest → GoesRound a now
 goes_round a now rests =
     let s : PlainIface = a.iface in
-    subst (λ (d : Plan). GoesRound (with_iface a (record s { doing = d })) now) (sym rests) (rest_round a now s.side s.back s.accepted s.whole s.frames s.receiver)
+    subst (λ (d : IfacePlan). GoesRound (with_iface a (record s { doing = d })) now) (sym rests) (rest_round a now s.side s.back s.accepted s.whole s.frames s.receiver)

@@ -13,9 +13,9 @@ use Rattle.csp_iface.specs.PlainIface.{PlainIface, uses, holds}
 use Rattle.csp_iface.specs.Room.{CanHear, plain_iface}
 use Rattle.csp_iface.specs.Telling.{told_by, packet_in, filled, pushed, kept, begun, is_too_big, taken_up, fetched, caught, resting, answered, tells}
 use Rattle.csp_iface.specs.declared.iface.Iface.TheInside.{Inside}
-use Rattle.csp_iface.specs.declared.packet.Packet.{Packet}
-use Rattle.csp_iface.specs.declared.plan.Plan.{Plan}
-use Rattle.csp_iface.specs.declared.plan.Plan.TheVariants as plan
+use Rattle.csp_iface.specs.declared.packet.WholePacket.{WholePacket}
+use Rattle.csp_iface.specs.declared.plan.IfacePlan.{IfacePlan}
+use Rattle.csp_iface.specs.declared.plan.IfacePlan.TheVariants as plan
 use Rattle.csp_log.specs.Kinds.{carried_on}
 use Rattle.csp_log.specs.declared.frame.Frame.{Frame}
 use Rattle.csp_log.specs.declared.places.Carries.TheVariants as lane
@@ -47,7 +47,7 @@ pub record Stays (s t : PlainIface) : Type 0 where
   pub kind : t.kind ≡ s.kind
   pub doing : t.doing ≡ s.doing
 
-pub handed_stays : (s : PlainIface) (p : Plan) → Stays s (handed s p)
+pub handed_stays : (s : PlainIface) (p : IfacePlan) → Stays s (handed s p)
 handed_stays s plan.Rest = record { number = refl; kind = refl; doing = refl }
 handed_stays s _ = record { number = refl; kind = refl; doing = refl }
 
@@ -71,7 +71,7 @@ kept_stays : (s : PlainIface) (i : ItemShown) → Stays s (kept i s)
 kept_stays s (item.Frame _) = record { number = refl; kind = refl; doing = refl }
 kept_stays s _ = record { number = refl; kind = refl; doing = refl }
 
-pub told_stays : (s : PlainIface) (now : ℕ) (p : Plan) (a : AnswerShown) → Stays s (told_by s now p a).iface
+pub told_stays : (s : PlainIface) (now : ℕ) (p : IfacePlan) (a : AnswerShown) → Stays s (told_by s now p a).iface
 told_stays s now plan.Transmit answer.Pushed = pushed_stays s s.frames
 told_stays s now plan.Transmit (answer.Full i) = kept_stays s i
 told_stays s now plan.Fetch (answer.Popped i) = fetched_stays s i
@@ -98,7 +98,7 @@ transmitted_numbers k number None = refl
 transmitted_numbers k number (Some f) = refl
 
 -- what it hands over it holds no more
-pub handed_law : (s : PlainIface) (p : Plan) (k : ℕ) → times k (holds (handed s p)) + times k (op_numbers (op_of s p)) ≡ times k (holds s)
+pub handed_law : (s : PlainIface) (p : IfacePlan) (k : ℕ) → times k (holds (handed s p)) + times k (op_numbers (op_of s p)) ≡ times k (holds s)
 handed_law s plan.Return k = omega (arith, holds_times k s, holds_times k (record s { back = None }), given_numbers k s.back)
 handed_law s plan.Deliver k = omega (arith, holds_times k s, holds_times k (record s { accepted = None }), delivered_numbers k s.number s.accepted)
 handed_law s plan.Transmit k = omega (arith, transmitted_numbers k s.number (slice_get s.frames 0))
@@ -109,12 +109,12 @@ item_law k (item.Packet _ _) = refl
 item_law k (item.Frame _) = refl
 item_law k (item.Note _) = refl
 
-filled_number : (k : ℕ) (p : Option Packet) (b : Content) → among k (filled p b ∷ []) ≡ among k (b ∷ [])
+filled_number : (k : ℕ) (p : Option WholePacket) (b : Content) → among k (filled p b ∷ []) ≡ among k (b ∷ [])
 filled_number k None b = refl
 filled_number k (Some _) b = refl
 
 -- the place for what comes with an answer is empty
-abbrev pub IsFree : PlainIface → Plan → Type 0
+abbrev pub IsFree : PlainIface → IfacePlan → Type 0
 IsFree s plan.Rest = ⊤
 IsFree s plan.Return = s.back ≡ None
 IsFree s plan.Deliver = s.back ≡ None
@@ -123,7 +123,7 @@ IsFree s plan.Transmit = s.back ≡ None
 IsFree s plan.Fetch = (s.sending ≡ None) × (s.back ≡ None)
 IsFree s plan.Receive = ⊤
 
-pub hears_free : (a : Inside) (p : Plan) → CanHear a p → IsFree (plain_iface a) p
+pub hears_free : (a : Inside) (p : IfacePlan) → CanHear a p → IsFree (plain_iface a) p
 hears_free a plan.Rest h = tt
 hears_free a plan.Return h = h.1
 hears_free a plan.Deliver h = h.1
@@ -177,7 +177,7 @@ caught_law k now (item.Note _) s e = omega arith
 resting_fits : (s : PlainIface) (a : AnswerShown) → IsAnswerOf (uses s) (awaits s) a → IsAnswerOf (uses (resting s)) (kind_of_plan (resting s).number s.doing) a
 resting_fits s a h = h
 
-resting_free : (s : PlainIface) (p : Plan) → IsFree s p → IsFree (resting s) p
+resting_free : (s : PlainIface) (p : IfacePlan) → IsFree s p → IsFree (resting s) p
 resting_free s plan.Rest e = e
 resting_free s plan.Return e = e
 resting_free s plan.Deliver e = e
@@ -187,7 +187,7 @@ resting_free s plan.Fetch e = e
 resting_free s plan.Receive e = e
 
 -- it holds besides what it was given
-told_law : (s : PlainIface) (now : ℕ) (p : Plan) (a : AnswerShown) → IsAnswerOf (uses s) (kind_of_plan s.number p) a → IsFree s p
+told_law : (s : PlainIface) (now : ℕ) (p : IfacePlan) (a : AnswerShown) → IsAnswerOf (uses s) (kind_of_plan s.number p) a → IsFree s p
     → (k : ℕ) → times k (holds (told_by s now p a).iface) ≡ times k (holds s) + times k (answer_numbers a)
 told_law s now plan.Rest answer.Nothing h e k = omega arith
 told_law s now plan.Return answer.Given h e k = omega arith

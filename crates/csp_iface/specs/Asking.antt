@@ -4,8 +4,8 @@ use Rattle.csp_buffer.specs.Content.{Content}
 use Rattle.csp_deck.specs.Step.{Kind, nothing, taking, giving, pushing, popping}
 use Rattle.csp_iface.specs.PlainIface.{PlainIface}
 use Rattle.csp_iface.specs.Planning.{plan_of}
-use Rattle.csp_iface.specs.declared.plan.Plan.{Plan}
-use Rattle.csp_iface.specs.declared.plan.Plan.TheVariants as plan
+use Rattle.csp_iface.specs.declared.plan.IfacePlan.{IfacePlan}
+use Rattle.csp_iface.specs.declared.plan.IfacePlan.TheVariants as plan
 use Rattle.csp_iface.specs.declared.plan.Side.{Side}
 use Rattle.csp_iface.specs.declared.plan.Side.TheVariants as side
 use Rattle.csp_log.specs.declared.frame.Frame.{Frame}
@@ -30,7 +30,7 @@ transmitted number (Some f) = op.Push (queue.Tx number) (item.Frame f)
 transmitted number None = op.Nothing
 
 -- the operation of each turn
-abbrev pub op_of : PlainIface → Plan → OpShown
+abbrev pub op_of : PlainIface → IfacePlan → OpShown
 op_of s plan.Rest = op.Nothing
 op_of s plan.Return = given s.back
 op_of s plan.Deliver = delivered s.number s.accepted
@@ -53,7 +53,7 @@ abbrev pub turned : PlainIface → PlainIface
 turned s = record s { side = other s.side }
 
 -- what it hands over with the operation it has no more
-abbrev pub handed : PlainIface → Plan → PlainIface
+abbrev pub handed : PlainIface → IfacePlan → PlainIface
 handed s plan.Rest = s
 handed s plan.Return = record s { back = None }
 handed s plan.Deliver = record s { accepted = None }
@@ -67,7 +67,7 @@ abbrev pub asked : PlainIface → ℕ → PlainIface
 asked s now = record (handed s (plan_of s)) { doing = plan_of s }
 
 -- what kind of operation it waits for
-abbrev pub kind_of_plan : ℕ → Plan → Kind
+abbrev pub kind_of_plan : ℕ → IfacePlan → Kind
 kind_of_plan number plan.Rest = nothing
 kind_of_plan number plan.Return = giving
 kind_of_plan number plan.Deliver = pushing queue.Inbox

@@ -2,7 +2,7 @@
 use Rattle.std.specs.Prelude.{ℕ, Bool, true, false, Option, None, List, [], ◌∷◌}
 use Rattle.csp_buffer.specs.Content.{Content}
 use Rattle.csp_iface.specs.PlainIface.{PlainIface}
-use Rattle.csp_iface.specs.declared.packet.Packet.{Packet}
+use Rattle.csp_iface.specs.declared.packet.WholePacket.{WholePacket}
 use Rattle.csp_iface.specs.declared.plan.Side.{Side}
 use Rattle.csp_iface.specs.declared.plan.Side.TheVariants as side
 use Rattle.csp_iface.specs.declared.receiver.Receiver.{Receiver}
@@ -27,7 +27,7 @@ is_spent [] read = read
 is_spent (_ ∷ _) read = false
 
 -- nothing is to be given back, delivered or taken, and no frame is left: each side can but look
-abbrev pub idle_by : (back accepted : Option Content) → Option Packet → (spent : Bool) → Bool
+abbrev pub idle_by : (back accepted : Option Content) → Option WholePacket → (spent : Bool) → Bool
 idle_by None None None spent = spent
 idle_by _ _ _ _ = false
 

@@ -6,9 +6,9 @@ use Rattle.csp_buffer.specs.Content.{Content}
 use Rattle.csp_deck.specs.Keeping.{numbers_of}
 use Rattle.csp_iface.specs.Links.{receiver_for}
 use Rattle.csp_iface.specs.declared.iface.TheConstants.{HUB_MTU}
-use Rattle.csp_iface.specs.declared.packet.Packet.{Packet}
-use Rattle.csp_iface.specs.declared.plan.Plan.{Plan}
-use Rattle.csp_iface.specs.declared.plan.Plan.TheVariants as plan
+use Rattle.csp_iface.specs.declared.packet.WholePacket.{WholePacket}
+use Rattle.csp_iface.specs.declared.plan.IfacePlan.{IfacePlan}
+use Rattle.csp_iface.specs.declared.plan.IfacePlan.TheVariants as plan
 use Rattle.csp_iface.specs.declared.plan.Side.{Side}
 use Rattle.csp_iface.specs.declared.plan.Side.TheVariants as side
 use Rattle.csp_iface.specs.declared.receiver.Receiver.{Receiver}
@@ -45,11 +45,11 @@ pub record PlainIface : Type 0 where
   -- what it keeps of what came
   pub receiver : Receiver
   -- a whole packet that has no buffer
-  pub whole : Option Packet
+  pub whole : Option WholePacket
   -- an accepted packet, in its buffer
   pub accepted : Option Content
   -- what this turn is, from the operation to its answer
-  pub doing : Plan
+  pub doing : IfacePlan
 
 -- an interface whose buffers are of this region
 pub record IfaceAt : Type 0 where

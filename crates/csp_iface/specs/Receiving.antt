@@ -3,12 +3,12 @@ use Rattle.std.specs.Prelude.{ℕ, ◌+◌, ◌==◌, if◌then◌else◌, Optio
 use Rattle.std.specs.Option.{option_map}
 use Rattle.csp_base.specs.declared.traces.Trace.{Trace}
 use Rattle.csp_can.specs.Identifiers.{identifier_of}
-use Rattle.csp_can.specs.Listening.{Listening, answered, heard as listened}
+use Rattle.csp_can.specs.Listening.{Listening, answered, listened}
 use Rattle.csp_can.specs.Rules.{Arrival, arrival}
 use Rattle.csp_can.specs.declared.answers.CanEvent.{CanEvent}
 use Rattle.csp_can.specs.declared.answers.CanEvent.TheVariants as can
 use Rattle.csp_iface.specs.Keeping.{PlainStream}
-use Rattle.csp_iface.specs.declared.packet.Packet.{Packet}
+use Rattle.csp_iface.specs.declared.packet.WholePacket.{WholePacket}
 use Rattle.csp_iface.specs.declared.receiver.Receiver.{Receiver}
 use Rattle.csp_iface.specs.declared.receiver.Receiver.TheVariants as by
 use Rattle.csp_iface.specs.declared.receiver.TheConstants.{MAX_HOPS}
@@ -23,7 +23,7 @@ arrived t = record { origin = t.origin; hops = t.hops + 1; tag = t.tag }
 -- what hearing comes to: what is kept from then on, the packet that is whole, and how many pieces or frames are refused
 pub record Heard : Type 0 where
   pub receiver : Receiver
-  pub whole : Option Packet
+  pub whole : Option WholePacket
   pub refused : ℕ
 
 -- a frame on a KISS link is in hand, and nothing of it is read yet
@@ -31,7 +31,7 @@ abbrev pub in_hand : PlainStream → Frame → Heard
 in_hand s f = record { receiver = by.Kiss (record { reading = s.reading; rest = f.bytes.items; trace = arrived f.trace }); whole = None; refused = 0 }
 
 -- the packet that a frame of a CAN bus made whole, with the trace of its BEGIN frame
-abbrev pub packet_of : CanEvent → Option Packet
+abbrev pub packet_of : CanEvent → Option WholePacket
 packet_of (can.Whole header payload trace) = Some (record { header = header; payload = payload; trace = trace })
 packet_of can.Part = None
 packet_of can.NoBegin = None
@@ -62,11 +62,11 @@ heard_by now (by.Kiss s) f = in_hand s f
 heard_by now (by.Can l) f = reassembled l (arrival (identifier_of (unwrap_or f.can 0)) f.bytes.items (arrived f.trace) now)
 
 -- a frame at the last hop number is used up at once, as one that is refused
-abbrev pub heard : ℕ → Receiver → Frame → Heard
-heard now r f = if f.trace.hops == MAX_HOPS then record { receiver = r; whole = None; refused = 1 } else heard_by now r f
+abbrev pub frame_heard : ℕ → Receiver → Frame → Heard
+frame_heard now r f = if f.trace.hops == MAX_HOPS then record { receiver = r; whole = None; refused = 1 } else heard_by now r f
 
 -- a packet of a stream, with its trace
-abbrev pub traced : Trace → KissPacket → Packet
+abbrev pub traced : Trace → KissPacket → WholePacket
 traced trace p = record { header = p.header; payload = p.payload; trace = trace }
 
 -- what a stream gives where it is read on to its next packet

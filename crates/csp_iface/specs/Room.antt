@@ -5,8 +5,8 @@ use Rattle.csp_buffer.specs.Content.{Content}
 use Rattle.csp_iface.specs.Links.{heard_in, IsFrameOn}
 use Rattle.csp_iface.specs.PlainIface.{PlainIface, IfaceAt}
 use Rattle.csp_iface.specs.declared.iface.Iface.TheInside.{Inside}
-use Rattle.csp_iface.specs.declared.plan.Plan.{Plan}
-use Rattle.csp_iface.specs.declared.plan.Plan.TheVariants as plan
+use Rattle.csp_iface.specs.declared.plan.IfacePlan.{IfacePlan}
+use Rattle.csp_iface.specs.declared.plan.IfacePlan.TheVariants as plan
 use Rattle.csp_log.specs.Kinds.{carried_on}
 use Rattle.csp_log.specs.declared.frame.Frame.{Frame}
 use Rattle.csp_log.specs.declared.places.TheConstants.{IFACES}
@@ -40,7 +40,7 @@ pub record IsSettled (packet : Option Content) (frames : List Frame) (loaded : B
   pub done : frames ≡ [] → packet ≡ None
 
 -- what each answer that may come finds: an empty place for its buffer or frame
-abbrev pub CanHear : Inside → Plan → Type 0
+abbrev pub CanHear : Inside → IfacePlan → Type 0
 CanHear a plan.Rest = IsSettled a.sender.packet a.sender.frames a.sender.loaded
 CanHear a plan.Return = IsSettled a.sender.packet a.sender.frames a.sender.loaded × (a.back.content ≡ None)
 CanHear a plan.Deliver = IsSettled a.sender.packet a.sender.frames a.sender.loaded × (a.back.content ≡ None) × (a.accepted.content ≡ None)

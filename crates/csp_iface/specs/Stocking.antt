@@ -4,8 +4,8 @@ use Rattle.csp_iface.specs.Circling.{all_read}
 use Rattle.csp_iface.specs.Heeding.{is_for}
 use Rattle.csp_iface.specs.PlainIface.{PlainIface}
 use Rattle.csp_iface.specs.Telling.{answered, begun, has_packet, is_too_big}
-use Rattle.csp_iface.specs.declared.plan.Plan.{Plan}
-use Rattle.csp_iface.specs.declared.plan.Plan.TheVariants as plan
+use Rattle.csp_iface.specs.declared.plan.IfacePlan.{IfacePlan}
+use Rattle.csp_iface.specs.declared.plan.IfacePlan.TheVariants as plan
 use Rattle.csp_iface.specs.declared.receiver.Receiver.{Receiver}
 use Rattle.csp_iface.specs.declared.receiver.Receiver.TheVariants as by
 use Rattle.csp_iface.specs.declared.receiver.TheConstants.{MAX_HOPS}
@@ -62,7 +62,7 @@ caught_stock i (item.Packet _ _) s = s
 caught_stock i (item.Note _) s = s
 
 -- what each answer makes of it: once a frame is pushed the next is made
-abbrev pub answered_stock : PlainIface → Plan → AnswerShown → PlainSpares → PlainSpares
+abbrev pub answered_stock : PlainIface → IfacePlan → AnswerShown → PlainSpares → PlainSpares
 answered_stock i plan.Transmit answer.Pushed s = made_stock i.frames s
 answered_stock i plan.Fetch (answer.Popped x) s = fetched_stock i x s
 answered_stock i plan.Receive (answer.Popped x) s = caught_stock i x s

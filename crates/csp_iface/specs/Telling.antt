@@ -4,11 +4,11 @@ use Rattle.std.specs.Option.{is_some}
 use Rattle.csp_buffer.specs.Content.{Content}
 use Rattle.csp_iface.specs.Heeding.{is_for}
 use Rattle.csp_iface.specs.PlainIface.{PlainIface}
-use Rattle.csp_iface.specs.Receiving.{Heard, heard, read_further}
+use Rattle.csp_iface.specs.Receiving.{Heard, frame_heard, read_further}
 use Rattle.csp_iface.specs.Sending.{sent_trace, next_node, frames_of}
-use Rattle.csp_iface.specs.declared.packet.Packet.{Packet}
-use Rattle.csp_iface.specs.declared.plan.Plan.{Plan}
-use Rattle.csp_iface.specs.declared.plan.Plan.TheVariants as plan
+use Rattle.csp_iface.specs.declared.packet.WholePacket.{WholePacket}
+use Rattle.csp_iface.specs.declared.plan.IfacePlan.{IfacePlan}
+use Rattle.csp_iface.specs.declared.plan.IfacePlan.TheVariants as plan
 use Rattle.csp_log.specs.declared.event.Event.{Event}
 use Rattle.csp_log.specs.declared.event.Event.TheVariants as event
 use Rattle.csp_log.specs.declared.frame.Frame.{Frame}
@@ -38,7 +38,7 @@ packet_in (item.Frame _) = None
 packet_in (item.Note _) = None
 
 -- the whole packet in a cleared buffer
-abbrev pub filled : Option Packet → Content → Content
+abbrev pub filled : Option WholePacket → Content → Content
 filled (Some p) b = record { number = b.number; header = p.header; payload = p.payload.items; trace = p.trace }
 filled None b = b
 
@@ -86,12 +86,12 @@ unmoved s = record { receiver = s.receiver; whole = s.whole; refused = 0 }
 
 -- an item of `Rx`: a frame for the interface is heard, and one for another node of a hub is used up at once
 abbrev pub caught : ℕ → ItemShown → PlainIface → Outcome
-caught now (item.Frame f) s = hearing (if is_for s.heeds f then heard now s.receiver f else unmoved s) s
+caught now (item.Frame f) s = hearing (if is_for s.heeds f then frame_heard now s.receiver f else unmoved s) s
 caught now (item.Packet _ _) s = quiet s
 caught now (item.Note _) s = quiet s
 
 -- what each answer makes of it
-abbrev pub told_by : PlainIface → ℕ → Plan → AnswerShown → Outcome
+abbrev pub told_by : PlainIface → ℕ → IfacePlan → AnswerShown → Outcome
 -- 1. a buffer is given back; from a full pool it comes back, and is still to be given
 told_by s now plan.Return answer.Given = quiet s
 told_by s now plan.Return (answer.PoolFull b) = quiet (record s { back = Some b })

@@ -11,7 +11,7 @@ ghost use Rattle.csp_log.specs.declared.places.QueueId.{QueueId};
 ghost use Rattle.csp_log.specs.declared.shown.OpShown.{OpShown};
 
 use crate::Iface;
-use crate::plan::{Plan, Side};
+use crate::plan::{IfacePlan, Side};
 use csp_buffer::Buffer;
 use csp_deck::Circle;
 use csp_log::{BoxedFrame, Item, Op, QueueId};
@@ -23,37 +23,37 @@ impl Iface {
     ghost use Rattle.csp_iface.specs.Circling.{circle, is_idle, sides};
 
     /// What this turn is.
-    fn plan(&self) -> Plan
-        requires { self.now.iface.doing ≡ Plan.Rest }
+    fn plan(&self) -> IfacePlan
+        requires { self.now.iface.doing ≡ IfacePlan.Rest }
         ensures { result ≡ plan_of self.now.iface }
     {
         if !self.back.is_empty() {
-            return Plan::Return;
+            return IfacePlan::Return;
         }
         if !self.accepted.is_empty() {
-            return Plan::Deliver;
+            return IfacePlan::Deliver;
         }
         if self.whole.is_some() {
-            return Plan::Take;
+            return IfacePlan::Take;
         }
         self.side_plan()
     }
 
     /// The turn of the side that comes next.
-    fn side_plan(&self) -> Plan
-        requires { self.now.iface.doing ≡ Plan.Rest }
+    fn side_plan(&self) -> IfacePlan
+        requires { self.now.iface.doing ≡ IfacePlan.Rest }
         ensures { result ≡ side_plan self.now.iface.side self.now.iface.frames }
     {
         match self.side {
-            Side::Sending if self.sender.is_loaded() => Plan::Transmit,
-            Side::Sending => Plan::Fetch,
-            Side::Receiving => Plan::Receive,
+            Side::Sending if self.sender.is_loaded() => IfacePlan::Transmit,
+            Side::Sending => IfacePlan::Fetch,
+            Side::Receiving => IfacePlan::Receive,
         }
     }
 
     /// The queue that this turn looks into, where it does no more.
     pub(crate) fn look_now(&mut self) -> Option<QueueId>
-        requires rests { self.old.iface.doing ≡ Plan.Rest }
+        requires rests { self.old.iface.doing ≡ IfacePlan.Rest }
         ensures looks { MatchOption result (self.new ≡ self.old) (λ q. (asks self.old.iface 0 ≡ OpShown.Pop q) × (self.new ≡ with_iface self.old (asked self.old.iface 0))) }
         ensures served { IfSome result (λ q. CanServe (uses self.old.iface) (OpShown.Pop q)) }
         ensures uses { (q : QueueId) → uses self.new.iface q ≡ uses self.old.iface q }
@@ -61,9 +61,13 @@ impl Iface {
     {
         let plan = self.plan();
         let queue = match plan {
-            Plan::Fetch => QueueId::Out(self.number),
-            Plan::Receive => QueueId::Rx(self.number),
-            Plan::Rest | Plan::Return | Plan::Deliver | Plan::Take | Plan::Transmit => return None,
+            IfacePlan::Fetch => QueueId::Out(self.number),
+            IfacePlan::Receive => QueueId::Rx(self.number),
+            IfacePlan::Rest
+            | IfacePlan::Return
+            | IfacePlan::Deliver
+            | IfacePlan::Take
+            | IfacePlan::Transmit => return None,
         };
         self.side = self.side.other();
         self.doing = plan;
@@ -73,7 +77,7 @@ impl Iface {
     /// The queues that it looks into until it is as it is now, where each is empty: those of its two sides, unless
     /// there is something else to do.
     pub(crate) fn circle_now(&self) -> Circle
-        requires rests { self.now.iface.doing ≡ Plan.Rest }
+        requires rests { self.now.iface.doing ≡ IfacePlan.Rest }
         ensures { result.items ≡ circle self.now.iface }
     {
         let mut circle = Circle::new();
@@ -85,7 +89,7 @@ impl Iface {
 
     /// Whether neither side has anything to do but look.
     fn is_idle(&self) -> bool
-        requires { self.now.iface.doing ≡ Plan.Rest }
+        requires { self.now.iface.doing ≡ IfacePlan.Rest }
         ensures { result ≡ is_idle self.now.iface }
     {
         self.back.is_empty()
@@ -116,7 +120,7 @@ impl Iface {
 
     /// The operation of this turn, whose buffer or frame leaves the interface.
     pub(crate) fn ask_now(&mut self) -> Op
-        requires rests { self.old.iface.doing ≡ Plan.Rest }
+        requires rests { self.old.iface.doing ≡ IfacePlan.Rest }
         ensures op { shown_op result ≡ asks self.old.iface 0 }
         ensures of_it { IsOpOf self.old.region result }
         ensures served { CanServe (uses self.old.iface) (shown_op result) }
@@ -124,19 +128,19 @@ impl Iface {
     {
         let plan = self.plan();
         let op = match plan {
-            Plan::Rest => Op::Nothing,
-            Plan::Return => given(self.back.take()),
-            Plan::Deliver => delivered(self.number, self.accepted.take()),
-            Plan::Take => Op::Take,
-            Plan::Transmit => {
+            IfacePlan::Rest => Op::Nothing,
+            IfacePlan::Return => given(self.back.take()),
+            IfacePlan::Deliver => delivered(self.number, self.accepted.take()),
+            IfacePlan::Take => Op::Take,
+            IfacePlan::Transmit => {
                 self.side = self.side.other();
                 transmitted(self.number, self.sender.next())
             }
-            Plan::Fetch => {
+            IfacePlan::Fetch => {
                 self.side = self.side.other();
                 Op::Pop(QueueId::Out(self.number))
             }
-            Plan::Receive => {
+            IfacePlan::Receive => {
                 self.side = self.side.other();
                 Op::Pop(QueueId::Rx(self.number))
             }

@@ -4,7 +4,7 @@ ghost use Rattle.std.specs.Prelude.{◌≡◌, ◌↔◌, ◌<◌, ◌≤◌, []
 ghost use Rattle.csp_deck.specs.Step.{times};
 
 use crate::packet::Whole;
-use crate::plan::{Plan, Side};
+use crate::plan::{IfacePlan, Side};
 use crate::receiver::Receiver;
 use crate::sender::Sender;
 use csp_arena::RegionToken;
@@ -35,7 +35,7 @@ pub struct Iface {
     pub(crate) receiver: Receiver,
     pub(crate) whole: Whole,
     pub(crate) accepted: Hand,
-    pub(crate) doing: Plan,
+    pub(crate) doing: IfacePlan,
 }
 
 impl Model for Iface {
@@ -74,7 +74,7 @@ impl Iface {
             receiver: Receiver::for_link(kind, mtu),
             whole: Whole::none(),
             accepted: Hand::empty(region),
-            doing: Plan::Rest,
+            doing: IfacePlan::Rest,
         }
     }
 

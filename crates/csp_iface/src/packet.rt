@@ -13,7 +13,7 @@ use std::marker::Model;
 
 /// A whole packet: its header word, its payload and its trace, which has this hop in it.
 #[derive(Drop)]
-pub struct Packet {
+pub struct WholePacket {
     pub header: u32,
     pub payload: ArrayVec<u8, MAX_PAYLOAD>,
     pub trace: Trace,
@@ -24,14 +24,14 @@ pub struct Packet {
 #[derive(Drop)]
 pub struct Whole {
     is_here: bool,
-    packet: Packet,
+    packet: WholePacket,
 }
 
 impl Model for Whole {
     ghost use Rattle.std.specs.Prelude.{Option, Some, None, if◌then◌else◌};
-    ghost use Rattle.csp_iface.specs.declared.packet.Packet.{Packet};
+    ghost use Rattle.csp_iface.specs.declared.packet.WholePacket.{WholePacket};
 
-    ghost Value = { Option Packet };
+    ghost Value = { Option WholePacket };
 
     ghost view = { λ w. if w.is_here then Some w.packet else None };
 }
@@ -43,7 +43,7 @@ impl Whole {
     {
         Whole {
             is_here: false,
-            packet: Packet {
+            packet: WholePacket {
                 header: 0,
                 payload: ArrayVec::new(),
                 trace: Trace::empty(),
@@ -91,7 +91,7 @@ impl Whole {
     }
 }
 
-impl Packet {
+impl WholePacket {
     /// Writes it into a cleared buffer.
     fn fill(&self, buffer: Buffer) -> Buffer
         requires { IsCleared buffer.picture }

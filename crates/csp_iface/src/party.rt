@@ -10,7 +10,7 @@ impl Party for Iface {
     ghost use Rattle.csp_iface.specs.Asking.{asks, asked, awaits};
     ghost use Rattle.csp_iface.specs.Stocking.{stocks};
     ghost use Rattle.csp_iface.specs.Telling.{tells, events};
-    ghost use Rattle.csp_iface.specs.declared.plan.Plan.TheVariants as plan;
+    ghost use Rattle.csp_iface.specs.declared.plan.IfacePlan.TheVariants as plan;
 
     ghost is_ready = { λ a _. a.iface.doing ≡ plan.Rest };
 

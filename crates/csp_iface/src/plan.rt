@@ -2,7 +2,7 @@
 
 /// What a turn is, from its operation to the answer.
 #[derive(Clone, Copy)]
-pub enum Plan {
+pub enum IfacePlan {
     /// Between two turns.
     Rest,
     /// A buffer is given back.

@@ -4,7 +4,7 @@ ghost use Rattle.std.specs.Prelude.{◌≡◌, ◌+◌, ◌-◌, ◌^◌, ◌<�
 ghost use Rattle.csp_can.specs.Identifiers.{identifier_of};
 ghost use Rattle.csp_can.specs.Rules.{arrival};
 ghost use Rattle.csp_deck.specs.Carried.{IsCanItem};
-ghost use Rattle.csp_iface.specs.Receiving.{arrived, heard, read_further, reassembled};
+ghost use Rattle.csp_iface.specs.Receiving.{arrived, frame_heard, read_further, reassembled};
 ghost use Rattle.csp_log.specs.Kinds.{carried_on};
 ghost use Rattle.csp_iface.specs.Stocking.{further_stock, heard_stock};
 
@@ -54,9 +54,9 @@ impl Receiver {
     ) -> u32
         requires carried { IsFrameIn (heard_in self.old) frame }
         requires free { whole.old ≡ None }
-        ensures receiver { self.new ≡ (heard now self.old frame).receiver }
-        ensures whole { whole.new ≡ (heard now self.old frame).whole }
-        ensures refused { result ≡ (heard now self.old frame).refused }
+        ensures receiver { self.new ≡ (frame_heard now self.old frame).receiver }
+        ensures whole { whole.new ≡ (frame_heard now self.old frame).whole }
+        ensures refused { result ≡ (frame_heard now self.old frame).refused }
         ensures few { result ≤ 1 }
         ensures lane { heard_in self.new ≡ heard_in self.old }
         ensures stock { spares.new ≡ heard_stock self.old frame spares.old }

@@ -11,7 +11,7 @@ ghost use Rattle.csp_log.specs.Pictures.{shown_answer, shown_item};
 
 use crate::Iface;
 use crate::heeding::is_for;
-use crate::plan::Plan;
+use crate::plan::IfacePlan;
 use csp_base::{Addr, MAX_FRAME, Origin};
 use csp_buffer::Buffer;
 use csp_deck::{Hand, Spares};
@@ -72,7 +72,7 @@ impl Iface {
     /// refused.
     #[inline(always)]
     fn read_on(&mut self, spares: &mut Spares) -> u32
-        requires { self.old.iface.doing ≡ Plan.Rest }
+        requires { self.old.iface.doing ≡ IfacePlan.Rest }
         ensures state { self.new ≡ with_iface self.old (record self.old.iface { receiver = (read_after self.old.iface).receiver; whole = (read_after self.old.iface).whole }) }
         ensures refused { result ≡ (read_after self.old.iface).refused }
         ensures few { result ≤ MAX_FRAME }
@@ -128,7 +128,7 @@ impl Iface {
         ensures refused { (answered self.old.iface now AnswerShown.Nothing).refused ≡ 0 }
         ensures state { self.new ≡ with_iface self.old (answered self.old.iface now AnswerShown.Nothing).iface }
     {
-        self.doing = Plan::Rest;
+        self.doing = IfacePlan::Rest;
     }
 
     fn told_given(&mut self, now: u64)
@@ -137,7 +137,7 @@ impl Iface {
         ensures refused { (answered self.old.iface now AnswerShown.Given).refused ≡ 0 }
         ensures state { self.new ≡ with_iface self.old (answered self.old.iface now AnswerShown.Given).iface }
     {
-        self.doing = Plan::Rest;
+        self.doing = IfacePlan::Rest;
     }
 
     fn told_empty(&mut self, now: u64)
@@ -146,7 +146,7 @@ impl Iface {
         ensures refused { (answered self.old.iface now AnswerShown.Empty).refused ≡ 0 }
         ensures state { self.new ≡ with_iface self.old (answered self.old.iface now AnswerShown.Empty).iface }
     {
-        self.doing = Plan::Rest;
+        self.doing = IfacePlan::Rest;
     }
 
     /// A whole packet has its buffer.
@@ -160,7 +160,7 @@ impl Iface {
         let buffer = self.whole.fill(buffer);
         self.whole.clear();
         self.accepted.put(buffer);
-        self.doing = Plan::Rest;
+        self.doing = IfacePlan::Rest;
     }
 
     /// A whole packet found no buffer, and is dropped.
@@ -173,7 +173,7 @@ impl Iface {
         ensures room { length report.new.items ≤ 1 }
     {
         self.whole.clear();
-        self.doing = Plan::Rest;
+        self.doing = IfacePlan::Rest;
         report.push(Event::Starved);
     }
 
@@ -186,7 +186,7 @@ impl Iface {
         ensures state { self.new ≡ with_iface self.old (answered self.old.iface now (AnswerShown.PoolFull buffer.picture)).iface }
     {
         self.back.put(buffer);
-        self.doing = Plan::Rest;
+        self.doing = IfacePlan::Rest;
     }
 
     /// The packet is in the inbox, or the frame is on the link.
@@ -201,14 +201,14 @@ impl Iface {
         ensures most { spares.new.boxes ≤ spares.old.boxes }
     {
         match self.doing {
-            Plan::Transmit => self.go_on(spares),
-            _ => self.doing = Plan::Rest,
+            IfacePlan::Transmit => self.go_on(spares),
+            _ => self.doing = IfacePlan::Rest,
         }
     }
 
     /// A frame was pushed: the next is made, or after the last the buffer is to be given back.
     fn go_on(&mut self, spares: &mut Spares)
-        requires doing { self.old.iface.doing ≡ Plan.Transmit }
+        requires doing { self.old.iface.doing ≡ IfacePlan.Transmit }
         requires stock { 0 < spares.old.boxes }
         ensures state { self.new ≡ with_iface self.old (pushed self.old.iface.frames (resting self.old.iface)) }
         ensures stock { spares.new ≡ made_stock self.old.iface.frames spares.old }
@@ -221,7 +221,7 @@ impl Iface {
         {
             self.back.put(buffer);
         }
-        self.doing = Plan::Rest;
+        self.doing = IfacePlan::Rest;
     }
 
     /// The inbox was full, and the buffer is to be given back; or the link was, and the frame is kept.
@@ -245,7 +245,7 @@ impl Iface {
             Item::Frame(frame) => self.sender.put_back(frame),
             Item::Note(_) => {}
         }
-        self.doing = Plan::Rest;
+        self.doing = IfacePlan::Rest;
     }
 
     /// An item of `Out` or `Rx`. Gives how many frames were refused.
@@ -271,7 +271,7 @@ impl Iface {
             }
             Item::Frame(frame) => self.catch(frame, now, spares),
             Item::Note(_) => {
-                self.doing = Plan::Rest;
+                self.doing = IfacePlan::Rest;
                 0
             }
         }
@@ -279,7 +279,7 @@ impl Iface {
 
     /// A frame: it is heard, or is for another node of a hub and used up at once. Gives how many frames were refused.
     fn catch(&mut self, frame: BoxedFrame, now: u64, spares: &mut Spares) -> u32
-        requires doing { self.old.iface.doing ≡ Plan.Receive }
+        requires doing { self.old.iface.doing ≡ IfacePlan.Receive }
         requires carried { IsFrameOn self.old.iface.kind frame }
         ensures refused { result ≡ (caught now (ItemShown.Frame frame) (resting self.old.iface)).refused }
         ensures state { self.new ≡ with_iface self.old (caught now (ItemShown.Frame frame) (resting self.old.iface)).iface }
@@ -288,7 +288,7 @@ impl Iface {
         ensures least { spares.old.boxes ≤ spares.new.boxes }
         ensures most { spares.new.boxes ≤ spares.old.boxes + 1 }
     {
-        self.doing = Plan::Rest;
+        self.doing = IfacePlan::Rest;
         if is_for(self.heeds, frame.frame()) {
             return self.receiver.hear(frame, now, &mut self.whole, spares);
         }
@@ -299,7 +299,7 @@ impl Iface {
     /// A packet that is to be sent: its transmission begins, or it is too big for the link, and its buffer is to be
     /// given back.
     fn fetch(&mut self, mark: u8, buffer: Buffer, report: &mut Events, spares: &mut Spares)
-        requires doing { self.old.iface.doing ≡ Plan.Fetch }
+        requires doing { self.old.iface.doing ≡ IfacePlan.Fetch }
         requires mark { mark ≢ UNMARKED → mark < 32 }
         requires of_it { buffer.region ≡ self.old.region }
         requires countable { self.old.iface.serial < 2 ^ 32 - 1 }
@@ -315,7 +315,7 @@ impl Iface {
     {
         if buffer.payload().len() > usize::from(self.mtu) {
             self.back.put(buffer);
-            self.doing = Plan::Rest;
+            self.doing = IfacePlan::Rest;
             report.push(Event::TooBig);
         } else {
             let serial = self.send(mark, buffer, spares);
@@ -325,7 +325,7 @@ impl Iface {
 
     /// The transmission of a packet begins. Gives its number.
     fn send(&mut self, mark: u8, buffer: Buffer, spares: &mut Spares) -> u64
-        requires doing { self.old.iface.doing ≡ Plan.Fetch }
+        requires doing { self.old.iface.doing ≡ IfacePlan.Fetch }
         requires mark { mark ≢ UNMARKED → mark < 32 }
         requires of_it { buffer.region ≡ self.old.region }
         requires countable { self.old.iface.serial < 2 ^ 32 - 1 }
@@ -345,7 +345,7 @@ impl Iface {
         let next = next_node(mark, buffer.header());
         self.sender.begin(self.kind, buffer, next, origin, spares);
         self.serial += 1;
-        self.doing = Plan::Rest;
+        self.doing = IfacePlan::Rest;
         serial
     }
 }

@@ -13,7 +13,7 @@ use Rattle.csp_inbox.specs.Marks.{mark_of, with_mark, is_in, without}
 use Rattle.csp_inbox.specs.Passes.{IsFor, known_of, known_puts, with_kept, with_got, found_full}
 use Rattle.csp_inbox.specs.Sorts.{hand, Terms, opening_hand, newcomer, note, spent, put_note, get_note, parted_hand, split_hand, reads_puts, reads_gets, both_hands, FitsIn, Sorts, Overflows, Misses, Gets, Accounts, HasNothingOf}
 use Rattle.csp_inbox.specs.declared.hand.Hand.{Hand}
-use Rattle.csp_inbox.specs.declared.hand.Told.{Told}
+use Rattle.csp_inbox.specs.declared.hand.ToldPuts.{ToldPuts}
 use Rattle.csp_inbox.proofs.Marks.{marked-append, marked-else, no_marks, same_length, in-here, in-else, not_in-without, in-without, known-append}
 use Rattle.csp_log.specs.Pictures.{shown_item}
 use Rattle.csp_log.specs.declared.item.Item.{Item}
@@ -64,7 +64,7 @@ moved_below : (owner : ℕ → ℕ) (mark n k : ℕ) → n < k → ((m : ℕ) �
 moved_below owner mark n k below owned m = ⊎_elim (λ here. omega (arith, moved_here owner mark n m here)) (λ apart. omega (arith, moved_else owner mark n m apart, owned m)) (cases_eq m mark)
 
 -- a view that may do nothing
-idle_fits : (region : RegionName) (prio : Prio) (owner : ℕ → ℕ) (reader : ℕ) (all got : List ItemShown) (port : ℕ) (known : List Told) (gets : ℕ)
+idle_fits : (region : RegionName) (prio : Prio) (owner : ℕ → ℕ) (reader : ℕ) (all got : List ItemShown) (port : ℕ) (known : List ToldPuts) (gets : ℕ)
     → ((m : ℕ) → owner m ≡ port → [] ≡ with_mark m all) → ((m : ℕ) → known_of known m ≤ length (with_mark m all)) → gets ≤ length got → FitsIn region prio owner reader all got port (note known gets)
 idle_fits region prio owner reader all got port known gets owns knows few = record {
   owns = owns;
@@ -292,7 +292,7 @@ pub empties : (port : ℕ) (v : Hand) → v.role.reads ≡ true → v.role.out �
 empties port v may all_in items views none h at = (v, one_changed items views h port v (h.fits port v at), (refl, accounts port v may all_in items views h at))
 
 -- a note of what the pass keeps or got
-noted : (items : List Item) (views : List Hand) (h : Sorts items views) (port : ℕ) (v : Hand) (known : List Told) (gets : ℕ) → get_elem? views port ≡ some v
+noted : (items : List Item) (views : List Hand) (h : Sorts items views) (port : ℕ) (v : Hand) (known : List ToldPuts) (gets : ℕ) → get_elem? views port ≡ some v
     → ((m : ℕ) → known_of known m ≤ length (with_mark m h.all)) → gets ≤ length h.got → Sorts items (set views port v ++ note known gets ∷ [])
 noted items views h port v known gets at knows few =
     let vs : List Hand = set views port v in

@@ -4,7 +4,7 @@ use Rattle.std.proofs.lemmas.Bool.{eq-eqb, ne_eqb, cases_eq}
 use Rattle.std.proofs.lemmas.List.Elements.{filter-append}
 use Rattle.csp_inbox.specs.Marks.{mark_of, with_mark, is_in, without}
 use Rattle.csp_inbox.specs.Passes.{known_of}
-use Rattle.csp_inbox.specs.declared.hand.Told.{Told}
+use Rattle.csp_inbox.specs.declared.hand.ToldPuts.{ToldPuts}
 use Rattle.csp_log.specs.declared.shown.ItemShown.{ItemShown}
 
 -- of two lists in a row
@@ -113,6 +113,6 @@ told_step : (t : Bool) (p a b ab : ℕ) → ab ≡ max a b → cond t (max p ab)
 told_step true p a b ab e = omega (arith, e)
 told_step false p a b ab e = e
 
-pub known-append : (a b : List Told) (m : ℕ) → known_of (a ++ b) m ≡ max (known_of a m) (known_of b m)
+pub known-append : (a b : List ToldPuts) (m : ℕ) → known_of (a ++ b) m ≡ max (known_of a m) (known_of b m)
 known-append [] b m = omega arith
 known-append (t ∷ ts) b m = told_step (t.mark == m) t.puts (known_of ts m) (known_of b m) (known_of (ts ++ b) m) (known-append ts b m)

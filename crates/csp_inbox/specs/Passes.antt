@@ -9,7 +9,7 @@ use Rattle.csp_deck.specs.Regions.{IsItemOf}
 use Rattle.csp_inbox.specs.Marks.{with_mark, is_in, without}
 use Rattle.csp_inbox.specs.declared.hand.Mail.{Mail}
 use Rattle.csp_inbox.specs.declared.hand.Role.{Role}
-use Rattle.csp_inbox.specs.declared.hand.Told.{Told}
+use Rattle.csp_inbox.specs.declared.hand.ToldPuts.{ToldPuts}
 use Rattle.csp_log.specs.Pictures.{shown_item}
 use Rattle.csp_log.specs.declared.item.Item.{Item}
 use Rattle.csp_log.specs.declared.places.Rule.TheVariants as rule
@@ -62,7 +62,7 @@ with_mail p Normal m = record { inbox = p.inbox; role = p.role; critical = p.cri
 with_mail p Low m = record { inbox = p.inbox; role = p.role; critical = p.critical; high = p.high; normal = p.normal; low = m }
 
 -- the mail of one priority with these parts
-abbrev pub mail : (kept got : List ItemShown) → List Told → (known_got puts_floor : ℕ) → Mail
+abbrev pub mail : (kept got : List ItemShown) → List ToldPuts → (known_got puts_floor : ℕ) → Mail
 mail kept got known known_got puts_floor = record { kept = kept; got = got; known = known; known_got = known_got; puts_floor = puts_floor }
 
 -- nothing was done yet and nothing is known
@@ -70,7 +70,7 @@ abbrev pub no_mail : Mail
 no_mail = mail [] [] [] 0 0
 
 -- what it knows to have been put under a mark, by what it was told
-abbrev pub known_of : List Told → ℕ → ℕ
+abbrev pub known_of : List ToldPuts → ℕ → ℕ
 known_of [] m = 0
 known_of (t ∷ ts) m = cond (t.mark == m) (max t.puts (known_of ts m)) (known_of ts m)
 

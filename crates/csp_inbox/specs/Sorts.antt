@@ -10,7 +10,7 @@ use Rattle.csp_inbox.specs.Passes.{IsFor, mail, no_mail, known_puts, known_gets,
 use Rattle.csp_inbox.specs.declared.hand.Hand.{Hand}
 use Rattle.csp_inbox.specs.declared.hand.Mail.{Mail}
 use Rattle.csp_inbox.specs.declared.hand.Role.{Role}
-use Rattle.csp_inbox.specs.declared.hand.Told.{Told}
+use Rattle.csp_inbox.specs.declared.hand.ToldPuts.{ToldPuts}
 use Rattle.csp_log.specs.Pictures.{shown_item}
 use Rattle.csp_log.specs.declared.item.Item.{Item}
 use Rattle.csp_log.specs.declared.shown.ItemShown.{ItemShown}
@@ -50,7 +50,7 @@ abbrev pub idle_role : Role
 idle_role = role (record { block = 0; start = 0; size = 0 }) 0 0 false false []
 
 -- a note: a pass without lists that carries counts alone
-abbrev pub note : List Told → (gets : ℕ) → Hand
+abbrev pub note : List ToldPuts → (gets : ℕ) → Hand
 note known gets = hand idle_role Critical (mail [] [] known gets 0)
 
 -- a pass that was joined and has nothing left

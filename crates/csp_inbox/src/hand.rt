@@ -6,7 +6,7 @@ use csp_deck::ItemShown;
 use std::collections::LinkedList;
 
 /// That so many items were put under a mark. No value of it is made.
-pub struct Told {
+pub struct ToldPuts {
     /// The mark.
     pub mark: u8,
     /// How many.
@@ -36,7 +36,7 @@ pub struct Mail {
     /// What it got, the first first.
     pub got: LinkedList<ItemShown>,
     /// What it was told of puts.
-    pub known: LinkedList<Told>,
+    pub known: LinkedList<ToldPuts>,
     /// So many it was told to have been got.
     pub known_got: u64,
     /// All puts together have reached this number.

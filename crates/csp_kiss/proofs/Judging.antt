@@ -8,7 +8,7 @@ use Rattle.csp_crc.specs.Crc.{crc_of}
 use Rattle.csp_kiss.specs.declared.event.KissEvent.TheVariants.{Packet, TooLong, Short, BadCrc}
 use Rattle.csp_kiss.specs.Frame.{covered}
 use Rattle.csp_kiss.specs.Stream.{judged, compared}
-use Rattle.csp_kiss.specs.Reading.{kept, room}
+use Rattle.csp_kiss.specs.Reading.{kept_bytes, room}
 
 pub judged-long : (cover : Bool) (mtu : ℕ) (bytes : List ℕ) → mtu + 8 < length bytes → judged cover mtu bytes ≡ TooLong
 unfolding judged
@@ -69,13 +69,13 @@ judged-take cover mtu bytes =
     ]
 
 -- a byte is kept where there is room, and no more where there is none
-pub kept_room : (mtu : ℕ) (plain : List ℕ) (byte : ℕ) → length plain < room mtu → kept mtu plain (byte ∷ []) ≡ plain ++ byte ∷ []
+pub kept_room : (mtu : ℕ) (plain : List ℕ) (byte : ℕ) → length plain < room mtu → kept_bytes mtu plain (byte ∷ []) ≡ plain ++ byte ∷ []
 kept_room mtu plain byte h = take_all (room mtu) (plain ++ byte ∷ []) (omega (arith, length-append plain (byte ∷ [])))
 
-pub kept_full : (mtu : ℕ) (plain : List ℕ) (byte : ℕ) → length plain ≡ room mtu → kept mtu plain (byte ∷ []) ≡ plain
+pub kept_full : (mtu : ℕ) (plain : List ℕ) (byte : ℕ) → length plain ≡ room mtu → kept_bytes mtu plain (byte ∷ []) ≡ plain
 kept_full mtu plain byte h = take-append-le (room mtu) plain (byte ∷ []) (omega arith) ∙ take_all (room mtu) plain (omega arith)
 
-pub kept_none : (mtu : ℕ) (plain : List ℕ) → length plain ≤ room mtu → kept mtu plain [] ≡ plain
+pub kept_none : (mtu : ℕ) (plain : List ℕ) → length plain ≤ room mtu → kept_bytes mtu plain [] ≡ plain
 kept_none mtu plain h = ap (λ bytes. take (room mtu) bytes) (append-nil plain) ∙ take_all (room mtu) plain h
 
 pub take-take-append : (room : ℕ) (xs ys : List ℕ) → take room (take room xs ++ ys) ≡ take room (xs ++ ys)

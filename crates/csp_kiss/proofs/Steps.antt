@@ -6,7 +6,7 @@ use Rattle.csp_kiss.specs.declared.TheConstants.{FEND, FESC, TFEND, TFESC}
 use Rattle.csp_kiss.specs.declared.event.KissEvent.{KissEvent}
 use Rattle.csp_kiss.specs.declared.stage.Stage.TheVariants.{Start, Plain, Escape}
 use Rattle.csp_kiss.specs.Stream.{is_end, but_last, pieces, meaning, undone, judged, event_of, events}
-use Rattle.csp_kiss.specs.Reading.{Reading, HasRead, unread, room, is_escaping, reading_in, reading_at, reading_of, kept, resolved, going, continued, after, told, answer, answers}
+use Rattle.csp_kiss.specs.Reading.{Reading, HasRead, unread, room, is_escaping, reading_in, reading_at, reading_of, kept_bytes, resolved, going, continued, after, told, answer, answers}
 use Rattle.csp_kiss.proofs.Cutting.{onto_last, slice_split_some, slice_split-push_yes, slice_split-push_no, but_last-append, but_last-onto_last}
 use Rattle.csp_kiss.proofs.Escapes.{adds, escapes, is_escaping-push, undone-push}
 use Rattle.csp_kiss.proofs.Judging.{judged-take, take_all, take-take-append}
@@ -65,10 +65,10 @@ events-push reading stream byte h =
 
 resolved-take : (mtu : ℕ) (bytes : List ℕ) (byte : ℕ) → resolved mtu (take (room mtu) bytes) byte ≡ take (room mtu) (bytes ++ meaning byte)
 resolved-take mtu bytes byte =
-    elim (eqb byte TFEND) as (λ b. cond b (kept mtu (take (room mtu) bytes) (FEND ∷ [])) (cond (eqb byte TFESC) (kept mtu (take (room mtu) bytes) (FESC ∷ [])) (take (room mtu) bytes))
+    elim (eqb byte TFEND) as (λ b. cond b (kept_bytes mtu (take (room mtu) bytes) (FEND ∷ [])) (cond (eqb byte TFESC) (kept_bytes mtu (take (room mtu) bytes) (FESC ∷ [])) (take (room mtu) bytes))
     ≡ take (room mtu) (bytes ++ cond b (FEND ∷ []) (cond (eqb byte TFESC) (FESC ∷ []) []))) [
       | true ↦ take-take-append (room mtu) bytes (FEND ∷ [])
-      | false ↦ elim (eqb byte TFESC) as (λ b. cond b (kept mtu (take (room mtu) bytes) (FESC ∷ [])) (take (room mtu) bytes) ≡ take (room mtu) (bytes ++ cond b (FESC ∷ []) [])) [
+      | false ↦ elim (eqb byte TFESC) as (λ b. cond b (kept_bytes mtu (take (room mtu) bytes) (FESC ∷ [])) (take (room mtu) bytes) ≡ take (room mtu) (bytes ++ cond b (FESC ∷ []) [])) [
         | true ↦ take-take-append (room mtu) bytes (FESC ∷ [])
         | false ↦ ap (λ all. take (room mtu) all) (sym (append-nil bytes))
       ]
@@ -84,7 +84,7 @@ reading_in-push cover mtu (skipped ∷ bytes) byte =
     (elim (is_escaping false bytes) as (λ b. in_piece cover mtu (take most (plain ++ adds b byte)) (escapes b byte) ≡ continued (in_piece cover mtu (take most plain) b) (cond b Escape Plain) byte) [
       | true ↦ ap (λ all. in_piece cover mtu all false) (sym (resolved-take mtu plain byte))
       | false ↦ elim (eqb byte FESC) as (λ b. in_piece cover mtu (take most (plain ++ cond b [] (byte ∷ []))) b
-          ≡ cond b (in_piece cover mtu (take most plain) true) (in_piece cover mtu (kept mtu (take most plain) (byte ∷ [])) false)) [
+          ≡ cond b (in_piece cover mtu (take most plain) true) (in_piece cover mtu (kept_bytes mtu (take most plain) (byte ∷ [])) false)) [
             | true ↦ ap (λ all. in_piece cover mtu (take most all) true) (append-nil plain)
             | false ↦ ap (λ all. in_piece cover mtu all false) (sym (take-take-append most plain (byte ∷ [])))
           ]

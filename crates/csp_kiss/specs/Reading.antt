@@ -57,12 +57,12 @@ abbrev pub HasRead : List ℕ → Reading → Type 0
 HasRead stream reading = reading ≡ reading_of reading.cover reading.mtu stream
 
 -- the bytes kept, with others at the end as far as there is room
-abbrev pub kept : (mtu : ℕ) (plain bytes : List ℕ) → List ℕ
-kept mtu plain bytes = take (room mtu) (plain ++ bytes)
+abbrev pub kept_bytes : (mtu : ℕ) (plain bytes : List ℕ) → List ℕ
+kept_bytes mtu plain bytes = take (room mtu) (plain ++ bytes)
 
 -- after the byte that follows a FESC
 abbrev pub resolved : (mtu : ℕ) (plain : List ℕ) → ℕ → List ℕ
-resolved mtu plain byte = if byte == TFEND then kept mtu plain (FEND ∷ []) else if byte == TFESC then kept mtu plain (FESC ∷ []) else plain
+resolved mtu plain byte = if byte == TFEND then kept_bytes mtu plain (FEND ∷ []) else if byte == TFESC then kept_bytes mtu plain (FESC ∷ []) else plain
 
 -- a reader that goes on to this stage and keeps these bytes
 abbrev pub going : Reading → Stage → List ℕ → Reading
@@ -72,7 +72,7 @@ going reading stage plain = record { cover = reading.cover; mtu = reading.mtu; s
 abbrev pub continued : Reading → Stage → ℕ → Reading
 continued reading Outside byte = going reading Outside reading.plain
 continued reading Start byte = going reading Plain reading.plain
-continued reading Plain byte = if byte == FESC then going reading Escape reading.plain else going reading Plain (kept reading.mtu reading.plain (byte ∷ []))
+continued reading Plain byte = if byte == FESC then going reading Escape reading.plain else going reading Plain (kept_bytes reading.mtu reading.plain (byte ∷ []))
 continued reading Escape byte = going reading Plain (resolved reading.mtu reading.plain byte)
 
 -- a reader after one byte more

@@ -1,7 +1,7 @@
 //! Reads a stream byte by byte, in fixed room.
 
 ghost use Rattle.std.specs.Prelude.{◌≡◌, ◌≢◌, ℕ, List, [], ◌∷◌, ◌++◌, option_to_list, ◌≤◌, length};
-ghost use Rattle.csp_kiss.specs.Reading.{Reading, HasRead, after, answer, answers, continued, going, told, kept, unread};
+ghost use Rattle.csp_kiss.specs.Reading.{Reading, HasRead, after, answer, answers, continued, going, told, kept_bytes, unread};
 ghost use Rattle.csp_kiss.specs.Stream.{events, judged};
 
 use crate::checksum::checksum;
@@ -115,7 +115,7 @@ impl KissReader {
 
     #[tactic(auto, using(crate::proofs::Judging::keeping))]
     fn keep(&mut self, byte: u8)
-        ensures { self.new ≡ going self.old self.old.stage (kept self.old.mtu self.old.plain (byte ∷ [])) }
+        ensures { self.new ≡ going self.old self.old.stage (kept_bytes self.old.mtu self.old.plain (byte ∷ [])) }
     {
         if self.plain.len() < usize::from(self.mtu) + 9 {
             self.plain.push(byte);

@@ -12,7 +12,7 @@ use Rattle.csp_link.specs.Copies.{copies_of, held_copies, held_until}
 use Rattle.csp_link.specs.Fates.{Fates, fate_at, fates_of}
 use Rattle.csp_link.specs.Holding.{first_due}
 use Rattle.csp_link.specs.PlainLink.{PlainDirection, PlainLink, direction, opening}
-use Rattle.csp_link.specs.Planning.{Plan, push, pop, wait, first_rule, plan_in}
+use Rattle.csp_link.specs.Planning.{LinkPlan, push, pop, wait, first_rule, plan_in}
 use Rattle.csp_link.specs.Telling.{frame_in, kept, taken, told_by}
 use Rattle.csp_link.specs.Ways.{number, other}
 use Rattle.csp_link.specs.declared.doing.Doing.{Doing}
@@ -108,7 +108,7 @@ applied_kept d place h i stood e =
     subst (λ x. Applied d (kept place h.due (frame_in x) (record d { held = remove d.held place })) [] []) (sym e)
     (subst (λ hs. Applied d (record d { held = hs }) [] []) (sym stood.back) (applied_none d))
 
-abbrev pushed_in : Plan → ℕ × Held → ℕ × Held
+abbrev pushed_in : LinkPlan → ℕ × Held → ℕ × Held
 pushed_in (push place h) p = (place, h)
 pushed_in pop p = p
 pushed_in wait p = p
@@ -119,7 +119,7 @@ due_stands d now place h None true e is = absurd cc
 due_stands d now place h None false e is = absurd cc
 
 -- the direction whose turn it is
-moved : (d : PlainDirection) (now : ℕ) (way : Way) (p : Plan) (a : AnswerShown) → plan_in d now ≡ p → Fits (op_of way p) a
+moved : (d : PlainDirection) (now : ℕ) (way : Way) (p : LinkPlan) (a : AnswerShown) → plan_in d now ≡ p → Fits (op_of way p) a
     → Applied d (told_by now (doing_of p) a (handed p d)) (popped_by way (op_of way p) a) (pushed_by way (op_of way p) a)
 moved d now Forth (push place h) answer.Pushed e f = applied_pushed d place h (due_stands d now place h (first_due now d.held) _ refl e)
 moved d now Back (push place h) answer.Pushed e f = applied_pushed d place h (due_stands d now place h (first_due now d.held) _ refl e)
@@ -133,7 +133,7 @@ moved d now way wait answer.Nothing e f = applied_none d
 moved d now way _ _ e f = absurd f
 
 -- the other one
-idle : (d : PlainDirection) (way : Way) (p : Plan) (a : AnswerShown) → Applied d d (popped_by way (op_of (other way) p) a) (pushed_by way (op_of (other way) p) a)
+idle : (d : PlainDirection) (way : Way) (p : LinkPlan) (a : AnswerShown) → Applied d d (popped_by way (op_of (other way) p) a) (pushed_by way (op_of (other way) p) a)
 idle d Forth (push _ _) answer.Pushed = applied_none d
 idle d Back (push _ _) answer.Pushed = applied_none d
 idle d Forth pop (answer.Popped (item.Frame _)) = applied_none d

@@ -5,7 +5,7 @@ use Rattle.std.specs.Option.{option_map, unwrap_or}
 use Rattle.std.specs.Prelude.{nat_le}
 use Rattle.std.proofs.lemmas.Iterator.Adapters.{position_from-zero}
 use Rattle.csp_link.specs.Holding.{first_due}
-use Rattle.csp_link.specs.Planning.{Plan, push, pop, wait, looks}
+use Rattle.csp_link.specs.Planning.{LinkPlan, push, pop, wait, looks}
 use Rattle.csp_link.specs.declared.held.Held.{Held}
 
 module _ (t : Held → Bool) where
@@ -68,7 +68,7 @@ none_due now held e = by (first_due now held) e
     by (Some p) e = absurd cc
 
 -- a plan that is a look for a frame is that one
-pub looks_pop : (p : Plan) → looks p ≡ true → p ≡ pop
+pub looks_pop : (p : LinkPlan) → looks p ≡ true → p ≡ pop
 looks_pop pop e = refl
 looks_pop (push _ _) e = absurd cc
 looks_pop wait e = absurd cc

@@ -13,7 +13,7 @@ use Rattle.csp_link.specs.Copies.{damaged, flipped, held_copies, held_until}
 use Rattle.csp_link.specs.Fates.{fate_at}
 use Rattle.csp_link.specs.Holding.{first_due}
 use Rattle.csp_link.specs.PlainLink.{PlainDirection, PlainLink, direction, uses}
-use Rattle.csp_link.specs.Planning.{Plan, push, pop, wait, first_rule, plan_in}
+use Rattle.csp_link.specs.Planning.{LinkPlan, push, pop, wait, first_rule, plan_in}
 use Rattle.csp_link.specs.Room.{AreCarried, CanHear, IsLink, plain_link}
 use Rattle.csp_link.specs.Telling.{frame_in, taken}
 use Rattle.csp_link.specs.declared.doing.Doing.{Doing}
@@ -51,7 +51,7 @@ carried_copies k true n due f c = All-nil (λ (h : Held). IsFrameOf k h.frame)
 carried_copies k false n due f c = All-map (λ (h : Held). IsFrameOf k h.frame) (held_until due) (replicate n f) (All-replicate (IsFrameOf k) n f c)
 
 -- what a direction holds is carried when a frame of it has gone, and when what is made of another one is held besides
-pub handed_carried : (k : LinkKind) (p : Plan) (d : PlainDirection) → AreCarried k d.held → AreCarried k (handed p d).held
+pub handed_carried : (k : LinkKind) (p : LinkPlan) (d : PlainDirection) → AreCarried k d.held → AreCarried k (handed p d).held
 handed_carried k (push place h) d all = let P : Held → Type 0 = λ h. IsFrameOf k h.frame in All-append P (take place d.held) (drop (suc place) d.held) (All-take P place d.held all) (All-drop P (suc place) d.held all)
 handed_carried k pop d all = all
 handed_carried k wait d all = all
@@ -71,11 +71,11 @@ popped_carried s Back doing.Pop i f c e = carried_item s.kind i f c e
 popped_carried s _ _ i f c e = absurd c
 
 -- a link that has asked, by the direction whose turn it is
-pub asked_forth : (a b : Inside) (t : Doing) (d : PlainDirection) (p : Plan) → IsLink (plain_link a) → a.way ≡ Forth → b ≡ record { kind = a.kind; forth = d; back = a.back; way = a.way; doing = a.doing }
+pub asked_forth : (a b : Inside) (t : Doing) (d : PlainDirection) (p : LinkPlan) → IsLink (plain_link a) → a.way ≡ Forth → b ≡ record { kind = a.kind; forth = d; back = a.back; way = a.way; doing = a.doing }
     → d ≡ handed p a.forth → CanHear t d.held → IsLink (plain_link (record { kind = b.kind; forth = b.forth; back = b.back; way = b.way; doing = t }))
 asked_forth a b t d p l way is state hears = rw (is, way) (record { forth = rw state (handed_carried a.kind p a.forth l.forth); back = l.back; hears = hears })
 
-pub asked_back : (a b : Inside) (t : Doing) (d : PlainDirection) (p : Plan) → IsLink (plain_link a) → a.way ≡ Back → b ≡ record { kind = a.kind; forth = a.forth; back = d; way = a.way; doing = a.doing }
+pub asked_back : (a b : Inside) (t : Doing) (d : PlainDirection) (p : LinkPlan) → IsLink (plain_link a) → a.way ≡ Back → b ≡ record { kind = a.kind; forth = a.forth; back = d; way = a.way; doing = a.doing }
     → d ≡ handed p a.back → CanHear t d.held → IsLink (plain_link (record { kind = b.kind; forth = b.forth; back = b.back; way = b.way; doing = t }))
 asked_back a b t d p l way is state hears = rw (is, way) (record { forth = l.forth; back = rw state (handed_carried a.kind p a.back l.back); hears = hears })
 

@@ -3,7 +3,7 @@ use Rattle.std.proofs.Common.{◌≡◌, ℕ, Option, Some, None, max, refl, ap}
 use Rattle.csp_link.specs.Asking.{asked, handed}
 use Rattle.csp_link.specs.Fates.{Fates, most_copies}
 use Rattle.csp_link.specs.PlainLink.{PlainDirection, PlainLink, direction, in_turn, with_direction}
-use Rattle.csp_link.specs.Planning.{Plan, push, pop, wait, plan_of}
+use Rattle.csp_link.specs.Planning.{LinkPlan, push, pop, wait, plan_of}
 use Rattle.csp_link.specs.Stocking.{needs}
 use Rattle.csp_link.specs.Telling.{frame_in, kept, taken, tells, told_by}
 use Rattle.csp_link.specs.declared.doing.Doing.{Doing}
@@ -15,7 +15,7 @@ use Rattle.csp_log.specs.declared.shown.AnswerShown.{AnswerShown}
 use Rattle.csp_log.specs.declared.shown.AnswerShown.TheVariants as answer
 
 -- what a direction does leaves its fates as they are
-fates_handed : (p : Plan) (d : PlainDirection) → (handed p d).fates ≡ d.fates
+fates_handed : (p : LinkPlan) (d : PlainDirection) → (handed p d).fates ≡ d.fates
 fates_handed (push place h) d = refl
 fates_handed pop d = refl
 fates_handed wait d = refl

@@ -3,7 +3,7 @@ use Rattle.std.specs.Prelude.{ℕ}
 use Rattle.std.specs.List.{remove}
 use Rattle.csp_deck.specs.Step.{Kind, nothing, pushing, popping}
 use Rattle.csp_link.specs.PlainLink.{PlainDirection, PlainLink, in_turn, with_direction}
-use Rattle.csp_link.specs.Planning.{Plan, push, pop, wait, plan_of}
+use Rattle.csp_link.specs.Planning.{LinkPlan, push, pop, wait, plan_of}
 use Rattle.csp_link.specs.Ways.{from_queue, to_queue}
 use Rattle.csp_link.specs.declared.doing.Doing.{Doing}
 use Rattle.csp_link.specs.declared.doing.Doing.TheVariants as doing
@@ -13,7 +13,7 @@ use Rattle.csp_log.specs.declared.shown.OpShown.{OpShown}
 use Rattle.csp_log.specs.declared.shown.OpShown.TheVariants as op
 
 -- the operation of each turn
-abbrev pub op_of : Way → Plan → OpShown
+abbrev pub op_of : Way → LinkPlan → OpShown
 op_of way (push _ h) = op.Push (to_queue way) (item.Frame h.frame)
 op_of way pop = op.Pop (from_queue way)
 op_of way wait = op.Nothing
@@ -23,13 +23,13 @@ abbrev pub asks : PlainLink → ℕ → OpShown
 asks s now = op_of s.way (plan_of s now)
 
 -- a frame that is pushed is held no more
-abbrev pub handed : Plan → PlainDirection → PlainDirection
+abbrev pub handed : LinkPlan → PlainDirection → PlainDirection
 handed (push place _) d = record d { held = remove d.held place }
 handed pop d = d
 handed wait d = d
 
 -- what is kept in mind: its place and when it was due
-abbrev pub doing_of : Plan → Doing
+abbrev pub doing_of : LinkPlan → Doing
 doing_of (push place h) = doing.Push place h.due
 doing_of pop = doing.Pop
 doing_of wait = doing.Wait

@@ -19,10 +19,10 @@ use Rattle.csp_log.specs.declared.noted.Noted.{Noted}
 use Rattle.csp_log.specs.declared.noted.Noted.TheVariants as noted
 use Rattle.csp_log.specs.declared.row.Line.{Line}
 use Rattle.csp_log.specs.declared.row.Line.TheVariants as line
-use Rattle.csp_log.specs.declared.row.Row.{Row}
+use Rattle.csp_log.specs.declared.row.LogRow.{LogRow}
 
 -- the log's entry at the place of a line is idle as the line's is
-pub idle-line : (rows : List Row) (bytes : List ℕ) (events : List Event) (lines : List Line) (k : ℕ) (l : Line) (r : Bool) → k < length (map (entry_at rows bytes events) lines) → l ≡ get_or lines k l → is_idle (entry_at rows bytes events l) ≡ r
+pub idle-line : (rows : List LogRow) (bytes : List ℕ) (events : List Event) (lines : List Line) (k : ℕ) (l : Line) (r : Bool) → k < length (map (entry_at rows bytes events) lines) → l ≡ get_or lines k l → is_idle (entry_at rows bytes events l) ≡ r
     → option_map is_idle (slice_get (map (entry_at rows bytes events) lines) k) ≡ Some r
 idle-line rows bytes events lines k l r within at idle =
     let entry = entry_at rows bytes events in
@@ -32,10 +32,10 @@ idle-line rows bytes events lines k l r within at idle =
     ∙ ap (λ b. Some b) idle
 
 -- and that of a row as its deed and its number of events say
-told-few : (bytes : List ℕ) (events : List Event) (r : Row) → IsRowIn (length bytes) (length events) r → length (events_in events r) ≡ r.events
+told-few : (bytes : List ℕ) (events : List Event) (r : LogRow) → IsRowIn (length bytes) (length events) r → length (events_in events r) ≡ r.events
 told-few bytes events r h = let w = h.events_in in grind (arith, common_steps)
 
-pub idle-row : (rows : List Row) (bytes : List ℕ) (events : List Event) (lines : List Line) (k place : ℕ) (l : Line) (row : Row) (r : Bool) → k < length (map (entry_at rows bytes events) lines) → l ≡ get_or lines k l
+pub idle-row : (rows : List LogRow) (bytes : List ℕ) (events : List Event) (lines : List Line) (k place : ℕ) (l : Line) (row : LogRow) (r : Bool) → k < length (map (entry_at rows bytes events) lines) → l ≡ get_or lines k l
     → l ≡ line.Kept place → slice_get rows place ≡ Some row → All (IsRowIn (length bytes) (length events)) rows
     → (nat_eq row.events 0 && is_still (op_of (bytes_in bytes row) (trace_of row.trail) row.deed) (answer_of (bytes_in bytes row) (trace_of row.trail) row.deed)) ≡ r
     → option_map is_idle (slice_get (map (entry_at rows bytes events) lines) k) ≡ Some r

@@ -1,5 +1,5 @@
 mod Headers
 mod Idle
+mod KeptRows
 mod Logged
-mod Slots
 mod Weighing

@@ -26,7 +26,7 @@ use Rattle.csp_log.specs.declared.row.Deed.{Deed}
 use Rattle.csp_log.specs.declared.row.Deed.TheVariants as deed
 use Rattle.csp_log.specs.declared.row.Line.{Line}
 use Rattle.csp_log.specs.declared.row.Line.TheVariants as line
-use Rattle.csp_log.specs.declared.row.Row.{Row}
+use Rattle.csp_log.specs.declared.row.LogRow.{LogRow}
 
 -- a part of a list is one of any list that goes on from it
 slice_range-more : {X : Type 0} (xs more : List X) (i j : ℕ) → j ≤ length xs → slice_range (xs ++ more) i j ≡ slice_range xs i j
@@ -47,7 +47,7 @@ slice_get-pushed [] x = refl
 slice_get-pushed (y ∷ xs) x = slice_get-pushed xs x
 
 -- what a line says by itself, it says only where nothing was told
-pub says-alone : (rows : List Row) (bytes : List ℕ) (events : List Event) (time : ℕ) (bs : List ℕ) (trace : Trace) (quiet : Bool) (d : Deed) (l : Line) (told : List Event) → spoken_of quiet time d ≡ Some l → (quiet ≡ true → told ≡ [])
+pub says-alone : (rows : List LogRow) (bytes : List ℕ) (events : List Event) (time : ℕ) (bs : List ℕ) (trace : Trace) (quiet : Bool) (d : Deed) (l : Line) (told : List Event) → spoken_of quiet time d ≡ Some l → (quiet ≡ true → told ≡ [])
     → Says rows bytes events time bs (draft_of bs trace d) told l rows bytes events
 says-alone rows bytes events time bs trace quiet d l told e none =
     let shown = spoken-shows quiet d l e in
@@ -107,13 +107,13 @@ kept_anew bytes after carried first r is differs more at = record {
 }
 
 -- and of what it can't say there is a row
-pub says-kept : (rows : List Row) (bytes : List ℕ) (events : List Event) (time : ℕ) (bs : List ℕ) (d : Deed) (t : Trail) (told : List Event) (first_byte first_event place : ℕ) (rows_after : List Row) (bytes_after : List ℕ) (events_after : List Event)
+pub says-kept : (rows : List LogRow) (bytes : List ℕ) (events : List Event) (time : ℕ) (bs : List ℕ) (d : Deed) (t : Trail) (told : List Event) (first_byte first_event place : ℕ) (rows_after : List LogRow) (bytes_after : List ℕ) (events_after : List Event)
     → place ≡ length rows → IsKeptIn bytes bytes_after bs first_byte → first_event ≡ length events
     → rows_after ≡ rows ++ record { time = time; first_byte = first_byte; first_event = first_event; bytes = length bs; events = length told; deed = d; trail = t } ∷ [] → events_after ≡ events ++ told
     → IsDeedLong (length bs) d → IsDeedWord d → length bs ≤ MAX_FRAME → length told ≤ MAX_EVENTS
     → Says rows bytes events time bs (draft_of bs (trace_of t) d) told (line.Kept place) rows_after bytes_after events_after
 says-kept rows bytes events time bs d t told first_byte first_event place rows_after bytes_after events_after at kept event rows_are events_are fits word short few =
-    let r : Row = record { time = time; first_byte = first_byte; first_event = first_event; bytes = length bs; events = length told; deed = d; trail = t } in
+    let r : LogRow = record { time = time; first_byte = first_byte; first_event = first_event; bytes = length bs; events = length told; deed = d; trail = t } in
     record {
       rows_more = r ∷ [];
       bytes_more = kept.more;
@@ -137,24 +137,24 @@ says-kept rows bytes events time bs d t told first_byte first_event place rows_a
     }
 
 -- the entries of these lines, whatever follows the lists
-row_entry-more : (bytes more : List ℕ) (events told : List Event) (r : Row) → IsRowIn (length bytes) (length events) r → row_entry (bytes ++ more) (events ++ told) r ≡ row_entry bytes events r
+row_entry-more : (bytes more : List ℕ) (events told : List Event) (r : LogRow) → IsRowIn (length bytes) (length events) r → row_entry (bytes ++ more) (events ++ told) r ≡ row_entry bytes events r
 row_entry-more bytes more events told r h =
     rw (slice_range-more bytes more r.first_byte (r.first_byte + r.bytes) h.bytes_in, slice_range-more events told r.first_event (r.first_event + r.events) h.events_in) refl
 
-kept_entry-more : (bytes more : List ℕ) (events told : List Event) (rows : List Row) (k : ℕ) → All (IsRowIn (length bytes) (length events)) rows
+kept_entry-more : (bytes more : List ℕ) (events told : List Event) (rows : List LogRow) (k : ℕ) → All (IsRowIn (length bytes) (length events)) rows
     → kept_entry (bytes ++ more) (events ++ told) (slice_get rows k) ≡ kept_entry bytes events (slice_get rows k)
 kept_entry-more bytes more events told [] k all = refl
 kept_entry-more bytes more events told (r ∷ rows) zero all = row_entry-more bytes more events told r (All-head (IsRowIn (length bytes) (length events)) r rows all)
 kept_entry-more bytes more events told (r ∷ rows) (suc k) all = kept_entry-more bytes more events told rows k (All-tail (IsRowIn (length bytes) (length events)) r rows all)
 
-entry_at-more : (rows others : List Row) (bytes more : List ℕ) (events told : List Event) (l : Line) → All (IsRowIn (length bytes) (length events)) rows → IsLineIn (length rows) l
+entry_at-more : (rows others : List LogRow) (bytes more : List ℕ) (events told : List Event) (l : Line) → All (IsRowIn (length bytes) (length events)) rows → IsLineIn (length rows) l
     → entry_at (rows ++ others) (bytes ++ more) (events ++ told) l ≡ entry_at rows bytes events l
 entry_at-more rows others bytes more events told (line.Rested time) all h = refl
 entry_at-more rows others bytes more events told (line.FoundNoBuffer time) all h = refl
 entry_at-more rows others bytes more events told (line.FoundEmpty q time) all h = refl
 entry_at-more rows others bytes more events told (line.Kept k) all h = rw (slice_get-more rows others k h) (kept_entry-more bytes more events told rows k all)
 
-entries-more : (rows others : List Row) (bytes more : List ℕ) (events told : List Event) (lines : List Line) → All (IsRowIn (length bytes) (length events)) rows → All (IsLineIn (length rows)) lines
+entries-more : (rows others : List LogRow) (bytes more : List ℕ) (events told : List Event) (lines : List Line) → All (IsRowIn (length bytes) (length events)) rows → All (IsLineIn (length rows)) lines
     → map (entry_at (rows ++ others) (bytes ++ more) (events ++ told)) lines ≡ map (entry_at rows bytes events) lines
 entries-more rows others bytes more events told [] all within = refl
 entries-more rows others bytes more events told (l ∷ lines) all within =
@@ -162,7 +162,7 @@ entries-more rows others bytes more events told (l ∷ lines) all within =
     rw (entry_at-more rows others bytes more events told l all (All-head P l lines within), entries-more rows others bytes more events told lines all (All-tail P l lines within)) refl
 
 -- the entries with one more
-pub entries-push : (rows : List Row) (bytes : List ℕ) (events : List Event) (time : ℕ) (carried : List ℕ) (draft : PlainDraft) (told : List Event) (said : Line) (rows_after : List Row) (bytes_after : List ℕ) (events_after : List Event) (lines : List Line)
+pub entries-push : (rows : List LogRow) (bytes : List ℕ) (events : List Event) (time : ℕ) (carried : List ℕ) (draft : PlainDraft) (told : List Event) (said : Line) (rows_after : List LogRow) (bytes_after : List ℕ) (events_after : List Event) (lines : List Line)
     → Says rows bytes events time carried draft told said rows_after bytes_after events_after → All (IsRowIn (length bytes) (length events)) rows → All (IsLineIn (length rows)) lines
     → map (entry_at rows_after bytes_after events_after) (lines ++ said ∷ []) ≡ map (entry_at rows bytes events) lines ++ entry_with time draft told ∷ []
 entries-push rows bytes events time carried draft told said rows_after bytes_after events_after lines s all within =
@@ -172,7 +172,7 @@ entries-push rows bytes events time carried draft told said rows_after bytes_aft
     ∙ ap (λ e. map (entry_at rows bytes events) lines ++ e ∷ []) (rw (s.rows_are, s.bytes_are, s.events_are) at s.shows)
 
 -- the events, where they were those of the entries, are those of the entries with one more
-pub told-push : (rows : List Row) (bytes : List ℕ) (events : List Event) (time : ℕ) (carried : List ℕ) (draft : PlainDraft) (told : List Event) (said : Line) (rows_after : List Row) (bytes_after : List ℕ) (events_after : List Event) (lines : List Line)
+pub told-push : (rows : List LogRow) (bytes : List ℕ) (events : List Event) (time : ℕ) (carried : List ℕ) (draft : PlainDraft) (told : List Event) (said : Line) (rows_after : List LogRow) (bytes_after : List ℕ) (events_after : List Event) (lines : List Line)
     → Says rows bytes events time carried draft told said rows_after bytes_after events_after → All (IsRowIn (length bytes) (length events)) rows → All (IsLineIn (length rows)) lines
     → all_events (map (entry_at rows bytes events) lines) ≡ events
     → all_events (map (entry_at rows_after bytes_after events_after) (lines ++ said ∷ [])) ≡ events_after
@@ -185,7 +185,7 @@ told-push rows bytes events time carried draft told said rows_after bytes_after 
     ∙ sym s.events_are
 
 -- rows and lines stay inside longer lists
-IsRowIn-more : (n m k l : ℕ) (r : Row) → n ≤ m → k ≤ l → IsRowIn n k r → IsRowIn m l r
+IsRowIn-more : (n m k l : ℕ) (r : LogRow) → n ≤ m → k ≤ l → IsRowIn n k r → IsRowIn m l r
 IsRowIn-more n m k l r a b h = record { bytes_in = let w = h.bytes_in in omega arith; fits = h.fits; word = h.word; short = h.short; events_in = let w = h.events_in in omega arith; few = h.few }
 
 IsLineIn-more : (n m : ℕ) (l : Line) → n ≤ m → IsLineIn n l → IsLineIn m l
@@ -194,7 +194,7 @@ IsLineIn-more n m (line.FoundNoBuffer _) le h = tt
 IsLineIn-more n m (line.FoundEmpty _ _) le h = tt
 IsLineIn-more n m (line.Kept k) le h = omega arith
 
-pub rows-push : (rows : List Row) (bytes : List ℕ) (events : List Event) (time : ℕ) (carried : List ℕ) (draft : PlainDraft) (told : List Event) (said : Line) (rows_after : List Row) (bytes_after : List ℕ) (events_after : List Event)
+pub rows-push : (rows : List LogRow) (bytes : List ℕ) (events : List Event) (time : ℕ) (carried : List ℕ) (draft : PlainDraft) (told : List Event) (said : Line) (rows_after : List LogRow) (bytes_after : List ℕ) (events_after : List Event)
     → Says rows bytes events time carried draft told said rows_after bytes_after events_after → All (IsRowIn (length bytes) (length events)) rows → All (IsRowIn (length bytes_after) (length events_after)) rows_after
 rows-push rows bytes events time carried draft told said rows_after bytes_after events_after s all =
     let P = IsRowIn (length bytes_after) (length events_after) in
@@ -203,7 +203,7 @@ rows-push rows bytes events time carried draft told said rows_after bytes_after 
     let old : All P rows = All-weaker (IsRowIn (length bytes) (length events)) P (λ r h. IsRowIn-more (length bytes) (length bytes_after) (length events) (length events_after) r longer later h) rows all in
     rw (← s.rows_are) at (All-append P rows s.rows_more old s.inside)
 
-pub lines-push : (rows : List Row) (bytes : List ℕ) (events : List Event) (time : ℕ) (carried : List ℕ) (draft : PlainDraft) (told : List Event) (said : Line) (rows_after : List Row) (bytes_after : List ℕ) (events_after : List Event) (lines : List Line)
+pub lines-push : (rows : List LogRow) (bytes : List ℕ) (events : List Event) (time : ℕ) (carried : List ℕ) (draft : PlainDraft) (told : List Event) (said : Line) (rows_after : List LogRow) (bytes_after : List ℕ) (events_after : List Event) (lines : List Line)
     → Says rows bytes events time carried draft told said rows_after bytes_after events_after → All (IsLineIn (length rows)) lines → All (IsLineIn (length rows_after)) (lines ++ said ∷ [])
 lines-push rows bytes events time carried draft told said rows_after bytes_after events_after lines s within =
     let P = IsLineIn (length rows_after) in

@@ -3,6 +3,7 @@ pub mod Drafting
 pub mod Framing
 pub mod Headers
 pub mod Idling
+pub mod KeptRows
 pub mod Kinds
 pub mod Layout
 pub mod Moving
@@ -13,6 +14,5 @@ pub mod PlainLog
 pub mod PlainSpares
 pub mod Remains
 pub mod Rows
-pub mod Slots
 pub mod Weights
 pub mod Who

@@ -18,7 +18,7 @@ use Rattle.csp_log.specs.declared.row.Deed.{Deed}
 use Rattle.csp_log.specs.declared.row.Deed.TheVariants as deed
 use Rattle.csp_log.specs.declared.row.Line.{Line}
 use Rattle.csp_log.specs.declared.row.Line.TheVariants as line
-use Rattle.csp_log.specs.declared.row.Row.{Row}
+use Rattle.csp_log.specs.declared.row.LogRow.{LogRow}
 use Rattle.csp_log.specs.declared.shown.ItemShown.{ItemShown}
 use Rattle.csp_log.specs.declared.shown.ItemShown.TheVariants as item_shown
 use Rattle.csp_log.specs.declared.shown.OpShown.{OpShown}
@@ -115,15 +115,15 @@ IsDeedWord (deed.Popped q i) = IsItemWord i
 IsDeedWord (deed.FoundEmpty q) = ⊤
 
 -- the bytes and the events of a row
-abbrev pub bytes_in : List ℕ → Row → List ℕ
+abbrev pub bytes_in : List ℕ → LogRow → List ℕ
 bytes_in bytes r = slice_range bytes r.first_byte (r.first_byte + r.bytes)
 
 -- the events of a row, in the list that it points into
-abbrev pub events_in : List Event → Row → List Event
+abbrev pub events_in : List Event → LogRow → List Event
 events_in events r = slice_range events r.first_event (r.first_event + r.events)
 
 -- the entry of a row
-abbrev pub row_entry : List ℕ → List Event → Row → Entry
+abbrev pub row_entry : List ℕ → List Event → LogRow → Entry
 row_entry bytes events r = entry_with r.time (draft_of (bytes_in bytes r) (trace_of r.trail) r.deed) (events_in events r)
 
 -- the entry of a turn that carried and reported nothing
@@ -131,12 +131,12 @@ abbrev pub idle_entry : ℕ → Deed → Entry
 idle_entry time d = entry_with time (draft_of [] no_trace d) []
 
 -- the entry of a row, and an idle one where there is none
-abbrev pub kept_entry : List ℕ → List Event → Option Row → Entry
+abbrev pub kept_entry : List ℕ → List Event → Option LogRow → Entry
 kept_entry bytes events None = idle_entry 0 deed.Rested
 kept_entry bytes events (Some r) = row_entry bytes events r
 
 -- the entry of a line: of what it says, or of its row
-abbrev pub entry_at : List Row → List ℕ → List Event → Line → Entry
+abbrev pub entry_at : List LogRow → List ℕ → List Event → Line → Entry
 entry_at rows bytes events (line.Rested time) = idle_entry time deed.Rested
 entry_at rows bytes events (line.FoundNoBuffer time) = idle_entry time deed.FoundNoBuffer
 entry_at rows bytes events (line.FoundEmpty q time) = idle_entry time (deed.FoundEmpty q)
@@ -151,7 +151,7 @@ spoken_of true time (deed.FoundEmpty q) = Some (line.FoundEmpty q time)
 spoken_of true time _ = None
 
 -- a row's bytes and events stand in the lists, and its header is a word
-pub record IsRowIn (bytes events : ℕ) (r : Row) : Type 0 where
+pub record IsRowIn (bytes events : ℕ) (r : LogRow) : Type 0 where
   pub bytes_in : r.first_byte + r.bytes ≤ bytes
   pub fits : IsDeedLong r.bytes r.deed
   pub word : IsDeedWord r.deed
@@ -176,8 +176,8 @@ IsLineIn rows (line.Kept k) = k < rows
 
 -- the line of a turn shows it, with the rows, bytes and events that were kept for it at the ends of the lists; bytes with which the
 -- list ended are not kept again
-pub record Says (rows : List Row) (bytes : List ℕ) (events : List Event) (time : ℕ) (carried : List ℕ) (draft : PlainDraft) (told : List Event) (said : Line) (rows_after : List Row) (bytes_after : List ℕ) (events_after : List Event) : Type 0 where
-  pub rows_more : List Row
+pub record Says (rows : List LogRow) (bytes : List ℕ) (events : List Event) (time : ℕ) (carried : List ℕ) (draft : PlainDraft) (told : List Event) (said : Line) (rows_after : List LogRow) (bytes_after : List ℕ) (events_after : List Event) : Type 0 where
+  pub rows_more : List LogRow
   pub bytes_more : List ℕ
   pub events_more : List Event
   pub rows_are : rows_after ≡ rows ++ rows_more

@@ -10,7 +10,7 @@ ghost use Rattle.csp_log.specs.Rows.{packet_of, item_of, op_of, answer_of, row_e
 
 use crate::framed::read_framed;
 use crate::moved::read_moved;
-use crate::row::{Deed, ItemHead, PacketHead, Row};
+use crate::row::{Deed, ItemHead, LogRow, PacketHead};
 use crate::{
     AnswerShown, Entry, Event, Events, Frame, Framed, ItemShown, MAX_EVENTS, Moved, OpShown,
 };
@@ -49,7 +49,7 @@ pub fn make_room<T: Copy>(list: &mut Vec<T>, room: usize, fewest: usize) -> Resu
 }
 
 /// The entry of a row, with these bytes and events.
-pub fn entry_of(bytes: &[u8], events: &[Event], row: &Row) -> Entry
+pub fn entry_of(bytes: &[u8], events: &[Event], row: &LogRow) -> Entry
     requires { IsRowIn (length bytes.now) (length events.now) row.now }
     ensures { result ≡ row_entry bytes.now events.now row.now }
 {
@@ -63,7 +63,7 @@ pub fn entry_of(bytes: &[u8], events: &[Event], row: &Row) -> Entry
 }
 
 /// What the turn of a row moved.
-pub fn moved_of<'a>(bytes: &'a [u8], row: &Row) -> Moved<'a>
+pub fn moved_of<'a>(bytes: &'a [u8], row: &LogRow) -> Moved<'a>
     requires { row.now.first_byte + row.now.bytes ≤ length bytes.now }
     ensures { result ≡ moved_by (op_of (bytes_in bytes.now row.now) (trace_of row.now.trail) row.now.deed) (answer_of (bytes_in bytes.now row.now) (trace_of row.now.trail) row.now.deed) }
 {
@@ -72,7 +72,7 @@ pub fn moved_of<'a>(bytes: &'a [u8], row: &Row) -> Moved<'a>
 }
 
 /// The frame that the turn of a row moved.
-pub fn framed_of(bytes: &[u8], row: &Row) -> Framed
+pub fn framed_of(bytes: &[u8], row: &LogRow) -> Framed
     requires { row.now.first_byte + row.now.bytes ≤ length bytes.now }
     ensures { result ≡ framed_by (op_of (bytes_in bytes.now row.now) (trace_of row.now.trail) row.now.deed) (answer_of (bytes_in bytes.now row.now) (trace_of row.now.trail) row.now.deed) }
 {
@@ -81,7 +81,7 @@ pub fn framed_of(bytes: &[u8], row: &Row) -> Framed
 }
 
 /// The events of a row.
-pub fn events_at<'a>(events: &'a [Event], row: &Row) -> &'a [Event]
+pub fn events_at<'a>(events: &'a [Event], row: &LogRow) -> &'a [Event]
     requires { row.now.first_event + row.now.events ≤ length events.now }
     ensures { result.now ≡ events_in events.now row.now }
 {

@@ -18,7 +18,7 @@ use crate::deeds::{entry_of, events_at, framed_of, idle, keep, make_room, moved_
 use crate::draft::Draft;
 use crate::framed::read_mark;
 use crate::noted::{is_still, read_noted};
-use crate::row::{Deed, ItemHead, Line, PacketHead, Row};
+use crate::row::{Deed, ItemHead, Line, LogRow, PacketHead};
 use crate::rows::Rows;
 use crate::weights::surplus;
 use crate::{
@@ -437,7 +437,7 @@ fn keep_row(
     let row = rows.len() as u32;
     let first_byte = keep_once(bytes, carried);
     let first_event = keep(events, told);
-    rows.push(&Row {
+    rows.push(&LogRow {
         time,
         first_byte,
         first_event,

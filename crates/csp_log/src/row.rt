@@ -7,16 +7,16 @@ use csp_buffer::{BriefTrail, Trail};
 const MAX_LINE: usize = 8;
 
 /// The most bytes of a row.
-const MAX_ROW: usize = 88;
+const MAX_LOG_ROW: usize = 88;
 
-/// The most bytes of a slot.
-const MAX_SLOT: usize = 56;
+/// The most bytes of a kept row.
+const MAX_KEPT_ROW: usize = 56;
 
 const _: () = prove!(size_of::<Line>() <= MAX_LINE);
 
-const _: () = prove!(size_of::<Row>() <= MAX_ROW);
+const _: () = prove!(size_of::<LogRow>() <= MAX_LOG_ROW);
 
-const _: () = prove!(size_of::<Slot>() <= MAX_SLOT);
+const _: () = prove!(size_of::<KeptRow>() <= MAX_KEPT_ROW);
 
 /// What a packet is besides its payload and its trace.
 #[derive(Clone, Copy)]
@@ -60,7 +60,7 @@ pub enum Line {
 
 /// An entry that a line can't say by itself: its bytes and events stand in the log's lists.
 #[derive(Clone, Copy)]
-pub struct Row {
+pub struct LogRow {
     pub time: u64,
     pub first_byte: usize,
     pub first_event: usize,
@@ -72,7 +72,7 @@ pub struct Row {
 
 /// What is kept of a row: all of it, where its numbers are of 32 bits, or its place in a list of rows.
 #[derive(Clone, Copy)]
-pub enum Slot {
+pub enum KeptRow {
     Brief {
         events: u8,
         bytes: u16,

@@ -10,7 +10,7 @@ use Rattle.csp_kiss.specs.declared.stage.Stage.{Stage}
 use Rattle.csp_kiss.specs.declared.stage.Stage.TheVariants.{Outside, Start, Plain, Escape}
 use Rattle.csp_kiss.specs.Frame.{escape_of, escaped}
 use Rattle.csp_kiss.specs.GoingOn.{Progress, packet_of, read_on}
-use Rattle.csp_kiss.specs.Reading.{Reading, room, kept, going, continued, after, told, answer, answers}
+use Rattle.csp_kiss.specs.Reading.{Reading, room, kept_bytes, going, continued, after, told, answer, answers}
 use Rattle.csp_kiss.specs.Stream.{judged}
 use Rattle.csp_kiss.proofs.Public.{going_on, read_step, judged-take, take_all, take-take-append}
 use Rattle.csp_noticed.specs.Made.{IsBetween, HasNothingBegun, MakesJust, refused_by}
@@ -42,16 +42,16 @@ pass X f over r byte bytes e =
 
 -- an escaped byte
 pass-escaped : (X : Type 0) (f : Reading → List ℕ → X) → PassesOver X f → (r : Reading) (plain : List ℕ) (byte : ℕ) (bytes : List ℕ) (ends escapes : Bool) → eqb byte FEND ≡ ends → eqb byte FESC ≡ escapes
-    → f (within r plain) (cond ends (FESC ∷ TFEND ∷ []) (cond escapes (FESC ∷ TFESC ∷ []) (byte ∷ [])) ++ bytes) ≡ f (within r (kept r.mtu plain (byte ∷ []))) bytes
+    → f (within r plain) (cond ends (FESC ∷ TFEND ∷ []) (cond escapes (FESC ∷ TFESC ∷ []) (byte ∷ [])) ++ bytes) ≡ f (within r (kept_bytes r.mtu plain (byte ∷ []))) bytes
 pass-escaped X f over r plain byte bytes true escapes e g =
     pass X f over (within r plain) FESC (TFEND ∷ bytes) refl ∙ pass X f over (going r Escape plain) TFEND bytes refl
-    ∙ ap (λ n. f (within r (kept r.mtu plain (n ∷ []))) bytes) (sym (eqb-true byte FEND e))
+    ∙ ap (λ n. f (within r (kept_bytes r.mtu plain (n ∷ []))) bytes) (sym (eqb-true byte FEND e))
 pass-escaped X f over r plain byte bytes false true e g =
     pass X f over (within r plain) FESC (TFESC ∷ bytes) refl ∙ pass X f over (going r Escape plain) TFESC bytes refl
-    ∙ ap (λ n. f (within r (kept r.mtu plain (n ∷ []))) bytes) (sym (eqb-true byte FESC g))
+    ∙ ap (λ n. f (within r (kept_bytes r.mtu plain (n ∷ []))) bytes) (sym (eqb-true byte FESC g))
 pass-escaped X f over r plain byte bytes false false e g =
     pass X f over (within r plain) byte bytes e
-    ∙ ap (λ b. f (cond b (going r Escape plain) (within r (kept r.mtu plain (byte ∷ [])))) bytes) g
+    ∙ ap (λ b. f (cond b (going r Escape plain) (within r (kept_bytes r.mtu plain (byte ∷ [])))) bytes) g
 
 -- the escaped form of some bytes
 pass-all : (X : Type 0) (f : Reading → List ℕ → X) → PassesOver X f → (r : Reading) (plain bytes rest : List ℕ)

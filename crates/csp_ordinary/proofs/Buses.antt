@@ -17,7 +17,7 @@ use Rattle.csp_can.specs.declared.identifiers.Key.{Key}
 use Rattle.csp_can.specs.declared.identifiers.Kind.TheVariants.{Begin, More}
 use Rattle.csp_can.specs.declared.partials.Partial.{Partial}
 use Rattle.csp_header.specs.Word.{header_at}
-use Rattle.csp_iface.specs.Receiving.{arrived, heard, heard_by, read_further, reassembled}
+use Rattle.csp_iface.specs.Receiving.{arrived, frame_heard, heard_by, read_further, reassembled}
 use Rattle.csp_iface.specs.declared.receiver.Receiver.{Receiver}
 use Rattle.csp_iface.specs.declared.receiver.Receiver.TheVariants as by
 use Rattle.csp_iface.specs.declared.receiver.TheConstants.{MAX_HOPS}
@@ -202,7 +202,7 @@ module _ (r : PlainRecord) (l : PlainLink) (at : ℕ) (apart : AreOthersApart r 
       goes_on true = new
       goes_on false = (new.0, tt)
 
-  pub bus_hears : (now : ℕ) (c : Receiver) (f : Frame) → IsBusSo c → IsCanOf r l at f → IsHeardSo (IsAsSent r) IsBusSo (read_from (heard now c f))
+  pub bus_hears : (now : ℕ) (c : Receiver) (f : Frame) → IsBusSo c → IsCanOf r l at f → IsHeardSo (IsAsSent r) IsBusSo (read_from (frame_heard now c f))
   bus_hears now (by.Kiss s) f all g = absurd all
   bus_hears now (by.Can c) f all g =
       chosen (f.trace.hops == MAX_HOPS)

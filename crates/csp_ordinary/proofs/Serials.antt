@@ -9,8 +9,8 @@ use Rattle.csp_iface.specs.Asking.{asked}
 use Rattle.csp_iface.specs.PlainIface.{PlainIface}
 use Rattle.csp_iface.specs.Planning.{plan_of}
 use Rattle.csp_iface.specs.Telling.{bad, caught, concluded, fetched as told_fetched, is_too_big, kept, pushed, taken_up, tells, told_by}
-use Rattle.csp_iface.specs.declared.plan.Plan.{Plan}
-use Rattle.csp_iface.specs.declared.plan.Plan.TheVariants as plan
+use Rattle.csp_iface.specs.declared.plan.IfacePlan.{IfacePlan}
+use Rattle.csp_iface.specs.declared.plan.IfacePlan.TheVariants as plan
 use Rattle.csp_log.specs.PlainLog.{all_events}
 use Rattle.csp_log.specs.declared.entry.Entry.{Entry}
 use Rattle.csp_log.specs.declared.event.Event.{Event}
@@ -49,7 +49,7 @@ fetched_counts (item.Packet mark b) s =
 fetched_counts (item.Frame f) s = at_most s.serial s.serial (count []) refl
 fetched_counts (item.Note n) s = at_most s.serial s.serial (count []) refl
 
-told_counts : (s : PlainIface) (now : ℕ) (p : Plan) (a : AnswerShown) → (told s now p a).serial ≤ s.serial + count (told_by (waiting s p) now p a).events
+told_counts : (s : PlainIface) (now : ℕ) (p : IfacePlan) (a : AnswerShown) → (told s now p a).serial ≤ s.serial + count (told_by (waiting s p) now p a).events
 told_counts s now plan.Return answer.Given = at_most s.serial s.serial (count []) refl
 told_counts s now plan.Return (answer.PoolFull b) = at_most s.serial s.serial (count []) refl
 told_counts s now plan.Deliver answer.Pushed = at_most s.serial s.serial (count []) refl
@@ -69,7 +69,7 @@ told_counts s now p a = at_most s.serial (waiting s p).serial (count []) (handed
 shown_below : (es : List Entry) (time : ℕ) (s : PlainIface) → IsRun party_steps time (an_iface s) es → (n : ℕ) (b : Content) → slice_get (filter_map (shown_in n) es) 0 ≡ Some b → n < s.serial + transmissions es
 shown_below [] time s run n b is = absurd cc
 shown_below (e ∷ es) time s run n b is =
-    let p : Plan = plan_of s in
+    let p : IfacePlan = plan_of s in
     let k : ℕ = (concluded (asked s e.time) e.time e.answer).refused in
     let t : PlainIface = tells (asked s e.time) e.time e.answer in
     let own : List Event = (told_by (waiting s p) e.time p e.answer).events in

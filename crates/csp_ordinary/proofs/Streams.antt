@@ -4,7 +4,7 @@ use Rattle.std.proofs.lemmas.Bool.{cases_lt}
 use Rattle.std.specs.Prelude.{if◌then◌else◌}
 use Rattle.csp_base.specs.declared.traces.Trace.{Trace}
 use Rattle.csp_iface.specs.Keeping.{PlainStream}
-use Rattle.csp_iface.specs.Receiving.{arrived, followed, heard, heard_by, read_further, traced}
+use Rattle.csp_iface.specs.Receiving.{arrived, followed, frame_heard, heard_by, read_further, traced}
 use Rattle.csp_iface.specs.declared.receiver.Receiver.{Receiver}
 use Rattle.csp_iface.specs.declared.receiver.Receiver.TheVariants as by
 use Rattle.csp_iface.specs.declared.receiver.TheConstants.{MAX_HOPS}
@@ -91,7 +91,7 @@ module _ (As : ℕ → List ℕ → Trace → Type 0) (cover : Bool) (mtu : ℕ)
       subst (λ rest. IsHeardSo As (IsStreamSo cover mtu) (followed s.trace (read_on s.reading rest))) (sym k.read) (nothing_left s.trace s.reading k.between k.cover_is k.mtu_is)
   stream_rests (by.Can l) k = absurd k
 
-  pub stream_hears : (now : ℕ) (r : Receiver) (f : Frame) → IsStreamSo cover mtu r → IsKissOf As cover mtu f → IsHeardSo As (IsStreamSo cover mtu) (read_from (heard now r f))
+  pub stream_hears : (now : ℕ) (r : Receiver) (f : Frame) → IsStreamSo cover mtu r → IsKissOf As cover mtu f → IsHeardSo As (IsStreamSo cover mtu) (read_from (frame_heard now r f))
   stream_hears now (by.Kiss s) f k g =
       chosen (f.trace.hops == MAX_HOPS)
     where

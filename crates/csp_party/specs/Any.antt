@@ -24,7 +24,7 @@ use Rattle.csp_iface.specs.PlainIface.{PlainIface, IfaceAt}
 use Rattle.csp_iface.specs.Drained as iface_drained
 use Rattle.csp_iface.specs.Stocking as iface_stocking
 use Rattle.csp_iface.specs.Telling as iface_telling
-use Rattle.csp_iface.specs.declared.plan.Plan.TheVariants as iface_plan
+use Rattle.csp_iface.specs.declared.plan.IfacePlan.TheVariants as iface_plan
 use Rattle.csp_link.specs.Asking as link_asking
 use Rattle.csp_link.specs.PlainLink as plain_link
 use Rattle.csp_link.specs.PlainLink.{PlainLink}

@@ -9,7 +9,7 @@ use Rattle.csp_rdp_window.specs.Receiving.{PlainRecv, confirmed, with_kept, with
 use Rattle.csp_rdp.specs.Holding.{recv_rested, rested}
 use Rattle.csp_rdp.specs.Jobs.{admitting, closing, delivering, keeping_again, sent, ticked, without_delivery}
 use Rattle.csp_rdp.specs.Machine.{PlainRdp}
-use Rattle.csp_rdp.specs.Table.{handed}
+use Rattle.csp_rdp.specs.Table.{after_packet as handed}
 use Rattle.csp_rdp.specs.declared.answers.State.{State}
 use Rattle.csp_rdp.specs.declared.answers.State.TheVariants.{Closed, SynSent, SynRcvd, Open, CloseWait}
 use Rattle.csp_prefix.specs.Machines.{whatever}

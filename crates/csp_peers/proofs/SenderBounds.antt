@@ -19,13 +19,13 @@ use Rattle.csp_rdp_window.specs.declared.pending.Pending.{Pending}
 use Rattle.csp_rdp.specs.Holding.{rested}
 use Rattle.csp_rdp.specs.Jobs.{admitting, closed_in, closing, delivering, job_of, keeping_again, reset_after, says, sent, syn_in, taken_in, ticked, timed_out, without_delivery}
 use Rattle.csp_rdp.specs.Machine.{PlainRdp, broken, left, owes_rst}
-use Rattle.csp_rdp.specs.Table.{acknowledged, after, entered_from, handed, listing, row_of}
+use Rattle.csp_rdp.specs.Table.{acknowledged, after, entered_from, after_packet as handed, listing, row_of}
 use Rattle.csp_rdp.specs.declared.answers.State.{State}
 use Rattle.csp_rdp.specs.declared.answers.State.TheVariants.{Closed, SynSent, SynRcvd, Open, CloseWait}
 use Rattle.csp_rdp.specs.declared.jobs.Job.{Job}
 use Rattle.csp_rdp.specs.declared.jobs.Job.TheVariants as job
-use Rattle.csp_rdp.specs.declared.rows.Row.{Row}
-use Rattle.csp_rdp.specs.declared.rows.Row.TheVariants as row
+use Rattle.csp_rdp.specs.declared.rows.StateRow.{StateRow}
+use Rattle.csp_rdp.specs.declared.rows.StateRow.TheVariants as row
 use Rattle.csp_peers.specs.Nearness.{IsBounded, IsMaker, SaysNear, addressable}
 use Rattle.csp_prefix.specs.Slots.{IsKept, Now, Numbering, after_delivering, after_opening, after_sending, waiting_for, with_machine}
 use Rattle.csp_prefix.proofs.Public.{hears-handed, sender-kept, Delivers, Hears, IsSameOwn, Ways, answers, delivers, enters, enters_keeping, delivers-both, delivers-open, goes-kept-again, goes-rested, goes-sent, keeps, moves, on, over, off, resets, ways-closing, ways-ticked}
@@ -61,7 +61,7 @@ ordered-listing : (b : Bool) (bytes : List ℕ) (time : ℕ) (r : PlainRdp) → 
 ordered-listing true bytes time r i = i
 ordered-listing false bytes time r i = i
 
-ordered-after : (w : Row) (h : RdpHead) (tag : Option Tag) (p : PlainBuffer) (time : ℕ) (r : PlainRdp) → IsOrdered r.send → IsOrdered (after w h tag p time r).send
+ordered-after : (w : StateRow) (h : RdpHead) (tag : Option Tag) (p : PlainBuffer) (time : ℕ) (r : PlainRdp) → IsOrdered r.send → IsOrdered (after w h tag p time r).send
 ordered-after row.Stray h tag p time r i = i
 ordered-after row.Refused h tag p time r i = i
 ordered-after row.Answered h tag p time r i = i

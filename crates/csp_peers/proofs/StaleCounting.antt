@@ -9,10 +9,10 @@ use Rattle.csp_app.specs.PlainApp.{PlainApp}
 use Rattle.csp_app.specs.Slots.{slot_at, took}
 use Rattle.csp_app.specs.Steps.{answered, batch, gives_up, has_passed, is_enough, pushed_one, recv_end, turn_of, wait_end}
 use Rattle.csp_app.specs.Telling as app_telling
-use Rattle.csp_app.specs.Told.{Told}
+use Rattle.csp_app.specs.ToldApp.{ToldApp}
 use Rattle.csp_app.specs.Turn.{Turn, gives, pops, pushes, rests, takes, told_of}
-use Rattle.csp_app.specs.declared.plan.Plan.{Plan}
-use Rattle.csp_app.specs.declared.plan.Plan.TheVariants as app_plan
+use Rattle.csp_app.specs.declared.plan.AppPlan.{AppPlan}
+use Rattle.csp_app.specs.declared.plan.AppPlan.TheVariants as app_plan
 use Rattle.csp_bridge.specs.Asking as bridge_asking
 use Rattle.csp_bridge.specs.Telling as bridge_telling
 use Rattle.csp_bridge.specs.declared.doing.Doing.{Doing}
@@ -22,8 +22,8 @@ use Rattle.csp_deck.specs.Runs.{IsRun, step_after}
 use Rattle.csp_iface.specs.Asking as iface_asking
 use Rattle.csp_iface.specs.PlainIface.{PlainIface}
 use Rattle.csp_iface.specs.Telling as iface_telling
-use Rattle.csp_iface.specs.declared.plan.Plan as iface_plans
-use Rattle.csp_iface.specs.declared.plan.Plan.TheVariants as iface_plan
+use Rattle.csp_iface.specs.declared.plan.IfacePlan as iface_plans
+use Rattle.csp_iface.specs.declared.plan.IfacePlan.TheVariants as iface_plan
 use Rattle.csp_log.specs.PlainLog.{all_events}
 use Rattle.csp_log.specs.declared.entry.Entry.{Entry}
 use Rattle.csp_log.specs.declared.event.Event.{Event}
@@ -83,7 +83,7 @@ caught_clear now (item.Frame f) s = tt
 caught_clear now (item.Packet _ _) s = tt
 caught_clear now (item.Note _) s = tt
 
-iface_told : (s : PlainIface) (now : ℕ) (p : iface_plans.Plan) (a : AnswerShown) → AreClear (iface_telling.told_by s now p a).events
+iface_told : (s : PlainIface) (now : ℕ) (p : iface_plans.IfacePlan) (a : AnswerShown) → AreClear (iface_telling.told_by s now p a).events
 iface_told s now iface_plan.Return answer.Given = tt
 iface_told s now iface_plan.Return (answer.PoolFull b) = tt
 iface_told s now iface_plan.Deliver answer.Pushed = tt
@@ -114,7 +114,7 @@ iface_clear s now a =
 -- ---- an application
 
 -- what a turn comes to tells of none
-abbrev IsToldClear : Told → Type 0
+abbrev IsToldClear : ToldApp → Type 0
 IsToldClear t = AreClear t.events
 
 -- nor does all that a turn may come to
@@ -150,7 +150,7 @@ waited_clear : (passed : Bool) (s : PlainApp) → IsToldClear (wait_end passed s
 waited_clear true s = tt
 waited_clear false s = tt
 
-table_clear : (s : PlainApp) (now : ℕ) (p : Plan) → IsTurnClear (turn_of s now p)
+table_clear : (s : PlainApp) (now : ℕ) (p : AppPlan) → IsTurnClear (turn_of s now p)
 table_clear s now app_plan.Rest = tt
 table_clear s now app_plan.Return = (tt, λ b. tt)
 table_clear s now app_plan.Look = λ n x. tt

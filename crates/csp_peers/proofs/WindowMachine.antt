@@ -27,12 +27,12 @@ use Rattle.csp_rdp_window.specs.declared.pending.Pending.{Pending}
 use Rattle.csp_rdp.specs.Holding.{rested}
 use Rattle.csp_rdp.specs.Jobs.{admitting, closed_in, closing, delivering, head_for, keeping_again, reset_after, says, sending_index, sent, syn_in, taken_in, ticked, timed_out, without_delivery}
 use Rattle.csp_rdp.specs.Machine.{PlainRdp, broken, left, owes_rst, una_of}
-use Rattle.csp_rdp.specs.Table.{ack_row, acknowledged, after, close_wait_row, data_row, entered_from, handed, is_bad_list, listing, open_row, reset_row, row_in, syn_rcvd_row, syn_sent_row}
+use Rattle.csp_rdp.specs.Table.{ack_row, acknowledged, after, close_wait_row, data_row, entered_from, after_packet as handed, is_bad_list, listing, open_row, reset_row, row_in, syn_rcvd_row, syn_sent_row}
 use Rattle.csp_rdp.specs.declared.answers.State.{State}
 use Rattle.csp_rdp.specs.declared.answers.State.TheVariants.{Closed, SynSent, SynRcvd, Open, CloseWait}
 use Rattle.csp_rdp.specs.declared.jobs.Job.{Job}
 use Rattle.csp_rdp.specs.declared.jobs.Job.TheVariants as job
-use Rattle.csp_rdp.specs.declared.rows.Row.TheVariants as row
+use Rattle.csp_rdp.specs.declared.rows.StateRow.TheVariants as row
 use Rattle.csp_prefix.specs.Flows.{is_data}
 use Rattle.csp_prefix.specs.Machines.{IsSender, SendsIn}
 use Rattle.csp_prefix.specs.Slots.{Coming, IsKept, Now, Numbering}

@@ -86,13 +86,13 @@ noted shown h (what.Carried end number fate frame) seen = with_start (shown && o
 noted shown h _ seen = seen
 
 -- a row more, where it is shown
-abbrev pub counted : (shown : Bool) → (round : ℕ) → PlainSeen → PlainSeen
-counted true round seen = record seen { rows = seen.rows + 1; last = Some round }
-counted false round seen = seen
+abbrev pub one_row_more : (shown : Bool) → (round : ℕ) → PlainSeen → PlainSeen
+one_row_more true round seen = record seen { rows = seen.rows + 1; last = Some round }
+one_row_more false round seen = seen
 
 -- what is known afterwards
 abbrev pub after : Option Window → PlainSeen → Happening → PlainSeen
-after window seen h = counted (is_shown window h) h.time (noted (is_shown window h) h h.what seen)
+after window seen h = one_row_more (is_shown window h) h.time (noted (is_shown window h) h h.what seen)
 
 -- and after these
 unfoldable pub after_all : Option Window → PlainSeen → List Happening → PlainSeen

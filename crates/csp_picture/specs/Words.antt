@@ -15,8 +15,8 @@ abbrev pub spaced : List ℕ → List ℕ
 spaced word = 32 ∷ word
 
 -- a word and the number that belongs to it
-abbrev pub counted : List ℕ → ℕ → List ℕ
-counted word number = spaced word ++ spaced (decimal number)
+abbrev pub word_and_number : List ℕ → ℕ → List ℕ
+word_and_number word number = spaced word ++ spaced (decimal number)
 
 -- ` SPORT>DPORT`
 abbrev pub port_words : Header → List ℕ
@@ -24,7 +24,7 @@ port_words h = spaced (decimal h.sport) ++ (codes ">" ++ decimal h.dport)
 
 -- ` WORD NTH:INDEX`: the number of a flow at its node, and an index in it
 abbrev pub flow_words : List ℕ → (nth index : ℕ) → List ℕ
-flow_words word nth index = counted word nth ++ (codes ":" ++ decimal index)
+flow_words word nth index = word_and_number word nth ++ (codes ":" ++ decimal index)
 
 -- what a packet is to its flow: of what opens, resets or has data its own index, of an acknowledgement the one that it acknowledges
 abbrev pub kind_words : Kind → Tag → List ℕ
@@ -37,7 +37,7 @@ kind_words kind.Short tag = flow_words (codes "short") tag.nth tag.index
 
 -- what a packet without a flow is: so many bytes
 abbrev pub part_words : Parcel → Option Tag → List ℕ
-part_words p None = counted (codes "bytes") p.len
+part_words p None = word_and_number (codes "bytes") p.len
 part_words p (Some tag) = kind_words p.kind tag
 
 -- a packet: its ports, and what it is
@@ -61,12 +61,12 @@ sent_words (Some sent) = packet_words sent.packet ++ again_words sent.again
 
 -- ` WORD N`, unless N is 0
 abbrev pub some_words : List ℕ → ℕ → List ℕ
-some_words word number = if nat_lt 0 number then counted word number else []
+some_words word number = if nat_lt 0 number then word_and_number word number else []
 
 -- ` flipped BIT`
 abbrev pub flip_words : Option ℕ → List ℕ
 flip_words None = []
-flip_words (Some bit) = counted (codes "flipped") bit
+flip_words (Some bit) = word_and_number (codes "flipped") bit
 
 -- what a plan does to a frame: where it is lost nothing else
 abbrev pub fate_words : Fate → List ℕ

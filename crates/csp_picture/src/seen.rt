@@ -1,7 +1,7 @@
 //! What a picture shows of what happened, and what is known when it comes to each thing.
 
 ghost use Rattle.std.specs.Prelude.{◌≡◌, OnOk};
-ghost use Rattle.csp_picture.specs.Seen.{opens, closes, is_drawn, is_in, is_shown, nothing_seen, sent_by, start_of, with_sent, with_start, noted, counted, after};
+ghost use Rattle.csp_picture.specs.Seen.{opens, closes, is_drawn, is_in, is_shown, nothing_seen, sent_by, start_of, with_sent, with_start, noted, one_row_more, after};
 
 use crate::colours::{Colour, is_harmed};
 use csp_base::Origin;
@@ -216,7 +216,7 @@ impl Seen {
 
     /// A row more, where it is shown. Memory is wanting where the rows are more than 32 bits count.
     fn count(&mut self, shown: bool, round: u64) -> Result<(), AllocError>
-        ensures { OnOk result (self.new ≡ counted shown round self.old) }
+        ensures { OnOk result (self.new ≡ one_row_more shown round self.old) }
     {
         if !shown {
             return Ok(());

@@ -4,7 +4,7 @@ ghost use Rattle.std.specs.Prelude.{◌≡◌, ◌++◌, OnOk, codes};
 ghost use Rattle.std.specs.String.{string_bytes};
 ghost use Rattle.std.specs.Fmt.{decimal};
 ghost use Rattle.csp_header.specs.Word.{header_at};
-ghost use Rattle.csp_picture.specs.Words.{spaced, counted, port_words, flow_words, kind_words, part_words, parcel_words, again_words, packet_words, sent_words, some_words, flip_words, fate_words};
+ghost use Rattle.csp_picture.specs.Words.{spaced, word_and_number, port_words, flow_words, kind_words, part_words, parcel_words, again_words, packet_words, sent_words, some_words, flip_words, fate_words};
 
 use crate::seen::Sent;
 use csp_base::Tag;
@@ -31,7 +31,7 @@ fn push_count(out: &mut String, number: u64) -> Result<(), AllocError>
 
 /// Appends a word and the number that belongs to it.
 fn push_counted(out: &mut String, word: &str, number: u64) -> Result<(), AllocError>
-    ensures { OnOk result (string_bytes out.new ≡ string_bytes out.old ++ counted word.now number) }
+    ensures { OnOk result (string_bytes out.new ≡ string_bytes out.old ++ word_and_number word.now number) }
 {
     push_word(out, word)?;
     push_count(out, number)

@@ -32,8 +32,8 @@ use Rattle.csp_rdp.specs.declared.answers.Change.{Change}
 use Rattle.csp_rdp.specs.declared.answers.Change.TheVariants as change
 use Rattle.csp_rdp.specs.declared.answers.State.{State}
 use Rattle.csp_rdp.specs.declared.answers.State.TheVariants.{Closed, SynSent, SynRcvd, Open, CloseWait}
-use Rattle.csp_rdp.specs.declared.answers.Why.{Why}
-use Rattle.csp_rdp.specs.declared.answers.Why.TheVariants as machine_why
+use Rattle.csp_rdp.specs.declared.answers.Cause.{Cause}
+use Rattle.csp_rdp.specs.declared.answers.Cause.TheVariants as machine_why
 use Rattle.csp_rdp.proofs.Public.{admitted-balanced, numbers-ticked, far-ticked}
 
 -- ---- steps that count no further
@@ -81,7 +81,7 @@ flows_connected wish.Nothing app slot p h = flows_none 0 p h
 flows_connected wish.End app slot p h = flows_none 0 p h
 flows_connected wish.Ended app slot p h = flows_none 0 p h
 
-flows_refused : (w : Wish) (why : Why) (app slot : ℕ) (p : PlainPorts) → AreWhole p → Flows 0 p (refused_by w why app slot p).ports (refused_by w why app slot p).loose []
+flows_refused : (w : Wish) (why : Cause) (app slot : ℕ) (p : PlainPorts) → AreWhole p → Flows 0 p (refused_by w why app slot p).ports (refused_by w why app slot p).loose []
 flows_refused wish.Connection why app slot p h =
     let first = flows_given_up app slot p h in
     let g = (given_up app slot p).ports in
@@ -107,7 +107,7 @@ flows_changed change.Down app slot p h = flows_still 0 p (down app slot p) refl 
 flows_changed change.Closed app slot p h = flows_closed (terms_at p app slot).wish (machine_at p app slot).was_open app slot p h
 
 -- a machine made a step, and what it changed; besides, it may hand back what came
-pub flows_went : (m : ℕ) (p : PlainPorts) (app slot : ℕ) (before : State) (why : Why) (r : PlainRdp) (back : List Content) (came : List ℕ) → place_of app slot < 16 → AreWhole p → IsWhole r → ((n : ℕ) → IsFar n (machine_at p app slot) → IsFar (n + m) r)
+pub flows_went : (m : ℕ) (p : PlainPorts) (app slot : ℕ) (before : State) (why : Cause) (r : PlainRdp) (back : List Content) (came : List ℕ) → place_of app slot < 16 → AreWhole p → IsWhole r → ((n : ℕ) → IsFar n (machine_at p app slot) → IsFar (n + m) r)
     → ((o : Option ℕ) → weigh o back + tally o (rdp_numbers r) ≡ tally o (rdp_numbers (machine_at p app slot)) + tally o came) → Flows m p (went before why app slot r p).ports ((back ++ pictures (unneeded r)) ++ (changed (change_between before r.state why) app slot (with_machine p app slot (rested r))).loose) came
 flows_went m p app slot before why r back came there h whole far even =
     let q = with_machine p app slot (rested r) in

@@ -16,7 +16,7 @@ use Rattle.csp_rdp.specs.declared.answers.Change.{Change}
 use Rattle.csp_rdp.specs.declared.answers.Change.TheVariants as change
 use Rattle.csp_rdp.specs.declared.answers.State.{State}
 use Rattle.csp_rdp.specs.declared.answers.State.TheVariants.{Closed, SynSent, SynRcvd, Open, CloseWait}
-use Rattle.csp_rdp.specs.declared.answers.Why.{Why}
+use Rattle.csp_rdp.specs.declared.answers.Cause.{Cause}
 
 -- what holds of all, and of what stands for one that is not there, holds at each place
 pub all_or : {A : Type 0} → (P : A → Type 0) (xs : List A) (k : ℕ) (d : A) → All P xs → P d → P (get_or xs k d)
@@ -58,7 +58,7 @@ far_connected n wish.Nothing p app slot h = h
 far_connected n wish.End p app slot h = h
 far_connected n wish.Ended p app slot h = h
 
-far_refused : (n : ℕ) (w : Wish) (why : Why) (p : PlainPorts) (app slot : ℕ) → AreFar n p → AreFar n (refused_by w why app slot p).ports
+far_refused : (n : ℕ) (w : Wish) (why : Cause) (p : PlainPorts) (app slot : ℕ) → AreFar n p → AreFar n (refused_by w why app slot p).ports
 far_refused n wish.Connection why p app slot h = let k = far_given_up n p app slot h in record { machines = k.machines; made = k.made; ends = k.ends }
 far_refused n wish.Nothing why p app slot h = far_given_up n p app slot h
 far_refused n wish.End why p app slot h = far_given_up n p app slot h

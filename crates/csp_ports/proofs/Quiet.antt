@@ -16,7 +16,7 @@ use Rattle.csp_rdp.specs.declared.answers.Change.{Change}
 use Rattle.csp_rdp.specs.declared.answers.Change.TheVariants as change
 use Rattle.csp_rdp.specs.declared.answers.State.{State}
 use Rattle.csp_rdp.specs.declared.answers.State.TheVariants.{Closed, SynSent, SynRcvd, Open, CloseWait}
-use Rattle.csp_rdp.specs.declared.answers.Why.{Why}
+use Rattle.csp_rdp.specs.declared.answers.Cause.{Cause}
 use Rattle.csp_rdp_window.specs.Times.{has_passed}
 use Rattle.std.specs.Prelude.{Some}
 
@@ -27,7 +27,7 @@ closed_quiet wish.Nothing false app slot p = refl
 closed_quiet wish.Connection was app slot p = refl
 closed_quiet wish.Ended was app slot p = refl
 
-refused_quiet : (w : Wish) (why : Why) (app slot : ℕ) (p : PlainPorts) → (refused_by w why app slot p).events ≡ []
+refused_quiet : (w : Wish) (why : Cause) (app slot : ℕ) (p : PlainPorts) → (refused_by w why app slot p).events ≡ []
 refused_quiet wish.End why app slot p = refl
 refused_quiet wish.Nothing why app slot p = refl
 refused_quiet wish.Connection why app slot p = refl
@@ -42,7 +42,7 @@ changed_quiet change.Down app slot p h = refl
 changed_quiet change.Closed app slot p h = closed_quiet (terms_at p app slot).wish (machine_at p app slot).was_open app slot p
 
 -- what a timer can come to
-broke : (b : Bool) (time : ℕ) (r : PlainRdp) (why : Why) → r.state ≡ Open → change_between Open (if b then r else broken time r).state why ≡ change.Opened → ⊥
+broke : (b : Bool) (time : ℕ) (r : PlainRdp) (why : Cause) → r.state ≡ Open → change_between Open (if b then r else broken time r).state why ≡ change.Opened → ⊥
 broke true time r why e h = absurd (go r.state e h)
   where
     go : (s : State) → s ≡ Open → change_between Open s why ≡ change.Opened → ⊥
@@ -53,7 +53,7 @@ broke true time r why e h = absurd (go r.state e h)
     go CloseWait e h = cc
 broke false time r why e h = cc
 
-ran_out : (s : State) (time : ℕ) (r : PlainRdp) (why : Why) → r.state ≡ s → change_between s (timed_out s time r).state why ≡ change.Opened → ⊥
+ran_out : (s : State) (time : ℕ) (r : PlainRdp) (why : Cause) → r.state ≡ s → change_between s (timed_out s time r).state why ≡ change.Opened → ⊥
 ran_out SynSent time r why e h = cc
 ran_out SynRcvd time r why e h = cc
 ran_out Open time r why e h = broke (r.send.una == r.send.nxt) time r why e h
@@ -67,14 +67,14 @@ ran_out Closed time r why e h = same r.state e h
     same Open e h = cc
     same CloseWait e h = cc
 
-stays : (s : State) (why : Why) → change_between s s why ≡ change.Opened → ⊥
+stays : (s : State) (why : Cause) → change_between s s why ≡ change.Opened → ⊥
 stays SynSent why h = cc
 stays SynRcvd why h = cc
 stays Open why h = cc
 stays CloseWait why h = cc
 stays Closed why h = cc
 
-pub never_opens : (time : ℕ) (r : PlainRdp) (why : Why) → change_between r.state (ticked time r).state why ≡ change.Opened → ⊥
+pub never_opens : (time : ℕ) (r : PlainRdp) (why : Cause) → change_between r.state (ticked time r).state why ≡ change.Opened → ⊥
 never_opens time r why h = go (has_passed (Some r.since) r.options.conn_timeout time) h
   where
     go : (b : Bool) → change_between r.state (if b then timed_out r.state time r else r).state why ≡ change.Opened → ⊥

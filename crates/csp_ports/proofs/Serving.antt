@@ -42,12 +42,12 @@ use Rattle.csp_rdp.specs.Balance.{IsWhole}
 use Rattle.csp_rdp.specs.Changes.{change_between}
 use Rattle.csp_rdp.specs.Counts.{IsFar}
 use Rattle.csp_rdp.specs.Holding.{rdp_buffers, rdp_numbers, rested, taken_out, unneeded}
-use Rattle.csp_rdp.specs.Jobs.{closing, counted, delivering, delivery, keeping_again, sent, taken_in, without_delivery}
+use Rattle.csp_rdp.specs.Jobs.{closing, one_more_delivered, delivering, delivery, keeping_again, sent, taken_in, without_delivery}
 use Rattle.csp_rdp.specs.Machine.{PlainRdp, accepting, connecting, idle}
-use Rattle.csp_rdp.specs.Table.{back_of, handed, row_of}
+use Rattle.csp_rdp.specs.Table.{back_of, after_packet, row_of}
 use Rattle.csp_rdp.specs.declared.answers.State.{State}
 use Rattle.csp_rdp.specs.declared.answers.State.TheVariants.{Closed, SynSent, SynRcvd, Open, CloseWait}
-use Rattle.csp_rdp.specs.declared.answers.Why.TheVariants as machine_why
+use Rattle.csp_rdp.specs.declared.answers.Cause.TheVariants as machine_why
 use Rattle.csp_rdp.specs.declared.jobs.Job.{Job}
 use Rattle.csp_rdp_header.specs.declared.head.RdpHead.{RdpHead}
 use Rattle.csp_rdp_window.specs.Numbers.{number_in}
@@ -113,7 +113,7 @@ flows_delivered p time app slot few there h opened none =
     let one = went r.state machine_why.Reset app slot (delivering time r) p in
     let first =
     flows_went 1 p app slot r.state machine_why.Reset (delivering time r) [] [] there h (whole-delivered time r opened none (whole_at p app slot h)) (λ n far. far-delivered n time r far)
-    (λ o. omega (arith, tally_none o, ap (tally o) (numbers-delivered r.reset_at time (record r { recv = confirmed r.recv; owed = counted time r.owed }))))
+    (λ o. omega (arith, tally_none o, ap (tally o) (numbers-delivered r.reset_at time (record r { recv = confirmed r.recv; owed = one_more_delivered time r.owed }))))
     in
     flows_then 1 0 1 p one.ports (dropped app one.ports).ports one.loose (dropped app one.ports).loose [] (omega arith) first (flows_dropped app one.ports few first.whole)
 
@@ -128,7 +128,7 @@ pub flows_handed : (p : PlainPorts) (app slot : ℕ) (head : RdpHead) (b : Conte
 flows_handed p app slot head b time few there h =
     let r = machine_at p app slot in
     let row = row_of r head b.payload in
-    let new = handed head b.trace.tag (anywhere b) time r in
+    let new = after_packet head b.trace.tag (anywhere b) time r in
     let back = pictures (option_to_list (back_of row (anywhere b))) in
     let whole = whole_at p app slot h in
     let one = went r.state machine_why.Reset app slot new p in

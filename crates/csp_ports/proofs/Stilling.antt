@@ -26,13 +26,13 @@ use Rattle.csp_rdp.specs.declared.answers.Change.{Change}
 use Rattle.csp_rdp.specs.declared.answers.Change.TheVariants as change
 use Rattle.csp_rdp.specs.declared.answers.State.{State}
 use Rattle.csp_rdp.specs.declared.answers.State.TheVariants.{Closed, SynSent, SynRcvd, Open, CloseWait}
-use Rattle.csp_rdp.specs.declared.answers.Why.{Why}
-use Rattle.csp_rdp.specs.declared.answers.Why.TheVariants as machine_why
+use Rattle.csp_rdp.specs.declared.answers.Cause.{Cause}
+use Rattle.csp_rdp.specs.declared.answers.Cause.TheVariants as machine_why
 
 -- ---- one slot
 
 -- a state that stays is no change
-stays : (s : State) (why : Why) → change_between s s why ≡ change.None
+stays : (s : State) (why : Cause) → change_between s s why ≡ change.None
 stays SynSent why = refl
 stays SynRcvd why = refl
 stays Open why = refl

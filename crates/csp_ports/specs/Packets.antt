@@ -18,10 +18,10 @@ use Rattle.csp_ports.specs.declared.handing.Invitation.{Invitation}
 use Rattle.csp_ports.specs.declared.origin.Origin.{Origin}
 use Rattle.csp_ports.specs.declared.terms.Wish.TheVariants as wish
 use Rattle.csp_rdp.specs.Machine.{PlainRdp, accepting, una_of}
-use Rattle.csp_rdp.specs.Table.{back_of, handed, is_stray, row_of}
+use Rattle.csp_rdp.specs.Table.{back_of, after_packet, is_stray, row_of}
 use Rattle.csp_rdp.specs.declared.answers.State.{State}
 use Rattle.csp_rdp.specs.declared.answers.State.TheVariants as state
-use Rattle.csp_rdp.specs.declared.answers.Why.TheVariants as machine_why
+use Rattle.csp_rdp.specs.declared.answers.Cause.TheVariants as machine_why
 use Rattle.csp_rdp_header.specs.declared.head.RdpHead.{RdpHead}
 
 -- ---- packets that open a connection
@@ -61,7 +61,7 @@ handing p app slot h b time =
     let row = row_of r h b.payload in
     reporting (handing_event r b.trace.tag)
     (then (back_by (back_of row packet) (is_stray row) p) (λ p.
-    then (went r.state machine_why.Reset app slot (handed h b.trace.tag packet time r) p) (λ p.
+    then (went r.state machine_why.Reset app slot (after_packet h b.trace.tag packet time r) p) (λ p.
     then (dropped app p) (λ p.
     come (settled time app p)))))
 

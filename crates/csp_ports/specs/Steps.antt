@@ -22,8 +22,8 @@ use Rattle.csp_rdp.specs.declared.answers.Change.{Change}
 use Rattle.csp_rdp.specs.declared.answers.Change.TheVariants as change
 use Rattle.csp_rdp.specs.declared.answers.State.TheVariants.{Closed, SynSent, SynRcvd, Open, CloseWait}
 use Rattle.csp_rdp.specs.declared.answers.State.{State}
-use Rattle.csp_rdp.specs.declared.answers.Why.{Why as MachineWhy}
-use Rattle.csp_rdp.specs.declared.answers.Why.TheVariants as machine_why
+use Rattle.csp_rdp.specs.declared.answers.Cause.{Cause as MachineWhy}
+use Rattle.csp_rdp.specs.declared.answers.Cause.TheVariants as machine_why
 use Rattle.csp_rdp_window.specs.Sending.{is_full}
 
 -- the machine is then this: what it does not need any more is let go

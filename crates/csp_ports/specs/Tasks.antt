@@ -11,7 +11,7 @@ use Rattle.csp_ports.specs.Steps.{dropped, went}
 use Rattle.csp_ports.specs.declared.task.Task.{Task}
 use Rattle.csp_ports.specs.declared.task.Task.TheVariants as task
 use Rattle.csp_rdp.specs.Jobs.{delivering, filled, job_of, keeping_again, sent, without_delivery}
-use Rattle.csp_rdp.specs.declared.answers.Why.TheVariants as machine_why
+use Rattle.csp_rdp.specs.declared.answers.Cause.TheVariants as machine_why
 use Rattle.csp_rdp.specs.declared.jobs.Job.{Job}
 use Rattle.csp_rdp.specs.declared.jobs.Job.TheVariants as job
 

@@ -18,8 +18,8 @@ ghost use Rattle.csp_ports.specs.declared.ports.TheConstants.{ANSWERS};
 ghost use Rattle.csp_rdp.specs.Changes.{change_between};
 ghost use Rattle.csp_rdp.specs.Holding.{rdp_numbers, rested, unneeded};
 ghost use Rattle.csp_rdp.specs.Regions.{IsIn};
-ghost use Rattle.csp_rdp.specs.Table.{back_of, handed, is_stray, row_of};
-ghost use Rattle.csp_rdp.specs.declared.answers.Why.TheVariants as machine_why;
+ghost use Rattle.csp_rdp.specs.Table.{back_of, after_packet, is_stray, row_of};
+ghost use Rattle.csp_rdp.specs.declared.answers.Cause.TheVariants as machine_why;
 ghost use Rattle.csp_ports.specs.Packets.{accepted, admitting_by, handing, handing_event, invited, stray_events, submitting};
 ghost use Rattle.csp_ports.specs.PlainPorts.{anywhere, begun, machine_at, start_of, stalled_at, terms_at, waiting, with_ports_at};
 ghost use Rattle.csp_ports.specs.Steps.{has_room, stepped};
@@ -155,10 +155,10 @@ impl Ports {
         requires roomy { IsRoomy 1 self.old trash.old }
         requires countable { IsCountable self.old.ports }
         requires report { report.old.items ≡ [] }
-        ensures comes { Comes self.old self.new (with_contents trash.old (trash.old.contents ++ pictures (option_to_list (back_of (row_of (machine_at self.old.ports app slot) head packet.picture.payload) (anywhere packet.picture))))) trash.new [] [] (stepped app slot (handed head packet.picture.trace.tag (anywhere packet.picture) now (machine_at self.old.ports app slot)) self.old.ports) }
+        ensures comes { Comes self.old self.new (with_contents trash.old (trash.old.contents ++ pictures (option_to_list (back_of (row_of (machine_at self.old.ports app slot) head packet.picture.payload) (anywhere packet.picture))))) trash.new [] [] (stepped app slot (after_packet head packet.picture.trace.tag (anywhere packet.picture) now (machine_at self.old.ports app slot)) self.old.ports) }
         ensures report { report.new.items ≡ handing_event (machine_at self.old.ports app slot) packet.picture.trace.tag ∷ stray_events (back_of (row_of (machine_at self.old.ports app slot) head packet.picture.payload) (anywhere packet.picture)) (is_stray (row_of (machine_at self.old.ports app slot) head packet.picture.payload)) }
         ensures few { length report.new.items ≤ 2 }
-        ensures change { result ≡ change_between (machine_at self.old.ports app slot).state (handed head packet.picture.trace.tag (anywhere packet.picture) now (machine_at self.old.ports app slot)).state machine_why.Reset }
+        ensures change { result ≡ change_between (machine_at self.old.ports app slot).state (after_packet head packet.picture.trace.tag (anywhere packet.picture) now (machine_at self.old.ports app slot)).state machine_why.Reset }
         ensures roomy { IsRoomy 0 self.new trash.new }
         ensures countable { IsCountable self.new.ports }
     {
@@ -258,11 +258,11 @@ fn hand(
     requires of_it { packet.region ≡ trash.old.region }
     requires room { length trash.old.contents + length (rdp_numbers machine.old) + 1 ≤ trash.old.room }
     requires report { report.old.items ≡ [] }
-    ensures machine { placed nowhere machine.new ≡ rested (handed head packet.picture.trace.tag (anywhere packet.picture) now (placed nowhere machine.old)) }
+    ensures machine { placed nowhere machine.new ≡ rested (after_packet head packet.picture.trace.tag (anywhere packet.picture) now (placed nowhere machine.old)) }
     ensures housed { IsHoused trash.old.region machine.new }
-    ensures trash { trash.new ≡ with_contents trash.old (trash.old.contents ++ pictures (option_to_list (back_of (row_of (placed nowhere machine.old) head packet.picture.payload) (anywhere packet.picture))) ++ pictures (unneeded (handed head packet.picture.trace.tag (anywhere packet.picture) now (placed nowhere machine.old)))) }
+    ensures trash { trash.new ≡ with_contents trash.old (trash.old.contents ++ pictures (option_to_list (back_of (row_of (placed nowhere machine.old) head packet.picture.payload) (anywhere packet.picture))) ++ pictures (unneeded (after_packet head packet.picture.trace.tag (anywhere packet.picture) now (placed nowhere machine.old)))) }
     ensures size { length trash.new.contents + length (rdp_numbers machine.new) ≡ length trash.old.contents + length (rdp_numbers machine.old) + 1 }
-    ensures change { result ≡ change_between machine.old.state (handed head packet.picture.trace.tag (anywhere packet.picture) now (placed nowhere machine.old)).state machine_why.Reset }
+    ensures change { result ≡ change_between machine.old.state (after_packet head packet.picture.trace.tag (anywhere packet.picture) now (placed nowhere machine.old)).state machine_why.Reset }
     ensures report { report.new.items ≡ handing_event (placed nowhere machine.old) packet.picture.trace.tag ∷ stray_events (back_of (row_of (placed nowhere machine.old) head packet.picture.payload) (anywhere packet.picture)) (is_stray (row_of (placed nowhere machine.old) head packet.picture.payload)) }
 {
     sees_no_region();

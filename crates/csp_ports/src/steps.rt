@@ -24,7 +24,7 @@ ghost use Rattle.csp_rdp.specs.Jobs.{ticked};
 ghost use Rattle.csp_rdp.specs.Placed.{placed};
 ghost use Rattle.csp_rdp.specs.Regions.{AreAllIn};
 ghost use Rattle.csp_rdp_window.specs.Sending.{is_full};
-ghost use Rattle.csp_rdp.specs.declared.answers.Why.TheVariants as machine_why;
+ghost use Rattle.csp_rdp.specs.declared.answers.Cause.TheVariants as machine_why;
 
 use crate::ports::Ports;
 use crate::stalled::{Stalled, put};
@@ -34,7 +34,7 @@ use csp_buffer::Buffer;
 use csp_conn::place;
 use csp_deck::{Discard, Event, Events, Note, Pile, Why};
 use csp_rdp::{
-    Change, Rdp, State, Why as MachineWhy, conserves, keeps_region, keeps_rest, keeps_whole,
+    Cause as MachineWhy, Change, Rdp, State, conserves, keeps_region, keeps_rest, keeps_whole,
     numbers, sees_no_region,
 };
 

@@ -18,7 +18,7 @@ ghost use Rattle.csp_rdp.specs.Counts.{IsFar};
 ghost use Rattle.csp_rdp.specs.Changes.{change_between};
 ghost use Rattle.csp_rdp.specs.Holding.{rdp_numbers, rested, unneeded};
 ghost use Rattle.csp_rdp.specs.Jobs.{delivering, delivery, job_of};
-ghost use Rattle.csp_rdp.specs.declared.answers.Why.TheVariants as machine_why;
+ghost use Rattle.csp_rdp.specs.declared.answers.Cause.TheVariants as machine_why;
 ghost use Rattle.csp_rdp_window.specs.Receiving.{is_kept};
 
 use crate::ports::Ports;

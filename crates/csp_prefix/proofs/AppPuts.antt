@@ -12,8 +12,8 @@ use Rattle.csp_app.specs.Slots.{slot_at}
 use Rattle.csp_app.specs.Steps.{answered, batch, first_rule, gives_up, give_plan, has_passed, is_enough, note_plan, packet_made, packet_plan, plan_of, pushed_one, recv_end, recv_plan, step_plan, turn_of, wait_end}
 use Rattle.csp_app.specs.Telling.{at_rest, tells}
 use Rattle.csp_app.specs.Turn.{Turn, gives, giving_op, op_of, popped, pops, pushes, pushing_op, rests, takes, told_of, until_told}
-use Rattle.csp_app.specs.declared.plan.Plan.{Plan}
-use Rattle.csp_app.specs.declared.plan.Plan.TheVariants as plan
+use Rattle.csp_app.specs.declared.plan.AppPlan.{AppPlan as Plan}
+use Rattle.csp_app.specs.declared.plan.AppPlan.TheVariants as plan
 use Rattle.csp_buffer.specs.Content.{Content}
 use Rattle.csp_consistent.proofs.Public.{each_at, each_if}
 use Rattle.csp_consistent.specs.Reading.{is_queue, put_by, puts}

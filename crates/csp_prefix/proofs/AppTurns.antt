@@ -9,8 +9,8 @@ use Rattle.csp_app.specs.Slots.{slot_at}
 use Rattle.csp_app.specs.Steps.{answered, gives_up, has_passed, is_enough, plan_of, recv_end, turn_of, wait_end}
 use Rattle.csp_app.specs.Telling.{at_rest, events}
 use Rattle.csp_app.specs.Turn.{Turn, gives, giving_op, op_of, popped, pops, pushes, pushing_op, rests, takes, told_of}
-use Rattle.csp_app.specs.declared.plan.Plan.{Plan}
-use Rattle.csp_app.specs.declared.plan.Plan.TheVariants as plan
+use Rattle.csp_app.specs.declared.plan.AppPlan.{AppPlan}
+use Rattle.csp_app.specs.declared.plan.AppPlan.TheVariants as plan
 use Rattle.csp_buffer.specs.Content.{Content}
 use Rattle.csp_crc.specs.Crc.{crc_of}
 use Rattle.csp_deck.specs.Runs.{IsRun, step_after}
@@ -68,7 +68,7 @@ silent_waited : (passed : Bool) (s : PlainApp) → AllByRecursion IsNoTook (wait
 silent_waited true s = tt
 silent_waited false s = tt
 
-looks : (s : PlainApp) (now : ℕ) (p : Plan) → LooksSo (turn_of s now p)
+looks : (s : PlainApp) (now : ℕ) (p : AppPlan) → LooksSo (turn_of s now p)
 looks s now plan.Look = λ n t. tt
 looks s now plan.Await = silent_answered
 looks s now (plan.Receive slot packets rounds) = λ n t. silent_received slot packets (is_enough slot packets t) (gives_up rounds now t) (slot_at t.slots slot).down t
@@ -81,7 +81,7 @@ IsPopLike (pops _ _) (pops _ _) = ⊤
 IsPopLike (pops _ _) _ = ⊥
 IsPopLike _ _ = ⊤
 
-alike : (s t : PlainApp) (now : ℕ) (p : Plan) → IsPopLike (turn_of s now p) (turn_of t now p)
+alike : (s t : PlainApp) (now : ℕ) (p : AppPlan) → IsPopLike (turn_of s now p) (turn_of t now p)
 alike s t now plan.Rest = tt
 alike s t now _ = tt
 

@@ -9,7 +9,7 @@ use Rattle.csp_log.specs.declared.event.Event.TheVariants as event
 use Rattle.csp_record.specs.Connections.{opened_by, openings}
 use Rattle.csp_record.specs.Payloads.{sent}
 use Rattle.csp_record.specs.declared.connections.Opening.{Opening}
-use Rattle.csp_record.specs.declared.payloads.Way.TheVariants as way
+use Rattle.csp_record.specs.declared.payloads.Transfer.TheVariants as way
 use Rattle.csp_record.proofs.Public.{Ends, ended, no_ends, openings_after, openings_are}
 use Rattle.csp_prefix.specs.Routers.{AreNumbered, IsFlowOf}
 

@@ -16,8 +16,8 @@ use Rattle.csp_iface.specs.Asking as iface_asking
 use Rattle.csp_iface.specs.PlainIface.{PlainIface}
 use Rattle.csp_iface.specs.Planning as iface_planning
 use Rattle.csp_iface.specs.Telling as iface_telling
-use Rattle.csp_iface.specs.declared.plan.Plan as iface_plans
-use Rattle.csp_iface.specs.declared.plan.Plan.TheVariants as iface_plan
+use Rattle.csp_iface.specs.declared.plan.IfacePlan as iface_plans
+use Rattle.csp_iface.specs.declared.plan.IfacePlan.TheVariants as iface_plan
 use Rattle.csp_log.specs.Moving.{moved_by}
 use Rattle.csp_log.specs.declared.entry.Entry.{Entry}
 use Rattle.csp_log.specs.declared.frame.Frame.{Frame}
@@ -204,7 +204,7 @@ bridge_put R q None (Some b) to answer.Pushed h = each_if (IsOfKind R) (is_queue
 bridge_put R q None (Some b) to _ h = tt
 bridge_put R q None None to a h = tt
 
-bridge_heard : (R : Content → Type 0) (i : ItemShown) (s : PlainBridge) → IfSome s.out R → IsOfKind R i → IfSome (bridge_telling.heard i s).out R
+bridge_heard : (R : Content → Type 0) (i : ItemShown) (s : PlainBridge) → IfSome s.out R → IsOfKind R i → IfSome (bridge_telling.crossing i s).out R
 bridge_heard R (item.Packet mark b) s h g = g
 bridge_heard R (item.Frame _) s h g = h
 bridge_heard R (item.Note _) s h g = h
@@ -258,7 +258,7 @@ abbrev pub FetchesOwn : ℕ → OpShown → Type 0
 FetchesOwn number (op.Pop (queue.Out k)) = k ≡ number
 FetchesOwn number _ = ⊤
 
-own_fetch : (number : ℕ) (s : PlainIface) (p : iface_plans.Plan) → s.number ≡ number → FetchesOwn number (iface_asking.op_of s p)
+own_fetch : (number : ℕ) (s : PlainIface) (p : iface_plans.IfacePlan) → s.number ≡ number → FetchesOwn number (iface_asking.op_of s p)
 own_fetch number s iface_plan.Rest e = tt
 own_fetch number s iface_plan.Return e =
     by s.back

@@ -11,10 +11,10 @@ use Rattle.csp_rdp_window.specs.Receiving.{first_missing, index_in, is_awaited, 
 use Rattle.csp_rdp_window.specs.Sending.{acknowledges}
 use Rattle.csp_rdp_window.specs.Shown.{shown}
 use Rattle.csp_rdp.specs.Machine.{PlainRdp, opened, owes_ack, owes_eak, owes_syn}
-use Rattle.csp_rdp.specs.Table.{ack_row, acknowledged, after, close_wait_row, data_row, entered_from, handed, is_bad_list, keeping, listing, open_row, reset_row, row_in, syn_rcvd_row, syn_sent_row}
+use Rattle.csp_rdp.specs.Table.{ack_row, acknowledged, after, close_wait_row, data_row, entered_from, after_packet, is_bad_list, keeping, listing, open_row, reset_row, row_in, syn_rcvd_row, syn_sent_row}
 use Rattle.csp_rdp.specs.declared.answers.State.{State}
 use Rattle.csp_rdp.specs.declared.answers.State.TheVariants.{Closed, SynSent, SynRcvd, Open, CloseWait}
-use Rattle.csp_rdp.specs.declared.rows.Row.TheVariants as row
+use Rattle.csp_rdp.specs.declared.rows.StateRow.TheVariants as row
 use Rattle.csp_prefix.specs.Flows.{is_data}
 use Rattle.csp_prefix.proofs.MachineWindows.{same-acked, same-heard, same-send}
 use Rattle.csp_prefix.proofs.MachineSteps.{Acks, hears, takes, Goes, Hears, answers, enters, enters_keeping, keeps, moves, on, over, off, goes-after, goes-broken, goes-left, goes-reset, stays, owed-else}
@@ -170,5 +170,5 @@ module _ (h : RdpHead) (tag : Option Tag) (p : PlainBuffer) (time : ℕ) where
   hears-in CloseWait r = hears-waiting r
   hears-in Closed r = moves (on (stays (at Closed r)))
 
-  pub hears-handed : (r : PlainRdp) → Hears h tag p r (handed h tag p time r)
+  pub hears-handed : (r : PlainRdp) → Hears h tag p r (after_packet h tag p time r)
   hears-handed r = hears-in r.state r

@@ -14,7 +14,7 @@ use Rattle.csp_rdp_window.specs.Receiving.{PlainRecv, confirmed, with_kept, with
 use Rattle.csp_rdp.specs.Holding.{recv_rested, rested}
 use Rattle.csp_rdp.specs.Jobs.{admitting, closing, delivery, keeping_again, sent, ticked, without_delivery}
 use Rattle.csp_rdp.specs.Machine.{PlainRdp, flow_of}
-use Rattle.csp_rdp.specs.Table.{handed}
+use Rattle.csp_rdp.specs.Table.{after_packet}
 use Rattle.csp_rdp.specs.declared.answers.State.{State}
 use Rattle.csp_rdp.specs.declared.answers.State.TheVariants.{Closed, SynSent, SynRcvd, Open, CloseWait}
 use Rattle.csp_prefix.specs.Flows.{Flows, IsSaid}
@@ -326,8 +326,8 @@ receiver-kept o flows = record {
   ticks = λ m app slot n time i. receiver-ways flows n (ticked time n.machine) (ways-ticked time n.machine) i;
   closes = λ m app slot n time i. receiver-ways flows n (closing time n.machine) (ways-closing time n.machine) i;
   makes = λ m app slot n time j job i. receiver-on flows n.machine.recv n (sent j time n.machine) (goes-sent j time n.machine) (no-more n.machine.recv) i;
-  hears = λ m app slot n h tag b time fed shut i. hears-on flows h tag b n (handed h tag b time n.machine) fed (hears-handed h tag b time n.machine) shut i;
-  opens = λ m app slot n h tag b time fed opening i. hears-opening flows h tag b n (handed h tag b time n.machine) fed (hears-handed h tag b time n.machine) opening i;
+  hears = λ m app slot n h tag b time fed shut i. hears-on flows h tag b n (after_packet h tag b time n.machine) fed (hears-handed h tag b time n.machine) shut i;
+  opens = λ m app slot n h tag b time fed opening i. hears-opening flows h tag b n (after_packet h tag b time n.machine) fed (hears-handed h tag b time n.machine) opening i;
   admits = λ m app slot n b time is_open room waits i.
       sends-open flows n (after_sending b.picture.payload (with_machine (admitting b time n.machine) n)) (record { state = refl; nth = refl; peer = refl; was_open = refl; recv = refl; opened = refl; down = refl }) is_open i;
   delays = λ m app slot n payload is_open waits i.

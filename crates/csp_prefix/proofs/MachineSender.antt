@@ -13,7 +13,7 @@ use Rattle.csp_rdp_window.specs.Sending.{fresh}
 use Rattle.csp_rdp.specs.Holding.{recv_rested, rested}
 use Rattle.csp_rdp.specs.Jobs.{admitting, closing, keeping_again, sent, ticked, without_delivery}
 use Rattle.csp_rdp.specs.Machine.{PlainRdp}
-use Rattle.csp_rdp.specs.Table.{handed}
+use Rattle.csp_rdp.specs.Table.{after_packet}
 use Rattle.csp_rdp.specs.declared.answers.State.{State}
 use Rattle.csp_rdp.specs.declared.answers.State.TheVariants.{Closed, SynSent, SynRcvd, Open, CloseWait}
 use Rattle.csp_prefix.specs.Flows.{IsSaid}
@@ -267,8 +267,8 @@ sender-kept o = record {
   ticks = λ m app slot n time i. sender-ways o m app slot n (ticked time n.machine) (ways-ticked time n.machine) i;
   closes = λ m app slot n time i. sender-ways o m app slot n (closing time n.machine) (ways-closing time n.machine) i;
   makes = λ m app slot n time j job i. sender-on o m app slot n.machine.recv n (sent j time n.machine) (goes-sent j time n.machine) i;
-  hears = λ m app slot n h tag b time fed shut i. hears-on o m app slot h tag b n (handed h tag b time n.machine) (hears-handed h tag b time n.machine) shut i;
-  opens = λ m app slot n h tag b time fed opening i. hears-opening o m app slot h tag b n (handed h tag b time n.machine) (hears-handed h tag b time n.machine) opening i;
+  hears = λ m app slot n h tag b time fed shut i. hears-on o m app slot h tag b n (after_packet h tag b time n.machine) (hears-handed h tag b time n.machine) shut i;
+  opens = λ m app slot n h tag b time fed opening i. hears-opening o m app slot h tag b n (after_packet h tag b time n.machine) (hears-handed h tag b time n.machine) opening i;
   admits = λ m app slot n b time is_open room waits i. sender-admits o m app slot n is_open i b time waits;
   delays = λ m app slot n payload is_open waits i. sender-delays o m app slot n is_open i payload waits;
   settles = λ m app slot n b time is_open room waits i. sender-settles o m app slot n is_open i b time waits;

@@ -11,7 +11,7 @@ use Rattle.csp_rdp_window.specs.Receiving.{PlainRecv, index_in, confirmed, openi
 use Rattle.csp_rdp_window.specs.Times.{has_passed}
 use Rattle.csp_rdp_window.specs.declared.pending.Mark.TheVariants.{Abandoned, Sent}
 use Rattle.csp_rdp.specs.Holding.{recv_rested, rested}
-use Rattle.csp_rdp.specs.Jobs.{closed_in, closing, counted, delivering, delivery_in, keeping_again, reset_after, sending_index, sent, taken_in, without_delivery, ticked, timed_out}
+use Rattle.csp_rdp.specs.Jobs.{closed_in, closing, one_more_delivered, delivering, delivery_in, keeping_again, reset_after, sending_index, sent, taken_in, without_delivery, ticked, timed_out}
 use Rattle.csp_rdp.specs.Machine.{PlainRdp, broken, flow_of, left, owes_rst}
 use Rattle.csp_rdp.specs.declared.answers.State.{State}
 use Rattle.csp_rdp.specs.declared.answers.State.TheVariants.{Closed, SynSent, SynRcvd, Open, CloseWait}
@@ -180,7 +180,7 @@ goes-as s z v w a b e f g = record { state_is = g.state_is ∙ e; was_open = g.w
 pub goes-to : (s z : State) (v : PlainRecv) (a b : PlainRdp) → s ≡ z → Goes s v a b → Goes z v a b
 goes-to s z v a b e g = goes-as s z v v a b e refl g
 
-goes-counted : (time : ℕ) (r : PlainRdp) → Goes r.state (confirmed r.recv) r (record r { recv = confirmed r.recv; owed = counted time r.owed })
+goes-counted : (time : ℕ) (r : PlainRdp) → Goes r.state (confirmed r.recv) r (record r { recv = confirmed r.recv; owed = one_more_delivered time r.owed })
 goes-counted time r = record { state_is = refl; was_open = refl; peer = refl; own = record { node = refl; nth = refl; send = same-send r.send }; recv_is = refl }
 
 delivers-reached : (w : PlainRecv) (a b : PlainRdp) → Goes Open w a b → (o : Option ℕ) (time : ℕ) → Delivers w a (reset_after o time b)
@@ -195,7 +195,7 @@ pub delivers-both : (time : ℕ) (r : PlainRdp) → r.state ≡ Open → Deliver
 delivers-both time r e =
     let taken = goes-taken r e in
     let d = without_delivery r in
-    let c = record d { recv = confirmed d.recv; owed = counted time d.owed } in
+    let c = record d { recv = confirmed d.recv; owed = one_more_delivered time d.owed } in
     delivers-reached (confirmed (without_next r.recv)) r c
     (goes-as d.state Open (confirmed d.recv) (confirmed (without_next r.recv)) r c taken.state_is (ap confirmed taken.recv_is)
     (goes-after Open (without_next r.recv) d.state (confirmed d.recv) r d c taken (goes-counted time d)))

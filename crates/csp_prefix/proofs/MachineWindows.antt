@@ -4,7 +4,7 @@ use Rattle.std.specs.List.{All, filter, list_any}
 use Rattle.std.specs.Prelude.{◌==◌, if◌then◌else◌}
 use Rattle.std.proofs.lemmas.List.Elements.{All-filter, All-map, All-weaker}
 use Rattle.csp_base.specs.declared.sequence.Seq.{Seq}
-use Rattle.csp_rdp_window.specs.Sending.{PlainSend, acked_at, heard, is_inside, listed, marked, missed_at, needed_if, newest_of, sent_at, with_mark, without_listed}
+use Rattle.csp_rdp_window.specs.Sending.{PlainSend, acked_at, list_heard, is_inside, listed, marked, missed_at, needed_if, newest_of, sent_at, with_mark, without_listed}
 use Rattle.csp_rdp_window.specs.declared.pending.Mark.{Mark}
 use Rattle.csp_rdp_window.specs.declared.pending.Mark.TheVariants.{Acknowledged, Listed, Abandoned, Sent, Missed}
 use Rattle.csp_rdp_window.specs.declared.pending.Pending.{Pending}
@@ -78,10 +78,10 @@ same-acked (Some t) w = go (is_inside w t)
 same-listed : (ts : List ℕ) (w : PlainSend) → IsSameSend w (without_listed ts w)
 same-listed ts w = same-mapped (λ p. needed_if (not (list_any (λ t. t == p.index) ts)) p) (λ p. record { index = refl; buffer = refl }) w.una w
 
-pub same-heard : (numbers : List Seq) (time timeout : ℕ) (w : PlainSend) → IsSameSend w (heard numbers time timeout w)
+pub same-heard : (numbers : List Seq) (time timeout : ℕ) (w : PlainSend) → IsSameSend w (list_heard numbers time timeout w)
 same-heard numbers time timeout w =
     let ts = listed w numbers in
-    same-after w (without_listed ts w) (heard numbers time timeout w) (same-listed ts w) (same-marked (Missed (newest_of ts) time timeout) (without_listed ts w))
+    same-after w (without_listed ts w) (list_heard numbers time timeout w) (same-listed ts w) (same-marked (Missed (newest_of ts) time timeout) (without_listed ts w))
 
 empty-filtered : (test : Pending → Bool) (ps : List Pending) → ps ≡ [] → filter test ps ≡ []
 empty-filtered test ps e = rw e

@@ -17,7 +17,7 @@ use Rattle.csp_log.specs.declared.shown.OpShown.TheVariants as op
 use Rattle.csp_log.specs.declared.shown.AnswerShown.{AnswerShown}
 use Rattle.csp_log.specs.declared.shown.AnswerShown.TheVariants as answer
 use Rattle.csp_record.specs.Payloads.{carried, is_on, told_on, took}
-use Rattle.csp_record.specs.declared.payloads.Way.TheVariants as way
+use Rattle.csp_record.specs.declared.payloads.Transfer.TheVariants as way
 use Rattle.csp_record.proofs.Public.{Ends, ended, no_ends, on_are, payloads_after, payloads_are, told_after}
 use Rattle.csp_prefix.specs.Delivered.{delivered, delivered_by}
 use Rattle.csp_prefix.specs.Items.{ends_by, payload_by, payloads_from, payloads_in}

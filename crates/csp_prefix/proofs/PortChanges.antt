@@ -17,7 +17,7 @@ use Rattle.csp_rdp.specs.Machine.{PlainRdp, idle}
 use Rattle.csp_rdp.specs.declared.answers.Change.TheVariants as change
 use Rattle.csp_rdp.specs.declared.answers.State.{State}
 use Rattle.csp_rdp.specs.declared.answers.State.TheVariants.{Closed, CloseWait, Open, SynRcvd, SynSent}
-use Rattle.csp_rdp.specs.declared.answers.Why.{Why as MachineWhy}
+use Rattle.csp_rdp.specs.declared.answers.Cause.{Cause as MachineWhy}
 use Rattle.csp_prefix.proofs.PortFacts.{Leaves, using}
 use Rattle.csp_prefix.proofs.PortSlots.{AreFine, AreFineBut, IsFine, book_but, ended_but, machine_but, none_some, owing_but, slot_but, terms_but, whole}
 use Rattle.csp_prefix.proofs.PortViews.{View, now_of, view}

@@ -13,10 +13,10 @@ use Rattle.csp_ports.specs.Tasks.{delivered, without_packet}
 use Rattle.csp_ports.specs.declared.origin.Origin.{Origin}
 use Rattle.csp_rdp.specs.Jobs.{delivering, delivery, delivery_in, without_delivery}
 use Rattle.csp_rdp.specs.Machine.{PlainRdp}
-use Rattle.csp_rdp.specs.Table.{after, back_of, handed, is_stray, row_in, row_of}
+use Rattle.csp_rdp.specs.Table.{after, back_of, after_packet as handed, is_stray, row_in, row_of}
 use Rattle.csp_rdp.specs.declared.answers.State.{State}
 use Rattle.csp_rdp.specs.declared.answers.State.TheVariants.{Closed, CloseWait, Open, SynRcvd, SynSent}
-use Rattle.csp_rdp.specs.declared.answers.Why.TheVariants as machine_why
+use Rattle.csp_rdp.specs.declared.answers.Cause.TheVariants as machine_why
 use Rattle.csp_rdp_header.specs.declared.head.RdpHead.{RdpHead}
 use Rattle.csp_prefix.proofs.PortChanges.{IsEdge, went_leaves}
 use Rattle.csp_prefix.proofs.PortFacts.{All, IsReliable, Leaves, comes_of, fine_of, then_leaves, used}

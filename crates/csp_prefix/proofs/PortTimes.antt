@@ -11,7 +11,7 @@ use Rattle.csp_rdp.specs.Jobs.{ticked, timed_out}
 use Rattle.csp_rdp.specs.Machine.{PlainRdp, broken, idle}
 use Rattle.csp_rdp.specs.declared.answers.State.{State}
 use Rattle.csp_rdp.specs.declared.answers.State.TheVariants.{Closed, CloseWait, Open, SynRcvd, SynSent}
-use Rattle.csp_rdp.specs.declared.answers.Why.TheVariants as machine_why
+use Rattle.csp_rdp.specs.declared.answers.Cause.TheVariants as machine_why
 use Rattle.csp_rdp_window.specs.Times.{has_passed}
 use Rattle.csp_prefix.proofs.PortChanges.{IsEdge, went_leaves}
 use Rattle.csp_prefix.proofs.PortFacts.{IsReliable, IsResting, Leaves, either, fine_of, good_of, then_leaves}

@@ -15,7 +15,7 @@ use Rattle.csp_log.specs.declared.shown.OpShown.{OpShown}
 use Rattle.csp_record.specs.Connections.{opened_by}
 use Rattle.csp_record.specs.Payloads.{carried, told_on}
 use Rattle.csp_record.specs.declared.connections.Opening.{Opening}
-use Rattle.csp_record.specs.declared.payloads.Way.TheVariants as way
+use Rattle.csp_record.specs.declared.payloads.Transfer.TheVariants as way
 use Rattle.csp_record.proofs.Public.{Ends, ended}
 use Rattle.csp_scene.proofs.Public.{AllByRecursion-append, AllByRecursion-map}
 use Rattle.csp_prefix.specs.Delivered.{delivered_by}

@@ -12,7 +12,7 @@ use Rattle.csp_log.specs.declared.shown.OpShown.{OpShown}
 use Rattle.csp_record.specs.Connections.{opened_by}
 use Rattle.csp_record.specs.Ordinals.{frees}
 use Rattle.csp_record.specs.Payloads.{carried, is_on, told_on}
-use Rattle.csp_record.specs.declared.payloads.Way.TheVariants as way
+use Rattle.csp_record.specs.declared.payloads.Transfer.TheVariants as way
 use Rattle.csp_prefix.specs.Delivered.{delivered_by}
 use Rattle.csp_prefix.proofs.RouterBooks.{Past, past_after, past_same, with_openings}
 

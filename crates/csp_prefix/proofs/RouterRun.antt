@@ -11,7 +11,7 @@ use Rattle.csp_ports.specs.PlainPorts.{PlainPorts, machine_at}
 use Rattle.csp_rdp.specs.Jobs.{job_of}
 use Rattle.csp_rdp.specs.Machine.{PlainRdp}
 use Rattle.csp_rdp.specs.declared.jobs.Job.{Job}
-use Rattle.csp_record.specs.declared.payloads.Way.TheVariants as way
+use Rattle.csp_record.specs.declared.payloads.Transfer.TheVariants as way
 use Rattle.csp_record.proofs.Public.{openings_after, payloads_after}
 use Rattle.csp_stack.specs.Router.{Facts, Leaving, State}
 use Rattle.csp_stack.specs.Turn.{asked_at, asks_at, timed, told_at}

@@ -33,7 +33,7 @@ use Rattle.csp_rdp.specs.declared.answers.State.{State as MachineState}
 use Rattle.csp_rdp.specs.declared.answers.State.TheVariants as state
 use Rattle.csp_record.specs.Connections.{opened_by}
 use Rattle.csp_record.specs.Payloads.{is_on, told_on}
-use Rattle.csp_record.specs.declared.payloads.Way.TheVariants as way
+use Rattle.csp_record.specs.declared.payloads.Transfer.TheVariants as way
 use Rattle.csp_record.proofs.Public.{Ends}
 use Rattle.csp_route.specs.Routes.{route_of}
 use Rattle.csp_route.specs.declared.row.Row.{Row}

@@ -17,7 +17,7 @@ use Rattle.csp_ports.specs.PlainPorts.{ports_of}
 use Rattle.csp_record.specs.Connections.{openings}
 use Rattle.csp_record.specs.Payloads.{sent}
 use Rattle.csp_record.specs.declared.connections.Opening.{Opening}
-use Rattle.csp_record.specs.declared.payloads.Way.TheVariants as way
+use Rattle.csp_record.specs.declared.payloads.Transfer.TheVariants as way
 use Rattle.csp_record.proofs.Public.{openings_are, payloads_are}
 use Rattle.csp_route.specs.Routes.{Routes}
 use Rattle.csp_stack.specs.Config.{opening_state}

@@ -38,7 +38,7 @@ use Rattle.csp_rdp.specs.Jobs.{delivery, job_of}
 use Rattle.csp_rdp.specs.declared.jobs.Job.{Job}
 use Rattle.csp_record.specs.Ordinals.{frees}
 use Rattle.csp_record.specs.Payloads.{carried, told_on}
-use Rattle.csp_record.specs.declared.payloads.Way.TheVariants as way
+use Rattle.csp_record.specs.declared.payloads.Transfer.TheVariants as way
 use Rattle.csp_stack.specs.Counting.{came_in, was_full}
 use Rattle.csp_stack.specs.Readings.{buffer_in}
 use Rattle.csp_stack.specs.Router.{Facts, Leaving, State, at_rest}

@@ -9,7 +9,7 @@ use Rattle.csp_log.specs.declared.shown.ItemShown.TheVariants as item
 use Rattle.csp_log.specs.declared.shown.OpShown.{OpShown}
 use Rattle.csp_log.specs.declared.shown.OpShown.TheVariants as op
 use Rattle.csp_record.specs.Ordinals.{entries_on}
-use Rattle.csp_record.specs.declared.payloads.Way.TheVariants as way
+use Rattle.csp_record.specs.declared.payloads.Transfer.TheVariants as way
 
 -- the payload that a turn pushed for this slot of an application
 abbrev pub delivered_by : (app slot : ℕ) → OpShown → AnswerShown → List (List ℕ)

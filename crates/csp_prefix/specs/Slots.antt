@@ -9,7 +9,7 @@ use Rattle.csp_ports.specs.declared.origin.Origin.{Origin}
 use Rattle.csp_rdp.specs.Holding.{rested}
 use Rattle.csp_rdp.specs.Jobs.{admitting, closing, delivering, delivery, job_of, keeping_again, sent, ticked, without_delivery}
 use Rattle.csp_rdp.specs.Machine.{PlainRdp, accepting, connecting}
-use Rattle.csp_rdp.specs.Table.{handed}
+use Rattle.csp_rdp.specs.Table.{after_packet}
 use Rattle.csp_rdp.specs.declared.answers.State.{State}
 use Rattle.csp_rdp.specs.declared.answers.State.TheVariants.{Open, SynRcvd, SynSent}
 use Rattle.csp_rdp.specs.declared.jobs.Job.{Job}
@@ -109,9 +109,9 @@ pub record IsKept (o : Origin) (C : Coming) (Is : Numbering → ℕ → ℕ → 
   pub makes : (m : Numbering) (app slot : ℕ) (n : Now) (time : ℕ) (j : Job) → job_of time n.machine ≡ Some j → Is m app slot n → Is m app slot (with_machine (sent j time n.machine) n)
   -- a packet is handed to it: it is open then, or as open as it was
   pub hears : (m : Numbering) (app slot : ℕ) (n : Now) (h : RdpHead) (tag : Option Tag) (b : PlainBuffer) (time : ℕ) → C.fed n.connection n.machine h tag b.picture.payload
-      → (Opens n.machine.state (handed h tag b time n.machine).state → ⊥) → Is m app slot n → Is m app slot (with_machine (handed h tag b time n.machine) n)
+      → (Opens n.machine.state (after_packet h tag b time n.machine).state → ⊥) → Is m app slot n → Is m app slot (with_machine (after_packet h tag b time n.machine) n)
   pub opens : (m : Numbering) (app slot : ℕ) (n : Now) (h : RdpHead) (tag : Option Tag) (b : PlainBuffer) (time : ℕ) → C.fed n.connection n.machine h tag b.picture.payload
-      → Opens n.machine.state (handed h tag b time n.machine).state → Is m app slot n → Is m app slot (after_opening (with_machine (handed h tag b time n.machine) n))
+      → Opens n.machine.state (after_packet h tag b time n.machine).state → Is m app slot n → Is m app slot (after_opening (with_machine (after_packet h tag b time n.machine) n))
   -- a payload is sent on it while it is open and none waits: it is admitted where there is room, or waits; one that waits is admitted where there is
   -- room; or it is dropped where the connection is not open any more
   pub admits : (m : Numbering) (app slot : ℕ) (n : Now) (b : PlainBuffer) (time : ℕ) → n.machine.state ≡ Open → has_room n.machine ≡ true → n.waits ≡ None → Is m app slot n

@@ -13,7 +13,7 @@ use Rattle.csp_rdp_header.specs.Numbers.{numbers_of}
 use Rattle.csp_rdp_header.specs.declared.head.RdpHead.{RdpHead}
 use Rattle.csp_rdp_window.specs.Numbers.{number_in, times}
 use Rattle.csp_rdp_window.specs.Receiving.{Kept, PlainRecv, confirmed, first_buffer, is_awaited, is_kept, kept_with, recv_numbers, without_first}
-use Rattle.csp_rdp_window.specs.Sending.{PlainSend, acked_at, acknowledges, fresh, heard, is_inside, is_loose, listed, loose_buffer, marked, needed_if, newest_of, send_numbers, with_mark, without_listed, without_loose}
+use Rattle.csp_rdp_window.specs.Sending.{PlainSend, acked_at, acknowledges, fresh, list_heard, is_inside, is_loose, listed, loose_buffer, marked, needed_if, newest_of, send_numbers, with_mark, without_listed, without_loose}
 use Rattle.csp_rdp_window.specs.Shown.{shown}
 use Rattle.csp_rdp_window.specs.Times.{has_passed}
 use Rattle.csp_rdp_window.specs.declared.pending.Mark.{Mark}
@@ -22,7 +22,7 @@ use Rattle.csp_rdp_window.specs.declared.pending.Pending.{Pending}
 use Rattle.csp_rdp.specs.Balance.{Balanced, IsInOrder, IsWhole}
 use Rattle.csp_rdp.specs.Holding.{handing_out, loose_buffers, rdp_numbers, recv_rested, rested, taken_out_of, unneeded, unneeded_in, unneeded_or, useless_buffers, without_kept}
 use Rattle.csp_rdp.proofs.HoldingLemmas.{parted-numbers}
-use Rattle.csp_rdp.specs.Jobs.{admitting, closed_in, counted, delivering, delivery_in, keeping_again, reset_after, sending_index, sent, taken_in, ticked, timed_out}
+use Rattle.csp_rdp.specs.Jobs.{admitting, closed_in, one_more_delivered, delivering, delivery_in, keeping_again, reset_after, sending_index, sent, taken_in, ticked, timed_out}
 use Rattle.csp_rdp.specs.Machine.{PlainRdp, broken, left, owes_rst}
 use Rattle.csp_rdp.specs.Sound.{IsOver, IsUnopened}
 use Rattle.csp_rdp.specs.Table.{acknowledged, after, back_of, entered, entered_from, listing, row_in}
@@ -30,8 +30,8 @@ use Rattle.csp_rdp.specs.declared.answers.State.{State}
 use Rattle.csp_rdp.specs.declared.answers.State.TheVariants.{Closed, SynSent, SynRcvd, Open, CloseWait}
 use Rattle.csp_rdp.specs.declared.jobs.Job.{Job}
 use Rattle.csp_rdp.specs.declared.jobs.Job.TheVariants as job
-use Rattle.csp_rdp.specs.declared.rows.Row.{Row}
-use Rattle.csp_rdp.specs.declared.rows.Row.TheVariants as row
+use Rattle.csp_rdp.specs.declared.rows.StateRow.{StateRow}
+use Rattle.csp_rdp.specs.declared.rows.StateRow.TheVariants as row
 use Rattle.csp_rdp.proofs.CountLemmas.{times-append}
 use Rattle.csp_rdp.proofs.RowLemmas.{data-fresh, entered-recv}
 use Rattle.csp_rdp.proofs.SoundLemmas.{marked-buffer, unopened-drained, unopened-over}
@@ -186,7 +186,7 @@ numbers-listed : (ts : List ℕ) (ps : List Pending) → map sending (map (λ p.
 numbers-listed ts [] = refl
 numbers-listed ts (p ∷ ps) = ap (λ l. sending p ∷ l) (numbers-listed ts ps)
 
-numbers-heard : (ns : List Seq) (time timeout : ℕ) (w : PlainSend) → send_numbers (heard ns time timeout w) ≡ send_numbers w
+numbers-heard : (ns : List Seq) (time timeout : ℕ) (w : PlainSend) → send_numbers (list_heard ns time timeout w) ≡ send_numbers w
 numbers-heard ns time timeout w =
     numbers-marked (Missed (newest_of (listed w ns)) time timeout) (without_listed (listed w ns) w).packets
     ∙ numbers-listed (listed w ns) w.packets
@@ -336,7 +336,7 @@ answer-keeps-none Closed r h bytes e un = cc
 back : (r : PlainRdp) (ns : List ℕ) (p : PlainBuffer) → ns ≡ rdp_numbers r → Balanced (ns ++ p.picture.number ∷ []) (rdp_numbers r ++ p.picture.number ∷ [])
 back r ns p e = same _ _ (ap (λ l. l ++ p.picture.number ∷ []) e)
 
-pub handed-balanced : (y : Row) (h : RdpHead) (tag : Option Tag) (p : PlainBuffer) (time : ℕ) (r : PlainRdp) → row_in r.state r h p.picture.payload ≡ y → IsWhole r →
+pub handed-balanced : (y : StateRow) (h : RdpHead) (tag : Option Tag) (p : PlainBuffer) (time : ℕ) (r : PlainRdp) → row_in r.state r h p.picture.payload ≡ y → IsWhole r →
     Balanced (rdp_numbers (after y h tag p time r) ++ number_in (back_of y p)) (rdp_numbers r ++ p.picture.number ∷ [])
 handed-balanced row.Stray h tag p time r e whole = same _ _ refl
 handed-balanced row.Refused h tag p time r e whole = back r _ p (numbers-left Closed time r)
@@ -393,7 +393,7 @@ above w t e = go (nat_lt w.cur t) refl e
     go true p q = ltb-true w.cur t p
     go false p q = cc
 
-pub whole-handed : (y : Row) (h : RdpHead) (tag : Option Tag) (p : PlainBuffer) (time : ℕ) (r : PlainRdp) → row_in r.state r h p.picture.payload ≡ y → IsWhole r →
+pub whole-handed : (y : StateRow) (h : RdpHead) (tag : Option Tag) (p : PlainBuffer) (time : ℕ) (r : PlainRdp) → row_in r.state r h p.picture.payload ≡ y → IsWhole r →
     IsWhole (after y h tag p time r)
 whole-handed row.Stray h tag p time r e whole = whole
 whole-handed row.Refused h tag p time r e whole = whole-left Closed time r tt whole
@@ -442,7 +442,7 @@ whole-reset (Some t) time r whole = go (nat_le t (r.recv.cur + 1))
 
 pub whole-delivered : (time : ℕ) (r : PlainRdp) → r.state ≡ Open → is_kept r.recv (r.recv.cur + 1) ≡ false → IsWhole r → IsWhole (delivering time r)
 whole-delivered time r e none whole =
-    whole-reset r.reset_at time (record r { recv = confirmed r.recv; owed = counted time r.owed })
+    whole-reset r.reset_at time (record r { recv = confirmed r.recv; owed = one_more_delivered time r.owed })
     (record { unopened = open-unopened r.state _ e; ordered = order-next r.recv.cur r.recv.kept none whole.ordered })
 
 pub whole-again : (b : PlainBuffer) (r : PlainRdp) → r.state ≡ Open → is_kept r.recv (r.recv.cur + 1) ≡ false → IsWhole r → IsWhole (keeping_again b r)

@@ -12,15 +12,15 @@ use Rattle.csp_rdp_window.specs.declared.pending.Mark.TheVariants.{Acknowledged}
 use Rattle.csp_rdp_window.specs.declared.pending.Pending.{Pending}
 use Rattle.csp_rdp.specs.Counts.{IsFar}
 use Rattle.csp_rdp.specs.Holding.{recv_rested, rested, taken_out, taken_out_of}
-use Rattle.csp_rdp.specs.Jobs.{closed_in, counted, delivering, reset_after, sent, taken_in, timed_out, ticked}
+use Rattle.csp_rdp.specs.Jobs.{closed_in, one_more_delivered, delivering, reset_after, sent, taken_in, timed_out, ticked}
 use Rattle.csp_rdp.specs.Machine.{PlainRdp, broken, left, owes_rst}
 use Rattle.csp_rdp.specs.Table.{acknowledged, after, entered, entered_from, listing}
 use Rattle.csp_rdp.specs.declared.answers.State.{State}
 use Rattle.csp_rdp.specs.declared.answers.State.TheVariants.{Closed, SynSent, SynRcvd, Open, CloseWait}
 use Rattle.csp_rdp.specs.declared.jobs.Job.{Job}
 use Rattle.csp_rdp.specs.declared.jobs.Job.TheVariants as job
-use Rattle.csp_rdp.specs.declared.rows.Row.{Row}
-use Rattle.csp_rdp.specs.declared.rows.Row.TheVariants as row
+use Rattle.csp_rdp.specs.declared.rows.StateRow.{StateRow}
+use Rattle.csp_rdp.specs.declared.rows.StateRow.TheVariants as row
 
 -- another state of it, which is as far
 far-left : (n : ℕ) (state : State) (time : ℕ) (r : PlainRdp) → IsFar n r → IsFar n (left state time r)
@@ -57,7 +57,7 @@ far-listing n true bytes time r far = record { admitted = far.admitted; delivere
 far-heard : (n : ℕ) (h : RdpHead) (time : ℕ) (r : PlainRdp) → IsFar n r → IsFar n (acknowledged h.ack.0 time (entered time r))
 far-heard n h time r far = far-acknowledged n h.ack.0 time (entered time r) (far-entered n r.state time r far)
 
-pub far-after : (n : ℕ) (y : Row) (h : RdpHead) (tag : Option Tag) (p : PlainBuffer) (time : ℕ) (r : PlainRdp) → IsFar n r → IsFar n (after y h tag p time r)
+pub far-after : (n : ℕ) (y : StateRow) (h : RdpHead) (tag : Option Tag) (p : PlainBuffer) (time : ℕ) (r : PlainRdp) → IsFar n r → IsFar n (after y h tag p time r)
 far-after n row.Stray h tag p time r far = far
 far-after n row.Refused h tag p time r far = far-left n Closed time r far
 far-after n row.Answered h tag p time r far = record { admitted = far.admitted; delivered = omega arith }
@@ -100,7 +100,7 @@ pub far-delivered : (n time : ℕ) (r : PlainRdp) → IsFar n r → IsFar (n + 1
 far-delivered n time r far =
     let sent = far.admitted in
     let cur = far.delivered in
-    far-reached (n + 1) r.reset_at time (record r { recv = confirmed r.recv; owed = counted time r.owed }) (record { admitted = omega (arith, sent); delivered = omega (arith, cur) })
+    far-reached (n + 1) r.reset_at time (record r { recv = confirmed r.recv; owed = one_more_delivered time r.owed }) (record { admitted = omega (arith, sent); delivered = omega (arith, cur) })
 
 far-timed : (n : ℕ) (state : State) (time : ℕ) (r : PlainRdp) → IsFar n r → IsFar n (timed_out state time r)
 far-timed n SynSent time r far = far-left n Closed time r far

@@ -13,7 +13,7 @@ use Rattle.csp_rdp_header.specs.Numbers.{numbers_of}
 use Rattle.csp_rdp_header.specs.declared.head.RdpHead.{RdpHead}
 use Rattle.csp_rdp_header.specs.declared.head.TheConstants.{RST, EAK, ACK, SYN}
 use Rattle.csp_rdp_window.specs.Receiving.{Kept, PlainRecv, index_in, is_awaited, is_kept, kept_numbers, kept_with, missing_from, next_buffer, without_first, without_next}
-use Rattle.csp_rdp_window.specs.Sending.{PlainSend, acked, acked_at, acknowledges, admitted, due_index, fresh, heard, is_due, is_inside, is_loose, listed, listed_at, marked, missed_at, needed_if, newest_of, payload_at, sent_at, with_mark, without_listed}
+use Rattle.csp_rdp_window.specs.Sending.{PlainSend, acked, acked_at, acknowledges, admitted, due_index, fresh, list_heard, is_due, is_inside, is_loose, listed, listed_at, marked, missed_at, needed_if, newest_of, payload_at, sent_at, with_mark, without_listed}
 use Rattle.csp_rdp_window.specs.Shown.{shown}
 use Rattle.csp_rdp_window.specs.Times.{has_passed}
 use Rattle.csp_rdp_window.specs.declared.pending.Mark.{Mark}
@@ -23,13 +23,13 @@ use Rattle.csp_rdp.specs.Holding.{loose_buffers, rdp_buffers, rdp_numbers, recv_
 use Rattle.csp_rdp.specs.Jobs.{Says, admitting, closed_in, delivery_in, filled, filled_with, is_ack_due, job_in, job_of, keeping_again, reset_after, says, sending_index, sent, syn_in, taken_in, ticked, timed_out, without_ack}
 use Rattle.csp_rdp.specs.Machine.{PlainRdp, broken, left, owes_eak, owes_rst}
 use Rattle.csp_rdp.specs.Placed.{placed, placed_buffer, placed_kept, placed_pending}
-use Rattle.csp_rdp.specs.Table.{ack_row, acknowledged, after, back_of, data_row, entered, entered_from, handed, is_bad_list, keeping, listing, reset_row, row_in, row_of, since_moved}
+use Rattle.csp_rdp.specs.Table.{ack_row, acknowledged, after, back_of, data_row, entered, entered_from, after_packet, is_bad_list, keeping, listing, reset_row, row_in, row_of, since_moved}
 use Rattle.csp_rdp.specs.declared.answers.State.{State}
 use Rattle.csp_rdp.specs.declared.answers.State.TheVariants.{Closed, SynSent, SynRcvd, Open, CloseWait}
 use Rattle.csp_rdp.specs.declared.jobs.Job.{Job}
 use Rattle.csp_rdp.specs.declared.jobs.Job.TheVariants as job
-use Rattle.csp_rdp.specs.declared.rows.Row.{Row}
-use Rattle.csp_rdp.specs.declared.rows.Row.TheVariants as row
+use Rattle.csp_rdp.specs.declared.rows.StateRow.{StateRow}
+use Rattle.csp_rdp.specs.declared.rows.StateRow.TheVariants as row
 use Rattle.csp_rdp.proofs.HoldingLemmas.{keeping_, sending}
 
 -- the windows with their buffers of this region
@@ -126,7 +126,7 @@ placed-without-listed : (n : RegionName) (ts : List ℕ) (w : PlainSend) → wit
 placed-without-listed n ts w =
     ap (λ ps. record w { packets = ps }) (mapped (λ p. needed_if (not (list_any (λ t. t == p.index) ts)) p) (placed_pending n) (placed_pending n) w.packets (λ p. refl))
 
-placed-heard : (n : RegionName) (ns : List Seq) (time timeout : ℕ) (w : PlainSend) → heard ns time timeout (placed_send n w) ≡ placed_send n (heard ns time timeout w)
+placed-heard : (n : RegionName) (ns : List Seq) (time timeout : ℕ) (w : PlainSend) → list_heard ns time timeout (placed_send n w) ≡ placed_send n (list_heard ns time timeout w)
 placed-heard n ns time timeout w =
     let m : Mark = Missed (newest_of (listed w ns)) time timeout in
     ap (λ ts. with_mark (Missed (newest_of ts) time timeout) (without_listed ts (placed_send n w))) (placed-listed n ns w)
@@ -193,7 +193,7 @@ placed-ack-row n h bytes r =
     ap (λ y. if has_flag h EAK then row.Lists else if length bytes == 0 then row.Acknowledges else y) (placed-data-row n (index_in r.recv h.seq.0) r)
 
 -- the rows of SynRcvd and Open, where a reset and an acknowledgement come to these
-abbrev syn_rcvd_by : Row → Row → PlainRdp → RdpHead → List ℕ → Row
+abbrev syn_rcvd_by : StateRow → StateRow → PlainRdp → RdpHead → List ℕ → StateRow
 syn_rcvd_by reset ack r h bytes =
     if has_flag h RST then reset
     else if has_flag h SYN && not (has_flag h ACK) && h.seq.0 == r.recv.start then row.Repeated
@@ -202,7 +202,7 @@ syn_rcvd_by reset ack r h bytes =
     else if h.ack.0 == r.send.start then ack
     else row.Stray
 
-abbrev open_by : Row → Row → PlainRdp → RdpHead → List ℕ → Row
+abbrev open_by : StateRow → StateRow → PlainRdp → RdpHead → List ℕ → StateRow
 open_by reset ack r h bytes =
     if has_flag h RST then reset
     else if has_flag h SYN && h.seq.0 == r.recv.start then row.Late
@@ -224,7 +224,7 @@ placed-row-in n Closed h bytes r = refl
 pub placed-row : (n : RegionName) (h : RdpHead) (bytes : List ℕ) (r : PlainRdp) → row_of (placed n r) h bytes ≡ row_of r h bytes
 placed-row n h bytes r = placed-row-in n r.state h bytes r
 
-pub placed-back : (n : RegionName) (y : Row) (p : PlainBuffer) → back_of y (placed_buffer n p) ≡ option_map (placed_buffer n) (back_of y p)
+pub placed-back : (n : RegionName) (y : StateRow) (p : PlainBuffer) → back_of y (placed_buffer n p) ≡ option_map (placed_buffer n) (back_of y p)
 placed-back n row.Stray p = refl
 placed-back n row.Refused p = refl
 placed-back n row.Answered p = refl
@@ -277,7 +277,7 @@ placed-keeping n t p r =
 placed-heard-now : (n : RegionName) (h : RdpHead) (time : ℕ) (r : PlainRdp) → acknowledged h.ack.0 time (entered time (placed n r)) ≡ placed n (acknowledged h.ack.0 time (entered time r))
 placed-heard-now n h time r = ap (acknowledged h.ack.0 time) (placed-entered n r.state time r) ∙ placed-acknowledged n h.ack.0 time (entered time r)
 
-placed-after : (n : RegionName) (y : Row) (h : RdpHead) (tag : Option Tag) (p : PlainBuffer) (time : ℕ) (r : PlainRdp) →
+placed-after : (n : RegionName) (y : StateRow) (h : RdpHead) (tag : Option Tag) (p : PlainBuffer) (time : ℕ) (r : PlainRdp) →
     after y h tag (placed_buffer n p) time (placed n r) ≡ placed n (after y h tag p time r)
 placed-after n row.Stray h tag p time r = refl
 placed-after n row.Refused h tag p time r = placed-left n Closed time r
@@ -302,7 +302,7 @@ placed-after n (row.Data t) h tag p time r =
     ap (keeping t (placed_buffer n p)) (placed-heard-now n h time r) ∙ placed-keeping n t p (acknowledged h.ack.0 time (entered time r))
 
 pub placed-handed : (n : RegionName) (h : RdpHead) (tag : Option Tag) (p : PlainBuffer) (time : ℕ) (r : PlainRdp) →
-    handed h tag (placed_buffer n p) time (placed n r) ≡ placed n (handed h tag p time r)
+    after_packet h tag (placed_buffer n p) time (placed n r) ≡ placed n (after_packet h tag p time r)
 placed-handed n h tag p time r =
     ap (λ y. after y h tag (placed_buffer n p) time (placed n r)) (placed-row n h p.picture.payload r)
     ∙ placed-after n (row_of r h p.picture.payload) h tag p time r

@@ -10,7 +10,7 @@ use Rattle.csp_buffer.specs.PlainBuffer.{PlainBuffer}
 use Rattle.csp_rdp_header.specs.Numbers.{numbers_of}
 use Rattle.csp_rdp_header.specs.declared.head.RdpHead.{RdpHead}
 use Rattle.csp_rdp_window.specs.Receiving.{Kept, PlainRecv, first_buffer, kept_with, without_first}
-use Rattle.csp_rdp_window.specs.Sending.{PlainSend, acked_at, acknowledges, admitted, fresh, heard, is_inside, is_loose, listed, loose_buffer, marked, needed_if, newest_of, with_mark, without_listed, without_loose}
+use Rattle.csp_rdp_window.specs.Sending.{PlainSend, acked_at, acknowledges, admitted, fresh, list_heard, is_inside, is_loose, listed, loose_buffer, marked, needed_if, newest_of, with_mark, without_listed, without_loose}
 use Rattle.csp_rdp_window.specs.Shown.{shown}
 use Rattle.csp_rdp_window.specs.Times.{has_passed}
 use Rattle.csp_rdp_window.specs.declared.pending.Mark.{Mark}
@@ -25,8 +25,8 @@ use Rattle.csp_rdp.specs.declared.answers.State.{State}
 use Rattle.csp_rdp.specs.declared.answers.State.TheVariants.{Closed, SynSent, SynRcvd, Open, CloseWait}
 use Rattle.csp_rdp.specs.declared.jobs.Job.{Job}
 use Rattle.csp_rdp.specs.declared.jobs.Job.TheVariants as job
-use Rattle.csp_rdp.specs.declared.rows.Row.{Row}
-use Rattle.csp_rdp.specs.declared.rows.Row.TheVariants as row
+use Rattle.csp_rdp.specs.declared.rows.StateRow.{StateRow}
+use Rattle.csp_rdp.specs.declared.rows.StateRow.TheVariants as row
 use Rattle.csp_rdp.proofs.SoundLemmas.{marked-buffer}
 
 -- the buffers of packets, and of what is kept
@@ -54,7 +54,7 @@ in-acked name (Some t) w in_ = go (is_inside w t)
     go true = in-marked name (Acknowledged t) w.packets in_
     go false = in_
 
-in-heard : (name : RegionName) (ns : List Seq) (time timeout : ℕ) (w : PlainSend) → AreIn name (sending w.packets) → AreIn name (sending (heard ns time timeout w).packets)
+in-heard : (name : RegionName) (ns : List Seq) (time timeout : ℕ) (w : PlainSend) → AreIn name (sending w.packets) → AreIn name (sending (list_heard ns time timeout w).packets)
 in-heard name ns time timeout w in_ =
     in-marked name (Missed (newest_of (listed w ns)) time timeout) (without_listed (listed w ns) w).packets (in-listed name (listed w ns) w.packets in_)
 
@@ -129,7 +129,7 @@ in-listing name true bytes time r all = record { sending = in-heard name (number
 in-heard-now : (name : RegionName) (h : RdpHead) (time : ℕ) (r : PlainRdp) → AreAllIn name r → AreAllIn name (acknowledged h.ack.0 time (entered time r))
 in-heard-now name h time r all = in-acknowledged name h.ack.0 time (entered time r) (in-entered name r.state time r all)
 
-pub in-after : (name : RegionName) (y : Row) (h : RdpHead) (tag : Option Tag) (p : PlainBuffer) (time : ℕ) (r : PlainRdp) → AreAllIn name r → p.region ≡ name →
+pub in-after : (name : RegionName) (y : StateRow) (h : RdpHead) (tag : Option Tag) (p : PlainBuffer) (time : ℕ) (r : PlainRdp) → AreAllIn name r → p.region ≡ name →
     AreAllIn name (after y h tag p time r)
 in-after name row.Stray h tag p time r all e = all
 in-after name row.Refused h tag p time r all e = in-left name Closed time r all

@@ -10,11 +10,11 @@ use Rattle.csp_rdp.specs.Machine.{PlainRdp}
 use Rattle.csp_rdp.specs.Table.{ack_row, close_wait_row, data_row, entered, entered_from, is_bad_list, open_row, reset_row, row_in, syn_rcvd_row, syn_sent_row}
 use Rattle.csp_rdp.specs.declared.answers.State.{State}
 use Rattle.csp_rdp.specs.declared.answers.State.TheVariants.{Closed, SynSent, SynRcvd, Open, CloseWait}
-use Rattle.csp_rdp.specs.declared.rows.Row.{Row}
-use Rattle.csp_rdp.specs.declared.rows.Row.TheVariants as row
+use Rattle.csp_rdp.specs.declared.rows.StateRow.{StateRow}
+use Rattle.csp_rdp.specs.declared.rows.StateRow.TheVariants as row
 
 -- a row that only an acknowledgement comes to
-abbrev IsAcked : Row → Bool
+abbrev IsAcked : StateRow → Bool
 IsAcked row.Lists = true
 IsAcked (row.Data _) = true
 IsAcked _ = false
@@ -28,15 +28,15 @@ reset-not r (Some t) = go (not (t == first_missing r.recv)) (t == r.recv.cur + 1
     go false true = refl
     go false false = refl
 
-not-acked : (x y : Row) → x ≡ y → IsAcked x ≡ false → IsAcked y ≡ true → ⊥
+not-acked : (x y : StateRow) → x ≡ y → IsAcked x ≡ false → IsAcked y ≡ true → ⊥
 not-acked x y e f g = cc
 
 -- in SynRcvd and in Open such a row is that of an acknowledgement without a bad list
-record ComesTo (r : PlainRdp) (h : RdpHead) (bytes : List ℕ) (y : Row) : Type 0 where
+record ComesTo (r : PlainRdp) (h : RdpHead) (bytes : List ℕ) (y : StateRow) : Type 0 where
   good : is_bad_list h bytes ≡ false
   acked : ack_row r h bytes ≡ y
 
-rcvd-comes : (r : PlainRdp) (h : RdpHead) (bytes : List ℕ) (y : Row) → syn_rcvd_row r h bytes ≡ y → IsAcked y ≡ true → ComesTo r h bytes y
+rcvd-comes : (r : PlainRdp) (h : RdpHead) (bytes : List ℕ) (y : StateRow) → syn_rcvd_row r h bytes ≡ y → IsAcked y ≡ true → ComesTo r h bytes y
 rcvd-comes r h bytes y e g =
     go (has_flag h RST) (has_flag h SYN && not (has_flag h ACK) && h.seq.0 == r.recv.start) (has_flag h SYN || not (has_flag h ACK)) (is_bad_list h bytes) (h.ack.0 == r.send.start) refl e
   where
@@ -50,7 +50,7 @@ rcvd-comes r h bytes y e g =
     go false false false false true p q = record { good = p; acked = q }
     go false false false false false p q = absurd (not-acked _ y q refl g)
 
-open-comes : (r : PlainRdp) (h : RdpHead) (bytes : List ℕ) (y : Row) → open_row r h bytes ≡ y → IsAcked y ≡ true → ComesTo r h bytes y
+open-comes : (r : PlainRdp) (h : RdpHead) (bytes : List ℕ) (y : StateRow) → open_row r h bytes ≡ y → IsAcked y ≡ true → ComesTo r h bytes y
 open-comes r h bytes y e g =
     go (has_flag h RST) (has_flag h SYN && h.seq.0 == r.recv.start) (has_flag h SYN || not (has_flag h ACK)) (is_bad_list h bytes) refl e
   where
@@ -79,11 +79,11 @@ wait-not h = go (has_flag h RST)
     go false = refl
 
 -- and the connection is open, or becomes so
-record Enters (s : State) (r : PlainRdp) (h : RdpHead) (bytes : List ℕ) (y : Row) (time : ℕ) : Type 0 where
+record Enters (s : State) (r : PlainRdp) (h : RdpHead) (bytes : List ℕ) (y : StateRow) (time : ℕ) : Type 0 where
   comes : ComesTo r h bytes y
   is_open : (entered_from s time r).state ≡ Open
 
-comes-to : (s : State) (r : PlainRdp) (h : RdpHead) (bytes : List ℕ) (y : Row) (time : ℕ) → r.state ≡ s → row_in s r h bytes ≡ y → IsAcked y ≡ true → Enters s r h bytes y time
+comes-to : (s : State) (r : PlainRdp) (h : RdpHead) (bytes : List ℕ) (y : StateRow) (time : ℕ) → r.state ≡ s → row_in s r h bytes ≡ y → IsAcked y ≡ true → Enters s r h bytes y time
 comes-to SynSent r h bytes y time s e g = absurd (not-acked _ y e (sent-not r h) g)
 comes-to SynRcvd r h bytes y time s e g = record { comes = rcvd-comes r h bytes y e g; is_open = refl }
 comes-to Open r h bytes y time s e g = record { comes = open-comes r h bytes y e g; is_open = s }
@@ -112,7 +112,7 @@ data-found r (Some s) t e = go (is_awaited r.recv s) (is_kept r.recv s) refl ref
 data-row : (r : PlainRdp) (h : RdpHead) (bytes : List ℕ) (t : ℕ) → ack_row r h bytes ≡ row.Data t → data_row r (index_in r.recv h.seq.0) ≡ row.Data t
 data-row r h bytes t e = go (has_flag h EAK) (length bytes == 0) (data_row r (index_in r.recv h.seq.0)) e
   where
-    go : (a b : Bool) (x : Row) → (if a then row.Lists else if b then row.Acknowledges else x) ≡ row.Data t → x ≡ row.Data t
+    go : (a b : Bool) (x : StateRow) → (if a then row.Lists else if b then row.Acknowledges else x) ≡ row.Data t → x ≡ row.Data t
     go true b x f = cc
     go false true x f = cc
     go false false x f = f

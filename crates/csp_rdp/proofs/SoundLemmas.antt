@@ -10,7 +10,7 @@ use Rattle.csp_base.specs.declared.sequence.Seq.{Seq}
 use Rattle.csp_buffer.specs.PlainBuffer.{PlainBuffer}
 use Rattle.csp_rdp_window.specs.Numbers.{with_payload}
 use Rattle.csp_rdp_window.specs.Receiving.{PlainRecv, opening_recv, without_first}
-use Rattle.csp_rdp_window.specs.Sending.{PlainSend, acked_at, admitted, due_index, fresh, heard, is_due, is_inside, listed, marked, needed_if, newest_of, packet_at, payload_at, with_mark, without_listed, without_loose}
+use Rattle.csp_rdp_window.specs.Sending.{PlainSend, acked_at, admitted, due_index, fresh, list_heard, is_due, is_inside, listed, marked, needed_if, newest_of, packet_at, payload_at, with_mark, without_listed, without_loose}
 use Rattle.csp_rdp_window.specs.declared.pending.Mark.{Mark}
 use Rattle.csp_rdp_window.specs.declared.pending.Mark.TheVariants.{Acknowledged, Listed, Abandoned, Sent, Missed}
 use Rattle.csp_rdp_window.specs.declared.pending.Pending.{Pending}
@@ -41,7 +41,7 @@ AreShort-listed : (ts : List ℕ) (ps : List Pending) → AreShort ps → AreSho
 AreShort-listed ts [] short = tt
 AreShort-listed ts (p ∷ ps) short = (short.0, AreShort-listed ts ps short.1)
 
-pub AreShort-heard : (ns : List Seq) (time timeout : ℕ) (w : PlainSend) → AreShort w.packets → AreShort (heard ns time timeout w).packets
+pub AreShort-heard : (ns : List Seq) (time timeout : ℕ) (w : PlainSend) → AreShort w.packets → AreShort (list_heard ns time timeout w).packets
 AreShort-heard ns time timeout w short =
     AreShort-marked (Missed (newest_of (listed w ns)) time timeout) (without_listed (listed w ns) w).packets (AreShort-listed (listed w ns) w.packets short)
 
@@ -183,7 +183,7 @@ marked-loose (Missed newest time timeout) p e = if-needed _ _ p refl ∙ e
 pub packets-marked : (m : Mark) (state : State) (ps : List Pending) → ArePacketsIn state ps → ArePacketsIn state (map (marked m) ps)
 packets-marked m state ps in_ = packets-mapped (marked m) state ps (marked-loose m) in_
 
-pub packets-heard : (state : State) (ns : List Seq) (time timeout : ℕ) (w : PlainSend) → ArePacketsIn state w.packets → ArePacketsIn state (heard ns time timeout w).packets
+pub packets-heard : (state : State) (ns : List Seq) (time timeout : ℕ) (w : PlainSend) → ArePacketsIn state w.packets → ArePacketsIn state (list_heard ns time timeout w).packets
 packets-heard state ns time timeout w in_ =
     let ts = listed w ns in
     packets-marked (Missed (newest_of ts) time timeout) state (without_listed ts w).packets

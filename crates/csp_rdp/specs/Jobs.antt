@@ -30,7 +30,7 @@ abbrev pub is_ack_due : ℕ → PlainRdp → Bool
 is_ack_due time r =
     r.owed.ack
     || (nat_lt 0 r.owed.delivered
-    && (r.options.delayed == 0 || nat_lt r.options.ack_count r.owed.delivered || has_passed (Some r.owed.first) r.options.ack_timeout time))
+    && (r.options.delayed == 0 || nat_lt r.options.ack_count r.owed.delivered || has_passed r.owed.first r.options.ack_timeout time))
 
 -- by state: the first that is owed
 abbrev pub job_in : State → ℕ → PlainRdp → Option Job
@@ -104,7 +104,7 @@ filled j time r b = filled_with (says j time r) r b
 
 -- a packet that acknowledges clears what is owed so
 abbrev pub without_ack : Owed → Owed
-without_ack o = record o { ack = false; delivered = 0 }
+without_ack o = record o { ack = false; delivered = 0; first = None }
 
 -- what is owed once the opening packet was made
 abbrev pub syn_owed_after : State → ℕ → Owed → Owed
@@ -149,8 +149,8 @@ abbrev pub keeping_again : PlainBuffer → PlainRdp → PlainRdp
 keeping_again b r = record r { recv = with_kept (r.recv.cur + 1) b r.recv }
 
 -- one more packet is delivered
-abbrev pub counted : ℕ → Owed → Owed
-counted time o = record o { delivered = o.delivered + 1; first = if o.delivered == 0 then time else o.first }
+abbrev pub one_more_delivered : ℕ → Owed → Owed
+one_more_delivered time o = record o { delivered = o.delivered + 1; first = Some (unwrap_or o.first time) }
 
 -- a reset that waits, once all before it is delivered
 abbrev pub reset_after : Option ℕ → ℕ → PlainRdp → PlainRdp
@@ -159,7 +159,7 @@ reset_after (Some t) time r = if nat_le t (r.recv.cur + 1) then owes_rst (left C
 
 -- the connection once a packet was delivered
 abbrev pub delivering : ℕ → PlainRdp → PlainRdp
-delivering time r = reset_after r.reset_at time (record r { recv = confirmed r.recv; owed = counted time r.owed })
+delivering time r = reset_after r.reset_at time (record r { recv = confirmed r.recv; owed = one_more_delivered time r.owed })
 
 -- what the timer does, by state
 abbrev pub timed_out : State → ℕ → PlainRdp → PlainRdp

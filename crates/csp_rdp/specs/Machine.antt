@@ -36,11 +36,11 @@ flow_of t = (t.node, t.nth)
 
 -- nothing is owed
 abbrev pub nothing_owed : Owed
-nothing_owed = record { rst = false; syn = false; syn_sent = None; eak = false; ack = false; delivered = 0; first = 0 }
+nothing_owed = record { rst = false; syn = false; syn_sent = None; eak = false; ack = false; delivered = 0; first = None }
 
 -- a new connection owes the packet that opens it, and nothing else
 abbrev pub opening_owed : Owed
-opening_owed = record { rst = false; syn = true; syn_sent = None; eak = false; ack = false; delivered = 0; first = 0 }
+opening_owed = record { rst = false; syn = true; syn_sent = None; eak = false; ack = false; delivered = 0; first = None }
 
 -- a connection as it begins, on either side
 abbrev pub made : State → ℕ → Options → ℕ → Option (ℕ × ℕ) → ℕ → ℕ → ℕ → PlainRdp

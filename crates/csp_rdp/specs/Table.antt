@@ -7,17 +7,17 @@ use Rattle.csp_rdp_header.specs.Numbers.{is_malformed, numbers_of}
 use Rattle.csp_rdp_header.specs.declared.head.RdpHead.{RdpHead}
 use Rattle.csp_rdp_header.specs.declared.head.TheConstants.{RST, EAK, ACK, SYN}
 use Rattle.csp_rdp_window.specs.Receiving.{index_in, is_awaited, is_kept, first_missing, with_kept}
-use Rattle.csp_rdp_window.specs.Sending.{acked, acknowledges, heard}
+use Rattle.csp_rdp_window.specs.Sending.{acked, acknowledges, list_heard}
 use Rattle.csp_rdp.specs.Machine.{PlainRdp, started, opened, left, owes_rst, owes_syn, owes_eak, owes_ack, broken}
 use Rattle.csp_rdp.specs.declared.answers.State.{State}
 use Rattle.csp_rdp.specs.declared.answers.State.TheVariants.{Closed, SynSent, SynRcvd, Open, CloseWait}
-use Rattle.csp_rdp.specs.declared.rows.Row.{Row}
-use Rattle.csp_rdp.specs.declared.rows.Row.TheVariants as row
+use Rattle.csp_rdp.specs.declared.rows.StateRow.{StateRow}
+use Rattle.csp_rdp.specs.declared.rows.StateRow.TheVariants as row
 
 -- ---- which row a packet comes to
 
 -- SynRcvd, Open: a reset is in sequence where its index is the first after cur that is not kept
-abbrev pub reset_row : PlainRdp → Option ℕ → Row
+abbrev pub reset_row : PlainRdp → Option ℕ → StateRow
 reset_row r None = row.Stray
 reset_row r (Some t) =
     if not (t == first_missing r.recv) then row.Stray
@@ -25,7 +25,7 @@ reset_row r (Some t) =
     else row.ResetAt t
 
 -- Open: data, by its index
-abbrev pub data_row : PlainRdp → Option ℕ → Row
+abbrev pub data_row : PlainRdp → Option ℕ → StateRow
 data_row r None = row.Outside
 data_row r (Some t) =
     if not (is_awaited r.recv t) then row.Outside
@@ -33,7 +33,7 @@ data_row r (Some t) =
     else row.Data t
 
 -- Open: an acknowledgement, with a list, without data, or with data
-abbrev pub ack_row : PlainRdp → RdpHead → List ℕ → Row
+abbrev pub ack_row : PlainRdp → RdpHead → List ℕ → StateRow
 ack_row r h bytes =
     if has_flag h EAK then row.Lists
     else if length bytes == 0 then row.Acknowledges
@@ -44,14 +44,14 @@ abbrev pub is_bad_list : RdpHead → List ℕ → Bool
 is_bad_list h bytes = has_flag h EAK && is_malformed bytes
 
 -- SynSent: a reset, the answer that acknowledges the start, any other
-abbrev pub syn_sent_row : PlainRdp → RdpHead → Row
+abbrev pub syn_sent_row : PlainRdp → RdpHead → StateRow
 syn_sent_row r h =
     if has_flag h RST then row.Refused
     else if has_flag h SYN && has_flag h ACK && h.ack.0 == r.send.start then row.Answered
     else row.Stray
 
 -- SynRcvd: a reset, the first packet once more, what breaks it off, a bad list, an acknowledgement of the start, any other
-abbrev pub syn_rcvd_row : PlainRdp → RdpHead → List ℕ → Row
+abbrev pub syn_rcvd_row : PlainRdp → RdpHead → List ℕ → StateRow
 syn_rcvd_row r h bytes =
     if has_flag h RST then reset_row r (index_in r.recv h.seq.0)
     else if has_flag h SYN && not (has_flag h ACK) && h.seq.0 == r.recv.start then row.Repeated
@@ -61,7 +61,7 @@ syn_rcvd_row r h bytes =
     else row.Stray
 
 -- Open: a reset, the first packet once more, what breaks it off, a bad list, an acknowledgement
-abbrev pub open_row : PlainRdp → RdpHead → List ℕ → Row
+abbrev pub open_row : PlainRdp → RdpHead → List ℕ → StateRow
 open_row r h bytes =
     if has_flag h RST then reset_row r (index_in r.recv h.seq.0)
     else if has_flag h SYN && h.seq.0 == r.recv.start then row.Late
@@ -70,11 +70,11 @@ open_row r h bytes =
     else ack_row r h bytes
 
 -- CloseWait: a reset, any other
-abbrev pub close_wait_row : RdpHead → Row
+abbrev pub close_wait_row : RdpHead → StateRow
 close_wait_row h = if has_flag h RST then row.Ended else row.Stray
 
 -- by state; a reset is tried before SYN and ACK
-abbrev pub row_in : State → PlainRdp → RdpHead → List ℕ → Row
+abbrev pub row_in : State → PlainRdp → RdpHead → List ℕ → StateRow
 row_in SynSent r h bytes = syn_sent_row r h
 row_in SynRcvd r h bytes = syn_rcvd_row r h bytes
 row_in Open r h bytes = open_row r h bytes
@@ -82,7 +82,7 @@ row_in CloseWait r h bytes = close_wait_row h
 row_in Closed r h bytes = row.Stray
 
 -- the row of the table of states that a packet comes to
-abbrev pub row_of : PlainRdp → RdpHead → List ℕ → Row
+abbrev pub row_of : PlainRdp → RdpHead → List ℕ → StateRow
 row_of r h bytes = row_in r.state r h bytes
 
 -- ---- what happens in it
@@ -107,7 +107,7 @@ acknowledged number time r = let send = acked number r.send in record r { send =
 -- and the list, where the number was inside
 abbrev pub listing : Bool → List ℕ → ℕ → PlainRdp → PlainRdp
 listing false bytes time r = r
-listing true bytes time r = record r { send = heard (numbers_of bytes) time r.options.packet_timeout r.send }
+listing true bytes time r = record r { send = list_heard (numbers_of bytes) time r.options.packet_timeout r.send }
 
 -- the least index of a reset that waits
 abbrev pub least : Option ℕ → ℕ → Option ℕ
@@ -119,7 +119,7 @@ abbrev pub keeping : ℕ → PlainBuffer → PlainRdp → PlainRdp
 keeping t p r = record r { recv = with_kept t p r.recv; owed = record r.owed { eak = r.owed.eak || not (t == r.recv.cur + 1) } }
 
 -- the connection after a packet with this head and tag, which came to this row
-abbrev pub after : Row → RdpHead → Option Tag → PlainBuffer → ℕ → PlainRdp → PlainRdp
+abbrev pub after : StateRow → RdpHead → Option Tag → PlainBuffer → ℕ → PlainRdp → PlainRdp
 after row.Stray h tag p time r = r
 after row.Refused h tag p time r = left Closed time r
 after row.Answered h tag p time r = owes_ack (opened time (started h.seq.0 tag r))
@@ -136,7 +136,7 @@ after row.Duplicate h tag p time r = acknowledged h.ack.0 time (entered time r)
 after (row.Data t) h tag p time r = keeping t p (acknowledged h.ack.0 time (entered time r))
 
 -- the connection has no use for the packet
-abbrev pub is_stray : Row → Bool
+abbrev pub is_stray : StateRow → Bool
 is_stray row.Stray = true
 is_stray row.Late = true
 is_stray row.Outside = true
@@ -153,10 +153,10 @@ is_stray row.Lists = false
 is_stray (row.Data _) = false
 
 -- the packet's buffer is handed back, where it is not kept
-abbrev pub back_of : Row → PlainBuffer → Option PlainBuffer
+abbrev pub back_of : StateRow → PlainBuffer → Option PlainBuffer
 back_of (row.Data _) p = None
 back_of _ p = Some p
 
 -- the connection after a packet, by the row that it comes to
-abbrev pub handed : RdpHead → Option Tag → PlainBuffer → ℕ → PlainRdp → PlainRdp
-handed h tag p time r = after (row_of r h p.picture.payload) h tag p time r
+abbrev pub after_packet : RdpHead → Option Tag → PlainBuffer → ℕ → PlainRdp → PlainRdp
+after_packet h tag p time r = after (row_of r h p.picture.payload) h tag p time r

@@ -22,7 +22,7 @@ pub enum State {
 
 /// Why a connection that was asked for is refused.
 #[derive(Clone, Copy, Debug)]
-pub enum Why {
+pub enum Cause {
     /// No answer came in time.
     Timeout,
     /// A reset came.
@@ -37,7 +37,7 @@ pub enum Change {
     /// The connection is open.
     Opened,
     /// The connection that was asked for is refused: it is closed.
-    Refused(Why),
+    Refused(Cause),
     /// The connection was open and is not any more, and the application did not close it.
     Down,
     /// The connection, which was not open, is closed.
@@ -52,14 +52,14 @@ pub struct Result2 {
     pub stray: bool,
 }
 
-/// What a step from one state to another changed, that the application did not ask for. `why` is the
+/// What a step from one state to another changed, that the application did not ask for. `cause` is the
 /// reason that is given where a connection that was asked for is refused.
-pub(crate) fn change_between(from: State, to: State, why: Why) -> Change
-    ensures { result ≡ change_between from to why }
+pub(crate) fn change_between(from: State, to: State, cause: Cause) -> Change
+    ensures { result ≡ change_between from to cause }
 {
     match (from, to) {
         (State::SynSent | State::SynRcvd, State::Open) => Change::Opened,
-        (State::SynSent, State::Closed) => Change::Refused(why),
+        (State::SynSent, State::Closed) => Change::Refused(cause),
         (State::Open, State::CloseWait | State::Closed) => Change::Down,
         (State::SynRcvd | State::CloseWait, State::Closed) => Change::Closed,
         _ => Change::None,

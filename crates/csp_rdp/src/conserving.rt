@@ -7,7 +7,7 @@ ghost use Rattle.csp_rdp.specs.Balance.{Balanced, IsWhole};
 ghost use Rattle.csp_rdp.specs.Holding.{rdp_numbers, rested, taken_out, unneeded, unneeded_buffer, without_unneeded};
 ghost use Rattle.csp_rdp.specs.Jobs.{admitting, closing, delivering, delivery, keeping_again, sent, ticked, without_delivery};
 ghost use Rattle.csp_rdp.specs.Machine.{PlainRdp, accepting, connecting, idle};
-ghost use Rattle.csp_rdp.specs.Table.{back_of, handed, row_of};
+ghost use Rattle.csp_rdp.specs.Table.{back_of, after_packet, row_of};
 ghost use Rattle.csp_rdp.specs.declared.jobs.Job.{Job};
 ghost use Rattle.csp_rdp_header.specs.declared.head.RdpHead.{RdpHead};
 ghost use Rattle.csp_rdp_header.specs.declared.options.Options.{Options};
@@ -21,7 +21,7 @@ pub fn keeps_whole()
     ensures idle { IsWhole idle }
     ensures connecting { (start : ℕ) (options : Options) (node nth time : ℕ) → IsWhole (connecting start options node nth time) }
     ensures accepting { (start : ℕ) (options : Options) (other : ℕ) (tag : Option Tag) (node nth time : ℕ) → IsWhole (accepting start options other tag node nth time) }
-    ensures handed { (h : RdpHead) (tag : Option Tag) (p : PlainBuffer) (time : ℕ) (r : PlainRdp) → IsWhole r → IsWhole (handed h tag p time r) }
+    ensures handed { (h : RdpHead) (tag : Option Tag) (p : PlainBuffer) (time : ℕ) (r : PlainRdp) → IsWhole r → IsWhole (after_packet h tag p time r) }
     ensures admitted { (b : PlainBuffer) (time : ℕ) (r : PlainRdp) → IsWhole r → IsWhole (admitting b time r) }
     ensures sent { (j : Job) (time : ℕ) (r : PlainRdp) → IsWhole r → IsWhole (sent j time r) }
     ensures taken { (r : PlainRdp) → IsWhole r → IsWhole (without_delivery r) }
@@ -41,7 +41,7 @@ pub fn keeps_whole()
 /// and the one that it was handed.
 pub fn conserves()
     ensures handed { (h : RdpHead) (tag : Option Tag) (p : PlainBuffer) (time : ℕ) (r : PlainRdp) → IsWhole r
-        → Balanced (rdp_numbers (handed h tag p time r) ++ number_in (back_of (row_of r h p.picture.payload) p)) (rdp_numbers r ++ p.picture.number ∷ []) }
+        → Balanced (rdp_numbers (after_packet h tag p time r) ++ number_in (back_of (row_of r h p.picture.payload) p)) (rdp_numbers r ++ p.picture.number ∷ []) }
     ensures admitted { (b : PlainBuffer) (time : ℕ) (r : PlainRdp) → Balanced (rdp_numbers (admitting b time r)) (rdp_numbers r ++ b.picture.number ∷ []) }
     ensures sent { (j : Job) (time : ℕ) (r : PlainRdp) → rdp_numbers (sent j time r) ≡ rdp_numbers r }
     ensures taken { (r : PlainRdp) → IsWhole r → Balanced (rdp_numbers (without_delivery r) ++ number_in (delivery r)) (rdp_numbers r) }

@@ -34,12 +34,12 @@ pub struct Owed {
     pub ack: bool,
     /// How many packets were delivered since the last packet that acknowledged.
     pub delivered: u64,
-    /// When the first of them was delivered.
-    pub first: u64,
+    /// When the first of them was delivered, if any was.
+    pub first: Option<u64>,
 }
 
 impl Owed {
-    ghost use Rattle.csp_rdp.specs.Jobs.{counted};
+    ghost use Rattle.csp_rdp.specs.Jobs.{one_more_delivered};
     ghost use Rattle.csp_rdp.specs.Machine.{nothing_owed, opening_owed};
 
     /// Nothing is owed.
@@ -53,7 +53,7 @@ impl Owed {
             eak: false,
             ack: false,
             delivered: 0,
-            first: 0,
+            first: None,
         }
     }
 
@@ -70,11 +70,11 @@ impl Owed {
     /// The same, once one more packet is delivered.
     pub(crate) fn counting(self, now: u64) -> Owed
         requires { self.delivered < 2 ^ 32 }
-        ensures { result ≡ counted now self }
+        ensures { result ≡ one_more_delivered now self }
     {
         Owed {
             delivered: self.delivered + 1,
-            first: if self.delivered == 0 { now } else { self.first },
+            first: Some(self.first.unwrap_or(now)),
             ..self
         }
     }

@@ -9,7 +9,7 @@ ghost use Rattle.csp_rdp.specs.Holding.{rdp_buffers, rdp_numbers, rested, taken_
 ghost use Rattle.csp_rdp.specs.Jobs.{admitting, closing, delivering, delivery, keeping_again, sent, ticked, without_delivery};
 ghost use Rattle.csp_rdp.specs.Machine.{PlainRdp, accepting, connecting, idle};
 ghost use Rattle.csp_rdp.specs.Regions.{AreAllIn, AreIn, IsIn};
-ghost use Rattle.csp_rdp.specs.Table.{back_of, handed, row_of};
+ghost use Rattle.csp_rdp.specs.Table.{back_of, after_packet, row_of};
 ghost use Rattle.csp_rdp.specs.declared.jobs.Job.{Job};
 ghost use Rattle.csp_rdp_header.specs.declared.head.RdpHead.{RdpHead};
 ghost use Rattle.csp_rdp_header.specs.declared.options.Options.{Options};
@@ -22,7 +22,7 @@ use crate::State;
 /// they are after each of its calls, and what it hands out is.
 pub fn keeps_region()
     ensures handed { (name : RegionName) (h : RdpHead) (tag : Option Tag) (p : PlainBuffer) (time : ℕ) (r : PlainRdp)
-        → AreAllIn name r → p.region ≡ name → AreAllIn name (handed h tag p time r) }
+        → AreAllIn name r → p.region ≡ name → AreAllIn name (after_packet h tag p time r) }
     ensures admitted { (name : RegionName) (b : PlainBuffer) (time : ℕ) (r : PlainRdp)
         → AreAllIn name r → b.region ≡ name → AreAllIn name (admitting b time r) }
     ensures sent { (name : RegionName) (j : Job) (time : ℕ) (r : PlainRdp) → AreAllIn name r → AreAllIn name (sent j time r) }
@@ -43,7 +43,7 @@ pub fn keeps_region()
 
 /// After n admissions and deliveries together no more than n packets were admitted, and no more delivered.
 pub fn keeps_count()
-    ensures handed { (n : ℕ) (h : RdpHead) (tag : Option Tag) (p : PlainBuffer) (time : ℕ) (r : PlainRdp) → IsFar n r → IsFar n (handed h tag p time r) }
+    ensures handed { (n : ℕ) (h : RdpHead) (tag : Option Tag) (p : PlainBuffer) (time : ℕ) (r : PlainRdp) → IsFar n r → IsFar n (after_packet h tag p time r) }
     ensures admitted { (n : ℕ) (b : PlainBuffer) (time : ℕ) (r : PlainRdp) → IsFar n r → IsFar (n + 1) (admitting b time r) }
     ensures sent { (n : ℕ) (j : Job) (time : ℕ) (r : PlainRdp) → IsFar n r → IsFar n (sent j time r) }
     ensures taken { (n : ℕ) (r : PlainRdp) → IsFar n r → IsFar n (without_delivery r) }

@@ -10,7 +10,7 @@ mod placing;
 mod rdp;
 mod rows;
 
-pub use answers::{Change, Result2, State, Why};
+pub use answers::{Cause, Change, Result2, State};
 pub use conserving::{conserves, keeps_whole};
 pub use jobs::Job;
 pub use laws::{keeps_count, keeps_region, keeps_rest, numbers};

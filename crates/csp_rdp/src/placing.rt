@@ -9,9 +9,9 @@ ghost use Rattle.csp_rdp.specs.Holding.{rdp_buffers, rdp_numbers, rested, taken_
 ghost use Rattle.csp_rdp.specs.Jobs.{admitting, closing, delivering, delivery, filled, job_of, keeping_again, sent, ticked, without_delivery};
 ghost use Rattle.csp_rdp.specs.Machine.{PlainRdp};
 ghost use Rattle.csp_rdp.specs.Placed.{placed, placed_buffer};
-ghost use Rattle.csp_rdp.specs.Table.{back_of, handed, row_of};
+ghost use Rattle.csp_rdp.specs.Table.{back_of, after_packet, row_of};
 ghost use Rattle.csp_rdp.specs.declared.jobs.Job.{Job};
-ghost use Rattle.csp_rdp.specs.declared.rows.Row.{Row};
+ghost use Rattle.csp_rdp.specs.declared.rows.StateRow.{StateRow};
 ghost use Rattle.csp_rdp_header.specs.declared.head.RdpHead.{RdpHead};
 ghost use Rattle.csp_rdp_window.specs.Receiving.{is_kept};
 ghost use Rattle.csp_rdp_window.specs.Sending.{is_full};
@@ -20,8 +20,8 @@ ghost use Rattle.csp_rdp_window.specs.Sending.{is_full};
 /// in another region is as the step makes it of the machine with its buffers there.
 pub fn sees_no_region()
     ensures row { (n : RegionName) (h : RdpHead) (bytes : List ℕ) (r : PlainRdp) → row_of (placed n r) h bytes ≡ row_of r h bytes }
-    ensures back { (n : RegionName) (row : Row) (p : PlainBuffer) → back_of row (placed_buffer n p) ≡ option_map (placed_buffer n) (back_of row p) }
-    ensures handed { (n : RegionName) (h : RdpHead) (tag : Option Tag) (p : PlainBuffer) (time : ℕ) (r : PlainRdp) → placed n (handed h tag p time r) ≡ handed h tag (placed_buffer n p) time (placed n r) }
+    ensures back { (n : RegionName) (row : StateRow) (p : PlainBuffer) → back_of row (placed_buffer n p) ≡ option_map (placed_buffer n) (back_of row p) }
+    ensures handed { (n : RegionName) (h : RdpHead) (tag : Option Tag) (p : PlainBuffer) (time : ℕ) (r : PlainRdp) → placed n (after_packet h tag p time r) ≡ after_packet h tag (placed_buffer n p) time (placed n r) }
     ensures admitted { (n : RegionName) (b : PlainBuffer) (time : ℕ) (r : PlainRdp) → placed n (admitting b time r) ≡ admitting (placed_buffer n b) time (placed n r) }
     ensures job { (n : RegionName) (time : ℕ) (r : PlainRdp) → job_of time (placed n r) ≡ job_of time r }
     ensures filled { (n : RegionName) (j : Job) (time : ℕ) (r : PlainRdp) (b : PlainBuffer) → filled j time (placed n r) b ≡ filled j time r b }

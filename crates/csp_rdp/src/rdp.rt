@@ -8,8 +8,8 @@ ghost use Rattle.csp_rdp.specs.Jobs.{admitting, closing, delivering, delivery, f
 ghost use Rattle.csp_rdp.specs.Machine.{accepting, connecting, flow_of, idle, made, una_of};
 ghost use Rattle.csp_rdp.specs.Sound.{IsUnopened};
 ghost use Rattle.csp_rdp.specs.Timer.{times_out, waits_in};
-ghost use Rattle.csp_rdp.specs.Table.{back_of, handed, is_stray, row_of};
-ghost use Rattle.csp_rdp.specs.declared.answers.Why.TheVariants as why;
+ghost use Rattle.csp_rdp.specs.Table.{back_of, after_packet, is_stray, row_of};
+ghost use Rattle.csp_rdp.specs.declared.answers.Cause.TheVariants as cause;
 ghost use Rattle.csp_rdp_window.specs.Numbers.{left_over, number_in, times};
 ghost use Rattle.csp_rdp_window.specs.Receiving.{is_kept};
 ghost use Rattle.csp_rdp_window.specs.Sending.{is_full, loose_buffer, opening_send};
@@ -21,7 +21,7 @@ mod steps;
 
 use crate::answers::change_between;
 use crate::jobs::Owed;
-use crate::{Change, Job, Result2, State, Why};
+use crate::{Cause, Change, Job, Result2, State};
 use csp_base::{MAX_PAYLOAD, Seq, Tag};
 use csp_buffer::Buffer;
 use csp_rdp_header::{MAX_WINDOW, Options, RdpHead};
@@ -134,9 +134,9 @@ impl Rdp {
 
     /// Hands over a packet, whose head was cut off. It comes to a row of the table of states.
     pub fn handed(&mut self, head: RdpHead, tag: Option<Tag>, packet: Buffer, now: u64) -> Result2
-        ensures state { self.new ≡ handed head tag packet now self.old }
+        ensures state { self.new ≡ after_packet head tag packet now self.old }
         ensures back { result.back ≡ back_of (row_of self.old head packet.picture.payload) packet }
-        ensures change { result.change ≡ change_between self.old.state self.new.state why.Reset }
+        ensures change { result.change ≡ change_between self.old.state self.new.state cause.Reset }
         ensures stray { result.stray ≡ is_stray (row_of self.old head packet.picture.payload) }
         ensures holds { (k : ℕ) → times k (rdp_numbers self.new) + times k (number_in result.back) ≡ times k (rdp_numbers self.old) + times k (packet.picture.number ∷ []) }
     {
@@ -145,7 +145,7 @@ impl Rdp {
         let back = self.step(row, head, tag, packet, now);
         Result2 {
             back,
-            change: change_between(before, self.state, Why::Reset),
+            change: change_between(before, self.state, Cause::Reset),
             stray: row.is_stray(),
         }
     }
@@ -257,14 +257,14 @@ impl Rdp {
         requires taken { is_kept self.old.recv (self.old.recv.cur + 1) ≡ false }
         requires countable { self.old.recv.cur < 2 ^ 32 - 1 }
         ensures state { self.new ≡ delivering now self.old }
-        ensures change { result ≡ change_between self.old.state self.new.state why.Reset }
+        ensures change { result ≡ change_between self.old.state self.new.state cause.Reset }
         ensures holds { rdp_numbers self.new ≡ rdp_numbers self.old }
     {
         let before = self.state;
         self.recv.confirm();
         self.owed = self.owed.counting(now);
         self.reset_if_reached(now);
-        change_between(before, self.state, Why::Reset)
+        change_between(before, self.state, Cause::Reset)
     }
 
     /// The packet that was taken out could not be delivered: it is kept again.
@@ -309,14 +309,14 @@ impl Rdp {
     /// Tries the timer.
     pub fn tick(&mut self, now: u64) -> Change
         ensures state { self.new ≡ ticked now self.old }
-        ensures change { result ≡ change_between self.old.state self.new.state why.Timeout }
+        ensures change { result ≡ change_between self.old.state self.new.state cause.Timeout }
         ensures holds { rdp_numbers self.new ≡ rdp_numbers self.old }
     {
         let before = self.state;
         if has_passed(Some(self.since), self.options.conn_timeout, now) {
             self.time_out(now);
         }
-        change_between(before, self.state, Why::Timeout)
+        change_between(before, self.state, Cause::Timeout)
     }
 
     /// The application closes the connection.

@@ -4,7 +4,7 @@ ghost use Rattle.std.specs.Prelude.{◌≡◌};
 
 /// A row of the table of states: what happens to a packet.
 #[derive(Clone, Copy)]
-pub enum Row {
+pub enum StateRow {
     /// The connection has no use for it.
     Stray,
     /// In SynSent, a reset: the connection is refused.
@@ -35,13 +35,16 @@ pub enum Row {
     Data(u64),
 }
 
-impl Row {
+impl StateRow {
     ghost use Rattle.csp_rdp.specs.Table.{is_stray};
 
     /// Whether the connection has no use for the packet.
     pub fn is_stray(self) -> bool
         ensures { result ≡ is_stray self }
     {
-        matches!(self, Row::Stray | Row::Late | Row::Outside | Row::Duplicate)
+        matches!(
+            self,
+            StateRow::Stray | StateRow::Late | StateRow::Outside | StateRow::Duplicate
+        )
     }
 }

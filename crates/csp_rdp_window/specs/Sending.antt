@@ -110,8 +110,8 @@ abbrev pub without_listed : List ℕ → PlainSend → PlainSend
 without_listed ts w = record w { packets = map (λ p. needed_if (not (list_any (λ t. t == p.index) ts)) p) w.packets }
 
 -- an extended acknowledgement: listed packets are not needed any more, and those that are still needed and older than the newest listed one are due again
-abbrev pub heard : List Seq → ℕ → ℕ → PlainSend → PlainSend
-heard numbers time timeout w = let ts = listed w numbers in with_mark (Missed (newest_of ts) time timeout) (without_listed ts w)
+abbrev pub list_heard : List Seq → ℕ → ℕ → PlainSend → PlainSend
+list_heard numbers time timeout w = let ts = listed w numbers in with_mark (Missed (newest_of ts) time timeout) (without_listed ts w)
 
 -- ---- sending
 

@@ -6,7 +6,7 @@ ghost use Rattle.std.specs.Option.{option_map, option_map_or};
 ghost use Rattle.csp_base.specs.Sequence.{number_of};
 ghost use Rattle.csp_rdp_window.specs.Numbers.{left_over, number_in, times, with_payload};
 ghost use Rattle.csp_rdp_window.specs.Places.{ArePlaced, held_in};
-ghost use Rattle.csp_rdp_window.specs.Sending.{PlainSend, acked, acknowledges, admitted, drained, due_index, first_pending, fresh, heard, is_due, is_full, is_loose, listed, listed_at, loose_buffer, marked, needed_if, newest_of, opening_send, packet_at, payload_at, send_numbers, with_mark, without_listed, without_loose};
+ghost use Rattle.csp_rdp_window.specs.Sending.{PlainSend, acked, acknowledges, admitted, drained, due_index, first_pending, fresh, list_heard, is_due, is_full, is_loose, listed, listed_at, loose_buffer, marked, needed_if, newest_of, opening_send, packet_at, payload_at, send_numbers, with_mark, without_listed, without_loose};
 ghost use Rattle.csp_rdp_window.specs.Shown.{shown};
 
 use crate::places::{put, take_first};
@@ -131,7 +131,7 @@ impl SendWindow {
     /// Hears an extended acknowledgement: the listed packets are not needed any more, and what is older
     /// than the newest of them is due again, at most once per packet timeout.
     pub fn eak(&mut self, list: &[Seq], now: u64, packet_timeout: u32)
-        ensures state { self.new ≡ heard list.now now packet_timeout self.old }
+        ensures state { self.new ≡ list_heard list.now now packet_timeout self.old }
         ensures holds { send_numbers self.new ≡ send_numbers self.old }
     {
         let newest = self.free_listed(list);

@@ -22,8 +22,8 @@ use Rattle.csp_log.specs.declared.noted.Noted.TheVariants as noted
 use Rattle.csp_record.specs.Connections.{is_opened, opened_by}
 use Rattle.csp_record.specs.Ordinals.{frees}
 use Rattle.csp_record.specs.Payloads.{carried, is_on, payloads_in, told_on}
-use Rattle.csp_record.specs.declared.payloads.Way.{Way}
-use Rattle.csp_record.specs.declared.payloads.Way.TheVariants as way
+use Rattle.csp_record.specs.declared.payloads.Transfer.{Transfer}
+use Rattle.csp_record.specs.declared.payloads.Transfer.TheVariants as way
 use Rattle.csp_record.specs.Traffic.{pair_cmp, payloads_on, Gains}
 use Rattle.csp_record.proofs.Ordinals.{Ends, ended, openings_after, told_after}
 
@@ -89,7 +89,7 @@ told-on {X} {Y} test here y (x ∷ xs) = by here (test x) (told-on test here y x
     by false false rest = rest
 
 -- what an entry tells that popped this payload
-pub entry-told : (which : Way) (app s o : ℕ) (counts : List ℕ) (found : Option Entry) (moved : Moved) (events : List Event) (payload : List ℕ)
+pub entry-told : (which : Transfer) (app s o : ℕ) (counts : List ℕ) (found : Option Entry) (moved : Moved) (events : List Event) (payload : List ℕ)
     → option_map moved_in found ≡ Some moved → option_map (λ e. e.events.items) found ≡ Some events → Some payload ≡ carried which app moved
     → flat_map (λ e. cond (is_on which s e && eqb (get_or counts s 0) o) (payload ∷ []) []) events ≡ option_map_or (λ e. cond (eqb (get_or counts s 0) o) (payloads_in which app s e) []) found []
 entry-told which app s o counts None moved events payload is tells brings = cc
@@ -101,7 +101,7 @@ entry-told which app s o counts (Some e) moved events payload is tells brings =
     ∙ ap (λ ps. cond here ps []) (ap (told_on which s events) brings ∙ (λ i. told_on which s (sym same i) (carried which app (sym moves i))))
 
 -- with one entry more, each slot has at most one end more
-pub ended-few : (which : Way) (app : ℕ) (note : Noted) (ends more : Ends) (most : ℕ) → ((slot : ℕ) → more slot ≡ ended which app note ends slot) → ((slot : ℕ) → ends slot ≤ most) → (slot : ℕ) → more slot ≤ most + 1
+pub ended-few : (which : Transfer) (app : ℕ) (note : Noted) (ends more : Ends) (most : ℕ) → ((slot : ℕ) → more slot ≡ ended which app note ends slot) → ((slot : ℕ) → ends slot ≤ most) → (slot : ℕ) → more slot ≤ most + 1
 ended-few which app note ends more most is few slot = rw (is slot) (one (frees which app slot note))
   where
     one : (b : Bool) → cond b (ends slot + 1) (ends slot) ≤ most + 1
@@ -109,7 +109,7 @@ ended-few which app note ends more most is few slot = rw (is slot) (one (frees w
     one false = omega (arith, few slot)
 
 -- what is told entry by entry, where the ends before each entry decide
-module _ {Y : Type 0} (which : Way) (app : ℕ) (told : Ends → Entry → List Y) where
+module _ {Y : Type 0} (which : Transfer) (app : ℕ) (told : Ends → Entry → List Y) where
   from_next : (ends : Ends) (entries : List Entry) (k : ℕ) (note : Noted) → option_map noted_in (slice_get entries k) ≡ Some note
       → told_after which app told ends (drop k entries) ≡ option_map_or (told ends) (slice_get entries k) [] ++ told_after which app told (ended which app note ends) (drop (suc k) entries)
   from_next ends [] k note is = cc

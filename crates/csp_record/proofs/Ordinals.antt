@@ -12,8 +12,8 @@ use Rattle.csp_record.specs.Connections.{opened_by, openings}
 use Rattle.csp_record.specs.Ordinals.{entries_on, frees, ordinal_at}
 use Rattle.csp_record.specs.Payloads.{payloads, payloads_in}
 use Rattle.csp_record.specs.declared.connections.Opening.{Opening}
-use Rattle.csp_record.specs.declared.payloads.Way.{Way}
-use Rattle.csp_record.specs.declared.payloads.Way.TheVariants as way
+use Rattle.csp_record.specs.declared.payloads.Transfer.{Transfer}
+use Rattle.csp_record.specs.declared.payloads.Transfer.TheVariants as way
 
 -- how often each slot was freed so far: at first never, and after a turn once more where it frees the slot
 abbrev pub Ends : Type 0
@@ -22,19 +22,19 @@ Ends = ℕ → ℕ
 abbrev pub no_ends : Ends
 no_ends slot = 0
 
-abbrev pub ended : Way → (app : ℕ) → Noted → Ends → Ends
+abbrev pub ended : Transfer → (app : ℕ) → Noted → Ends → Ends
 ended which app noted ends = λ slot. if frees which app slot noted then ends slot + 1 else ends slot
 
 -- what entries tell, one after the other, where the slots had these ends before them
-abbrev pub told_after : {Y : Type 0} → Way → (app : ℕ) → (Ends → Entry → List Y) → Ends → List Entry → List Y
+abbrev pub told_after : {Y : Type 0} → Transfer → (app : ℕ) → (Ends → Entry → List Y) → Ends → List Entry → List Y
 told_after which app told ends [] = []
 told_after which app told ends (e ∷ entries) = told ends e ++ told_after which app told (ended which app (noted_in e) ends) entries
 
 -- the ends of a slot after entries
-abbrev ends_of : Way → (app : ℕ) → List Entry → Ends
+abbrev ends_of : Transfer → (app : ℕ) → List Entry → Ends
 ends_of which app entries slot = count_by (λ e. frees which app slot (noted_in e)) entries
 
-ends_more : (which : Way) (app : ℕ) (entries : List Entry) (e : Entry) (slot : ℕ) → ends_of which app (entries ++ e ∷ []) slot ≡ ended which app (noted_in e) (ends_of which app entries) slot
+ends_more : (which : Transfer) (app : ℕ) (entries : List Entry) (e : Entry) (slot : ℕ) → ends_of which app (entries ++ e ∷ []) slot ≡ ended which app (noted_in e) (ends_of which app entries) slot
 ends_more which app entries e slot = sum_by-append (λ x. cond (frees which app slot (noted_in x)) 1 0) entries (e ∷ []) ∙ by (ends_of which app entries slot) (frees which app slot (noted_in e))
   where
     by : (n : ℕ) (b : Bool) → n + (0 + cond b 1 0) ≡ cond b (n + 1) n
@@ -42,7 +42,7 @@ ends_more which app entries e slot = sum_by-append (λ x. cond (frees which app 
     by n false = omega arith
 
 -- both ways of reading give the same
-by_place : {Y : Type 0} (which : Way) (app : ℕ) (told : Ends → Entry → List Y) (before entries : List Entry)
+by_place : {Y : Type 0} (which : Transfer) (app : ℕ) (told : Ends → Entry → List Y) (before entries : List Entry)
     → flat_map (λ e. told (λ slot. ordinal_at which app slot (before ++ entries) e.0) e.1) (enumerate_from (length before) entries) ≡ told_after which app told (ends_of which app before) entries
 by_place which app told before [] = refl
 by_place {Y} which app told before (e ∷ entries) =
@@ -66,16 +66,16 @@ chosen {X} {Y} p f (x ∷ xs) = by (p x) (chosen p f xs)
     by false rest = rest
 
 -- so it is with what is told of a slot where it has an ordinal
-pub on_are : {Y : Type 0} (which : Way) (app slot ordinal : ℕ) (told : Entry → List Y) (entries : List Entry)
+pub on_are : {Y : Type 0} (which : Transfer) (app slot ordinal : ℕ) (told : Entry → List Y) (entries : List Entry)
     → flat_map told (entries_on which app slot ordinal entries) ≡ told_after which app (λ ends e. if ends slot == ordinal then told e else []) no_ends entries
 on_are which app slot ordinal told entries =
     chosen (λ e. ordinal_at which app slot entries e.0 == ordinal) told (enumerate_from 0 entries) ∙ by_place which app (λ ends e. if ends slot == ordinal then told e else []) [] entries
 
 -- with the payloads of a slot and an ordinal
-abbrev pub payloads_after : Way → (app slot ordinal : ℕ) → Ends → List Entry → List (List ℕ)
+abbrev pub payloads_after : Transfer → (app slot ordinal : ℕ) → Ends → List Entry → List (List ℕ)
 payloads_after which app slot ordinal = told_after which app (λ ends e. if ends slot == ordinal then payloads_in which app slot e else [])
 
-pub payloads_are : (which : Way) (app slot ordinal : ℕ) (entries : List Entry) → payloads which app slot ordinal entries ≡ payloads_after which app slot ordinal no_ends entries
+pub payloads_are : (which : Transfer) (app slot ordinal : ℕ) (entries : List Entry) → payloads which app slot ordinal entries ≡ payloads_after which app slot ordinal no_ends entries
 payloads_are which app slot ordinal entries = on_are which app slot ordinal (payloads_in which app slot) entries
 
 -- and with openings

@@ -14,8 +14,8 @@ use Rattle.csp_record.specs.Ordinals.{frees}
 use Rattle.csp_record.specs.Passed.{put_in}
 use Rattle.csp_record.specs.Payloads.{carried, told_on}
 use Rattle.csp_record.specs.Transmissions.{fetched, is_beginning, shown_in}
-use Rattle.csp_record.specs.declared.payloads.Way.{Way}
-use Rattle.csp_record.specs.declared.payloads.Way.TheVariants as way
+use Rattle.csp_record.specs.declared.payloads.Transfer.{Transfer}
+use Rattle.csp_record.specs.declared.payloads.Transfer.TheVariants as way
 use Rattle.csp_record.proofs.Ordinals.{Ends, ended, openings_after, payloads_after, told_after}
 
 -- where elements that give nothing are passed over, what the rest gives stays
@@ -61,19 +61,19 @@ pub shown-nothing : (serial : ℕ) (e : Entry) → IsIdle e → shown_in serial 
 shown-nothing serial e idle = ap (λ events. cond (list_any (is_beginning serial) events) (fetched (moved_in e)) None) idle.told
 
 -- it frees no slot, and tells of no payload and of no opening
-frees-nothing : (which : Way) (app slot : ℕ) → frees which app slot noted.NoNote ≡ false
+frees-nothing : (which : Transfer) (app slot : ℕ) → frees which app slot noted.NoNote ≡ false
 frees-nothing way.Sent app slot = refl
 frees-nothing way.Took app slot = refl
 
-ends-stay : (which : Way) (app : ℕ) (ends : Ends) (e : Entry) → IsIdle e → (slot : ℕ) → ended which app (noted_in e) ends slot ≡ ends slot
+ends-stay : (which : Transfer) (app : ℕ) (ends : Ends) (e : Entry) → IsIdle e → (slot : ℕ) → ended which app (noted_in e) ends slot ≡ ends slot
 ends-stay which app ends e idle slot = ap (λ n. ended which app n ends slot) idle.noted ∙ ap (λ b. cond b (ends slot + 1) (ends slot)) (frees-nothing which app slot)
 
-told-over : {Y : Type 0} (which : Way) (app : ℕ) (told : Ends → Entry → List Y) → ((ends : Ends) (e : Entry) → IsIdle e → told ends e ≡ []) → (ends : Ends) (entries : List Entry) (i j : ℕ) → i ≤ j → All IsIdle (slice_range entries i j)
+told-over : {Y : Type 0} (which : Transfer) (app : ℕ) (told : Ends → Entry → List Y) → ((ends : Ends) (e : Entry) → IsIdle e → told ends e ≡ []) → (ends : Ends) (entries : List Entry) (i j : ℕ) → i ≤ j → All IsIdle (slice_range entries i j)
     → told_after which app told ends (drop i entries) ≡ told_after which app told ends (drop j entries)
 told-over which app told none ends = dropped-over IsIdle (told_after which app told ends) (λ e entries idle.
     ap (λ here. here ++ told_after which app told (ended which app (noted_in e) ends) entries) (none ends e idle) ∙ (λ i. told_after which app told (λ slot. ends-stay which app ends e idle slot i) entries))
 
-pub payloads-over : (which : Way) (app slot ordinal : ℕ) (ends : Ends) (entries : List Entry) (i j : ℕ) → i ≤ j → All IsIdle (slice_range entries i j)
+pub payloads-over : (which : Transfer) (app slot ordinal : ℕ) (ends : Ends) (entries : List Entry) (i j : ℕ) → i ≤ j → All IsIdle (slice_range entries i j)
     → payloads_after which app slot ordinal ends (drop i entries) ≡ payloads_after which app slot ordinal ends (drop j entries)
 payloads-over which app slot ordinal = told-over which app _ (λ ends e idle. ap (λ moved. if ends slot == ordinal then told_on which slot e.events.items (carried which app moved) else []) idle.moved ∙ in_either (ends slot == ordinal))
   where

@@ -7,19 +7,19 @@ use Rattle.csp_log.specs.declared.note.Note.TheVariants as note
 use Rattle.csp_log.specs.declared.noted.Noted.{Noted}
 use Rattle.csp_log.specs.declared.noted.Noted.TheVariants as noted
 use Rattle.csp_log.specs.declared.places.QueueId.TheVariants as queue
-use Rattle.csp_record.specs.declared.payloads.Way.{Way}
-use Rattle.csp_record.specs.declared.payloads.Way.TheVariants as way
+use Rattle.csp_record.specs.declared.payloads.Transfer.{Transfer}
+use Rattle.csp_record.specs.declared.payloads.Transfer.TheVariants as way
 
 -- whether a turn frees this slot of an application, which a Closed answer does: for what is sent one that the router pushed, for what is taken one that the application popped
-abbrev pub frees : Way → (app slot : ℕ) → Noted → Bool
+abbrev pub frees : Transfer → (app slot : ℕ) → Noted → Bool
 frees way.Sent app slot (noted.Pushed (queue.Down number) (note.Closed freed)) = number == app && freed == slot
 frees way.Took app slot (noted.Popped (queue.Down number) (note.Closed freed)) = number == app && freed == slot
 frees _ app slot _ = false
 
 -- the ordinal of a slot at an entry of a log: how often the slot was freed before it
-abbrev pub ordinal_at : Way → (app slot : ℕ) → List Entry → (place : ℕ) → ℕ
+abbrev pub ordinal_at : Transfer → (app slot : ℕ) → List Entry → (place : ℕ) → ℕ
 ordinal_at which app slot entries place = count_by (λ e. frees which app slot (noted_in e)) (take place entries)
 
 -- the entries of a log at which the slot has this ordinal
-abbrev pub entries_on : Way → (app slot ordinal : ℕ) → List Entry → List Entry
+abbrev pub entries_on : Transfer → (app slot ordinal : ℕ) → List Entry → List Entry
 entries_on which app slot ordinal entries = map (λ e. e.1) (filter (λ e. ordinal_at which app slot entries e.0 == ordinal) (enumerate_from 0 entries))

@@ -10,37 +10,37 @@ use Rattle.csp_log.specs.declared.moved.Moved.TheVariants as moved
 use Rattle.csp_log.specs.declared.places.QueueId.{QueueId}
 use Rattle.csp_log.specs.declared.places.QueueId.TheVariants as queue
 use Rattle.csp_record.specs.Ordinals.{entries_on}
-use Rattle.csp_record.specs.declared.payloads.Way.{Way}
-use Rattle.csp_record.specs.declared.payloads.Way.TheVariants as way
+use Rattle.csp_record.specs.declared.payloads.Transfer.{Transfer}
+use Rattle.csp_record.specs.declared.payloads.Transfer.TheVariants as way
 
 -- whether payloads go this way through a queue: from this application by its `Up`, and to it by its `Down`
-abbrev pub leads : Way → (app : ℕ) → QueueId → Bool
+abbrev pub leads : Transfer → (app : ℕ) → QueueId → Bool
 leads way.Sent app (queue.Up number) = number == app
 leads way.Took app (queue.Down number) = number == app
 leads _ app _ = false
 
 -- the payload that was popped from that queue
-abbrev pub carried : Way → (app : ℕ) → Moved → Option (List ℕ)
+abbrev pub carried : Transfer → (app : ℕ) → Moved → Option (List ℕ)
 carried which app (moved.Popped from packet) = (if leads which app from then Some packet.payload else None)
 carried which app _ = None
 
 -- whether an event tells that a payload was sent, or taken, on this slot
-abbrev pub is_on : Way → (slot : ℕ) → Event → Bool
+abbrev pub is_on : Transfer → (slot : ℕ) → Event → Bool
 is_on way.Sent slot (event.Sent s told) = s == slot
 is_on way.Took slot (event.Took s told) = s == slot
 is_on _ slot _ = false
 
 -- the payload that a turn moved, once for each of its events that tells so
-abbrev pub told_on : Way → (slot : ℕ) → List Event → Option (List ℕ) → List (List ℕ)
+abbrev pub told_on : Transfer → (slot : ℕ) → List Event → Option (List ℕ) → List (List ℕ)
 told_on which slot events None = []
 told_on which slot events (Some payload) = flat_map (λ e. if is_on which slot e then payload ∷ [] else []) events
 
 -- what an entry tells to be sent, or taken, on a slot
-abbrev pub payloads_in : Way → (app slot : ℕ) → Entry → List (List ℕ)
+abbrev pub payloads_in : Transfer → (app slot : ℕ) → Entry → List (List ℕ)
 payloads_in which app slot e = told_on which slot e.events.items (carried which app (moved_in e))
 
 -- the payloads of a slot and an ordinal: what the entries tell at which the slot has this ordinal, in order of time
-abbrev pub payloads : Way → (app slot ordinal : ℕ) → List Entry → List (List ℕ)
+abbrev pub payloads : Transfer → (app slot ordinal : ℕ) → List Entry → List (List ℕ)
 payloads which app slot ordinal entries = flat_map (payloads_in which app slot) (entries_on which app slot ordinal entries)
 
 -- what was sent on a connection of this application, by the whole log of its router

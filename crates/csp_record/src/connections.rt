@@ -7,7 +7,7 @@ ghost use Rattle.csp_log.specs.PlainLog.{all_events};
 ghost use Rattle.csp_record.specs.Connections.{is_opened, opened_by, openings};
 
 use crate::ends::Ends;
-use crate::payloads::Way;
+use crate::payloads::Transfer;
 use csp_log::{Event, Log};
 use std::alloc::{AllocError, Global};
 
@@ -94,7 +94,7 @@ pub fn openings(alloc: Global, log: &Log, app: usize) -> Result<Vec<Opening>, Al
     let mut index = log.next_deed(0);
     while index < log.len() {
         add_openings(&mut list, app, &ends, log.events(index))?;
-        ends.note(Way::Sent, app, log.noted(index));
+        ends.note(Transfer::Sent, app, log.noted(index));
         index = log.next_deed(index + 1);
     }
     Ok(list)

@@ -4,7 +4,7 @@ ghost use Rattle.std.specs.Prelude.{◌≡◌, ◌==◌, ℕ, ◌+◌, ◌-◌, 
 ghost use Rattle.std.specs.Option.{option_map_or};
 ghost use Rattle.csp_record.specs.Ordinals.{frees};
 
-use crate::payloads::Way;
+use crate::payloads::Transfer;
 use csp_log::{Note, Noted, QueueId};
 use std::marker::Model;
 
@@ -45,7 +45,7 @@ impl Ends {
 
     /// Counts the Closed answer to this application that was moved, if one was: pushed, in a router's log, or
     /// popped, in the application's own.
-    pub(crate) fn note(&mut self, way: Way, app: usize, noted: Noted)
+    pub(crate) fn note(&mut self, way: Transfer, app: usize, noted: Noted)
         requires { (slot : ℕ) → get_or self.old slot 0 < 2 ^ 64 - 1 }
         ensures { (slot : ℕ) → get_or self.new slot 0 ≡ (if frees way app slot noted then get_or self.old slot 0 + 1 else get_or self.old slot 0) }
     {
@@ -56,12 +56,12 @@ impl Ends {
 }
 
 /// The slot of this application for which a Closed answer was moved.
-fn freed(way: Way, app: usize, noted: Noted) -> Option<u8>
+fn freed(way: Transfer, app: usize, noted: Noted) -> Option<u8>
     ensures { (slot : ℕ) → option_map_or (λ freed. freed == slot) result false ≡ frees way app slot noted }
 {
     match (way, noted) {
-        (Way::Sent, Noted::Pushed(QueueId::Down(number), Note::Closed { slot }))
-        | (Way::Took, Noted::Popped(QueueId::Down(number), Note::Closed { slot }))
+        (Transfer::Sent, Noted::Pushed(QueueId::Down(number), Note::Closed { slot }))
+        | (Transfer::Took, Noted::Popped(QueueId::Down(number), Note::Closed { slot }))
             if usize::from(number) == app => { Some(slot) }
         _ => None,
     }

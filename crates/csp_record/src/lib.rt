@@ -14,5 +14,5 @@ pub use connections::{Opening, openings};
 pub use copies::stale;
 pub use counts::passed;
 pub use csp_log::{HeldBy, Left, Who};
-pub use payloads::{Payload, Payloads, Traffic, Way, sent, took};
+pub use payloads::{Payload, Payloads, Traffic, Transfer, sent, took};
 pub use record::{PartyLog, Record};

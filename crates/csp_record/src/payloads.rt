@@ -14,7 +14,7 @@ use std::marker::Model;
 
 /// Which way payloads go.
 #[derive(Clone, Copy)]
-pub enum Way {
+pub enum Transfer {
     /// From an application to its router.
     Sent,
     /// From the router to an application.
@@ -111,11 +111,11 @@ impl<'a> Traffic<'a> {
 }
 
 /// Whether payloads go this way through a queue, to or from this application.
-fn leads(way: Way, app: usize, queue: QueueId) -> bool
+fn leads(way: Transfer, app: usize, queue: QueueId) -> bool
     ensures { result ≡ leads way app queue }
 {
     match (way, queue) {
-        (Way::Sent, QueueId::Up(number)) | (Way::Took, QueueId::Down(number)) => {
+        (Transfer::Sent, QueueId::Up(number)) | (Transfer::Took, QueueId::Down(number)) => {
             usize::from(number) == app
         }
         _ => false,
@@ -123,7 +123,7 @@ fn leads(way: Way, app: usize, queue: QueueId) -> bool
 }
 
 /// The payload that a turn moved this way, to or from this application.
-fn carried<'a>(moved: &Moved<'a>, way: Way, app: usize) -> Option<&'a [u8]>
+fn carried<'a>(moved: &Moved<'a>, way: Transfer, app: usize) -> Option<&'a [u8]>
     ensures { option_map (λ bytes. bytes.now) result ≡ carried way app moved.now }
 {
     match moved {
@@ -157,14 +157,14 @@ fn add_event<'a>(
     alloc: Global,
     table: &mut Table<'a>,
     ends: &Ends,
-    way: Way,
+    way: Transfer,
     payload: &'a [u8],
     event: Event,
 ) -> Result<(), AllocError>
     ensures { OnOk result (Gains table.old.entries table.new.entries (λ s o. if is_on way s event && get_or ends.now s 0 == o then payload.now ∷ [] else [])) }
 {
     match (way, event) {
-        (Way::Sent, Event::Sent { slot, .. }) | (Way::Took, Event::Took { slot, .. }) => {
+        (Transfer::Sent, Event::Sent { slot, .. }) | (Transfer::Took, Event::Took { slot, .. }) => {
             add(alloc, table, slot, ends.of(slot), payload)
         }
         _ => Ok(()),
@@ -176,7 +176,7 @@ fn add_told<'a>(
     alloc: Global,
     table: &mut Table<'a>,
     ends: &Ends,
-    way: Way,
+    way: Transfer,
     payload: &'a [u8],
     events: &[Event],
 ) -> Result<(), AllocError>
@@ -193,7 +193,7 @@ fn add_entry<'a>(
     alloc: Global,
     table: &mut Table<'a>,
     ends: &Ends,
-    way: Way,
+    way: Transfer,
     app: usize,
     log: &'a Log,
     index: u64,
@@ -211,7 +211,7 @@ fn add_entry<'a>(
 fn traffic_of<'a>(
     alloc: Global,
     log: &'a Log,
-    way: Way,
+    way: Transfer,
     app: usize,
 ) -> Result<Traffic<'a>, AllocError>
     ensures { IfOk result (λ traffic. (slot ordinal : ℕ) → payloads_on traffic slot ordinal ≡ payloads way app slot ordinal log.now.entries) }
@@ -232,7 +232,7 @@ fn traffic_of<'a>(
 pub fn sent<'a>(alloc: Global, log: &'a Log, app: usize) -> Result<Traffic<'a>, AllocError>
     ensures { IfOk result (λ traffic. (slot ordinal : ℕ) → payloads_on traffic slot ordinal ≡ sent app slot ordinal log.now.entries) }
 {
-    traffic_of(alloc, log, Way::Sent, app)
+    traffic_of(alloc, log, Transfer::Sent, app)
 }
 
 /// What was taken from the connections of this application, by its own log: the payloads that it popped from
@@ -240,5 +240,5 @@ pub fn sent<'a>(alloc: Global, log: &'a Log, app: usize) -> Result<Traffic<'a>, 
 pub fn took<'a>(alloc: Global, log: &'a Log, app: usize) -> Result<Traffic<'a>, AllocError>
     ensures { IfOk result (λ traffic. (slot ordinal : ℕ) → payloads_on traffic slot ordinal ≡ took app slot ordinal log.now.entries) }
 {
-    traffic_of(alloc, log, Way::Took, app)
+    traffic_of(alloc, log, Transfer::Took, app)
 }

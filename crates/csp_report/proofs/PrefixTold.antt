@@ -15,7 +15,7 @@ use Rattle.csp_scene.specs.Scene.{PlainNode}
 use Rattle.csp_report.specs.Conns.{peer_flow, rdp_words, kind_words, opening_line, bytes_word}
 use Rattle.csp_report.specs.Lines.{Line}
 use Rattle.csp_report.specs.Parties.{entries_of}
-use Rattle.csp_report.specs.ReliablePrefix.{Told, IsOfFlow, HasPeer, HasPeersTexts, HavePeersTexts}
+use Rattle.csp_report.specs.ReliablePrefix.{ToldConnection, IsOfFlow, HasPeer, HasPeersTexts, HavePeersTexts}
 use Rattle.csp_report.specs.Shown.{IsShown, AreNumbered, sent_there, took_there, AreFirstOf, IsShownOf, HasPeersFirst, HavePeersFirst}
 use Rattle.csp_report.proofs.ToldLines.{report_told}
 use Rattle.csp_report.proofs.ToldPrefix.{told_here, IsToldOf, all_shown, told_shown}
@@ -94,7 +94,7 @@ texts_begin some all first = subst (λ (ps : List (List ℕ)). starts_with bytes
 -- ---- each connection that a report tells of
 
 module _ (nodes : List PlainNode) (parties : List PlainPartyLog) (apart : AreNamedApart nodes) (numbered : AreNumbered nodes parties) (first : HavePeersFirst nodes parties) where
-  abbrev told : List Told
+  abbrev told : List ToldConnection
   told = report_told nodes parties
 
   bound : (P : ℕ → Type 0) (o : Option ℕ) (n : ℕ) → IfSome o P → o ≡ Some n → P n
@@ -104,7 +104,7 @@ module _ (nodes : List PlainNode) (parties : List PlainPartyLog) (apart : AreNam
   flow_bound P o flow h e = subst (λ q. IfSome q P) e h
 
   module _ (place number : ℕ) (o : Opening) (shown : IsShown nodes parties place number o) (node nth : List ℕ) (peers : IsPeers nodes o node nth) where
-    abbrev x_told : Told
+    abbrev x_told : ToldConnection
     x_told = told_here nodes parties place number o shown
 
     peers_first : HasPeersFirst nodes parties place number o peers.flow
@@ -142,7 +142,7 @@ module _ (nodes : List PlainNode) (parties : List PlainPartyLog) (apart : AreNam
       one_prefix : IsTrue (starts_with bytes_eq (told_here nodes parties p k q there).sent x_told.took)
       one_prefix = texts_begin (took number o.slot o.ordinal shown.log.entries) (sent_there parties p k q) begins
 
-    each_prefix : (ys : List Told) → AllByRecursion (IsToldOf nodes parties) ys → AllByRecursion (λ y. IsOfFlow node nth y → IsTrue (starts_with bytes_eq y.sent x_told.took)) ys
+    each_prefix : (ys : List ToldConnection) → AllByRecursion (IsToldOf nodes parties) ys → AllByRecursion (λ y. IsOfFlow node nth y → IsTrue (starts_with bytes_eq y.sent x_told.took)) ys
     each_prefix [] all = tt
     each_prefix (y ∷ ys) all = (
       subst (λ z. IsOfFlow node nth z → IsTrue (starts_with bytes_eq z.sent x_told.took)) (sym all.0.form) (one_prefix all.0.place all.0.number all.0.opening all.0.shown),
@@ -180,7 +180,7 @@ module _ (nodes : List PlainNode) (parties : List PlainPartyLog) (apart : AreNam
   one_has place number o shown node nth peer =
       has_texts place number o shown node nth (are_peers nodes o peer.own_nth node nth o.nth refl (ap (λ (ws : Line). drop 5 ws) peer.form))
 
-  each_has : (xs : List Told) → AllByRecursion (IsToldOf nodes parties) xs → AllByRecursion (λ x. (node nth : List ℕ) → HasPeer node nth x → HasPeersTexts told node nth x) xs
+  each_has : (xs : List ToldConnection) → AllByRecursion (IsToldOf nodes parties) xs → AllByRecursion (λ x. (node nth : List ℕ) → HasPeer node nth x → HasPeersTexts told node nth x) xs
   each_has [] all = tt
   each_has (x ∷ xs) all = (
     subst (λ z. (node nth : List ℕ) → HasPeer node nth z → HasPeersTexts told node nth z) (sym all.0.form) (one_has all.0.place all.0.number all.0.opening all.0.shown),

@@ -39,7 +39,7 @@ use Rattle.csp_report.specs.Conns.{peer_flow, kind_words, opening_line, bytes_wo
 use Rattle.csp_record.specs.declared.connections.Opening.{Opening}
 use Rattle.csp_record.specs.Connections.{openings}
 use Rattle.csp_report.specs.Events.{is_discard, all_discards, discard_words, word_of, word_of_refusal, asked_lines, entry_lines, step_line, refused_line, event_lines}
-use Rattle.csp_report.specs.Ifaces.{counted, count_word, all_counts, iface_line}
+use Rattle.csp_report.specs.Ifaces.{entries_count, count_word, all_counts, iface_line}
 use Rattle.csp_report.specs.Report.{title_line, end_line, name_words, node_line, router_words, router_line, node_iface_lines, node_event_lines, state_line, app_lines, node_app_lines, count_lines, report_lines, report}
 use Rattle.csp_report.specs.PlacesAddUp.{AddsUp, is_of_node, PlacesAddUp}
 use Rattle.csp_report.proofs.Adding.{adding}
@@ -193,9 +193,9 @@ count_lacks count.Starved = plain (codes "starved") refl
 count_lacks count.Full = plain (codes "full") refl
 count_lacks count.TooBig = plain (codes "toobig") refl
 
-counts_lack : (entries : List Entry) (counts : List IfaceCount) → AllByRecursion (Lacks 10) (flat_map (λ which. count_word which ∷ decimal (counted which entries) ∷ []) counts)
+counts_lack : (entries : List Entry) (counts : List IfaceCount) → AllByRecursion (Lacks 10) (flat_map (λ which. count_word which ∷ decimal (entries_count which entries) ∷ []) counts)
 counts_lack entries [] = tt
-counts_lack entries (which ∷ counts) = (count_lacks which, (number (counted which entries), counts_lack entries counts))
+counts_lack entries (which ∷ counts) = (count_lacks which, (number (entries_count which entries), counts_lack entries counts))
 
 good_iface : (node link : List ℕ) (entries : List Entry) → IsTrue (is_name node) → IsTrue (is_name link) → IsGood (iface_line node link entries)
 good_iface node link entries node_is link_is = other (iface_line node link entries) (plain (codes "iface") refl, (named node node_is, (named link link_is, counts_lack entries all_counts))) refl

@@ -7,7 +7,7 @@ use Rattle.std.proofs.lemmas.List.{map-append}
 use Rattle.std.proofs.lemmas.List.Elements.{filter-append}
 use Rattle.std.proofs.lemmas.List.Sums.{take_while-cons}
 use Rattle.csp_report.specs.Lines.{Line}
-use Rattle.csp_report.specs.ReliablePrefix.{is_conn, is_on, following, text_in, Told, told_by, all_told}
+use Rattle.csp_report.specs.ReliablePrefix.{is_conn, is_on, following, text_in, ToldConnection, told_connection, all_told}
 use Rattle.csp_report.proofs.Cutting.{recut}
 
 -- ---- lines that tell nothing of connections
@@ -54,12 +54,12 @@ all_follow conn (line ∷ lines) rest all closed =
 pub skipped : (lines rest : List Line) → AllByRecursion (λ l. is_conn l ≡ false) lines → all_told (lines ++ rest) ≡ all_told rest
 skipped [] rest all = refl
 skipped (line ∷ lines) rest all =
-    ap (λ t. cond t (told_by line (lines ++ rest) ∷ []) [] ++ all_told (lines ++ rest)) all.0 ∙ skipped lines rest all.1
+    ap (λ t. cond t (told_connection line (lines ++ rest) ∷ []) [] ++ all_told (lines ++ rest)) all.0 ∙ skipped lines rest all.1
 
 -- ---- what lines tell, whatever comes after them
 
 -- these lines of words, cut out of a text again, tell of these connections, where those of the last one end with them
-pub record Tells (lines : List Line) (told : List Told) : Type 0 where
+pub record Tells (lines : List Line) (told : List ToldConnection) : Type 0 where
   pub tells : (rest : List Line) → IsClosed rest → all_told (map recut lines ++ rest) ≡ told ++ all_told rest
   pub closed : (rest : List Line) → IsClosed rest → IsClosed (map recut lines ++ rest)
 
@@ -69,10 +69,10 @@ tells_none = record { tells = λ rest closed. refl; closed = λ rest closed. clo
 apart : (a b rest : List Line) → map recut (a ++ b) ++ rest ≡ map recut a ++ (map recut b ++ rest)
 apart a b rest = ap (λ (ls : List Line). ls ++ rest) (map-append recut a b) ∙ append_assoc (map recut a) (map recut b) rest
 
-pub tells_both : (a b : List Line) (s t : List Told) → Tells a s → Tells b t → Tells (a ++ b) (s ++ t)
+pub tells_both : (a b : List Line) (s t : List ToldConnection) → Tells a s → Tells b t → Tells (a ++ b) (s ++ t)
 tells_both a b s t one two = record {
   tells = λ rest closed.
-      ap all_told (apart a b rest) ∙ one.tells (map recut b ++ rest) (two.closed rest closed) ∙ ap (λ (ts : List Told). s ++ ts) (two.tells rest closed) ∙ sym (append_assoc s t (all_told rest));
+      ap all_told (apart a b rest) ∙ one.tells (map recut b ++ rest) (two.closed rest closed) ∙ ap (λ (ts : List ToldConnection). s ++ ts) (two.tells rest closed) ∙ sym (append_assoc s t (all_told rest));
   closed = λ rest closed. subst IsClosed (sym (apart a b rest)) (one.closed (map recut b ++ rest) (two.closed rest closed));
 }
 
@@ -87,7 +87,7 @@ others_closed (line ∷ lines) rest all closed = all.0.breaks
 pub tells_nothing : (lines : List Line) → AllByRecursion (λ l. IsOther (recut l)) lines → Tells lines []
 tells_nothing lines all = record { tells = λ rest closed. skipped (map recut lines) rest (others_skipped lines all); closed = λ rest closed. others_closed lines rest all closed }
 
-pub tells_each : {X : Type 0} (R : X → Type 0) (f : X → List Line) (g : X → List Told) → ((x : X) → R x → Tells (f x) (g x)) → (xs : List X) → AllByRecursion R xs → Tells (flat_map f xs) (flat_map g xs)
+pub tells_each : {X : Type 0} (R : X → Type 0) (f : X → List Line) (g : X → List ToldConnection) → ((x : X) → R x → Tells (f x) (g x)) → (xs : List X) → AllByRecursion R xs → Tells (flat_map f xs) (flat_map g xs)
 tells_each R f g each [] all = tells_none
 tells_each R f g each (x ∷ xs) all = tells_both (f x) (flat_map f xs) (g x) (flat_map g xs) (each x all.0) (tells_each R f g each xs all.1)
 
@@ -104,7 +104,7 @@ module _ (conn : Line) (sents tooks : List Line) where
     pub sents_told : AllByRecursion (λ l. (is_conn l ≡ false) × (is_on (codes "sent") conn l ≡ true) × (is_on (codes "took") conn l ≡ false)) sents
     pub tooks_told : AllByRecursion (λ l. (is_conn l ≡ false) × (is_on (codes "sent") conn l ≡ false) × (is_on (codes "took") conn l ≡ true)) tooks
 
-  abbrev pub told_block : Told
+  abbrev pub told_block : ToldConnection
   told_block = record { line = conn; sent = map text_in sents; took = map text_in tooks }
 
 each_as : {X : Type 0} (P Q : X → Type 0) → ((x : X) → P x → Q x) → (xs : List X) → AllByRecursion P xs → AllByRecursion Q xs
@@ -153,7 +153,7 @@ module _ (conn : Line) (sents tooks : List Line) (is : IsBlock conn sents tooks)
       ∙ ap (λ (ls : List Line). ls ++ filter (is_on (codes "took") conn) tooks) (none_pass (is_on (codes "took") conn) sents (each_as (λ l. (is_conn l ≡ false) × (is_on (codes "sent") conn l ≡ true) × (is_on (codes "took") conn l ≡ false)) (λ l. is_on (codes "took") conn l ≡ false) (λ l h. h.2) sents is.sents_told))
       ∙ all_pass (is_on (codes "took") conn) tooks (each_as (λ l. (is_conn l ≡ false) × (is_on (codes "sent") conn l ≡ false) × (is_on (codes "took") conn l ≡ true)) (λ l. is_on (codes "took") conn l ≡ true) (λ l h. h.2) tooks is.tooks_told)
 
-  told_is : (rest : List Line) → IsClosed rest → told_by conn ((sents ++ tooks) ++ rest) ≡ told_block conn sents tooks
+  told_is : (rest : List Line) → IsClosed rest → told_connection conn ((sents ++ tooks) ++ rest) ≡ told_block conn sents tooks
   told_is rest closed =
       ap (λ (ls : List Line). record { line = conn; sent = map text_in (filter (is_on (codes "sent") conn) ls); took = map text_in (filter (is_on (codes "took") conn) ls) }) (block_follows rest closed)
       ∙ ap (λ (ls : List Line). record { line = conn; sent = map text_in ls; took = map text_in (filter (is_on (codes "took") conn) (sents ++ tooks)) }) sent_filtered
@@ -172,9 +172,9 @@ module _ (conn : Line) (sents tooks : List Line) (is : IsBlock conn sents tooks)
 
   block_tells : (rest : List Line) → IsClosed rest → all_told ((conn ∷ sents ++ tooks) ++ rest) ≡ told_block conn sents tooks ∷ all_told rest
   block_tells rest closed =
-      ap (λ t. cond t (told_by conn ((sents ++ tooks) ++ rest) ∷ []) [] ++ all_told ((sents ++ tooks) ++ rest)) is.is_own
-      ∙ ap (λ (x : Told). x ∷ all_told ((sents ++ tooks) ++ rest)) (told_is rest closed)
-      ∙ ap (λ (ts : List Told). told_block conn sents tooks ∷ ts) (skipped (sents ++ tooks) rest no_more)
+      ap (λ t. cond t (told_connection conn ((sents ++ tooks) ++ rest) ∷ []) [] ++ all_told ((sents ++ tooks) ++ rest)) is.is_own
+      ∙ ap (λ (x : ToldConnection). x ∷ all_told ((sents ++ tooks) ++ rest)) (told_is rest closed)
+      ∙ ap (λ (ts : List ToldConnection). told_block conn sents tooks ∷ ts) (skipped (sents ++ tooks) rest no_more)
 
   pub tells_block : Tells (conn ∷ sents ++ tooks) (told_block conn sents tooks ∷ [])
   tells_block = record {

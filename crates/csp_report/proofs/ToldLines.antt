@@ -26,7 +26,7 @@ use Rattle.csp_report.specs.declared.blobs.Blob.{Blob}
 use Rattle.csp_report.specs.Blobs.{blobs_on, refusals_on, blob_line, blob_lines, badblob_line, collected_lines}
 use Rattle.csp_report.specs.Lines.{Line, conn_words}
 use Rattle.csp_report.specs.Parties.{party_at, entries_at}
-use Rattle.csp_report.specs.ReliablePrefix.{is_conn, is_on, text_in, Told}
+use Rattle.csp_report.specs.ReliablePrefix.{is_conn, is_on, text_in, ToldConnection}
 use Rattle.csp_report.specs.Report.{title_line, end_line, node_line, router_words, router_line, node_iface_lines, node_event_lines, state_line, app_lines, node_app_lines, count_lines, report_lines}
 use Rattle.csp_log.specs.declared.who.Who.TheVariants as who
 use Rattle.csp_report.proofs.Cutting.{recut, recut_is}
@@ -89,28 +89,28 @@ kind_lacks (Some nth) (Some flow) lacks = (plain (codes "rdp") refl, (number nth
 -- ---- what a record tells of connections
 
 -- of one that became open
-abbrev pub told_of : List PlainNode → List ℕ → List ℕ → Traffics → Opening → Told
+abbrev pub told_of : List PlainNode → List ℕ → List ℕ → Traffics → Opening → ToldConnection
 told_of nodes node app traffic o = record {
   line = opening_line nodes node app o;
   sent = map bytes_word (traffic.sent_on o.slot o.ordinal);
   took = map bytes_word (traffic.took_on o.slot o.ordinal);
 }
 
-abbrev pub slot_told : List PlainNode → List ℕ → List ℕ → Traffics → List Opening → ℕ → List Told
+abbrev pub slot_told : List PlainNode → List ℕ → List ℕ → Traffics → List Opening → ℕ → List ToldConnection
 slot_told nodes node app traffic opened slot = flat_map (λ o. cond (eqb o.slot slot) (told_of nodes node app traffic o ∷ []) []) opened
 
-abbrev pub conns_told : List PlainNode → List ℕ → List ℕ → ℕ → List Entry → List Entry → List Told
+abbrev pub conns_told : List PlainNode → List ℕ → List ℕ → ℕ → List Entry → List Entry → List ToldConnection
 conns_told nodes node app number' router own = flat_map (slot_told nodes node app (traffic_of number' router own) (openings number' router)) all_slots
 
-abbrev pub app_told : List PlainNode → List ℕ → List Entry → List ℕ → ℕ → Option PlainPartyLog → List Told
+abbrev pub app_told : List PlainNode → List ℕ → List Entry → List ℕ → ℕ → Option PlainPartyLog → List ToldConnection
 app_told nodes node router app number' None = []
 app_told nodes node router app number' (Some party) = conns_told nodes node app number' router party.entries
 
-abbrev pub node_told : List PlainNode → List PlainPartyLog → ℕ → List ℕ → List PlainApp → List Told
+abbrev pub node_told : List PlainNode → List PlainPartyLog → ℕ → List ℕ → List PlainApp → List ToldConnection
 node_told nodes parties place node apps =
     flat_map (λ app. app_told nodes node (entries_at parties (who.Router place)) app.1.name app.0 (party_at parties (who.App place app.0))) (enumerate_from 0 apps)
 
-abbrev pub report_told : List PlainNode → List PlainPartyLog → List Told
+abbrev pub report_told : List PlainNode → List PlainPartyLog → List ToldConnection
 report_told nodes parties = flat_map (λ node. node_told nodes parties node.0 node.1.name node.1.apps) (enumerate_from 0 nodes)
 
 -- ---- the lines of a connection
@@ -206,7 +206,7 @@ module _ (nodes : List PlainNode) (nodes_are : AllByRecursion IsNode nodes) (nod
 
     traffic_tells : (o : Opening) → Tells (traffic_lines o) (told_of nodes node app traffic o ∷ [])
     traffic_tells o =
-        subst (λ (x : Told). Tells (traffic_lines o) (x ∷ [])) (texts_told o)
+        subst (λ (x : ToldConnection). Tells (traffic_lines o) (x ∷ [])) (texts_told o)
         (tells_block (opening_line nodes node app o) (payload_lines (codes "sent") node app o.slot o.ordinal (traffic.sent_on o.slot o.ordinal)) (payload_lines (codes "took") node app o.slot o.ordinal (traffic.took_on o.slot o.ordinal)) (block o))
 
     opening_tells : (o : Opening) → Tells (opening_lines nodes node app traffic o) (told_of nodes node app traffic o ∷ [])
@@ -214,7 +214,7 @@ module _ (nodes : List PlainNode) (nodes_are : AllByRecursion IsNode nodes) (nod
         tells_both (traffic_lines o) (collected_lines node app o.slot o.ordinal traffic.told) (told_of nodes node app traffic o ∷ []) []
         (traffic_tells o) (tells_nothing (collected_lines node app o.slot o.ordinal traffic.told) (collected_other o.slot o.ordinal traffic.told))
 
-    tells_if : (t : Bool) (lines : List Line) (told : List Told) → Tells lines told → Tells (cond t lines []) (cond t told [])
+    tells_if : (t : Bool) (lines : List Line) (told : List ToldConnection) → Tells lines told → Tells (cond t lines []) (cond t told [])
     tells_if true lines told tells = tells
     tells_if false lines told tells = tells_none
 
@@ -364,5 +364,5 @@ report_tells nodes links run are =
     let ps : List Line = flat_map (λ node. node_app_lines nodes run.parties node.0 node.1.name node.1.apps) (enumerate_from 0 nodes) in
     let front : Tells (head_lines nodes links run ++ ps) (report_told nodes run.parties) =
     tells_both (head_lines nodes links run) ps [] (report_told nodes run.parties) (tells_nothing (head_lines nodes links run) (head_other nodes links run)) (nodes_tell nodes are run.parties) in
-    subst (λ (told : List Told). Tells ((head_lines nodes links run ++ ps) ++ count_lines run) told) (append-nil (report_told nodes run.parties))
+    subst (λ (told : List ToldConnection). Tells ((head_lines nodes links run ++ ps) ++ count_lines run) told) (append-nil (report_told nodes run.parties))
     (tells_both (head_lines nodes links run ++ ps) (count_lines run) (report_told nodes run.parties) [] front (tells_nothing (count_lines run) (counts_other run)))

@@ -10,7 +10,7 @@ use Rattle.csp_record.specs.declared.connections.Opening.{Opening}
 use Rattle.csp_scene.specs.Scene.{PlainNode, PlainApp}
 use Rattle.csp_report.specs.Conns.{Traffics, all_slots, traffic_of}
 use Rattle.csp_report.specs.Parties.{party_at, entries_at}
-use Rattle.csp_report.specs.ReliablePrefix.{Told}
+use Rattle.csp_report.specs.ReliablePrefix.{ToldConnection}
 use Rattle.csp_report.specs.Shown.{IsShown}
 use Rattle.csp_log.specs.declared.who.Who.TheVariants as who
 use Rattle.csp_report.proofs.Feeds.{all_joined}
@@ -74,11 +74,11 @@ module _ {Y : Type 0} (P : Y → Type 0) (f : ℕ → List Y) where
 
 module _ (nodes : List PlainNode) (parties : List PlainPartyLog) where
   -- what the report tells of a connection that it shows
-  abbrev pub told_here : (place number : ℕ) (o : Opening) → IsShown nodes parties place number o → Told
+  abbrev pub told_here : (place number : ℕ) (o : Opening) → IsShown nodes parties place number o → ToldConnection
   told_here place number o shown = told_of nodes shown.node.name shown.app.name (traffic_of number (entries_at parties (who.Router place)) shown.log.entries) o
 
   -- each that it tells of is one that it shows
-  pub record IsToldOf (x : Told) : Type 0 where
+  pub record IsToldOf (x : ToldConnection) : Type 0 where
     pub place : ℕ
     pub number : ℕ
     pub opening : Opening
@@ -124,7 +124,7 @@ module _ (nodes : List PlainNode) (parties : List PlainPartyLog) where
       (λ number app runs. app_each place node there number app runs (party_at parties (who.App place number)) refl))
 
   -- and it tells of each that it shows
-  pub told_shown : (P : Told → Type 0) → AllByRecursion P (report_told nodes parties) → (place number : ℕ) (o : Opening) (shown : IsShown nodes parties place number o) → P (told_here place number o shown)
+  pub told_shown : (P : ToldConnection → Type 0) → AllByRecursion P (report_told nodes parties) → (place number : ℕ) (o : Opening) (shown : IsShown nodes parties place number o) → P (told_here place number o shown)
   told_shown P all place number o shown =
       let of_node : AllByRecursion P (node_told nodes parties place shown.node.name shown.node.apps) =
       counted_each P (λ node. node_told nodes parties node.0 node.1.name node.1.apps) nodes all place shown.node shown.there in

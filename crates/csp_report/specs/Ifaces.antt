@@ -23,13 +23,13 @@ weight count.TooBig event.TooBig = 1
 weight _ _ = 0
 
 -- the counts of these entries: the packets put into an inbox, or what the events add up to
-abbrev pub counted : IfaceCount → List Entry → ℕ
-counted count.Sent entries = sum_by (weight count.Sent) (all_events entries)
-counted count.Accepted entries = count_by (λ entry. is_some (put_in (moved_in entry))) entries
-counted count.Bad entries = sum_by (weight count.Bad) (all_events entries)
-counted count.Starved entries = sum_by (weight count.Starved) (all_events entries)
-counted count.Full entries = sum_by (weight count.Full) (all_events entries)
-counted count.TooBig entries = sum_by (weight count.TooBig) (all_events entries)
+abbrev pub entries_count : IfaceCount → List Entry → ℕ
+entries_count count.Sent entries = sum_by (weight count.Sent) (all_events entries)
+entries_count count.Accepted entries = count_by (λ entry. is_some (put_in (moved_in entry))) entries
+entries_count count.Bad entries = sum_by (weight count.Bad) (all_events entries)
+entries_count count.Starved entries = sum_by (weight count.Starved) (all_events entries)
+entries_count count.Full entries = sum_by (weight count.Full) (all_events entries)
+entries_count count.TooBig entries = sum_by (weight count.TooBig) (all_events entries)
 
 -- the counts, in the order in which an interface's line has them
 abbrev pub all_counts : List IfaceCount
@@ -46,4 +46,4 @@ count_word count.TooBig = codes "toobig"
 
 -- `iface NODE LINK`, and each count's word with its number
 abbrev pub iface_line : List ℕ → List ℕ → List Entry → Line
-iface_line node link entries = codes "iface" ∷ node ∷ link ∷ flat_map (λ which. count_word which ∷ decimal (counted which entries) ∷ []) all_counts
+iface_line node link entries = codes "iface" ∷ node ∷ link ∷ flat_map (λ which. count_word which ∷ decimal (entries_count which entries) ∷ []) all_counts

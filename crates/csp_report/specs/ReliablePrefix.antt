@@ -31,22 +31,22 @@ abbrev pub texts_by : List ℕ → Line → List Line → List (List ℕ)
 texts_by word conn lines = map text_in (filter (is_on word conn) (following conn lines))
 
 -- a connection that became open, as a text tells it: its line, and the texts of what was sent and taken on it
-pub record Told : Type 0 where
+pub record ToldConnection : Type 0 where
   pub line : Line
   pub sent : List (List ℕ)
   pub took : List (List ℕ)
 
 -- by its line and the lines after it
-abbrev pub told_by : Line → List Line → Told
-told_by conn lines = record { line = conn; sent = texts_by (codes "sent") conn lines; took = texts_by (codes "took") conn lines }
+abbrev pub told_connection : Line → List Line → ToldConnection
+told_connection conn lines = record { line = conn; sent = texts_by (codes "sent") conn lines; took = texts_by (codes "took") conn lines }
 
 -- all of which lines tell
-abbrev pub all_told : List Line → List Told
+abbrev pub all_told : List Line → List ToldConnection
 all_told [] = []
-all_told (line ∷ lines) = (if is_conn line then told_by line lines ∷ [] else []) ++ all_told lines
+all_told (line ∷ lines) = (if is_conn line then told_connection line lines ∷ [] else []) ++ all_told lines
 
 -- its line is `conn NODE APP SLOT ORD rdp NTH ..`, of this node and with this number
-pub record IsOfFlow (node nth : List ℕ) (x : Told) : Type 0 where
+pub record IsOfFlow (node nth : List ℕ) (x : ToldConnection) : Type 0 where
   pub app : List ℕ
   pub slot : List ℕ
   pub ordinal : List ℕ
@@ -54,7 +54,7 @@ pub record IsOfFlow (node nth : List ℕ) (x : Told) : Type 0 where
   pub form : x.line ≡ codes "conn" ∷ node ∷ app ∷ slot ∷ ordinal ∷ codes "rdp" ∷ nth ∷ more
 
 -- its line is `conn NODE APP SLOT ORD rdp NTH peer NODE2 NTH2`, with this node and this number as NODE2 and NTH2
-pub record HasPeer (node nth : List ℕ) (x : Told) : Type 0 where
+pub record HasPeer (node nth : List ℕ) (x : ToldConnection) : Type 0 where
   pub own_node : List ℕ
   pub app : List ℕ
   pub slot : List ℕ
@@ -63,12 +63,12 @@ pub record HasPeer (node nth : List ℕ) (x : Told) : Type 0 where
   pub form : x.line ≡ codes "conn" ∷ own_node ∷ app ∷ slot ∷ ordinal ∷ codes "rdp" ∷ own_nth ∷ codes "peer" ∷ node ∷ nth ∷ []
 
 -- what was sent on each of these connections that is of the peer's flow begins with what was taken on x; where none is, nothing was taken
-pub record HasPeersTexts (all : List Told) (node nth : List ℕ) (x : Told) : Type 0 where
+pub record HasPeersTexts (all : List ToldConnection) (node nth : List ℕ) (x : ToldConnection) : Type 0 where
   pub prefix : AllByRecursion (λ y. IsOfFlow node nth y → IsTrue (starts_with bytes_eq y.sent x.took)) all
   pub never : AllByRecursion (λ y. IsOfFlow node nth y → ⊥) all → x.took ≡ []
 
 -- so it is for each of these connections
-abbrev pub HavePeersTexts : List Told → Type 0
+abbrev pub HavePeersTexts : List ToldConnection → Type 0
 HavePeersTexts all = AllByRecursion (λ x. (node nth : List ℕ) → HasPeer node nth x → HasPeersTexts all node nth x) all
 
 -- the last two lines tell that there was no stale copy and no packet that passed changed

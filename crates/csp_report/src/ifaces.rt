@@ -9,7 +9,7 @@ ghost use Rattle.csp_log.specs.Moving.{moved_in};
 ghost use Rattle.csp_record.specs.Passed.{put_in};
 ghost use Rattle.csp_report.specs.Lines.{ended_line, text_of};
 ghost use Rattle.csp_report.specs.Parties.{entries_at};
-ghost use Rattle.csp_report.specs.Ifaces.{weight, counted, count_word, iface_line};
+ghost use Rattle.csp_report.specs.Ifaces.{weight, entries_count, count_word, iface_line};
 ghost use Rattle.csp_report.specs.Report.{node_iface_lines};
 
 use crate::lines::{begin_line, end_line, push_counted, push_word};
@@ -117,8 +117,8 @@ fn count_accepted(log: &Log) -> u64
 
 /// A count of a log. Memory is wanting exactly where it is more than 64 bits count.
 fn count_in(log: &Log, which: IfaceCount) -> Result<u64, AllocError>
-    ensures ok { IfOk result (λ count. count ≡ counted which log.now.entries) }
-    ensures err { OnErr result (2 ^ 64 ≤ counted which log.now.entries) }
+    ensures ok { IfOk result (λ count. count ≡ entries_count which log.now.entries) }
+    ensures err { OnErr result (2 ^ 64 ≤ entries_count which log.now.entries) }
 {
     match which {
         IfaceCount::Accepted => Ok(count_accepted(log)),
@@ -132,8 +132,8 @@ fn count_in(log: &Log, which: IfaceCount) -> Result<u64, AllocError>
 
 /// A count of the party that has this name. Memory is wanting exactly where it is more than 64 bits count.
 fn count_at(parties: &[PartyLog], who: Who, which: IfaceCount) -> Result<u64, AllocError>
-    ensures ok { IfOk result (λ count. count ≡ counted which (entries_at parties.now who)) }
-    ensures err { OnErr result (2 ^ 64 ≤ counted which (entries_at parties.now who)) }
+    ensures ok { IfOk result (λ count. count ≡ entries_count which (entries_at parties.now who)) }
+    ensures err { OnErr result (2 ^ 64 ≤ entries_count which (entries_at parties.now who)) }
 {
     match party_at(parties, who) {
         Some(party) => count_in(&party.log, which),
@@ -148,7 +148,7 @@ fn push_counts(
     who: Who,
     counts: &[IfaceCount],
 ) -> Result<(), AllocError>
-    ensures { OnOk result (string_bytes out.new ≡ string_bytes out.old ++ flat_map (λ which. 32 ∷ (count_word which ++ 32 ∷ decimal (counted which (entries_at parties.now who)))) counts.now) }
+    ensures { OnOk result (string_bytes out.new ≡ string_bytes out.old ++ flat_map (λ which. 32 ∷ (count_word which ++ 32 ∷ decimal (entries_count which (entries_at parties.now who)))) counts.now) }
 {
     for which in counts {
         push_counted(out, count_word(*which), count_at(parties, who, *which)?)?;

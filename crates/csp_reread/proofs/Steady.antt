@@ -5,8 +5,8 @@ use Rattle.csp_iface.specs.Asking.{asked}
 use Rattle.csp_iface.specs.PlainIface.{PlainIface}
 use Rattle.csp_iface.specs.Planning.{plan_of}
 use Rattle.csp_iface.specs.Telling.{caught, fetched, is_too_big, kept, pushed, taken_up, tells}
-use Rattle.csp_iface.specs.declared.plan.Plan.{Plan}
-use Rattle.csp_iface.specs.declared.plan.Plan.TheVariants as plan
+use Rattle.csp_iface.specs.declared.plan.IfacePlan.{IfacePlan}
+use Rattle.csp_iface.specs.declared.plan.IfacePlan.TheVariants as plan
 use Rattle.csp_log.specs.declared.frame.Frame.{Frame}
 use Rattle.csp_log.specs.declared.places.LinkKind.{LinkKind}
 use Rattle.csp_log.specs.declared.shown.ItemShown.{ItemShown}
@@ -18,7 +18,7 @@ use Rattle.csp_log.specs.declared.shown.AnswerShown.TheVariants as answer
 abbrev pub IsOn : LinkKind → ℕ → PlainIface → Type 0
 IsOn kind mtu s = (s.kind ≡ kind) × (s.mtu ≡ mtu)
 
-handed_on : (kind : LinkKind) (mtu : ℕ) (s : PlainIface) (p : Plan) → IsOn kind mtu s → IsOn kind mtu (waiting s p)
+handed_on : (kind : LinkKind) (mtu : ℕ) (s : PlainIface) (p : IfacePlan) → IsOn kind mtu s → IsOn kind mtu (waiting s p)
 handed_on kind mtu s plan.Rest h = h
 handed_on kind mtu s plan.Return h = h
 handed_on kind mtu s plan.Deliver h = h
@@ -50,7 +50,7 @@ caught_on kind mtu now (item.Frame _) s h = h
 caught_on kind mtu now (item.Packet _ _) s h = h
 caught_on kind mtu now (item.Note _) s h = h
 
-told_on : (kind : LinkKind) (mtu : ℕ) (s : PlainIface) (now : ℕ) (p : Plan) (a : AnswerShown) → IsOn kind mtu s → IsOn kind mtu (told s now p a)
+told_on : (kind : LinkKind) (mtu : ℕ) (s : PlainIface) (now : ℕ) (p : IfacePlan) (a : AnswerShown) → IsOn kind mtu s → IsOn kind mtu (told s now p a)
 told_on kind mtu s now plan.Return answer.Given h = h
 told_on kind mtu s now plan.Return (answer.PoolFull b) h = h
 told_on kind mtu s now plan.Deliver answer.Pushed h = h

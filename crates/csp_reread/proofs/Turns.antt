@@ -15,9 +15,9 @@ use Rattle.csp_iface.specs.PlainIface.{PlainIface}
 use Rattle.csp_iface.specs.Planning.{plan_of, first_rule, side_plan}
 use Rattle.csp_iface.specs.Sending.{sent_trace, next_node, frames_of}
 use Rattle.csp_iface.specs.Telling.{told_by, caught, pushed, bad, is_too_big, taken_up}
-use Rattle.csp_iface.specs.declared.packet.Packet.{Packet}
-use Rattle.csp_iface.specs.declared.plan.Plan.{Plan}
-use Rattle.csp_iface.specs.declared.plan.Plan.TheVariants as plan
+use Rattle.csp_iface.specs.declared.packet.WholePacket.{WholePacket}
+use Rattle.csp_iface.specs.declared.plan.IfacePlan.{IfacePlan}
+use Rattle.csp_iface.specs.declared.plan.IfacePlan.TheVariants as plan
 use Rattle.csp_iface.specs.declared.plan.Side.{Side}
 use Rattle.csp_iface.specs.declared.plan.Side.TheVariants as side
 use Rattle.csp_kiss.specs.declared.progress.KissPacket.{KissPacket}
@@ -69,7 +69,7 @@ quiet_turn : (cover : Bool) (rest made : List KissPacket) (put : List ℕ) (fram
 quiet_turn cover rest made put frames no_put no_made h = record { shown = []; left = rest; whole = ap (λ m. rest ++ m) no_made ∙ append-nil rest; bytes = no_put; pending = h }
 
 -- what a turn reports
-abbrev reports : PlainIface → (now k : ℕ) → Plan → AnswerShown → List Event
+abbrev reports : PlainIface → (now k : ℕ) → IfacePlan → AnswerShown → List Event
 reports s now k p a = (told_by (waiting s p) now p a).events ++ bad k
 
 -- a turn whose operation fetched nothing makes nothing
@@ -255,7 +255,7 @@ module _ (cover : Bool) (s : PlainIface) (now k : ℕ) (covered : covers s.kind 
   fetch_turn (answer.Full i) = idle (answer.Full i) (none_made (reports s now k plan.Fetch (answer.Full i)) None refl) refl
 
 -- a packet is fetched only where no frame is left
-spent_by : (back accepted : Option Content) (whole : Option Packet) (which : Side) (fs : List Frame) → first_rule back accepted whole (side_plan which fs) ≡ plan.Fetch → fs ≡ []
+spent_by : (back accepted : Option Content) (whole : Option WholePacket) (which : Side) (fs : List Frame) → first_rule back accepted whole (side_plan which fs) ≡ plan.Fetch → fs ≡ []
 spent_by back accepted whole which [] e = refl
 spent_by (Some _) accepted whole which (f ∷ fs) e = absurd cc
 spent_by None (Some _) whole which (f ∷ fs) e = absurd cc
@@ -268,7 +268,7 @@ none_left cover fs [] e h = refl
 none_left cover fs (p ∷ ps) e h = absurd (subst (λ (gs : List Frame). AreOf cover gs (p ∷ ps)) e h)
 
 -- a turn by its plan
-turn_by : (cover : Bool) (s : PlainIface) (now k : ℕ) (rest : List KissPacket) (p : Plan) (a : AnswerShown) → covers s.kind ≡ Some cover → (p ≡ plan.Fetch → s.frames ≡ []) → Fits (op_of s p) a → AreOf cover s.frames rest
+turn_by : (cover : Bool) (s : PlainIface) (now k : ℕ) (rest : List KissPacket) (p : IfacePlan) (a : AnswerShown) → covers s.kind ≡ Some cover → (p ≡ plan.Fetch → s.frames ≡ []) → Fits (op_of s p) a → AreOf cover s.frames rest
     → Turned cover rest (made_by ((told_by (waiting s p) now p a).events ++ bad k) (op_of s p) a) (put_by (op_of s p) a) (told s now p a).frames
 turn_by cover s now k rest plan.Rest a covered spent fits h = quiet_turn cover rest _ _ _ refl (none_made (reports s now k plan.Rest a) None refl) h
 turn_by cover s now k rest plan.Return a covered spent fits h =
@@ -306,14 +306,14 @@ shown_fit mtu es b h = by (list_any is_transmission es)
     by false = tt
 
 module _ (s : PlainIface) (now k : ℕ) where
-  abbrev MadeFits : Plan → AnswerShown → Type 0
+  abbrev MadeFits : IfacePlan → AnswerShown → Type 0
   MadeFits p a = AllByRecursion (Fit s.mtu) (made_by ((told_by (waiting s p) now p a).events ++ bad k) (op_of s p) a)
 
   fetched_fits : (mark : ℕ) (b : Content) (big : Bool) → is_too_big s b ≡ big → AllByRecursion (Fit s.mtu) (read_of (if list_any is_transmission ((taken_up big mark b (waiting s plan.Fetch)).events ++ bad k) then Some b else None))
   fetched_fits mark b true e = none_fit s.mtu _ (none_told (event.TooBig ∷ bad k) (Some b) (none_bad k))
   fetched_fits mark b false e = shown_fit s.mtu (event.Transmitted s.serial ∷ bad k) b (ltb-false s.mtu (length b.payload) e)
 
-  fits_by : (p : Plan) (a : AnswerShown) → MadeFits p a
+  fits_by : (p : IfacePlan) (a : AnswerShown) → MadeFits p a
   fits_by plan.Rest a = none_fit s.mtu _ (none_made (reports s now k plan.Rest a) None refl)
   fits_by plan.Return a = none_fit s.mtu _ (none_made (reports s now k plan.Return a) _ (given_fetched s.back a))
   fits_by plan.Deliver a = none_fit s.mtu _ (none_made (reports s now k plan.Deliver a) _ (delivered_fetched s.number s.accepted a))

@@ -6,7 +6,7 @@ mod Tables
 mod Ends
 mod Growing
 mod Unmixed
-mod Drafts
+mod Sketches
 mod Stated
 mod Scenes
 mod MoveCounts

@@ -28,7 +28,7 @@ use Rattle.csp_scene.specs.Links.{node_at}
 use Rattle.csp_scene.specs.Naming.{is_name_taken, is_addr_taken, node_named, router_named, link_named, is_hub_called}
 use Rattle.csp_scene.specs.Arguments.{word_at, number_at, text_from}
 use Rattle.csp_scene.specs.Steps.{bind_step, connect_step, send_step, burst_step, blob_step, raw_step, recv_step, collect_step, close_step, wait_step}
-use Rattle.csp_scene.specs.Draft.{PlainDraft, no_draft, demand, and_then, with_node, with_link}
+use Rattle.csp_scene.specs.Sketch.{PlainSketch, no_sketch, demand, and_then, with_node, with_link}
 use Rattle.csp_scene.specs.Nodes.{state_until, new_node, new_bridge, state_node, new_app, with_app, may_add_app, with_app_at, state_app_at, last_app, with_last_step, with_step_at, may_add_step, state_step_at}
 use Rattle.csp_scene.specs.Transport.{given_options, is_tuned, with_rdp, with_rdp_at, state_rdp_at}
 use Rattle.csp_scene.specs.Joining.{kiss_kind, mtu_of, new_link, may_add_link, all_named, state_between, kind_of, known_ifaces, with_routes, add_routes, routed}
@@ -36,7 +36,7 @@ use Rattle.csp_scene.specs.Faults.{direction_of, planned, link_at, may_add_fault
 use Rattle.csp_scene.specs.Moves.{move_of}
 use Rattle.csp_scene.specs.Schedule.{state_schedule, add_moves, state_moves}
 use Rattle.csp_scene.specs.State.{state, are_joined, finish, finish_with}
-use Rattle.csp_scene.specs.Rows.{PlainRow, all_rows}
+use Rattle.csp_scene.specs.Rows.{PlainFormRow, all_rows}
 use Rattle.csp_scene.specs.Judge.{is_printable, row_for, is_comment, judge_words, judge, is_in_app, scene_from, scene_of}
 use Rattle.csp_scene.proofs.MoveCounts.{unlined}
 
@@ -45,28 +45,28 @@ use Rattle.csp_scene.proofs.MoveCounts.{unlined}
 -- what is so of no nodes, of one more whose name and address no other has, and of a node changed that keeps its name and its address
 pub record IsOfNodes (Are : List PlainNode → Type 0) : Type 0 where
   pub none : Are []
-  pub more : (d : PlainDraft) (node : PlainNode) → Are d.nodes → is_name_taken node.name d.nodes d.links ≡ false → is_addr_taken node.addr d.nodes ≡ false → Are (with_node node d).nodes
+  pub more : (d : PlainSketch) (node : PlainNode) → Are d.nodes → is_name_taken node.name d.nodes d.links ≡ false → is_addr_taken node.addr d.nodes ≡ false → Are (with_node node d).nodes
   pub same : (nodes : List PlainNode) (place : ℕ) (node : PlainNode) → node.name ≡ (node_at nodes place).name → node.addr ≡ (node_at nodes place).addr → Are nodes → Are (slice_set nodes place node)
 
--- it is so of the nodes of the draft that an answer leaves
-pub record Leaves (Are : List PlainNode → Type 0) (told : Result PlainDraft SceneKind) : Type 0 where
-  pub leaves : (next : PlainDraft) → told ≡ Ok next → Are next.nodes
+-- it is so of the nodes of the sketch that an answer leaves
+pub record Leaves (Are : List PlainNode → Type 0) (told : Result PlainSketch SceneKind) : Type 0 where
+  pub leaves : (next : PlainSketch) → told ≡ Ok next → Are next.nodes
 
-ok_leaves : (Are : List PlainNode → Type 0) (d : PlainDraft) → Are d.nodes → Leaves Are (Ok d)
-ok_leaves Are d h = record { leaves = λ next e. let same : d ≡ next = cc in subst (λ (one : PlainDraft). Are one.nodes) same h }
+ok_leaves : (Are : List PlainNode → Type 0) (d : PlainSketch) → Are d.nodes → Leaves Are (Ok d)
+ok_leaves Are d h = record { leaves = λ next e. let same : d ≡ next = cc in subst (λ (one : PlainSketch). Are one.nodes) same h }
 
 err_leaves : {Are : List PlainNode → Type 0} (kind : SceneKind) → Leaves Are (Err kind)
 err_leaves kind = record { leaves = λ next e. absurd (cc) }
 
-demanded : {Are : List PlainNode → Type 0} (b : Bool) (kind : SceneKind) (told : Result PlainDraft SceneKind) → Leaves Are told → Leaves Are (demand b kind told)
+demanded : {Are : List PlainNode → Type 0} (b : Bool) (kind : SceneKind) (told : Result PlainSketch SceneKind) → Leaves Are told → Leaves Are (demand b kind told)
 demanded true kind told h = h
 demanded false kind told h = err_leaves kind
 
-then_leaves : {Are : List PlainNode → Type 0} {A : Type 0} (told : Result A SceneKind) (next : A → Result PlainDraft SceneKind) → ((a : A) → Leaves Are (next a)) → Leaves Are (and_then told next)
+then_leaves : {Are : List PlainNode → Type 0} {A : Type 0} (told : Result A SceneKind) (next : A → Result PlainSketch SceneKind) → ((a : A) → Leaves Are (next a)) → Leaves Are (and_then told next)
 then_leaves (Ok a) next h = h a
 then_leaves (Err kind) next h = err_leaves kind
 
-module _ (Are : List PlainNode → Type 0) (is : IsOfNodes Are) (d : PlainDraft) (all : Are d.nodes) where
+module _ (Are : List PlainNode → Type 0) (is : IsOfNodes Are) (d : PlainSketch) (all : Are d.nodes) where
   changed : (place : ℕ) (node : PlainNode) → node.name ≡ (node_at d.nodes place).name → node.addr ≡ (node_at d.nodes place).addr → Are (slice_set d.nodes place node)
   changed place node name addr = is.same d.nodes place node name addr all
 
@@ -137,12 +137,12 @@ module _ (Are : List PlainNode → Type 0) (is : IsOfNodes Are) (d : PlainDraft)
 
   schedule_leaves : (schedule : PlainSchedule) → Leaves Are (state_schedule d schedule)
   schedule_leaves schedule =
-      let next : PlainDraft = record d { schedule = Some schedule } in
+      let next : PlainSketch = record d { schedule = Some schedule } in
       demanded (is_none d.schedule) kind.Twice (Ok next) (ok_leaves Are next all)
 
   until_leaves : (args : List (List ℕ)) → Leaves Are (state_until d args)
   until_leaves args =
-      let next : PlainDraft = record d { until = Some (number_at args 0) } in
+      let next : PlainSketch = record d { until = Some (number_at args 0) } in
       demanded (is_none d.until) kind.Twice (Ok next) (ok_leaves Are next all)
 
   add_leaves : (moves : List Move) (schedule : Option PlainSchedule) → Leaves Are (add_moves d moves schedule)
@@ -192,24 +192,24 @@ module _ (Are : List PlainNode → Type 0) (is : IsOfNodes Are) (d : PlainDraft)
   state_leaves form.Close shape args = step_leaves (close_step args) d.host
   state_leaves form.Wait shape args = step_leaves (wait_step args) d.host
 
-  by_comment : (comment : Bool) (ignored told : Result PlainDraft SceneKind) → Leaves Are ignored → Leaves Are told → Leaves Are (cond comment ignored told)
+  by_comment : (comment : Bool) (ignored told : Result PlainSketch SceneKind) → Leaves Are ignored → Leaves Are told → Leaves Are (cond comment ignored told)
   by_comment true ignored told h k = h
   by_comment false ignored told h k = k
 
-  words_leave : (rows : List PlainRow) (in_app : Bool) (words : List (List ℕ)) → Leaves Are (judge_words rows in_app d words)
+  words_leave : (rows : List PlainFormRow) (in_app : Bool) (words : List (List ℕ)) → Leaves Are (judge_words rows in_app d words)
   words_leave rows in_app [] = ok_leaves Are d all
   words_leave rows in_app (first ∷ args) =
-      let next : PlainRow → Result PlainDraft SceneKind = λ row. state row.form row.shape d args in
+      let next : PlainFormRow → Result PlainSketch SceneKind = λ row. state row.form row.shape d args in
       by_comment (is_comment first) (Ok d) (and_then (row_for rows in_app (is_hub_called (word_at args 0) d.links) first args) next) (ok_leaves Are d all)
       (then_leaves (row_for rows in_app (is_hub_called (word_at args 0) d.links) first args) next (λ row. state_leaves row.form row.shape args))
 
-  judge_leaves : (rows : List PlainRow) (in_app : Bool) (line : List ℕ) → Leaves Are (judge rows in_app d line)
+  judge_leaves : (rows : List PlainFormRow) (in_app : Bool) (line : List ℕ) → Leaves Are (judge rows in_app d line)
   judge_leaves rows in_app line =
       let told = judge_words rows in_app d (words_of line) in
       demanded (list_all is_printable line) kind.Byte (demand (leb (length line) MAX_LINE) kind.Long told)
       (demanded (leb (length line) MAX_LINE) kind.Long told (words_leave rows in_app (words_of line)))
 
-  -- the scene after the last line has the nodes of the draft
+  -- the scene after the last line has the nodes of the sketch
   finish_leaves : (until : Option ℕ) (scene : PlainScene) → finish_with d until ≡ Ok scene → Are scene.nodes
   finish_leaves None scene e = absurd (cc)
   finish_leaves (Some until) scene e = by_demand (are_joined d.links 0 d.nodes) e
@@ -221,7 +221,7 @@ module _ (Are : List PlainNode → Type 0) (is : IsOfNodes Are) (d : PlainDraft)
       by_demand true made = let same : whole ≡ scene = cc in subst (λ (one : PlainScene). Are one.nodes) same all
       by_demand false made = absurd (cc)
 
-from_leaves : (Are : List PlainNode → Type 0) (is : IsOfNodes Are) (rows : List PlainRow) (lines earlier : List (List ℕ)) (d : PlainDraft) (scene : PlainScene) → Are d.nodes → scene_from rows earlier d lines ≡ Ok scene → Are scene.nodes
+from_leaves : (Are : List PlainNode → Type 0) (is : IsOfNodes Are) (rows : List PlainFormRow) (lines earlier : List (List ℕ)) (d : PlainSketch) (scene : PlainScene) → Are d.nodes → scene_from rows earlier d lines ≡ Ok scene → Are scene.nodes
 unfolding scene_from
 from_leaves Are is rows [] earlier d scene all e =
     unlined (λ (s : PlainScene). Are s.nodes) (length earlier) (finish d) (λ s. Ok s) scene
@@ -232,4 +232,4 @@ from_leaves Are is rows (line ∷ lines) earlier d scene all e =
 
 -- so it is of the nodes of a scene that a text states
 pub nodes_are : (Are : List PlainNode → Type 0) → IsOfNodes Are → (text : List ℕ) (scene : PlainScene) → scene_of text ≡ Ok scene → Are scene.nodes
-nodes_are Are is text scene e = from_leaves Are is all_rows (lines_of text) [] no_draft scene is.none e
+nodes_are Are is text scene e = from_leaves Are is all_rows (lines_of text) [] no_sketch scene is.none e

@@ -9,9 +9,9 @@ use Rattle.csp_scene.specs.declared.limits.TheConstants.{BRIDGE_LINKS}
 use Rattle.csp_scene.specs.Scene.{PlainNode, PlainLink, PlainSchedule, PlainScene, in_rounds}
 use Rattle.csp_scene.specs.Links.{links_at, node_at, no_node}
 use Rattle.csp_scene.specs.Ranges.{IsSchedule, IsScene}
-use Rattle.csp_scene.specs.Draft.{PlainDraft}
+use Rattle.csp_scene.specs.Sketch.{PlainSketch}
 use Rattle.csp_scene.specs.State.{is_joined, are_joined}
-use Rattle.csp_scene.specs.Kept.{IsDraft}
+use Rattle.csp_scene.specs.Kept.{IsSketch}
 use Rattle.csp_scene.proofs.Growing.{links_stand}
 
 joined_at : (links : List PlainLink) (from : ℕ) (nodes : List PlainNode) (place : ℕ) (node : PlainNode) → are_joined links from nodes ≡ true → slice_get nodes place ≡ Some node → is_joined links (from + place) node ≡ true
@@ -30,11 +30,11 @@ schedule_of : (nodes : List PlainNode) (links : List PlainLink) (schedule : Opti
 schedule_of nodes links None is = tt
 schedule_of nodes links (Some schedule) is = is
 
-abbrev pub scene_with : PlainDraft → ℕ → PlainScene
+abbrev pub scene_with : PlainSketch → ℕ → PlainScene
 scene_with d until = record { until = until; schedule = unwrap_or d.schedule in_rounds; nodes = d.nodes; links = d.links }
 
-pub IsScene-from_draft : (d : PlainDraft) (until : ℕ) → IsDraft d → d.until ≡ Some until → are_joined d.links 0 d.nodes ≡ true → IsScene (scene_with d until)
-IsScene-from_draft d until is given joined =
+pub IsScene-from_sketch : (d : PlainSketch) (until : ℕ) → IsSketch d → d.until ≡ Some until → are_joined d.links 0 d.nodes ≡ true → IsScene (scene_with d until)
+IsScene-from_sketch d until is given joined =
     let ranges = rw given at is.until in
     record {
       least = ranges.0;

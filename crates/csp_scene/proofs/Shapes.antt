@@ -10,7 +10,7 @@ use Rattle.csp_scene.specs.declared.checks.Check.{Check}
 use Rattle.csp_scene.specs.declared.checks.Check.TheVariants as check
 use Rattle.csp_scene.specs.Table.{group_of, with_options, fixed_of}
 use Rattle.csp_scene.specs.Checks.{passes, all_pass, last_part, takes_more, has_count, whole_passes}
-use Rattle.csp_scene.specs.Rows.{PlainRow, rows_of}
+use Rattle.csp_scene.specs.Rows.{PlainFormRow, rows_of}
 use Rattle.csp_scene.specs.Kept.{IsOneOf, IsShapeOf, Fits, FitsShape}
 
 pub list_all-zip_passes : (check : Check) (shape : List Part) (args : List (Bor (List ℕ))) → list_all (λ pair. passes check pair.0 pair.1.now) (zip shape args) ≡ all_pass check shape (map (λ word. word.now) args)
@@ -83,7 +83,7 @@ FitsShape-from_shape form shape args is words numbers = record {
 }
 
 -- the rows of one form more
-pub rows_left : (rows new all : List PlainRow) (forms : List Form) (at : ℕ) (none : Form) → at < length forms → new ≡ rows ++ rows_of (get_or forms at none) → rows ++ flat_map rows_of (drop at forms) ≡ all → new ++ flat_map rows_of (drop (at + 1) forms) ≡ all
+pub rows_left : (rows new all : List PlainFormRow) (forms : List Form) (at : ℕ) (none : Form) → at < length forms → new ≡ rows ++ rows_of (get_or forms at none) → rows ++ flat_map rows_of (drop at forms) ≡ all → new ++ flat_map rows_of (drop (at + 1) forms) ≡ all
 rows_left rows new all forms at none within pushed left =
     let first = get_or forms at none in
     let rest = flat_map rows_of (drop (at + 1) forms) in

@@ -18,7 +18,7 @@ use Rattle.csp_scene.specs.Scene.{PlainNode, PlainLink}
 use Rattle.csp_scene.specs.Links.{fault_count}
 use Rattle.csp_scene.specs.Naming.{link_named, node_named}
 use Rattle.csp_scene.specs.Arguments.{word_at, number_at}
-use Rattle.csp_scene.specs.Draft.{PlainDraft, demand, and_then}
+use Rattle.csp_scene.specs.Sketch.{PlainSketch, demand, and_then}
 
 -- the direction by its word: 0 from the first end to the second, 1 back
 abbrev pub direction_of : List ℕ → ℕ
@@ -59,12 +59,12 @@ no_link = record { name = []; kind = carried.Kiss; hub = false; mtu = 0; ends = 
 abbrev pub link_at : List PlainLink → ℕ → PlainLink
 link_at links place = slice_index_or links place no_link
 
--- a link with one more fault, and a draft in which the link in a place has it
+-- a link with one more fault, and a sketch in which the link in a place has it
 abbrev pub with_fault : Fault → PlainLink → PlainLink
 with_fault fault link = record link { plan = link.plan ++ fault ∷ [] }
 
 -- with a fault more of the link at a place
-abbrev pub with_fault_at : ℕ → Fault → PlainDraft → PlainDraft
+abbrev pub with_fault_at : ℕ → Fault → PlainSketch → PlainSketch
 with_fault_at place fault d = record d { links = slice_set d.links place (with_fault fault (link_at d.links place)) }
 
 -- a kind of fault stands once for a frame of a direction of a link, and there is room for it
@@ -75,12 +75,12 @@ may_add_fault links place fault =
     (Ok tt))
 
 -- `fault LINK ab FRAME lose`, `repeat K`, `delay R`, `flip B`
-abbrev pub state_fault_at : PlainDraft → Fault → Option ℕ → Result PlainDraft SceneKind
+abbrev pub state_fault_at : PlainSketch → Fault → Option ℕ → Result PlainSketch SceneKind
 state_fault_at d fault None = Err kind.Unknown
 state_fault_at d fault (Some place) = and_then (may_add_fault d.links place fault) (λ _. Ok (with_fault_at place fault d))
 
 -- what a `fault` line adds
-abbrev pub state_fault : PlainDraft → List (List ℕ) → FaultKind → Result PlainDraft SceneKind
+abbrev pub state_fault : PlainSketch → List (List ℕ) → FaultKind → Result PlainSketch SceneKind
 state_fault d args what = state_fault_at d (planned (direction_of (word_at args 1)) args what) (link_named (word_at args 0) d.links)
 
 -- the end of a link at the node of this name
@@ -88,15 +88,15 @@ abbrev pub end_named : List ℕ → List PlainNode → PlainLink → Option ℕ
 end_named word nodes link = option_and_then (λ place. position (λ end. end.node == place) link.ends) (node_named word nodes)
 
 -- a fault of the frames from this end of the hub at a place, where the hub has one
-abbrev pub state_fault_from : PlainDraft → (place : ℕ) → List (List ℕ) → FaultKind → (end : Option ℕ) → Result PlainDraft SceneKind
+abbrev pub state_fault_from : PlainSketch → (place : ℕ) → List (List ℕ) → FaultKind → (end : Option ℕ) → Result PlainSketch SceneKind
 state_fault_from d place args what None = Err kind.Unknown
 state_fault_from d place args what (Some end) = state_fault_at d (planned end args what) (Some place)
 
 -- `fault HUB NODE FRAME lose`, `repeat K`, `delay R`, `flip B`: both must be there, and the node on the hub
-abbrev pub state_hub_fault_at : PlainDraft → List (List ℕ) → FaultKind → (place : Option ℕ) → Result PlainDraft SceneKind
+abbrev pub state_hub_fault_at : PlainSketch → List (List ℕ) → FaultKind → (place : Option ℕ) → Result PlainSketch SceneKind
 state_hub_fault_at d args what None = Err kind.Unknown
 state_hub_fault_at d args what (Some place) = state_fault_from d place args what (end_named (word_at args 1) d.nodes (link_at d.links place))
 
 -- what such a line adds
-abbrev pub state_hub_fault : PlainDraft → List (List ℕ) → FaultKind → Result PlainDraft SceneKind
+abbrev pub state_hub_fault : PlainSketch → List (List ℕ) → FaultKind → Result PlainSketch SceneKind
 state_hub_fault d args what = state_hub_fault_at d args what (link_named (word_at args 0) d.links)

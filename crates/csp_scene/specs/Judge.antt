@@ -8,8 +8,8 @@ use Rattle.csp_scene.specs.Table.{first_word, suits}
 use Rattle.csp_scene.specs.Arguments.{word_at}
 use Rattle.csp_scene.specs.Naming.{is_hub_called}
 use Rattle.csp_scene.specs.Checks.{whole_passes}
-use Rattle.csp_scene.specs.Rows.{PlainRow, all_rows, begins, begins_step, begins_count, has_choice}
-use Rattle.csp_scene.specs.Draft.{PlainDraft, no_draft, demand, and_then}
+use Rattle.csp_scene.specs.Rows.{PlainFormRow, all_rows, begins, begins_step, begins_count, has_choice}
+use Rattle.csp_scene.specs.Sketch.{PlainSketch, no_sketch, demand, and_then}
 use Rattle.csp_scene.specs.State.{state, finish}
 use Rattle.csp_scene.specs.declared.limits.TheConstants.{MAX_LINE}
 use Rattle.csp_scene.specs.declared.checks.Check.TheVariants as check
@@ -22,7 +22,7 @@ abbrev pub is_printable : ℕ → Bool
 is_printable byte = nat_le 32 byte && nat_le byte 126
 
 -- a row whose number of words and fixed words fit, where its names and then its numbers do
-abbrev pub fit : List (List ℕ) → Option PlainRow → Result PlainRow SceneKind
+abbrev pub fit : List (List ℕ) → Option PlainFormRow → Result PlainFormRow SceneKind
 fit args None = Err kind.Choice
 fit args (Some row) =
     demand (whole_passes check.Name row.shape args) kind.Name
@@ -31,7 +31,7 @@ fit args (Some row) =
 
 -- which row a line is of, by its first word and the others, where `in_app` says that a step may stand here, and `on_hub` that the first argument
 -- is the name of a hub
-abbrev pub row_for : List PlainRow → (in_app on_hub : Bool) → List ℕ → List (List ℕ) → Result PlainRow SceneKind
+abbrev pub row_for : List PlainFormRow → (in_app on_hub : Bool) → List ℕ → List (List ℕ) → Result PlainFormRow SceneKind
 row_for rows in_app on_hub first args =
     demand (list_any (begins first) rows) kind.Word
     (demand (in_app || not (list_any (begins_step first) rows)) kind.Place
@@ -44,21 +44,21 @@ is_comment [] = false
 is_comment (byte ∷ bytes) = byte == 35
 
 -- a line by its words: one without words, or a comment, is ignored
-abbrev pub judge_words : List PlainRow → Bool → PlainDraft → List (List ℕ) → Result PlainDraft SceneKind
+abbrev pub judge_words : List PlainFormRow → Bool → PlainSketch → List (List ℕ) → Result PlainSketch SceneKind
 judge_words rows in_app d [] = Ok d
 judge_words rows in_app d (first ∷ args) =
     if is_comment first then Ok d
     else and_then (row_for rows in_app (is_hub_called (word_at args 0) d.links) first args) (λ row. state row.form row.shape d args)
 
--- the draft after a line, or the first kind that fits the line
-abbrev pub judge : List PlainRow → Bool → PlainDraft → List ℕ → Result PlainDraft SceneKind
+-- the sketch after a line, or the first kind that fits the line
+abbrev pub judge : List PlainFormRow → Bool → PlainSketch → List ℕ → Result PlainSketch SceneKind
 judge rows in_app d line =
     demand (list_all is_printable line) kind.Byte
     (demand (nat_le (length line) MAX_LINE) kind.Long
     (judge_words rows in_app d (words_of line)))
 
 -- a line that an application's steps may have between them: it is ignored, or is a step itself
-abbrev pub is_passed_over : List PlainRow → List (List ℕ) → Bool
+abbrev pub is_passed_over : List PlainFormRow → List (List ℕ) → Bool
 is_passed_over rows [] = true
 is_passed_over rows (first ∷ args) = is_comment first || list_any (begins_step first) rows
 
@@ -68,7 +68,7 @@ begins_app [] = false
 begins_app (first ∷ args) = bytes_eq first (first_word form.App)
 
 -- whether a step may stand after these lines, the last of them first: the last that is neither ignored nor a step is an `app` line
-abbrev pub is_in_app : List PlainRow → List (List ℕ) → Bool
+abbrev pub is_in_app : List PlainFormRow → List (List ℕ) → Bool
 is_in_app rows [] = false
 is_in_app rows (line ∷ earlier) = if is_passed_over rows (words_of line) then is_in_app rows earlier else begins_app (words_of line)
 
@@ -83,11 +83,11 @@ in_line earlier (Ok a) next = next a
 in_line earlier (Err kind) next = Err (record { line = earlier + 1; kind = kind })
 
 -- the scene of the lines that are left, after earlier lines, the last of them first, and what they state
-unfoldable pub scene_from : List PlainRow → List (List ℕ) → PlainDraft → List (List ℕ) → Result PlainScene Refusal
+unfoldable pub scene_from : List PlainFormRow → List (List ℕ) → PlainSketch → List (List ℕ) → Result PlainScene Refusal
 scene_from rows earlier d [] = in_line (length earlier) (finish d) (λ scene. Ok scene)
 scene_from rows earlier d (line ∷ lines) =
     in_line (length earlier) (judge rows (is_in_app rows earlier) d line) (λ next. scene_from rows (line ∷ earlier) next lines)
 
 -- the scene of a text, or its first refused line with the first kind that fits it
 abbrev pub scene_of : List ℕ → Result PlainScene Refusal
-scene_of text = scene_from all_rows [] no_draft (lines_of text)
+scene_of text = scene_from all_rows [] no_sketch (lines_of text)

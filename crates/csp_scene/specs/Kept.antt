@@ -11,9 +11,9 @@ use Rattle.csp_scene.specs.Ranges.{HasEnds, IsMtu, IsNode, IsPlanned, IsSchedule
 use Rattle.csp_scene.specs.Table.{keyword_text, fixed_of, optional_of, shapes_of}
 use Rattle.csp_scene.specs.Checks.{all_pass, has_count}
 use Rattle.csp_scene.specs.Arguments.{keyword_place}
-use Rattle.csp_scene.specs.Rows.{PlainRow}
+use Rattle.csp_scene.specs.Rows.{PlainFormRow}
 use Rattle.csp_scene.specs.Judge.{Refusal, is_in_app, scene_from}
-use Rattle.csp_scene.specs.Draft.{PlainDraft}
+use Rattle.csp_scene.specs.Sketch.{PlainSketch}
 use Rattle.csp_scene.specs.declared.limits.TheConstants.{MAX_UNTIL, MAX_NODES, MAX_LINKS, MAX_HUB_NODES, DEFAULT_MTU, MAX_FAULTS}
 use Rattle.csp_log.specs.declared.places.End.{End}
 use Rattle.csp_log.specs.declared.places.LinkKind.{LinkKind}
@@ -28,8 +28,8 @@ use Rattle.csp_scene.specs.declared.checks.Check.TheVariants as check
 use Rattle.csp_scene.specs.declared.refusal.SceneKind.{SceneKind}
 use Rattle.csp_scene.specs.declared.refusal.SceneError.{SceneError}
 use Rattle.csp_scene.specs.declared.refusal.SceneError.TheVariants as error
-use Rattle.csp_scene.specs.declared.draft.LineError.{LineError}
-use Rattle.csp_scene.specs.declared.draft.LineError.TheVariants.{Kind, NoMemory}
+use Rattle.csp_scene.specs.declared.sketch.LineError.{LineError}
+use Rattle.csp_scene.specs.declared.sketch.LineError.TheVariants.{Kind, NoMemory}
 
 -- an end of a link stands at a node, on the interface after those of the earlier links
 pub record IsEndAfter (nodes : ℕ) (earlier : List PlainLink) (end : End) : Type 0 where
@@ -67,7 +67,7 @@ pub record IsHost (nodes : List PlainNode) (place : ℕ) : Type 0 where
   pub app : 1 ≤ length (node_at nodes place).apps
 
 -- the numbers of a scene in the making are in their ranges
-pub record IsDraft (d : PlainDraft) : Type 0 where
+pub record IsSketch (d : PlainSketch) : Type 0 where
   pub until : IfSome d.until (λ until. (1 ≤ until) × (until ≤ MAX_UNTIL))
   pub schedule : IfSome d.schedule (IsSchedule d.nodes d.links)
   pub nodes : AllByRecursion IsNode d.nodes
@@ -144,14 +144,14 @@ pub record FitsShape (form : Form) (shape : List Part) (args : List (List ℕ)) 
   pub count : length shape ≤ length args
   pub numbers : IsTrue (all_pass check.Number shape args)
 
--- a call answered what a definition says: the draft that it left, or the kind; want of memory is free
-abbrev pub Judged : {A : Type 0} → Result A LineError → PlainDraft → Result PlainDraft SceneKind → Type 0
+-- a call answered what a definition says: the sketch that it left, or the kind; want of memory is free
+abbrev pub Judged : {A : Type 0} → Result A LineError → PlainSketch → Result PlainSketch SceneKind → Type 0
 Judged (Ok done) d told = told ≡ Ok d
 Judged (Err (Kind kind)) d told = told ≡ Err kind
 Judged (Err NoMemory) d told = Unit {0}
 
--- after some lines a draft stands, the next line has this number, a step may stand there or not, and with the lines left the text gives what it is told to
-pub record IsRead (rows : List PlainRow) (number : ℕ) (in_app : Bool) (d : PlainDraft) (left : List (List ℕ)) (told : Result PlainScene Refusal) : Type 0 where
+-- after some lines a sketch stands, the next line has this number, a step may stand there or not, and with the lines left the text gives what it is told to
+pub record IsRead (rows : List PlainFormRow) (number : ℕ) (in_app : Bool) (d : PlainSketch) (left : List (List ℕ)) (told : Result PlainScene Refusal) : Type 0 where
   pub earlier : List (List ℕ)
   pub counted : number ≡ length earlier + 1
   pub stands : in_app ≡ is_in_app rows earlier

@@ -9,7 +9,7 @@ pub mod Checks
 pub mod Rows
 pub mod Arguments
 pub mod Steps
-pub mod Draft
+pub mod Sketch
 pub mod Nodes
 pub mod Transport
 pub mod Joining

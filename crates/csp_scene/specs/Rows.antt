@@ -9,34 +9,34 @@ use Rattle.csp_scene.specs.declared.table.Part.{Part}
 use Rattle.csp_scene.specs.declared.checks.Check.TheVariants as check
 
 -- a line form with one choice of its optional words: what stands after its first word
-pub record PlainRow : Type 0 where
+pub record PlainFormRow : Type 0 where
   pub form : Form
   pub shape : List Part
 
 -- the row of a form and one of its shapes
-abbrev pub row_of : Form → List Part → PlainRow
+abbrev pub row_of : Form → List Part → PlainFormRow
 row_of form shape = record { form = form; shape = shape }
 
 -- a form's rows: each optional group is there or not
-abbrev pub rows_of : Form → List PlainRow
+abbrev pub rows_of : Form → List PlainFormRow
 rows_of form = map (row_of form) (shapes_of form)
 
 -- the whole table
-abbrev pub all_rows : List PlainRow
+abbrev pub all_rows : List PlainFormRow
 all_rows = flat_map rows_of all_forms
 
 -- a row of lines with this first word
-abbrev pub begins : List ℕ → PlainRow → Bool
+abbrev pub begins : List ℕ → PlainFormRow → Bool
 begins first row = bytes_eq first (first_word row.form)
 
 -- such a row, of a step
-abbrev pub begins_step : List ℕ → PlainRow → Bool
+abbrev pub begins_step : List ℕ → PlainFormRow → Bool
 begins_step first row = begins first row && is_step row.form
 
 -- such a row, with so many further words
-abbrev pub begins_count : List ℕ → ℕ → PlainRow → Bool
+abbrev pub begins_count : List ℕ → ℕ → PlainFormRow → Bool
 begins_count first count row = begins first row && has_count row.shape count
 
 -- such a row, with the line's fixed words in their places
-abbrev pub has_choice : List ℕ → List (List ℕ) → PlainRow → Bool
+abbrev pub has_choice : List ℕ → List (List ℕ) → PlainFormRow → Bool
 has_choice first args row = begins_count first (length args) row && whole_passes check.Fixed row.shape args

@@ -14,7 +14,7 @@ use Rattle.csp_scene.specs.Scene.{PlainNode, PlainLink, PlainScene, in_rounds, s
 use Rattle.csp_scene.specs.Links.{links_at}
 use Rattle.csp_scene.specs.Arguments.{number_at}
 use Rattle.csp_scene.specs.Steps.{bind_step, connect_step, send_step, burst_step, blob_step, raw_step, recv_step, collect_step, close_step, wait_step}
-use Rattle.csp_scene.specs.Draft.{PlainDraft, demand}
+use Rattle.csp_scene.specs.Sketch.{PlainSketch, demand}
 use Rattle.csp_scene.specs.Nodes.{state_until, new_node, new_bridge, state_node, state_app, state_step}
 use Rattle.csp_scene.specs.Transport.{state_rdp}
 use Rattle.csp_scene.specs.Joining.{kiss_kind, mtu_of, state_link, state_hub, state_route}
@@ -22,7 +22,7 @@ use Rattle.csp_scene.specs.Faults.{state_fault, state_hub_fault}
 use Rattle.csp_scene.specs.Schedule.{state_schedule, state_moves}
 
 -- what a line of a form and of one of its shapes adds, judged against the lines before it: Unknown, then Twice, then Full; the text of a `route` line may besides be Number, as its rows come
-abbrev pub state : Form → List Part → PlainDraft → List (List ℕ) → Result PlainDraft SceneKind
+abbrev pub state : Form → List Part → PlainSketch → List (List ℕ) → Result PlainSketch SceneKind
 state form.Until shape d args = state_until d args
 state form.Rounds shape d args = state_schedule d in_rounds
 state form.Shuffle shape d args = state_schedule d (shuffled (number_at args 1))
@@ -66,12 +66,12 @@ are_joined links place [] = true
 are_joined links place (node ∷ nodes) = is_joined links place node && are_joined links (place + 1) nodes
 
 -- after the last line: `until` must have been given, and each bridge its two links
-abbrev pub finish_with : PlainDraft → Option ℕ → Result PlainScene SceneKind
+abbrev pub finish_with : PlainSketch → Option ℕ → Result PlainScene SceneKind
 finish_with d None = Err kind.Missing
 finish_with d (Some until) =
     demand (are_joined d.links 0 d.nodes) kind.Missing
     (Ok (record { until = until; schedule = unwrap_or d.schedule in_rounds; nodes = d.nodes; links = d.links }))
 
 -- the scene once all lines are read: `until` must be there, and each bridge's two links
-abbrev pub finish : PlainDraft → Result PlainScene SceneKind
+abbrev pub finish : PlainSketch → Result PlainScene SceneKind
 finish d = finish_with d d.until

@@ -8,7 +8,7 @@ use Rattle.csp_scene.specs.Scene.{PlainNode}
 use Rattle.csp_scene.specs.Links.{node_at}
 use Rattle.csp_scene.specs.Naming.{router_named}
 use Rattle.csp_scene.specs.Arguments.{word_at, number_at}
-use Rattle.csp_scene.specs.Draft.{PlainDraft, demand}
+use Rattle.csp_scene.specs.Sketch.{PlainSketch, demand}
 
 -- the options that a line gives: its numbers in their order
 abbrev pub given_options : List (List ℕ) → Options
@@ -22,22 +22,22 @@ given_options args = record {
 }
 
 -- whether the node in a place had its line
-abbrev pub is_tuned : PlainDraft → ℕ → Bool
+abbrev pub is_tuned : PlainSketch → ℕ → Bool
 is_tuned d place = list_any (λ other. other == place) d.tuned
 
--- a draft in which the node in a place has these options, and had its line
+-- a sketch in which the node in a place has these options, and had its line
 abbrev pub with_rdp : Options → PlainNode → PlainNode
 with_rdp options node = record node { options = options }
 
 -- with these options of the node at a place, which has had its `rdp` line
-abbrev pub with_rdp_at : ℕ → Options → PlainDraft → PlainDraft
+abbrev pub with_rdp_at : ℕ → Options → PlainSketch → PlainSketch
 with_rdp_at place options d = record d { nodes = slice_set d.nodes place (with_rdp options (node_at d.nodes place)); tuned = d.tuned ++ place ∷ [] }
 
 -- `rdp NODE W CT PT DA AT AC`: once for a node, which is no bridge
-abbrev pub state_rdp_at : PlainDraft → Options → Option ℕ → Result PlainDraft SceneKind
+abbrev pub state_rdp_at : PlainSketch → Options → Option ℕ → Result PlainSketch SceneKind
 state_rdp_at d options None = Err kind.Unknown
 state_rdp_at d options (Some place) = demand (not (is_tuned d place)) kind.Twice (Ok (with_rdp_at place options d))
 
 -- what an `rdp` line adds
-abbrev pub state_rdp : PlainDraft → List (List ℕ) → Result PlainDraft SceneKind
+abbrev pub state_rdp : PlainSketch → List (List ℕ) → Result PlainSketch SceneKind
 state_rdp d args = state_rdp_at d (given_options args) (router_named (word_at args 0) d.nodes)

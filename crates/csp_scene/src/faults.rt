@@ -7,15 +7,15 @@ ghost use Rattle.csp_scene.specs.Links.{fault_count};
 ghost use Rattle.csp_scene.specs.Faults.{direction_of, planned, link_at, with_fault, with_fault_at, may_add_fault, state_fault_at, state_fault, end_named, state_fault_from, state_hub_fault_at, state_hub_fault};
 ghost use Rattle.csp_scene.specs.Naming.{link_named, node_named};
 ghost use Rattle.csp_scene.specs.Arguments.{word_at};
-ghost use Rattle.csp_scene.specs.Kept.{IsDraft, Fits, Judged, part_at};
+ghost use Rattle.csp_scene.specs.Kept.{IsSketch, Fits, Judged, part_at};
 
 use crate::arguments::{number_at, word_at};
-use crate::draft::{Draft, LineError};
 use crate::limits::{LAST_FRAME, MAX_FAULTS};
-use crate::links::LinkDraft;
+use crate::links::LinkSketch;
 use crate::naming::{link_named, node_named};
 use crate::refusal::SceneKind;
 use crate::scenario::SceneNode;
+use crate::sketch::{LineError, Sketch};
 use crate::table::{Form, Keyword, Part};
 use csp_link::{Fault, FaultKind};
 
@@ -44,7 +44,7 @@ fn planned(form: Form, dir: u8, args: &[&[u8]], kind: FaultKind) -> Fault
 }
 
 /// How many faults all links have together.
-fn fault_count(links: &[LinkDraft]) -> usize
+fn fault_count(links: &[LinkSketch]) -> usize
     requires { fault_count links.now ≤ MAX_FAULTS }
     ensures { result ≡ fault_count links.now }
 {
@@ -56,7 +56,7 @@ fn fault_count(links: &[LinkDraft]) -> usize
 }
 
 /// The number of a link's end at the node of this name.
-fn end_named(nodes: &[SceneNode], link: &LinkDraft, name: &[u8]) -> Option<u8>
+fn end_named(nodes: &[SceneNode], link: &LinkSketch, name: &[u8]) -> Option<u8>
     ensures value { result ≡ end_named name.now nodes.now link.now }
     ensures inside { IfSome result (λ end. end < length link.now.ends) }
 {
@@ -64,7 +64,7 @@ fn end_named(nodes: &[SceneNode], link: &LinkDraft, name: &[u8]) -> Option<u8>
     link.end_at(node)
 }
 
-impl Draft {
+impl Sketch {
     /// Whether a fault may join a link: Twice where one of the same direction, frame and kind
     /// stands, then Full.
     fn may_add_fault(&self, place: usize, fault: &Fault) -> Result<(), SceneKind>
@@ -83,12 +83,12 @@ impl Draft {
     }
 
     fn push_fault(&mut self, place: usize, fault: Fault) -> Result<(), LineError>
-        requires kept { IsDraft self.old }
+        requires kept { IsSketch self.old }
         requires link { place < length self.old.links }
         requires room { fault_count self.old.links < MAX_FAULTS }
         requires fault { IsPlanned (length (link_at self.old.links place).ends) fault }
         ensures answer { Judged result self.new (Ok (with_fault_at place fault self.old)) }
-        ensures kept { OnOk result (IsDraft self.new) }
+        ensures kept { OnOk result (IsSketch self.new) }
     {
         let Ok(()) = self.links[place].add(fault) else {
             return Err(LineError::NoMemory);
@@ -98,11 +98,11 @@ impl Draft {
 
     /// A `fault` line of the link in a place, by the fault that it states.
     fn state_fault_at(&mut self, place: usize, fault: Fault) -> Result<(), LineError>
-        requires kept { IsDraft self.old }
+        requires kept { IsSketch self.old }
         requires link { place < length self.old.links }
         requires fault { IsPlanned (length (link_at self.old.links place).ends) fault }
         ensures answer { Judged result self.new (state_fault_at self.old fault (Some place)) }
-        ensures kept { OnOk result (IsDraft self.new) }
+        ensures kept { OnOk result (IsSketch self.new) }
     {
         match self.may_add_fault(place, &fault) {
             Ok(()) => self.push_fault(place, fault),
@@ -117,12 +117,12 @@ impl Draft {
         args: &[&[u8]],
         kind: FaultKind,
     ) -> Result<(), LineError>
-        requires kept { IsDraft self.old }
+        requires kept { IsSketch self.old }
         requires fits { Fits form (map (λ word. word.now) args.now) }
         requires frame { part_at form 2 ≡ Part.Number 1 LAST_FRAME }
         requires harm { IsHarm kind }
         ensures answer { Judged result self.new (state_fault self.old (map (λ word. word.now) args.now) kind) }
-        ensures kept { OnOk result (IsDraft self.new) }
+        ensures kept { OnOk result (IsSketch self.new) }
     {
         let Some(place) = link_named(&self.links, word_at(args, 0)) else {
             return Err(LineError::Kind(SceneKind::Unknown));
@@ -138,12 +138,12 @@ impl Draft {
         args: &[&[u8]],
         kind: FaultKind,
     ) -> Result<(), LineError>
-        requires kept { IsDraft self.old }
+        requires kept { IsSketch self.old }
         requires fits { Fits form (map (λ word. word.now) args.now) }
         requires frame { part_at form 2 ≡ Part.Number 1 LAST_FRAME }
         requires harm { IsHarm kind }
         ensures answer { Judged result self.new (state_hub_fault self.old (map (λ word. word.now) args.now) kind) }
-        ensures kept { OnOk result (IsDraft self.new) }
+        ensures kept { OnOk result (IsSketch self.new) }
     {
         let Some(place) = link_named(&self.links, word_at(args, 0)) else {
             return Err(LineError::Kind(SceneKind::Unknown));

@@ -8,22 +8,22 @@ ghost use Rattle.csp_route.specs.Text.{parsed, names_of};
 ghost use Rattle.csp_text.specs.Names.{is_name};
 ghost use Rattle.csp_scene.specs.Links.{links_at, node_at};
 ghost use Rattle.csp_scene.specs.Naming.{is_name_taken, node_named, router_named};
-ghost use Rattle.csp_scene.specs.Draft.{with_link};
+ghost use Rattle.csp_scene.specs.Sketch.{with_link};
 ghost use Rattle.csp_scene.specs.Arguments.{word_at};
 ghost use Rattle.csp_scene.specs.Ranges.{IsMtu};
 ghost use Rattle.csp_scene.specs.Joining.{kiss_kind, mtu_of, end_at, new_link, has_app, takes_link, has_twice, is_link_taken, may_add_link, all_named, state_between, state_link, state_hub, kind_of, known_ifaces, with_routes, add_routes, routed, state_route_at, state_route};
-ghost use Rattle.csp_scene.specs.Kept.{MayJoin, IsDraft, Fits, FitsShape, Judged};
+ghost use Rattle.csp_scene.specs.Kept.{MayJoin, IsSketch, Fits, FitsShape, Judged};
 
 use crate::arguments::{has_keyword, name_at, setting, text_from, word_at};
 use crate::checks::past;
-use crate::draft::{Draft, LineError};
 use crate::limits::{BRIDGE_LINKS, DEFAULT_MTU, MAX_HUB_NODES, MAX_LINKS};
-use crate::links::LinkDraft;
+use crate::links::LinkSketch;
 use crate::naming::{
     IfaceNames, iface_count, iface_names, is_called, is_name_taken, node_named, router_named,
 };
 use crate::refusal::SceneKind;
 use crate::scenario::{SceneLink, SceneNode};
+use crate::sketch::{LineError, Sketch};
 use crate::table::{Form, Keyword, Part};
 use arrayvec::ArrayVec;
 use csp_base::Name;
@@ -80,7 +80,7 @@ fn routers_named(nodes: &[SceneNode], names: &[&[u8]]) -> Option<Places>
     Some(places)
 }
 
-impl Draft {
+impl Sketch {
     /// The end of a new link at a node.
     fn end_at(&self, place: usize) -> End
         requires place { place < 256 }
@@ -200,17 +200,17 @@ impl Draft {
         mtu: u16,
         places: &[usize],
     ) -> Result<(), LineError>
-        requires kept { IsDraft self.old }
+        requires kept { IsSketch self.old }
         requires name { IsTrue (is_name name.bytes) }
         requires mtu { IsMtu mtu }
         requires ends { MayJoin (length self.old.nodes) kind hub mtu places.now }
         requires apart { has_twice places.now ≡ false }
         requires room { length self.old.links < MAX_LINKS }
         ensures answer { Judged result self.new (Ok (with_link (new_link self.old.links name.bytes kind hub mtu places.now) self.old)) }
-        ensures kept { OnOk result (IsDraft self.new) }
+        ensures kept { OnOk result (IsSketch self.new) }
     {
         let link = self.new_link(alloc, name, kind, hub, mtu, places);
-        let Ok(()) = self.links.push(LinkDraft::new(alloc, link)) else {
+        let Ok(()) = self.links.push(LinkSketch::new(alloc, link)) else {
             return Err(LineError::NoMemory);
         };
         Ok(())
@@ -226,12 +226,12 @@ impl Draft {
         mtu: u16,
         places: &[usize],
     ) -> Result<(), LineError>
-        requires kept { IsDraft self.old }
+        requires kept { IsSketch self.old }
         requires name { IsTrue (is_name name.bytes) }
         requires mtu { IsMtu mtu }
         requires ends { MayJoin (length self.old.nodes) kind hub mtu places.now }
         ensures answer { Judged result self.new (state_between self.old name.bytes kind hub mtu (Some places.now)) }
-        ensures kept { OnOk result (IsDraft self.new) }
+        ensures kept { OnOk result (IsSketch self.new) }
     {
         match self.may_add_link(&name, places) {
             Ok(()) => self.push_link(alloc, name, kind, hub, mtu, places),
@@ -248,12 +248,12 @@ impl Draft {
         mtu: u16,
         args: &[&[u8]],
     ) -> Result<(), LineError>
-        requires kept { IsDraft self.old }
+        requires kept { IsSketch self.old }
         requires name { IsTrue (is_name name.bytes) }
         requires word { name.bytes ≡ word_at (map (λ word. word.now) args.now) 0 }
         requires mtu { IsMtu mtu }
         ensures answer { Judged result self.new (state_link self.old kind mtu (map (λ word. word.now) args.now)) }
-        ensures kept { OnOk result (IsDraft self.new) }
+        ensures kept { OnOk result (IsSketch self.new) }
     {
         let Some(one) = node_named(&self.nodes, word_at(args, 2)) else {
             return Err(LineError::Kind(SceneKind::Unknown));
@@ -266,11 +266,11 @@ impl Draft {
 
     /// A `hub` line.
     pub(crate) fn state_hub(&mut self, alloc: Global, args: &[&[u8]]) -> Result<(), LineError>
-        requires kept { IsDraft self.old }
+        requires kept { IsSketch self.old }
         requires fits { Fits Form.Hub (map (λ word. word.now) args.now) }
         requires most { length args.now ≤ MAX_HUB_NODES + 1 }
         ensures answer { Judged result self.new (state_hub self.old (map (λ word. word.now) args.now)) }
-        ensures kept { OnOk result (IsDraft self.new) }
+        ensures kept { OnOk result (IsSketch self.new) }
     {
         let name = name_at(Form::Hub, args, 0);
         match routers_named(&self.nodes, past(args, 1)) {
@@ -295,11 +295,11 @@ impl Draft {
         shape: &[Part],
         args: &[&[u8]],
     ) -> Result<(), LineError>
-        requires kept { IsDraft self.old }
+        requires kept { IsSketch self.old }
         requires fits { Fits Form.KissLink (map (λ word. word.now) args.now) }
         requires shape { FitsShape Form.KissLink shape.now (map (λ word. word.now) args.now) }
         ensures answer { Judged result self.new (state_link self.old (kiss_kind shape.now) (mtu_of shape.now (map (λ word. word.now) args.now)) (map (λ word. word.now) args.now)) }
-        ensures kept { OnOk result (IsDraft self.new) }
+        ensures kept { OnOk result (IsSketch self.new) }
     {
         let name = name_at(Form::KissLink, args, 0);
         let mtu = setting(Form::KissLink, Keyword::Mtu, shape, args).unwrap_or(DEFAULT_MTU);
@@ -313,11 +313,11 @@ impl Draft {
         shape: &[Part],
         args: &[&[u8]],
     ) -> Result<(), LineError>
-        requires kept { IsDraft self.old }
+        requires kept { IsSketch self.old }
         requires fits { Fits Form.CanLink (map (λ word. word.now) args.now) }
         requires shape { FitsShape Form.CanLink shape.now (map (λ word. word.now) args.now) }
         ensures answer { Judged result self.new (state_link self.old LinkKind.Can (mtu_of shape.now (map (λ word. word.now) args.now)) (map (λ word. word.now) args.now)) }
-        ensures kept { OnOk result (IsDraft self.new) }
+        ensures kept { OnOk result (IsSketch self.new) }
     {
         let name = name_at(Form::CanLink, args, 0);
         let mtu = setting(Form::CanLink, Keyword::Mtu, shape, args).unwrap_or(DEFAULT_MTU);
@@ -337,12 +337,12 @@ impl Draft {
     }
 
     fn add_routes(&mut self, place: usize, more: &Table) -> Result<(), LineError>
-        requires kept { IsDraft self.old }
+        requires kept { IsSketch self.old }
         requires node { place < length self.old.nodes }
         requires router { (node_at self.old.nodes place).addr ≢ None }
         requires within { IsWithin (length (links_at place self.old.links)) more.now }
         ensures answer { Judged result self.new (add_routes self.old (Some place) more.now) }
-        ensures kept { OnOk result (IsDraft self.new) }
+        ensures kept { OnOk result (IsSketch self.new) }
     {
         let Ok(()) = self.nodes[place].routes.extend(more) else {
             return Err(LineError::Kind(SceneKind::Full));
@@ -352,11 +352,11 @@ impl Draft {
 
     /// A `route` line, by its text and the place of its node.
     fn state_route_at(&mut self, text: &[u8], place: Option<usize>) -> Result<(), LineError>
-        requires kept { IsDraft self.old }
+        requires kept { IsSketch self.old }
         requires node { IfSome place (λ place. place < length self.old.nodes) }
         requires router { IfSome place (λ place. (node_at self.old.nodes place).addr ≢ None) }
         ensures answer { Judged result self.new (state_route_at self.old text.now place) }
-        ensures kept { OnOk result (IsDraft self.new) }
+        ensures kept { OnOk result (IsSketch self.new) }
     {
         let ifaces = self.known_ifaces(place);
         match Table::parse_bytes(text, &ifaces) {
@@ -370,10 +370,10 @@ impl Draft {
 
     /// A `route` line.
     pub(crate) fn state_route(&mut self, alloc: Global, args: &[&[u8]]) -> Result<(), LineError>
-        requires kept { IsDraft self.old }
+        requires kept { IsSketch self.old }
         requires fits { Fits Form.Route (map (λ word. word.now) args.now) }
         ensures answer { Judged result self.new (state_route self.old (map (λ word. word.now) args.now)) }
-        ensures kept { OnOk result (IsDraft self.new) }
+        ensures kept { OnOk result (IsSketch self.new) }
     {
         let Ok(text) = text_from(alloc, args, 1) else {
             return Err(LineError::NoMemory);

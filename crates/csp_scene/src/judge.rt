@@ -10,14 +10,14 @@ ghost use Rattle.csp_scene.specs.Arguments.{word_at};
 ghost use Rattle.csp_scene.specs.Rows.{begins, begins_step, begins_count, has_choice};
 ghost use Rattle.csp_scene.specs.Judge.{is_printable, fit, row_for, is_comment, judge_words, judge, is_passed_over, begins_app};
 ghost use Rattle.csp_text.specs.Cut.{words_of};
-ghost use Rattle.csp_scene.specs.Kept.{IsDraft, Fits, FitsShape, Judged};
+ghost use Rattle.csp_scene.specs.Kept.{IsSketch, Fits, FitsShape, Judged};
 
 use crate::arguments::word_at;
-use crate::draft::{Draft, LineError};
 use crate::limits::MAX_LINE;
 use crate::naming::is_hub_called;
 use crate::refusal::SceneKind;
-use crate::rows::Row;
+use crate::rows::FormRow;
+use crate::sketch::{LineError, Sketch};
 use crate::table::Form;
 use csp_text::words;
 use std::alloc::Global;
@@ -29,21 +29,21 @@ fn is_printable(line: &[u8]) -> bool
 }
 
 /// Whether a first word begins some line form.
-fn is_known(table: &[Row], first: &[u8]) -> bool
+fn is_known(table: &[FormRow], first: &[u8]) -> bool
     ensures { result ≡ list_any (begins first.now) table.now }
 {
     table.iter().any(|row| row.begins(first))
 }
 
 /// Whether a first word begins a step.
-fn is_step(table: &[Row], first: &[u8]) -> bool
+fn is_step(table: &[FormRow], first: &[u8]) -> bool
     ensures { result ≡ list_any (begins_step first.now) table.now }
 {
     table.iter().any(|row| row.begins_step(first))
 }
 
 /// Whether some choice of a first word's lines has so many further words.
-fn is_count(table: &[Row], first: &[u8], count: usize) -> bool
+fn is_count(table: &[FormRow], first: &[u8], count: usize) -> bool
     ensures { result ≡ list_any (begins_count first.now count) table.now }
 {
     table.iter().any(|row| row.begins_count(first, count))
@@ -51,7 +51,12 @@ fn is_count(table: &[Row], first: &[u8], count: usize) -> bool
 
 /// The first choice with this number of words that has its fixed words in their places, and may be
 /// of a line whose first argument is the name of a hub, or is not.
-fn choice<'a>(table: &'a [Row], on_hub: bool, first: &[u8], args: &[&[u8]]) -> Option<&'a Row>
+fn choice<'a>(
+    table: &'a [FormRow],
+    on_hub: bool,
+    first: &[u8],
+    args: &[&[u8]],
+) -> Option<&'a FormRow>
     ensures first { option_copied result ≡ find (λ row. suits on_hub row.form && has_choice first.now (map (λ word. word.now) args.now) row) table.now }
     ensures count { IfSome result (λ row. IsTrue (has_count row.now.shape (length args.now))) }
 {
@@ -61,12 +66,12 @@ fn choice<'a>(table: &'a [Row], on_hub: bool, first: &[u8], args: &[&[u8]]) -> O
 /// Which row a line is of, by its first word and the others; `in_app` says that a step may stand
 /// here, and `on_hub` that the first of the others is the name of a hub.
 fn row_for<'a>(
-    table: &'a [Row],
+    table: &'a [FormRow],
     in_app: bool,
     on_hub: bool,
     first: &[u8],
     args: &[&[u8]],
-) -> Result<&'a Row, SceneKind>
+) -> Result<&'a FormRow, SceneKind>
     ensures value { MatchResult result (λ row. row_for table.now in_app on_hub first.now (map (λ word. word.now) args.now) ≡ Ok row.now) (λ kind. row_for table.now in_app on_hub first.now (map (λ word. word.now) args.now) ≡ Err kind) }
     ensures fits { IfOk result (λ row. Fits row.now.form (map (λ word. word.now) args.now)) }
     ensures shape { IfOk result (λ row. FitsShape row.now.form row.now.shape (map (λ word. word.now) args.now)) }
@@ -101,7 +106,7 @@ fn is_comment(first: &[u8]) -> bool
 
 /// Whether a step may stand after a line with these words, where `in_app` says that one may stand
 /// before it.
-fn stays_in_app(table: &[Row], in_app: bool, words: &[&[u8]]) -> bool
+fn stays_in_app(table: &[FormRow], in_app: bool, words: &[&[u8]]) -> bool
     ensures { result ≡ (if is_passed_over table.now (map (λ word. word.now) words.now) then in_app else begins_app (map (λ word. word.now) words.now)) }
 {
     let Some(first) = words.first() else {
@@ -113,15 +118,15 @@ fn stays_in_app(table: &[Row], in_app: bool, words: &[&[u8]]) -> bool
     *first == Form::App.word()
 }
 
-impl Draft {
+impl Sketch {
     /// Which row a line is of, by its words and the hubs that there are.
     fn row_of<'a>(
         &self,
-        table: &'a [Row],
+        table: &'a [FormRow],
         in_app: bool,
         first: &[u8],
         args: &[&[u8]],
-    ) -> Result<&'a Row, SceneKind>
+    ) -> Result<&'a FormRow, SceneKind>
         ensures value { MatchResult result (λ row. row_for table.now in_app (is_hub_called (word_at (map (λ word. word.now) args.now) 0) self.now.links) first.now (map (λ word. word.now) args.now) ≡ Ok row.now) (λ kind. row_for table.now in_app (is_hub_called (word_at (map (λ word. word.now) args.now) 0) self.now.links) first.now (map (λ word. word.now) args.now) ≡ Err kind) }
         ensures fits { IfOk result (λ row. Fits row.now.form (map (λ word. word.now) args.now)) }
         ensures shape { IfOk result (λ row. FitsShape row.now.form row.now.shape (map (λ word. word.now) args.now)) }
@@ -134,13 +139,13 @@ impl Draft {
     fn judge_words(
         &mut self,
         alloc: Global,
-        table: &[Row],
+        table: &[FormRow],
         in_app: bool,
         words: &[&[u8]],
     ) -> Result<(), LineError>
-        requires { IsDraft self.old }
+        requires { IsSketch self.old }
         ensures answer { Judged result self.new (judge_words table.now in_app self.old (map (λ word. word.now) words.now)) }
-        ensures kept { OnOk result (IsDraft self.new) }
+        ensures kept { OnOk result (IsSketch self.new) }
     {
         let Some((first, args)) = words.split_first() else {
             return Ok(());
@@ -159,14 +164,14 @@ impl Draft {
     pub(crate) fn judge(
         &mut self,
         alloc: Global,
-        table: &[Row],
+        table: &[FormRow],
         in_app: bool,
         line: &[u8],
     ) -> Result<bool, LineError>
-        requires { IsDraft self.old }
+        requires { IsSketch self.old }
         ensures answer { Judged result self.new (judge table.now in_app self.old line.now) }
         ensures stays { IfOk result (λ stays. stays ≡ (if is_passed_over table.now (words_of line.now) then in_app else begins_app (words_of line.now))) }
-        ensures kept { OnOk result (IsDraft self.new) }
+        ensures kept { OnOk result (IsSketch self.new) }
     {
         if !is_printable(line) {
             return Err(LineError::Kind(SceneKind::Byte));

@@ -6,7 +6,6 @@
 
 mod arguments;
 mod checks;
-mod draft;
 mod faults;
 mod harm;
 mod joining;
@@ -21,6 +20,7 @@ mod rows;
 mod scenario;
 mod schedule;
 mod sharing;
+mod sketch;
 mod step_words;
 mod steps;
 mod table;

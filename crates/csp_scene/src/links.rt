@@ -37,30 +37,30 @@ impl Stated {
 
 /// A link in the making, and what its faults are of.
 #[derive(Drop)]
-pub(crate) struct LinkDraft {
+pub(crate) struct LinkSketch {
     link: SceneLink,
     stated: BTreeSet<Stated>,
 }
 
-impl Model for LinkDraft {
+impl Model for LinkSketch {
     ghost use Rattle.csp_scene.specs.Scene.{PlainLink};
 
     ghost Value = { PlainLink };
 
-    ghost view = { λ draft. draft.link };
+    ghost view = { λ sketch. sketch.link };
 
     ghost use Rattle.csp_scene.specs.Stated.{AreStated};
 
-    ghost invariant = { λ draft. AreStated draft.stated draft.link.plan };
+    ghost invariant = { λ sketch. AreStated sketch.stated sketch.link.plan };
 }
 
-impl LinkDraft {
+impl LinkSketch {
     /// A link without faults.
-    pub(crate) fn new(alloc: Global, link: SceneLink) -> LinkDraft
+    pub(crate) fn new(alloc: Global, link: SceneLink) -> LinkSketch
         requires { link.plan ≡ [] }
         ensures { result ≡ link }
     {
-        LinkDraft {
+        LinkSketch {
             link,
             stated: BTreeSet::new(alloc),
         }

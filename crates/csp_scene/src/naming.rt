@@ -8,7 +8,7 @@ ghost use Rattle.csp_scene.specs.Links.{links_at, node_at};
 ghost use Rattle.csp_scene.specs.Naming.{has_name, is_link_called, is_hub_called, is_called, is_router, node_named, router_named, link_named, app_named, iface_names, iface_named, is_name_taken, has_addr, is_addr_taken};
 
 use crate::limits::MAX_LINKS;
-use crate::links::LinkDraft;
+use crate::links::LinkSketch;
 use crate::scenario::{SceneApp, SceneNode};
 use arrayvec::ArrayVec;
 use csp_base::{Addr, Name};
@@ -41,14 +41,14 @@ pub(crate) fn router_named(nodes: &[SceneNode], name: &[u8]) -> Option<usize>
 }
 
 /// Whether a link has this name.
-fn is_link_called(link: &LinkDraft, name: &[u8]) -> bool
+fn is_link_called(link: &LinkSketch, name: &[u8]) -> bool
     ensures { result ≡ is_link_called name.now link.now }
 {
     link.name().as_bytes() == name
 }
 
 /// The place of the link of this name.
-pub(crate) fn link_named(links: &[LinkDraft], name: &[u8]) -> Option<usize>
+pub(crate) fn link_named(links: &[LinkSketch], name: &[u8]) -> Option<usize>
     ensures value { result ≡ link_named name.now links.now }
     ensures inside { IfSome result (λ place. place < length links.now) }
 {
@@ -56,14 +56,14 @@ pub(crate) fn link_named(links: &[LinkDraft], name: &[u8]) -> Option<usize>
 }
 
 /// Whether a link has this name.
-pub(crate) fn is_link_name(links: &[LinkDraft], name: &[u8]) -> bool
+pub(crate) fn is_link_name(links: &[LinkSketch], name: &[u8]) -> bool
     ensures { result ≡ list_any (is_link_called name.now) links.now }
 {
     links.iter().any(|link| is_link_called(link, name))
 }
 
 /// Whether a hub has this name.
-pub(crate) fn is_hub_called(links: &[LinkDraft], name: &[u8]) -> bool
+pub(crate) fn is_hub_called(links: &[LinkSketch], name: &[u8]) -> bool
     ensures { result ≡ is_hub_called name.now links.now }
 {
     links
@@ -94,7 +94,7 @@ fn is_node_name(nodes: &[SceneNode], name: &[u8]) -> bool
 }
 
 /// Whether a node, a bridge or a link has this name.
-pub(crate) fn is_name_taken(nodes: &[SceneNode], links: &[LinkDraft], name: &[u8]) -> bool
+pub(crate) fn is_name_taken(nodes: &[SceneNode], links: &[LinkSketch], name: &[u8]) -> bool
     ensures { result ≡ is_name_taken name.now nodes.now links.now }
 {
     is_node_name(nodes, name) || is_link_name(links, name)
@@ -128,7 +128,7 @@ pub(crate) fn is_addr_taken(nodes: &[SceneNode], addr: Option<Addr>) -> bool
 }
 
 /// How many links touch the node in a place: how many interfaces it has.
-pub(crate) fn iface_count(links: &[LinkDraft], place: usize) -> usize
+pub(crate) fn iface_count(links: &[LinkSketch], place: usize) -> usize
     ensures value { result ≡ length (links_at place links.now) }
     ensures most { result ≤ length links.now }
 {
@@ -136,7 +136,7 @@ pub(crate) fn iface_count(links: &[LinkDraft], place: usize) -> usize
 }
 
 /// The names of a node's interfaces, which are those of its links.
-pub(crate) fn iface_names(links: &[LinkDraft], place: usize) -> IfaceNames
+pub(crate) fn iface_names(links: &[LinkSketch], place: usize) -> IfaceNames
     requires { length links.now ≤ MAX_LINKS }
     ensures names { names_of result.items ≡ iface_names place links.now }
     ensures count { length result.items ≡ length (links_at place links.now) }
@@ -159,7 +159,7 @@ fn name_place(names: &[Name], word: &[u8]) -> Option<usize>
 }
 
 /// The interface of a node on the link of this name.
-pub(crate) fn iface_named(links: &[LinkDraft], place: usize, name: &[u8]) -> Option<usize>
+pub(crate) fn iface_named(links: &[LinkSketch], place: usize, name: &[u8]) -> Option<usize>
     requires { length links.now ≤ MAX_LINKS }
     ensures value { result ≡ iface_named name.now place links.now }
     ensures inside { IfSome result (λ iface. iface < length (links_at place links.now)) }

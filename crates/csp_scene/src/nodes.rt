@@ -8,19 +8,19 @@ ghost use Rattle.csp_app.specs.Placing.{plain_step};
 ghost use Rattle.csp_scene.specs.Ranges.{IsStep, IsNode, IsApp};
 ghost use Rattle.csp_scene.specs.Links.{node_at};
 ghost use Rattle.csp_scene.specs.Sharing.{excludes, AreUnmixed};
-ghost use Rattle.csp_scene.specs.Draft.{with_node};
+ghost use Rattle.csp_scene.specs.Sketch.{with_node};
 ghost use Rattle.csp_scene.specs.Nodes.{state_until, new_node, new_bridge, may_add_node, state_node, new_app, may_add_app, with_app_at, state_app, last_app, with_step_at, may_add_step, state_step};
 ghost use Rattle.csp_scene.specs.Steps.{send_step, raw_step};
-ghost use Rattle.csp_scene.specs.Kept.{IsDraft, Fits, FitsShape, Judged};
+ghost use Rattle.csp_scene.specs.Kept.{IsSketch, Fits, FitsShape, Judged};
 
 use crate::arguments::{bytes_at, name_at, number_at, setting};
-use crate::draft::{Draft, LineError};
 use crate::limits::{DEFAULT_INBOX, DEFAULT_SEED, MAX_NODES, MAX_STEPS};
-use crate::links::LinkDraft;
+use crate::links::LinkSketch;
 use crate::naming::{is_addr_taken, is_called, is_link_name, is_name_taken, router_named};
 use crate::refusal::SceneKind;
 use crate::scenario::{SceneApp, SceneNode};
 use crate::sharing::is_excluded;
+use crate::sketch::{LineError, Sketch};
 use crate::steps::{raw_step, send_step};
 use crate::table::{Form, Keyword, Part};
 use csp_app::{Script, Step};
@@ -72,7 +72,7 @@ pub(crate) fn new_bridge(alloc: Global, shape: &[Part], args: &[&[u8]]) -> Scene
 
 /// Whether an application may join these: Twice where its name is that of one of them or of a
 /// link, then Full.
-fn may_add_app(apps: &[SceneApp], links: &[LinkDraft], name: &Name) -> Result<(), SceneKind>
+fn may_add_app(apps: &[SceneApp], links: &[LinkSketch], name: &Name) -> Result<(), SceneKind>
     ensures value { result ≡ may_add_app apps.now links.now name.now.bytes }
     ensures room { OnOk result (length apps.now < MAX_APPS) }
 {
@@ -102,13 +102,13 @@ fn may_add_step(script: &Script, step: &Step<'_>) -> Result<(), SceneKind>
     Ok(())
 }
 
-impl Draft {
+impl Sketch {
     /// An `until` line.
     pub(crate) fn state_until(&mut self, args: &[&[u8]]) -> Result<(), LineError>
-        requires kept { IsDraft self.old }
+        requires kept { IsSketch self.old }
         requires fits { Fits Form.Until (map (λ word. word.now) args.now) }
         ensures answer { Judged result self.new (state_until self.old (map (λ word. word.now) args.now)) }
-        ensures kept { OnOk result (IsDraft self.new) }
+        ensures kept { OnOk result (IsSketch self.new) }
     {
         if self.until.is_some() {
             return Err(LineError::Kind(SceneKind::Twice));
@@ -135,12 +135,12 @@ impl Draft {
     }
 
     fn push_node(&mut self, node: SceneNode) -> Result<(), LineError>
-        requires kept { IsDraft self.old }
+        requires kept { IsSketch self.old }
         requires node { IsNode node }
         requires fresh { node.routes ≡ finite.empty }
         requires room { length self.old.nodes < MAX_NODES }
         ensures answer { Judged result self.new (Ok (with_node node self.old)) }
-        ensures kept { OnOk result (IsDraft self.new) }
+        ensures kept { OnOk result (IsSketch self.new) }
     {
         let Ok(()) = self.nodes.push(node) else {
             return Err(LineError::NoMemory);
@@ -150,11 +150,11 @@ impl Draft {
 
     /// A `node` or `bridge` line.
     pub(crate) fn state_node(&mut self, node: SceneNode) -> Result<(), LineError>
-        requires kept { IsDraft self.old }
+        requires kept { IsSketch self.old }
         requires node { IsNode node }
         requires fresh { node.routes ≡ finite.empty }
         ensures answer { Judged result self.new (state_node self.old node) }
-        ensures kept { OnOk result (IsDraft self.new) }
+        ensures kept { OnOk result (IsSketch self.new) }
     {
         match self.may_add_node(&node) {
             Ok(()) => self.push_node(node),
@@ -163,13 +163,13 @@ impl Draft {
     }
 
     fn push_app(&mut self, place: usize, app: SceneApp) -> Result<(), LineError>
-        requires kept { IsDraft self.old }
+        requires kept { IsSketch self.old }
         requires node { place < length self.old.nodes }
         requires router { (node_at self.old.nodes place).addr ≢ None }
         requires app { IsApp app }
         requires room { length (node_at self.old.nodes place).apps < MAX_APPS }
         ensures answer { Judged result self.new (Ok (with_app_at place app self.old)) }
-        ensures kept { OnOk result (IsDraft self.new) }
+        ensures kept { OnOk result (IsSketch self.new) }
     {
         let Ok(()) = self.nodes[place].apps.push(app) else {
             return Err(LineError::NoMemory);
@@ -180,10 +180,10 @@ impl Draft {
 
     /// An `app` line.
     pub(crate) fn state_app(&mut self, alloc: Global, args: &[&[u8]]) -> Result<(), LineError>
-        requires kept { IsDraft self.old }
+        requires kept { IsSketch self.old }
         requires fits { Fits Form.App (map (λ word. word.now) args.now) }
         ensures answer { Judged result self.new (state_app self.old (map (λ word. word.now) args.now)) }
-        ensures kept { OnOk result (IsDraft self.new) }
+        ensures kept { OnOk result (IsSketch self.new) }
     {
         let name = name_at(Form::App, args, 1);
         let Some(place) = router_named(&self.nodes, name_at(Form::App, args, 0).as_bytes()) else {
@@ -198,16 +198,16 @@ impl Draft {
         }
     }
 
-    #[tactic(auto, using(crate::proofs::Drafts::step_of_packet))]
+    #[tactic(auto, using(crate::proofs::Sketches::step_of_packet))]
     fn push_step(&mut self, place: usize, step: &Step<'_>) -> Result<(), LineError>
-        requires kept { IsDraft self.old }
+        requires kept { IsSketch self.old }
         requires node { place < length self.old.nodes }
         requires app { 1 ≤ length (node_at self.old.nodes place).apps }
         requires step { IsStep (plain_step step.now) }
         requires apart { list_any (excludes (plain_step step.now)) (last_app (node_at self.old.nodes place)).steps ≡ false }
         requires room { length (last_app (node_at self.old.nodes place)).steps < MAX_STEPS }
         ensures answer { Judged result self.new (Ok (with_step_at place (plain_step step.now) self.old)) }
-        ensures kept { OnOk result (IsDraft self.new) }
+        ensures kept { OnOk result (IsSketch self.new) }
     {
         let last = self.nodes[place].apps.len() - 1;
         let Ok(()) = self.nodes[place].apps[last].script.push(step) else {
@@ -218,10 +218,10 @@ impl Draft {
 
     /// A step line.
     pub(crate) fn state_step(&mut self, step: &Step<'_>) -> Result<(), LineError>
-        requires kept { IsDraft self.old }
+        requires kept { IsSketch self.old }
         requires step { IsStep (plain_step step.now) }
         ensures answer { Judged result self.new (state_step self.old (plain_step step.now)) }
-        ensures kept { OnOk result (IsDraft self.new) }
+        ensures kept { OnOk result (IsSketch self.new) }
     {
         let Some(place) = self.host else {
             return Err(LineError::Kind(SceneKind::Place));
@@ -236,10 +236,10 @@ impl Draft {
     /// A `send` line.
     #[inline(never)]
     pub(crate) fn state_send(&mut self, alloc: Global, args: &[&[u8]]) -> Result<(), LineError>
-        requires kept { IsDraft self.old }
+        requires kept { IsSketch self.old }
         requires fits { Fits Form.Send (map (λ word. word.now) args.now) }
         ensures answer { Judged result self.new (state_step self.old (send_step (map (λ word. word.now) args.now))) }
-        ensures kept { OnOk result (IsDraft self.new) }
+        ensures kept { OnOk result (IsSketch self.new) }
     {
         match bytes_at(alloc, args, 1) {
             Ok(bytes) => self.state_step(&send_step(args, &bytes)),
@@ -250,10 +250,10 @@ impl Draft {
     /// A `raw` line.
     #[inline(never)]
     pub(crate) fn state_raw(&mut self, alloc: Global, args: &[&[u8]]) -> Result<(), LineError>
-        requires kept { IsDraft self.old }
+        requires kept { IsSketch self.old }
         requires fits { Fits Form.Raw (map (λ word. word.now) args.now) }
         ensures answer { Judged result self.new (state_step self.old (raw_step (map (λ word. word.now) args.now))) }
-        ensures kept { OnOk result (IsDraft self.new) }
+        ensures kept { OnOk result (IsSketch self.new) }
     {
         match bytes_at(alloc, args, 1) {
             Ok(bytes) => self.state_step(&raw_step(args, &bytes)),

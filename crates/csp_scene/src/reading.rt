@@ -8,10 +8,10 @@ ghost use Rattle.csp_scene.specs.Kept.{AreLinksAfter, error_at};
 ghost use Rattle.csp_scene.specs.Naming.{AreNamedApart};
 ghost use Rattle.csp_scene.specs.declared.refusal.SceneKind.{SceneKind};
 
-use crate::draft::{Draft, LineError};
 use crate::refusal::SceneError;
 use crate::rows::all_rows;
 use crate::scenario::Scene;
+use crate::sketch::{LineError, Sketch};
 use csp_text::lines;
 use std::alloc::Global;
 
@@ -44,11 +44,11 @@ pub fn parse(alloc: Global, bytes: &[u8]) -> Result<Scene, SceneError>
     let Ok(lines) = lines(alloc, bytes) else {
         return Err(SceneError::NoMemory);
     };
-    let mut draft = Draft::new(alloc);
+    let mut sketch = Sketch::new(alloc);
     let mut number: u32 = 1;
     let mut in_app = false;
     for line in lines.iter() {
-        match draft.judge(alloc, &table, in_app, line) {
+        match sketch.judge(alloc, &table, in_app, line) {
             Ok(stays) => in_app = stays,
             Err(error) => return Err(error.at(number)),
         }
@@ -57,7 +57,7 @@ pub fn parse(alloc: Global, bytes: &[u8]) -> Result<Scene, SceneError>
         }
         number += 1;
     }
-    match draft.finish(alloc) {
+    match sketch.finish(alloc) {
         Ok(scene) => Ok(scene),
         Err(error) => Err(error.at(number)),
     }

@@ -3,7 +3,7 @@
 ghost use Rattle.std.specs.Prelude.{◌≡◌, ◌++◌, ◌==◌, ◌&&◌, ◌≤◌, List, Some, Ok, Err, IsTrue, IfOk, OnOk, MatchResult, length, map};
 ghost use Rattle.std.specs.Str.{bytes_eq};
 ghost use Rattle.csp_scene.specs.Table.{first_word, is_step, fixed_of, optional_of, with_options, shapes_of};
-ghost use Rattle.csp_scene.specs.Rows.{PlainRow, row_of, rows_of, all_rows, begins, begins_step, begins_count, has_choice};
+ghost use Rattle.csp_scene.specs.Rows.{PlainFormRow, row_of, rows_of, all_rows, begins, begins_step, begins_count, has_choice};
 ghost use Rattle.csp_scene.specs.Checks.{has_count};
 ghost use Rattle.csp_scene.specs.Judge.{fit};
 ghost use Rattle.csp_scene.specs.Kept.{IsOneOf, IsShapeOf, Fits, FitsShape};
@@ -16,23 +16,23 @@ use std::marker::Model;
 
 /// A line form with one choice of its optional words.
 #[derive(Drop)]
-pub(crate) struct Row {
+pub(crate) struct FormRow {
     form: Form,
     shape: Vec<Part>,
 }
 
-impl Model for Row {
-    ghost use Rattle.csp_scene.specs.Rows.{PlainRow};
+impl Model for FormRow {
+    ghost use Rattle.csp_scene.specs.Rows.{PlainFormRow};
     ghost use Rattle.csp_scene.specs.Kept.{IsShapeOf};
 
-    ghost Value = { PlainRow };
+    ghost Value = { PlainFormRow };
 
     ghost view = { λ row. record { form = row.form; shape = row.shape.items } };
 
     ghost invariant = { λ row. IsShapeOf row.form row.shape.items };
 }
 
-impl Row {
+impl FormRow {
     /// The form of its lines.
     pub(crate) fn form(&self) -> Form
         ensures { result ≡ self.now.form }
@@ -96,7 +96,7 @@ impl Row {
 /// Appends a row for each choice of the optional words.
 fn push_choices(
     alloc: Global,
-    rows: &mut Vec<Row>,
+    rows: &mut Vec<FormRow>,
     form: Form,
     shape: &[Part],
     optional: &[Group],
@@ -108,7 +108,7 @@ fn push_choices(
     match optional {
         [] => {
             let shape = Vec::from_slice(alloc, shape)?;
-            rows.push(Row { form, shape })?;
+            rows.push(FormRow { form, shape })?;
         }
         [group, more @ ..] => {
             push_choices(alloc, rows, form, shape, more)?;
@@ -120,14 +120,14 @@ fn push_choices(
 }
 
 /// Appends all rows of a form.
-fn push_rows(alloc: Global, rows: &mut Vec<Row>, form: Form) -> Result<(), AllocError>
+fn push_rows(alloc: Global, rows: &mut Vec<FormRow>, form: Form) -> Result<(), AllocError>
     ensures { OnOk result (rows.new.items ≡ rows.old.items ++ rows_of form) }
 {
     push_choices(alloc, rows, form, form.fixed(), form.optional())
 }
 
 /// The whole table.
-pub(crate) fn all_rows(alloc: Global) -> Result<Vec<Row>, AllocError>
+pub(crate) fn all_rows(alloc: Global) -> Result<Vec<FormRow>, AllocError>
     ensures { IfOk result (λ rows. rows.items ≡ all_rows) }
 {
     let mut rows = Vec::new(alloc);

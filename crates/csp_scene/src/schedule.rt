@@ -7,22 +7,22 @@ ghost use Rattle.csp_scene.specs.Scene.{shuffled, plain_schedule};
 ghost use Rattle.csp_scene.specs.Arguments.{number_at};
 ghost use Rattle.csp_scene.specs.Moves.{first_some, whole_move, owned_move, move_of};
 ghost use Rattle.csp_scene.specs.Schedule.{state_schedule, add_moves, state_moves};
-ghost use Rattle.csp_scene.specs.Kept.{IsDraft, Fits, Judged};
+ghost use Rattle.csp_scene.specs.Kept.{IsSketch, Fits, Judged};
 
 use crate::arguments::number_at;
-use crate::draft::{Draft, LineError};
 use crate::limits::{MAX_LINKS, MAX_NODES};
-use crate::links::LinkDraft;
+use crate::links::LinkSketch;
 use crate::naming::{app_named, iface_named, link_named, node_named};
 use crate::refusal::SceneKind;
 use crate::scenario::{Move, SceneNode, Schedule};
+use crate::sketch::{LineError, Sketch};
 use crate::step_words::{has_dot, owned_of, owner_of};
 use crate::table::Form;
 use csp_log::Who;
 use std::alloc::Global;
 
 /// The node, bridge or link of this name.
-fn whole_move(nodes: &[SceneNode], links: &[LinkDraft], name: &[u8]) -> Option<Move>
+fn whole_move(nodes: &[SceneNode], links: &[LinkSketch], name: &[u8]) -> Option<Move>
     requires few { length nodes.now ≤ MAX_NODES }
     requires few_links { length links.now ≤ MAX_LINKS }
     ensures value { result ≡ whole_move nodes.now links.now name.now }
@@ -38,7 +38,7 @@ fn whole_move(nodes: &[SceneNode], links: &[LinkDraft], name: &[u8]) -> Option<M
 }
 
 /// The interface of a node on the link of this name, or its application of this name.
-fn owned_move(nodes: &[SceneNode], links: &[LinkDraft], place: usize, name: &[u8]) -> Option<Move>
+fn owned_move(nodes: &[SceneNode], links: &[LinkSketch], place: usize, name: &[u8]) -> Option<Move>
     requires nodes { AllByRecursion IsNode nodes.now }
     requires few { length nodes.now ≤ MAX_NODES }
     requires few_links { length links.now ≤ MAX_LINKS }
@@ -57,7 +57,7 @@ fn owned_move(nodes: &[SceneNode], links: &[LinkDraft], place: usize, name: &[u8
 }
 
 /// The party that a step word names, or a tick.
-fn move_of(nodes: &[SceneNode], links: &[LinkDraft], word: &[u8]) -> Option<Move>
+fn move_of(nodes: &[SceneNode], links: &[LinkSketch], word: &[u8]) -> Option<Move>
     requires nodes { AllByRecursion IsNode nodes.now }
     requires few { length nodes.now ≤ MAX_NODES }
     requires few_links { length links.now ≤ MAX_LINKS }
@@ -79,7 +79,7 @@ fn move_of(nodes: &[SceneNode], links: &[LinkDraft], word: &[u8]) -> Option<Move
 /// Appends the moves of these step words, or says Unknown where one of them names nothing.
 fn push_moves(
     nodes: &[SceneNode],
-    links: &[LinkDraft],
+    links: &[LinkSketch],
     moves: &mut Vec<Move>,
     words: &[&[u8]],
 ) -> Result<(), LineError>
@@ -104,13 +104,13 @@ fn push_moves(
     Ok(())
 }
 
-impl Draft {
+impl Sketch {
     /// A `schedule` line that is the only one.
     pub(crate) fn state_schedule(&mut self, schedule: Schedule) -> Result<(), LineError>
-        requires kept { IsDraft self.old }
+        requires kept { IsSketch self.old }
         requires schedule { IsSchedule self.old.nodes self.old.links (plain_schedule schedule) }
         ensures answer { Judged result self.new (state_schedule self.old (plain_schedule schedule)) }
-        ensures kept { OnOk result (IsDraft self.new) }
+        ensures kept { OnOk result (IsSketch self.new) }
     {
         if self.schedule.is_some() {
             return Err(LineError::Kind(SceneKind::Twice));
@@ -121,19 +121,19 @@ impl Draft {
 
     /// A `schedule shuffle` line.
     pub(crate) fn state_shuffle(&mut self, args: &[&[u8]]) -> Result<(), LineError>
-        requires kept { IsDraft self.old }
+        requires kept { IsSketch self.old }
         requires fits { Fits Form.Shuffle (map (λ word. word.now) args.now) }
         ensures answer { Judged result self.new (state_schedule self.old (shuffled (number_at (map (λ word. word.now) args.now) 1))) }
-        ensures kept { OnOk result (IsDraft self.new) }
+        ensures kept { OnOk result (IsSketch self.new) }
     {
         self.state_schedule(Schedule::Shuffle(number_at(Form::Shuffle, args, 1)))
     }
 
     /// A `schedule steps` line, by its step words.
     pub(crate) fn state_moves(&mut self, alloc: Global, words: &[&[u8]]) -> Result<(), LineError>
-        requires kept { IsDraft self.old }
+        requires kept { IsSketch self.old }
         ensures answer { Judged result self.new (state_moves self.old (map (λ word. word.now) words.now)) }
-        ensures kept { OnOk result (IsDraft self.new) }
+        ensures kept { OnOk result (IsSketch self.new) }
     {
         let (is_other, mut moves) = match self.schedule.take() {
             None => (false, Vec::new(alloc)),

@@ -11,10 +11,10 @@ use Rattle.csp_app.specs.PlainStep.{PlainStep}
 use Rattle.csp_app.specs.Slots.{slot_at}
 use Rattle.csp_app.specs.Steps.{answered, answered_by, batch, gives_up, has_passed, is_enough, plan_of, pushed_one, received, recv_end, satisfied, turn_of, wait_end}
 use Rattle.csp_app.specs.Telling.{at_rest, tells}
-use Rattle.csp_app.specs.Told.{Told, over, still}
+use Rattle.csp_app.specs.ToldApp.{ToldApp, over, still}
 use Rattle.csp_app.specs.Turn.{rests, giving_op, op_of, popped, pushing_op, told_of, until_told}
-use Rattle.csp_app.specs.declared.plan.Plan.TheVariants as plan
-use Rattle.csp_app.specs.declared.plan.Plan.{Plan}
+use Rattle.csp_app.specs.declared.plan.AppPlan.TheVariants as plan
+use Rattle.csp_app.specs.declared.plan.AppPlan.{AppPlan as Plan}
 use Rattle.csp_buffer.specs.Content.{Content}
 use Rattle.csp_log.specs.Weights.{item_bytes}
 use Rattle.csp_log.specs.declared.note.Note.TheVariants as note
@@ -146,7 +146,7 @@ batch_short [] done number all = omega arith
 batch_short (s ∷ steps) zero number all = All-head IsShortStep s steps all number
 batch_short (s ∷ steps) (suc done) number all = batch_short steps done number (All-tail IsShortStep s steps all)
 
-rests_light : (s : PlainApp) (t : Told) (a : AnswerShown) → IsLightApp t.state → IsLightApp s → IsLightApp (told_of s (rests t) a).state
+rests_light : (s : PlainApp) (t : ToldApp) (a : AnswerShown) → IsLightApp t.state → IsLightApp s → IsLightApp (told_of s (rests t) a).state
 rests_light s t answer.Nothing done h = done
 rests_light s t a done h = h
 

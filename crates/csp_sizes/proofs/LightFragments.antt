@@ -12,7 +12,7 @@ use Rattle.csp_can.specs.Begins.{begin_length}
 use Rattle.csp_can.specs.Fragments.{begin_bytes, first_head, fragments_of, frames_after, more_frame, more_frames}
 use Rattle.csp_can.specs.Frames.{Frame as CanPart, written}
 use Rattle.csp_can.specs.Identifiers.{key_of, same_key}
-use Rattle.csp_can.specs.Listening.{Listening, answered, heard as listened}
+use Rattle.csp_can.specs.Listening.{Listening, answered, listened}
 use Rattle.csp_can.specs.Open.{counters, done, fresh, gone_on, remove_first, ruling, standing, without}
 use Rattle.csp_can.specs.Rules.{Arrival, Deed, begin_ruling, ends, goes_on, grown_partial, leaves, measured, more_ruling, opened_partial, opens, ruling_of}
 use Rattle.csp_can.specs.declared.answers.CanEvent.{CanEvent}

@@ -15,13 +15,13 @@ use Rattle.csp_iface.specs.Heeding.{is_for}
 use Rattle.csp_iface.specs.Links.{receiver_for}
 use Rattle.csp_iface.specs.PlainIface.{PlainIface, opening}
 use Rattle.csp_iface.specs.Planning.{plan_of}
-use Rattle.csp_iface.specs.Receiving.{Heard, arrived, followed, heard, heard_by, read_further, reassembled, traced}
+use Rattle.csp_iface.specs.Receiving.{Heard, arrived, followed, frame_heard, heard_by, read_further, reassembled, traced}
 use Rattle.csp_iface.specs.Sending.{frames_of, kiss_frame, next_node, sent_trace}
 use Rattle.csp_iface.specs.Telling as telling
 use Rattle.csp_iface.specs.Telling.{tells}
-use Rattle.csp_iface.specs.declared.packet.Packet.{Packet}
-use Rattle.csp_iface.specs.declared.plan.Plan.TheVariants as plan
-use Rattle.csp_iface.specs.declared.plan.Plan.{Plan}
+use Rattle.csp_iface.specs.declared.packet.WholePacket.{WholePacket}
+use Rattle.csp_iface.specs.declared.plan.IfacePlan.TheVariants as plan
+use Rattle.csp_iface.specs.declared.plan.IfacePlan.{IfacePlan}
 use Rattle.csp_iface.specs.declared.receiver.Receiver.TheVariants as by
 use Rattle.csp_iface.specs.declared.receiver.Receiver.{Receiver}
 use Rattle.csp_iface.specs.declared.receiver.TheConstants.{MAX_HOPS}
@@ -56,7 +56,7 @@ transmitted_op : (number : ℕ) (fs : List Frame) → All IsLightFrame fs → Is
 transmitted_op number [] all = tt
 transmitted_op number (f ∷ fs) all = All-head IsLightFrame f fs all
 
-op_light : (s : PlainIface) (p : Plan) → IsLightIface s → IsLightOp (op_of s p)
+op_light : (s : PlainIface) (p : IfacePlan) → IsLightIface s → IsLightOp (op_of s p)
 op_light s plan.Rest h = tt
 op_light s plan.Return h = given_light s.back h.back
 op_light s plan.Deliver h = delivered_op s.number s.accepted h.accepted
@@ -69,7 +69,7 @@ pub asks_light : (s : PlainIface) (time : ℕ) → IsLightIface s → IsLightOp 
 asks_light s time h = op_light s (plan_of s) h
 
 -- and what it is then
-handed_iface : (s : PlainIface) (p : Plan) → IsLightIface s → IsLightIface (handed s p)
+handed_iface : (s : PlainIface) (p : IfacePlan) → IsLightIface s → IsLightIface (handed s p)
 handed_iface s plan.Rest h = h
 handed_iface s plan.Return h = record { mtu = h.mtu; back = tt; sending = h.sending; frames = h.frames; receiver = h.receiver; whole = h.whole; accepted = h.accepted }
 handed_iface s plan.Deliver h = record { mtu = h.mtu; back = h.back; sending = h.sending; frames = h.frames; receiver = h.receiver; whole = h.whole; accepted = tt }
@@ -126,7 +126,7 @@ heard_by_light : (now : ℕ) (r : Receiver) (f : Frame) → IsLightReceiver r �
 heard_by_light now (by.Kiss s) f h = record { receiver = h; whole = tt }
 heard_by_light now (by.Can l) f h = reassembled_light l (arrival (identifier_of (unwrap_or f.can 0)) f.bytes.items (arrived f.trace) now) h
 
-heard_light : (now : ℕ) (r : Receiver) (f : Frame) → IsLightReceiver r → IsLightHeard (heard now r f)
+heard_light : (now : ℕ) (r : Receiver) (f : Frame) → IsLightReceiver r → IsLightHeard (frame_heard now r f)
 heard_light now r f h = go (f.trace.hops == MAX_HOPS)
   where
     go : (b : Bool) → IsLightHeard (if b then record { receiver = r; whole = None; refused = 1 } else heard_by now r f)
@@ -137,7 +137,7 @@ caught_light : (now : ℕ) (i : ItemShown) (s : PlainIface) → IsLightIface s �
 caught_light now (item.Frame f) s h =
     by (is_for s.heeds f)
   where
-    by : (b : Bool) → IsLightIface (telling.hearing (if b then heard now s.receiver f else telling.unmoved s) s).iface
+    by : (b : Bool) → IsLightIface (telling.hearing (if b then frame_heard now s.receiver f else telling.unmoved s) s).iface
     by true =
         let x = heard_light now s.receiver f h.receiver in
         record { mtu = h.mtu; back = h.back; sending = h.sending; frames = h.frames; receiver = x.receiver; whole = x.whole; accepted = h.accepted }
@@ -152,7 +152,7 @@ packet_back (item.Packet mark b) h = h
 packet_back (item.Frame f) h = tt
 packet_back (item.Note n) h = tt
 
-filled_light : (o : Option Packet) (b : Content) → IfSome o (λ p. length p.payload.items ≤ 531) → IsLight b → IsLight (telling.filled o b)
+filled_light : (o : Option WholePacket) (b : Content) → IfSome o (λ p. length p.payload.items ≤ 531) → IsLight b → IsLight (telling.filled o b)
 filled_light None b short light = light
 filled_light (Some p) b short light = short
 
@@ -165,7 +165,7 @@ kept_iface (item.Frame f) s light h = record { mtu = h.mtu; back = h.back; sendi
 kept_iface (item.Packet mark b) s light h = h
 kept_iface (item.Note n) s light h = h
 
-told_by_light : (s : PlainIface) (now : ℕ) (p : Plan) (a : AnswerShown) → IfSome (item_in a) (λ i. item_bytes i ≤ 531) → IfSome (buffer_in a) IsLight → IsLightIface s → IsLightIface (telling.told_by s now p a).iface
+told_by_light : (s : PlainIface) (now : ℕ) (p : IfacePlan) (a : AnswerShown) → IfSome (item_in a) (λ i. item_bytes i ≤ 531) → IfSome (buffer_in a) IsLight → IsLightIface s → IsLightIface (telling.told_by s now p a).iface
 told_by_light s now plan.Return answer.Given items buffers h = h
 told_by_light s now plan.Return (answer.PoolFull b) items buffers h = record { mtu = h.mtu; back = buffers; sending = h.sending; frames = h.frames; receiver = h.receiver; whole = h.whole; accepted = h.accepted }
 told_by_light s now plan.Deliver answer.Pushed items buffers h = h

@@ -10,7 +10,7 @@ use Rattle.csp_link.specs.Copies.{copies_of, damaged, flipped, held_copies, held
 use Rattle.csp_link.specs.Fates.{fate_at}
 use Rattle.csp_link.specs.Holding.{first_due}
 use Rattle.csp_link.specs.PlainLink.{PlainDirection, PlainLink, direction, in_turn, opening, with_direction}
-use Rattle.csp_link.specs.Planning.{Plan, first_rule, plan_of, pop, push, wait}
+use Rattle.csp_link.specs.Planning.{LinkPlan, first_rule, plan_of, pop, push, wait}
 use Rattle.csp_link.specs.Telling as telling
 use Rattle.csp_link.specs.Telling.{tells}
 use Rattle.csp_link.specs.declared.doing.Doing.TheVariants as doing
@@ -45,7 +45,7 @@ due_from now n (h ∷ held) all = go (nat_le h.due now) (due_from now (n + 1) he
     go true rest = All-head IsLightHeld h held all
     go false rest = rest
 
-abbrev IsLightPlan : Plan → Type 0
+abbrev IsLightPlan : LinkPlan → Type 0
 IsLightPlan (push place h) = IsLightFrame h.frame
 IsLightPlan pop = ⊤
 IsLightPlan wait = ⊤
@@ -66,7 +66,7 @@ with_light l Back d way x one h = record { forth = h.forth; back = one }
 plan_light : (l : PlainLink) (time : ℕ) → IsLightLink l → IsLightPlan (plan_of l time)
 plan_light l time h = rule_light (first_due time (in_turn l).held) (nat_le (length (in_turn l).held) MOST_HELD) (due_from time 0 (in_turn l).held (direction_light l l.way h))
 
-op_light : (w : Way) (p : Plan) → IsLightPlan p → IsLightOp (op_of w p)
+op_light : (w : Way) (p : LinkPlan) → IsLightPlan p → IsLightOp (op_of w p)
 op_light w (push place f) h = h
 op_light w pop h = tt
 op_light w wait h = tt
@@ -74,7 +74,7 @@ op_light w wait h = tt
 pub asks_light : (l : PlainLink) (time : ℕ) → IsLightLink l → IsLightOp (asks l time)
 asks_light l time h = op_light l.way (plan_of l time) (plan_light l time h)
 
-handed_light : (p : Plan) (d : PlainDirection) → IsLightDirection d → IsLightDirection (handed p d)
+handed_light : (p : LinkPlan) (d : PlainDirection) → IsLightDirection d → IsLightDirection (handed p d)
 handed_light (push place f) d h = All-append IsLightHeld (take place d.held) (drop (suc place) d.held) (All-take IsLightHeld place d.held h) (All-drop IsLightHeld (suc place) d.held h)
 handed_light pop d h = h
 handed_light wait d h = h

@@ -13,13 +13,13 @@ use Rattle.csp_rdp.proofs.Public.{whole-again, whole-delivered, whole-handed, wh
 use Rattle.csp_rdp.specs.Holding.{recv_rested, rested}
 use Rattle.csp_rdp.specs.Jobs.{admitting, closed_in, closing, delivering, delivery, delivery_in, keeping_again, reset_after, sending_index, sent, taken_in, ticked, timed_out, without_delivery}
 use Rattle.csp_rdp.specs.Machine.{PlainRdp, accepting, broken, connecting, idle, left, owes_rst}
-use Rattle.csp_rdp.specs.Table.{acknowledged, after, back_of, entered, entered_from, handed, keeping, listing, row_in}
+use Rattle.csp_rdp.specs.Table.{acknowledged, after, back_of, entered, entered_from, after_packet, keeping, listing, row_in}
 use Rattle.csp_rdp.specs.declared.answers.State.TheVariants.{Closed, SynSent, SynRcvd, Open, CloseWait}
 use Rattle.csp_rdp.specs.declared.answers.State.{State}
 use Rattle.csp_rdp.specs.declared.jobs.Job.TheVariants as job
 use Rattle.csp_rdp.specs.declared.jobs.Job.{Job}
-use Rattle.csp_rdp.specs.declared.rows.Row.TheVariants as row
-use Rattle.csp_rdp.specs.declared.rows.Row.{Row}
+use Rattle.csp_rdp.specs.declared.rows.StateRow.TheVariants as row
+use Rattle.csp_rdp.specs.declared.rows.StateRow.{StateRow}
 use Rattle.csp_rdp_header.specs.Numbers.{numbers_of}
 use Rattle.csp_rdp_header.specs.declared.head.RdpHead.{RdpHead}
 use Rattle.csp_rdp_header.specs.declared.options.Options.{Options}
@@ -147,7 +147,7 @@ awaited_near w t e narrow = go (nat_lt w.cur t) (nat_le t (w.cur + 2 * w.window)
     go true false p q = cc
     go true true p q = let low = leb-true t (w.cur + 2 * w.window) p in omega (arith, low, narrow)
 
-sized_after : (y : Row) (h : RdpHead) (tag : Option Tag) (p : PlainBuffer) (time : ℕ) (r : PlainRdp) → row_in r.state r h p.picture.payload ≡ y → IsLight p.picture → IsSized r → IsSized (after y h tag p time r)
+sized_after : (y : StateRow) (h : RdpHead) (tag : Option Tag) (p : PlainBuffer) (time : ℕ) (r : PlainRdp) → row_in r.state r h p.picture.payload ≡ y → IsLight p.picture → IsSized r → IsSized (after y h tag p time r)
 sized_after row.Stray h tag p time r e light z = z
 sized_after row.Refused h tag p time r e light z = sized_left Closed time r z
 sized_after row.Answered h tag p time r e light z = record { sends = z.sends; keeps = All-nil (IsLightKept 0); narrow = z.options; options = z.options }
@@ -166,14 +166,14 @@ sized_after (row.Data t) h tag p time r e light z =
     let near : t ≤ (entered time r).recv.cur + 41 = subst (λ (w : PlainRecv). t ≤ w.cur + 41) (sym (entered-recv r.state time r)) (awaited_near r.recv t fresh.awaited z.narrow) in
     sized_keeping t p (acknowledged h.ack.0 time (entered time r)) near light (sized_acknowledged h.ack.0 time (entered time r) (sized_entered r.state time r z))
 
-pub handed_light : (h : RdpHead) (tag : Option Tag) (p : PlainBuffer) (time : ℕ) (r : PlainRdp) → IsLight p.picture → IsLightMachine r → IsLightMachine (handed h tag p time r)
+pub handed_light : (h : RdpHead) (tag : Option Tag) (p : PlainBuffer) (time : ℕ) (r : PlainRdp) → IsLight p.picture → IsLightMachine r → IsLightMachine (after_packet h tag p time r)
 handed_light h tag p time r light z = record {
   whole = whole-handed (row_in r.state r h p.picture.payload) h tag p time r refl z.whole;
   sized = sized_after (row_in r.state r h p.picture.payload) h tag p time r refl light z.sized;
 }
 
 -- and what comes back is the packet
-pub back_light : (y : Row) (p : PlainBuffer) → IsLight p.picture → IfSome (back_of y p) (λ b. IsLight b.picture)
+pub back_light : (y : StateRow) (p : PlainBuffer) → IsLight p.picture → IfSome (back_of y p) (λ b. IsLight b.picture)
 back_light row.Stray p light = light
 back_light row.Refused p light = light
 back_light row.Answered p light = light

@@ -33,13 +33,13 @@ use Rattle.csp_rdp.specs.Changes.{change_between}
 use Rattle.csp_rdp.specs.Holding.{rdp_buffers, rested}
 use Rattle.csp_rdp.specs.Jobs.{admitting, closing, head_for, delivering, delivery_in, taken_in, ticked, without_delivery, says}
 use Rattle.csp_rdp.specs.Machine.{PlainRdp, idle}
-use Rattle.csp_rdp.specs.Table.{back_of, handed, row_of, is_stray}
+use Rattle.csp_rdp.specs.Table.{back_of, after_packet, row_of, is_stray}
 use Rattle.csp_rdp.specs.declared.answers.Change.TheVariants as change
 use Rattle.csp_rdp.specs.declared.answers.Change.{Change}
 use Rattle.csp_rdp.specs.declared.answers.State.TheVariants.{Closed, SynSent, SynRcvd, Open, CloseWait}
 use Rattle.csp_rdp.specs.declared.answers.State.{State}
-use Rattle.csp_rdp.specs.declared.answers.Why.TheVariants as machine_why
-use Rattle.csp_rdp.specs.declared.answers.Why.{Why}
+use Rattle.csp_rdp.specs.declared.answers.Cause.TheVariants as machine_why
+use Rattle.csp_rdp.specs.declared.answers.Cause.{Cause}
 use Rattle.csp_rdp.specs.declared.jobs.Job.{Job}
 use Rattle.csp_rdp_header.specs.Head.{head_bytes}
 use Rattle.csp_rdp_header.specs.declared.head.RdpHead.{RdpHead}
@@ -103,7 +103,7 @@ connected_light wish.Nothing app slot p h = h
 connected_light wish.End app slot p h = h
 connected_light wish.Ended app slot p h = h
 
-refused_light : (w : Wish) (why : Why) (app slot : ℕ) (p : PlainPorts) → ArePorts p → Comes (refused_by w why app slot p)
+refused_light : (w : Wish) (why : Cause) (app slot : ℕ) (p : PlainPorts) → ArePorts p → Comes (refused_by w why app slot p)
 refused_light wish.Connection why app slot p h = let c = given_up_light app slot p h in record { ports = c.ports; loose = All-append IsLight (given_up app slot p).loose [] c.loose (All-nil IsLight) }
 refused_light wish.Nothing why app slot p h = given_up_light app slot p h
 refused_light wish.End why app slot p h = given_up_light app slot p h
@@ -123,7 +123,7 @@ changed_light (change.Refused why) app slot p h = refused_light (terms_at p app 
 changed_light change.Down app slot p h = record { ports = h; loose = All-nil IsLight }
 changed_light change.Closed app slot p h = closed_light (terms_at p app slot).wish (machine_at p app slot).was_open app slot p h
 
-went_light : (before : State) (why : Why) (app slot : ℕ) (r : PlainRdp) (p : PlainPorts) → IsLightMachine r → ArePorts p → Comes (went before why app slot r p)
+went_light : (before : State) (why : Cause) (app slot : ℕ) (r : PlainRdp) (p : PlainPorts) → IsLightMachine r → ArePorts p → Comes (went before why app slot r p)
 went_light before why app slot r p one h =
     comes_then (stepped app slot r p) (changed (change_between before r.state why) app slot) (stepped_light app slot r p one h)
     (λ q k. changed_light (change_between before r.state why) app slot q k)
@@ -195,7 +195,7 @@ pub handing_light : (p : PlainPorts) (app slot : ℕ) (head : RdpHead) (b : Cont
 handing_light p app slot head b time light h =
     let r = machine_at p app slot in
     let y = row_of r head b.payload in
-    let next = handed head b.trace.tag (anywhere b) time r in
+    let next = after_packet head b.trace.tag (anywhere b) time r in
     let third : PlainPorts → Came = λ q. come (settled time app q) in
     let second : PlainPorts → Came = λ q. then (dropped app q) third in
     let first : PlainPorts → Came = λ q. then (went r.state machine_why.Reset app slot next q) second in

@@ -7,7 +7,7 @@ use Rattle.std.specs.List.{All, flat_map}
 use Rattle.std.specs.Prelude.{⊤, ◌==◌, IfOk, IfSome, if◌then◌else◌, nat_lt, replicate, slice_range}
 use Rattle.arrayvec.specs.ArrayVec.{ArrayVec}
 use Rattle.csp_cmp.specs.Codes.{code_of}
-use Rattle.csp_cmp.specs.Reading.{by_code, chunk_of, counted, decoded, if_few, if_whole, need_of, read_as}
+use Rattle.csp_cmp.specs.Reading.{by_code, chunk_of, count_or_zero, decoded, if_few, if_whole, need_of, read_as}
 use Rattle.csp_cmp.specs.Replies.{ident_bytes, padded, peek_bytes, same_bytes, stats_bytes}
 use Rattle.csp_cmp.specs.declared.code.Code.TheVariants as code
 use Rattle.csp_cmp.specs.declared.code.Code.{Code}
@@ -47,7 +47,7 @@ IsSmall (Peek addr len) = len ≤ 200
 IsSmall (Poke addr bytes) = length bytes.items ≤ 200
 IsSmall (Clock sec nsec) = ⊤
 
-counted_few : (o : Option ℕ) → IfSome o (λ n. n ≤ 200) → counted o ≤ 200
+counted_few : (o : Option ℕ) → IfSome o (λ n. n ≤ 200) → count_or_zero o ≤ 200
 counted_few None h = omega arith
 counted_few (Some n) h = h
 
@@ -58,7 +58,7 @@ read_small code.Stats bytes h = take_few 11 (drop 2 bytes)
 read_small code.Peek bytes h = counted_few (slice_get bytes 6) h
 read_small code.Poke bytes h =
     let few = counted_few (slice_get bytes 6) h in
-    let taken = take_few (counted (slice_get bytes 6)) (drop 7 bytes) in
+    let taken = take_few (count_or_zero (slice_get bytes 6)) (drop 7 bytes) in
     omega (arith, few, taken)
 read_small code.Clock bytes h = tt
 

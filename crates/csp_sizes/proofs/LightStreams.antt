@@ -8,7 +8,7 @@ use Rattle.csp_crc.specs.Crc.{crc_of}
 use Rattle.csp_kiss.proofs.Public.{ended, going_on, read_step}
 use Rattle.csp_kiss.specs.Frame.{covered, escape_of, escaped, frame}
 use Rattle.csp_kiss.specs.GoingOn.{Progress, packet_of, read_on}
-use Rattle.csp_kiss.specs.Reading.{Reading, after, answer, answers, continued, going, kept, told}
+use Rattle.csp_kiss.specs.Reading.{Reading, after, answer, answers, continued, going, kept_bytes, told}
 use Rattle.csp_kiss.specs.Stream.{compared, judged}
 use Rattle.csp_kiss.specs.declared.TheConstants.{FEND, FESC, TFEND, TFESC}
 use Rattle.csp_kiss.specs.declared.event.KissEvent.TheVariants.{Packet, TooLong, Short, BadCrc}
@@ -65,7 +65,7 @@ continued_same r Start byte = refl
 continued_same r Escape byte = refl
 continued_same r Plain byte = go (byte == FESC)
   where
-    go : (b : Bool) → (if b then going r Escape r.plain else going r Plain (kept r.mtu r.plain (byte ∷ []))).mtu ≡ r.mtu
+    go : (b : Bool) → (if b then going r Escape r.plain else going r Plain (kept_bytes r.mtu r.plain (byte ∷ []))).mtu ≡ r.mtu
     go true = refl
     go false = refl
 

@@ -5,7 +5,7 @@ ghost use Rattle.std.specs.Option.{option_map};
 ghost use Rattle.csp_base.specs.declared.limits.TheConstants.{MAX_PAYLOAD};
 ghost use Rattle.csp_crc.specs.Crc.{crc_of};
 ghost use Rattle.csp_kiss.specs.Frame.{covered};
-ghost use Rattle.csp_kiss.specs.Reading.{going, kept, told, unread};
+ghost use Rattle.csp_kiss.specs.Reading.{going, kept_bytes, told, unread};
 ghost use Rattle.csp_kiss.specs.Stream.{judged};
 ghost use Rattle.csp_kiss.specs.declared.stage.Stage as kiss;
 ghost use Rattle.csp_tap.specs.Pieces.{event_of, gone_on, gone_through};
@@ -137,7 +137,7 @@ impl Piece {
 
     /// Keeps bytes, as far as there is room.
     fn keep(&mut self, bytes: &[u8])
-        ensures { self.new ≡ going self.old self.old.stage (kept MAX_PAYLOAD self.old.plain bytes.now) }
+        ensures { self.new ≡ going self.old self.old.stage (kept_bytes MAX_PAYLOAD self.old.plain bytes.now) }
     {
         let fit = (ROOM - self.plain.len()).min(bytes.len());
         put(&mut self.plain, &bytes[..fit]);

@@ -11,7 +11,7 @@ use Rattle.csp_record.specs.Connections.{opened_by, openings}
 use Rattle.csp_top.specs.Prefix.{OpensNumbered, TellsNumbered}
 use Rattle.csp_record.specs.Record.{PlainPartyLog}
 use Rattle.csp_record.specs.declared.connections.Opening.{Opening}
-use Rattle.csp_record.specs.declared.payloads.Way.TheVariants as way
+use Rattle.csp_record.specs.declared.payloads.Transfer.TheVariants as way
 use Rattle.csp_log.specs.declared.who.Who.{Who}
 use Rattle.csp_record.proofs.Public.{Ends, ended, no_ends, openings_after, openings_are}
 use Rattle.csp_report.specs.Parties.{entries_of}

@@ -13,7 +13,7 @@ use Rattle.csp_words.specs.declared.grammar.Command.{Command}
 use Rattle.csp_words.specs.declared.grammar.Command.TheVariants.{Sim, Run, Gen, Tap}
 use Rattle.csp_words.specs.declared.grammar.TheConstants.{DEFAULT_WORKERS, MAX_WORKERS}
 use Rattle.csp_words.specs.declared.grammar.WordsError.TheVariants.{Grammar}
-use Rattle.csp_words.specs.Grammar.{Row, sim_row, run_words, run_row, tap_words, tap_row, apart_words, apart_row, apart_rows, joined_words, joined_row, joined_rows, gen_words, gen_row, gen_rows, are_words, found_in, command_of, AreRun, AreGen}
+use Rattle.csp_words.specs.Grammar.{GrammarRow, sim_row, run_words, run_row, tap_words, tap_row, apart_words, apart_row, apart_rows, joined_words, joined_row, joined_rows, gen_words, gen_row, gen_rows, are_words, found_in, command_of, AreRun, AreGen}
 
 -- the test of words is equality
 pub words_same : (a b : List (List ℕ)) → are_words a b ≡ true → a ≡ b
@@ -47,18 +47,18 @@ other_words a b h = by_test (are_words a b) refl
 texts_differ : (x y : List ℕ) → bytes_eq x y ≡ false → x ≢ y
 texts_differ x y apart e = let same : bytes_eq x y ≡ true = (bytes_eq-Decides x y).1 e in cc
 
-first_row : (row : Row) (more : List Row) (words : List (List ℕ)) → words ≡ row.0 → found_in (row ∷ more) words ≡ Ok row.1
+first_row : (row : GrammarRow) (more : List GrammarRow) (words : List (List ℕ)) → words ≡ row.0 → found_in (row ∷ more) words ≡ Ok row.1
 first_row row more words e = ap (λ t. cond t (Ok row.1) (found_in more words)) (subst (λ (b : List (List ℕ)). are_words words b ≡ true) e (words_meet words))
 
-later_row : (row : Row) (more : List Row) (words : List (List ℕ)) → words ≢ row.0 → found_in (row ∷ more) words ≡ found_in more words
+later_row : (row : GrammarRow) (more : List GrammarRow) (words : List (List ℕ)) → words ≢ row.0 → found_in (row ∷ more) words ≡ found_in more words
 later_row row more words h = ap (λ t. cond t (Ok row.1) (found_in more words)) (other_words words row.0 h)
 
 -- no two numbers have the same words
-abbrev AreApart : (ℕ → Row) → Type 0
+abbrev AreApart : (ℕ → GrammarRow) → Type 0
 AreApart row = (p a : ℕ) → p < 2 ^ 64 → a < 2 ^ 64 → (row p).0 ≡ (row a).0 → p ≡ a
 
 -- the rows from a number on: the words that one of them has
-hit : (row : ℕ → Row) → AreApart row → (more : List Row) (a n p : ℕ) → a ≤ p → p < a + n → a + n < 2 ^ 64 → found_in (map row (range_with_len a n) ++ more) (row p).0 ≡ Ok (row p).1
+hit : (row : ℕ → GrammarRow) → AreApart row → (more : List GrammarRow) (a n p : ℕ) → a ≤ p → p < a + n → a + n < 2 ^ 64 → found_in (map row (range_with_len a n) ++ more) (row p).0 ≡ Ok (row p).1
 hit row apart more a zero p low high small = absurd (omega arith)
 hit row apart more a (suc n) p low high small =
     elim (cases_lt a p) [
@@ -69,21 +69,21 @@ hit row apart more a (suc n) p low high small =
     ]
 
 -- and those that none of them has
-miss : (row : ℕ → Row) (more : List Row) (a n : ℕ) (words : List (List ℕ)) → ((p : ℕ) → a ≤ p → p < a + n → words ≢ (row p).0) → found_in (map row (range_with_len a n) ++ more) words ≡ found_in more words
+miss : (row : ℕ → GrammarRow) (more : List GrammarRow) (a n : ℕ) (words : List (List ℕ)) → ((p : ℕ) → a ≤ p → p < a + n → words ≢ (row p).0) → found_in (map row (range_with_len a n) ++ more) words ≡ found_in more words
 miss row more a zero words h = refl
 miss row more a (suc n) words h =
     later_row (row a) (map row (range_with_len (a + 1) n) ++ more) words (h a (omega arith) (omega arith))
     ∙ miss row more (a + 1) n words (λ p low high. h p (omega arith) (omega arith))
 
 -- the row in which a command was found
-record Found (row : ℕ → Row) (a n : ℕ) (words : List (List ℕ)) (command : Command) : Type 0 where
+record Found (row : ℕ → GrammarRow) (a n : ℕ) (words : List (List ℕ)) (command : Command) : Type 0 where
   at : ℕ
   low : a ≤ at
   high : at < a + n
   words_are : words ≡ (row at).0
   command_is : command ≡ (row at).1
 
-found : (row : ℕ → Row) (more : List Row) (a n : ℕ) (words : List (List ℕ)) (command : Command) → found_in (map row (range_with_len a n) ++ more) words ≡ Ok command
+found : (row : ℕ → GrammarRow) (more : List GrammarRow) (a n : ℕ) (words : List (List ℕ)) (command : Command) → found_in (map row (range_with_len a n) ++ more) words ≡ Ok command
     → Found row a n words command ⊎ (found_in more words ≡ Ok command)
 found row more a zero words command e = inr e
 found row more a (suc n) words command e = by_test (found row more (a + 1) n words command) (are_words words (row a).0) refl
@@ -103,7 +103,7 @@ found row more a (suc n) words command e = by_test (found row more (a + 1) n wor
     })
     by_test later false other = next (later (sym (ap (λ t. cond t (Ok (row a).1) (found_in (map row (range_with_len (a + 1) n) ++ more) words)) other) ∙ e))
 
-found_first : (row : Row) (more : List Row) (words : List (List ℕ)) (command : Command) → found_in (row ∷ more) words ≡ Ok command → ((words ≡ row.0) × (command ≡ row.1)) ⊎ (found_in more words ≡ Ok command)
+found_first : (row : GrammarRow) (more : List GrammarRow) (words : List (List ℕ)) (command : Command) → found_in (row ∷ more) words ≡ Ok command → ((words ≡ row.0) × (command ≡ row.1)) ⊎ (found_in more words ≡ Ok command)
 found_first row more words command e = by_test (are_words words row.0) refl
   where
     by_test : (t : Bool) → are_words words row.0 ≡ t → ((words ≡ row.0) × (command ≡ row.1)) ⊎ (found_in more words ≡ Ok command)

@@ -11,11 +11,11 @@ use Rattle.csp_words.specs.declared.grammar.WordsError.{WordsError}
 use Rattle.csp_words.specs.declared.grammar.WordsError.TheVariants.{Grammar}
 
 -- a row of the grammar: words, and the command that they name
-abbrev pub Row : Type 0
-Row = List (List ℕ) × Command
+abbrev pub GrammarRow : Type 0
+GrammarRow = List (List ℕ) × Command
 
 -- `sim`
-abbrev pub sim_row : Row
+abbrev pub sim_row : GrammarRow
 sim_row = (codes "sim" ∷ [], Sim)
 
 -- `run`
@@ -23,7 +23,7 @@ abbrev pub run_words : List (List ℕ)
 run_words = codes "run" ∷ []
 
 -- the row of `run`
-abbrev pub run_row : Row
+abbrev pub run_row : GrammarRow
 run_row = (run_words, Run DEFAULT_WORKERS)
 
 -- `tap`, and `tap --header` where the CRC covers the header
@@ -32,7 +32,7 @@ tap_words false = codes "tap" ∷ []
 tap_words true = codes "tap" ∷ codes "--header" ∷ []
 
 -- their rows
-abbrev pub tap_row : (cover : Bool) → Row
+abbrev pub tap_row : (cover : Bool) → GrammarRow
 tap_row cover = (tap_words cover, Tap cover)
 
 -- `run --workers N`, N in decimal digits
@@ -40,7 +40,7 @@ abbrev pub apart_words : ℕ → List (List ℕ)
 apart_words workers = codes "run" ∷ codes "--workers" ∷ decimal workers ∷ []
 
 -- the row of `run --workers N`
-abbrev pub apart_row : ℕ → Row
+abbrev pub apart_row : ℕ → GrammarRow
 apart_row workers = (apart_words workers, Run workers)
 
 -- `run --workers=N`
@@ -48,15 +48,15 @@ abbrev pub joined_words : ℕ → List (List ℕ)
 joined_words workers = codes "run" ∷ (codes "--workers=" ++ decimal workers) ∷ []
 
 -- the row of `run --workers=N`
-abbrev pub joined_row : ℕ → Row
+abbrev pub joined_row : ℕ → GrammarRow
 joined_row workers = (joined_words workers, Run workers)
 
 -- N from 1 to the most
-unfoldable pub apart_rows : List Row
+unfoldable pub apart_rows : List GrammarRow
 apart_rows = map apart_row (range_with_len 1 MAX_WORKERS)
 
 -- the same of the other form
-unfoldable pub joined_rows : List Row
+unfoldable pub joined_rows : List GrammarRow
 joined_rows = map joined_row (range_with_len 1 MAX_WORKERS)
 
 -- `gen N`, N in decimal digits
@@ -64,15 +64,15 @@ abbrev pub gen_words : ℕ → List (List ℕ)
 gen_words packets = codes "gen" ∷ decimal packets ∷ []
 
 -- the row of `gen N`
-abbrev pub gen_row : ℕ → Row
+abbrev pub gen_row : ℕ → GrammarRow
 gen_row packets = (gen_words packets, Gen packets)
 
 -- N from 1 to the most
-unfoldable pub gen_rows : List Row
+unfoldable pub gen_rows : List GrammarRow
 gen_rows = map gen_row (range_with_len 1 MAX_PACKETS)
 
 -- the rows of the grammar
-abbrev pub rows : List Row
+abbrev pub rows : List GrammarRow
 rows = sim_row ∷ run_row ∷ tap_row false ∷ tap_row true ∷ (apart_rows ++ (joined_rows ++ gen_rows))
 
 -- words are those of a row, neither more nor fewer
@@ -83,7 +83,7 @@ are_words (a ∷ words) [] = false
 are_words (a ∷ words) (b ∷ others) = bytes_eq a b && are_words words others
 
 -- the command of the first row with these words
-abbrev pub found_in : List Row → List (List ℕ) → Result Command WordsError
+abbrev pub found_in : List GrammarRow → List (List ℕ) → Result Command WordsError
 found_in [] words = Err Grammar
 found_in (row ∷ more) words = if are_words words row.0 then Ok row.1 else found_in more words
 

@@ -54,7 +54,7 @@ impl Rdp {
             || (owed.delivered > 0
                 && (options.delayed == 0
                     || owed.delivered > u64::from(options.ack_count)
-                    || has_passed(Some(owed.first), options.ack_timeout, now)))
+                    || has_passed(owed.first, options.ack_timeout, now)))
     }
 
     pub(super) fn fill_rst(&mut self, into: &mut Buffer)
@@ -155,6 +155,7 @@ impl Rdp {
     {
         self.owed.ack = false;
         self.owed.delivered = 0;
+        self.owed.first = None;
         let cur = self.recv.cur();
         let head = RdpHead {
             flags,

@@ -6,12 +6,12 @@ ghost use Rattle.csp_rdp_window.specs.Receiving.{index_in};
 
 use crate::State;
 use crate::rdp::Rdp;
-use crate::rows::Row;
+use crate::rows::StateRow;
 use csp_base::Seq;
 use csp_rdp_header::{ACK, EAK, RST, RdpHead, SYN, is_malformed};
 
 impl Rdp {
-    pub(super) fn row_of(&self, head: RdpHead, bytes: &[u8]) -> Row
+    pub(super) fn row_of(&self, head: RdpHead, bytes: &[u8]) -> StateRow
         ensures { result ≡ row_of self.now head bytes.now }
     {
         match self.state {
@@ -19,99 +19,99 @@ impl Rdp {
             State::SynRcvd => self.syn_rcvd_row(head, bytes),
             State::Open => self.open_row(head, bytes),
             State::CloseWait => close_wait_row(head),
-            State::Closed => Row::Stray,
+            State::Closed => StateRow::Stray,
         }
     }
 
-    pub(super) fn syn_sent_row(&self, head: RdpHead) -> Row
+    pub(super) fn syn_sent_row(&self, head: RdpHead) -> StateRow
         ensures { result ≡ syn_sent_row self.now head }
     {
         if head.has(RST) {
-            Row::Refused
+            StateRow::Refused
         } else if head.has(SYN) && head.has(ACK) && head.ack == self.send.start() {
-            Row::Answered
+            StateRow::Answered
         } else {
-            Row::Stray
+            StateRow::Stray
         }
     }
 
-    pub(super) fn syn_rcvd_row(&self, head: RdpHead, bytes: &[u8]) -> Row
+    pub(super) fn syn_rcvd_row(&self, head: RdpHead, bytes: &[u8]) -> StateRow
         ensures { result ≡ syn_rcvd_row self.now head bytes.now }
     {
         if head.has(RST) {
             self.reset_row(head.seq)
         } else if head.has(SYN) && !head.has(ACK) && head.seq == self.recv.start() {
-            Row::Repeated
+            StateRow::Repeated
         } else if head.has(SYN) || !head.has(ACK) {
-            Row::Broken
+            StateRow::Broken
         } else if is_bad_list(head, bytes) {
-            Row::Stray
+            StateRow::Stray
         } else if head.ack == self.send.start() {
             self.ack_row(head, bytes)
         } else {
-            Row::Stray
+            StateRow::Stray
         }
     }
 
-    pub(super) fn open_row(&self, head: RdpHead, bytes: &[u8]) -> Row
+    pub(super) fn open_row(&self, head: RdpHead, bytes: &[u8]) -> StateRow
         ensures { result ≡ open_row self.now head bytes.now }
     {
         if head.has(RST) {
             self.reset_row(head.seq)
         } else if head.has(SYN) && head.seq == self.recv.start() {
-            Row::Late
+            StateRow::Late
         } else if head.has(SYN) || !head.has(ACK) {
-            Row::Broken
+            StateRow::Broken
         } else if is_bad_list(head, bytes) {
-            Row::Stray
+            StateRow::Stray
         } else {
             self.ack_row(head, bytes)
         }
     }
 
-    pub(super) fn reset_row(&self, number: Seq) -> Row
+    pub(super) fn reset_row(&self, number: Seq) -> StateRow
         ensures { result ≡ reset_row self.now (index_in self.now.recv number.0) }
     {
         match self.recv.index_of(number) {
             Some(index) => {
                 if index != self.recv.first_missing() {
-                    Row::Stray
+                    StateRow::Stray
                 } else if index == self.recv.cur() + 1 {
-                    Row::Reset
+                    StateRow::Reset
                 } else {
-                    Row::ResetAt(index)
+                    StateRow::ResetAt(index)
                 }
             }
-            None => Row::Stray,
+            None => StateRow::Stray,
         }
     }
 
-    pub(super) fn ack_row(&self, head: RdpHead, bytes: &[u8]) -> Row
+    pub(super) fn ack_row(&self, head: RdpHead, bytes: &[u8]) -> StateRow
         ensures { result ≡ ack_row self.now head bytes.now }
     {
         if head.has(EAK) {
-            Row::Lists
+            StateRow::Lists
         } else if bytes.is_empty() {
-            Row::Acknowledges
+            StateRow::Acknowledges
         } else {
             self.data_row(head.seq)
         }
     }
 
-    pub(super) fn data_row(&self, number: Seq) -> Row
+    pub(super) fn data_row(&self, number: Seq) -> StateRow
         ensures { result ≡ data_row self.now (index_in self.now.recv number.0) }
     {
         match self.recv.index_of(number) {
             Some(index) => {
                 if !self.recv.awaits(index) {
-                    Row::Outside
+                    StateRow::Outside
                 } else if self.recv.keeps(index) {
-                    Row::Duplicate
+                    StateRow::Duplicate
                 } else {
-                    Row::Data(index)
+                    StateRow::Data(index)
                 }
             }
-            None => Row::Outside,
+            None => StateRow::Outside,
         }
     }
 }
@@ -124,12 +124,12 @@ fn is_bad_list(head: RdpHead, bytes: &[u8]) -> bool
 }
 
 // In CloseWait only a reset counts.
-fn close_wait_row(head: RdpHead) -> Row
+fn close_wait_row(head: RdpHead) -> StateRow
     ensures { result ≡ close_wait_row head }
 {
     if head.has(RST) {
-        Row::Ended
+        StateRow::Ended
     } else {
-        Row::Stray
+        StateRow::Stray
     }
 }

@@ -13,7 +13,7 @@ ghost use Rattle.csp_rdp_window.specs.Sending.{acknowledges};
 
 use crate::State;
 use crate::rdp::{Rdp, peer_of};
-use crate::rows::Row;
+use crate::rows::StateRow;
 use arrayvec::ArrayVec;
 use csp_base::{Seq, Tag};
 use csp_buffer::Buffer;
@@ -23,7 +23,7 @@ use csp_rdp_window::{Offer, RecvWindow};
 impl Rdp {
     pub(super) fn step(
         &mut self,
-        row: Row,
+        row: StateRow,
         head: RdpHead,
         tag: Option<Tag>,
         packet: Buffer,
@@ -35,27 +35,27 @@ impl Rdp {
         ensures holds { (k : ℕ) → times k (rdp_numbers self.new) + times k (number_in result) ≡ times k (rdp_numbers self.old) + times k (packet.picture.number ∷ []) }
     {
         match row {
-            Row::Stray => {}
-            Row::Refused | Row::Ended => self.leave(State::Closed, now),
-            Row::Answered => self.answer(head.seq, tag, now),
-            Row::Repeated => self.owed.syn = true,
-            Row::Late => self.owed.ack = true,
-            Row::Reset => self.reset(now),
-            Row::ResetAt(index) => self.reset_at = Some(least(self.reset_at, index)),
-            Row::Broken => self.break_off(now),
-            Row::Acknowledges | Row::Duplicate => {
+            StateRow::Stray => {}
+            StateRow::Refused | StateRow::Ended => self.leave(State::Closed, now),
+            StateRow::Answered => self.answer(head.seq, tag, now),
+            StateRow::Repeated => self.owed.syn = true,
+            StateRow::Late => self.owed.ack = true,
+            StateRow::Reset => self.reset(now),
+            StateRow::ResetAt(index) => self.reset_at = Some(least(self.reset_at, index)),
+            StateRow::Broken => self.break_off(now),
+            StateRow::Acknowledges | StateRow::Duplicate => {
                 self.enter(now);
                 let _inside = self.hear(head.ack, now);
             }
-            Row::Lists => {
+            StateRow::Lists => {
                 self.enter(now);
                 self.hear_list(head.ack, packet.payload(), now);
             }
-            Row::Outside => {
+            StateRow::Outside => {
                 self.enter(now);
                 self.owed.eak = true;
             }
-            Row::Data(index) => {
+            StateRow::Data(index) => {
                 self.enter(now);
                 let _inside = self.hear(head.ack, now);
                 return self.keep(index, head.seq, packet);

@@ -2,7 +2,7 @@ use Rattle.std.proofs.Common.{◌<◌, length, replicate, slice_set, sym, ap, �
 use Rattle.std.proofs.Math.Nat.{mul-le-mul_left}
 use Rattle.std.proofs.lemmas.List.Edits.{map_over_more}
 use Rattle.csp_hub.specs.PlainHub.{PlainEnd}
-use Rattle.csp_hub.specs.Telling.{heard}
+use Rattle.csp_hub.specs.Telling.{copies_held}
 use Rattle.csp_link.specs.Copies.{held_until}
 use Rattle.csp_log.specs.PlainSpares.{PlainSpares}
 use Rattle.csp_hub.proofs.Others.{room_in_turn}
@@ -11,12 +11,12 @@ use Rattle.csp_hub.proofs.spread.hold_all.Goals as goal
 pub hear-requires-clause-room : goal.hear-requires-clause-room
 hear-requires-clause-room c =
     let within : c.loop-end.end-index < length c.args.ends.now = omega arith in
-    room_in_turn (heard (replicate c.args.copies (held_until c.args.due c.args.frame.now))) c.loop-end.end-index c.args.ends.now c.loop-end.ends c.end-item.result
+    room_in_turn (copies_held (replicate c.args.copies (held_until c.args.due c.args.frame.now))) c.loop-end.end-index c.args.ends.now c.loop-end.ends c.end-item.result
     c.requires.room within c.loop-end.invariant.held
 
 pub loop-end-preserved : goal.loop-end-preserved
 loop-end-preserved c =
-    let hears : PlainEnd → PlainEnd = heard (replicate c.args.copies (held_until c.args.due c.args.frame.now)) in
+    let hears : PlainEnd → PlainEnd = copies_held (replicate c.args.copies (held_until c.args.due c.args.frame.now)) in
     let within : c.loop-end.end-index < length c.args.ends.now = omega arith in
     let enough = mul-le-mul_left c.args.copies within in
     let boxes = ap (λ (s : PlainSpares). s.boxes) c.hear.ensures.stock in

@@ -3,7 +3,7 @@ use Rattle.std.specs.List.{list_all}
 use Rattle.csp_hub.specs.PlainHub.{PlainEnd}
 use Rattle.csp_hub.specs.Planning.{has_room}
 use Rattle.csp_hub.specs.Stocking.{less}
-use Rattle.csp_hub.specs.Telling.{heard, heard_by_others}
+use Rattle.csp_hub.specs.Telling.{copies_held, held_for_others}
 use Rattle.csp_link.specs.Copies.{damaged, held_until}
 use Rattle.csp_link.specs.declared.fates.Fate.{Fate}
 use Rattle.csp_link.specs.declared.held.Held.{Held}
@@ -14,13 +14,13 @@ use Rattle.csp_hub.proofs.spread.spread.Goals as goal
 pub hold_all-requires-2-clause-room : goal.hold_all-requires-2-clause-room
 hold_all-requires-2-clause-room c =
     let copies : List Held = replicate c.copies-copies.result (held_until (c.args.now + c.from.result) c.damaged-frame.result) in
-    ap (list_all has_room) (part_after c.args.from (heard copies) c.args.ends.now c.hold_all.new.ends c.requires.from c.hold_all.ensures.held) ∙ room_after c.args.from c.args.ends.now c.requires.room
+    ap (list_all has_room) (part_after c.args.from (copies_held copies) c.args.ends.now c.hold_all.new.ends c.requires.from c.hold_all.ensures.held) ∙ room_after c.args.from c.args.ends.now c.requires.room
 
 pub hold_all-requires-2-clause-stock : goal.hold_all-requires-2-clause-stock
 hold_all-requires-2-clause-stock c =
     let n : ℕ = c.copies-copies.result in
     let copies : List Held = replicate n (held_until (c.args.now + c.from.result) c.damaged-frame.result) in
-    let part = part_after c.args.from (heard copies) c.args.ends.now c.hold_all.new.ends c.requires.from c.hold_all.ensures.held in
+    let part = part_after c.args.from (copies_held copies) c.args.ends.now c.hold_all.new.ends c.requires.from c.hold_all.ensures.held in
     let boxes = ap (λ (s : PlainSpares). s.boxes) c.hold_all.ensures.stock in
     let fits : (length c.args.ends.now - 1) * n ≤ c.args.spares.now.boxes =
     subst (λ k. (length c.args.ends.now - 1) * k ≤ c.args.spares.now.boxes) (sym c.copies-copies.ensures.copies) c.requires.stock in
@@ -35,7 +35,7 @@ returns-clause-held c =
     let flip = ap (λ (f : Fate). f.flip) c.fate.view_is in
     let delay = ap (λ (f : Fate). f.delay) c.fate.view_is in
     held_by_parts c.args.from copies c.args.ends.now c.hold_all.new.ends c.hold_all-2.new.ends c.requires.from c.hold_all.ensures.held c.hold_all-2.ensures.held
-    ∙ ap (λ (hs : List Held). heard_by_others c.args.from hs c.args.ends.now)
+    ∙ ap (λ (hs : List Held). held_for_others c.args.from hs c.args.ends.now)
     (copies_made c.args.fate c.args.now c.copies-copies.result c.from.result c.args.frame c.damaged-frame.result c.copies-copies.ensures.copies
     (c.from.ensures ∙ delay) (c.damaged-frame.ensures ∙ ap (λ bit. damaged bit c.args.frame) flip))
 
@@ -44,7 +44,7 @@ returns-clause-stock c =
     let n : ℕ = c.copies-copies.result in
     let es : List PlainEnd = c.args.ends.now in
     let copies : List Held = replicate n (held_until (c.args.now + c.from.result) c.damaged-frame.result) in
-    let part = part_after c.args.from (heard copies) es c.hold_all.new.ends c.requires.from c.hold_all.ensures.held in
+    let part = part_after c.args.from (copies_held copies) es c.hold_all.new.ends c.requires.from c.hold_all.ensures.held in
     c.keep.ensures.stock
     ∙ ap with_box (
     c.hold_all-2.ensures.stock

@@ -13,9 +13,9 @@ use Rattle.csp_rdp.specs.Changes.{change_between}
 use Rattle.csp_rdp.specs.Holding.{rdp_numbers, rested, unneeded}
 use Rattle.csp_rdp.specs.Machine.{PlainRdp}
 use Rattle.csp_rdp.specs.Placed.{placed}
-use Rattle.csp_rdp.specs.Table.{back_of, handed, is_stray, row_of}
-use Rattle.csp_rdp.specs.declared.answers.Why.TheVariants as machine_why
-use Rattle.csp_rdp.specs.declared.rows.Row.{Row}
+use Rattle.csp_rdp.specs.Table.{back_of, after_packet as handed, is_stray, row_of}
+use Rattle.csp_rdp.specs.declared.answers.Cause.TheVariants as machine_why
+use Rattle.csp_rdp.specs.declared.rows.StateRow.{StateRow}
 use Rattle.csp_ports.proofs.handing.hand.Goals as goal
 
 pub let_go-requires-clause-of_it : goal.let_go-requires-clause-of_it
@@ -55,7 +55,7 @@ returns-clause-trash c =
     let seen = c.sees_no_region.ensures.handed nowhere head tag packet c.args.now r in
     let loose = sym (ap (λ (q : PlainRdp). pictures (unneeded q)) (sym seen) ∙ ap pictures (c.sees_no_region.ensures.unneeded nowhere (handed head tag packet c.args.now r)) ∙ pictures_placed nowhere (unneeded (handed head tag packet c.args.now r))) in
     let back = back_pictures nowhere (back_of (row_of r head bytes) packet) (back_of (row_of r head bytes) (anywhere packet.picture)) (c.sees_no_region.ensures.back nowhere (row_of r head bytes) packet) in
-    let same = ap (λ (w : Row). pictures (option_to_list (back_of w (anywhere packet.picture)))) (sym (c.sees_no_region.ensures.row nowhere head bytes r)) in
+    let same = ap (λ (w : StateRow). pictures (option_to_list (back_of w (anywhere packet.picture)))) (sym (c.sees_no_region.ensures.row nowhere head bytes r)) in
     rw (c.let_go.ensures.trash, c.hand_back.ensures.trash, c.handed-back.ensures.back, c.handed-back.ensures.state, c.trace-tag.ensures)
     (ap (with_contents c.args.trash.now)
     (ap (λ (us : List Content). (first ++ us) ++ pictures (unneeded (handed head tag packet c.args.now r))) (back ∙ same)
@@ -84,4 +84,4 @@ returns-clause-report c =
     rw (c.hand_back.ensures.report, c.push.ensures.items, c.requires.report, c.nth.ensures, c.peer.ensures, c.cur.ensures, c.una.ensures, c.handed-back.ensures.back, c.handed-back.ensures.stray, c.trace-tag.ensures)
     (ap (λ (es : List Event). handing_event r packet.picture.trace.tag ∷ es)
     (back_events nowhere (is_stray row) (back_of row packet) (back_of row (anywhere packet.picture)) (c.sees_no_region.ensures.back nowhere row packet)
-    ∙ ap (λ (w : Row). stray_events (back_of w (anywhere packet.picture)) (is_stray w)) (sym (c.sees_no_region.ensures.row nowhere c.args.head packet.picture.payload r))))
+    ∙ ap (λ (w : StateRow). stray_events (back_of w (anywhere packet.picture)) (is_stray w)) (sym (c.sees_no_region.ensures.row nowhere c.args.head packet.picture.payload r))))

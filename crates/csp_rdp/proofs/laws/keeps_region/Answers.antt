@@ -1,6 +1,6 @@
 use Rattle.csp_rdp_window.specs.Sending.{loose_buffer}
 use Rattle.csp_rdp_window.specs.Receiving.{confirmed}
-use Rattle.csp_rdp.specs.Jobs.{counted}
+use Rattle.csp_rdp.specs.Jobs.{one_more_delivered}
 use Rattle.csp_rdp.specs.Table.{row_of}
 use Rattle.std.proofs.Common.{refl}
 use Rattle.csp_rdp.proofs.RegionLemmas.{in-admitting, in-after, in-buffers, in-closed, in-delivered, in-handed-out, in-kept-again, in-rested, in-sent, in-taken, in-taken-out, in-ticked}
@@ -13,7 +13,7 @@ returns c = record {
   sent = λ name j time r all. in-sent name j time r all;
   taken = λ name r all. in-taken name r.state r all;
   delivered = λ name time r all.
-      in-delivered name r.reset_at time (record r { recv = confirmed r.recv; owed = counted time r.owed }) (record { sending = all.sending; kept = all.kept });
+      in-delivered name r.reset_at time (record r { recv = confirmed r.recv; owed = one_more_delivered time r.owed }) (record { sending = all.sending; kept = all.kept });
   kept_again = λ name b r all e. record { sending = all.sending; kept = in-kept-again name b r all e };
   ticked = λ name time r all. in-ticked name time r all;
   closed = λ name time r all. in-closed name r.state time r all;

@@ -1,6 +1,6 @@
 use Rattle.std.proofs.Common.{refl, sym}
 use Rattle.csp_rdp_window.specs.Receiving.{confirmed}
-use Rattle.csp_rdp.specs.Jobs.{counted}
+use Rattle.csp_rdp.specs.Jobs.{one_more_delivered}
 use Rattle.csp_rdp.proofs.PlacedLemmas.{placed-admitting, placed-again, placed-back, placed-buffers, placed-closed, placed-delivery, placed-filled, placed-handed, placed-is-kept, placed-job, placed-out, placed-rdp-numbers, placed-reset-after, placed-rested, placed-row, placed-sent, placed-taken, placed-ticked, placed-unneeded}
 use Rattle.csp_rdp.proofs.placing.sees_no_region.Goals as goal
 
@@ -15,7 +15,7 @@ returns c = record {
   sent = λ n j time r. sym (placed-sent n j time r);
   delivery = λ n r. placed-delivery n r.state r;
   taken = λ n r. sym (placed-taken n r.state r);
-  delivered = λ n time r. sym (placed-reset-after n r.reset_at time (record r { recv = confirmed r.recv; owed = counted time r.owed }));
+  delivered = λ n time r. sym (placed-reset-after n r.reset_at time (record r { recv = confirmed r.recv; owed = one_more_delivered time r.owed }));
   kept_again = λ n b r. sym (placed-again n b r);
   ticked = λ n time r. sym (placed-ticked n time r);
   closed = λ n time r. sym (placed-closed n r.state time r);

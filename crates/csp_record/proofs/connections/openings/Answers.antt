@@ -2,7 +2,7 @@ use Rattle.std.proofs.Common.{◌+◌, ◌++◌, sym, ap, ◌∙◌, drop, get_o
 use Rattle.std.specs.List.{flat_map, slice_get}
 use Rattle.csp_log.specs.declared.entry.Entry.{Entry}
 use Rattle.csp_record.specs.Connections.{opened_by, openings}
-use Rattle.csp_record.specs.declared.payloads.Way.TheVariants as way
+use Rattle.csp_record.specs.declared.payloads.Transfer.TheVariants as way
 use Rattle.csp_record.proofs.Gaining.{ended-few, none-opened, told-events, told-next}
 use Rattle.csp_record.proofs.Ordinals.{Ends, no_ends, openings_after, openings_are}
 use Rattle.csp_record.proofs.Passing.{openings-over}

@@ -3,7 +3,7 @@ use Rattle.std.specs.List.{slice_get}
 use Rattle.std.proofs.lemmas.Grind.{common_steps}
 use Rattle.csp_app.specs.PlainApp.{AppAt}
 use Rattle.csp_app.specs.Room.{CanHear, plain_app}
-use Rattle.csp_app.specs.declared.plan.Plan.TheVariants as plan
+use Rattle.csp_app.specs.declared.plan.AppPlan.TheVariants as plan
 use Rattle.csp_app.specs.declared.progress.Progress.{Progress}
 use Rattle.csp_app.specs.PlainStep as step
 use Rattle.csp_deck.specs.Keeping.{PlainPile}

@@ -4,7 +4,7 @@ use Rattle.std.proofs.lemmas.Option.{slice_get_read}
 use Rattle.csp_app.specs.PlainApp.{AppAt}
 use Rattle.csp_app.specs.Room.{CanHear, IsReady, IsStep, plain_app, app_at}
 use Rattle.csp_app.specs.declared.app.App.TheInside.{Inside}
-use Rattle.csp_app.specs.declared.plan.Plan.TheVariants as plan
+use Rattle.csp_app.specs.declared.plan.AppPlan.TheVariants as plan
 use Rattle.csp_app.specs.PlainStep.{PlainStep}
 use Rattle.csp_app.specs.Placing.{plain_step}
 use Rattle.csp_app.proofs.Blobs.{up_carries}

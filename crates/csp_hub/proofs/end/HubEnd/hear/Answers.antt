@@ -1,7 +1,7 @@
 use Rattle.std.proofs.Common.{[], ◌∷◌, List, length, ap, ◌∙◌, length-append, arith}
 use Rattle.std.specs.Prelude.{replicate}
 use Rattle.csp_hub.specs.PlainHub.{PlainEnd}
-use Rattle.csp_hub.specs.Telling.{heard}
+use Rattle.csp_hub.specs.Telling.{copies_held}
 use Rattle.csp_link.specs.Copies.{held_until}
 use Rattle.csp_link.specs.declared.held.Held.{Held}
 use Rattle.csp_link.proofs.Public.{one_more}
@@ -17,8 +17,8 @@ loop-preserved c =
     let boxes = ap (λ (s : PlainSpares). s.boxes) c.copy-copy.ensures.stock in
     record {
       held = c.add.ensures
-          ∙ ap (λ (e : PlainEnd). heard (held_until c.args.due c.copy-copy.result ∷ []) e) h.held
-          ∙ ap (λ (f : Frame). heard (held_until c.args.due f ∷ []) (heard (replicate c.loop.counter one) before)) c.copy-copy.ensures.frame
+          ∙ ap (λ (e : PlainEnd). copies_held (held_until c.args.due c.copy-copy.result ∷ []) e) h.held
+          ∙ ap (λ (f : Frame). copies_held (held_until c.args.due f ∷ []) (copies_held (replicate c.loop.counter one) before)) c.copy-copy.ensures.frame
           ∙ ap (λ (hs : List Held). record before { held = hs }) (one_more before.held c.loop.counter one);
       long = omega (arith, h.long, ap (λ (e : PlainEnd). length e.held) c.add.ensures, length-append c.loop.self.held (held_until c.args.due c.copy-copy.result ∷ []));
       boxes = omega (arith, h.boxes, boxes, c.requires.stock, c.loop-test.true);

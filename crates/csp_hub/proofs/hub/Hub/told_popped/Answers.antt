@@ -7,7 +7,7 @@ use Rattle.csp_hub.specs.Asking.{awaits}
 use Rattle.csp_hub.specs.PlainHub.{PlainEnd, PlainHub, uses}
 use Rattle.csp_hub.specs.Room.{plain_hub}
 use Rattle.csp_hub.specs.Stocking.{copy_count, needs}
-use Rattle.csp_hub.specs.Telling.{heard_by_others}
+use Rattle.csp_hub.specs.Telling.{held_for_others}
 use Rattle.csp_link.specs.Copies.{held_copies}
 use Rattle.csp_log.specs.Pictures.{shown_item}
 use Rattle.csp_log.specs.declared.shown.AnswerShown.TheVariants as answer
@@ -33,8 +33,8 @@ invariant_of-self c =
     let carried = popped_carried h h.doing (shown_item c.args.item) c.frame_of-frame.result fits c.frame_of-frame.ensures in
     let sound = sound_at h c.from-from.result e c.self.invariant c.from-from.ensures c.index_mut.ensures.value in
     let after : List PlainEnd = slice_set h.ends c.from-from.result c.send-fate.new.self in
-    let spread : c.spread.new.ends ≡ heard_by_others c.from-from.result (held_copies c.send-fate.result c.args.now c.frame_of-frame.result) after =
-    c.spread.ensures.held ∙ ap (heard_by_others c.from-from.result (held_copies c.send-fate.result c.args.now c.frame_of-frame.result)) c.as_mut_slice.ensures.value in
+    let spread : c.spread.new.ends ≡ held_for_others c.from-from.result (held_copies c.send-fate.result c.args.now c.frame_of-frame.result) after =
+    c.spread.ensures.held ∙ ap (held_for_others c.from-from.result (held_copies c.send-fate.result c.args.now c.frame_of-frame.result)) c.as_mut_slice.ensures.value in
     let ends = with_item c.self.inside.ends c.from-from.result c.send-fate.new.self in
     let as_long : length c.spread.new.ends ≡ c.self.inside.ends.len =
     ap length spread ∙ long_others c.from-from.result (held_copies c.send-fate.result c.args.now c.frame_of-frame.result) after

@@ -16,7 +16,7 @@ use Rattle.csp_rdp.specs.Holding.{rdp_numbers, rested, unneeded}
 use Rattle.csp_rdp.specs.Jobs.{delivering}
 use Rattle.csp_rdp.specs.Machine.{PlainRdp}
 use Rattle.csp_rdp.specs.declared.answers.Change.{Change}
-use Rattle.csp_rdp.specs.declared.answers.Why.TheVariants as machine_why
+use Rattle.csp_rdp.specs.declared.answers.Cause.TheVariants as machine_why
 use Rattle.csp_rdp_window.specs.Receiving.{is_kept}
 use Rattle.csp_ports.proofs.Flowing.{keeps_of}
 use Rattle.csp_ports.proofs.Serving.{flows_delivered}

@@ -12,9 +12,9 @@ use Rattle.csp_ports.specs.Packets.{back_by, handing_event, stray_events, handin
 use Rattle.csp_ports.specs.PlainPorts.{PortsAt, anywhere, machine_at, stalled_at}
 use Rattle.csp_ports.specs.Steps.{changed, dropped, settled, stepped, went}
 use Rattle.csp_rdp.specs.Changes.{change_between}
-use Rattle.csp_rdp.specs.Table.{back_of, handed, is_stray, row_of}
+use Rattle.csp_rdp.specs.Table.{back_of, after_packet, is_stray, row_of}
 use Rattle.csp_rdp.specs.declared.answers.Change.{Change}
-use Rattle.csp_rdp.specs.declared.answers.Why.TheVariants as machine_why
+use Rattle.csp_rdp.specs.declared.answers.Cause.TheVariants as machine_why
 use Rattle.csp_ports.proofs.Flowing.{keeps_of}
 use Rattle.csp_ports.proofs.Serving.{flows_handed}
 use Rattle.csp_ports.proofs.Wholes.{there_few}
@@ -39,7 +39,7 @@ returns-clause-comes c =
     let r = machine_at at.ports app slot in
     let row = row_of r head packet.picture.payload in
     let back = back_of row packet in
-    let next = handed head tag packet now r in
+    let next = after_packet head tag packet now r in
     let trash = with_contents c.args.trash.now (c.args.trash.now.contents ++ pictures (option_to_list back)) in
     let events = c.hand_machine-change.new.report.items in
     let mid = c.hand_machine-change.new.self in

@@ -16,8 +16,8 @@ use Rattle.csp_rdp.specs.Changes.{change_between}
 use Rattle.csp_rdp.specs.Holding.{rdp_numbers, rested, unneeded}
 use Rattle.csp_rdp.specs.Machine.{PlainRdp}
 use Rattle.csp_rdp.specs.Placed.{placed}
-use Rattle.csp_rdp.specs.Table.{back_of, handed, is_stray, row_of}
-use Rattle.csp_rdp.specs.declared.answers.Why.TheVariants as machine_why
+use Rattle.csp_rdp.specs.Table.{back_of, after_packet as handed, is_stray, row_of}
+use Rattle.csp_rdp.specs.declared.answers.Cause.TheVariants as machine_why
 use Rattle.csp_ports.proofs.ports.Ports.hand_machine.Goals as goal
 
 pub hand-requires-clause-room : goal.hand-requires-clause-room

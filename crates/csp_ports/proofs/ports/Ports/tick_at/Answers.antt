@@ -19,7 +19,7 @@ use Rattle.csp_ports.specs.Steps.{changed, stepped}
 use Rattle.csp_rdp.specs.Changes.{change_between}
 use Rattle.csp_rdp.specs.Jobs.{ticked}
 use Rattle.csp_rdp.specs.declared.answers.Change.{Change}
-use Rattle.csp_rdp.specs.declared.answers.Why.TheVariants as machine_why
+use Rattle.csp_rdp.specs.declared.answers.Cause.TheVariants as machine_why
 use Rattle.csp_ports.proofs.ports.Ports.tick_at.Goals as goal
 
 pub tick-change-requires-clause-room : goal.tick-change-requires-clause-room

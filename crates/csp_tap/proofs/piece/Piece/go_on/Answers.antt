@@ -1,7 +1,7 @@
 use Rattle.std.proofs.Common.{ℕ, [], ◌∷◌, ap, sym, ◌∙◌}
 use Rattle.std.proofs.lemmas.Bool.{ne_eqb}
 use Rattle.csp_base.specs.declared.limits.TheConstants.{MAX_PAYLOAD}
-use Rattle.csp_kiss.specs.Reading.{Reading, going, kept}
+use Rattle.csp_kiss.specs.Reading.{Reading, going, kept_bytes}
 use Rattle.csp_kiss.specs.declared.TheConstants.{FESC}
 use Rattle.csp_tap.specs.Pieces.{gone_on, stage_of}
 use Rattle.csp_tap.specs.declared.piece.Stage.{Stage}
@@ -15,7 +15,7 @@ returns-in-Plain-2 c =
     let at = ap (λ (r : Reading). r.stage) (sym c.self.view_is) ∙ ap stage_of c.in-Plain.is in
     let mtu = ap (λ (r : Reading). r.mtu) (sym c.self.view_is) in
     c.keep.ensures
-    ∙ (λ i. going r (at i) (kept (sym mtu i) r.plain (byte ∷ [])))
+    ∙ (λ i. going r (at i) (kept_bytes (sym mtu i) r.plain (byte ∷ [])))
     ∙ sym (kept_plain r byte at (ne_eqb byte FESC c.if-byte-eq-FESC.false))
 
 pub returns-in-220 : goal.returns-in-220
