@@ -5,7 +5,7 @@ use Rattle.std.specs.Option.{option_map}
 use Rattle.csp_buffer.specs.Content.{Content}
 use Rattle.csp_buffer.specs.PlainBuffer.{PlainBuffer}
 use Rattle.csp_ports.specs.Came.{pictures}
-use Rattle.csp_ports.specs.PlainPorts.{PlainPorts, PlainStalled, machine_in, machines_of}
+use Rattle.csp_ports.specs.PlainPorts.{PlainPorts, PlainStalled, machine_in}
 use Rattle.csp_ports.specs.declared.terms.SlotState.{SlotState}
 use Rattle.csp_rdp.specs.Holding.{rdp_buffers, taken_out}
 
@@ -14,9 +14,13 @@ abbrev pub stalled_buffers : Option PlainStalled → List PlainBuffer
 stalled_buffers None = []
 stalled_buffers (Some s) = s.buffer ∷ []
 
+-- those of a slot's machine
+abbrev pub slot_buffers : SlotState → List PlainBuffer
+slot_buffers s = rdp_buffers (machine_in s)
+
 -- those of the packets that wait, in the order of applications, then those of the machines, in the order of slots
 abbrev pub held_buffers : PlainPorts → List PlainBuffer
-held_buffers p = flat_map stalled_buffers p.stalled ++ flat_map rdp_buffers (machines_of p)
+held_buffers p = flat_map stalled_buffers p.stalled ++ flat_map slot_buffers p.slots
 
 -- the buffers that a node's ports hold, in order
 abbrev pub held : PlainPorts → List Content
@@ -38,7 +42,7 @@ first_out (_ ∷ _) s ss rest = record s { machine = option_map taken_out s.mach
 -- the slots without the first buffer that any machine holds
 abbrev pub without_held : List SlotState → List SlotState
 without_held [] = []
-without_held (s ∷ ss) = first_out (rdp_buffers (machine_in s)) s ss (without_held ss)
+without_held (s ∷ ss) = first_out (slot_buffers s) s ss (without_held ss)
 
 -- the ports without the first buffer that they hold
 abbrev pub emptied_by : (waiting : List PlainBuffer) → PlainPorts → PlainPorts

@@ -35,15 +35,11 @@ use Rattle.csp_socket.specs.Bound.{owner_of}
 abbrev pub stalled_of : Stalled → PlainStalled
 stalled_of s = record { slot = s.slot; buffer = anywhere s.buffer.picture }
 
--- what is kept of a slot, with its machine's buffers of this region
-abbrev pub placed_state : RegionName → SlotState → SlotState
-placed_state name s = record s { machine = option_map (placed name) s.machine }
-
 -- a node's ports as contracts see them
 abbrev pub plain_ports : Inside → PlainPorts
 plain_ports p = record {
   conns = p.conns;
-  slots = map (placed_state nowhere) p.slots.items;
+  slots = map {A = SlotState} (λ s. record s { machine = option_map (placed nowhere) s.machine }) p.slots.items;
   stalled = map (option_map stalled_of) p.stalled;
   bound = p.sockets;
   owed = p.owed.items;

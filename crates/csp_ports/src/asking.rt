@@ -189,10 +189,10 @@ impl Ports {
         ensures comes { Comes self.old self.new trash.old trash.new [] [] (where_machine (has_machine self.old.ports app slot) (stepped app slot (closing now (machine_at self.old.ports app slot))) self.old.ports) }
         ensures state { result ≡ (closing now (machine_at self.old.ports app slot)).state }
     {
-        match &mut self.slots[place(app, slot)].machine {
-            Some(machine) => close(machine, now, trash),
-            None => State::Closed,
-        }
+        let Some(machine) = &mut self.slots[place(app, slot)].machine else {
+            return State::Closed;
+        };
+        close(machine, now, trash)
     }
 
     /// The answer to a close is owed at once, or still to come, by the state of the slot's machine after it.

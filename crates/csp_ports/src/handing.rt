@@ -12,7 +12,8 @@ ghost use Rattle.csp_deck.specs.Keeping.{with_contents};
 ghost use Rattle.csp_deck.specs.Regions.{nowhere};
 ghost use Rattle.csp_rdp.specs.Placed.{placed};
 ghost use Rattle.csp_ports.specs.Came.{Comes, pictures};
-ghost use Rattle.csp_ports.specs.Counts.{IsCountable};
+ghost use Rattle.csp_ports.specs.Counts.{AreFar, IsCountable};
+ghost use Rattle.csp_ports.specs.Held.{held};
 ghost use Rattle.csp_ports.specs.Keeps.{Keeps};
 ghost use Rattle.csp_ports.specs.Kept.{IsHoused, IsRoomy, wished, wishes};
 ghost use Rattle.csp_ports.specs.declared.ports.TheConstants.{ANSWERS};
@@ -165,13 +166,11 @@ impl Ports {
         ensures countable { IsCountable self.new.ports }
     {
         keeps_count();
-        match &mut self.slots[place(app, slot)].machine {
-            Some(machine) => hand(machine, head, packet, now, trash, report),
-            None => {
-                hand_nobody(packet, trash, report);
-                Change::None
-            }
-        }
+        let Some(machine) = &mut self.slots[place(app, slot)].machine else {
+            hand_nobody(packet, trash, report);
+            return Change::None;
+        };
+        hand(machine, head, packet, now, trash, report)
     }
 
     /// A packet of an application goes on the slot's reliable connection, or waits for room there. Where the
@@ -228,7 +227,9 @@ impl Ports {
     pub(crate) fn begin(&mut self, app: u8, slot: u8, prio: Prio, flags: u8, wish: Wish)
         requires there { IsThere self.old.ports.conns app slot }
         requires due { (waiting app self.old.ports.owed + wishes app (terms_of self.old.ports)) + wished wish ≤ ANSWERS + wished (terms_at self.old.ports app slot).wish }
-        ensures { self.new ≡ with_ports_at self.old (begun self.old.ports app slot prio flags wish) }
+        ensures ports { self.new ≡ with_ports_at self.old (begun self.old.ports app slot prio flags wish) }
+        ensures held { held self.new.ports ≡ held self.old.ports }
+        ensures far { (n : ℕ) → AreFar n self.old.ports → AreFar n self.new.ports }
     {
         let mut terms = self.terms(app, slot);
         terms.prio = prio;

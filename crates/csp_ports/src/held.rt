@@ -4,11 +4,10 @@ ghost use Rattle.std.specs.Prelude.{◌≡◌, ◌<◌, ◌≤◌, length, map, 
 ghost use Rattle.std.specs.List.{flat_map};
 ghost use Rattle.csp_deck.specs.Keeping.{numbers_of};
 ghost use Rattle.csp_deck.specs.Step.{times};
-ghost use Rattle.csp_ports.specs.Held.{emptied, held, stalled_buffers, without_held};
+ghost use Rattle.csp_ports.specs.Held.{emptied, held, slot_buffers, stalled_buffers, without_held};
 ghost use Rattle.csp_ports.specs.Keeps.{Keeps};
 ghost use Rattle.csp_ports.specs.Kept.{stalled_of};
-ghost use Rattle.csp_ports.specs.PlainPorts.{machine_in, with_ports_at};
-ghost use Rattle.csp_rdp.specs.Holding.{rdp_buffers};
+ghost use Rattle.csp_ports.specs.PlainPorts.{with_ports_at};
 ghost use Rattle.csp_rdp_window.specs.Places.{held_in, without_held as without_first};
 ghost use Rattle.std.specs.Option.{option_map};
 
@@ -104,7 +103,7 @@ fn take_stalled(stalled: &mut [Option<Stalled>]) -> Option<Buffer>
 
 /// Takes out the first buffer that a slot's machine holds.
 fn take_held(slots: &mut [SlotState]) -> Option<Buffer>
-    ensures buffers { MatchOption result ((flat_map rdp_buffers (map machine_in slots.old) ≡ []) × (slots.new ≡ slots.old)) (λ b. (flat_map rdp_buffers (map machine_in slots.old) ≡ b ∷ flat_map rdp_buffers (map machine_in slots.new)) × (slots.new ≡ without_held slots.old)) }
+    ensures buffers { MatchOption result ((flat_map slot_buffers slots.old ≡ []) × (slots.new ≡ slots.old)) (λ b. (flat_map slot_buffers slots.old ≡ b ∷ flat_map slot_buffers slots.new) × (slots.new ≡ without_held slots.old)) }
 {
     for slot in slots.iter_mut() {
         if let Some(buffer) = slot.take_out() {
@@ -136,7 +135,7 @@ fn end_stalled(stalled: Option<Stalled>)
 
 /// Ends slots whose machines hold no buffer.
 fn end_slots(slots: Vec<SlotState>)
-    requires { flat_map rdp_buffers (map machine_in slots.items) ≡ [] }
+    requires { flat_map slot_buffers slots.items ≡ [] }
 {
     let mut slots = slots;
     while let Some(slot) = slots.pop() {

@@ -8,6 +8,8 @@ ghost use Rattle.csp_conn.specs.Opening.{found};
 ghost use Rattle.csp_conn.specs.PlainConns.{IsThere, slot_at};
 ghost use Rattle.csp_conn.specs.Slots.{between};
 ghost use Rattle.csp_deck.specs.Carried.{IsReply};
+ghost use Rattle.csp_ports.specs.Counts.{AreFar};
+ghost use Rattle.csp_ports.specs.Held.{held};
 ghost use Rattle.csp_ports.specs.Keeps.{AreWhole};
 ghost use Rattle.csp_ports.specs.Kept.{IsOwed, wished, wishes};
 ghost use Rattle.csp_ports.specs.PlainPorts.{machine_at, owing, ports_of, stalled_at, state_at, terms_at, terms_of, untouched, waiting, with_ports_at, with_terms};
@@ -192,6 +194,8 @@ impl Ports {
         requires due { (waiting app self.old.ports.owed + wishes app (terms_of self.old.ports)) + wished terms.wish ≤ ANSWERS + wished (terms_at self.old.ports app slot).wish }
         ensures ports { self.new ≡ with_ports_at self.old (with_terms self.old.ports app slot terms) }
         ensures wishes { wishes app (terms_of self.new.ports) + wished (terms_at self.old.ports app slot).wish ≡ wishes app (terms_of self.old.ports) + wished terms.wish }
+        ensures held { held self.new.ports ≡ held self.old.ports }
+        ensures far { (n : ℕ) → AreFar n self.old.ports → terms.ordinal ≤ n → AreFar n self.new.ports }
     {
         self.slots[place(app, slot)].terms = terms;
     }

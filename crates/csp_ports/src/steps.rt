@@ -197,10 +197,11 @@ impl Ports {
         ensures roomy { IsRoomy 0 self.new trash.new }
         ensures apps { self.new.ports.conns.apps ≡ self.old.ports.conns.apps }
     {
-        if let Some(machine) = &mut self.slots[place(app, slot)].machine {
-            let change = tick(machine, now, trash);
-            self.change(change, app, slot, trash, report);
-        }
+        let Some(machine) = &mut self.slots[place(app, slot)].machine else {
+            return;
+        };
+        let change = tick(machine, now, trash);
+        self.change(change, app, slot, trash, report);
     }
 
     /// What a change of a slot's connection comes to, which the application did not ask for.
@@ -261,6 +262,7 @@ impl Ports {
     fn answer_connect(&mut self, app: u8, slot: u8)
         requires there { IsThere self.old.ports.conns app slot }
         ensures ports { self.new ≡ with_ports_at self.old (connected app slot self.old.ports) }
+        ensures held { held self.new.ports ≡ held self.old.ports }
     {
         let mut terms = self.terms(app, slot);
         if terms.wish == Wish::Connection {
@@ -371,9 +373,10 @@ impl Ports {
         ensures apps { self.new.ports.conns.apps ≡ self.old.ports.conns.apps }
     {
         let old = std::mem::replace(&mut self.slots[place(app, slot)].machine, machine);
-        if let Some(old) = old {
-            spend(old, trash);
-        }
+        let Some(old) = old else {
+            return;
+        };
+        spend(old, trash);
     }
 
     /// The packet of an application that waits for room is discarded where its connection is not open.
@@ -461,10 +464,10 @@ impl Ports {
         requires countable { IsFar (2 ^ 32 - 2) (machine_at self.old.ports app slot) }
         ensures { AdmitsIn (has_room (machine_at self.old.ports app slot)) result self.old self.new app slot buffer now }
     {
-        match &mut self.slots[place(app, slot)].machine {
-            Some(machine) => admit(machine, buffer, now),
-            None => Err(buffer),
-        }
+        let Some(machine) = &mut self.slots[place(app, slot)].machine else {
+            return Err(buffer);
+        };
+        admit(machine, buffer, now)
     }
 
     /// A packet of an application waits for room in a slot's window, where none waits.

@@ -203,10 +203,10 @@ impl Ports {
         ensures keeps { Keeps 1 self.old.ports self.new.ports trash.old.contents trash.new.contents [] }
     {
         sees_no_region();
-        let change = match &mut self.slots[place(app, slot)].machine {
-            Some(machine) => deliver(machine, now, trash),
-            None => unreachable!(),
+        let Some(machine) = &mut self.slots[place(app, slot)].machine else {
+            unreachable!();
         };
+        let change = deliver(machine, now, trash);
         self.change(change, app, slot, trash, report);
         self.drop_stalled(app, trash, report);
     }
@@ -252,10 +252,10 @@ impl Ports {
         keeps_region();
         keeps_whole();
         keeps_rest();
-        match &mut self.slots[place(app, slot)].machine {
-            Some(machine) => machine.fill(job, packet, now),
-            None => unreachable!(),
-        }
+        let Some(machine) = &mut self.slots[place(app, slot)].machine else {
+            unreachable!();
+        };
+        machine.fill(job, packet, now);
     }
 }
 

@@ -3,8 +3,9 @@
 ghost use Rattle.std.specs.Prelude.{◌≡◌, ◌<◌, [], ◌∷◌, MatchOption, None, nat_lt};
 ghost use Rattle.std.specs.Option.{option_map};
 ghost use Rattle.csp_deck.specs.Step.{times};
+ghost use Rattle.csp_ports.specs.Held.{slot_buffers};
 ghost use Rattle.csp_ports.specs.PlainPorts.{fresh, is_closing, machine_in};
-ghost use Rattle.csp_rdp.specs.Holding.{rdp_buffers, rdp_numbers, taken_out};
+ghost use Rattle.csp_rdp.specs.Holding.{rdp_numbers, taken_out};
 
 use csp_base::Prio;
 use csp_buffer::Buffer;
@@ -83,7 +84,7 @@ impl SlotState {
 
     /// Takes out the first buffer that its machine holds.
     pub(crate) fn take_out(&mut self) -> Option<Buffer>
-        ensures buffers { MatchOption result ((rdp_buffers (machine_in self.old) ≡ []) × (self.new ≡ self.old)) (λ b. rdp_buffers (machine_in self.old) ≡ b ∷ rdp_buffers (machine_in self.new)) }
+        ensures buffers { MatchOption result ((slot_buffers self.old ≡ []) × (self.new ≡ self.old)) (λ b. slot_buffers self.old ≡ b ∷ slot_buffers self.new) }
         ensures state { self.new ≡ record self.old { machine = option_map taken_out self.old.machine } }
     {
         match &mut self.machine {
