@@ -126,7 +126,7 @@ timed_in_shape time (k ∷ ks) p =
     let r = machine_at p (k / SLOTS) (k % SLOTS) in
     timed_in_shape time ks one.ports
     ∙ where_shape (has_machine p (k / SLOTS) (k % SLOTS)) (went r.state machine_why.Timeout (k / SLOTS) (k % SLOTS) (ticked time r)) p
-        (went_shape r.state machine_why.Timeout (k / SLOTS) (k % SLOTS) (ticked time r) p)
+    (went_shape r.state machine_why.Timeout (k / SLOTS) (k % SLOTS) (ticked time r) p)
 
 dropped_of_shape : (apps : List ℕ) (p : PlainPorts) → shape (dropped_of apps p).ports ≡ shape p
 dropped_of_shape [] p = refl
