@@ -1,17 +1,15 @@
 -- The steps of a router's ports: none loses a number of a buffer or makes one.
-use Rattle.std.proofs.Common.{◌≡◌, ℕ, zero, suc, ◌+◌, ◌/◌, ◌%◌, ◌<◌, Bool, true, false, nat_lt, Option, None, Some, List, [], ◌∷◌, ◌++◌, map, refl, sym, ap, ◌∙◌, subst, arith}
-use Rattle.std.specs.Prelude.{get_or, is_some, slice_set}
-use Rattle.std.specs.List.{All, flat_map}
+use Rattle.std.proofs.Common.{◌≡◌, ℕ, ◌+◌, ◌/◌, ◌%◌, ◌<◌, Bool, true, false, nat_lt, Option, None, Some, List, [], ◌∷◌, ◌++◌, map, refl, sym, ap, ◌∙◌, subst, arith}
+use Rattle.std.specs.Prelude.{is_some}
+use Rattle.std.specs.List.{All}
 use Rattle.std.specs.Option.{option_map}
 use Rattle.std.proofs.lemmas.Bool.{ltb-false, ltb-true}
 use Rattle.std.proofs.lemmas.List.{get_or_past, length-set}
-use Rattle.std.proofs.lemmas.List.Concat.{flat_map-cons}
 use Rattle.csp_buffer.specs.Content.{Content}
 use Rattle.csp_buffer.specs.PlainBuffer.{PlainBuffer}
 use Rattle.csp_conn.specs.PlainConns.{place_of}
 use Rattle.csp_ports.proofs.Public.{flows_none, Flows, flows_machine, flows_then, machine_later, machine_whole, machines_of_terms, whole_at, flows_handed, tally, tally_append, tally_none, tally_same, sent_whole}
-use Rattle.csp_ports.specs.Came.{Came, come, pictures, reporting, then}
-use Rattle.csp_ports.specs.Held.{held, slot_buffers, stalled_buffers}
+use Rattle.csp_ports.specs.Came.{Came, come, reporting, then}
 use Rattle.csp_ports.specs.Keeps.{AreWhole}
 use Rattle.csp_ports.specs.Packets.{back_by, handing, handing_event}
 use Rattle.csp_ports.specs.PlainPorts.{PlainPorts, PlainStalled, anywhere, machine_at, machine_in, stalled_at, state_at, untouched, with_terms}
@@ -46,15 +44,6 @@ terms_whole p app slot t h = record {
   places = h.places;
   waits = h.waits;
 }
-
-same_buffers : (ss : List SlotState) (k : ℕ) (s : SlotState) → slot_buffers s ≡ slot_buffers (get_or ss k untouched) → flat_map slot_buffers (slice_set ss k s) ≡ flat_map slot_buffers ss
-same_buffers [] k s e = refl
-same_buffers (x ∷ ss) zero s e = flat_map-cons slot_buffers s ss ∙ ap (λ bs. bs ++ flat_map slot_buffers ss) e ∙ sym (flat_map-cons slot_buffers x ss)
-same_buffers (x ∷ ss) (suc k) s e = flat_map-cons slot_buffers x (slice_set ss k s) ∙ ap (λ bs. slot_buffers x ++ bs) (same_buffers ss k s e) ∙ sym (flat_map-cons slot_buffers x ss)
-
-pub terms_held : (p : PlainPorts) (app slot : ℕ) (t : Terms) → held (with_terms p app slot t) ≡ held p
-terms_held p app slot t =
-    ap (λ (bs : List PlainBuffer). pictures (flat_map stalled_buffers p.stalled ++ bs)) (same_buffers p.slots (place_of app slot) (record (state_at p app slot) { terms = t }) refl)
 
 -- ---- a packet that is handed to the machine of any slot
 

@@ -25,7 +25,7 @@ use Rattle.csp_log.specs.declared.note.Note.TheVariants as note
 use Rattle.csp_log.specs.declared.places.TheConstants.{UNMARKED}
 use Rattle.csp_log.specs.declared.shown.ItemShown.{ItemShown}
 use Rattle.csp_log.specs.declared.shown.ItemShown.TheVariants as item
-use Rattle.csp_ports.proofs.Public.{Flows, flows_connected, flows_ended, flows_invited, flows_submitted}
+use Rattle.csp_ports.proofs.Public.{Flows, flows_connected, flows_ended, flows_invited, flows_submitted, held_terms}
 use Rattle.csp_ports.specs.Asking.{bind_by, close, connect, is_reliable}
 use Rattle.csp_ports.specs.Came.{Came}
 use Rattle.csp_ports.specs.Keeps.{AreWhole}
@@ -54,7 +54,7 @@ use Rattle.csp_stack.specs.Router.{Facts, Leaving, State, holds, origin_of}
 use Rattle.csp_stack.specs.Rules.{◌>>=◌, Arrival, Decided, Left, accepting, addressed, answer_flags, arrival, by_answer, by_connection, by_mark, by_row, by_service, by_slot, by_socket, connection_of, forwarded, heard, invitation_of, inviting, is_lacking, is_mixed, on_connection, opening, requested, sent, sent_by, served, slot_of, to_connection, to_itself, to_machine, to_slot, with_payload}
 use Rattle.csp_stack.specs.Serving.{facts_of, reply_header, reply_in, with_facts}
 use Rattle.csp_stack.specs.Told.{Told, absorbed, discarded, kept, leaving, ported, spent, unchanged, with_ports}
-use Rattle.csp_conserved.proofs.RouterPorts.{flows_handing, found_low, still_whole, terms_held, terms_whole}
+use Rattle.csp_conserved.proofs.RouterPorts.{flows_handing, found_low, still_whole, terms_whole}
 
 -- a router in the second state holds what it held in the first and these buffers besides, and its ports are whole
 abbrev pub Adds : State → State → List ℕ → Type 0
@@ -180,7 +180,7 @@ module _ (f : Facts) (s : State) (empty : s.out ≡ None) (w : AreWhole s.ports)
       let begins : PlainPorts = record s.ports { conns = with_slot s.ports.conns app slot (has.Open (connection_of p.head)) } in
       let terms : Terms = record (terms_at s.ports app slot) { prio = p.head.prio; flags = answer_flags p.head; wish = wish.Nothing; is_down = false } in
       let one = adds_leaving (with_ports s q) (to_slot app slot p.buffer) empty (terms_whole begins app slot terms (still_whole s.ports begins refl refl refl w)) in
-      (λ k. omega (arith, one.0 k, holds_apart k s.trash s.out s.ports, holds_apart k s.trash s.out q, ap (λ (bs : List Content). times k (numbers_of bs)) (terms_held begins app slot terms)), one.1)
+      (λ k. omega (arith, one.0 k, holds_apart k s.trash s.out s.ports, holds_apart k s.trash s.out q, ap (λ (bs : List Content). times k (numbers_of bs)) (held_terms begins app slot terms)), one.1)
 
   inviting_adds : (r : Result Invitation Discard) (slot : Option ℕ) (app : ℕ) (bytes : List ℕ) → Holds (inviting r slot f s app time (came_with bytes))
   inviting_adds (Err reason) slot app bytes = spent_with reason bytes
