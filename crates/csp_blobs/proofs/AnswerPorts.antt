@@ -7,7 +7,7 @@ use Rattle.std.proofs.lemmas.Bool.{eqb-false, eqb-true, ltb-false, ltb-true}
 use Rattle.std.proofs.lemmas.List.Sums.{sum_by-cons, sum_by_push}
 use Rattle.csp_base.specs.declared.priority.Prio.{Prio}
 use Rattle.csp_buffer.specs.Content.{Content}
-use Rattle.csp_conn.specs.PlainConns.{place_of, slot_at}
+use Rattle.csp_conn.specs.PlainConns.{place_of, slot_at, with_slot}
 use Rattle.csp_conn.specs.Slots.{is_free}
 use Rattle.csp_base.specs.declared.limits.TheConstants.{SLOTS}
 use Rattle.csp_conn.specs.declared.slot.Connection.{Connection}
@@ -16,11 +16,12 @@ use Rattle.csp_conn.specs.declared.slot.Slot.TheVariants as has
 use Rattle.csp_log.specs.declared.note.Note.{Note}
 use Rattle.csp_log.specs.declared.note.Note.TheVariants as note
 use Rattle.csp_log.specs.declared.note.Why.TheVariants as reason
-use Rattle.csp_ports.specs.Asking.{answered, answered_by, bind_by, close_by, connect_by, ended_by, ending_in, held_by, is_reliable, joined}
+use Rattle.csp_ports.specs.Asking.{answered, answered_by, bind_by, close_by, connect_by, ended_by, ending_in, held_by, is_reliable, joined, linked}
+use Rattle.csp_ports.specs.Came.{Came}
 use Rattle.csp_ports.specs.Kept.{wished, wishes}
 use Rattle.csp_ports.specs.Packets.{accepted, admitting_by, handing, invited, submitting_in}
-use Rattle.csp_ports.specs.PlainPorts.{PlainPorts, PlainStalled, anywhere, fresh, machine_at, owing, stalled_at, terms_at, waiting, with_terms}
-use Rattle.csp_ports.specs.Steps.{changed, closed_by, connected_by, dropped, dropped_in, dropped_of, dropped_on, has_room, reason_of, refused_by, settled, settled_by, settled_on, stepped, timed, timed_at, timed_in, vacated, went}
+use Rattle.csp_ports.specs.PlainPorts.{PlainPorts, PlainStalled, anywhere, fresh, has_machine, machine_at, owing, stalled_at, start_of, terms_at, terms_of, waiting, with_machine_or, with_stalled, with_terms}
+use Rattle.csp_ports.specs.Steps.{changed, closed_by, connected_by, dropped, dropped_in, dropped_of, dropped_on, has_room, reason_of, refused_by, settled, settled_by, settled_on, stepped, timed, timed_at, timed_in, vacated, went, where_machine}
 use Rattle.csp_ports.specs.Tasks.{delivered, told_down}
 use Rattle.csp_ports.specs.declared.handing.Invitation.{Invitation}
 use Rattle.csp_ports.specs.declared.origin.Origin.{Origin}
@@ -29,10 +30,11 @@ use Rattle.csp_ports.specs.declared.request.Request.{Request}
 use Rattle.csp_ports.specs.declared.terms.Terms.{Terms}
 use Rattle.csp_ports.specs.declared.terms.Wish.{Wish}
 use Rattle.csp_ports.specs.declared.terms.Wish.TheVariants as wish
-use Rattle.csp_ports.proofs.Public.{wishes_earlier, wishes_later}
+use Rattle.csp_ports.proofs.Public.{terms_listed, terms_of_machine, terms_of_terms, wishes_earlier, wishes_later}
 use Rattle.csp_rdp.specs.Changes.{change_between}
+use Rattle.csp_rdp.specs.Holding.{rested}
 use Rattle.csp_rdp.specs.Jobs as jobs
-use Rattle.csp_rdp.specs.Machine.{PlainRdp}
+use Rattle.csp_rdp.specs.Machine.{PlainRdp, accepting, connecting}
 use Rattle.csp_rdp.specs.Table.{after_packet}
 use Rattle.csp_rdp.specs.declared.answers.Change.{Change}
 use Rattle.csp_rdp.specs.declared.answers.Change.TheVariants as change
@@ -45,7 +47,7 @@ use Rattle.csp_rdp_header.specs.declared.head.RdpHead.{RdpHead}
 -- ---- what is due
 
 abbrev pub due : (app : ℕ) → PlainPorts → ℕ
-due app p = waiting app p.owed + wishes app p.terms
+due app p = waiting app p.owed + wishes app (terms_of p)
 
 -- no more is due to any application after than before
 abbrev pub NoMore : (before after : PlainPorts) → Type 0
@@ -66,6 +68,20 @@ none_more app p q f a = omega (arith, f a)
 
 none_then_one : (app : ℕ) (p q r : PlainPorts) → NoMore p q → OneMore app q r → OneMore app p r
 none_then_one app p q r f g a = omega (arith, f a, g a)
+
+one_then_none : (app : ℕ) (p q r : PlainPorts) → OneMore app p q → NoMore q r → OneMore app p r
+one_then_none app p q r f g a = omega (arith, f a, g a)
+
+-- where the terms and the answers owed are as before
+as_due : (p q : PlainPorts) → q.owed ≡ p.owed → terms_of q ≡ terms_of p → NoMore p q
+as_due p q owed terms a =
+    let one = ap (waiting a) owed in
+    let two = ap (wishes a) terms in
+    omega (arith, one, two)
+
+-- as after another machine of a slot, or none
+pub machines : (p : PlainPorts) (app slot : ℕ) (o : Option PlainRdp) → NoMore p (with_machine_or p app slot o)
+machines p app slot o = as_due p (with_machine_or p app slot o) refl (terms_of_machine p app slot o)
 
 -- ---- another element in a place of a list, and the sum over a stretch of it
 
@@ -134,6 +150,19 @@ moved a app slot ts t low = by_app (app == a) refl
         own
     by_app false e = by_order (nat_lt a app) refl e
 
+-- so of the terms of a node's slots
+lighter_at : (a : ℕ) (p : PlainPorts) (app slot : ℕ) (t : Terms) → weight t ≤ weight (terms_at p app slot) → wishes a (terms_of (with_terms p app slot t)) ≤ wishes a (terms_of p)
+lighter_at a p app slot t h =
+    subst (λ (ts : List Terms). wishes a ts ≤ wishes a (terms_of p)) (sym (terms_of_terms p app slot t))
+    (no_heavier a app slot (terms_of p) t (subst (λ (x : Terms). weight t ≤ weight x) (terms_listed p app slot) h))
+
+moved_at : (a : ℕ) (p : PlainPorts) (app slot : ℕ) (t : Terms) → slot < SLOTS
+    → wishes a (terms_of (with_terms p app slot t)) + cond (app == a) (weight (terms_at p app slot)) 0 ≤ wishes a (terms_of p) + cond (app == a) (weight t) 0
+moved_at a p app slot t low =
+    subst (λ (ts : List Terms). wishes a ts + cond (app == a) (weight (terms_at p app slot)) 0 ≤ wishes a (terms_of p) + cond (app == a) (weight t) 0) (sym (terms_of_terms p app slot t))
+    (subst (λ (x : Terms). wishes a (slice_set (terms_of p) (place_of app slot) t) + cond (app == a) (weight x) 0 ≤ wishes a (terms_of p) + cond (app == a) (weight t) 0) (sym (terms_listed p app slot))
+    (moved a app slot (terms_of p) t low))
+
 cond_none : (b : Bool) (n : ℕ) → n ≡ 0 → cond b n 0 ≡ 0
 cond_none true n e = e
 cond_none false n e = refl
@@ -156,14 +185,14 @@ owes p app n a = omega (arith, waits_more a app p.owed n)
 
 -- other terms at a slot, of which no more is to come; or of which something is; and so with an answer
 sets : (p : PlainPorts) (app slot : ℕ) (t : Terms) → weight t ≤ weight (terms_at p app slot) → NoMore p (with_terms p app slot t)
-sets p app slot t h a = omega (arith, no_heavier a app slot p.terms t h)
+sets p app slot t h a = omega (arith, lighter_at a p app slot t h)
 
 sets_more : (p : PlainPorts) (app slot : ℕ) (t : Terms) → slot < SLOTS → OneMore app p (with_terms p app slot t)
-sets_more p app slot t low a = omega (arith, moved a app slot p.terms t low, cond_few (app == a) (weight t) (few_wished t.wish))
+sets_more p app slot t low a = omega (arith, moved_at a p app slot t low, cond_few (app == a) (weight t) (few_wished t.wish))
 
 owes_and_sets : (p : PlainPorts) (app slot : ℕ) (t : Terms) (n : Note) → weight t ≤ weight (terms_at p app slot)
     → OneMore app p (owing (with_terms p app slot t) app n)
-owes_and_sets p app slot t n h a = omega (arith, waits_more a app p.owed n, no_heavier a app slot p.terms t h)
+owes_and_sets p app slot t n h a = omega (arith, waits_more a app p.owed n, lighter_at a p app slot t h)
 
 -- the answer that was to come at the slot is owed
 answers_slot : (p : PlainPorts) (app slot : ℕ) (t : Terms) (n : Note) (w : Wish) → slot < SLOTS → (terms_at p app slot).wish ≡ w → wished w ≡ 1 → weight t ≡ 0
@@ -172,7 +201,7 @@ answers_slot p app slot t n w low is one none a =
     omega (
       arith,
       waits_more a app p.owed n,
-      moved a app slot p.terms t low,
+      moved_at a p app slot t low,
       cond_none (app == a) (weight t) none,
       cond_one (app == a) (weight (terms_at p app slot)) (ap wished is ∙ one),
     )
@@ -182,7 +211,9 @@ answers_slot p app slot t n w low is one none a =
 -- a slot that is free
 vacates : (ordinal app slot : ℕ) (p : PlainPorts) → NoMore p (vacated ordinal app slot p).ports
 vacates ordinal app slot p =
-    sets p app slot (record (terms_at p app slot) { wish = wish.Nothing; is_down = false; ordinal = ordinal }) (least (weight (terms_at p app slot)))
+    let t : Terms = record (terms_at p app slot) { wish = wish.Nothing; is_down = false; ordinal = ordinal } in
+    let q : PlainPorts = with_terms (record p { conns = with_slot p.conns app slot has.Free }) app slot t in
+    both p q (vacated ordinal app slot p).ports (sets p app slot t (least (weight (terms_at p app slot)))) (machines q app slot None)
 
 connects_by : (w : Wish) (app slot : ℕ) (p : PlainPorts) → slot < SLOTS → (terms_at p app slot).wish ≡ w → NoMore p (connected_by w app slot p)
 connects_by wish.Connection app slot p low e =
@@ -194,8 +225,11 @@ connects_by wish.Ended app slot p low e = stays p
 refuses_by : (w : Wish) (why : MachineWhy) (app slot : ℕ) (p : PlainPorts) → slot < SLOTS → (terms_at p app slot).wish ≡ w
     → NoMore p (refused_by w why app slot p).ports
 refuses_by wish.Connection why app slot p low e =
-    answers_slot p app slot (record (terms_at p app slot) { wish = wish.Nothing; is_down = false }) (note.Refused (reason_of why)) wish.Connection low e refl
-    refl
+    let t : Terms = record (terms_at p app slot) { wish = wish.Nothing; is_down = false } in
+    let n : Note = note.Refused (reason_of why) in
+    let q : PlainPorts = with_terms (record p { conns = with_slot p.conns app slot has.Free }) app slot t in
+    let r : PlainPorts = (refused_by wish.Connection why app slot p).ports in
+    both p (owing q app n) r (answers_slot p app slot t n wish.Connection low e refl refl) (as_due (owing q app n) r refl (terms_of_machine q app slot None))
 refuses_by wish.Nothing why app slot p low e = vacates (terms_at p app slot).ordinal app slot p
 refuses_by wish.End why app slot p low e = vacates (terms_at p app slot).ordinal app slot p
 refuses_by wish.Ended why app slot p low e = vacates (terms_at p app slot).ordinal app slot p
@@ -218,12 +252,19 @@ changes change.Closed app slot p low = closes_by (terms_at p app slot).wish (mac
 
 -- the machine of a slot makes a step
 goes : (before : State) (why : MachineWhy) (app slot : ℕ) (r : PlainRdp) (p : PlainPorts) → slot < SLOTS → NoMore p (went before why app slot r p).ports
-goes before why app slot r p low = changes (change_between before r.state why) app slot (stepped app slot r p).ports low
+goes before why app slot r p low =
+    let q : PlainPorts = (stepped app slot r p).ports in
+    both p q (went before why app slot r p).ports (machines p app slot (Some (rested r))) (changes (change_between before r.state why) app slot q low)
+
+-- where the slot has one
+where_goes : (b : Bool) (step : PlainPorts → Came) (p : PlainPorts) → NoMore p (step p).ports → NoMore p (where_machine b step p).ports
+where_goes true step p h = h
+where_goes false step p h = stays p
 
 -- ---- packets that wait
 
 settles_by : (room : Bool) (time app : ℕ) (s : PlainStalled) (p : PlainPorts) → NoMore p (settled_by room time app s p)
-settles_by true time app s p = stays p
+settles_by true time app s p = let q : PlainPorts = with_stalled p app None in machines q app s.slot (Some (jobs.admitting s.buffer time (machine_at q app s.slot)))
 settles_by false time app s p = stays p
 
 settles_on : (o : Option PlainStalled) (time app : ℕ) (p : PlainPorts) → NoMore p (settled_on o time app p)
@@ -250,7 +291,9 @@ drops app p = drops_on (stalled_at p app) app p
 -- ---- the timers
 
 times_at : (time app slot : ℕ) (p : PlainPorts) → slot < SLOTS → NoMore p (timed_at time app slot p).ports
-times_at time app slot p low = goes (machine_at p app slot).state machine_why.Timeout app slot (jobs.ticked time (machine_at p app slot)) p low
+times_at time app slot p low =
+    let r : PlainRdp = machine_at p app slot in
+    where_goes (has_machine p app slot) (went r.state machine_why.Timeout app slot (jobs.ticked time r)) p (goes r.state machine_why.Timeout app slot (jobs.ticked time r) p low)
 
 times_in : (time : ℕ) (ks : List ℕ) (p : PlainPorts) → NoMore p (timed_in time ks p).ports
 times_in time [] p = stays p
@@ -278,15 +321,18 @@ accepts p app slot c prio flags =
 
 pub invites : (o : Origin) (p : PlainPorts) (app slot : ℕ) (c : Connection) (prio : Prio) (flags : ℕ) (i : Invitation) (time : ℕ)
     → NoMore p (invited o p app slot c prio flags i time).ports
-invites o p app slot c prio flags i time = accepts p app slot c prio flags
+invites o p app slot c prio flags i time =
+    let q : PlainPorts = record (accepted p app slot c prio flags) { made = p.made + 1 } in
+    both p q (invited o p app slot c prio flags i time).ports (accepts p app slot c prio flags) (machines q app slot (Some (accepting (start_of o.seed p.made) i.options i.head.seq.0 i.tag o.node p.made time)))
 
 pub hands : (p : PlainPorts) (app slot : ℕ) (h : RdpHead) (b : Content) (time : ℕ) → slot < SLOTS → NoMore p (handing p app slot h b time).ports
 hands p app slot h b time low =
     let r : PlainRdp = machine_at p app slot in
     let next : PlainRdp = after_packet h b.trace.tag (anywhere b) time r in
-    let q : PlainPorts = (went r.state machine_why.Reset app slot next p).ports in
+    let step : PlainPorts → Came = went r.state machine_why.Reset app slot next in
+    let q : PlainPorts = (where_machine (has_machine p app slot) step p).ports in
     let d : PlainPorts = (dropped app q).ports in
-    both p q (settled time app d) (goes r.state machine_why.Reset app slot next p low) (both q d (settled time app d) (drops app q) (settles time app d))
+    both p q (settled time app d) (where_goes (has_machine p app slot) step p (goes r.state machine_why.Reset app slot next p low)) (both q d (settled time app d) (drops app q) (settles time app d))
 
 pub delivers : (time app slot : ℕ) (p : PlainPorts) → slot < SLOTS → NoMore p (delivered time app slot p).ports
 delivers time app slot p low =
@@ -295,7 +341,7 @@ delivers time app slot p low =
     both p q (dropped app q).ports (goes r.state machine_why.Reset app slot (jobs.delivering time r) p low) (drops app q)
 
 admits_by : (room : Bool) (p : PlainPorts) (app slot : ℕ) (b : Content) (time : ℕ) → NoMore p (admitting_by room p app slot b time)
-admits_by true p app slot b time = stays p
+admits_by true p app slot b time = machines p app slot (Some (jobs.admitting (anywhere b) time (machine_at p app slot)))
 admits_by false p app slot b time = stays p
 
 pub submits_in : (st : State) (p : PlainPorts) (app slot : ℕ) (b : Content) (time : ℕ) → NoMore p (submitting_in st p app slot b time).ports
@@ -322,7 +368,10 @@ joins false o p app r own time low =
     owes_and_sets p app r.slot (record (terms_at p app r.slot) { prio = r.prio; flags = r.flags; wish = wish.Nothing; is_down = false }) (note.Connected r.slot)
     (least (weight (terms_at p app r.slot)))
 joins true o p app r own time low =
-    sets_more p app r.slot (record (terms_at p app r.slot) { prio = r.prio; flags = r.flags; wish = wish.Connection; is_down = false }) low
+    let q : PlainPorts = record (linked wish.Connection p app r own) { made = p.made + 1 } in
+    one_then_none app p q (joined true o p app r own time).ports
+    (sets_more p app r.slot (record (terms_at p app r.slot) { prio = r.prio; flags = r.flags; wish = wish.Connection; is_down = false }) low)
+    (machines q app r.slot (Some (connecting (start_of o.seed p.made) o.options o.node p.made time)))
 
 pub connects_to : (x : Slot) (refused : Bool) (own : Option ℕ) (o : Origin) (p : PlainPorts) (app : ℕ) (r : Request) (time : ℕ) → r.slot < SLOTS
     → OneMore app p (connect_by x refused own o p app r time).ports
@@ -349,8 +398,10 @@ ends_by true p app slot time low = none_more app p p (stays p)
 ends_by false p app slot time low =
     let r : PlainRdp = jobs.closing time (machine_at p app slot) in
     let q : PlainPorts = held_by (is_free (slot_at p.conns app slot)) p app slot in
-    let s : PlainPorts = (stepped app slot r q).ports in
-    none_then_one app p s (ending_in r.state app slot s) (holds_by (is_free (slot_at p.conns app slot)) p app slot) (ends_in r.state app slot s low)
+    let s : PlainPorts = (where_machine (has_machine p app slot) (stepped app slot r) q).ports in
+    none_then_one app p s (ending_in r.state app slot s)
+    (both p q s (holds_by (is_free (slot_at p.conns app slot)) p app slot) (where_goes (has_machine p app slot) (stepped app slot r) q (machines q app slot (Some (rested r)))))
+    (ends_in r.state app slot s low)
 
 -- ---- the push of an answer
 
@@ -366,7 +417,7 @@ ended_so (note.Close slot) app p = stays p
 
 pub answers_one : (o : Owed) (os : List Owed) (p : PlainPorts) → p.owed ≡ o ∷ os → (a : ℕ) → due a (answered p).ports + cond (o.app == a) 1 0 ≤ due a p
 answers_one o os p e a =
-    let rest : due a (answered_by (o ∷ os) p).ports ≤ waiting a os + wishes a p.terms = ended_so o.note o.app (record p { owed = os }) a in
+    let rest : due a (answered_by (o ∷ os) p).ports ≤ waiting a os + wishes a (terms_of p) = ended_so o.note o.app (record p { owed = os }) a in
     let first : waiting a p.owed ≡ cond (o.app == a) 1 0 + waiting a os = ap (waiting a) e ∙ sum_by-cons (λ (x : Owed). cond (x.app == a) 1 0) o os in
     let one : due a (answered_by (o ∷ os) p).ports + cond (o.app == a) 1 0 ≤ due a p = omega (arith, rest, first) in
     subst (λ xs. due a (answered_by xs p).ports + cond (o.app == a) 1 0 ≤ due a p) (sym e) one

@@ -32,15 +32,16 @@ use Rattle.csp_log.specs.declared.shown.ItemShown.TheVariants as item
 use Rattle.csp_log.specs.declared.shown.OpShown.{OpShown}
 use Rattle.csp_log.specs.declared.shown.OpShown.TheVariants as op
 use Rattle.csp_ports.specs.Asking.{answered, is_reliable}
-use Rattle.csp_ports.specs.PlainPorts.{PlainPorts, is_closing, machine_at, ports_of, terms_at}
-use Rattle.csp_ports.specs.Tasks.{kept_again, made_in, making, next_task}
+use Rattle.csp_ports.specs.PlainPorts.{PlainPorts, anywhere, is_closing, machine_at, ports_of, terms_at, terms_of}
+use Rattle.csp_ports.specs.Tasks.{delivered, kept_again, made_in, making, next_task, turned}
 use Rattle.csp_ports.specs.declared.handing.Invitation.{Invitation}
 use Rattle.csp_ports.specs.declared.owed.Owed.{Owed}
 use Rattle.csp_ports.specs.declared.request.Request.{Request}
 use Rattle.csp_ports.specs.declared.task.Task.{Task}
 use Rattle.csp_ports.specs.declared.task.Task.TheVariants as task
+use Rattle.csp_ports.specs.Kept.{wishes}
 use Rattle.csp_ports.proofs.Public.{wishes-none}
-use Rattle.csp_rdp.specs.Jobs.{delivery}
+use Rattle.csp_rdp.specs.Jobs.{delivery, keeping_again, sent as sends_job, without_delivery}
 use Rattle.csp_rdp.specs.declared.jobs.Job.{Job}
 use Rattle.csp_rdp_header.specs.Head.{parted}
 use Rattle.csp_rdp_header.specs.declared.head.RdpHead.{RdpHead}
@@ -73,7 +74,7 @@ use Rattle.csp_prefix.proofs.Public.{task_there}
 use Rattle.csp_blobs.specs.Asking as asking
 use Rattle.csp_blobs.specs.Asking.{AnswerNoMore, answered_in, asked_in, is_note}
 use Rattle.csp_blobs.proofs.AnswerItems.{counted, counted_few, counts_append, none_counts, one_counts}
-use Rattle.csp_blobs.proofs.AnswerPorts.{NoMore, accepts, answers_one, binds_by, connects_to, delivers, due, ends_by, hands, invites, stays, submits_in, tells, times}
+use Rattle.csp_blobs.proofs.AnswerPorts.{NoMore, accepts, answers_one, binds_by, both, connects_to, delivers, due, ends_by, hands, invites, machines, stays, submits_in, tells, times}
 
 -- ---- what a router hears leaves no more due
 
@@ -340,9 +341,12 @@ module _ (f : Facts) (a : ℕ) where
   turn_deliver : (app slot : ℕ) (s : State) (time : ℕ) (x : AnswerShown) → slot < SLOTS → Turns s time (plan.Deliver app slot) x
   turn_deliver app slot s time x low =
       let t : State = until s time (plan.Deliver app slot) in
+      let q : PlainPorts = turned app slot s.ports in
+      let taken : NoMore s.ports t.ports = machines q app slot (Some (without_delivery (machine_at q app slot))) in
       evens_quiet (delivering (delivery (machine_at s.ports app slot)) app slot) x s.ports (ports_after s time (plan.Deliver app slot) x) (none_put (delivery (machine_at s.ports app slot)))
-      (pushed_so s.ports (is_pushed x) _ _ (delivers time app slot t.ports low)
-      (brought_so s.ports t (λ p. unchanged (with_ports t (kept_again app slot p.buffer t.ports))) (packet_in (item_in x)) (stays s.ports) (λ p. stays s.ports)))
+      (pushed_so s.ports (is_pushed x) _ _ (both s.ports t.ports (delivered time app slot t.ports).ports taken (delivers time app slot t.ports low))
+      (brought_so s.ports t (λ p. unchanged (with_ports t (kept_again app slot p.buffer t.ports))) (packet_in (item_in x)) taken
+      (λ p. both s.ports t.ports (kept_again app slot p.buffer t.ports) taken (machines t.ports app slot (Some (keeping_again (anywhere p.buffer) (machine_at t.ports app slot)))))))
     where
       none_put : (o : Option PlainBuffer) → answered_in (put_by (queue.Down a) (delivering o app slot) x) ≡ 0
       none_put None = refl
@@ -352,7 +356,9 @@ module _ (f : Facts) (a : ℕ) where
   made_so has.Free j s app slot time b = stays s.ports
   made_so has.Held j s app slot time b = stays s.ports
   made_so (has.Open c) j s app slot time b =
-      sends f (with_ports s (making j time app slot s.ports)) (addressed f c (terms_at s.ports app slot) (made_in j time app slot b s.ports))
+      let t : State = with_ports s (making j time app slot s.ports) in
+      let x : Content = addressed f c (terms_at s.ports app slot) (made_in j time app slot b s.ports) in
+      both s.ports t.ports (sent f t x).state.ports (machines s.ports app slot (Some (sends_job j time (machine_at s.ports app slot)))) (sends f t x)
 
   turn_make : (app slot : ℕ) (j : Job) (s : State) (time : ℕ) (x : AnswerShown) → Turns s time (plan.Make app slot j) x
   turn_make app slot j s time x =
@@ -442,7 +448,9 @@ module _ (f : Facts) (a : ℕ) where
 -- ---- the law
 
 none_due : (apps a : ℕ) → due a (ports_of apps) ≡ 0
-none_due apps a = omega (arith, wishes-none ALL_SLOTS a)
+none_due apps a =
+    let none : wishes a (terms_of (ports_of apps)) ≡ 0 = wishes-none ALL_SLOTS a in
+    omega (arith, none)
 
 pub no_more : AnswerNoMore
 no_more f routes es before after app log e =

@@ -24,7 +24,7 @@ use Rattle.csp_log.specs.declared.shown.OpShown.{OpShown}
 use Rattle.csp_party.specs.Any.{PlainParty, a_bridge, a_hub, a_link, a_router, an_app, an_iface, holds}
 use Rattle.csp_ports.proofs.Public.{idle_whole}
 use Rattle.csp_ports.specs.Keeps.{AreWhole}
-use Rattle.csp_ports.specs.PlainPorts.{PlainStalled, ports_of}
+use Rattle.csp_ports.specs.PlainPorts.{PlainStalled, ports_of, untouched}
 use Rattle.csp_prefix.proofs.Public.{router_there, each_any, each_both}
 use Rattle.csp_prefix.specs.Routers.{ComesSo}
 use Rattle.csp_rdp.specs.Balance.{IsWhole}
@@ -144,7 +144,7 @@ opening_whole apps few =
     let none : Option PlainStalled = None in
     record {
       few = few;
-      slots = length-replicate ALL_SLOTS idle;
+      slots = length-replicate ALL_SLOTS untouched;
       machines = All-replicate IsWhole ALL_SLOTS idle idle_whole;
       places = length-replicate MAX_APPS none;
       waits = All-replicate (λ (s : Option PlainStalled). IfSome s (λ t. t.slot < SLOTS)) MAX_APPS none tt;

@@ -1,20 +1,25 @@
 -- The steps of a router's ports: none loses a number of a buffer or makes one.
-use Rattle.std.proofs.Common.{◌≡◌, ℕ, ◌+◌, ◌/◌, ◌%◌, ◌<◌, Bool, true, false, nat_lt, Option, None, Some, [], ◌∷◌, ◌++◌, refl, sym, ap, subst, arith}
+use Rattle.std.proofs.Common.{◌≡◌, ℕ, ◌+◌, ◌/◌, ◌%◌, ◌<◌, Bool, true, false, nat_lt, Option, None, Some, List, [], ◌∷◌, ◌++◌, map, refl, sym, ap, ◌∙◌, subst, arith}
+use Rattle.std.specs.Prelude.{is_some}
+use Rattle.std.specs.List.{All}
 use Rattle.std.specs.Option.{option_map}
 use Rattle.std.proofs.lemmas.Bool.{ltb-false, ltb-true}
-use Rattle.std.proofs.lemmas.List.{get_or_past}
+use Rattle.std.proofs.lemmas.List.{get_or_past, length-set}
 use Rattle.csp_buffer.specs.Content.{Content}
 use Rattle.csp_buffer.specs.PlainBuffer.{PlainBuffer}
 use Rattle.csp_conn.specs.PlainConns.{place_of}
-use Rattle.csp_ports.proofs.Public.{flows_none, flows_replaced, Flows, flows_machine, flows_then, machine_later, machine_whole, whole_at, flows_handed, tally, tally_append, tally_none, tally_same, weight, sent_whole}
+use Rattle.csp_ports.proofs.Public.{flows_none, Flows, flows_machine, flows_then, machine_later, machine_whole, machines_of_terms, whole_at, flows_handed, tally, tally_append, tally_none, tally_same, sent_whole}
 use Rattle.csp_ports.specs.Came.{Came, come, reporting, then}
 use Rattle.csp_ports.specs.Keeps.{AreWhole}
 use Rattle.csp_ports.specs.Packets.{back_by, handing, handing_event}
-use Rattle.csp_ports.specs.PlainPorts.{PlainPorts, PlainStalled, anywhere, machine_at, stalled_at, with_machine}
-use Rattle.csp_ports.specs.Steps.{dropped, dropped_on, settled, settled_on, went}
+use Rattle.csp_ports.specs.PlainPorts.{PlainPorts, PlainStalled, anywhere, machine_at, machine_in, stalled_at, state_at, untouched, with_terms}
+use Rattle.csp_ports.specs.Steps.{dropped, dropped_on, settled, settled_on, went, where_machine}
 use Rattle.csp_ports.specs.Tasks.{kept_again, making, turned, without_packet}
+use Rattle.csp_ports.specs.declared.terms.SlotState.{SlotState}
+use Rattle.csp_ports.specs.declared.terms.Terms.{Terms}
 use Rattle.csp_rdp.proofs.Public.{delivery-balanced, whole-again, whole-taken, far-taken}
-use Rattle.csp_rdp.specs.Holding.{rdp_buffers, rdp_numbers, rested}
+use Rattle.csp_rdp.specs.Balance.{IsWhole}
+use Rattle.csp_rdp.specs.Holding.{rdp_numbers}
 use Rattle.csp_rdp.specs.Jobs.{delivery, delivery_in, keeping_again, sent, without_delivery}
 use Rattle.csp_rdp.specs.Machine.{PlainRdp, idle}
 use Rattle.csp_rdp.specs.Table.{back_of, after_packet, is_stray, row_of}
@@ -27,17 +32,27 @@ use Rattle.csp_rdp_window.specs.Numbers.{number_in}
 use Rattle.csp_rdp_window.specs.Receiving.{is_kept}
 
 -- ports are whole where the buffers are where they were in whole ones
-pub still_whole : (p q : PlainPorts) → q.conns.apps ≡ p.conns.apps → q.machines ≡ p.machines → q.stalled ≡ p.stalled → AreWhole p → AreWhole q
-still_whole p q a b c h = record { few = rw a h.few; slots = rw b h.slots; machines = rw b h.machines; places = rw c h.places; waits = rw c h.waits }
+pub still_whole : (p q : PlainPorts) → q.conns.apps ≡ p.conns.apps → q.slots ≡ p.slots → q.stalled ≡ p.stalled → AreWhole p → AreWhole q
+still_whole p q a b c h = record { few = rw a h.few; slots = rw b h.slots; machines = subst (λ (ss : List SlotState). All IsWhole (map machine_in ss)) (sym b) h.machines; places = rw c h.places; waits = rw c h.waits }
+
+-- and other terms of a slot leave them there
+pub terms_whole : (p : PlainPorts) (app slot : ℕ) (t : Terms) → AreWhole p → AreWhole (with_terms p app slot t)
+terms_whole p app slot t h = record {
+  few = h.few;
+  slots = length-set p.slots (place_of app slot) (record (state_at p app slot) { terms = t }) ∙ h.slots;
+  machines = subst (λ (rs : List PlainRdp). All IsWhole rs) (sym (machines_of_terms p app slot t)) h.machines;
+  places = h.places;
+  waits = h.waits;
+}
 
 -- ---- a packet that is handed to the machine of any slot
 
--- what comes of it, by what the machine is
-abbrev handing_to : PlainRdp → PlainPorts → ℕ → ℕ → RdpHead → Content → ℕ → Came
-handing_to r p app slot h b time =
+-- what comes of it, by what the machine is, where the slot has one
+abbrev handing_to : (has_machine : Bool) → PlainRdp → PlainPorts → ℕ → ℕ → RdpHead → Content → ℕ → Came
+handing_to has r p app slot h b time =
     reporting (handing_event r b.trace.tag)
     (then (back_by (back_of (row_of r h b.payload) (anywhere b)) (is_stray (row_of r h b.payload)) p) (λ p.
-    then (went r.state machine_why.Reset app slot (after_packet h b.trace.tag (anywhere b) time r) p) (λ p.
+    then (where_machine has (went r.state machine_why.Reset app slot (after_packet h b.trace.tag (anywhere b) time r)) p) (λ p.
     then (dropped app p) (λ p.
     come (settled time app p)))))
 
@@ -48,24 +63,20 @@ none_dropped p app none h = subst (λ w. Flows 0 p (dropped_on w app p).ports (d
 none_settled : (time : ℕ) (p : PlainPorts) (app : ℕ) → stalled_at p app ≡ None → AreWhole p → Flows 1 p (settled time app p) [] []
 none_settled time p app none h = subst (λ w. Flows 1 p (settled_on w time app p) [] []) (sym none) (flows_none 1 p h)
 
-none_replaced : (p : PlainPorts) (app slot : ℕ) (b : Content) → machine_at p app slot ≡ idle → AreWhole p → Flows 0 p (with_machine p app slot (rested idle)) (b ∷ []) (b.number ∷ [])
-none_replaced p app slot b none h =
-    let one = flows_replaced p app slot (rested idle) (record { unopened = tt; ordered = tt }) (record { admitted = omega arith; delivered = omega arith }) refl h in
-    let nothing : (o : Option ℕ) → weight o (rdp_buffers (machine_at p app slot)) ≡ tally o [] = λ o. ap (λ r. weight o (rdp_buffers r)) none in
-    record { counts = λ o. omega (arith, one.counts o, nothing o, tally_none o); far = one.far; whole = one.whole }
+none_handed : (p : PlainPorts) (b : Content) → AreWhole p → Flows 0 p p (b ∷ []) (b.number ∷ [])
+none_handed p b h = let one = flows_none 0 p h in record { counts = λ o. omega arith; far = one.far; whole = h }
 
 -- so it has no use for a packet: that joins the trash
-handed_beyond : (p : PlainPorts) (app slot : ℕ) (h : RdpHead) (b : Content) (time : ℕ) → machine_at p app slot ≡ idle → stalled_at p app ≡ None → AreWhole p
-    → Flows 1 p (handing_to idle p app slot h b time).ports (handing_to idle p app slot h b time).loose (b.number ∷ [])
-handed_beyond p app slot h b time none waits w =
-    let q : PlainPorts = with_machine p app slot (rested idle) in
-    let two = dropped app q in
-    let first = none_replaced p app slot b none w in
-    let second = none_dropped q app waits first.whole in
-    let both = flows_then 0 0 0 p q two.ports (b ∷ []) two.loose (b.number ∷ []) (omega arith) first second in
-    flows_then 0 1 1 p two.ports (settled time app two.ports) ((b ∷ []) ++ two.loose) [] (b.number ∷ []) (omega arith) both (none_settled time two.ports app (none_after (stalled_at q app) waits) second.whole)
+handed_beyond : (p : PlainPorts) (app slot : ℕ) (h : RdpHead) (b : Content) (time : ℕ) → stalled_at p app ≡ None → AreWhole p
+    → Flows 1 p (handing_to false idle p app slot h b time).ports (handing_to false idle p app slot h b time).loose (b.number ∷ [])
+handed_beyond p app slot h b time waits w =
+    let two = dropped app p in
+    let first = none_handed p b w in
+    let second = none_dropped p app waits w in
+    let both = flows_then 0 0 0 p p two.ports (b ∷ []) two.loose (b.number ∷ []) (omega arith) first second in
+    flows_then 0 1 1 p two.ports (settled time app two.ports) ((b ∷ []) ++ two.loose) [] (b.number ∷ []) (omega arith) both (none_settled time two.ports app (none_after (stalled_at p app) waits) second.whole)
   where
-    none_after : (w : Option PlainStalled) → w ≡ None → stalled_at (dropped_on w app (with_machine p app slot (rested idle))).ports app ≡ None
+    none_after : (w : Option PlainStalled) → w ≡ None → stalled_at (dropped_on w app p).ports app ≡ None
     none_after None e = waits
     none_after (Some s) e = absurd cc
 
@@ -77,9 +88,10 @@ flows_handing p app slot h b time low w =
     by true e = let few = ltb-true app 4 e in flows_handed p app slot h b time few (omega (arith, few, low)) w
     by false e =
         let many = ltb-false app 4 e in
-        let none : machine_at p app slot ≡ idle = get_or_past p.machines (place_of app slot) idle (omega (arith, many, w.slots)) in
+        let past : state_at p app slot ≡ untouched = get_or_past p.slots (place_of app slot) untouched (omega (arith, many, w.slots)) in
         let waits : stalled_at p app ≡ None = get_or_past p.stalled app None (omega (arith, many, w.places)) in
-        subst (λ r. Flows 1 p (handing_to r p app slot h b time).ports (handing_to r p app slot h b time).loose (b.number ∷ [])) (sym none) (handed_beyond p app slot h b time none waits w)
+        subst (λ (s : SlotState). Flows 1 p (handing_to (is_some s.machine) (machine_in s) p app slot h b time).ports (handing_to (is_some s.machine) (machine_in s) p app slot h b time).loose (b.number ∷ [])) (sym past)
+        (handed_beyond p app slot h b time waits w)
 
 -- the slot whose connection was found is one of an application's
 pub found_low : (o : Option ℕ) (at : ℕ × ℕ) → option_map (λ place. (place / 4, place % 4)) o ≡ Some at → at.1 < 4

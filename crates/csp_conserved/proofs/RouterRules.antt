@@ -1,18 +1,19 @@
 -- What a router does with what came: its buffer is held then, and no other goes or comes.
-use Rattle.std.proofs.Common.{◌≡◌, ◌≢◌, ℕ, ◌+◌, ◌<◌, ◌==◌, Bool, true, false, Option, None, Some, Result, Ok, Err, List, [], ◌∷◌, ◌++◌, nat_lt, refl, subst, arith}
+use Rattle.std.proofs.Common.{◌≡◌, ◌≢◌, ℕ, ◌+◌, ◌<◌, ◌==◌, Bool, true, false, Option, None, Some, Result, Ok, Err, List, [], ◌∷◌, ◌++◌, nat_lt, refl, ap, subst, arith}
 use Rattle.std.specs.Prelude.{if◌then◌else◌}
 use Rattle.std.specs.List.{position}
 use Rattle.std.proofs.lemmas.Bool.{eq-eqb}
 use Rattle.csp_base.specs.Trace.{no_trace}
 use Rattle.csp_buffer.specs.Content.{Content}
 use Rattle.csp_conn.specs.Opening.{first_free}
-use Rattle.csp_conn.specs.PlainConns.{slot_at}
+use Rattle.csp_conn.specs.PlainConns.{slot_at, with_slot}
 use Rattle.csp_conn.specs.Slots.{is_between}
 use Rattle.csp_conn.specs.declared.slot.Connection.{Connection}
 use Rattle.csp_conn.specs.declared.slot.Slot.{Slot}
 use Rattle.csp_conn.specs.declared.slot.Slot.TheVariants as has
 use Rattle.csp_crc.specs.Check.{payload_of}
 use Rattle.csp_deck.specs.Carried.{IsUpItem}
+use Rattle.csp_deck.specs.Keeping.{numbers_of}
 use Rattle.csp_deck.specs.Step.{item_numbers, times}
 use Rattle.csp_header.specs.Word.{header_at}
 use Rattle.csp_log.specs.declared.event.Discard.{Discard}
@@ -24,7 +25,7 @@ use Rattle.csp_log.specs.declared.note.Note.TheVariants as note
 use Rattle.csp_log.specs.declared.places.TheConstants.{UNMARKED}
 use Rattle.csp_log.specs.declared.shown.ItemShown.{ItemShown}
 use Rattle.csp_log.specs.declared.shown.ItemShown.TheVariants as item
-use Rattle.csp_ports.proofs.Public.{Flows, flows_connected, flows_ended, flows_invited, flows_submitted}
+use Rattle.csp_ports.proofs.Public.{Flows, flows_connected, flows_ended, flows_invited, flows_submitted, held_terms}
 use Rattle.csp_ports.specs.Asking.{bind_by, close, connect, is_reliable}
 use Rattle.csp_ports.specs.Came.{Came}
 use Rattle.csp_ports.specs.Keeps.{AreWhole}
@@ -32,6 +33,8 @@ use Rattle.csp_ports.specs.Packets.{accepted, handing, invited, submitting}
 use Rattle.csp_ports.specs.PlainPorts.{PlainPorts, is_closing, machine_at, stalled_at, terms_at}
 use Rattle.csp_ports.specs.declared.handing.Invitation.{Invitation}
 use Rattle.csp_ports.specs.declared.request.Request.{Request}
+use Rattle.csp_ports.specs.declared.terms.Terms.{Terms}
+use Rattle.csp_ports.specs.declared.terms.Wish.TheVariants as wish
 use Rattle.csp_rdp_header.specs.Head.{parted}
 use Rattle.csp_rdp_header.specs.declared.head.RdpHead.{RdpHead}
 use Rattle.csp_route.specs.Routes.{route_of}
@@ -51,7 +54,7 @@ use Rattle.csp_stack.specs.Router.{Facts, Leaving, State, holds, origin_of}
 use Rattle.csp_stack.specs.Rules.{◌>>=◌, Arrival, Decided, Left, accepting, addressed, answer_flags, arrival, by_answer, by_connection, by_mark, by_row, by_service, by_slot, by_socket, connection_of, forwarded, heard, invitation_of, inviting, is_lacking, is_mixed, on_connection, opening, requested, sent, sent_by, served, slot_of, to_connection, to_itself, to_machine, to_slot, with_payload}
 use Rattle.csp_stack.specs.Serving.{facts_of, reply_header, reply_in, with_facts}
 use Rattle.csp_stack.specs.Told.{Told, absorbed, discarded, kept, leaving, ported, spent, unchanged, with_ports}
-use Rattle.csp_conserved.proofs.RouterPorts.{flows_handing, found_low, still_whole}
+use Rattle.csp_conserved.proofs.RouterPorts.{flows_handing, found_low, still_whole, terms_whole}
 
 -- a router in the second state holds what it held in the first and these buffers besides, and its ports are whole
 abbrev pub Adds : State → State → List ℕ → Type 0
@@ -174,8 +177,10 @@ module _ (f : Facts) (s : State) (empty : s.out ≡ None) (w : AreWhole s.ports)
   accepting_adds (Some slot) app bytes =
       let p : Arrival = came_with bytes in
       let q : PlainPorts = accepted s.ports app slot (connection_of p.head) p.head.prio (answer_flags p.head) in
-      let one = adds_leaving (with_ports s q) (to_slot app slot p.buffer) empty (still_whole s.ports q refl refl refl w) in
-      (one.0, one.1)
+      let begins : PlainPorts = record s.ports { conns = with_slot s.ports.conns app slot (has.Open (connection_of p.head)) } in
+      let terms : Terms = record (terms_at s.ports app slot) { prio = p.head.prio; flags = answer_flags p.head; wish = wish.Nothing; is_down = false } in
+      let one = adds_leaving (with_ports s q) (to_slot app slot p.buffer) empty (terms_whole begins app slot terms (still_whole s.ports begins refl refl refl w)) in
+      (λ k. omega (arith, one.0 k, holds_apart k s.trash s.out s.ports, holds_apart k s.trash s.out q, ap (λ (bs : List Content). times k (numbers_of bs)) (held_terms begins app slot terms)), one.1)
 
   inviting_adds : (r : Result Invitation Discard) (slot : Option ℕ) (app : ℕ) (bytes : List ℕ) → Holds (inviting r slot f s app time (came_with bytes))
   inviting_adds (Err reason) slot app bytes = spent_with reason bytes

@@ -19,7 +19,7 @@ use Rattle.csp_log.specs.declared.shown.AnswerShown.TheVariants as answer
 use Rattle.csp_log.specs.declared.shown.ItemShown.{ItemShown}
 use Rattle.csp_log.specs.declared.shown.ItemShown.TheVariants as item
 use Rattle.csp_log.specs.declared.shown.OpShown.TheVariants as op
-use Rattle.csp_ports.proofs.Public.{flows_timed, flows_answered, flows_delivered, keeps_again, keeps_made, now_taken}
+use Rattle.csp_ports.proofs.Public.{flows_timed, flows_answered, flows_delivered, held_terms, keeps_again, keeps_made, now_taken}
 use Rattle.csp_ports.specs.Asking.{answered}
 use Rattle.csp_ports.specs.Keeps.{AreWhole}
 use Rattle.csp_ports.specs.PlainPorts.{PlainPorts, machine_at, stalled_at, terms_at}
@@ -28,6 +28,7 @@ use Rattle.csp_ports.specs.Tasks.{delivered, kept_again, made_in, making, next_t
 use Rattle.csp_ports.specs.declared.owed.Owed.{Owed}
 use Rattle.csp_ports.specs.declared.task.Task.{Task}
 use Rattle.csp_ports.specs.declared.task.Task.TheVariants as task
+use Rattle.csp_ports.specs.declared.terms.Terms.{Terms}
 use Rattle.csp_prefix.proofs.Public.{IsTask, deliver_job, found_passes, serves_free, task_there}
 use Rattle.csp_prefix.specs.Routers.{ComesSo}
 use Rattle.csp_rdp.specs.Jobs.{delivery}
@@ -46,7 +47,7 @@ use Rattle.csp_stack.specs.Readings.{buffer_in, is_pushed, item_in}
 use Rattle.csp_stack.specs.declared.plan.Plan.{Plan}
 use Rattle.csp_stack.specs.declared.plan.Plan.TheVariants as plan
 use Rattle.csp_stack.specs.declared.sources.Source.TheVariants as source
-use Rattle.csp_conserved.proofs.RouterPorts.{again_whole, delivers_open, flows_taken, made_whole, still_whole, turned_whole}
+use Rattle.csp_conserved.proofs.RouterPorts.{again_whole, delivers_open, flows_taken, made_whole, terms_whole, turned_whole}
 use Rattle.csp_conserved.proofs.RouterRules.{Adds, adds_absorbed, adds_discarded, adds_kept, adds_none, adds_ported, heard_adds, sent_adds, served_adds}
 use Rattle.csp_conserved.proofs.Running.{Turns}
 
@@ -148,7 +149,11 @@ module _ (f : Facts) (few : f.apps ≤ MAX_APPS) where
   -- ---- a Down note
   turn_tell : (app slot : ℕ) (s : State) (time : ℕ) (a : AnswerShown) → AreWhole s.ports → TurnsBy s time (plan.Tell app slot) a
   turn_tell app slot s time answer.Pushed w fits comes =
-      (λ k. omega arith, still_whole s.ports (told_down app slot (turned app slot s.ports)) refl refl refl w)
+      let q : PlainPorts = turned app slot s.ports in
+      let terms : Terms = record (terms_at q app slot) { is_down = false } in (
+        λ k. omega (arith, holds_apart k s.trash s.out s.ports, holds_apart k s.trash s.out (told_down app slot q), ap (λ (bs : List Content). times k (numbers_of bs)) (held_terms q app slot terms)),
+        terms_whole q app slot terms (turned_whole s.ports app slot w),
+      )
   turn_tell app slot s time (answer.Full i) w fits comes =
       let h : State = at_rest (asked_by f s time (plan.Tell app slot)) in
       moves_by s h (after_told s time (plan.Tell app slot) (answer.Full i)) [] (item_numbers i) (λ k. omega arith) (back_adds i h (turned_whole s.ports app slot w))

@@ -14,9 +14,10 @@ use Rattle.csp_conn.specs.declared.slot.Slot.TheVariants as has
 use Rattle.csp_log.specs.declared.note.Note.{Note}
 use Rattle.csp_log.specs.declared.note.Note.TheVariants as note
 use Rattle.csp_ports.specs.Asking.{answered, answered_by, bind, bind_by, close, close_by, connect, connect_by, ended_by, ending_in, held_by, is_reliable, joined}
+use Rattle.csp_ports.specs.Came.{Came}
 use Rattle.csp_ports.specs.Packets.{accepted, admitting_by, handing, invited, submitting, submitting_in}
-use Rattle.csp_ports.specs.PlainPorts.{PlainPorts, PlainStalled, anywhere, is_closing, machine_at, stalled_at, terms_at}
-use Rattle.csp_ports.specs.Steps.{changed, closed_by, connected_by, dropped, dropped_in, dropped_of, dropped_on, has_room, refused_by, settled, settled_by, settled_on, stepped, timed, timed_at, timed_in, vacated, went}
+use Rattle.csp_ports.specs.PlainPorts.{PlainPorts, PlainStalled, anywhere, has_machine, is_closing, machine_at, stalled_at, terms_at}
+use Rattle.csp_ports.specs.Steps.{changed, closed_by, connected_by, dropped, dropped_in, dropped_of, dropped_on, has_room, refused_by, settled, settled_by, settled_on, stepped, timed, timed_at, timed_in, vacated, went, where_machine}
 use Rattle.csp_ports.specs.Tasks.{delivered}
 use Rattle.csp_ports.specs.declared.handing.Invitation.{Invitation}
 use Rattle.csp_ports.specs.declared.origin.Origin.{Origin}
@@ -84,6 +85,11 @@ changed_shape change.Closed app slot p = closed_shape (terms_at p app slot).wish
 went_shape : (before : State) (why : Cause) (app slot : ℕ) (r : PlainRdp) (p : PlainPorts) → shape (went before why app slot r p).ports ≡ shape p
 went_shape before why app slot r p = changed_shape (change_between before r.state why) app slot (stepped app slot r p).ports
 
+-- where the slot has a machine
+where_shape : (b : Bool) (step : PlainPorts → Came) (p : PlainPorts) → shape (step p).ports ≡ shape p → shape (where_machine b step p).ports ≡ shape p
+where_shape true step p h = h
+where_shape false step p h = refl
+
 -- ---- the packet that waits
 
 dropped_in_shape : (st : State) (app : ℕ) (s : PlainStalled) (p : PlainPorts) → shape (dropped_in st app s p).ports ≡ shape p
@@ -117,7 +123,10 @@ timed_in_shape : (time : ℕ) (ks : List ℕ) (p : PlainPorts) → shape (timed_
 timed_in_shape time [] p = refl
 timed_in_shape time (k ∷ ks) p =
     let one = timed_at time (k / SLOTS) (k % SLOTS) p in
-    timed_in_shape time ks one.ports ∙ went_shape (machine_at p (k / SLOTS) (k % SLOTS)).state machine_why.Timeout (k / SLOTS) (k % SLOTS) (ticked time (machine_at p (k / SLOTS) (k % SLOTS))) p
+    let r = machine_at p (k / SLOTS) (k % SLOTS) in
+    timed_in_shape time ks one.ports
+    ∙ where_shape (has_machine p (k / SLOTS) (k % SLOTS)) (went r.state machine_why.Timeout (k / SLOTS) (k % SLOTS) (ticked time r)) p
+    (went_shape r.state machine_why.Timeout (k / SLOTS) (k % SLOTS) (ticked time r) p)
 
 dropped_of_shape : (apps : List ℕ) (p : PlainPorts) → shape (dropped_of apps p).ports ≡ shape p
 dropped_of_shape [] p = refl
@@ -139,8 +148,10 @@ invited_shape o p app slot c prio flags i time = accepted_shape p app slot c pri
 pub handing_shape : (p : PlainPorts) (app slot : ℕ) (h : RdpHead) (b : Content) (time : ℕ) → shape (handing p app slot h b time).ports ≡ shape p
 handing_shape p app slot h b time =
     let r = machine_at p app slot in
-    let gone = (went r.state machine_why.Reset app slot (after_packet h b.trace.tag (anywhere b) time r) p).ports in
-    settled_shape time app (dropped app gone).ports ∙ dropped_shape app gone ∙ went_shape r.state machine_why.Reset app slot (after_packet h b.trace.tag (anywhere b) time r) p
+    let step : PlainPorts → Came = went r.state machine_why.Reset app slot (after_packet h b.trace.tag (anywhere b) time r) in
+    let gone = (where_machine (has_machine p app slot) step p).ports in
+    settled_shape time app (dropped app gone).ports ∙ dropped_shape app gone
+    ∙ where_shape (has_machine p app slot) step p (went_shape r.state machine_why.Reset app slot (after_packet h b.trace.tag (anywhere b) time r) p)
 
 pub submitting_shape : (p : PlainPorts) (app slot : ℕ) (b : Content) (time : ℕ) → shape (submitting p app slot b time).ports ≡ shape p
 submitting_shape p app slot b time = by (machine_at p app slot).state
@@ -203,7 +214,8 @@ close_shape p app slot time = by (is_closing (terms_at p app slot).wish)
     by false =
         let r = closing time (machine_at p app slot) in
         let q = held_by (is_free (slot_at p.conns app slot)) p app slot in
-        ending_shape r.state app slot (stepped app slot r q).ports ∙ held_shape (is_free (slot_at p.conns app slot)) p app slot
+        ending_shape r.state app slot (where_machine (has_machine p app slot) (stepped app slot r) q).ports ∙ where_shape (has_machine p app slot) (stepped app slot r) q refl
+        ∙ held_shape (is_free (slot_at p.conns app slot)) p app slot
 
 -- ---- what is answered and delivered
 

@@ -1,5 +1,5 @@
 -- what comes of each step of ports, and that it neither loses a buffer nor counts further than it may
-use Rattle.std.specs.Prelude.{Bool, true, false, IfSome, None, Option, Some}
+use Rattle.std.specs.Prelude.{Bool, true, false, IfSome, None, Option, Some, unwrap_or}
 use Rattle.std.specs.List.{range_with_len}
 use Rattle.std.proofs.Common.{◌≡◌, ℕ, zero, suc, ◌+◌, ◌*◌, ◌/◌, ◌%◌, ◌<◌, ◌≤◌, List, [], ◌∷◌, ◌++◌, refl, arith, ap, subst, sym, ◌∙◌}
 use Rattle.std.proofs.lemmas.List.{length-set}
@@ -10,15 +10,16 @@ use Rattle.csp_conn.specs.PlainConns.{place_of, with_slot}
 use Rattle.csp_base.specs.declared.limits.TheConstants.{SLOTS}
 use Rattle.csp_conn.specs.declared.slot.Slot.TheVariants.{Free}
 use Rattle.csp_ports.proofs.Counting.{all_or, far_at, far_changed, far_closed, far_connected, far_idle, far_terms}
-use Rattle.csp_ports.proofs.Flowing.{Flows, far_later, flows_machine, flows_rested, flows_still, flows_then, machine_far, machine_later, machine_whole, whole_at}
+use Rattle.csp_ports.proofs.Flowing.{Flows, far_later, flows_machine, flows_rested, flows_still, flows_then, machine_far, machine_later, machine_whole_or, whole_at}
+use Rattle.csp_ports.proofs.Slots.{machines_of_terms}
 use Rattle.csp_ports.proofs.Weighing.{machine_gone, tally, tally_append, tally_none, tally_same, waiting_tallied, weigh, weight}
 use Rattle.csp_ports.proofs.Wholes.{admitted_whole, idle_whole, ticked_whole}
 use Rattle.csp_ports.specs.Came.{pictures}
 use Rattle.csp_ports.specs.Counts.{AreFar}
 use Rattle.csp_ports.specs.Held.{stalled_buffers}
 use Rattle.csp_ports.specs.Keeps.{AreWhole}
-use Rattle.csp_ports.specs.PlainPorts.{PlainPorts, PlainStalled, machine_at, stalled_at, terms_at, with_machine, with_stalled, with_terms}
-use Rattle.csp_ports.specs.Steps.{changed, closed_by, connected_by, down, dropped, dropped_in, dropped_of, dropped_on, freed, given_up, has_room, refused_by, settled, settled_by, settled_on, timed, timed_at, timed_in, vacated, went}
+use Rattle.csp_ports.specs.PlainPorts.{PlainPorts, PlainStalled, has_machine, machine_at, stalled_at, terms_at, with_machine, with_machine_or, with_stalled, with_terms}
+use Rattle.csp_ports.specs.Steps.{changed, closed_by, connected_by, down, dropped, dropped_in, dropped_of, dropped_on, freed, given_up, has_room, refused_by, settled, settled_by, settled_on, timed, timed_at, timed_in, vacated, went, where_machine}
 use Rattle.csp_ports.specs.declared.terms.Terms.{Terms}
 use Rattle.csp_ports.specs.declared.terms.Wish.{Wish}
 use Rattle.csp_ports.specs.declared.terms.Wish.TheVariants as wish
@@ -46,12 +47,13 @@ flows_none m p h = flows_still m p p refl refl refl (λ n k. far_later n (n + m)
 
 -- ---- the machine of a slot goes
 
--- another one that holds nothing takes its place
-pub flows_replaced : (p : PlainPorts) (app slot : ℕ) (r : PlainRdp) → IsWhole r → IsFar 0 r → rdp_numbers r ≡ [] → AreWhole p → Flows 0 p (with_machine p app slot r) (pictures (rdp_buffers (machine_at p app slot))) []
-flows_replaced p app slot r whole far empty h = record {
-  counts = λ o. omega (arith, machine_gone o p app slot r empty, tally_none o);
-  far = λ n k. machine_far 0 n p app slot r (machine_later 0 (n + 0) r (omega arith) far) k;
-  whole = machine_whole p app slot r whole h;
+-- another one that holds nothing takes its place, or none
+pub flows_replaced : (p : PlainPorts) (app slot : ℕ) (m : Option PlainRdp) → IsWhole (unwrap_or m idle) → IsFar 0 (unwrap_or m idle) → rdp_numbers (unwrap_or m idle) ≡ [] → AreWhole p
+    → Flows 0 p (with_machine_or p app slot m) (pictures (rdp_buffers (machine_at p app slot))) []
+flows_replaced p app slot m whole far empty h = record {
+  counts = λ o. omega (arith, machine_gone o p app slot m empty, tally_none o);
+  far = λ n k. machine_far 0 n p app slot m (machine_later 0 (n + 0) (unwrap_or m idle) (omega arith) far) k;
+  whole = machine_whole_or p app slot m whole h;
 }
 
 -- the slot is vacated
@@ -63,9 +65,9 @@ flows_vacated m ordinal app slot p one h =
     let free : PlainPorts = record p { conns = with_slot p.conns app slot Free } in
     let t : Terms = record (terms_at p app slot) { wish = wish.Nothing; is_down = false; ordinal = ordinal } in
     let q : PlainPorts = with_terms free app slot t in
-    let first : Flows m p q [] [] = flows_still m p q refl refl refl (λ n k. far_terms (n + m) free app slot t (one n k) (conns_far (n + m) p app slot (far_later n (n + m) p (omega arith) k))) h in
-    flows_then m 0 m p q (with_machine q app slot idle) [] (pictures (rdp_buffers (machine_at q app slot))) [] (omega arith) first
-    (flows_replaced q app slot idle idle_whole (far_idle 0) refl first.whole)
+    let first : Flows m p q [] [] = flows_still m p q refl (machines_of_terms free app slot t) refl (λ n k. far_terms (n + m) free app slot t (one n k) (conns_far (n + m) p app slot (far_later n (n + m) p (omega arith) k))) h in
+    flows_then m 0 m p q (with_machine_or q app slot None) [] (pictures (rdp_buffers (machine_at q app slot))) [] (omega arith) first
+    (flows_replaced q app slot None idle_whole (far_idle 0) refl first.whole)
 
 flows_given_up : (app slot : ℕ) (p : PlainPorts) → AreWhole p → Flows 0 p (given_up app slot p).ports (given_up app slot p).loose []
 flows_given_up app slot p h = flows_vacated 0 (terms_at p app slot).ordinal app slot p (λ n k. omega (arith, far_at n p app slot k)) h
@@ -76,7 +78,7 @@ flows_freed app slot p h = flows_vacated 1 ((terms_at p app slot).ordinal + 1) a
 -- ---- what a change of a connection comes to
 
 flows_connected : (w : Wish) (app slot : ℕ) (p : PlainPorts) → AreWhole p → Flows 0 p (connected_by w app slot p) [] []
-flows_connected wish.Connection app slot p h = flows_still 0 p (connected_by wish.Connection app slot p) refl refl refl (no_further p (connected_by wish.Connection app slot p) (λ n k. far_connected n wish.Connection p app slot k)) h
+flows_connected wish.Connection app slot p h = flows_still 0 p (connected_by wish.Connection app slot p) refl (machines_of_terms p app slot (record (terms_at p app slot) { wish = wish.Nothing })) refl (no_further p (connected_by wish.Connection app slot p) (λ n k. far_connected n wish.Connection p app slot k)) h
 flows_connected wish.Nothing app slot p h = flows_none 0 p h
 flows_connected wish.End app slot p h = flows_none 0 p h
 flows_connected wish.Ended app slot p h = flows_none 0 p h
@@ -93,7 +95,7 @@ flows_refused wish.End why app slot p h = flows_given_up app slot p h
 flows_refused wish.Ended why app slot p h = flows_given_up app slot p h
 
 flows_closed : (w : Wish) (was_open : Bool) (app slot : ℕ) (p : PlainPorts) → AreWhole p → Flows 0 p (closed_by w was_open app slot p).ports (closed_by w was_open app slot p).loose []
-flows_closed wish.End o app slot p h = flows_still 0 p (closed_by wish.End o app slot p).ports refl refl refl (no_further p (closed_by wish.End o app slot p).ports (λ n k. far_closed n wish.End o p app slot k)) h
+flows_closed wish.End o app slot p h = flows_still 0 p (closed_by wish.End o app slot p).ports refl (machines_of_terms p app slot (record (terms_at p app slot) { wish = wish.Ended })) refl (no_further p (closed_by wish.End o app slot p).ports (λ n k. far_closed n wish.End o p app slot k)) h
 flows_closed wish.Nothing true app slot p h = flows_none 0 p h
 flows_closed wish.Nothing false app slot p h = flows_given_up app slot p h
 flows_closed wish.Connection o app slot p h = flows_none 0 p h
@@ -103,7 +105,7 @@ pub flows_changed : (ch : Change) (app slot : ℕ) (p : PlainPorts) → AreWhole
 flows_changed change.None app slot p h = flows_none 0 p h
 flows_changed change.Opened app slot p h = flows_connected (terms_at p app slot).wish app slot p h
 flows_changed (change.Refused why) app slot p h = flows_refused (terms_at p app slot).wish why app slot p h
-flows_changed change.Down app slot p h = flows_still 0 p (down app slot p) refl refl refl (no_further p (down app slot p) (λ n k. far_changed n change.Down p app slot k)) h
+flows_changed change.Down app slot p h = flows_still 0 p (down app slot p) refl (machines_of_terms p app slot (record (terms_at p app slot) { is_down = true })) refl (no_further p (down app slot p) (λ n k. far_changed n change.Down p app slot k)) h
 flows_changed change.Closed app slot p h = flows_closed (terms_at p app slot).wish (machine_at p app slot).was_open app slot p h
 
 -- a machine made a step, and what it changed; besides, it may hand back what came
@@ -188,11 +190,15 @@ flows_settled time app p there h = go (stalled_at p app) refl
 -- ---- the timers
 
 flows_timed_at : (time app slot : ℕ) (p : PlainPorts) → place_of app slot < 16 → AreWhole p → Flows 0 p (timed_at time app slot p).ports (timed_at time app slot p).loose []
-flows_timed_at time app slot p there h =
-    let r = machine_at p app slot in
-    flows_went 0 p app slot r.state machine_why.Timeout (ticked time r) [] [] there h (ticked_whole time r (whole_at p app slot h))
-    (λ n far. machine_later n (n + 0) (ticked time r) (omega arith) (far-ticked n time r far))
-    (λ o. omega (arith, tally_none o, ap (tally o) (numbers-ticked time r)))
+flows_timed_at time app slot p there h = go (has_machine p app slot)
+  where
+    go : (b : Bool) → let c = where_machine b (went (machine_at p app slot).state machine_why.Timeout app slot (ticked time (machine_at p app slot))) p in Flows 0 p c.ports c.loose []
+    go true =
+        let r = machine_at p app slot in
+        flows_went 0 p app slot r.state machine_why.Timeout (ticked time r) [] [] there h (ticked_whole time r (whole_at p app slot h))
+        (λ n far. machine_later n (n + 0) (ticked time r) (omega arith) (far-ticked n time r far))
+        (λ o. omega (arith, tally_none o, ap (tally o) (numbers-ticked time r)))
+    go false = flows_none 0 p h
 
 place_again : (k : ℕ) → k < 16 → place_of (k / SLOTS) (k % SLOTS) < 16
 place_again k h = omega (arith, h)

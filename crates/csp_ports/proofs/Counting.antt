@@ -1,11 +1,13 @@
 -- what follows a step of a machine counts no further
-use Rattle.std.specs.Prelude.{ℕ, Bool, true, false, Option, None, Some, get_or}
+use Rattle.std.specs.Prelude.{ℕ, Bool, true, false, Option, None, Some, get_or, unwrap_or}
 use Rattle.std.specs.List.{All}
-use Rattle.std.proofs.Common.{zero, suc, ◌≤◌, List, [], ◌∷◌, arith}
+use Rattle.std.proofs.Common.{zero, suc, ◌≤◌, List, [], ◌∷◌, arith, subst, sym}
 use Rattle.std.proofs.lemmas.List.Elements.{All-head, All-set, All-tail}
-use Rattle.csp_conn.specs.PlainConns.{place_of}
+use Rattle.csp_conn.specs.PlainConns.{place_of, with_slot}
+use Rattle.csp_conn.specs.declared.slot.Slot.TheVariants.{Free}
+use Rattle.csp_ports.proofs.Slots.{machine_listed, machines_of_machine, machines_of_terms, terms_listed, terms_of_machine, terms_of_terms}
 use Rattle.csp_ports.specs.Counts.{AreFar}
-use Rattle.csp_ports.specs.PlainPorts.{PlainPorts, PlainStalled, fresh, machine_at, terms_at, with_machine, with_terms}
+use Rattle.csp_ports.specs.PlainPorts.{PlainPorts, PlainStalled, fresh, machine_at, machines_of, terms_at, terms_of, with_machine, with_machine_or, with_terms}
 use Rattle.csp_ports.specs.Steps.{changed, closed_by, connected_by, dropped_in, dropped_on, given_up, refused_by}
 use Rattle.csp_ports.specs.declared.terms.Terms.{Terms}
 use Rattle.csp_ports.specs.declared.terms.Wish.{Wish}
@@ -24,30 +26,41 @@ all_or P [] k d all one = one
 all_or P (x ∷ xs) zero d all one = All-head P x xs all
 all_or P (x ∷ xs) (suc k) d all one = all_or P xs k d (All-tail P x xs all) one
 
--- another machine in the place of a slot's
+-- another machine in the place of a slot's, or none
+pub far_machine_or : (n : ℕ) (p : PlainPorts) (app slot : ℕ) (o : Option PlainRdp) → IsFar n (unwrap_or o idle) → AreFar n p → AreFar n (with_machine_or p app slot o)
+far_machine_or n p app slot o one h = record {
+  machines = subst (All (IsFar n)) (sym (machines_of_machine p app slot o)) (All-set (IsFar n) (machines_of p) (place_of app slot) (unwrap_or o idle) one h.machines);
+  made = h.made;
+  ends = subst (All (λ t. t.ordinal ≤ n)) (sym (terms_of_machine p app slot o)) h.ends;
+}
+
 pub far_machine : (n : ℕ) (p : PlainPorts) (app slot : ℕ) (r : PlainRdp) → IsFar n r → AreFar n p → AreFar n (with_machine p app slot r)
-far_machine n p app slot r one h = record { machines = All-set (IsFar n) p.machines (place_of app slot) r one h.machines; made = h.made; ends = h.ends }
+far_machine n p app slot r one h = far_machine_or n p app slot (Some r) one h
 
 -- other terms
 pub far_terms : (n : ℕ) (p : PlainPorts) (app slot : ℕ) (t : Terms) → t.ordinal ≤ n → AreFar n p → AreFar n (with_terms p app slot t)
-far_terms n p app slot t one h = record { machines = h.machines; made = h.made; ends = All-set (λ t. t.ordinal ≤ n) p.terms (place_of app slot) t one h.ends }
+far_terms n p app slot t one h = record {
+  machines = subst (All (IsFar n)) (sym (machines_of_terms p app slot t)) h.machines;
+  made = h.made;
+  ends = subst (All (λ t. t.ordinal ≤ n)) (sym (terms_of_terms p app slot t)) (All-set (λ t. t.ordinal ≤ n) (terms_of p) (place_of app slot) t one h.ends);
+}
 
 -- the terms of a slot
 pub far_at : (n : ℕ) (p : PlainPorts) (app slot : ℕ) → AreFar n p → (terms_at p app slot).ordinal ≤ n
-far_at n p app slot h = all_or (λ t. t.ordinal ≤ n) p.terms (place_of app slot) fresh h.ends (omega arith)
+far_at n p app slot h = subst (λ (t : Terms). t.ordinal ≤ n) (sym (terms_listed p app slot)) (all_or (λ t. t.ordinal ≤ n) (terms_of p) (place_of app slot) fresh h.ends (omega arith))
 
 pub far_idle : (n : ℕ) → IsFar n idle
 far_idle n = record { admitted = omega arith; delivered = omega arith }
 
 pub far_machine_at : (n : ℕ) (p : PlainPorts) (app slot : ℕ) → AreFar n p → IsFar n (machine_at p app slot)
-far_machine_at n p app slot h = all_or (IsFar n) p.machines (place_of app slot) idle h.machines (far_idle n)
+far_machine_at n p app slot h = subst (IsFar n) (sym (machine_listed p app slot)) (all_or (IsFar n) (machines_of p) (place_of app slot) idle h.machines (far_idle n))
 
 pub far_given_up : (n : ℕ) (p : PlainPorts) (app slot : ℕ) → AreFar n p → AreFar n (given_up app slot p).ports
-far_given_up n p app slot h = record {
-  machines = All-set (IsFar n) p.machines (place_of app slot) idle (far_idle n) h.machines;
-  made = h.made;
-  ends = All-set (λ t. t.ordinal ≤ n) p.terms (place_of app slot) _ (far_at n p app slot h) h.ends;
-}
+far_given_up n p app slot h =
+    let free : PlainPorts = record p { conns = with_slot p.conns app slot Free } in
+    let t : Terms = record (terms_at p app slot) { wish = wish.Nothing; is_down = false } in
+    far_machine_or n (with_terms free app slot t) app slot None (far_idle n)
+    (far_terms n free app slot t (far_at n p app slot h) (record { machines = h.machines; made = h.made; ends = h.ends }))
 
 far_wish : (n : ℕ) (p : PlainPorts) (app slot : ℕ) (w : Wish) → AreFar n p → AreFar n (with_terms p app slot (record (terms_at p app slot) { wish = w }))
 far_wish n p app slot w h = far_terms n p app slot (record (terms_at p app slot) { wish = w }) (far_at n p app slot h) h

@@ -1,24 +1,25 @@
 -- no step of ports loses a buffer or uses it twice, and none counts further than it may
-use Rattle.std.specs.Prelude.{None, Option, Some}
-use Rattle.std.specs.List.{flat_map}
-use Rattle.std.proofs.Common.{◌≡◌, ℕ, ◌+◌, ◌<◌, ◌≤◌, List, [], ◌++◌, arith, ap, ap₂, subst, sym, ◌∙◌}
-use Rattle.std.proofs.lemmas.List.{length-append, length-set}
+use Rattle.std.specs.Prelude.{None, Option, Some, unwrap_or}
+use Rattle.std.specs.List.{All}
+use Rattle.std.proofs.Common.{◌≡◌, ℕ, ◌+◌, ◌<◌, ◌≤◌, List, [], ◌++◌, length, arith, ap, subst, sym, ◌∙◌}
+use Rattle.std.proofs.lemmas.List.{length-append, length-map, length-set}
 use Rattle.std.proofs.lemmas.List.Elements.{All-set, All-weaker}
 use Rattle.csp_buffer.specs.Content.{Content}
 use Rattle.csp_conn.specs.PlainConns.{place_of}
 use Rattle.csp_deck.specs.Keeping.{PlainPile}
 use Rattle.csp_log.specs.declared.event.Event.{Event}
-use Rattle.csp_ports.proofs.Counting.{all_or, far_machine_at}
+use Rattle.csp_ports.proofs.Counting.{all_or, far_machine_at, far_machine_or}
+use Rattle.csp_ports.proofs.Slots.{held_same, machine_listed, machines_of_machine}
 use Rattle.csp_ports.proofs.Weighing.{long, machine_tallied, parted_tally, tally, tally_none, weigh, weigh_append}
 use Rattle.csp_ports.proofs.Wholes.{idle_whole}
 use Rattle.csp_ports.specs.Came.{Came, Comes, pictures}
 use Rattle.csp_ports.specs.Counts.{AreFar}
-use Rattle.csp_ports.specs.Held.{held, stalled_buffers}
+use Rattle.csp_ports.specs.Held.{held}
 use Rattle.csp_ports.specs.Keeps.{AreWhole, Keeps}
-use Rattle.csp_ports.specs.PlainPorts.{PlainPorts, PlainStalled, PortsAt, machine_at, with_machine}
+use Rattle.csp_ports.specs.PlainPorts.{PlainPorts, PortsAt, machine_at, machine_in, machines_of, state_at, terms_of, with_machine, with_machine_or}
 use Rattle.csp_rdp.specs.Balance.{IsWhole}
 use Rattle.csp_rdp.specs.Counts.{IsFar}
-use Rattle.csp_rdp.specs.Holding.{rdp_buffers, rdp_numbers, rested, unneeded}
+use Rattle.csp_rdp.specs.Holding.{rdp_numbers, rested, unneeded}
 use Rattle.csp_rdp.specs.Machine.{PlainRdp, idle}
 use Rattle.csp_rdp.proofs.Public.{whole-rested, far-rested}
 
@@ -29,9 +30,9 @@ machine_later m n r more h = record { admitted = omega (arith, more, h.admitted)
 
 pub far_later : (m n : ℕ) (p : PlainPorts) → m ≤ n → AreFar m p → AreFar n p
 far_later m n p more h = record {
-  machines = All-weaker (IsFar m) (IsFar n) (λ r far. machine_later m n r more far) p.machines h.machines;
+  machines = All-weaker (IsFar m) (IsFar n) (λ r far. machine_later m n r more far) (machines_of p) h.machines;
   made = omega (arith, more, h.made);
-  ends = All-weaker (λ t. t.ordinal ≤ m) (λ t. t.ordinal ≤ n) (λ t one. omega (arith, more, one)) p.terms h.ends;
+  ends = All-weaker (λ t. t.ordinal ≤ m) (λ t. t.ordinal ≤ n) (λ t one. omega (arith, more, one)) (terms_of p) h.ends;
 }
 
 -- ---- a step of ports: what is let go, and the numbers that came
@@ -50,44 +51,43 @@ flows_then k m n p q r first second came sum f g = record {
 }
 
 -- so it goes where the buffers stay where they are
-same_whole : (p q : PlainPorts) → q.conns.apps ≡ p.conns.apps → q.machines ≡ p.machines → q.stalled ≡ p.stalled → AreWhole p → AreWhole q
+same_whole : (p q : PlainPorts) → q.conns.apps ≡ p.conns.apps → machines_of q ≡ machines_of p → q.stalled ≡ p.stalled → AreWhole p → AreWhole q
 same_whole p q a b c h = record {
   few = rw a h.few;
-  slots = rw b h.slots;
-  machines = rw b h.machines;
+  slots = sym (length-map q.slots machine_in) ∙ (ap length b ∙ (length-map p.slots machine_in ∙ h.slots));
+  machines = subst (All IsWhole) (sym b) h.machines;
   places = rw c h.places;
   waits = rw c h.waits;
 }
 
-pub flows_still : (m : ℕ) (p q : PlainPorts) → q.conns.apps ≡ p.conns.apps → q.machines ≡ p.machines → q.stalled ≡ p.stalled → ((n : ℕ) → AreFar n p → AreFar (n + m) q) → AreWhole p → Flows m p q [] []
+pub flows_still : (m : ℕ) (p q : PlainPorts) → q.conns.apps ≡ p.conns.apps → machines_of q ≡ machines_of p → q.stalled ≡ p.stalled → ((n : ℕ) → AreFar n p → AreFar (n + m) q) → AreWhole p → Flows m p q [] []
 flows_still m p q a b c far h = record {
-  counts = λ o.
-      ap (λ (n : ℕ). tally o [] + n) (ap (weigh o) (ap₂ (λ (ss : List (Option PlainStalled)) (rs : List PlainRdp). pictures (flat_map stalled_buffers ss ++ flat_map rdp_buffers rs)) c b))
-      ∙ omega (arith, tally_none o);
+  counts = λ o. omega (arith, ap (weigh o) (held_same p q b c), tally_none o);
   far = far;
   whole = same_whole p q a b c h;
 }
 
--- another machine in the place of a slot's
-pub machine_whole : (p : PlainPorts) (app slot : ℕ) (r : PlainRdp) → IsWhole r → AreWhole p → AreWhole (with_machine p app slot r)
-machine_whole p app slot r one h = record {
+-- another machine in the place of a slot's, or none
+pub machine_whole_or : (p : PlainPorts) (app slot : ℕ) (o : Option PlainRdp) → IsWhole (unwrap_or o idle) → AreWhole p → AreWhole (with_machine_or p app slot o)
+machine_whole_or p app slot o one h = record {
   few = h.few;
-  slots = length-set p.machines (place_of app slot) r ∙ h.slots;
-  machines = All-set IsWhole p.machines (place_of app slot) r one h.machines;
+  slots = length-set p.slots (place_of app slot) (record (state_at p app slot) { machine = o }) ∙ h.slots;
+  machines = subst (All IsWhole) (sym (machines_of_machine p app slot o)) (All-set IsWhole (machines_of p) (place_of app slot) (unwrap_or o idle) one h.machines);
   places = h.places;
   waits = h.waits;
 }
 
-pub machine_far : (m n : ℕ) (p : PlainPorts) (app slot : ℕ) (r : PlainRdp) → IsFar (n + m) r → AreFar n p → AreFar (n + m) (with_machine p app slot r)
-machine_far m n p app slot r one h =
-    let k = far_later n (n + m) p (omega arith) h in
-    record { machines = All-set (IsFar (n + m)) p.machines (place_of app slot) r one k.machines; made = k.made; ends = k.ends }
+pub machine_whole : (p : PlainPorts) (app slot : ℕ) (r : PlainRdp) → IsWhole r → AreWhole p → AreWhole (with_machine p app slot r)
+machine_whole p app slot r one h = machine_whole_or p app slot (Some r) one h
+
+pub machine_far : (m n : ℕ) (p : PlainPorts) (app slot : ℕ) (o : Option PlainRdp) → IsFar (n + m) (unwrap_or o idle) → AreFar n p → AreFar (n + m) (with_machine_or p app slot o)
+machine_far m n p app slot o one h = far_machine_or (n + m) p app slot o one (far_later n (n + m) p (omega arith) h)
 
 pub flows_machine : (m : ℕ) (p : PlainPorts) (app slot : ℕ) (r : PlainRdp) (loose : List Content) (came : List ℕ) → place_of app slot < 16 → AreWhole p → IsWhole r → ((n : ℕ) → IsFar n (machine_at p app slot) → IsFar (n + m) r)
     → ((o : Option ℕ) → weigh o loose + tally o (rdp_numbers r) ≡ tally o (rdp_numbers (machine_at p app slot)) + tally o came) → Flows m p (with_machine p app slot r) loose came
 flows_machine m p app slot r loose came there h whole far even = record {
-  counts = λ o. omega (arith, machine_tallied o p app slot r (omega (arith, there, h.slots)), even o);
-  far = λ n k. machine_far m n p app slot r (far n (far_machine_at n p app slot k)) k;
+  counts = λ o. omega (arith, machine_tallied o p app slot (Some r) (omega (arith, there, h.slots)), even o);
+  far = λ n k. machine_far m n p app slot (Some r) (far n (far_machine_at n p app slot k)) k;
   whole = machine_whole p app slot r whole h;
 }
 
@@ -100,7 +100,7 @@ flows_rested m p app slot r back came there h whole far even =
 
 -- the machine of a slot is whole
 pub whole_at : (p : PlainPorts) (app slot : ℕ) → AreWhole p → IsWhole (machine_at p app slot)
-whole_at p app slot h = all_or IsWhole p.machines (place_of app slot) idle h.machines idle_whole
+whole_at p app slot h = subst IsWhole (sym (machine_listed p app slot)) (all_or IsWhole (machines_of p) (place_of app slot) idle h.machines idle_whole)
 
 -- ---- and what comes of it
 

@@ -1,11 +1,18 @@
 -- one step after another
 use Rattle.std.specs.List.{range_with_len}
-use Rattle.std.proofs.Common.{◌≡◌, ℕ, suc, ◌+◌, ◌-◌, ◌<◌, List, ◌∷◌, ◌++◌, arith, ap, ◌∙◌}
-use Rattle.std.proofs.lemmas.List.{append_assoc}
+use Rattle.std.proofs.Common.{◌≡◌, ℕ, suc, ◌+◌, ◌-◌, ◌<◌, Bool, true, false, List, [], ◌∷◌, ◌++◌, arith, ap, refl, subst, sym, ◌∙◌}
+use Rattle.std.proofs.lemmas.List.{append-nil, append_assoc}
 use Rattle.csp_deck.specs.Keeping.{PlainPile, with_contents}
 use Rattle.csp_log.specs.declared.event.Event.{Event}
-use Rattle.csp_ports.specs.Came.{Came, Comes, then}
+use Rattle.csp_ports.specs.Came.{Came, Comes, come, then}
 use Rattle.csp_ports.specs.PlainPorts.{PlainPorts, PortsAt, with_ports_at}
+use Rattle.csp_ports.specs.Steps.{changed, stepped, went, where_machine}
+use Rattle.csp_rdp.specs.Changes.{change_between}
+use Rattle.csp_rdp.specs.Machine.{PlainRdp}
+use Rattle.csp_rdp.specs.declared.answers.Change.{Change}
+use Rattle.csp_rdp.specs.declared.answers.Change.TheVariants as change
+use Rattle.csp_rdp.specs.declared.answers.State.{State}
+use Rattle.csp_rdp.specs.declared.answers.Cause.{Cause as Why}
 
 pub then_comes : (old mid new : PortsAt) (first second last : PlainPile) (e f g : List Event) (c : Came) (next : PlainPorts → Came) → Comes old mid first second e f c → Comes mid new second last f g (next mid.ports) → Comes old new first last e g (then c next)
 then_comes old mid new first second last e f g c next h k = record {
@@ -21,6 +28,19 @@ then_comes old mid new first second last e f g c next h k = record {
       ∙ (ap (λ (es : List Event). es ++ (next c.ports).events) h.events
       ∙ append_assoc e c.events (next c.ports).events));
 }
+
+-- a step of a slot's machine, where it has one, and what it changed
+pub went_comes : (has : Bool) (old mid new : PortsAt) (first second last : PlainPile) (e f : List Event) (before : State) (why : Why) (app slot : ℕ) (r : PlainRdp) → (has ≡ false → change_between before r.state why ≡ change.None)
+    → Comes old mid first second [] [] (where_machine has (stepped app slot r) old.ports) → Comes mid new second last e f (changed (change_between before r.state why) app slot mid.ports) → Comes old new first last e f (where_machine has (went before why app slot r) old.ports)
+went_comes true old mid new first second last e f before why app slot r none h k =
+    then_comes old mid new first second last e e f (stepped app slot r old.ports) (changed (change_between before r.state why) app slot) (record { ports = h.ports; trash = h.trash; events = sym (append-nil e) }) k
+went_comes false old mid new first second last e f before why app slot r none h k =
+    then_comes old mid new first second last e e f (come old.ports) come (record { ports = h.ports; trash = h.trash; events = sym (append-nil e) })
+    (subst (λ (x : Change). Comes mid new second last e f (changed x app slot mid.ports)) (none refl) k)
+
+pub where_apps : (has : Bool) (app slot : ℕ) (r : PlainRdp) (p : PlainPorts) → (where_machine has (stepped app slot r) p).ports.conns.apps ≡ p.conns.apps
+where_apps true app slot r p = refl
+where_apps false app slot r p = refl
 
 gone : (a n : ℕ) → a < n → n - a ≡ suc (n - (a + 1))
 gone a n h = omega (arith, h)

@@ -1,6 +1,6 @@
 -- the buffers that ports hold: the packets that wait, then those of the machines
 use Rattle.std.proofs.Common.{◌≡◌, ◌<◌, ◌≤◌, ◌+◌, ◌-◌, ◌||◌, ℕ, zero, suc, Bool, true, false, not, cond, nat_lt, List, [], ◌∷◌, ◌++◌, length, map, take, drop, get_or, replicate, Option, Some, None, MatchOption, IfSome, IsTrue, ◌↔◌, arith, ap, ap₂, sym, ◌∙◌, refl}
-use Rattle.std.specs.Prelude.{sum_by}
+use Rattle.std.specs.Prelude.{sum_by, unwrap_or}
 use Rattle.std.specs.List.{All, filter, flat_map, list_any, slice_set}
 use Rattle.std.specs.Option.{option_map}
 use Rattle.std.proofs.lemmas.Bool.{lt-ltb, ltb-true, ltb-false}
@@ -19,9 +19,11 @@ use Rattle.csp_deck.specs.Regions.{nowhere}
 use Rattle.csp_deck.specs.Step.{times}
 use Rattle.csp_deck.proofs.Public.{times-append}
 use Rattle.csp_ports.specs.Came.{pictures}
-use Rattle.csp_ports.specs.Held.{first_out, held, stalled_buffers, without_held, without_stalled}
+use Rattle.csp_ports.specs.Held.{first_out, held, slot_buffers, stalled_buffers, without_held, without_stalled}
 use Rattle.csp_ports.specs.Kept.{IsHoused, IsWaiting, stalled_of, wished, wishes}
-use Rattle.csp_ports.specs.PlainPorts.{PortsAt, fresh}
+use Rattle.csp_ports.specs.PlainPorts.{PortsAt, fresh, machine_in}
+use Rattle.csp_ports.specs.declared.terms.SlotState.{SlotState}
+use Rattle.csp_ports.proofs.Slots.{placed_machine, placed_state}
 use Rattle.csp_ports.specs.declared.held.TheConstants.{MAX_HELD}
 use Rattle.csp_ports.specs.declared.stalled.Stalled.{Stalled}
 use Rattle.csp_rdp.specs.Holding.{loose_buffers, rdp_buffers, rdp_numbers, taken_out, taken_out_of, unneeded, useless_buffers}
@@ -55,22 +57,22 @@ stalled-placed (None ∷ xs) = stalled-placed xs
 stalled-placed (Some s ∷ xs) = ap (λ l. placed_buffer nowhere s.buffer ∷ l) (stalled-placed xs)
 
 -- and so are the machines
-machines-placed : (n : RegionName) (rs : List PlainRdp) → flat_map rdp_buffers (map (placed n) rs) ≡ map (placed_buffer n) (flat_map rdp_buffers rs)
+machines-placed : (n : RegionName) (ss : List SlotState) → flat_map slot_buffers (map (placed_state n) ss) ≡ map (placed_buffer n) (flat_map slot_buffers ss)
 machines-placed n [] = refl
-machines-placed n (r ∷ rs) =
-    flat_map-cons rdp_buffers (placed n r) (map (placed n) rs)
-    ∙ ap₂ (λ bs cs. bs ++ cs) (placed-buffers n r) (machines-placed n rs)
-    ∙ sym (ap (map (placed_buffer n)) (flat_map-cons rdp_buffers r rs) ∙ map-append (placed_buffer n) (rdp_buffers r) (flat_map rdp_buffers rs))
+machines-placed n (s ∷ ss) =
+    flat_map-cons slot_buffers (placed_state n s) (map (placed_state n) ss)
+    ∙ ap₂ (λ bs cs. bs ++ cs) (ap rdp_buffers (placed_machine n s) ∙ placed-buffers n (machine_in s)) (machines-placed n ss)
+    ∙ sym (ap (map (placed_buffer n)) (flat_map-cons slot_buffers s ss) ∙ map-append (placed_buffer n) (slot_buffers s) (flat_map slot_buffers ss))
 
--- what is held where these packets wait and these are the machines
-abbrev pub seen : List (Option Stalled) → List PlainRdp → List PlainBuffer
-seen xs rs = flat_map stalled_buffers (map (option_map stalled_of) xs) ++ flat_map rdp_buffers (map (placed nowhere) rs)
+-- what is held where these packets wait and these are the slots
+abbrev pub seen : List (Option Stalled) → List SlotState → List PlainBuffer
+seen xs ss = flat_map stalled_buffers (map (option_map stalled_of) xs) ++ flat_map slot_buffers (map (placed_state nowhere) ss)
 
-pub held-parts : (xs : List (Option Stalled)) (rs : List PlainRdp) → pictures (seen xs rs) ≡ pictures (map (λ s. s.buffer) (held_in xs)) ++ pictures (flat_map rdp_buffers rs)
-held-parts xs rs =
-    map-append (λ b. b.picture) (flat_map stalled_buffers (map (option_map stalled_of) xs)) (flat_map rdp_buffers (map (placed nowhere) rs))
+pub held-parts : (xs : List (Option Stalled)) (ss : List SlotState) → pictures (seen xs ss) ≡ pictures (map (λ s. s.buffer) (held_in xs)) ++ pictures (flat_map slot_buffers ss)
+held-parts xs ss =
+    map-append (λ b. b.picture) (flat_map stalled_buffers (map (option_map stalled_of) xs)) (flat_map slot_buffers (map (placed_state nowhere) ss))
     ∙ ap₂ (λ l m. l ++ m) (ap pictures (stalled-placed xs) ∙ placed-pictures nowhere (map (λ s. s.buffer) (held_in xs)))
-    (ap pictures (machines-placed nowhere rs) ∙ placed-pictures nowhere (flat_map rdp_buffers rs))
+    (ap pictures (machines-placed nowhere ss) ∙ placed-pictures nowhere (flat_map slot_buffers ss))
 
 -- ---- the packets that wait
 
@@ -112,48 +114,52 @@ pub nil-right : {A : Type 0} (xs ys : List A) → xs ++ ys ≡ [] → ys ≡ []
 nil-right [] ys none = none
 nil-right (x ∷ xs) ys none = cc
 
--- machines round one of them
-around : (front back : List PlainRdp) (r : PlainRdp) → flat_map rdp_buffers front ≡ [] →
-    flat_map rdp_buffers (front ++ r ∷ back) ≡ rdp_buffers r ++ flat_map rdp_buffers back
-around front back r none = flat_map-append rdp_buffers front (r ∷ back) ∙ ap (λ l. l ++ flat_map rdp_buffers (r ∷ back)) none ∙ flat_map-cons rdp_buffers r back
+-- a slot whose machine has handed out its first buffer
+abbrev pub emptied_slot : SlotState → SlotState
+emptied_slot s = record s { machine = option_map taken_out s.machine }
 
-without-around : (front back : List PlainRdp) (r : PlainRdp) (b : PlainBuffer) (bs : List PlainBuffer) → flat_map rdp_buffers front ≡ [] → rdp_buffers r ≡ b ∷ bs →
-    without_held (front ++ r ∷ back) ≡ front ++ taken_out r ∷ back
+-- machines round one of them
+around : (front back : List SlotState) (r : SlotState) → flat_map slot_buffers front ≡ [] →
+    flat_map slot_buffers (front ++ r ∷ back) ≡ slot_buffers r ++ flat_map slot_buffers back
+around front back r none = flat_map-append slot_buffers front (r ∷ back) ∙ ap (λ l. l ++ flat_map slot_buffers (r ∷ back)) none ∙ flat_map-cons slot_buffers r back
+
+without-around : (front back : List SlotState) (r : SlotState) (b : PlainBuffer) (bs : List PlainBuffer) → flat_map slot_buffers front ≡ [] → slot_buffers r ≡ b ∷ bs →
+    without_held (front ++ r ∷ back) ≡ front ++ emptied_slot r ∷ back
 without-around [] back r b bs none some = ap (λ l. first_out l r back (without_held back)) some
 without-around (f ∷ front) back r b bs none some =
-    let all = sym (flat_map-cons rdp_buffers f front) ∙ none in
-    ap (λ l. first_out l f (front ++ r ∷ back) (without_held (front ++ r ∷ back))) (nil-left (rdp_buffers f) (flat_map rdp_buffers front) all)
-    ∙ ap (λ l. f ∷ l) (without-around front back r b bs (nil-right (rdp_buffers f) (flat_map rdp_buffers front) all) some)
+    let all = sym (flat_map-cons slot_buffers f front) ∙ none in
+    ap (λ l. first_out l f (front ++ r ∷ back) (without_held (front ++ r ∷ back))) (nil-left (slot_buffers f) (flat_map slot_buffers front) all)
+    ∙ ap (λ l. f ∷ l) (without-around front back r b bs (nil-right (slot_buffers f) (flat_map slot_buffers front) all) some)
 
 -- none so far, and this one hands out its first
-pub machine-taken : (rs : List PlainRdp) (i : ℕ) (r after : PlainRdp) (b : PlainBuffer) → i < length rs → r ≡ get_or rs i r → flat_map rdp_buffers (take i rs) ≡ [] →
-    rdp_buffers r ≡ b ∷ rdp_buffers after → after ≡ taken_out r →
-    (flat_map rdp_buffers rs ≡ b ∷ flat_map rdp_buffers (slice_set rs i after)) × (slice_set rs i after ≡ without_held rs)
+pub machine-taken : (rs : List SlotState) (i : ℕ) (r after : SlotState) (b : PlainBuffer) → i < length rs → r ≡ get_or rs i r → flat_map slot_buffers (take i rs) ≡ [] →
+    slot_buffers r ≡ b ∷ slot_buffers after → after ≡ emptied_slot r →
+    (flat_map slot_buffers rs ≡ b ∷ flat_map slot_buffers (slice_set rs i after)) × (slice_set rs i after ≡ without_held rs)
 machine-taken rs i r after b h e none some is =
     let front = take i rs in
     let back = drop (suc i) rs in
     let whole = whole-item rs i r h e in
     let set = set-item rs i after h in (
-      ap (flat_map rdp_buffers) whole ∙ around front back r none ∙ ap (λ l. l ++ flat_map rdp_buffers back) some
-          ∙ ap (λ l. b ∷ l) (sym (ap (flat_map rdp_buffers) set ∙ around front back after none)),
-      set ∙ ap (λ x. front ++ x ∷ back) is ∙ sym (ap without_held whole ∙ without-around front back r b (rdp_buffers after) none some),
+      ap (flat_map slot_buffers) whole ∙ around front back r none ∙ ap (λ l. l ++ flat_map slot_buffers back) some
+          ∙ ap (λ l. b ∷ l) (sym (ap (flat_map slot_buffers) set ∙ around front back after none)),
+      set ∙ ap (λ x. front ++ x ∷ back) is ∙ sym (ap without_held whole ∙ without-around front back r b (slot_buffers after) none some),
     )
 
 -- none so far, and this one hands out none
-pub machine-passed : (rs : List PlainRdp) (i : ℕ) (r : PlainRdp) → i < length rs → r ≡ get_or rs i r → flat_map rdp_buffers (take i rs) ≡ [] →
-    rdp_buffers r ≡ [] → flat_map rdp_buffers (take (i + 1) rs) ≡ []
+pub machine-passed : (rs : List SlotState) (i : ℕ) (r : SlotState) → i < length rs → r ≡ get_or rs i r → flat_map slot_buffers (take i rs) ≡ [] →
+    slot_buffers r ≡ [] → flat_map slot_buffers (take (i + 1) rs) ≡ []
 machine-passed rs i r h e none empty =
-    ap (flat_map rdp_buffers) (take-item rs i r h e) ∙ around (take i rs) [] r none ∙ ap (λ l. l ++ []) empty
+    ap (flat_map slot_buffers) (take-item rs i r h e) ∙ around (take i rs) [] r none ∙ ap (λ l. l ++ []) empty
 
-pub machines-whole : (rs : List PlainRdp) (i : ℕ) → length rs ≤ i → i ≤ length rs → flat_map rdp_buffers (take i rs) ≡ [] → flat_map rdp_buffers rs ≡ []
-machines-whole rs i a b none = ap (flat_map rdp_buffers) (sym (take-all rs i a b)) ∙ none
+pub machines-whole : (rs : List SlotState) (i : ℕ) → length rs ≤ i → i ≤ length rs → flat_map slot_buffers (take i rs) ≡ [] → flat_map slot_buffers rs ≡ []
+machines-whole rs i a b none = ap (flat_map slot_buffers) (sym (take-all rs i a b)) ∙ none
 
 -- the last machine holds none where none does, and no other does
-pub last-empty : (all front : List PlainRdp) (r : PlainRdp) → flat_map rdp_buffers all ≡ [] → all ≡ front ++ r ∷ [] → (rdp_buffers r ≡ []) × (flat_map rdp_buffers front ≡ [])
+pub last-empty : (all front : List SlotState) (r : SlotState) → flat_map slot_buffers all ≡ [] → all ≡ front ++ r ∷ [] → (slot_buffers r ≡ []) × (flat_map slot_buffers front ≡ [])
 last-empty all front r none is =
-    let parts = sym (ap (flat_map rdp_buffers) is ∙ flat_map-append rdp_buffers front (r ∷ [])) ∙ none in
-    let last = sym (flat_map-cons rdp_buffers r []) ∙ nil-right (flat_map rdp_buffers front) (flat_map rdp_buffers (r ∷ [])) parts in
-    (nil-left (rdp_buffers r) [] last, nil-left (flat_map rdp_buffers front) (flat_map rdp_buffers (r ∷ [])) parts)
+    let parts = sym (ap (flat_map slot_buffers) is ∙ flat_map-append slot_buffers front (r ∷ [])) ∙ none in
+    let last = sym (flat_map-cons slot_buffers r []) ∙ nil-right (flat_map slot_buffers front) (flat_map slot_buffers (r ∷ [])) parts in
+    (nil-left (slot_buffers r) [] last, nil-left (flat_map slot_buffers front) (flat_map slot_buffers (r ∷ [])) parts)
 
 -- ---- of the region, and as few as before
 
@@ -180,18 +186,18 @@ waits-first name (Some s ∷ xs) b bs all first =
     sym (ap (λ x. x.region) same) ∙ head.region
 
 -- where no machine holds a buffer nothing is taken out
-without-none : (rs : List PlainRdp) → flat_map rdp_buffers rs ≡ [] → without_held rs ≡ rs
+without-none : (rs : List SlotState) → flat_map slot_buffers rs ≡ [] → without_held rs ≡ rs
 without-none [] none = refl
 without-none (r ∷ rs) none =
-    let all = sym (flat_map-cons rdp_buffers r rs) ∙ none in
-    ap (λ l. first_out l r rs (without_held rs)) (nil-left (rdp_buffers r) (flat_map rdp_buffers rs) all)
-    ∙ ap (λ l. r ∷ l) (without-none rs (nil-right (rdp_buffers r) (flat_map rdp_buffers rs) all))
+    let all = sym (flat_map-cons slot_buffers r rs) ∙ none in
+    ap (λ l. first_out l r rs (without_held rs)) (nil-left (slot_buffers r) (flat_map slot_buffers rs) all)
+    ∙ ap (λ l. r ∷ l) (without-none rs (nil-right (slot_buffers r) (flat_map slot_buffers rs) all))
 
 -- what taking the first buffer out of machines says
-abbrev pub Takes : List PlainRdp → List PlainRdp → Option PlainBuffer → Type 0
-Takes rs after o = MatchOption o ((flat_map rdp_buffers rs ≡ []) × (after ≡ rs)) (λ b. (flat_map rdp_buffers rs ≡ b ∷ flat_map rdp_buffers after) × (after ≡ without_held rs))
+abbrev pub Takes : List SlotState → List SlotState → Option PlainBuffer → Type 0
+Takes rs after o = MatchOption o ((flat_map slot_buffers rs ≡ []) × (after ≡ rs)) (λ b. (flat_map slot_buffers rs ≡ b ∷ flat_map slot_buffers after) × (after ≡ without_held rs))
 
-pub taken-without : (rs after : List PlainRdp) (o : Option PlainBuffer) → Takes rs after o → after ≡ without_held rs
+pub taken-without : (rs after : List SlotState) (o : Option PlainBuffer) → Takes rs after o → after ≡ without_held rs
 taken-without rs after None takes = takes.1 ∙ sym (without-none rs takes.0)
 taken-without rs after (Some b) takes = takes.1
 
@@ -199,47 +205,68 @@ in-first : (name : RegionName) (bs cs : List PlainBuffer) (b : PlainBuffer) (ds 
 in-first name [] cs b ds all first rest = rest first
 in-first name (x ∷ bs) cs b ds all first rest = let same : x ≡ b = cc in sym (ap (λ y. y.region) same) ∙ all.0
 
-housed-first : (name : RegionName) (rs : List PlainRdp) (b : PlainBuffer) (bs : List PlainBuffer) → All (IsHoused name) rs → flat_map rdp_buffers rs ≡ b ∷ bs → b.region ≡ name
+-- where a slot has a machine, that is housed
+abbrev pub AreHoused : RegionName → SlotState → Type 0
+AreHoused name s = IfSome s.machine (IsHoused name)
+
+pub idle-housed : (name : RegionName) → IsHoused name idle
+idle-housed name = record { region = record { sending = tt; kept = tt }; whole = record { unopened = tt; ordered = tt }; rested = refl; few = omega arith }
+
+pub machine-housed : (name : RegionName) (s : SlotState) → AreHoused name s → IsHoused name (machine_in s)
+machine-housed name s h = go s.machine h
+  where
+    go : (o : Option PlainRdp) → IfSome o (IsHoused name) → IsHoused name (unwrap_or o idle)
+    go None h = idle-housed name
+    go (Some r) h = h
+
+housed-in : (name : RegionName) (s : SlotState) → AreHoused name s → AreIn name (slot_buffers s)
+housed-in name s h = in-buffers name (machine_in s) (machine-housed name s h).region
+
+housed-first : (name : RegionName) (rs : List SlotState) (b : PlainBuffer) (bs : List PlainBuffer) → All (AreHoused name) rs → flat_map slot_buffers rs ≡ b ∷ bs → b.region ≡ name
 housed-first name [] b bs all first = cc
 housed-first name (r ∷ rs) b bs all first =
-    let head = All-head (IsHoused name) r rs all in
-    in-first name (rdp_buffers r) (flat_map rdp_buffers rs) b bs (in-buffers name r head.region) (sym (flat_map-cons rdp_buffers r rs) ∙ first)
-    (λ e. housed-first name rs b bs (All-tail (IsHoused name) r rs all) e)
+    let head = All-head (AreHoused name) r rs all in
+    in-first name (slot_buffers r) (flat_map slot_buffers rs) b bs (housed-in name r head) (sym (flat_map-cons slot_buffers r rs) ∙ first)
+    (λ e. housed-first name rs b bs (All-tail (AreHoused name) r rs all) e)
 
 -- the first buffer that is seen is that of the first packet that waits
-pub packet-out : (xs after : List (Option Stalled)) (rs : List PlainRdp) (b : PlainBuffer) → TakesPacket xs after (Some b) →
+pub packet-out : (xs after : List (Option Stalled)) (rs : List SlotState) (b : PlainBuffer) → TakesPacket xs after (Some b) →
     (pictures (seen xs rs) ≡ b.picture ∷ pictures (seen after rs)) × (flat_map stalled_buffers (map (option_map stalled_of) xs) ≡ placed_buffer nowhere b ∷ map (placed_buffer nowhere) (map (λ s. s.buffer) (held_in after)))
 packet-out xs after rs b takes = (
-  held-parts xs rs ∙ ap (λ l. pictures l ++ pictures (flat_map rdp_buffers rs)) takes.0 ∙ ap (λ l. b.picture ∷ l) (sym (held-parts after rs)),
+  held-parts xs rs ∙ ap (λ l. pictures l ++ pictures (flat_map slot_buffers rs)) takes.0 ∙ ap (λ l. b.picture ∷ l) (sym (held-parts after rs)),
   stalled-placed xs ∙ ap (map (placed_buffer nowhere)) takes.0,
 )
 
 -- and where none waits, that of the first of a machine; where there is none either nothing changes
-pub machine-out : (xs ys : List (Option Stalled)) (rs ss after items : List PlainRdp) (o : Option PlainBuffer) (old new : PortsAt) → held_in xs ≡ [] → ys ≡ xs → ss ≡ rs → items ≡ after →
+pub machine-out : (xs ys : List (Option Stalled)) (rs ss after items : List SlotState) (o : Option PlainBuffer) (old new : PortsAt) → held_in xs ≡ [] → ys ≡ xs → ss ≡ rs → items ≡ after →
     Takes ss after o → held old.ports ≡ pictures (seen xs rs) → held new.ports ≡ pictures (seen ys items) → (items ≡ rs → new ≡ old) →
     MatchOption o ((held old.ports ≡ []) × (new ≡ old)) (λ b. held old.ports ≡ b.picture ∷ held new.ports)
 machine-out xs ys rs ss after items None old new none same machines is takes before behind unchanged = (
-  before ∙ held-parts xs rs ∙ ap₂ (λ l m. pictures (map (λ s. s.buffer) l) ++ pictures m) none (ap (flat_map rdp_buffers) (sym machines) ∙ takes.0),
+  before ∙ held-parts xs rs ∙ ap₂ (λ l m. pictures (map (λ s. s.buffer) l) ++ pictures m) none (ap (flat_map slot_buffers) (sym machines) ∙ takes.0),
   unchanged (is ∙ takes.1 ∙ machines),
 )
 machine-out xs ys rs ss after items (Some b) old new none same machines is takes before behind unchanged =
-    before ∙ held-parts xs rs ∙ ap₂ (λ l m. pictures (map (λ s. s.buffer) l) ++ pictures m) none (ap (flat_map rdp_buffers) (sym machines) ∙ takes.0)
-    ∙ ap (λ l. b.picture ∷ l) (sym (behind ∙ held-parts ys items ∙ ap₂ (λ l m. pictures (map (λ s. s.buffer) l) ++ pictures (flat_map rdp_buffers m)) (ap held_in same ∙ none) is))
+    before ∙ held-parts xs rs ∙ ap₂ (λ l m. pictures (map (λ s. s.buffer) l) ++ pictures m) none (ap (flat_map slot_buffers) (sym machines) ∙ takes.0)
+    ∙ ap (λ l. b.picture ∷ l) (sym (behind ∙ held-parts ys items ∙ ap₂ (λ l m. pictures (map (λ s. s.buffer) l) ++ pictures (flat_map slot_buffers m)) (ap held_in same ∙ none) is))
 
--- machines without their first buffer, seen in another region
-pub placed-without : (n : RegionName) (rs : List PlainRdp) → without_held (map (placed n) rs) ≡ map (placed n) (without_held rs)
+-- slots without their first buffer, seen in another region
+pub placed-without : (n : RegionName) (ss : List SlotState) → without_held (map (placed_state n) ss) ≡ map (placed_state n) (without_held ss)
 placed-without n [] = refl
-placed-without n (r ∷ rs) =
-    ap (λ l. first_out l (placed n r) (map (placed n) rs) (without_held (map (placed n) rs))) (placed-buffers n r) ∙ go (rdp_buffers r) (placed-without n rs)
+placed-without n (s ∷ ss) =
+    ap (λ l. first_out l (placed_state n s) (map (placed_state n) ss) (without_held (map (placed_state n) ss))) (ap rdp_buffers (placed_machine n s) ∙ placed-buffers n (machine_in s)) ∙ go (slot_buffers s) (placed-without n ss)
   where
-    go : (bs : List PlainBuffer) → without_held (map (placed n) rs) ≡ map (placed n) (without_held rs) →
-        first_out (map (placed_buffer n) bs) (placed n r) (map (placed n) rs) (without_held (map (placed n) rs)) ≡ map (placed n) (first_out bs r rs (without_held rs))
-    go [] rest = ap (λ l. placed n r ∷ l) rest
-    go (b ∷ bs) rest = ap (λ x. x ∷ map (placed n) rs) (placed-out n r.send.packets r)
+    same : (o : Option PlainRdp) → option_map taken_out (option_map (placed n) o) ≡ option_map (placed n) (option_map taken_out o)
+    same None = refl
+    same (Some r) = ap Some (placed-out n r.send.packets r)
 
-pub taken-region : (name : RegionName) (rs after : List PlainRdp) (o : Option PlainBuffer) → All (IsHoused name) rs → Takes rs after o → IfSome o (λ b. b.region ≡ name)
+    go : (bs : List PlainBuffer) → without_held (map (placed_state n) ss) ≡ map (placed_state n) (without_held ss) →
+        first_out (map (placed_buffer n) bs) (placed_state n s) (map (placed_state n) ss) (without_held (map (placed_state n) ss)) ≡ map (placed_state n) (first_out bs s ss (without_held ss))
+    go [] rest = ap (λ l. placed_state n s ∷ l) rest
+    go (b ∷ bs) rest = ap (λ (o : Option PlainRdp). record s { machine = o } ∷ map (placed_state n) ss) (same s.machine)
+
+pub taken-region : (name : RegionName) (rs after : List SlotState) (o : Option PlainBuffer) → All (AreHoused name) rs → Takes rs after o → IfSome o (λ b. b.region ≡ name)
 taken-region name rs after None all takes = tt
-taken-region name rs after (Some b) all takes = housed-first name rs b (flat_map rdp_buffers after) all takes.0
+taken-region name rs after (Some b) all takes = housed-first name rs b (flat_map slot_buffers after) all takes.0
 
 -- a machine that needs all that it holds does so without its first buffer
 loose-tail : (p : Pending) (ps : List Pending) → map (λ q. q.buffer) (filter is_loose (p ∷ ps)) ≡ [] → map (λ q. q.buffer) (filter is_loose ps) ≡ []
@@ -301,18 +328,38 @@ housed-out name r housed =
       few = omega (arith, few, fewer);
     }
 
-pub housed-without : (name : RegionName) (rs : List PlainRdp) → All (IsHoused name) rs → (All (IsHoused name) (without_held rs)) × (length (without_held rs) ≡ length rs)
-housed-without name [] all = (all, refl)
-housed-without name (r ∷ rs) all =
-    go (rdp_buffers r) (All-head (IsHoused name) r rs all) (All-tail (IsHoused name) r rs all) (housed-without name rs (All-tail (IsHoused name) r rs all))
+slot-out : (name : RegionName) (s : SlotState) → AreHoused name s → AreHoused name (emptied_slot s)
+slot-out name s h = go s.machine h
   where
-    go : (bs : List PlainBuffer) → IsHoused name r → All (IsHoused name) rs → (All (IsHoused name) (without_held rs)) × (length (without_held rs) ≡ length rs) →
-        (All (IsHoused name) (first_out bs r rs (without_held rs))) × (length (first_out bs r rs (without_held rs)) ≡ suc (length rs))
-    go [] head tail rest = (All-cons (IsHoused name) r (without_held rs) head rest.0, ap suc rest.1)
-    go (b ∷ bs) head tail rest = (All-cons (IsHoused name) (taken_out r) rs (housed-out name r head) tail, refl)
+    go : (o : Option PlainRdp) → IfSome o (IsHoused name) → IfSome (option_map taken_out o) (IsHoused name)
+    go None h = tt
+    go (Some r) h = housed-out name r h
 
-pub housed-same : (name : RegionName) (rs ss : List PlainRdp) → ss ≡ rs → All (IsHoused name) rs → All (IsHoused name) ss
+pub housed-without : (name : RegionName) (ss : List SlotState) → All (AreHoused name) ss → (All (AreHoused name) (without_held ss)) × (length (without_held ss) ≡ length ss)
+housed-without name [] all = (all, refl)
+housed-without name (s ∷ ss) all =
+    go (slot_buffers s) (All-head (AreHoused name) s ss all) (All-tail (AreHoused name) s ss all) (housed-without name ss (All-tail (AreHoused name) s ss all))
+  where
+    go : (bs : List PlainBuffer) → AreHoused name s → All (AreHoused name) ss → (All (AreHoused name) (without_held ss)) × (length (without_held ss) ≡ length ss) →
+        (All (AreHoused name) (first_out bs s ss (without_held ss))) × (length (first_out bs s ss (without_held ss)) ≡ suc (length ss))
+    go [] head tail rest = (All-cons (AreHoused name) s (without_held ss) head rest.0, ap suc rest.1)
+    go (b ∷ bs) head tail rest = (All-cons (AreHoused name) (emptied_slot s) ss (slot-out name s head) tail, refl)
+
+pub housed-same : (name : RegionName) (rs ss : List SlotState) → ss ≡ rs → All (AreHoused name) rs → All (AreHoused name) ss
 housed-same name rs ss same all = rw same all
+
+-- the answers to come for slots whose machines have handed out a buffer
+pub terms-without : (ss : List SlotState) → map (λ s. s.terms) (without_held ss) ≡ map (λ s. s.terms) ss
+terms-without [] = refl
+terms-without (s ∷ ss) = go (slot_buffers s) (terms-without ss)
+  where
+    go : (bs : List PlainBuffer) → map (λ s. s.terms) (without_held ss) ≡ map (λ s. s.terms) ss → map (λ s. s.terms) (first_out bs s ss (without_held ss)) ≡ s.terms ∷ map (λ s. s.terms) ss
+    go [] rest = ap (λ l. s.terms ∷ l) rest
+    go (b ∷ bs) rest = refl
+
+pub terms-placed : (ss : List SlotState) → map (λ s. s.terms) (map (placed_state nowhere) ss) ≡ map (λ s. s.terms) ss
+terms-placed [] = refl
+terms-placed (s ∷ ss) = ap (λ l. s.terms ∷ l) (terms-placed ss)
 
 -- ---- the numbers of what is held
 
@@ -321,12 +368,12 @@ pictured [] = refl
 pictured (b ∷ bs) = ap (λ l. b.picture.number ∷ l) (pictured bs)
 
 -- of the packets that wait, and of the machines
-pub seen-times : (k : ℕ) (xs : List (Option Stalled)) (rs : List PlainRdp) → times k (numbers_of (pictures (seen xs rs)))
-    ≡ times k (map (λ b. b.picture.number) (flat_map stalled_buffers (map (option_map stalled_of) xs))) + times k (map (λ b. b.picture.number) (flat_map rdp_buffers rs))
+pub seen-times : (k : ℕ) (xs : List (Option Stalled)) (rs : List SlotState) → times k (numbers_of (pictures (seen xs rs)))
+    ≡ times k (map (λ b. b.picture.number) (flat_map stalled_buffers (map (option_map stalled_of) xs))) + times k (map (λ b. b.picture.number) (flat_map slot_buffers rs))
 seen-times k xs rs =
     let ss = flat_map stalled_buffers (map (option_map stalled_of) xs) in
-    let ms = flat_map rdp_buffers (map (placed nowhere) rs) in
-    let same = sym (pictured ms) ∙ ap numbers_of (ap pictures (machines-placed nowhere rs) ∙ placed-pictures nowhere (flat_map rdp_buffers rs)) ∙ pictured (flat_map rdp_buffers rs) in
+    let ms = flat_map slot_buffers (map (placed_state nowhere) rs) in
+    let same = sym (pictured ms) ∙ ap numbers_of (ap pictures (machines-placed nowhere rs) ∙ placed-pictures nowhere (flat_map slot_buffers rs)) ∙ pictured (flat_map slot_buffers rs) in
     ap (times k) (pictured (seen xs rs) ∙ map-append (λ b. b.picture.number) ss ms)
     ∙ times-append k (map (λ b. b.picture.number) ss) (map (λ b. b.picture.number) ms)
     ∙ ap (λ l. times k (map (λ b. b.picture.number) ss) + times k l) same
@@ -335,13 +382,13 @@ either : (m n : ℕ) (rest : Bool) → rest ≡ nat_lt 0 n → (nat_lt 0 m || re
 either zero n rest e = let same : 0 + n ≡ n = omega arith in e ∙ sym (ap (nat_lt 0) same)
 either (suc m) n rest e = ap (λ b. b || rest) (lt-ltb 0 (suc m) (omega arith)) ∙ sym (lt-ltb 0 (suc m + n) (omega arith))
 
-pub machines-any : (k : ℕ) (rs : List PlainRdp) → list_any (λ r. nat_lt 0 (times k (rdp_numbers r))) rs ≡ nat_lt 0 (times k (map (λ b. b.picture.number) (flat_map rdp_buffers rs)))
+pub machines-any : (k : ℕ) (rs : List SlotState) → list_any (λ r. nat_lt 0 (times k (rdp_numbers (machine_in r)))) rs ≡ nat_lt 0 (times k (map (λ b. b.picture.number) (flat_map slot_buffers rs)))
 machines-any k [] = refl
 machines-any k (r ∷ rs) =
-    let parts = ap (map (λ b. b.picture.number)) (flat_map-cons rdp_buffers r rs) ∙ map-append (λ b. b.picture.number) (rdp_buffers r) (flat_map rdp_buffers rs) in
-    let count = ap (times k) parts ∙ times-append k (map (λ b. b.picture.number) (rdp_buffers r)) (map (λ b. b.picture.number) (flat_map rdp_buffers rs))
-    ∙ ap (λ l. times k l + times k (map (λ b. b.picture.number) (flat_map rdp_buffers rs))) (sym (numbers-buffers r)) in
-    either (times k (rdp_numbers r)) (times k (map (λ b. b.picture.number) (flat_map rdp_buffers rs))) (list_any (λ r. nat_lt 0 (times k (rdp_numbers r))) rs) (machines-any k rs)
+    let parts = ap (map (λ b. b.picture.number)) (flat_map-cons slot_buffers r rs) ∙ map-append (λ b. b.picture.number) (slot_buffers r) (flat_map slot_buffers rs) in
+    let count = ap (times k) parts ∙ times-append k (map (λ b. b.picture.number) (slot_buffers r)) (map (λ b. b.picture.number) (flat_map slot_buffers rs))
+    ∙ ap (λ l. times k l + times k (map (λ b. b.picture.number) (flat_map slot_buffers rs))) (sym (numbers-buffers (machine_in r))) in
+    either (times k (rdp_numbers (machine_in r))) (times k (map (λ b. b.picture.number) (flat_map slot_buffers rs))) (list_any (λ r. nat_lt 0 (times k (rdp_numbers (machine_in r)))) rs) (machines-any k rs)
     ∙ sym (ap (nat_lt 0) count)
 
 -- none waits: a buffer is held where a machine holds it
@@ -356,30 +403,30 @@ from-none : {X Y : Type 0} (f : X → Y) (xs : List X) → map f xs ≡ [] → x
 from-none f [] none = refl
 from-none f (x ∷ xs) none = cc
 
-pub nothing-held : (xs : List (Option Stalled)) (rs : List PlainRdp) → pictures (seen xs rs) ≡ [] →
-    (flat_map stalled_buffers (map (option_map stalled_of) xs) ≡ []) × (flat_map rdp_buffers rs ≡ [])
+pub nothing-held : (xs : List (Option Stalled)) (rs : List SlotState) → pictures (seen xs rs) ≡ [] →
+    (flat_map stalled_buffers (map (option_map stalled_of) xs) ≡ []) × (flat_map slot_buffers rs ≡ [])
 nothing-held xs rs none =
     let ss = flat_map stalled_buffers (map (option_map stalled_of) xs) in
-    let ms = flat_map rdp_buffers (map (placed nowhere) rs) in
+    let ms = flat_map slot_buffers (map (placed_state nowhere) rs) in
     let all = from-none (λ b. b.picture) (ss ++ ms) none in
-    (nil-left ss ms all, from-none (placed_buffer nowhere) (flat_map rdp_buffers rs) (sym (machines-placed nowhere rs) ∙ nil-right ss ms all))
+    (nil-left ss ms all, from-none (placed_buffer nowhere) (flat_map slot_buffers rs) (sym (machines-placed nowhere rs) ∙ nil-right ss ms all))
 
 -- a machine holds as many buffers as its windows have places at most
-machine-few : (name : RegionName) (rs : List PlainRdp) → All (IsHoused name) rs → All (λ r. length (rdp_buffers r) ≤ SEND_PLACES + RECEIVE_PLACES) rs
-machine-few name [] all = All-nil (λ r. length (rdp_buffers r) ≤ SEND_PLACES + RECEIVE_PLACES)
+machine-few : (name : RegionName) (rs : List SlotState) → All (AreHoused name) rs → All (λ r. length (slot_buffers r) ≤ SEND_PLACES + RECEIVE_PLACES) rs
+machine-few name [] all = All-nil (λ r. length (slot_buffers r) ≤ SEND_PLACES + RECEIVE_PLACES)
 machine-few name (r ∷ rs) all =
-    let head : IsHoused name r = All-head (IsHoused name) r rs all in
+    let head : IsHoused name (machine_in r) = machine-housed name r (All-head (AreHoused name) r rs all) in
     let few = head.few in
-    let same = ap length (numbers-buffers r) ∙ length-map (rdp_buffers r) (λ b. b.picture.number) in
-    All-cons (λ r. length (rdp_buffers r) ≤ SEND_PLACES + RECEIVE_PLACES) r rs (omega (arith, few, same)) (machine-few name rs (All-tail (IsHoused name) r rs all))
+    let same = ap length (numbers-buffers (machine_in r)) ∙ length-map (slot_buffers r) (λ b. b.picture.number) in
+    All-cons (λ r. length (slot_buffers r) ≤ SEND_PLACES + RECEIVE_PLACES) r rs (omega (arith, few, same)) (machine-few name rs (All-tail (AreHoused name) r rs all))
 
-pub held-few : (name : RegionName) (xs : List (Option Stalled)) (rs : List PlainRdp) → length xs ≡ MAX_APPS → length rs ≡ ALL_SLOTS → All (IsHoused name) rs → length (pictures (seen xs rs)) ≤ MAX_HELD
+pub held-few : (name : RegionName) (xs : List (Option Stalled)) (rs : List SlotState) → length xs ≡ MAX_APPS → length rs ≡ ALL_SLOTS → All (AreHoused name) rs → length (pictures (seen xs rs)) ≤ MAX_HELD
 held-few name xs rs places slots all =
-    let parts = ap length (held-parts xs rs) ∙ length-append (pictures (map (λ s. s.buffer) (held_in xs))) (pictures (flat_map rdp_buffers rs)) in
+    let parts = ap length (held-parts xs rs) ∙ length-append (pictures (map (λ s. s.buffer) (held_in xs))) (pictures (flat_map slot_buffers rs)) in
     let packets = length-map (map (λ s. s.buffer) (held_in xs)) (λ b. b.picture) ∙ length-map (held_in xs) (λ s. s.buffer) in
     let waiting = held_in-few xs in
-    let machines = length-map (flat_map rdp_buffers rs) (λ b. b.picture) ∙ length-flat_map rdp_buffers rs in
-    let few = sum_by-le (λ r. length (rdp_buffers r)) (SEND_PLACES + RECEIVE_PLACES) rs (machine-few name rs all) in
+    let machines = length-map (flat_map slot_buffers rs) (λ b. b.picture) ∙ length-flat_map slot_buffers rs in
+    let few = sum_by-le (λ r. length (slot_buffers r)) (SEND_PLACES + RECEIVE_PLACES) rs (machine-few name rs all) in
     omega (arith, parts, packets, waiting, machines, few, places, slots)
 
 -- ---- ports that are opened
@@ -391,9 +438,6 @@ wishes-none n app =
   where
     none-taken : (m k : ℕ) → sum_by (λ t. wished t.wish) (take m (replicate k fresh)) ≡ 0
     none-taken m k = let few = sum_by-take-le (λ t. wished t.wish) (replicate k fresh) m in let all = sum_by-replicate (λ t. wished t.wish) k fresh in omega (arith, few, all)
-
-pub idle-housed : (name : RegionName) → IsHoused name idle
-idle-housed name = record { region = record { sending = tt; kept = tt }; whole = record { unopened = tt; ordered = tt }; rested = refl; few = omega arith }
 
 blank : {A : Type 0} (n i : ℕ) (a : A) → get_or (replicate n a) i a ≡ a
 blank zero i a = refl

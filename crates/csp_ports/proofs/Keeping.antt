@@ -1,90 +1,131 @@
 -- what holds of a node's ports goes on to hold when a part of them changes
-use Rattle.std.specs.Prelude.{IfSome, None, Option, get_or, slice_set}
+use Rattle.std.specs.Prelude.{IfSome, None, Option, Some, get_or, is_some, slice_set, unwrap_or}
 use Rattle.std.specs.Option.{option_map}
 use Rattle.csp_ports.specs.declared.stalled.Stalled.{Stalled}
-use Rattle.std.proofs.Common.{◌≡◌, ℕ, ◌+◌, ◌<◌, ◌≤◌, List, map, arith, ap, sym, ◌∙◌}
+use Rattle.std.proofs.Common.{◌≡◌, ℕ, ◌+◌, ◌<◌, ◌≤◌, List, length, map, arith, ap, refl, subst, sym, ◌∙◌}
 use Rattle.std.specs.Vec.{with_item}
-use Rattle.std.proofs.lemmas.List.{get_or-map, length-set, map-set}
+use Rattle.std.proofs.lemmas.List.{get_or-map, length-map, length-set, map-set}
 use Rattle.std.proofs.lemmas.List.Elements.{All-get_or, All-set}
 use Rattle.csp_conn.specs.PlainConns.{place_of}
 use Rattle.csp_ports.proofs.Wishing.{due_after}
 use Rattle.csp_deck.specs.Regions.{nowhere}
 use Rattle.csp_ports.specs.Kept.{ArePorts, IsHoused, IsWaiting, plain_ports, ports_at, stalled_of, wished, wishes}
-use Rattle.csp_ports.specs.PlainPorts.{PlainStalled, PortsAt, machine_at, stalled_at, waiting, with_machine, with_ports_at, with_stalled}
+use Rattle.csp_ports.specs.PlainPorts.{PlainStalled, PortsAt, fresh, has_machine, machine_at, stalled_at, state_at, terms_at, terms_of, untouched, waiting, with_machine, with_machine_or, with_ports_at, with_stalled, with_terms}
+use Rattle.csp_ports.specs.declared.terms.SlotState.{SlotState}
+use Rattle.csp_ports.proofs.Holding.{AreHoused}
+use Rattle.csp_ports.proofs.Slots.{placed_state, terms_listed, terms_of_machine, terms_of_terms}
 use Rattle.csp_rdp.specs.Machine.{PlainRdp, idle}
 use Rattle.csp_rdp.specs.Placed.{placed}
 use Rattle.csp_ports.specs.declared.ports.Ports.TheInside.{Inside}
 use Rattle.csp_ports.specs.declared.ports.TheConstants.{ANSWERS}
 use Rattle.csp_ports.specs.declared.terms.Terms.{Terms}
 
+-- what is kept of a slot: another in a place, with no more answers still to come than may be
+slot_kept : (p : Inside) (k : ℕ) (s : SlotState) → AreHoused p.token.name s → ((app : ℕ) → waiting app p.owed.items + wishes app (terms_of (plain_ports (record p { slots = with_item p.slots k s }))) ≤ ANSWERS) → ArePorts p → ArePorts (record p { slots = with_item p.slots k s })
+slot_kept p k s h due a = record {
+  few = a.few;
+  apps = a.apps;
+  room = a.room;
+  owners = a.owners;
+  owed = a.owed;
+  due = due;
+  slots = length-set p.slots.items k s ∙ a.slots;
+  housed = All-set (AreHoused p.token.name) p.slots.items k s h a.housed;
+  places = a.places;
+  waits = a.waits;
+}
+
+-- what a place has
+pub slot_in : (p : Inside) (app slot place : ℕ) (d : SlotState) → place ≡ place_of app slot → place < 16 → ArePorts p → placed_state nowhere (get_or p.slots.items place d) ≡ state_at (plain_ports p) app slot
+slot_in p app slot place d e there a = sym (get_or-map (placed_state nowhere) p.slots.items place d untouched (omega (arith, there, a.slots))) ∙ ap (λ (k : ℕ). get_or (map (placed_state nowhere) p.slots.items) k untouched) e
+
+-- another in its place, as contracts see it
+slot_set : (p : Inside) (app slot place : ℕ) (s : SlotState) → place ≡ place_of app slot → ports_at (record p { slots = with_item p.slots place s }) ≡ with_ports_at (ports_at p) (record (plain_ports p) { slots = slice_set (plain_ports p).slots (place_of app slot) (placed_state nowhere s) })
+slot_set p app slot place s e = rw e (ap (λ (ss : List SlotState). with_ports_at (ports_at p) (record (plain_ports p) { slots = ss })) (map-set (placed_state nowhere) p.slots.items (place_of app slot) s))
+
+-- there are as many terms as slots
+pub seen_terms : (p : Inside) → length (terms_of (plain_ports p)) ≡ length p.slots.items
+seen_terms p = length-map (map (placed_state nowhere) p.slots.items) (λ (s : SlotState). s.terms) ∙ length-map p.slots.items (placed_state nowhere)
+
 -- the terms of a slot
-pub terms_kept : (p : Inside) (app slot place : ℕ) (t d : Terms) → place ≡ place_of app slot → slot < 4 → place < 16 → ArePorts p
-    → (waiting app p.owed.items + wishes app p.terms) + wished t.wish ≤ ANSWERS + wished (get_or p.terms (place_of app slot) d).wish → ArePorts (record p { terms = slice_set p.terms place t })
-terms_kept p app slot place t d e h there a more = record {
-  few = a.few;
-  apps = a.apps;
-  slots = length-set p.terms place t ∙ a.slots;
-  room = a.room;
-  owners = a.owners;
-  owed = a.owed;
-  due = rw e (due_after ANSWERS app slot p.terms (λ b. waiting b p.owed.items) t d h (omega (arith, e, there, a.slots)) a.due more);
-  all = a.all;
-  housed = a.housed;
-  places = a.places;
-  waits = a.waits;
-}
+pub terms_set : (p : Inside) (app slot place : ℕ) (s : SlotState) (t : Terms) → place ≡ place_of app slot → place < 16 → ArePorts p → s ≡ get_or p.slots.items place s
+    → ports_at (record p { slots = with_item p.slots place (record s { terms = t }) }) ≡ with_ports_at (ports_at p) (with_terms (plain_ports p) app slot t)
+terms_set p app slot place s t e there a value =
+    slot_set p app slot place (record s { terms = t }) e
+    ∙ ap (λ (x : SlotState). with_ports_at (ports_at p) (record (plain_ports p) { slots = slice_set (plain_ports p).slots (place_of app slot) (record x { terms = t }) })) (ap (placed_state nowhere) value ∙ slot_in p app slot place s e there a)
 
--- the machines: another one in a place
-pub machines_kept : (p : Inside) (k : ℕ) (r : PlainRdp) → IsHoused p.token.name r → ArePorts p → ArePorts (record p { machines = with_item p.machines k r })
-machines_kept p k r h a = record {
-  few = a.few;
-  apps = a.apps;
-  slots = a.slots;
-  room = a.room;
-  owners = a.owners;
-  owed = a.owed;
-  due = a.due;
-  all = length-set p.machines.items k r ∙ a.all;
-  housed = All-set (IsHoused p.token.name) p.machines.items k r h a.housed;
-  places = a.places;
-  waits = a.waits;
-}
+pub terms_kept : (p : Inside) (app slot place : ℕ) (s : SlotState) (t : Terms) → place ≡ place_of app slot → slot < 4 → place < 16 → ArePorts p → s ≡ get_or p.slots.items place s
+    → (waiting app p.owed.items + wishes app (terms_of (plain_ports p))) + wished t.wish ≤ ANSWERS + wished (terms_at (plain_ports p) app slot).wish → ArePorts (record p { slots = with_item p.slots place (record s { terms = t }) })
+terms_kept p app slot place s t e h there a value more =
+    slot_kept p place (record s { terms = t })
+    (subst (λ (x : SlotState). IfSome x.machine (IsHoused p.token.name)) (sym value) (All-get_or (AreHoused p.token.name) p.slots.items place s (omega (arith, there, a.slots)) a.housed))
+    (λ b.
+    subst (λ (ts : List Terms). waiting b p.owed.items + wishes b ts ≤ ANSWERS)
+    (sym (ap (λ (x : PortsAt). terms_of x.ports) (terms_set p app slot place s t e there a value) ∙ terms_of_terms (plain_ports p) app slot t))
+    (due_after ANSWERS app slot (terms_of (plain_ports p)) (λ b. waiting b p.owed.items) t fresh h (omega (arith, e, there, a.slots, seen_terms p)) a.due
+    (subst (λ (u : Terms). (waiting app p.owed.items + wishes app (terms_of (plain_ports p))) + wished t.wish ≤ ANSWERS + wished u.wish) (terms_listed (plain_ports p) app slot) more) b))
+    a
 
--- the machine of a slot, as contracts see it
-pub machine_in : (p : Inside) (app slot place : ℕ) (d : PlainRdp) → place ≡ place_of app slot → place < 16 → ArePorts p → placed nowhere (get_or p.machines.items place d) ≡ machine_at (plain_ports p) app slot
-machine_in p app slot place d e there a = sym (get_or-map (placed nowhere) p.machines.items place d idle (omega (arith, there, a.all))) ∙ ap (λ (k : ℕ). get_or (map (placed nowhere) p.machines.items) k idle) e
+-- the machine of a slot, or none, as contracts see it
+pub machine_set : (p : Inside) (app slot place : ℕ) (s : SlotState) (o : Option PlainRdp) → place ≡ place_of app slot → place < 16 → ArePorts p → s ≡ get_or p.slots.items place s
+    → ports_at (record p { slots = with_item p.slots place (record s { machine = o }) }) ≡ with_ports_at (ports_at p) (with_machine_or (plain_ports p) app slot (option_map (placed nowhere) o))
+machine_set p app slot place s o e there a value =
+    slot_set p app slot place (record s { machine = o }) e
+    ∙ ap (λ (x : SlotState). with_ports_at (ports_at p) (record (plain_ports p) { slots = slice_set (plain_ports p).slots (place_of app slot) (record x { machine = option_map (placed nowhere) o }) })) (ap (placed_state nowhere) value ∙ slot_in p app slot place s e there a)
 
--- another machine in the place of a slot's, as contracts see it
-pub machine_set : (p : Inside) (app slot place : ℕ) (r : PlainRdp) → place ≡ place_of app slot → ports_at (record p { machines = with_item p.machines place r }) ≡ with_ports_at (ports_at p) (with_machine (plain_ports p) app slot (placed nowhere r))
-machine_set p app slot place r e = rw e (ap (λ (ms : List PlainRdp). with_ports_at (ports_at p) (record (plain_ports p) { machines = ms })) (map-set (placed nowhere) p.machines.items (place_of app slot) r))
-
--- and it is housed
-pub housed_in : (p : Inside) (k : ℕ) (d : PlainRdp) → k < 16 → ArePorts p → IsHoused p.token.name (get_or p.machines.items k d)
-housed_in p k d there a = All-get_or (IsHoused p.token.name) p.machines.items k d (omega (arith, there, a.all)) a.housed
+pub machines_kept : (p : Inside) (app slot place : ℕ) (s : SlotState) (o : Option PlainRdp) → place ≡ place_of app slot → place < 16 → s ≡ get_or p.slots.items place s → IfSome o (IsHoused p.token.name) → ArePorts p → ArePorts (record p { slots = with_item p.slots place (record s { machine = o }) })
+machines_kept p app slot place s o e there value h a =
+    slot_kept p place (record s { machine = o }) h
+    (λ b.
+    subst (λ (ts : List Terms). waiting b p.owed.items + wishes b ts ≤ ANSWERS)
+    (sym (ap (λ (x : PortsAt). terms_of x.ports) (machine_set p app slot place s o e there a value) ∙ terms_of_machine (plain_ports p) app slot (option_map (placed nowhere) o))) (a.due b))
+    a
 
 -- the machine that a place has, as contracts see it
-pub machine_seen : (p : Inside) (at : PortsAt) (app slot place : ℕ) (r : PlainRdp) → ports_at p ≡ at → place ≡ place_of app slot → place < 16 → ArePorts p → r ≡ get_or p.machines.items place r → placed nowhere r ≡ machine_at at.ports app slot
-machine_seen p at app slot place r view e there a value = ap (placed nowhere) value ∙ (machine_in p app slot place r e there a ∙ ap (λ (x : PortsAt). machine_at x.ports app slot) view)
+pub machine_in_place : (p : Inside) (at : PortsAt) (app slot place : ℕ) (s : SlotState) → ports_at p ≡ at → place ≡ place_of app slot → place < 16 → ArePorts p → s ≡ get_or p.slots.items place s → option_map (placed nowhere) s.machine ≡ (state_at at.ports app slot).machine
+machine_in_place p at app slot place s view e there a value =
+    ap (λ (x : SlotState). (placed_state nowhere x).machine) value ∙ (ap (λ (x : SlotState). x.machine) (slot_in p app slot place s e there a) ∙ ap (λ (x : PortsAt). (state_at x.ports app slot).machine) view)
 
--- and the ports, once it made a step
-pub machine_stepped : (p : Inside) (at : PortsAt) (app slot place : ℕ) (r new : PlainRdp) (step : PlainRdp → PlainRdp) → ports_at p ≡ at → place ≡ place_of app slot → place < 16 → ArePorts p → r ≡ get_or p.machines.items place r → placed nowhere new ≡ step (placed nowhere r)
-    → ports_at (record p { machines = with_item p.machines place new }) ≡ with_ports_at at (with_machine at.ports app slot (step (machine_at at.ports app slot)))
-machine_stepped p at app slot place r new step view e there a value made =
-    machine_set p app slot place new e
+pub machine_seen : (p : Inside) (at : PortsAt) (app slot place : ℕ) (s : SlotState) (r : PlainRdp) → ports_at p ≡ at → place ≡ place_of app slot → place < 16 → ArePorts p → s ≡ get_or p.slots.items place s → Some r ≡ s.machine → placed nowhere r ≡ machine_at at.ports app slot
+machine_seen p at app slot place s r view e there a value some =
+    ap (λ (o : Option PlainRdp). unwrap_or (option_map (placed nowhere) o) idle) some ∙ ap (λ (o : Option PlainRdp). unwrap_or o idle) (machine_in_place p at app slot place s view e there a value)
+
+pub machine_there : (p : Inside) (at : PortsAt) (app slot place : ℕ) (s : SlotState) (o : Option PlainRdp) → ports_at p ≡ at → place ≡ place_of app slot → place < 16 → ArePorts p → s ≡ get_or p.slots.items place s → o ≡ s.machine → is_some o ≡ has_machine at.ports app slot
+machine_there p at app slot place s o view e there a value is =
+    ap (λ (m : Option PlainRdp). is_some m) is ∙ (still s.machine ∙ ap (λ (m : Option PlainRdp). is_some m) (machine_in_place p at app slot place s view e there a value))
+  where
+    still : (m : Option PlainRdp) → is_some m ≡ is_some (option_map (placed nowhere) m)
+    still None = refl
+    still (Some r) = refl
+
+-- and where it has none
+pub machine_absent : (p : Inside) (at : PortsAt) (app slot place : ℕ) (s : SlotState) → ports_at p ≡ at → place ≡ place_of app slot → place < 16 → ArePorts p → s ≡ get_or p.slots.items place s → s.machine ≡ None → machine_at at.ports app slot ≡ idle
+machine_absent p at app slot place s view e there a value none =
+    sym (ap (λ (o : Option PlainRdp). unwrap_or (option_map (placed nowhere) o) idle) (sym none) ∙ ap (λ (o : Option PlainRdp). unwrap_or o idle) (machine_in_place p at app slot place s view e there a value))
+
+-- it is housed
+pub housed_in : (p : Inside) (k : ℕ) (s : SlotState) (r : PlainRdp) → k < 16 → ArePorts p → s ≡ get_or p.slots.items k s → Some r ≡ s.machine → IsHoused p.token.name r
+housed_in p k s r there a value some =
+    subst (λ (o : Option PlainRdp). IfSome o (IsHoused p.token.name)) (sym (some ∙ ap (λ (x : SlotState). x.machine) value)) (All-get_or (AreHoused p.token.name) p.slots.items k s (omega (arith, there, a.slots)) a.housed)
+
+-- the ports, once it made a step
+pub machine_stepped : (p : Inside) (at : PortsAt) (app slot place : ℕ) (s : SlotState) (r new : PlainRdp) (step : PlainRdp → PlainRdp) → ports_at p ≡ at → place ≡ place_of app slot → place < 16 → ArePorts p → s ≡ get_or p.slots.items place s → Some r ≡ s.machine → placed nowhere new ≡ step (placed nowhere r)
+    → ports_at (record p { slots = with_item p.slots place (record s { machine = Some new }) }) ≡ with_ports_at at (with_machine at.ports app slot (step (machine_at at.ports app slot)))
+machine_stepped p at app slot place s r new step view e there a value some made =
+    machine_set p app slot place s (Some new) e there a value
     ∙ (ap (λ (x : PortsAt). with_ports_at x (with_machine x.ports app slot (placed nowhere new))) view
-    ∙ ap (λ (q : PlainRdp). with_ports_at at (with_machine at.ports app slot q)) (made ∙ ap step (machine_seen p at app slot place r view e there a value)))
+    ∙ ap (λ (q : PlainRdp). with_ports_at at (with_machine at.ports app slot q)) (made ∙ ap step (machine_seen p at app slot place s r view e there a value some)))
 
 -- the packets that wait: another one, or none, in a place
 pub stalled_kept : (p : Inside) (app : ℕ) (s : Option Stalled) → IfSome s (IsWaiting p.token.name) → ArePorts p → ArePorts (record p { stalled = slice_set p.stalled app s })
 stalled_kept p app s h a = record {
   few = a.few;
   apps = a.apps;
-  slots = a.slots;
   room = a.room;
   owners = a.owners;
   owed = a.owed;
   due = a.due;
-  all = a.all;
+  slots = a.slots;
   housed = a.housed;
   places = length-set p.stalled app s ∙ a.places;
   waits = All-set (λ t. IfSome t (IsWaiting p.token.name)) p.stalled app s h a.waits;

@@ -12,6 +12,7 @@ mod Quiet
 mod Reckoning
 mod Serving
 mod Sizing
+mod Slots
 mod Stilling
 mod Tasking
 mod Waiting

@@ -6,7 +6,7 @@ use Rattle.std.proofs.Math.Nat.{le-max_left, le-max_right, max-le}
 use Rattle.std.proofs.lemmas.List.Concat.{flat_map-cons}
 use Rattle.std.proofs.lemmas.List.Elements.{All-append, All-cons, All-head, All-map, All-nil, All-tail}
 use Rattle.csp_ports.specs.Counts.{AreFar, greatest, raised, went_through}
-use Rattle.csp_ports.specs.PlainPorts.{PlainPorts}
+use Rattle.csp_ports.specs.PlainPorts.{PlainPorts, machines_of, terms_of}
 use Rattle.csp_ports.specs.declared.terms.Terms.{Terms}
 use Rattle.csp_rdp.specs.Counts.{IsFar}
 use Rattle.csp_rdp.specs.Machine.{PlainRdp}
@@ -64,19 +64,19 @@ far_ends n (t ∷ ts) all =
 pub all_far : (n : ℕ) (p : PlainPorts) → greatest p ≤ n → AreFar n p
 all_far n p h =
     let first = each_below n 0 (raised p) h in
-    let rest = All-tail (λ x. x ≤ n) p.made (flat_map went_through p.machines ++ map (λ t. t.ordinal) p.terms) first.1 in
-    let parts = parts_below n (flat_map went_through p.machines) (map (λ t. t.ordinal) p.terms) rest in
+    let rest = All-tail (λ x. x ≤ n) p.made (flat_map went_through (machines_of p) ++ map (λ t. t.ordinal) (terms_of p)) first.1 in
+    let parts = parts_below n (flat_map went_through (machines_of p)) (map (λ t. t.ordinal) (terms_of p)) rest in
     record {
-      machines = far_machines n p.machines parts.0;
-      made = All-head (λ x. x ≤ n) p.made (flat_map went_through p.machines ++ map (λ t. t.ordinal) p.terms) first.1;
-      ends = far_ends n p.terms parts.1;
+      machines = far_machines n (machines_of p) parts.0;
+      made = All-head (λ x. x ≤ n) p.made (flat_map went_through (machines_of p) ++ map (λ t. t.ordinal) (terms_of p)) first.1;
+      ends = far_ends n (terms_of p) parts.1;
     }
 
 pub far_all : (n : ℕ) (p : PlainPorts) → AreFar n p → greatest p ≤ n
 far_all n p h =
     greatest_below n 0 (raised p) (omega arith)
-    (All-cons (λ x. x ≤ n) p.made (flat_map went_through p.machines ++ map (λ t. t.ordinal) p.terms) h.made
-    (All-append (λ x. x ≤ n) (flat_map went_through p.machines) (map (λ t. t.ordinal) p.terms) (machines_below n p.machines h.machines) (All-map (λ x. x ≤ n) (λ t. t.ordinal) p.terms h.ends)))
+    (All-cons (λ x. x ≤ n) p.made (flat_map went_through (machines_of p) ++ map (λ t. t.ordinal) (terms_of p)) h.made
+    (All-append (λ x. x ≤ n) (flat_map went_through (machines_of p)) (map (λ t. t.ordinal) (terms_of p)) (machines_below n (machines_of p) h.machines) (All-map (λ x. x ≤ n) (λ t. t.ordinal) (terms_of p) h.ends)))
 
 pub greatest_further : (m : ℕ) (p q : PlainPorts) → ((n : ℕ) → AreFar n p → AreFar (n + m) q) → greatest q ≤ greatest p + m
 greatest_further m p q f = far_all (greatest p + m) q (f (greatest p) (all_far (greatest p) p (omega arith)))

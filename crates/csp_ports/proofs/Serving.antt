@@ -1,9 +1,9 @@
 -- what comes of packets, tasks, and what applications ask: that it neither loses a buffer nor counts further than it may
 use Rattle.std.specs.Prelude.{Bool, true, false, MatchOption, None, Option, Some}
 use Rattle.std.specs.List.{All, flat_map}
-use Rattle.std.specs.Option.{IsSome, option_to_list}
-use Rattle.std.proofs.Common.{◌≡◌, ℕ, ◌+◌, ◌<◌, ◌≤◌, List, [], ◌∷◌, ◌++◌, length, refl, arith, ap, subst, sym, ◌∙◌}
-use Rattle.std.proofs.lemmas.List.{append_assoc, get_or-set_same}
+use Rattle.std.specs.Option.{IsSome, option_map, option_to_list}
+use Rattle.std.proofs.Common.{◌≡◌, ℕ, ◌+◌, ◌<◌, ◌≤◌, List, [], ◌∷◌, ◌++◌, length, map, refl, arith, ap, subst, sym, ◌∙◌}
+use Rattle.std.proofs.lemmas.List.{append_assoc}
 use Rattle.std.proofs.lemmas.List.Elements.{All-cons, All-head, All-tail}
 use Rattle.csp_base.specs.declared.priority.Prio.{Prio}
 use Rattle.csp_buffer.specs.Content.{Content}
@@ -20,17 +20,20 @@ use Rattle.csp_log.specs.declared.note.Why.TheVariants as why
 use Rattle.csp_ports.proofs.Conserving.{flows_admitted, flows_dropped, flows_freed, flows_none, flows_replaced, flows_settled, flows_stalled, flows_went, no_further}
 use Rattle.csp_ports.proofs.Counting.{far_at, far_terms}
 use Rattle.csp_ports.proofs.Flowing.{Flows, far_later, flows_machine, flows_rested, flows_still, flows_then, keeps_from, machine_later, whole_at}
+use Rattle.csp_ports.proofs.Holding.{terms-without}
+use Rattle.csp_ports.proofs.Slots.{held_terms, machine_none, machine_now, machines_of_terms, taken_machine}
 use Rattle.csp_ports.proofs.Weighing.{tally, tally_append, tally_none, tally_same, weigh, weigh_append, weight}
 use Rattle.csp_ports.proofs.Wholes.{closed_whole, sent_whole}
 use Rattle.csp_ports.specs.Asking.{answered, answered_by, close_by, connect, connect_by, ended, ended_by, ending_in, held_by, is_reliable, joined, linked}
-use Rattle.csp_ports.specs.Came.{pictures}
+use Rattle.csp_ports.specs.Came.{Came, come, pictures, reporting, then}
 use Rattle.csp_ports.specs.Counts.{AreFar}
-use Rattle.csp_ports.specs.Held.{emptied, emptied_by, first_out, held, stalled_buffers, without_held}
+use Rattle.csp_ports.specs.Held.{emptied, emptied_by, first_out, held, slot_buffers, stalled_buffers, without_held}
 use Rattle.csp_ports.specs.Keeps.{AreWhole, Keeps}
-use Rattle.csp_ports.specs.Packets.{accepted, admitting_by, handing, invited, submitting_in}
-use Rattle.csp_ports.specs.PlainPorts.{PlainPorts, PlainStalled, PortsAt, anywhere, machine_at, owing, stalled_at, start_of, terms_at, with_machine, with_ports_at, with_stalled, with_terms, wishing}
-use Rattle.csp_ports.specs.Steps.{changed, dropped, has_room, settled, went}
-use Rattle.csp_ports.specs.Tasks.{delivered, kept_again, making, without_packet}
+use Rattle.csp_ports.specs.Packets.{accepted, admitting_by, back_by, handing, handing_event, invited, submitting_in}
+use Rattle.csp_ports.specs.PlainPorts.{PlainPorts, PlainStalled, PortsAt, anywhere, has_machine, machine_at, machine_in, machines_of, owing, stalled_at, start_of, terms_at, terms_of, with_machine, with_ports_at, with_stalled, with_terms, wishing}
+use Rattle.csp_ports.specs.declared.terms.SlotState.{SlotState}
+use Rattle.csp_ports.specs.Steps.{changed, dropped, has_room, settled, stepped, went, where_machine}
+use Rattle.csp_ports.specs.Tasks.{delivered, kept_again, making, told_down, without_packet}
 use Rattle.csp_ports.specs.declared.handing.Invitation.{Invitation}
 use Rattle.csp_ports.specs.declared.origin.Origin.{Origin}
 use Rattle.csp_ports.specs.declared.owed.Owed.{Owed}
@@ -43,8 +46,8 @@ use Rattle.csp_rdp.specs.Changes.{change_between}
 use Rattle.csp_rdp.specs.Counts.{IsFar}
 use Rattle.csp_rdp.specs.Holding.{rdp_buffers, rdp_numbers, rested, taken_out, unneeded}
 use Rattle.csp_rdp.specs.Jobs.{closing, one_more_delivered, delivering, delivery, keeping_again, sent, taken_in, without_delivery}
-use Rattle.csp_rdp.specs.Machine.{PlainRdp, accepting, connecting, idle}
-use Rattle.csp_rdp.specs.Table.{back_of, after_packet, row_of}
+use Rattle.csp_rdp.specs.Machine.{PlainRdp, accepting, connecting}
+use Rattle.csp_rdp.specs.Table.{back_of, after_packet, is_stray, row_of}
 use Rattle.csp_rdp.specs.declared.answers.State.{State}
 use Rattle.csp_rdp.specs.declared.answers.State.TheVariants.{Closed, SynSent, SynRcvd, Open, CloseWait}
 use Rattle.csp_rdp.specs.declared.answers.Cause.TheVariants as machine_why
@@ -84,7 +87,7 @@ pub now_taken : (p : PlainPorts) (app slot : ℕ) → place_of app slot < 16 →
     → ((machine_at (without_packet app slot p) app slot).state ≡ Open) × (is_kept (machine_at (without_packet app slot p) app slot).recv ((machine_at (without_packet app slot p) app slot).recv.cur + 1) ≡ false)
 now_taken p app slot there h opened =
     let r = machine_at p app slot in
-    let new : machine_at (without_packet app slot p) app slot ≡ without_delivery r = get_or-set_same p.machines (place_of app slot) (without_delivery r) idle (omega (arith, there, h.slots)) in
+    let new : machine_at (without_packet app slot p) app slot ≡ without_delivery r = machine_now p app slot (Some (without_delivery r)) (omega (arith, there, h.slots)) in
     let same = taken_same r.state r in
     subst (λ (q : PlainRdp). (q.state ≡ Open) × (is_kept q.recv (q.recv.cur + 1) ≡ false)) (sym new)
     (same.0 ∙ opened, ap (λ (n : ℕ). is_kept (without_delivery r).recv (n + 1)) same.1 ∙ missing-taken r.state r opened)
@@ -105,6 +108,23 @@ keeps_made j p time app slot there h =
     (flows_machine 0 p app slot (sent j time r) [] [] there h (sent_whole j time r (whole_at p app slot h)) (λ n far. machine_later n (n + 0) (sent j time r) (omega arith) (far-sent n j time r far))
     (λ o. omega (arith, tally_none o, ap (tally o) (numbers-sent j time r))))
 
+-- where no buffer moves
+keeps_same : (m : ℕ) (p q : PlainPorts) → held q ≡ held p → ((n : ℕ) → AreFar n p → AreFar (n + m) q) → Keeps m p q [] [] []
+keeps_same m p q e far = record { numbers = λ k. omega (arith, ap (λ (cs : List Content). weigh (Some k) cs) e); size = omega (arith, ap length e); far = far }
+
+-- a note is pushed, and a plain connection accepted
+pub keeps_told : (p : PlainPorts) (app slot : ℕ) → Keeps 0 p (told_down app slot p) [] [] []
+keeps_told p app slot =
+    let t : Terms = record (terms_at p app slot) { is_down = false } in
+    keeps_same 0 p (told_down app slot p) (held_terms p app slot t) (no_further p (told_down app slot p) (λ n k. far_terms n p app slot t (far_at n p app slot k) k))
+
+pub keeps_accepted : (p : PlainPorts) (app slot : ℕ) (c : Connection) (prio : Prio) (flags : ℕ) → Keeps 0 p (accepted p app slot c prio flags) [] [] []
+keeps_accepted p app slot c prio flags =
+    let taken : PlainPorts = record p { conns = with_slot p.conns app slot (Opened c) } in
+    let t : Terms = record (terms_at p app slot) { prio = prio; flags = flags; wish = wish.Nothing; is_down = false } in
+    let q = accepted p app slot c prio flags in
+    keeps_same 0 p q (held_terms taken app slot t) (no_further p q (λ n k. far_terms n taken app slot t (far_at n p app slot k) (record { machines = k.machines; made = k.made; ends = k.ends })))
+
 -- a packet is delivered
 pub flows_delivered : (p : PlainPorts) (time app slot : ℕ) → app < 4 → place_of app slot < 16 → AreWhole p → (machine_at p app slot).state ≡ Open → is_kept (machine_at p app slot).recv ((machine_at p app slot).recv.cur + 1) ≡ false
     → Flows 1 p (delivered time app slot p).ports (delivered time app slot p).loose []
@@ -123,9 +143,33 @@ back_tally : (o : Option ℕ) (back : Option PlainBuffer) → weigh o (pictures 
 back_tally o None = refl
 back_tally o (Some b) = refl
 
--- one is handed to a machine
-pub flows_handed : (p : PlainPorts) (app slot : ℕ) (head : RdpHead) (b : Content) (time : ℕ) → app < 4 → place_of app slot < 16 → AreWhole p → Flows 1 p (handing p app slot head b time).ports (handing p app slot head b time).loose (b.number ∷ [])
-flows_handed p app slot head b time few there h =
+-- a packet is lost
+flows_lost : (m : ℕ) (p : PlainPorts) (b : Content) → AreWhole p → Flows m p p (b ∷ []) (b.number ∷ [])
+flows_lost m p b h = record { counts = λ o. omega arith; far = λ n k. far_later n (n + m) p (omega arith) k; whole = h }
+
+-- what comes of one that is handed to a slot, by whether that has a machine
+abbrev handing_by : (has : Bool) → PlainPorts → (app slot : ℕ) → RdpHead → Content → (time : ℕ) → Came
+handing_by has p app slot head b time =
+    let r = machine_at p app slot in
+    reporting (handing_event r b.trace.tag)
+    (then (back_by (back_of (row_of r head b.payload) (anywhere b)) (is_stray (row_of r head b.payload)) p) (λ p.
+    then (where_machine has (went r.state machine_why.Reset app slot (after_packet head b.trace.tag (anywhere b) time r)) p) (λ p.
+    then (dropped app p) (λ p.
+    come (settled time app p)))))
+
+handed_by : (has : Bool) (p : PlainPorts) (app slot : ℕ) (head : RdpHead) (b : Content) (time : ℕ) → has_machine p app slot ≡ has → app < 4 → place_of app slot < 16 → AreWhole p → Flows 1 p (handing_by has p app slot head b time).ports (handing_by has p app slot head b time).loose (b.number ∷ [])
+-- a slot without a machine has no use for it
+handed_by false p app slot head b time none few there h =
+    let r = machine_at p app slot in
+    let back = pictures (option_to_list (back_of (row_of r head b.payload) (anywhere b))) in
+    let is : back ≡ b ∷ [] = ap (λ (q : PlainRdp). pictures (option_to_list (back_of (row_of q head b.payload) (anywhere b)))) (machine_none p app slot none) in
+    let two = dropped app p in
+    let last = settled time app two.ports in
+    let second = flows_then 0 0 0 p p two.ports (b ∷ []) two.loose (b.number ∷ []) (omega arith) (flows_lost 0 p b h) (flows_dropped app p few h) in
+    let third = flows_then 0 1 1 p two.ports last ((b ∷ []) ++ two.loose) [] (b.number ∷ []) (omega arith) second (flows_settled time app two.ports few second.whole) in
+    subst (λ (cs : List Content). Flows 1 p last (cs ++ (two.loose ++ [])) (b.number ∷ [])) (sym is)
+    (subst (λ (cs : List Content). Flows 1 p last cs (b.number ∷ [])) (append_assoc (b ∷ []) two.loose []) third)
+handed_by true p app slot head b time some few there h =
     let r = machine_at p app slot in
     let row = row_of r head b.payload in
     let new = after_packet head b.trace.tag (anywhere b) time r in
@@ -155,6 +199,10 @@ flows_handed p app slot head b time few there h =
     in
     subst (λ (cs : List Content). Flows 1 p last cs (b.number ∷ [])) same third
 
+-- one is handed to a machine
+pub flows_handed : (p : PlainPorts) (app slot : ℕ) (head : RdpHead) (b : Content) (time : ℕ) → app < 4 → place_of app slot < 16 → AreWhole p → Flows 1 p (handing p app slot head b time).ports (handing p app slot head b time).loose (b.number ∷ [])
+flows_handed p app slot head b time few there h = handed_by (has_machine p app slot) p app slot head b time refl few there h
+
 -- one that an application sends
 flows_admitting : (room : Bool) (p : PlainPorts) (time app slot : ℕ) (b : Content) → app < 4 → slot < 4 → AreWhole p → stalled_at p app ≡ None → Flows 1 p (admitting_by room p app slot b time) [] (b.number ∷ [])
 flows_admitting true p time app slot b few there h none = flows_admitted p time app slot (anywhere b) (omega (arith, few, there)) h
@@ -163,15 +211,12 @@ flows_admitting false p time app slot b few there h none =
     let one = flows_stalled p app v [] (b.number ∷ []) few h there (λ o. omega (arith, tally_none o, ap (λ (w : Option PlainStalled). weight o (stalled_buffers w)) none)) in
     record { counts = one.counts; far = λ n k. far_later (n + 0) (n + 1) (with_stalled p app v) (omega arith) (one.far n k); whole = one.whole }
 
-flows_lost : (p : PlainPorts) (b : Content) → AreWhole p → Flows 1 p p (b ∷ []) (b.number ∷ [])
-flows_lost p b h = record { counts = λ o. omega arith; far = λ n k. far_later n (n + 1) p (omega arith) k; whole = h }
-
 pub flows_submitted : (st : State) (p : PlainPorts) (app slot : ℕ) (b : Content) (time : ℕ) → app < 4 → slot < 4 → AreWhole p → stalled_at p app ≡ None → Flows 1 p (submitting_in st p app slot b time).ports (submitting_in st p app slot b time).loose (b.number ∷ [])
 flows_submitted Open p app slot b time few there h none = flows_admitting (has_room (machine_at p app slot)) p time app slot b few there h none
-flows_submitted SynSent p app slot b time few there h none = flows_lost p b h
-flows_submitted SynRcvd p app slot b time few there h none = flows_lost p b h
-flows_submitted CloseWait p app slot b time few there h none = flows_lost p b h
-flows_submitted Closed p app slot b time few there h none = flows_lost p b h
+flows_submitted SynSent p app slot b time few there h none = flows_lost 1 p b h
+flows_submitted SynRcvd p app slot b time few there h none = flows_lost 1 p b h
+flows_submitted CloseWait p app slot b time few there h none = flows_lost 1 p b h
+flows_submitted Closed p app slot b time few there h none = flows_lost 1 p b h
 
 -- ---- connections that begin
 
@@ -179,10 +224,14 @@ connecting_whole : (start node nth time : ℕ) (o : Origin) → IsWhole (connect
 connecting_whole start node nth time o = record { unopened = (refl, refl); ordered = tt }
 
 -- they count one further
-linked_far : (n m : ℕ) (p q : PlainPorts) (app slot : ℕ) (t : Terms) → q.machines ≡ p.machines → q.terms ≡ (with_terms p app slot t).terms → t.ordinal ≡ (terms_at p app slot).ordinal → q.made ≤ p.made + m → AreFar n p → AreFar (n + m) q
+linked_far : (n m : ℕ) (p q : PlainPorts) (app slot : ℕ) (t : Terms) → machines_of q ≡ machines_of p → terms_of q ≡ terms_of (with_terms p app slot t) → t.ordinal ≡ (terms_at p app slot).ordinal → q.made ≤ p.made + m → AreFar n p → AreFar (n + m) q
 linked_far n m p q app slot t machines terms ordinal made h =
     let k = far_terms (n + m) p app slot t (omega (arith, ordinal, far_at n p app slot h)) (far_later n (n + m) p (omega arith) h) in
-    record { machines = rw machines k.machines; made = omega (arith, made, h.made); ends = rw terms k.ends }
+    record {
+      machines = subst (All (IsFar (n + m))) (sym (machines ∙ sym (machines_of_terms p app slot t))) k.machines;
+      made = omega (arith, made, h.made);
+      ends = subst (All (λ t. t.ordinal ≤ n + m)) (sym terms) k.ends;
+    }
 
 -- the applications stay
 opened_apps : (own : ℕ) (from : Option ℕ) (c : PlainConns) → (gone_on c own from).apps ≡ c.apps
@@ -194,14 +243,14 @@ flows_joined : (reliable : Bool) (o : Origin) (p : PlainPorts) (app : ℕ) (r : 
 flows_joined false o p app r own time h =
     let q = (joined false o p app r own time).ports in
     let t : Terms = record (terms_at p app r.slot) { prio = r.prio; flags = r.flags; wish = wish.Nothing; is_down = false } in
-    flows_still 1 p q (opened_apps own r.from (with_slot p.conns app r.slot (Opened (between r.dest r.port own)))) refl refl (λ n k. linked_far n 1 p q app r.slot t refl refl refl (omega arith) k) h
+    flows_still 1 p q (opened_apps own r.from (with_slot p.conns app r.slot (Opened (between r.dest r.port own)))) (machines_of_terms p app r.slot t) refl (λ n k. linked_far n 1 p q app r.slot t (machines_of_terms p app r.slot t) refl refl (omega arith) k) h
 flows_joined true o p app r own time h =
     let q : PlainPorts = record (linked wish.Connection p app r own) { made = p.made + 1 } in
     let machine = connecting (start_of o.seed p.made) o.options o.node p.made time in
     let t : Terms = record (terms_at p app r.slot) { prio = r.prio; flags = r.flags; wish = wish.Connection; is_down = false } in
-    let first = flows_still 1 p q (opened_apps own r.from (with_slot p.conns app r.slot (Opened (between r.dest r.port own)))) refl refl (λ n k. linked_far n 1 p q app r.slot t refl refl refl (omega arith) k) h in
+    let first = flows_still 1 p q (opened_apps own r.from (with_slot p.conns app r.slot (Opened (between r.dest r.port own)))) (machines_of_terms p app r.slot t) refl (λ n k. linked_far n 1 p q app r.slot t (machines_of_terms p app r.slot t) refl refl (omega arith) k) h in
     flows_then 1 0 1 p q (with_machine q app r.slot machine) [] (pictures (rdp_buffers (machine_at q app r.slot))) [] (omega arith) first
-    (flows_replaced q app r.slot machine (connecting_whole (start_of o.seed p.made) o.node p.made time o) (record { admitted = omega arith; delivered = omega arith }) refl first.whole)
+    (flows_replaced q app r.slot (Some machine) (connecting_whole (start_of o.seed p.made) o.node p.made time o) (record { admitted = omega arith; delivered = omega arith }) refl first.whole)
 
 flows_unasked : (p : PlainPorts) (app : ℕ) (what : Note) → AreWhole p → Flows 1 p (owing p app what) [] []
 flows_unasked p app what h = flows_still 1 p (owing p app what) refl refl refl (λ n k. let l = far_later n (n + 1) p (omega arith) k in record { machines = l.machines; made = l.made; ends = l.ends }) h
@@ -222,9 +271,9 @@ flows_invited o p app slot c prio flags i time h =
     let q : PlainPorts = record (accepted p app slot c prio flags) { made = p.made + 1 } in
     let machine = accepting (start_of o.seed p.made) i.options i.head.seq.0 i.tag o.node p.made time in
     let t : Terms = record (terms_at p app slot) { prio = prio; flags = flags; wish = wish.Nothing; is_down = false } in
-    let first = flows_still 1 p q refl refl refl (λ n k. linked_far n 1 p q app slot t refl refl refl (omega arith) k) h in
+    let first = flows_still 1 p q refl (machines_of_terms p app slot t) refl (λ n k. linked_far n 1 p q app slot t (machines_of_terms p app slot t) refl refl (omega arith) k) h in
     flows_then 1 0 1 p q (with_machine q app slot machine) [] (pictures (rdp_buffers (machine_at q app slot))) [] (omega arith) first
-    (flows_replaced q app slot machine (record { unopened = (refl, refl); ordered = tt }) (record { admitted = omega arith; delivered = omega arith }) refl first.whole)
+    (flows_replaced q app slot (Some machine) (record { unopened = (refl, refl); ordered = tt }) (record { admitted = omega arith; delivered = omega arith }) refl first.whole)
 
 -- ---- connections that end
 
@@ -233,32 +282,39 @@ far_wish n p app slot w h = far_terms n p app slot (record (terms_at p app slot)
 
 flows_ending : (st : State) (app slot : ℕ) (p : PlainPorts) → AreWhole p → Flows 0 p (ending_in st app slot p) [] []
 flows_ending Closed app slot p h =
-    flows_still 0 p (ended app slot p) refl refl refl (no_further p (ended app slot p) (λ n k. let w = far_wish n p app slot wish.Ended k in record { machines = w.machines; made = w.made; ends = w.ends })) h
-flows_ending SynSent app slot p h = flows_still 0 p (wishing p app slot wish.End) refl refl refl (no_further p (wishing p app slot wish.End) (λ n k. far_wish n p app slot wish.End k)) h
-flows_ending SynRcvd app slot p h = flows_still 0 p (wishing p app slot wish.End) refl refl refl (no_further p (wishing p app slot wish.End) (λ n k. far_wish n p app slot wish.End k)) h
-flows_ending Open app slot p h = flows_still 0 p (wishing p app slot wish.End) refl refl refl (no_further p (wishing p app slot wish.End) (λ n k. far_wish n p app slot wish.End k)) h
-flows_ending CloseWait app slot p h = flows_still 0 p (wishing p app slot wish.End) refl refl refl (no_further p (wishing p app slot wish.End) (λ n k. far_wish n p app slot wish.End k)) h
+    flows_still 0 p (ended app slot p) refl (machines_of_terms p app slot (record (terms_at p app slot) { wish = wish.Ended })) refl (no_further p (ended app slot p) (λ n k. let w = far_wish n p app slot wish.Ended k in record { machines = w.machines; made = w.made; ends = w.ends })) h
+flows_ending SynSent app slot p h = flows_still 0 p (wishing p app slot wish.End) refl (machines_of_terms p app slot (record (terms_at p app slot) { wish = wish.End })) refl (no_further p (wishing p app slot wish.End) (λ n k. far_wish n p app slot wish.End k)) h
+flows_ending SynRcvd app slot p h = flows_still 0 p (wishing p app slot wish.End) refl (machines_of_terms p app slot (record (terms_at p app slot) { wish = wish.End })) refl (no_further p (wishing p app slot wish.End) (λ n k. far_wish n p app slot wish.End k)) h
+flows_ending Open app slot p h = flows_still 0 p (wishing p app slot wish.End) refl (machines_of_terms p app slot (record (terms_at p app slot) { wish = wish.End })) refl (no_further p (wishing p app slot wish.End) (λ n k. far_wish n p app slot wish.End k)) h
+flows_ending CloseWait app slot p h = flows_still 0 p (wishing p app slot wish.End) refl (machines_of_terms p app slot (record (terms_at p app slot) { wish = wish.End })) refl (no_further p (wishing p app slot wish.End) (λ n k. far_wish n p app slot wish.End k)) h
 
 -- by its application
 flows_held : (free : Bool) (p : PlainPorts) (app slot : ℕ) → AreWhole p → Flows 0 p (held_by free p app slot) [] [] × (machine_at (held_by free p app slot) app slot ≡ machine_at p app slot)
 flows_held true p app slot h = (flows_still 0 p (held_by true p app slot) refl refl refl (no_further p (held_by true p app slot) (λ n k. record { machines = k.machines; made = k.made; ends = k.ends })) h, refl)
 flows_held false p app slot h = (flows_none 0 p h, refl)
 
-pub flows_ended : (closing_now : Bool) (p : PlainPorts) (app slot time : ℕ) → place_of app slot < 16 → AreWhole p → Flows 0 p (close_by closing_now p app slot time).ports (close_by closing_now p app slot time).loose []
-flows_ended true p app slot time there h = flows_none 0 p h
-flows_ended false p app slot time there h =
+-- its machine closes, where it has one
+ended_first : (has free : Bool) (p : PlainPorts) (app slot time : ℕ) → place_of app slot < 16 → AreWhole p → let one = where_machine has (stepped app slot (closing time (machine_at p app slot))) (held_by free p app slot) in Flows 0 p one.ports one.loose []
+ended_first false free p app slot time there h = (flows_held free p app slot h).0
+ended_first true free p app slot time there h =
     let r = machine_at p app slot in
     let new = closing time r in
-    let q = held_by (is_free (slot_at p.conns app slot)) p app slot in
-    let zero = flows_held (is_free (slot_at p.conns app slot)) p app slot h in
-    let one = with_machine q app slot (rested new) in
+    let q = held_by free p app slot in
+    let zero = flows_held free p app slot h in
     let first =
     flows_rested 0 q app slot new [] [] there zero.0.whole (closed_whole r.state time r (whole_at p app slot h))
     (λ n far. machine_later n (n + 0) new (omega arith) (far-closed n r.state time r (subst (IsFar n) zero.1 far)))
     (λ o. omega (arith, tally_none o, ap (tally o) (numbers-closed r.state time r), ap (λ (x : PlainRdp). tally o (rdp_numbers x)) zero.1))
     in
-    let second = flows_then 0 0 0 p q one [] (pictures (unneeded new)) [] (omega arith) zero.0 first in
-    flows_then 0 0 0 p one (ending_in new.state app slot one) (pictures (unneeded new)) [] [] (omega arith) second (flows_ending new.state app slot one second.whole)
+    flows_then 0 0 0 p q (with_machine q app slot (rested new)) [] (pictures (unneeded new)) [] (omega arith) zero.0 first
+
+pub flows_ended : (closing_now : Bool) (p : PlainPorts) (app slot time : ℕ) → place_of app slot < 16 → AreWhole p → Flows 0 p (close_by closing_now p app slot time).ports (close_by closing_now p app slot time).loose []
+flows_ended true p app slot time there h = flows_none 0 p h
+flows_ended false p app slot time there h =
+    let new = closing time (machine_at p app slot) in
+    let one = where_machine (has_machine p app slot) (stepped app slot new) (held_by (is_free (slot_at p.conns app slot)) p app slot) in
+    let first = ended_first (has_machine p app slot) (is_free (slot_at p.conns app slot)) p app slot time there h in
+    flows_then 0 0 0 p one.ports (ending_in new.state app slot one.ports) one.loose [] [] (omega arith) first (flows_ending new.state app slot one.ports first.whole)
 
 -- by the answer to its close
 flows_ended_by : (what : Note) (app : ℕ) (p : PlainPorts) → AreWhole p → Flows 1 p (ended_by what app p).ports (ended_by what app p).loose []
@@ -284,17 +340,19 @@ flows_answered p h = flows_answered_by p.owed p h
 
 -- ---- the end of a run: buffers are taken out
 
-far_without : (n : ℕ) (rs : List PlainRdp) → All (IsFar n) rs → All (IsFar n) (without_held rs)
+far_without : (n : ℕ) (ss : List SlotState) → All (IsFar n) (map machine_in ss) → All (IsFar n) (map machine_in (without_held ss))
 far_without n [] all = all
-far_without n (r ∷ rs) all = go (rdp_buffers r) (far_without n rs (All-tail (IsFar n) r rs all))
+far_without n (s ∷ ss) all = go (slot_buffers s) (far_without n ss (All-tail (IsFar n) (machine_in s) (map machine_in ss) all))
   where
-    go : (bs : List PlainBuffer) → All (IsFar n) (without_held rs) → All (IsFar n) (first_out bs r rs (without_held rs))
-    go [] rest = All-cons (IsFar n) r (without_held rs) (All-head (IsFar n) r rs all) rest
-    go (b ∷ bs) rest = All-cons (IsFar n) (taken_out r) rs (far-taken-out n r (All-head (IsFar n) r rs all)) (All-tail (IsFar n) r rs all)
+    go : (bs : List PlainBuffer) → All (IsFar n) (map machine_in (without_held ss)) → All (IsFar n) (map machine_in (first_out bs s ss (without_held ss)))
+    go [] rest = All-cons (IsFar n) (machine_in s) (map machine_in (without_held ss)) (All-head (IsFar n) (machine_in s) (map machine_in ss) all) rest
+    go (b ∷ bs) rest =
+        let out = subst (IsFar n) (sym (taken_machine s)) (far-taken-out n (machine_in s) (All-head (IsFar n) (machine_in s) (map machine_in ss) all)) in
+        All-cons (IsFar n) (machine_in (record s { machine = option_map taken_out s.machine })) (map machine_in ss) out (All-tail (IsFar n) (machine_in s) (map machine_in ss) all)
 
 far_emptied : (n : ℕ) (bs : List PlainBuffer) (p : PlainPorts) → AreFar n p → AreFar n (emptied_by bs p)
 far_emptied n (b ∷ bs) p h = record { machines = h.machines; made = h.made; ends = h.ends }
-far_emptied n [] p h = record { machines = far_without n p.machines h.machines; made = h.made; ends = h.ends }
+far_emptied n [] p h = record { machines = far_without n p.slots h.machines; made = h.made; ends = subst (All (λ t. t.ordinal ≤ n)) (sym (terms-without p.slots)) h.ends }
 
 pub keeps_out : (old new : PortsAt) (b : Content) → held old.ports ≡ b ∷ held new.ports → new ≡ with_ports_at old (emptied old.ports) → Keeps 0 old.ports new.ports [] (b ∷ []) []
 keeps_out old new b e is = record {

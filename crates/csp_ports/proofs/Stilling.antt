@@ -1,5 +1,5 @@
 -- where no timer has anything to do, trying the timers changes nothing
-use Rattle.std.specs.Prelude.{◌/◌, ◌%◌, ◌||◌, Bool, false, Option, None, Some, get_or}
+use Rattle.std.specs.Prelude.{◌/◌, ◌%◌, ◌||◌, Bool, false, true, is_some, unwrap_or, slice_set, Option, None, Some, get_or}
 use Rattle.std.specs.List.{All, list_any, range_with_len}
 use Rattle.std.proofs.Common.{◌≡◌, ℕ, zero, suc, ◌+◌, ◌-◌, ◌*◌, ◌<◌, List, [], ◌∷◌, ◌++◌, map, refl, ap, ap₂, subst, sym, ◌∙◌}
 use Rattle.std.proofs.lemmas.Bool.{or_parts}
@@ -11,16 +11,21 @@ use Rattle.csp_base.specs.declared.limits.TheConstants.{SLOTS}
 use Rattle.csp_deck.specs.Regions.{nowhere}
 use Rattle.csp_ports.proofs.Following.{range_next}
 use Rattle.csp_ports.specs.Came.{Came, come, pictures, then}
-use Rattle.csp_ports.specs.Kept.{ArePorts, IsHoused, plain_ports, ports_at}
-use Rattle.csp_ports.specs.PlainPorts.{PlainPorts, PlainStalled, PortsAt, machine_at, stalled_at, with_machine}
+use Rattle.csp_ports.specs.Kept.{ArePorts, plain_ports, ports_at}
+use Rattle.csp_ports.specs.PlainPorts.{PlainPorts, PlainStalled, PortsAt, has_machine, machine_at, machine_in, machines_of, stalled_at, state_at, untouched, with_machine}
+use Rattle.csp_ports.specs.declared.terms.SlotState.{SlotState}
+use Rattle.csp_ports.proofs.Holding.{AreHoused, machine-housed}
+use Rattle.csp_ports.proofs.Slots.{machine_listed, placed_machine, placed_state}
+use Rattle.csp_arena.specs.Cells.{RegionName}
 use Rattle.csp_ports.specs.Quiet.{any_stranded, any_times_out, is_stranded, is_stranded_in, is_stranded_on, times_out_at}
-use Rattle.csp_ports.specs.Steps.{changed, dropped, dropped_in, dropped_of, dropped_on, stepped, timed, timed_at, timed_in, went}
+use Rattle.csp_ports.specs.Steps.{changed, dropped, dropped_in, dropped_of, dropped_on, stepped, timed, timed_at, timed_in, went, where_machine}
 use Rattle.csp_ports.specs.declared.ports.Ports.TheInside.{Inside}
 use Rattle.csp_rdp.proofs.Public.{rested-still, placed-unneeded, in_time}
 use Rattle.csp_rdp.specs.Changes.{change_between}
 use Rattle.csp_rdp.specs.Holding.{unneeded}
+use Rattle.csp_rdp.specs.Jobs.{ticked}
 use Rattle.csp_rdp.specs.Machine.{PlainRdp, idle}
-use Rattle.csp_rdp.specs.Placed.{placed, placed_buffer}
+use Rattle.csp_rdp.specs.Placed.{placed_buffer}
 use Rattle.csp_rdp.specs.Timer.{times_out}
 use Rattle.csp_rdp.specs.declared.answers.Change.{Change}
 use Rattle.csp_rdp.specs.declared.answers.Change.TheVariants as change
@@ -40,18 +45,29 @@ stays CloseWait why = refl
 stays Closed why = refl
 
 -- a machine at rest that takes its own place is no step
-still : (app slot : ℕ) (p : PlainPorts) → unneeded (machine_at p app slot) ≡ [] → stepped app slot (machine_at p app slot) p ≡ come p
-still app slot p rest =
+own_machine : (s : SlotState) → is_some s.machine ≡ true → record s { machine = Some (machine_in s) } ≡ s
+own_machine s e = go s.machine e
+  where
+    go : (o : Option PlainRdp) → is_some o ≡ true → ◌≡◌ {A = SlotState} (record s { machine = Some (unwrap_or o idle) }) (record s { machine = o })
+    go None e = cc
+    go (Some r) e = refl
+
+still : (app slot : ℕ) (p : PlainPorts) → has_machine p app slot ≡ true → unneeded (machine_at p app slot) ≡ [] → stepped app slot (machine_at p app slot) p ≡ come p
+still app slot p there rest =
     let r = machine_at p app slot in
     ap₂ (λ (q : PlainRdp) (us : List PlainBuffer). record { ports = with_machine p app slot q; loose = pictures us; events = [] }) (rested-still r rest) rest
-    ∙ ap (λ (ms : List PlainRdp). come (record p { machines = ms })) (set-get_or p.machines (place_of app slot) idle)
+    ∙ ap (λ (ss : List SlotState). come (record p { slots = ss })) (ap (slice_set p.slots (place_of app slot)) (own_machine (state_at p app slot) there) ∙ set-get_or p.slots (place_of app slot) untouched)
 
 timed_still : (time app slot : ℕ) (p : PlainPorts) → times_out time (machine_at p app slot) ≡ false → unneeded (machine_at p app slot) ≡ [] → timed_at time app slot p ≡ come p
-timed_still time app slot p late rest =
-    let r = machine_at p app slot in
-    ap (λ (q : PlainRdp). went r.state machine_why.Timeout app slot q p) (in_time time r late)
-    ∙ (ap (λ (c : Came). (then) c (changed (change_between r.state r.state machine_why.Timeout) app slot)) (still app slot p rest)
-    ∙ ap (λ (x : Change). (then) (come p) (changed x app slot)) (stays r.state machine_why.Timeout))
+timed_still time app slot p late rest = go (has_machine p app slot) refl
+  where
+    go : (b : Bool) → has_machine p app slot ≡ b → where_machine b (went (machine_at p app slot).state machine_why.Timeout app slot (ticked time (machine_at p app slot))) p ≡ come p
+    go false e = refl
+    go true e =
+        let r = machine_at p app slot in
+        ap (λ (q : PlainRdp). went r.state machine_why.Timeout app slot q p) (in_time time r late)
+        ∙ (ap (λ (c : Came). (then) c (changed (change_between r.state r.state machine_why.Timeout) app slot)) (still app slot p e rest)
+        ∙ ap (λ (x : Change). (then) (come p) (changed x app slot)) (stays r.state machine_why.Timeout))
 
 -- ---- several
 
@@ -64,12 +80,12 @@ rest_at [] k h = refl
 rest_at (m ∷ ms) zero h = All-head (λ r. unneeded r ≡ []) m ms h
 rest_at (m ∷ ms) (suc k) h = rest_at ms k (All-tail (λ r. unneeded r ≡ []) m ms h)
 
-timed_in_still : (time : ℕ) (ks : List ℕ) (p : PlainPorts) → All (λ r. unneeded r ≡ []) p.machines → list_any (times_out_at time p) ks ≡ false → timed_in time ks p ≡ come p
+timed_in_still : (time : ℕ) (ks : List ℕ) (p : PlainPorts) → All (λ r. unneeded r ≡ []) (machines_of p) → list_any (times_out_at time p) ks ≡ false → timed_in time ks p ≡ come p
 timed_in_still time [] p rest late = refl
 timed_in_still time (k ∷ ks) p rest late =
     let parts = or_parts (times_out_at time p k) (list_any (times_out_at time p) ks) late in
     then_still (timed_at time (k / SLOTS) (k % SLOTS) p) (timed_in time ks) p
-    (timed_still time (k / SLOTS) (k % SLOTS) p parts.0 (rest_at p.machines (place_of (k / SLOTS) (k % SLOTS)) rest))
+    (timed_still time (k / SLOTS) (k % SLOTS) p parts.0 (subst (λ (r : PlainRdp). unneeded r ≡ []) (sym (machine_listed p (k / SLOTS) (k % SLOTS))) (rest_at (machines_of p) (place_of (k / SLOTS) (k % SLOTS)) rest)))
     (timed_in_still time ks p rest parts.1)
 
 -- ---- the packets that wait
@@ -97,7 +113,7 @@ dropped_of_still (app ∷ apps) p h =
 pub passed : (test : ℕ → Bool) (a n : ℕ) → a < n → test a ≡ false → list_any test (range_with_len (a + 1) (n - (a + 1))) ≡ list_any test (range_with_len a (n - a))
 passed test a n inside fails = sym (ap (list_any test) (range_next a n inside) ∙ ap (λ (b : Bool). b || list_any test (range_with_len (a + 1) (n - (a + 1)))) fails)
 
-pub quiet_still : (time : ℕ) (p : PlainPorts) → All (λ r. unneeded r ≡ []) p.machines → any_times_out time p ≡ false → any_stranded p ≡ false → timed time p ≡ come p
+pub quiet_still : (time : ℕ) (p : PlainPorts) → All (λ r. unneeded r ≡ []) (machines_of p) → any_times_out time p ≡ false → any_stranded p ≡ false → timed time p ≡ come p
 quiet_still time p rest late stranded =
     then_still (timed_in time (range_with_len 0 (p.conns.apps * SLOTS)) p) (λ q. dropped_of (range_with_len 0 q.conns.apps) q) p
     (timed_in_still time (range_with_len 0 (p.conns.apps * SLOTS)) p rest late)
@@ -105,10 +121,14 @@ quiet_still time p rest late stranded =
 
 -- ---- ports hold what they need alone
 
-rest_in : (p : Inside) → ArePorts p → All (λ r. unneeded r ≡ []) (plain_ports p).machines
-rest_in p a =
-    All-map (λ r. unneeded r ≡ []) (placed nowhere) p.machines.items
-    (All-weaker (IsHoused p.token.name) (λ (r : PlainRdp). unneeded (placed nowhere r) ≡ []) (λ r h. placed-unneeded nowhere r ∙ ap (map (placed_buffer nowhere)) h.rested) p.machines.items a.housed)
+rest_slot : (name : RegionName) (s : SlotState) → AreHoused name s → unneeded (machine_in (placed_state nowhere s)) ≡ []
+rest_slot name s h = ap unneeded (placed_machine nowhere s) ∙ (placed-unneeded nowhere (machine_in s) ∙ ap (map (placed_buffer nowhere)) (machine-housed name s h).rested)
 
-pub rest_seen : (p : Inside) (at : PortsAt) → ports_at p ≡ at → ArePorts p → All (λ r. unneeded r ≡ []) at.ports.machines
-rest_seen p at view a = subst (λ (x : PortsAt). All (λ r. unneeded r ≡ []) x.ports.machines) view (rest_in p a)
+rest_in : (p : Inside) → ArePorts p → All (λ r. unneeded r ≡ []) (machines_of (plain_ports p))
+rest_in p a =
+    All-map (λ r. unneeded r ≡ []) machine_in (map (placed_state nowhere) p.slots.items)
+    (All-map (λ (s : SlotState). unneeded (machine_in s) ≡ []) (placed_state nowhere) p.slots.items
+    (All-weaker (AreHoused p.token.name) (λ (s : SlotState). unneeded (machine_in (placed_state nowhere s)) ≡ []) (rest_slot p.token.name) p.slots.items a.housed))
+
+pub rest_seen : (p : Inside) (at : PortsAt) → ports_at p ≡ at → ArePorts p → All (λ r. unneeded r ≡ []) (machines_of at.ports)
+rest_seen p at view a = subst (λ (x : PortsAt). All (λ r. unneeded r ≡ []) (machines_of x.ports)) view (rest_in p a)

@@ -1,32 +1,38 @@
 -- packets that wait for room, and what becomes of them
 use Rattle.std.specs.Prelude.{Bool, Err, None, Option, Result, Some, false, get_or, slice_set, true}
+use Rattle.std.specs.Option.{option_map}
 use Rattle.std.specs.Vec.{with_item}
 use Rattle.std.proofs.Common.{◌≡◌, ℕ, zero, suc, ◌<◌, List, [], ◌∷◌, ap, refl, sym, ◌∙◌}
 use Rattle.std.proofs.lemmas.List.{set-get_or}
 use Rattle.csp_buffer.specs.PlainBuffer.{PlainBuffer}
 use Rattle.csp_conn.specs.PlainConns.{place_of}
 use Rattle.csp_deck.specs.Regions.{nowhere}
-use Rattle.csp_ports.proofs.Keeping.{machine_seen, machine_stepped}
+use Rattle.csp_ports.proofs.Keeping.{machine_in_place, machine_seen, machine_stepped}
 use Rattle.csp_ports.specs.Kept.{Admits, AdmitsIn, ArePorts, ports_at}
-use Rattle.csp_ports.specs.PlainPorts.{PlainStalled, PortsAt, anywhere, machine_at, stalled_at, with_ports_at, with_stalled}
+use Rattle.csp_ports.specs.PlainPorts.{PlainStalled, PortsAt, anywhere, machine_at, stalled_at, state_at, untouched, with_ports_at, with_stalled}
+use Rattle.csp_ports.specs.declared.terms.SlotState.{SlotState}
 use Rattle.csp_ports.specs.Steps.{has_room, settled, settled_by, settled_on}
 use Rattle.csp_ports.specs.declared.ports.Ports.TheInside.{Inside}
 use Rattle.csp_rdp.specs.Jobs.{admitting}
-use Rattle.csp_rdp.specs.Machine.{PlainRdp, idle}
+use Rattle.csp_rdp.specs.Machine.{PlainRdp}
 use Rattle.csp_rdp.specs.Placed.{placed}
 
 -- a machine that admits a packet, or does not, in the place of a slot
-admits_by : (p : Inside) (at : PortsAt) (app slot place : ℕ) (r new : PlainRdp) (b : PlainBuffer) (time : ℕ) (room : Bool) (answer : Result Unit PlainBuffer) → ports_at p ≡ at → place ≡ place_of app slot → place < 16 → ArePorts p → r ≡ get_or p.machines.items place r
-    → Admits room answer (placed nowhere r) (placed nowhere new) b time → AdmitsIn room answer at (ports_at (record p { machines = with_item p.machines place new })) app slot b time
-admits_by p at app slot place r new b time true answer view e there a value h =
-    (h.0, machine_stepped p at app slot place r new (admitting (anywhere b.picture) time) view e there a value h.1)
-admits_by p at app slot place r new b time false answer view e there a value h =
-    (h.0, machine_stepped p at app slot place r new (λ q. q) view e there a value h.1 ∙ ap (λ (ms : List PlainRdp). with_ports_at at (record at.ports { machines = ms })) (set-get_or at.ports.machines (place_of app slot) idle))
+admits_by : (p : Inside) (at : PortsAt) (app slot place : ℕ) (s : SlotState) (r new : PlainRdp) (b : PlainBuffer) (time : ℕ) (room : Bool) (answer : Result Unit PlainBuffer) → ports_at p ≡ at → place ≡ place_of app slot → place < 16 → ArePorts p → s ≡ get_or p.slots.items place s → Some r ≡ s.machine
+    → Admits room answer (placed nowhere r) (placed nowhere new) b time → AdmitsIn room answer at (ports_at (record p { slots = with_item p.slots place (record s { machine = Some new }) })) app slot b time
+admits_by p at app slot place s r new b time true answer view e there a value some h =
+    (h.0, machine_stepped p at app slot place s r new (admitting (anywhere b.picture) time) view e there a value some h.1)
+admits_by p at app slot place s r new b time false answer view e there a value some h =
+    let seen = machine_in_place p at app slot place s view e there a value in
+    let own : Some (machine_at at.ports app slot) ≡ (state_at at.ports app slot).machine = ap Some (sym (machine_seen p at app slot place s r view e there a value some)) ∙ (ap (option_map (placed nowhere)) some ∙ seen) in
+    (h.0, machine_stepped p at app slot place s r new (λ q. q) view e there a value some h.1
+    ∙ ap (λ (ss : List SlotState). with_ports_at at (record at.ports { slots = ss }))
+    (ap (λ (o : Option PlainRdp). slice_set at.ports.slots (place_of app slot) (record (state_at at.ports app slot) { machine = o })) own ∙ set-get_or at.ports.slots (place_of app slot) untouched))
 
-pub admits_in : (p : Inside) (at : PortsAt) (app slot place : ℕ) (r new : PlainRdp) (b : PlainBuffer) (time : ℕ) (answer : Result Unit PlainBuffer) → ports_at p ≡ at → place ≡ place_of app slot → place < 16 → ArePorts p → r ≡ get_or p.machines.items place r
-    → Admits (has_room (placed nowhere r)) answer (placed nowhere r) (placed nowhere new) b time → AdmitsIn (has_room (machine_at at.ports app slot)) answer at (ports_at (record p { machines = with_item p.machines place new })) app slot b time
-admits_in p at app slot place r new b time answer view e there a value h =
-    rw (sym (machine_seen p at app slot place r view e there a value)) (admits_by p at app slot place r new b time (has_room (placed nowhere r)) answer view e there a value h)
+pub admits_in : (p : Inside) (at : PortsAt) (app slot place : ℕ) (s : SlotState) (r new : PlainRdp) (b : PlainBuffer) (time : ℕ) (answer : Result Unit PlainBuffer) → ports_at p ≡ at → place ≡ place_of app slot → place < 16 → ArePorts p → s ≡ get_or p.slots.items place s → Some r ≡ s.machine
+    → Admits (has_room (placed nowhere r)) answer (placed nowhere r) (placed nowhere new) b time → AdmitsIn (has_room (machine_at at.ports app slot)) answer at (ports_at (record p { slots = with_item p.slots place (record s { machine = Some new }) })) app slot b time
+admits_in p at app slot place s r new b time answer view e there a value some h =
+    rw (sym (machine_seen p at app slot place s r view e there a value some)) (admits_by p at app slot place s r new b time (has_room (placed nowhere r)) answer view e there a value some h)
 
 set_set : {X : Type 0} → (xs : List X) (i : ℕ) (a b : X) → slice_set (slice_set xs i a) i b ≡ slice_set xs i b
 set_set [] i a b = refl

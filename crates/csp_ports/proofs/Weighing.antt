@@ -1,5 +1,5 @@
 -- buffers are counted: how often one number is among theirs, or how many they are
-use Rattle.std.specs.Prelude.{None, Option, Some, get_or, slice_set, sum_by}
+use Rattle.std.specs.Prelude.{None, Option, Some, get_or, slice_set, sum_by, unwrap_or}
 use Rattle.std.specs.List.{flat_map}
 use Rattle.std.proofs.Common.{◌≡◌, ℕ, zero, suc, ◌+◌, ◌<◌, ◌≤◌, List, [], ◌∷◌, ◌++◌, length, map, refl, arith, ap, ap₂, sym, ◌∙◌}
 use Rattle.std.proofs.lemmas.List.{length-append, length-map, map-append}
@@ -13,8 +13,8 @@ use Rattle.csp_deck.specs.Step.{times}
 use Rattle.csp_deck.proofs.Public.{times-append}
 use Rattle.csp_ports.proofs.Holding.{pictured}
 use Rattle.csp_ports.specs.Came.{pictures}
-use Rattle.csp_ports.specs.Held.{held, stalled_buffers}
-use Rattle.csp_ports.specs.PlainPorts.{PlainPorts, PlainStalled, machine_at, stalled_at, with_machine, with_stalled}
+use Rattle.csp_ports.specs.Held.{held, slot_buffers, stalled_buffers}
+use Rattle.csp_ports.specs.PlainPorts.{PlainPorts, PlainStalled, machine_at, stalled_at, state_at, untouched, with_machine_or, with_stalled}
 use Rattle.csp_rdp.specs.Balance.{Balanced}
 use Rattle.csp_rdp.specs.Holding.{rdp_buffers, rdp_numbers, rested, unneeded}
 use Rattle.csp_rdp.specs.Machine.{PlainRdp, idle}
@@ -65,12 +65,12 @@ abbrev waiting_weight : Option ℕ → PlainPorts → ℕ
 waiting_weight o p = sum_by (λ s. weight o (stalled_buffers s)) p.stalled
 
 abbrev machine_weight : Option ℕ → PlainPorts → ℕ
-machine_weight o p = sum_by (λ r. weight o (rdp_buffers r)) p.machines
+machine_weight o p = sum_by (λ s. weight o (slot_buffers s)) p.slots
 
 held_weight : (o : Option ℕ) (p : PlainPorts) → weigh o (held p) ≡ waiting_weight o p + machine_weight o p
 held_weight o p =
-    weight_append o (flat_map stalled_buffers p.stalled) (flat_map rdp_buffers p.machines)
-    ∙ ap₂ (λ m n. m + n) (weight_all o stalled_buffers p.stalled) (weight_all o rdp_buffers p.machines)
+    weight_append o (flat_map stalled_buffers p.stalled) (flat_map slot_buffers p.slots)
+    ∙ ap₂ (λ m n. m + n) (weight_all o stalled_buffers p.stalled) (weight_all o slot_buffers p.slots)
 
 -- of a machine the numbers are those that its windows hold
 pub machine_tally : (o : Option ℕ) (r : PlainRdp) → weight o (rdp_buffers r) ≡ tally o (rdp_numbers r)
@@ -89,15 +89,15 @@ sum_set f [] i y d same = ap (λ (n : ℕ). 0 + n) same
 sum_set f (x ∷ xs) zero y d same = omega (arith, sum_by-cons f y xs, sum_by-cons f x xs)
 sum_set f (x ∷ xs) (suc i) y d same = omega (arith, sum_by-cons f x (slice_set xs i y), sum_by-cons f x xs, sum_set f xs i y d same)
 
-pub machine_tallied : (o : Option ℕ) (p : PlainPorts) (app slot : ℕ) (r : PlainRdp) → place_of app slot < length p.machines → weigh o (held (with_machine p app slot r)) + tally o (rdp_numbers (machine_at p app slot)) ≡ weigh o (held p) + tally o (rdp_numbers r)
-machine_tallied o p app slot r there =
+pub machine_tallied : (o : Option ℕ) (p : PlainPorts) (app slot : ℕ) (m : Option PlainRdp) → place_of app slot < length p.slots → weigh o (held (with_machine_or p app slot m)) + tally o (rdp_numbers (machine_at p app slot)) ≡ weigh o (held p) + tally o (rdp_numbers (unwrap_or m idle))
+machine_tallied o p app slot m there =
     omega (
       arith,
       held_weight o p,
-      held_weight o (with_machine p app slot r),
-      machine_tally o r,
+      held_weight o (with_machine_or p app slot m),
+      machine_tally o (unwrap_or m idle),
       machine_tally o (machine_at p app slot),
-      sum_by-set (λ q. weight o (rdp_buffers q)) p.machines (place_of app slot) r idle there,
+      sum_by-set (λ s. weight o (slot_buffers s)) p.slots (place_of app slot) (record (state_at p app slot) { machine = m }) untouched there,
     )
 
 -- and another packet that waits, or none
@@ -105,19 +105,19 @@ pub waiting_tallied : (o : Option ℕ) (p : PlainPorts) (app : ℕ) (v : Option 
 waiting_tallied o p app v there = omega (arith, held_weight o p, held_weight o (with_stalled p app v), sum_by-set (λ s. weight o (stalled_buffers s)) p.stalled app v None there)
 
 -- what a machine holds is among what is held
-pub machine_among : (o : Option ℕ) (p : PlainPorts) (app slot : ℕ) → place_of app slot < length p.machines → tally o (rdp_numbers (machine_at p app slot)) ≤ weigh o (held p)
+pub machine_among : (o : Option ℕ) (p : PlainPorts) (app slot : ℕ) → place_of app slot < length p.slots → tally o (rdp_numbers (machine_at p app slot)) ≤ weigh o (held p)
 machine_among o p app slot there =
-    omega (arith, held_weight o p, machine_tally o (machine_at p app slot), get_or-le-sum_by (λ q. weight o (rdp_buffers q)) p.machines (place_of app slot) idle there)
+    omega (arith, held_weight o p, machine_tally o (machine_at p app slot), get_or-le-sum_by (λ s. weight o (slot_buffers s)) p.slots (place_of app slot) untouched there)
 
--- another machine that holds nothing, in a place that may not be there
-pub machine_gone : (o : Option ℕ) (p : PlainPorts) (app slot : ℕ) (r : PlainRdp) → rdp_numbers r ≡ [] → weigh o (held (with_machine p app slot r)) + weight o (rdp_buffers (machine_at p app slot)) ≡ weigh o (held p)
-machine_gone o p app slot r empty =
-    let nothing : weight o (rdp_buffers r) ≡ tally o [] = machine_tally o r ∙ ap (tally o) empty in
+-- another machine that holds nothing, or none, in a place that may not be there
+pub machine_gone : (o : Option ℕ) (p : PlainPorts) (app slot : ℕ) (m : Option PlainRdp) → rdp_numbers (unwrap_or m idle) ≡ [] → weigh o (held (with_machine_or p app slot m)) + weight o (rdp_buffers (machine_at p app slot)) ≡ weigh o (held p)
+machine_gone o p app slot m empty =
+    let nothing : weight o (rdp_buffers (unwrap_or m idle)) ≡ tally o [] = machine_tally o (unwrap_or m idle) ∙ ap (tally o) empty in
     omega (
       arith,
       held_weight o p,
-      held_weight o (with_machine p app slot r),
+      held_weight o (with_machine_or p app slot m),
       tally_none o,
       nothing,
-      sum_set (λ q. weight o (rdp_buffers q)) p.machines (place_of app slot) r idle (machine_tally o idle ∙ sym nothing),
+      sum_set (λ s. weight o (slot_buffers s)) p.slots (place_of app slot) (record (state_at p app slot) { machine = m }) untouched (machine_tally o idle ∙ sym nothing),
     )

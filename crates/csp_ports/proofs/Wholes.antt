@@ -1,7 +1,7 @@
 -- machines that are whole
 use Rattle.std.specs.Prelude.{◌==◌, Bool, true, false, IfSome, None, Option, Some, if◌then◌else◌}
 use Rattle.std.specs.Option.{option_map}
-use Rattle.std.proofs.Common.{◌≡◌, ℕ, ◌<◌, List, [], ◌∷◌, map, arith, ap, subst, ◌∙◌}
+use Rattle.std.proofs.Common.{◌≡◌, ℕ, ◌<◌, List, [], ◌∷◌, map, arith, ap, subst, sym, ◌∙◌}
 use Rattle.std.proofs.lemmas.List.{length-map}
 use Rattle.std.proofs.lemmas.List.Elements.{All-map, All-weaker}
 use Rattle.csp_arena.specs.Cells.{RegionName}
@@ -10,8 +10,11 @@ use Rattle.csp_conn.specs.PlainConns.{IsThere, place_of}
 use Rattle.csp_base.specs.declared.limits.TheConstants.{SLOTS}
 use Rattle.csp_deck.specs.Regions.{nowhere}
 use Rattle.csp_ports.specs.Keeps.{AreWhole}
-use Rattle.csp_ports.specs.Kept.{ArePorts, IsHoused, IsWaiting, plain_ports, ports_at, stalled_of}
-use Rattle.csp_ports.specs.PlainPorts.{PlainPorts, PlainStalled, PortsAt}
+use Rattle.csp_ports.specs.Kept.{ArePorts, IsWaiting, plain_ports, ports_at, stalled_of}
+use Rattle.csp_ports.specs.PlainPorts.{PlainPorts, PlainStalled, PortsAt, machine_in}
+use Rattle.csp_ports.specs.declared.terms.SlotState.{SlotState}
+use Rattle.csp_ports.proofs.Holding.{AreHoused, machine-housed}
+use Rattle.csp_ports.proofs.Slots.{placed_machine, placed_state}
 use Rattle.csp_ports.specs.declared.ports.Ports.TheInside.{Inside}
 use Rattle.csp_ports.specs.declared.stalled.Stalled.{Stalled}
 use Rattle.csp_rdp.specs.Balance.{IsInOrder, IsWhole}
@@ -87,6 +90,9 @@ placed_unopened n Closed w h = tt
 placed_whole : (n : RegionName) (r : PlainRdp) → IsWhole r → IsWhole (placed n r)
 placed_whole n r h = record { unopened = placed_unopened n r.state r.recv h.unopened; ordered = placed_order n r.recv.cur r.recv.kept h.ordered }
 
+housed_whole : (name : RegionName) (s : SlotState) → AreHoused name s → IsWhole (machine_in (placed_state nowhere s))
+housed_whole name s h = subst IsWhole (sym (placed_machine nowhere s)) (placed_whole nowhere (machine_in s) (machine-housed name s h).whole)
+
 waiting_slot : (name : RegionName) (s : Option Stalled) → IfSome s (IsWaiting name) → IfSome (option_map stalled_of s) (λ t. t.slot < SLOTS)
 waiting_slot name None h = tt
 waiting_slot name (Some s) h = h.slot
@@ -94,10 +100,11 @@ waiting_slot name (Some s) h = h.slot
 whole_in : (p : Inside) → ArePorts p → AreWhole (plain_ports p)
 whole_in p a = record {
   few = a.few;
-  slots = length-map p.machines.items (placed nowhere) ∙ a.all;
+  slots = length-map p.slots.items (placed_state nowhere) ∙ a.slots;
   machines =
-      All-map IsWhole (placed nowhere) p.machines.items
-      (All-weaker (IsHoused p.token.name) (λ (r : PlainRdp). IsWhole (placed nowhere r)) (λ r h. placed_whole nowhere r h.whole) p.machines.items a.housed);
+      All-map IsWhole machine_in (map (placed_state nowhere) p.slots.items)
+      (All-map (λ (s : SlotState). IsWhole (machine_in s)) (placed_state nowhere) p.slots.items
+      (All-weaker (AreHoused p.token.name) (λ (s : SlotState). IsWhole (machine_in (placed_state nowhere s))) (housed_whole p.token.name) p.slots.items a.housed));
   places = length-map p.stalled (option_map stalled_of) ∙ a.places;
   waits =
       All-map (λ (s : Option PlainStalled). IfSome s (λ t. t.slot < SLOTS)) (option_map stalled_of) p.stalled

@@ -5,14 +5,14 @@ use Rattle.csp_conn.specs.Opening.{is_refused, opened, own_port_of}
 use Rattle.csp_conn.specs.PlainConns.{slot_at, with_slot}
 use Rattle.csp_conn.specs.Slots.{between, is_free}
 use Rattle.csp_conn.specs.declared.slot.Slot.{Slot}
-use Rattle.csp_conn.specs.declared.slot.Slot.TheVariants.{Free, Held, Open}
+use Rattle.csp_conn.specs.declared.slot.Slot.TheVariants.{Free, Held}
 use Rattle.csp_log.specs.declared.event.Event.TheVariants as event
 use Rattle.csp_log.specs.declared.note.Note.{Note}
 use Rattle.csp_log.specs.declared.note.Note.TheVariants as note
 use Rattle.csp_log.specs.declared.note.Why.TheVariants as why
 use Rattle.csp_ports.specs.Came.{Came, come, then, reporting}
-use Rattle.csp_ports.specs.PlainPorts.{PlainPorts, begun, is_closing, machine_at, owing, start_of, terms_at, wishing}
-use Rattle.csp_ports.specs.Steps.{freed, replaced, stepped}
+use Rattle.csp_ports.specs.PlainPorts.{PlainPorts, begun, has_machine, is_closing, machine_at, owing, start_of, terms_at, wishing}
+use Rattle.csp_ports.specs.Steps.{freed, replaced, stepped, where_machine}
 use Rattle.csp_ports.specs.declared.origin.Origin.{Origin}
 use Rattle.csp_ports.specs.declared.owed.Owed.{Owed}
 use Rattle.csp_ports.specs.declared.request.Request.{Request}
@@ -21,21 +21,20 @@ use Rattle.csp_ports.specs.declared.terms.Wish.TheVariants as wish
 use Rattle.csp_rdp.specs.Jobs.{closing}
 use Rattle.csp_rdp.specs.Machine.{connecting}
 use Rattle.csp_rdp.specs.declared.answers.State.{State}
-use Rattle.csp_rdp.specs.declared.answers.State.TheVariants.{Closed, SynSent, SynRcvd, CloseWait}
-use Rattle.csp_rdp.specs.declared.answers.State.TheVariants as state
+use Rattle.csp_rdp.specs.declared.answers.State.TheVariants.{Closed}
 use Rattle.csp_socket.specs.Bound.{owner_of, with_owner}
 use Rattle.csp_socket.specs.declared.sockets.TheConstants.{BINDABLE_PORTS}
 
 -- ---- ports
 
 -- a port that can be bound and is not bound yet is bound; from 48 up it is NotBindable, and one that is bound is InUse
-abbrev pub bind_by : (is_bindable : Bool) → Option (ℕ × ℕ) → PlainPorts → ℕ → ℕ → ℕ → PlainPorts
+abbrev pub bind_by : (is_bindable : Bool) → Option (ℕ × ℕ) → PlainPorts → (app port need : ℕ) → PlainPorts
 bind_by false owner p app port need = owing p app (note.Refused why.NotBindable)
 bind_by true (Some owner) p app port need = owing p app (note.Refused why.InUse)
 bind_by true None p app port need = owing (record p { bound = with_owner p.bound port app need }) app note.Bound
 
 -- an application asks for a port
-abbrev pub bind : PlainPorts → ℕ → ℕ → ℕ → PlainPorts
+abbrev pub bind : PlainPorts → (app port need : ℕ) → PlainPorts
 bind p app port need = bind_by (nat_lt port BINDABLE_PORTS) (owner_of p.bound port) p app port need
 
 -- ---- connections
@@ -45,71 +44,61 @@ abbrev pub is_reliable : ℕ → Bool
 is_reliable flags = bit_and flags 0x02 == 0x02
 
 -- an application's connection begins on a slot, from this own port
-abbrev pub linked : Wish → PlainPorts → ℕ → Request → ℕ → PlainPorts
+abbrev pub linked : Wish → PlainPorts → (app : ℕ) → Request → (own : ℕ) → PlainPorts
 linked what p app r own = begun (record p { conns = opened p.conns app r.slot (between r.dest r.port own) r.from }) app r.slot r.prio r.flags what
 
 -- a plain one is open at once, which is reported; of a reliable one the machine owes the opening packet, and the application waits
-abbrev pub joined : (is_reliable : Bool) → Origin → PlainPorts → ℕ → Request → ℕ → ℕ → Came
+abbrev pub joined : (is_reliable : Bool) → Origin → PlainPorts → (app : ℕ) → Request → (own time : ℕ) → Came
 joined false o p app r own time =
     reporting (event.Opened app r.slot None None) (come (owing (linked wish.Nothing p app r own) app (note.Connected r.slot)))
 joined true o p app r own time =
-    replaced app r.slot (connecting (start_of o.seed p.made) o.options o.node p.made time) (record (linked wish.Connection p app r own) { made = p.made + 1 })
+    replaced app r.slot (Some (connecting (start_of o.seed p.made) o.options o.node p.made time)) (record (linked wish.Connection p app r own) { made = p.made + 1 })
 
 -- a connection on a free slot is made; a slot in use is Busy, an own port that is taken PortBusy.
 -- Where a slot is free an own port always is: the third line never comes
-abbrev pub connect_by : Slot → (is_refused : Bool) → (own : Option ℕ) → Origin → PlainPorts → ℕ → Request → ℕ → Came
+abbrev pub connect_by : Slot → (is_refused : Bool) → (own : Option ℕ) → Origin → PlainPorts → (app : ℕ) → Request → (time : ℕ) → Came
 connect_by Free true own o p app r time = come (owing p app (note.Refused why.PortBusy))
 connect_by Free false (Some own) o p app r time = joined (is_reliable r.flags) o p app r own time
 connect_by Free false None o p app r time = come p
-connect_by Held refused own o p app r time = come (owing p app (note.Refused why.Busy))
-connect_by (Open _) refused own o p app r time = come (owing p app (note.Refused why.Busy))
+connect_by _ refused own o p app r time = come (owing p app (note.Refused why.Busy))
 
 -- an application asks for a connection
-abbrev pub connect : Origin → PlainPorts → ℕ → Request → ℕ → Came
+abbrev pub connect : Origin → PlainPorts → (app : ℕ) → Request → (time : ℕ) → Came
 connect o p app r time = connect_by (slot_at p.conns app r.slot) (is_refused p.conns r.dest r.from) (own_port_of p.conns r.dest r.from) o p app r time
 
 -- ---- ends
 
 -- a slot that is free is held by its close
-abbrev pub held_by : (is_free : Bool) → PlainPorts → ℕ → ℕ → PlainPorts
+abbrev pub held_by : (is_free : Bool) → PlainPorts → (app slot : ℕ) → PlainPorts
 held_by true p app slot = record p { conns = with_slot p.conns app slot Held }
 held_by false p app slot = p
 
 -- the answer to the close is owed at once, where no reliable connection has to end before
-abbrev pub ended : ℕ → ℕ → PlainPorts → PlainPorts
+abbrev pub ended : (app slot : ℕ) → PlainPorts → PlainPorts
 ended app slot p = owing (wishing p app slot wish.Ended) app (note.Closed slot)
 
 -- the close, by the state of the reliable connection after it: it is closed, as where the slot has none; or it has to end before
-abbrev pub ending_in : State → ℕ → ℕ → PlainPorts → PlainPorts
+abbrev pub ending_in : State → (app slot : ℕ) → PlainPorts → PlainPorts
 ending_in Closed app slot p = ended app slot p
-ending_in SynSent app slot p = wishing p app slot wish.End
-ending_in SynRcvd app slot p = wishing p app slot wish.End
-ending_in state.Open app slot p = wishing p app slot wish.End
-ending_in CloseWait app slot p = wishing p app slot wish.End
+ending_in _ app slot p = wishing p app slot wish.End
 
 -- a second close has no answer of its own. No packet waits for room then: an application whose packet waits is not served
-abbrev pub close_by : (is_closing : Bool) → PlainPorts → ℕ → ℕ → ℕ → Came
+abbrev pub close_by : (is_closing : Bool) → PlainPorts → (app slot time : ℕ) → Came
 close_by true p app slot time = come p
 close_by false p app slot time =
     let r = closing time (machine_at p app slot) in
-    then (stepped app slot r (held_by (is_free (slot_at p.conns app slot)) p app slot)) (λ p. come (ending_in r.state app slot p))
+    then (where_machine (has_machine p app slot) (stepped app slot r) (held_by (is_free (slot_at p.conns app slot)) p app slot)) (λ p. come (ending_in r.state app slot p))
 
 -- an application asks for the end of a slot's connection
-abbrev pub close : PlainPorts → ℕ → ℕ → ℕ → Came
+abbrev pub close : PlainPorts → (app slot time : ℕ) → Came
 close p app slot time = close_by (is_closing (terms_at p app slot).wish) p app slot time
 
 -- ---- what the push of an answer does
 
 -- the answer to a close frees the slot
-abbrev pub ended_by : Note → ℕ → PlainPorts → Came
+abbrev pub ended_by : Note → (app : ℕ) → PlainPorts → Came
 ended_by (note.Closed slot) app p = freed app slot p
-ended_by note.Bound app p = come p
-ended_by (note.Connected slot) app p = come p
-ended_by (note.Refused reason) app p = come p
-ended_by (note.Down slot) app p = come p
-ended_by (note.Bind port need) app p = come p
-ended_by (note.Connect slot dest port prio flags from) app p = come p
-ended_by (note.Close slot) app p = come p
+ended_by _ app p = come p
 
 -- the first answer that was owed is pushed
 abbrev pub answered_by : List Owed → PlainPorts → Came

@@ -8,7 +8,7 @@ use Rattle.csp_deck.specs.Keeping.{numbers_of}
 use Rattle.csp_deck.specs.Step.{times}
 use Rattle.csp_ports.specs.Counts.{AreFar}
 use Rattle.csp_ports.specs.Held.{held}
-use Rattle.csp_ports.specs.PlainPorts.{PlainPorts, machine_at}
+use Rattle.csp_ports.specs.PlainPorts.{PlainPorts, machine_at, machines_of}
 use Rattle.csp_ports.specs.declared.task.Task.{Task}
 use Rattle.csp_ports.specs.declared.task.Task.TheVariants as task
 use Rattle.csp_rdp.specs.Balance.{IsWhole}
@@ -24,16 +24,16 @@ pub record Keeps (more : ℕ) (old new : PlainPorts) (before after : List Conten
   pub far : (n : ℕ) → AreFar n old → AreFar (n + more) new
 
 -- a task is one that the slot owes: a note; a packet that its connection keeps; or a packet that its connection makes
-abbrev pub IsOwedBy : Task → ℕ → ℕ → ℕ → PlainPorts → Type 0
+abbrev pub IsOwedBy : Task → (time app slot : ℕ) → PlainPorts → Type 0
 IsOwedBy task.Tell time app slot p = ⊤
 IsOwedBy task.Deliver time app slot p = ((machine_at p app slot).state ≡ state.Open) × IsSome (delivery (machine_at p app slot))
 IsOwedBy (task.Make j) time app slot p = (job_of time (machine_at p app slot) ≡ Some j) × (j ≢ job.Deliver)
 
--- there are no more applications than may be; each slot has its machine, which is whole; and each application has a place for
+-- there are no more applications than may be; each machine of a slot is whole; and each application has a place for
 -- a packet that waits, which is for one of its slots
 pub record AreWhole (p : PlainPorts) : Type 0 where
   pub few : p.conns.apps ≤ MAX_APPS
-  pub slots : length p.machines ≡ ALL_SLOTS
-  pub machines : All IsWhole p.machines
+  pub slots : length p.slots ≡ ALL_SLOTS
+  pub machines : All IsWhole (machines_of p)
   pub places : length p.stalled ≡ MAX_APPS
   pub waits : All (λ s. IfSome s (λ s. s.slot < SLOTS)) p.stalled

@@ -7,12 +7,13 @@ use Rattle.csp_arena.specs.Cells.{RegionName}
 use Rattle.csp_base.specs.declared.limits.TheConstants.{MAX_PAYLOAD, MAX_APPS, SLOTS, ALL_SLOTS}
 use Rattle.csp_conn.specs.PlainConns.{place_of}
 use Rattle.csp_deck.specs.Carried.{IsReply}
-use Rattle.csp_ports.specs.PlainPorts.{PlainPorts, PlainStalled, PortsAt, anywhere, waiting, with_ports_at}
+use Rattle.csp_ports.specs.PlainPorts.{PlainPorts, PlainStalled, PortsAt, anywhere, terms_of, waiting, with_ports_at}
 use Rattle.csp_ports.specs.Steps.{admitted}
 use Rattle.csp_ports.specs.declared.owed.Owed.{Owed}
 use Rattle.csp_ports.specs.declared.ports.Ports.TheInside.{Inside}
 use Rattle.csp_ports.specs.declared.ports.TheConstants.{MAX_OWED, ANSWERS}
 use Rattle.csp_ports.specs.declared.stalled.Stalled.{Stalled}
+use Rattle.csp_ports.specs.declared.terms.SlotState.{SlotState}
 use Rattle.csp_ports.specs.declared.terms.Terms.{Terms}
 use Rattle.csp_ports.specs.declared.terms.Wish.{Wish}
 use Rattle.csp_ports.specs.declared.terms.Wish.TheVariants as wish
@@ -38,8 +39,7 @@ stalled_of s = record { slot = s.slot; buffer = anywhere s.buffer.picture }
 abbrev pub plain_ports : Inside → PlainPorts
 plain_ports p = record {
   conns = p.conns;
-  terms = p.terms;
-  machines = map (placed nowhere) p.machines.items;
+  slots = map {A = SlotState} (λ s. record s { machine = option_map (placed nowhere) s.machine }) p.slots.items;
   stalled = map (option_map stalled_of) p.stalled;
   bound = p.sockets;
   owed = p.owed.items;
@@ -80,7 +80,7 @@ Admits true answer old new b time = (answer ≡ Ok tt) × (new ≡ admitting (an
 Admits false answer old new b time = (answer ≡ Err b) × (new ≡ old)
 
 -- and on a slot's connection
-abbrev pub AdmitsIn : (room : Bool) → Result Unit PlainBuffer → (old new : PortsAt) → ℕ → ℕ → PlainBuffer → ℕ → Type 0
+abbrev pub AdmitsIn : (room : Bool) → Result Unit PlainBuffer → (old new : PortsAt) → (app slot : ℕ) → PlainBuffer → (time : ℕ) → Type 0
 AdmitsIn true answer old new app slot b time = (answer ≡ Ok tt) × (new ≡ with_ports_at old (admitted time app slot (anywhere b.picture) old.ports))
 AdmitsIn false answer old new app slot b time = (answer ≡ Err b) × (new ≡ old)
 
@@ -100,16 +100,15 @@ pub record ArePorts (p : Inside) : Type 0 where
   -- there are no more applications than may be, and there is room for all answers that may be owed
   pub few : p.conns.apps ≤ MAX_APPS
   pub apps : p.apps ≡ p.conns.apps
-  pub slots : length p.terms ≡ ALL_SLOTS
   pub room : MAX_OWED ≤ deque_capacity p.owed
   -- ports are bound by applications that there are
   pub owners : (port : ℕ) → IfSome (owner_of p.sockets port) (λ o. o.0 < p.conns.apps)
   -- and so are answers owed; with those still to come an application has at most one more than it has slots
   pub owed : All (IsOwed p.conns.apps) p.owed.items
-  pub due : (app : ℕ) → waiting app p.owed.items + wishes app p.terms ≤ ANSWERS
-  -- each slot has its machine, which holds what it needs alone
-  pub all : length p.machines.items ≡ ALL_SLOTS
-  pub housed : All (IsHoused p.token.name) p.machines.items
+  pub due : (app : ℕ) → waiting app p.owed.items + wishes app (terms_of (plain_ports p)) ≤ ANSWERS
+  -- each slot has its place, and its machine, where it has one, holds what it needs alone
+  pub slots : length p.slots.items ≡ ALL_SLOTS
+  pub housed : All (λ s. IfSome s.machine (IsHoused p.token.name)) p.slots.items
   -- each application has a place for a packet that waits
   pub places : length p.stalled ≡ MAX_APPS
   pub waits : All (λ s. IfSome s (IsWaiting p.token.name)) p.stalled

@@ -12,8 +12,8 @@ use Rattle.csp_log.specs.declared.event.Event.{Event}
 use Rattle.csp_log.specs.declared.event.Event.TheVariants as event
 use Rattle.std.specs.Option.{option_to_list}
 use Rattle.csp_ports.specs.Came.{Came, come, then, reporting, discarding, pictures}
-use Rattle.csp_ports.specs.PlainPorts.{PlainPorts, anywhere, begun, machine_at, start_of, terms_at, with_stalled}
-use Rattle.csp_ports.specs.Steps.{admitted, dropped, has_room, replaced, settled, went}
+use Rattle.csp_ports.specs.PlainPorts.{PlainPorts, anywhere, begun, has_machine, machine_at, start_of, terms_at, with_stalled}
+use Rattle.csp_ports.specs.Steps.{admitted, dropped, has_room, replaced, settled, went, where_machine}
 use Rattle.csp_ports.specs.declared.handing.Invitation.{Invitation}
 use Rattle.csp_ports.specs.declared.origin.Origin.{Origin}
 use Rattle.csp_ports.specs.declared.terms.Wish.TheVariants as wish
@@ -27,13 +27,13 @@ use Rattle.csp_rdp_header.specs.declared.head.RdpHead.{RdpHead}
 -- ---- packets that open a connection
 
 -- a plain one, on a slot: it is open at once
-abbrev pub accepted : PlainPorts → ℕ → ℕ → Connection → Prio → ℕ → PlainPorts
+abbrev pub accepted : PlainPorts → (app slot : ℕ) → Connection → Prio → (flags : ℕ) → PlainPorts
 accepted p app slot connection prio flags = begun (record p { conns = with_slot p.conns app slot (Open connection) }) app slot prio flags wish.Nothing
 
 -- a reliable one, on a slot: its machine owes the answer
-abbrev pub invited : Origin → PlainPorts → ℕ → ℕ → Connection → Prio → ℕ → Invitation → ℕ → Came
+abbrev pub invited : Origin → PlainPorts → (app slot : ℕ) → Connection → Prio → (flags : ℕ) → Invitation → (time : ℕ) → Came
 invited o p app slot connection prio flags i time =
-    replaced app slot (accepting (start_of o.seed p.made) i.options i.head.seq.0 i.tag o.node p.made time)
+    replaced app slot (Some (accepting (start_of o.seed p.made) i.options i.head.seq.0 i.tag o.node p.made time))
     (record (accepted p app slot connection prio flags) { made = p.made + 1 })
 
 -- ---- packets of a reliable connection
@@ -53,34 +53,31 @@ abbrev pub back_by : (back : Option PlainBuffer) → (is_stray : Bool) → Plain
 back_by back stray p = record { ports = p; loose = pictures (option_to_list back); events = stray_events back stray }
 
 -- a packet with this head is handed to the machine of a slot: that is recorded; its buffer is kept or not; the machine makes its
--- step; and the packet that waits for room is admitted where there is some now, or discarded where the connection is not open any more
-abbrev pub handing : PlainPorts → ℕ → ℕ → RdpHead → Content → ℕ → Came
+-- step, where the slot has one; and the packet that waits for room is admitted where there is some now, or discarded where the connection is not open any more
+abbrev pub handing : PlainPorts → (app slot : ℕ) → RdpHead → Content → (time : ℕ) → Came
 handing p app slot h b time =
     let r = machine_at p app slot in
     let packet = anywhere b in
     let row = row_of r h b.payload in
     reporting (handing_event r b.trace.tag)
     (then (back_by (back_of row packet) (is_stray row) p) (λ p.
-    then (went r.state machine_why.Reset app slot (after_packet h b.trace.tag packet time r) p) (λ p.
+    then (where_machine (has_machine p app slot) (went r.state machine_why.Reset app slot (after_packet h b.trace.tag packet time r)) p) (λ p.
     then (dropped app p) (λ p.
     come (settled time app p)))))
 
 -- ---- packets of an application, on a reliable connection
 
 -- it is admitted to the window, or waits for room there
-abbrev pub admitting_by : (room : Bool) → PlainPorts → ℕ → ℕ → Content → ℕ → PlainPorts
+abbrev pub admitting_by : (room : Bool) → PlainPorts → (app slot : ℕ) → Content → (time : ℕ) → PlainPorts
 admitting_by true p app slot b time = admitted time app slot (anywhere b) p
 admitting_by false p app slot b time = with_stalled p app (Some (record { slot = slot; buffer = anywhere b }))
 
 -- that is reported as sent; where the connection is not open the packet is NoConn
-abbrev pub submitting_in : State → PlainPorts → ℕ → ℕ → Content → ℕ → Came
+abbrev pub submitting_in : State → PlainPorts → (app slot : ℕ) → Content → (time : ℕ) → Came
 submitting_in state.Open p app slot b time =
     reporting (event.Sent slot (terms_at p app slot).ordinal) (come (admitting_by (has_room (machine_at p app slot)) p app slot b time))
-submitting_in state.SynSent p app slot b time = discarding why.NoConn b p
-submitting_in state.SynRcvd p app slot b time = discarding why.NoConn b p
-submitting_in state.CloseWait p app slot b time = discarding why.NoConn b p
-submitting_in state.Closed p app slot b time = discarding why.NoConn b p
+submitting_in _ p app slot b time = discarding why.NoConn b p
 
 -- an application's packet goes on a slot's reliable connection
-abbrev pub submitting : PlainPorts → ℕ → ℕ → Content → ℕ → Came
+abbrev pub submitting : PlainPorts → (app slot : ℕ) → Content → (time : ℕ) → Came
 submitting p app slot b time = submitting_in (machine_at p app slot).state p app slot b time

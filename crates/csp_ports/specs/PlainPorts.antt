@@ -1,5 +1,5 @@
 -- the ports of a node as plain data: its connections, the ports that are bound, and the answers owed to applications
-use Rattle.std.specs.Prelude.{ℕ, ◌+◌, ◌*◌, ◌%◌, ◌==◌, Bool, true, false, Option, None, List, [], ◌∷◌, ◌++◌, get_or, slice_set, replicate, count_by}
+use Rattle.std.specs.Prelude.{ℕ, ◌+◌, ◌*◌, ◌%◌, ◌==◌, Bool, true, false, Option, None, Some, List, [], ◌∷◌, ◌++◌, map, is_some, unwrap_or, get_or, slice_set, replicate, count_by}
 use Rattle.csp_arena.specs.Cells.{RegionName}
 use Rattle.csp_base.specs.declared.priority.Prio.{Prio}
 use Rattle.csp_base.specs.declared.priority.Prio.TheVariants.{Normal}
@@ -10,6 +10,7 @@ use Rattle.csp_base.specs.declared.limits.TheConstants.{MAX_APPS, ALL_SLOTS}
 use Rattle.csp_deck.specs.Regions.{nowhere}
 use Rattle.csp_log.specs.declared.note.Note.{Note}
 use Rattle.csp_ports.specs.declared.owed.Owed.{Owed}
+use Rattle.csp_ports.specs.declared.terms.SlotState.{SlotState}
 use Rattle.csp_ports.specs.declared.terms.Terms.{Terms}
 use Rattle.csp_ports.specs.declared.terms.Wish.{Wish}
 use Rattle.csp_ports.specs.declared.terms.Wish.TheVariants as wish
@@ -21,14 +22,13 @@ pub record PlainStalled : Type 0 where
   pub slot : ℕ
   pub buffer : PlainBuffer
 
--- the connections; for each slot, in the order of application, then slot, how its packets
--- are sent and how far it has come, and the machine of its reliable connection; for each application the packet that waits
--- for room in a window; who bound which port; the answers owed to applications, the oldest first; the slot with which the
--- next look for a task begins; and how many reliable connections the node has made
+-- the connections; what is kept of each slot besides, in the order of application, then slot: how its packets are sent and how
+-- far it has come, and the machine of its reliable connection, where it has one: a plain one, and a slot that is free, has none;
+-- for each application the packet that waits for room in a window; who bound which port; the answers owed to applications, the
+-- oldest first; the slot with which the next look for a task begins; and how many reliable connections the node has made
 pub record PlainPorts : Type 0 where
   pub conns : PlainConns
-  pub terms : List Terms
-  pub machines : List PlainRdp
+  pub slots : List SlotState
   pub stalled : List (Option PlainStalled)
   pub bound : Bound
   pub owed : List Owed
@@ -49,16 +49,18 @@ with_ports_at p ports = record { region = p.region; ports = ports }
 abbrev pub anywhere : Content → PlainBuffer
 anywhere b = record { picture = b; region = nowhere }
 
--- a slot before its first connection
+-- a slot before its first connection: its terms, and that it has no machine
 abbrev pub fresh : Terms
 fresh = record { prio = Normal; flags = 0; wish = wish.Nothing; is_down = false; ordinal = 0 }
+
+abbrev pub untouched : SlotState
+untouched = record { terms = fresh; machine = None }
 
 -- the ports of so many applications before any of them has asked for something
 abbrev pub ports_of : ℕ → PlainPorts
 ports_of apps = record {
   conns = conns_of apps;
-  terms = replicate ALL_SLOTS fresh;
-  machines = replicate ALL_SLOTS idle;
+  slots = replicate ALL_SLOTS untouched;
   stalled = replicate MAX_APPS None;
   bound = bound_none;
   owed = [];
@@ -78,16 +80,20 @@ waiting app owed = count_by (λ o. o.app == app) owed
 
 -- ---- slots
 
+-- what is kept of a slot
+abbrev pub state_at : PlainPorts → (app slot : ℕ) → SlotState
+state_at p app slot = get_or p.slots (place_of app slot) untouched
+
 -- how a slot's packets are sent, and how far the slot has come
-abbrev pub terms_at : PlainPorts → ℕ → ℕ → Terms
-terms_at p app slot = get_or p.terms (place_of app slot) fresh
+abbrev pub terms_at : PlainPorts → (app slot : ℕ) → Terms
+terms_at p app slot = (state_at p app slot).terms
 
 -- the ports with other terms of a slot
-abbrev pub with_terms : PlainPorts → ℕ → ℕ → Terms → PlainPorts
-with_terms p app slot terms = record p { terms = slice_set p.terms (place_of app slot) terms }
+abbrev pub with_terms : PlainPorts → (app slot : ℕ) → Terms → PlainPorts
+with_terms p app slot terms = record p { slots = slice_set p.slots (place_of app slot) (record (state_at p app slot) { terms = terms }) }
 
 -- the application waits for this at the slot
-abbrev pub wishing : PlainPorts → ℕ → ℕ → Wish → PlainPorts
+abbrev pub wishing : PlainPorts → (app slot : ℕ) → Wish → PlainPorts
 wishing p app slot what = with_terms p app slot (record (terms_at p app slot) { wish = what })
 
 -- the application has asked for the slot's end
@@ -97,24 +103,41 @@ is_closing wish.Connection = false
 is_closing wish.End = true
 is_closing wish.Ended = true
 
--- the machine of a slot's reliable connection; where the slot has none it is idle
-abbrev pub machine_at : PlainPorts → ℕ → ℕ → PlainRdp
-machine_at p app slot = get_or p.machines (place_of app slot) idle
+-- the slot has a machine
+abbrev pub has_machine : PlainPorts → (app slot : ℕ) → Bool
+has_machine p app slot = is_some (state_at p app slot).machine
 
--- the ports with another machine of a slot
-abbrev pub with_machine : PlainPorts → ℕ → ℕ → PlainRdp → PlainPorts
-with_machine p app slot r = record p { machines = slice_set p.machines (place_of app slot) r }
+-- the machine of a slot's reliable connection; one where the slot has none is idle: it is closed, holds nothing and owes nothing
+abbrev pub machine_in : SlotState → PlainRdp
+machine_in s = unwrap_or s.machine idle
+
+abbrev pub machine_at : PlainPorts → (app slot : ℕ) → PlainRdp
+machine_at p app slot = machine_in (state_at p app slot)
+
+-- the ports with this machine of a slot, or without one
+abbrev pub with_machine_or : PlainPorts → (app slot : ℕ) → Option PlainRdp → PlainPorts
+with_machine_or p app slot machine = record p { slots = slice_set p.slots (place_of app slot) (record (state_at p app slot) { machine = machine }) }
+
+abbrev pub with_machine : PlainPorts → (app slot : ℕ) → PlainRdp → PlainPorts
+with_machine p app slot r = with_machine_or p app slot (Some r)
+
+-- the terms of all slots, and their machines
+abbrev pub terms_of : PlainPorts → List Terms
+terms_of p = map (λ s. s.terms) p.slots
+
+abbrev pub machines_of : PlainPorts → List PlainRdp
+machines_of p = map machine_in p.slots
 
 -- the packet of an application that waits for room
-abbrev pub stalled_at : PlainPorts → ℕ → Option PlainStalled
+abbrev pub stalled_at : PlainPorts → (app : ℕ) → Option PlainStalled
 stalled_at p app = get_or p.stalled app None
 
 -- the ports with another packet of an application that waits for room, or none
-abbrev pub with_stalled : PlainPorts → ℕ → Option PlainStalled → PlainPorts
+abbrev pub with_stalled : PlainPorts → (app : ℕ) → Option PlainStalled → PlainPorts
 with_stalled p app what = record p { stalled = slice_set p.stalled app what }
 
 -- a connection begins on a slot: its packets are sent with this priority and these flags, and the application waits for this
-abbrev pub begun : PlainPorts → ℕ → ℕ → Prio → ℕ → Wish → PlainPorts
+abbrev pub begun : PlainPorts → (app slot : ℕ) → Prio → (flags : ℕ) → Wish → PlainPorts
 begun p app slot prio flags what = with_terms p app slot (record (terms_at p app slot) { prio = prio; flags = flags; wish = what; is_down = false })
 
 -- ---- the node's own flows

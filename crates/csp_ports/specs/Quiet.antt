@@ -5,7 +5,7 @@ use Rattle.csp_base.specs.declared.limits.TheConstants.{SLOTS}
 use Rattle.csp_ports.specs.PlainPorts.{PlainPorts, PlainStalled, machine_at, stalled_at}
 use Rattle.csp_rdp.specs.Timer.{times_out}
 use Rattle.csp_rdp.specs.declared.answers.State.{State}
-use Rattle.csp_rdp.specs.declared.answers.State.TheVariants.{Closed, SynSent, SynRcvd, Open, CloseWait}
+use Rattle.csp_rdp.specs.declared.answers.State.TheVariants.{Open}
 
 -- the timer of a slot, by its place, would change its connection
 abbrev pub times_out_at : ℕ → PlainPorts → ℕ → Bool
@@ -18,10 +18,7 @@ any_times_out time p = list_any (times_out_at time p) (range_with_len 0 (p.conns
 -- the packet of an application is stranded: it waits for a connection that is not open
 abbrev pub is_stranded_in : State → Bool
 is_stranded_in Open = false
-is_stranded_in SynSent = true
-is_stranded_in SynRcvd = true
-is_stranded_in CloseWait = true
-is_stranded_in Closed = true
+is_stranded_in _ = true
 
 -- this packet, if there is one, waits for a connection that is not open
 abbrev pub is_stranded_on : Option PlainStalled → PlainPorts → ℕ → Bool

@@ -10,53 +10,56 @@ use Rattle.csp_log.specs.declared.note.Note.TheVariants as note
 use Rattle.csp_log.specs.declared.note.Why.TheVariants as reason
 use Rattle.csp_log.specs.declared.note.Why.{Why}
 use Rattle.csp_ports.specs.Came.{Came, come, then, reporting, discarding, pictures}
-use Rattle.csp_ports.specs.PlainPorts.{PlainPorts, PlainStalled, machine_at, owing, stalled_at, terms_at, wishing, with_machine, with_stalled, with_terms}
+use Rattle.csp_ports.specs.PlainPorts.{PlainPorts, PlainStalled, has_machine, machine_at, owing, stalled_at, terms_at, wishing, with_machine, with_machine_or, with_stalled, with_terms}
 use Rattle.csp_ports.specs.declared.terms.Wish.{Wish}
 use Rattle.csp_ports.specs.declared.terms.Wish.TheVariants as wish
 use Rattle.csp_buffer.specs.PlainBuffer.{PlainBuffer}
 use Rattle.csp_rdp.specs.Changes.{change_between}
 use Rattle.csp_rdp.specs.Holding.{rdp_buffers, rested, unneeded}
 use Rattle.csp_rdp.specs.Jobs.{admitting, ticked}
-use Rattle.csp_rdp.specs.Machine.{PlainRdp, idle}
+use Rattle.csp_rdp.specs.Machine.{PlainRdp}
 use Rattle.csp_rdp.specs.declared.answers.Change.{Change}
 use Rattle.csp_rdp.specs.declared.answers.Change.TheVariants as change
-use Rattle.csp_rdp.specs.declared.answers.State.TheVariants.{Closed, SynSent, SynRcvd, Open, CloseWait}
+use Rattle.csp_rdp.specs.declared.answers.State.TheVariants.{Open}
 use Rattle.csp_rdp.specs.declared.answers.State.{State}
 use Rattle.csp_rdp.specs.declared.answers.Cause.{Cause as MachineWhy}
 use Rattle.csp_rdp.specs.declared.answers.Cause.TheVariants as machine_why
 use Rattle.csp_rdp_window.specs.Sending.{is_full}
 
+-- where a slot has a machine, that makes this step; a slot without one makes none
+abbrev pub where_machine : (has_machine : Bool) → (PlainPorts → Came) → PlainPorts → Came
+where_machine true step p = step p
+where_machine false step p = come p
+
 -- the machine is then this: what it does not need any more is let go
-abbrev pub stepped : ℕ → ℕ → PlainRdp → PlainPorts → Came
+abbrev pub stepped : (app slot : ℕ) → PlainRdp → PlainPorts → Came
 stepped app slot r p = record { ports = with_machine p app slot (rested r); loose = pictures (unneeded r); events = [] }
 
--- another machine takes its place; what the one before still held is let go
-abbrev pub replaced : ℕ → ℕ → PlainRdp → PlainPorts → Came
-replaced app slot r p = record { ports = with_machine p app slot r; loose = pictures (rdp_buffers (machine_at p app slot)); events = [] }
+-- another machine takes its place, or none; what the one before still held is let go
+abbrev pub replaced : (app slot : ℕ) → Option PlainRdp → PlainPorts → Came
+replaced app slot machine p = record { ports = with_machine_or p app slot machine; loose = pictures (rdp_buffers (machine_at p app slot)); events = [] }
 
 -- the slot is free, has no reliable connection, owes nothing any more, and its next connection is of this ordinal
-abbrev pub vacated : (ordinal : ℕ) → ℕ → ℕ → PlainPorts → Came
+abbrev pub vacated : (ordinal app slot : ℕ) → PlainPorts → Came
 vacated ordinal app slot p =
-    replaced app slot idle
+    replaced app slot None
     (with_terms (record p { conns = with_slot p.conns app slot Free }) app slot (record (terms_at p app slot) { wish = wish.Nothing; is_down = false; ordinal = ordinal }))
 
 -- without an answer to a close: the next is of the same ordinal, since this one never was open
-abbrev pub given_up : ℕ → ℕ → PlainPorts → Came
+abbrev pub given_up : (app slot : ℕ) → PlainPorts → Came
 given_up app slot p = vacated (terms_at p app slot).ordinal app slot p
 
 -- by the answer to a close: the next is the next in order
-abbrev pub freed : ℕ → ℕ → PlainPorts → Came
+abbrev pub freed : (app slot : ℕ) → PlainPorts → Came
 freed app slot p = vacated ((terms_at p app slot).ordinal + 1) app slot p
 
 -- the application that waited for its connection is told that it is open
-abbrev pub connected_by : Wish → ℕ → ℕ → PlainPorts → PlainPorts
+abbrev pub connected_by : Wish → (app slot : ℕ) → PlainPorts → PlainPorts
 connected_by wish.Connection app slot p = owing (wishing p app slot wish.Nothing) app (note.Connected slot)
-connected_by wish.Nothing app slot p = p
-connected_by wish.End app slot p = p
-connected_by wish.Ended app slot p = p
+connected_by _ app slot p = p
 
 -- a slot's connection is open: the application that waits for it is owed its answer
-abbrev pub connected : ℕ → ℕ → PlainPorts → PlainPorts
+abbrev pub connected : (app slot : ℕ) → PlainPorts → PlainPorts
 connected app slot p = connected_by (terms_at p app slot).wish app slot p
 
 -- why a connection that was asked for is refused, as an answer says it
@@ -65,38 +68,35 @@ reason_of machine_why.Timeout = reason.Timeout
 reason_of machine_why.Reset = reason.Reset
 
 -- a connection that was asked for is refused: its slot is free, and the application that waited is told so
-abbrev pub refused_by : Wish → MachineWhy → ℕ → ℕ → PlainPorts → Came
+abbrev pub refused_by : Wish → MachineWhy → (app slot : ℕ) → PlainPorts → Came
 refused_by wish.Connection why app slot p = then (given_up app slot p) (λ p. come (owing p app (note.Refused (reason_of why))))
 -- the others never come: only an opening that an application asked for and waits for is refused
-refused_by wish.Nothing why app slot p = given_up app slot p
-refused_by wish.End why app slot p = given_up app slot p
-refused_by wish.Ended why app slot p = given_up app slot p
+refused_by _ why app slot p = given_up app slot p
 
 -- a slot's connection is refused: the application that waits is owed the reason, and the slot is free
-abbrev pub refused : MachineWhy → ℕ → ℕ → PlainPorts → Came
+abbrev pub refused : MachineWhy → (app slot : ℕ) → PlainPorts → Came
 refused why app slot p = refused_by (terms_at p app slot).wish why app slot p
 
 -- a Down note is owed
-abbrev pub down : ℕ → ℕ → PlainPorts → PlainPorts
+abbrev pub down : (app slot : ℕ) → PlainPorts → PlainPorts
 down app slot p = with_terms p app slot (record (terms_at p app slot) { is_down = true })
 
 -- the connection is closed: the application that asked for that is told so; else a slot whose connection was open stays in
 -- use, and that of one that never was is free
-abbrev pub closed_by : Wish → (was_open : Bool) → ℕ → ℕ → PlainPorts → Came
+abbrev pub closed_by : Wish → (was_open : Bool) → (app slot : ℕ) → PlainPorts → Came
 closed_by wish.End was_open app slot p = come (owing (wishing p app slot wish.Ended) app (note.Closed slot))
 closed_by wish.Nothing true app slot p = come p
 closed_by wish.Nothing false app slot p = given_up app slot p
--- these two never come: what ends while its opening is waited for is refused, and what was told closed is not closed again
-closed_by wish.Connection was_open app slot p = come p
-closed_by wish.Ended was_open app slot p = come p
+-- the other two never come: what ends while its opening is waited for is refused, and what was told closed is not closed again
+closed_by _ was_open app slot p = come p
 
 -- a slot's connection is closed: what the application is owed, and whether the slot is free
-abbrev pub closed : ℕ → ℕ → PlainPorts → Came
+abbrev pub closed : (app slot : ℕ) → PlainPorts → Came
 closed app slot p = closed_by (terms_at p app slot).wish (machine_at p app slot).was_open app slot p
 
 -- what a change of the connection comes to, which its application did not ask for: an opening is reported; a refusal frees
 -- the slot; a connection that is not open any more owes a Down note
-abbrev pub changed : Change → ℕ → ℕ → PlainPorts → Came
+abbrev pub changed : Change → (app slot : ℕ) → PlainPorts → Came
 changed change.None app slot p = come p
 changed change.Opened app slot p =
     let r = machine_at p app slot in
@@ -106,7 +106,7 @@ changed change.Down app slot p = come (down app slot p)
 changed change.Closed app slot p = closed app slot p
 
 -- a step from a state to a machine, and what it changed
-abbrev pub went : State → MachineWhy → ℕ → ℕ → PlainRdp → PlainPorts → Came
+abbrev pub went : State → MachineWhy → (app slot : ℕ) → PlainRdp → PlainPorts → Came
 went before why app slot r p = then (stepped app slot r p) (changed (change_between before r.state why) app slot)
 
 -- ---- the packet that waits for room
@@ -114,60 +114,54 @@ went before why app slot r p = then (stepped app slot r p) (changed (change_betw
 -- there is room for a packet: the connection is open, and its window is not full
 abbrev pub has_room_in : State → PlainRdp → Bool
 has_room_in Open r = not (is_full r.send)
-has_room_in SynSent r = false
-has_room_in SynRcvd r = false
-has_room_in CloseWait r = false
-has_room_in Closed r = false
+has_room_in _ r = false
 
 -- a machine takes one more packet
 abbrev pub has_room : PlainRdp → Bool
 has_room r = has_room_in r.state r
 
 -- a packet is admitted to the window of a slot's connection
-abbrev pub admitted : ℕ → ℕ → ℕ → PlainBuffer → PlainPorts → PlainPorts
+abbrev pub admitted : (time app slot : ℕ) → PlainBuffer → PlainPorts → PlainPorts
 admitted time app slot b p = with_machine p app slot (admitting b time (machine_at p app slot))
 
 -- the packet that waits is admitted where there is room
-abbrev pub settled_by : (room : Bool) → ℕ → ℕ → PlainStalled → PlainPorts → PlainPorts
+abbrev pub settled_by : (room : Bool) → (time app : ℕ) → PlainStalled → PlainPorts → PlainPorts
 settled_by true time app s p = admitted time app s.slot s.buffer (with_stalled p app None)
 settled_by false time app s p = p
 
 -- this packet, if there is one, is admitted where there is room now
-abbrev pub settled_on : Option PlainStalled → ℕ → ℕ → PlainPorts → PlainPorts
+abbrev pub settled_on : Option PlainStalled → (time app : ℕ) → PlainPorts → PlainPorts
 settled_on None time app p = p
 settled_on (Some s) time app p = settled_by (has_room (machine_at p app s.slot)) time app s p
 
 -- an application's waiting packet is admitted where there is room now
-abbrev pub settled : ℕ → ℕ → PlainPorts → PlainPorts
+abbrev pub settled : (time app : ℕ) → PlainPorts → PlainPorts
 settled time app p = settled_on (stalled_at p app) time app p
 
 -- it is discarded as NoConn where its connection is not open any more
-abbrev pub dropped_in : State → ℕ → PlainStalled → PlainPorts → Came
+abbrev pub dropped_in : State → (app : ℕ) → PlainStalled → PlainPorts → Came
 dropped_in Open app s p = come p
-dropped_in SynSent app s p = discarding why.NoConn s.buffer.picture (with_stalled p app None)
-dropped_in SynRcvd app s p = discarding why.NoConn s.buffer.picture (with_stalled p app None)
-dropped_in CloseWait app s p = discarding why.NoConn s.buffer.picture (with_stalled p app None)
-dropped_in Closed app s p = discarding why.NoConn s.buffer.picture (with_stalled p app None)
+dropped_in _ app s p = discarding why.NoConn s.buffer.picture (with_stalled p app None)
 
 -- this packet, if there is one, is discarded where its connection is not open any more
-abbrev pub dropped_on : Option PlainStalled → ℕ → PlainPorts → Came
+abbrev pub dropped_on : Option PlainStalled → (app : ℕ) → PlainPorts → Came
 dropped_on None app p = come p
 dropped_on (Some s) app p = dropped_in (machine_at p app s.slot).state app s p
 
 -- an application's waiting packet is discarded where its connection is not open any more
-abbrev pub dropped : ℕ → PlainPorts → Came
+abbrev pub dropped : (app : ℕ) → PlainPorts → Came
 dropped app p = dropped_on (stalled_at p app) app p
 
 -- ---- the timers
 
 -- the timer of a slot is tried
-abbrev pub timed_at : ℕ → ℕ → ℕ → PlainPorts → Came
+abbrev pub timed_at : (time app slot : ℕ) → PlainPorts → Came
 timed_at time app slot p =
     let r = machine_at p app slot in
-    went r.state machine_why.Timeout app slot (ticked time r) p
+    where_machine (has_machine p app slot) (went r.state machine_why.Timeout app slot (ticked time r)) p
 
 -- and those of several, by their places
-abbrev pub timed_in : ℕ → List ℕ → PlainPorts → Came
+abbrev pub timed_in : (time : ℕ) → List ℕ → PlainPorts → Came
 timed_in time [] p = come p
 timed_in time (k ∷ ks) p = then (timed_at time (k / SLOTS) (k % SLOTS) p) (timed_in time ks)
 
@@ -177,5 +171,5 @@ dropped_of [] p = come p
 dropped_of (app ∷ apps) p = then (dropped app p) (dropped_of apps)
 
 -- all timers are tried, in the order of application, then slot; then the packets are discarded that wait in vain
-abbrev pub timed : ℕ → PlainPorts → Came
+abbrev pub timed : (time : ℕ) → PlainPorts → Came
 timed time p = then (timed_in time (range_with_len 0 (p.conns.apps * SLOTS)) p) (λ p. dropped_of (range_with_len 0 p.conns.apps) p)

@@ -21,11 +21,7 @@ use Rattle.csp_rdp.specs.declared.jobs.Job.TheVariants as job
 abbrev pub task_by : (is_down : Bool) → Option Job → Option Task
 task_by is_down (Some job.Rst) = Some (task.Make job.Rst)
 task_by is_down (Some job.Syn) = Some (task.Make job.Syn)
-task_by true (Some job.Deliver) = Some task.Tell
-task_by true (Some job.Eak) = Some task.Tell
-task_by true (Some job.Data) = Some task.Tell
-task_by true (Some job.Ack) = Some task.Tell
-task_by true None = Some task.Tell
+task_by true _ = Some task.Tell
 task_by false (Some job.Deliver) = Some task.Deliver
 task_by false (Some job.Eak) = Some (task.Make job.Eak)
 task_by false (Some job.Data) = Some (task.Make job.Data)
@@ -33,7 +29,7 @@ task_by false (Some job.Ack) = Some (task.Make job.Ack)
 task_by false None = None
 
 -- the first task of a slot
-abbrev pub task_at : ℕ → PlainPorts → ℕ → ℕ → Option Task
+abbrev pub task_at : (time : ℕ) → PlainPorts → (app slot : ℕ) → Option Task
 task_at time p app slot = task_by (terms_at p app slot).is_down (job_of time (machine_at p app slot))
 
 -- that of the slot at a place
@@ -68,31 +64,31 @@ abbrev pub past : ℕ → PlainPorts → ℕ
 past k p = cond (k + 1 == p.conns.apps * SLOTS) 0 (k + 1)
 
 -- a slot comes to its task
-abbrev pub turned : ℕ → ℕ → PlainPorts → PlainPorts
+abbrev pub turned : (app slot : ℕ) → PlainPorts → PlainPorts
 turned app slot p = record p { next = past (place_of app slot) p }
 
 -- the Down note is pushed
-abbrev pub told_down : ℕ → ℕ → PlainPorts → PlainPorts
+abbrev pub told_down : (app slot : ℕ) → PlainPorts → PlainPorts
 told_down app slot p = with_terms p app slot (record (terms_at p app slot) { is_down = false })
 
 -- the packet that is to be delivered is taken out
-abbrev pub without_packet : ℕ → ℕ → PlainPorts → PlainPorts
+abbrev pub without_packet : (app slot : ℕ) → PlainPorts → PlainPorts
 without_packet app slot p = with_machine p app slot (without_delivery (machine_at p app slot))
 
 -- what comes of it that a slot's packet was delivered
-abbrev pub delivered : ℕ → ℕ → ℕ → PlainPorts → Came
+abbrev pub delivered : (time app slot : ℕ) → PlainPorts → Came
 delivered time app slot p =
     let r = machine_at p app slot in
     then (went r.state machine_why.Reset app slot (delivering time r) p) (dropped app)
 
 -- a slot's packet, whose lane had no room, is kept again
-abbrev pub kept_again : ℕ → ℕ → Content → PlainPorts → PlainPorts
+abbrev pub kept_again : (app slot : ℕ) → Content → PlainPorts → PlainPorts
 kept_again app slot b p = with_machine p app slot (keeping_again (anywhere b) (machine_at p app slot))
 
 -- a packet is made in a buffer, and the machine notes that it is sent
-abbrev pub made_in : Job → ℕ → ℕ → ℕ → Content → PlainPorts → Content
+abbrev pub made_in : Job → (time app slot : ℕ) → Content → PlainPorts → Content
 made_in j time app slot b p = (filled j time (machine_at p app slot) (anywhere b)).picture
 
 -- the ports once a slot's machine has made what it owed
-abbrev pub making : Job → ℕ → ℕ → ℕ → PlainPorts → PlainPorts
+abbrev pub making : Job → (time app slot : ℕ) → PlainPorts → PlainPorts
 making j time app slot p = with_machine p app slot (sent j time (machine_at p app slot))

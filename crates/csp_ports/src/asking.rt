@@ -12,8 +12,8 @@ ghost use Rattle.csp_ports.specs.Came.{Comes, pictures};
 ghost use Rattle.csp_ports.specs.Counts.{IsCountable};
 ghost use Rattle.csp_ports.specs.Keeps.{Keeps};
 ghost use Rattle.csp_ports.specs.Kept.{IsHoused, IsRoomy};
-ghost use Rattle.csp_ports.specs.PlainPorts.{machine_at, start_of, waiting, with_ports_at};
-ghost use Rattle.csp_ports.specs.Steps.{replaced, stepped};
+ghost use Rattle.csp_ports.specs.PlainPorts.{has_machine, machine_at, start_of, waiting, with_ports_at};
+ghost use Rattle.csp_ports.specs.Steps.{replaced, stepped, where_machine};
 ghost use Rattle.csp_rdp.specs.Holding.{rdp_numbers, rested, unneeded};
 ghost use Rattle.csp_rdp.specs.Jobs.{closing};
 ghost use Rattle.csp_rdp.specs.Machine.{connecting};
@@ -141,7 +141,7 @@ impl Ports {
         requires roomy { IsRoomy 0 self.old trash.old }
         requires low { 1 ≤ origin.options.window }
         requires high { origin.options.window ≤ MAX_WINDOW }
-        ensures comes { Comes self.old self.new trash.old trash.new [] [] (replaced app slot (connecting (start_of origin.seed self.old.ports.made) origin.options origin.node self.old.ports.made now) (record self.old.ports { made = self.old.ports.made + 1 })) }
+        ensures comes { Comes self.old self.new trash.old trash.new [] [] (replaced app slot (Some (connecting (start_of origin.seed self.old.ports.made) origin.options origin.node self.old.ports.made now)) (record self.old.ports { made = self.old.ports.made + 1 })) }
         ensures apps { self.new.ports.conns.apps ≡ self.old.ports.conns.apps }
     {
         keeps_region();
@@ -151,7 +151,7 @@ impl Ports {
         let start = start_of(origin.seed, nth);
         let machine = Rdp::connect(start, origin.options, origin.node, nth, now);
         self.made += 1;
-        self.replace(app, slot, machine, trash);
+        self.replace(app, slot, Some(machine), trash);
     }
 
     /// Ends a slot that an application asks to be closed.
@@ -186,10 +186,13 @@ impl Ports {
     fn close_machine(&mut self, app: u8, slot: u8, now: u64, trash: &mut Pile) -> State
         requires there { IsThere self.old.ports.conns app slot }
         requires roomy { IsRoomy 0 self.old trash.old }
-        ensures comes { Comes self.old self.new trash.old trash.new [] [] (stepped app slot (closing now (machine_at self.old.ports app slot)) self.old.ports) }
+        ensures comes { Comes self.old self.new trash.old trash.new [] [] (where_machine (has_machine self.old.ports app slot) (stepped app slot (closing now (machine_at self.old.ports app slot))) self.old.ports) }
         ensures state { result ≡ (closing now (machine_at self.old.ports app slot)).state }
     {
-        close(&mut self.machines[place(app, slot)], now, trash)
+        let Some(machine) = &mut self.slots[place(app, slot)].machine else {
+            return State::Closed;
+        };
+        close(machine, now, trash)
     }
 
     /// The answer to a close is owed at once, or still to come, by the state of the slot's machine after it.

@@ -5,24 +5,27 @@ ghost use Rattle.std.specs.Prelude.{◌≡◌, ◌-◌, ◌+◌, ◌^◌, ◌<�
 ghost use Rattle.std.specs.Option.{option_to_list};
 ghost use Rattle.csp_conn.specs.Opening.{first_free};
 ghost use Rattle.csp_conn.specs.PlainConns.{IsThere};
+ghost use Rattle.csp_log.specs.declared.event.Discard.TheVariants as discard;
 ghost use Rattle.csp_log.specs.declared.event.Event.TheVariants as event;
 ghost use Rattle.csp_log.specs.declared.event.TheConstants.{MAX_EVENTS};
 ghost use Rattle.csp_deck.specs.Keeping.{with_contents};
 ghost use Rattle.csp_deck.specs.Regions.{nowhere};
 ghost use Rattle.csp_rdp.specs.Placed.{placed};
 ghost use Rattle.csp_ports.specs.Came.{Comes, pictures};
-ghost use Rattle.csp_ports.specs.Counts.{IsCountable};
+ghost use Rattle.csp_ports.specs.Counts.{AreFar, IsCountable};
+ghost use Rattle.csp_ports.specs.Held.{held};
 ghost use Rattle.csp_ports.specs.Keeps.{Keeps};
 ghost use Rattle.csp_ports.specs.Kept.{IsHoused, IsRoomy, wished, wishes};
 ghost use Rattle.csp_ports.specs.declared.ports.TheConstants.{ANSWERS};
 ghost use Rattle.csp_rdp.specs.Changes.{change_between};
 ghost use Rattle.csp_rdp.specs.Holding.{rdp_numbers, rested, unneeded};
+ghost use Rattle.csp_rdp.specs.Machine.{idle};
 ghost use Rattle.csp_rdp.specs.Regions.{IsIn};
 ghost use Rattle.csp_rdp.specs.Table.{back_of, after_packet, is_stray, row_of};
 ghost use Rattle.csp_rdp.specs.declared.answers.Cause.TheVariants as machine_why;
 ghost use Rattle.csp_ports.specs.Packets.{accepted, admitting_by, handing, handing_event, invited, stray_events, submitting};
-ghost use Rattle.csp_ports.specs.PlainPorts.{anywhere, begun, machine_at, start_of, stalled_at, terms_at, waiting, with_ports_at};
-ghost use Rattle.csp_ports.specs.Steps.{has_room, stepped};
+ghost use Rattle.csp_ports.specs.PlainPorts.{anywhere, begun, has_machine, machine_at, start_of, stalled_at, terms_at, terms_of, waiting, with_ports_at};
+ghost use Rattle.csp_ports.specs.Steps.{has_room, stepped, where_machine};
 
 use crate::origin::Origin;
 use crate::ports::Ports;
@@ -107,7 +110,7 @@ impl Ports {
         let start = start_of(origin.seed, nth);
         let machine = Rdp::accept(start, options, head, tag, origin.node, nth, now);
         self.made += 1;
-        self.replace(app, slot, machine, trash);
+        self.replace(app, slot, Some(machine), trash);
         Some(slot)
     }
 
@@ -155,7 +158,7 @@ impl Ports {
         requires roomy { IsRoomy 1 self.old trash.old }
         requires countable { IsCountable self.old.ports }
         requires report { report.old.items ≡ [] }
-        ensures comes { Comes self.old self.new (with_contents trash.old (trash.old.contents ++ pictures (option_to_list (back_of (row_of (machine_at self.old.ports app slot) head packet.picture.payload) (anywhere packet.picture))))) trash.new [] [] (stepped app slot (after_packet head packet.picture.trace.tag (anywhere packet.picture) now (machine_at self.old.ports app slot)) self.old.ports) }
+        ensures comes { Comes self.old self.new (with_contents trash.old (trash.old.contents ++ pictures (option_to_list (back_of (row_of (machine_at self.old.ports app slot) head packet.picture.payload) (anywhere packet.picture))))) trash.new [] [] (where_machine (has_machine self.old.ports app slot) (stepped app slot (after_packet head packet.picture.trace.tag (anywhere packet.picture) now (machine_at self.old.ports app slot))) self.old.ports) }
         ensures report { report.new.items ≡ handing_event (machine_at self.old.ports app slot) packet.picture.trace.tag ∷ stray_events (back_of (row_of (machine_at self.old.ports app slot) head packet.picture.payload) (anywhere packet.picture)) (is_stray (row_of (machine_at self.old.ports app slot) head packet.picture.payload)) }
         ensures few { length report.new.items ≤ 2 }
         ensures change { result ≡ change_between (machine_at self.old.ports app slot).state (after_packet head packet.picture.trace.tag (anywhere packet.picture) now (machine_at self.old.ports app slot)).state machine_why.Reset }
@@ -163,14 +166,11 @@ impl Ports {
         ensures countable { IsCountable self.new.ports }
     {
         keeps_count();
-        hand(
-            &mut self.machines[place(app, slot)],
-            head,
-            packet,
-            now,
-            trash,
-            report,
-        )
+        let Some(machine) = &mut self.slots[place(app, slot)].machine else {
+            hand_nobody(packet, trash, report);
+            return Change::None;
+        };
+        hand(machine, head, packet, now, trash, report)
     }
 
     /// A packet of an application goes on the slot's reliable connection, or waits for room there. Where the
@@ -196,7 +196,7 @@ impl Ports {
         ensures keeps { Keeps 1 self.old.ports self.new.ports trash.old.contents trash.new.contents (packet.picture.number ∷ []) }
     {
         self.whole();
-        match self.machine(app, slot).state() {
+        match self.state(app, slot) {
             State::Open => self.send(app, slot, packet, now, report),
             State::SynSent | State::SynRcvd | State::CloseWait | State::Closed => {
                 report.push(Event::Discarded(Discard::NoConn));
@@ -226,8 +226,10 @@ impl Ports {
     /// A connection begins on a slot whose application waits for nothing there.
     pub(crate) fn begin(&mut self, app: u8, slot: u8, prio: Prio, flags: u8, wish: Wish)
         requires there { IsThere self.old.ports.conns app slot }
-        requires due { (waiting app self.old.ports.owed + wishes app self.old.ports.terms) + wished wish ≤ ANSWERS + wished (terms_at self.old.ports app slot).wish }
-        ensures { self.new ≡ with_ports_at self.old (begun self.old.ports app slot prio flags wish) }
+        requires due { (waiting app self.old.ports.owed + wishes app (terms_of self.old.ports)) + wished wish ≤ ANSWERS + wished (terms_at self.old.ports app slot).wish }
+        ensures ports { self.new ≡ with_ports_at self.old (begun self.old.ports app slot prio flags wish) }
+        ensures held { held self.new.ports ≡ held self.old.ports }
+        ensures far { (n : ℕ) → AreFar n self.old.ports → AreFar n self.new.ports }
     {
         let mut terms = self.terms(app, slot);
         terms.prio = prio;
@@ -285,6 +287,25 @@ fn hand(
     hand_back(back, stray, trash, report);
     let_go(machine, trash);
     change
+}
+
+/// A packet comes to a slot without a machine, which has no use for it.
+fn hand_nobody(packet: Buffer, trash: &mut Pile, report: &mut Events)
+    requires of_it { packet.region ≡ trash.old.region }
+    requires room { length trash.old.contents < trash.old.room }
+    requires report { report.old.items ≡ [] }
+    ensures trash { trash.new ≡ with_contents trash.old (trash.old.contents ++ packet.picture ∷ []) }
+    ensures report { report.new.items ≡ handing_event idle packet.picture.trace.tag ∷ event.Discarded discard.Stray ∷ [] }
+{
+    let tag = packet.trace().tag;
+    report.push(Event::Handed {
+        nth: 0,
+        peer: None,
+        tag,
+        cur: 0,
+        una: 0,
+    });
+    hand_back(Some(packet), true, trash, report);
 }
 
 /// A packet that a machine hands back joins the trash; where the machine had no use for it, it is discarded.

@@ -4,19 +4,18 @@ ghost use Rattle.std.specs.Prelude.{◌≡◌, ◌<◌, ◌≤◌, length, map, 
 ghost use Rattle.std.specs.List.{flat_map};
 ghost use Rattle.csp_deck.specs.Keeping.{numbers_of};
 ghost use Rattle.csp_deck.specs.Step.{times};
-ghost use Rattle.csp_ports.specs.Held.{emptied, held, stalled_buffers, without_held};
+ghost use Rattle.csp_ports.specs.Held.{emptied, held, slot_buffers, stalled_buffers, without_held};
 ghost use Rattle.csp_ports.specs.Keeps.{Keeps};
 ghost use Rattle.csp_ports.specs.Kept.{stalled_of};
 ghost use Rattle.csp_ports.specs.PlainPorts.{with_ports_at};
-ghost use Rattle.csp_rdp.specs.Holding.{rdp_buffers};
 ghost use Rattle.csp_rdp_window.specs.Places.{held_in, without_held as without_first};
 ghost use Rattle.std.specs.Option.{option_map};
 
 use crate::ports::Ports;
 use crate::stalled::Stalled;
+use crate::terms::SlotState;
 use csp_base::{ALL_SLOTS, MAX_APPS};
 use csp_buffer::Buffer;
-use csp_rdp::Rdp;
 use csp_rdp_window::{RECEIVE_PLACES, SEND_PLACES};
 
 /// The most buffers that they hold: those of all machines, and a packet that waits of each application.
@@ -30,7 +29,7 @@ impl Ports {
         ensures { IsTrue result ↔ (0 < times number (numbers_of (held self.now.ports))) }
     {
         is_stalled(&self.stalled, number)
-            || self.machines.iter().any(|machine| machine.holds(number))
+            || self.slots.iter().any(|slot| slot.holds(number))
     }
 
     /// They hold `MAX_HELD` buffers at most.
@@ -38,7 +37,7 @@ impl Ports {
         ensures { length (held self.now.ports) ≤ MAX_HELD }
     {
         // Read for the checker alone, which then knows what is true of all ports.
-        let _machines = &self.machines;
+        let _slots = &self.slots;
     }
 
     /// Takes out a buffer that they hold, as at the end of a run: the packets that wait before those of the
@@ -52,7 +51,7 @@ impl Ports {
     {
         match take_stalled(&mut self.stalled) {
             Some(buffer) => Some(buffer),
-            None => take_held(&mut self.machines),
+            None => take_held(&mut self.slots),
         }
     }
 
@@ -64,8 +63,7 @@ impl Ports {
             token: _,
             apps: _,
             conns: _,
-            terms: _,
-            machines,
+            slots,
             stalled,
             sockets: _,
             owed: _,
@@ -73,7 +71,7 @@ impl Ports {
             made: _,
         } = self;
         end_all_stalled(stalled);
-        end_machines(machines);
+        end_slots(slots);
     }
 }
 
@@ -103,12 +101,12 @@ fn take_stalled(stalled: &mut [Option<Stalled>]) -> Option<Buffer>
     None
 }
 
-/// Takes out the first buffer that a machine holds.
-fn take_held(machines: &mut [Rdp]) -> Option<Buffer>
-    ensures buffers { MatchOption result ((flat_map rdp_buffers machines.old ≡ []) × (machines.new ≡ machines.old)) (λ b. (flat_map rdp_buffers machines.old ≡ b ∷ flat_map rdp_buffers machines.new) × (machines.new ≡ without_held machines.old)) }
+/// Takes out the first buffer that a slot's machine holds.
+fn take_held(slots: &mut [SlotState]) -> Option<Buffer>
+    ensures buffers { MatchOption result ((flat_map slot_buffers slots.old ≡ []) × (slots.new ≡ slots.old)) (λ b. (flat_map slot_buffers slots.old ≡ b ∷ flat_map slot_buffers slots.new) × (slots.new ≡ without_held slots.old)) }
 {
-    for machine in machines.iter_mut() {
-        if let Some(buffer) = machine.take_out() {
+    for slot in slots.iter_mut() {
+        if let Some(buffer) = slot.take_out() {
             return Some(buffer);
         }
     }
@@ -135,13 +133,13 @@ fn end_stalled(stalled: Option<Stalled>)
     }
 }
 
-/// Spends machines that hold no buffer.
-fn end_machines(machines: Vec<Rdp>)
-    requires { flat_map rdp_buffers machines.items ≡ [] }
+/// Ends slots whose machines hold no buffer.
+fn end_slots(slots: Vec<SlotState>)
+    requires { flat_map slot_buffers slots.items ≡ [] }
 {
-    let mut machines = machines;
-    while let Some(machine) = machines.pop() {
-        machine.end();
+    let mut slots = slots;
+    while let Some(slot) = slots.pop() {
+        slot.end();
     }
-    machines.destroy_empty();
+    slots.destroy_empty();
 }

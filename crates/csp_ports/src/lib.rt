@@ -25,4 +25,4 @@ pub use owed::Owed;
 pub use ports::Ports;
 pub use request::Request;
 pub use task::Task;
-pub use terms::{Terms, Wish};
+pub use terms::{SlotState, Terms, Wish};

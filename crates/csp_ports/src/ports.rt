@@ -8,22 +8,23 @@ ghost use Rattle.csp_conn.specs.Opening.{found};
 ghost use Rattle.csp_conn.specs.PlainConns.{IsThere, slot_at};
 ghost use Rattle.csp_conn.specs.Slots.{between};
 ghost use Rattle.csp_deck.specs.Carried.{IsReply};
+ghost use Rattle.csp_ports.specs.Counts.{AreFar};
+ghost use Rattle.csp_ports.specs.Held.{held};
 ghost use Rattle.csp_ports.specs.Keeps.{AreWhole};
 ghost use Rattle.csp_ports.specs.Kept.{IsOwed, wished, wishes};
-ghost use Rattle.csp_ports.specs.PlainPorts.{owing, ports_of, machine_at, stalled_at, terms_at, waiting, with_ports_at, with_terms};
+ghost use Rattle.csp_ports.specs.PlainPorts.{machine_at, owing, ports_of, stalled_at, state_at, terms_at, terms_of, untouched, waiting, with_ports_at, with_terms};
 ghost use Rattle.csp_deck.specs.Regions.{nowhere};
-ghost use Rattle.csp_rdp.specs.Machine.{idle};
 ghost use Rattle.csp_rdp.specs.Placed.{placed};
 ghost use Rattle.csp_socket.specs.Bound.{owner_of};
 
 use crate::owed::Owed;
 use crate::stalled::Stalled;
-use crate::terms::Terms;
+use crate::terms::{SlotState, Terms};
 use csp_arena::RegionToken;
 use csp_base::{ALL_SLOTS, Addr, MAX_APPS, Port, SLOTS};
 use csp_conn::{Conns, Slot, place};
 use csp_deck::Note;
-use csp_rdp::Rdp;
+use csp_rdp::{Rdp, State};
 use csp_socket::Sockets;
 use std::alloc::{AllocError, Global};
 use std::collections::VecDeque;
@@ -47,8 +48,7 @@ pub struct Ports {
     pub(crate) token: RegionToken,
     pub(crate) apps: u8,
     pub(crate) conns: Conns,
-    pub(crate) terms: [Terms; ALL_SLOTS],
-    pub(crate) machines: Vec<Rdp>,
+    pub(crate) slots: Vec<SlotState>,
     pub(crate) stalled: [Option<Stalled>; MAX_APPS],
     pub(crate) sockets: Sockets,
     pub(crate) owed: VecDeque<Owed>,
@@ -73,19 +73,18 @@ impl Ports {
     /// they will hold are to be of this region.
     ///
     /// # Errors
-    /// Want of memory for the answers and the machines.
+    /// Want of memory for the answers and the slots.
     pub fn open(alloc: Global, apps: u8, region: RegionToken) -> Result<Ports, AllocError>
         requires { apps ≤ MAX_APPS }
         ensures { IfOk result (λ p. p ≡ record { region = region.name; ports = ports_of apps }) }
     {
         let owed = open_owed(alloc)?;
-        let machines = idle_machines(alloc)?;
+        let slots = open_slots(alloc)?;
         Ok(Ports {
             token: region,
             apps,
             conns: Conns::new(apps),
-            terms: [Terms::fresh(); ALL_SLOTS],
-            machines,
+            slots,
             stalled: [None, None, None, None],
             sockets: Sockets::new(),
             owed,
@@ -108,18 +107,28 @@ impl Ports {
         ensures value { result ≡ terms_at self.now.ports app slot }
 
         // With those still to come an application has no more answers than it may have.
-        ensures due { (a : ℕ) → waiting a self.now.ports.owed + wishes a self.now.ports.terms ≤ ANSWERS }
+        ensures due { (a : ℕ) → waiting a self.now.ports.owed + wishes a (terms_of self.now.ports) ≤ ANSWERS }
     {
-        let terms = &self.terms;
-        terms[place(app, slot)]
+        self.slots[place(app, slot)].terms
     }
 
-    /// The machine of a slot's reliable connection; an idle one where the slot has none.
-    pub fn machine(&self, app: u8, slot: u8) -> &Rdp
+    /// The machine of a slot's reliable connection, where the slot has one.
+    pub fn machine(&self, app: u8, slot: u8) -> Option<&Rdp>
         requires { IsThere self.now.ports.conns app slot }
-        ensures { placed nowhere result.now ≡ machine_at self.now.ports app slot }
+        ensures { option_map (λ r. placed nowhere r.now) result ≡ (state_at self.now.ports app slot).machine }
     {
-        &self.machines[place(app, slot)]
+        self.slots[place(app, slot)].machine.as_ref()
+    }
+
+    /// The state of a slot's reliable connection: without one it is closed.
+    pub(crate) fn state(&self, app: u8, slot: u8) -> State
+        requires { IsThere self.now.ports.conns app slot }
+        ensures { result ≡ (machine_at self.now.ports app slot).state }
+    {
+        match self.machine(app, slot) {
+            Some(machine) => machine.state(),
+            None => State::Closed,
+        }
     }
 
     /// The application and the slot that have this connection.
@@ -161,19 +170,19 @@ impl Ports {
         self.owed.front().copied()
     }
 
-    /// Each slot has its machine, which is whole, and each application a place for a packet that waits.
+    /// Each machine of a slot is whole, and each application has a place for a packet that waits.
     pub(crate) fn whole(&self)
         ensures { AreWhole self.now.ports }
     {
         // Read for the checker alone, which then knows what is true of all ports.
-        let _machines = &self.machines;
+        let _slots = &self.slots;
     }
 
     /// An answer is owed to an application, which has fewer than it may have.
     pub(crate) fn owe(&mut self, app: u8, note: Note)
         requires app { app < self.old.ports.conns.apps }
         requires reply { IsReply note }
-        requires room { waiting app self.old.ports.owed + wishes app self.old.ports.terms < ANSWERS }
+        requires room { waiting app self.old.ports.owed + wishes app (terms_of self.old.ports) < ANSWERS }
         ensures { self.new ≡ with_ports_at self.old (owing self.old.ports app note) }
     {
         self.owed.push_back_reserved(Owed { app, note });
@@ -182,12 +191,13 @@ impl Ports {
     /// Other terms for a slot, with no more answers still to come.
     pub(crate) fn set_terms(&mut self, app: u8, slot: u8, terms: Terms)
         requires there { IsThere self.old.ports.conns app slot }
-        requires due { (waiting app self.old.ports.owed + wishes app self.old.ports.terms) + wished terms.wish ≤ ANSWERS + wished (terms_at self.old.ports app slot).wish }
+        requires due { (waiting app self.old.ports.owed + wishes app (terms_of self.old.ports)) + wished terms.wish ≤ ANSWERS + wished (terms_at self.old.ports app slot).wish }
         ensures ports { self.new ≡ with_ports_at self.old (with_terms self.old.ports app slot terms) }
-        ensures wishes { wishes app self.new.ports.terms + wished (terms_at self.old.ports app slot).wish ≡ wishes app self.old.ports.terms + wished terms.wish }
+        ensures wishes { wishes app (terms_of self.new.ports) + wished (terms_at self.old.ports app slot).wish ≡ wishes app (terms_of self.old.ports) + wished terms.wish }
+        ensures held { held self.new.ports ≡ held self.old.ports }
+        ensures far { (n : ℕ) → AreFar n self.old.ports → terms.ordinal ≤ n → AreFar n self.new.ports }
     {
-        let all = &mut self.terms;
-        all[place(app, slot)] = terms;
+        self.slots[place(app, slot)].terms = terms;
     }
 }
 
@@ -199,14 +209,17 @@ fn open_owed(alloc: Global) -> Result<VecDeque<Owed>, AllocError>
     VecDeque::with_capacity(alloc, MAX_OWED)
 }
 
-/// A machine that is idle for each slot, and no room for more.
-fn idle_machines(alloc: Global) -> Result<Vec<Rdp>, AllocError>
-    ensures machines { IfOk result (λ machines. machines.items ≡ replicate ALL_SLOTS idle) }
-    ensures room { IfOk result (λ machines. vec_capacity machines ≡ ALL_SLOTS) }
+/// All slots before their first connection, and no room for more.
+fn open_slots(alloc: Global) -> Result<Vec<SlotState>, AllocError>
+    ensures slots { IfOk result (λ slots. slots.items ≡ replicate ALL_SLOTS untouched) }
+    ensures room { IfOk result (λ slots. vec_capacity slots ≡ ALL_SLOTS) }
 {
-    let mut machines = Vec::with_capacity(alloc, ALL_SLOTS)?;
+    let mut slots = Vec::with_capacity(alloc, ALL_SLOTS)?;
     for _ in 0..ALL_SLOTS {
-        machines.push_reserved(Rdp::idle());
+        slots.push_reserved(SlotState {
+            terms: Terms::fresh(),
+            machine: None,
+        });
     }
-    Ok(machines)
+    Ok(slots)
 }

@@ -13,7 +13,7 @@ ghost use Rattle.csp_ports.specs.Came.{Comes, discarding, pictures};
 ghost use Rattle.csp_ports.specs.Held.{held, stalled_buffers};
 ghost use Rattle.csp_ports.specs.Keeps.{Keeps};
 ghost use Rattle.csp_ports.specs.Kept.{Admits, AdmitsIn, IsHoused, IsRoomy, IsWaiting, stalled_of, wished, wishes};
-ghost use Rattle.csp_ports.specs.PlainPorts.{anywhere, machine_at, stalled_at, terms_at, with_stalled, with_ports_at};
+ghost use Rattle.csp_ports.specs.PlainPorts.{anywhere, machine_at, stalled_at, terms_at, terms_of, with_stalled, with_ports_at};
 ghost use Rattle.csp_ports.specs.Steps.{changed, closed, connected, dropped, dropped_of, given_up, has_room, reason_of, refused, replaced, settled, timed, timed_at, timed_in, vacated};
 ghost use Rattle.csp_ports.specs.Counts.{IsCountable};
 ghost use Rattle.csp_rdp.specs.Balance.{IsWhole};
@@ -197,7 +197,10 @@ impl Ports {
         ensures roomy { IsRoomy 0 self.new trash.new }
         ensures apps { self.new.ports.conns.apps ≡ self.old.ports.conns.apps }
     {
-        let change = tick(&mut self.machines[place(app, slot)], now, trash);
+        let Some(machine) = &mut self.slots[place(app, slot)].machine else {
+            return;
+        };
+        let change = tick(machine, now, trash);
         self.change(change, app, slot, trash, report);
     }
 
@@ -242,12 +245,15 @@ impl Ports {
         requires report { length report.old.items < MAX_EVENTS }
         ensures { report.new.items ≡ report.old.items ++ (event.Opened app slot (Some (machine_at self.now.ports app slot).nth) (machine_at self.now.ports app slot).peer) ∷ [] }
     {
-        let machine = self.machine(app, slot);
+        let (nth, peer) = match self.machine(app, slot) {
+            Some(machine) => (machine.nth(), machine.peer()),
+            None => (0, None),
+        };
         report.push(Event::Opened {
             app,
             slot,
-            nth: Some(machine.nth()),
-            peer: machine.peer(),
+            nth: Some(nth),
+            peer,
         });
     }
 
@@ -256,6 +262,7 @@ impl Ports {
     fn answer_connect(&mut self, app: u8, slot: u8)
         requires there { IsThere self.old.ports.conns app slot }
         ensures ports { self.new ≡ with_ports_at self.old (connected app slot self.old.ports) }
+        ensures held { held self.new.ports ≡ held self.old.ports }
     {
         let mut terms = self.terms(app, slot);
         if terms.wish == Wish::Connection {
@@ -305,11 +312,22 @@ impl Ports {
                 self.owe(app, Note::Closed { slot });
             }
             Wish::Nothing => {
-                if !self.machine(app, slot).was_open() {
+                if !self.was_open(app, slot) {
                     self.give_up(app, slot, trash);
                 }
             }
             Wish::Connection | Wish::Ended => {}
+        }
+    }
+
+    /// Whether a slot's reliable connection was ever open.
+    fn was_open(&self, app: u8, slot: u8) -> bool
+        requires there { IsThere self.now.ports.conns app slot }
+        ensures { result ≡ (machine_at self.now.ports app slot).was_open }
+    {
+        match self.machine(app, slot) {
+            Some(machine) => machine.was_open(),
+            None => false,
         }
     }
 
@@ -318,7 +336,7 @@ impl Ports {
         requires there { IsThere self.old.ports.conns app slot }
         requires roomy { IsRoomy 0 self.old trash.old }
         ensures comes { Comes self.old self.new trash.old trash.new [] [] (given_up app slot self.old.ports) }
-        ensures wishes { wishes app self.new.ports.terms + wished (terms_at self.old.ports app slot).wish ≡ wishes app self.old.ports.terms }
+        ensures wishes { wishes app (terms_of self.new.ports) + wished (terms_at self.old.ports app slot).wish ≡ wishes app (terms_of self.old.ports) }
         ensures roomy { IsRoomy 0 self.new trash.new }
         ensures apps { self.new.ports.conns.apps ≡ self.old.ports.conns.apps }
     {
@@ -331,7 +349,7 @@ impl Ports {
         requires there { IsThere self.old.ports.conns app slot }
         requires roomy { IsRoomy 0 self.old trash.old }
         ensures comes { Comes self.old self.new trash.old trash.new [] [] (vacated ordinal app slot self.old.ports) }
-        ensures wishes { wishes app self.new.ports.terms + wished (terms_at self.old.ports app slot).wish ≡ wishes app self.old.ports.terms }
+        ensures wishes { wishes app (terms_of self.new.ports) + wished (terms_at self.old.ports app slot).wish ≡ wishes app (terms_of self.old.ports) }
         ensures roomy { IsRoomy 0 self.new trash.new }
         ensures apps { self.new.ports.conns.apps ≡ self.old.ports.conns.apps }
     {
@@ -341,20 +359,23 @@ impl Ports {
         terms.is_down = false;
         terms.ordinal = ordinal;
         self.set_terms(app, slot, terms);
-        self.replace(app, slot, Rdp::idle(), trash);
+        self.replace(app, slot, None, trash);
     }
 
-    /// Another machine takes the place of a slot's; what that one still held joins the trash.
-    pub(crate) fn replace(&mut self, app: u8, slot: u8, machine: Rdp, trash: &mut Pile)
+    /// Another machine takes the place of a slot's, or none; what that one still held joins the trash.
+    pub(crate) fn replace(&mut self, app: u8, slot: u8, machine: Option<Rdp>, trash: &mut Pile)
         requires there { IsThere self.old.ports.conns app slot }
-        requires housed { IsHoused self.old.region machine }
-        requires empty { rdp_numbers machine ≡ [] }
+        requires housed { IfSome machine (IsHoused self.old.region) }
+        requires empty { IfSome machine (λ r. rdp_numbers r ≡ []) }
         requires roomy { IsRoomy 0 self.old trash.old }
-        ensures comes { Comes self.old self.new trash.old trash.new [] [] (replaced app slot (placed nowhere machine) self.old.ports) }
+        ensures comes { Comes self.old self.new trash.old trash.new [] [] (replaced app slot (option_map (placed nowhere) machine) self.old.ports) }
         ensures roomy { IsRoomy 0 self.new trash.new }
         ensures apps { self.new.ports.conns.apps ≡ self.old.ports.conns.apps }
     {
-        let old = std::mem::replace(&mut self.machines[place(app, slot)], machine);
+        let old = std::mem::replace(&mut self.slots[place(app, slot)].machine, machine);
+        let Some(old) = old else {
+            return;
+        };
         spend(old, trash);
     }
 
@@ -369,7 +390,7 @@ impl Ports {
         ensures apps { self.new.ports.conns.apps ≡ self.old.ports.conns.apps }
     {
         match self.stalled_slot(app) {
-            Some(slot) if self.machine(app, slot).state() != State::Open => {
+            Some(slot) if self.state(app, slot) != State::Open => {
                 self.discard_stalled(app, trash, report);
             }
             _ => {}
@@ -443,7 +464,10 @@ impl Ports {
         requires countable { IsFar (2 ^ 32 - 2) (machine_at self.old.ports app slot) }
         ensures { AdmitsIn (has_room (machine_at self.old.ports app slot)) result self.old self.new app slot buffer now }
     {
-        admit(&mut self.machines[place(app, slot)], buffer, now)
+        let Some(machine) = &mut self.slots[place(app, slot)].machine else {
+            return Err(buffer);
+        };
+        admit(machine, buffer, now)
     }
 
     /// A packet of an application waits for room in a slot's window, where none waits.

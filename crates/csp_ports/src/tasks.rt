@@ -12,7 +12,7 @@ ghost use Rattle.csp_ports.specs.Came.{Comes, pictures};
 ghost use Rattle.csp_ports.specs.Counts.{IsCountable};
 ghost use Rattle.csp_ports.specs.Keeps.{IsOwedBy, Keeps};
 ghost use Rattle.csp_ports.specs.Kept.{IsHoused, IsRoomy};
-ghost use Rattle.csp_ports.specs.PlainPorts.{anywhere, machine_at, terms_at, with_ports_at};
+ghost use Rattle.csp_ports.specs.PlainPorts.{anywhere, machine_at, state_at, terms_at, with_ports_at};
 ghost use Rattle.csp_ports.specs.Tasks.{delivered, has_task, kept_again, made_in, making, next_task, place_with_task, task_at, task_of, told_down, turned, without_packet};
 ghost use Rattle.csp_rdp.specs.Counts.{IsFar};
 ghost use Rattle.csp_rdp.specs.Changes.{change_between};
@@ -47,10 +47,11 @@ impl Ports {
         ensures { result ≡ task_at now self.now.ports app slot }
     {
         sees_no_region();
-        task_by(
-            self.terms(app, slot).is_down,
-            self.machine(app, slot).job(now),
-        )
+        let job = match self.machine(app, slot) {
+            Some(machine) => machine.job(now),
+            None => None,
+        };
+        task_by(self.terms(app, slot).is_down, job)
     }
 
     /// That of the slot at a place.
@@ -117,7 +118,11 @@ impl Ports {
         ensures { result ≡ has_task now self.now.ports at }
     {
         sees_no_region();
-        self.is_down_at(at) || self.machine_of(at).owes(now)
+        self.is_down_at(at)
+            || match self.machine_of(at) {
+                Some(machine) => machine.owes(now),
+                None => false,
+            }
     }
 
     /// Whether a Down note is owed of the slot at a place.
@@ -125,16 +130,15 @@ impl Ports {
         requires inside { at < self.now.ports.conns.apps * SLOTS }
         ensures { result ≡ (terms_at self.now.ports (at / SLOTS) (at % SLOTS)).is_down }
     {
-        let terms = &self.terms;
-        terms[at].is_down
+        self.slots[at].terms.is_down
     }
 
-    /// The machine of the slot at a place.
-    fn machine_of(&self, at: usize) -> &Rdp
+    /// The machine of the slot at a place, where the slot has one.
+    fn machine_of(&self, at: usize) -> Option<&Rdp>
         requires inside { at < self.now.ports.conns.apps * SLOTS }
-        ensures { placed nowhere result.now ≡ machine_at self.now.ports (at / SLOTS) (at % SLOTS) }
+        ensures { option_map (λ r. placed nowhere r.now) result ≡ (state_at self.now.ports (at / SLOTS) (at % SLOTS)).machine }
     {
-        &self.machines[at]
+        self.slots[at].machine.as_ref()
     }
 
     /// A slot comes to its task: the next look begins past it.
@@ -177,7 +181,10 @@ impl Ports {
         keeps_whole();
         keeps_rest();
         conserves();
-        match self.machines[place(app, slot)].deliver() {
+        let Some(machine) = &mut self.slots[place(app, slot)].machine else {
+            unreachable!();
+        };
+        match machine.deliver() {
             Some(packet) => packet,
             None => unreachable!(),
         }
@@ -196,7 +203,10 @@ impl Ports {
         ensures keeps { Keeps 1 self.old.ports self.new.ports trash.old.contents trash.new.contents [] }
     {
         sees_no_region();
-        let change = deliver(&mut self.machines[place(app, slot)], now, trash);
+        let Some(machine) = &mut self.slots[place(app, slot)].machine else {
+            unreachable!();
+        };
+        let change = deliver(machine, now, trash);
         self.change(change, app, slot, trash, report);
         self.drop_stalled(app, trash, report);
     }
@@ -215,7 +225,9 @@ impl Ports {
         keeps_region();
         keeps_whole();
         keeps_rest();
-        let machine = &mut self.machines[place(app, slot)];
+        let Some(machine) = &mut self.slots[place(app, slot)].machine else {
+            unreachable!();
+        };
         machine.put_back(packet);
         // That it holds no more than its windows have places is a clause of this reading.
         let _state = machine.state();
@@ -240,7 +252,10 @@ impl Ports {
         keeps_region();
         keeps_whole();
         keeps_rest();
-        self.machines[place(app, slot)].fill(job, packet, now);
+        let Some(machine) = &mut self.slots[place(app, slot)].machine else {
+            unreachable!();
+        };
+        machine.fill(job, packet, now);
     }
 }
 

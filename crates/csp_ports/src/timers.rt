@@ -3,6 +3,7 @@
 ghost use Rattle.std.specs.Prelude.{◌≡◌, [], ◌*◌, ◌<◌, IsTrue};
 ghost use Rattle.std.specs.List.{All};
 ghost use Rattle.csp_ports.specs.Came.{come};
+ghost use Rattle.csp_ports.specs.PlainPorts.{machines_of};
 ghost use Rattle.csp_ports.specs.Quiet.{any_stranded, any_times_out, is_quiet, is_stranded, times_out_at};
 ghost use Rattle.csp_ports.specs.Steps.{timed};
 ghost use Rattle.csp_rdp.specs.Holding.{unneeded};
@@ -24,10 +25,10 @@ impl Ports {
 
     /// Each machine holds what it needs alone.
     fn rest(&self)
-        ensures { All (λ r. unneeded r ≡ []) self.now.ports.machines }
+        ensures { All (λ r. unneeded r ≡ []) (machines_of self.now.ports) }
     {
         // Read for the checker alone, which then knows what is true of all ports.
-        let _machines = &self.machines;
+        let _slots = &self.slots;
     }
 
     /// Whether a timer would change its connection.
@@ -47,7 +48,10 @@ impl Ports {
         requires { at < ALL_SLOTS }
         ensures { result ≡ times_out_at now self.now.ports at }
     {
-        self.machines[at].times_out(now)
+        match &self.slots[at].machine {
+            Some(machine) => machine.times_out(now),
+            None => false,
+        }
     }
 
     /// Whether a packet waits for a connection that is not open.
@@ -68,7 +72,7 @@ impl Ports {
         ensures { result ≡ is_stranded self.now.ports app }
     {
         match self.stalled_slot(app) {
-            Some(slot) => self.machine(app, slot).state() != State::Open,
+            Some(slot) => self.state(app, slot) != State::Open,
             None => false,
         }
     }

@@ -50,7 +50,7 @@ module _ {Is : Numbering → ℕ → ℕ → Now → Type 0} {m : Numbering} {or
   owed_all = subst (AllByRecursion (IsOwed p.conns.apps)) e g.owed
 
   left_shape : IsShaped m.made left
-  left_shape = reshaped p.conns.slots p.conns.last p.terms p.machines rest refl refl refl owed_all.1 (fine_of g).shape
+  left_shape = reshaped p.conns.slots p.conns.last p.slots rest refl refl owed_all.1 (fine_of g).shape
 
   count_left : (a s : ℕ) (b : Bool) → is_end_of a s (record { app = app; note = answer }) ≡ b → count_by (is_end_of a s) p.owed ≡ cond b 1 0 + count_by (is_end_of a s) rest
   count_left a s b f = ap (count_by (is_end_of a s)) e ∙ count_first (is_end_of a s) (record { app = app; note = answer }) rest b f

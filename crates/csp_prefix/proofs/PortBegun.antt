@@ -117,7 +117,7 @@ module _ {o : Origin} {C : Coming} {Is : Numbering → ℕ → ℕ → Now → T
   -- one with this machine begins on a free slot
   begins : (q : PlainPorts) (c : Connection) (prio : Prio) (flags : ℕ) (what : Wish) (r : PlainRdp) → AreFineBut Is All m ordinals books q app slot (taken c prio flags what (view p books app slot)) → q.conns.apps ≡ p.conns.apps
       → slot_at p.conns app slot ≡ has.Free → is_reliable flags ≡ true → ends_due what ≡ 0 → (what ≡ wish.Ended → ⊥)
-      → Is (numbered app slot (terms_at p app slot).ordinal m) app slot (new_connection c flags r (terms_at p app slot).ordinal) → ComesWith Is m ordinals books p.conns.apps (replaced app slot r (record q { made = q.made + 1 }))
+      → Is (numbered app slot (terms_at p app slot).ordinal m) app slot (new_connection c flags r (terms_at p app slot).ordinal) → ComesWith Is m ordinals books p.conns.apps (replaced app slot (Some r) (record q { made = q.made + 1 }))
   begins q c prio flags what r h same free reliable none other is =
       let x = view p books app slot in
       let y : View = record (taken c prio flags what x) { machine = r } in

@@ -19,7 +19,7 @@ use Rattle.csp_rdp.specs.declared.answers.State.{State}
 use Rattle.csp_rdp.specs.declared.answers.State.TheVariants.{Closed, CloseWait, Open, SynRcvd, SynSent}
 use Rattle.csp_rdp.specs.declared.answers.Cause.{Cause as MachineWhy}
 use Rattle.csp_prefix.proofs.PortFacts.{Leaves, using}
-use Rattle.csp_prefix.proofs.PortSlots.{AreFine, AreFineBut, IsFine, book_but, ended_but, machine_but, none_some, owing_but, slot_but, terms_but, whole}
+use Rattle.csp_prefix.proofs.PortSlots.{AreFine, AreFineBut, IsFine, book_but, ended_but, machine_but, machine_or_but, none_some, owing_but, slot_but, terms_but, whole}
 use Rattle.csp_prefix.proofs.PortViews.{View, now_of, view}
 use Rattle.csp_prefix.specs.Ports.{Books, Ordinals, ends_due, with_opened}
 use Rattle.csp_prefix.specs.Slots.{Book, Coming, IsKept, Now, Numbering, Opens, after_opening, blank}
@@ -78,7 +78,7 @@ module _ {Is : Numbering → ℕ → ℕ → Now → Type 0} {Tight : ℕ → Ty
   pub vacated_but : (k : ℕ) → AreFineBut Is Tight m ordinals books (vacated k app slot p).ports app slot (vacant k v)
   vacated_but k =
       subst (λ (v : View). AreFineBut Is Tight m ordinals books (vacated k app slot p).ports app slot (vacant k v)) h.seen
-      (machine_but (terms_but (slot_but at_view has.Free p.conns.last) (record (terms_at p app slot) { wish = wish.Nothing; is_down = false; ordinal = k })) idle)
+      (machine_or_but (terms_but (slot_but at_view has.Free p.conns.last) (record (terms_at p app slot) { wish = wish.Nothing; is_down = false; ordinal = k })) None)
 
   pub vacant_fine : (k : ℕ) → k ≡ ordinals app slot → v.waits ≡ None → v.book ≡ blank → v.ends ≡ 0 → IsFine Is Tight m (ordinals app slot) app slot (vacant k v)
   vacant_fine k counted waits book ends = record {

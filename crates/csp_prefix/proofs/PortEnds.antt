@@ -7,11 +7,12 @@ use Rattle.csp_base.specs.declared.limits.TheConstants.{SLOTS}
 use Rattle.csp_conn.specs.declared.slot.Connection.{Connection}
 use Rattle.csp_conn.specs.declared.slot.Slot.{Slot}
 use Rattle.csp_conn.specs.declared.slot.Slot.TheVariants as has
+use Rattle.csp_ports.proofs.Public.{machine_none}
 use Rattle.csp_ports.specs.Asking.{close, close_by, ending_in, held_by}
 use Rattle.csp_ports.specs.Asking.{is_reliable}
 use Rattle.csp_ports.specs.Came.{come, then}
-use Rattle.csp_ports.specs.PlainPorts.{PlainPorts, is_closing, machine_at, stalled_at, terms_at, with_terms}
-use Rattle.csp_ports.specs.Steps.{stepped}
+use Rattle.csp_ports.specs.PlainPorts.{PlainPorts, has_machine, is_closing, machine_at, stalled_at, terms_at, with_terms}
+use Rattle.csp_ports.specs.Steps.{stepped, where_machine}
 use Rattle.csp_ports.specs.declared.origin.Origin.{Origin}
 use Rattle.csp_ports.specs.declared.terms.Terms.{Terms}
 use Rattle.csp_ports.specs.declared.terms.Wish.{Wish}
@@ -98,30 +99,50 @@ module _ {o : Origin} {C : Coming} {Is : Numbering → ℕ → ℕ → Now → T
   none_waits : waiting_on slot (stalled_at p app) ≡ None
   none_waits = ap (waiting_on slot) none
 
+  -- what comes of it on ports where the slot is held
+  abbrev Closes : PlainPorts → Type 0
+  Closes q =
+      let r = closing time (machine_at p app slot) in
+      Leaves Is All m ordinals books p.conns.apps (then (where_machine (has_machine p app slot) (stepped app slot r) q) (λ q. come (ending_in r.state app slot q)))
+
+  -- the machine is closed, where the slot has one
+  close_by_machine : (q : PlainPorts) (v : View) → q.conns.apps ≡ p.conns.apps → AreFineBut Is All m ordinals books q app slot v → v.machine ≡ machine_at p app slot → v.terms.ordinal ≡ ordinals app slot → v.ends ≡ 0 → v.waits ≡ None
+      → ((w : Wish) → IsSlot Is v.what (record v.terms { wish = w }) m app slot (now_of (record v { machine = rested (closing time (machine_at p app slot)) }))) → Closes q
+  close_by_machine q v apps h is counted due nothing holds = go (has_machine p app slot) refl
+    where
+      go : (b : Bool) → has_machine p app slot ≡ b
+          → Leaves Is All m ordinals books p.conns.apps (then (where_machine b (stepped app slot (closing time (machine_at p app slot))) q) (λ q. come (ending_in (closing time (machine_at p app slot)).state app slot q)))
+      go true e =
+          let r = closing time (machine_at p app slot) in
+          record {
+            same = ending_apps r.state app slot (stepped app slot r q).ports ∙ apps;
+            new = tt;
+            fine = ending_fine (machine_but h (rested r)) counted due nothing holds r.state refl;
+          }
+      go false e =
+          let r = closing time (machine_at p app slot) in
+          let f : machine_at p app slot ≡ idle = machine_none p app slot e in
+          record {
+            same = ending_apps r.state app slot q ∙ apps;
+            new = tt;
+            fine =
+                ending_fine h counted due nothing
+                (λ w. subst (λ (s : PlainRdp). IsSlot Is v.what (record v.terms { wish = w }) m app slot (now_of (record v { machine = s }))) (still time (machine_at p app slot) f ∙ sym (is ∙ f)) (holds w))
+                r.state (ap (λ (s : PlainRdp). s.state) (is ∙ f) ∙ sym (ap (λ (s : PlainRdp). (closing time s).state) f));
+          }
+
   -- one that is free, and any other
-  close_free : let x = view p books app slot in x.ends ≡ 0 → x.what ≡ has.Free → Leaves Is All m ordinals books p.conns.apps (then (stepped app slot (closing time x.machine) (held_by true p app slot)) (λ p. come (ending_in (closing time x.machine).state app slot p)))
+  close_free : let x = view p books app slot in x.ends ≡ 0 → x.what ≡ has.Free → Closes (held_by true p app slot)
   close_free due e =
       let x = view p books app slot in
-      let r = closing time x.machine in
       let k : IsVacant (now_of x) × (x.terms.wish ≡ wish.Nothing) = subst (λ (w : Slot). IsSlot Is w x.terms m app slot (now_of x)) e (g.slots app slot here there) in
-      record {
-        same = ending_apps r.state app slot (stepped app slot r (held_by true p app slot)).ports;
-        new = tt;
-        fine = ending_fine (machine_but (slot_but (look app slot here there (fine_of g)) has.Held p.conns.last) (rested r)) (g.counted app slot here there) due none_waits (λ _. let v = vacant_still k.0 in record { machine = v.machine; waits = v.waits; book = v.book }) r.state refl;
-      }
+      close_by_machine (held_by true p app slot) (record x { what = has.Held }) refl (slot_but (look app slot here there (fine_of g)) has.Held p.conns.last) refl (g.counted app slot here there) due none_waits
+      (λ _. let v = vacant_still k.0 in record { machine = v.machine; waits = v.waits; book = v.book })
 
-  close_used : let x = view p books app slot in x.ends ≡ 0 → ((w : Wish) → IsSlot Is x.what (record x.terms { wish = w }) m app slot (now_of (record x { machine = rested (closing time x.machine) })))
-      → Leaves Is All m ordinals books p.conns.apps (then (stepped app slot (closing time x.machine) (held_by false p app slot)) (λ p. come (ending_in (closing time x.machine).state app slot p)))
-  close_used due holds =
-      let r = closing time (machine_at p app slot) in
-      record {
-        same = ending_apps r.state app slot (stepped app slot r (held_by false p app slot)).ports;
-        new = tt;
-        fine = ending_fine (machine_but (look app slot here there (fine_of g)) (rested r)) (g.counted app slot here there) due none_waits holds r.state refl;
-      }
+  close_used : let x = view p books app slot in x.ends ≡ 0 → ((w : Wish) → IsSlot Is x.what (record x.terms { wish = w }) m app slot (now_of (record x { machine = rested (closing time x.machine) }))) → Closes (held_by false p app slot)
+  close_used due holds = close_by_machine (held_by false p app slot) (view p books app slot) refl (look app slot here there (fine_of g)) refl (g.counted app slot here there) due none_waits holds
 
-  close_slot : (w : Slot) → let x = view p books app slot in x.ends ≡ 0 → x.what ≡ w
-      → Leaves Is All m ordinals books p.conns.apps (then (stepped app slot (closing time x.machine) (held_by (is_free w) p app slot)) (λ p. come (ending_in (closing time x.machine).state app slot p)))
+  close_slot : (w : Slot) → let x = view p books app slot in x.ends ≡ 0 → x.what ≡ w → Closes (held_by (is_free w) p app slot)
   close_slot has.Free due e = close_free due e
   close_slot has.Held due e =
       let x = view p books app slot in

@@ -6,8 +6,9 @@ use Rattle.csp_conn.specs.declared.slot.Slot.{Slot}
 use Rattle.csp_conn.specs.declared.slot.Slot.TheVariants as has
 use Rattle.csp_log.specs.declared.event.Event.{Event}
 use Rattle.csp_ports.specs.Asking.{is_reliable}
-use Rattle.csp_ports.specs.Came.{Came, then}
+use Rattle.csp_ports.specs.Came.{Came, come, then}
 use Rattle.csp_ports.specs.PlainPorts.{PlainPorts, machine_at, stalled_at}
+use Rattle.csp_ports.specs.Steps.{where_machine}
 use Rattle.csp_ports.specs.declared.origin.Origin.{Origin}
 use Rattle.csp_ports.specs.declared.terms.Terms.{Terms}
 use Rattle.csp_ports.specs.declared.terms.Wish.TheVariants as wish
@@ -30,8 +31,7 @@ module _ {Is : Numbering → ℕ → ℕ → Now → Type 0} {m : Numbering} {or
     shape = record {
       few = g.few;
       conns = g.conns;
-      terms = g.terms;
-      machines = g.machines;
+      states = g.states;
       places = g.places;
       made = g.made;
       owners = g.owners;
@@ -51,8 +51,7 @@ module _ {Is : Numbering → ℕ → ℕ → Now → Type 0} {m : Numbering} {or
   good_of h = record {
     few = h.shape.few;
     conns = h.shape.conns;
-    terms = h.shape.terms;
-    machines = h.shape.machines;
+    states = h.shape.states;
     places = h.shape.places;
     made = h.shape.made;
     owners = h.shape.owners;
@@ -99,6 +98,11 @@ module _ {Is : Numbering → ℕ → ℕ → Now → Type 0} {Tight : ℕ → Ty
     new = new_both apps c.events (next c.ports).events books h.new k.new;
     fine = subst (λ (bs : Books). AreFine Is Tight m ordinals bs (next c.ports).ports) (noted_both c.events (next c.ports).events books) k.fine;
   }
+
+  -- a slot with a machine makes its step, and one without makes none
+  pub where_leaves : (b : Bool) (step : PlainPorts → Came) {p : PlainPorts} → Leaves Is Tight m ordinals books apps (step p) → Leaves Is Tight m ordinals books apps (come p) → Leaves Is Tight m ordinals books apps (where_machine b step p)
+  where_leaves true step h k = h
+  where_leaves false step h k = k
 
 -- ---- what is on a slot
 
@@ -157,8 +161,7 @@ module _ {o : Origin} {C : Coming} {Is : Numbering → ℕ → ℕ → Now → T
     shape = record {
       few = h.shape.few;
       conns = h.shape.conns;
-      terms = h.shape.terms;
-      machines = h.shape.machines;
+      states = h.shape.states;
       places = h.shape.places;
       made = ap (λ (k : ℕ). k + 1) h.shape.made ∙ sym more;
       owners = h.shape.owners;

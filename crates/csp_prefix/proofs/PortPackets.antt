@@ -7,8 +7,8 @@ use Rattle.csp_buffer.specs.PlainBuffer.{PlainBuffer}
 use Rattle.csp_base.specs.declared.limits.TheConstants.{SLOTS}
 use Rattle.csp_ports.specs.Came.{Came, come, reporting, then}
 use Rattle.csp_ports.specs.Packets.{back_by, handing, handing_event}
-use Rattle.csp_ports.specs.PlainPorts.{PlainPorts, anywhere, machine_at}
-use Rattle.csp_ports.specs.Steps.{dropped, settled, went}
+use Rattle.csp_ports.specs.PlainPorts.{PlainPorts, anywhere, has_machine, machine_at}
+use Rattle.csp_ports.specs.Steps.{dropped, settled, went, where_machine}
 use Rattle.csp_ports.specs.Tasks.{delivered, without_packet}
 use Rattle.csp_ports.specs.declared.origin.Origin.{Origin}
 use Rattle.csp_rdp.specs.Jobs.{delivering, delivery, delivery_in, without_delivery}
@@ -19,7 +19,7 @@ use Rattle.csp_rdp.specs.declared.answers.State.TheVariants.{Closed, CloseWait, 
 use Rattle.csp_rdp.specs.declared.answers.Cause.TheVariants as machine_why
 use Rattle.csp_rdp_header.specs.declared.head.RdpHead.{RdpHead}
 use Rattle.csp_prefix.proofs.PortChanges.{IsEdge, went_leaves}
-use Rattle.csp_prefix.proofs.PortFacts.{All, IsReliable, Leaves, comes_of, fine_of, then_leaves, used}
+use Rattle.csp_prefix.proofs.PortFacts.{All, IsReliable, Leaves, comes_of, fine_of, then_leaves, used, where_leaves}
 use Rattle.csp_prefix.proofs.PortQuiet.{idle_delivery, taken_state, used_on}
 use Rattle.csp_prefix.proofs.PortRoom.{dropped_leaves, settled_leaves}
 use Rattle.csp_prefix.proofs.PortSlots.{AreFine, AreFineBut, book_but, look, machine_but, none_some}
@@ -104,14 +104,15 @@ module _ {o : Origin} {C : Coming} {Is : Numbering → ℕ → ℕ → Now → T
       let r = machine_at p app slot in
       let row = row_of r h b.payload in
       let new = handed h b.trace.tag (anywhere b) time r in
-      let c = went r.state machine_why.Reset app slot new p in
+      let step : PlainPorts → Came = went r.state machine_why.Reset app slot new in
+      let c = where_machine (has_machine p app slot) step p in
       let next : PlainPorts → Came =
-      λ p. then (went r.state machine_why.Reset app slot new p) (λ p. then (dropped app p) (λ p. come (settled time app p))) in
+      λ p. then (where_machine (has_machine p app slot) step p) (λ p. then (dropped app p) (λ p. come (settled time app p))) in
       comes_of
       (told_handed r b.trace.tag (then (back_by (back_of row (anywhere b)) (is_stray row) p) next)
       (backed (back_of row (anywhere b)) (is_stray row) p next
       (then_settled kept c time here
-      (went_leaves kept (look app slot here there (loosened (fine_of g))) r.state machine_why.Reset new (λ k. k refl) (handed_edge h b time on fed)))))
+      (where_leaves (has_machine p app slot) step (went_leaves kept (look app slot here there (loosened (fine_of g))) r.state machine_why.Reset new (λ k. k refl) (handed_edge h b time on fed)) (record { same = refl; new = tt; fine = loosened (fine_of g) })))))
       (λ _. tt)
 
 -- ---- a packet is delivered

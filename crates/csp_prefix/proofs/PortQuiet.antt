@@ -14,9 +14,10 @@ use Rattle.csp_log.specs.declared.note.Note.{Note}
 use Rattle.csp_log.specs.declared.note.Note.TheVariants as note
 use Rattle.csp_log.specs.declared.note.Why.TheVariants as why
 use Rattle.csp_ports.specs.Asking.{bind, bind_by}
-use Rattle.csp_ports.specs.PlainPorts.{PlainPorts, anywhere, fresh, machine_at, owing, ports_of, terms_at, with_machine}
+use Rattle.csp_ports.specs.PlainPorts.{PlainPorts, anywhere, machine_at, machine_in, owing, ports_of, state_at, terms_at, untouched, with_machine}
 use Rattle.csp_ports.specs.Tasks.{kept_again, making, told_down, turned, without_packet}
 use Rattle.csp_ports.specs.declared.origin.Origin.{Origin}
+use Rattle.csp_ports.specs.declared.terms.SlotState.{SlotState}
 use Rattle.csp_ports.specs.declared.terms.Terms.{Terms}
 use Rattle.csp_rdp.specs.Jobs.{delivery, job_of, keeping_again, sent, taken_in, without_delivery}
 use Rattle.csp_rdp.specs.Machine.{PlainRdp, idle}
@@ -52,13 +53,16 @@ replicate_get (suc n) (suc i) x = replicate_get n i x
 
 -- ---- a look past a slot, and a note that is told
 
+-- a slot of which no note is owed
+abbrev untold : SlotState → SlotState
+untold x = record x { terms = record x.terms { is_down = false } }
+
 module _ {Is : Numbering → ℕ → ℕ → Now → Type 0} {m : Numbering} {ordinals : Ordinals} {books : Books} {p : PlainPorts} (g : AreGood Is m ordinals books p) where
   pub turned_good : (app slot : ℕ) → AreGood Is m ordinals books (turned app slot p)
   turned_good app slot = record {
     few = g.few;
     conns = g.conns;
-    terms = g.terms;
-    machines = g.machines;
+    states = g.states;
     places = g.places;
     made = g.made;
     owners = g.owners;
@@ -74,12 +78,12 @@ module _ {Is : Numbering → ℕ → ℕ → Now → Type 0} {m : Numbering} {or
   told_good app slot =
       let h = fine_of g in
       good_of (record {
-        shape = reshaped p.conns.slots p.conns.last _ p.machines p.owed refl (length-set p.terms (place_of app slot) (record (terms_at p app slot) { is_down = false })) refl g.owed h.shape;
+        shape = reshaped p.conns.slots p.conns.last _ p.owed refl (length-set p.slots (place_of app slot) (untold (state_at p app slot))) g.owed h.shape;
         slots = λ a s k l.
             let f = h.slots a s k l in
-            set_all p.terms (place_of app slot) (place_of a s) (record (terms_at p app slot) { is_down = false }) fresh
-            (λ t. IsFine Is All m (ordinals a s) a s (record (view p books a s) { terms = t }))
-            (λ e. subst (λ (k : ℕ). IsFine Is All m (ordinals a s) a s (record (view p books a s) { terms = record (get_or p.terms k fresh) { is_down = false } })) e
+            set_all p.slots (place_of app slot) (place_of a s) (untold (state_at p app slot)) untouched
+            (λ (x : SlotState). IsFine Is All m (ordinals a s) a s (record (view p books a s) { terms = x.terms; machine = machine_in x }))
+            (λ e. subst (λ (k : ℕ). let x = untold (get_or p.slots k untouched) in IsFine Is All m (ordinals a s) a s (record (view p books a s) { terms = x.terms; machine = machine_in x })) e
             (told_fine (view p books a s) f))
             f;
       })
@@ -106,8 +110,7 @@ module _ {Is : Numbering → ℕ → ℕ → Now → Type 0} {m : Numbering} {or
   owned_good app port need here = record {
     few = g.few;
     conns = g.conns;
-    terms = g.terms;
-    machines = g.machines;
+    states = g.states;
     places = g.places;
     made = g.made;
     owners = λ q. set_all p.bound port q (Some (app, need)) None (λ (x : Option (ℕ × ℕ)). IfSome x (λ o. o.0 < p.conns.apps)) (λ _. here) (g.owners q);
@@ -135,19 +138,18 @@ pub opens_good : (Is : Numbering → ℕ → ℕ → Now → Type 0) (apps : ℕ
 opens_good Is apps home few = record {
   few = few;
   conns = length-replicate (apps * SLOTS) has.Free;
-  terms = refl;
-  machines = refl;
+  states = refl;
   places = refl;
   made = refl;
   owners = λ port. subst (λ (x : Option (ℕ × ℕ)). IfSome x (λ o. o.0 < apps)) (sym (replicate_get 48 port None)) tt;
   owed = tt;
-  counted = λ a s k l. ap (λ (t : Terms). t.ordinal) (replicate_get 16 (place_of a s) fresh);
+  counted = λ a s k l. ap (λ (x : SlotState). x.terms.ordinal) (replicate_get 16 (place_of a s) untouched);
   waits = λ a s k e. absurd (none_some s (sym (replicate_get 4 a None) ∙ e));
-  ends = λ a s k l. ap (λ (t : Terms). ends_due t.wish) (sym (replicate_get 16 (place_of a s) fresh));
-  over = λ a s k l e. ap (λ (r : PlainRdp). r.state) (replicate_get 16 (place_of a s) idle);
+  ends = λ a s k l. ap (λ (x : SlotState). ends_due x.terms.wish) (sym (replicate_get 16 (place_of a s) untouched));
+  over = λ a s k l e. ap (λ (x : SlotState). (machine_in x).state) (replicate_get 16 (place_of a s) untouched);
   slots = λ a s k l.
       subst (λ (w : Slot). IsSlot Is w (terms_at (ports_of apps) a s) (record { made = 0; home = home }) a s (now_at (ports_of apps) (λ _ _. blank) a s)) (sym (replicate_get (apps * SLOTS) (place_of a s) has.Free))
-      (record { machine = replicate_get 16 (place_of a s) idle; waits = ap (waiting_on s) (replicate_get 4 a None); book = refl }, ap (λ (t : Terms). t.wish) (replicate_get 16 (place_of a s) fresh));
+      (record { machine = ap machine_in (replicate_get 16 (place_of a s) untouched); waits = ap (waiting_on s) (replicate_get 4 a None); book = refl }, ap (λ (x : SlotState). x.terms.wish) (replicate_get 16 (place_of a s) untouched));
 }
 
 -- ---- the connection of a slot as it is

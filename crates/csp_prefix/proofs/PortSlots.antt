@@ -1,5 +1,5 @@
 -- what is known of each slot of a node's ports in the middle of a step, and what a change on one leaves of that
-use Rattle.std.specs.Prelude.{◌==◌, ◌&&◌, Bool, true, false, IfSome, None, Option, Some, count_by, if◌then◌else◌, ⊤}
+use Rattle.std.specs.Prelude.{◌==◌, ◌&&◌, Bool, true, false, IfSome, None, Option, Some, count_by, if◌then◌else◌, slice_set, unwrap_or, ⊤}
 use Rattle.std.specs.List.{AllByRecursion}
 use Rattle.std.proofs.Common.{◌≡◌, ℕ, ◌+◌, ◌*◌, ◌<◌, ◌≤◌, List, length, arith, ap, refl, sym, subst, ◌∙◌, add-zero}
 use Rattle.std.proofs.lemmas.Bool.{eq-eqb, eqb-false, eqb-true}
@@ -12,8 +12,9 @@ use Rattle.csp_deck.specs.Carried.{IsReply}
 use Rattle.csp_log.specs.declared.note.Note.{Note}
 use Rattle.csp_log.specs.declared.note.Note.TheVariants as note
 use Rattle.csp_ports.specs.Kept.{IsOwed}
-use Rattle.csp_ports.specs.PlainPorts.{PlainPorts, PlainStalled, fresh, owing, stalled_at, with_machine, with_stalled, with_terms}
+use Rattle.csp_ports.specs.PlainPorts.{PlainPorts, PlainStalled, machine_in, owing, stalled_at, state_at, untouched, with_machine, with_machine_or, with_stalled, with_terms}
 use Rattle.csp_ports.specs.declared.owed.Owed.{Owed}
+use Rattle.csp_ports.specs.declared.terms.SlotState.{SlotState}
 use Rattle.csp_ports.specs.declared.terms.Terms.{Terms}
 use Rattle.csp_ports.specs.declared.terms.Wish.TheVariants as wish
 use Rattle.csp_rdp.specs.Machine.{PlainRdp, idle}
@@ -28,8 +29,7 @@ use Rattle.csp_prefix.specs.Slots.{Book, Now, Numbering}
 pub record IsShaped (most : ℕ) (p : PlainPorts) : Type 0 where
   pub few : p.conns.apps ≤ MAX_APPS
   pub conns : length p.conns.slots ≡ p.conns.apps * SLOTS
-  pub terms : length p.terms ≡ ALL_SLOTS
-  pub machines : length p.machines ≡ ALL_SLOTS
+  pub states : length p.slots ≡ ALL_SLOTS
   pub places : length p.stalled ≡ MAX_APPS
   pub made : p.made ≡ most
   pub owners : (port : ℕ) → IfSome (owner_of p.bound port) (λ o. o.0 < p.conns.apps)
@@ -75,14 +75,13 @@ whole {Is} {Tight} {m} {ordinals} {books} {p} {app} {slot} {v} h fine = record {
 
 -- ---- lists and options
 
--- other slots, terms and machines, as many as there were, and other answers that are owed
-pub reshaped : {most : ℕ} {p : PlainPorts} (slots : List Slot) (last : ℕ) (terms : List Terms) (machines : List PlainRdp) (owed : List Owed) → length slots ≡ length p.conns.slots → length terms ≡ length p.terms → length machines ≡ length p.machines
-    → AllByRecursion (IsOwed p.conns.apps) owed → IsShaped most p → IsShaped most (record p { conns = record p.conns { slots = slots; last = last }; terms = terms; machines = machines; owed = owed })
-reshaped slots last terms machines owed one two three all h = record {
+-- other connections and states of slots, as many as there were, and other answers that are owed
+pub reshaped : {most : ℕ} {p : PlainPorts} (slots : List Slot) (last : ℕ) (states : List SlotState) (owed : List Owed) → length slots ≡ length p.conns.slots → length states ≡ length p.slots
+    → AllByRecursion (IsOwed p.conns.apps) owed → IsShaped most p → IsShaped most (record p { conns = record p.conns { slots = slots; last = last }; slots = states; owed = owed })
+reshaped slots last states owed one two all h = record {
   few = h.few;
   conns = one ∙ h.conns;
-  terms = two ∙ h.terms;
-  machines = three ∙ h.machines;
+  states = two ∙ h.states;
   places = h.places;
   made = h.made;
   owners = h.owners;
@@ -92,7 +91,7 @@ reshaped slots last terms machines owed one two three all h = record {
 
 pub owing_shape : {n : ℕ} {p : PlainPorts} (app : ℕ) (answer : Note) → IsShaped n p → app < p.conns.apps → IsReply answer → IsShaped n (owing p app answer)
 owing_shape {n} {p} app answer h here reply =
-    reshaped p.conns.slots p.conns.last p.terms p.machines _ refl refl refl (AllByRecursion-push (IsOwed p.conns.apps) p.owed (record { app = app; note = answer }) h.owed (record { app = here; reply = reply })) h
+    reshaped p.conns.slots p.conns.last p.slots _ refl refl (AllByRecursion-push (IsOwed p.conns.apps) p.owed (record { app = app; note = answer }) h.owed (record { app = here; reply = reply })) h
 
 pub and_false : (x y : Bool) → y ≡ false → (x && y) ≡ false
 and_false true y e = e
@@ -180,29 +179,36 @@ module _ {Is : Numbering → ℕ → ℕ → Now → Type 0} {Tight : ℕ → Ty
   few_here : app < 4
   few_here = omega (arith, h.here, h.shape.few)
 
-  -- another machine
-  pub machine_but : (r : PlainRdp) → AreFineBut Is Tight m ordinals books (with_machine p app slot r) app slot (record v { machine = r })
-  machine_but r =
-      moved (with_machine p app slot r) books (record v { machine = r })
-      (reshaped p.conns.slots p.conns.last p.terms _ p.owed refl refl (length-set p.machines (place_of app slot) r) h.shape.owed h.shape)
+  -- another state of the slot
+  state_but : (x : SlotState) → AreFineBut Is Tight m ordinals books (record p { slots = slice_set p.slots (place_of app slot) x }) app slot (record v { terms = x.terms; machine = machine_in x })
+  state_but x =
+      moved (record p { slots = slice_set p.slots (place_of app slot) x }) books (record v { terms = x.terms; machine = machine_in x })
+      (reshaped p.conns.slots p.conns.last _ p.owed refl (length-set p.slots (place_of app slot) x) h.shape.owed h.shape)
       refl
-      (λ a s l o. ap (λ (r : PlainRdp). record (view p books a s) { machine = r }) (get_other p.machines app slot a s r idle h.there l o))
-      (ap (λ (r : PlainRdp). record (view p books app slot) { machine = r }) (get_same p.machines app slot 4 r idle h.shape.machines few_here h.there) ∙ ap (λ (v : View). record v { machine = r }) h.seen)
+      (λ a s l o. ap (λ (x : SlotState). record (view p books a s) { terms = x.terms; machine = machine_in x }) (get_other p.slots app slot a s x untouched h.there l o))
+      (ap (λ (x : SlotState). record (view p books app slot) { terms = x.terms; machine = machine_in x }) (get_same p.slots app slot 4 x untouched h.shape.states few_here h.there)
+      ∙ ap (λ (v : View). record v { terms = x.terms; machine = machine_in x }) h.seen)
+
+  -- another machine, or none
+  pub machine_or_but : (o : Option PlainRdp) → AreFineBut Is Tight m ordinals books (with_machine_or p app slot o) app slot (record v { machine = unwrap_or o idle })
+  machine_or_but o =
+      subst (λ (t : Terms). AreFineBut Is Tight m ordinals books (with_machine_or p app slot o) app slot (record v { terms = t; machine = unwrap_or o idle })) (ap (λ (v : View). v.terms) h.seen)
+      (state_but (record (state_at p app slot) { machine = o }))
+
+  pub machine_but : (r : PlainRdp) → AreFineBut Is Tight m ordinals books (with_machine p app slot r) app slot (record v { machine = r })
+  machine_but r = machine_or_but (Some r)
 
   -- other terms
   pub terms_but : (t : Terms) → AreFineBut Is Tight m ordinals books (with_terms p app slot t) app slot (record v { terms = t })
   terms_but t =
-      moved (with_terms p app slot t) books (record v { terms = t })
-      (reshaped p.conns.slots p.conns.last _ p.machines p.owed refl (length-set p.terms (place_of app slot) t) refl h.shape.owed h.shape)
-      refl
-      (λ a s l o. ap (λ (t : Terms). record (view p books a s) { terms = t }) (get_other p.terms app slot a s t fresh h.there l o))
-      (ap (λ (t : Terms). record (view p books app slot) { terms = t }) (get_same p.terms app slot 4 t fresh h.shape.terms few_here h.there) ∙ ap (λ (v : View). record v { terms = t }) h.seen)
+      subst (λ (r : PlainRdp). AreFineBut Is Tight m ordinals books (with_terms p app slot t) app slot (record v { terms = t; machine = r })) (ap (λ (v : View). v.machine) h.seen)
+      (state_but (record (state_at p app slot) { terms = t }))
 
   -- something else in the slot
   pub slot_but : (what : Slot) (last : ℕ) → AreFineBut Is Tight m ordinals books (record p { conns = record (with_slot p.conns app slot what) { last = last } }) app slot (record v { what = what })
   slot_but what last =
       moved (record p { conns = record (with_slot p.conns app slot what) { last = last } }) books (record v { what = what })
-      (reshaped _ last p.terms p.machines p.owed (length-set p.conns.slots (place_of app slot) what) refl refl h.shape.owed h.shape)
+      (reshaped _ last p.slots p.owed (length-set p.conns.slots (place_of app slot) what) refl h.shape.owed h.shape)
       refl
       (λ a s l o. ap (λ (x : Slot). record (view p books a s) { what = x }) (get_other p.conns.slots app slot a s what has.Free h.there l o))
       (ap (λ (x : Slot). record (view p books app slot) { what = x }) (get_same p.conns.slots app slot p.conns.apps what has.Free h.shape.conns h.here h.there) ∙ ap (λ (v : View). record v { what = what }) h.seen)
@@ -222,8 +228,7 @@ module _ {Is : Numbering → ℕ → ℕ → Now → Type 0} {Tight : ℕ → Ty
       (record {
         few = h.shape.few;
         conns = h.shape.conns;
-        terms = h.shape.terms;
-        machines = h.shape.machines;
+        states = h.shape.states;
         places = length-set p.stalled app o ∙ h.shape.places;
         made = h.shape.made;
         owners = h.shape.owners;

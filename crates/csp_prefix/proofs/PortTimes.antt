@@ -3,7 +3,7 @@ use Rattle.std.specs.Prelude.{◌==◌, Bool, true, false, Some, if◌then◌els
 use Rattle.std.specs.List.{AllByRecursion, range_with_len}
 use Rattle.std.proofs.Common.{◌≡◌, ◌⊎◌, inl, inr, ℕ, zero, suc, ◌+◌, ◌*◌, ◌/◌, ◌%◌, ◌<◌, List, [], ◌∷◌, arith, refl, sym, subst}
 use Rattle.csp_base.specs.declared.limits.TheConstants.{SLOTS}
-use Rattle.csp_ports.specs.PlainPorts.{PlainPorts, machine_at}
+use Rattle.csp_ports.specs.PlainPorts.{PlainPorts, has_machine, machine_at}
 use Rattle.csp_ports.specs.Steps.{dropped, dropped_of, timed, timed_at, timed_in, went}
 use Rattle.csp_ports.specs.declared.origin.Origin.{Origin}
 use Rattle.csp_rdp.specs.Holding.{rested}
@@ -14,7 +14,7 @@ use Rattle.csp_rdp.specs.declared.answers.State.TheVariants.{Closed, CloseWait, 
 use Rattle.csp_rdp.specs.declared.answers.Cause.TheVariants as machine_why
 use Rattle.csp_rdp_window.specs.Times.{has_passed}
 use Rattle.csp_prefix.proofs.PortChanges.{IsEdge, went_leaves}
-use Rattle.csp_prefix.proofs.PortFacts.{IsReliable, IsResting, Leaves, either, fine_of, good_of, then_leaves}
+use Rattle.csp_prefix.proofs.PortFacts.{IsReliable, IsResting, Leaves, either, fine_of, good_of, then_leaves, where_leaves}
 use Rattle.csp_prefix.proofs.PortPackets.{loosened}
 use Rattle.csp_prefix.proofs.PortRoom.{dropped_leaves}
 use Rattle.csp_prefix.proofs.PortSlots.{AreFine, IsFine, look, machine_but, whole}
@@ -67,7 +67,11 @@ idle_ticks time = go (has_passed (Some 0) idle.options.conn_timeout time)
 
 module _ {o : Origin} {C : Coming} {Is : Numbering → ℕ → ℕ → Now → Type 0} (kept : IsKept o C Is)
     {m : Numbering} {ordinals : Ordinals} {books : Books} {p : PlainPorts} (time app slot : ℕ) (here : app < p.conns.apps) (there : slot < SLOTS) (h : AreFine Is Never m ordinals books p) where
-  idle_timed : machine_at p app slot ≡ idle → Leaves Is Never m ordinals books p.conns.apps (timed_at time app slot p)
+  -- what comes of the step of its machine
+  abbrev Ticked : Type 0
+  Ticked = let r = machine_at p app slot in Leaves Is Never m ordinals books p.conns.apps (went r.state machine_why.Timeout app slot (ticked time r) p)
+
+  idle_timed : machine_at p app slot ≡ idle → Ticked
   idle_timed e =
       let x = view p books app slot in
       let f = h.slots app slot here there in
@@ -100,9 +104,11 @@ module _ {o : Origin} {C : Coming} {Is : Numbering → ℕ → ℕ → Now → T
       }
 
   timed_leaves : Leaves Is Never m ordinals books p.conns.apps (timed_at time app slot p)
-  timed_leaves = go (either Is m app slot (view p books app slot) (h.slots app slot here there).holds)
+  timed_leaves =
+      let r = machine_at p app slot in
+      where_leaves (has_machine p app slot) (went r.state machine_why.Timeout app slot (ticked time r)) (go (either Is m app slot (view p books app slot) (h.slots app slot here there).holds)) (record { same = refl; new = tt; fine = h })
     where
-      go : IsResting (view p books app slot) ⊎ IsReliable Is m app slot (view p books app slot) → Leaves Is Never m ordinals books p.conns.apps (timed_at time app slot p)
+      go : IsResting (view p books app slot) ⊎ IsReliable Is m app slot (view p books app slot) → Ticked
       go (inl r) = idle_timed r.machine
       go (inr k) = went_leaves kept (look app slot here there h) (machine_at p app slot).state machine_why.Timeout (ticked time (machine_at p app slot)) (λ n. n) (ticked_edge k)
 

@@ -74,8 +74,7 @@ module _ (Is Js : Numbering → ℕ → ℕ → Now → Type 0) (m m' : Numberin
   good_map same more good = record {
     few = good.few;
     conns = good.conns;
-    terms = good.terms;
-    machines = good.machines;
+    states = good.states;
     places = good.places;
     made = good.made ∙ sym same;
     owners = good.owners;

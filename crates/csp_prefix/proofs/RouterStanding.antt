@@ -151,8 +151,7 @@ module _ (g : Aim) (f : Facts) (whole : Past) (k : IsAim g f whole) where
   good_plain m ordinals books p app slot b e same good = record {
     few = good.few;
     conns = good.conns;
-    terms = good.terms;
-    machines = good.machines;
+    states = good.states;
     places = good.places;
     made = good.made;
     owners = good.owners;

@@ -8,6 +8,7 @@ use Rattle.csp_buffer.specs.Content.{Content}
 use Rattle.csp_buffer.specs.PlainBuffer.{PlainBuffer}
 use Rattle.csp_conn.specs.Opening.{first_free, found, is_refused, own_port_of}
 use Rattle.csp_conn.specs.PlainConns.{slot_at}
+use Rattle.csp_conn.specs.Slots.{is_free}
 use Rattle.csp_base.specs.declared.limits.TheConstants.{SLOTS}
 use Rattle.csp_conn.specs.declared.slot.Connection.{Connection}
 use Rattle.csp_conn.specs.declared.slot.Slot.{Slot}
@@ -31,11 +32,11 @@ use Rattle.csp_log.specs.declared.shown.ItemShown.{ItemShown}
 use Rattle.csp_log.specs.declared.shown.ItemShown.TheVariants as item
 use Rattle.csp_log.specs.declared.shown.OpShown.{OpShown}
 use Rattle.csp_log.specs.declared.shown.OpShown.TheVariants as op
-use Rattle.csp_ports.specs.Asking.{answered_by, close_by, connect_by, ended_by, is_reliable, joined}
+use Rattle.csp_ports.specs.Asking.{answered_by, close_by, connect_by, ended_by, ending_in, held_by, is_reliable, joined}
 use Rattle.csp_ports.specs.Came.{Came, come, then as and_then}
 use Rattle.csp_ports.specs.Packets.{back_by, handing, handing_event, submitting_in}
-use Rattle.csp_ports.specs.PlainPorts.{PlainPorts, PlainStalled, anywhere, is_closing, machine_at, stalled_at, terms_at}
-use Rattle.csp_ports.specs.Steps.{changed, closed_by, dropped, dropped_in, dropped_of, dropped_on, refused_by, settled, stepped, timed as ports_timed, timed_at, timed_in, went}
+use Rattle.csp_ports.specs.PlainPorts.{PlainPorts, PlainStalled, anywhere, has_machine, is_closing, machine_at, stalled_at, terms_at}
+use Rattle.csp_ports.specs.Steps.{changed, closed_by, dropped, dropped_in, dropped_of, dropped_on, refused_by, settled, stepped, timed as ports_timed, timed_at, timed_in, went, where_machine}
 use Rattle.csp_ports.specs.Tasks.{delivered, kept_again}
 use Rattle.csp_ports.specs.declared.handing.Invitation.{Invitation}
 use Rattle.csp_ports.specs.declared.origin.Origin.{Origin}
@@ -44,7 +45,7 @@ use Rattle.csp_ports.specs.declared.request.Request.{Request}
 use Rattle.csp_ports.specs.declared.terms.Wish.{Wish}
 use Rattle.csp_ports.specs.declared.terms.Wish.TheVariants as wish
 use Rattle.csp_rdp.specs.Changes.{change_between}
-use Rattle.csp_rdp.specs.Jobs.{delivering, ticked}
+use Rattle.csp_rdp.specs.Jobs.{closing, delivering, ticked}
 use Rattle.csp_rdp.specs.Machine.{PlainRdp}
 use Rattle.csp_rdp.specs.Table.{back_of, after_packet as machine_handed, is_stray, row_of}
 use Rattle.csp_rdp.specs.declared.answers.Change.{Change}
@@ -179,6 +180,11 @@ module _ (P : Event → Type 0) (lost : (reason : Discard) → P (event.Discarde
   went_lost : (before : MachineState) (reason : MachineWhy) (app slot : ℕ) (r : PlainRdp) (p : PlainPorts) → (Opens before r.state → ⊥) → Each (went before reason app slot r p).events
   went_lost before reason app slot r p never = went_so before reason app slot r p (λ o nth peer. absurd (never o))
 
+  -- a slot with a machine makes its step, and one without makes none
+  where_so : (b : Bool) (step : PlainPorts → Came) (p : PlainPorts) → Each (step p).events → Each (where_machine b step p).events
+  where_so true step p h = h
+  where_so false step p h = tt
+
   dropped_in_so : (x : MachineState) (app : ℕ) (s : PlainStalled) (p : PlainPorts) → Each (dropped_in x app s p).events
   dropped_in_so state.Open app s p = tt
   dropped_in_so state.SynSent app s p = (lost why.NoConn, tt)
@@ -197,7 +203,7 @@ module _ (P : Event → Type 0) (lost : (reason : Discard) → P (event.Discarde
   timed_at_so : (time app slot : ℕ) (p : PlainPorts) → Each (timed_at time app slot p).events
   timed_at_so time app slot p =
       let r = machine_at p app slot in
-      went_lost r.state machine_why.Timeout app slot (ticked time r) p (ways-not r (ticked time r) (ways-ticked time r))
+      where_so (has_machine p app slot) (went r.state machine_why.Timeout app slot (ticked time r)) p (went_lost r.state machine_why.Timeout app slot (ticked time r) p (ways-not r (ticked time r) (ways-ticked time r)))
 
   timed_in_so : (time : ℕ) (ks : List ℕ) (p : PlainPorts) → Each (timed_in time ks p).events
   timed_in_so time [] p = tt
@@ -238,10 +244,11 @@ module _ (P : Event → Type 0) (lost : (reason : Discard) → P (event.Discarde
       let row = row_of r h b.payload in
       let new = machine_handed h b.trace.tag (anywhere b) time r in
       let back = back_by (back_of row (anywhere b)) (is_stray row) p in
-      let c = went r.state machine_why.Reset app slot new p in (
+      let step = went r.state machine_why.Reset app slot new in
+      let c = where_machine (has_machine p app slot) step p in (
         hands,
-        then_so back (λ q. and_then (went r.state machine_why.Reset app slot new q) (looked_at app time)) (back_so (back_of row (anywhere b)) (is_stray row) p)
-            (then_so c (looked_at app time) (went_so r.state machine_why.Reset app slot new p (λ o. opens (opens-early r.state new.state o)))
+        then_so back (λ q. and_then (where_machine (has_machine q app slot) step q) (looked_at app time)) (back_so (back_of row (anywhere b)) (is_stray row) p)
+            (then_so c (looked_at app time) (where_so (has_machine p app slot) step p (went_so r.state machine_why.Reset app slot new p (λ o. opens (opens-early r.state new.state o))))
             (then_so (dropped app c.ports) (λ q. come (settled time app q)) (dropped_so app c.ports) tt)),
       )
 
@@ -305,7 +312,10 @@ connect_calm (has.Open c) refuses own o p app r time = tt
 
 close_calm : (closing : Bool) (p : PlainPorts) (app slot time : ℕ) → AreCalm (close_by closing p app slot time).events
 close_calm true p app slot time = tt
-close_calm false p app slot time = tt
+close_calm false p app slot time =
+    let r = closing time (machine_at p app slot) in
+    let q = held_by (is_free (slot_at p.conns app slot)) p app slot in
+    then_so IsCalm lost_calm (where_machine (has_machine p app slot) (stepped app slot r) q) (λ q. come (ending_in r.state app slot q)) (where_so IsCalm lost_calm (has_machine p app slot) (stepped app slot r) q tt) tt
 
 requested_calm : (f : Facts) (s : State) (app time : ℕ) (n : Note) → AreCalm (requested f s app time n).events
 requested_calm f s app time (note.Bind port need) = tt

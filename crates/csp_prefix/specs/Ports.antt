@@ -152,8 +152,7 @@ ends_due wish.End = 0
 pub record AreGood (Is : Numbering → ℕ → ℕ → Now → Type 0) (m : Numbering) (ordinals : Ordinals) (books : Books) (p : PlainPorts) : Type 0 where
   pub few : p.conns.apps ≤ MAX_APPS
   pub conns : length p.conns.slots ≡ p.conns.apps * SLOTS
-  pub terms : length p.terms ≡ ALL_SLOTS
-  pub machines : length p.machines ≡ ALL_SLOTS
+  pub states : length p.slots ≡ ALL_SLOTS
   pub places : length p.stalled ≡ MAX_APPS
   pub made : p.made ≡ m.made
   pub owners : (port : ℕ) → IfSome (owner_of p.bound port) (λ o. o.0 < p.conns.apps)

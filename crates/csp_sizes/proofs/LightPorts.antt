@@ -2,30 +2,32 @@
 use Rattle.std.proofs.Common.{length-append, suc, zero, ◌≡◌, ℕ, ◌+◌, ◌*◌, ◌≤◌, Bool, true, false, List, [], ◌∷◌, ◌++◌, length, Option, None, Some, refl, sym, ap, ◌∙◌, subst, arith, get_or}
 use Rattle.std.proofs.lemmas.List.Elements.{All-append, All-cons, All-nil, All-replicate, All-set}
 use Rattle.std.specs.List.{All, range_with_len}
-use Rattle.std.specs.Prelude.{IfSome, slice_set, ◌/◌, ◌%◌}
+use Rattle.std.specs.Prelude.{IfSome, slice_set, unwrap_or, ◌/◌, ◌%◌}
 use Rattle.csp_base.specs.declared.priority.Prio.{Prio}
 use Rattle.csp_buffer.specs.Content.{Content}
 use Rattle.csp_buffer.specs.PlainBuffer.{PlainBuffer}
-use Rattle.csp_conn.specs.Opening.{is_refused, own_port_of}
-use Rattle.csp_conn.specs.PlainConns.{place_of, slot_at}
-use Rattle.csp_conn.specs.Slots.{is_free}
+use Rattle.csp_conn.specs.Opening.{is_refused, opened, own_port_of}
+use Rattle.csp_conn.specs.PlainConns.{place_of, slot_at, with_slot}
+use Rattle.csp_conn.specs.Slots.{between, is_free}
 use Rattle.csp_base.specs.declared.limits.TheConstants.{MAX_APPS, SLOTS, ALL_SLOTS}
 use Rattle.csp_conn.specs.declared.slot.Connection.{Connection}
 use Rattle.csp_conn.specs.declared.slot.Slot.TheVariants.{Free, Held, Open as Opened}
 use Rattle.csp_conn.specs.declared.slot.Slot.{Slot}
 use Rattle.csp_log.specs.declared.note.Note.TheVariants as note
 use Rattle.csp_log.specs.declared.note.Note.{Note}
-use Rattle.csp_ports.proofs.Public.{all_or}
-use Rattle.csp_ports.specs.Asking.{is_reliable, answered, answered_by, close, close_by, connect, connect_by, ended_by, ending_in, held_by, joined}
+use Rattle.csp_ports.proofs.Public.{all_or, machine_listed, machines_of_machine, machines_of_terms}
+use Rattle.csp_ports.specs.Asking.{is_reliable, answered, answered_by, close, close_by, connect, connect_by, ended_by, ending_in, held_by, joined, linked}
 use Rattle.csp_ports.specs.Came.{Came, come, pictures, then}
-use Rattle.csp_ports.specs.Packets.{admitting_by, back_by, handing, invited, submitting, submitting_in}
-use Rattle.csp_ports.specs.PlainPorts.{PlainPorts, PlainStalled, anywhere, machine_at, ports_of, stalled_at, start_of, terms_at, with_machine, with_stalled, is_closing}
-use Rattle.csp_ports.specs.Steps.{changed, closed_by, connected_by, dropped, dropped_in, dropped_of, dropped_on, freed, given_up, has_room, refused, refused_by, settled, settled_by, settled_on, stepped, timed, timed_at, timed_in, vacated, went}
-use Rattle.csp_ports.specs.Tasks.{delivered, kept_again, made_in, making, without_packet}
+use Rattle.csp_ports.specs.Packets.{accepted, admitting_by, back_by, handing, invited, submitting, submitting_in}
+use Rattle.csp_ports.specs.PlainPorts.{PlainPorts, PlainStalled, anywhere, has_machine, machine_at, machine_in, machines_of, ports_of, stalled_at, start_of, state_at, terms_at, untouched, wishing, with_machine, with_machine_or, with_stalled, with_terms, is_closing}
+use Rattle.csp_ports.specs.Steps.{changed, closed_by, connected_by, dropped, dropped_in, dropped_of, dropped_on, freed, given_up, has_room, refused, refused_by, settled, settled_by, settled_on, stepped, timed, timed_at, timed_in, vacated, went, where_machine}
+use Rattle.csp_ports.specs.Tasks.{delivered, kept_again, made_in, making, told_down, without_packet}
 use Rattle.csp_ports.specs.declared.handing.Invitation.{Invitation}
 use Rattle.csp_ports.specs.declared.origin.Origin.{Origin}
 use Rattle.csp_ports.specs.declared.owed.Owed.{Owed}
 use Rattle.csp_ports.specs.declared.request.Request.{Request}
+use Rattle.csp_ports.specs.declared.terms.SlotState.{SlotState}
+use Rattle.csp_ports.specs.declared.terms.Terms.{Terms}
 use Rattle.csp_ports.specs.declared.terms.Wish.TheVariants as wish
 use Rattle.csp_ports.specs.declared.terms.Wish.{Wish}
 use Rattle.csp_rdp.proofs.Public.{missing-taken}
@@ -68,10 +70,26 @@ comes_then c next h more =
 -- ---- machines in their places
 
 pub machine_light : (p : PlainPorts) (app slot : ℕ) → ArePorts p → IsLightMachine (machine_at p app slot)
-machine_light p app slot h = all_or IsLightMachine p.machines (place_of app slot) idle h.machines idle_light
+machine_light p app slot h = subst IsLightMachine (sym (machine_listed p app slot)) (all_or IsLightMachine (machines_of p) (place_of app slot) idle h.machines idle_light)
+
+with_machine_or_light : (p : PlainPorts) (app slot : ℕ) (o : Option PlainRdp) → IsLightMachine (unwrap_or o idle) → ArePorts p → ArePorts (with_machine_or p app slot o)
+with_machine_or_light p app slot o one h = record {
+  machines = subst (λ (rs : List PlainRdp). All IsLightMachine rs) (sym (machines_of_machine p app slot o)) (All-set IsLightMachine (machines_of p) (place_of app slot) (unwrap_or o idle) one h.machines);
+  stalled = h.stalled;
+}
 
 pub with_machine_light : (p : PlainPorts) (app slot : ℕ) (r : PlainRdp) → IsLightMachine r → ArePorts p → ArePorts (with_machine p app slot r)
-with_machine_light p app slot r one h = record { machines = All-set IsLightMachine p.machines (place_of app slot) r one h.machines; stalled = h.stalled }
+with_machine_light p app slot r one h = with_machine_or_light p app slot (Some r) one h
+
+-- other terms of a slot leave the machines
+with_terms_light : (p : PlainPorts) (app slot : ℕ) (t : Terms) → ArePorts p → ArePorts (with_terms p app slot t)
+with_terms_light p app slot t h = record { machines = subst (λ (rs : List PlainRdp). All IsLightMachine rs) (sym (machines_of_terms p app slot t)) h.machines; stalled = h.stalled }
+
+wishing_light : (p : PlainPorts) (app slot : ℕ) (w : Wish) → ArePorts p → ArePorts (wishing p app slot w)
+wishing_light p app slot w h = with_terms_light p app slot (record (terms_at p app slot) { wish = w }) h
+
+pub told_down_light : (app slot : ℕ) (p : PlainPorts) → ArePorts p → ArePorts (told_down app slot p)
+told_down_light app slot p h = with_terms_light p app slot (record (terms_at p app slot) { is_down = false }) h
 
 stalled_light : (p : PlainPorts) (app : ℕ) → ArePorts p → IsWaiting (stalled_at p app)
 stalled_light p app h = all_or IsWaiting p.stalled app None h.stalled tt
@@ -89,7 +107,10 @@ let_go : (app slot : ℕ) (p : PlainPorts) → ArePorts p → All IsLight (pictu
 let_go app slot p h = held_light (machine_at p app slot) (machine_light p app slot h).sized
 
 vacated_light : (ordinal app slot : ℕ) (p : PlainPorts) → ArePorts p → Comes (vacated ordinal app slot p)
-vacated_light ordinal app slot p h = record { ports = with_machine_light p app slot idle idle_light h; loose = let_go app slot p h }
+vacated_light ordinal app slot p h =
+    let q : PlainPorts = with_terms (record p { conns = with_slot p.conns app slot Free }) app slot (record (terms_at p app slot) { wish = wish.Nothing; is_down = false; ordinal = ordinal }) in
+    let g : ArePorts q = with_terms_light (record p { conns = with_slot p.conns app slot Free }) app slot (record (terms_at p app slot) { wish = wish.Nothing; is_down = false; ordinal = ordinal }) h in
+    record { ports = with_machine_or_light q app slot None idle_light g; loose = let_go app slot q g }
 
 given_up_light : (app slot : ℕ) (p : PlainPorts) → ArePorts p → Comes (given_up app slot p)
 given_up_light app slot p h = vacated_light (terms_at p app slot).ordinal app slot p h
@@ -98,7 +119,7 @@ freed_light : (app slot : ℕ) (p : PlainPorts) → ArePorts p → Comes (freed 
 freed_light app slot p h = vacated_light ((terms_at p app slot).ordinal + 1) app slot p h
 
 connected_light : (w : Wish) (app slot : ℕ) (p : PlainPorts) → ArePorts p → ArePorts (connected_by w app slot p)
-connected_light wish.Connection app slot p h = h
+connected_light wish.Connection app slot p h = wishing_light p app slot wish.Nothing h
 connected_light wish.Nothing app slot p h = h
 connected_light wish.End app slot p h = h
 connected_light wish.Ended app slot p h = h
@@ -110,7 +131,7 @@ refused_light wish.End why app slot p h = given_up_light app slot p h
 refused_light wish.Ended why app slot p h = given_up_light app slot p h
 
 closed_light : (w : Wish) (was_open : Bool) (app slot : ℕ) (p : PlainPorts) → ArePorts p → Comes (closed_by w was_open app slot p)
-closed_light wish.End was_open app slot p h = record { ports = h; loose = All-nil IsLight }
+closed_light wish.End was_open app slot p h = record { ports = wishing_light p app slot wish.Ended h; loose = All-nil IsLight }
 closed_light wish.Nothing true app slot p h = record { ports = h; loose = All-nil IsLight }
 closed_light wish.Nothing false app slot p h = given_up_light app slot p h
 closed_light wish.Connection was_open app slot p h = record { ports = h; loose = All-nil IsLight }
@@ -120,13 +141,18 @@ changed_light : (ch : Change) (app slot : ℕ) (p : PlainPorts) → ArePorts p �
 changed_light change.None app slot p h = comes_come p h
 changed_light change.Opened app slot p h = record { ports = connected_light (terms_at p app slot).wish app slot p h; loose = All-nil IsLight }
 changed_light (change.Refused why) app slot p h = refused_light (terms_at p app slot).wish why app slot p h
-changed_light change.Down app slot p h = record { ports = h; loose = All-nil IsLight }
+changed_light change.Down app slot p h = record { ports = with_terms_light p app slot (record (terms_at p app slot) { is_down = true }) h; loose = All-nil IsLight }
 changed_light change.Closed app slot p h = closed_light (terms_at p app slot).wish (machine_at p app slot).was_open app slot p h
 
 went_light : (before : State) (why : Cause) (app slot : ℕ) (r : PlainRdp) (p : PlainPorts) → IsLightMachine r → ArePorts p → Comes (went before why app slot r p)
 went_light before why app slot r p one h =
     comes_then (stepped app slot r p) (changed (change_between before r.state why) app slot) (stepped_light app slot r p one h)
     (λ q k. changed_light (change_between before r.state why) app slot q k)
+
+-- where the slot has one
+where_light : (b : Bool) (step : PlainPorts → Came) (p : PlainPorts) → ArePorts p → Comes (step p) → Comes (where_machine b step p)
+where_light true step p h c = c
+where_light false step p h c = comes_come p h
 
 -- ---- the packet that waits for room
 
@@ -170,7 +196,7 @@ dropped_light app p h = dropped_on_light (stalled_at p app) app p (stalled_light
 timed_at_light : (time app slot : ℕ) (p : PlainPorts) → ArePorts p → Comes (timed_at time app slot p)
 timed_at_light time app slot p h =
     let r = machine_at p app slot in
-    went_light r.state machine_why.Timeout app slot (ticked time r) p (ticked_light time r (machine_light p app slot h)) h
+    where_light (has_machine p app slot) (went r.state machine_why.Timeout app slot (ticked time r)) p h (went_light r.state machine_why.Timeout app slot (ticked time r) p (ticked_light time r (machine_light p app slot h)) h)
 
 timed_in_light : (time : ℕ) (ks : List ℕ) (p : PlainPorts) → ArePorts p → Comes (timed_in time ks p)
 timed_in_light time [] p h = comes_come p h
@@ -198,10 +224,12 @@ handing_light p app slot head b time light h =
     let next = after_packet head b.trace.tag (anywhere b) time r in
     let third : PlainPorts → Came = λ q. come (settled time app q) in
     let second : PlainPorts → Came = λ q. then (dropped app q) third in
-    let first : PlainPorts → Came = λ q. then (went r.state machine_why.Reset app slot next q) second in
+    let step : PlainPorts → Came = went r.state machine_why.Reset app slot next in
+    let first : PlainPorts → Came = λ q. then (where_machine (has_machine p app slot) step q) second in
     let c =
     comes_then (back_by (back_of y (anywhere b)) (is_stray y) p) first (back_came (back_of y (anywhere b)) (is_stray y) p (back_light y (anywhere b) light) h) (λ q g.
-    comes_then (went r.state machine_why.Reset app slot next q) second (went_light r.state machine_why.Reset app slot next q (handed_light head b.trace.tag (anywhere b) time r light (machine_light p app slot h)) g) (λ q g.
+    comes_then (where_machine (has_machine p app slot) step q) second
+    (where_light (has_machine p app slot) step q g (went_light r.state machine_why.Reset app slot next q (handed_light head b.trace.tag (anywhere b) time r light (machine_light p app slot h)) g)) (λ q g.
     comes_then (dropped app q) third (dropped_light app q g) (λ q g.
     comes_come (settled time app q) (settled_light time app q g)))) in
     record { ports = c.ports; loose = c.loose }
@@ -226,21 +254,29 @@ submitting_in_light Closed p app slot b time short h = lost_came p b _ short h r
 pub submitting_light : (p : PlainPorts) (app slot : ℕ) (b : Content) (time : ℕ) → IsData b → ArePorts p → Comes (submitting p app slot b time)
 submitting_light p app slot b time short h = submitting_in_light (machine_at p app slot).state p app slot b time short h
 
+pub accepted_light : (p : PlainPorts) (app slot : ℕ) (c : Connection) (prio : Prio) (flags : ℕ) → ArePorts p → ArePorts (accepted p app slot c prio flags)
+accepted_light p app slot c prio flags h =
+    with_terms_light (record p { conns = with_slot p.conns app slot (Opened c) }) app slot (record (terms_at p app slot) { prio = prio; flags = flags; wish = wish.Nothing; is_down = false }) h
+
 pub invited_light : (o : Origin) (p : PlainPorts) (app slot : ℕ) (c : Connection) (prio : Prio) (flags : ℕ) (i : Invitation) (time : ℕ) → i.options.window ≤ 20 → ArePorts p
     → Comes (invited o p app slot c prio flags i time)
-invited_light o p app slot c prio flags i time narrow h = record {
-  ports = with_machine_light p app slot _ (accepting_light (start_of o.seed p.made) i.options i.head.seq.0 i.tag o.node p.made time narrow) h;
-  loose = let_go app slot p h;
-}
+invited_light o p app slot c prio flags i time narrow h =
+    let q : PlainPorts = record (accepted p app slot c prio flags) { made = p.made + 1 } in
+    let g : ArePorts q = accepted_light p app slot c prio flags h in
+    record { ports = with_machine_light q app slot _ (accepting_light (start_of o.seed p.made) i.options i.head.seq.0 i.tag o.node p.made time narrow) g; loose = let_go app slot q g }
 
 -- ---- what applications ask
 
+linked_light : (w : Wish) (p : PlainPorts) (app : ℕ) (r : Request) (own : ℕ) → ArePorts p → ArePorts (linked w p app r own)
+linked_light w p app r own h =
+    with_terms_light (record p { conns = opened p.conns app r.slot (between r.dest r.port own) r.from }) app r.slot (record (terms_at p app r.slot) { prio = r.prio; flags = r.flags; wish = w; is_down = false }) h
+
 joined_light : (reliable : Bool) (o : Origin) (p : PlainPorts) (app : ℕ) (r : Request) (own time : ℕ) → o.options.window ≤ 20 → ArePorts p → Comes (joined reliable o p app r own time)
-joined_light false o p app r own time narrow h = record { ports = h; loose = All-nil IsLight }
-joined_light true o p app r own time narrow h = record {
-  ports = with_machine_light p app r.slot _ (connecting_light (start_of o.seed p.made) o.options o.node p.made time narrow) h;
-  loose = let_go app r.slot p h;
-}
+joined_light false o p app r own time narrow h = record { ports = linked_light wish.Nothing p app r own h; loose = All-nil IsLight }
+joined_light true o p app r own time narrow h =
+    let q : PlainPorts = record (linked wish.Connection p app r own) { made = p.made + 1 } in
+    let g : ArePorts q = linked_light wish.Connection p app r own h in
+    record { ports = with_machine_light q app r.slot _ (connecting_light (start_of o.seed p.made) o.options o.node p.made time narrow) g; loose = let_go app r.slot q g }
 
 connect_by_light : (s : Slot) (refused : Bool) (own : Option ℕ) (o : Origin) (p : PlainPorts) (app : ℕ) (r : Request) (time : ℕ) → o.options.window ≤ 20 → ArePorts p → Comes (connect_by s refused own o p app r time)
 connect_by_light Free true own o p app r time narrow h = record { ports = h; loose = All-nil IsLight }
@@ -253,11 +289,11 @@ pub connect_light : (o : Origin) (p : PlainPorts) (app : ℕ) (r : Request) (tim
 connect_light o p app r time narrow h = connect_by_light (slot_at p.conns app r.slot) (is_refused p.conns r.dest r.from) (own_port_of p.conns r.dest r.from) o p app r time narrow h
 
 ending_light : (st : State) (app slot : ℕ) (p : PlainPorts) → ArePorts p → ArePorts (ending_in st app slot p)
-ending_light Closed app slot p h = h
-ending_light SynSent app slot p h = h
-ending_light SynRcvd app slot p h = h
-ending_light Open app slot p h = h
-ending_light CloseWait app slot p h = h
+ending_light Closed app slot p h = wishing_light p app slot wish.Ended h
+ending_light SynSent app slot p h = wishing_light p app slot wish.End h
+ending_light SynRcvd app slot p h = wishing_light p app slot wish.End h
+ending_light Open app slot p h = wishing_light p app slot wish.End h
+ending_light CloseWait app slot p h = wishing_light p app slot wish.End h
 
 held_by_light : (free : Bool) (p : PlainPorts) (app slot : ℕ) → ArePorts p → ArePorts (held_by free p app slot)
 held_by_light true p app slot h = h
@@ -268,8 +304,9 @@ close_by_light true p app slot time h = comes_come p h
 close_by_light false p app slot time h =
     let r = closing time (machine_at p app slot) in
     let q = held_by (is_free (slot_at p.conns app slot)) p app slot in
-    comes_then (stepped app slot r q) (λ x. come (ending_in r.state app slot x))
-    (stepped_light app slot r q (closing_light time (machine_at p app slot) (machine_light p app slot h)) (held_by_light (is_free (slot_at p.conns app slot)) p app slot h))
+    let g : ArePorts q = held_by_light (is_free (slot_at p.conns app slot)) p app slot h in
+    comes_then (where_machine (has_machine p app slot) (stepped app slot r) q) (λ x. come (ending_in r.state app slot x))
+    (where_light (has_machine p app slot) (stepped app slot r) q g (stepped_light app slot r q (closing_light time (machine_at p app slot) (machine_light p app slot h)) g))
     (λ x g. comes_come (ending_in r.state app slot x) (ending_light r.state app slot x g))
 
 pub close_light : (p : PlainPorts) (app slot time : ℕ) → ArePorts p → Comes (close p app slot time)
@@ -309,10 +346,10 @@ pub without_packet_light : (app slot : ℕ) (p : PlainPorts) → ArePorts p → 
 without_packet_light app slot p h = with_machine_light p app slot _ (taken_light (machine_at p app slot) (machine_light p app slot h)) h
 
 -- the machine that a packet is taken out of stands there: of a slot past the end nothing is delivered
-there_or : (rs : List PlainRdp) (k : ℕ) (r : PlainRdp) → (get_or rs k idle).state ≡ Open → get_or (slice_set rs k r) k idle ≡ r
-there_or [] k r opened = cc
-there_or (x ∷ rs) zero r opened = refl
-there_or (x ∷ rs) (suc k) r opened = there_or rs k r opened
+there_or : (ss : List SlotState) (k : ℕ) (s : SlotState) → (machine_in (get_or ss k untouched)).state ≡ Open → get_or (slice_set ss k s) k untouched ≡ s
+there_or [] k s opened = cc
+there_or (x ∷ ss) zero s opened = refl
+there_or (x ∷ ss) (suc k) s opened = there_or ss k s opened
 
 taken_same : (s : State) (r : PlainRdp) → ((taken_in s r).state ≡ r.state) × ((taken_in s r).recv.cur ≡ r.recv.cur)
 taken_same Open r = (refl, refl)
@@ -340,7 +377,8 @@ taken_is r opened =
 
 now_taken : (p : PlainPorts) (app slot : ℕ) → (machine_at p app slot).state ≡ Open → IsTaken (machine_at (without_packet app slot p) app slot)
 now_taken p app slot opened =
-    subst IsTaken (sym (there_or p.machines (place_of app slot) (without_delivery (machine_at p app slot)) opened)) (taken_is (machine_at p app slot) opened)
+    let r : PlainRdp = without_delivery (machine_at p app slot) in
+    subst IsTaken (sym (ap machine_in (there_or p.slots (place_of app slot) (record (state_at p app slot) { machine = Some r }) opened))) (taken_is (machine_at p app slot) opened)
 
 -- a packet is delivered, or kept again
 pub delivered_after : (time app slot : ℕ) (p : PlainPorts) → (machine_at p app slot).state ≡ Open → ArePorts p → Comes (delivered time app slot (without_packet app slot p))

@@ -16,13 +16,13 @@ use Rattle.csp_log.specs.declared.shown.OpShown.TheVariants as op
 use Rattle.csp_ports.specs.Asking.{answered}
 use Rattle.csp_ports.specs.PlainPorts.{PlainPorts, machine_at}
 use Rattle.csp_ports.specs.Steps.{timed as ports_timed}
-use Rattle.csp_ports.specs.Tasks.{delivered, kept_again, turned, without_packet}
+use Rattle.csp_ports.specs.Tasks.{delivered, kept_again, told_down, turned, without_packet}
 use Rattle.csp_ports.specs.declared.owed.Owed.{Owed}
 use Rattle.csp_rdp.specs.Jobs.{delivery}
 use Rattle.csp_rdp.specs.declared.answers.State.TheVariants.{Open}
 use Rattle.csp_sizes.proofs.LightAnswers.{any_came, buffer_came, item_came}
 use Rattle.csp_sizes.proofs.LightMachines.{delivery_light}
-use Rattle.csp_sizes.proofs.LightPorts.{Comes, answered_light, delivered_after, delivery_open, kept_after, machine_light, timed_light, without_packet_light}
+use Rattle.csp_sizes.proofs.LightPorts.{Comes, answered_light, delivered_after, delivery_open, kept_after, machine_light, timed_light, told_down_light, without_packet_light}
 use Rattle.csp_sizes.proofs.LightRules.{IsTold, heard_light, made_on_light, ported_light, served_light, trashed, was_full_light, went_out_light}
 use Rattle.csp_sizes.specs.Light.{AreFacts, ArePorts, IsLight, IsLightAnswer, IsLightOp, IsLightRouter, IsLightState, room_of}
 use Rattle.csp_stack.specs.Counting.{came_in, was_full}
@@ -144,7 +144,8 @@ told_light (plan.Reply k) f s time a are h light =
     pushed_light (is_pushed a) _ _ (ported_light t (answered t.ports) (answered_light t.ports h.ports) h) (back_light t (packet_in (item_in a)) (packet_came (item_in a) (any_came (turn.replying s.ports.owed) a light)) h)
 told_light (plan.Tell app slot) f s time a are h light =
     let t : State = at_rest (turn.asked_by f s time (plan.Tell app slot)) in
-    pushed_light (is_pushed a) _ _ h (back_light t (packet_in (item_in a)) (packet_came (item_in a) (any_came (turn.turn_of f s time (plan.Tell app slot)).asks a light)) h)
+    let told : IsLightState (with_ports t (told_down app slot t.ports)) = record { ports = told_down_light app slot t.ports h.ports; trash = h.trash; out = h.out; stats = h.stats } in
+    pushed_light (is_pushed a) _ _ told (back_light t (packet_in (item_in a)) (packet_came (item_in a) (any_came (turn.turn_of f s time (plan.Tell app slot)).asks a light)) h)
 told_light (plan.Deliver app slot) f s time a are h light =
     let p = turned app slot s.ports in
     told_delivering_light p app slot time (at_rest (turn.asked_by f s time (plan.Deliver app slot))) refl h.ports

@@ -34,7 +34,7 @@ use Rattle.csp_ports.proofs.Public.{all_or}
 use Rattle.csp_ports.specs.Asking.{close, connect, is_reliable, bind_by}
 use Rattle.csp_ports.specs.Came.{Came}
 use Rattle.csp_ports.specs.Packets.{handing, invited, submitting}
-use Rattle.csp_ports.specs.PlainPorts.{PlainPorts, terms_at}
+use Rattle.csp_ports.specs.PlainPorts.{PlainPorts, machines_of, terms_at}
 use Rattle.csp_ports.specs.Tasks.{made_in, making}
 use Rattle.csp_ports.specs.declared.handing.Invitation.{Invitation}
 use Rattle.csp_ports.specs.declared.request.Request.{Request}
@@ -56,7 +56,7 @@ use Rattle.csp_service.specs.declared.answers.Served.{Served}
 use Rattle.csp_service.specs.declared.stats.Count.TheVariants as count
 use Rattle.csp_service.specs.declared.stats.Count.{Count}
 use Rattle.csp_service.specs.declared.stats.Stats.{Stats}
-use Rattle.csp_sizes.proofs.LightPorts.{Comes, close_light, connect_light, handing_light, invited_light, made_light, making_light, submitting_light}
+use Rattle.csp_sizes.proofs.LightPorts.{Comes, accepted_light, close_light, connect_light, handing_light, invited_light, made_light, making_light, submitting_light}
 use Rattle.csp_sizes.proofs.LightServices.{answered_few, answered_short}
 use Rattle.csp_sizes.specs.Light.{AreFacts, ArePorts, IsData, IsFew, IsHeld, IsLight, IsLightState, room_of}
 use Rattle.csp_socket.specs.Bound.{owner_of}
@@ -77,10 +77,10 @@ IsTold t = IsLightState t.state
 
 -- ---- parts of a state
 
-pub trashed : (s : State) (b : Content) → IsLight b → IsLightState s → IsHeld s.ports.machines s.ports.stalled (s.trash ++ b ∷ []) s.out s.services.stats
+pub trashed : (s : State) (b : Content) → IsLight b → IsLightState s → IsHeld (machines_of s.ports) s.ports.stalled (s.trash ++ b ∷ []) s.out s.services.stats
 trashed s b light h = record { ports = h.ports; trash = All-push IsLight s.trash b h.trash light; out = h.out; stats = h.stats }
 
-leaves : (s : State) (o : Leaving) → length o.buffer.payload ≤ room_of o.queue → IsLightState s → IsHeld s.ports.machines s.ports.stalled s.trash (Some o) s.services.stats
+leaves : (s : State) (o : Leaving) → length o.buffer.payload ≤ room_of o.queue → IsLightState s → IsHeld (machines_of s.ports) s.ports.stalled s.trash (Some o) s.services.stats
 leaves s o fits h = record { ports = h.ports; trash = h.trash; out = fits; stats = h.stats }
 
 pub ported_light : (s : State) (c : Came) → Comes c → IsLightState s → IsTold (ported s c)
@@ -239,7 +239,7 @@ go_by_connection (Some at) s time p cut h =
 
 go_accepting : (free : Option ℕ) (s : State) (app : ℕ) (p : Arrival) → Arrives p → IsLightState s → IsTold (rules.accepting free s app p)
 go_accepting None s app p light h = trashed s p.buffer light h
-go_accepting (Some number) s app p light h = record { ports = h.ports; trash = h.trash; out = light; stats = h.stats }
+go_accepting (Some number) s app p light h = record { ports = accepted_light s.ports app number (rules.connection_of p.head) p.head.prio (rules.answer_flags p.head) h.ports; trash = h.trash; out = light; stats = h.stats }
 
 -- the window that a packet asks for is one that a connection may have
 checked_narrow : (o : Options) → IfOk (options.checked o) (λ o. o.window ≤ 20)

@@ -21,7 +21,7 @@ use Rattle.csp_log.specs.declared.shown.AnswerShown.{AnswerShown}
 use Rattle.csp_log.specs.declared.shown.OpShown.TheVariants as op
 use Rattle.csp_log.specs.declared.shown.OpShown.{OpShown}
 use Rattle.csp_party.specs.Any.{PlainParty, a_bridge, a_hub, a_link, a_router, an_app, an_iface}
-use Rattle.csp_ports.specs.PlainPorts.{PlainPorts, PlainStalled}
+use Rattle.csp_ports.specs.PlainPorts.{PlainPorts, PlainStalled, machines_of}
 use Rattle.csp_rdp.specs.Balance.{IsWhole}
 use Rattle.csp_rdp.specs.Machine.{PlainRdp}
 use Rattle.csp_rdp_window.specs.Receiving.{Kept}
@@ -115,7 +115,7 @@ pub record AreHeld (rs : List PlainRdp) (waits : List (Option PlainStalled)) : T
 
 -- so it is of a node's ports
 abbrev pub ArePorts : PlainPorts → Type 0
-ArePorts p = AreHeld p.machines p.stalled
+ArePorts p = AreHeld (machines_of p) p.stalled
 
 -- as many counts as an interface has, at most
 abbrev pub IsFew : Stats → Type 0
@@ -130,7 +130,7 @@ pub record IsHeld (rs : List PlainRdp) (waits : List (Option PlainStalled)) (spe
 
 -- so it is of its state
 abbrev pub IsLightState : State → Type 0
-IsLightState s = IsHeld s.ports.machines s.ports.stalled s.trash s.out s.services.stats
+IsLightState s = IsHeld (machines_of s.ports) s.ports.stalled s.trash s.out s.services.stats
 
 -- the window of its connections is one that a connection may have, and its name is as long as a reply has room for
 pub record AreFacts (f : Facts) : Type 0 where

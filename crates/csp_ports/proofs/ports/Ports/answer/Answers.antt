@@ -1,6 +1,7 @@
 use Rattle.std.proofs.lemmas.List.Elements.{All-drop}
 use Rattle.csp_ports.proofs.Owing.{due_less}
-use Rattle.csp_ports.specs.Kept.{IsOwed, wishes}
+use Rattle.csp_ports.specs.Kept.{IsOwed, plain_ports, wishes}
+use Rattle.csp_ports.specs.PlainPorts.{terms_of}
 use Rattle.csp_ports.specs.declared.ports.TheConstants.{ANSWERS}
 use Rattle.std.proofs.Common.{[], rules}
 use Rattle.csp_ports.proofs.Flowing.{keeps_of}
@@ -16,12 +17,11 @@ invariant_of-self c =
     record {
       few = a.few;
       apps = a.apps;
-      slots = a.slots;
       room = rw c.pop_front.ensures.capacity a.room;
       owners = a.owners;
       owed = rw c.pop_front.ensures.rest (All-drop (IsOwed p.conns.apps) 1 p.owed.items a.owed);
-      due = rw c.pop_front.ensures.rest (due_less ANSWERS p.owed.items (λ b. wishes b p.terms) a.due);
-      all = a.all;
+      due = rw c.pop_front.ensures.rest (due_less ANSWERS p.owed.items (λ b. wishes b (terms_of (plain_ports p))) a.due);
+      slots = a.slots;
       housed = a.housed;
       places = a.places;
       waits = a.waits;

@@ -1,16 +1,17 @@
 use Rattle.std.specs.Option.{option_to_list}
 use Rattle.std.proofs.Common.{◌-◌, ◌^◌, List, ◌∷◌, ◌++◌, ap, refl, subst, sym, ◌∙◌, []}
-use Rattle.std.proofs.lemmas.List.{append-nil}
 use Rattle.csp_deck.specs.Keeping.{with_contents}
 use Rattle.csp_log.specs.declared.event.Event.{Event}
 use Rattle.csp_ports.proofs.Counting.{far_changed, far_dropped}
-use Rattle.csp_ports.proofs.Following.{then_comes}
+use Rattle.csp_ports.proofs.Following.{then_comes, went_comes, where_apps}
+use Rattle.csp_ports.proofs.Slots.{machine_none}
+use Rattle.csp_rdp.specs.Machine.{PlainRdp}
 use Rattle.csp_ports.proofs.Tasking.{come_comes, settled_apps}
 use Rattle.csp_ports.specs.Came.{Comes, come, pictures, reporting, then}
 use Rattle.csp_ports.specs.Counts.{IsCountable}
 use Rattle.csp_ports.specs.Packets.{back_by, handing_event, stray_events, handing}
-use Rattle.csp_ports.specs.PlainPorts.{PortsAt, anywhere, machine_at, stalled_at}
-use Rattle.csp_ports.specs.Steps.{changed, dropped, settled, stepped, went}
+use Rattle.csp_ports.specs.PlainPorts.{PortsAt, anywhere, has_machine, machine_at, stalled_at}
+use Rattle.csp_ports.specs.Steps.{changed, dropped, settled, went, where_machine}
 use Rattle.csp_rdp.specs.Changes.{change_between}
 use Rattle.csp_rdp.specs.Table.{back_of, after_packet, is_stray, row_of}
 use Rattle.csp_rdp.specs.declared.answers.Change.{Change}
@@ -44,21 +45,17 @@ returns-clause-comes c =
     let events = c.hand_machine-change.new.report.items in
     let mid = c.hand_machine-change.new.self in
     then_comes at at c.settle.new.self c.args.trash.now trash c.drop_stalled.new.trash c.args.report.now.items events c.drop_stalled.new.report.items
-    (reporting (handing_event r tag) (back_by back (is_stray row) at.ports)) (λ p. then (went r.state machine_why.Reset app slot next p) (λ p. then (dropped app p) (λ p. come (settled now app p))))
+    (reporting (handing_event r tag) (back_by back (is_stray row) at.ports)) (λ p. then (where_machine (has_machine p app slot) (went r.state machine_why.Reset app slot next) p) (λ p. then (dropped app p) (λ p. come (settled now app p))))
     (record {
       ports = refl;
       trash = refl;
       events = c.hand_machine-change.ensures.report ∙ ap (λ (es : List Event). es ++ handing_event r tag ∷ stray_events back (is_stray row)) (sym c.requires.report);
     })
     (then_comes at c.change.new.self c.settle.new.self trash c.change.new.trash c.drop_stalled.new.trash events c.change.new.report.items c.drop_stalled.new.report.items
-    (went r.state machine_why.Reset app slot next at.ports) (λ p. then (dropped app p) (λ p. come (settled now app p)))
-    (then_comes at mid c.change.new.self trash c.hand_machine-change.new.trash c.change.new.trash events events c.change.new.report.items
-    (stepped app slot next at.ports) (changed (change_between r.state next.state machine_why.Reset) app slot)
-    (record {
-      ports = c.hand_machine-change.ensures.comes.ports;
-      trash = c.hand_machine-change.ensures.comes.trash;
-      events = sym (append-nil events);
-    })
+    (where_machine (has_machine at.ports app slot) (went r.state machine_why.Reset app slot next) at.ports) (λ p. then (dropped app p) (λ p. come (settled now app p)))
+    (went_comes (has_machine at.ports app slot) at mid c.change.new.self trash c.hand_machine-change.new.trash c.change.new.trash events c.change.new.report.items r.state machine_why.Reset app slot next
+    (λ e. ap (λ (q : PlainRdp). change_between q.state (handed head tag packet now q).state machine_why.Reset) (machine_none at.ports app slot e))
+    c.hand_machine-change.ensures.comes
     (subst (λ (x : Change). Comes mid c.change.new.self c.hand_machine-change.new.trash c.change.new.trash events c.change.new.report.items (changed x app slot mid.ports)) c.hand_machine-change.ensures.change c.change.ensures.comes))
     (then_comes c.change.new.self c.drop_stalled.new.self c.settle.new.self c.change.new.trash c.drop_stalled.new.trash c.drop_stalled.new.trash c.change.new.report.items c.drop_stalled.new.report.items c.drop_stalled.new.report.items
     (dropped app c.change.new.self.ports) (λ p. come (settled now app p)) c.drop_stalled.ensures.comes
@@ -68,7 +65,7 @@ pub returns-clause-apps : goal.returns-clause-apps
 returns-clause-apps c =
     ap (λ (x : PortsAt). x.ports.conns.apps) c.settle.ensures.ports
     ∙ (settled_apps (stalled_at c.drop_stalled.new.self.ports c.args.app) c.args.now c.args.app c.drop_stalled.new.self.ports
-    ∙ (c.drop_stalled.ensures.apps ∙ (c.change.ensures.apps ∙ ap (λ (x : PortsAt). x.ports.conns.apps) c.hand_machine-change.ensures.comes.ports)))
+    ∙ (c.drop_stalled.ensures.apps ∙ (c.change.ensures.apps ∙ (ap (λ (x : PortsAt). x.ports.conns.apps) c.hand_machine-change.ensures.comes.ports ∙ where_apps (has_machine c.args.self.now.ports c.args.app c.args.slot) c.args.app c.args.slot (handed c.args.head c.args.packet.picture.trace.tag (anywhere c.args.packet.picture) c.args.now (machine_at c.args.self.now.ports c.args.app c.args.slot)) c.args.self.now.ports))))
 
 pub returns-clause-keeps : goal.returns-clause-keeps
 returns-clause-keeps c =

@@ -1,7 +1,7 @@
+use Rattle.std.specs.Prelude.{Some}
 use Rattle.std.proofs.Common.{◌≡◌, ◌+◌, false, ap, subst, sym, ◌∙◌, [], ◌∷◌}
 use Rattle.csp_deck.specs.Regions.{nowhere}
 use Rattle.csp_ports.proofs.Keeping.{housed_in, machine_seen, machine_stepped, machines_kept}
-use Rattle.csp_ports.specs.Kept.{IsHoused}
 use Rattle.csp_ports.specs.PlainPorts.{PortsAt, anywhere}
 use Rattle.csp_rdp.specs.Jobs.{keeping_again}
 use Rattle.csp_rdp.specs.Machine.{PlainRdp}
@@ -16,15 +16,14 @@ pub invariant_of-self : goal.invariant_of-self
 invariant_of-self c =
     let p = c.self.inside in
     let name = p.token.name in
-    let r = c.index_mut-machine.result.now in
-    let value = c.index_mut-machine.ensures.value in
-    let seen = machine_seen p c.args.self.now c.args.app c.args.slot c.place.result r c.self.view_is c.place.ensures.value c.place.ensures.inside c.self.invariant value in
-    let h = subst (λ (q : PlainRdp). IsHoused name q) (sym value) (housed_in p c.place.result r c.place.ensures.inside c.self.invariant) in
+    let r = c.in-Some.machine in
+    let seen = machine_seen p c.args.self.now c.args.app c.args.slot c.place.result c.index_mut.result.now r c.self.view_is c.place.ensures.value c.place.ensures.inside c.self.invariant c.index_mut.ensures.value (sym c.in-Some.is) in
+    let h = housed_in p c.place.result c.index_mut.result.now r c.place.ensures.inside c.self.invariant c.index_mut.ensures.value (sym c.in-Some.is) in
     let opened = ap (λ (q : PlainRdp). q.state) seen ∙ c.requires.open in
     let taken = sym (c.sees_no_region.ensures.kept nowhere r (r.recv.cur + 1)) ∙ subst (λ (q : PlainRdp). is_kept q.recv (q.recv.cur + 1) ≡ false) (sym seen) c.requires.taken in
     let same = c.put_back.ensures.state in
     let of_it = c.requires.of_it ∙ ap (λ (x : PortsAt). x.region) (sym c.self.view_is) in
-    machines_kept p c.place.result c.put_back.new.self
+    machines_kept p c.args.app c.args.slot c.place.result c.index_mut.result.now (Some c.put_back.new.self) c.place.ensures.value c.place.ensures.inside c.index_mut.ensures.value
     (record {
       region = rw same (c.keeps_region.ensures.kept_again name c.args.packet r h.region of_it);
       whole = rw same (c.keeps_whole.ensures.kept_again c.args.packet r opened taken h.whole);
@@ -36,9 +35,9 @@ invariant_of-self c =
 pub returns-clause-ports : goal.returns-clause-ports
 returns-clause-ports c =
     let p = c.self.inside in
-    let r = c.index_mut-machine.result.now in
-    machine_stepped p c.args.self.now c.args.app c.args.slot c.place.result r c.put_back.new.self (keeping_again (anywhere c.args.packet.picture)) c.self.view_is c.place.ensures.value c.place.ensures.inside c.self.invariant
-    c.index_mut-machine.ensures.value (ap (placed nowhere) c.put_back.ensures.state ∙ c.sees_no_region.ensures.kept_again nowhere c.args.packet r)
+    let r = c.in-Some.machine in
+    machine_stepped p c.args.self.now c.args.app c.args.slot c.place.result c.index_mut.result.now r c.put_back.new.self (keeping_again (anywhere c.args.packet.picture)) c.self.view_is c.place.ensures.value c.place.ensures.inside c.self.invariant
+    c.index_mut.ensures.value (sym c.in-Some.is) (ap (placed nowhere) c.put_back.ensures.state ∙ c.sees_no_region.ensures.kept_again nowhere c.args.packet r)
 
 pub returns-clause-keeps : goal.returns-clause-keeps
 returns-clause-keeps c =

@@ -1,23 +1,22 @@
 use Rattle.std.proofs.Common.{None, IfSome, arith, refl}
 use Rattle.std.proofs.lemmas.List.Elements.{All-nil, All-replicate}
-use Rattle.csp_ports.specs.Kept.{IsHoused, IsOwed, IsWaiting}
-use Rattle.csp_rdp.specs.Machine.{idle}
-use Rattle.csp_ports.proofs.Holding.{idle-housed, none-bound, wishes-none}
+use Rattle.csp_ports.specs.Kept.{IsOwed, IsWaiting}
+use Rattle.csp_ports.specs.PlainPorts.{untouched}
+use Rattle.csp_ports.proofs.Holding.{AreHoused, none-bound, wishes-none}
 use Rattle.csp_ports.proofs.ports.Ports.open.Goals as goal
 
 pub invariant_of-result : goal.invariant_of-result
 invariant_of-result c = record {
   few = rw c.new.ensures c.requires;
   apps = rw c.new.ensures refl;
-  slots = refl;
   room = omega (arith, c.in_ok-owed.ensures.room);
   owners = λ port. none-bound c.new-2.result port c.new.result.apps c.new-2.ensures;
   owed = rw (c.in_ok-owed.ensures.none) (All-nil (IsOwed c.new.result.apps));
   due = λ app.
       let none = wishes-none 16 app in
-      rw (c.in_ok-owed.ensures.none, c.fresh.ensures) omega (arith, none);
-  all = rw c.in_ok-machines.ensures.machines refl;
-  housed = rw c.in_ok-machines.ensures.machines (All-replicate (IsHoused c.args.region.name) 16 idle (idle-housed c.args.region.name));
+      rw (c.in_ok-owed.ensures.none, c.in_ok-slots.ensures.slots) omega (arith, none);
+  slots = rw c.in_ok-slots.ensures.slots refl;
+  housed = rw c.in_ok-slots.ensures.slots (All-replicate (AreHoused c.args.region.name) 16 untouched tt);
   places = refl;
   waits = All-replicate (λ s. IfSome s (IsWaiting c.args.region.name)) 4 None tt;
 }

@@ -1,57 +1,78 @@
 use Rattle.std.proofs.Common.{◌++◌, length, arith, ap, refl, subst, sym, ◌∙◌}
+use Rattle.std.specs.Prelude.{IfSome, Option, unwrap_or}
+use Rattle.std.specs.Option.{option_map}
 use Rattle.csp_deck.specs.Keeping.{PlainPile, with_contents}
 use Rattle.csp_deck.specs.Regions.{nowhere}
-use Rattle.csp_ports.proofs.Keeping.{machine_in, machine_set, machines_kept}
-use Rattle.csp_ports.proofs.Sizing.{joined_count, part_in, roomy_in}
+use Rattle.csp_ports.proofs.Keeping.{machine_absent, machine_seen, machine_set, machines_kept}
+use Rattle.csp_ports.proofs.Sizing.{joined_count, none_held, part_of, roomy_in}
 use Rattle.std.specs.Vec.{with_item}
-use Rattle.std.proofs.lemmas.List.{length-append}
+use Rattle.std.proofs.lemmas.List.{append-nil, length-append}
 use Rattle.csp_ports.specs.Came.{pictures}
 use Rattle.csp_ports.specs.Kept.{IsHoused, IsRoomy, ports_at}
-use Rattle.csp_ports.specs.PlainPorts.{PortsAt, machine_at, with_machine, with_ports_at}
+use Rattle.csp_ports.specs.PlainPorts.{PortsAt, with_machine_or, with_ports_at}
 use Rattle.csp_rdp.specs.Holding.{rdp_buffers, rdp_numbers}
-use Rattle.csp_rdp.specs.Machine.{PlainRdp}
+use Rattle.csp_rdp.specs.Machine.{PlainRdp, idle}
 use Rattle.csp_rdp.specs.Placed.{placed}
 use Rattle.csp_ports.proofs.ports.Ports.replace.Goals as goal
 
-pub spend-requires-clause-room : goal.spend-requires-clause-room
-spend-requires-clause-room c =
-    let p = c.self.inside in
-    let roomy = subst (λ (x : PortsAt). IsRoomy 0 x c.args.trash.now) (sym c.self.view_is) c.requires.roomy in
-    let value = c.replace-old.ensures.value ∙ c.index_mut.ensures.value in
-    omega (arith, roomy.room, part_in p c.args.app c.args.slot c.place.result c.index_mut.result.now c.place.ensures.value c.place.ensures.inside c.self.invariant, ap (λ (r : PlainRdp). length (rdp_numbers r)) value)
-
 pub invariant_of-self : goal.invariant_of-self
 invariant_of-self c =
-    machines_kept c.self.inside c.place.result c.replace-old.new.dest
-    (rw c.replace-old.ensures.after (subst (λ (x : PortsAt). IsHoused x.region c.args.machine) (sym c.self.view_is) c.requires.housed)) c.self.invariant
+    machines_kept c.self.inside c.args.app c.args.slot c.place.result c.index_mut.result.now c.replace-old.new.dest c.place.ensures.value c.place.ensures.inside c.index_mut.ensures.value
+    (rw c.replace-old.ensures.after (subst (λ (x : PortsAt). IfSome c.args.machine (IsHoused x.region)) (sym c.self.view_is) c.requires.housed)) c.self.invariant
+
+pub invariant_of-self-2 : goal.invariant_of-self-2
+invariant_of-self-2 c =
+    machines_kept c.self.inside c.args.app c.args.slot c.place.result c.index_mut.result.now c.replace-old.new.dest c.place.ensures.value c.place.ensures.inside c.index_mut.ensures.value
+    (rw c.replace-old.ensures.after (subst (λ (x : PortsAt). IfSome c.args.machine (IsHoused x.region)) (sym c.self.view_is) c.requires.housed)) c.self.invariant
+
+pub spend-requires-clause-room : goal.spend-requires-clause-room
+spend-requires-clause-room c =
+    let roomy = subst (λ (x : PortsAt). IsRoomy 0 x c.args.trash.now) (sym c.self.view_is) c.requires.roomy in
+    omega (arith, roomy.room, part_of c.self.inside c.args.app c.args.slot c.place.result c.index_mut.result.now c.in-Some.old c.place.ensures.value c.place.ensures.inside c.self.invariant c.index_mut.ensures.value (sym c.in-Some.is ∙ c.replace-old.ensures.value))
+
+pub returns-in_default-clause-comes : goal.returns-in_default-clause-comes
+returns-in_default-clause-comes c =
+    let p = c.self.inside in
+    let none = machine_absent c.self.inside c.args.self.now c.args.app c.args.slot c.place.result c.index_mut.result.now c.self.view_is c.place.ensures.value c.place.ensures.inside c.self.invariant c.index_mut.ensures.value (sym c.replace-old.ensures.value ∙ c.in_default.is) in
+    record {
+      ports =
+          ap (λ (o : Option PlainRdp). ports_at (record p { slots = with_item p.slots c.place.result (record c.index_mut.result.now { machine = o }) })) c.replace-old.ensures.after
+          ∙ (machine_set p c.args.app c.args.slot c.place.result c.index_mut.result.now c.args.machine c.place.ensures.value c.place.ensures.inside c.self.invariant c.index_mut.ensures.value
+          ∙ ap (λ (x : PortsAt). with_ports_at x (with_machine_or x.ports c.args.app c.args.slot (option_map (placed nowhere) c.args.machine))) c.self.view_is);
+      trash = ap (with_contents c.args.trash.now) (sym (append-nil c.args.trash.now.contents)) ∙ ap (λ (r : PlainRdp). with_contents c.args.trash.now (c.args.trash.now.contents ++ pictures (rdp_buffers r))) (sym none);
+      events = refl;
+    }
+
+pub returns-in_default-clause-roomy : goal.returns-in_default-clause-roomy
+returns-in_default-clause-roomy c =
+    roomy_in 0 0 c.self.inside c.args.app c.args.slot c.place.result c.index_mut.result.now c.replace-old.new.dest c.args.trash.now c.args.trash.now c.place.ensures.value c.place.ensures.inside c.self.invariant c.index_mut.ensures.value
+    (subst (λ (x : PortsAt). IsRoomy 0 x c.args.trash.now) (sym c.self.view_is) c.requires.roomy) refl refl
+    (omega (arith, none_held c.args.machine c.requires.empty, ap (λ (o : Option PlainRdp). length (rdp_numbers (unwrap_or o idle))) c.replace-old.ensures.after))
 
 pub returns-clause-comes : goal.returns-clause-comes
 returns-clause-comes c =
     let p = c.self.inside in
-    let value = c.replace-old.ensures.value ∙ c.index_mut.ensures.value in
-    let old = ap (placed nowhere) value ∙ (machine_in p c.args.app c.args.slot c.place.result c.index_mut.result.now c.place.ensures.value c.place.ensures.inside c.self.invariant ∙ ap (λ (x : PortsAt). machine_at x.ports c.args.app c.args.slot) c.self.view_is) in
+    let old = machine_seen c.self.inside c.args.self.now c.args.app c.args.slot c.place.result c.index_mut.result.now c.in-Some.old c.self.view_is c.place.ensures.value c.place.ensures.inside c.self.invariant c.index_mut.ensures.value (sym c.in-Some.is ∙ c.replace-old.ensures.value) in
     record {
       ports =
-          ap (λ (r : PlainRdp). ports_at (record p { machines = with_item p.machines c.place.result r })) c.replace-old.ensures.after
-          ∙ (machine_set p c.args.app c.args.slot c.place.result c.args.machine c.place.ensures.value
-          ∙ ap (λ (x : PortsAt). with_ports_at x (with_machine x.ports c.args.app c.args.slot (placed nowhere c.args.machine))) c.self.view_is);
+          ap (λ (o : Option PlainRdp). ports_at (record p { slots = with_item p.slots c.place.result (record c.index_mut.result.now { machine = o }) })) c.replace-old.ensures.after
+          ∙ (machine_set p c.args.app c.args.slot c.place.result c.index_mut.result.now c.args.machine c.place.ensures.value c.place.ensures.inside c.self.invariant c.index_mut.ensures.value
+          ∙ ap (λ (x : PortsAt). with_ports_at x (with_machine_or x.ports c.args.app c.args.slot (option_map (placed nowhere) c.args.machine))) c.self.view_is);
       trash = c.spend.ensures ∙ ap (λ (r : PlainRdp). with_contents c.args.trash.now (c.args.trash.now.contents ++ pictures (rdp_buffers r))) old;
       events = refl;
     }
 
 pub returns-clause-roomy : goal.returns-clause-roomy
 returns-clause-roomy c =
-    let p = c.self.inside in
-    let value = c.replace-old.ensures.value ∙ c.index_mut.ensures.value in
-    roomy_in 0 0 p c.args.app c.args.slot c.place.result c.replace-old.new.dest c.index_mut.result.now c.args.trash.now c.spend.new.trash c.place.ensures.value c.place.ensures.inside c.self.invariant
+    roomy_in 0 0 c.self.inside c.args.app c.args.slot c.place.result c.index_mut.result.now c.replace-old.new.dest c.args.trash.now c.spend.new.trash c.place.ensures.value c.place.ensures.inside c.self.invariant c.index_mut.ensures.value
     (subst (λ (x : PortsAt). IsRoomy 0 x c.args.trash.now) (sym c.self.view_is) c.requires.roomy)
     (ap (λ (t : PlainPile). t.region) c.spend.ensures) (ap (λ (t : PlainPile). t.room) c.spend.ensures)
     (omega (
       arith,
       ap (λ (t : PlainPile). length t.contents) c.spend.ensures,
-      length-append c.args.trash.now.contents (pictures (rdp_buffers (placed nowhere c.replace-old.result))),
-      joined_count c.replace-old.result,
-      ap (λ (r : PlainRdp). length (rdp_numbers r)) value,
-      ap (λ (r : PlainRdp). length (rdp_numbers r)) c.replace-old.ensures.after,
-      ap length c.requires.empty,
+      length-append c.args.trash.now.contents (pictures (rdp_buffers (placed nowhere c.in-Some.old))),
+      joined_count c.in-Some.old,
+      ap (λ (o : Option PlainRdp). length (rdp_numbers (unwrap_or o idle))) (sym c.in-Some.is ∙ c.replace-old.ensures.value),
+      ap (λ (o : Option PlainRdp). length (rdp_numbers (unwrap_or o idle))) c.replace-old.ensures.after,
+      none_held c.args.machine c.requires.empty,
     ))

@@ -1,7 +1,15 @@
-use Rattle.std.proofs.Common.{refl}
+use Rattle.std.proofs.Common.{◌-◌, ◌^◌, refl, subst, sym}
+use Rattle.csp_ports.proofs.Counting.{far_machine_at}
+use Rattle.csp_ports.specs.PlainPorts.{PortsAt, machine_at}
+use Rattle.csp_rdp.specs.Counts.{IsFar}
 use Rattle.csp_ports.proofs.Waiting.{none_left, settled_err}
 use Rattle.csp_ports.specs.Kept.{stalled_of}
 use Rattle.csp_ports.proofs.ports.Ports.settle.Goals as goal
+
+pub admit-requires-clause-countable : goal.admit-requires-clause-countable
+admit-requires-clause-countable c =
+    let n = 2 ^ 32 - 2 in
+    subst (λ (x : PortsAt). IsFar n (machine_at x.ports c.args.app c.in-Some.stalled.slot)) (sym c.take_stalled.ensures.ports) (far_machine_at n c.args.self.now.ports c.args.app c.in-Some.stalled.slot c.requires.countable)
 
 pub stall-requires-clause-none : goal.stall-requires-clause-none
 stall-requires-clause-none c =

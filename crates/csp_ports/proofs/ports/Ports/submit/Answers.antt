@@ -5,7 +5,6 @@ use Rattle.csp_ports.specs.Came.{Comes}
 use Rattle.csp_ports.specs.Packets.{submitting}
 use Rattle.csp_ports.specs.PlainPorts.{PortsAt, machine_at}
 use Rattle.csp_ports.specs.Steps.{has_room}
-use Rattle.csp_rdp.specs.Machine.{PlainRdp}
 use Rattle.csp_ports.proofs.Flowing.{keeps_of}
 use Rattle.csp_ports.proofs.Serving.{flows_submitted}
 use Rattle.csp_ports.proofs.Wholes.{there_few}
@@ -13,7 +12,7 @@ use Rattle.csp_ports.proofs.ports.Ports.submit.Goals as goal
 
 pub returns-in-Open-clause-comes : goal.returns-in-Open-clause-comes
 returns-in-Open-clause-comes c =
-    let opened = sym (ap (λ (q : PlainRdp). q.state) c.machine.ensures) ∙ (sym c.state.ensures.value ∙ c.in-Open.is) in
+    let opened = sym c.state.ensures ∙ c.in-Open.is in
     subst (λ (es : List Event). Comes c.args.self.now c.send.new.self c.args.trash.now c.args.trash.now es c.send.new.report.items (submitting c.args.self.now.ports c.args.app c.args.slot c.args.packet.picture c.args.now)) (sym c.requires.report)
     (submitted_comes c.args.self.now c.send.new.self c.args.trash.now c.send.new.report.items c.args.app c.args.slot c.args.packet.picture c.args.now opened c.send.ensures.ports c.send.ensures.report)
 
