@@ -54,7 +54,7 @@ returns-clause-comes c =
     (then_comes at c.change.new.self c.settle.new.self trash c.change.new.trash c.drop_stalled.new.trash events c.change.new.report.items c.drop_stalled.new.report.items
     (where_machine (has_machine at.ports app slot) (went r.state machine_why.Reset app slot next) at.ports) (λ p. then (dropped app p) (λ p. come (settled now app p)))
     (went_comes (has_machine at.ports app slot) at mid c.change.new.self trash c.hand_machine-change.new.trash c.change.new.trash events c.change.new.report.items r.state machine_why.Reset app slot next
-    (λ e. ap (λ (q : PlainRdp). change_between q.state (handed head tag packet now q).state machine_why.Reset) (machine_none at.ports app slot e))
+    (λ e. ap (λ (q : PlainRdp). change_between q.state (after_packet head tag packet now q).state machine_why.Reset) (machine_none at.ports app slot e))
     c.hand_machine-change.ensures.comes
     (subst (λ (x : Change). Comes mid c.change.new.self c.hand_machine-change.new.trash c.change.new.trash events c.change.new.report.items (changed x app slot mid.ports)) c.hand_machine-change.ensures.change c.change.ensures.comes))
     (then_comes c.change.new.self c.drop_stalled.new.self c.settle.new.self c.change.new.trash c.drop_stalled.new.trash c.drop_stalled.new.trash c.change.new.report.items c.drop_stalled.new.report.items c.drop_stalled.new.report.items
