@@ -11,7 +11,7 @@ pub use Rattle.csp_ports.proofs.Holding.{wishes-none}
 -- what comes of packets, tasks, and what applications ask: that it neither loses a buffer nor counts further than it may
 pub use Rattle.csp_ports.proofs.Serving.{flows_answered, flows_connected, flows_delivered, flows_ended, flows_handed, flows_invited, flows_submitted, keeps_again, keeps_made, now_taken}
 -- a slot's terms and its machine
-pub use Rattle.csp_ports.proofs.Slots.{machine_beside, machine_listed, machine_none, machine_now, machines_of_machine, machines_of_terms, terms_beside, terms_listed, terms_now, terms_of_machine, terms_of_terms}
+pub use Rattle.csp_ports.proofs.Slots.{held_terms, machine_beside, machine_listed, machine_none, machine_now, machines_of_machine, machines_of_terms, terms_beside, terms_listed, terms_now, terms_of_machine, terms_of_terms}
 -- buffers are counted: how often one number is among theirs, or how many they are
 pub use Rattle.csp_ports.proofs.Weighing.{tally, tally_append, tally_none, tally_same, weight}
 -- machines that are whole

@@ -24,10 +24,12 @@ admits_by p at app slot place s r new b time true answer view e there a value so
     (h.0, machine_stepped p at app slot place s r new (admitting (anywhere b.picture) time) view e there a value some h.1)
 admits_by p at app slot place s r new b time false answer view e there a value some h =
     let seen = machine_in_place p at app slot place s view e there a value in
-    let own : Some (machine_at at.ports app slot) ≡ (state_at at.ports app slot).machine = ap Some (sym (machine_seen p at app slot place s r view e there a value some)) ∙ (ap (option_map (placed nowhere)) some ∙ seen) in
-    (h.0, machine_stepped p at app slot place s r new (λ q. q) view e there a value some h.1
-    ∙ ap (λ (ss : List SlotState). with_ports_at at (record at.ports { slots = ss }))
-    (ap (λ (o : Option PlainRdp). slice_set at.ports.slots (place_of app slot) (record (state_at at.ports app slot) { machine = o })) own ∙ set-get_or at.ports.slots (place_of app slot) untouched))
+    let own : Some (machine_at at.ports app slot) ≡ (state_at at.ports app slot).machine = ap Some (sym (machine_seen p at app slot place s r view e there a value some)) ∙ (ap (option_map (placed nowhere)) some ∙ seen) in (
+      h.0,
+      machine_stepped p at app slot place s r new (λ q. q) view e there a value some h.1
+          ∙ ap (λ (ss : List SlotState). with_ports_at at (record at.ports { slots = ss }))
+          (ap (λ (o : Option PlainRdp). slice_set at.ports.slots (place_of app slot) (record (state_at at.ports app slot) { machine = o })) own ∙ set-get_or at.ports.slots (place_of app slot) untouched),
+    )
 
 pub admits_in : (p : Inside) (at : PortsAt) (app slot place : ℕ) (s : SlotState) (r new : PlainRdp) (b : PlainBuffer) (time : ℕ) (answer : Result Unit PlainBuffer) → ports_at p ≡ at → place ≡ place_of app slot → place < 16 → ArePorts p → s ≡ get_or p.slots.items place s → Some r ≡ s.machine
     → Admits (has_room (placed nowhere r)) answer (placed nowhere r) (placed nowhere new) b time → AdmitsIn (has_room (machine_at at.ports app slot)) answer at (ports_at (record p { slots = with_item p.slots place (record s { machine = Some new }) })) app slot b time

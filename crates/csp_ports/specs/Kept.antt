@@ -58,10 +58,9 @@ pub record IsOwed (apps : ℕ) (o : Owed) : Type 0 where
 
 -- the answers that are still to come at a slot: one, where its application waits for a connection or for an end
 abbrev pub wished : Wish → ℕ
-wished wish.Nothing = 0
 wished wish.Connection = 1
 wished wish.End = 1
-wished wish.Ended = 0
+wished _ = 0
 
 -- how many answers are still to come for the slots of an application
 abbrev pub wishes : ℕ → List Terms → ℕ

@@ -1,5 +1,5 @@
 -- what comes of packets: those that open a connection, those that are handed to a reliable one, and those of applications
-use Rattle.std.specs.Prelude.{ℕ, ◌+◌, Bool, true, false, Option, None, Some, List, [], ◌∷◌}
+use Rattle.std.specs.Prelude.{ℕ, ◌+◌, Bool, true, false, Option, Some, List, [], ◌∷◌}
 use Rattle.csp_base.specs.declared.priority.Prio.{Prio}
 use Rattle.csp_base.specs.declared.traces.Tag.{Tag}
 use Rattle.csp_buffer.specs.Content.{Content}
@@ -44,9 +44,8 @@ handing_event r tag = event.Handed r.nth r.peer tag r.recv.cur (una_of r)
 
 -- its buffer is kept by the machine, or handed back; then it is discarded as Stray where the machine has no use for it
 abbrev pub stray_events : (back : Option PlainBuffer) → (is_stray : Bool) → List Event
-stray_events None stray = []
 stray_events (Some b) true = event.Discarded why.Stray ∷ []
-stray_events (Some b) false = []
+stray_events _ stray = []
 
 -- what comes of a buffer that a machine handed back: it joins the trash, and is reported where it was stray
 abbrev pub back_by : (back : Option PlainBuffer) → (is_stray : Bool) → PlainPorts → Came

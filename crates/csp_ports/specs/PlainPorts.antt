@@ -22,10 +22,9 @@ pub record PlainStalled : Type 0 where
   pub slot : ℕ
   pub buffer : PlainBuffer
 
--- the connections; what is kept of each slot besides, in the order of application, then slot: how its packets are sent and how
--- far it has come, and the machine of its reliable connection, where it has one: a plain one, and a slot that is free, has none;
--- for each application the packet that waits for room in a window; who bound which port; the answers owed to applications, the
--- oldest first; the slot with which the next look for a task begins; and how many reliable connections the node has made
+-- the connections; what is kept of each slot besides, in the order of application, then slot; for each application the packet
+-- that waits for room in a window; who bound which port; the answers owed to applications, the oldest first; the slot with which
+-- the next look for a task begins; and how many reliable connections the node has made
 pub record PlainPorts : Type 0 where
   pub conns : PlainConns
   pub slots : List SlotState
@@ -49,10 +48,11 @@ with_ports_at p ports = record { region = p.region; ports = ports }
 abbrev pub anywhere : Content → PlainBuffer
 anywhere b = record { picture = b; region = nowhere }
 
--- a slot before its first connection: its terms, and that it has no machine
+-- a slot before its first connection
 abbrev pub fresh : Terms
 fresh = record { prio = Normal; flags = 0; wish = wish.Nothing; is_down = false; ordinal = 0 }
 
+-- and what is kept of it: it has no machine
 abbrev pub untouched : SlotState
 untouched = record { terms = fresh; machine = None }
 
@@ -80,7 +80,7 @@ waiting app owed = count_by (λ o. o.app == app) owed
 
 -- ---- slots
 
--- what is kept of a slot
+-- what is kept of a slot: a slot with a plain connection, and one that is free, has no machine
 abbrev pub state_at : PlainPorts → (app slot : ℕ) → SlotState
 state_at p app slot = get_or p.slots (place_of app slot) untouched
 
@@ -98,19 +98,19 @@ wishing p app slot what = with_terms p app slot (record (terms_at p app slot) { 
 
 -- the application has asked for the slot's end
 abbrev pub is_closing : Wish → Bool
-is_closing wish.Nothing = false
-is_closing wish.Connection = false
 is_closing wish.End = true
 is_closing wish.Ended = true
+is_closing _ = false
 
 -- the slot has a machine
 abbrev pub has_machine : PlainPorts → (app slot : ℕ) → Bool
 has_machine p app slot = is_some (state_at p app slot).machine
 
--- the machine of a slot's reliable connection; one where the slot has none is idle: it is closed, holds nothing and owes nothing
+-- its machine; where it has none, one that is idle
 abbrev pub machine_in : SlotState → PlainRdp
 machine_in s = unwrap_or s.machine idle
 
+-- the machine of a slot's reliable connection; where the slot has none it is idle: it is closed, holds nothing and owes nothing
 abbrev pub machine_at : PlainPorts → (app slot : ℕ) → PlainRdp
 machine_at p app slot = machine_in (state_at p app slot)
 
@@ -118,13 +118,15 @@ machine_at p app slot = machine_in (state_at p app slot)
 abbrev pub with_machine_or : PlainPorts → (app slot : ℕ) → Option PlainRdp → PlainPorts
 with_machine_or p app slot machine = record p { slots = slice_set p.slots (place_of app slot) (record (state_at p app slot) { machine = machine }) }
 
+-- the ports with another machine of a slot
 abbrev pub with_machine : PlainPorts → (app slot : ℕ) → PlainRdp → PlainPorts
 with_machine p app slot r = with_machine_or p app slot (Some r)
 
--- the terms of all slots, and their machines
+-- the terms of all slots
 abbrev pub terms_of : PlainPorts → List Terms
 terms_of p = map (λ s. s.terms) p.slots
 
+-- and their machines, with an idle one for each slot that has none
 abbrev pub machines_of : PlainPorts → List PlainRdp
 machines_of p = map machine_in p.slots
 

@@ -28,8 +28,7 @@ impl Ports {
     pub fn holds(&self, number: u16) -> bool
         ensures { IsTrue result ↔ (0 < times number (numbers_of (held self.now.ports))) }
     {
-        is_stalled(&self.stalled, number)
-            || self.slots.iter().any(|slot| slot.holds(number))
+        is_stalled(&self.stalled, number) || self.slots.iter().any(|slot| slot.holds(number))
     }
 
     /// They hold `MAX_HELD` buffers at most.

@@ -311,23 +311,11 @@ impl Ports {
                 self.set_terms(app, slot, terms);
                 self.owe(app, Note::Closed { slot });
             }
-            Wish::Nothing => {
-                if !self.was_open(app, slot) {
-                    self.give_up(app, slot, trash);
-                }
-            }
+            Wish::Nothing => match self.machine(app, slot) {
+                Some(machine) if machine.was_open() => {}
+                _ => self.give_up(app, slot, trash),
+            },
             Wish::Connection | Wish::Ended => {}
-        }
-    }
-
-    /// Whether a slot's reliable connection was ever open.
-    fn was_open(&self, app: u8, slot: u8) -> bool
-        requires there { IsThere self.now.ports.conns app slot }
-        ensures { result ≡ (machine_at self.now.ports app slot).was_open }
-    {
-        match self.machine(app, slot) {
-            Some(machine) => machine.was_open(),
-            None => false,
         }
     }
 
