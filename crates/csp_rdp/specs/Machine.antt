@@ -66,7 +66,7 @@ connecting start options node nth time = made SynSent start options 0 None node 
 abbrev pub accepting : ℕ → Options → ℕ → Option Tag → ℕ → ℕ → ℕ → PlainRdp
 accepting start options other tag node nth time = made SynRcvd start options other (option_map flow_of tag) node nth time
 
--- the machine of a slot without a connection: it is closed, holds nothing and owes nothing
+-- what a slot without a machine is taken for: a connection that is closed, holds nothing and owes nothing
 abbrev pub idle : PlainRdp
 idle = record (made Closed 0 usual_options 0 None 0 0 0) { owed = nothing_owed }
 

@@ -5,7 +5,7 @@ ghost use Rattle.std.specs.Option.{MatchOption, option_map};
 ghost use Rattle.csp_rdp.specs.Changes.{change_between, close_change};
 ghost use Rattle.csp_rdp.specs.Holding.{rdp_buffers, rdp_numbers, rested, taken_out, unneeded, unneeded_buffer, unneeded_in, without_kept, without_unneeded};
 ghost use Rattle.csp_rdp.specs.Jobs.{admitting, closing, delivering, delivery, filled, job_in, job_of, keeping_again, sent, ticked, without_delivery};
-ghost use Rattle.csp_rdp.specs.Machine.{accepting, connecting, flow_of, idle, made, una_of};
+ghost use Rattle.csp_rdp.specs.Machine.{accepting, connecting, flow_of, made, una_of};
 ghost use Rattle.csp_rdp.specs.Sound.{IsUnopened};
 ghost use Rattle.csp_rdp.specs.Timer.{times_out, waits_in};
 ghost use Rattle.csp_rdp.specs.Table.{back_of, after_packet, is_stray, row_of};
@@ -110,26 +110,6 @@ impl Rdp {
             SendWindow::new(start, options.window),
             (syn.seq, peer_of(tag)),
         )
-    }
-
-    /// What stands where there is no connection: it is closed, holds no buffer and owes nothing.
-    pub fn idle() -> Rdp
-        ensures { result ≡ idle }
-    {
-        let options = Options::usual();
-        Rdp {
-            state: State::Closed,
-            options,
-            node: 0,
-            nth: 0,
-            peer: None,
-            was_open: false,
-            since: 0,
-            send: SendWindow::new(Seq(0), options.window),
-            recv: RecvWindow::new(Seq(0), options.window),
-            owed: Owed::nothing(),
-            reset_at: None,
-        }
     }
 
     /// Hands over a packet, whose head was cut off. It comes to a row of the table of states.
