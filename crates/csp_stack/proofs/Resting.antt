@@ -1,9 +1,11 @@
 -- what asks and what was told is sound again
-use Rattle.std.proofs.Common.{◌≡◌, ℕ, ◌+◌, ◌≤◌, List, [], ◌∷◌, length, Option, Some, None, IfSome, MatchOption, refl, ap, ◌∙◌, arith}
+use Rattle.std.proofs.Common.{◌≡◌, ℕ, ◌+◌, ◌<◌, ◌≤◌, List, [], ◌∷◌, length, Option, Some, None, IfSome, MatchOption, refl, ap, sym, subst, ◌∙◌, arith}
 use Rattle.csp_buffer.specs.Content.{Content}
+use Rattle.csp_conn.specs.PlainConns.{IsThere}
 use Rattle.csp_deck.specs.Keeping.{numbers_of}
 use Rattle.csp_deck.specs.Step.{kind_of, op_numbers, times}
 use Rattle.csp_log.specs.declared.places.QueueId.{QueueId}
+use Rattle.csp_log.specs.declared.places.QueueId.TheVariants as queue
 use Rattle.csp_log.specs.declared.shown.OpShown.{OpShown}
 use Rattle.csp_log.specs.declared.shown.OpShown.TheVariants as op
 use Rattle.csp_log.specs.declared.shown.ItemShown.TheVariants as item
@@ -16,7 +18,7 @@ use Rattle.csp_log.specs.declared.event.Event.{Event}
 use Rattle.csp_ports.specs.declared.held.TheConstants.{MAX_HELD}
 use Rattle.csp_stack.specs.Comes.{IsServing}
 use Rattle.csp_stack.specs.Keeps.{Asks, Keeps}
-use Rattle.csp_stack.specs.Party.{HasPlace, IsClear, IsSendable, IsSound, IsTimed, IsWaiting, kind_of_plan}
+use Rattle.csp_stack.specs.Party.{HasPlace, IsClear, IsDelivering, IsSendable, IsSound, IsTimed, IsWaiting, kind_of_plan}
 use Rattle.csp_stack.specs.Router.{Facts, Leaving, State, StateAt, at_rest, drained, drained_by, holds, out_buffers}
 use Rattle.csp_stack.specs.declared.plan.Plan.{Plan}
 use Rattle.csp_stack.specs.declared.plan.Plan.TheVariants as plan
@@ -94,6 +96,21 @@ ports_then p q r gone a b = record {
   size = let x = a.size in let y = b.size in omega (arith, x, y);
   far = λ n h. far_same (n + 0) r (b.far (n + 0) (a.far n h));
 }
+
+-- a packet of a slot is handed over, once the ports have turned to the slot
+pub delivery_asks : (f : Facts) (inside seen : StateAt) (q p : PlainPorts) (cursor app slot time : ℕ) (b : Content) → inside ≡ seen → IsTimed f seen.state → IsClear seen.state → IsThere seen.state.ports.conns app slot
+    → PortsKeep 0 inside.state.ports q [] [] [] → q.conns.apps ≡ inside.state.ports.conns.apps → PortsKeep 0 q p [] (b ∷ []) [] → p.conns.apps ≡ q.conns.apps
+    → IsDelivering (record inside.state { ports = p }) app slot → Asks f seen.state (record inside.state { ports = p; cursor = cursor; doing = plan.Deliver app slot }) time (op.Push (queue.Down app) (item.Packet slot b))
+delivery_asks f inside seen q p cursor app slot time b e timed clear there turned same gone alike delivers =
+    subst (λ (x : StateAt). IsTimed f x.state → IsClear x.state → IsThere x.state.ports.conns app slot → Asks f x.state (record inside.state { ports = p; cursor = cursor; doing = plan.Deliver app slot }) time (op.Push (queue.Down app) (item.Packet slot b))) e
+    (λ timed clear there.
+    ports_ask f inside.state p cursor (plan.Deliver app slot) time (op.Push (queue.Down app) (item.Packet slot b)) (b ∷ []) timed (ports_then inside.state.ports q p (b ∷ []) turned gone) (alike ∙ same) refl (
+      record { trash = clear.trash; out = clear.out; early = clear.early },
+      record { of_node = subst (λ (n : ℕ). app < n) (sym (alike ∙ same)) there.of_node; of_app = there.of_app },
+      record { is_open = delivers.is_open; is_taken = delivers.is_taken },
+    )
+    tt refl)
+    timed clear there
 
 -- it gives the first buffer of its trash
 pub give_asks : (f : Facts) (s : State) (time : ℕ) (b : Content) (bs : List Content) → s.trash ≡ b ∷ bs → IsTimed f s → Asks f s (record s { trash = bs; doing = plan.Give }) time (op.Give b)

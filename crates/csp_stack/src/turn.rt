@@ -222,7 +222,7 @@ fn begin_note(facts: &Facts, state: &mut State, app: u8, slot: u8, _now: u64) ->
 }
 
 /// Begins the push of the packet that a connection is to deliver, which it hands over.
-#[tactic(auto, using(crate::proofs::Resting::ports_ask, crate::proofs::Resting::ports_then, crate::proofs::Sendable::to_slot_sendable))]
+#[tactic(auto, using(crate::proofs::Sendable::to_slot_sendable))]
 fn begin_delivery(facts: &Facts, state: &mut State, app: u8, slot: u8, _now: u64) -> Op
     requires sound { IsTimed facts.now state.old.state }
     requires clear { IsClear state.old.state }
