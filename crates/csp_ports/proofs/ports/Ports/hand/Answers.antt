@@ -65,7 +65,7 @@ pub returns-clause-apps : goal.returns-clause-apps
 returns-clause-apps c =
     ap (λ (x : PortsAt). x.ports.conns.apps) c.settle.ensures.ports
     ∙ (settled_apps (stalled_at c.drop_stalled.new.self.ports c.args.app) c.args.now c.args.app c.drop_stalled.new.self.ports
-    ∙ (c.drop_stalled.ensures.apps ∙ (c.change.ensures.apps ∙ (ap (λ (x : PortsAt). x.ports.conns.apps) c.hand_machine-change.ensures.comes.ports ∙ where_apps (has_machine c.args.self.now.ports c.args.app c.args.slot) c.args.app c.args.slot (handed c.args.head c.args.packet.picture.trace.tag (anywhere c.args.packet.picture) c.args.now (machine_at c.args.self.now.ports c.args.app c.args.slot)) c.args.self.now.ports))))
+    ∙ (c.drop_stalled.ensures.apps ∙ (c.change.ensures.apps ∙ (ap (λ (x : PortsAt). x.ports.conns.apps) c.hand_machine-change.ensures.comes.ports ∙ where_apps (has_machine c.args.self.now.ports c.args.app c.args.slot) c.args.app c.args.slot (after_packet c.args.head c.args.packet.picture.trace.tag (anywhere c.args.packet.picture) c.args.now (machine_at c.args.self.now.ports c.args.app c.args.slot)) c.args.self.now.ports))))
 
 pub returns-clause-keeps : goal.returns-clause-keeps
 returns-clause-keeps c =
