@@ -2,8 +2,9 @@
 use Rattle.std.proofs.Common.{◌≡◌, ℕ, ◌+◌, Bool, true, false, Option, None, Some, List, [], ◌∷◌, ◌++◌, length, refl, sym, subst, ◌∙◌}
 use Rattle.std.specs.Prelude.{if◌then◌else◌, ⊤}
 use Rattle.std.specs.List.{AllByRecursion}
-use Rattle.csp_bridge.specs.Asking as bridge_asking
-use Rattle.csp_bridge.specs.Planning as bridge_plan
+use Rattle.csp_bridge.specs.Turns as bridge_turns
+use Rattle.csp_bridge.specs.declared.doing.Doing.{Doing}
+use Rattle.csp_buffer.specs.Content.{Content}
 use Rattle.csp_consistent.proofs.AppQueues.{app_asks, app_number}
 use Rattle.csp_consistent.proofs.IfaceQueues.{iface_asks, iface_number}
 use Rattle.csp_consistent.proofs.RouterQueues.{IsOutward, router_asks, router_outward}
@@ -37,10 +38,10 @@ IsOwn (who.Link number) (a_link l) = ⊤
 IsOwn (who.Link number) (a_hub h) = ⊤
 IsOwn _ _ = ⊥
 
-bridge_asks : (node : ℕ) (p : bridge_plan.BridgePlan) → MayAsk (who.Bridge node) (bridge_asking.op_of p)
-bridge_asks node (bridge_plan.give b) = tt
-bridge_asks node (bridge_plan.send to b) = tt
-bridge_asks node bridge_plan.hear = tt
+bridge_asks : (node : ℕ) (trash out : Option Content) (to : ℕ) (doing : Doing) → MayAsk (who.Bridge node) (bridge_turns.asks (record { trash = trash; out = out; to = to; doing = doing }))
+bridge_asks node (Some b) out to doing = tt
+bridge_asks node None (Some b) to doing = tt
+bridge_asks node None None to doing = tt
 
 link_asks : (number : ℕ) (way : Way) (p : link_plan.LinkPlan) → MayAsk (who.Link number) (link_asking.op_of way p)
 link_asks number way (link_plan.push place h) = tt
@@ -61,7 +62,7 @@ own_asks (who.Router n) (an_app p) time own = absurd own
 own_asks (who.Router n) (a_link l) time own = absurd own
 own_asks (who.Router n) (a_hub h) time own = absurd own
 own_asks (who.Bridge n) (a_router r) time own = absurd own
-own_asks (who.Bridge n) (a_bridge b) time own = bridge_asks n (bridge_plan.plan_of b)
+own_asks (who.Bridge n) (a_bridge b) time own = bridge_asks n b.trash b.out b.to b.doing
 own_asks (who.Bridge n) (an_iface i) time own = absurd own
 own_asks (who.Bridge n) (an_app p) time own = absurd own
 own_asks (who.Bridge n) (a_link l) time own = absurd own
