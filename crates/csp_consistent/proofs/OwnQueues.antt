@@ -1,6 +1,6 @@
 -- Each party uses its own queues, from its opening in a scene on.
 use Rattle.std.proofs.Common.{◌≡◌, ℕ, ◌+◌, Bool, true, false, Option, None, Some, List, [], ◌∷◌, ◌++◌, length, refl, sym, subst, ◌∙◌}
-use Rattle.std.specs.Prelude.{if◌then◌else◌, ⊤}
+use Rattle.std.specs.Prelude.{if◌then◌else◌, nat_le, ⊤}
 use Rattle.std.specs.List.{AllByRecursion}
 use Rattle.csp_bridge.specs.Turns as bridge_turns
 use Rattle.csp_bridge.specs.declared.doing.Doing.{Doing}
@@ -15,9 +15,11 @@ use Rattle.csp_deck.specs.Runs.{IsRun}
 use Rattle.csp_hub.specs.Asking as hub_asking
 use Rattle.csp_hub.specs.PlainHub as plain_hub
 use Rattle.csp_hub.specs.Planning as hub_plan
-use Rattle.csp_link.specs.Asking as link_asking
+use Rattle.csp_link.specs.Holding.{first_due}
 use Rattle.csp_link.specs.PlainLink as plain_link
-use Rattle.csp_link.specs.Planning as link_plan
+use Rattle.csp_link.specs.Turns as link_turns
+use Rattle.csp_link.specs.declared.held.Held.{Held}
+use Rattle.csp_link.specs.declared.held.TheConstants.{MOST_HELD}
 use Rattle.csp_link.specs.declared.way.Way.{Way}
 use Rattle.csp_log.specs.declared.entry.Entry.{Entry}
 use Rattle.csp_log.specs.declared.shown.AnswerShown.{AnswerShown}
@@ -43,15 +45,15 @@ bridge_asks node (Some b) out to doing = tt
 bridge_asks node None (Some b) to doing = tt
 bridge_asks node None None to doing = tt
 
-link_asks : (number : ℕ) (way : Way) (p : link_plan.LinkPlan) → MayAsk (who.Link number) (link_asking.op_of way p)
-link_asks number way (link_plan.push place h) = tt
-link_asks number way link_plan.pop = tt
-link_asks number way link_plan.wait = tt
+link_asks : (number : ℕ) (way : Way) (now : ℕ) (due : Option (ℕ × Held)) (few : Bool) (d : plain_link.PlainDirection) → MayAsk (who.Link number) (link_turns.turn_of way now due d (link_turns.first_rule due few)).asks
+link_asks number way now (Some p) few d = tt
+link_asks number way now None true d = tt
+link_asks number way now None false d = tt
 
-hub_asks : (number end : ℕ) (p : link_plan.LinkPlan) → MayAsk (who.Link number) (hub_asking.op_of end p)
-hub_asks number end (link_plan.push place h) = tt
-hub_asks number end link_plan.pop = tt
-hub_asks number end link_plan.wait = tt
+hub_asks : (number end : ℕ) (p : hub_plan.HubPlan) → MayAsk (who.Link number) (hub_asking.op_of end p)
+hub_asks number end (hub_plan.push place h) = tt
+hub_asks number end hub_plan.pop = tt
+hub_asks number end hub_plan.wait = tt
 
 -- it asks what it may
 pub own_asks : (w : Who) (p : PlainParty) (time : ℕ) → IsOwn w p → MayAsk w (asks p time)
@@ -83,7 +85,7 @@ own_asks (who.Link k) (a_router r) time own = absurd own
 own_asks (who.Link k) (a_bridge b) time own = absurd own
 own_asks (who.Link k) (an_iface i) time own = absurd own
 own_asks (who.Link k) (an_app p) time own = absurd own
-own_asks (who.Link k) (a_link l) time own = link_asks k l.way (link_plan.plan_of l time)
+own_asks (who.Link k) (a_link l) time own = let d = plain_link.in_turn l in link_asks k l.way time (first_due time d.held) (nat_le (length d.held) MOST_HELD) d
 own_asks (who.Link k) (a_hub h) time own = hub_asks k h.serving (hub_plan.plan_of h time)
 
 -- and stays so
