@@ -1,11 +1,9 @@
 -- the laws of a step: no buffer is lost or made, and the queues carry what is sent
 use Rattle.std.proofs.Common.{◌≡◌, ℕ, ◌+◌, Bool, true, false, Option, Some, None, [], ◌∷◌, refl, ap, arith}
 use Rattle.std.specs.Prelude.{if◌then◌else◌, IsSomeAnd}
-use Rattle.csp_bridge.specs.Asking.{asks, handed, kind_of_doing}
 use Rattle.csp_bridge.specs.PlainBridge.{PlainBridge, holds, uses}
-use Rattle.csp_bridge.specs.Planning.{plan_of}
 use Rattle.csp_bridge.specs.Room.{CanHear}
-use Rattle.csp_bridge.specs.Telling.{beyond, told_by}
+use Rattle.csp_bridge.specs.Turns.{asked, asks, beyond, turn_of}
 use Rattle.csp_bridge.specs.declared.doing.Doing.{Doing}
 use Rattle.csp_bridge.specs.declared.doing.Doing.TheVariants as doing
 use Rattle.csp_buffer.specs.Content.{Content}
@@ -30,12 +28,12 @@ holds_times k s = held_times k s.trash s.out s.to s.doing
 
 -- what it hands over it holds no more
 handed_by : (k : ℕ) (trash out : Option Content) (to : ℕ) (doing : Doing) → let s : PlainBridge = record { trash = trash; out = out; to = to; doing = doing } in
-    times k (holds (handed (plan_of s) s)) + times k (op_numbers (asks s)) ≡ times k (holds s)
+    times k (holds (asked s)) + times k (op_numbers (asks s)) ≡ times k (holds s)
 handed_by k (Some b) out to doing = omega (arith, times-append k (b.number ∷ []) (number_in out))
 handed_by k None (Some b) to doing = omega arith
 handed_by k None None to doing = omega arith
 
-pub handed_law : (k : ℕ) (s : PlainBridge) → times k (holds (handed (plan_of s) s)) + times k (op_numbers (asks s)) ≡ times k (holds s)
+pub handed_law : (k : ℕ) (s : PlainBridge) → times k (holds (asked s)) + times k (op_numbers (asks s)) ≡ times k (holds s)
 handed_law k s = handed_by k s.trash s.out s.to s.doing
 
 trash_law : (k : ℕ) (s : PlainBridge) (b : Content) → s.trash ≡ None → times k (holds (record s { trash = Some b })) ≡ times k (holds s) + times k (b.number ∷ [])
@@ -45,8 +43,8 @@ out_law : (k : ℕ) (s : PlainBridge) (b : Content) (to : ℕ) → s.out ≡ Non
 out_law k s b to none = omega (arith, holds_times k s, holds_times k (record s { out = Some b; to = to }), ap (λ (o : Option Content). times k (number_in o)) none)
 
 -- it holds besides what it was given
-pub told_law : (k : ℕ) (s : PlainBridge) (d : Doing) (a : AnswerShown) → IsAnswerOf (uses s) (kind_of_doing s.to d) a → CanHear d s
-    → times k (holds (told_by d a s)) ≡ times k (holds s) + times k (answer_numbers a)
+pub told_law : (k : ℕ) (s : PlainBridge) (d : Doing) (a : AnswerShown) → IsAnswerOf (uses s) (turn_of s d).awaits a → CanHear d s
+    → times k (holds ((turn_of s d).told a)) ≡ times k (holds s) + times k (answer_numbers a)
 told_law k s doing.Rest answer.Nothing f c = omega arith
 told_law k s doing.Give answer.Given f c = omega arith
 told_law k s doing.Give (answer.PoolFull b) f c = trash_law k s b c

@@ -6,9 +6,8 @@ use csp_log::{Answer, Events, Op, QueueId};
 
 impl Party for Bridge {
     ghost use Rattle.std.specs.Prelude.{⊤, false};
-    ghost use Rattle.csp_bridge.specs.Asking.{asks, asked, awaits};
     ghost use Rattle.csp_bridge.specs.PlainBridge.{uses, holds, with_bridge};
-    ghost use Rattle.csp_bridge.specs.Telling.{tells, events};
+    ghost use Rattle.csp_bridge.specs.Turns.{asks, asked, awaits, tells, events};
 
     ghost is_ready = { λ _ _. ⊤ };
 

@@ -1,6 +1,6 @@
 //! What a bridge asks in a turn, and what it makes of the answer.
 
-ghost use Rattle.std.specs.Prelude.{◌≡◌, [], IfSome, MatchOption};
+ghost use Rattle.std.specs.Prelude.{◌≡◌, None, [], IfSome, MatchOption};
 ghost use Rattle.csp_deck.specs.Regions.{IsAnswerFrom, IsItemOf, IsOpOf};
 ghost use Rattle.csp_deck.specs.Step.{CanServe, IsAnswerOf};
 ghost use Rattle.csp_log.specs.Pictures.{shown_answer, shown_item, shown_op};
@@ -9,15 +9,13 @@ ghost use Rattle.csp_log.specs.declared.shown.OpShown.{OpShown};
 
 use crate::Bridge;
 use crate::doing::Doing;
-use csp_buffer::Buffer;
 use csp_deck::Circle;
 use csp_log::{Answer, AnswerShown, Discard, Event, Events, Item, Op, QueueId, UNMARKED};
 
 impl Bridge {
-    ghost use Rattle.csp_bridge.specs.Asking.{asks, asked, awaits};
     ghost use Rattle.csp_bridge.specs.Circling.{circle};
     ghost use Rattle.csp_bridge.specs.PlainBridge.{holds, uses, with_bridge};
-    ghost use Rattle.csp_bridge.specs.Telling.{tells, events};
+    ghost use Rattle.csp_bridge.specs.Turns.{asks, asked, awaits, crossing, discarded, tells, events};
 
     /// The queue that this turn looks into, where it does no more.
     pub(crate) fn look_now(&mut self) -> Option<QueueId>
@@ -77,49 +75,39 @@ impl Bridge {
         ensures events { report.new.items ≡ events self.old.bridge (shown_answer answer) }
         ensures state { self.new ≡ with_bridge self.old (tells self.old.bridge (shown_answer answer)) }
     {
+        self.doing = Doing::Rest;
         match answer {
-            Answer::PoolFull(buffer) => self.told_pool_full(buffer),
+            Answer::PoolFull(buffer) => self.trash.put(buffer),
             Answer::Full(item) => {
-                self.told_full(item);
+                self.discard(item);
                 report.push(Event::Discarded(Discard::Full));
             }
-            Answer::Popped(item) => self.told_popped(item),
-            Answer::Given | Answer::Pushed | Answer::Empty | Answer::Nothing => {
-                self.doing = Doing::Rest;
-            }
+            Answer::Popped(item) => self.pass_on(item),
+            Answer::Given | Answer::Pushed | Answer::Empty | Answer::Nothing => {}
             Answer::Taken(_buffer) => unreachable!(),
             Answer::NoBuffer => unreachable!(),
         }
     }
 
-    /// The pool was full: the buffer is still to be given back.
-    fn told_pool_full(&mut self, buffer: Buffer)
-        requires fits { IsAnswerOf (uses self.old.bridge) (awaits self.old.bridge) (AnswerShown.PoolFull buffer.picture) }
-        requires of_it { buffer.region ≡ self.old.region }
-        ensures { self.new ≡ with_bridge self.old (tells self.old.bridge (AnswerShown.PoolFull buffer.picture)) }
-    {
-        self.trash.put(buffer);
-        self.doing = Doing::Rest;
-    }
-
     /// The other interface had no room: the packet is discarded.
-    fn told_full(&mut self, item: Item)
-        requires fits { IsAnswerOf (uses self.old.bridge) (awaits self.old.bridge) (AnswerShown.Full (shown_item item)) }
+    fn discard(&mut self, item: Item)
+        requires room { self.old.bridge.trash ≡ None }
+        requires rest { self.old.bridge.doing ≡ Doing.Rest }
         requires of_it { IsItemOf self.old.region item }
-        ensures { self.new ≡ with_bridge self.old (tells self.old.bridge (AnswerShown.Full (shown_item item))) }
+        ensures { self.new ≡ with_bridge self.old (discarded self.old.bridge (AnswerShown.Full (shown_item item))) }
     {
         match item {
             Item::Packet { mark: _, buffer } => self.trash.put(buffer),
             Item::Frame(_) | Item::Note(_) => {}
         }
-        self.doing = Doing::Rest;
     }
 
     /// A packet came in: it is to go out at the other side.
-    fn told_popped(&mut self, item: Item)
-        requires fits { IsAnswerOf (uses self.old.bridge) (awaits self.old.bridge) (AnswerShown.Popped (shown_item item)) }
+    fn pass_on(&mut self, item: Item)
+        requires room { self.old.bridge.out ≡ None }
+        requires rest { self.old.bridge.doing ≡ Doing.Rest }
         requires of_it { IsItemOf self.old.region item }
-        ensures { self.new ≡ with_bridge self.old (tells self.old.bridge (AnswerShown.Popped (shown_item item))) }
+        ensures { self.new ≡ with_bridge self.old (crossing self.old.bridge (AnswerShown.Popped (shown_item item))) }
     {
         match item {
             Item::Packet { mark, buffer } => {
@@ -128,6 +116,5 @@ impl Bridge {
             }
             Item::Frame(_) | Item::Note(_) => {}
         }
-        self.doing = Doing::Rest;
     }
 }

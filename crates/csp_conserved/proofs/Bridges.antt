@@ -1,8 +1,7 @@
 -- A bridge keeps the numbers of its buffers in each turn.
 use Rattle.std.proofs.Common.{◌≡◌, ℕ, ◌+◌, Option, None, Some, [], ◌∷◌, arith}
-use Rattle.csp_bridge.specs.Asking.{asked, asks}
 use Rattle.csp_bridge.specs.PlainBridge.{PlainBridge, holds}
-use Rattle.csp_bridge.specs.Telling.{tells}
+use Rattle.csp_bridge.specs.Turns.{asked, asks, tells}
 use Rattle.csp_bridge.specs.declared.doing.Doing.{Doing}
 use Rattle.csp_buffer.specs.Content.{Content}
 use Rattle.csp_deck.proofs.Public.{times-append}

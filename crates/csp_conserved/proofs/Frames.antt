@@ -1,6 +1,7 @@
 -- What goes over a link and its lanes has no buffer.
 use Rattle.std.proofs.Common.{◌≡◌, ◌⊎◌, inl, inr, ℕ, ◌+◌, ◌<◌, ◌==◌, Bool, true, false, Option, None, Some, List, [], ◌∷◌, length, slice_get, refl, sym, ap, subst, arith}
 use Rattle.std.specs.List.{AllByRecursion}
+use Rattle.std.specs.Prelude.{nat_le}
 use Rattle.csp_buffer.specs.Content.{Content}
 use Rattle.csp_consistent.proofs.Public.{end_lanes_of, through, IsIfaceRun, IsJoint, iface_run, joint, each_first, each_if, each_last, one_at, Logged, IsLinkAt, IsOf, as_hub, as_link, PopsWithin, logged, came}
 use Rattle.csp_consistent.specs.Lanes.{AreInOrder}
@@ -12,15 +13,18 @@ use Rattle.csp_hub.specs.Asking as hub_asking
 use Rattle.csp_hub.specs.PlainHub as plain_hub
 use Rattle.csp_hub.specs.PlainHub.{PlainHub}
 use Rattle.csp_hub.specs.Planning as hub_planning
+use Rattle.csp_hub.specs.Planning.{HubPlan as Plan, pop, push, wait}
 use Rattle.csp_iface.specs.Asking as iface_asking
 use Rattle.csp_iface.specs.PlainIface.{PlainIface}
 use Rattle.csp_iface.specs.Planning as iface_planning
 use Rattle.csp_iface.specs.declared.plan.IfacePlan as iface_plans
 use Rattle.csp_iface.specs.declared.plan.IfacePlan.TheVariants as iface_plan
-use Rattle.csp_link.specs.Asking.{op_of}
+use Rattle.csp_link.specs.Holding.{first_due}
 use Rattle.csp_link.specs.PlainLink as plain_link
-use Rattle.csp_link.specs.PlainLink.{PlainLink as LinkState}
-use Rattle.csp_link.specs.Planning.{LinkPlan as Plan, plan_of, pop, push, wait}
+use Rattle.csp_link.specs.PlainLink.{PlainDirection, PlainLink as LinkState, in_turn}
+use Rattle.csp_link.specs.Turns.{first_rule, turn_in, turn_of}
+use Rattle.csp_link.specs.declared.held.Held.{Held}
+use Rattle.csp_link.specs.declared.held.TheConstants.{MOST_HELD}
 use Rattle.csp_link.specs.Ways.{to_queue}
 use Rattle.csp_link.specs.declared.way.Way.{Way}
 use Rattle.csp_link.specs.declared.way.Way.TheVariants.{Back, Forth}
@@ -86,16 +90,16 @@ frame_bare : (k : ℕ) (way : Way) (f : Frame) (a : AnswerShown) → AllByRecurs
 frame_bare k way f answer.Pushed = each_if IsBare (is_queue (queue.Rx k) (to_queue way)) (item.Frame f) refl
 frame_bare k way f _ = tt
 
-link_put : (k : ℕ) (way : Way) (p : Plan) (a : AnswerShown) → AllByRecursion IsBare (put_by (queue.Rx k) (op_of way p) a)
-link_put k way (push place h) a = frame_bare k way h.frame a
-link_put k way pop a = tt
-link_put k way wait a = tt
+link_put : (k : ℕ) (way : Way) (now : ℕ) (due : Option (ℕ × Held)) (few : Bool) (d : PlainDirection) (a : AnswerShown) → AllByRecursion IsBare (put_by (queue.Rx k) (turn_of way now due d (first_rule due few)).asks a)
+link_put k way now (Some p) few d a = frame_bare k way p.1.frame a
+link_put k way now None true d a = tt
+link_put k way now None false d a = tt
 
 link_puts : (k : ℕ) (es : List Entry) (time : ℕ) (s : LinkState) → IsRun party_steps time (a_link s) es → AllByRecursion IsBare (puts (queue.Rx k) es)
 link_puts k [] time s run = tt
 link_puts k (e ∷ es) time s run =
     AllByRecursion-append IsBare (put_by (queue.Rx k) e.op e.answer) (puts (queue.Rx k) es)
-    (subst (λ o. AllByRecursion IsBare (put_by (queue.Rx k) o e.answer)) (sym run.1.op) (link_put k s.way (plan_of s e.time) e.answer))
+    (subst (λ o. AllByRecursion IsBare (put_by (queue.Rx k) o e.answer)) (sym run.1.op) (let d = in_turn s in link_put k s.way e.time (first_due e.time d.held) (nat_le (length d.held) MOST_HELD) d e.answer))
     (link_puts k es e.time _ run.2)
 
 -- nor a hub
@@ -179,16 +183,20 @@ each_goes n (e ∷ es) all = (
 
 -- ---- the turns of a link, which holds no buffer
 
-pub link_keeps : (way : Way) (p : Plan) (a : AnswerShown) → Fits (op_of way p) a → GoesBare 2 (op_of way p) a → (k : ℕ) → times k (op_numbers (op_of way p)) ≡ times k (answer_numbers a)
-link_keeps way (push place h) answer.Pushed fits bare k = refl
-link_keeps way (push place h) (answer.Full i) fits bare k = ap (λ j. times k (answer_numbers (answer.Full j))) (sym fits)
-link_keeps way (push place h) a fits bare k = absurd fits
-link_keeps Forth pop (answer.Popped i) fits bare k = ap (times k) (sym (bare 0 (omega arith)).0)
-link_keeps Back pop (answer.Popped i) fits bare k = ap (times k) (sym (bare 1 (omega arith)).0)
-link_keeps way pop answer.Empty fits bare k = refl
-link_keeps way pop a fits bare k = absurd fits
-link_keeps way wait answer.Nothing fits bare k = refl
-link_keeps way wait a fits bare k = absurd fits
+keeps_by : (way : Way) (now : ℕ) (due : Option (ℕ × Held)) (few : Bool) (d : PlainDirection) (a : AnswerShown) → let o = (turn_of way now due d (first_rule due few)).asks in
+    Fits o a → GoesBare 2 o a → (k : ℕ) → times k (op_numbers o) ≡ times k (answer_numbers a)
+keeps_by way now (Some p) few d answer.Pushed fits bare k = refl
+keeps_by way now (Some p) few d (answer.Full i) fits bare k = ap (λ j. times k (answer_numbers (answer.Full j))) (sym fits)
+keeps_by way now (Some p) few d a fits bare k = absurd fits
+keeps_by Forth now None true d (answer.Popped i) fits bare k = ap (times k) (sym (bare 0 (omega arith)).0)
+keeps_by Back now None true d (answer.Popped i) fits bare k = ap (times k) (sym (bare 1 (omega arith)).0)
+keeps_by way now None true d answer.Empty fits bare k = refl
+keeps_by way now None true d a fits bare k = absurd fits
+keeps_by way now None false d answer.Nothing fits bare k = refl
+keeps_by way now None false d a fits bare k = absurd fits
+
+pub link_keeps : (way : Way) (now : ℕ) (d : PlainDirection) (a : AnswerShown) → let o = (turn_in way now d).asks in Fits o a → GoesBare 2 o a → (k : ℕ) → times k (op_numbers o) ≡ times k (answer_numbers a)
+link_keeps way now d = keeps_by way now (first_due now d.held) (nat_le (length d.held) MOST_HELD) d
 
 -- ---- and those of a hub, which holds none either
 

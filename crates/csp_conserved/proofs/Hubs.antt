@@ -4,11 +4,9 @@ use Rattle.std.specs.Prelude.{if◌then◌else◌}
 use Rattle.std.specs.List.{AllByRecursion}
 use Rattle.std.proofs.lemmas.List.{length-map, length-replicate}
 use Rattle.std.proofs.lemmas.Option.{same_Some}
-use Rattle.csp_bridge.specs.Asking as bridge_asking
 use Rattle.csp_bridge.specs.PlainBridge as bridge
 use Rattle.csp_bridge.specs.PlainBridge.{PlainBridge}
-use Rattle.csp_bridge.specs.Planning as bridge_planning
-use Rattle.csp_bridge.specs.Telling as bridge_telling
+use Rattle.csp_bridge.specs.Turns as bridge_turns
 use Rattle.csp_bridge.specs.declared.doing.Doing.{Doing}
 use Rattle.csp_bridge.specs.declared.doing.Doing.TheVariants as doing
 use Rattle.csp_buffer.specs.Content.{Content}
@@ -51,31 +49,32 @@ opens_home f routes within = (ap (λ n. (f.apps, n)) (length-replicate (f.apps *
 
 -- ---- a bridge: it has two interfaces
 
-bridge_op : (apps : ℕ) (trash out : Option Content) (to : ℕ) → to < 2 → AsksIn 2 apps (bridge_asking.op_of (bridge_planning.first_rule trash out to))
-bridge_op apps (Some b) out to low = tt
-bridge_op apps None (Some b) to low = low
-bridge_op apps None None to low = tt
+bridge_op : (apps : ℕ) (trash out : Option Content) (to : ℕ) (doing : Doing) → to < 2 → AsksIn 2 apps (bridge_turns.asks (record { trash = trash; out = out; to = to; doing = doing }))
+bridge_op apps (Some b) out to doing low = tt
+bridge_op apps None (Some b) to doing low = low
+bridge_op apps None None to doing low = tt
 
-bridge_handed : (p : bridge_planning.BridgePlan) (s : PlainBridge) → s.to < 2 → (bridge_asking.handed p s).to < 2
-bridge_handed (bridge_planning.give b) s low = low
-bridge_handed (bridge_planning.send to b) s low = low
-bridge_handed bridge_planning.hear s low = low
+bridge_handed : (d : Doing) (s : PlainBridge) → s.to < 2 → (bridge_turns.turn_of s d).until.to < 2
+bridge_handed doing.Rest s low = low
+bridge_handed doing.Give s low = low
+bridge_handed doing.Send s low = low
+bridge_handed doing.Hear s low = low
 
 beyond_low : (b : Bool) → (if b then 1 else 0) < 2
 beyond_low true = omega arith
 beyond_low false = omega arith
 
-bridge_heard : (i : ItemShown) (s : PlainBridge) → s.to < 2 → (bridge_telling.crossing i s).to < 2
+bridge_heard : (i : ItemShown) (s : PlainBridge) → s.to < 2 → (bridge_turns.crossing s (answer.Popped i)).to < 2
 bridge_heard (item.Packet mark b) s low = beyond_low (mark == 0)
 bridge_heard (item.Frame f) s low = low
 bridge_heard (item.Note n) s low = low
 
-bridge_refused : (i : ItemShown) (s : PlainBridge) → s.to < 2 → (bridge_telling.discarded i s).to < 2
+bridge_refused : (i : ItemShown) (s : PlainBridge) → s.to < 2 → (bridge_turns.discarded s (answer.Full i)).to < 2
 bridge_refused (item.Packet mark b) s low = low
 bridge_refused (item.Frame f) s low = low
 bridge_refused (item.Note n) s low = low
 
-bridge_told : (d : Doing) (a : AnswerShown) (s : PlainBridge) → s.to < 2 → (bridge_telling.told_by d a s).to < 2
+bridge_told : (d : Doing) (a : AnswerShown) (s : PlainBridge) → s.to < 2 → ((bridge_turns.turn_of s d).told a).to < 2
 bridge_told doing.Give (answer.PoolFull b) s low = low
 bridge_told doing.Send (answer.Full i) s low = bridge_refused i s low
 bridge_told doing.Hear (answer.Popped i) s low = bridge_heard i s low
@@ -84,9 +83,9 @@ bridge_told d a s low = low
 bridge_asks : (apps : ℕ) (es : List Entry) (time : ℕ) (s : PlainBridge) → s.to < 2 → IsRun party_steps time (a_bridge s) es → AllByRecursion (λ e. AsksIn 2 apps e.op) es
 bridge_asks apps [] time s low run = tt
 bridge_asks apps (e ∷ es) time s low run =
-    let t = bridge_asking.asked s in (
-      subst (AsksIn 2 apps) (sym run.1.op) (bridge_op apps s.trash s.out s.to low),
-      bridge_asks apps es e.time _ (bridge_told t.doing e.answer t (bridge_handed (bridge_planning.plan_of s) s low)) run.2,
+    let t = bridge_turns.asked s in (
+      subst (AsksIn 2 apps) (sym run.1.op) (bridge_op apps s.trash s.out s.to s.doing low),
+      bridge_asks apps es e.time _ (bridge_told t.doing e.answer t (bridge_handed t.doing s low)) run.2,
     )
 
 -- ---- that of a node

@@ -16,7 +16,7 @@ use Rattle.csp_deck.specs.Runs.{IsRun}
 use Rattle.csp_hub.specs.PlainHub.{opening as hub_opening}
 use Rattle.csp_hub.specs.Planning as hub_planning
 use Rattle.csp_link.specs.PlainLink.{opening as link_opening}
-use Rattle.csp_link.specs.Planning.{plan_of}
+use Rattle.csp_link.specs.PlainLink.{in_turn}
 use Rattle.csp_log.specs.declared.entry.Entry.{Entry}
 use Rattle.csp_log.specs.declared.places.QueueId.TheVariants as queue
 use Rattle.csp_log.specs.declared.shown.AnswerShown.{AnswerShown}
@@ -119,7 +119,7 @@ app_turns (a_link l) time a is fits comes = absurd is
 app_turns (a_hub h) time a is fits comes = absurd is
 
 link_turns : KeepsInTurns party_steps IsLink holds (GoesBare 2)
-link_turns (a_link l) time a is fits comes = let same = link_keeps l.way (plan_of l time) a fits comes in record { again = tt; numbers = λ k. omega (arith, same k) }
+link_turns (a_link l) time a is fits comes = let same = link_keeps l.way time (in_turn l) a fits comes in record { again = tt; numbers = λ k. omega (arith, same k) }
 link_turns (a_router r) time a is fits comes = absurd is
 link_turns (a_bridge b) time a is fits comes = absurd is
 link_turns (an_iface i) time a is fits comes = absurd is

@@ -1,9 +1,10 @@
 -- Each party uses its own queues, from its opening in a scene on.
 use Rattle.std.proofs.Common.{◌≡◌, ℕ, ◌+◌, Bool, true, false, Option, None, Some, List, [], ◌∷◌, ◌++◌, length, refl, sym, subst, ◌∙◌}
-use Rattle.std.specs.Prelude.{if◌then◌else◌, ⊤}
+use Rattle.std.specs.Prelude.{if◌then◌else◌, nat_le, ⊤}
 use Rattle.std.specs.List.{AllByRecursion}
-use Rattle.csp_bridge.specs.Asking as bridge_asking
-use Rattle.csp_bridge.specs.Planning as bridge_plan
+use Rattle.csp_bridge.specs.Turns as bridge_turns
+use Rattle.csp_bridge.specs.declared.doing.Doing.{Doing}
+use Rattle.csp_buffer.specs.Content.{Content}
 use Rattle.csp_consistent.proofs.AppQueues.{app_asks, app_number}
 use Rattle.csp_consistent.proofs.IfaceQueues.{iface_asks, iface_number}
 use Rattle.csp_consistent.proofs.RouterQueues.{IsOutward, router_asks, router_outward}
@@ -14,9 +15,11 @@ use Rattle.csp_deck.specs.Runs.{IsRun}
 use Rattle.csp_hub.specs.Asking as hub_asking
 use Rattle.csp_hub.specs.PlainHub as plain_hub
 use Rattle.csp_hub.specs.Planning as hub_plan
-use Rattle.csp_link.specs.Asking as link_asking
+use Rattle.csp_link.specs.Holding.{first_due}
 use Rattle.csp_link.specs.PlainLink as plain_link
-use Rattle.csp_link.specs.Planning as link_plan
+use Rattle.csp_link.specs.Turns as link_turns
+use Rattle.csp_link.specs.declared.held.Held.{Held}
+use Rattle.csp_link.specs.declared.held.TheConstants.{MOST_HELD}
 use Rattle.csp_link.specs.declared.way.Way.{Way}
 use Rattle.csp_log.specs.declared.entry.Entry.{Entry}
 use Rattle.csp_log.specs.declared.shown.AnswerShown.{AnswerShown}
@@ -37,20 +40,20 @@ IsOwn (who.Link number) (a_link l) = ⊤
 IsOwn (who.Link number) (a_hub h) = ⊤
 IsOwn _ _ = ⊥
 
-bridge_asks : (node : ℕ) (p : bridge_plan.BridgePlan) → MayAsk (who.Bridge node) (bridge_asking.op_of p)
-bridge_asks node (bridge_plan.give b) = tt
-bridge_asks node (bridge_plan.send to b) = tt
-bridge_asks node bridge_plan.hear = tt
+bridge_asks : (node : ℕ) (trash out : Option Content) (to : ℕ) (doing : Doing) → MayAsk (who.Bridge node) (bridge_turns.asks (record { trash = trash; out = out; to = to; doing = doing }))
+bridge_asks node (Some b) out to doing = tt
+bridge_asks node None (Some b) to doing = tt
+bridge_asks node None None to doing = tt
 
-link_asks : (number : ℕ) (way : Way) (p : link_plan.LinkPlan) → MayAsk (who.Link number) (link_asking.op_of way p)
-link_asks number way (link_plan.push place h) = tt
-link_asks number way link_plan.pop = tt
-link_asks number way link_plan.wait = tt
+link_asks : (number : ℕ) (way : Way) (now : ℕ) (due : Option (ℕ × Held)) (few : Bool) (d : plain_link.PlainDirection) → MayAsk (who.Link number) (link_turns.turn_of way now due d (link_turns.first_rule due few)).asks
+link_asks number way now (Some p) few d = tt
+link_asks number way now None true d = tt
+link_asks number way now None false d = tt
 
-hub_asks : (number end : ℕ) (p : link_plan.LinkPlan) → MayAsk (who.Link number) (hub_asking.op_of end p)
-hub_asks number end (link_plan.push place h) = tt
-hub_asks number end link_plan.pop = tt
-hub_asks number end link_plan.wait = tt
+hub_asks : (number end : ℕ) (p : hub_plan.HubPlan) → MayAsk (who.Link number) (hub_asking.op_of end p)
+hub_asks number end (hub_plan.push place h) = tt
+hub_asks number end hub_plan.pop = tt
+hub_asks number end hub_plan.wait = tt
 
 -- it asks what it may
 pub own_asks : (w : Who) (p : PlainParty) (time : ℕ) → IsOwn w p → MayAsk w (asks p time)
@@ -61,7 +64,7 @@ own_asks (who.Router n) (an_app p) time own = absurd own
 own_asks (who.Router n) (a_link l) time own = absurd own
 own_asks (who.Router n) (a_hub h) time own = absurd own
 own_asks (who.Bridge n) (a_router r) time own = absurd own
-own_asks (who.Bridge n) (a_bridge b) time own = bridge_asks n (bridge_plan.plan_of b)
+own_asks (who.Bridge n) (a_bridge b) time own = bridge_asks n b.trash b.out b.to b.doing
 own_asks (who.Bridge n) (an_iface i) time own = absurd own
 own_asks (who.Bridge n) (an_app p) time own = absurd own
 own_asks (who.Bridge n) (a_link l) time own = absurd own
@@ -82,7 +85,7 @@ own_asks (who.Link k) (a_router r) time own = absurd own
 own_asks (who.Link k) (a_bridge b) time own = absurd own
 own_asks (who.Link k) (an_iface i) time own = absurd own
 own_asks (who.Link k) (an_app p) time own = absurd own
-own_asks (who.Link k) (a_link l) time own = link_asks k l.way (link_plan.plan_of l time)
+own_asks (who.Link k) (a_link l) time own = let d = plain_link.in_turn l in link_asks k l.way time (first_due time d.held) (nat_le (length d.held) MOST_HELD) d
 own_asks (who.Link k) (a_hub h) time own = hub_asks k h.serving (hub_plan.plan_of h time)
 
 -- and stays so

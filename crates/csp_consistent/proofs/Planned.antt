@@ -16,7 +16,6 @@ use Rattle.csp_link.proofs.Public.{applies}
 use Rattle.csp_link.specs.Applied.{link_steps, frames_in}
 use Rattle.csp_link.specs.PlainLink.{direction, opening}
 use Rattle.csp_link.specs.PlainLink as plain_link
-use Rattle.csp_link.specs.Planning as link_plan
 use Rattle.csp_link.specs.declared.way.Way.{Way}
 use Rattle.csp_log.specs.declared.entry.Entry.{Entry}
 use Rattle.csp_log.specs.declared.places.QueueId.TheVariants as queue
@@ -124,10 +123,10 @@ abbrev pub PopsWithin : ℕ → OpShown → Type 0
 PopsWithin n (op.Pop (queue.Tx from)) = from < n
 PopsWithin n _ = ⊤
 
-asks_within : (n end : ℕ) (p : link_plan.LinkPlan) → end < n → PopsWithin n (hub_asking.op_of end p)
-asks_within n end (link_plan.push place h) low = tt
-asks_within n end link_plan.pop low = low
-asks_within n end link_plan.wait low = tt
+asks_within : (n end : ℕ) (p : hub_plan.HubPlan) → end < n → PopsWithin n (hub_asking.op_of end p)
+asks_within n end (hub_plan.push place h) low = tt
+asks_within n end hub_plan.pop low = low
+asks_within n end hub_plan.wait low = tt
 
 run_within : (n : ℕ) (es : List Entry) (time : ℕ) (h : plain_hub.PlainHub) → length h.ends ≡ n → h.serving < n → IsRun hub_steps time h es → AllByRecursion (λ e. PopsWithin n e.op) es
 run_within n [] time h many low run = tt

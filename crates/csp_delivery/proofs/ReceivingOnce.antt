@@ -8,7 +8,7 @@ use Rattle.csp_deck.specs.Runs.{IsRun}
 use Rattle.csp_iface.specs.Asking.{asked, asks}
 use Rattle.csp_iface.specs.PlainIface.{PlainIface}
 use Rattle.csp_iface.specs.Telling.{tells}
-use Rattle.csp_link.specs.Telling.{frame_in}
+use Rattle.csp_link.specs.Turns.{frame_in}
 use Rattle.csp_log.specs.Moving.{moved_by, moved_in}
 use Rattle.csp_log.specs.declared.entry.Entry.{Entry}
 use Rattle.csp_log.specs.declared.frame.Frame.{Frame}

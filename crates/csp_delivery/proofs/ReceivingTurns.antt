@@ -15,7 +15,7 @@ use Rattle.csp_iface.specs.Telling.{fetched, filled, going_on, has_packet, heari
 use Rattle.csp_iface.specs.declared.packet.WholePacket.{WholePacket}
 use Rattle.csp_iface.specs.declared.plan.IfacePlan.{IfacePlan}
 use Rattle.csp_iface.specs.declared.plan.IfacePlan.TheVariants as plan
-use Rattle.csp_link.specs.Telling.{frame_in}
+use Rattle.csp_link.specs.Turns.{frame_in}
 use Rattle.csp_log.specs.Moving.{moved_by}
 use Rattle.csp_log.specs.declared.frame.Frame.{Frame}
 use Rattle.csp_log.specs.declared.places.QueueId.{QueueId}

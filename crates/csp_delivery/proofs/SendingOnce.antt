@@ -14,7 +14,7 @@ use Rattle.csp_iface.specs.Sending.{next_node}
 use Rattle.csp_iface.specs.Telling.{begun, caught, fetched, is_too_big, kept, pushed, taken_up, tells}
 use Rattle.csp_iface.specs.declared.plan.IfacePlan.{IfacePlan}
 use Rattle.csp_iface.specs.declared.plan.IfacePlan.TheVariants as plan
-use Rattle.csp_link.specs.Telling.{frame_in}
+use Rattle.csp_link.specs.Turns.{frame_in}
 use Rattle.csp_log.specs.Pictures.{Fits}
 use Rattle.csp_log.specs.declared.entry.Entry.{Entry}
 use Rattle.csp_log.specs.declared.frame.Frame.{Frame}

@@ -10,7 +10,7 @@ use Rattle.csp_delivery.specs.Delivery.{AreFirstsCopied, AreFirstsOfOthers, IsFi
 use Rattle.csp_hub.specs.Applied as hub
 use Rattle.csp_link.specs.Applied.{made_from}
 use Rattle.csp_link.specs.Fates.{fate_of}
-use Rattle.csp_link.specs.Telling.{frame_in}
+use Rattle.csp_link.specs.Turns.{frame_in}
 use Rattle.csp_log.specs.declared.entry.Entry.{Entry}
 use Rattle.csp_log.specs.declared.frame.Frame.{Frame}
 use Rattle.csp_log.specs.declared.places.End.{End}

@@ -11,7 +11,7 @@ use Rattle.csp_consistent.specs.Reading.{entries_of, gets}
 use Rattle.csp_hub.specs.Applied as hub
 use Rattle.csp_link.specs.Copies.{copies_of}
 use Rattle.csp_link.specs.Fates.{fate_of}
-use Rattle.csp_link.specs.Telling.{frame_in}
+use Rattle.csp_link.specs.Turns.{frame_in}
 use Rattle.csp_link.specs.declared.fates.Fate.{Fate}
 use Rattle.csp_link.specs.declared.fault.Fault.{Fault}
 use Rattle.csp_log.specs.declared.entry.Entry.{Entry}

@@ -2,10 +2,9 @@
 use Rattle.std.proofs.Common.{ℕ, ◌==◌, Bool, true, false, cond, List, [], ◌∷◌, Option, None, Some, refl, sym, subst}
 use Rattle.std.specs.List.{AllByRecursion}
 use Rattle.std.specs.Prelude.{⊤, IfSome}
-use Rattle.csp_bridge.specs.Asking as bridge_asking
 use Rattle.csp_bridge.specs.PlainBridge.{PlainBridge}
-use Rattle.csp_bridge.specs.Planning.{first_rule}
-use Rattle.csp_bridge.specs.Telling as bridge_telling
+use Rattle.csp_bridge.specs.Turns as bridge_turns
+use Rattle.csp_bridge.specs.declared.doing.Doing.{Doing}
 use Rattle.csp_buffer.specs.Content.{Content}
 use Rattle.csp_buffer.specs.PlainBuffer.{PlainBuffer}
 use Rattle.csp_conn.specs.PlainConns.{slot_at}
@@ -118,15 +117,15 @@ router_pushes (e ∷ es) time r run h =
     )
 
 -- a bridge marks nothing
-bridge_hops : (trash out : Option Content) (to : ℕ) → PushesByHop (bridge_asking.op_of (first_rule trash out to))
-bridge_hops (Some t) out to = tt
-bridge_hops None (Some b) to = λ marked. absurd (marked refl)
-bridge_hops None None to = tt
+bridge_hops : (trash out : Option Content) (to : ℕ) (doing : Doing) → PushesByHop (bridge_turns.asks (record { trash = trash; out = out; to = to; doing = doing }))
+bridge_hops (Some t) out to doing = tt
+bridge_hops None (Some b) to doing = λ marked. absurd (marked refl)
+bridge_hops None None to doing = tt
 
 pub bridge_pushes : (es : List Entry) (time : ℕ) (s : PlainBridge) → IsRun party_steps time (a_bridge s) es → AllByRecursion (λ e. PushesByHop e.op) es
 bridge_pushes [] time s run = tt
 bridge_pushes (e ∷ es) time s run =
-    (subst PushesByHop (sym run.1.op) (bridge_hops s.trash s.out s.to), bridge_pushes es e.time (bridge_telling.tells (bridge_asking.asked s) e.answer) run.2)
+    (subst PushesByHop (sym run.1.op) (bridge_hops s.trash s.out s.to s.doing), bridge_pushes es e.time (bridge_turns.tells (bridge_turns.asked s) e.answer) run.2)
 
 -- so is what an operation put into the lane to an interface
 put_hops : (k : ℕ) (o : OpShown) (a : AnswerShown) → PushesByHop o → AllByRecursion IsHopItem (put_by (queue.Out k) o a)

@@ -12,14 +12,13 @@ use Rattle.csp_deck.specs.Runs.{IsRun, IsStep, Runs, state_after, step_after}
 use Rattle.csp_hub.specs.Applied.{AppliesPlan, hub_steps, popped_by, pushed_by, made_by, made_after, frames_popped, frames_pushed}
 use Rattle.csp_hub.specs.Asking.{asked, doing_of, op_of, without}
 use Rattle.csp_hub.specs.PlainHub.{PlainEnd, PlainHub, end_at, no_end, opening, opening_end, others, served, with_served}
-use Rattle.csp_hub.specs.Planning.{has_room}
+use Rattle.csp_hub.specs.Planning.{first_rule, has_room}
 use Rattle.csp_hub.specs.Telling.{fate_of_next, copies_held, held_for_others, kept, sent, tells, told_by}
 use Rattle.csp_link.specs.Applied.{frames_in}
 use Rattle.csp_link.specs.Copies.{copies_of, held_copies, held_until}
 use Rattle.csp_link.specs.Fates.{fate_at, fate_of, fates_of}
 use Rattle.csp_link.specs.Holding.{first_due}
-use Rattle.csp_link.specs.Planning.{first_rule}
-use Rattle.csp_link.specs.Telling.{frame_in}
+use Rattle.csp_link.specs.Turns.{frame_in}
 use Rattle.csp_link.specs.declared.fates.Fate.{Fate}
 use Rattle.csp_link.specs.declared.fault.Fault.{Fault}
 use Rattle.csp_link.specs.declared.held.Held.{Held}

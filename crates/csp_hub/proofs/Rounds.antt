@@ -12,13 +12,12 @@ use Rattle.csp_hub.specs.Applied.{hub_steps}
 use Rattle.csp_hub.specs.Asking.{doing_of, op_of, without}
 use Rattle.csp_hub.specs.Circling.{circle, circle_by, sources}
 use Rattle.csp_hub.specs.PlainHub.{PlainEnd, PlainHub, end_at, next_end, no_end, uses}
-use Rattle.csp_hub.specs.Planning.{has_room, is_idle}
+use Rattle.csp_hub.specs.Planning.{first_rule, has_room, is_idle}
 use Rattle.csp_hub.specs.Room.{IsHub}
 use Rattle.csp_hub.specs.Telling.{tells}
 use Rattle.csp_hub.specs.declared.doing.Doing.{Doing}
 use Rattle.csp_hub.specs.declared.doing.Doing.TheVariants as doing
 use Rattle.csp_link.specs.Holding.{first_due}
-use Rattle.csp_link.specs.Planning.{first_rule}
 use Rattle.csp_link.specs.declared.held.Held.{Held}
 use Rattle.csp_log.specs.declared.places.QueueId.{QueueId}
 use Rattle.csp_log.specs.declared.places.QueueId.TheVariants as queue

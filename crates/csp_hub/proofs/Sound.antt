@@ -11,7 +11,7 @@ use Rattle.csp_deck.specs.Carried.{IsCarriedIn}
 use Rattle.csp_deck.specs.Step.{IsAnswerOf, CanServe}
 use Rattle.csp_hub.specs.Asking.{kind_of_doing, op_of, without}
 use Rattle.csp_hub.specs.PlainHub.{PlainEnd, PlainHub, end_at, lane_of, no_end, next_end, opening, opening_end, others, served, uses}
-use Rattle.csp_hub.specs.Planning.{has_room, plan_of}
+use Rattle.csp_hub.specs.Planning.{first_rule, has_room, plan_of}
 use Rattle.csp_hub.specs.Room.{IsHub}
 use Rattle.csp_hub.specs.Telling.{copies_held, held_for_others, kept}
 use Rattle.csp_hub.specs.declared.doing.Doing.{Doing}
@@ -19,9 +19,8 @@ use Rattle.csp_hub.specs.declared.doing.Doing.TheVariants as doing
 use Rattle.csp_hub.specs.declared.hub.TheConstants.{MIN_ENDS, MAX_ENDS}
 use Rattle.csp_link.specs.Copies.{held_copies, held_until}
 use Rattle.csp_link.specs.Holding.{first_due}
-use Rattle.csp_link.specs.Planning.{first_rule}
 use Rattle.csp_link.specs.Room.{AreCarried}
-use Rattle.csp_link.specs.Telling.{frame_in}
+use Rattle.csp_link.specs.Turns.{frame_in}
 use Rattle.csp_link.specs.declared.fates.Fate.{Fate}
 use Rattle.csp_link.specs.declared.fault.Fault.{Fault}
 use Rattle.csp_link.specs.declared.held.Held.{Held}

@@ -3,11 +3,10 @@ use Rattle.std.specs.Prelude.{ℕ, Option, Some, None}
 use Rattle.std.specs.List.{remove}
 use Rattle.csp_deck.specs.Step.{Kind, nothing, pushing, popping}
 use Rattle.csp_hub.specs.PlainHub.{PlainEnd, PlainHub, served, with_served}
-use Rattle.csp_hub.specs.Planning.{plan_of}
+use Rattle.csp_hub.specs.Planning.{HubPlan, push, pop, wait, plan_of}
 use Rattle.csp_hub.specs.declared.doing.Doing.{Doing}
 use Rattle.csp_hub.specs.declared.doing.Doing.TheVariants as doing
 use Rattle.csp_link.specs.Holding.{first_due}
-use Rattle.csp_link.specs.Planning.{LinkPlan, push, pop, wait}
 use Rattle.csp_link.specs.declared.held.Held.{Held}
 use Rattle.csp_log.specs.declared.places.QueueId.TheVariants as queue
 use Rattle.csp_log.specs.declared.shown.ItemShown.TheVariants as item
@@ -15,7 +14,7 @@ use Rattle.csp_log.specs.declared.shown.OpShown.{OpShown}
 use Rattle.csp_log.specs.declared.shown.OpShown.TheVariants as op
 
 -- the operation of a turn that serves the end of this number
-abbrev pub op_of : ℕ → LinkPlan → OpShown
+abbrev pub op_of : ℕ → HubPlan → OpShown
 op_of k (push _ h) = op.Push (queue.Rx k) (item.Frame h.frame)
 op_of k pop = op.Pop (queue.Tx k)
 op_of k wait = op.Nothing
@@ -30,7 +29,7 @@ without (Some p) e = record e { held = remove e.held p.0 }
 without None e = e
 
 -- what is kept in mind: its place and when it was due
-abbrev pub doing_of : LinkPlan → Doing
+abbrev pub doing_of : HubPlan → Doing
 doing_of (push place h) = doing.Push place h.due
 doing_of pop = doing.Pop
 doing_of wait = doing.Wait

@@ -6,7 +6,7 @@ use Rattle.csp_hub.specs.Telling.{fate_of_next}
 use Rattle.csp_hub.specs.declared.doing.Doing.{Doing}
 use Rattle.csp_hub.specs.declared.doing.Doing.TheVariants as doing
 use Rattle.csp_link.specs.Fates.{most_copies}
-use Rattle.csp_link.specs.Telling.{frame_in}
+use Rattle.csp_link.specs.Turns.{frame_in}
 use Rattle.csp_link.specs.declared.fates.Fate.{Fate}
 use Rattle.csp_log.specs.PlainSpares.{PlainSpares, with_box}
 use Rattle.csp_log.specs.declared.frame.Frame.{Frame}

@@ -6,7 +6,7 @@ use Rattle.csp_hub.specs.declared.doing.Doing.{Doing}
 use Rattle.csp_hub.specs.declared.doing.Doing.TheVariants as doing
 use Rattle.csp_link.specs.Copies.{held_copies, held_until}
 use Rattle.csp_link.specs.Fates.{fate_at}
-use Rattle.csp_link.specs.Telling.{frame_in}
+use Rattle.csp_link.specs.Turns.{frame_in}
 use Rattle.csp_link.specs.declared.fates.Fate.{Fate}
 use Rattle.csp_link.specs.declared.held.Held.{Held}
 use Rattle.csp_log.specs.declared.event.Event.{Event}

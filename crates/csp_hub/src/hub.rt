@@ -10,7 +10,7 @@ ghost use Rattle.csp_hub.specs.PlainHub.{next_end, opening_end};
 ghost use Rattle.csp_hub.specs.Planning.{is_idle};
 ghost use Rattle.csp_hub.specs.Stocking.{most_of};
 ghost use Rattle.csp_link.specs.Fates.{IsFault};
-ghost use Rattle.csp_link.specs.Telling.{frame_in};
+ghost use Rattle.csp_link.specs.Turns.{frame_in};
 ghost use Rattle.csp_log.specs.Pictures.{shown_op, shown_answer, shown_item};
 
 use crate::doing::Doing;

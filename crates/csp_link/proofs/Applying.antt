@@ -7,18 +7,17 @@ use Rattle.std.proofs.lemmas.List.{append_assoc, append-nil, length-append, map-
 use Rattle.std.proofs.lemmas.List.Sorted.{IsPermutation-refl, IsPermutation-trans, IsPermutation-append_left, IsPermutation-append_right, IsPermutation-middle}
 use Rattle.csp_deck.specs.Runs.{IsRun, IsStep, Runs, state_after, step_after}
 use Rattle.csp_link.specs.Applied.{AppliesPlan, link_steps, popped_by, pushed_by, frames_popped, frames_pushed, frames_in, made, made_from}
-use Rattle.csp_link.specs.Asking.{op_of, handed, doing_of}
 use Rattle.csp_link.specs.Copies.{copies_of, held_copies, held_until}
 use Rattle.csp_link.specs.Fates.{Fates, fate_at, fates_of}
 use Rattle.csp_link.specs.Holding.{first_due}
 use Rattle.csp_link.specs.PlainLink.{PlainDirection, PlainLink, direction, opening}
-use Rattle.csp_link.specs.Planning.{LinkPlan, push, pop, wait, first_rule, plan_in}
-use Rattle.csp_link.specs.Telling.{frame_in, kept, taken, told_by}
+use Rattle.csp_link.specs.Turns.{first_rule, frame_in, kept, taken, turn_of}
 use Rattle.csp_link.specs.Ways.{number, other}
 use Rattle.csp_link.specs.declared.doing.Doing.{Doing}
 use Rattle.csp_link.specs.declared.fates.Fate.{Fate}
 use Rattle.csp_link.specs.declared.fault.Fault.{Fault}
 use Rattle.csp_link.specs.declared.held.Held.{Held}
+use Rattle.csp_link.specs.declared.held.TheConstants.{MOST_HELD}
 use Rattle.csp_link.specs.declared.way.Way.{Way}
 use Rattle.csp_link.specs.declared.way.Way.TheVariants.{Forth, Back}
 use Rattle.csp_log.specs.Pictures.{Fits}
@@ -108,45 +107,35 @@ applied_kept d place h i stood e =
     subst (λ x. Applied d (kept place h.due (frame_in x) (record d { held = remove d.held place })) [] []) (sym e)
     (subst (λ hs. Applied d (record d { held = hs }) [] []) (sym stood.back) (applied_none d))
 
-abbrev pushed_in : LinkPlan → ℕ × Held → ℕ × Held
-pushed_in (push place h) p = (place, h)
-pushed_in pop p = p
-pushed_in wait p = p
-
-due_stands : (d : PlainDirection) (now place : ℕ) (h : Held) (found : Option (ℕ × Held)) (few : Bool) → first_due now d.held ≡ found → first_rule found few ≡ push place h → Stands d.held place h
-due_stands d now place h (Some p) few e is = stands (λ x. nat_le x.due now) d.held place h (e ∙ ap (λ x. Some (pushed_in x p)) is)
-due_stands d now place h None true e is = absurd cc
-due_stands d now place h None false e is = absurd cc
-
 -- the direction whose turn it is
-moved : (d : PlainDirection) (now : ℕ) (way : Way) (p : LinkPlan) (a : AnswerShown) → plan_in d now ≡ p → Fits (op_of way p) a
-    → Applied d (told_by now (doing_of p) a (handed p d)) (popped_by way (op_of way p) a) (pushed_by way (op_of way p) a)
-moved d now Forth (push place h) answer.Pushed e f = applied_pushed d place h (due_stands d now place h (first_due now d.held) _ refl e)
-moved d now Back (push place h) answer.Pushed e f = applied_pushed d place h (due_stands d now place h (first_due now d.held) _ refl e)
-moved d now way (push place h) (answer.Full i) e f = applied_kept d place h i (due_stands d now place h (first_due now d.held) _ refl e) f
-moved d now Forth pop (answer.Popped (item.Frame g)) e f = applied_popped d now g
-moved d now Back pop (answer.Popped (item.Frame g)) e f = applied_popped d now g
-moved d now way pop (answer.Popped (item.Packet _ _)) e f = applied_none d
-moved d now way pop (answer.Popped (item.Note _)) e f = applied_none d
-moved d now way pop answer.Empty e f = applied_none d
-moved d now way wait answer.Nothing e f = applied_none d
-moved d now way _ _ e f = absurd f
+moved : (d : PlainDirection) (now : ℕ) (way : Way) (due : Option (ℕ × Held)) (few : Bool) (a : AnswerShown) → first_due now d.held ≡ due → let t = turn_of way now due d (first_rule due few) in
+    Fits t.asks a → Applied d ((turn_of way now None t.until (first_rule due few)).told a) (popped_by way t.asks a) (pushed_by way t.asks a)
+moved d now Forth (Some p) few answer.Pushed e f = applied_pushed d p.0 p.1 (stands (λ h. nat_le h.due now) d.held p.0 p.1 e)
+moved d now Back (Some p) few answer.Pushed e f = applied_pushed d p.0 p.1 (stands (λ h. nat_le h.due now) d.held p.0 p.1 e)
+moved d now way (Some p) few (answer.Full i) e f = applied_kept d p.0 p.1 i (stands (λ h. nat_le h.due now) d.held p.0 p.1 e) f
+moved d now Forth None true (answer.Popped (item.Frame g)) e f = applied_popped d now g
+moved d now Back None true (answer.Popped (item.Frame g)) e f = applied_popped d now g
+moved d now way None true (answer.Popped (item.Packet _ _)) e f = applied_none d
+moved d now way None true (answer.Popped (item.Note _)) e f = applied_none d
+moved d now way None true answer.Empty e f = applied_none d
+moved d now way None false answer.Nothing e f = applied_none d
+moved d now way _ _ _ e f = absurd f
 
 -- the other one
-idle : (d : PlainDirection) (way : Way) (p : LinkPlan) (a : AnswerShown) → Applied d d (popped_by way (op_of (other way) p) a) (pushed_by way (op_of (other way) p) a)
-idle d Forth (push _ _) answer.Pushed = applied_none d
-idle d Back (push _ _) answer.Pushed = applied_none d
-idle d Forth pop (answer.Popped (item.Frame _)) = applied_none d
-idle d Back pop (answer.Popped (item.Frame _)) = applied_none d
-idle d _ _ _ = applied_none d
+idle : (d e : PlainDirection) (now : ℕ) (way : Way) (due : Option (ℕ × Held)) (few : Bool) (a : AnswerShown) → let t = turn_of (other way) now due e (first_rule due few) in Applied d d (popped_by way t.asks a) (pushed_by way t.asks a)
+idle d e now Forth (Some _) few answer.Pushed = applied_none d
+idle d e now Back (Some _) few answer.Pushed = applied_none d
+idle d e now Forth None true (answer.Popped (item.Frame _)) = applied_none d
+idle d e now Back None true (answer.Popped (item.Frame _)) = applied_none d
+idle d e now _ _ _ _ = applied_none d
 
 turn_applied : (kind : LinkKind) (forth back : PlainDirection) (w : Way) (doing : Doing) (now : ℕ) (a : AnswerShown) (way : Way)
     → let s : PlainLink = record { kind = kind; forth = forth; back = back; way = w; doing = doing } in
     Fits (link_steps.asks s now) a → Applied (direction s way) (direction (link_steps.tells (link_steps.asked s now) now a) way) (popped_by way (link_steps.asks s now) a) (pushed_by way (link_steps.asks s now) a)
-turn_applied kind forth back Forth doing now a Forth f = moved forth now Forth (plan_in forth now) a refl f
-turn_applied kind forth back Forth doing now a Back f = idle back Back (plan_in forth now) a
-turn_applied kind forth back Back doing now a Forth f = idle forth Forth (plan_in back now) a
-turn_applied kind forth back Back doing now a Back f = moved back now Back (plan_in back now) a refl f
+turn_applied kind forth back Forth doing now a Forth f = moved forth now Forth (first_due now forth.held) (nat_le (length forth.held) MOST_HELD) a refl f
+turn_applied kind forth back Forth doing now a Back f = idle back forth now Back (first_due now forth.held) (nat_le (length forth.held) MOST_HELD) a
+turn_applied kind forth back Back doing now a Forth f = idle forth back now Forth (first_due now back.held) (nat_le (length back.held) MOST_HELD) a
+turn_applied kind forth back Back doing now a Back f = moved back now Back (first_due now back.held) (nat_le (length back.held) MOST_HELD) a refl f
 
 step_applied : (s : PlainLink) (e : Entry) (way : Way) → IsStep link_steps s e → Applied (direction s way) (direction (step_after link_steps s e) way) (popped_by way e.op e.answer) (pushed_by way e.op e.answer)
 step_applied s e way step =

@@ -5,7 +5,9 @@ use Rattle.std.specs.Option.{option_map, unwrap_or}
 use Rattle.std.specs.Prelude.{nat_le}
 use Rattle.std.proofs.lemmas.Iterator.Adapters.{position_from-zero}
 use Rattle.csp_link.specs.Holding.{first_due}
-use Rattle.csp_link.specs.Planning.{LinkPlan, push, pop, wait, looks}
+use Rattle.csp_link.specs.Turns.{looks}
+use Rattle.csp_link.specs.declared.doing.Doing.{Doing}
+use Rattle.csp_link.specs.declared.doing.Doing.TheVariants as doing
 use Rattle.csp_link.specs.declared.held.Held.{Held}
 
 module _ (t : Held → Bool) where
@@ -68,7 +70,8 @@ none_due now held e = by (first_due now held) e
     by (Some p) e = absurd cc
 
 -- a plan that is a look for a frame is that one
-pub looks_pop : (p : LinkPlan) → looks p ≡ true → p ≡ pop
-looks_pop pop e = refl
-looks_pop (push _ _) e = absurd cc
-looks_pop wait e = absurd cc
+pub looks_pop : (p : Doing) → looks p ≡ true → p ≡ doing.Pop
+looks_pop doing.Pop e = refl
+looks_pop doing.Rest e = absurd cc
+looks_pop (doing.Push _ _) e = absurd cc
+looks_pop doing.Wait e = absurd cc

@@ -8,14 +8,12 @@ use Rattle.std.proofs.lemmas.List.{length-set}
 use Rattle.std.proofs.lemmas.List.Elements.{All-nil, All-head, All-tail, All-append, All-take, All-drop, All-map, All-replicate}
 use Rattle.csp_deck.specs.Carried.{IsCarried}
 use Rattle.csp_deck.specs.Step.{IsAnswerOf, CanServe}
-use Rattle.csp_link.specs.Asking.{handed, kind_of_doing, op_of}
 use Rattle.csp_link.specs.Copies.{damaged, flipped, held_copies, held_until}
 use Rattle.csp_link.specs.Fates.{fate_at}
 use Rattle.csp_link.specs.Holding.{first_due}
-use Rattle.csp_link.specs.PlainLink.{PlainDirection, PlainLink, direction, uses}
-use Rattle.csp_link.specs.Planning.{LinkPlan, push, pop, wait, first_rule, plan_in}
+use Rattle.csp_link.specs.PlainLink.{PlainDirection, PlainLink, direction, in_turn, uses}
 use Rattle.csp_link.specs.Room.{AreCarried, CanHear, IsLink, plain_link}
-use Rattle.csp_link.specs.Telling.{frame_in, taken}
+use Rattle.csp_link.specs.Turns.{first_rule, frame_in, taken, turn_in, turn_of}
 use Rattle.csp_link.specs.declared.doing.Doing.{Doing}
 use Rattle.csp_link.specs.declared.doing.Doing.TheVariants as doing
 use Rattle.csp_link.specs.declared.fates.Fate.{Fate}
@@ -51,10 +49,13 @@ carried_copies k true n due f c = All-nil (λ (h : Held). IsFrameOf k h.frame)
 carried_copies k false n due f c = All-map (λ (h : Held). IsFrameOf k h.frame) (held_until due) (replicate n f) (All-replicate (IsFrameOf k) n f c)
 
 -- what a direction holds is carried when a frame of it has gone, and when what is made of another one is held besides
-pub handed_carried : (k : LinkKind) (p : LinkPlan) (d : PlainDirection) → AreCarried k d.held → AreCarried k (handed p d).held
-handed_carried k (push place h) d all = let P : Held → Type 0 = λ h. IsFrameOf k h.frame in All-append P (take place d.held) (drop (suc place) d.held) (All-take P place d.held all) (All-drop P (suc place) d.held all)
-handed_carried k pop d all = all
-handed_carried k wait d all = all
+until_by : (k : LinkKind) (way : Way) (now : ℕ) (due : Option (ℕ × Held)) (few : Bool) (d : PlainDirection) → AreCarried k d.held → AreCarried k (turn_of way now due d (first_rule due few)).until.held
+until_by k way now (Some p) few d all = let P : Held → Type 0 = λ h. IsFrameOf k h.frame in All-append P (take p.0 d.held) (drop (suc p.0) d.held) (All-take P p.0 d.held all) (All-drop P (suc p.0) d.held all)
+until_by k way now None true d all = all
+until_by k way now None false d all = all
+
+until_carried : (k : LinkKind) (way : Way) (now : ℕ) (d : PlainDirection) → AreCarried k d.held → AreCarried k (turn_in way now d).until.held
+until_carried k way now d all = until_by k way now (first_due now d.held) (nat_le (length d.held) MOST_HELD) d all
 
 pub taken_carried : (k : LinkKind) (fate : Fate) (now : ℕ) (f : Frame) (held : List Held) → AreCarried k held → IsFrameOf k f → AreCarried k (held ++ held_copies fate now f)
 taken_carried k fate now f held all c = All-append (λ (h : Held). IsFrameOf k h.frame) held _ all (carried_copies k fate.lost (fate.repeats + 1) (now + fate.delay) (damaged fate.flip f) (carried_damaged k fate.flip f c))
@@ -65,19 +66,19 @@ carried_item k (item.Packet _ _) f c e = absurd cc
 carried_item k (item.Note _) f c e = absurd cc
 
 -- a frame that was popped is carried
-pub popped_carried : (s : PlainLink) (way : Way) (d : Doing) (i : ItemShown) (f : Frame) → IsAnswerOf (uses s) (kind_of_doing way d) (answer.Popped i) → frame_in i ≡ Some f → IsFrameOf s.kind f
+pub popped_carried : (s : PlainLink) (way : Way) (d : Doing) (i : ItemShown) (f : Frame) → IsAnswerOf (uses s) (turn_of way 0 None (in_turn s) d).awaits (answer.Popped i) → frame_in i ≡ Some f → IsFrameOf s.kind f
 popped_carried s Forth doing.Pop i f c e = carried_item s.kind i f c e
 popped_carried s Back doing.Pop i f c e = carried_item s.kind i f c e
 popped_carried s _ _ i f c e = absurd c
 
 -- a link that has asked, by the direction whose turn it is
-pub asked_forth : (a b : Inside) (t : Doing) (d : PlainDirection) (p : LinkPlan) → IsLink (plain_link a) → a.way ≡ Forth → b ≡ record { kind = a.kind; forth = d; back = a.back; way = a.way; doing = a.doing }
-    → d ≡ handed p a.forth → CanHear t d.held → IsLink (plain_link (record { kind = b.kind; forth = b.forth; back = b.back; way = b.way; doing = t }))
-asked_forth a b t d p l way is state hears = rw (is, way) (record { forth = rw state (handed_carried a.kind p a.forth l.forth); back = l.back; hears = hears })
+pub asked_forth : (a b : Inside) (t : Doing) (d : PlainDirection) (now : ℕ) → IsLink (plain_link a) → a.way ≡ Forth → b ≡ record { kind = a.kind; forth = d; back = a.back; way = a.way; doing = a.doing }
+    → d ≡ (turn_in Forth now a.forth).until → CanHear t d.held → IsLink (plain_link (record { kind = b.kind; forth = b.forth; back = b.back; way = b.way; doing = t }))
+asked_forth a b t d now l way is state hears = rw (is, way) (record { forth = rw state (until_carried a.kind Forth now a.forth l.forth); back = l.back; hears = hears })
 
-pub asked_back : (a b : Inside) (t : Doing) (d : PlainDirection) (p : LinkPlan) → IsLink (plain_link a) → a.way ≡ Back → b ≡ record { kind = a.kind; forth = a.forth; back = d; way = a.way; doing = a.doing }
-    → d ≡ handed p a.back → CanHear t d.held → IsLink (plain_link (record { kind = b.kind; forth = b.forth; back = b.back; way = b.way; doing = t }))
-asked_back a b t d p l way is state hears = rw (is, way) (record { forth = l.forth; back = rw state (handed_carried a.kind p a.back l.back); hears = hears })
+pub asked_back : (a b : Inside) (t : Doing) (d : PlainDirection) (now : ℕ) → IsLink (plain_link a) → a.way ≡ Back → b ≡ record { kind = a.kind; forth = a.forth; back = d; way = a.way; doing = a.doing }
+    → d ≡ (turn_in Back now a.back).until → CanHear t d.held → IsLink (plain_link (record { kind = b.kind; forth = b.forth; back = b.back; way = b.way; doing = t }))
+asked_back a b t d now l way is state hears = rw (is, way) (record { forth = l.forth; back = rw state (until_carried a.kind Back now a.back l.back); hears = hears })
 
 -- a link that has popped a frame
 pub popped_forth : (a b : Inside) (w : Way) (d : PlainDirection) (now : ℕ) (f : Frame) → IsLink (plain_link a) → b ≡ record { kind = a.kind; forth = d; back = a.back; way = a.way; doing = a.doing }
@@ -99,14 +100,14 @@ due_carried k now n (h ∷ hs) all =
       | false ↦ due_carried k now (n + 1) hs (All-tail P h hs all)
     ]
 
-rule_served : (s : PlainLink) (way : Way) (found : Option (ℕ × Held)) (few : Bool) → IfSome found (λ p. IsFrameOf s.kind p.1.frame) → CanServe (uses s) (op_of way (first_rule found few))
-rule_served s Forth (Some p) few c = c
-rule_served s Back (Some p) few c = c
-rule_served s Forth None true c = refl
-rule_served s Back None true c = refl
-rule_served s _ None false c = tt
+rule_served : (s : PlainLink) (way : Way) (now : ℕ) (due : Option (ℕ × Held)) (few : Bool) (d : PlainDirection) → IfSome due (λ p. IsFrameOf s.kind p.1.frame) → CanServe (uses s) (turn_of way now due d (first_rule due few)).asks
+rule_served s Forth now (Some p) few d c = c
+rule_served s Back now (Some p) few d c = c
+rule_served s Forth now None true d c = refl
+rule_served s Back now None true d c = refl
+rule_served s _ now None false d c = tt
 
 -- a link asks what its lanes can serve
-pub way_served : (s : PlainLink) (way : Way) (now : ℕ) → IsLink s → CanServe (uses s) (op_of way (plan_in (direction s way) now))
-way_served s Forth now l = rule_served s Forth (first_due now s.forth.held) (nat_le (length s.forth.held) MOST_HELD) (due_carried s.kind now 0 s.forth.held l.forth)
-way_served s Back now l = rule_served s Back (first_due now s.back.held) (nat_le (length s.back.held) MOST_HELD) (due_carried s.kind now 0 s.back.held l.back)
+pub way_served : (s : PlainLink) (way : Way) (now : ℕ) → IsLink s → CanServe (uses s) (turn_in way now (direction s way)).asks
+way_served s Forth now l = rule_served s Forth now (first_due now s.forth.held) (nat_le (length s.forth.held) MOST_HELD) s.forth (due_carried s.kind now 0 s.forth.held l.forth)
+way_served s Back now l = rule_served s Back now (first_due now s.back.held) (nat_le (length s.back.held) MOST_HELD) s.back (due_carried s.kind now 0 s.back.held l.back)

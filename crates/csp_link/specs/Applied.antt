@@ -3,11 +3,10 @@ use Rattle.std.specs.Prelude.{ℕ, ◌+◌, ◌==◌, false, List, [], ◌∷◌
 use Rattle.std.specs.List.{flat_map}
 use Rattle.std.specs.List.Sorted.{IsPermutation}
 use Rattle.csp_deck.specs.Runs.{Steps}
-use Rattle.csp_link.specs.Asking.{asks, asked}
 use Rattle.csp_link.specs.Copies.{copies_of}
 use Rattle.csp_link.specs.Fates.{fate_of}
 use Rattle.csp_link.specs.PlainLink.{PlainLink, direction}
-use Rattle.csp_link.specs.Telling.{tells, events}
+use Rattle.csp_link.specs.Turns.{asked, asks, events, tells}
 use Rattle.csp_link.specs.Ways.{number, other}
 use Rattle.csp_link.specs.declared.fates.Fate.{Fate}
 use Rattle.csp_link.specs.declared.fault.Fault.{Fault}

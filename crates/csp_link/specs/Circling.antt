@@ -1,7 +1,7 @@
 -- the queues that a link looks into again and again
 use Rattle.std.specs.Prelude.{ℕ, Bool, true, List, [], ◌∷◌}
 use Rattle.csp_link.specs.PlainLink.{PlainLink}
-use Rattle.csp_link.specs.Planning.{looks, plan_in}
+use Rattle.csp_link.specs.Turns.{looks, plan_in}
 use Rattle.csp_link.specs.Ways.{from_queue, other}
 use Rattle.csp_link.specs.declared.doing.Doing.{Doing}
 use Rattle.csp_link.specs.declared.doing.Doing.TheVariants as doing

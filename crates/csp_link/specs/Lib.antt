@@ -1,12 +1,10 @@
 pub mod Applied
-pub mod Asking
 pub mod Circling
 pub mod Copies
 pub mod Fates
 pub mod Holding
 pub mod PlainLink
-pub mod Planning
 pub mod Room
 pub mod Stocking
-pub mod Telling
+pub mod Turns
 pub mod Ways

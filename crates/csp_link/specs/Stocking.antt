@@ -2,7 +2,7 @@
 use Rattle.std.specs.Prelude.{ℕ, ◌+◌, ◌-◌, Option, Some, None, max, if◌then◌else◌}
 use Rattle.csp_link.specs.Fates.{fate_at, most_copies}
 use Rattle.csp_link.specs.PlainLink.{PlainDirection, PlainLink, in_turn}
-use Rattle.csp_link.specs.Telling.{frame_in}
+use Rattle.csp_link.specs.Turns.{frame_in}
 use Rattle.csp_link.specs.declared.doing.Doing.{Doing}
 use Rattle.csp_link.specs.declared.doing.Doing.TheVariants as doing
 use Rattle.csp_link.specs.declared.fates.Fate.{Fate}

@@ -1,13 +1,11 @@
 //! One direction of a link.
 
 ghost use Rattle.std.specs.Prelude.{◌≡◌, ◌+◌, ◌^◌, ◌<◌, ◌≤◌, Some, All, length, IfOk};
-ghost use Rattle.csp_link.specs.Asking.{op_of, handed, doing_of};
 ghost use Rattle.csp_link.specs.Fates.{most_copies, IsFault};
-ghost use Rattle.csp_link.specs.Planning.{plan_in, looks};
 ghost use Rattle.csp_link.specs.PlainLink.{opening_direction};
 ghost use Rattle.csp_link.specs.Room.{CanHear};
 ghost use Rattle.csp_link.specs.Stocking.{taken_stock};
-ghost use Rattle.csp_link.specs.Telling.{kept, taken};
+ghost use Rattle.csp_link.specs.Turns.{kept, looks, plan_in, taken, turn_in};
 ghost use Rattle.csp_log.specs.Pictures.{shown_op};
 
 use crate::doing::Doing;
@@ -63,9 +61,9 @@ impl Direction {
     #[tactic(auto, using(crate::proofs::Due::due_inside, crate::proofs::Due::due_there, crate::proofs::Due::none_due))]
     #[inline(always)]
     pub fn ask(&mut self, way: Way, now: u64) -> (Op, Doing)
-        ensures op { shown_op result.0 ≡ op_of way (plan_in self.old now) }
-        ensures doing { result.1 ≡ doing_of (plan_in self.old now) }
-        ensures state { self.new ≡ handed (plan_in self.old now) self.old }
+        ensures op { shown_op result.0 ≡ (turn_in way now self.old).asks }
+        ensures doing { result.1 ≡ plan_in self.old now }
+        ensures state { self.new ≡ (turn_in way now self.old).until }
         ensures hears { CanHear result.1 self.new.held }
     {
         if let Some(place) = self.held.first_due(now) {

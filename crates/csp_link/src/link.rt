@@ -3,7 +3,7 @@
 ghost use Rattle.std.specs.Prelude.{◌≡◌, ◌+◌, ◌-◌, ◌^◌, ◌<◌, ◌≤◌, false, Some, None, All, IsSome, IfOk, IfSome, MatchOption};
 ghost use Rattle.csp_deck.specs.Step.{CanServe, IsAnswerOf};
 ghost use Rattle.csp_link.specs.Fates.{IsFault};
-ghost use Rattle.csp_link.specs.Telling.{frame_in};
+ghost use Rattle.csp_link.specs.Turns.{frame_in};
 ghost use Rattle.csp_log.specs.Pictures.{shown_op, shown_answer, shown_item};
 
 use crate::direction::Direction;
@@ -40,10 +40,9 @@ impl Model for Link {
 
 impl Link {
     ghost use Rattle.csp_link.specs.PlainLink.{opening, uses, count};
-    ghost use Rattle.csp_link.specs.Asking.{asks, asked, awaits};
     ghost use Rattle.csp_link.specs.Circling.{circle};
     ghost use Rattle.csp_link.specs.Stocking.{needs, stocks};
-    ghost use Rattle.csp_link.specs.Telling.{tells, turned};
+    ghost use Rattle.csp_link.specs.Turns.{asks, asked, awaits, tells, turned};
 
     /// A link of this kind that has carried nothing yet, with room for `LINK_HOLDS` held frames in each
     /// direction. Its plan says what happens to which frames.

@@ -8,9 +8,8 @@ impl Party for Link {
     ghost use Rattle.std.specs.Prelude.{⊤, false, []};
     ghost use Rattle.csp_deck.specs.Regions.{nowhere};
     ghost use Rattle.csp_link.specs.PlainLink.{uses, count};
-    ghost use Rattle.csp_link.specs.Asking.{asks, asked, awaits};
     ghost use Rattle.csp_link.specs.Stocking.{needs, stocks};
-    ghost use Rattle.csp_link.specs.Telling.{tells, events};
+    ghost use Rattle.csp_link.specs.Turns.{asks, asked, awaits, tells, events};
 
     ghost is_ready = { λ _ _. ⊤ };
 

@@ -6,11 +6,10 @@ use Rattle.csp_app.specs.PlainApp.{PlainApp, AppAt}
 use Rattle.csp_app.specs.Drained as app_drained
 use Rattle.csp_app.specs.Telling as app_telling
 use Rattle.csp_arena.specs.Cells.{RegionName}
-use Rattle.csp_bridge.specs.Asking as bridge_asking
 use Rattle.csp_bridge.specs.PlainBridge as plain_bridge
 use Rattle.csp_bridge.specs.PlainBridge.{PlainBridge, BridgeAt}
 use Rattle.csp_bridge.specs.Drained as bridge_drained
-use Rattle.csp_bridge.specs.Telling as bridge_telling
+use Rattle.csp_bridge.specs.Turns as bridge_turns
 use Rattle.csp_deck.specs.Regions.{nowhere}
 use Rattle.csp_deck.specs.Step.{Kind}
 use Rattle.csp_hub.specs.Asking as hub_asking
@@ -25,11 +24,10 @@ use Rattle.csp_iface.specs.Drained as iface_drained
 use Rattle.csp_iface.specs.Stocking as iface_stocking
 use Rattle.csp_iface.specs.Telling as iface_telling
 use Rattle.csp_iface.specs.declared.plan.IfacePlan.TheVariants as iface_plan
-use Rattle.csp_link.specs.Asking as link_asking
 use Rattle.csp_link.specs.PlainLink as plain_link
 use Rattle.csp_link.specs.PlainLink.{PlainLink}
 use Rattle.csp_link.specs.Stocking as link_stocking
-use Rattle.csp_link.specs.Telling as link_telling
+use Rattle.csp_link.specs.Turns as link_turns
 use Rattle.csp_log.specs.PlainSpares.{PlainSpares}
 use Rattle.csp_log.specs.declared.event.Event.{Event}
 use Rattle.csp_log.specs.declared.places.QueueId.{QueueId}
@@ -90,10 +88,10 @@ is_waiting (a_hub h) time = ⊤
 -- what kind of operation it waits to be answered
 abbrev pub awaits : PlainParty → Kind
 awaits (a_router r) = router.awaits_of r
-awaits (a_bridge b) = bridge_asking.awaits b
+awaits (a_bridge b) = bridge_turns.awaits b
 awaits (an_iface i) = iface_asking.awaits i
 awaits (an_app a) = app_asking.awaits a
-awaits (a_link l) = link_asking.awaits l
+awaits (a_link l) = link_turns.awaits l
 awaits (a_hub h) = hub_asking.awaits h
 
 -- a party takes no turn any more: none but an application ever ends
@@ -153,37 +151,37 @@ stocks (a_hub h) time answer s = hub_stocking.stocks h time answer s
 -- what a party asks at this time
 abbrev pub asks : PlainParty → ℕ → OpShown
 asks (a_router r) time = router.asks_of r time
-asks (a_bridge b) time = bridge_asking.asks b
+asks (a_bridge b) time = bridge_turns.asks b
 asks (an_iface i) time = iface_asking.asks i time
 asks (an_app a) time = app_asking.asks a time
-asks (a_link l) time = link_asking.asks l time
+asks (a_link l) time = link_turns.asks l time
 asks (a_hub h) time = hub_asking.asks h time
 
 -- what a party is once it has asked
 abbrev pub asked : PlainParty → ℕ → PlainParty
 asked (a_router r) time = a_router (router.asked_of r time)
-asked (a_bridge b) time = a_bridge (bridge_asking.asked b)
+asked (a_bridge b) time = a_bridge (bridge_turns.asked b)
 asked (an_iface i) time = an_iface (iface_asking.asked i time)
 asked (an_app a) time = an_app (app_asking.asked a time)
-asked (a_link l) time = a_link (link_asking.asked l time)
+asked (a_link l) time = a_link (link_turns.asked l time)
 asked (a_hub h) time = a_hub (hub_asking.asked h time)
 
 -- what a party is once it was told this answer
 abbrev pub tells : PlainParty → ℕ → AnswerShown → PlainParty
 tells (a_router r) time a = a_router (router.told_of r time a)
-tells (a_bridge b) time a = a_bridge (bridge_telling.tells b a)
+tells (a_bridge b) time a = a_bridge (bridge_turns.tells b a)
 tells (an_iface i) time a = an_iface (iface_telling.tells i time a)
 tells (an_app p) time a = an_app (app_telling.tells p time a)
-tells (a_link l) time a = a_link (link_telling.tells l time a)
+tells (a_link l) time a = a_link (link_turns.tells l time a)
 tells (a_hub h) time a = a_hub (hub_telling.tells h time a)
 
 -- what a party reports when it is told this answer
 abbrev pub events : PlainParty → ℕ → AnswerShown → List Event
 events (a_router r) time a = router.events_of r time a
-events (a_bridge b) time a = bridge_telling.events b a
+events (a_bridge b) time a = bridge_turns.events b a
 events (an_iface i) time a = iface_telling.events i time a
 events (an_app p) time a = app_telling.events p time a
-events (a_link l) time a = link_telling.events l time a
+events (a_link l) time a = link_turns.events l time a
 events (a_hub h) time a = hub_telling.events h time a
 
 -- the numbers of the buffers that it holds: a link or a hub holds none

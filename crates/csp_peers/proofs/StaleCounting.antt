@@ -13,8 +13,8 @@ use Rattle.csp_app.specs.ToldApp.{ToldApp}
 use Rattle.csp_app.specs.Turn.{Turn, gives, pops, pushes, rests, takes, told_of}
 use Rattle.csp_app.specs.declared.plan.AppPlan.{AppPlan}
 use Rattle.csp_app.specs.declared.plan.AppPlan.TheVariants as app_plan
-use Rattle.csp_bridge.specs.Asking as bridge_asking
-use Rattle.csp_bridge.specs.Telling as bridge_telling
+use Rattle.csp_bridge.specs.PlainBridge.{PlainBridge}
+use Rattle.csp_bridge.specs.Turns as bridge_turns
 use Rattle.csp_bridge.specs.declared.doing.Doing.{Doing}
 use Rattle.csp_bridge.specs.declared.doing.Doing.TheVariants as doing
 use Rattle.csp_buffer.specs.Content.{Content}
@@ -63,9 +63,9 @@ IsEntryClear e = AreClear e.events.items
 
 -- ---- a bridge
 
-bridge_reports : (d : Doing) (a : AnswerShown) → AreClear (bridge_telling.reports d a)
-bridge_reports doing.Send (answer.Full i) = (refl, tt)
-bridge_reports _ _ = tt
+bridge_reports : (s : PlainBridge) (d : Doing) (a : AnswerShown) → AreClear ((bridge_turns.turn_of s d).reports a)
+bridge_reports s doing.Send (answer.Full i) = (refl, tt)
+bridge_reports s _ _ = tt
 
 -- ---- an interface
 
@@ -199,7 +199,7 @@ IsNoRouter (a_hub h) = ⊤
 -- each of its turns tells of none
 turn_tells : (p : PlainParty) (time : ℕ) (a : AnswerShown) → IsNoRouter p → AreClear (events (asked p time) time a)
 turn_tells (a_router r) time a other = absurd other
-turn_tells (a_bridge b) time a other = bridge_reports (bridge_asking.asked b).doing a
+turn_tells (a_bridge b) time a other = let t = bridge_turns.asked b in bridge_reports t t.doing a
 turn_tells (an_iface i) time a other = iface_clear (iface_asking.asked i time) time a
 turn_tells (an_app p) time a other = app_clear (app_asking.asked p time) time a
 turn_tells (a_link l) time a other = tt

@@ -3,10 +3,8 @@ use Rattle.std.proofs.Common.{◌≡◌, ◌⊎◌, inl, inr, ℕ, zero, suc, �
 use Rattle.std.specs.Prelude.{if◌then◌else◌, nat_le, IfSome, ⊤}
 use Rattle.std.specs.List.{AllByRecursion, list_any}
 use Rattle.std.proofs.lemmas.Bool.{eq-eqb, leb-true}
-use Rattle.csp_bridge.specs.Asking as bridge_asking
 use Rattle.csp_bridge.specs.PlainBridge.{PlainBridge}
-use Rattle.csp_bridge.specs.Planning.{first_rule}
-use Rattle.csp_bridge.specs.Telling as bridge_telling
+use Rattle.csp_bridge.specs.Turns as bridge_turns
 use Rattle.csp_bridge.specs.declared.doing.Doing.{Doing}
 use Rattle.csp_buffer.specs.Content.{Content}
 use Rattle.csp_buffer.specs.PlainBuffer.{PlainBuffer}
@@ -198,25 +196,26 @@ router_keeps P all (e ∷ es) so =
 
 -- ---- what a bridge puts: what it got from its inbox
 
-bridge_put : (R : Content → Type 0) (q : QueueId) (trash out : Option Content) (to : ℕ) (a : AnswerShown) → IfSome out R → AllByRecursion (IsOfKind R) (put_by q (bridge_asking.op_of (first_rule trash out to)) a)
-bridge_put R q (Some t) out to a h = tt
-bridge_put R q None (Some b) to answer.Pushed h = each_if (IsOfKind R) (is_queue q (queue.Out to)) (item.Packet UNMARKED b) h
-bridge_put R q None (Some b) to _ h = tt
-bridge_put R q None None to a h = tt
+bridge_put : (R : Content → Type 0) (q : QueueId) (trash out : Option Content) (to : ℕ) (doing : Doing) (a : AnswerShown) → IfSome out R
+    → let s : PlainBridge = record { trash = trash; out = out; to = to; doing = doing } in AllByRecursion (IsOfKind R) (put_by q (bridge_turns.asks s) a)
+bridge_put R q (Some t) out to doing a h = tt
+bridge_put R q None (Some b) to doing answer.Pushed h = each_if (IsOfKind R) (is_queue q (queue.Out to)) (item.Packet UNMARKED b) h
+bridge_put R q None (Some b) to doing _ h = tt
+bridge_put R q None None to doing a h = tt
 
-bridge_heard : (R : Content → Type 0) (i : ItemShown) (s : PlainBridge) → IfSome s.out R → IsOfKind R i → IfSome (bridge_telling.crossing i s).out R
+bridge_heard : (R : Content → Type 0) (i : ItemShown) (s : PlainBridge) → IfSome s.out R → IsOfKind R i → IfSome (bridge_turns.crossing s (answer.Popped i)).out R
 bridge_heard R (item.Packet mark b) s h g = g
 bridge_heard R (item.Frame _) s h g = h
 bridge_heard R (item.Note _) s h g = h
 
-bridge_full : (R : Content → Type 0) (i : ItemShown) (s : PlainBridge) → IfSome s.out R → IfSome (bridge_telling.discarded i s).out R
+bridge_full : (R : Content → Type 0) (i : ItemShown) (s : PlainBridge) → IfSome s.out R → IfSome (bridge_turns.discarded s (answer.Full i)).out R
 bridge_full R (item.Packet mark b) s h = h
 bridge_full R (item.Frame _) s h = h
 bridge_full R (item.Note _) s h = h
 
 bridge_out : (R : Content → Type 0) (trash out : Option Content) (to : ℕ) (doing : Doing) (a : AnswerShown) → IfSome out R
-    → AllByRecursion (IsOfKind R) (got_by queue.Inbox (bridge_asking.op_of (first_rule trash out to)) a)
-    → let s : PlainBridge = record { trash = trash; out = out; to = to; doing = doing } in IfSome (bridge_telling.tells (bridge_asking.asked s) a).out R
+    → let s : PlainBridge = record { trash = trash; out = out; to = to; doing = doing } in AllByRecursion (IsOfKind R) (got_by queue.Inbox (bridge_turns.asks s) a)
+    → IfSome (bridge_turns.tells (bridge_turns.asked s) a).out R
 bridge_out R (Some t) out to doing answer.Given h got = h
 bridge_out R (Some t) out to doing (answer.PoolFull b) h got = h
 bridge_out R (Some t) out to doing _ h got = h
@@ -233,24 +232,25 @@ bridge_puts R q [] time s run h got = tt
 bridge_puts R q (e ∷ es) time s run h got =
     let now_got : AllByRecursion (IsOfKind R) (got_by queue.Inbox e.op e.answer) = each_first (IsOfKind R) (got_by queue.Inbox e.op e.answer) (gets queue.Inbox es) got in
     AllByRecursion-append (IsOfKind R) (put_by q e.op e.answer) (puts q es)
-    (subst (λ o. AllByRecursion (IsOfKind R) (put_by q o e.answer)) (sym run.1.op) (bridge_put R q s.trash s.out s.to e.answer h))
-    (bridge_puts R q es e.time (bridge_telling.tells (bridge_asking.asked s) e.answer) run.2
+    (subst (λ o. AllByRecursion (IsOfKind R) (put_by q o e.answer)) (sym run.1.op) (bridge_put R q s.trash s.out s.to s.doing e.answer h))
+    (bridge_puts R q es e.time (bridge_turns.tells (bridge_turns.asked s) e.answer) run.2
     (bridge_out R s.trash s.out s.to s.doing e.answer h (subst (λ o. AllByRecursion (IsOfKind R) (got_by queue.Inbox o e.answer)) run.1.op now_got))
     (each_last (IsOfKind R) (got_by queue.Inbox e.op e.answer) (gets queue.Inbox es) got))
 
 -- and never into its inbox
-inbox_free : (R : Content → Type 0) (trash out : Option Content) (to : ℕ) (a : AnswerShown) → AllByRecursion (IsOfKind R) (put_by queue.Inbox (bridge_asking.op_of (first_rule trash out to)) a)
-inbox_free R (Some t) out to a = tt
-inbox_free R None (Some b) to answer.Pushed = tt
-inbox_free R None (Some b) to _ = tt
-inbox_free R None None to a = tt
+inbox_free : (R : Content → Type 0) (trash out : Option Content) (to : ℕ) (doing : Doing) (a : AnswerShown) → let s : PlainBridge = record { trash = trash; out = out; to = to; doing = doing } in
+    AllByRecursion (IsOfKind R) (put_by queue.Inbox (bridge_turns.asks s) a)
+inbox_free R (Some t) out to doing a = tt
+inbox_free R None (Some b) to doing answer.Pushed = tt
+inbox_free R None (Some b) to doing _ = tt
+inbox_free R None None to doing a = tt
 
 pub bridge_keeps : (R : Content → Type 0) (es : List Entry) (time : ℕ) (s : PlainBridge) → IsRun party_steps time (a_bridge s) es → AllByRecursion (IsOfKind R) (puts queue.Inbox es)
 bridge_keeps R [] time s run = tt
 bridge_keeps R (e ∷ es) time s run =
     AllByRecursion-append (IsOfKind R) (put_by queue.Inbox e.op e.answer) (puts queue.Inbox es)
-    (subst (λ o. AllByRecursion (IsOfKind R) (put_by queue.Inbox o e.answer)) (sym run.1.op) (inbox_free R s.trash s.out s.to e.answer))
-    (bridge_keeps R es e.time (bridge_telling.tells (bridge_asking.asked s) e.answer) run.2)
+    (subst (λ o. AllByRecursion (IsOfKind R) (put_by queue.Inbox o e.answer)) (sym run.1.op) (inbox_free R s.trash s.out s.to s.doing e.answer))
+    (bridge_keeps R es e.time (bridge_turns.tells (bridge_turns.asked s) e.answer) run.2)
 
 -- ---- an interface fetches from its own `Out`
 

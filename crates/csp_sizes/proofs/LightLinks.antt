@@ -4,15 +4,12 @@ use Rattle.std.proofs.lemmas.List.Elements.{All-append, All-cons, All-drop, All-
 use Rattle.std.proofs.lemmas.List.{length-set}
 use Rattle.std.specs.Int.Bits.{bit_xor}
 use Rattle.std.specs.List.{All, enumerate_from, find}
-use Rattle.std.specs.Prelude.{⊤, ◌^◌, IfSome, if◌then◌else◌, nat_le, replicate, slice_index}
-use Rattle.csp_link.specs.Asking.{asked, asks, handed, op_of}
+use Rattle.std.specs.Prelude.{◌^◌, IfSome, if◌then◌else◌, nat_le, replicate, slice_index}
 use Rattle.csp_link.specs.Copies.{copies_of, damaged, flipped, held_copies, held_until}
 use Rattle.csp_link.specs.Fates.{fate_at}
 use Rattle.csp_link.specs.Holding.{first_due}
 use Rattle.csp_link.specs.PlainLink.{PlainDirection, PlainLink, direction, in_turn, opening, with_direction}
-use Rattle.csp_link.specs.Planning.{LinkPlan, first_rule, plan_of, pop, push, wait}
-use Rattle.csp_link.specs.Telling as telling
-use Rattle.csp_link.specs.Telling.{tells}
+use Rattle.csp_link.specs.Turns.{asked, asks, first_rule, frame_in, kept, taken, tells, turn_at, turn_in, turn_of}
 use Rattle.csp_link.specs.declared.doing.Doing.TheVariants as doing
 use Rattle.csp_link.specs.declared.doing.Doing.{Doing}
 use Rattle.csp_link.specs.declared.fates.Fate.{Fate}
@@ -45,16 +42,6 @@ due_from now n (h ∷ held) all = go (nat_le h.due now) (due_from now (n + 1) he
     go true rest = All-head IsLightHeld h held all
     go false rest = rest
 
-abbrev IsLightPlan : LinkPlan → Type 0
-IsLightPlan (push place h) = IsLightFrame h.frame
-IsLightPlan pop = ⊤
-IsLightPlan wait = ⊤
-
-rule_light : (o : Option (ℕ × Held)) (few : Bool) → IfSome o (λ p. IsLightFrame p.1.frame) → IsLightPlan (first_rule o few)
-rule_light (Some p) few h = h
-rule_light None true h = tt
-rule_light None false h = tt
-
 direction_light : (l : PlainLink) (w : Way) → IsLightLink l → IsLightDirection (direction l w)
 direction_light l Forth h = h.forth
 direction_light l Back h = h.back
@@ -63,28 +50,27 @@ with_light : (l : PlainLink) (w : Way) (d : PlainDirection) (way : Way) (x : Doi
 with_light l Forth d way x one h = record { forth = one; back = h.back }
 with_light l Back d way x one h = record { forth = h.forth; back = one }
 
-plan_light : (l : PlainLink) (time : ℕ) → IsLightLink l → IsLightPlan (plan_of l time)
-plan_light l time h = rule_light (first_due time (in_turn l).held) (nat_le (length (in_turn l).held) MOST_HELD) (due_from time 0 (in_turn l).held (direction_light l l.way h))
-
-op_light : (w : Way) (p : LinkPlan) → IsLightPlan p → IsLightOp (op_of w p)
-op_light w (push place f) h = h
-op_light w pop h = tt
-op_light w wait h = tt
+asks_by : (w : Way) (now : ℕ) (due : Option (ℕ × Held)) (few : Bool) (d : PlainDirection) → IfSome due (λ p. IsLightFrame p.1.frame) → IsLightOp (turn_of w now due d (first_rule due few)).asks
+asks_by w now (Some p) few d h = h
+asks_by w now None true d h = tt
+asks_by w now None false d h = tt
 
 pub asks_light : (l : PlainLink) (time : ℕ) → IsLightLink l → IsLightOp (asks l time)
-asks_light l time h = op_light l.way (plan_of l time) (plan_light l time h)
+asks_light l time h = let d = in_turn l in asks_by l.way time (first_due time d.held) (nat_le (length d.held) MOST_HELD) d (due_from time 0 d.held (direction_light l l.way h))
 
-handed_light : (p : LinkPlan) (d : PlainDirection) → IsLightDirection d → IsLightDirection (handed p d)
-handed_light (push place f) d h = All-append IsLightHeld (take place d.held) (drop (suc place) d.held) (All-take IsLightHeld place d.held h) (All-drop IsLightHeld (suc place) d.held h)
-handed_light pop d h = h
-handed_light wait d h = h
+until_light : (w : Way) (now : ℕ) (due : Option (ℕ × Held)) (few : Bool) (d : PlainDirection) → IsLightDirection d → IsLightDirection (turn_of w now due d (first_rule due few)).until
+until_light w now (Some p) few d h = All-append IsLightHeld (take p.0 d.held) (drop (suc p.0) d.held) (All-take IsLightHeld p.0 d.held h) (All-drop IsLightHeld (suc p.0) d.held h)
+until_light w now None true d h = h
+until_light w now None false d h = h
 
 asked_light : (l : PlainLink) (time : ℕ) → IsLightLink l → IsLightLink (asked l time)
-asked_light l time h = with_light l l.way (handed (plan_of l time) (in_turn l)) (asked l time).way (asked l time).doing (handed_light (plan_of l time) (in_turn l) (direction_light l l.way h)) h
+asked_light l time h =
+    let d = in_turn l in
+    with_light l l.way (turn_in l.way time d).until (asked l time).way (asked l time).doing (until_light l.way time (first_due time d.held) (nat_le (length d.held) MOST_HELD) d (direction_light l l.way h)) h
 
 -- ---- what each answer makes of it
 
-kept_light : (place due : ℕ) (i : ItemShown) (d : PlainDirection) → item_bytes i ≤ 531 → IsLightDirection d → IsLightDirection (telling.kept place due (telling.frame_in i) d)
+kept_light : (place due : ℕ) (i : ItemShown) (d : PlainDirection) → item_bytes i ≤ 531 → IsLightDirection d → IsLightDirection (kept place due (frame_in i) d)
 kept_light place due (item.Frame f) d light h =
     All-append IsLightHeld (take place d.held) (held_until due f ∷ drop place d.held) (All-take IsLightHeld place d.held h)
     (All-cons IsLightHeld (held_until due f) (drop place d.held) light (All-drop IsLightHeld place d.held h))
@@ -105,23 +91,20 @@ copies_light fate f h = go fate.lost
     go true = All-nil IsLightFrame
     go false = All-replicate IsLightFrame (fate.repeats + 1) (damaged fate.flip f) (damaged_light fate.flip f h)
 
-taken_light : (now : ℕ) (i : ItemShown) (d : PlainDirection) → item_bytes i ≤ 531 → IsLightDirection d → IsLightDirection (telling.taken now (telling.frame_in i) d)
+taken_light : (now : ℕ) (i : ItemShown) (d : PlainDirection) → item_bytes i ≤ 531 → IsLightDirection d → IsLightDirection (taken now (frame_in i) d)
 taken_light now (item.Frame f) d light h =
     let fate = fate_at d.fates (d.popped + 1) in
     All-append IsLightHeld d.held (held_copies fate now f) h (All-map IsLightHeld (held_until (now + fate.delay)) (copies_of fate f) (copies_light fate f light))
 taken_light now (item.Packet mark b) d light h = h
 taken_light now (item.Note n) d light h = h
 
-told_by_light : (now : ℕ) (x : Doing) (a : AnswerShown) (d : PlainDirection) → IfSome (item_in a) (λ i. item_bytes i ≤ 531) → IsLightDirection d → IsLightDirection (telling.told_by now x a d)
-told_by_light now (doing.Push place due) answer.Pushed d items h = h
-told_by_light now (doing.Push place due) (answer.Full i) d items h = kept_light place due i d items h
-told_by_light now doing.Pop (answer.Popped i) d items h = taken_light now i d items h
-told_by_light now doing.Pop answer.Empty d items h = h
-told_by_light now doing.Wait answer.Nothing d items h = h
-told_by_light now x a d items h = h
+told_light : (w : Way) (now : ℕ) (x : Doing) (a : AnswerShown) (d : PlainDirection) → IfSome (item_in a) (λ i. item_bytes i ≤ 531) → IsLightDirection d → IsLightDirection ((turn_of w now None d x).told a)
+told_light w now (doing.Push place due) (answer.Full i) d items h = kept_light place due i d items h
+told_light w now doing.Pop (answer.Popped i) d items h = taken_light now i d items h
+told_light w now x a d items h = h
 
 tells_light : (l : PlainLink) (time : ℕ) (a : AnswerShown) → IfSome (item_in a) (λ i. item_bytes i ≤ 531) → IsLightLink l → IsLightLink (tells l time a)
-tells_light l time a items h = with_light l l.way (telling.told_by time l.doing a (in_turn l)) (tells l time a).way doing.Rest (told_by_light time l.doing a (in_turn l) items (direction_light l l.way h)) h
+tells_light l time a items h = with_light l l.way ((turn_at l time).told a) (tells l time a).way doing.Rest (told_light l.way time l.doing a (in_turn l) items (direction_light l l.way h)) h
 
 pub link_light : (l : PlainLink) (time : ℕ) (a : AnswerShown) → IsLightLink l → IsLightAnswer (asks l time) a → IsLightLink (tells (asked l time) time a)
 link_light l time a h light = tells_light (asked l time) time a (any_came (asks l time) a light) (asked_light l time h)

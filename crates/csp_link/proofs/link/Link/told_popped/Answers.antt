@@ -1,8 +1,8 @@
 use Rattle.std.proofs.Common.{subst, sym}
 use Rattle.csp_deck.specs.Step.{IsAnswerOf}
-use Rattle.csp_link.specs.Asking.{awaits}
 use Rattle.csp_link.specs.PlainLink.{PlainLink, uses}
 use Rattle.csp_link.specs.Room.{plain_link}
+use Rattle.csp_link.specs.Turns.{awaits}
 use Rattle.csp_log.specs.Pictures.{shown_item}
 use Rattle.csp_log.specs.declared.shown.AnswerShown.TheVariants as answer
 use Rattle.csp_link.proofs.Sound.{IsFrameOf, popped_carried, popped_forth, popped_back}
