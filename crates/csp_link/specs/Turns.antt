@@ -64,11 +64,12 @@ abbrev pub taken : ℕ → Option Frame → PlainDirection → PlainDirection
 taken now (Some frame) d = record d { popped = d.popped + 1; held = d.held ++ held_copies (fate_at d.fates (d.popped + 1)) now frame }
 taken now None d = d
 
--- the frame that came back, and the one that was popped
+-- the frame that came back
 abbrev pub frame_back : AnswerShown → Option Frame
 frame_back (answer.Full i) = frame_in i
 frame_back _ = None
 
+-- and the frame that was popped
 abbrev pub frame_popped : AnswerShown → Option Frame
 frame_popped (answer.Popped i) = frame_in i
 frame_popped _ = None
