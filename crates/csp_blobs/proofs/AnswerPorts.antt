@@ -20,8 +20,8 @@ use Rattle.csp_ports.specs.Asking.{answered, answered_by, bind_by, close_by, con
 use Rattle.csp_ports.specs.Came.{Came}
 use Rattle.csp_ports.specs.Kept.{wished, wishes}
 use Rattle.csp_ports.specs.Packets.{accepted, admitting_by, handing, invited, submitting_in}
-use Rattle.csp_ports.specs.PlainPorts.{PlainPorts, PlainStalled, anywhere, fresh, has_machine, machine_at, owing, stalled_at, start_of, terms_at, terms_of, waiting, with_machine_or, with_stalled, with_terms}
-use Rattle.csp_ports.specs.Steps.{changed, closed_by, connected_by, dropped, dropped_in, dropped_of, dropped_on, has_room, reason_of, refused_by, settled, settled_by, settled_on, stepped, timed, timed_at, timed_in, vacated, went, where_machine}
+use Rattle.csp_ports.specs.PlainPorts.{PlainPorts, anywhere, fresh, has_machine, machine_at, owing, start_of, terms_at, terms_of, waiting, with_machine_or, with_stalled, with_terms}
+use Rattle.csp_ports.specs.Steps.{changed, closed_by, connected_by, dropped, dropped_of, has_room, reason_of, refused_by, settled, stepped, timed, timed_at, timed_in, vacated, went, where_machine}
 use Rattle.csp_ports.specs.Tasks.{delivered, told_down}
 use Rattle.csp_ports.specs.declared.handing.Invitation.{Invitation}
 use Rattle.csp_ports.specs.declared.origin.Origin.{Origin}
@@ -30,7 +30,7 @@ use Rattle.csp_ports.specs.declared.request.Request.{Request}
 use Rattle.csp_ports.specs.declared.terms.Terms.{Terms}
 use Rattle.csp_ports.specs.declared.terms.Wish.{Wish}
 use Rattle.csp_ports.specs.declared.terms.Wish.TheVariants as wish
-use Rattle.csp_ports.proofs.Public.{terms_listed, terms_of_machine, terms_of_terms, wishes_earlier, wishes_later}
+use Rattle.csp_ports.proofs.Public.{by_dropped, by_settled, terms_listed, terms_of_machine, terms_of_terms, wishes_earlier, wishes_later}
 use Rattle.csp_rdp.specs.Changes.{change_between}
 use Rattle.csp_rdp.specs.Holding.{rested}
 use Rattle.csp_rdp.specs.Jobs as jobs
@@ -263,30 +263,13 @@ where_goes false step p h = stays p
 
 -- ---- packets that wait
 
-settles_by : (room : Bool) (time app : ℕ) (s : PlainStalled) (p : PlainPorts) → NoMore p (settled_by room time app s p)
-settles_by true time app s p = let q : PlainPorts = with_stalled p app None in machines q app s.slot (Some (jobs.admitting s.buffer time (machine_at q app s.slot)))
-settles_by false time app s p = stays p
-
-settles_on : (o : Option PlainStalled) (time app : ℕ) (p : PlainPorts) → NoMore p (settled_on o time app p)
-settles_on None time app p = stays p
-settles_on (Some s) time app p = settles_by (has_room (machine_at p app s.slot)) time app s p
-
 settles : (time app : ℕ) (p : PlainPorts) → NoMore p (settled time app p)
-settles time app p = settles_on (stalled_at p app) time app p
-
-drops_in : (st : State) (app : ℕ) (s : PlainStalled) (p : PlainPorts) → NoMore p (dropped_in st app s p).ports
-drops_in state.Open app s p = stays p
-drops_in state.SynSent app s p = stays p
-drops_in state.SynRcvd app s p = stays p
-drops_in state.CloseWait app s p = stays p
-drops_in state.Closed app s p = stays p
-
-drops_on : (o : Option PlainStalled) (app : ℕ) (p : PlainPorts) → NoMore p (dropped_on o app p).ports
-drops_on None app p = stays p
-drops_on (Some s) app p = drops_in (machine_at p app s.slot).state app s p
+settles time app p =
+    let q : PlainPorts = with_stalled p app None in
+    by_settled (NoMore p) time app p (stays p) (λ s e room. machines q app s.slot (Some (jobs.admitting s.buffer time (machine_at q app s.slot))))
 
 drops : (app : ℕ) (p : PlainPorts) → NoMore p (dropped app p).ports
-drops app p = drops_on (stalled_at p app) app p
+drops app p = by_dropped (λ c. NoMore p c.ports) app p (λ opens. stays p) (λ s e shut. stays p)
 
 -- ---- the timers
 

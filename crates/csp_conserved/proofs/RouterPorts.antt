@@ -8,12 +8,12 @@ use Rattle.std.proofs.lemmas.List.{get_or_past, length-set}
 use Rattle.csp_buffer.specs.Content.{Content}
 use Rattle.csp_buffer.specs.PlainBuffer.{PlainBuffer}
 use Rattle.csp_conn.specs.PlainConns.{place_of}
-use Rattle.csp_ports.proofs.Public.{flows_none, Flows, flows_machine, flows_then, machine_later, machine_whole, machines_of_terms, whole_at, flows_handed, tally, tally_append, tally_none, tally_same, sent_whole}
+use Rattle.csp_ports.proofs.Public.{by_dropped, by_settled, flows_none, Flows, flows_machine, flows_then, machine_later, machine_whole, machines_of_terms, whole_at, flows_handed, tally, tally_append, tally_none, tally_same, sent_whole}
 use Rattle.csp_ports.specs.Came.{Came, come, reporting, then}
 use Rattle.csp_ports.specs.Keeps.{AreWhole}
 use Rattle.csp_ports.specs.Packets.{back_by, handing, handing_event}
-use Rattle.csp_ports.specs.PlainPorts.{PlainPorts, PlainStalled, anywhere, machine_at, machine_in, stalled_at, state_at, untouched, with_terms}
-use Rattle.csp_ports.specs.Steps.{dropped, dropped_on, settled, settled_on, went, where_machine}
+use Rattle.csp_ports.specs.PlainPorts.{PlainPorts, anywhere, machine_at, machine_in, stalled_at, state_at, untouched, with_terms}
+use Rattle.csp_ports.specs.Steps.{dropped, settled, went, where_machine}
 use Rattle.csp_ports.specs.Tasks.{kept_again, making, turned, without_packet}
 use Rattle.csp_ports.specs.declared.terms.SlotState.{SlotState}
 use Rattle.csp_ports.specs.declared.terms.Terms.{Terms}
@@ -58,10 +58,10 @@ handing_to has r p app slot h b time =
 
 -- an application that is not there has no packet that waits
 none_dropped : (p : PlainPorts) (app : ℕ) → stalled_at p app ≡ None → AreWhole p → Flows 0 p (dropped app p).ports (dropped app p).loose []
-none_dropped p app none h = subst (λ w. Flows 0 p (dropped_on w app p).ports (dropped_on w app p).loose []) (sym none) (flows_none 0 p h)
+none_dropped p app none h = by_dropped (λ c. Flows 0 p c.ports c.loose []) app p (λ opens. flows_none 0 p h) (λ s e shut. absurd (cc (none, e)))
 
 none_settled : (time : ℕ) (p : PlainPorts) (app : ℕ) → stalled_at p app ≡ None → AreWhole p → Flows 1 p (settled time app p) [] []
-none_settled time p app none h = subst (λ w. Flows 1 p (settled_on w time app p) [] []) (sym none) (flows_none 1 p h)
+none_settled time p app none h = by_settled (λ q. Flows 1 p q [] []) time app p (flows_none 1 p h) (λ s e room. absurd (cc (none, e)))
 
 none_handed : (p : PlainPorts) (b : Content) → AreWhole p → Flows 0 p p (b ∷ []) (b.number ∷ [])
 none_handed p b h = let one = flows_none 0 p h in record { counts = λ o. omega arith; far = one.far; whole = h }
@@ -74,11 +74,7 @@ handed_beyond p app slot h b time waits w =
     let first = none_handed p b w in
     let second = none_dropped p app waits w in
     let both = flows_then 0 0 0 p p two.ports (b ∷ []) two.loose (b.number ∷ []) (omega arith) first second in
-    flows_then 0 1 1 p two.ports (settled time app two.ports) ((b ∷ []) ++ two.loose) [] (b.number ∷ []) (omega arith) both (none_settled time two.ports app (none_after (stalled_at p app) waits) second.whole)
-  where
-    none_after : (w : Option PlainStalled) → w ≡ None → stalled_at (dropped_on w app p).ports app ≡ None
-    none_after None e = waits
-    none_after (Some s) e = absurd cc
+    flows_then 0 1 1 p two.ports (settled time app two.ports) ((b ∷ []) ++ two.loose) [] (b.number ∷ []) (omega arith) both (none_settled time two.ports app (by_dropped (λ c. stalled_at c.ports app ≡ None) app p (λ opens. waits) (λ s e shut. absurd (cc (waits, e)))) second.whole)
 
 pub flows_handing : (p : PlainPorts) (app slot : ℕ) (h : RdpHead) (b : Content) (time : ℕ) → slot < 4 → AreWhole p → Flows 1 p (handing p app slot h b time).ports (handing p app slot h b time).loose (b.number ∷ [])
 flows_handing p app slot h b time low w =

@@ -14,10 +14,11 @@ use Rattle.csp_conn.specs.declared.slot.Slot.TheVariants as has
 use Rattle.csp_log.specs.declared.note.Note.{Note}
 use Rattle.csp_log.specs.declared.note.Note.TheVariants as note
 use Rattle.csp_ports.specs.Asking.{answered, answered_by, bind, bind_by, close, close_by, connect, connect_by, ended_by, ending_in, held_by, is_reliable, joined}
+use Rattle.csp_ports.proofs.Public.{by_dropped, by_settled}
 use Rattle.csp_ports.specs.Came.{Came}
 use Rattle.csp_ports.specs.Packets.{accepted, admitting_by, handing, invited, submitting, submitting_in}
-use Rattle.csp_ports.specs.PlainPorts.{PlainPorts, PlainStalled, anywhere, has_machine, is_closing, machine_at, stalled_at, terms_at}
-use Rattle.csp_ports.specs.Steps.{changed, closed_by, connected_by, dropped, dropped_in, dropped_of, dropped_on, has_room, refused_by, settled, settled_by, settled_on, stepped, timed, timed_at, timed_in, vacated, went, where_machine}
+use Rattle.csp_ports.specs.PlainPorts.{PlainPorts, anywhere, has_machine, is_closing, machine_at, terms_at}
+use Rattle.csp_ports.specs.Steps.{changed, closed_by, connected_by, dropped, dropped_of, has_room, refused_by, settled, stepped, timed, timed_at, timed_in, vacated, went, where_machine}
 use Rattle.csp_ports.specs.Tasks.{delivered}
 use Rattle.csp_ports.specs.declared.handing.Invitation.{Invitation}
 use Rattle.csp_ports.specs.declared.origin.Origin.{Origin}
@@ -92,30 +93,11 @@ where_shape false step p h = refl
 
 -- ---- the packet that waits
 
-dropped_in_shape : (st : State) (app : ℕ) (s : PlainStalled) (p : PlainPorts) → shape (dropped_in st app s p).ports ≡ shape p
-dropped_in_shape Open app s p = refl
-dropped_in_shape SynSent app s p = refl
-dropped_in_shape SynRcvd app s p = refl
-dropped_in_shape CloseWait app s p = refl
-dropped_in_shape Closed app s p = refl
-
 dropped_shape : (app : ℕ) (p : PlainPorts) → shape (dropped app p).ports ≡ shape p
-dropped_shape app p = by (stalled_at p app)
-  where
-    by : (o : Option PlainStalled) → shape (dropped_on o app p).ports ≡ shape p
-    by None = refl
-    by (Some s) = dropped_in_shape (machine_at p app s.slot).state app s p
+dropped_shape app p = by_dropped (λ c. shape c.ports ≡ shape p) app p (λ opens. refl) (λ s e shut. refl)
 
 settled_shape : (time app : ℕ) (p : PlainPorts) → shape (settled time app p) ≡ shape p
-settled_shape time app p = by (stalled_at p app)
-  where
-    room : (b : Bool) (s : PlainStalled) → shape (settled_by b time app s p) ≡ shape p
-    room true s = refl
-    room false s = refl
-
-    by : (o : Option PlainStalled) → shape (settled_on o time app p) ≡ shape p
-    by None = refl
-    by (Some s) = room (has_room (machine_at p app s.slot)) s
+settled_shape time app p = by_settled (λ q. shape q ≡ shape p) time app p refl (λ s e room. refl)
 
 -- ---- the timers
 

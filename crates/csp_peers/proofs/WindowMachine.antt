@@ -11,8 +11,8 @@ use Rattle.csp_base.specs.Sequence.{near, number_of}
 use Rattle.csp_base.specs.declared.traces.Tag.{Tag}
 use Rattle.csp_base.proofs.Public.{near_is}
 use Rattle.csp_buffer.specs.PlainBuffer.{PlainBuffer}
-use Rattle.csp_ports.specs.PlainPorts.{start_of}
-use Rattle.csp_ports.specs.Steps.{has_room, has_room_in}
+use Rattle.csp_ports.specs.PlainPorts.{is_open, start_of}
+use Rattle.csp_ports.specs.Steps.{has_room}
 use Rattle.csp_ports.specs.declared.origin.Origin.{Origin}
 use Rattle.csp_record.specs.Stale.{is_far}
 use Rattle.csp_rdp_header.specs.Head.{has_flag}
@@ -368,7 +368,7 @@ same-delivered w a b (delivers g) = g.own
 same-delivered w a b (resets g) = g.own
 
 -- there is room in an open connection's window
-room-in : (s : State) (r : PlainRdp) → has_room_in s r ≡ true → r.send.nxt - r.send.una < r.send.window
+room-in : (s : State) (r : PlainRdp) → is_open s && not (is_full r.send) ≡ true → r.send.nxt - r.send.una < r.send.window
 room-in SynSent r e = absurd cc
 room-in SynRcvd r e = absurd cc
 room-in Open r e = leb-false r.send.window (r.send.nxt - r.send.una) (not-true (is_full r.send) e)

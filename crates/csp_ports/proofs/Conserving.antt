@@ -11,6 +11,7 @@ use Rattle.csp_base.specs.declared.limits.TheConstants.{SLOTS}
 use Rattle.csp_conn.specs.declared.slot.Slot.TheVariants.{Free}
 use Rattle.csp_ports.proofs.Counting.{all_or, far_at, far_changed, far_closed, far_connected, far_idle, far_terms}
 use Rattle.csp_ports.proofs.Flowing.{Flows, far_later, flows_machine, flows_rested, flows_still, flows_then, machine_far, machine_later, machine_whole_or, whole_at}
+use Rattle.csp_ports.proofs.Settling.{by_dropped, by_settled}
 use Rattle.csp_ports.proofs.Slots.{machines_of_terms}
 use Rattle.csp_ports.proofs.Weighing.{machine_gone, tally, tally_append, tally_none, tally_same, waiting_tallied, weigh, weight}
 use Rattle.csp_ports.proofs.Wholes.{admitted_whole, idle_whole, ticked_whole}
@@ -19,7 +20,7 @@ use Rattle.csp_ports.specs.Counts.{AreFar}
 use Rattle.csp_ports.specs.Held.{stalled_buffers}
 use Rattle.csp_ports.specs.Keeps.{AreWhole}
 use Rattle.csp_ports.specs.PlainPorts.{PlainPorts, PlainStalled, has_machine, machine_at, stalled_at, terms_at, with_machine, with_machine_or, with_stalled, with_terms}
-use Rattle.csp_ports.specs.Steps.{changed, closed_by, connected_by, down, dropped, dropped_in, dropped_of, dropped_on, freed, given_up, has_room, refused_by, settled, settled_by, settled_on, timed, timed_at, timed_in, vacated, went, where_machine}
+use Rattle.csp_ports.specs.Steps.{admitted, changed, closed_by, connected_by, down, dropped, dropped_of, freed, given_up, refused_by, settled, timed, timed_at, timed_in, vacated, went, where_machine}
 use Rattle.csp_ports.specs.declared.terms.Terms.{Terms}
 use Rattle.csp_ports.specs.declared.terms.Wish.{Wish}
 use Rattle.csp_ports.specs.declared.terms.Wish.TheVariants as wish
@@ -142,19 +143,8 @@ flows_unstalled : (p : PlainPorts) (app : ℕ) (s : PlainStalled) → stalled_at
 flows_unstalled p app s e there h = flows_stalled p app None (s.buffer.picture ∷ []) [] there h tt (λ o. taken_even o p app s e)
 
 -- it is discarded where its connection is not open any more
-flows_dropped_in : (st : State) (app : ℕ) (s : PlainStalled) (p : PlainPorts) → stalled_at p app ≡ Some s → app < 4 → AreWhole p → Flows 0 p (dropped_in st app s p).ports (dropped_in st app s p).loose []
-flows_dropped_in Open app s p e there h = flows_none 0 p h
-flows_dropped_in SynSent app s p e there h = flows_unstalled p app s e there h
-flows_dropped_in SynRcvd app s p e there h = flows_unstalled p app s e there h
-flows_dropped_in CloseWait app s p e there h = flows_unstalled p app s e there h
-flows_dropped_in Closed app s p e there h = flows_unstalled p app s e there h
-
 pub flows_dropped : (app : ℕ) (p : PlainPorts) → app < 4 → AreWhole p → Flows 0 p (dropped app p).ports (dropped app p).loose []
-flows_dropped app p there h = go (stalled_at p app) refl
-  where
-    go : (w : Option PlainStalled) → stalled_at p app ≡ w → Flows 0 p (dropped_on w app p).ports (dropped_on w app p).loose []
-    go None e = flows_none 0 p h
-    go (Some s) e = flows_dropped_in (machine_at p app s.slot).state app s p e there h
+flows_dropped app p there h = by_dropped (λ c. Flows 0 p c.ports c.loose []) app p (λ opens. flows_none 0 p h) (λ s e shut. flows_unstalled p app s e there h)
 
 -- a packet is admitted to a window
 pub flows_admitted : (p : PlainPorts) (time app slot : ℕ) (b : PlainBuffer) → place_of app slot < 16 → AreWhole p → Flows 1 p (with_machine p app slot (admitting b time (machine_at p app slot))) [] (b.picture.number ∷ [])
@@ -168,9 +158,8 @@ flows_admitted p time app slot b there h =
 settled_there : (p : PlainPorts) (app : ℕ) (s : PlainStalled) → stalled_at p app ≡ Some s → AreWhole p → s.slot < SLOTS
 settled_there p app s e h = subst (λ (w : Option PlainStalled). IfSome w (λ t. t.slot < SLOTS)) e (all_or (λ (w : Option PlainStalled). IfSome w (λ t. t.slot < SLOTS)) p.stalled app None h.waits tt)
 
-flows_settled_by : (room : Bool) (time app : ℕ) (s : PlainStalled) (p : PlainPorts) → stalled_at p app ≡ Some s → app < 4 → AreWhole p → Flows 1 p (settled_by room time app s p) [] []
-flows_settled_by false time app s p e there h = flows_none 1 p h
-flows_settled_by true time app s p e there h =
+flows_unstalled_admitted : (time app : ℕ) (s : PlainStalled) (p : PlainPorts) → stalled_at p app ≡ Some s → app < 4 → AreWhole p → Flows 1 p (admitted time app s.slot s.buffer (with_stalled p app None)) [] []
+flows_unstalled_admitted time app s p e there h =
     let first = flows_unstalled p app s e there h in
     let q = with_stalled p app None in
     let last = flows_admitted q time app s.slot s.buffer (omega (arith, there, settled_there p app s e h)) first.whole in
@@ -181,11 +170,7 @@ flows_settled_by true time app s p e there h =
     }
 
 pub flows_settled : (time app : ℕ) (p : PlainPorts) → app < 4 → AreWhole p → Flows 1 p (settled time app p) [] []
-flows_settled time app p there h = go (stalled_at p app) refl
-  where
-    go : (w : Option PlainStalled) → stalled_at p app ≡ w → Flows 1 p (settled_on w time app p) [] []
-    go None e = flows_none 1 p h
-    go (Some s) e = flows_settled_by (has_room (machine_at p app s.slot)) time app s p e there h
+flows_settled time app p there h = by_settled (λ q. Flows 1 p q [] []) time app p (flows_none 1 p h) (λ s e room. flows_unstalled_admitted time app s p e there h)
 
 -- ---- the timers
 

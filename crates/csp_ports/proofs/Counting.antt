@@ -5,10 +5,11 @@ use Rattle.std.proofs.Common.{zero, suc, ◌≤◌, List, [], ◌∷◌, arith, 
 use Rattle.std.proofs.lemmas.List.Elements.{All-head, All-set, All-tail}
 use Rattle.csp_conn.specs.PlainConns.{place_of, with_slot}
 use Rattle.csp_conn.specs.declared.slot.Slot.TheVariants.{Free}
+use Rattle.csp_ports.proofs.Settling.{by_dropped}
 use Rattle.csp_ports.proofs.Slots.{machine_listed, machines_of_machine, machines_of_terms, terms_listed, terms_of_machine, terms_of_terms}
 use Rattle.csp_ports.specs.Counts.{AreFar}
 use Rattle.csp_ports.specs.PlainPorts.{PlainPorts, PlainStalled, fresh, machine_at, machines_of, terms_at, terms_of, with_machine, with_machine_or, with_terms}
-use Rattle.csp_ports.specs.Steps.{changed, closed_by, connected_by, dropped_in, dropped_on, given_up, refused_by}
+use Rattle.csp_ports.specs.Steps.{changed, closed_by, connected_by, dropped, given_up, refused_by}
 use Rattle.csp_ports.specs.declared.terms.Terms.{Terms}
 use Rattle.csp_ports.specs.declared.terms.Wish.{Wish}
 use Rattle.csp_ports.specs.declared.terms.Wish.TheVariants as wish
@@ -93,13 +94,5 @@ far_changed n change.Down p app slot h = far_terms n p app slot (record (terms_a
 far_changed n change.Closed p app slot h = far_closed n (terms_at p app slot).wish (machine_at p app slot).was_open p app slot h
 
 -- a packet that waits is discarded
-far_dropped_in : (n : ℕ) (s : State) (app : ℕ) (w : PlainStalled) (p : PlainPorts) → AreFar n p → AreFar n (dropped_in s app w p).ports
-far_dropped_in n Open app w p h = h
-far_dropped_in n SynSent app w p h = record { machines = h.machines; made = h.made; ends = h.ends }
-far_dropped_in n SynRcvd app w p h = record { machines = h.machines; made = h.made; ends = h.ends }
-far_dropped_in n CloseWait app w p h = record { machines = h.machines; made = h.made; ends = h.ends }
-far_dropped_in n Closed app w p h = record { machines = h.machines; made = h.made; ends = h.ends }
-
-pub far_dropped : (n : ℕ) (o : Option PlainStalled) (app : ℕ) (p : PlainPorts) → AreFar n p → AreFar n (dropped_on o app p).ports
-far_dropped n None app p h = h
-far_dropped n (Some w) app p h = far_dropped_in n (machine_at p app w.slot).state app w p h
+pub far_dropped : (n app : ℕ) (p : PlainPorts) → AreFar n p → AreFar n (dropped app p).ports
+far_dropped n app p h = by_dropped (λ c. AreFar n c.ports) app p (λ opens. h) (λ s e shut. record { machines = h.machines; made = h.made; ends = h.ends })

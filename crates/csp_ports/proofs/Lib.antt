@@ -11,6 +11,7 @@ mod Owing
 mod Quiet
 mod Reckoning
 mod Serving
+mod Settling
 mod Sizing
 mod Slots
 mod Stilling

@@ -10,6 +10,8 @@ pub use Rattle.csp_ports.proofs.Flowing.{Flows, flows_machine, flows_then, machi
 pub use Rattle.csp_ports.proofs.Holding.{wishes-none}
 -- what comes of packets, tasks, and what applications ask: that it neither loses a buffer nor counts further than it may
 pub use Rattle.csp_ports.proofs.Serving.{flows_answered, flows_connected, flows_delivered, flows_ended, flows_handed, flows_invited, flows_submitted, keeps_again, keeps_made, now_taken}
+-- the packet that waits for room, by cases
+pub use Rattle.csp_ports.proofs.Settling.{by_dropped, by_settled}
 -- a slot's terms and its machine
 pub use Rattle.csp_ports.proofs.Slots.{held_terms, machine_beside, machine_listed, machine_none, machine_now, machines_of_machine, machines_of_terms, terms_beside, terms_listed, terms_now, terms_of_machine, terms_of_terms}
 -- buffers are counted: how often one number is among theirs, or how many they are

@@ -4,9 +4,10 @@ use Rattle.std.proofs.Common.{◌≡◌, ℕ, List, [], ◌∷◌, ◌++◌, Opt
 use Rattle.csp_deck.specs.Keeping.{PlainPile}
 use Rattle.csp_log.specs.declared.event.Event.{Event}
 use Rattle.csp_ports.proofs.Holding.{nil-left, nil-right}
+use Rattle.csp_ports.proofs.Settling.{by_dropped}
 use Rattle.csp_ports.specs.Came.{Comes}
 use Rattle.csp_ports.specs.PlainPorts.{PlainPorts, PlainStalled, PortsAt, machine_at, stalled_at, terms_at}
-use Rattle.csp_ports.specs.Steps.{changed, closed_by, dropped, dropped_in, dropped_of, dropped_on, refused_by}
+use Rattle.csp_ports.specs.Steps.{changed, closed_by, dropped, dropped_of, refused_by}
 use Rattle.csp_ports.specs.declared.terms.Wish.{Wish}
 use Rattle.csp_ports.specs.declared.terms.Wish.TheVariants as wish
 use Rattle.csp_rdp.specs.Changes.{change_between}
@@ -82,23 +83,15 @@ never_opens time r why h = go (has_passed (Some r.since) r.options.conn_timeout 
     go false h = stays r.state why h
 
 -- where a packet that waits is discarded its buffer is let go, so that nothing is reported where nothing is let go
-dropped_in_quiet : (s : State) (app : ℕ) (w : PlainStalled) (p : PlainPorts) → (dropped_in s app w p).loose ≡ [] → (dropped_in s app w p).events ≡ []
-dropped_in_quiet Open app w p none = refl
-dropped_in_quiet SynSent app w p none = absurd cc
-dropped_in_quiet SynRcvd app w p none = absurd cc
-dropped_in_quiet CloseWait app w p none = absurd cc
-dropped_in_quiet Closed app w p none = absurd cc
-
-dropped_on_quiet : (o : Option PlainStalled) (app : ℕ) (p : PlainPorts) → (dropped_on o app p).loose ≡ [] → (dropped_on o app p).events ≡ []
-dropped_on_quiet None app p none = refl
-dropped_on_quiet (Some w) app p none = dropped_in_quiet (machine_at p app w.slot).state app w p none
+dropped_quiet : (app : ℕ) (p : PlainPorts) → (dropped app p).loose ≡ [] → (dropped app p).events ≡ []
+dropped_quiet app p = by_dropped (λ c. c.loose ≡ [] → c.events ≡ []) app p (λ opens none. refl) (λ s e shut none. absurd cc)
 
 dropped_of_quiet : (apps : List ℕ) (p : PlainPorts) → (dropped_of apps p).loose ≡ [] → (dropped_of apps p).events ≡ []
 dropped_of_quiet [] p none = refl
 dropped_of_quiet (app ∷ apps) p none =
     let d = dropped app p in
     let rest = dropped_of apps d.ports in
-    ap₂ (λ xs ys. xs ++ ys) (dropped_on_quiet (stalled_at p app) app p (nil-left d.loose rest.loose none)) (dropped_of_quiet apps d.ports (nil-right d.loose rest.loose none))
+    ap₂ (λ xs ys. xs ++ ys) (dropped_quiet app p (nil-left d.loose rest.loose none)) (dropped_of_quiet apps d.ports (nil-right d.loose rest.loose none))
 
 pub drops_quietly : (old new : PortsAt) (before after : PlainPile) (earlier later : List Event) (apps : List ℕ) (p : PlainPorts) → Comes old new before after earlier later (dropped_of apps p) →
     earlier ≡ [] → after.contents ≡ [] → later ≡ []

@@ -1,6 +1,7 @@
 -- where no timer has anything to do, trying the timers changes nothing
-use Rattle.std.specs.Prelude.{◌/◌, ◌%◌, ◌||◌, Bool, false, true, is_some, unwrap_or, slice_set, Option, None, Some, get_or}
+use Rattle.std.specs.Prelude.{◌/◌, ◌%◌, ◌||◌, Bool, false, true, not, is_some, unwrap_or, slice_set, Option, None, Some, get_or}
 use Rattle.std.specs.List.{All, list_any, range_with_len}
+use Rattle.std.specs.Option.{option_map}
 use Rattle.std.proofs.Common.{◌≡◌, ℕ, zero, suc, ◌+◌, ◌-◌, ◌*◌, ◌<◌, List, [], ◌∷◌, ◌++◌, map, refl, ap, ap₂, subst, sym, ◌∙◌}
 use Rattle.std.proofs.lemmas.Bool.{or_parts}
 use Rattle.std.proofs.lemmas.List.{set-get_or}
@@ -12,13 +13,14 @@ use Rattle.csp_deck.specs.Regions.{nowhere}
 use Rattle.csp_ports.proofs.Following.{range_next}
 use Rattle.csp_ports.specs.Came.{Came, come, pictures, then}
 use Rattle.csp_ports.specs.Kept.{ArePorts, plain_ports, ports_at}
-use Rattle.csp_ports.specs.PlainPorts.{PlainPorts, PlainStalled, PortsAt, has_machine, machine_at, machine_in, machines_of, stalled_at, state_at, untouched, with_machine}
+use Rattle.csp_ports.specs.PlainPorts.{PlainPorts, PlainStalled, PortsAt, has_machine, is_open, machine_at, machine_in, machines_of, stalled_at, state_at, untouched, with_machine}
 use Rattle.csp_ports.specs.declared.terms.SlotState.{SlotState}
 use Rattle.csp_ports.proofs.Holding.{AreHoused, machine-housed}
+use Rattle.csp_ports.proofs.Settling.{by_dropped, true_false}
 use Rattle.csp_ports.proofs.Slots.{machine_listed, placed_machine, placed_state}
 use Rattle.csp_arena.specs.Cells.{RegionName}
-use Rattle.csp_ports.specs.Quiet.{any_stranded, any_times_out, is_stranded, is_stranded_in, is_stranded_on, times_out_at}
-use Rattle.csp_ports.specs.Steps.{changed, dropped, dropped_in, dropped_of, dropped_on, stepped, timed, timed_at, timed_in, went, where_machine}
+use Rattle.csp_ports.specs.Quiet.{any_stranded, any_times_out, is_stranded, times_out_at}
+use Rattle.csp_ports.specs.Steps.{changed, dropped, dropped_of, stepped, timed, timed_at, timed_in, went, where_machine}
 use Rattle.csp_ports.specs.declared.ports.Ports.TheInside.{Inside}
 use Rattle.csp_rdp.proofs.Public.{rested-still, placed-unneeded, in_time}
 use Rattle.csp_rdp.specs.Changes.{change_between}
@@ -90,22 +92,17 @@ timed_in_still time (k ∷ ks) p rest late =
 
 -- ---- the packets that wait
 
-dropped_in_still : (s : State) (app : ℕ) (w : PlainStalled) (p : PlainPorts) → is_stranded_in s ≡ false → dropped_in s app w p ≡ come p
-dropped_in_still Open app w p h = refl
-dropped_in_still SynSent app w p h = absurd cc
-dropped_in_still SynRcvd app w p h = absurd cc
-dropped_in_still CloseWait app w p h = absurd cc
-dropped_in_still Closed app w p h = absurd cc
+stranded_shut : (p : PlainPorts) (app : ℕ) (s : PlainStalled) → stalled_at p app ≡ Some s → is_open (machine_at p app s.slot).state ≡ false → is_stranded p app ≡ true
+stranded_shut p app s e shut = ap (λ (o : Option PlainStalled). unwrap_or (option_map (λ s. not (is_open (machine_at p app s.slot).state)) o) false) e ∙ ap not shut
 
-dropped_on_still : (o : Option PlainStalled) (app : ℕ) (p : PlainPorts) → is_stranded_on o p app ≡ false → dropped_on o app p ≡ come p
-dropped_on_still None app p h = refl
-dropped_on_still (Some w) app p h = dropped_in_still (machine_at p app w.slot).state app w p h
+dropped_still : (app : ℕ) (p : PlainPorts) → is_stranded p app ≡ false → dropped app p ≡ come p
+dropped_still app p h = by_dropped (λ c. c ≡ come p) app p (λ opens. refl) (λ s e shut. absurd (true_false (sym (stranded_shut p app s e shut) ∙ h)))
 
 dropped_of_still : (apps : List ℕ) (p : PlainPorts) → list_any (is_stranded p) apps ≡ false → dropped_of apps p ≡ come p
 dropped_of_still [] p h = refl
 dropped_of_still (app ∷ apps) p h =
     let parts = or_parts (is_stranded p app) (list_any (is_stranded p) apps) h in
-    then_still (dropped app p) (dropped_of apps) p (dropped_on_still (stalled_at p app) app p parts.0) (dropped_of_still apps p parts.1)
+    then_still (dropped app p) (dropped_of apps) p (dropped_still app p parts.0) (dropped_of_still apps p parts.1)
 
 -- ---- all
 

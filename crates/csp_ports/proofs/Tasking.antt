@@ -11,11 +11,12 @@ use Rattle.csp_conn.specs.PlainConns.{place_of}
 use Rattle.csp_deck.specs.Keeping.{PlainPile, with_contents}
 use Rattle.csp_log.specs.declared.event.Event.{Event}
 use Rattle.csp_log.specs.declared.event.Event.TheVariants as event
+use Rattle.csp_ports.proofs.Settling.{by_settled}
 use Rattle.csp_ports.specs.Came.{Comes, come, pictures}
 use Rattle.csp_ports.specs.Kept.{AdmitsIn, IsHoused, wished, wishes}
 use Rattle.csp_ports.specs.Packets.{admitting_by, stray_events, submitting, submitting_in}
 use Rattle.csp_ports.specs.PlainPorts.{PlainPorts, PlainStalled, PortsAt, anywhere, machine_at, terms_at, with_ports_at, with_stalled}
-use Rattle.csp_ports.specs.Steps.{has_room, settled_by, settled_on}
+use Rattle.csp_ports.specs.Steps.{has_room, settled}
 use Rattle.csp_ports.specs.declared.terms.Terms.{Terms}
 use Rattle.csp_ports.specs.declared.terms.Wish.{Wish}
 use Rattle.csp_ports.specs.declared.terms.Wish.TheVariants as wish
@@ -127,10 +128,5 @@ submitted_comes old new trash later app slot b time opened e l =
 
 -- ---- applications stay
 
-settled_apps_by : (room : Bool) (time app : ℕ) (s : PlainStalled) (p : PlainPorts) → (settled_by room time app s p).conns.apps ≡ p.conns.apps
-settled_apps_by true time app s p = refl
-settled_apps_by false time app s p = refl
-
-pub settled_apps : (o : Option PlainStalled) (time app : ℕ) (p : PlainPorts) → (settled_on o time app p).conns.apps ≡ p.conns.apps
-settled_apps None time app p = refl
-settled_apps (Some s) time app p = settled_apps_by (has_room (machine_at p app s.slot)) time app s p
+pub settled_apps : (time app : ℕ) (p : PlainPorts) → (settled time app p).conns.apps ≡ p.conns.apps
+settled_apps time app p = by_settled (λ q. q.conns.apps ≡ p.conns.apps) time app p refl (λ s e room. refl)

@@ -8,10 +8,11 @@ use Rattle.csp_buffer.specs.PlainBuffer.{PlainBuffer}
 use Rattle.csp_conn.specs.PlainConns.{place_of}
 use Rattle.csp_deck.specs.Regions.{nowhere}
 use Rattle.csp_ports.proofs.Keeping.{machine_in_place, machine_seen, machine_stepped}
+use Rattle.csp_ports.proofs.Settling.{by_settled, some_same, true_false}
 use Rattle.csp_ports.specs.Kept.{Admits, AdmitsIn, ArePorts, ports_at}
 use Rattle.csp_ports.specs.PlainPorts.{PlainStalled, PortsAt, anywhere, machine_at, stalled_at, state_at, untouched, with_ports_at, with_stalled}
 use Rattle.csp_ports.specs.declared.terms.SlotState.{SlotState}
-use Rattle.csp_ports.specs.Steps.{has_room, settled, settled_by, settled_on}
+use Rattle.csp_ports.specs.Steps.{has_room, settled}
 use Rattle.csp_ports.specs.declared.ports.Ports.TheInside.{Inside}
 use Rattle.csp_rdp.specs.Jobs.{admitting}
 use Rattle.csp_rdp.specs.Machine.{PlainRdp}
@@ -52,19 +53,22 @@ none_left old mid new app slot b back time true e h = absurd cc
 none_left old mid new app slot b back time false e h = ap (λ (x : PortsAt). stalled_at x.ports app) (h.1 ∙ e) ∙ none_set old.ports.stalled app
 
 -- and it waits again as it did
-settled_by_err : (old mid out new : PortsAt) (app : ℕ) (s : PlainStalled) (b back : PlainBuffer) (time : ℕ) (room : Bool) → mid ≡ with_ports_at old (with_stalled old.ports app None) → Some s ≡ stalled_at old.ports app → has_room (machine_at old.ports app s.slot) ≡ room → s.buffer ≡ anywhere b.picture
-    → AdmitsIn room (Err back) mid out app s.slot b time → new ≡ with_ports_at out (with_stalled out.ports app (Some (record { slot = s.slot; buffer = anywhere back.picture }))) → new ≡ with_ports_at old (settled_on (Some s) time app old.ports)
-settled_by_err old mid out new app s b back time true e waits is same h put = absurd cc
-settled_by_err old mid out new app s b back time false e waits is same h put =
+settled_err_by : (old mid out new : PortsAt) (app : ℕ) (s : PlainStalled) (b back : PlainBuffer) (time : ℕ) (room : Bool) → mid ≡ with_ports_at old (with_stalled old.ports app None) → Some s ≡ stalled_at old.ports app → s.buffer ≡ anywhere b.picture → AdmitsIn room (Err back) mid out app s.slot b time
+    → new ≡ with_ports_at out (with_stalled out.ports app (Some (record { slot = s.slot; buffer = anywhere back.picture }))) → (room ≡ false) × (new ≡ old)
+settled_err_by old mid out new app s b back time true e waits same h put = absurd cc
+settled_err_by old mid out new app s b back time false e waits same h put =
     let given : back ≡ b = cc in
     let whole : Option PlainStalled = Some (record { slot = s.slot; buffer = anywhere back.picture }) in
-    let it : whole ≡ Some s = ap (λ (c : PlainBuffer). Some (record { slot = s.slot; buffer = c })) (ap (λ (c : PlainBuffer). anywhere c.picture) given ∙ sym same) in
-    put
-    ∙ (ap (λ (x : PortsAt). with_ports_at x (with_stalled x.ports app whole)) (h.1 ∙ e)
-    ∙ (ap (λ (ss : List (Option PlainStalled)). with_ports_at old (record old.ports { stalled = ss })) (set_set old.ports.stalled app None whole ∙ (ap (λ (o : Option PlainStalled). slice_set old.ports.stalled app o) (it ∙ waits) ∙ set-get_or old.ports.stalled app None))
-    ∙ ap (λ (room : Bool). with_ports_at old (settled_by room time app s old.ports)) (sym is)))
+    let it : whole ≡ Some s = ap (λ (c : PlainBuffer). Some (record { slot = s.slot; buffer = c })) (ap (λ (c : PlainBuffer). anywhere c.picture) given ∙ sym same) in (
+      refl,
+      put
+          ∙ (ap (λ (x : PortsAt). with_ports_at x (with_stalled x.ports app whole)) (h.1 ∙ e)
+          ∙ ap (λ (ss : List (Option PlainStalled)). with_ports_at old (record old.ports { stalled = ss })) (set_set old.ports.stalled app None whole ∙ (ap (λ (o : Option PlainStalled). slice_set old.ports.stalled app o) (it ∙ waits) ∙ set-get_or old.ports.stalled app None))),
+    )
 
 pub settled_err : (old mid out new : PortsAt) (app : ℕ) (s : PlainStalled) (b back : PlainBuffer) (time : ℕ) → mid ≡ with_ports_at old (with_stalled old.ports app None) → Some s ≡ stalled_at old.ports app → s.buffer ≡ anywhere b.picture
     → AdmitsIn (has_room (machine_at mid.ports app s.slot)) (Err back) mid out app s.slot b time → new ≡ with_ports_at out (with_stalled out.ports app (Some (record { slot = s.slot; buffer = anywhere back.picture }))) → new ≡ with_ports_at old (settled time app old.ports)
 settled_err old mid out new app s b back time e waits same h put =
-    settled_by_err old mid out new app s b back time _ e waits (sym (ap (λ (x : PortsAt). has_room (machine_at x.ports app s.slot)) e)) same h put ∙ ap (λ (o : Option PlainStalled). with_ports_at old (settled_on o time app old.ports)) waits
+    let k = settled_err_by old mid out new app s b back time _ e waits same h put in
+    let full : has_room (machine_at old.ports app s.slot) ≡ false = sym (ap (λ (x : PortsAt). has_room (machine_at x.ports app s.slot)) e) ∙ k.0 in
+    k.1 ∙ by_settled (λ q. old ≡ with_ports_at old q) time app old.ports refl (λ t f room. absurd (true_false (sym room ∙ (ap (λ (u : PlainStalled). has_room (machine_at old.ports app u.slot)) (sym (some_same s t (waits ∙ f))) ∙ full))))

@@ -15,6 +15,8 @@ use Rattle.csp_ports.specs.declared.terms.Terms.{Terms}
 use Rattle.csp_ports.specs.declared.terms.Wish.{Wish}
 use Rattle.csp_ports.specs.declared.terms.Wish.TheVariants as wish
 use Rattle.csp_rdp.specs.Machine.{PlainRdp, idle}
+use Rattle.csp_rdp.specs.declared.answers.State.{State}
+use Rattle.csp_rdp.specs.declared.answers.State.TheVariants.{Open}
 use Rattle.csp_socket.specs.Bound.{Bound, bound_none}
 
 -- a packet of an application that waits for room in the window of a slot's connection
@@ -113,6 +115,11 @@ machine_in s = unwrap_or s.machine idle
 -- the machine of a slot's reliable connection; where the slot has none it is idle: it is closed, holds nothing and owes nothing
 abbrev pub machine_at : PlainPorts → (app slot : ℕ) → PlainRdp
 machine_at p app slot = machine_in (state_at p app slot)
+
+-- a reliable connection in this state is open
+abbrev pub is_open : State → Bool
+is_open Open = true
+is_open _ = false
 
 -- the ports with this machine of a slot, or without one
 abbrev pub with_machine_or : PlainPorts → (app slot : ℕ) → Option PlainRdp → PlainPorts

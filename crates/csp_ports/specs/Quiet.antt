@@ -1,11 +1,10 @@
 -- when trying the timers changes nothing
-use Rattle.std.specs.Prelude.{ℕ, ◌*◌, ◌/◌, ◌%◌, ◌&&◌, not, Bool, true, false, Option, None, Some}
+use Rattle.std.specs.Prelude.{ℕ, ◌*◌, ◌/◌, ◌%◌, ◌&&◌, not, Bool, false, unwrap_or}
 use Rattle.std.specs.List.{list_any, range_with_len}
+use Rattle.std.specs.Option.{option_map}
 use Rattle.csp_base.specs.declared.limits.TheConstants.{SLOTS}
-use Rattle.csp_ports.specs.PlainPorts.{PlainPorts, PlainStalled, machine_at, stalled_at}
+use Rattle.csp_ports.specs.PlainPorts.{PlainPorts, is_open, machine_at, stalled_at}
 use Rattle.csp_rdp.specs.Timer.{times_out}
-use Rattle.csp_rdp.specs.declared.answers.State.{State}
-use Rattle.csp_rdp.specs.declared.answers.State.TheVariants.{Open}
 
 -- the timer of a slot, by its place, would change its connection
 abbrev pub times_out_at : ℕ → PlainPorts → ℕ → Bool
@@ -16,18 +15,8 @@ abbrev pub any_times_out : ℕ → PlainPorts → Bool
 any_times_out time p = list_any (times_out_at time p) (range_with_len 0 (p.conns.apps * SLOTS))
 
 -- the packet of an application is stranded: it waits for a connection that is not open
-abbrev pub is_stranded_in : State → Bool
-is_stranded_in Open = false
-is_stranded_in _ = true
-
--- this packet, if there is one, waits for a connection that is not open
-abbrev pub is_stranded_on : Option PlainStalled → PlainPorts → ℕ → Bool
-is_stranded_on None p app = false
-is_stranded_on (Some s) p app = is_stranded_in (machine_at p app s.slot).state
-
--- an application's packet waits for a connection that is not open
 abbrev pub is_stranded : PlainPorts → ℕ → Bool
-is_stranded p app = is_stranded_on (stalled_at p app) p app
+is_stranded p app = unwrap_or (option_map (λ s. not (is_open (machine_at p app s.slot).state)) (stalled_at p app)) false
 
 -- some application's does
 abbrev pub any_stranded : PlainPorts → Bool

@@ -1,6 +1,7 @@
 -- what follows when the machine of a slot's reliable connection has made a step
-use Rattle.std.specs.Prelude.{ℕ, ◌+◌, ◌*◌, ◌/◌, ◌%◌, not, Bool, true, false, Option, None, Some, List, [], ◌∷◌}
+use Rattle.std.specs.Prelude.{ℕ, ◌+◌, ◌*◌, ◌/◌, ◌%◌, ◌&&◌, not, Bool, true, false, cond, Option, None, Some, unwrap_or, List, [], ◌∷◌}
 use Rattle.std.specs.List.{range_with_len}
+use Rattle.std.specs.Option.{option_map}
 use Rattle.csp_conn.specs.PlainConns.{with_slot}
 use Rattle.csp_base.specs.declared.limits.TheConstants.{SLOTS}
 use Rattle.csp_conn.specs.declared.slot.Slot.TheVariants.{Free}
@@ -10,7 +11,7 @@ use Rattle.csp_log.specs.declared.note.Note.TheVariants as note
 use Rattle.csp_log.specs.declared.note.Why.TheVariants as reason
 use Rattle.csp_log.specs.declared.note.Why.{Why}
 use Rattle.csp_ports.specs.Came.{Came, come, then, reporting, discarding, pictures}
-use Rattle.csp_ports.specs.PlainPorts.{PlainPorts, PlainStalled, has_machine, machine_at, owing, stalled_at, terms_at, wishing, with_machine, with_machine_or, with_stalled, with_terms}
+use Rattle.csp_ports.specs.PlainPorts.{PlainPorts, has_machine, is_open, machine_at, owing, stalled_at, terms_at, wishing, with_machine, with_machine_or, with_stalled, with_terms}
 use Rattle.csp_ports.specs.declared.terms.Wish.{Wish}
 use Rattle.csp_ports.specs.declared.terms.Wish.TheVariants as wish
 use Rattle.csp_buffer.specs.PlainBuffer.{PlainBuffer}
@@ -20,7 +21,6 @@ use Rattle.csp_rdp.specs.Jobs.{admitting, ticked}
 use Rattle.csp_rdp.specs.Machine.{PlainRdp}
 use Rattle.csp_rdp.specs.declared.answers.Change.{Change}
 use Rattle.csp_rdp.specs.declared.answers.Change.TheVariants as change
-use Rattle.csp_rdp.specs.declared.answers.State.TheVariants.{Open}
 use Rattle.csp_rdp.specs.declared.answers.State.{State}
 use Rattle.csp_rdp.specs.declared.answers.Cause.{Cause as MachineWhy}
 use Rattle.csp_rdp.specs.declared.answers.Cause.TheVariants as machine_why
@@ -111,46 +111,23 @@ went before why app slot r p = then (stepped app slot r p) (changed (change_betw
 
 -- ---- the packet that waits for room
 
--- there is room for a packet: the connection is open, and its window is not full
-abbrev pub has_room_in : State → PlainRdp → Bool
-has_room_in Open r = not (is_full r.send)
-has_room_in _ r = false
-
--- a machine takes one more packet
+-- a machine takes one more packet: its connection is open, and its window is not full
 abbrev pub has_room : PlainRdp → Bool
-has_room r = has_room_in r.state r
+has_room r = is_open r.state && not (is_full r.send)
 
 -- a packet is admitted to the window of a slot's connection
 abbrev pub admitted : (time app slot : ℕ) → PlainBuffer → PlainPorts → PlainPorts
 admitted time app slot b p = with_machine p app slot (admitting b time (machine_at p app slot))
 
--- the packet that waits is admitted where there is room
-abbrev pub settled_by : (room : Bool) → (time app : ℕ) → PlainStalled → PlainPorts → PlainPorts
-settled_by true time app s p = admitted time app s.slot s.buffer (with_stalled p app None)
-settled_by false time app s p = p
-
--- this packet, if there is one, is admitted where there is room now
-abbrev pub settled_on : Option PlainStalled → (time app : ℕ) → PlainPorts → PlainPorts
-settled_on None time app p = p
-settled_on (Some s) time app p = settled_by (has_room (machine_at p app s.slot)) time app s p
-
 -- an application's waiting packet is admitted where there is room now
 abbrev pub settled : (time app : ℕ) → PlainPorts → PlainPorts
-settled time app p = settled_on (stalled_at p app) time app p
+settled time app p =
+    unwrap_or (option_map (λ s. cond (has_room (machine_at p app s.slot)) (admitted time app s.slot s.buffer (with_stalled p app None)) p) (stalled_at p app)) p
 
--- it is discarded as NoConn where its connection is not open any more
-abbrev pub dropped_in : State → (app : ℕ) → PlainStalled → PlainPorts → Came
-dropped_in Open app s p = come p
-dropped_in _ app s p = discarding why.NoConn s.buffer.picture (with_stalled p app None)
-
--- this packet, if there is one, is discarded where its connection is not open any more
-abbrev pub dropped_on : Option PlainStalled → (app : ℕ) → PlainPorts → Came
-dropped_on None app p = come p
-dropped_on (Some s) app p = dropped_in (machine_at p app s.slot).state app s p
-
--- an application's waiting packet is discarded where its connection is not open any more
+-- an application's waiting packet is discarded as NoConn where its connection is not open any more
 abbrev pub dropped : (app : ℕ) → PlainPorts → Came
-dropped app p = dropped_on (stalled_at p app) app p
+dropped app p =
+    unwrap_or (option_map (λ s. cond (is_open (machine_at p app s.slot).state) (come p) (discarding why.NoConn s.buffer.picture (with_stalled p app None))) (stalled_at p app)) (come p)
 
 -- ---- the timers
 

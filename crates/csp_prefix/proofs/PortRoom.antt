@@ -1,14 +1,16 @@
 -- packets that wait for room in a window
-use Rattle.std.specs.Prelude.{◌==◌, Bool, true, false, None, Option, Some}
+use Rattle.std.specs.Prelude.{◌==◌, ◌&&◌, not, Bool, true, false, None, Option, Some}
 use Rattle.std.proofs.Common.{◌≡◌, ◌≢◌, ◌⊎◌, inl, inr, ℕ, ◌<◌, List, arith, refl, sym, subst, ◌∙◌}
 use Rattle.std.proofs.lemmas.Bool.{eqb-false, eqb-true}
 use Rattle.std.proofs.lemmas.List.{get_or-set_same}
 use Rattle.csp_log.specs.declared.event.Discard.TheVariants as why
+use Rattle.csp_ports.proofs.Public.{by_dropped, by_settled}
 use Rattle.csp_ports.specs.Came.{come, discarding}
-use Rattle.csp_ports.specs.PlainPorts.{PlainPorts, PlainStalled, machine_at, stalled_at, with_stalled}
-use Rattle.csp_ports.specs.Steps.{dropped, dropped_in, dropped_on, has_room, has_room_in, settled, settled_by, settled_on}
+use Rattle.csp_ports.specs.PlainPorts.{PlainPorts, PlainStalled, is_open, machine_at, stalled_at, with_stalled}
+use Rattle.csp_ports.specs.Steps.{admitted, dropped, has_room, settled}
 use Rattle.csp_ports.specs.declared.origin.Origin.{Origin}
 use Rattle.csp_rdp.specs.Jobs.{admitting}
+use Rattle.csp_rdp_window.specs.Sending.{is_full}
 use Rattle.csp_rdp.specs.Machine.{PlainRdp}
 use Rattle.csp_rdp.specs.declared.answers.State.{State}
 use Rattle.csp_rdp.specs.declared.answers.State.TheVariants.{Closed, CloseWait, Open, SynRcvd, SynSent}
@@ -18,6 +20,17 @@ use Rattle.csp_prefix.proofs.PortSlots.{AreFine, AreFineBut, IsFor, look, machin
 use Rattle.csp_prefix.proofs.PortViews.{View, now_of, view}
 use Rattle.csp_prefix.specs.Ports.{Books, Ordinals, waiting_on}
 use Rattle.csp_prefix.specs.Slots.{Coming, IsKept, Now, Numbering}
+
+-- a connection is open where its state is
+state_open : (s : State) → is_open s ≡ true → s ≡ Open
+state_open Open e = refl
+state_open SynSent e = absurd cc
+state_open SynRcvd e = absurd cc
+state_open CloseWait e = absurd cc
+state_open Closed e = absurd cc
+
+state_shut : (s : State) → is_open s ≡ false → s ≢ Open
+state_shut s shut e = absurd (subst (λ (t : State). is_open t ≡ false → ⊥) (sym e) (λ f. cc) shut)
 
 -- the connection of the packet that waits is open also for this application
 tighten : {Is : Numbering → ℕ → ℕ → Now → Type 0} {Loose Tight : ℕ → Type 0} {m : Numbering} {ordinals : Ordinals} {books : Books} {p : PlainPorts} (app : ℕ) → AreFine Is Loose m ordinals books p → ((a : ℕ) → Tight a → (a ≡ app → ⊥) → Loose a)
@@ -72,36 +85,24 @@ module _ {o : Origin} {C : Coming} {Is : Numbering → ℕ → ℕ → Now → T
         let near : stalled_at (with_stalled p app None) app ≡ None = get_or-set_same p.stalled app None None (omega (arith, h.shape.places, h.shape.few, here)) in
         record { same = refl; new = (tt, tt); fine = tighten app (dropped_fine s e closed) wider (λ t f. absurd (none_some t (sym near ∙ f))) }
 
-    dropped_by : (s : PlainStalled) (b : State) → stalled_at p app ≡ Some s → (machine_at p app s.slot).state ≡ b → Leaves Is Tight m ordinals books p.conns.apps (dropped_in b app s p)
-    dropped_by s Open e f = rest_fine (tighten app h wider (λ t g. subst (λ (u : PlainStalled). (machine_at p app u.slot).state ≡ Open) (some_same s t (sym e ∙ g)) f))
-    dropped_by s SynSent e f = discarded_leaves s e (λ g. cc (f, g))
-    dropped_by s SynRcvd e f = discarded_leaves s e (λ g. cc (f, g))
-    dropped_by s CloseWait e f = discarded_leaves s e (λ g. cc (f, g))
-    dropped_by s Closed e f = discarded_leaves s e (λ g. cc (f, g))
-
-    dropped_of_it : (w : Option PlainStalled) → stalled_at p app ≡ w → Leaves Is Tight m ordinals books p.conns.apps (dropped_on w app p)
-    dropped_of_it None e = rest_fine (tighten app h wider (λ t g. absurd (none_some t (sym e ∙ g))))
-    dropped_of_it (Some s) e = dropped_by s (machine_at p app s.slot).state e refl
-
     pub dropped_leaves : Leaves Is Tight m ordinals books p.conns.apps (dropped app p)
-    dropped_leaves = dropped_of_it (stalled_at p app) refl
+    dropped_leaves =
+        by_dropped (Leaves Is Tight m ordinals books p.conns.apps) app p (λ opens. rest_fine (tighten app h wider (λ t e. state_open (machine_at p app t.slot).state (opens t e))))
+        (λ s e shut. discarded_leaves s e (λ f. state_shut (machine_at p app s.slot).state shut f))
 
 -- ---- where there is room it is admitted
 
 room_open : (r : PlainRdp) → has_room r ≡ true → r.state ≡ Open
-room_open r e = go r.state refl e
+room_open r e = go (is_open r.state) refl e
   where
-    go : (s : State) → r.state ≡ s → has_room_in s r ≡ true → s ≡ Open
-    go Open f e = refl
-    go SynSent f e = absurd cc
-    go SynRcvd f e = absurd cc
-    go CloseWait f e = absurd cc
-    go Closed f e = absurd cc
+    go : (b : Bool) → is_open r.state ≡ b → b && not (is_full r.send) ≡ true → r.state ≡ Open
+    go true f e = state_open r.state f
+    go false f e = absurd cc
 
 module _ {o : Origin} {C : Coming} {Is : Numbering → ℕ → ℕ → Now → Type 0} (kept : IsKept o C Is)
     {m : Numbering} {ordinals : Ordinals} {books : Books} {p : PlainPorts} (app : ℕ) (here : app < p.conns.apps) (h : AreFine Is All m ordinals books p) (time : ℕ) where
-  settled_room : (s : PlainStalled) (b : Bool) → stalled_at p app ≡ Some s → has_room (machine_at p app s.slot) ≡ b → Leaves Is All m ordinals books p.conns.apps (come (settled_by b time app s p))
-  settled_room s true e room =
+  settled_room : (s : PlainStalled) → stalled_at p app ≡ Some s → has_room (machine_at p app s.slot) ≡ true → Leaves Is All m ordinals books p.conns.apps (come (admitted time app s.slot s.buffer (with_stalled p app None)))
+  settled_room s e room =
       let x = view p books app s.slot in
       let y : View = record x { waits = None; machine = admitting s.buffer time x.machine } in
       let f = h.slots app s.slot here (h.shape.waits app s here e) in
@@ -122,11 +123,6 @@ module _ {o : Origin} {C : Coming} {Is : Numbering → ℕ → ℕ → Now → T
               holds = kept.settles m app s.slot (now_of x) s.buffer time (room_open x.machine room) room (waiting_here (stalled_at p app) s e) k.holds;
             }));
       }
-  settled_room s false e room = record { same = refl; new = tt; fine = h }
-
-  settled_it : (w : Option PlainStalled) → stalled_at p app ≡ w → Leaves Is All m ordinals books p.conns.apps (come (settled_on w time app p))
-  settled_it None e = record { same = refl; new = tt; fine = h }
-  settled_it (Some s) e = settled_room s (has_room (machine_at p app s.slot)) e refl
 
   pub settled_leaves : Leaves Is All m ordinals books p.conns.apps (come (settled time app p))
-  settled_leaves = settled_it (stalled_at p app) refl
+  settled_leaves = by_settled (λ q. Leaves Is All m ordinals books p.conns.apps (come q)) time app p (record { same = refl; new = tt; fine = h }) settled_room

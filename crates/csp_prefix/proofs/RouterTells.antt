@@ -33,10 +33,11 @@ use Rattle.csp_log.specs.declared.shown.ItemShown.TheVariants as item
 use Rattle.csp_log.specs.declared.shown.OpShown.{OpShown}
 use Rattle.csp_log.specs.declared.shown.OpShown.TheVariants as op
 use Rattle.csp_ports.specs.Asking.{answered_by, close_by, connect_by, ended_by, ending_in, held_by, is_reliable, joined}
+use Rattle.csp_ports.proofs.Public.{by_dropped}
 use Rattle.csp_ports.specs.Came.{Came, come, then as and_then}
 use Rattle.csp_ports.specs.Packets.{back_by, handing, handing_event, submitting_in}
-use Rattle.csp_ports.specs.PlainPorts.{PlainPorts, PlainStalled, anywhere, has_machine, is_closing, machine_at, stalled_at, terms_at}
-use Rattle.csp_ports.specs.Steps.{changed, closed_by, dropped, dropped_in, dropped_of, dropped_on, refused_by, settled, stepped, timed as ports_timed, timed_at, timed_in, went, where_machine}
+use Rattle.csp_ports.specs.PlainPorts.{PlainPorts, anywhere, has_machine, is_closing, machine_at, terms_at}
+use Rattle.csp_ports.specs.Steps.{changed, closed_by, dropped, dropped_of, refused_by, settled, stepped, timed as ports_timed, timed_at, timed_in, went, where_machine}
 use Rattle.csp_ports.specs.Tasks.{delivered, kept_again}
 use Rattle.csp_ports.specs.declared.handing.Invitation.{Invitation}
 use Rattle.csp_ports.specs.declared.origin.Origin.{Origin}
@@ -185,19 +186,8 @@ module _ (P : Event → Type 0) (lost : (reason : Discard) → P (event.Discarde
   where_so true step p h = h
   where_so false step p h = tt
 
-  dropped_in_so : (x : MachineState) (app : ℕ) (s : PlainStalled) (p : PlainPorts) → Each (dropped_in x app s p).events
-  dropped_in_so state.Open app s p = tt
-  dropped_in_so state.SynSent app s p = (lost why.NoConn, tt)
-  dropped_in_so state.SynRcvd app s p = (lost why.NoConn, tt)
-  dropped_in_so state.CloseWait app s p = (lost why.NoConn, tt)
-  dropped_in_so state.Closed app s p = (lost why.NoConn, tt)
-
-  dropped_on_so : (o : Option PlainStalled) (app : ℕ) (p : PlainPorts) → Each (dropped_on o app p).events
-  dropped_on_so None app p = tt
-  dropped_on_so (Some s) app p = dropped_in_so (machine_at p app s.slot).state app s p
-
   dropped_so : (app : ℕ) (p : PlainPorts) → Each (dropped app p).events
-  dropped_so app p = dropped_on_so (stalled_at p app) app p
+  dropped_so app p = by_dropped (λ c. Each c.events) app p (λ opens. tt) (λ s e shut. (lost why.NoConn, tt))
 
   -- the timers
   timed_at_so : (time app slot : ℕ) (p : PlainPorts) → Each (timed_at time app slot p).events

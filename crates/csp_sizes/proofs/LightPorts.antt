@@ -13,14 +13,15 @@ use Rattle.csp_base.specs.declared.limits.TheConstants.{MAX_APPS, SLOTS, ALL_SLO
 use Rattle.csp_conn.specs.declared.slot.Connection.{Connection}
 use Rattle.csp_conn.specs.declared.slot.Slot.TheVariants.{Free, Held, Open as Opened}
 use Rattle.csp_conn.specs.declared.slot.Slot.{Slot}
+use Rattle.csp_log.specs.declared.event.Discard.TheVariants as why
 use Rattle.csp_log.specs.declared.note.Note.TheVariants as note
 use Rattle.csp_log.specs.declared.note.Note.{Note}
-use Rattle.csp_ports.proofs.Public.{all_or, machine_listed, machines_of_machine, machines_of_terms}
+use Rattle.csp_ports.proofs.Public.{all_or, by_dropped, by_settled, machine_listed, machines_of_machine, machines_of_terms}
 use Rattle.csp_ports.specs.Asking.{is_reliable, answered, answered_by, close, close_by, connect, connect_by, ended_by, ending_in, held_by, joined, linked}
-use Rattle.csp_ports.specs.Came.{Came, come, pictures, then}
+use Rattle.csp_ports.specs.Came.{Came, come, discarding, pictures, then}
 use Rattle.csp_ports.specs.Packets.{accepted, admitting_by, back_by, handing, invited, submitting, submitting_in}
 use Rattle.csp_ports.specs.PlainPorts.{PlainPorts, PlainStalled, anywhere, has_machine, machine_at, machine_in, machines_of, ports_of, stalled_at, start_of, state_at, terms_at, untouched, wishing, with_machine, with_machine_or, with_stalled, with_terms, is_closing}
-use Rattle.csp_ports.specs.Steps.{changed, closed_by, connected_by, dropped, dropped_in, dropped_of, dropped_on, freed, given_up, has_room, refused, refused_by, settled, settled_by, settled_on, stepped, timed, timed_at, timed_in, vacated, went, where_machine}
+use Rattle.csp_ports.specs.Steps.{changed, closed_by, connected_by, dropped, dropped_of, freed, given_up, has_room, refused, refused_by, settled, stepped, timed, timed_at, timed_in, vacated, went, where_machine}
 use Rattle.csp_ports.specs.Tasks.{delivered, kept_again, made_in, making, told_down, without_packet}
 use Rattle.csp_ports.specs.declared.handing.Invitation.{Invitation}
 use Rattle.csp_ports.specs.declared.origin.Origin.{Origin}
@@ -156,40 +157,24 @@ where_light false step p h c = comes_come p h
 
 -- ---- the packet that waits for room
 
+waiting_light : (p : PlainPorts) (app : ℕ) (s : PlainStalled) → stalled_at p app ≡ Some s → ArePorts p → IsData s.buffer.picture
+waiting_light p app s e h = subst IsWaiting e (stalled_light p app h)
+
 admitted_light : (time app slot : ℕ) (b : PlainBuffer) (p : PlainPorts) → IsData b.picture → ArePorts p → ArePorts (with_machine p app slot (admitting b time (machine_at p app slot)))
 admitted_light time app slot b p short h = with_machine_light p app slot _ (admitting_light b time (machine_at p app slot) short (machine_light p app slot h)) h
 
-settled_by_light : (room : Bool) (time app : ℕ) (s : PlainStalled) (p : PlainPorts) → IsData s.buffer.picture → ArePorts p → ArePorts (settled_by room time app s p)
-settled_by_light true time app s p short h = admitted_light time app s.slot s.buffer (with_stalled p app None) short (with_stalled_light p app None tt h)
-settled_by_light false time app s p short h = h
-
-settled_on_light : (o : Option PlainStalled) (time app : ℕ) (p : PlainPorts) → IsWaiting o → ArePorts p → ArePorts (settled_on o time app p)
-settled_on_light None time app p short h = h
-settled_on_light (Some s) time app p short h = settled_by_light (has_room (machine_at p app s.slot)) time app s p short h
-
 settled_light : (time app : ℕ) (p : PlainPorts) → ArePorts p → ArePorts (settled time app p)
-settled_light time app p h = settled_on_light (stalled_at p app) time app p (stalled_light p app h) h
+settled_light time app p h = by_settled ArePorts time app p h (λ s e room. admitted_light time app s.slot s.buffer (with_stalled p app None) (waiting_light p app s e h) (with_stalled_light p app None tt h))
 
 -- it is discarded
-lost_light : (app : ℕ) (s : PlainStalled) (p : PlainPorts) (c : Came) → IsData s.buffer.picture → ArePorts p → c.ports ≡ with_stalled p app None → c.loose ≡ s.buffer.picture ∷ [] → Comes c
-lost_light app s p c short h ports loose = record {
-  ports = subst (λ (q : PlainPorts). ArePorts q) (sym ports) (with_stalled_light p app None tt h);
-  loose = subst (λ (bs : List Content). All IsLight bs) (sym loose) (All-cons IsLight s.buffer.picture [] (data_light s.buffer.picture short) (All-nil IsLight));
+lost_light : (app : ℕ) (s : PlainStalled) (p : PlainPorts) → IsData s.buffer.picture → ArePorts p → Comes (discarding why.NoConn s.buffer.picture (with_stalled p app None))
+lost_light app s p short h = record {
+  ports = with_stalled_light p app None tt h;
+  loose = All-cons IsLight s.buffer.picture [] (data_light s.buffer.picture short) (All-nil IsLight);
 }
 
-dropped_in_light : (st : State) (app : ℕ) (s : PlainStalled) (p : PlainPorts) → IsData s.buffer.picture → ArePorts p → Comes (dropped_in st app s p)
-dropped_in_light Open app s p short h = comes_come p h
-dropped_in_light SynSent app s p short h = lost_light app s p _ short h refl refl
-dropped_in_light SynRcvd app s p short h = lost_light app s p _ short h refl refl
-dropped_in_light CloseWait app s p short h = lost_light app s p _ short h refl refl
-dropped_in_light Closed app s p short h = lost_light app s p _ short h refl refl
-
-dropped_on_light : (o : Option PlainStalled) (app : ℕ) (p : PlainPorts) → IsWaiting o → ArePorts p → Comes (dropped_on o app p)
-dropped_on_light None app p short h = comes_come p h
-dropped_on_light (Some s) app p short h = dropped_in_light (machine_at p app s.slot).state app s p short h
-
 dropped_light : (app : ℕ) (p : PlainPorts) → ArePorts p → Comes (dropped app p)
-dropped_light app p h = dropped_on_light (stalled_at p app) app p (stalled_light p app h) h
+dropped_light app p h = by_dropped Comes app p (λ opens. comes_come p h) (λ s e shut. lost_light app s p (waiting_light p app s e h) h)
 
 -- ---- the timers
 

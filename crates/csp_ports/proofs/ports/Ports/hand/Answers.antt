@@ -26,7 +26,7 @@ settle-requires-clause-countable c =
     let n = 2 ^ 32 - 2 in
     let app = c.args.app in
     let one = subst (λ (x : PortsAt). IsCountable x.ports) (sym c.change.ensures.comes.ports) (far_changed n c.hand_machine-change.result c.hand_machine-change.new.self.ports app c.args.slot c.hand_machine-change.ensures.countable) in
-    subst (λ (x : PortsAt). IsCountable x.ports) (sym c.drop_stalled.ensures.comes.ports) (far_dropped n (stalled_at c.change.new.self.ports app) app c.change.new.self.ports one)
+    subst (λ (x : PortsAt). IsCountable x.ports) (sym c.drop_stalled.ensures.comes.ports) (far_dropped n app c.change.new.self.ports one)
 
 pub returns-clause-comes : goal.returns-clause-comes
 returns-clause-comes c =
@@ -64,7 +64,7 @@ returns-clause-comes c =
 pub returns-clause-apps : goal.returns-clause-apps
 returns-clause-apps c =
     ap (λ (x : PortsAt). x.ports.conns.apps) c.settle.ensures.ports
-    ∙ (settled_apps (stalled_at c.drop_stalled.new.self.ports c.args.app) c.args.now c.args.app c.drop_stalled.new.self.ports
+    ∙ (settled_apps c.args.now c.args.app c.drop_stalled.new.self.ports
     ∙ (c.drop_stalled.ensures.apps ∙ (c.change.ensures.apps ∙ (ap (λ (x : PortsAt). x.ports.conns.apps) c.hand_machine-change.ensures.comes.ports ∙ where_apps (has_machine c.args.self.now.ports c.args.app c.args.slot) c.args.app c.args.slot (after_packet c.args.head c.args.packet.picture.trace.tag (anywhere c.args.packet.picture) c.args.now (machine_at c.args.self.now.ports c.args.app c.args.slot)) c.args.self.now.ports))))
 
 pub returns-clause-keeps : goal.returns-clause-keeps
