@@ -16,12 +16,12 @@ use Rattle.csp_conn.specs.declared.slot.Slot.TheVariants as has
 use Rattle.csp_log.specs.declared.note.Note.{Note}
 use Rattle.csp_log.specs.declared.note.Note.TheVariants as note
 use Rattle.csp_log.specs.declared.note.Why.TheVariants as reason
-use Rattle.csp_ports.specs.Asking.{answered, answered_by, bind_by, close_by, connect_by, ended_by, ending_in, held_by, is_reliable, joined, linked}
+use Rattle.csp_ports.specs.Asking.{answered, answered_by, bind_by, close_by, connect_by, ending_in, freed_by, held_by, is_reliable, joined, linked}
 use Rattle.csp_ports.specs.Came.{Came}
 use Rattle.csp_ports.specs.Kept.{wished, wishes}
 use Rattle.csp_ports.specs.Packets.{accepted, admitting_by, handing, invited, submitting_in}
 use Rattle.csp_ports.specs.PlainPorts.{PlainPorts, anywhere, fresh, has_machine, machine_at, owing, start_of, terms_at, terms_of, waiting, with_machine_or, with_stalled, with_terms}
-use Rattle.csp_ports.specs.Steps.{changed, closed_by, connected_by, dropped, dropped_of, has_room, reason_of, refused_by, settled, stepped, timed, timed_at, timed_in, vacated, went, where_machine}
+use Rattle.csp_ports.specs.Steps.{changed, closed_by, connected_by, dropped, dropped_of, freed, has_room, reason_of, refused_by, settled, stepped, timed, timed_at, timed_in, went, where_machine}
 use Rattle.csp_ports.specs.Tasks.{delivered, told_down}
 use Rattle.csp_ports.specs.declared.handing.Invitation.{Invitation}
 use Rattle.csp_ports.specs.declared.origin.Origin.{Origin}
@@ -209,11 +209,11 @@ answers_slot p app slot t n w low is one none a =
 -- ---- what a change of a connection comes to
 
 -- a slot that is free
-vacates : (ordinal app slot : ℕ) (p : PlainPorts) → NoMore p (vacated ordinal app slot p).ports
-vacates ordinal app slot p =
+frees : (ordinal app slot : ℕ) (p : PlainPorts) → NoMore p (freed ordinal app slot p).ports
+frees ordinal app slot p =
     let t : Terms = record (terms_at p app slot) { wish = wish.Nothing; is_down = false; ordinal = ordinal } in
     let q : PlainPorts = with_terms (record p { conns = with_slot p.conns app slot has.Free }) app slot t in
-    both p q (vacated ordinal app slot p).ports (sets p app slot t (least (weight (terms_at p app slot)))) (machines q app slot None)
+    both p q (freed ordinal app slot p).ports (sets p app slot t (least (weight (terms_at p app slot)))) (machines q app slot None)
 
 connects_by : (w : Wish) (app slot : ℕ) (p : PlainPorts) → slot < SLOTS → (terms_at p app slot).wish ≡ w → NoMore p (connected_by w app slot p)
 connects_by wish.Connection app slot p low e =
@@ -230,16 +230,16 @@ refuses_by wish.Connection why app slot p low e =
     let q : PlainPorts = with_terms (record p { conns = with_slot p.conns app slot has.Free }) app slot t in
     let r : PlainPorts = (refused_by wish.Connection why app slot p).ports in
     both p (owing q app n) r (answers_slot p app slot t n wish.Connection low e refl refl) (as_due (owing q app n) r refl (terms_of_machine q app slot None))
-refuses_by wish.Nothing why app slot p low e = vacates (terms_at p app slot).ordinal app slot p
-refuses_by wish.End why app slot p low e = vacates (terms_at p app slot).ordinal app slot p
-refuses_by wish.Ended why app slot p low e = vacates (terms_at p app slot).ordinal app slot p
+refuses_by wish.Nothing why app slot p low e = frees (terms_at p app slot).ordinal app slot p
+refuses_by wish.End why app slot p low e = frees (terms_at p app slot).ordinal app slot p
+refuses_by wish.Ended why app slot p low e = frees (terms_at p app slot).ordinal app slot p
 
 closes_by : (w : Wish) (was_open : Bool) (app slot : ℕ) (p : PlainPorts) → slot < SLOTS → (terms_at p app slot).wish ≡ w
     → NoMore p (closed_by w was_open app slot p).ports
 closes_by wish.End was_open app slot p low e =
     answers_slot p app slot (record (terms_at p app slot) { wish = wish.Ended }) (note.Closed slot) wish.End low e refl refl
 closes_by wish.Nothing true app slot p low e = stays p
-closes_by wish.Nothing false app slot p low e = vacates (terms_at p app slot).ordinal app slot p
+closes_by wish.Nothing false app slot p low e = frees (terms_at p app slot).ordinal app slot p
 closes_by wish.Connection was_open app slot p low e = stays p
 closes_by wish.Ended was_open app slot p low e = stays p
 
@@ -388,8 +388,8 @@ ends_by false p app slot time low =
 
 -- ---- the push of an answer
 
-ended_so : (n : Note) (app : ℕ) (p : PlainPorts) → NoMore p (ended_by n app p).ports
-ended_so (note.Closed slot) app p = vacates ((terms_at p app slot).ordinal + 1) app slot p
+ended_so : (n : Note) (app : ℕ) (p : PlainPorts) → NoMore p (freed_by n app p).ports
+ended_so (note.Closed slot) app p = frees ((terms_at p app slot).ordinal + 1) app slot p
 ended_so note.Bound app p = stays p
 ended_so (note.Connected slot) app p = stays p
 ended_so (note.Refused why) app p = stays p

@@ -13,12 +13,12 @@ use Rattle.csp_conn.specs.declared.slot.Slot.{Slot}
 use Rattle.csp_conn.specs.declared.slot.Slot.TheVariants as has
 use Rattle.csp_log.specs.declared.note.Note.{Note}
 use Rattle.csp_log.specs.declared.note.Note.TheVariants as note
-use Rattle.csp_ports.specs.Asking.{answered, answered_by, bind, bind_by, close, close_by, connect, connect_by, ended_by, ending_in, held_by, is_reliable, joined}
+use Rattle.csp_ports.specs.Asking.{answered, answered_by, bind, bind_by, close, close_by, connect, connect_by, ending_in, freed_by, held_by, is_reliable, joined}
 use Rattle.csp_ports.proofs.Public.{by_dropped, by_settled}
 use Rattle.csp_ports.specs.Came.{Came}
 use Rattle.csp_ports.specs.Packets.{accepted, admitting_by, handing, invited, submitting, submitting_in}
 use Rattle.csp_ports.specs.PlainPorts.{PlainPorts, anywhere, has_machine, is_closing, machine_at, terms_at}
-use Rattle.csp_ports.specs.Steps.{changed, closed_by, connected_by, dropped, dropped_of, has_room, refused_by, settled, stepped, timed, timed_at, timed_in, vacated, went, where_machine}
+use Rattle.csp_ports.specs.Steps.{changed, closed_by, connected_by, dropped, dropped_of, freed, has_room, refused_by, settled, stepped, timed, timed_at, timed_in, went, where_machine}
 use Rattle.csp_ports.specs.Tasks.{delivered}
 use Rattle.csp_ports.specs.declared.handing.Invitation.{Invitation}
 use Rattle.csp_ports.specs.declared.origin.Origin.{Origin}
@@ -54,8 +54,8 @@ slot_shape c app slot what = ap (λ n. (c.apps, n)) (length-set c.slots (place_o
 
 -- ---- a step of a machine, and what it changes
 
-vacated_shape : (ordinal app slot : ℕ) (p : PlainPorts) → shape (vacated ordinal app slot p).ports ≡ shape p
-vacated_shape ordinal app slot p = slot_shape p.conns app slot has.Free
+freed_shape : (ordinal app slot : ℕ) (p : PlainPorts) → shape (freed ordinal app slot p).ports ≡ shape p
+freed_shape ordinal app slot p = slot_shape p.conns app slot has.Free
 
 connected_shape : (w : Wish) (app slot : ℕ) (p : PlainPorts) → shape (connected_by w app slot p) ≡ shape p
 connected_shape wish.Nothing app slot p = refl
@@ -64,14 +64,14 @@ connected_shape wish.End app slot p = refl
 connected_shape wish.Ended app slot p = refl
 
 refused_shape : (w : Wish) (why : Cause) (app slot : ℕ) (p : PlainPorts) → shape (refused_by w why app slot p).ports ≡ shape p
-refused_shape wish.Nothing why app slot p = vacated_shape (terms_at p app slot).ordinal app slot p
-refused_shape wish.Connection why app slot p = vacated_shape (terms_at p app slot).ordinal app slot p
-refused_shape wish.End why app slot p = vacated_shape (terms_at p app slot).ordinal app slot p
-refused_shape wish.Ended why app slot p = vacated_shape (terms_at p app slot).ordinal app slot p
+refused_shape wish.Nothing why app slot p = freed_shape (terms_at p app slot).ordinal app slot p
+refused_shape wish.Connection why app slot p = freed_shape (terms_at p app slot).ordinal app slot p
+refused_shape wish.End why app slot p = freed_shape (terms_at p app slot).ordinal app slot p
+refused_shape wish.Ended why app slot p = freed_shape (terms_at p app slot).ordinal app slot p
 
 closed_shape : (w : Wish) (was_open : Bool) (app slot : ℕ) (p : PlainPorts) → shape (closed_by w was_open app slot p).ports ≡ shape p
 closed_shape wish.Nothing true app slot p = refl
-closed_shape wish.Nothing false app slot p = vacated_shape (terms_at p app slot).ordinal app slot p
+closed_shape wish.Nothing false app slot p = freed_shape (terms_at p app slot).ordinal app slot p
 closed_shape wish.Connection was_open app slot p = refl
 closed_shape wish.End was_open app slot p = refl
 closed_shape wish.Ended was_open app slot p = refl
@@ -201,8 +201,8 @@ close_shape p app slot time = by (is_closing (terms_at p app slot).wish)
 
 -- ---- what is answered and delivered
 
-ended_shape : (n : Note) (app : ℕ) (p : PlainPorts) → shape (ended_by n app p).ports ≡ shape p
-ended_shape (note.Closed slot) app p = vacated_shape ((terms_at p app slot).ordinal + 1) app slot p
+ended_shape : (n : Note) (app : ℕ) (p : PlainPorts) → shape (freed_by n app p).ports ≡ shape p
+ended_shape (note.Closed slot) app p = freed_shape ((terms_at p app slot).ordinal + 1) app slot p
 ended_shape note.Bound app p = refl
 ended_shape (note.Connected slot) app p = refl
 ended_shape (note.Refused reason) app p = refl

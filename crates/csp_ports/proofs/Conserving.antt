@@ -20,7 +20,7 @@ use Rattle.csp_ports.specs.Counts.{AreFar}
 use Rattle.csp_ports.specs.Held.{stalled_buffers}
 use Rattle.csp_ports.specs.Keeps.{AreWhole}
 use Rattle.csp_ports.specs.PlainPorts.{PlainPorts, PlainStalled, has_machine, machine_at, stalled_at, terms_at, with_machine, with_machine_or, with_stalled, with_terms}
-use Rattle.csp_ports.specs.Steps.{admitted, changed, closed_by, connected_by, down, dropped, dropped_of, freed, given_up, refused_by, settled, timed, timed_at, timed_in, vacated, went, where_machine}
+use Rattle.csp_ports.specs.Steps.{admitted, changed, closed_by, connected_by, down, dropped, dropped_of, freed, refused_by, settled, timed, timed_at, timed_in, went, where_machine}
 use Rattle.csp_ports.specs.declared.terms.Terms.{Terms}
 use Rattle.csp_ports.specs.declared.terms.Wish.{Wish}
 use Rattle.csp_ports.specs.declared.terms.Wish.TheVariants as wish
@@ -57,12 +57,12 @@ flows_replaced p app slot m whole far empty h = record {
   whole = machine_whole_or p app slot m whole h;
 }
 
--- the slot is vacated
+-- the slot is freed
 conns_far : (n : ℕ) (p : PlainPorts) (app slot : ℕ) → AreFar n p → AreFar n (record p { conns = with_slot p.conns app slot Free })
 conns_far n p app slot h = record { machines = h.machines; made = h.made; ends = h.ends }
 
-flows_vacated : (m ordinal app slot : ℕ) (p : PlainPorts) → ((n : ℕ) → AreFar n p → ordinal ≤ n + m) → AreWhole p → Flows m p (vacated ordinal app slot p).ports (vacated ordinal app slot p).loose []
-flows_vacated m ordinal app slot p one h =
+flows_freed : (m ordinal app slot : ℕ) (p : PlainPorts) → ((n : ℕ) → AreFar n p → ordinal ≤ n + m) → AreWhole p → Flows m p (freed ordinal app slot p).ports (freed ordinal app slot p).loose []
+flows_freed m ordinal app slot p one h =
     let free : PlainPorts = record p { conns = with_slot p.conns app slot Free } in
     let t : Terms = record (terms_at p app slot) { wish = wish.Nothing; is_down = false; ordinal = ordinal } in
     let q : PlainPorts = with_terms free app slot t in
@@ -70,11 +70,11 @@ flows_vacated m ordinal app slot p one h =
     flows_then m 0 m p q (with_machine_or q app slot None) [] (pictures (rdp_buffers (machine_at q app slot))) [] (omega arith) first
     (flows_replaced q app slot None idle_whole (far_idle 0) refl first.whole)
 
-flows_given_up : (app slot : ℕ) (p : PlainPorts) → AreWhole p → Flows 0 p (given_up app slot p).ports (given_up app slot p).loose []
-flows_given_up app slot p h = flows_vacated 0 (terms_at p app slot).ordinal app slot p (λ n k. omega (arith, far_at n p app slot k)) h
+flows_freed_same : (app slot : ℕ) (p : PlainPorts) → AreWhole p → let c = freed (terms_at p app slot).ordinal app slot p in Flows 0 p c.ports c.loose []
+flows_freed_same app slot p h = flows_freed 0 (terms_at p app slot).ordinal app slot p (λ n k. omega (arith, far_at n p app slot k)) h
 
-pub flows_freed : (app slot : ℕ) (p : PlainPorts) → AreWhole p → Flows 1 p (freed app slot p).ports (freed app slot p).loose []
-flows_freed app slot p h = flows_vacated 1 ((terms_at p app slot).ordinal + 1) app slot p (λ n k. omega (arith, far_at n p app slot k)) h
+pub flows_freed_next : (app slot : ℕ) (p : PlainPorts) → AreWhole p → let c = freed ((terms_at p app slot).ordinal + 1) app slot p in Flows 1 p c.ports c.loose []
+flows_freed_next app slot p h = flows_freed 1 ((terms_at p app slot).ordinal + 1) app slot p (λ n k. omega (arith, far_at n p app slot k)) h
 
 -- ---- what a change of a connection comes to
 
@@ -86,19 +86,19 @@ flows_connected wish.Ended app slot p h = flows_none 0 p h
 
 flows_refused : (w : Wish) (why : Cause) (app slot : ℕ) (p : PlainPorts) → AreWhole p → Flows 0 p (refused_by w why app slot p).ports (refused_by w why app slot p).loose []
 flows_refused wish.Connection why app slot p h =
-    let first = flows_given_up app slot p h in
-    let g = (given_up app slot p).ports in
+    let first = flows_freed_same app slot p h in
+    let c = freed (terms_at p app slot).ordinal app slot p in
     let q = (refused_by wish.Connection why app slot p).ports in
-    flows_then 0 0 0 p g q (given_up app slot p).loose [] [] (omega arith) first
-    (flows_still 0 g q refl refl refl (no_further g q (λ n k. record { machines = k.machines; made = k.made; ends = k.ends })) first.whole)
-flows_refused wish.Nothing why app slot p h = flows_given_up app slot p h
-flows_refused wish.End why app slot p h = flows_given_up app slot p h
-flows_refused wish.Ended why app slot p h = flows_given_up app slot p h
+    flows_then 0 0 0 p c.ports q c.loose [] [] (omega arith) first
+    (flows_still 0 c.ports q refl refl refl (no_further c.ports q (λ n k. record { machines = k.machines; made = k.made; ends = k.ends })) first.whole)
+flows_refused wish.Nothing why app slot p h = flows_freed_same app slot p h
+flows_refused wish.End why app slot p h = flows_freed_same app slot p h
+flows_refused wish.Ended why app slot p h = flows_freed_same app slot p h
 
 flows_closed : (w : Wish) (was_open : Bool) (app slot : ℕ) (p : PlainPorts) → AreWhole p → Flows 0 p (closed_by w was_open app slot p).ports (closed_by w was_open app slot p).loose []
 flows_closed wish.End o app slot p h = flows_still 0 p (closed_by wish.End o app slot p).ports refl (machines_of_terms p app slot (record (terms_at p app slot) { wish = wish.Ended })) refl (no_further p (closed_by wish.End o app slot p).ports (λ n k. far_closed n wish.End o p app slot k)) h
 flows_closed wish.Nothing true app slot p h = flows_none 0 p h
-flows_closed wish.Nothing false app slot p h = flows_given_up app slot p h
+flows_closed wish.Nothing false app slot p h = flows_freed_same app slot p h
 flows_closed wish.Connection o app slot p h = flows_none 0 p h
 flows_closed wish.Ended o app slot p h = flows_none 0 p h
 

@@ -9,7 +9,7 @@ use Rattle.csp_ports.proofs.Settling.{by_dropped}
 use Rattle.csp_ports.proofs.Slots.{machine_listed, machines_of_machine, machines_of_terms, terms_listed, terms_of_machine, terms_of_terms}
 use Rattle.csp_ports.specs.Counts.{AreFar}
 use Rattle.csp_ports.specs.PlainPorts.{PlainPorts, PlainStalled, fresh, machine_at, machines_of, terms_at, terms_of, with_machine, with_machine_or, with_terms}
-use Rattle.csp_ports.specs.Steps.{changed, closed_by, connected_by, dropped, given_up, refused_by}
+use Rattle.csp_ports.specs.Steps.{changed, closed_by, connected_by, dropped, freed, refused_by}
 use Rattle.csp_ports.specs.declared.terms.Terms.{Terms}
 use Rattle.csp_ports.specs.declared.terms.Wish.{Wish}
 use Rattle.csp_ports.specs.declared.terms.Wish.TheVariants as wish
@@ -56,8 +56,8 @@ far_idle n = record { admitted = omega arith; delivered = omega arith }
 pub far_machine_at : (n : ℕ) (p : PlainPorts) (app slot : ℕ) → AreFar n p → IsFar n (machine_at p app slot)
 far_machine_at n p app slot h = subst (IsFar n) (sym (machine_listed p app slot)) (all_or (IsFar n) (machines_of p) (place_of app slot) idle h.machines (far_idle n))
 
-pub far_given_up : (n : ℕ) (p : PlainPorts) (app slot : ℕ) → AreFar n p → AreFar n (given_up app slot p).ports
-far_given_up n p app slot h =
+pub far_freed : (n : ℕ) (p : PlainPorts) (app slot : ℕ) → AreFar n p → AreFar n (freed (terms_at p app slot).ordinal app slot p).ports
+far_freed n p app slot h =
     let free : PlainPorts = record p { conns = with_slot p.conns app slot Free } in
     let t : Terms = record (terms_at p app slot) { wish = wish.Nothing; is_down = false } in
     far_machine_or n (with_terms free app slot t) app slot None (far_idle n)
@@ -73,15 +73,15 @@ far_connected n wish.End p app slot h = h
 far_connected n wish.Ended p app slot h = h
 
 far_refused : (n : ℕ) (w : Wish) (why : Cause) (p : PlainPorts) (app slot : ℕ) → AreFar n p → AreFar n (refused_by w why app slot p).ports
-far_refused n wish.Connection why p app slot h = let k = far_given_up n p app slot h in record { machines = k.machines; made = k.made; ends = k.ends }
-far_refused n wish.Nothing why p app slot h = far_given_up n p app slot h
-far_refused n wish.End why p app slot h = far_given_up n p app slot h
-far_refused n wish.Ended why p app slot h = far_given_up n p app slot h
+far_refused n wish.Connection why p app slot h = let k = far_freed n p app slot h in record { machines = k.machines; made = k.made; ends = k.ends }
+far_refused n wish.Nothing why p app slot h = far_freed n p app slot h
+far_refused n wish.End why p app slot h = far_freed n p app slot h
+far_refused n wish.Ended why p app slot h = far_freed n p app slot h
 
 pub far_closed : (n : ℕ) (w : Wish) (was_open : Bool) (p : PlainPorts) (app slot : ℕ) → AreFar n p → AreFar n (closed_by w was_open app slot p).ports
 far_closed n wish.End o p app slot h = let k = far_wish n p app slot wish.Ended h in record { machines = k.machines; made = k.made; ends = k.ends }
 far_closed n wish.Nothing true p app slot h = h
-far_closed n wish.Nothing false p app slot h = far_given_up n p app slot h
+far_closed n wish.Nothing false p app slot h = far_freed n p app slot h
 far_closed n wish.Connection o p app slot h = h
 far_closed n wish.Ended o p app slot h = h
 

@@ -17,14 +17,14 @@ use Rattle.csp_conn.specs.declared.slot.Slot.TheVariants.{Free, Held, Open as Op
 use Rattle.csp_log.specs.declared.note.Note.{Note}
 use Rattle.csp_log.specs.declared.note.Note.TheVariants as note
 use Rattle.csp_log.specs.declared.note.Why.TheVariants as why
-use Rattle.csp_ports.proofs.Conserving.{flows_admitted, flows_dropped, flows_freed, flows_none, flows_replaced, flows_settled, flows_stalled, flows_went, no_further}
+use Rattle.csp_ports.proofs.Conserving.{flows_admitted, flows_dropped, flows_freed_next, flows_none, flows_replaced, flows_settled, flows_stalled, flows_went, no_further}
 use Rattle.csp_ports.proofs.Counting.{far_at, far_terms}
 use Rattle.csp_ports.proofs.Flowing.{Flows, far_later, flows_machine, flows_rested, flows_still, flows_then, keeps_from, machine_later, whole_at}
 use Rattle.csp_ports.proofs.Holding.{terms-without}
 use Rattle.csp_ports.proofs.Slots.{held_terms, machine_none, machine_now, machines_of_terms, taken_machine}
 use Rattle.csp_ports.proofs.Weighing.{tally, tally_append, tally_none, tally_same, weigh, weigh_append, weight}
 use Rattle.csp_ports.proofs.Wholes.{closed_whole, sent_whole}
-use Rattle.csp_ports.specs.Asking.{answered, answered_by, close_by, connect, connect_by, ended, ended_by, ending_in, held_by, is_reliable, joined, linked}
+use Rattle.csp_ports.specs.Asking.{answered, answered_by, close_by, connect, connect_by, ending_in, freed_by, held_by, is_reliable, joined, linked}
 use Rattle.csp_ports.specs.Came.{Came, come, pictures, reporting, then}
 use Rattle.csp_ports.specs.Counts.{AreFar}
 use Rattle.csp_ports.specs.Held.{emptied, emptied_by, first_out, held, slot_buffers, stalled_buffers, without_held}
@@ -32,7 +32,7 @@ use Rattle.csp_ports.specs.Keeps.{AreWhole, Keeps}
 use Rattle.csp_ports.specs.Packets.{accepted, admitting_by, back_by, handing, handing_event, invited, submitting_in}
 use Rattle.csp_ports.specs.PlainPorts.{PlainPorts, PlainStalled, PortsAt, anywhere, has_machine, machine_at, machine_in, machines_of, owing, stalled_at, start_of, terms_at, terms_of, with_machine, with_ports_at, with_stalled, with_terms, wishing}
 use Rattle.csp_ports.specs.declared.terms.SlotState.{SlotState}
-use Rattle.csp_ports.specs.Steps.{changed, dropped, has_room, settled, stepped, went, where_machine}
+use Rattle.csp_ports.specs.Steps.{changed, dropped, ended, has_room, settled, stepped, went, where_machine}
 use Rattle.csp_ports.specs.Tasks.{delivered, kept_again, making, told_down, without_packet}
 use Rattle.csp_ports.specs.declared.handing.Invitation.{Invitation}
 use Rattle.csp_ports.specs.declared.origin.Origin.{Origin}
@@ -317,23 +317,23 @@ flows_ended false p app slot time there h =
     flows_then 0 0 0 p one.ports (ending_in new.state app slot one.ports) one.loose [] [] (omega arith) first (flows_ending new.state app slot one.ports first.whole)
 
 -- by the answer to its close
-flows_ended_by : (what : Note) (app : ℕ) (p : PlainPorts) → AreWhole p → Flows 1 p (ended_by what app p).ports (ended_by what app p).loose []
-flows_ended_by (note.Closed slot) app p h = flows_freed app slot p h
-flows_ended_by note.Bound app p h = flows_none 1 p h
-flows_ended_by (note.Connected slot) app p h = flows_none 1 p h
-flows_ended_by (note.Refused reason) app p h = flows_none 1 p h
-flows_ended_by (note.Down slot) app p h = flows_none 1 p h
-flows_ended_by (note.Bind port need) app p h = flows_none 1 p h
-flows_ended_by (note.Connect slot dest port prio flags from) app p h = flows_none 1 p h
-flows_ended_by (note.Close slot) app p h = flows_none 1 p h
+flows_freed_by : (what : Note) (app : ℕ) (p : PlainPorts) → AreWhole p → Flows 1 p (freed_by what app p).ports (freed_by what app p).loose []
+flows_freed_by (note.Closed slot) app p h = flows_freed_next app slot p h
+flows_freed_by note.Bound app p h = flows_none 1 p h
+flows_freed_by (note.Connected slot) app p h = flows_none 1 p h
+flows_freed_by (note.Refused reason) app p h = flows_none 1 p h
+flows_freed_by (note.Down slot) app p h = flows_none 1 p h
+flows_freed_by (note.Bind port need) app p h = flows_none 1 p h
+flows_freed_by (note.Connect slot dest port prio flags from) app p h = flows_none 1 p h
+flows_freed_by (note.Close slot) app p h = flows_none 1 p h
 
 flows_answered_by : (os : List Owed) (p : PlainPorts) → AreWhole p → Flows 1 p (answered_by os p).ports (answered_by os p).loose []
 flows_answered_by [] p h = flows_none 1 p h
 flows_answered_by (o ∷ os) p h =
     let q : PlainPorts = record p { owed = os } in
     let first = flows_still 0 p q refl refl refl (no_further p q (λ n k. record { machines = k.machines; made = k.made; ends = k.ends })) h in
-    let next = ended_by o.note o.app q in
-    flows_then 0 1 1 p q next.ports [] next.loose [] (omega arith) first (flows_ended_by o.note o.app q first.whole)
+    let next = freed_by o.note o.app q in
+    flows_then 0 1 1 p q next.ports [] next.loose [] (omega arith) first (flows_freed_by o.note o.app q first.whole)
 
 pub flows_answered : (p : PlainPorts) → AreWhole p → Flows 1 p (answered p).ports (answered p).loose []
 flows_answered p h = flows_answered_by p.owed p h

@@ -12,7 +12,7 @@ use Rattle.csp_log.specs.declared.note.Note.TheVariants as note
 use Rattle.csp_log.specs.declared.note.Why.TheVariants as why
 use Rattle.csp_ports.specs.Came.{Came, come, then, reporting}
 use Rattle.csp_ports.specs.PlainPorts.{PlainPorts, begun, has_machine, is_closing, machine_at, owing, start_of, terms_at, wishing}
-use Rattle.csp_ports.specs.Steps.{freed, replaced, stepped, where_machine}
+use Rattle.csp_ports.specs.Steps.{ended, freed, replaced, stepped, where_machine}
 use Rattle.csp_ports.specs.declared.origin.Origin.{Origin}
 use Rattle.csp_ports.specs.declared.owed.Owed.{Owed}
 use Rattle.csp_ports.specs.declared.request.Request.{Request}
@@ -73,10 +73,6 @@ abbrev pub held_by : (is_free : Bool) → PlainPorts → (app slot : ℕ) → Pl
 held_by true p app slot = record p { conns = with_slot p.conns app slot Held }
 held_by false p app slot = p
 
--- the answer to the close is owed at once, where no reliable connection has to end before
-abbrev pub ended : (app slot : ℕ) → PlainPorts → PlainPorts
-ended app slot p = owing (wishing p app slot wish.Ended) app (note.Closed slot)
-
 -- the close, by the state of the reliable connection after it: it is closed, as where the slot has none; or it has to end before
 abbrev pub ending_in : State → (app slot : ℕ) → PlainPorts → PlainPorts
 ending_in Closed app slot p = ended app slot p
@@ -96,14 +92,14 @@ close p app slot time = close_by (is_closing (terms_at p app slot).wish) p app s
 -- ---- what the push of an answer does
 
 -- the answer to a close frees the slot
-abbrev pub ended_by : Note → (app : ℕ) → PlainPorts → Came
-ended_by (note.Closed slot) app p = freed app slot p
-ended_by _ app p = come p
+abbrev pub freed_by : Note → (app : ℕ) → PlainPorts → Came
+freed_by (note.Closed slot) app p = freed ((terms_at p app slot).ordinal + 1) app slot p
+freed_by _ app p = come p
 
 -- the first answer that was owed is pushed
 abbrev pub answered_by : List Owed → PlainPorts → Came
 answered_by [] p = come p
-answered_by (o ∷ os) p = ended_by o.note o.app (record p { owed = os })
+answered_by (o ∷ os) p = freed_by o.note o.app (record p { owed = os })
 
 -- the answer that is owed first was pushed
 abbrev pub answered : PlainPorts → Came

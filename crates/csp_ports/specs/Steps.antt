@@ -1,5 +1,5 @@
 -- what follows when the machine of a slot's reliable connection has made a step
-use Rattle.std.specs.Prelude.{ℕ, ◌+◌, ◌*◌, ◌/◌, ◌%◌, ◌&&◌, not, Bool, true, false, cond, Option, None, Some, unwrap_or, List, [], ◌∷◌}
+use Rattle.std.specs.Prelude.{ℕ, ◌*◌, ◌/◌, ◌%◌, ◌&&◌, not, Bool, true, false, cond, Option, None, Some, unwrap_or, List, [], ◌∷◌}
 use Rattle.std.specs.List.{range_with_len}
 use Rattle.std.specs.Option.{option_map}
 use Rattle.csp_conn.specs.PlainConns.{with_slot}
@@ -39,19 +39,12 @@ stepped app slot r p = record { ports = with_machine p app slot (rested r); loos
 abbrev pub replaced : (app slot : ℕ) → Option PlainRdp → PlainPorts → Came
 replaced app slot machine p = record { ports = with_machine_or p app slot machine; loose = pictures (rdp_buffers (machine_at p app slot)); events = [] }
 
--- the slot is free, has no reliable connection, owes nothing any more, and its next connection is of this ordinal
-abbrev pub vacated : (ordinal app slot : ℕ) → PlainPorts → Came
-vacated ordinal app slot p =
+-- the slot is free, has no reliable connection, owes nothing any more, and its next connection is of this ordinal:
+-- by the answer to a close the next in order, and else the same, since this one never was open
+abbrev pub freed : (ordinal app slot : ℕ) → PlainPorts → Came
+freed ordinal app slot p =
     replaced app slot None
     (with_terms (record p { conns = with_slot p.conns app slot Free }) app slot (record (terms_at p app slot) { wish = wish.Nothing; is_down = false; ordinal = ordinal }))
-
--- without an answer to a close: the next is of the same ordinal, since this one never was open
-abbrev pub given_up : (app slot : ℕ) → PlainPorts → Came
-given_up app slot p = vacated (terms_at p app slot).ordinal app slot p
-
--- by the answer to a close: the next is the next in order
-abbrev pub freed : (app slot : ℕ) → PlainPorts → Came
-freed app slot p = vacated ((terms_at p app slot).ordinal + 1) app slot p
 
 -- the application that waited for its connection is told that it is open
 abbrev pub connected_by : Wish → (app slot : ℕ) → PlainPorts → PlainPorts
@@ -69,9 +62,9 @@ reason_of machine_why.Reset = reason.Reset
 
 -- a connection that was asked for is refused: its slot is free, and the application that waited is told so
 abbrev pub refused_by : Wish → MachineWhy → (app slot : ℕ) → PlainPorts → Came
-refused_by wish.Connection why app slot p = then (given_up app slot p) (λ p. come (owing p app (note.Refused (reason_of why))))
+refused_by wish.Connection why app slot p = then (freed (terms_at p app slot).ordinal app slot p) (λ p. come (owing p app (note.Refused (reason_of why))))
 -- the others never come: only an opening that an application asked for and waits for is refused
-refused_by _ why app slot p = given_up app slot p
+refused_by _ why app slot p = freed (terms_at p app slot).ordinal app slot p
 
 -- a slot's connection is refused: the application that waits is owed the reason, and the slot is free
 abbrev pub refused : MachineWhy → (app slot : ℕ) → PlainPorts → Came
@@ -81,12 +74,16 @@ refused why app slot p = refused_by (terms_at p app slot).wish why app slot p
 abbrev pub down : (app slot : ℕ) → PlainPorts → PlainPorts
 down app slot p = with_terms p app slot (record (terms_at p app slot) { is_down = true })
 
+-- the application that asked for the end of a slot's connection is owed that it is closed
+abbrev pub ended : (app slot : ℕ) → PlainPorts → PlainPorts
+ended app slot p = owing (wishing p app slot wish.Ended) app (note.Closed slot)
+
 -- the connection is closed: the application that asked for that is told so; else a slot whose connection was open stays in
 -- use, and that of one that never was is free
 abbrev pub closed_by : Wish → (was_open : Bool) → (app slot : ℕ) → PlainPorts → Came
-closed_by wish.End was_open app slot p = come (owing (wishing p app slot wish.Ended) app (note.Closed slot))
+closed_by wish.End was_open app slot p = come (ended app slot p)
 closed_by wish.Nothing true app slot p = come p
-closed_by wish.Nothing false app slot p = given_up app slot p
+closed_by wish.Nothing false app slot p = freed (terms_at p app slot).ordinal app slot p
 -- the other two never come: what ends while its opening is waited for is refused, and what was told closed is not closed again
 closed_by _ was_open app slot p = come p
 

@@ -4,7 +4,7 @@ ghost use Rattle.std.specs.Prelude.{◌≡◌, ◌+◌, ◌<◌, ◌≤◌, ℕ,
 ghost use Rattle.csp_conn.specs.PlainConns.{IsThere, slot_at};
 ghost use Rattle.csp_conn.specs.Slots.{is_free};
 ghost use Rattle.csp_deck.specs.Carried.{IsReply};
-ghost use Rattle.csp_ports.specs.Asking.{answered, bind, close, connect, ended_by, ending_in, held_by, is_reliable};
+ghost use Rattle.csp_ports.specs.Asking.{answered, bind, close, connect, ending_in, freed_by, held_by, is_reliable};
 ghost use Rattle.csp_deck.specs.Keeping.{with_contents};
 ghost use Rattle.csp_deck.specs.Regions.{nowhere};
 ghost use Rattle.csp_log.specs.declared.event.TheConstants.{MAX_EVENTS};
@@ -224,23 +224,23 @@ impl Ports {
         ensures keeps { Keeps 1 self.old.ports self.new.ports trash.old.contents trash.new.contents [] }
     {
         if let Some(Owed { app, note }) = self.owed.pop_front() {
-            self.end_by(app, note, trash);
+            self.free_by(app, note, trash);
         }
     }
 
     /// What an answer does when it is pushed.
-    fn end_by(&mut self, app: u8, note: Note, trash: &mut Pile)
+    fn free_by(&mut self, app: u8, note: Note, trash: &mut Pile)
         requires app { app < self.old.ports.conns.apps }
         requires reply { IsReply note }
         requires countable { IsCountable self.old.ports }
         requires roomy { IsRoomy 0 self.old trash.old }
-        ensures comes { Comes self.old self.new trash.old trash.new [] [] (ended_by note app self.old.ports) }
+        ensures comes { Comes self.old self.new trash.old trash.new [] [] (freed_by note app self.old.ports) }
         ensures apps { self.new.ports.conns.apps ≡ self.old.ports.conns.apps }
     {
         match note {
             Note::Closed { slot } => {
                 let terms = self.terms(app, slot);
-                self.vacate(app, slot, terms.ordinal + 1, trash);
+                self.free_as(app, slot, terms.ordinal + 1, trash);
             }
             Note::Bound | Note::Connected { .. } | Note::Refused { .. } | Note::Down { .. } => {}
             Note::Bind { .. } | Note::Connect { .. } | Note::Close { .. } => {}

@@ -14,7 +14,7 @@ ghost use Rattle.csp_ports.specs.Held.{held, stalled_buffers};
 ghost use Rattle.csp_ports.specs.Keeps.{Keeps};
 ghost use Rattle.csp_ports.specs.Kept.{Admits, AdmitsIn, IsHoused, IsRoomy, IsWaiting, stalled_of, wished, wishes};
 ghost use Rattle.csp_ports.specs.PlainPorts.{anywhere, machine_at, stalled_at, terms_at, terms_of, with_stalled, with_ports_at};
-ghost use Rattle.csp_ports.specs.Steps.{changed, closed, connected, dropped, dropped_of, given_up, has_room, reason_of, refused, replaced, settled, timed, timed_at, timed_in, vacated};
+ghost use Rattle.csp_ports.specs.Steps.{changed, closed, connected, dropped, dropped_of, freed, has_room, reason_of, refused, replaced, settled, timed, timed_at, timed_in};
 ghost use Rattle.csp_ports.specs.Counts.{IsCountable};
 ghost use Rattle.csp_rdp.specs.Balance.{IsWhole};
 ghost use Rattle.csp_rdp.specs.Changes.{change_between};
@@ -283,7 +283,7 @@ impl Ports {
         ensures apps { self.new.ports.conns.apps ≡ self.old.ports.conns.apps }
     {
         let waits = self.terms(app, slot).wish == Wish::Connection;
-        self.give_up(app, slot, trash);
+        self.free(app, slot, trash);
         if waits {
             self.owe(
                 app,
@@ -313,30 +313,30 @@ impl Ports {
             }
             Wish::Nothing => match self.machine(app, slot) {
                 Some(machine) if machine.was_open() => {}
-                _ => self.give_up(app, slot, trash),
+                _ => self.free(app, slot, trash),
             },
             Wish::Connection | Wish::Ended => {}
         }
     }
 
     /// A slot is free without an answer to a close.
-    fn give_up(&mut self, app: u8, slot: u8, trash: &mut Pile)
+    fn free(&mut self, app: u8, slot: u8, trash: &mut Pile)
         requires there { IsThere self.old.ports.conns app slot }
         requires roomy { IsRoomy 0 self.old trash.old }
-        ensures comes { Comes self.old self.new trash.old trash.new [] [] (given_up app slot self.old.ports) }
+        ensures comes { Comes self.old self.new trash.old trash.new [] [] (freed (terms_at self.old.ports app slot).ordinal app slot self.old.ports) }
         ensures wishes { wishes app (terms_of self.new.ports) + wished (terms_at self.old.ports app slot).wish ≡ wishes app (terms_of self.old.ports) }
         ensures roomy { IsRoomy 0 self.new trash.new }
         ensures apps { self.new.ports.conns.apps ≡ self.old.ports.conns.apps }
     {
         let terms = self.terms(app, slot);
-        self.vacate(app, slot, terms.ordinal, trash);
+        self.free_as(app, slot, terms.ordinal, trash);
     }
 
     /// A slot is free, and its next connection is of this ordinal.
-    pub(crate) fn vacate(&mut self, app: u8, slot: u8, ordinal: u32, trash: &mut Pile)
+    pub(crate) fn free_as(&mut self, app: u8, slot: u8, ordinal: u32, trash: &mut Pile)
         requires there { IsThere self.old.ports.conns app slot }
         requires roomy { IsRoomy 0 self.old trash.old }
-        ensures comes { Comes self.old self.new trash.old trash.new [] [] (vacated ordinal app slot self.old.ports) }
+        ensures comes { Comes self.old self.new trash.old trash.new [] [] (freed ordinal app slot self.old.ports) }
         ensures wishes { wishes app (terms_of self.new.ports) + wished (terms_at self.old.ports app slot).wish ≡ wishes app (terms_of self.old.ports) }
         ensures roomy { IsRoomy 0 self.new trash.new }
         ensures apps { self.new.ports.conns.apps ≡ self.old.ports.conns.apps }

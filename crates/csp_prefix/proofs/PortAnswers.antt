@@ -6,7 +6,7 @@ use Rattle.std.proofs.lemmas.List.Sums.{sum_by-cons}
 use Rattle.csp_base.specs.declared.limits.TheConstants.{SLOTS}
 use Rattle.csp_log.specs.declared.note.Note.{Note}
 use Rattle.csp_log.specs.declared.note.Note.TheVariants as note
-use Rattle.csp_ports.specs.Asking.{answered, answered_by, ended_by}
+use Rattle.csp_ports.specs.Asking.{answered, answered_by, freed_by}
 use Rattle.csp_ports.specs.Kept.{IsOwed}
 use Rattle.csp_ports.specs.PlainPorts.{PlainPorts, terms_at}
 use Rattle.csp_ports.specs.Steps.{freed}
@@ -15,7 +15,7 @@ use Rattle.csp_ports.specs.declared.terms.Wish.{Wish}
 use Rattle.csp_ports.specs.declared.terms.Wish.TheVariants as wish
 use Rattle.csp_rdp.specs.declared.answers.State.{State}
 use Rattle.csp_rdp.specs.declared.answers.State.TheVariants.{Closed, Open}
-use Rattle.csp_prefix.proofs.PortChanges.{vacant_fine, vacated_but}
+use Rattle.csp_prefix.proofs.PortChanges.{freed_but, vacant_fine}
 use Rattle.csp_prefix.proofs.PortFacts.{All, fine_of, good_of}
 use Rattle.csp_prefix.proofs.PortSlots.{AreFineBut, IsFine, IsQuiet, IsShaped, and_false, book_but, ordinal_but, reshaped, whole}
 use Rattle.csp_prefix.proofs.PortViews.{alike, ordinal_same, unlike, view}
@@ -65,7 +65,7 @@ module _ {Is : Numbering → ℕ → ℕ → Now → Type 0} {m : Numbering} {or
 
 -- that to a close frees its slot
 module _ {Is : Numbering → ℕ → ℕ → Now → Type 0} {m : Numbering} {ordinals : Ordinals} {books : Books} {p : PlainPorts} (g : AreGood Is m ordinals books p) (app slot : ℕ) (rest : List Owed) (e : p.owed ≡ record { app = app; note = note.Closed slot } ∷ rest) where
-  freed_good : AreGood Is m (with_ordinal app slot (ordinals app slot + 1) ordinals) (with_book app slot blank books) (freed app slot (left g app (note.Closed slot) rest e)).ports
+  freed_good : AreGood Is m (with_ordinal app slot (ordinals app slot + 1) ordinals) (with_book app slot blank books) (freed ((terms_at p app slot).ordinal + 1) app slot (left g app (note.Closed slot) rest e)).ports
   freed_good =
       let q = left g app (note.Closed slot) rest e in
       let first : IsOwed p.conns.apps (record { app = app; note = note.Closed slot }) = (owed_all g app (note.Closed slot) rest e).0 in
@@ -84,10 +84,10 @@ module _ {Is : Numbering → ℕ → ℕ → Now → Type 0} {m : Numbering} {or
       let waits : x.waits ≡ None = none_of x.waits x.machine.state (g.over app slot first.app first.reply over.0) (((fine_of g).slots app slot first.app first.reply).waits tt) in
       let there = book_but (ordinal_but h (ordinals app slot + 1)) blank in
       good_of
-      (whole (vacated_but there k) (vacant_fine there k (ap (λ (k : ℕ). k + 1) (g.counted app slot first.app first.reply) ∙ sym (ordinal_same app slot (ordinals app slot + 1) ordinals)) waits refl over.1))
+      (whole (freed_but there k) (vacant_fine there k (ap (λ (k : ℕ). k + 1) (g.counted app slot first.app first.reply) ∙ sym (ordinal_same app slot (ordinals app slot + 1) ordinals)) waits refl over.1))
 
 module _ {Is : Numbering → ℕ → ℕ → Now → Type 0} {m : Numbering} {ordinals : Ordinals} {books : Books} {p : PlainPorts} (g : AreGood Is m ordinals books p) where
-  answer_on : (app : ℕ) (answer : Note) (rest : List Owed) → p.owed ≡ record { app = app; note = answer } ∷ rest → Answers Is m ordinals books p.conns.apps (record { app = app; note = answer }) (ended_by answer app (record p { owed = rest }))
+  answer_on : (app : ℕ) (answer : Note) (rest : List Owed) → p.owed ≡ record { app = app; note = answer } ∷ rest → Answers Is m ordinals books p.conns.apps (record { app = app; note = answer }) (freed_by answer app (record p { owed = rest }))
   answer_on app (note.Closed slot) rest e = record { same = refl; quiet = refl; good = freed_good g app slot rest e }
   answer_on app note.Bound rest e = record { same = refl; quiet = refl; good = left_good g app note.Bound rest e (λ s. refl) }
   answer_on app (note.Connected slot) rest e = record { same = refl; quiet = refl; good = left_good g app (note.Connected slot) rest e (λ s. refl) }

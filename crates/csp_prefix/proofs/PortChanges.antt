@@ -7,7 +7,7 @@ use Rattle.csp_log.specs.declared.note.Note.TheVariants as note
 use Rattle.csp_ports.specs.Asking.{is_reliable}
 use Rattle.csp_ports.specs.Came.{come}
 use Rattle.csp_ports.specs.PlainPorts.{PlainPorts, terms_at, with_machine}
-use Rattle.csp_ports.specs.Steps.{changed, closed_by, connected_by, given_up, reason_of, refused_by, vacated, went}
+use Rattle.csp_ports.specs.Steps.{changed, closed_by, connected_by, freed, reason_of, refused_by, went}
 use Rattle.csp_ports.specs.declared.origin.Origin.{Origin}
 use Rattle.csp_ports.specs.declared.terms.Wish.{Wish}
 use Rattle.csp_ports.specs.declared.terms.Wish.TheVariants as wish
@@ -75,9 +75,9 @@ module _ {Is : Numbering → ℕ → ℕ → Now → Type 0} {Tight : ℕ → Ty
   pub at_view : AreFineBut Is Tight m ordinals books p app slot (view p books app slot)
   at_view = record { shape = h.shape; here = h.here; there = h.there; seen = refl; others = h.others }
 
-  pub vacated_but : (k : ℕ) → AreFineBut Is Tight m ordinals books (vacated k app slot p).ports app slot (vacant k v)
-  vacated_but k =
-      subst (λ (v : View). AreFineBut Is Tight m ordinals books (vacated k app slot p).ports app slot (vacant k v)) h.seen
+  pub freed_but : (k : ℕ) → AreFineBut Is Tight m ordinals books (freed k app slot p).ports app slot (vacant k v)
+  freed_but k =
+      subst (λ (v : View). AreFineBut Is Tight m ordinals books (freed k app slot p).ports app slot (vacant k v)) h.seen
       (machine_or_but (terms_but (slot_but at_view has.Free p.conns.last) (record (terms_at p app slot) { wish = wish.Nothing; is_down = false; ordinal = k })) None)
 
   pub vacant_fine : (k : ℕ) → k ≡ ordinals app slot → v.waits ≡ None → v.book ≡ blank → v.ends ≡ 0 → IsFine Is Tight m (ordinals app slot) app slot (vacant k v)
@@ -92,18 +92,18 @@ module _ {Is : Numbering → ℕ → ℕ → Now → Type 0} {Tight : ℕ → Ty
   ordinal_seen : v.terms.ordinal ≡ ordinals app slot → (terms_at p app slot).ordinal ≡ ordinals app slot
   ordinal_seen e = ap (λ (v : View). v.terms.ordinal) h.seen ∙ e
 
-  pub given_up_leaves : v.terms.ordinal ≡ ordinals app slot → v.waits ≡ None → v.book ≡ blank → v.ends ≡ 0 → Leaves Is Tight m ordinals books p.conns.apps (given_up app slot p)
-  given_up_leaves counted waits book ends =
+  pub freed_leaves : v.terms.ordinal ≡ ordinals app slot → v.waits ≡ None → v.book ≡ blank → v.ends ≡ 0 → Leaves Is Tight m ordinals books p.conns.apps (freed (terms_at p app slot).ordinal app slot p)
+  freed_leaves counted waits book ends =
       let k = (terms_at p app slot).ordinal in
-      record { same = refl; new = tt; fine = whole (vacated_but k) (vacant_fine k (ordinal_seen counted) waits book ends) }
+      record { same = refl; new = tt; fine = whole (freed_but k) (vacant_fine k (ordinal_seen counted) waits book ends) }
 
   pub refused_leaves : (w : Wish) (why : MachineWhy) → v.terms.ordinal ≡ ordinals app slot → v.waits ≡ None → v.book ≡ blank → v.ends ≡ 0 → Leaves Is Tight m ordinals books p.conns.apps (refused_by w why app slot p)
   refused_leaves wish.Connection why counted waits book ends =
       let k = (terms_at p app slot).ordinal in
-      record { same = refl; new = tt; fine = whole (owing_but (vacated_but k) app (note.Refused (reason_of why)) h.here tt (λ s. refl)) (vacant_fine k (ordinal_seen counted) waits book ends) }
-  refused_leaves wish.Nothing why counted waits book ends = given_up_leaves counted waits book ends
-  refused_leaves wish.End why counted waits book ends = given_up_leaves counted waits book ends
-  refused_leaves wish.Ended why counted waits book ends = given_up_leaves counted waits book ends
+      record { same = refl; new = tt; fine = whole (owing_but (freed_but k) app (note.Refused (reason_of why)) h.here tt (λ s. refl)) (vacant_fine k (ordinal_seen counted) waits book ends) }
+  refused_leaves wish.Nothing why counted waits book ends = freed_leaves counted waits book ends
+  refused_leaves wish.End why counted waits book ends = freed_leaves counted waits book ends
+  refused_leaves wish.Ended why counted waits book ends = freed_leaves counted waits book ends
 
   -- ---- changes
 
@@ -133,7 +133,7 @@ module _ {Is : Numbering → ℕ → ℕ → Now → Type 0} {Tight : ℕ → Ty
             (use_fine {v = record x { terms = record x.terms { wish = wish.Ended }; ends = x.ends + 1 }} (λ t. absurd (loose t)) (use_wish {v = x} wish.Ended (x.ends + 1) ends (λ _. over) u));
       }
   closed_on wish.Nothing true e f loose over u never = rest_leaves (at_view h) loose u
-  closed_on wish.Nothing false e f loose over u never = given_up_leaves (at_view h) u.counted (never f).1 (never f).0 (u.ends ∙ ap ends_due e)
+  closed_on wish.Nothing false e f loose over u never = freed_leaves (at_view h) u.counted (never f).1 (never f).0 (u.ends ∙ ap ends_due e)
   closed_on wish.Connection b e f loose over u never = rest_leaves (at_view h) loose u
   closed_on wish.Ended b e f loose over u never = rest_leaves (at_view h) loose u
 

@@ -32,7 +32,7 @@ use Rattle.csp_log.specs.declared.shown.ItemShown.{ItemShown}
 use Rattle.csp_log.specs.declared.shown.ItemShown.TheVariants as item
 use Rattle.csp_log.specs.declared.shown.OpShown.{OpShown}
 use Rattle.csp_log.specs.declared.shown.OpShown.TheVariants as op
-use Rattle.csp_ports.specs.Asking.{answered_by, close_by, connect_by, ended_by, ending_in, held_by, is_reliable, joined}
+use Rattle.csp_ports.specs.Asking.{answered_by, close_by, connect_by, ending_in, freed_by, held_by, is_reliable, joined}
 use Rattle.csp_ports.proofs.Public.{by_dropped}
 use Rattle.csp_ports.specs.Came.{Came, come, then as and_then}
 use Rattle.csp_ports.specs.Packets.{back_by, handing, handing_event, submitting_in}
@@ -321,7 +321,7 @@ served_calm f s time app (item.Note n) = requested_calm f s app time n
 served_calm f s time app (item.Frame frame) = tt
 
 -- an answer was pushed
-ended_calm : (n : Note) (app : ℕ) (p : PlainPorts) → AreCalm (ended_by n app p).events
+ended_calm : (n : Note) (app : ℕ) (p : PlainPorts) → AreCalm (freed_by n app p).events
 ended_calm (note.Closed slot) app p = tt
 ended_calm _ app p = tt
 

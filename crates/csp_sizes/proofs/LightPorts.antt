@@ -17,11 +17,11 @@ use Rattle.csp_log.specs.declared.event.Discard.TheVariants as why
 use Rattle.csp_log.specs.declared.note.Note.TheVariants as note
 use Rattle.csp_log.specs.declared.note.Note.{Note}
 use Rattle.csp_ports.proofs.Public.{all_or, by_dropped, by_settled, machine_listed, machines_of_machine, machines_of_terms}
-use Rattle.csp_ports.specs.Asking.{is_reliable, answered, answered_by, close, close_by, connect, connect_by, ended_by, ending_in, held_by, joined, linked}
+use Rattle.csp_ports.specs.Asking.{is_reliable, answered, answered_by, close, close_by, connect, connect_by, ending_in, freed_by, held_by, joined, linked}
 use Rattle.csp_ports.specs.Came.{Came, come, discarding, pictures, then}
 use Rattle.csp_ports.specs.Packets.{accepted, admitting_by, back_by, handing, invited, submitting, submitting_in}
 use Rattle.csp_ports.specs.PlainPorts.{PlainPorts, PlainStalled, anywhere, has_machine, machine_at, machine_in, machines_of, ports_of, stalled_at, start_of, state_at, terms_at, untouched, wishing, with_machine, with_machine_or, with_stalled, with_terms, is_closing}
-use Rattle.csp_ports.specs.Steps.{changed, closed_by, connected_by, dropped, dropped_of, freed, given_up, has_room, refused, refused_by, settled, stepped, timed, timed_at, timed_in, vacated, went, where_machine}
+use Rattle.csp_ports.specs.Steps.{changed, closed_by, connected_by, dropped, dropped_of, freed, has_room, refused, refused_by, settled, stepped, timed, timed_at, timed_in, went, where_machine}
 use Rattle.csp_ports.specs.Tasks.{delivered, kept_again, made_in, making, told_down, without_packet}
 use Rattle.csp_ports.specs.declared.handing.Invitation.{Invitation}
 use Rattle.csp_ports.specs.declared.origin.Origin.{Origin}
@@ -107,17 +107,11 @@ stepped_light app slot r p one h = record { ports = with_machine_light p app slo
 let_go : (app slot : ℕ) (p : PlainPorts) → ArePorts p → All IsLight (pictures (rdp_buffers (machine_at p app slot)))
 let_go app slot p h = held_light (machine_at p app slot) (machine_light p app slot h).sized
 
-vacated_light : (ordinal app slot : ℕ) (p : PlainPorts) → ArePorts p → Comes (vacated ordinal app slot p)
-vacated_light ordinal app slot p h =
+freed_light : (ordinal app slot : ℕ) (p : PlainPorts) → ArePorts p → Comes (freed ordinal app slot p)
+freed_light ordinal app slot p h =
     let q : PlainPorts = with_terms (record p { conns = with_slot p.conns app slot Free }) app slot (record (terms_at p app slot) { wish = wish.Nothing; is_down = false; ordinal = ordinal }) in
     let g : ArePorts q = with_terms_light (record p { conns = with_slot p.conns app slot Free }) app slot (record (terms_at p app slot) { wish = wish.Nothing; is_down = false; ordinal = ordinal }) h in
     record { ports = with_machine_or_light q app slot None idle_light g; loose = let_go app slot q g }
-
-given_up_light : (app slot : ℕ) (p : PlainPorts) → ArePorts p → Comes (given_up app slot p)
-given_up_light app slot p h = vacated_light (terms_at p app slot).ordinal app slot p h
-
-freed_light : (app slot : ℕ) (p : PlainPorts) → ArePorts p → Comes (freed app slot p)
-freed_light app slot p h = vacated_light ((terms_at p app slot).ordinal + 1) app slot p h
 
 connected_light : (w : Wish) (app slot : ℕ) (p : PlainPorts) → ArePorts p → ArePorts (connected_by w app slot p)
 connected_light wish.Connection app slot p h = wishing_light p app slot wish.Nothing h
@@ -126,15 +120,15 @@ connected_light wish.End app slot p h = h
 connected_light wish.Ended app slot p h = h
 
 refused_light : (w : Wish) (why : Cause) (app slot : ℕ) (p : PlainPorts) → ArePorts p → Comes (refused_by w why app slot p)
-refused_light wish.Connection why app slot p h = let c = given_up_light app slot p h in record { ports = c.ports; loose = All-append IsLight (given_up app slot p).loose [] c.loose (All-nil IsLight) }
-refused_light wish.Nothing why app slot p h = given_up_light app slot p h
-refused_light wish.End why app slot p h = given_up_light app slot p h
-refused_light wish.Ended why app slot p h = given_up_light app slot p h
+refused_light wish.Connection why app slot p h = let c = freed_light (terms_at p app slot).ordinal app slot p h in record { ports = c.ports; loose = All-append IsLight (freed (terms_at p app slot).ordinal app slot p).loose [] c.loose (All-nil IsLight) }
+refused_light wish.Nothing why app slot p h = freed_light (terms_at p app slot).ordinal app slot p h
+refused_light wish.End why app slot p h = freed_light (terms_at p app slot).ordinal app slot p h
+refused_light wish.Ended why app slot p h = freed_light (terms_at p app slot).ordinal app slot p h
 
 closed_light : (w : Wish) (was_open : Bool) (app slot : ℕ) (p : PlainPorts) → ArePorts p → Comes (closed_by w was_open app slot p)
 closed_light wish.End was_open app slot p h = record { ports = wishing_light p app slot wish.Ended h; loose = All-nil IsLight }
 closed_light wish.Nothing true app slot p h = record { ports = h; loose = All-nil IsLight }
-closed_light wish.Nothing false app slot p h = given_up_light app slot p h
+closed_light wish.Nothing false app slot p h = freed_light (terms_at p app slot).ordinal app slot p h
 closed_light wish.Connection was_open app slot p h = record { ports = h; loose = All-nil IsLight }
 closed_light wish.Ended was_open app slot p h = record { ports = h; loose = All-nil IsLight }
 
@@ -297,19 +291,19 @@ close_by_light false p app slot time h =
 pub close_light : (p : PlainPorts) (app slot time : ℕ) → ArePorts p → Comes (close p app slot time)
 close_light p app slot time h = close_by_light (is_closing (terms_at p app slot).wish) p app slot time h
 
-ended_by_light : (n : Note) (app : ℕ) (p : PlainPorts) → ArePorts p → Comes (ended_by n app p)
-ended_by_light (note.Closed slot) app p h = freed_light app slot p h
-ended_by_light note.Bound app p h = comes_come p h
-ended_by_light (note.Connected slot) app p h = comes_come p h
-ended_by_light (note.Refused reason) app p h = comes_come p h
-ended_by_light (note.Down slot) app p h = comes_come p h
-ended_by_light (note.Bind port need) app p h = comes_come p h
-ended_by_light (note.Connect slot dest port prio flags from) app p h = comes_come p h
-ended_by_light (note.Close slot) app p h = comes_come p h
+freed_by_light : (n : Note) (app : ℕ) (p : PlainPorts) → ArePorts p → Comes (freed_by n app p)
+freed_by_light (note.Closed slot) app p h = freed_light ((terms_at p app slot).ordinal + 1) app slot p h
+freed_by_light note.Bound app p h = comes_come p h
+freed_by_light (note.Connected slot) app p h = comes_come p h
+freed_by_light (note.Refused reason) app p h = comes_come p h
+freed_by_light (note.Down slot) app p h = comes_come p h
+freed_by_light (note.Bind port need) app p h = comes_come p h
+freed_by_light (note.Connect slot dest port prio flags from) app p h = comes_come p h
+freed_by_light (note.Close slot) app p h = comes_come p h
 
 answered_by_light : (os : List Owed) (p : PlainPorts) → ArePorts p → Comes (answered_by os p)
 answered_by_light [] p h = comes_come p h
-answered_by_light (o ∷ os) p h = ended_by_light o.note o.app (record p { owed = os }) h
+answered_by_light (o ∷ os) p h = freed_by_light o.note o.app (record p { owed = os }) h
 
 pub answered_light : (p : PlainPorts) → ArePorts p → Comes (answered p)
 answered_light p h = answered_by_light p.owed p h

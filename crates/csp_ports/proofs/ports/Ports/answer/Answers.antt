@@ -32,5 +32,5 @@ returns-in-Some-clause-comes c = search rules
 
 pub returns-in-Some-clause-keeps : goal.returns-in-Some-clause-keeps
 returns-in-Some-clause-keeps c =
-    keeps_of 1 c.args.self.now c.end_by.new.self c.args.trash.now c.end_by.new.trash [] [] (answered c.args.self.now.ports) []
+    keeps_of 1 c.args.self.now c.free_by.new.self c.args.trash.now c.free_by.new.trash [] [] (answered c.args.self.now.ports) []
     (returns-in-Some-clause-comes c) (flows_answered c.args.self.now.ports (whole_seen c.self.inside c.args.self.now c.self.view_is c.self.invariant))

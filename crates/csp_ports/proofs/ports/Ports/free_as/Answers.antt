@@ -3,7 +3,7 @@ use Rattle.std.specs.Prelude.{None}
 use Rattle.csp_ports.proofs.Slots.{terms_of_machine}
 use Rattle.csp_ports.specs.Kept.{wished, wishes}
 use Rattle.csp_ports.specs.PlainPorts.{PortsAt, terms_at, terms_of}
-use Rattle.csp_ports.proofs.ports.Ports.vacate.Goals as goal
+use Rattle.csp_ports.proofs.ports.Ports.free_as.Goals as goal
 
 pub returns-clause-wishes : goal.returns-clause-wishes
 returns-clause-wishes c =
