@@ -1,4 +1,5 @@
 pub mod Priority
+pub mod Seat
 pub mod Sequence
 pub mod Trace
 pub mod Faults
