@@ -21,11 +21,12 @@ use Rattle.csp_log.specs.declared.who.Who.{Who}
 use Rattle.csp_log.specs.declared.who.Who.TheVariants as who
 use Rattle.csp_scene.specs.Links.{links_at}
 use Rattle.csp_scene.specs.Scene.{PlainLink, PlainNode, PlainScene}
-use Rattle.csp_standing.proofs.Public.{Apart, Hubs, Led, home_in, hub_at, hub_leads, hub_place_of, leads_hub, node_in, IsAt, home_named, post_at, post_of}
-use Rattle.csp_standing.specs.Network.{IsHomeIn, IsNetworkOf, IsPostOf, PlainNetwork, leads, mark_for}
+use Rattle.csp_standing.proofs.Public.{Apart, Hubs, Led, home_in, hub_at, hub_leads, hub_place_of, node_in, IsAt, home_named, post_at, post_of}
+use Rattle.csp_standing.specs.Network.{IsHomeIn, IsNetworkOf, IsPostOf, PlainNetwork}
 use Rattle.csp_topology.specs.Lanes.{leader_of}
 use Rattle.csp_topology.specs.Parties.{PlainOpening, apps_from, leader_by, ifaces_from, links_from, parties_at, parties_from, parties_of}
-use Rattle.csp_topology.specs.Wired.{IsLed, Stands}
+use Rattle.csp_topology.specs.Wired.{IsLed, Stands, is_leader}
+use Rattle.csp_topology.specs.Writers.{mark_for}
 
 -- a party of this name
 abbrev pub IsCalled : Who → PlainOpening → Type 0
@@ -81,11 +82,11 @@ both_so : (x : Option inbox.PlainPass) (v : inbox.PlainInbox) (b : Bool) → IfS
 both_so None v b f g e = tt
 both_so (Some x) v b f g e = (f, g.0 ∙ e)
 
-other_of : (scene : PlainScene) (n : PlainNetwork) (o : PlainOpening) (s : PlainPost) (h : PlainHome) (q : PlainNodeQueues) → IsPostOf scene n o s → s.ends.home ≡ Some h → slice_get n.nodes h.node ≡ Some q → leads o.who ≡ false → IsOther q h
+other_of : (scene : PlainScene) (n : PlainNetwork) (o : PlainOpening) (s : PlainPost) (h : PlainHome) (q : PlainNodeQueues) → IsPostOf scene n o s → s.ends.home ≡ Some h → slice_get n.nodes h.node ≡ Some q → is_leader o.who ≡ false → IsOther q h
 other_of scene n o s h q post its at not =
     let passes = home_of_it scene n o s h q post its at in
     let home = home_in scene n o s h post its in
-    record { join = record { pool = passes.0; inbox = both_so h.inbox q.inbox (leads o.who) passes.1 home.roles not }; part = home.part ∙ ap (λ (b : Bool). if b then 0 else 1) not }
+    record { join = record { pool = passes.0; inbox = both_so h.inbox q.inbox (is_leader o.who) passes.1 home.roles not }; part = home.part ∙ ap (λ (b : Bool). if b then 0 else 1) not }
 
 -- the regions of what a post has in hand
 pub home_region : (scene : PlainScene) (n : PlainNetwork) (o : PlainOpening) (s : PlainPost) (h : PlainHome) → IsPostOf scene n o s → s.ends.home ≡ Some h → slice_get n.regions h.node ≡ Some h.pool.hand.region
@@ -133,8 +134,8 @@ no_mark scene n posts net q node m g x others there whole has reads k few none =
     by : (place : ℕ) (h : PlainHome) (o : PlainOpening) → IsHomeIn o.who h → option_map (λ (x : inbox.PlainPass). x.role.mark) h.inbox ≡ Some k → o.who ≡ who.Iface node k → slice_get (g ∷ others) place ≡ Some h → ⊥
     by zero h o passes marked named at =
         let same : h.inbox ≡ Some x = ap (λ (p : PlainHome). p.inbox) (sym (same_Some g h at)) ∙ has in
-        let roles : (x.role.reads ≡ leads o.who) × (x.role.writes ≡ true) = subst (λ y. IfSome y (λ x. (x.role.reads ≡ leads o.who) × (x.role.writes ≡ true))) same passes.roles in
-        true≢false (sym reads ∙ roles.0 ∙ ap leads named)
+        let roles : (x.role.reads ≡ is_leader o.who) × (x.role.writes ≡ true) = subst (λ y. IfSome y (λ x. (x.role.reads ≡ is_leader o.who) × (x.role.writes ≡ true))) same passes.roles in
+        true≢false (sym reads ∙ roles.0 ∙ ap is_leader named)
     by (suc place) h o passes marked named at = all_at (HasNoMark k) others place h none at marked
 
 pub has_met : Led → Hubs → Apart → (scene : PlainScene) (n : PlainNetwork) (posts : List PlainPost) → IsNetworkOf scene n posts → (node : ℕ) (m : PlainNode) (q : PlainNodeQueues) → slice_get scene.nodes node ≡ Some m → slice_get n.nodes node ≡ Some q
@@ -144,7 +145,7 @@ has_met led hubs apart scene n posts net node m q there at =
     let hub = hub_at scene n posts net node m.addr stands in
     let place = hub_place_of scene n posts net node m.addr stands in
     let own = post_at scene n (parties_of scene) posts hub.at hub.post net.parties hub.there in
-    let lead : leads own.party.who ≡ true = ap leads (sym own.post.who ∙ hub.who) ∙ hub_leads node m.addr in
+    let lead : is_leader own.party.who ≡ true = ap is_leader (sym own.post.who ∙ hub.who) ∙ hub_leads node m.addr in
     let home = home_in scene n own.party hub.post hub.home own.post hub.its in
     let its_q : slice_get n.nodes hub.home.node ≡ Some q = ap (slice_get n.nodes) hub.node ∙ at in
     let passes = home_of_it scene n own.party hub.post hub.home q own.post hub.its its_q in
@@ -153,7 +154,7 @@ has_met led hubs apart scene n posts net node m q there at =
     let start : Passes = record { pool = hub.home.pool; inbox = hub.pass } in
     let opened : opening hub.home ≡ Some start = opened_with hub.home hub.pass hub.inbox in
     let opens : AreOpen q start = record { pool = passes.0; opens = home.opens ∙ ap (λ (b : Bool). if b then 1 else 0) lead; inbox = pass; reads = hub.reads } in
-    let shared = net.shared hub.at hub.post hub.home hub.there (ap leads hub.who ∙ hub_leads node m.addr) hub.its in
+    let shared = net.shared hub.at hub.post hub.home hub.there (ap is_leader hub.who ∙ hub_leads node m.addr) hub.its in
     let count : hub.home.pool.hand.out + 1 ≡ 1 + length cut.others = shared.pool ∙ ap (λ (k : ℕ). count_by (λ (s : PlainPost). is_home k s.ends.home) posts) hub.node ∙ members_count node posts ∙ ap (λ (hs : List PlainHome). length hs) cut.whole ∙ omega arith in
     let all : Passes = all_joined start cut.others in
     let close : CanClose hub.home.pool.hand.region all = record {
@@ -203,8 +204,8 @@ has_met led hubs apart scene n posts net node m q there at =
     others stands place i s h e f g other =
         let x = post_at scene n (parties_of scene) posts i s net.parties e in
         let l = led scene i x.party x.there node (node_in scene n x.party s h x.post f ∙ ap (λ (k : ℕ). Some k) g) in
-        let no : (b : Bool) → leads x.party.who ≡ b → leads x.party.who ≡ false = λ b lead. by b lead (λ is. other (sym (l.alone (sym (leads_hub x.party.who) ∙ is)) ∙ its_hub stands i s h e f g x l ∙ sym place)) in
-        other_of scene n x.party s h q x.post f (ap (slice_get n.nodes) g ∙ at) (no (leads x.party.who) refl)
+        let no : (b : Bool) → is_leader x.party.who ≡ b → is_leader x.party.who ≡ false = λ b lead. by b lead (λ is. other (sym (l.alone (is)) ∙ its_hub stands i s h e f g x l ∙ sym place)) in
+        other_of scene n x.party s h q x.post f (ap (slice_get n.nodes) g ∙ at) (no (is_leader x.party.who) refl)
       where
         by : {c : Bool} (b : Bool) → c ≡ b → (c ≡ true → ⊥) → c ≡ false
         by true e f = absurd (f e)

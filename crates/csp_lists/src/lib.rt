@@ -15,4 +15,4 @@ mod shape;
 pub use laws::{conserves, counts_holders, gathers, keeps_shape, opens, weighs};
 pub use list_deck::ListDeck;
 pub use pool::Pool;
-pub use shape::{APP_QUEUES, IFACE_QUEUES, INBOX_QUEUES};
+pub use shape::{INBOX_QUEUES, Shape};

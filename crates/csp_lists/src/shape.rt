@@ -8,10 +8,10 @@ use csp_base::Prio;
 use csp_deck::{Place, QueueId};
 
 /// The lanes of an interface: `Rx`, `Tx` and `Out`.
-pub const IFACE_QUEUES: usize = 3;
+const IFACE_QUEUES: usize = 3;
 
 /// The lanes of an application: `Down` and `Up`.
-pub const APP_QUEUES: usize = 2;
+const APP_QUEUES: usize = 2;
 
 /// The queues of an inbox, one for each priority.
 pub const INBOX_QUEUES: usize = 4;

@@ -24,12 +24,12 @@ use Rattle.csp_opening.specs.Handed.{IsAmong, ends_among, ends_of, getting, hand
 use Rattle.csp_opening.specs.Opened.{AreNodesWith, ends_in, lead_in, pair_of, pairs_on, queues_in, region_in}
 use Rattle.csp_opening.specs.Parted.{AreLeadsOf, CanPartAll, IsOpening, part_home, part_homes, parts_left}
 use Rattle.csp_opening.specs.Posted.{CanPost}
-use Rattle.csp_opening.specs.Seated.{IsSeated, seat_name}
+use Rattle.csp_opening.specs.Unposted.{IsUnposted, unposted_name}
 use Rattle.csp_opening.specs.Whole.{CanAssemble, whos}
 use Rattle.csp_opening.specs.declared.homes.Lead.{Lead}
 use Rattle.csp_opening.specs.declared.lanes.Pair.{Pair}
 use Rattle.csp_opening.specs.declared.nodes.Node.{Node}
-use Rattle.csp_opening.specs.declared.seats.Seat.{Seat}
+use Rattle.csp_opening.specs.declared.unposted.Unposted.{Unposted}
 use Rattle.csp_pool.specs.declared.hand.Hand.{Hand}
 use Rattle.csp_log.specs.declared.who.Who.{Who}
 use Rattle.csp_scene.specs.Ranges.{IsScene}
@@ -152,29 +152,29 @@ rows_handed p node (n ∷ nodes) [] xs h = absurd h
 rows_handed p node (n ∷ nodes) (ws ∷ wires) [] h = absurd h
 
 -- each party may have what it is handed
-can_posts : (xs : List Node) (names : List Who) (p : ℕ) (seats : List Seat) → ((k j : ℕ) (t : Seat) → slice_get seats k ≡ Some t → j ≡ p + k → CanPost t (its_ends xs names j t.who))
-    → CanPostPlain p (map ends_in xs) (parts_left (map lead_in xs) names) seats (map (part_home (map lead_in xs)) (whos seats))
+can_posts : (xs : List Node) (names : List Who) (p : ℕ) (unposted : List Unposted) → ((k j : ℕ) (t : Unposted) → slice_get unposted k ≡ Some t → j ≡ p + k → CanPost t (its_ends xs names j t.who))
+    → CanPostPlain p (map ends_in xs) (parts_left (map lead_in xs) names) unposted (map (part_home (map lead_in xs)) (whos unposted))
 can_posts xs names p [] h = tt
-can_posts xs names p (s ∷ seats) h = (h 0 p s refl (omega arith), can_posts xs names (p + 1) seats (λ k j t e same. h (suc k) j t e (omega (arith, same))))
+can_posts xs names p (s ∷ unposted) h = (h 0 p s refl (omega arith), can_posts xs names (p + 1) unposted (λ k j t e same. h (suc k) j t e (omega (arith, same))))
 
-in_order : (scene : PlainScene) (seats : List Seat) → map seat_name seats ≡ parties_of scene → InOrder 0 (whos seats)
+in_order : (scene : PlainScene) (unposted : List Unposted) → map unposted_name unposted ≡ parties_of scene → InOrder 0 (whos unposted)
 unfolding parties_of
-in_order scene seats e = subst (InOrder 0) (sym (whos_are scene seats e)) (parties_in_order scene.nodes scene.links)
+in_order scene unposted e = subst (InOrder 0) (sym (whos_are scene unposted e)) (parties_in_order scene.nodes scene.links)
 
-pub ordered : (scene : PlainScene) (seats : List Seat) → map seat_name seats ≡ parties_of scene → InOrder 0 (whos seats)
-ordered scene seats e = in_order scene seats e
+pub ordered : (scene : PlainScene) (unposted : List Unposted) → map unposted_name unposted ≡ parties_of scene → InOrder 0 (whos unposted)
+ordered scene unposted e = in_order scene unposted e
 
 -- all of it
-pub can_assemble : (scene : PlainScene) (wires : List (Vec Wire)) (xs : List Node) (seats : List Seat) (sides : List (Vec PlainSide)) → IsScene scene → AreOpened scene (map (λ (ws : Vec Wire). ws.items) wires) xs seats
-    → AllByRecursion (λ (ws : List Wire). length ws < 256) (map (λ (ws : Vec Wire). ws.items) wires) → length sides ≡ length seats → ((p : ℕ) → list_at sides p ≡ [])
-    → ((p : ℕ) → p < length seats → sum_by (λ (ws : Vec Wire). ends_among p ws.items) wires ≤ room_at sides p) → CanAssemble sides xs seats
-can_assemble scene wires xs seats sides is opened few count blank roomy =
+pub can_assemble : (scene : PlainScene) (wires : List (Vec Wire)) (xs : List Node) (unposted : List Unposted) (sides : List (Vec PlainSide)) → IsScene scene → AreOpened scene (map (λ (ws : Vec Wire). ws.items) wires) xs unposted
+    → AllByRecursion (λ (ws : List Wire). length ws < 256) (map (λ (ws : Vec Wire). ws.items) wires) → length sides ≡ length unposted → ((p : ℕ) → list_at sides p ≡ [])
+    → ((p : ℕ) → p < length unposted → sum_by (λ (ws : Vec Wire). ends_among p ws.items) wires ≤ room_at sides p) → CanAssemble sides xs unposted
+can_assemble scene wires xs unposted sides is opened few count blank roomy =
     let rows = map (λ (ws : Vec Wire). ws.items) wires in
     let plans = plans_from 0 scene.nodes scene.links in
     let long = as_many plans rows xs opened.nodes ∙ plans_count 0 scene.nodes scene.links in
-    let parties : length seats ≡ length (parties_of scene) = sym (length-map seats seat_name) ∙ ap (λ (os : List PlainOpening). length os) opened.names in
-    let names = whos_are scene seats opened.names in
-    let order = in_order scene seats opened.names in
+    let parties : length unposted ≡ length (parties_of scene) = sym (length-map unposted unposted_name) ∙ ap (λ (os : List PlainOpening). length os) opened.names in
+    let names = whos_are scene unposted opened.names in
+    let order = in_order scene unposted opened.names in
     record {
       count = count;
       blank = blank;
@@ -187,11 +187,11 @@ can_assemble scene wires xs seats sides is opened few count blank roomy =
       part = subst (λ ws. CanPartAll (map lead_in xs) ws) (sym names)
           (can_part_all (length scene.nodes) (map lead_in xs) (map (λ (o : PlainOpening). o.who) (parties_of scene)) (length-map xs lead_in ∙ long) (all_markable scene is) opened.apart
           (λ m l e. ready_for plans rows xs (map (λ (o : PlainOpening). o.who) (parties_of scene)) opened.nodes m m l e));
-      opening = opening_stays (map lead_in xs) (parts_left (map lead_in xs) (whos seats)) (all_fixed (map lead_in xs) (whos seats)) (openings_are plans rows xs opened.nodes);
-      post = can_plain (map ends_in xs) (parts_left (map lead_in xs) (whos seats)) seats (part_homes (map lead_in xs) (whos seats)) order
-          (subst (CanPostPlain 0 (map ends_in xs) (parts_left (map lead_in xs) (whos seats)) seats) (sym (homes_same (map lead_in xs) (map lead_in xs) (whos seats) refl))
-          (can_posts xs (whos seats) 0 seats (λ k j t e same.
-          let at : slice_get (parties_of scene) k ≡ Some (seat_name t) = ap (λ os. slice_get os k) (sym opened.names) ∙ slice_get-map seat_name seats k ∙ ap (option_map seat_name) e in
-          subst (λ p. CanPost t (its_ends xs (whos seats) p t.who)) (omega (arith, same))
-          (can_post scene xs (whos seats) k t (seat_name t) opened.laws at refl (all_at (IsSeated xs) seats k t opened.seated e) (its_new scene rows xs seats k t opened e)))));
+      opening = opening_stays (map lead_in xs) (parts_left (map lead_in xs) (whos unposted)) (all_fixed (map lead_in xs) (whos unposted)) (openings_are plans rows xs opened.nodes);
+      post = can_plain (map ends_in xs) (parts_left (map lead_in xs) (whos unposted)) unposted (part_homes (map lead_in xs) (whos unposted)) order
+          (subst (CanPostPlain 0 (map ends_in xs) (parts_left (map lead_in xs) (whos unposted)) unposted) (sym (homes_same (map lead_in xs) (map lead_in xs) (whos unposted) refl))
+          (can_posts xs (whos unposted) 0 unposted (λ k j t e same.
+          let at : slice_get (parties_of scene) k ≡ Some (unposted_name t) = ap (λ os. slice_get os k) (sym opened.names) ∙ slice_get-map unposted_name unposted k ∙ ap (option_map unposted_name) e in
+          subst (λ p. CanPost t (its_ends xs (whos unposted) p t.who)) (omega (arith, same))
+          (can_post scene xs (whos unposted) k t (unposted_name t) opened.laws at refl (all_at (IsUnposted xs) unposted k t opened.unposted e) (its_new scene rows xs unposted k t opened e)))));
     }

@@ -25,10 +25,10 @@ use Rattle.csp_opening.proofs.Zipped.{row_rooms}
 use Rattle.csp_opening.specs.Opened.{AreNodesWith, IsNodeOf, ends_in, lead_in, queues_in, region_in}
 use Rattle.csp_opening.specs.Parted.{lead_home, part_home, part_homes, parts_left}
 use Rattle.csp_opening.specs.Posted.{post_with}
-use Rattle.csp_opening.specs.Seated.{IsSeated, count_at, count_or, seat_name}
+use Rattle.csp_opening.specs.Unposted.{IsUnposted, count_at, count_or, unposted_name}
 use Rattle.csp_opening.specs.Whole.{posts_of, queue_count, rooms_in, store_in, whos}
 use Rattle.csp_opening.specs.declared.nodes.Node.{Node}
-use Rattle.csp_opening.specs.declared.seats.Seat.{Seat}
+use Rattle.csp_opening.specs.declared.unposted.Unposted.{Unposted}
 use Rattle.csp_ending.specs.Notes.{PlainNotes}
 use Rattle.csp_pool.specs.declared.hand.Hand.{Hand}
 use Rattle.csp_posts.specs.Books.{IsFresh}
@@ -41,7 +41,7 @@ use Rattle.csp_scene.specs.Links.{links_at}
 use Rattle.csp_scene.specs.Scene.{PlainLink, PlainNode, PlainScene}
 use Rattle.csp_standing.proofs.Public.{all_at}
 use Rattle.csp_standing.specs.Fabrics.{AreRoomsOf, AreStoresOf, CanNote, IsFabricOf, buffers_at, network_of}
-use Rattle.csp_standing.specs.Network.{AreNodesOf, ArePostsOf, IsNetworkOf, IsPostOf, IsShared, leads}
+use Rattle.csp_standing.specs.Network.{AreNodesOf, ArePostsOf, IsNetworkOf, IsPostOf, IsShared}
 use Rattle.csp_standing.specs.declared.fabric.Fabric.{Fabric}
 use Rattle.csp_standing.specs.declared.fabric.NodeStore.{NodeStore}
 use Rattle.csp_topology.proofs.Public.{plans_count}
@@ -51,6 +51,7 @@ use Rattle.csp_topology.specs.Plan.{PlainNodePlan, plan_of, plans_from}
 use Rattle.csp_topology.specs.Wires.{wires_of}
 use Rattle.csp_topology.specs.Wiring.{AreWires, IsWireOf}
 use Rattle.csp_topology.specs.declared.wire.Wire.{Wire}
+use Rattle.csp_topology.specs.Wired.{is_leader}
 
 -- what holds of no node, and of one more with its lanes, holds of all
 row_by_row : (scene : PlainScene) (Q : List PlainNode → List (List PlainLane) → List Node → Type 0) → Q [] [] []
@@ -125,131 +126,131 @@ pair_rows scene = row_by_row scene (λ nodes rows xs. AllZip (IsPairRow (map (λ
 ))
 
 -- parties as posts, from this place on, with what each has in hand
-abbrev pub new_posts : List Node → List Who → ℕ → List Seat → List SeenPost
+abbrev pub new_posts : List Node → List Who → ℕ → List Unposted → List SeenPost
 new_posts xs ws p [] = []
-new_posts xs ws p (s ∷ seats) = post_with s (its_ends xs ws p s.who) ∷ new_posts xs ws (p + 1) seats
+new_posts xs ws p (s ∷ unposted) = post_with s (its_ends xs ws p s.who) ∷ new_posts xs ws (p + 1) unposted
 
-are_new : (xs : List Node) (ws : List Who) (p : ℕ) (seats : List Seat) → plain_posts p (map ends_in xs) (parts_left (map lead_in xs) ws) seats (map (part_home (map lead_in xs)) (whos seats)) ≡ new_posts xs ws p seats
+are_new : (xs : List Node) (ws : List Who) (p : ℕ) (unposted : List Unposted) → plain_posts p (map ends_in xs) (parts_left (map lead_in xs) ws) unposted (map (part_home (map lead_in xs)) (whos unposted)) ≡ new_posts xs ws p unposted
 are_new xs ws p [] = refl
-are_new xs ws p (s ∷ seats) = ap (λ ps. post_with s (its_ends xs ws p s.who) ∷ ps) (are_new xs ws (p + 1) seats)
+are_new xs ws p (s ∷ unposted) = ap (λ ps. post_with s (its_ends xs ws p s.who) ∷ ps) (are_new xs ws (p + 1) unposted)
 
-pub posts_are : (xs : List Node) (seats : List Seat) → InOrder 0 (whos seats) → posts_of xs seats ≡ new_posts xs (whos seats) 0 seats
-posts_are xs seats order =
-    posts_plain (map ends_in xs) (parts_left (map lead_in xs) (whos seats)) seats (part_homes (map lead_in xs) (whos seats)) order
-    ∙ ap (plain_posts 0 (map ends_in xs) (parts_left (map lead_in xs) (whos seats)) seats) (homes_same (map lead_in xs) (map lead_in xs) (whos seats) refl)
-    ∙ are_new xs (whos seats) 0 seats
+pub posts_are : (xs : List Node) (unposted : List Unposted) → InOrder 0 (whos unposted) → posts_of xs unposted ≡ new_posts xs (whos unposted) 0 unposted
+posts_are xs unposted order =
+    posts_plain (map ends_in xs) (parts_left (map lead_in xs) (whos unposted)) unposted (part_homes (map lead_in xs) (whos unposted)) order
+    ∙ ap (plain_posts 0 (map ends_in xs) (parts_left (map lead_in xs) (whos unposted)) unposted) (homes_same (map lead_in xs) (map lead_in xs) (whos unposted) refl)
+    ∙ are_new xs (whos unposted) 0 unposted
 
 -- nodes and parties that were opened for a scene
-pub record AreOpened (scene : PlainScene) (wires : List (List Wire)) (xs : List Node) (seats : List Seat) : Type 0 where
+pub record AreOpened (scene : PlainScene) (wires : List (List Wire)) (xs : List Node) (unposted : List Unposted) : Type 0 where
   pub laws : Laws scene
   pub nodes : AreNodesWith (plans_from 0 scene.nodes scene.links) wires xs
   pub rows : AllZip (AllZip (IsWireOf scene)) (wires_of scene) wires
-  pub names : map seat_name seats ≡ parties_of scene
-  pub seated : AllByRecursion (IsSeated xs) seats
+  pub names : map unposted_name unposted ≡ parties_of scene
+  pub unposted : AllByRecursion (IsUnposted xs) unposted
   pub apart : NamedApart (map (λ (o : PlainOpening). o.who) (parties_of scene))
 
-whos_named : (seats : List Seat) → whos seats ≡ map (λ (o : PlainOpening). o.who) (map seat_name seats)
+whos_named : (unposted : List Unposted) → whos unposted ≡ map (λ (o : PlainOpening). o.who) (map unposted_name unposted)
 whos_named [] = refl
-whos_named (s ∷ seats) = ap (λ ws. s.who ∷ ws) (whos_named seats)
+whos_named (s ∷ unposted) = ap (λ ws. s.who ∷ ws) (whos_named unposted)
 
-pub whos_are : (scene : PlainScene) (seats : List Seat) → map seat_name seats ≡ parties_of scene → whos seats ≡ map (λ (o : PlainOpening). o.who) (parties_of scene)
-whos_are scene seats e = whos_named seats ∙ ap (map (λ (o : PlainOpening). o.who)) e
+pub whos_are : (scene : PlainScene) (unposted : List Unposted) → map unposted_name unposted ≡ parties_of scene → whos unposted ≡ map (λ (o : PlainOpening). o.who) (parties_of scene)
+whos_are scene unposted e = whos_named unposted ∙ ap (map (λ (o : PlainOpening). o.who)) e
 
-opening_at : (scene : PlainScene) (seats : List Seat) (k : ℕ) (t : Seat) → map seat_name seats ≡ parties_of scene → slice_get seats k ≡ Some t → slice_get (parties_of scene) k ≡ Some (seat_name t)
-opening_at scene seats k t e at = ap (λ os. slice_get os k) (sym e) ∙ slice_get-map seat_name seats k ∙ ap (option_map seat_name) at
+opening_at : (scene : PlainScene) (unposted : List Unposted) (k : ℕ) (t : Unposted) → map unposted_name unposted ≡ parties_of scene → slice_get unposted k ≡ Some t → slice_get (parties_of scene) k ≡ Some (unposted_name t)
+opening_at scene unposted k t e at = ap (λ os. slice_get os k) (sym e) ∙ slice_get-map unposted_name unposted k ∙ ap (option_map unposted_name) at
 
-pub its_new : (scene : PlainScene) (wires : List (List Wire)) (xs : List Node) (seats : List Seat) (k : ℕ) (t : Seat) → AreOpened scene wires xs seats → slice_get seats k ≡ Some t → IsPartyNew scene xs (whos seats) k t.who
-its_new scene wires xs seats k t is at =
-    let o = opening_at scene seats k t is.names at in
-    party_new scene wires xs (whos seats) k t.who is.laws is.nodes is.rows (pair_rows scene 0 scene.nodes (wires_of scene) wires xs is.nodes is.rows) is.apart
+pub its_new : (scene : PlainScene) (wires : List (List Wire)) (xs : List Node) (unposted : List Unposted) (k : ℕ) (t : Unposted) → AreOpened scene wires xs unposted → slice_get unposted k ≡ Some t → IsPartyNew scene xs (whos unposted) k t.who
+its_new scene wires xs unposted k t is at =
+    let o = opening_at scene unposted k t is.names at in
+    party_new scene wires xs (whos unposted) k t.who is.laws is.nodes is.rows (pair_rows scene 0 scene.nodes (wires_of scene) wires xs is.nodes is.rows) is.apart
     (slice_get-map (λ (z : PlainOpening). z.who) (parties_of scene) k ∙ ap (option_map (λ (z : PlainOpening). z.who)) o)
-    (node_low (length scene.nodes) scene.links t.who (all_at (λ (z : PlainOpening). IsThere (length scene.nodes) scene.links z.who) (parties_of scene) k (seat_name t) (parties_there scene) o))
+    (node_low (length scene.nodes) scene.links t.who (all_at (λ (z : PlainOpening). IsThere (length scene.nodes) scene.links z.who) (parties_of scene) k (unposted_name t) (parties_there scene) o))
 
 -- what holds of each party as a post
-all_posts : (P : SeenPost → Type 0) (xs : List Node) (ws : List Who) (p : ℕ) (seats : List Seat) → ((k j : ℕ) (t : Seat) → slice_get seats k ≡ Some t → j ≡ p + k → P (post_with t (its_ends xs ws j t.who)))
-    → AllByRecursion P (new_posts xs ws p seats)
+all_posts : (P : SeenPost → Type 0) (xs : List Node) (ws : List Who) (p : ℕ) (unposted : List Unposted) → ((k j : ℕ) (t : Unposted) → slice_get unposted k ≡ Some t → j ≡ p + k → P (post_with t (its_ends xs ws j t.who)))
+    → AllByRecursion P (new_posts xs ws p unposted)
 all_posts P xs ws p [] h = tt
-all_posts P xs ws p (s ∷ seats) h = (h 0 p s refl (omega arith), all_posts P xs ws (p + 1) seats (λ k j t e same. h (suc k) j t e (omega (arith, same))))
+all_posts P xs ws p (s ∷ unposted) h = (h 0 p s refl (omega arith), all_posts P xs ws (p + 1) unposted (λ k j t e same. h (suc k) j t e (omega (arith, same))))
 
 abbrev tail : {A : Type 0} → List A → List A
 tail [] = []
 tail (x ∷ xs) = xs
 
-posts_from_here : (scene : PlainScene) (xs : List Node) (ws : List Who) (p : ℕ) (os : List PlainOpening) (seats : List Seat) → map seat_name seats ≡ os
-    → ((k j : ℕ) (t : Seat) → slice_get seats k ≡ Some t → j ≡ p + k → IsPostOf scene (network xs) (seat_name t) (post_with t (its_ends xs ws j t.who)).plain)
-    → ArePostsOf scene (network xs) os (map (λ (s : SeenPost). s.plain) (new_posts xs ws p seats))
+posts_from_here : (scene : PlainScene) (xs : List Node) (ws : List Who) (p : ℕ) (os : List PlainOpening) (unposted : List Unposted) → map unposted_name unposted ≡ os
+    → ((k j : ℕ) (t : Unposted) → slice_get unposted k ≡ Some t → j ≡ p + k → IsPostOf scene (network xs) (unposted_name t) (post_with t (its_ends xs ws j t.who)).plain)
+    → ArePostsOf scene (network xs) os (map (λ (s : SeenPost). s.plain) (new_posts xs ws p unposted))
 posts_from_here scene xs ws p [] [] e h = tt
-posts_from_here scene xs ws p (o ∷ os) (s ∷ seats) e h = (
-  subst (λ z. IsPostOf scene (network xs) z (post_with s (its_ends xs ws p s.who)).plain) (same_Some (seat_name s) o (ap (λ zs. slice_get zs 0) e)) (h 0 p s refl (omega arith)),
-  posts_from_here scene xs ws (p + 1) os seats (ap tail e) (λ k j t at same. h (suc k) j t at (omega (arith, same))),
+posts_from_here scene xs ws p (o ∷ os) (s ∷ unposted) e h = (
+  subst (λ z. IsPostOf scene (network xs) z (post_with s (its_ends xs ws p s.who)).plain) (same_Some (unposted_name s) o (ap (λ zs. slice_get zs 0) e)) (h 0 p s refl (omega arith)),
+  posts_from_here scene xs ws (p + 1) os unposted (ap tail e) (λ k j t at same. h (suc k) j t at (omega (arith, same))),
 )
-posts_from_here scene xs ws p [] (s ∷ seats) e h = absurd cc
+posts_from_here scene xs ws p [] (s ∷ unposted) e h = absurd cc
 posts_from_here scene xs ws p (o ∷ os) [] e h = absurd cc
 
 -- the node of each post's home is its party's
-homes_at : (xs : List Node) (ws : List Who) (p : ℕ) (seats : List Seat) → ((k j : ℕ) (t : Seat) → slice_get seats k ≡ Some t → j ≡ p + k → option_map (λ (h : PlainHome). h.node) (its_home xs ws t.who) ≡ node_of t.who)
-    → AllZip (λ (w : Who) (s : PlainPost). option_map (λ (h : PlainHome). h.node) s.ends.home ≡ node_of w) (whos seats) (map (λ (s : SeenPost). s.plain) (new_posts xs ws p seats))
+homes_at : (xs : List Node) (ws : List Who) (p : ℕ) (unposted : List Unposted) → ((k j : ℕ) (t : Unposted) → slice_get unposted k ≡ Some t → j ≡ p + k → option_map (λ (h : PlainHome). h.node) (its_home xs ws t.who) ≡ node_of t.who)
+    → AllZip (λ (w : Who) (s : PlainPost). option_map (λ (h : PlainHome). h.node) s.ends.home ≡ node_of w) (whos unposted) (map (λ (s : SeenPost). s.plain) (new_posts xs ws p unposted))
 homes_at xs ws p [] h = tt
-homes_at xs ws p (s ∷ seats) h = (h 0 p s refl (omega arith), homes_at xs ws (p + 1) seats (λ k j t e same. h (suc k) j t e (omega (arith, same))))
+homes_at xs ws p (s ∷ unposted) h = (h 0 p s refl (omega arith), homes_at xs ws (p + 1) unposted (λ k j t e same. h (suc k) j t e (omega (arith, same))))
 
 -- the posts of a place
-record IsPostAt (xs : List Node) (ws : List Who) (p : ℕ) (seats : List Seat) (k : ℕ) (s : PlainPost) : Type 0 where
-  seat : Seat
-  at : slice_get seats k ≡ Some seat
-  is : s ≡ (post_with seat (its_ends xs ws (p + k) seat.who)).plain
+record IsPostAt (xs : List Node) (ws : List Who) (p : ℕ) (unposted : List Unposted) (k : ℕ) (s : PlainPost) : Type 0 where
+  one : Unposted
+  at : slice_get unposted k ≡ Some one
+  is : s ≡ (post_with one (its_ends xs ws (p + k) one.who)).plain
 
-post_at : (xs : List Node) (ws : List Who) (p : ℕ) (seats : List Seat) (k : ℕ) (s : PlainPost) → slice_get (map (λ (z : SeenPost). z.plain) (new_posts xs ws p seats)) k ≡ Some s → IsPostAt xs ws p seats k s
+post_at : (xs : List Node) (ws : List Who) (p : ℕ) (unposted : List Unposted) (k : ℕ) (s : PlainPost) → slice_get (map (λ (z : SeenPost). z.plain) (new_posts xs ws p unposted)) k ≡ Some s → IsPostAt xs ws p unposted k s
 post_at xs ws p [] k s e = absurd cc
-post_at xs ws p (t ∷ seats) zero s e = record { seat = t; at = refl; is = sym (same_Some _ s e) ∙ ap (λ j. (post_with t (its_ends xs ws j t.who)).plain) (omega arith) }
-post_at xs ws p (t ∷ seats) (suc k) s e =
-    let r = post_at xs ws (p + 1) seats k s e in
-    record { seat = r.seat; at = r.at; is = r.is ∙ ap (λ j. (post_with r.seat (its_ends xs ws j r.seat.who)).plain) (omega arith) }
+post_at xs ws p (t ∷ unposted) zero s e = record { one = t; at = refl; is = sym (same_Some _ s e) ∙ ap (λ j. (post_with t (its_ends xs ws j t.who)).plain) (omega arith) }
+post_at xs ws p (t ∷ unposted) (suc k) s e =
+    let r = post_at xs ws (p + 1) unposted k s e in
+    record { one = r.one; at = r.at; is = r.is ∙ ap (λ j. (post_with r.one (its_ends xs ws j r.one.who)).plain) (omega arith) }
 
 -- how the passes of a node are shared
-hub_shared : (scene : PlainScene) (wires : List (List Wire)) (xs : List Node) (seats : List Seat) (m : ℕ) (h : PlainHome) → AreOpened scene wires xs seats → m < length scene.nodes
-    → option_map (lead_home m) (slice_get (parts_left (map lead_in xs) (whos seats)) m) ≡ Some h → IsShared scene (map (λ (s : SeenPost). s.plain) (new_posts xs (whos seats) 0 seats)) h
+hub_shared : (scene : PlainScene) (wires : List (List Wire)) (xs : List Node) (unposted : List Unposted) (m : ℕ) (h : PlainHome) → AreOpened scene wires xs unposted → m < length scene.nodes
+    → option_map (lead_home m) (slice_get (parts_left (map lead_in xs) (whos unposted)) m) ≡ Some h → IsShared scene (map (λ (s : SeenPost). s.plain) (new_posts xs (whos unposted) 0 unposted)) h
 unfolding parties_of
-hub_shared scene wires xs seats m h is low its =
+hub_shared scene wires xs unposted m h is low its =
     let t = node_there 0 scene.nodes scene.links wires xs is.nodes m low in
-    let l = parts_at_node (map lead_in xs) (whos seats) m (lead_in t.node) (slice_get-map lead_in xs m ∙ ap (option_map lead_in) t.at) in
-    subst (IsShared scene (map (λ (s : SeenPost). s.plain) (new_posts xs (whos seats) 0 seats))) (same_Some (lead_home m l.0) h (ap (option_map (lead_home m)) (sym l.1) ∙ its)) (record {
+    let l = parts_at_node (map lead_in xs) (whos unposted) m (lead_in t.node) (slice_get-map lead_in xs m ∙ ap (option_map lead_in) t.at) in
+    subst (IsShared scene (map (λ (s : SeenPost). s.plain) (new_posts xs (whos unposted) 0 unposted))) (same_Some (lead_home m l.0) h (ap (option_map (lead_home m)) (sym l.1) ∙ its)) (record {
       pool =
           let out = l.2.out in
           let none = ap (λ (v : Hand). v.out) t.is.base.hand in
-          let homes = at_home m (whos seats) (map (λ (s : SeenPost). s.plain) (new_posts xs (whos seats) 0 seats)) (homes_at xs (whos seats) 0 seats (λ k j s e same. (its_new scene wires xs seats k s is e).home.among.node)) in
-          let split = of_node m (whos seats) in
-          let hubs = ap (count_by (hub_at m)) (whos_are scene seats is.names) ∙ one_hub m scene.nodes scene.links low in
+          let homes = at_home m (whos unposted) (map (λ (s : SeenPost). s.plain) (new_posts xs (whos unposted) 0 unposted)) (homes_at xs (whos unposted) 0 unposted (λ k j s e same. (its_new scene wires xs unposted k s is e).home.among.node)) in
+          let split = of_node m (whos unposted) in
+          let hubs = ap (count_by (hub_at m)) (whos_are scene unposted is.names) ∙ one_hub m scene.nodes scene.links low in
           omega (arith, out, none, homes, split, hubs);
       inbox = λ x j e out. by j (l.2.marks j (ap (λ (p : PlainPass). is_in p.role.out j) (same_Some l.0.inbox x e) ∙ out)) (ap (λ (p : PlainPass). is_in p.role.out j) t.is.pass);
     }) where
-      by : (j : ℕ) {b : Bool} → (b ≡ true) ⊎ HasMark m j (whos seats) → b ≡ false → j < length (links_at m scene.links)
+      by : (j : ℕ) {b : Bool} → (b ≡ true) ⊎ HasMark m j (whos unposted) → b ≡ false → j < length (links_at m scene.links)
       by j (inl wrong) none = absurd (true≢false (sym wrong ∙ none))
       by j (inr mark) none =
-          let o = there (parties_of scene) mark.place (who.Iface m j) (ap (λ ws. slice_get ws mark.place) (sym (whos_are scene seats is.names)) ∙ mark.at) in
+          let o = there (parties_of scene) mark.place (who.Iface m j) (ap (λ ws. slice_get ws mark.place) (sym (whos_are scene unposted is.names)) ∙ mark.at) in
           (subst (IsThere (length scene.nodes) scene.links) o.2 (all_at (λ (z : PlainOpening). IsThere (length scene.nodes) scene.links z.who) (parties_of scene) mark.place o.0 (parties_there scene) o.1)).1 where
             there : (os : List PlainOpening) (k : ℕ) (w : Who) → slice_get (map (λ (z : PlainOpening). z.who) os) k ≡ Some w → (z : PlainOpening) × (slice_get os k ≡ Some z) × (z.who ≡ w)
             there [] k w e = absurd cc
             there (z ∷ os) zero w e = (z, refl, same_Some z.who w e)
             there (z ∷ os) (suc k) w e = there os k w e
 
-all_shared : (scene : PlainScene) (wires : List (List Wire)) (xs : List Node) (seats : List Seat) → AreOpened scene wires xs seats → (k : ℕ) (s : PlainPost) (h : PlainHome)
-    → slice_get (map (λ (z : SeenPost). z.plain) (new_posts xs (whos seats) 0 seats)) k ≡ Some s → leads s.who ≡ true → s.ends.home ≡ Some h → IsShared scene (map (λ (z : SeenPost). z.plain) (new_posts xs (whos seats) 0 seats)) h
-all_shared scene wires xs seats is k s h at lead its =
-    let r = post_at xs (whos seats) 0 seats k s at in
-    by r.seat.who
-    (node_low (length scene.nodes) scene.links r.seat.who
-    (all_at (λ (z : PlainOpening). IsThere (length scene.nodes) scene.links z.who) (parties_of scene) k (seat_name r.seat) (parties_there scene) (opening_at scene seats k r.seat is.names r.at)))
-    (ap (λ (z : PlainPost). leads z.who) (sym r.is) ∙ lead) (ap (λ (z : PlainPost). z.ends.home) (sym r.is) ∙ its) where
-      by : (w : Who) → IfSome (node_of w) (λ m. m < length scene.nodes) → leads w ≡ true → its_home xs (whos seats) w ≡ Some h → IsShared scene (map (λ (z : SeenPost). z.plain) (new_posts xs (whos seats) 0 seats)) h
-      by (who.Router m) low e f = hub_shared scene wires xs seats m h is low f
-      by (who.Bridge m) low e f = hub_shared scene wires xs seats m h is low f
+all_shared : (scene : PlainScene) (wires : List (List Wire)) (xs : List Node) (unposted : List Unposted) → AreOpened scene wires xs unposted → (k : ℕ) (s : PlainPost) (h : PlainHome)
+    → slice_get (map (λ (z : SeenPost). z.plain) (new_posts xs (whos unposted) 0 unposted)) k ≡ Some s → is_leader s.who ≡ true → s.ends.home ≡ Some h → IsShared scene (map (λ (z : SeenPost). z.plain) (new_posts xs (whos unposted) 0 unposted)) h
+all_shared scene wires xs unposted is k s h at lead its =
+    let r = post_at xs (whos unposted) 0 unposted k s at in
+    by r.one.who
+    (node_low (length scene.nodes) scene.links r.one.who
+    (all_at (λ (z : PlainOpening). IsThere (length scene.nodes) scene.links z.who) (parties_of scene) k (unposted_name r.one) (parties_there scene) (opening_at scene unposted k r.one is.names r.at)))
+    (ap (λ (z : PlainPost). is_leader z.who) (sym r.is) ∙ lead) (ap (λ (z : PlainPost). z.ends.home) (sym r.is) ∙ its) where
+      by : (w : Who) → IfSome (node_of w) (λ m. m < length scene.nodes) → is_leader w ≡ true → its_home xs (whos unposted) w ≡ Some h → IsShared scene (map (λ (z : SeenPost). z.plain) (new_posts xs (whos unposted) 0 unposted)) h
+      by (who.Router m) low e f = hub_shared scene wires xs unposted m h is low f
+      by (who.Bridge m) low e f = hub_shared scene wires xs unposted m h is low f
       by (who.Iface m j) low e f = absurd cc
       by (who.App m j) low e f = absurd cc
       by (who.Link j) low e f = absurd cc
 
 -- a party can note the numbers of all buffers of its node
-can_note : (scene : PlainScene) (wires : List (List Wire)) (xs : List Node) (t : Seat) → AreNodesWith (plans_from 0 scene.nodes scene.links) wires xs → IsSeated xs t → IfSome (node_of t.who) (λ m. m < length scene.nodes) → buffers_at scene (node_of t.who) ≤ vec_capacity t.numbers
-can_note scene wires xs t nodes seated low = by (node_of t.who) low (let many = seated.numbers in omega (arith, many)) where
+can_note : (scene : PlainScene) (wires : List (List Wire)) (xs : List Node) (t : Unposted) → AreNodesWith (plans_from 0 scene.nodes scene.links) wires xs → IsUnposted xs t → IfSome (node_of t.who) (λ m. m < length scene.nodes) → buffers_at scene (node_of t.who) ≤ vec_capacity t.numbers
+can_note scene wires xs t nodes unposted low = by (node_of t.who) low (let many = unposted.numbers in omega (arith, many)) where
   by : (o : Option ℕ) → IfSome o (λ m. m < length scene.nodes) → count_at xs o ≤ vec_capacity t.numbers → buffers_at scene o ≤ vec_capacity t.numbers
   by None low few = few
   by (Some m) low few =
@@ -264,38 +265,38 @@ regions_are : (xs : List Node) → map (λ (s : NodeStore). s.store.region) (map
 regions_are [] = refl
 regions_are (x ∷ xs) = ap (λ rs. region_in x ∷ rs) (regions_are xs)
 
-new_long : (xs : List Node) (ws : List Who) (p : ℕ) (seats : List Seat) → length (new_posts xs ws p seats) ≡ length seats
+new_long : (xs : List Node) (ws : List Who) (p : ℕ) (unposted : List Unposted) → length (new_posts xs ws p unposted) ≡ length unposted
 new_long xs ws p [] = refl
-new_long xs ws p (s ∷ seats) = ap suc (new_long xs ws (p + 1) seats)
+new_long xs ws p (s ∷ unposted) = ap suc (new_long xs ws (p + 1) unposted)
 
 -- what the fabric of these nodes and parties is made of
-pub record IsMadeOf (ws : List (Vec Wire)) (xs : List Node) (seats : List Seat) (f : Fabric) : Type 0 where
+pub record IsMadeOf (ws : List (Vec Wire)) (xs : List Node) (unposted : List Unposted) (f : Fabric) : Type 0 where
   pub queues : f.queues ≡ map queues_in xs
   pub stores : f.stores.items ≡ map store_in xs
   pub rooms : f.rooms.items ≡ map rooms_in xs
   pub wires : f.wires.items ≡ ws
-  pub notes : f.notes ≡ record { left = []; held = []; queues = queue_count ws; others = length seats + length xs }
+  pub notes : f.notes ≡ record { left = []; held = []; queues = queue_count ws; others = length unposted + length xs }
   pub logs : f.logs.items ≡ []
-  pub logs_room : length seats ≤ vec_capacity f.logs
+  pub logs_room : length unposted ≤ vec_capacity f.logs
   pub retired : f.retired.items ≡ []
-  pub retired_room : length seats ≤ vec_capacity f.retired
+  pub retired_room : length unposted ≤ vec_capacity f.retired
 
 -- it is that of the scene, with these posts
-pub is_fabric : (scene : PlainScene) (wires : List (Vec Wire)) (xs : List Node) (seats : List Seat) (f : Fabric) → AreWires scene (map (λ (ws : Vec Wire). ws.items) wires)
-    → AreOpened scene (map (λ (ws : Vec Wire). ws.items) wires) xs seats → IsMadeOf wires xs seats f → IsFabricOf scene f (new_posts xs (whos seats) 0 seats)
-is_fabric scene wires xs seats f are is made =
+pub is_fabric : (scene : PlainScene) (wires : List (Vec Wire)) (xs : List Node) (unposted : List Unposted) (f : Fabric) → AreWires scene (map (λ (ws : Vec Wire). ws.items) wires)
+    → AreOpened scene (map (λ (ws : Vec Wire). ws.items) wires) xs unposted → IsMadeOf wires xs unposted f → IsFabricOf scene f (new_posts xs (whos unposted) 0 unposted)
+is_fabric scene wires xs unposted f are is made =
     let rows = map (λ (ws : Vec Wire). ws.items) wires in
-    let posts = new_posts xs (whos seats) 0 seats in
+    let posts = new_posts xs (whos unposted) 0 unposted in
     let net : network_of f ≡ network xs = λ i. record { nodes = made.queues i; regions = (ap (map (λ (s : NodeStore). s.store.region)) made.stores ∙ regions_are xs) i } in
-    let long = new_long xs (whos seats) 0 seats in
+    let long = new_long xs (whos unposted) 0 unposted in
     record {
       network = subst (λ n. IsNetworkOf scene n (map (λ (s : SeenPost). s.plain) posts)) (sym net) (record {
         nodes = nodes_of scene 0 scene.nodes (wires_of scene) rows xs is.nodes is.rows;
         regions = length-map xs region_in ∙ sym (length-map xs queues_in);
-        parties = posts_from_here scene xs (whos seats) 0 (parties_of scene) seats is.names (λ k j t e same.
-            is_post scene xs (whos seats) j t (seat_name t) refl (all_at (IsSeated xs) seats k t is.seated e)
-            (subst (λ p. IsPartyNew scene xs (whos seats) p t.who) (omega (arith, same)) (its_new scene rows xs seats k t is e)));
-        shared = all_shared scene rows xs seats is;
+        parties = posts_from_here scene xs (whos unposted) 0 (parties_of scene) unposted is.names (λ k j t e same.
+            is_post scene xs (whos unposted) j t (unposted_name t) refl (all_at (IsUnposted xs) unposted k t is.unposted e)
+            (subst (λ p. IsPartyNew scene xs (whos unposted) p t.who) (omega (arith, same)) (its_new scene rows xs unposted k t is e)));
+        shared = all_shared scene rows xs unposted is;
       });
       wires = subst (λ ws. AreWires scene (map (λ (v : Vec Wire). v.items) ws)) (sym made.wires) are;
       stores = subst (AreStoresOf scene.nodes (wires_of scene)) (sym made.stores) (stores_of scene 0 scene.nodes (wires_of scene) rows xs is.nodes is.rows);
@@ -308,15 +309,15 @@ is_fabric scene wires xs seats f are is made =
       logs = (let room = made.logs_room in omega (arith, long, room));
       none = made.retired;
       retired = (let room = made.retired_room in omega (arith, long, room));
-      numbers = all_posts (CanNote scene) xs (whos seats) 0 seats (λ k j t e same.
-          can_note scene rows xs t is.nodes (all_at (IsSeated xs) seats k t is.seated e)
+      numbers = all_posts (CanNote scene) xs (whos unposted) 0 unposted (λ k j t e same.
+          can_note scene rows xs t is.nodes (all_at (IsUnposted xs) unposted k t is.unposted e)
           (node_low (length scene.nodes) scene.links t.who
-          (all_at (λ (z : PlainOpening). IsThere (length scene.nodes) scene.links z.who) (parties_of scene) k (seat_name t) (parties_there scene) (opening_at scene seats k t is.names e))));
+          (all_at (λ (z : PlainOpening). IsThere (length scene.nodes) scene.links z.who) (parties_of scene) k (unposted_name t) (parties_there scene) (opening_at scene unposted k t is.names e))));
     }
 
 -- nothing has happened
-pub none_happened : (xs : List Node) (ws : List Who) (p : ℕ) (seats : List Seat) → AllByRecursion (λ (s : SeenPost). s.plain.entries ≡ []) (new_posts xs ws p seats)
-none_happened xs ws p seats = all_posts (λ (s : SeenPost). s.plain.entries ≡ []) xs ws p seats (λ k j t e same. refl)
+pub none_happened : (xs : List Node) (ws : List Who) (p : ℕ) (unposted : List Unposted) → AllByRecursion (λ (s : SeenPost). s.plain.entries ≡ []) (new_posts xs ws p unposted)
+none_happened xs ws p unposted = all_posts (λ (s : SeenPost). s.plain.entries ≡ []) xs ws p unposted (λ k j t e same. refl)
 
-pub all_fresh : (scene : PlainScene) (wires : List (List Wire)) (xs : List Node) (seats : List Seat) → AreOpened scene wires xs seats → AllByRecursion (λ (s : SeenPost). IfSome s.plain.ends.home IsFresh) (new_posts xs (whos seats) 0 seats)
-all_fresh scene wires xs seats is = all_posts (λ (s : SeenPost). IfSome s.plain.ends.home IsFresh) xs (whos seats) 0 seats (λ k j t e same. (its_new scene wires xs seats k t is e).home.fresh)
+pub all_fresh : (scene : PlainScene) (wires : List (List Wire)) (xs : List Node) (unposted : List Unposted) → AreOpened scene wires xs unposted → AllByRecursion (λ (s : SeenPost). IfSome s.plain.ends.home IsFresh) (new_posts xs (whos unposted) 0 unposted)
+all_fresh scene wires xs unposted is = all_posts (λ (s : SeenPost). IfSome s.plain.ends.home IsFresh) xs (whos unposted) 0 unposted (λ k j t e same. (its_new scene wires xs unposted k t is e).home.fresh)

@@ -10,12 +10,12 @@ use Rattle.csp_opening.proofs.Rows.{are_wired}
 use Rattle.csp_opening.proofs.Whos.{named_apart, parties_low}
 use Rattle.csp_opening.proofs.Zipped.{wire_rows}
 use Rattle.csp_opening.specs.Opened.{AreNodesWith, AreWired}
-use Rattle.csp_opening.specs.Seated.{IsSeated, seat_name}
+use Rattle.csp_opening.specs.Unposted.{IsUnposted, unposted_name}
 use Rattle.csp_opening.specs.Whole.{AreBlanks, AreLists, CanAssemble, posts_of, whos}
 use Rattle.csp_opening.specs.declared.lists.Blanks.{Blanks}
 use Rattle.csp_opening.specs.declared.lists.Lists.{Lists}
 use Rattle.csp_opening.specs.declared.nodes.Node.{Node}
-use Rattle.csp_opening.specs.declared.seats.Seat.{Seat}
+use Rattle.csp_opening.specs.declared.unposted.Unposted.{Unposted}
 use Rattle.csp_posts.specs.Books.{IsFresh}
 use Rattle.csp_posts.specs.Seen.{SeenPost}
 use Rattle.csp_log.specs.Who.{node_of}
@@ -55,14 +55,14 @@ parties_as scene wires openings h =
     subst (λ k. AreParties k openings) (sym (plans_count 0 scene.nodes scene.links))
     (record { ready = h.ready; there = subst (AllByRecursion (λ (o : PlainOpening). IfSome (node_of o.who) (λ m. m < length scene.nodes))) (sym h.parties) (parties_low scene) })
 
-pub opened_of : (scene : PlainScene) (wires : List (Vec Wire)) (openings : List Opening) (ns : List PlainNodePlan) (ws : List (Vec Wire)) (xs : List Node) (seats : List Seat) → IsPlanned scene wires openings → ns ≡ plans_from 0 scene.nodes scene.links → ws ≡ wires
-    → AreNodesWith ns (rows_of ws) xs → map seat_name seats ≡ map opening_of openings → AllByRecursion (IsSeated xs) seats → AreOpened scene (rows_of wires) xs seats
-opened_of scene wires openings ns ws xs seats h nodes same opened names seated = record {
+pub opened_of : (scene : PlainScene) (wires : List (Vec Wire)) (openings : List Opening) (ns : List PlainNodePlan) (ws : List (Vec Wire)) (xs : List Node) (unposted : List Unposted) → IsPlanned scene wires openings → ns ≡ plans_from 0 scene.nodes scene.links → ws ≡ wires
+    → AreNodesWith ns (rows_of ws) xs → map unposted_name unposted ≡ map opening_of openings → AllByRecursion (IsUnposted xs) unposted → AreOpened scene (rows_of wires) xs unposted
+opened_of scene wires openings ns ws xs unposted h nodes same opened names unposted = record {
   laws = h.laws;
   nodes = subst (λ ms. AreNodesWith ms (rows_of wires) xs) nodes (subst (λ vs. AreNodesWith ns (rows_of vs) xs) same opened);
   rows = wire_rows scene (rows_of wires) h.count h.are;
   names = names ∙ h.parties;
-  seated = seated;
+  unposted = unposted;
   apart = named_apart (parties_of scene) h.apart;
 }
 
@@ -78,15 +78,15 @@ all_mapped P f [] h = tt
 all_mapped P f (x ∷ xs) h = (h.0, all_mapped P f xs h.1)
 
 -- what was opened of a planned scene, and the lists for it
-pub record IsReady (scene : PlainScene) (wires : List (Vec Wire)) (openings : List Opening) (xs : List Node) (seats : List Seat) (b : Blanks) (l : Lists) : Type 0 where
+pub record IsReady (scene : PlainScene) (wires : List (Vec Wire)) (openings : List Opening) (xs : List Node) (unposted : List Unposted) (b : Blanks) (l : Lists) : Type 0 where
   pub plan : IsPlanned scene wires openings
-  pub opened : AreOpened scene (rows_of wires) xs seats
-  pub blanks : AreBlanks (length seats) (length xs) wires b
-  pub lists : AreLists (length seats) (length xs) l
+  pub opened : AreOpened scene (rows_of wires) xs unposted
+  pub blanks : AreBlanks (length unposted) (length xs) wires b
+  pub lists : AreLists (length unposted) (length xs) l
 
-pub can_of : (scene : PlainScene) (wires : List (Vec Wire)) (openings : List Opening) (xs : List Node) (seats : List Seat) (b : Blanks) (l : Lists) → IsReady scene wires openings xs seats b l → CanAssemble b.sides.items xs seats
-can_of scene wires openings xs seats b l h =
-    can_assemble scene wires xs seats b.sides.items h.plan.is h.opened (all_mapped (λ (ws : List Wire). length ws < 256) (λ (ws : Vec Wire). ws.items) wires (wired_of scene wires openings h.plan).few)
+pub can_of : (scene : PlainScene) (wires : List (Vec Wire)) (openings : List Opening) (xs : List Node) (unposted : List Unposted) (b : Blanks) (l : Lists) → IsReady scene wires openings xs unposted b l → CanAssemble b.sides.items xs unposted
+can_of scene wires openings xs unposted b l h =
+    can_assemble scene wires xs unposted b.sides.items h.plan.is h.opened (all_mapped (λ (ws : List Wire). length ws < 256) (λ (ws : Vec Wire). ws.items) wires (wired_of scene wires openings h.plan).few)
     h.blanks.count h.blanks.sides h.blanks.side_rooms
 
 -- so the fabric is that of the scene, and nothing has happened
@@ -95,11 +95,11 @@ pub record IsFinished (scene : PlainScene) (f : Fabric) (posts : List SeenPost) 
   pub new : AllByRecursion (λ (s : SeenPost). s.plain.entries ≡ []) posts
   pub fresh : AllByRecursion (λ (s : SeenPost). IfSome s.plain.ends.home IsFresh) posts
 
-pub finished : (scene : PlainScene) (wires : List (Vec Wire)) (openings : List Opening) (xs : List Node) (seats : List Seat) (b : Blanks) (l : Lists) (f : Fabric) (posts : List SeenPost) → IsReady scene wires openings xs seats b l
-    → IsMadeOf wires xs seats f → posts ≡ posts_of xs seats → IsFinished scene f posts
-finished scene wires openings xs seats b l f posts h made same =
-    subst (IsFinished scene f) (sym (same ∙ posts_are xs seats (ordered scene seats h.opened.names))) (record {
-      fabric = is_fabric scene wires xs seats f h.plan.are h.opened made;
-      new = none_happened xs (whos seats) 0 seats;
-      fresh = all_fresh scene (rows_of wires) xs seats h.opened;
+pub finished : (scene : PlainScene) (wires : List (Vec Wire)) (openings : List Opening) (xs : List Node) (unposted : List Unposted) (b : Blanks) (l : Lists) (f : Fabric) (posts : List SeenPost) → IsReady scene wires openings xs unposted b l
+    → IsMadeOf wires xs unposted f → posts ≡ posts_of xs unposted → IsFinished scene f posts
+finished scene wires openings xs unposted b l f posts h made same =
+    subst (IsFinished scene f) (sym (same ∙ posts_are xs unposted (ordered scene unposted h.opened.names))) (record {
+      fabric = is_fabric scene wires xs unposted f h.plan.are h.opened made;
+      new = none_happened xs (whos unposted) 0 unposted;
+      fresh = all_fresh scene (rows_of wires) xs unposted h.opened;
     })

@@ -21,7 +21,7 @@ use Rattle.csp_opening.specs.declared.lanes.Lanes.{Lanes}
 use Rattle.csp_opening.specs.declared.lanes.Pair.{Pair}
 use Rattle.csp_opening.specs.declared.mails.Mail.{Mail}
 use Rattle.csp_opening.specs.declared.nodes.Node.{Node}
-use Rattle.csp_opening.specs.declared.seats.Seat.{Seat}
+use Rattle.csp_opening.specs.declared.unposted.Unposted.{Unposted}
 use Rattle.csp_topology.specs.Plan.{PlainNodePlan}
 use Rattle.csp_topology.specs.declared.wire.Wire.{Wire}
 
@@ -156,24 +156,24 @@ all_unmapped P f [] h = tt
 all_unmapped P f (x ∷ xs) h = (h.0, all_unmapped P f xs h.1)
 
 -- each party has what it was handed
-pub can_all : (p : ℕ) (ends : List (List Pair)) (leads : List Lead) (seats : List Seat) (homes : List (Option PlainHome)) (sides : List (Vec PlainSide)) → CanPostFrom p ends leads seats homes → length sides ≡ length seats
-    → ((k j : ℕ) → k < length sides → j ≡ p + k → list_at sides k ≡ handed_from j 0 ends) → CanPostAll leads seats homes sides
+pub can_all : (p : ℕ) (ends : List (List Pair)) (leads : List Lead) (unposted : List Unposted) (homes : List (Option PlainHome)) (sides : List (Vec PlainSide)) → CanPostFrom p ends leads unposted homes → length sides ≡ length unposted
+    → ((k j : ℕ) → k < length sides → j ≡ p + k → list_at sides k ≡ handed_from j 0 ends) → CanPostAll leads unposted homes sides
 can_all p ends leads [] homes sides can long handed = tt
-can_all p ends leads (s ∷ seats) (h ∷ homes) (v ∷ sides) can long handed = (
+can_all p ends leads (s ∷ unposted) (h ∷ homes) (v ∷ sides) can long handed = (
   subst (λ l. CanPost s (ends_with (home_with leads s.who h) l)) (sym (handed 0 p (omega arith) (omega arith))) can.0,
-  can_all (p + 1) ends (leads_past leads s.who) seats homes sides can.1 (omega (arith, long)) (λ k j low same. handed (suc k) j (omega (arith, low)) (omega (arith, same))),
+  can_all (p + 1) ends (leads_past leads s.who) unposted homes sides can.1 (omega (arith, long)) (λ k j low same. handed (suc k) j (omega (arith, low)) (omega (arith, same))),
 )
-can_all p ends leads (s ∷ seats) [] sides can long handed = absurd can
-can_all p ends leads (s ∷ seats) (h ∷ homes) [] can long handed = absurd (omega (arith, long))
+can_all p ends leads (s ∷ unposted) [] sides can long handed = absurd can
+can_all p ends leads (s ∷ unposted) (h ∷ homes) [] can long handed = absurd (omega (arith, long))
 
-pub same_posts : (p : ℕ) (ends : List (List Pair)) (leads : List Lead) (seats : List Seat) (homes : List (Option PlainHome)) (sides : List (Vec PlainSide)) → length sides ≡ length seats
-    → ((k j : ℕ) → k < length sides → j ≡ p + k → list_at sides k ≡ handed_from j 0 ends) → posts_with leads seats homes sides ≡ posts_from p ends leads seats homes
+pub same_posts : (p : ℕ) (ends : List (List Pair)) (leads : List Lead) (unposted : List Unposted) (homes : List (Option PlainHome)) (sides : List (Vec PlainSide)) → length sides ≡ length unposted
+    → ((k j : ℕ) → k < length sides → j ≡ p + k → list_at sides k ≡ handed_from j 0 ends) → posts_with leads unposted homes sides ≡ posts_from p ends leads unposted homes
 same_posts p ends leads [] homes sides long handed = refl
-same_posts p ends leads (s ∷ seats) [] sides long handed = refl
-same_posts p ends leads (s ∷ seats) (h ∷ homes) (v ∷ sides) long handed =
+same_posts p ends leads (s ∷ unposted) [] sides long handed = refl
+same_posts p ends leads (s ∷ unposted) (h ∷ homes) (v ∷ sides) long handed =
     λ i. post_with s (ends_with (home_with leads s.who h) (handed 0 p (omega arith) (omega arith) i))
-    ∷ same_posts (p + 1) ends (leads_past leads s.who) seats homes sides (omega (arith, long)) (λ k j low same. handed (suc k) j (omega (arith, low)) (omega (arith, same))) i
-same_posts p ends leads (s ∷ seats) (h ∷ homes) [] long handed = absurd (omega (arith, long))
+    ∷ same_posts (p + 1) ends (leads_past leads s.who) unposted homes sides (omega (arith, long)) (λ k j low same. handed (suc k) j (omega (arith, low)) (omega (arith, same))) i
+same_posts p ends leads (s ∷ unposted) (h ∷ homes) [] long handed = absurd (omega (arith, long))
 
 -- the ends of lanes, as they are kept
 pub ends_are : (xs : List Node) → map (λ (pairs : Vec Pair). pairs.items) (map (λ (x : Node). x.lanes.ends) xs) ≡ map ends_in xs

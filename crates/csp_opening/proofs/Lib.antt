@@ -13,7 +13,7 @@ mod Ordered
 mod Parties
 mod Passing
 mod Rows
-mod Seating
+mod UnpostedLemmas
 mod Serving
 mod Spread
 mod Stores

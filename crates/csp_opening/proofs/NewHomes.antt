@@ -33,10 +33,11 @@ use Rattle.csp_log.specs.declared.who.Who.{Who}
 use Rattle.csp_log.specs.declared.who.Who.TheVariants as who
 use Rattle.csp_scene.specs.Links.{links_at, node_at}
 use Rattle.csp_scene.specs.Scene.{PlainLink, PlainNode, PlainScene}
-use Rattle.csp_standing.specs.Network.{IsHomeAmong, leads, mark_for, opened_in}
+use Rattle.csp_standing.specs.Network.{IsHomeAmong, opened_in}
 use Rattle.csp_topology.specs.Plan.{PlainNodePlan, plan_of, plans_from}
-use Rattle.csp_topology.specs.Wired.{inbox_rule}
+use Rattle.csp_topology.specs.Wired.{inbox_rule, is_leader}
 use Rattle.csp_topology.specs.declared.wire.Wire.{Wire}
+use Rattle.csp_topology.specs.Writers.{mark_for}
 
 -- the home of a party before its first turn, over queues whose buffers are of these regions: its pass of the pool put these numbers
 pub record IsHomeNew (nodes : List PlainNodeQueues) (regions : List RegionName) (w : Who) (opened : List ℕ) (home : Option PlainHome) : Type 0 where
@@ -84,7 +85,7 @@ mail_traced : (p : inbox.PlainPass) (prio : Prio) → inbox.mail_at p prio ≡ i
 mail_traced p prio e = record { kept = ap (λ (v : Mail). v.kept) e; got = ap (λ (v : Mail). v.got) e }
 
 -- the home of a router or a bridge
-hub_new : (xs : List Node) (m : ℕ) (x : Node) (buffers : ℕ) (l : Lead) (w : Who) → slice_get xs m ≡ Some x → IsLeadNew x buffers l → leads w ≡ true → node_of w ≡ Some m → mark_for w ≡ Some UNMARKED
+hub_new : (xs : List Node) (m : ℕ) (x : Node) (buffers : ℕ) (l : Lead) (w : Who) → slice_get xs m ≡ Some x → IsLeadNew x buffers l → is_leader w ≡ true → node_of w ≡ Some m → mark_for w ≡ Some UNMARKED
     → IsHomeNew (map queues_in xs) (map region_in xs) w (range_with_len 0 buffers) (Some (lead_home m l))
 hub_new xs m x buffers l w at is lead node mark =
     let opened = range_with_len 0 buffers in

@@ -9,7 +9,7 @@ use Rattle.csp_opening.specs.Parted.{first_home, home_with, lead_home, leads_pas
 use Rattle.csp_opening.specs.Posted.{CanPost, CanPostFrom, ends_with, post_with, posts_from}
 use Rattle.csp_opening.specs.declared.homes.Lead.{Lead}
 use Rattle.csp_opening.specs.declared.lanes.Pair.{Pair}
-use Rattle.csp_opening.specs.declared.seats.Seat.{Seat}
+use Rattle.csp_opening.specs.declared.unposted.Unposted.{Unposted}
 use Rattle.csp_posts.specs.Seen.{SeenPost}
 use Rattle.csp_log.specs.declared.who.Who.{Who}
 use Rattle.csp_log.specs.declared.who.Who.TheVariants as who
@@ -85,15 +85,15 @@ others_are leads n = (let same : suc n ≡ n + 1 = omega arith in by leads n ∙
   by (x ∷ xs) (suc k) = by xs k
 
 -- parties as posts, with the passes of all nodes there at once
-abbrev pub plain_posts : ℕ → List (List Pair) → List Lead → List Seat → List (Option PlainHome) → List SeenPost
+abbrev pub plain_posts : ℕ → List (List Pair) → List Lead → List Unposted → List (Option PlainHome) → List SeenPost
 plain_posts p ends leads [] homes = []
-plain_posts p ends leads (s ∷ seats) [] = []
-plain_posts p ends leads (s ∷ seats) (h ∷ homes) = post_with s (ends_with (home_in leads s.who h) (handed_from p 0 ends)) ∷ plain_posts (p + 1) ends leads seats homes
+plain_posts p ends leads (s ∷ unposted) [] = []
+plain_posts p ends leads (s ∷ unposted) (h ∷ homes) = post_with s (ends_with (home_in leads s.who h) (handed_from p 0 ends)) ∷ plain_posts (p + 1) ends leads unposted homes
 
 -- each may have its ends so
-abbrev pub CanPostPlain : ℕ → List (List Pair) → List Lead → List Seat → List (Option PlainHome) → Type 0
+abbrev pub CanPostPlain : ℕ → List (List Pair) → List Lead → List Unposted → List (Option PlainHome) → Type 0
 CanPostPlain p ends leads [] [] = ⊤
-CanPostPlain p ends leads (s ∷ seats) (h ∷ homes) = CanPost s (ends_with (home_in leads s.who h) (handed_from p 0 ends)) × CanPostPlain (p + 1) ends leads seats homes
+CanPostPlain p ends leads (s ∷ unposted) (h ∷ homes) = CanPost s (ends_with (home_in leads s.who h) (handed_from p 0 ends)) × CanPostPlain (p + 1) ends leads unposted homes
 CanPostPlain _ _ _ _ _ = ⊥
 
 -- what the order is for one party
@@ -110,28 +110,28 @@ in_turn leads n (who.Iface m k) ws h = record { next = n; home = λ x. refl; lef
 in_turn leads n (who.App m k) ws h = record { next = n; home = λ x. refl; left = refl; order = h }
 in_turn leads n (who.Link k) ws h = record { next = n; home = λ x. refl; left = refl; order = h }
 
-posts_plain_at : (p n : ℕ) (ends : List (List Pair)) (leads : List Lead) (seats : List Seat) (homes : List (Option PlainHome)) → InOrder n (map (λ (s : Seat). s.who) seats)
-    → posts_from p ends (drop n leads) seats homes ≡ plain_posts p ends leads seats homes
+posts_plain_at : (p n : ℕ) (ends : List (List Pair)) (leads : List Lead) (unposted : List Unposted) (homes : List (Option PlainHome)) → InOrder n (map (λ (s : Unposted). s.who) unposted)
+    → posts_from p ends (drop n leads) unposted homes ≡ plain_posts p ends leads unposted homes
 posts_plain_at p n ends leads [] homes h = refl
-posts_plain_at p n ends leads (s ∷ seats) [] h = refl
-posts_plain_at p n ends leads (s ∷ seats) (x ∷ homes) h =
-    let t = in_turn leads n s.who (map (λ (r : Seat). r.who) seats) h in
-    (λ i. post_with s (ends_with (t.home x i) (handed_from p 0 ends)) ∷ posts_from (p + 1) ends (t.left i) seats homes)
-    ∙ ap (λ ps. post_with s (ends_with (home_in leads s.who x) (handed_from p 0 ends)) ∷ ps) (posts_plain_at (p + 1) t.next ends leads seats homes t.order)
+posts_plain_at p n ends leads (s ∷ unposted) [] h = refl
+posts_plain_at p n ends leads (s ∷ unposted) (x ∷ homes) h =
+    let t = in_turn leads n s.who (map (λ (r : Unposted). r.who) unposted) h in
+    (λ i. post_with s (ends_with (t.home x i) (handed_from p 0 ends)) ∷ posts_from (p + 1) ends (t.left i) unposted homes)
+    ∙ ap (λ ps. post_with s (ends_with (home_in leads s.who x) (handed_from p 0 ends)) ∷ ps) (posts_plain_at (p + 1) t.next ends leads unposted homes t.order)
 
-pub posts_plain : (ends : List (List Pair)) (leads : List Lead) (seats : List Seat) (homes : List (Option PlainHome)) → InOrder 0 (map (λ (s : Seat). s.who) seats) → posts_from 0 ends leads seats homes ≡ plain_posts 0 ends leads seats homes
-posts_plain ends leads seats homes h = posts_plain_at 0 0 ends leads seats homes h
+pub posts_plain : (ends : List (List Pair)) (leads : List Lead) (unposted : List Unposted) (homes : List (Option PlainHome)) → InOrder 0 (map (λ (s : Unposted). s.who) unposted) → posts_from 0 ends leads unposted homes ≡ plain_posts 0 ends leads unposted homes
+posts_plain ends leads unposted homes h = posts_plain_at 0 0 ends leads unposted homes h
 
-can_plain_at : (p n : ℕ) (ends : List (List Pair)) (leads : List Lead) (seats : List Seat) (homes : List (Option PlainHome)) → InOrder n (map (λ (s : Seat). s.who) seats) → CanPostPlain p ends leads seats homes
-    → CanPostFrom p ends (drop n leads) seats homes
+can_plain_at : (p n : ℕ) (ends : List (List Pair)) (leads : List Lead) (unposted : List Unposted) (homes : List (Option PlainHome)) → InOrder n (map (λ (s : Unposted). s.who) unposted) → CanPostPlain p ends leads unposted homes
+    → CanPostFrom p ends (drop n leads) unposted homes
 can_plain_at p n ends leads [] [] h can = tt
-can_plain_at p n ends leads (s ∷ seats) (x ∷ homes) h can =
-    let t = in_turn leads n s.who (map (λ (r : Seat). r.who) seats) h in (
+can_plain_at p n ends leads (s ∷ unposted) (x ∷ homes) h can =
+    let t = in_turn leads n s.who (map (λ (r : Unposted). r.who) unposted) h in (
       subst (λ o. CanPost s (ends_with o (handed_from p 0 ends))) (sym (t.home x)) can.0,
-      subst (λ ls. CanPostFrom (p + 1) ends ls seats homes) (sym t.left) (can_plain_at (p + 1) t.next ends leads seats homes t.order can.1),
+      subst (λ ls. CanPostFrom (p + 1) ends ls unposted homes) (sym t.left) (can_plain_at (p + 1) t.next ends leads unposted homes t.order can.1),
     )
 can_plain_at p n ends leads [] (x ∷ homes) h can = absurd can
-can_plain_at p n ends leads (s ∷ seats) [] h can = absurd can
+can_plain_at p n ends leads (s ∷ unposted) [] h can = absurd can
 
-pub can_plain : (ends : List (List Pair)) (leads : List Lead) (seats : List Seat) (homes : List (Option PlainHome)) → InOrder 0 (map (λ (s : Seat). s.who) seats) → CanPostPlain 0 ends leads seats homes → CanPostFrom 0 ends leads seats homes
-can_plain ends leads seats homes h can = can_plain_at 0 0 ends leads seats homes h can
+pub can_plain : (ends : List (List Pair)) (leads : List Lead) (unposted : List Unposted) (homes : List (Option PlainHome)) → InOrder 0 (map (λ (s : Unposted). s.who) unposted) → CanPostPlain 0 ends leads unposted homes → CanPostFrom 0 ends leads unposted homes
+can_plain ends leads unposted homes h can = can_plain_at 0 0 ends leads unposted homes h can

@@ -27,9 +27,9 @@ use Rattle.csp_opening.specs.Handed.{handed_from}
 use Rattle.csp_opening.specs.Opened.{AreNodesWith, ends_in, lead_in, queues_in, region_in}
 use Rattle.csp_opening.specs.Parted.{part_home, parts_left}
 use Rattle.csp_opening.specs.Posted.{CanPost, ends_with, post_with}
-use Rattle.csp_opening.specs.Seated.{IsSeated, region_at, region_or, seat_name}
+use Rattle.csp_opening.specs.Unposted.{IsUnposted, region_at, region_or, unposted_name}
 use Rattle.csp_opening.specs.declared.nodes.Node.{Node}
-use Rattle.csp_opening.specs.declared.seats.Seat.{Seat}
+use Rattle.csp_opening.specs.declared.unposted.Unposted.{Unposted}
 use Rattle.csp_party.specs.Any.{uses}
 use Rattle.csp_posts.specs.Balance.{times_got, times_put}
 use Rattle.csp_posts.specs.Through.{IsThrough, WasCrammed}
@@ -93,17 +93,17 @@ home_region xs w (Some h) node region = ap (region_at xs) (sym node) ∙ by (sli
   by None e = absurd cc
 
 -- so it may have that in hand
-pub can_post : (scene : PlainScene) (xs : List Node) (ws : List Who) (p : ℕ) (s : Seat) (o : PlainOpening) → Laws scene → slice_get (parties_of scene) p ≡ Some o → seat_name s ≡ o → IsSeated xs s → IsPartyNew scene xs ws p s.who
+pub can_post : (scene : PlainScene) (xs : List Node) (ws : List Who) (p : ℕ) (s : Unposted) (o : PlainOpening) → Laws scene → slice_get (parties_of scene) p ≡ Some o → unposted_name s ≡ o → IsUnposted xs s → IsPartyNew scene xs ws p s.who
     → CanPost s (its_ends xs ws p s.who)
-can_post scene xs ws p s o laws at same seated new = record {
-  ready = seated.party.ready;
-  counted = seated.party.counted;
+can_post scene xs ws p s o laws at same unposted new = record {
+  ready = unposted.party.ready;
+  counted = unposted.party.counted;
   served = λ q r u.
       is_served scene (map queues_in xs) (map region_in xs) s.who (opened_in scene s.who) (its_ends xs ws p s.who) q r new.names new.ends new.home
       (subst (λ w. wired.IsServed scene w q r) (sym (ap (λ (z : PlainOpening). z.who) same)) (laws.served p o at q r (ap (λ (z : PlainOpening). uses z.party q) (sym same) ∙ u)));
   ends = new.ends;
-  region = seated.region ∙ home_region xs s.who (its_home xs ws s.who) new.home.among.node new.home.among.region;
-  unnoted = seated.unnoted;
+  region = unposted.region ∙ home_region xs s.who (its_home xs ws s.who) new.home.among.node new.home.among.region;
+  unnoted = unposted.unnoted;
 }
 
 -- nothing went through its ends
@@ -128,9 +128,9 @@ none_got k = none_through (times_got k) (λ s e. by s.puts (ap (λ is. times k (
   by false e = e
 
 -- it is a post of its party
-pub is_post : (scene : PlainScene) (xs : List Node) (ws : List Who) (p : ℕ) (s : Seat) (o : PlainOpening) → seat_name s ≡ o → IsSeated xs s → IsPartyNew scene xs ws p s.who
+pub is_post : (scene : PlainScene) (xs : List Node) (ws : List Who) (p : ℕ) (s : Unposted) (o : PlainOpening) → unposted_name s ≡ o → IsUnposted xs s → IsPartyNew scene xs ws p s.who
     → IsPostOf scene (network xs) o (post_with s (its_ends xs ws p s.who)).plain
-is_post scene xs ws p s o same seated new = subst (λ (z : PlainOpening). IsPostOf scene (network xs) z (post_with s (its_ends xs ws p s.who)).plain) same (record {
+is_post scene xs ws p s o same unposted new = subst (λ (z : PlainOpening). IsPostOf scene (network xs) z (post_with s (its_ends xs ws p s.who)).plain) same (record {
   who = refl;
   from = record {
     runs = record { run = tt; reached = refl };
@@ -139,7 +139,7 @@ is_post scene xs ws p s o same seated new = subst (λ (z : PlainOpening). IsPost
     traced = record { home = new.home.traced; sides = each (IsSideTraced []) (λ x h. traced x.puts x h.none) };
     marked = each (IsSideMarked []) (λ x h about. marked x (back_name x.queue) h.marks);
     balanced = λ k. (
-        let held = ap (times k) seated.party.holds in
+        let held = ap (times k) unposted.party.holds in
         let out = none_put k (handed_from p 0 (map ends_in xs)) empty in
         let came = none_got k (handed_from p 0 (map ends_in xs)) empty in
         let into = new.home.into k in

@@ -2,5 +2,5 @@ pub mod Handed
 pub mod Opened
 pub mod Parted
 pub mod Posted
-pub mod Seated
+pub mod Unposted
 pub mod Whole

@@ -1,6 +1,6 @@
 -- How the passes of nodes are parted among parties.
-use Rattle.std.specs.Prelude.{◌≡◌, ⊤, ℕ, zero, suc, true, Option, None, Some, List, [], ◌∷◌, IsSome, IsSomeAnd, slice_get}
-use Rattle.std.specs.Option.{option_map}
+use Rattle.std.specs.Prelude.{◌≡◌, ⊤, ℕ, zero, suc, true, Option, None, Some, List, [], ◌∷◌, IfSome, IsSome, IsSomeAnd, slice_get, unwrap_or}
+use Rattle.std.specs.Option.{option_and_then, option_map}
 use Rattle.csp_ends.specs.Ends.{PlainHome, PlainNodeQueues}
 use Rattle.csp_inbox.specs.Passes as inbox
 use Rattle.csp_log.specs.declared.places.TheConstants.{UNMARKED}
@@ -9,22 +9,23 @@ use Rattle.csp_pool.specs.Hands.{split_left, split_right}
 use Rattle.csp_pool.specs.PlainPool as pool
 use Rattle.csp_log.specs.declared.who.Who.{Who}
 use Rattle.csp_log.specs.declared.who.Who.TheVariants as who
+use Rattle.csp_topology.specs.Writers.{mark_for}
 
 -- a pass of a pool with this hand
 abbrev pub with_hand_of : Lead → (pool.PlainPass)
 with_hand_of l = record { pool = l.pool.pool; hand = split_left l.pool.hand }
 
--- the passes of a router or bridge once those of an interface were split off
-abbrev pub after_iface : ℕ → Lead → Lead
-after_iface number l = record { pool = with_hand_of l; inbox = inbox.parted_pass l.inbox number }
+-- the passes of a router or bridge once those of an interface that puts with this mark were split off
+abbrev pub after_iface : (mark : ℕ) → Lead → Lead
+after_iface mark l = record { pool = with_hand_of l; inbox = inbox.parted_pass l.inbox mark }
 
 -- and once that of an application was
 abbrev pub after_app : Lead → Lead
 after_app l = record { pool = with_hand_of l; inbox = l.inbox }
 
--- the home of an interface
-abbrev pub iface_home : ℕ → ℕ → Lead → PlainHome
-iface_home node number l = record { node = node; pool = record { pool = l.pool.pool; hand = split_right l.pool.hand }; inbox = Some (inbox.split_pass l.inbox number) }
+-- the home of an interface that puts with this mark
+abbrev pub iface_home : (node mark : ℕ) → Lead → PlainHome
+iface_home node mark l = record { node = node; pool = record { pool = l.pool.pool; hand = split_right l.pool.hand }; inbox = Some (inbox.split_pass l.inbox mark) }
 
 -- that of an application
 abbrev pub app_home : ℕ → Lead → PlainHome
@@ -42,7 +43,7 @@ changed (suc k) f (l ∷ leads) = l ∷ changed k f leads
 
 -- the home of a party, of what is split off: none of a router or a bridge, and none of a link
 abbrev pub part_home : List Lead → Who → Option PlainHome
-part_home leads (who.Iface node number) = option_map (iface_home node number) (slice_get leads node)
+part_home leads (who.Iface node number) = option_and_then (λ mark. option_map (iface_home node mark) (slice_get leads node)) (mark_for (who.Iface node number))
 part_home leads (who.App node _) = option_map (app_home node) (slice_get leads node)
 part_home leads (who.Router _) = None
 part_home leads (who.Bridge _) = None
@@ -50,7 +51,7 @@ part_home leads (who.Link _) = None
 
 -- what is left of the passes then
 abbrev pub part_left : List Lead → Who → List Lead
-part_left leads (who.Iface node number) = changed node (after_iface number) leads
+part_left leads (who.Iface node number) = unwrap_or (option_map (λ mark. changed node (after_iface mark) leads) (mark_for (who.Iface node number))) leads
 part_left leads (who.App node _) = changed node after_app leads
 part_left leads (who.Router _) = leads
 part_left leads (who.Bridge _) = leads
@@ -86,7 +87,7 @@ AreLeadsOf _ _ = ⊥
 
 -- the passes of a party can be split off: it is of one of these nodes, and no other has its mark
 abbrev pub CanPart : List Lead → Who → Type 0
-CanPart leads (who.Iface node number) = IsSomeAnd (slice_get leads node) (λ l. inbox.IsFree l.inbox number)
+CanPart leads (who.Iface node number) = IfSome (mark_for (who.Iface node number)) (λ mark. IsSomeAnd (slice_get leads node) (λ l. inbox.IsFree l.inbox mark))
 CanPart leads (who.App node _) = IsSome (slice_get leads node)
 CanPart leads (who.Router _) = ⊤
 CanPart leads (who.Bridge _) = ⊤

@@ -9,7 +9,7 @@ use Rattle.csp_opening.specs.Handed.{handed_from}
 use Rattle.csp_opening.specs.Parted.{home_with, leads_past}
 use Rattle.csp_opening.specs.declared.homes.Lead.{Lead}
 use Rattle.csp_opening.specs.declared.lanes.Pair.{Pair}
-use Rattle.csp_opening.specs.declared.seats.Seat.{Seat}
+use Rattle.csp_opening.specs.declared.unposted.Unposted.{Unposted}
 use Rattle.csp_party.specs.Any.{plain, region_of, is_ready, count, uses, has_ended}
 use Rattle.csp_posts.specs.Seen.{SeenPost}
 
@@ -18,11 +18,11 @@ abbrev pub ends_with : Option PlainHome → List PlainSide → PlainEnds
 ends_with home sides = record { home = home; sides = sides }
 
 -- a party with this in hand, before its first turn
-abbrev pub post_with : Seat → PlainEnds → SeenPost
+abbrev pub post_with : Unposted → PlainEnds → SeenPost
 post_with s e = record { plain = record { who = s.who; party = plain s.party; entries = []; ends = e }; spare = 0; room = vec_capacity s.numbers }
 
 -- it may have it
-pub record CanPost (s : Seat) (e : PlainEnds) : Type 0 where
+pub record CanPost (s : Unposted) (e : PlainEnds) : Type 0 where
   pub ready : has_ended (plain s.party) ≡ false → is_ready (plain s.party) 0
   pub counted : count (plain s.party) ≡ 0
   pub served : (q : QueueId) (r : Rule) → uses (plain s.party) q ≡ Some r → rule_of e q ≡ Some r
@@ -31,28 +31,28 @@ pub record CanPost (s : Seat) (e : PlainEnds) : Type 0 where
   pub unnoted : s.numbers.items ≡ []
 
 -- parties as posts, from this place on: with the passes of routers and bridges, what was split off for the others, and the ends of these lanes
-abbrev pub posts_from : ℕ → List (List Pair) → List Lead → List Seat → List (Option PlainHome) → List SeenPost
+abbrev pub posts_from : ℕ → List (List Pair) → List Lead → List Unposted → List (Option PlainHome) → List SeenPost
 posts_from p nodes leads [] homes = []
-posts_from p nodes leads (s ∷ seats) [] = []
-posts_from p nodes leads (s ∷ seats) (h ∷ homes) =
-    post_with s (ends_with (home_with leads s.who h) (handed_from p 0 nodes)) ∷ posts_from (p + 1) nodes (leads_past leads s.who) seats homes
+posts_from p nodes leads (s ∷ unposted) [] = []
+posts_from p nodes leads (s ∷ unposted) (h ∷ homes) =
+    post_with s (ends_with (home_with leads s.who h) (handed_from p 0 nodes)) ∷ posts_from (p + 1) nodes (leads_past leads s.who) unposted homes
 
 -- each may have that
-abbrev pub CanPostFrom : ℕ → List (List Pair) → List Lead → List Seat → List (Option PlainHome) → Type 0
+abbrev pub CanPostFrom : ℕ → List (List Pair) → List Lead → List Unposted → List (Option PlainHome) → Type 0
 CanPostFrom p nodes leads [] [] = ⊤
-CanPostFrom p nodes leads (s ∷ seats) (h ∷ homes) =
-    CanPost s (ends_with (home_with leads s.who h) (handed_from p 0 nodes)) × CanPostFrom (p + 1) nodes (leads_past leads s.who) seats homes
+CanPostFrom p nodes leads (s ∷ unposted) (h ∷ homes) =
+    CanPost s (ends_with (home_with leads s.who h) (handed_from p 0 nodes)) × CanPostFrom (p + 1) nodes (leads_past leads s.who) unposted homes
 CanPostFrom _ _ _ _ _ = ⊥
 
 -- the same, where these lists are what each party was handed
-abbrev pub posts_with : List Lead → List Seat → List (Option PlainHome) → List (Vec PlainSide) → List SeenPost
-posts_with leads (s ∷ seats) (h ∷ homes) (v ∷ sides) = post_with s (ends_with (home_with leads s.who h) v.items) ∷ posts_with (leads_past leads s.who) seats homes sides
+abbrev pub posts_with : List Lead → List Unposted → List (Option PlainHome) → List (Vec PlainSide) → List SeenPost
+posts_with leads (s ∷ unposted) (h ∷ homes) (v ∷ sides) = post_with s (ends_with (home_with leads s.who h) v.items) ∷ posts_with (leads_past leads s.who) unposted homes sides
 posts_with leads [] homes sides = []
-posts_with leads (s ∷ seats) [] sides = []
-posts_with leads (s ∷ seats) (h ∷ homes) [] = []
+posts_with leads (s ∷ unposted) [] sides = []
+posts_with leads (s ∷ unposted) (h ∷ homes) [] = []
 
 -- and each may have that
-abbrev pub CanPostAll : List Lead → List Seat → List (Option PlainHome) → List (Vec PlainSide) → Type 0
+abbrev pub CanPostAll : List Lead → List Unposted → List (Option PlainHome) → List (Vec PlainSide) → Type 0
 CanPostAll leads [] homes sides = ⊤
-CanPostAll leads (s ∷ seats) (h ∷ homes) (v ∷ sides) = CanPost s (ends_with (home_with leads s.who h) v.items) × CanPostAll (leads_past leads s.who) seats homes sides
+CanPostAll leads (s ∷ unposted) (h ∷ homes) (v ∷ sides) = CanPost s (ends_with (home_with leads s.who h) v.items) × CanPostAll (leads_past leads s.who) unposted homes sides
 CanPostAll _ _ _ _ = ⊥

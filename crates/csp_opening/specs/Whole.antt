@@ -14,7 +14,7 @@ use Rattle.csp_opening.specs.declared.lists.Blanks.{Blanks}
 use Rattle.csp_opening.specs.declared.lists.Lists.{Lists}
 use Rattle.csp_opening.specs.declared.nodes.Node.{Node}
 use Rattle.csp_opening.specs.declared.parting.Parts.{Parts}
-use Rattle.csp_opening.specs.declared.seats.Seat.{Seat}
+use Rattle.csp_opening.specs.declared.unposted.Unposted.{Unposted}
 use Rattle.csp_posts.specs.Seen.{SeenPost}
 use Rattle.csp_log.specs.declared.who.Who.{Who}
 use Rattle.csp_standing.specs.declared.fabric.NodeRooms.{NodeRooms}
@@ -71,36 +71,36 @@ pub record HavePartRoom (more : ℕ) (p : Parts) : Type 0 where
   pub ends : vec_len p.ends + more ≤ vec_capacity p.ends
 
 -- who these parties are
-abbrev pub whos : List Seat → List Who
-whos seats = map (λ (s : Seat). s.who) seats
+abbrev pub whos : List Unposted → List Who
+whos unposted = map (λ (s : Unposted). s.who) unposted
 
 -- parties as posts, where these are the ends of the lanes of nodes, and the passes that opened their pools and inboxes
-abbrev pub posts_among : List (List Pair) → List Lead → List Seat → List SeenPost
-posts_among ends leads seats = posts_from 0 ends (parts_left leads (whos seats)) seats (part_homes leads (whos seats))
+abbrev pub posts_among : List (List Pair) → List Lead → List Unposted → List SeenPost
+posts_among ends leads unposted = posts_from 0 ends (parts_left leads (whos unposted)) unposted (part_homes leads (whos unposted))
 
 -- the parties of these nodes as posts
-abbrev pub posts_of : List Node → List Seat → List SeenPost
-posts_of nodes seats = posts_among (map ends_in nodes) (map lead_in nodes) seats
+abbrev pub posts_of : List Node → List Unposted → List SeenPost
+posts_of nodes unposted = posts_among (map ends_in nodes) (map lead_in nodes) unposted
 
 -- these ends and passes can be handed out: each party may have what it is handed, and there is room for it
-pub record CanShare (sides : List (Vec PlainSide)) (ends : List (List Pair)) (nodes : List PlainNodeQueues) (leads : List Lead) (seats : List Seat) : Type 0 where
-  pub count : length sides ≡ length seats
+pub record CanShare (sides : List (Vec PlainSide)) (ends : List (List Pair)) (nodes : List PlainNodeQueues) (leads : List Lead) (unposted : List Unposted) : Type 0 where
+  pub count : length sides ≡ length unposted
   pub blank : (p : ℕ) → list_at sides p ≡ []
   pub low : length ends < 256
   pub few : AllByRecursion (λ (pairs : List Pair). length pairs < 256) ends
   pub among : AllByRecursion (λ (pairs : List Pair). AllByRecursion (IsAmong (length sides)) pairs) ends
   pub room : HaveRoom sides (λ p. length (handed_from p 0 ends))
   pub lead : AreLeadsOf nodes leads
-  pub part : CanPartAll leads (whos seats)
-  pub opening : AllByRecursion IsOpening (parts_left leads (whos seats))
-  pub post : CanPostFrom 0 ends (parts_left leads (whos seats)) seats (part_homes leads (whos seats))
+  pub part : CanPartAll leads (whos unposted)
+  pub opening : AllByRecursion IsOpening (parts_left leads (whos unposted))
+  pub post : CanPostFrom 0 ends (parts_left leads (whos unposted)) unposted (part_homes leads (whos unposted))
 
 -- so can those in these hands, with no home in the list of homes yet
-pub record CanHandOut (h : Hands) (nodes : List PlainNodeQueues) (seats : List Seat) : Type 0 where
-  pub share : CanShare h.sides.items (map (λ (pairs : Vec Pair). pairs.items) h.ends.items) nodes h.leads.items seats
+pub record CanHandOut (h : Hands) (nodes : List PlainNodeQueues) (unposted : List Unposted) : Type 0 where
+  pub share : CanShare h.sides.items (map (λ (pairs : Vec Pair). pairs.items) h.ends.items) nodes h.leads.items unposted
   pub homes : h.homes.items ≡ []
-  pub homes_room : length seats ≤ vec_capacity h.homes
+  pub homes_room : length unposted ≤ vec_capacity h.homes
 
 -- so can those of these nodes
-abbrev pub CanAssemble : List (Vec PlainSide) → List Node → List Seat → Type 0
-CanAssemble sides nodes seats = CanShare sides (map ends_in nodes) (map queues_in nodes) (map lead_in nodes) seats
+abbrev pub CanAssemble : List (Vec PlainSide) → List Node → List Unposted → Type 0
+CanAssemble sides nodes unposted = CanShare sides (map ends_in nodes) (map queues_in nodes) (map lead_in nodes) unposted

@@ -6,8 +6,8 @@ ghost use Rattle.csp_opening.specs.Whole.{CanHandOut, posts_among};
 use crate::homes::{Lead, part_passes};
 use crate::lanes::Pair;
 use crate::posts::post_all;
-use crate::seats::Seat;
 use crate::sides::hand_out;
+use crate::unposted::Unposted;
 use csp_ends::{Home, Queues, Side};
 use csp_posts::Post;
 use std::alloc::Global;
@@ -31,12 +31,12 @@ impl Hands {
         self,
         alloc: Global,
         queues: &Queues,
-        seats: Vec<Seat>,
+        unposted: Vec<Unposted>,
         posts: &mut Vec<Post>,
     )
-        requires can { CanHandOut self queues.now seats.items }
-        requires room { vec_len posts.old + length seats.items ≤ vec_capacity posts.old }
-        ensures { posts.new.items ≡ posts.old.items ++ posts_among (map (λ pairs. pairs.items) self.ends.items) self.leads.items seats.items }
+        requires can { CanHandOut self queues.now unposted.items }
+        requires room { vec_len posts.old + length unposted.items ≤ vec_capacity posts.old }
+        ensures { posts.new.items ≡ posts.old.items ++ posts_among (map (λ pairs. pairs.items) self.ends.items) self.leads.items unposted.items }
     {
         let Hands {
             mut leads,
@@ -45,7 +45,7 @@ impl Hands {
             mut homes,
         } = self;
         hand_out(ends, &mut sides);
-        part_passes(queues, &seats, &mut leads, &mut homes);
-        post_all(alloc, seats, leads, homes, sides, posts);
+        part_passes(queues, &unposted, &mut leads, &mut homes);
+        post_all(alloc, unposted, leads, homes, sides, posts);
     }
 }

@@ -12,8 +12,8 @@ mod nodes;
 mod opening;
 mod parting;
 mod posts;
-mod seats;
 mod sides;
+mod unposted;
 
 pub use nodes::{Node, leave_nodes, open_nodes};
 pub use opening::open_fabric;

@@ -3,7 +3,7 @@
 ghost use Rattle.std.specs.Prelude.{◌≡◌, [], IfOk, IfSome, length, map};
 ghost use Rattle.std.specs.List.{AllByRecursion};
 ghost use Rattle.csp_opening.specs.Opened.{AreNodesWith, AreWired, queues_in};
-ghost use Rattle.csp_opening.specs.Seated.{IsSeated, seat_name};
+ghost use Rattle.csp_opening.specs.Unposted.{IsUnposted, unposted_name};
 ghost use Rattle.csp_opening.specs.Whole.{AreBlanks, AreLists, CanAssemble, posts_of, rooms_in, store_in};
 ghost use Rattle.csp_posts.specs.Books.{IsFresh};
 ghost use Rattle.csp_scene.specs.Kept.{AreLinksAfter};
@@ -16,7 +16,7 @@ use crate::hands::Hands;
 use crate::lists::{Blanks, Lists};
 use crate::nodes::{Node, leave_nodes, open_nodes};
 use crate::parting::Parts;
-use crate::seats::{Seat, open_seats};
+use crate::unposted::{Unposted, open_unposted};
 use csp_ends::Queues;
 use csp_posts::Post;
 use csp_scene::Scene;
@@ -58,8 +58,8 @@ pub fn open_fabric<R: Wait>(
         parties,
     } = Topology::of(alloc, scene)?;
     let blanks = Blanks::open(alloc, parties.len() as u16, &lanes)?;
-    let (lists, nodes, seats) = open_all(rt, alloc, &plans, &lanes, parties)?;
-    Ok(assemble(alloc, lanes, blanks, lists, nodes, seats))
+    let (lists, nodes, unposted) = open_all(rt, alloc, &plans, &lanes, parties)?;
+    Ok(assemble(alloc, lanes, blanks, lists, nodes, unposted))
 }
 
 /// Opens the nodes with these plans and the lanes of these wires, and these parties.
@@ -69,17 +69,17 @@ fn open_all<R: Wait>(
     nodes: &[NodePlan],
     wires: &[Vec<Wire>],
     parties: Vec<Opening>,
-) -> Result<(Lists, Vec<Node>, Vec<Seat>), AllocError>
+) -> Result<(Lists, Vec<Node>, Vec<Unposted>), AllocError>
     requires wired { AreWired nodes.now wires.now }
     requires parties { AreParties (length nodes.now) parties.items }
     ensures lists { IfOk result (λ r. AreLists (length parties.items) (length nodes.now) r.0) }
     ensures nodes { IfOk result (λ r. AreNodesWith nodes.now (map (λ ws. ws.items) wires.now) r.1.items) }
-    ensures names { IfOk result (λ r. map seat_name r.2.items ≡ map opening_of parties.items) }
-    ensures seated { IfOk result (λ r. AllByRecursion (IsSeated r.1.items) r.2.items) }
+    ensures names { IfOk result (λ r. map unposted_name r.2.items ≡ map opening_of parties.items) }
+    ensures unposted { IfOk result (λ r. AllByRecursion (IsUnposted r.1.items) r.2.items) }
 {
     let lists = Lists::open(alloc, parties.len(), nodes.len())?;
     match open_members(rt, alloc, nodes, wires, parties) {
-        Ok((nodes, seats)) => Ok((lists, nodes, seats)),
+        Ok((nodes, unposted)) => Ok((lists, nodes, unposted)),
         Err(error) => {
             lists.leave();
             Err(error)
@@ -94,16 +94,16 @@ fn open_members<R: Wait>(
     nodes: &[NodePlan],
     wires: &[Vec<Wire>],
     parties: Vec<Opening>,
-) -> Result<(Vec<Node>, Vec<Seat>), AllocError>
+) -> Result<(Vec<Node>, Vec<Unposted>), AllocError>
     requires wired { AreWired nodes.now wires.now }
     requires parties { AreParties (length nodes.now) parties.items }
     ensures nodes { IfOk result (λ r. AreNodesWith nodes.now (map (λ ws. ws.items) wires.now) r.0.items) }
-    ensures names { IfOk result (λ r. map seat_name r.1.items ≡ map opening_of parties.items) }
-    ensures seated { IfOk result (λ r. AllByRecursion (IsSeated r.0.items) r.1.items) }
+    ensures names { IfOk result (λ r. map unposted_name r.1.items ≡ map opening_of parties.items) }
+    ensures unposted { IfOk result (λ r. AllByRecursion (IsUnposted r.0.items) r.1.items) }
 {
     let nodes = open_nodes(rt, alloc, nodes, wires)?;
-    match open_seats(alloc, parties, &nodes) {
-        Ok(seats) => Ok((nodes, seats)),
+    match open_unposted(alloc, parties, &nodes) {
+        Ok(unposted) => Ok((nodes, unposted)),
         Err(error) => {
             leave_nodes(rt, nodes);
             Err(error)
@@ -118,11 +118,11 @@ fn assemble(
     blanks: Blanks,
     lists: Lists,
     nodes: Vec<Node>,
-    seats: Vec<Seat>,
+    unposted: Vec<Unposted>,
 ) -> (Fabric, Vec<Post>)
-    requires blanks { AreBlanks (length seats.items) (length nodes.items) wires.items blanks }
-    requires lists { AreLists (length seats.items) (length nodes.items) lists }
-    requires can { CanAssemble blanks.sides.items nodes.items seats.items }
+    requires blanks { AreBlanks (length unposted.items) (length nodes.items) wires.items blanks }
+    requires lists { AreLists (length unposted.items) (length nodes.items) lists }
+    requires can { CanAssemble blanks.sides.items nodes.items unposted.items }
     ensures queues { result.0.queues ≡ map queues_in nodes.items }
     ensures stores { result.0.stores.items ≡ map store_in nodes.items }
     ensures rooms { result.0.rooms.items ≡ map rooms_in nodes.items }
@@ -130,7 +130,7 @@ fn assemble(
     ensures notes { result.0.notes ≡ blanks.notes }
     ensures logs { result.0.logs ≡ blanks.logs }
     ensures retired { result.0.retired ≡ lists.retired }
-    ensures posts { result.1.items ≡ posts_of nodes.items seats.items }
+    ensures posts { result.1.items ≡ posts_of nodes.items unposted.items }
 {
     let Lists {
         mut posts,
@@ -161,7 +161,7 @@ fn assemble(
         sides: blanks.sides,
         homes: blanks.homes,
     };
-    hands.post(alloc, &queues, seats, &mut posts);
+    hands.post(alloc, &queues, unposted, &mut posts);
     let fabric = Fabric {
         queues,
         stores,

@@ -7,19 +7,19 @@ ghost use Rattle.csp_opening.specs.Posted.{CanPost, CanPostAll, post_with, posts
 
 use crate::homes::{Lead, home_of};
 use crate::next::next;
-use crate::seats::Seat;
+use crate::unposted::Unposted;
 use csp_ends::{Ends, Home, Side};
 use csp_posts::Post;
 use std::alloc::Global;
 use std::collections::VecDeque;
 
-impl Seat {
+impl Unposted {
     /// The party with these ends of queues in hand.
     fn post(self, alloc: Global, ends: Ends) -> Post
         requires { CanPost self ends }
         ensures { result ≡ post_with self ends }
     {
-        let Seat {
+        let Unposted {
             who,
             party,
             desk,
@@ -32,25 +32,25 @@ impl Seat {
 /// Appends parties as posts, each with its passes and its ends of lanes: routers and bridges have those passes that are left, in their order.
 pub(crate) fn post_all(
     alloc: Global,
-    seats: Vec<Seat>,
+    unposted: Vec<Unposted>,
     leads: Vec<Lead>,
     homes: Vec<Option<Home>>,
     sides: Vec<Vec<Side>>,
     posts: &mut Vec<Post>,
 )
     requires opening { AllByRecursion IsOpening leads.items }
-    requires can { CanPostAll leads.items seats.items homes.items sides.items }
-    requires room { vec_len posts.old + length seats.items ≤ vec_capacity posts.old }
-    ensures { posts.new.items ≡ posts.old.items ++ posts_with leads.items seats.items homes.items sides.items }
+    requires can { CanPostAll leads.items unposted.items homes.items sides.items }
+    requires room { vec_len posts.old + length unposted.items ≤ vec_capacity posts.old }
+    ensures { posts.new.items ≡ posts.old.items ++ posts_with leads.items unposted.items homes.items sides.items }
 {
     let mut leads = VecDeque::from_vec(leads);
     let mut homes = VecDeque::from_vec(homes);
     let mut sides = VecDeque::from_vec(sides);
-    let mut seats = VecDeque::from_vec(seats);
-    while let Some(seat) = seats.pop_front() {
-        let home = home_of(seat.who, &mut leads, next(&mut homes));
+    let mut unposted = VecDeque::from_vec(unposted);
+    while let Some(one) = unposted.pop_front() {
+        let home = home_of(one.who, &mut leads, next(&mut homes));
         let sides = next(&mut sides);
-        posts.push_reserved(seat.post(alloc, Ends { home, sides }));
+        posts.push_reserved(one.post(alloc, Ends { home, sides }));
     }
-    seats.destroy_empty();
+    unposted.destroy_empty();
 }

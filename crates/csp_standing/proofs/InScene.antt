@@ -15,12 +15,13 @@ use Rattle.csp_standing.proofs.Leaders.{Hubs, home_in, hub_at, pass_marked}
 use Rattle.csp_standing.proofs.Places.{all_from, home_named, post_at}
 use Rattle.csp_standing.proofs.Sides.{JoinsAll, all_wired}
 use Rattle.csp_standing.proofs.Tracing.{queues_at}
-use Rattle.csp_standing.specs.Network.{AreNodesOf, IsNetworkOf, PlainNetwork, mark_for}
+use Rattle.csp_standing.specs.Network.{AreNodesOf, IsNetworkOf, PlainNetwork}
 use Rattle.csp_standing.specs.Shown.{AreOfScene, HasPassAt, IsReadAt}
 use Rattle.csp_topology.specs.Lanes.{PlainLane, leader_of}
 use Rattle.csp_topology.specs.Parties.{parties_of}
 use Rattle.csp_topology.specs.Wired.{IsWire}
 use Rattle.csp_topology.specs.Wires.{lanes_of, wires_of}
+use Rattle.csp_topology.specs.Writers.{mark_for}
 
 -- a pass of the inbox of a node has the room of the scene's
 room_of : (ms : List PlainNode) (wires : List (List PlainLane)) (qs : List PlainNodeQueues) (k : ℕ) (m : PlainNode) (p : inbox.PlainPass) → AreNodesOf ms wires qs → slice_get ms k ≡ Some m

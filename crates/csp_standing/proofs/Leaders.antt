@@ -13,11 +13,13 @@ use Rattle.csp_log.specs.declared.who.Who.{Who}
 use Rattle.csp_log.specs.declared.who.Who.TheVariants as who
 use Rattle.csp_scene.specs.Scene.{PlainScene, PlainNode}
 use Rattle.csp_standing.proofs.Places.{home_named, post_at, post_of}
-use Rattle.csp_standing.specs.Network.{IsHomeIn, IsNetworkOf, IsPostOf, PlainNetwork, leads, mark_for}
+use Rattle.csp_standing.specs.Network.{IsHomeIn, IsNetworkOf, IsPostOf, PlainNetwork}
 use Rattle.csp_standing.specs.Standing.{HaveLeaders}
 use Rattle.csp_topology.specs.Lanes.{leader_of}
 use Rattle.csp_topology.specs.Parties.{PlainOpening, parties_of}
 use Rattle.csp_topology.specs.Wired.{IsLed, Stands, is_leader}
+use Rattle.csp_topology.proofs.Public.{hub_mark}
+use Rattle.csp_topology.specs.Writers.{mark_for}
 
 -- what csp_topology says of who leads
 abbrev pub Led : Type 0
@@ -27,25 +29,13 @@ Led = (scene : PlainScene) (j : ℕ) (o : PlainOpening) → slice_get (parties_o
 abbrev pub Hubs : Type 0
 Hubs = (scene : PlainScene) (node : ℕ) (n : PlainNode) → slice_get scene.nodes node ≡ Some n → Stands scene (leader_of node n.addr)
 
--- who leads is a router or a bridge
-pub leads_hub : (w : Who) → leads w ≡ is_leader w
-leads_hub (who.Router n) = refl
-leads_hub (who.Bridge n) = refl
-leads_hub (who.Iface n k) = refl
-leads_hub (who.App n k) = refl
-leads_hub (who.Link k) = refl
-
-pub hub_leads : (node : ℕ) (addr : Option ℕ) → leads (leader_of node addr) ≡ true
+pub hub_leads : (node : ℕ) (addr : Option ℕ) → is_leader (leader_of node addr) ≡ true
 hub_leads node (Some a) = refl
 hub_leads node None = refl
 
 pub hub_node : (node : ℕ) (addr : Option ℕ) → node_of (leader_of node addr) ≡ Some node
 hub_node node (Some a) = refl
 hub_node node None = refl
-
-hub_mark : (node : ℕ) (addr : Option ℕ) → mark_for (leader_of node addr) ≡ Some UNMARKED
-hub_mark node (Some a) = refl
-hub_mark node None = refl
 
 pub pass_marked : (x : Option PlainPass) (m : ℕ) → option_map (λ (p : PlainPass). p.role.mark) x ≡ Some m → (p : PlainPass) × (x ≡ Some p) × (p.role.mark ≡ m)
 pass_marked (Some p) m e = (p, refl, same_Some p.role.mark m e)
@@ -59,9 +49,9 @@ pub node_in : (scene : PlainScene) (n : PlainNetwork) (o : PlainOpening) (s : Pl
 node_in scene n o s h post its = sym post.home.node ∙ ap (option_map (λ (x : PlainHome). x.node)) its
 
 -- who has the pass that reads the inbox leads
-reads_leads : (w : Who) (h : PlainHome) → IsHomeIn w h → meeting.leads h ≡ true → leads w ≡ true
+reads_leads : (w : Who) (h : PlainHome) → IsHomeIn w h → meeting.leads h ≡ true → is_leader w ≡ true
 reads_leads w h home lead = by h.inbox lead home.roles where
-  by : (x : Option PlainPass) → meeting.reads_inbox x ≡ true → IfSome x (λ p. (p.role.reads ≡ leads w) × (p.role.writes ≡ true)) → leads w ≡ true
+  by : (x : Option PlainPass) → meeting.reads_inbox x ≡ true → IfSome x (λ p. (p.role.reads ≡ is_leader w) × (p.role.writes ≡ true)) → is_leader w ≡ true
   by (Some p) e r = sym r.0 ∙ e
   by None e r = absurd (true≢false (sym e))
 
@@ -85,7 +75,7 @@ hub_at scene n posts net node addr stands =
     let home = home_named r.post.ends.home node (r.its.home.node ∙ ap node_of stands.named ∙ hub_node node addr) in
     let passes = home_in scene n stands.party r.post home.0 r.its home.1 in
     let pass = pass_marked home.0.inbox UNMARKED (passes.mark ∙ ap mark_for stands.named ∙ hub_mark node addr) in
-    let roles = subst (λ x. IfSome x (λ p. (p.role.reads ≡ leads stands.party.who) × (p.role.writes ≡ true))) pass.1 passes.roles in
+    let roles = subst (λ x. IfSome x (λ p. (p.role.reads ≡ is_leader stands.party.who) × (p.role.writes ≡ true))) pass.1 passes.roles in
     record {
       at = stands.place;
       post = r.post;
@@ -97,7 +87,7 @@ hub_at scene n posts net node addr stands =
       node = home.2;
       inbox = pass.1;
       mark = pass.2;
-      reads = roles.0 ∙ ap leads stands.named ∙ hub_leads node addr;
+      reads = roles.0 ∙ ap is_leader stands.named ∙ hub_leads node addr;
     }
 
 -- it stands where the topology has it
@@ -127,6 +117,6 @@ leaders led apart scene n posts net = record {
       let y = post_at scene n (parties_of scene) posts j s net.parties at_j in
       let a = led scene i x.party x.there g.node (node_in scene n x.party r g x.post its_r) in
       let b = led scene j y.party y.there g.node (node_in scene n y.party s h y.post its_s ∙ ap Some node) in
-      let is : is_leader x.party.who ≡ true = sym (leads_hub x.party.who) ∙ reads_leads x.party.who g (home_in scene n x.party r g x.post its_r) lead in
+      let is : is_leader x.party.who ≡ true = reads_leads x.party.who g (home_in scene n x.party r g x.post its_r) lead in
       subst (λ k. k ≤ j) (hub_place apart scene g.node i j x.party.who y.party.who a b ∙ a.alone is) b.first;
 }

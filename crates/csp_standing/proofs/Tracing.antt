@@ -15,12 +15,12 @@ use Rattle.csp_log.specs.Who.{node_of}
 use Rattle.csp_log.specs.declared.who.Who.{Who}
 use Rattle.csp_scene.specs.Links.{no_node, node_at}
 use Rattle.csp_scene.specs.Scene.{PlainNode, PlainScene}
-use Rattle.csp_standing.proofs.Leaders.{Apart, HasHub, Hubs, Led, hub_at, hub_leads, hub_node, hub_place_of, leads_hub, node_in}
+use Rattle.csp_standing.proofs.Leaders.{Apart, HasHub, Hubs, Led, hub_at, hub_leads, hub_node, hub_place_of, node_in}
 use Rattle.csp_standing.proofs.Places.{all_from, post_at}
-use Rattle.csp_standing.specs.Network.{AreNodesOf, IsNetworkOf, PlainNetwork, leads, opened_at, opened_in}
+use Rattle.csp_standing.specs.Network.{AreNodesOf, IsNetworkOf, PlainNetwork, opened_at, opened_in}
 use Rattle.csp_topology.specs.Lanes.{PlainLane, leader_of}
 use Rattle.csp_topology.specs.Parties.{parties_of}
-use Rattle.csp_topology.specs.Wired.{Stands}
+use Rattle.csp_topology.specs.Wired.{Stands, is_leader}
 use Rattle.csp_topology.specs.Wires.{wires_of}
 
 -- nothing adds up to nothing
@@ -55,12 +55,12 @@ queues_past (x ∷ ms) [] qs k h e = absurd h
 queues_past (x ∷ ms) (w ∷ wires) [] k h e = absurd h
 
 -- who doesn't lead put nothing in
-no_leader : (scene : PlainScene) (w : Who) (node : Option ℕ) → leads w ≡ false → length (opened_at scene w node) ≡ 0
+no_leader : (scene : PlainScene) (w : Who) (node : Option ℕ) → is_leader w ≡ false → length (opened_at scene w node) ≡ 0
 no_leader scene w None e = refl
 no_leader scene w (Some node) e = ap (λ b. length (if b then range_with_len 0 (node_at scene.nodes node).buffers else [])) e
 
 -- who leads put in all
-all_opened : (scene : PlainScene) (w : Who) (node : ℕ) (m : PlainNode) → leads w ≡ true → node_of w ≡ Some node → slice_get scene.nodes node ≡ Some m → length (opened_in scene w) ≡ m.buffers
+all_opened : (scene : PlainScene) (w : Who) (node : ℕ) (m : PlainNode) → is_leader w ≡ true → node_of w ≡ Some node → slice_get scene.nodes node ≡ Some m → length (opened_in scene w) ≡ m.buffers
 all_opened scene w node m lead at there =
     ap (λ o. length (opened_at scene w o)) at
     ∙ ap (λ b. length (if b then range_with_len 0 (node_at scene.nodes node).buffers else [])) lead
@@ -95,8 +95,8 @@ whole_node led apart scene n posts net node m there stands =
           let l = led scene k x.party x.there node (node_in scene n x.party s h x.post its ∙ ap Some here) in
           let same : l.n ≡ m = same_Some l.n m (sym l.there ∙ there) in
           let place : l.hub.place ≡ stands.place = apart scene l.hub.place stands.place l.hub.party stands.party l.hub.at stands.at (l.hub.named ∙ ap (λ (p : PlainNode). leader_of node p.addr) same ∙ sym stands.named) in
-          by (leads s.who) refl (λ lead. other (sym (l.alone (sym (leads_hub x.party.who) ∙ ap leads (sym x.post.who) ∙ lead)) ∙ place ∙ sym (hub_place_of scene n posts net node m.addr stands)))) where
-            by : (b : Bool) → leads s.who ≡ b → (leads s.who ≡ true → ⊥) → length (opened_in scene s.who) ≡ 0
+          by (is_leader s.who) refl (λ lead. other (sym (l.alone (ap is_leader (sym x.post.who) ∙ lead)) ∙ place ∙ sym (hub_place_of scene n posts net node m.addr stands)))) where
+            by : (b : Bool) → is_leader s.who ≡ b → (is_leader s.who ≡ true → ⊥) → length (opened_in scene s.who) ≡ 0
             by true e not = absurd (not e)
             by false e not = no_leader scene s.who (node_of s.who) e
 

@@ -15,7 +15,7 @@ use Rattle.csp_inbox.specs.Passes as inbox
 use Rattle.csp_inbox.specs.declared.hand.Role.{Role}
 use Rattle.csp_log.specs.declared.places.QueueId.TheVariants as queue
 use Rattle.csp_log.specs.declared.places.Rule.TheVariants as rule
-use Rattle.csp_standing.specs.Network.{PlainNetwork, SideName, name_of, leads, opened_in, IsHomeAmong, IsSideAmong, IsPostOf, ArePostsOf, IsShared, IsNetworkOf}
+use Rattle.csp_standing.specs.Network.{PlainNetwork, SideName, name_of, opened_in, IsHomeAmong, IsSideAmong, IsPostOf, ArePostsOf, IsShared, IsNetworkOf}
 use Rattle.csp_posts.proofs.Public.{turns_through, turns_full, turns_still, turns_post, turns_got, turns_early}
 use Rattle.csp_posts.specs.Between.{is_home}
 use Rattle.csp_posts.specs.Posts.{PlainPost, AreTurns}
@@ -25,6 +25,7 @@ use Rattle.csp_log.specs.declared.who.Who.{Who}
 use Rattle.csp_scene.specs.Links.{links_at}
 use Rattle.csp_scene.specs.Scene.{PlainScene}
 use Rattle.csp_topology.specs.Parties.{PlainOpening, parties_of}
+use Rattle.csp_topology.specs.Wired.{is_leader}
 
 -- the names of ends that stay
 names : (ss : List PlainSide) → map name_of (map still_side ss) ≡ map name_of ss
@@ -45,11 +46,11 @@ marks : (x : Option inbox.PlainPass) → option_map (λ x. x.role.mark) (option_
 marks None = refl
 marks (Some x) = refl
 
-roles_to : (w : Who) (x : Option inbox.PlainPass) → IfSome x (λ x. (x.role.reads ≡ leads w) × (x.role.writes ≡ true)) → IfSome (option_map still_inbox x) (λ x. (x.role.reads ≡ leads w) × (x.role.writes ≡ true))
+roles_to : (w : Who) (x : Option inbox.PlainPass) → IfSome x (λ x. (x.role.reads ≡ is_leader w) × (x.role.writes ≡ true)) → IfSome (option_map still_inbox x) (λ x. (x.role.reads ≡ is_leader w) × (x.role.writes ≡ true))
 roles_to w None h = tt
 roles_to w (Some x) h = h
 
-roles_from : (w : Who) (x : Option inbox.PlainPass) → IfSome (option_map still_inbox x) (λ x. (x.role.reads ≡ leads w) × (x.role.writes ≡ true)) → IfSome x (λ x. (x.role.reads ≡ leads w) × (x.role.writes ≡ true))
+roles_from : (w : Who) (x : Option inbox.PlainPass) → IfSome (option_map still_inbox x) (λ x. (x.role.reads ≡ is_leader w) × (x.role.writes ≡ true)) → IfSome x (λ x. (x.role.reads ≡ is_leader w) × (x.role.writes ≡ true))
 roles_from w None h = tt
 roles_from w (Some x) h = h
 
@@ -163,7 +164,7 @@ network_kept scene n posts after stay kept h = record {
   shared = λ k t f at lead there.
       let (s, was, stays) = stood posts after k t stay at in
       let (g, home, same) = was_home s.ends.home f (ap (λ (e : PlainEnds). e.home) (sym stays.still) ∙ ap (option_map still_home) there) in
-      shared_kept scene posts after g f stay same (h.shared k s g was (ap leads (sym stays.who) ∙ lead) home);
+      shared_kept scene posts after g f stay same (h.shared k s g was (ap is_leader (sym stays.who) ∙ lead) home);
 }
 
 -- after a round

@@ -26,6 +26,8 @@ use Rattle.csp_scene.specs.Scene.{PlainScene, PlainNode}
 use Rattle.csp_topology.specs.Lanes.{PlainLane}
 use Rattle.csp_topology.specs.Parties.{PlainOpening, parties_of}
 use Rattle.csp_topology.specs.Wires.{wires_of}
+use Rattle.csp_topology.specs.Wired.{is_leader}
+use Rattle.csp_topology.specs.Writers.{mark_for}
 
 -- a network: the queues of each node, and the region of each node's buffers
 pub record PlainNetwork : Type 0 where
@@ -64,25 +66,9 @@ sides_from w node (lanes ∷ nodes) = sides_among w node 0 lanes ++ sides_from w
 abbrev pub sides_of : PlainScene → Who → List SideName
 sides_of scene w = sides_from w 0 (wires_of scene)
 
--- the mark of a party's pass of the inbox, which only a router, a bridge or an interface has
-abbrev pub mark_for : Who → Option ℕ
-mark_for (who.Router _) = Some UNMARKED
-mark_for (who.Bridge _) = Some UNMARKED
-mark_for (who.Iface _ number) = Some number
-mark_for (who.App _ _) = None
-mark_for (who.Link _) = None
-
--- whether a party leads its node: it has the opening passes
-abbrev pub leads : Who → Bool
-leads (who.Router _) = true
-leads (who.Bridge _) = true
-leads (who.Iface _ _) = false
-leads (who.App _ _) = false
-leads (who.Link _) = false
-
 -- the numbers that a party's pass had put into the pool at the opening: the leader's all of the node
 abbrev pub opened_by : Who → ℕ → List ℕ
-opened_by w buffers = (if leads w then range_with_len 0 buffers else [])
+opened_by w buffers = (if is_leader w then range_with_len 0 buffers else [])
 
 -- the numbers that its pass had put into the pool of a scene's node at the opening
 abbrev pub opened_at : PlainScene → Who → Option ℕ → List ℕ
@@ -95,10 +81,10 @@ opened_in scene w = opened_at scene w (node_of w)
 
 -- a party's passes of its node: the leader has the opening ones, any other has passes that were split off, of the inbox under its mark
 pub record IsHomeIn (w : Who) (h : PlainHome) : Type 0 where
-  pub opens : h.pool.hand.opens ≡ (if leads w then 1 else 0)
-  pub part : h.pool.hand.part ≡ (if leads w then 0 else 1)
+  pub opens : h.pool.hand.opens ≡ (if is_leader w then 1 else 0)
+  pub part : h.pool.hand.part ≡ (if is_leader w then 0 else 1)
   pub mark : option_map (λ x. x.role.mark) h.inbox ≡ mark_for w
-  pub roles : IfSome h.inbox (λ x. (x.role.reads ≡ leads w) × (x.role.writes ≡ true))
+  pub roles : IfSome h.inbox (λ x. (x.role.reads ≡ is_leader w) × (x.role.writes ≡ true))
 
 -- its passes are of its node, whose buffers are of this region; a link has none
 pub record IsHomeAmong (regions : List RegionName) (w : Who) (home : Option PlainHome) : Type 0 where
@@ -152,4 +138,4 @@ pub record IsNetworkOf (scene : PlainScene) (n : PlainNetwork) (posts : List Pla
   pub nodes : AreNodesOf scene.nodes (wires_of scene) n.nodes
   pub regions : length n.regions ≡ length n.nodes
   pub parties : ArePostsOf scene n (parties_of scene) posts
-  pub shared : (k : ℕ) (s : PlainPost) (h : PlainHome) → slice_get posts k ≡ Some s → leads s.who ≡ true → s.ends.home ≡ Some h → IsShared scene posts h
+  pub shared : (k : ℕ) (s : PlainPost) (h : PlainHome) → slice_get posts k ≡ Some s → is_leader s.who ≡ true → s.ends.home ≡ Some h → IsShared scene posts h

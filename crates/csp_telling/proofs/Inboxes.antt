@@ -26,21 +26,22 @@ use Rattle.csp_log.specs.declared.who.Who.{Who}
 use Rattle.csp_log.specs.declared.who.Who.TheVariants as who
 use Rattle.csp_scene.specs.Scene.{PlainScene}
 use Rattle.csp_standing.proofs.Public.{all_at}
-use Rattle.csp_standing.specs.Network.{ArePostsOf, IsNetworkOf, PlainNetwork, leads}
+use Rattle.csp_standing.specs.Network.{ArePostsOf, IsNetworkOf, PlainNetwork}
 use Rattle.csp_telling.proofs.Marks.{among}
 use Rattle.csp_telling.specs.Closed.{log_of}
 use Rattle.csp_telling.specs.Remains.{kept_by, kept_from}
 use Rattle.csp_topology.specs.Parties.{PlainOpening, parties_of}
+use Rattle.csp_topology.specs.Wired.{is_leader}
 
 -- who doesn't lead its node pops no inbox
-no_pop : (w : Who) → leads w ≡ false → MayPop w queue.Inbox → ⊥
+no_pop : (w : Who) → is_leader w ≡ false → MayPop w queue.Inbox → ⊥
 no_pop (who.Router n) e may = absurd (true≢false e)
 no_pop (who.Bridge n) e may = absurd (true≢false e)
 no_pop (who.Iface n k) e may = may
 no_pop (who.App n k) e may = may
 no_pop (who.Link k) e may = may
 
-got_none : (w : Who) (o : OpShown) (a : AnswerShown) → leads w ≡ false → MayAsk w o → got_by queue.Inbox o a ≡ []
+got_none : (w : Who) (o : OpShown) (a : AnswerShown) → is_leader w ≡ false → MayAsk w o → got_by queue.Inbox o a ≡ []
 got_none w (op.Pop queue.Inbox) (answer.Popped i) e may = absurd (no_pop w e may)
 got_none w (op.Pop (queue.Up k)) (answer.Popped i) e may = refl
 got_none w (op.Pop (queue.Down k)) (answer.Popped i) e may = refl
@@ -49,7 +50,7 @@ got_none w (op.Pop (queue.Tx k)) (answer.Popped i) e may = refl
 got_none w (op.Pop (queue.Rx k)) (answer.Popped i) e may = refl
 got_none w _ _ e may = refl
 
-gets_none : (w : Who) (es : List Entry) → leads w ≡ false → AllByRecursion (λ x. MayAsk w x.op) es → gets queue.Inbox es ≡ []
+gets_none : (w : Who) (es : List Entry) → is_leader w ≡ false → AllByRecursion (λ x. MayAsk w x.op) es → gets queue.Inbox es ≡ []
 gets_none w [] e may = refl
 gets_none w (x ∷ es) e may = ap (λ is. is ++ gets queue.Inbox es) (got_none w x.op x.answer e may.0) ∙ gets_none w es e may.1
 
@@ -78,7 +79,7 @@ logs_of scene n (o ∷ os) [] are = absurd are
 abbrev pub UseOwn : Type 0
 UseOwn = (scene : PlainScene) (logs : List PlainPartyLog) → AreLogsOf (parties_of scene) logs → UseTheirQueues logs
 
-pub followers_get_none : UseOwn → (scene : PlainScene) (n : PlainNetwork) (posts : List PlainPost) → IsNetworkOf scene n posts → (i : ℕ) (s : PlainPost) → slice_get posts i ≡ Some s → leads s.who ≡ false → gets queue.Inbox s.entries ≡ []
+pub followers_get_none : UseOwn → (scene : PlainScene) (n : PlainNetwork) (posts : List PlainPost) → IsNetworkOf scene n posts → (i : ℕ) (s : PlainPost) → slice_get posts i ≡ Some s → is_leader s.who ≡ false → gets queue.Inbox s.entries ≡ []
 followers_get_none use_own scene n posts net i s there e =
     gets_none s.who s.entries e
     (all_at UsesItsQueues (map log_of posts) i (log_of s) (use_own scene (map log_of posts) (logs_of scene n (parties_of scene) posts net.parties)) (slice_get-map log_of posts i ∙ ap (option_map log_of) there))

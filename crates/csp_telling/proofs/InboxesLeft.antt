@@ -28,7 +28,7 @@ use Rattle.csp_record.specs.Record.{PlainRecord}
 use Rattle.csp_scene.proofs.Public.{AllByRecursion-append}
 use Rattle.csp_scene.specs.Scene.{PlainNode, PlainScene}
 use Rattle.csp_standing.proofs.Public.{HasHub, hub_at, IsAt, at_home, post_at}
-use Rattle.csp_standing.specs.Network.{ArePostsOf, IsHomeIn, IsPostOf, PlainNetwork, mark_for, opened_in}
+use Rattle.csp_standing.specs.Network.{ArePostsOf, IsHomeIn, IsPostOf, PlainNetwork, opened_in}
 use Rattle.csp_telling.proofs.LaneNotes.{inbox_left}
 use Rattle.csp_telling.proofs.LanesLeft.{own_entries}
 use Rattle.csp_telling.proofs.Marked.{logs_marks, put_at, same_marked}
@@ -38,6 +38,7 @@ use Rattle.csp_telling.specs.Remains.{kept_at, kept_by, kept_from}
 use Rattle.csp_topology.specs.Lanes.{leader_of}
 use Rattle.csp_topology.specs.Parties.{PlainOpening, parties_of}
 use Rattle.csp_topology.specs.Wires.{wires_of}
+use Rattle.csp_topology.specs.Writers.{mark_for}
 
 -- ---- what all parties put
 

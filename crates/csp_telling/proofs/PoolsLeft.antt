@@ -24,14 +24,14 @@ use Rattle.csp_scene.specs.Links.{no_node, node_at}
 use Rattle.csp_party.specs.Any.{PlainParty}
 use Rattle.csp_scene.specs.Scene.{PlainLink, PlainNode, PlainScene}
 use Rattle.csp_standing.proofs.Public.{HasHub, hub_at, hub_leads, hub_node, hub_place_of, each_at, at_home, IsAt, post_at}
-use Rattle.csp_standing.specs.Network.{ArePostsOf, IsPostOf, PlainNetwork, leads, opened_at, opened_in}
+use Rattle.csp_standing.specs.Network.{ArePostsOf, IsPostOf, PlainNetwork, opened_at, opened_in}
 use Rattle.csp_telling.proofs.Nodes.{IsAtNode, IsEnded, IsKnown, at_scene}
 use Rattle.csp_telling.specs.Closed.{log_of}
 use Rattle.csp_telling.specs.Remains as remains
 use Rattle.csp_telling.specs.Remains.{PlainRemains, put_at, put_from, taken_from}
 use Rattle.csp_topology.specs.Lanes.{leader_of}
 use Rattle.csp_topology.specs.Parties.{PlainOpening, parties_of}
-use Rattle.csp_topology.specs.Wired.{Stands}
+use Rattle.csp_topology.specs.Wired.{Stands, is_leader}
 
 times_joined : (k : ℕ) (xs ys : List ℕ) → times k (xs ++ ys) ≡ times k xs + times k ys
 times_joined k xs ys = sum_by-append (λ n. cond (n == k) 1 0) xs ys
@@ -39,7 +39,7 @@ times_joined k xs ys = sum_by-append (λ n. cond (n == k) 1 0) xs ys
 -- ---- what the parties of a node opened with is its leader's
 
 -- who leads a node is its router or bridge
-hub_is : (nodes : List PlainNode) (links : List PlainLink) (node : ℕ) (c : PlainNode) → slice_get nodes node ≡ Some c → (v : Who) (party : PlainParty) → IsOwner nodes links v party → leads v ≡ true → is_node node (node_of v) ≡ true → v ≡ leader_of node c.addr
+hub_is : (nodes : List PlainNode) (links : List PlainLink) (node : ℕ) (c : PlainNode) → slice_get nodes node ≡ Some c → (v : Who) (party : PlainParty) → IsOwner nodes links v party → is_leader v ≡ true → is_node node (node_of v) ≡ true → v ≡ leader_of node c.addr
 hub_is nodes links node c there (who.Router a) party owner lead here = sym (who_is (leader_of node c.addr) (who.Router a) (leader_router nodes links node c there a party owner ∙ here))
 hub_is nodes links node c there (who.Bridge a) party owner lead here = sym (who_is (leader_of node c.addr) (who.Bridge a) (leader_bridge nodes links node c there a party owner ∙ here))
 hub_is nodes links node c there (who.Iface a k) party owner lead here = absurd cc
@@ -61,11 +61,11 @@ if_none : (b : Bool) (ns : List ℕ) → (b ≡ true → ns ≡ []) → (if b th
 if_none true ns none = none refl
 if_none false ns none = refl
 
-opened_none : (scene : PlainScene) (w : Who) (node : Option ℕ) → leads w ≡ false → opened_at scene w node ≡ []
+opened_none : (scene : PlainScene) (w : Who) (node : Option ℕ) → is_leader w ≡ false → opened_at scene w node ≡ []
 opened_none scene w None e = refl
 opened_none scene w (Some node) e = ap (λ b. if b then range_with_len 0 (node_at scene.nodes node).buffers else []) e
 
-opened_all : (scene : PlainScene) (w : Who) (node : ℕ) (c : PlainNode) → leads w ≡ true → node_of w ≡ Some node → slice_get scene.nodes node ≡ Some c → opened_in scene w ≡ range_with_len 0 c.buffers
+opened_all : (scene : PlainScene) (w : Who) (node : ℕ) (c : PlainNode) → is_leader w ≡ true → node_of w ≡ Some node → slice_get scene.nodes node ≡ Some c → opened_in scene w ≡ range_with_len 0 c.buffers
 opened_all scene w node c lead at there =
     ap (opened_at scene w) at
     ∙ ap (λ b. if b then range_with_len 0 (node_at scene.nodes node).buffers else []) lead
@@ -142,16 +142,16 @@ module _ (scene : PlainScene) (n : PlainNetwork) (posts : List PlainPost) (r : P
     hub = hub_at scene n posts ended.net node c.addr stands
 
     others_none : (b : ℕ) (z : PlainPost) → slice_get posts b ≡ Some z → (b ≡ hub.at → ⊥) → opened_here scene node z ≡ []
-    others_none b z at away = if_none (is_node node (node_of z.who)) (opened_in scene z.who) (λ here. by (leads z.who) refl here) where
+    others_none b z at away = if_none (is_node node (node_of z.who)) (opened_in scene z.who) (λ here. by (is_leader z.who) refl here) where
       x : IsAt scene n (parties_of scene) b z
       x = post_at scene n (parties_of scene) posts b z ended.net.parties at
 
-      by : (lead : Bool) → leads z.who ≡ lead → is_node node (node_of z.who) ≡ true → opened_in scene z.who ≡ []
+      by : (lead : Bool) → is_leader z.who ≡ lead → is_node node (node_of z.who) ≡ true → opened_in scene z.who ≡ []
       by false lead here = opened_none scene z.who (node_of z.who) lead
       by true lead here =
           let owner = each_at (IsOf scene) (parties_of scene) b x.party (are_owners scene) x.there in
           let named : x.party.who ≡ leader_of node c.addr
-          = hub_is scene.nodes scene.links node c there x.party.who x.party.party owner (ap leads (sym x.post.who) ∙ lead) (ap (λ w. is_node node (node_of w)) (sym x.post.who) ∙ here) in
+          = hub_is scene.nodes scene.links node c there x.party.who x.party.party owner (ap is_leader (sym x.post.who) ∙ lead) (ap (λ w. is_node node (node_of w)) (sym x.post.who) ∙ here) in
           absurd (away (known.apart b stands.place x.party stands.party x.there stands.at (named ∙ sym stands.named) ∙ sym (hub_place_of scene n posts ended.net node c.addr stands)))
 
     hub_opens : opened_here scene node hub.post ≡ range_with_len 0 c.buffers

@@ -19,8 +19,8 @@ use Rattle.csp_log.specs.Who.{node_of}
 use Rattle.csp_log.specs.declared.who.Who.{Who}
 use Rattle.csp_scene.specs.Links.{no_node, node_at}
 use Rattle.csp_scene.specs.Scene.{PlainNode, PlainScene}
-use Rattle.csp_standing.proofs.Public.{Apart, Hubs, Led, hub_at, hub_leads, hub_node, hub_place_of, leads_hub, node_in, post_at}
-use Rattle.csp_standing.specs.Network.{IsNetworkOf, PlainNetwork, leads, opened_at, opened_in}
+use Rattle.csp_standing.proofs.Public.{Apart, Hubs, Led, hub_at, hub_leads, hub_node, hub_place_of, node_in, post_at}
+use Rattle.csp_standing.specs.Network.{IsNetworkOf, PlainNetwork, opened_at, opened_in}
 use Rattle.csp_telling.proofs.Ends.{AllStay, ends_alone, ends_home}
 use Rattle.csp_telling.proofs.Homes.{home_both, home_flat, home_is, home_one, home_same, is_there}
 use Rattle.csp_telling.proofs.Inboxes.{UseOwn, followers_get_none, home_kept_parts, home_none_out}
@@ -29,7 +29,7 @@ use Rattle.csp_telling.proofs.Marks.{among, among-append, same_numbers}
 use Rattle.csp_telling.specs.Remains.{AreLeftAt, AreRemains, PlainRemains, held_at, inbox_numbers, kept_at, kept_from, put_at, put_from, returned, taken_at, taken_from}
 use Rattle.csp_topology.specs.Lanes.{leader_of}
 use Rattle.csp_topology.specs.Parties.{parties_of}
-use Rattle.csp_topology.specs.Wired.{Stands}
+use Rattle.csp_topology.specs.Wired.{Stands, is_leader}
 
 -- how often a number is among what the parties of a node hold; what they put through ends, and got; what they put into the pool and the inbox, and
 -- took; and what they had put at the opening
@@ -110,28 +110,28 @@ all_out k node posts =
     one (Some h) = refl
 
 -- what a leader of a node had put into the pool, and any other
-leader_opened : (scene : PlainScene) (w : Who) (node : ℕ) (m : PlainNode) → leads w ≡ true → node_of w ≡ Some node → slice_get scene.nodes node ≡ Some m → opened_in scene w ≡ range_with_len 0 m.buffers
+leader_opened : (scene : PlainScene) (w : Who) (node : ℕ) (m : PlainNode) → is_leader w ≡ true → node_of w ≡ Some node → slice_get scene.nodes node ≡ Some m → opened_in scene w ≡ range_with_len 0 m.buffers
 leader_opened scene w node m lead at there =
     ap (opened_at scene w) at
     ∙ ap (λ b. if b then range_with_len 0 (node_at scene.nodes node).buffers else []) lead
     ∙ ap (λ (n : PlainNode). range_with_len 0 n.buffers) (get_or_from_slice_get scene.nodes node m no_node there)
 
-none_opened : (scene : PlainScene) (w : Who) (node : Option ℕ) → leads w ≡ false → opened_at scene w node ≡ []
+none_opened : (scene : PlainScene) (w : Who) (node : Option ℕ) → is_leader w ≡ false → opened_at scene w node ≡ []
 none_opened scene w None e = refl
 none_opened scene w (Some node) e = ap (λ b. if b then range_with_len 0 (node_at scene.nodes node).buffers else []) e
 
 -- any other party of a node than its router or bridge doesn't lead it
 follows : Led → Apart → (scene : PlainScene) (n : PlainNetwork) (posts : List PlainPost) (net : IsNetworkOf scene n posts) (node : ℕ) (m : PlainNode) → slice_get scene.nodes node ≡ Some m → (stands : Stands scene (leader_of node m.addr))
-    → (i : ℕ) (s : PlainPost) → slice_get posts i ≡ Some s → is_home node s.ends.home ≡ true → i ≢ (hub_at scene n posts net node m.addr stands).at → leads s.who ≡ false
+    → (i : ℕ) (s : PlainPost) → slice_get posts i ≡ Some s → is_home node s.ends.home ≡ true → i ≢ (hub_at scene n posts net node m.addr stands).at → is_leader s.who ≡ false
 follows led apart scene n posts net node m there stands i s at here other =
     let h = home_is node s.ends.home here in
     let x = post_at scene n (parties_of scene) posts i s net.parties at in
     let l = led scene i x.party x.there node (node_in scene n x.party s h.0 x.post h.1 ∙ ap Some h.2) in
     let same : l.n ≡ m = same_Some l.n m (sym l.there ∙ there) in
     let place : l.hub.place ≡ stands.place = apart scene l.hub.place stands.place l.hub.party stands.party l.hub.at stands.at (l.hub.named ∙ ap (λ (p : PlainNode). leader_of node p.addr) same ∙ sym stands.named) in
-    by (leads s.who) refl (λ lead. other (sym (l.alone (sym (leads_hub x.party.who) ∙ ap leads (sym x.post.who) ∙ lead)) ∙ place ∙ sym (hub_place_of scene n posts net node m.addr stands)))
+    by (is_leader s.who) refl (λ lead. other (sym (l.alone (ap is_leader (sym x.post.who) ∙ lead)) ∙ place ∙ sym (hub_place_of scene n posts net node m.addr stands)))
   where
-    by : (b : Bool) → leads s.who ≡ b → (leads s.who ≡ true → ⊥) → leads s.who ≡ false
+    by : (b : Bool) → is_leader s.who ≡ b → (is_leader s.who ≡ true → ⊥) → is_leader s.who ≡ false
     by true e not = absurd (not e)
     by false e not = e
 

@@ -5,3 +5,5 @@ pub use Rattle.csp_topology.proofs.AllLanes.{AreHome, OfApp, OfEnd, OfIface, all
 -- how many links a node is on, how many nodes have a plan, and how many ends of links are there
 pub use Rattle.csp_topology.proofs.PlanLemmas.{links_few, plans_count}
 pub use Rattle.csp_topology.proofs.WireSteps.{joints_few}
+-- the mark of a node's router or bridge
+pub use Rattle.csp_topology.proofs.WriterLemmas.{hub_mark}

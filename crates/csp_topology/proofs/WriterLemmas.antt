@@ -1,5 +1,5 @@
 -- Lemmas on who puts into the inboxes.
-use Rattle.std.proofs.Common.{◌≡◌, ℕ, ◌+◌, ◌<◌, ◌==◌, Bool, if◌then◌else◌, true, false, List, [], ◌∷◌, ◌++◌, drop, length, slice_index_or, ap, refl, sym, ◌∙◌, arith}
+use Rattle.std.proofs.Common.{◌≡◌, ℕ, ◌+◌, ◌<◌, ◌==◌, Bool, if◌then◌else◌, true, false, Option, None, Some, List, [], ◌∷◌, ◌++◌, drop, length, slice_index_or, ap, refl, sym, ◌∙◌, arith}
 use Rattle.std.proofs.lemmas.Bool.{eqb-true}
 use Rattle.std.proofs.lemmas.List.{append_assoc}
 use Rattle.std.proofs.lemmas.List.FromFn.{map-range_with_len_more}
@@ -11,8 +11,13 @@ use Rattle.csp_scene.specs.Scene.{PlainLink, PlainNode}
 use Rattle.csp_scene.specs.declared.limits.TheConstants.{MAX_LINKS}
 use Rattle.csp_topology.proofs.WireSteps.{node_there}
 use Rattle.csp_topology.specs.Lanes.{leader_of}
-use Rattle.csp_topology.specs.Writers.{writer_of, writers_from, writers_with}
+use Rattle.csp_topology.specs.Writers.{mark_for, writer_of, writers_from, writers_with}
 use Rattle.csp_topology.specs.declared.writers.Writer.{Writer}
+
+-- a router or a bridge puts without a mark
+pub hub_mark : (node : ℕ) (addr : Option ℕ) → mark_for (leader_of node addr) ≡ Some UNMARKED
+hub_mark node (Some a) = refl
+hub_mark node None = refl
 
 -- an interface's number is no other mark
 numbered : (node : ℕ) (hub : Who) (k : ℕ) → k < MAX_LINKS → writer_of node hub k ≡ who.Iface node k

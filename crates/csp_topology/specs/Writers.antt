@@ -1,5 +1,5 @@
 -- Who puts into the inbox of a node, and under which marks.
-use Rattle.std.specs.Prelude.{ℕ, ◌+◌, ◌==◌, if◌then◌else◌, List, [], ◌∷◌, length, map}
+use Rattle.std.specs.Prelude.{ℕ, ◌+◌, ◌==◌, if◌then◌else◌, Option, None, Some, List, [], ◌∷◌, length, map}
 use Rattle.std.specs.List.{range_with_len}
 use Rattle.csp_log.specs.declared.places.TheConstants.{UNMARKED}
 use Rattle.csp_log.specs.declared.who.Who.{Who}
@@ -8,6 +8,15 @@ use Rattle.csp_scene.specs.Links.{links_at}
 use Rattle.csp_scene.specs.Scene.{PlainNode, PlainLink}
 use Rattle.csp_topology.specs.Lanes.{leader_of}
 use Rattle.csp_topology.specs.declared.writers.Writer.{Writer}
+
+-- the mark of a party's puts into its node's inbox: none of a router or a bridge, and of an interface its number; an application and a link
+-- have no pass of an inbox
+abbrev pub mark_for : Who → Option ℕ
+mark_for (who.Router _) = Some UNMARKED
+mark_for (who.Bridge _) = Some UNMARKED
+mark_for (who.Iface _ number) = Some number
+mark_for (who.App _ _) = None
+mark_for (who.Link _) = None
 
 -- who puts packets with this mark into the inbox of a node with this router or bridge: the interface of that number, and the router or bridge itself
 -- without one

@@ -24,4 +24,4 @@ pub use opening::Opening;
 pub use plan::NodePlan;
 pub use topology::{MAX_PARTIES, Topology};
 pub use wire::{Wire, WireEnd};
-pub use writers::Writer;
+pub use writers::{Writer, mark_for};

@@ -1,8 +1,9 @@
 -- The world of a scene before its first turn.
-use Rattle.std.specs.Prelude.{◌≡◌, ◌+◌, ◌*◌, ℕ, Some, List, [], length, map, All}
+use Rattle.std.specs.Prelude.{◌≡◌, ℕ, Some, List, [], map, All}
 use Rattle.std.specs.Option.{option_and_then}
 use Rattle.csp_link.specs.Fates.{IsFault}
-use Rattle.csp_lists.specs.PlainDeck.{PlainDeck, opening_deck}
+use Rattle.csp_lists.specs.Order.{queue_count}
+use Rattle.csp_lists.specs.PlainDeck.{PlainDeck, opening_deck, shape_of}
 use Rattle.csp_log.specs.declared.places.QueueId.{QueueId}
 use Rattle.csp_log.specs.declared.places.Rule.{Rule}
 use Rattle.csp_nodes.specs.Fresh.{fresh_buffers}
@@ -18,9 +19,9 @@ use Rattle.csp_world.specs.World.{PlainMember, PlainWorld}
 abbrev pub deck_of : PlainNodePlan → PlainDeck
 deck_of n = opening_deck (fresh_buffers n.buffers) n.inbox n.apps n.lanes
 
--- how many queues a node has: those of its inbox, two lanes for each application and three for each interface
+-- how many queues a node has: those of lists for so many applications and interfaces
 abbrev pub queues_of : PlainNodePlan → ℕ
-queues_of n = 4 + 2 * n.apps + 3 * length n.lanes
+queues_of n = queue_count (shape_of n.apps n.lanes)
 
 -- the lists of a node on these links
 abbrev pub opened_deck : PlainNode → List PlainLink → PlainDeck

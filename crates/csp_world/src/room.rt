@@ -7,7 +7,7 @@ ghost use Rattle.csp_world.specs.Inside.{HasRoom};
 ghost use Rattle.csp_world.specs.Opening.{deck_of, queues_of};
 
 use csp_base::MAX_APPS;
-use csp_lists::{APP_QUEUES, IFACE_QUEUES, INBOX_QUEUES, opens};
+use csp_lists::{Shape, opens};
 use csp_nodes::Emptied;
 use csp_record::{HeldBy, Left, PartyLog};
 use csp_scene::{MAX_LINKS, MAX_NODES};
@@ -71,5 +71,9 @@ fn queues_of(node: &NodePlan) -> usize
     ensures count { result ≡ queues_of node.now }
     ensures few { result ≤ 4 + 2 * MAX_APPS + 3 * MAX_LINKS }
 {
-    INBOX_QUEUES + APP_QUEUES * usize::from(node.apps) + IFACE_QUEUES * node.lanes.len()
+    let shape = Shape {
+        ifaces: node.lanes.len() as u8,
+        apps: node.apps,
+    };
+    shape.queues()
 }

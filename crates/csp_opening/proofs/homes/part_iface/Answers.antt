@@ -26,11 +26,11 @@ iface-requires c =
     let is = read (goal.at.iface-requires c).After-index_mut in
     record {
       of_it = read_of c.args.queues.now c.queues.inside.nodes.items c.args.leads.now.items c.from-place.result c.args.node c.index.result.now c.index_mut.result.now is c.queues.view_is c.from-place.ensures c.index.ensures;
-      free = subst (λ (o : Option Lead). IsSomeAnd o (λ l. IsFree l.inbox c.args.number)) is.there c.requires.can;
+      free = subst (λ (o : Option Lead). IsSomeAnd o (λ l. IsFree l.inbox c.args.mark)) is.there c.requires.can;
     }
 
 pub returns : goal.returns
 returns c =
     let is = read (goal.at.returns c).After-index_mut in
-    let left = left_of (after_iface c.args.number) (iface_stays c.args.number) c.args.queues.now c.args.leads.now.items c.from-place.result c.args.node c.index_mut.result.now _ is c.from-place.ensures c.iface.ensures.left in
-    record { home = ap (option_map (iface_home c.args.node c.args.number)) is.there ∙ ap Some (sym c.iface.ensures.home); leads = left.0; of_it = left.1 }
+    let left = left_of (after_iface c.args.mark) (iface_stays c.args.mark) c.args.queues.now c.args.leads.now.items c.from-place.result c.args.node c.index_mut.result.now _ is c.from-place.ensures c.iface.ensures.left in
+    record { home = ap (option_map (iface_home c.args.node c.args.mark)) is.there ∙ ap Some (sym c.iface.ensures.home); leads = left.0; of_it = left.1 }

@@ -3,11 +3,11 @@ use Rattle.csp_opening.specs.Parted.{AreLeadsOf, CanPartAll, part_homes, parts_l
 use Rattle.csp_opening.proofs.homes.part_passes.Given as goal
 
 -- what was split off, then what is still to be, is all
-abbrev pub invariant-loop-seat : goal.invariant-loop-seat
-invariant-loop-seat l = record {
+abbrev pub invariant-loop-one : goal.invariant-loop-one
+invariant-loop-one l = record {
   of_it : AreLeadsOf l.queues l.leads.items;
-  can : CanPartAll l.leads.items (map (λ s. s.who) (drop l.seat-index l.seats));
-  homes : l.homes.items ++ part_homes l.leads.items (map (λ s. s.who) (drop l.seat-index l.seats)) ≡ l.fn.homes.items ++ part_homes l.fn.leads.items (map (λ s. s.who) l.seats);
-  leads : parts_left l.leads.items (map (λ s. s.who) (drop l.seat-index l.seats)) ≡ parts_left l.fn.leads.items (map (λ s. s.who) l.seats);
-  room : vec_len l.homes + length l.seats ≤ vec_capacity l.homes + l.seat-index;
+  can : CanPartAll l.leads.items (map (λ s. s.who) (drop l.one-index l.unposted));
+  homes : l.homes.items ++ part_homes l.leads.items (map (λ s. s.who) (drop l.one-index l.unposted)) ≡ l.fn.homes.items ++ part_homes l.fn.leads.items (map (λ s. s.who) l.unposted);
+  leads : parts_left l.leads.items (map (λ s. s.who) (drop l.one-index l.unposted)) ≡ parts_left l.fn.leads.items (map (λ s. s.who) l.unposted);
+  room : vec_len l.homes + length l.unposted ≤ vec_capacity l.homes + l.one-index;
 }

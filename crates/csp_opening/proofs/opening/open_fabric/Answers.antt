@@ -7,7 +7,7 @@ use Rattle.csp_opening.proofs.Fabrics.{AreOpened}
 use Rattle.csp_opening.proofs.Finish.{IsPlanned, IsReady, blanks_as, can_of, finished, lists_as, opened_of, parties_as, rows_of, wired_of}
 use Rattle.csp_opening.proofs.Leaving.{as_many}
 use Rattle.csp_opening.specs.Opened.{AreWired}
-use Rattle.csp_opening.specs.Seated.{seat_name}
+use Rattle.csp_opening.specs.Unposted.{unposted_name}
 use Rattle.csp_posts.specs.declared.retired.Retired.{Retired}
 use Rattle.csp_record.specs.declared.record.PartyLog.{PartyLog}
 use Rattle.csp_topology.specs.Opened.{AreParties}
@@ -45,16 +45,16 @@ of_scene g c = c.deref-2.ensures.value ∙ ap (λ (t : PlainTopology). t.nodes) 
 
 -- what was opened, and the lists for it
 ready : (g : Over) (c : In_ok-lists g) → IsPlanned c.args.scene.now c.in_ok-plans.field-0.lanes.items c.in_ok-plans.field-0.parties.items → c.deref-2.result.now ≡ plans_from 0 c.args.scene.now.nodes c.args.scene.now.links
-    → IsReady c.args.scene.now c.in_ok-plans.field-0.lanes.items c.in_ok-plans.field-0.parties.items c.in_ok-lists.nodes.items c.in_ok-lists.seats.items c.in_ok-blanks.blanks c.in_ok-lists.lists
+    → IsReady c.args.scene.now c.in_ok-plans.field-0.lanes.items c.in_ok-plans.field-0.parties.items c.in_ok-lists.nodes.items c.in_ok-lists.unposted.items c.in_ok-blanks.blanks c.in_ok-lists.lists
 ready g c plan nodes =
     let scene = c.args.scene.now in
     let wires = c.in_ok-plans.field-0.lanes.items in
     let openings = c.in_ok-plans.field-0.parties.items in
     let xs = c.in_ok-lists.nodes.items in
-    let seats = c.in_ok-lists.seats.items in
+    let unposted = c.in_ok-lists.unposted.items in
     let told = c.in_ok-lists.ensures in
-    let opened : AreOpened scene (rows_of wires) xs seats = opened_of scene wires openings c.deref-2.result.now c.deref-3.result.now xs seats plan nodes c.deref-3.ensures.value told.nodes told.names told.seated in
-    let many : length seats ≡ length openings = sym (length-map seats seat_name) ∙ ap (λ (os : List PlainOpening). length os) told.names ∙ length-map openings opening_of in
+    let opened : AreOpened scene (rows_of wires) xs unposted = opened_of scene wires openings c.deref-2.result.now c.deref-3.result.now xs unposted plan nodes c.deref-3.ensures.value told.nodes told.names told.unposted in
+    let many : length unposted ≡ length openings = sym (length-map unposted unposted_name) ∙ ap (λ (os : List PlainOpening). length os) told.names ∙ length-map openings opening_of in
     let plans = plans_from 0 scene.nodes scene.links in
     let long : length xs ≡ length plans = as_many plans (rows_of wires) xs opened.nodes in
     record {
@@ -65,10 +65,10 @@ ready g c plan nodes =
           let ok = c.in_ok-plans.field-0.parties.ok.0 in
           let count = (wired_of scene wires openings plan).count in
           let same = ap (λ (ws : List (Vec Wire)). length ws) c.deref.ensures.value in
-          blanks_as _ (length seats) (length c.deref.result.now) (length xs) c.deref.result.now wires c.in_ok-blanks.blanks c.in_ok-blanks.ensures (omega (arith, len, ok, many)) (omega (arith, count, same, long)) c.deref.ensures.value;
+          blanks_as _ (length unposted) (length c.deref.result.now) (length xs) c.deref.result.now wires c.in_ok-blanks.blanks c.in_ok-blanks.ensures (omega (arith, len, ok, many)) (omega (arith, count, same, long)) c.deref.ensures.value;
       lists =
           let same = ap (λ (ns : List PlainNodePlan). length ns) nodes in
-          lists_as (length openings) (length seats) (length c.deref-2.result.now) (length xs) c.in_ok-lists.lists told.lists (sym many) (omega (arith, same, long));
+          lists_as (length openings) (length unposted) (length c.deref-2.result.now) (length xs) c.in_ok-lists.lists told.lists (sym many) (omega (arith, same, long));
     }
 
 pub open-requires-clause-few : goal.open-requires-clause-few

@@ -2,10 +2,13 @@ use Rattle.std.proofs.Common.{List, ◌++◌, ◌+◌, map, drop, ap, ◌∙◌}
 use Rattle.std.proofs.lemmas.List.{map-append}
 use Rattle.csp_log.specs.declared.who.Who.{Who}
 use Rattle.csp_scene.specs.Scene.{PlainNode}
-use Rattle.csp_topology.proofs.WriterLemmas.{node_more}
+use Rattle.csp_topology.proofs.WriterLemmas.{hub_mark, node_more}
 use Rattle.csp_topology.proofs.writers.writers_of.Goals as goal
-use Rattle.csp_topology.specs.Writers.{writers_from, writers_with}
+use Rattle.csp_topology.specs.Writers.{mark_for, writers_from, writers_with}
 use Rattle.csp_topology.specs.declared.writers.Writer.{Writer}
+
+pub writers_with-requires : goal.writers_with-requires
+writers_with-requires c = record { hub = ap mark_for c.leader_of-hub.ensures ∙ hub_mark c.loop-place.place c.index-nodes-place.result.addr; few = c.count_at-ifaces.ensures.few }
 
 pub loop-place-preserved : goal.loop-place-preserved
 loop-place-preserved c =

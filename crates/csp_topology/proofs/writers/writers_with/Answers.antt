@@ -9,7 +9,7 @@ loop-number-preserved c =
     let number = c.loop-number.number in
     record {
       writers =
-          c.in_ok-push-2.ensures.items
+          c.in_ok-add-2.ensures
           ∙ ap (λ (ws : List Writer). ws ++ record { mark = number; who = who.Iface c.args.node number } ∷ []) c.loop-number.invariant.writers
-          ∙ writer_more c.args.node c.args.hub number (omega (arith, c.loop-number-test.true, c.requires));
+          ∙ writer_more c.args.node c.args.hub number (omega (arith, c.loop-number-test.true, c.requires.few));
     }

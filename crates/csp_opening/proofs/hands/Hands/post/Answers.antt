@@ -7,7 +7,7 @@ use Rattle.csp_opening.specs.Parted.{part_homes, parts_left}
 use Rattle.csp_opening.specs.Posted.{CanPostAll, posts_with}
 use Rattle.csp_opening.specs.Whole.{whos}
 use Rattle.csp_opening.specs.declared.lanes.Pair.{Pair}
-use Rattle.csp_opening.specs.declared.seats.Seat.{Seat}
+use Rattle.csp_opening.specs.declared.unposted.Unposted.{Unposted}
 use Rattle.csp_opening.proofs.hands.Hands.post.Goals.{After-part_passes}
 use Rattle.csp_opening.proofs.hands.Hands.post.Goals as goal
 
@@ -23,13 +23,13 @@ module _ (c : After-part_passes) where
   abbrev ends : List (List Pair)
   ends = map (λ (pairs : Vec Pair). pairs.items) c.args.self.ends.items
 
-  leads : c.part_passes.new.leads.items ≡ parts_left c.args.self.leads.items (whos c.args.seats.items)
-  leads = c.part_passes.ensures.leads ∙ ap (λ (ss : List Seat). parts_left c.args.self.leads.items (whos ss)) c.deref.ensures.value
+  leads : c.part_passes.new.leads.items ≡ parts_left c.args.self.leads.items (whos c.args.unposted.items)
+  leads = c.part_passes.ensures.leads ∙ ap (λ (ss : List Unposted). parts_left c.args.self.leads.items (whos ss)) c.deref.ensures.value
 
-  homes : c.part_passes.new.homes.items ≡ part_homes c.args.self.leads.items (whos c.args.seats.items)
+  homes : c.part_passes.new.homes.items ≡ part_homes c.args.self.leads.items (whos c.args.unposted.items)
   homes = c.part_passes.ensures.homes ∙ (λ i. c.requires.can.homes i ++ part_homes c.args.self.leads.items (whos (c.deref.ensures.value i)))
 
-  long : length c.hand_out.new.sides.items ≡ length c.args.seats.items
+  long : length c.hand_out.new.sides.items ≡ length c.args.unposted.items
   long = c.hand_out.ensures.count ∙ c.requires.can.share.count
 
   sides : (k j : ℕ) → k < length c.hand_out.new.sides.items → j ≡ 0 + k → list_at c.hand_out.new.sides.items k ≡ handed_from j 0 ends
@@ -42,16 +42,16 @@ pub post_all-requires-clause-can : goal.post_all-requires-clause-can
 post_all-requires-clause-can c =
     let was = (goal.at.post_all-requires-clause-can c).After-part_passes in
     let first = c.args.self.leads.items in
-    let seats = c.args.seats.items in
-    subst (λ ls. CanPostAll ls seats c.part_passes.new.homes.items c.hand_out.new.sides.items) (sym (leads was))
-    (subst (λ hs. CanPostAll (parts_left first (whos seats)) seats hs c.hand_out.new.sides.items) (sym (homes was))
-    (can_all 0 (ends was) (parts_left first (whos seats)) seats (part_homes first (whos seats)) c.hand_out.new.sides.items c.requires.can.share.post (long was) (sides was)))
+    let unposted = c.args.unposted.items in
+    subst (λ ls. CanPostAll ls unposted c.part_passes.new.homes.items c.hand_out.new.sides.items) (sym (leads was))
+    (subst (λ hs. CanPostAll (parts_left first (whos unposted)) unposted hs c.hand_out.new.sides.items) (sym (homes was))
+    (can_all 0 (ends was) (parts_left first (whos unposted)) unposted (part_homes first (whos unposted)) c.hand_out.new.sides.items c.requires.can.share.post (long was) (sides was)))
 
 pub returns : goal.returns
 returns c =
     let was = (goal.at.returns c).After-part_passes in
-    let seats = c.args.seats.items in
+    let unposted = c.args.unposted.items in
     let posts = c.args.posts.now.items in
     c.post_all.ensures
-    ∙ (λ i. posts ++ posts_with (leads was i) seats (homes was i) c.hand_out.new.sides.items)
-    ∙ ap (λ ps. posts ++ ps) (same_posts 0 (ends was) _ seats _ c.hand_out.new.sides.items (long was) (sides was))
+    ∙ (λ i. posts ++ posts_with (leads was i) unposted (homes was i) c.hand_out.new.sides.items)
+    ∙ ap (λ ps. posts ++ ps) (same_posts 0 (ends was) _ unposted _ c.hand_out.new.sides.items (long was) (sides was))

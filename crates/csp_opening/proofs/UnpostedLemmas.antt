@@ -8,9 +8,9 @@ use Rattle.csp_arena.specs.Cells.{RegionName}
 use Rattle.csp_deck.specs.Regions.{nowhere}
 use Rattle.csp_log.specs.Who.{node_of}
 use Rattle.csp_opening.specs.Opened.{region_in}
-use Rattle.csp_opening.specs.Seated.{AreBuffersIn, IsSeated, count_at, count_or, region_at, region_or, seat_name, unseated}
+use Rattle.csp_opening.specs.Unposted.{AreBuffersIn, IsUnposted, count_at, count_or, region_at, region_or, unposted_name, as_opened}
 use Rattle.csp_opening.specs.declared.nodes.Node.{Node}
-use Rattle.csp_opening.specs.declared.seats.Seat.{Seat}
+use Rattle.csp_opening.specs.declared.unposted.Unposted.{Unposted}
 use Rattle.csp_party.specs.Any.{holds, plain}
 use Rattle.csp_topology.specs.Opened as opened
 use Rattle.csp_topology.specs.Opened.{IsOpened, buffers_at, opened_as}
@@ -60,8 +60,8 @@ count_same xs bs (Some k) are =
     two (Some x) = refl
 
 -- a party that was opened over the buffers of these nodes
-seated_one : (xs : List Node) (bs : List NodeBuffers) (s : Seat) → AreBuffersIn xs bs → IsOpened bs (unseated s) → IsSeated xs s
-seated_one xs bs s are is = record {
+unposted_one : (xs : List Node) (bs : List NodeBuffers) (s : Unposted) → AreBuffersIn xs bs → IsOpened bs (as_opened s) → IsUnposted xs s
+unposted_one xs bs s are is = record {
   party = is.party;
   region = is.region ∙ region_same xs bs (node_of s.who) are;
   unnoted = is.unnoted;
@@ -69,18 +69,18 @@ seated_one xs bs s are is = record {
 }
 
 -- and all of them
-pub all_seated : (xs : List Node) (bs : List NodeBuffers) (seats : List Seat) (ps : List NewParty) → AreBuffersIn xs bs → map unseated seats ≡ ps → AllByRecursion (IsOpened bs) ps → AllByRecursion (IsSeated xs) seats
-all_seated xs bs seats ps are same all = by seats (subst (AllByRecursion (IsOpened bs)) (sym same) all) where
-  by : (ss : List Seat) → AllByRecursion (IsOpened bs) (map unseated ss) → AllByRecursion (IsSeated xs) ss
+pub all_unposted : (xs : List Node) (bs : List NodeBuffers) (unposted : List Unposted) (ps : List NewParty) → AreBuffersIn xs bs → map as_opened unposted ≡ ps → AllByRecursion (IsOpened bs) ps → AllByRecursion (IsUnposted xs) unposted
+all_unposted xs bs unposted ps are same all = by unposted (subst (AllByRecursion (IsOpened bs)) (sym same) all) where
+  by : (ss : List Unposted) → AllByRecursion (IsOpened bs) (map as_opened ss) → AllByRecursion (IsUnposted xs) ss
   by [] h = tt
-  by (s ∷ ss) h = (seated_one xs bs s are h.0, by ss h.1)
+  by (s ∷ ss) h = (unposted_one xs bs s are h.0, by ss h.1)
 
 -- they are who they were
-pub same_names : (seats : List Seat) (ps : List NewParty) (os : List PlainOpening) → map unseated seats ≡ ps → map opened_as ps ≡ os → map seat_name seats ≡ os
-same_names seats ps os same names = by seats ∙ ap (map opened_as) same ∙ names where
-  by : (ss : List Seat) → map seat_name ss ≡ map opened_as (map unseated ss)
+pub same_names : (unposted : List Unposted) (ps : List NewParty) (os : List PlainOpening) → map as_opened unposted ≡ ps → map opened_as ps ≡ os → map unposted_name unposted ≡ os
+same_names unposted ps os same names = by unposted ∙ ap (map opened_as) same ∙ names where
+  by : (ss : List Unposted) → map unposted_name ss ≡ map opened_as (map as_opened ss)
   by [] = refl
-  by (s ∷ ss) = ap (λ xs. seat_name s ∷ xs) (by ss)
+  by (s ∷ ss) = ap (λ xs. unposted_name s ∷ xs) (by ss)
 
 -- and hold nothing
 pub all_empty : (bs : List NodeBuffers) (ps : List NewParty) → AllByRecursion (IsOpened bs) ps → AllByRecursion (λ p. holds (plain p.party) ≡ []) ps

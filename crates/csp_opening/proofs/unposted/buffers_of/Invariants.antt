@@ -1,6 +1,6 @@
 use Rattle.std.proofs.Common.{◌≡◌, length, map, take, vec_capacity, vec_len}
 use Rattle.csp_opening.specs.Opened.{region_in}
-use Rattle.csp_opening.proofs.seats.buffers_of.Given as goal
+use Rattle.csp_opening.proofs.unposted.buffers_of.Given as goal
 
 -- those of the nodes so far
 abbrev pub invariant-loop-node : goal.invariant-loop-node

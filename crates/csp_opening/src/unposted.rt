@@ -3,7 +3,7 @@
 ghost use Rattle.std.specs.Prelude.{◌≡◌, [], length, map, IfOk, vec_capacity};
 ghost use Rattle.std.specs.List.{AllByRecursion};
 ghost use Rattle.csp_opening.specs.Opened.{region_in};
-ghost use Rattle.csp_opening.specs.Seated.{AreSeated, unseated};
+ghost use Rattle.csp_opening.specs.Unposted.{AreUnposted, as_opened};
 ghost use Rattle.csp_party.specs.Any.{holds, plain};
 ghost use Rattle.csp_topology.specs.Opened.{AreParties};
 
@@ -16,7 +16,7 @@ use std::alloc::{AllocError, Global};
 use std::collections::VecDeque;
 
 /// A party that has nothing of the queues in hand yet. It must be spent by `leave`, or by `post`.
-pub(crate) struct Seat {
+pub(crate) struct Unposted {
     /// Which it is.
     pub who: Who,
     /// The party itself.
@@ -27,11 +27,11 @@ pub(crate) struct Seat {
     pub numbers: Vec<u16>,
 }
 
-impl Seat {
+impl Unposted {
     /// Gives a party that holds no buffer a desk. A refusal ends it.
-    fn open(alloc: Global, party: NewParty) -> Result<Seat, AllocError>
+    fn open(alloc: Global, party: NewParty) -> Result<Unposted, AllocError>
         requires { holds (plain party.party) ≡ [] }
-        ensures { IfOk result (λ s. unseated s ≡ party) }
+        ensures { IfOk result (λ s. as_opened s ≡ party) }
     {
         match Desk::open(alloc) {
             Ok(desk) => {
@@ -40,7 +40,7 @@ impl Seat {
                     party,
                     numbers,
                 } = party;
-                Ok(Seat {
+                Ok(Unposted {
                     who,
                     party,
                     desk,
@@ -58,7 +58,7 @@ impl Seat {
     fn leave(self)
         requires { holds (plain self.party) ≡ [] }
     {
-        let Seat {
+        let Unposted {
             who: _,
             party,
             desk: _,
@@ -69,18 +69,18 @@ impl Seat {
 }
 
 /// Opens parties of these nodes, and links, in a list with just the room for them.
-pub(crate) fn open_seats(
+pub(crate) fn open_unposted(
     alloc: Global,
     openings: Vec<Opening>,
     nodes: &[Node],
-) -> Result<Vec<Seat>, AllocError>
+) -> Result<Vec<Unposted>, AllocError>
     requires { AreParties (length nodes.now) openings.items }
-    ensures { IfOk result (AreSeated nodes.now openings.items) }
+    ensures { IfOk result (AreUnposted nodes.now openings.items) }
 {
     let buffers = buffers_of(alloc, nodes)?;
     let parties = open_parties(alloc, openings, &buffers)?;
-    let seats = seat_all(alloc, parties)?;
-    Ok(seats)
+    let unposted = desk_all(alloc, parties)?;
+    Ok(unposted)
 }
 
 /// The buffers of each of these nodes.
@@ -100,41 +100,41 @@ fn buffers_of(alloc: Global, nodes: &[Node]) -> Result<Vec<NodeBuffers>, AllocEr
 }
 
 /// Gives parties that hold no buffer a desk each, in a list with just the room for them. A refusal ends them all.
-fn seat_all(alloc: Global, parties: Vec<NewParty>) -> Result<Vec<Seat>, AllocError>
+fn desk_all(alloc: Global, parties: Vec<NewParty>) -> Result<Vec<Unposted>, AllocError>
     requires { AllByRecursion (λ p. holds (plain p.party) ≡ []) parties.items }
-    ensures same { IfOk result (λ r. map unseated r.items ≡ parties.items) }
+    ensures same { IfOk result (λ r. map as_opened r.items ≡ parties.items) }
     ensures room { IfOk result (λ r. vec_capacity r ≡ length parties.items) }
 {
     let count = parties.len();
     let mut parties = VecDeque::from_vec(parties);
-    let mut seats = match Vec::with_capacity(alloc, count) {
-        Ok(seats) => seats,
+    let mut unposted = match Vec::with_capacity(alloc, count) {
+        Ok(unposted) => unposted,
         Err(error) => {
             end_parties(parties);
             return Err(error);
         }
     };
     while let Some(party) = parties.pop_front() {
-        match Seat::open(alloc, party) {
-            Ok(seat) => seats.push_reserved(seat),
+        match Unposted::open(alloc, party) {
+            Ok(one) => unposted.push_reserved(one),
             Err(error) => {
-                leave_seats(seats);
+                leave_unposted(unposted);
                 end_parties(parties);
                 return Err(error);
             }
         }
     }
     parties.destroy_empty();
-    Ok(seats)
+    Ok(unposted)
 }
 
 /// Ends parties that hold no buffer.
-fn leave_seats(seats: Vec<Seat>)
-    requires { AllByRecursion (λ s. holds (plain s.party) ≡ []) seats.items }
+fn leave_unposted(unposted: Vec<Unposted>)
+    requires { AllByRecursion (λ s. holds (plain s.party) ≡ []) unposted.items }
 {
-    let mut seats = VecDeque::from_vec(seats);
-    while let Some(seat) = seats.pop_front() {
-        seat.leave();
+    let mut unposted = VecDeque::from_vec(unposted);
+    while let Some(one) = unposted.pop_front() {
+        one.leave();
     }
-    seats.destroy_empty();
+    unposted.destroy_empty();
 }

@@ -6,7 +6,7 @@ use Rattle.csp_arena.specs.Cells.{RegionName}
 use Rattle.csp_deck.specs.Regions.{nowhere}
 use Rattle.csp_opening.specs.Opened.{region_in}
 use Rattle.csp_opening.specs.declared.nodes.Node.{Node}
-use Rattle.csp_opening.specs.declared.seats.Seat.{Seat}
+use Rattle.csp_opening.specs.declared.unposted.Unposted.{Unposted}
 use Rattle.csp_party.specs.Any.{plain, region_of}
 use Rattle.csp_log.specs.Who.{node_of}
 use Rattle.csp_topology.specs.Opened.{IsNewParty}
@@ -17,12 +17,12 @@ use Rattle.csp_topology.specs.declared.opened.NodeBuffers.{NodeBuffers}
 use Rattle.csp_topology.specs.declared.opening.Opening.{Opening}
 
 -- who a party is, and its state
-abbrev pub seat_name : Seat → PlainOpening
-seat_name s = record { who = s.who; party = plain s.party }
+abbrev pub unposted_name : Unposted → PlainOpening
+unposted_name s = record { who = s.who; party = plain s.party }
 
 -- the party as it was opened
-abbrev pub unseated : Seat → NewParty
-unseated s = record { who = s.who; party = s.party; numbers = s.numbers }
+abbrev pub as_opened : Unposted → NewParty
+as_opened s = record { who = s.who; party = s.party; numbers = s.numbers }
 
 -- these are the buffers of those nodes: the region of each, and how many there are
 pub record AreBuffersIn (nodes : List Node) (all : List NodeBuffers) : Type 0 where
@@ -50,14 +50,14 @@ count_at nodes None = 0
 count_at nodes (Some k) = count_or (slice_get nodes k)
 
 -- a party of one of these nodes, or a link or a hub, as it was opened: its buffers are of its node's region, and it can note the numbers of just them all
-pub record IsSeated (nodes : List Node) (s : Seat) : Type 0 where
+pub record IsUnposted (nodes : List Node) (s : Unposted) : Type 0 where
   pub party : IsNewParty (plain s.party)
   pub region : region_of s.party ≡ region_at nodes (node_of s.who)
   pub unnoted : s.numbers.items ≡ []
   pub numbers : vec_capacity s.numbers ≡ count_at nodes (node_of s.who)
 
 -- the parties of these openings, each of its node, in a list with just the room for them
-pub record AreSeated (nodes : List Node) (openings : List Opening) (seats : Vec Seat) : Type 0 where
-  pub names : map seat_name seats.items ≡ map opening_of openings
-  pub seated : AllByRecursion (IsSeated nodes) seats.items
-  pub room : vec_capacity seats ≡ length openings
+pub record AreUnposted (nodes : List Node) (openings : List Opening) (unposted : Vec Unposted) : Type 0 where
+  pub names : map unposted_name unposted.items ≡ map opening_of openings
+  pub unposted : AllByRecursion (IsUnposted nodes) unposted.items
+  pub room : vec_capacity unposted ≡ length openings
