@@ -1,6 +1,6 @@
 -- a connection of the reliable transport
-use Rattle.std.specs.Prelude.{ℕ, Bool, true, false, if◌then◌else◌, Option, None}
-use Rattle.std.specs.Option.{option_map}
+use Rattle.std.specs.Prelude.{ℕ, Bool, true, false, if◌then◌else◌, Option, None, Some}
+use Rattle.std.specs.Option.{option_and_then, option_map, option_map_or}
 use Rattle.csp_base.specs.declared.traces.Tag.{Tag}
 use Rattle.csp_rdp_header.specs.Options.{usual_options}
 use Rattle.csp_rdp_header.specs.declared.options.Options.{Options}
@@ -42,46 +42,47 @@ nothing_owed = record { rst = false; syn = false; syn_sent = None; eak = false; 
 abbrev pub opening_owed : Owed
 opening_owed = record { rst = false; syn = true; syn_sent = None; eak = false; ack = false; delivered = 0; first = None }
 
--- a connection as it begins, on either side
-abbrev pub made : State → ℕ → Options → ℕ → Option (ℕ × ℕ) → ℕ → ℕ → ℕ → PlainRdp
-made state start options other peer node nth time = record {
+-- a connection as it begins, on either side: of the peer's first packet the number is the receive start, and the tag names the peer; before that has
+-- come there is none of both
+abbrev pub made : State → (start : ℕ) → Options → (first : Option (ℕ × Option Tag)) → (node nth time : ℕ) → PlainRdp
+made state start options first node nth time = record {
   state = state;
   options = options;
   node = node;
   nth = nth;
-  peer = peer;
+  peer = option_and_then (λ p. option_map flow_of p.1) first;
   was_open = false;
   since = time;
   send = opening_send start options.window;
-  recv = opening_recv other options.window;
+  recv = opening_recv (option_map_or (λ p. p.0) first 0) options.window;
   owed = opening_owed;
   reset_at = None;
 }
 
 -- a connection that is asked for: SynSent
-abbrev pub connecting : ℕ → Options → ℕ → ℕ → ℕ → PlainRdp
-connecting start options node nth time = made SynSent start options 0 None node nth time
+abbrev pub connecting : (start : ℕ) → Options → (node nth time : ℕ) → PlainRdp
+connecting start options node nth time = made SynSent start options None node nth time
 
--- a connection that is asked of the node: SynRcvd; the number of the packet is the receive start
-abbrev pub accepting : ℕ → Options → ℕ → Option Tag → ℕ → ℕ → ℕ → PlainRdp
-accepting start options other tag node nth time = made SynRcvd start options other (option_map flow_of tag) node nth time
+-- a connection that is asked of the node by a packet with this number and tag: SynRcvd
+abbrev pub accepting : (start : ℕ) → Options → (other : ℕ) → Option Tag → (node nth time : ℕ) → PlainRdp
+accepting start options other tag node nth time = made SynRcvd start options (Some (other, tag)) node nth time
 
 -- what a slot without a machine is taken for: a connection that is closed, holds nothing and owes nothing
 abbrev pub idle : PlainRdp
-idle = record (made Closed 0 usual_options 0 None 0 0 0) { owed = nothing_owed }
+idle = record (made Closed 0 usual_options None 0 0 0) { owed = nothing_owed }
 
 -- ---- the steps from state to state
 
 -- the packet with this number and tag sets the receive start and the peer
-abbrev pub started : ℕ → Option Tag → PlainRdp → PlainRdp
+abbrev pub started : (other : ℕ) → Option Tag → PlainRdp → PlainRdp
 started other tag r = record r { recv = opening_recv other r.options.window; peer = option_map flow_of tag }
 
 -- it is open, and its timer begins anew
-abbrev pub opened : ℕ → PlainRdp → PlainRdp
+abbrev pub opened : (time : ℕ) → PlainRdp → PlainRdp
 opened time r = record r { state = Open; was_open = true; since = time; owed = record r.owed { syn = false } }
 
 -- it is in another state: the send window needs nothing any more, and a reset that waits is forgotten
-abbrev pub left : State → ℕ → PlainRdp → PlainRdp
+abbrev pub left : State → (time : ℕ) → PlainRdp → PlainRdp
 left state time r = record r { state = state; since = time; send = with_mark Abandoned r.send; reset_at = None }
 
 -- it owes a reset, the answer to the first packet, an extended acknowledgement, an acknowledgement
@@ -101,7 +102,7 @@ abbrev pub owes_ack : PlainRdp → PlainRdp
 owes_ack r = record r { owed = record r.owed { ack = true } }
 
 -- it is broken off
-abbrev pub broken : ℕ → PlainRdp → PlainRdp
+abbrev pub broken : (time : ℕ) → PlainRdp → PlainRdp
 broken time r = owes_rst (left CloseWait time r)
 
 -- the least unacknowledged index: that of the opening packet until the connection is open

@@ -83,7 +83,7 @@ impl Rdp {
             (node, nth),
             now,
             SendWindow::new(start, options.window),
-            (Seq(0), None),
+            None,
         )
     }
 
@@ -108,7 +108,7 @@ impl Rdp {
             (node, nth),
             now,
             SendWindow::new(start, options.window),
-            (syn.seq, peer_of(tag)),
+            Some((syn.seq, tag)),
         )
     }
 
@@ -448,22 +448,26 @@ impl Rdp {
     }
 }
 
-// flow, made in the turn `now`, with this send window, and the receive start and the peer, if known.
+// A connection in this state, of this flow, made in the turn `now`, with this send window, by the number and the tag of the peer's first packet, where
+// that has come.
 fn made(
     state: State,
     options: Options,
     flow: (u8, u32),
     now: u64,
     send: SendWindow,
-    other: (Seq, Option<(u8, u32)>),
+    first: Option<(Seq, Option<Tag>)>,
 ) -> Rdp
     requires low { 1 ≤ options.window }
     requires high { options.window ≤ MAX_WINDOW }
     requires window { send ≡ opening_send send.start options.window }
-    ensures { result ≡ made state send.start options other.0.0 other.1 flow.0 flow.1 now }
+    ensures { result ≡ made state send.start options (option_map (λ f. (f.0.0, f.1)) first) flow.0 flow.1 now }
 {
     let (node, nth) = flow;
-    let (start, peer) = other;
+    let (start, peer) = match first {
+        Some((number, tag)) => (number, peer_of(tag)),
+        None => (Seq(0), None),
+    };
     Rdp {
         state,
         options,
