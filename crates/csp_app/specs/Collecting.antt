@@ -83,18 +83,18 @@ abbrev pub reset_on : (slot : ℕ) → Collectors → Collectors
 reset_on slot collectors = slice_set collectors slot (option_map (λ g. nothing) (collector_at collectors slot))
 
 -- what a note that was popped does to the collectors: with the end of a connection goes what was gathered of it
-abbrev pub ended_by : Note → Collectors → Collectors
-ended_by (note.Closed slot) collectors = reset_on slot collectors
-ended_by (note.Down _) collectors = collectors
-ended_by (note.Bind _ _) collectors = collectors
-ended_by (note.Connect _ _ _ _ _ _) collectors = collectors
-ended_by (note.Close _) collectors = collectors
-ended_by note.Bound collectors = collectors
-ended_by (note.Connected _) collectors = collectors
-ended_by (note.Refused _) collectors = collectors
+abbrev pub after_note : Note → Collectors → Collectors
+after_note (note.Closed slot) collectors = reset_on slot collectors
+after_note (note.Down _) collectors = collectors
+after_note (note.Bind _ _) collectors = collectors
+after_note (note.Connect _ _ _ _ _ _) collectors = collectors
+after_note (note.Close _) collectors = collectors
+after_note note.Bound collectors = collectors
+after_note (note.Connected _) collectors = collectors
+after_note (note.Refused _) collectors = collectors
 
 -- the collectors after an item was popped
 abbrev pub collectors_after : ItemShown → Collectors → Collectors
 collectors_after (item.Packet slot b) collectors = fed_on slot b.payload collectors
-collectors_after (item.Note n) collectors = ended_by n collectors
+collectors_after (item.Note n) collectors = after_note n collectors
 collectors_after (item.Frame _) collectors = collectors

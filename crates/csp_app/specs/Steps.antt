@@ -90,20 +90,20 @@ pushed_one true s = still (record s { sent = s.sent + 1 })
 pushed_one false s = over s
 
 -- a note that came while an answer is awaited: each but Down is the answer, and Refused is reported
-abbrev pub answered_by : PlainApp → Note → ToldApp
-answered_by s note.Bound = over s
-answered_by s (note.Connected _) = over s
-answered_by s (note.Closed _) = over s
-answered_by s (note.Refused why) = over_with (event.Refused (s.done + 1) why) s
-answered_by s (note.Down _) = still s
-answered_by s (note.Bind _ _) = not_an_answer s
-answered_by s (note.Connect _ _ _ _ _ _) = not_an_answer s
-answered_by s (note.Close _) = not_an_answer s
+abbrev pub note_awaited : PlainApp → Note → ToldApp
+note_awaited s note.Bound = over s
+note_awaited s (note.Connected _) = over s
+note_awaited s (note.Closed _) = over s
+note_awaited s (note.Refused why) = over_with (event.Refused (s.done + 1) why) s
+note_awaited s (note.Down _) = still s
+note_awaited s (note.Bind _ _) = not_an_answer s
+note_awaited s (note.Connect _ _ _ _ _ _) = not_an_answer s
+note_awaited s (note.Close _) = not_an_answer s
 
 -- an answer is awaited, and this note came, if it is one
 abbrev pub answered : Option Note → PlainApp → ToldApp
 answered None s = still s
-answered (Some n) s = answered_by s n
+answered (Some n) s = note_awaited s n
 
 -- this is a turn of the step's own: the first is noted
 abbrev pub timed : ℕ → PlainApp → PlainApp

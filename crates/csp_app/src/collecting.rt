@@ -3,7 +3,7 @@
 ghost use Rattle.std.specs.Prelude.{◌≡◌, ◌<◌, Some, None, IfOk, length};
 ghost use Rattle.std.specs.Option.{option_to_list};
 ghost use Rattle.csp_crc.specs.Crc.{crc_of};
-ghost use Rattle.csp_app.specs.Collecting.{answer_of, blobs_told, collector_at, collector_for, collectors_for, counts, ended_by, fed_on, piece_told};
+ghost use Rattle.csp_app.specs.Collecting.{answer_of, blobs_told, collector_at, collector_for, collectors_for, counts, after_note, fed_on, piece_told};
 ghost use Rattle.csp_deck.specs.Carried.{IsDownItem};
 ghost use Rattle.csp_sfp.specs.Gathering.{after, answer};
 
@@ -112,7 +112,7 @@ fn whole(collector: &Collector, slot: u8, ordinal: u32) -> Event
 pub(crate) fn note_end(collectors: &mut [Option<Collector>], note: &Note)
     requires slots { length collectors.old ≡ SLOTS }
     requires item { IsDownItem (ItemShown.Note note.now) }
-    ensures { collectors.new ≡ ended_by note.now collectors.old }
+    ensures { collectors.new ≡ after_note note.now collectors.old }
 {
     let Note::Closed { slot } = note else {
         return;

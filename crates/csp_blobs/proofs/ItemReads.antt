@@ -17,13 +17,13 @@ use Rattle.csp_log.specs.declared.event.Event.{Event}
 use Rattle.csp_log.specs.declared.note.Note.TheVariants as note
 use Rattle.csp_log.specs.declared.shown.ItemShown.{ItemShown}
 use Rattle.csp_log.specs.declared.shown.ItemShown.TheVariants as item
-use Rattle.csp_sfp.specs.Collecting.{collected, refusals, whole_by}
+use Rattle.csp_sfp.specs.Collecting.{collected, refusals, blob_in}
 use Rattle.csp_sfp.specs.Gathering.{Gathering, after, answer, nothing}
 use Rattle.csp_sfp.specs.declared.collector.SfpAnswer.{SfpAnswer}
 use Rattle.csp_sfp.specs.declared.collector.SfpAnswer.TheVariants.{Part, Whole}
 use Rattle.csp_sfp.specs.declared.errors.SfpError.{SfpError}
 use Rattle.csp_prefix.specs.Items.{ends_by, payload_by, payloads_from}
-use Rattle.csp_report.specs.Blobs.{blob_by, refusal_by}
+use Rattle.csp_report.specs.Blobs.{blob_told, refusal_told}
 use Rattle.csp_blobs.specs.Blobs.{Tells}
 
 -- ---- events after events
@@ -31,8 +31,8 @@ use Rattle.csp_blobs.specs.Blobs.{Tells}
 pub tells_append : (slot ordinal : ℕ) (xs ys : List Event) (bs cs : List (List ℕ)) (rs ss : List SfpError) → Tells slot ordinal xs bs rs → Tells slot ordinal ys cs ss
     → Tells slot ordinal (xs ++ ys) (bs ++ cs) (rs ++ ss)
 tells_append slot ordinal xs ys bs cs rs ss a b = record {
-  told = filter_map-append (blob_by slot ordinal) xs ys ∙ (λ i. a.told i ++ b.told i) ∙ sym (map-append _ bs cs);
-  refused = filter_map-append (refusal_by slot ordinal) xs ys ∙ (λ i. a.refused i ++ b.refused i);
+  told = filter_map-append (blob_told slot ordinal) xs ys ∙ (λ i. a.told i ++ b.told i) ∙ sym (map-append _ bs cs);
+  refused = filter_map-append (refusal_told slot ordinal) xs ys ∙ (λ i. a.refused i ++ b.refused i);
 }
 
 pub tells_same : (slot ordinal : ℕ) (es : List Event) (bs cs : List (List ℕ)) (rs ss : List SfpError) → bs ≡ cs → rs ≡ ss → Tells slot ordinal es bs rs → Tells slot ordinal es cs ss
@@ -159,7 +159,7 @@ collector_after k c (item.Note m) cs h = h
 
 -- on the slot, where the ordinal is this one, what the collector made of it
 piece_tells : (k o n : ℕ) (w : Result SfpAnswer SfpError) (g : Gathering) (u : Bool) → (n == o) ≡ u
-    → Tells k o (piece_told k n w g) (if u then whole_by w g else []) (if u then cons_option (result_err w) [] else [])
+    → Tells k o (piece_told k n w g) (if u then blob_in w g else []) (if u then cons_option (result_err w) [] else [])
 piece_tells k o n (Ok Whole) g true e = record { told = λ i. cons_option (if eq-eqb k k refl i && e i then Some (record { len = length g.bytes; crc = crc_of g.bytes }) else None) []; refused = refl }
 piece_tells k o n (Ok Whole) g false e = record { told = λ i. cons_option (if eq-eqb k k refl i && e i then Some (record { len = length g.bytes; crc = crc_of g.bytes }) else None) []; refused = refl }
 piece_tells k o n (Ok Part) g true e = record { told = refl; refused = refl }
@@ -176,8 +176,8 @@ own_tells k o n (Some g) p cs slots u h same e =
     let reasons : List SfpError = if u then refusals g (p ∷ []) else [] in
     subst (λ d. Tells k o (blobs_told k (slot_at slots k).ordinal d p) blobs reasons) (sym same)
     (subst (λ m. Tells k o (piece_told k m (answer g p) (after g p)) blobs reasons) (sym h.1)
-    (tells_same k o (piece_told k n (answer g p) (after g p)) (if u then whole_by (answer g p) (after g p) else []) blobs reasons reasons
-    (ap (λ (bs : List (List ℕ)). if u then bs else []) (sym (append-nil (whole_by (answer g p) (after g p))))) refl
+    (tells_same k o (piece_told k n (answer g p) (after g p)) (if u then blob_in (answer g p) (after g p) else []) blobs reasons reasons
+    (ap (λ (bs : List (List ℕ)). if u then bs else []) (sym (append-nil (blob_in (answer g p) (after g p))))) refl
     (piece_tells k o n (answer g p) (after g p) u e)))
 
 -- and nothing on another
@@ -202,7 +202,7 @@ packet_tells k o n c mark p cs slots false h same e = other_tells k o mark (slot
 packet_blobs : (t u : Bool) (c : Option Gathering) (p : List ℕ) (ps : List (List ℕ))
     → (if t && u then blobs_by c (p ∷ []) else []) ++ blobs_by (begun_with u (if t then option_map (λ g. after g p) c else c)) ps ≡ blobs_by (begun_with u c) ((if t && u then p ∷ [] else []) ++ ps)
 packet_blobs true true None p ps = refl
-packet_blobs true true (Some g) p ps = ap (λ bs. bs ++ collected (after g p) ps) (append-nil (whole_by (answer g p) (after g p)))
+packet_blobs true true (Some g) p ps = ap (λ bs. bs ++ collected (after g p) ps) (append-nil (blob_in (answer g p) (after g p)))
 packet_blobs true false None p ps = refl
 packet_blobs true false (Some g) p ps = refl
 packet_blobs false u c p ps = refl

@@ -8,10 +8,10 @@ use Rattle.csp_log.specs.declared.places.QueueId.{QueueId}
 use Rattle.csp_log.specs.declared.places.QueueId.TheVariants as queue
 
 -- between two turns it looks into its inbox alone, unless it holds a packet
-abbrev pub circle_by : Doing → (trash out : Option Content) → List QueueId
-circle_by doing.Rest None None = queue.Inbox ∷ []
-circle_by _ _ _ = []
+abbrev pub between_turns : Doing → (trash out : Option Content) → List QueueId
+between_turns doing.Rest None None = queue.Inbox ∷ []
+between_turns _ _ _ = []
 
 -- the queues that a bridge looks into until it is as it was
 abbrev pub circle : PlainBridge → List QueueId
-circle s = circle_by s.doing s.trash s.out
+circle s = between_turns s.doing s.trash s.out

@@ -4,11 +4,11 @@ use Rattle.csp_bridge.specs.PlainBridge.{PlainBridge}
 use Rattle.csp_buffer.specs.Content.{Content}
 
 -- the bridge without the first of its buffers: one discarded, one that is to go out. Where it holds none it stays
-abbrev pub drained_by : (trash out : Option Content) → PlainBridge → PlainBridge
-drained_by (Some _) out s = record s { trash = None }
-drained_by None (Some _) s = record s { out = None }
-drained_by None None s = s
+abbrev pub without_first : (trash out : Option Content) → PlainBridge → PlainBridge
+without_first (Some _) out s = record s { trash = None }
+without_first None (Some _) s = record s { out = None }
+without_first None None s = s
 
 -- the bridge without the first buffer that it holds, at the end of a run
 abbrev pub drained : PlainBridge → PlainBridge
-drained s = drained_by s.trash s.out s
+drained s = without_first s.trash s.out s

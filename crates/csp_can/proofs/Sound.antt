@@ -19,7 +19,7 @@ use Rattle.csp_can.specs.Identifiers.{key_of, same_key}
 use Rattle.csp_can.specs.Frames.{Frame}
 use Rattle.csp_can.specs.Rules.{Arrival, Deed, leaves, ends, opens, goes_on, Ruling, refused, opened_partial, grown_partial, measured, begin_ruling, more_ruling, ruling_of}
 use Rattle.csp_can.specs.Open.{remove_first, fresh, standing, without, ruling, done, gone_on, answer, next, Kept, last_of, joined, shown_frames, whole_frames, open_after, counters, shown_partials}
-use Rattle.csp_can.specs.Chains.{CountsDown, IsChain, Chain, list_by, trace_by, Completes}
+use Rattle.csp_can.specs.Chains.{CountsDown, IsChain, Chain, chain_with, chain_trace, Completes}
 use Rattle.csp_can.proofs.Counted.{joined-push, answer_counted}
 
 -- a fact of what a partial packet is measured as, by three cases
@@ -234,7 +234,7 @@ begin_not_more kind b m = cc
 
 completes : (mtu : ℕ) (kind : Kind) (kept : Option Kept) (n : ℕ) (a : Arrival) (h : ℕ) (p : List ℕ) (t : Trace) → a.frame.head.kind ≡ kind → AllSound mtu kept
     → (ruling_of mtu kind (option_map shown_frames kept) (nat_le MAX_PARTIALS n) a).event ≡ Whole h (record { items = p }) t
-    → ((is_some kept || nat_lt n MAX_PARTIALS) ≡ true) × Chain (list_by kind kept a.frame) h p × (t ≡ trace_by kind kept a.trace) × (length p ≤ mtu)
+    → ((is_some kept || nat_lt n MAX_PARTIALS) ≡ true) × Chain (chain_with kind kept a.frame) h p × (t ≡ chain_trace kind kept a.trace) × (length p ≤ mtu)
 unfolding AllSound
 completes mtu Begin None n a h p t is sound e = begin_completes mtu false n a h p t is e
 completes mtu Begin (Some k) n a h p t is sound e = begin_completes mtu true n a h p t is e
@@ -242,7 +242,7 @@ completes mtu More None n a h p t is sound e = cc
 completes mtu More (Some k) n a h p t is sound e = let w = more_completes mtu k a h p t sound is e in (refl, w.0, w.1, w.2)
 
 completed : (mtu : ℕ) (kind : Kind) (kept : Option Kept) (n : ℕ) (a : Arrival) (h : ℕ) (p : List ℕ) (t : Trace) → a.frame.head.kind ≡ kind
-    → ((is_some kept || nat_lt n MAX_PARTIALS) ≡ true) × Chain (list_by kind kept a.frame) h p × (t ≡ trace_by kind kept a.trace) × (length p ≤ mtu)
+    → ((is_some kept || nat_lt n MAX_PARTIALS) ≡ true) × Chain (chain_with kind kept a.frame) h p × (t ≡ chain_trace kind kept a.trace) × (length p ≤ mtu)
     → (ruling_of mtu kind (option_map shown_frames kept) (nat_le MAX_PARTIALS n) a).event ≡ Whole h (record { items = p }) t
 completed mtu Begin None n a h p t is w = begin_completed mtu false n a h p t w.0 w.1 w.2 w.3
 completed mtu Begin (Some k) n a h p t is w = begin_completed mtu true n a h p t w.0 w.1 w.2 w.3

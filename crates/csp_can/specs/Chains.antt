@@ -41,14 +41,14 @@ frames_of None = []
 frames_of (Some k) = k.begin.frame ∷ map (λ a. a.frame) k.more
 
 -- the list that a frame makes its key's: a BEGIN frame begins it anew, a MORE frame goes on with it
-abbrev pub list_by : Kind → Option Kept → Frame → List Frame
-list_by Begin kept f = f ∷ []
-list_by More kept f = frames_of kept ++ f ∷ []
+abbrev pub chain_with : Kind → Option Kept → Frame → List Frame
+chain_with Begin kept f = f ∷ []
+chain_with More kept f = frames_of kept ++ f ∷ []
 
 -- the trace of the BEGIN frame of that list
-abbrev pub trace_by : Kind → Option Kept → Trace → Trace
-trace_by Begin kept trace = trace
-trace_by More kept trace = unwrap_or (option_map (λ k. k.begin.trace) kept) trace
+abbrev pub chain_trace : Kind → Option Kept → Trace → Trace
+chain_trace Begin kept trace = trace
+chain_trace More kept trace = unwrap_or (option_map (λ k. k.begin.trace) kept) trace
 
 -- a partial packet of its key stands, or one more may
 abbrev pub has_room : Option Kept → List Kept → Bool
@@ -60,6 +60,6 @@ Completes mtu before a header payload trace =
     let ks = fresh whole_frames a.time before in
     let kept = standing whole_frames (key_of a.frame.head) ks in
     IsTrue (has_room kept ks)
-    × Chain (list_by a.frame.head.kind kept a.frame) header payload
-    × (trace ≡ trace_by a.frame.head.kind kept a.trace)
+    × Chain (chain_with a.frame.head.kind kept a.frame) header payload
+    × (trace ≡ chain_trace a.frame.head.kind kept a.trace)
     × (length payload ≤ mtu)

@@ -24,7 +24,7 @@ use Rattle.csp_scene.specs.Scene.{PlainLink, PlainNode, PlainScene}
 use Rattle.csp_standing.proofs.Public.{Apart, Hubs, Led, home_in, hub_at, hub_leads, hub_place_of, node_in, IsAt, home_named, post_at, post_of}
 use Rattle.csp_standing.specs.Network.{IsHomeIn, IsNetworkOf, IsPostOf, PlainNetwork}
 use Rattle.csp_topology.specs.Lanes.{leader_of}
-use Rattle.csp_topology.specs.Parties.{PlainOpening, apps_from, leader_by, ifaces_from, links_from, parties_at, parties_from, parties_of}
+use Rattle.csp_topology.specs.Parties.{PlainOpening, apps_from, leader_opening, ifaces_from, links_from, parties_at, parties_from, parties_of}
 use Rattle.csp_topology.specs.Wired.{IsLed, Stands, is_leader}
 use Rattle.csp_topology.specs.Writers.{mark_for}
 
@@ -48,7 +48,7 @@ nodes_has place zero m (x ∷ nodes) n links e h =
     let own = iface_has place x.addr 0 m (links_at place links) few in
     let called : Has (IsCalled (who.Iface (place + 0) m)) (ifaces_from place x.addr 0 (links_at place links)) = record { place = own.place; one = own.one; at = own.at; so = own.so ∙ ap (λ (p : ℕ). who.Iface p (0 + m)) (sym same) ∙ ap (λ (j : ℕ). who.Iface (place + 0) j) (omega arith) } in
     has_first (IsCalled (who.Iface (place + 0) m)) (parties_at place x (links_at place links)) (parties_from (place + 1) nodes links)
-    (has_second (IsCalled (who.Iface (place + 0) m)) (leader_by x.addr place x (links_at place links) ∷ []) (ifaces_from place x.addr 0 (links_at place links) ++ apps_from place 0 x.apps)
+    (has_second (IsCalled (who.Iface (place + 0) m)) (leader_opening x.addr place x (links_at place links) ∷ []) (ifaces_from place x.addr 0 (links_at place links) ++ apps_from place 0 x.apps)
     (has_first (IsCalled (who.Iface (place + 0) m)) (ifaces_from place x.addr 0 (links_at place links)) (apps_from place 0 x.apps) called))
 nodes_has place (suc k) m (x ∷ nodes) n links e h =
     let same : place + suc k ≡ place + 1 + k = omega arith in

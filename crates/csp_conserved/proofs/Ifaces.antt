@@ -14,7 +14,7 @@ use Rattle.csp_iface.specs.Asking.{asked, asks, delivered, given, op_of, transmi
 use Rattle.csp_iface.specs.PlainIface.{PlainIface, holds}
 use Rattle.csp_iface.specs.Planning.{first_rule, plan_of, side_plan}
 use Rattle.csp_iface.specs.Sending.{frames_of, next_node, sent_trace}
-use Rattle.csp_iface.specs.Telling.{begun, caught, fetched, filled, is_too_big, kept, packet_in, pushed, taken_up, tells, told_by}
+use Rattle.csp_iface.specs.Telling.{begun, caught, fetched, filled, is_too_big, kept, packet_in, pushed, taken_up, tells, after_answer}
 use Rattle.csp_iface.specs.declared.packet.WholePacket.{WholePacket}
 use Rattle.csp_iface.specs.declared.plan.IfacePlan.{IfacePlan}
 use Rattle.csp_iface.specs.declared.plan.IfacePlan.TheVariants as plan
@@ -71,14 +71,14 @@ quietly s a none done = record { numbers = λ k. omega (arith, ap (times k) none
 
 -- ---- by the plan of the turn
 
-told_return : (back : Option Content) (s : PlainIface) (now : ℕ) (a : AnswerShown) → s.back ≡ None → IsDone s.frames s.sending → Fits (given back) a → Tells s (told_by s now plan.Return a).iface a
+told_return : (back : Option Content) (s : PlainIface) (now : ℕ) (a : AnswerShown) → s.back ≡ None → IsDone s.frames s.sending → Fits (given back) a → Tells s (after_answer s now plan.Return a).iface a
 told_return None s now answer.Nothing free done fits = quietly s answer.Nothing refl done
 told_return None s now a free done fits = absurd fits
 told_return (Some b) s now answer.Given free done fits = quietly s answer.Given refl done
 told_return (Some b) s now (answer.PoolFull c) free done fits = record { numbers = λ k. omega (arith, holds_times k s, holds_times k (record s { back = Some c }), none_among k s.back free); done = done }
 told_return (Some b) s now a free done fits = absurd fits
 
-told_deliver : (number : ℕ) (accepted : Option Content) (s : PlainIface) (now : ℕ) (a : AnswerShown) → s.back ≡ None → IsDone s.frames s.sending → Fits (delivered number accepted) a → Tells s (told_by s now plan.Deliver a).iface a
+told_deliver : (number : ℕ) (accepted : Option Content) (s : PlainIface) (now : ℕ) (a : AnswerShown) → s.back ≡ None → IsDone s.frames s.sending → Fits (delivered number accepted) a → Tells s (after_answer s now plan.Deliver a).iface a
 told_deliver number None s now answer.Nothing free done fits = quietly s answer.Nothing refl done
 told_deliver number None s now a free done fits = absurd fits
 told_deliver number (Some b) s now answer.Pushed free done fits = quietly s answer.Pushed refl done
@@ -86,7 +86,7 @@ told_deliver number (Some b) s now (answer.Full i) free done fits =
     record { numbers = λ k. omega (arith, holds_times k s, holds_times k (record s { back = packet_in i }), none_among k s.back free, item_among k i); done = done }
 told_deliver number (Some b) s now a free done fits = absurd fits
 
-told_take : (s : PlainIface) (now : ℕ) (a : AnswerShown) → s.accepted ≡ None → IsDone s.frames s.sending → Fits (op_of s plan.Take) a → Tells s (told_by s now plan.Take a).iface a
+told_take : (s : PlainIface) (now : ℕ) (a : AnswerShown) → s.accepted ≡ None → IsDone s.frames s.sending → Fits (op_of s plan.Take) a → Tells s (after_answer s now plan.Take a).iface a
 told_take s now (answer.Taken b) free done fits =
     record { numbers = λ k. omega (arith, holds_times k s, holds_times k (record s { accepted = Some (filled s.whole b); whole = None }), none_among k s.accepted free, filled_among k s.whole b); done = done }
 told_take s now answer.NoBuffer free done fits = record { numbers = λ k. omega arith; done = done }
@@ -103,7 +103,7 @@ kept_told (item.Note note) f s fits = absurd cc
 
 -- the frame that it pushes is the first of those left
 told_transmit : (number : ℕ) (frames : List Frame) (s : PlainIface) (now : ℕ) (a : AnswerShown) → s.back ≡ None → (frames ≡ [] → IsDone s.frames s.sending) → Fits (transmitted number (slice_get frames 0)) a
-    → Tells s (told_by s now plan.Transmit a).iface a
+    → Tells s (after_answer s now plan.Transmit a).iface a
 told_transmit number [] s now answer.Nothing free done fits = quietly s answer.Nothing refl (done refl)
 told_transmit number [] s now a free done fits = absurd fits
 told_transmit number (f ∷ fs) s now answer.Pushed free done fits = pushed_told s.frames s refl free
@@ -129,7 +129,7 @@ fetched_told (item.Packet mark b) s free unsent done =
       done = λ none. absurd (some_frames s.kind s.serial (next_node mark b.header) b (sent_trace s.node s.number s.serial b.trace) none);
     }
 
-told_fetch : (s : PlainIface) (now : ℕ) (a : AnswerShown) → s.back ≡ None → s.sending ≡ None → IsDone s.frames s.sending → Fits (op_of s plan.Fetch) a → Tells s (told_by s now plan.Fetch a).iface a
+told_fetch : (s : PlainIface) (now : ℕ) (a : AnswerShown) → s.back ≡ None → s.sending ≡ None → IsDone s.frames s.sending → Fits (op_of s plan.Fetch) a → Tells s (after_answer s now plan.Fetch a).iface a
 told_fetch s now (answer.Popped i) free unsent done fits = fetched_told i s free unsent done
 told_fetch s now answer.Empty free unsent done fits = quietly s answer.Empty refl done
 told_fetch s now a free unsent done fits = absurd fits
@@ -140,12 +140,12 @@ caught_told (item.Packet mark b) s now bare done = record { numbers = λ k. omeg
 caught_told (item.Note note) s now bare done = record { numbers = λ k. omega arith; done = done }
 
 told_receive : (s : PlainIface) (now : ℕ) (a : AnswerShown) → AllByRecursion IsBare (got_by (queue.Rx s.number) (op_of s plan.Receive) a) → IsDone s.frames s.sending → Fits (op_of s plan.Receive) a
-    → Tells s (told_by s now plan.Receive a).iface a
+    → Tells s (after_answer s now plan.Receive a).iface a
 told_receive s now (answer.Popped i) bare done fits = caught_told i s now (came s.number i bare) done
 told_receive s now answer.Empty bare done fits = quietly s answer.Empty refl done
 told_receive s now a bare done fits = absurd fits
 
-told_rest : (s : PlainIface) (now : ℕ) (a : AnswerShown) → IsDone s.frames s.sending → Fits (op_of s plan.Rest) a → Tells s (told_by s now plan.Rest a).iface a
+told_rest : (s : PlainIface) (now : ℕ) (a : AnswerShown) → IsDone s.frames s.sending → Fits (op_of s plan.Rest) a → Tells s (after_answer s now plan.Rest a).iface a
 told_rest s now answer.Nothing done fits = quietly s answer.Nothing refl done
 told_rest s now a done fits = absurd fits
 
@@ -175,7 +175,7 @@ first_free s None None None e f = side_free s s.side s.frames refl e
 -- ---- a whole turn
 
 told_so : (s : PlainIface) (now : ℕ) (p : IfacePlan) (a : AnswerShown) → IsFree s p → IsDone s.frames s.sending → AllByRecursion IsBare (got_by (queue.Rx s.number) (op_of s p) a) → Fits (op_of s p) a
-    → Tells (waiting s p) (told_by (waiting s p) now p a).iface a
+    → Tells (waiting s p) (after_answer (waiting s p) now p a).iface a
 told_so s now plan.Rest a free done bare fits = told_rest (waiting s plan.Rest) now a done fits
 told_so s now plan.Return a free done bare fits = told_return s.back (waiting s plan.Return) now a refl done fits
 told_so s now plan.Deliver a free done bare fits = told_deliver s.number s.accepted (waiting s plan.Deliver) now a free done fits

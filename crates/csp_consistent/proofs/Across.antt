@@ -149,7 +149,7 @@ module _ (Q R : ℕ → Frame → Type 0) (plan : List Fault) (n end : ℕ) wher
   -- what a turn makes
   made_so : (before es : List Entry) (o : OpShown) (a : AnswerShown) → PopsWithin n o
       → ((from k : ℕ) (f : Frame) → from ≢ end → slice_get (hub.frames_popped from before ++ (hub.popped_by from o a ++ hub.frames_popped from es)) k ≡ Some f → Q from f → R from (damaged (fate_of from (k + 1) plan).flip f))
-      → ((from : ℕ) → from < n → from ≢ end → AllByRecursion (IsSuchFrame (Q from)) (got_by (queue.Tx from) o a)) → AllByRecursion (IsFromOther R n end) (hub.made_by plan end before o a)
+      → ((from : ℕ) → from < n → from ≢ end → AllByRecursion (IsSuchFrame (Q from)) (got_by (queue.Tx from) o a)) → AllByRecursion (IsFromOther R n end) (hub.made_of plan end before o a)
   made_so before es (op.Pop (queue.Tx from)) (answer.Popped (item.Frame f)) low each got =
       by (from == end) refl
     where
@@ -178,7 +178,7 @@ module _ (Q R : ℕ → Frame → Type 0) (plan : List Fault) (n end : ℕ) wher
   all_spread before (e ∷ es) all is within each got =
       let cut : (from : ℕ) → hub.frames_popped from all ≡ hub.frames_popped from before ++ (hub.popped_by from e.op e.answer ++ hub.frames_popped from es) =
       λ from. ap (hub.frames_popped from) is ∙ flat_map-append (λ (x : Entry). hub.popped_by from x.op x.answer) before (e ∷ es) in
-      AllByRecursion-append (IsFromOther R n end) (hub.made_by plan end before e.op e.answer) (hub.made_after plan end (before ++ e ∷ []) es)
+      AllByRecursion-append (IsFromOther R n end) (hub.made_of plan end before e.op e.answer) (hub.made_after plan end (before ++ e ∷ []) es)
       (made_so before es e.op e.answer within.0 (λ from k f apart there. each from k f apart (ap (λ fs. slice_get fs k) (cut from) ∙ there))
       (λ from low apart. each_first (IsSuchFrame (Q from)) (got_by (queue.Tx from) e.op e.answer) (gets (queue.Tx from) es) (got from low apart)))
       (all_spread (before ++ e ∷ []) es all (is ∙ sym (append_assoc before (e ∷ []) es)) within.1 each

@@ -14,7 +14,7 @@ use Rattle.csp_can.specs.declared.identifiers.Kind.{Kind}
 use Rattle.csp_can.specs.declared.identifiers.Kind.TheVariants.{Begin, More}
 use Rattle.csp_can.specs.declared.partials.Partial.{Partial}
 use Rattle.csp_can.specs.declared.partials.TheConstants.{MAX_PARTIALS}
-use Rattle.csp_iface.specs.Receiving.{arrived, Heard, frame_heard as heard, heard_by, packet_of, reassembled, traced, followed, read_further}
+use Rattle.csp_iface.specs.Receiving.{arrived, Heard, frame_heard as heard, frame_read, packet_of, reassembled, traced, followed, read_further}
 use Rattle.csp_iface.specs.declared.packet.WholePacket.{WholePacket}
 use Rattle.csp_iface.specs.declared.receiver.Receiver.{Receiver}
 use Rattle.csp_iface.specs.declared.receiver.Receiver.TheVariants as by
@@ -177,11 +177,11 @@ pub heard_of : (P : Trace → Type 0) (now : ℕ) (r : Receiver) (f : Frame) →
 heard_of P now r f kept here =
     chosen (f.trace.hops == MAX_HOPS)
   where
-    going : (r : Receiver) → IsKeptOf P r → IsHeardOf P (heard_by now r f)
+    going : (r : Receiver) → IsKeptOf P r → IsHeardOf P (frame_read now r f)
     going (by.Kiss s) kept = (inr here, tt)
     going (by.Can l) kept = reassembled_of P l (arrival (identifier_of (unwrap_or f.can 0)) f.bytes.items (arrived f.trace) now) kept here
 
-    chosen : (b : Bool) → IsHeardOf P (if b then record { receiver = r; whole = None; refused = 1 } else heard_by now r f)
+    chosen : (b : Bool) → IsHeardOf P (if b then record { receiver = r; whole = None; refused = 1 } else frame_read now r f)
     chosen true = (kept, tt)
     chosen false = going r kept
 

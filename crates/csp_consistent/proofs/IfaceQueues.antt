@@ -39,7 +39,7 @@ number_caught now (item.Packet mark b) s = refl
 number_caught now (item.Frame f) s = refl
 number_caught now (item.Note n) s = refl
 
-number_told : (s : PlainIface) (now : ℕ) (p : IfacePlan) (a : AnswerShown) → (telling.told_by s now p a).iface.number ≡ s.number
+number_told : (s : PlainIface) (now : ℕ) (p : IfacePlan) (a : AnswerShown) → (telling.after_answer s now p a).iface.number ≡ s.number
 number_told s now plan.Rest answer.Nothing = refl
 number_told s now plan.Rest (answer.Taken b) = refl
 number_told s now plan.Rest answer.NoBuffer = refl

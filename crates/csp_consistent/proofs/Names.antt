@@ -11,7 +11,7 @@ use Rattle.csp_log.specs.declared.who.Who.TheVariants as who
 use Rattle.csp_scene.proofs.Public.{AllByRecursion-append, AllByRecursion-map}
 use Rattle.csp_scene.specs.Links.{links_at}
 use Rattle.csp_scene.specs.Scene.{PlainScene, PlainNode, PlainLink, PlainApp}
-use Rattle.csp_topology.specs.Parties.{PlainOpening, parties_of, parties_from, parties_at, links_from, ifaces_from, apps_from, leader_by}
+use Rattle.csp_topology.specs.Parties.{PlainOpening, parties_of, parties_from, parties_at, links_from, ifaces_from, apps_from, leader_opening}
 use Rattle.csp_consistent.specs.Runs.{IsLogOf, AreLogsOf}
 
 both_true : (a b : Bool) → (a && b) ≡ true → (a ≡ true) × (b ≡ true)
@@ -226,11 +226,11 @@ parts_at place addr [] n m [] = tt
 parts_at place addr [] n m (a ∷ apps) = (refl, parts_at place addr [] n (m + 1) apps)
 parts_at place addr (l ∷ links) n m apps = (refl, parts_at place addr links (n + 1) m apps)
 
-hub_none : (addr : Option ℕ) (place : ℕ) (n : PlainNode) (links : List PlainLink) (os : List PlainOpening) → AllByRecursion (λ o. IsPart o.who) os → HasNone (leader_by addr place n links).who os
+hub_none : (addr : Option ℕ) (place : ℕ) (n : PlainNode) (links : List PlainLink) (os : List PlainOpening) → AllByRecursion (λ o. IsPart o.who) os → HasNone (leader_opening addr place n links).who os
 hub_none None place n links os each = none_of IsPart (who.Bridge place) os each (λ h. h)
 hub_none (Some addr) place n links os each = none_of IsPart (who.Router place) os each (λ h. h)
 
-hub_at : (addr : Option ℕ) (place : ℕ) (n : PlainNode) (links : List PlainLink) → IsAt place (leader_by addr place n links).who
+hub_at : (addr : Option ℕ) (place : ℕ) (n : PlainNode) (links : List PlainLink) → IsAt place (leader_opening addr place n links).who
 hub_at None place n links = refl
 hub_at (Some addr) place n links = refl
 

@@ -8,7 +8,7 @@ use Rattle.csp_buffer.specs.Content.{Content}
 use Rattle.csp_consistent.proofs.AppQueues.{app_asks, app_number}
 use Rattle.csp_consistent.proofs.IfaceQueues.{iface_asks, iface_number}
 use Rattle.csp_consistent.proofs.RouterQueues.{IsOutward, router_asks, router_outward}
-use Rattle.csp_topology.specs.Parties.{PlainOpening, apps_from, leader_by, ifaces_from, link_party, links_from, parties_at, parties_from, parties_of, party_steps}
+use Rattle.csp_topology.specs.Parties.{PlainOpening, apps_from, leader_opening, ifaces_from, link_party, links_from, parties_at, parties_from, parties_of, party_steps}
 use Rattle.csp_consistent.specs.Queues.{MayAsk, UseTheirQueues, UsesItsQueues}
 use Rattle.csp_consistent.specs.Runs.{AreLogsOf, IsLogOf}
 use Rattle.csp_deck.specs.Runs.{IsRun}
@@ -134,7 +134,7 @@ all-append P (x ∷ xs) ys h g = (h.0, all-append P xs ys h.1 g)
 abbrev IsOpened : PlainOpening → Type 0
 IsOpened o = IsOwn o.who o.party
 
-hub_own : (addr : Option ℕ) (place : ℕ) (n : PlainNode) (links : List PlainLink) → IsOpened (leader_by addr place n links)
+hub_own : (addr : Option ℕ) (place : ℕ) (n : PlainNode) (links : List PlainLink) → IsOpened (leader_opening addr place n links)
 hub_own (Some addr) place n links = tt
 hub_own None place n links = tt
 

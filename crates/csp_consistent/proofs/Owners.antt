@@ -12,7 +12,7 @@ use Rattle.csp_log.specs.declared.who.Who.TheVariants as who
 use Rattle.csp_scene.proofs.Public.{AllByRecursion-append}
 use Rattle.csp_scene.specs.Links.{links_at}
 use Rattle.csp_scene.specs.Scene.{PlainScene, PlainNode, PlainLink, PlainApp}
-use Rattle.csp_topology.specs.Parties.{PlainOpening, parties_of, parties_from, parties_at, link_party, links_from, iface_opening, heeded, ifaces_from, apps_from, leader_by, router_for, config_of}
+use Rattle.csp_topology.specs.Parties.{PlainOpening, parties_of, parties_from, parties_at, link_party, links_from, iface_opening, heeded, ifaces_from, apps_from, leader_opening, router_for, config_of}
 
 -- the router of a node with an address
 pub record IsRouterAt (nodes : List PlainNode) (links : List PlainLink) (place : ℕ) (p : PlainParty) : Type 0 where
@@ -105,7 +105,7 @@ apps_own nodes links place node there (a ∷ rest) n has =
     (record { node = node; app = a; there = there; of_it = has_first node.apps n a rest has; party = refl }, apps_own nodes links place node there rest (n + 1) (has_rest node.apps n a rest has))
 
 hub_own : (nodes : List PlainNode) (links : List PlainLink) (place : ℕ) (node : PlainNode) → slice_get nodes place ≡ Some node → (addr : Option ℕ) → node.addr ≡ addr
-    → IsOwner nodes links (leader_by addr place node (links_at place links)).who (leader_by addr place node (links_at place links)).party
+    → IsOwner nodes links (leader_opening addr place node (links_at place links)).who (leader_opening addr place node (links_at place links)).party
 hub_own nodes links place node there None called = record { node = node; there = there; bare = called; party = refl }
 hub_own nodes links place node there (Some addr) called = record { node = node; addr = addr; there = there; called = called; party = refl }
 

@@ -11,7 +11,7 @@ use Rattle.csp_hub.specs.Applied.{hub_steps}
 use Rattle.csp_hub.specs.Asking as hub_asking
 use Rattle.csp_hub.specs.PlainHub as plain_hub
 use Rattle.csp_hub.specs.Planning as hub_plan
-use Rattle.csp_hub.specs.Telling.{told_by}
+use Rattle.csp_hub.specs.Telling.{after_answer}
 use Rattle.csp_link.proofs.Public.{applies}
 use Rattle.csp_link.specs.Applied.{link_steps, frames_in}
 use Rattle.csp_link.specs.PlainLink.{direction, opening}
@@ -133,7 +133,7 @@ run_within n [] time h many low run = tt
 run_within n (e ∷ es) time h many low run =
     let next : plain_hub.PlainHub = step_after hub_steps h e in
     let same : length next.ends ≡ length h.ends = as_many_after h e in
-    let turned : plain_hub.PlainHub = told_by e.time (hub_asking.asked h e.time).doing e.answer (hub_asking.asked h e.time) in
+    let turned : plain_hub.PlainHub = after_answer e.time (hub_asking.asked h e.time).doing e.answer (hub_asking.asked h e.time) in
     let serves : next.serving < length next.ends = next_there (length next.ends) turned.serving (omega (arith, same, many, low)) in (
       subst (PopsWithin n) (sym run.1.op) (asks_within n h.serving (hub_plan.plan_of h e.time) low),
       run_within n es e.time next (same ∙ many) (omega (arith, serves, same, many)) run.2,

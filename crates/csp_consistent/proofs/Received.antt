@@ -12,7 +12,7 @@ use Rattle.csp_iface.specs.PlainIface.{PlainIface}
 use Rattle.csp_iface.specs.Links.{receiver_for}
 use Rattle.csp_iface.specs.Planning.{plan_of, first_rule, side_plan}
 use Rattle.csp_iface.specs.Receiving.{Heard, arrived, frame_heard as heard, read_further}
-use Rattle.csp_iface.specs.Telling.{told_by, fetched, caught, hearing, pushed, kept, filled, going_on, has_packet, is_too_big, read_after, taken_up, tells, resting, unmoved}
+use Rattle.csp_iface.specs.Telling.{after_answer, fetched, caught, hearing, pushed, kept, filled, going_on, has_packet, is_too_big, read_after, taken_up, tells, resting, unmoved}
 use Rattle.csp_iface.specs.declared.packet.WholePacket.{WholePacket as Packet}
 use Rattle.csp_iface.specs.declared.plan.IfacePlan.{IfacePlan as Plan}
 use Rattle.csp_iface.specs.declared.plan.IfacePlan.TheVariants as plan
@@ -73,7 +73,7 @@ abbrev pub waiting : PlainIface → Plan → PlainIface
 waiting s p = resting (record (handed s p) { doing = p })
 
 abbrev pub told : PlainIface → ℕ → Plan → AnswerShown → PlainIface
-told s now p a = (told_by (waiting s p) now p a).iface
+told s now p a = (after_answer (waiting s p) now p a).iface
 
 -- and once it has read on
 abbrev pub read_on_in : PlainIface → PlainIface

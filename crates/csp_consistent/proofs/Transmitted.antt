@@ -13,7 +13,7 @@ use Rattle.csp_iface.specs.Asking.{asked, op_of, given, delivered, transmitted}
 use Rattle.csp_iface.specs.PlainIface.{PlainIface}
 use Rattle.csp_iface.specs.Planning.{plan_of}
 use Rattle.csp_iface.specs.Sending.{sent_trace, next_node, frames_of, can_frame}
-use Rattle.csp_iface.specs.Telling.{told_by, caught, pushed, kept, fetched as told_fetched, tells, bad, concluded, is_too_big, taken_up}
+use Rattle.csp_iface.specs.Telling.{after_answer, caught, pushed, kept, fetched as told_fetched, tells, bad, concluded, is_too_big, taken_up}
 use Rattle.csp_iface.specs.declared.plan.IfacePlan.{IfacePlan as Plan}
 use Rattle.csp_iface.specs.declared.plan.IfacePlan.TheVariants as plan
 use Rattle.csp_iface.specs.declared.sender.TheConstants.{IDS}
@@ -250,7 +250,7 @@ later_none n serial k o h =
 this_begun : (serial k : ℕ) (x : Marked) → (if list_any (is_beginning serial) (event.Transmitted serial ∷ bad k) then Some x else None) ≡ Some x
 this_begun serial k x = ap (λ c. if c || list_any (is_beginning serial) (bad k) then Some x else None) (eq-eqb serial serial refl)
 
-pub turn_silent : (n : ℕ) (s : PlainIface) (now : ℕ) (p : Plan) (a : AnswerShown) (k : ℕ) → (told s now p a).serial ≤ n → begun_by n ((told_by (waiting s p) now p a).events ++ bad k) (op_of s p) a ≡ None
+pub turn_silent : (n : ℕ) (s : PlainIface) (now : ℕ) (p : Plan) (a : AnswerShown) (k : ℕ) → (told s now p a).serial ≤ n → begun_by n ((after_answer (waiting s p) now p a).events ++ bad k) (op_of s p) a ≡ None
 turn_silent n s now plan.Fetch (answer.Popped (item.Packet mark b)) k h = taken (is_too_big s b) h
   where
     taken : (big : Bool) → (taken_up big mark b (waiting s plan.Fetch)).iface.serial ≤ n → begun_by n ((taken_up big mark b (waiting s plan.Fetch)).events ++ bad k) (op_of s plan.Fetch) (answer.Popped (item.Packet mark b)) ≡ None
@@ -342,14 +342,14 @@ fresh_item node number kind mtu all s k rest (item.Frame _) on e = tt
 fresh_item node number kind mtu all s k rest (item.Note _) on e = tt
 
 fresh_turn : (node number : ℕ) (kind : LinkKind) (mtu : ℕ) (all : List Entry) (s : PlainIface) (now k : ℕ) (rest : List Marked) (p : Plan) (a : AnswerShown) → IsOn node number kind mtu s
-    → filter_map (begun_in s.serial) all ≡ cons_option (begun_by s.serial ((told_by (waiting s p) now p a).events ++ bad k) (op_of s p) a) rest
+    → filter_map (begun_in s.serial) all ≡ cons_option (begun_by s.serial ((after_answer (waiting s p) now p a).events ++ bad k) (op_of s p) a) rest
     → IsFreshIn (IsSentIn node number kind mtu all) s p a
 fresh_turn node number kind mtu all s now k rest plan.Fetch (answer.Popped i) on e = fresh_item node number kind mtu all s k rest i on e
 fresh_turn node number kind mtu all s now k rest _ _ on e = tt
 
 -- a step of an interface: its entry's operation and events
 pub begun_step : (n : ℕ) (s : PlainIface) (e : Entry) → IsStep party_steps (an_iface s) e
-    → begun_in n e ≡ begun_by n ((told_by (waiting s (plan_of s)) e.time (plan_of s) e.answer).events ++ bad (concluded (asked s e.time) e.time e.answer).refused) (op_of s (plan_of s)) e.answer
+    → begun_in n e ≡ begun_by n ((after_answer (waiting s (plan_of s)) e.time (plan_of s) e.answer).events ++ bad (concluded (asked s e.time) e.time e.answer).refused) (op_of s (plan_of s)) e.answer
 begun_step n s e step = λ i. begun_by n (step.events i) (step.op i) e.answer
 
 run_sent : (node number : ℕ) (kind : LinkKind) (mtu : ℕ) (all es : List Entry) (time : ℕ) (s : PlainIface) → IsRun party_steps time (an_iface s) es → IsOn node number kind mtu s

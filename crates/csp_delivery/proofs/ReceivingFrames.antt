@@ -14,7 +14,7 @@ use Rattle.csp_can.specs.declared.identifiers.Kind.{Kind}
 use Rattle.csp_can.specs.declared.identifiers.Kind.TheVariants.{Begin, More}
 use Rattle.csp_can.specs.declared.partials.Partial.{Partial}
 use Rattle.csp_can.specs.declared.partials.TheConstants.{MAX_PARTIALS}
-use Rattle.csp_iface.specs.Receiving.{Heard, frame_heard, heard_by, packet_of, read_further, reassembled}
+use Rattle.csp_iface.specs.Receiving.{Heard, frame_heard, frame_read, packet_of, read_further, reassembled}
 use Rattle.csp_iface.specs.declared.packet.WholePacket.{WholePacket}
 use Rattle.csp_iface.specs.declared.receiver.Receiver.{Receiver}
 use Rattle.csp_iface.specs.declared.receiver.Receiver.TheVariants as by
@@ -147,7 +147,7 @@ module _ (o : Origin) where
   hears_few now (by.Can l) f bus =
       chosen (f.trace.hops == MAX_HOPS)
     where
-      chosen : (b : Bool) → IsHeardFew (partials_of l.partials + cond (is_first_of o f) 1 0) (if b then record { receiver = by.Can l; whole = None; refused = 1 } else heard_by now (by.Can l) f)
+      chosen : (b : Bool) → IsHeardFew (partials_of l.partials + cond (is_first_of o f) 1 0) (if b then record { receiver = by.Can l; whole = None; refused = 1 } else frame_read now (by.Can l) f)
       chosen true = record { bus = tt; few = omega arith }
       chosen false = reassembled_few l _
 

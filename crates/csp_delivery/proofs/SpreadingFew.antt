@@ -46,7 +46,7 @@ module _ (o : Origin) (plan : List Fault) (n end place : ℕ) where
 
   -- a turn
   turn_few : (before : List Entry) (q : OpShown) (a : AnswerShown) (m : ℕ) (rest : List Frame) → PopsWithin n q → NoneFrom (λ from. hub.popped_by from q a) → m ≡ many before + length (hub.popped_by place q a) + 1
-      → firsts o (hub.made_by plan end before q a) + firsts o (made_from fate m rest) ≤ firsts o (made_from fate (many before + 1) (hub.popped_by place q a ++ rest))
+      → firsts o (hub.made_of plan end before q a) + firsts o (made_from fate m rest) ≤ firsts o (made_from fate (many before + 1) (hub.popped_by place q a ++ rest))
   turn_few before (op.Pop (queue.Tx from)) (answer.Popped (item.Frame f)) m rest low none e =
       by (from == place) refl e
     where
@@ -86,11 +86,11 @@ module _ (o : Origin) (plan : List Fault) (n end place : ℕ) where
       (let all : many after ≡ length (hub.frames_popped place before ++ hub.frames_popped place (e ∷ [])) = ap length (flat_map-append (λ (x : Entry). hub.popped_by place x.op x.answer) before (e ∷ [])) in
       let one : hub.frames_popped place (e ∷ []) ≡ now = append-nil now in
       omega (arith, all, length-append (hub.frames_popped place before) (hub.frames_popped place (e ∷ [])), ap length one)) in
-      let first : firsts o (hub.made_by plan end before e.op e.answer) + firsts o (made_from fate (many after + 1) (hub.frames_popped place es)) ≤ firsts o (made_from fate (many before + 1) (hub.frames_popped place (e ∷ es))) =
+      let first : firsts o (hub.made_of plan end before e.op e.answer) + firsts o (made_from fate (many after + 1) (hub.frames_popped place es)) ≤ firsts o (made_from fate (many before + 1) (hub.frames_popped place (e ∷ es))) =
       turn_few before e.op e.answer (many after + 1) (hub.frames_popped place es) within.0 (λ from low apart other. omega (arith, none from low apart other, both from)) grown in
       let rest : firsts o (hub.made_after plan end after es) ≤ firsts o (made_from fate (many after + 1) (hub.frames_popped place es)) =
       made_few after es within.1 (λ from low apart other. omega (arith, none from low apart other, both from)) in
-      omega (arith, first, rest, firsts_append o (hub.made_by plan end before e.op e.answer) (hub.made_after plan end after es))
+      omega (arith, first, rest, firsts_append o (hub.made_of plan end before e.op e.answer) (hub.made_after plan end after es))
 
   -- and so what it pushed there
   pub pushed_few : (es : List Entry) → IsSpread plan es end → AllByRecursion (λ e. PopsWithin n e.op) es → NoneFrom (λ from. hub.frames_popped from es)

@@ -12,7 +12,7 @@ use Rattle.csp_hops.specs.Hops.{LeadsByAddresses, NamesAddress}
 use Rattle.csp_route.specs.Routes.{key_of}
 use Rattle.csp_route.specs.Routes as routes
 use Rattle.csp_route.specs.declared.row.Row.{Row}
-use Rattle.csp_service.specs.Answers.{Outcome, answered, has_no_room, hop_of, iface_of, is_beyond, requested, routed, row_asked, row_over, served_by, told_stats}
+use Rattle.csp_service.specs.Answers.{Outcome, answered, has_no_room, hop_of, iface_of, is_beyond, requested, routed, row_asked, row_over, at_service, told_stats}
 use Rattle.csp_service.specs.Facts.{PlainFacts}
 use Rattle.csp_service.specs.Services.{service_at}
 use Rattle.csp_service.specs.declared.answers.ServiceError.{ServiceError}
@@ -71,7 +71,7 @@ requested_leads (Ok (Peek addr len)) facts now h = either (nat_lt MEMORY (addr +
 requested_leads (Ok (Poke addr bytes)) facts now h = either (nat_lt MEMORY (addr + length bytes.items)) _ _ h h
 requested_leads (Ok (Clock sec nsec)) facts now h = h
 
-served_leads : (x : Option Service) (request : List ℕ) (facts : PlainFacts) (now : ℕ) → LeadsByAddresses facts.routes → Leads (served_by x request facts now)
+served_leads : (x : Option Service) (request : List ℕ) (facts : PlainFacts) (now : ℕ) → LeadsByAddresses facts.routes → Leads (at_service x request facts now)
 served_leads None request facts now h = h
 served_leads (Some service.Cmp) request facts now h = requested_leads (decoded request) facts now h
 served_leads (Some service.Ping) request facts now h = h

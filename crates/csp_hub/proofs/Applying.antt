@@ -9,11 +9,11 @@ use Rattle.std.proofs.lemmas.List.Concat.{flat_map-append}
 use Rattle.std.proofs.lemmas.List.FromFn.{get_or-map-range_with_len, length-map-range_with_len}
 use Rattle.std.proofs.lemmas.List.Sorted.{IsPermutation-refl, IsPermutation-trans, IsPermutation-append_left, IsPermutation-append_right, IsPermutation-middle}
 use Rattle.csp_deck.specs.Runs.{IsRun, IsStep, Runs, state_after, step_after}
-use Rattle.csp_hub.specs.Applied.{AppliesPlan, hub_steps, popped_by, pushed_by, made_by, made_after, frames_popped, frames_pushed}
+use Rattle.csp_hub.specs.Applied.{AppliesPlan, hub_steps, popped_by, pushed_by, made_of, made_after, frames_popped, frames_pushed}
 use Rattle.csp_hub.specs.Asking.{asked, doing_of, op_of, without}
 use Rattle.csp_hub.specs.PlainHub.{PlainEnd, PlainHub, end_at, no_end, opening, opening_end, others, served, with_served}
 use Rattle.csp_hub.specs.Planning.{first_rule, has_room}
-use Rattle.csp_hub.specs.Telling.{fate_of_next, copies_held, held_for_others, kept, sent, tells, told_by}
+use Rattle.csp_hub.specs.Telling.{fate_of_next, copies_held, held_for_others, kept, sent, tells, after_answer}
 use Rattle.csp_link.specs.Applied.{frames_in}
 use Rattle.csp_link.specs.Copies.{copies_of, held_copies, held_until}
 use Rattle.csp_link.specs.Fates.{fate_at, fate_of, fates_of}
@@ -165,7 +165,7 @@ turn_by : (plan : List Fault) (before : List Entry) (h : PlainHub) (now k : ℕ)
     → h.serving < length h.ends → k < length h.ends → fate_of h.serving (length (frames_popped h.serving before) + 1) plan ≡ fate_of_next (served h)
     → first_due now (served h).held ≡ found → Fits (op_of h.serving (first_rule found few)) a
     → Went (end_at k h.ends) (end_at k (tells (asked_by h found few) now a).ends)
-    (popped_by k (op_of h.serving (first_rule found few)) a) (made_by plan k before (op_of h.serving (first_rule found few)) a) (pushed_by k (op_of h.serving (first_rule found few)) a)
+    (popped_by k (op_of h.serving (first_rule found few)) a) (made_of plan k before (op_of h.serving (first_rule found few)) a) (pushed_by k (op_of h.serving (first_rule found few)) a)
 turn_by plan before h now k (Some p) few answer.Pushed within inside fate e f = pushed_at h.serving k p.0 p.1 h.ends within (stands (λ x. nat_le x.due now) (served h).held p.0 p.1 e)
 turn_by plan before h now k (Some p) few (answer.Full i) within inside fate e f =
     went_alike k h.ends (tells (asked_by h (Some p) few) now (answer.Full i)).ends (back_at h.serving p.0 p.1 i h.ends within (stands (λ x. nat_le x.due now) (served h).held p.0 p.1 e) f)
@@ -187,12 +187,12 @@ record Known (plan : List Fault) (before : List Entry) (h : PlainHub) : Type 0 w
   popped : (j : ℕ) → j < length h.ends → (end_at j h.ends).popped ≡ length (frames_popped j before)
 
 step_went : (plan : List Fault) (before : List Entry) (h : PlainHub) (e : Entry) (k : ℕ) → Known plan before h → k < length h.ends → IsStep hub_steps h e
-    → Went (end_at k h.ends) (end_at k (step_after hub_steps h e).ends) (popped_by k e.op e.answer) (made_by plan k before e.op e.answer) (pushed_by k e.op e.answer)
+    → Went (end_at k h.ends) (end_at k (step_after hub_steps h e).ends) (popped_by k e.op e.answer) (made_of plan k before e.op e.answer) (pushed_by k e.op e.answer)
 step_went plan before h e k known inside step =
     let s : ℕ = h.serving in
     let fate : fate_of s (length (frames_popped s before) + 1) plan ≡ fate_of_next (served h) =
     sym (fates_are s (length (frames_popped s before) + 1) plan) ∙ (λ i. fate_at (sym (known.fates s known.serving) i) (sym (known.popped s known.serving) i + 1)) in
-    subst (λ o. Went (end_at k h.ends) (end_at k (step_after hub_steps h e).ends) (popped_by k o e.answer) (made_by plan k before o e.answer) (pushed_by k o e.answer)) (sym step.op)
+    subst (λ o. Went (end_at k h.ends) (end_at k (step_after hub_steps h e).ends) (popped_by k o e.answer) (made_of plan k before o e.answer) (pushed_by k o e.answer)) (sym step.op)
     (turn_by plan before h e.time k (first_due e.time (served h).held) (list_all has_room (others h)) e.answer known.serving inside fate refl step.fits)
 
 as_many_ends : (h : PlainHub) (e : Entry) → length (step_after hub_steps h e).ends ≡ length h.ends
@@ -207,7 +207,7 @@ known_after : (plan : List Fault) (before : List Entry) (h : PlainHub) (e : Entr
 known_after plan before h e known step =
     let many = as_many_ends h e in
     record {
-      serving = next_there (length (step_after hub_steps h e).ends) (told_by e.time (asked h e.time).doing e.answer (asked h e.time)).serving (omega (arith, many, known.serving));
+      serving = next_there (length (step_after hub_steps h e).ends) (after_answer e.time (asked h e.time).doing e.answer (asked h e.time)).serving (omega (arith, many, known.serving));
       fates = λ j inside. let here : j < length h.ends = omega (arith, many, inside) in (step_went plan before h e j known here step).fates ∙ known.fates j here;
       popped = λ j inside.
           let here : j < length h.ends = omega (arith, many, inside) in
@@ -238,7 +238,7 @@ run_went plan (x ∷ es) before time h z k known inside run e =
     let here : k < length next.ends = (let many = as_many_ends h x in omega (arith, many, inside)) in
     let later = run_went plan es (before ++ x ∷ []) x.time next z k (known_after plan before h x known run.1) here run.2 e in
     let first = (step_went plan before h x k known inside run.1).same in
-    one_then (frames_in (end_at k h.ends).held) (made_by plan k before x.op x.answer) (pushed_by k x.op x.answer) (frames_in (end_at k next.ends).held)
+    one_then (frames_in (end_at k h.ends).held) (made_of plan k before x.op x.answer) (pushed_by k x.op x.answer) (frames_in (end_at k next.ends).held)
     (made_after plan k (before ++ x ∷ []) es) (frames_pushed k es) (frames_in (end_at k z.ends).held) first later
 
 opens_as : (ends : ℕ) (plan : List Fault) (j : ℕ) → j < ends → end_at j (opening ends plan).ends ≡ opening_end plan j

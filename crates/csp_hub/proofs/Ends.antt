@@ -6,7 +6,7 @@ use Rattle.std.proofs.lemmas.List.{length-map}
 use Rattle.std.proofs.lemmas.List.Sums.{sum_by-cons, sum-map}
 use Rattle.csp_hub.specs.Asking.{asked, without}
 use Rattle.csp_hub.specs.PlainHub.{PlainEnd, PlainHub, count, end_at, opening, opening_end, served, uses, with_served}
-use Rattle.csp_hub.specs.Telling.{fate_of_next, copies_held, held_for_others, kept, sent, taken, tells, told_by}
+use Rattle.csp_hub.specs.Telling.{fate_of_next, copies_held, held_for_others, kept, sent, taken, tells, after_answer}
 use Rattle.csp_hub.specs.declared.doing.Doing.{Doing}
 use Rattle.csp_hub.specs.declared.doing.Doing.TheVariants as doing
 use Rattle.csp_link.specs.Copies.{held_copies}
@@ -61,7 +61,7 @@ fates_taken h now (Some frame) =
     ∙ like_with (λ e. e.fates) h.serving h.ends (sent (served h)) refl
 fates_taken h now None = refl
 
-fates_told : (h : PlainHub) (now : ℕ) (t : Doing) (a : AnswerShown) → map (λ (e : PlainEnd). e.fates) (told_by now t a h).ends ≡ map (λ (e : PlainEnd). e.fates) h.ends
+fates_told : (h : PlainHub) (now : ℕ) (t : Doing) (a : AnswerShown) → map (λ (e : PlainEnd). e.fates) (after_answer now t a h).ends ≡ map (λ (e : PlainEnd). e.fates) h.ends
 fates_told h now (doing.Push place due) answer.Pushed = refl
 fates_told h now (doing.Push place due) (answer.Full i) = like_with (λ e. e.fates) h.serving h.ends (kept place due (frame_in i) (served h)) (kept_like place due (frame_in i) (served h)).fates
 fates_told h now doing.Pop (answer.Popped i) = fates_taken h now (frame_in i)
@@ -113,7 +113,7 @@ count_taken h now (Some frame) =
     let one = count_sent h.serving h.ends in omega (arith, same, one)
 count_taken h now None = omega arith
 
-count_told : (h : PlainHub) (now : ℕ) (t : Doing) (a : AnswerShown) → count (told_by now t a h) ≤ count h + 1
+count_told : (h : PlainHub) (now : ℕ) (t : Doing) (a : AnswerShown) → count (after_answer now t a h) ≤ count h + 1
 count_told h now (doing.Push place due) answer.Pushed = omega arith
 count_told h now (doing.Push place due) (answer.Full i) =
     let same = count_is (with_served h (kept place due (frame_in i) (served h))).ends h.ends

@@ -10,7 +10,7 @@ use Rattle.csp_deck.specs.Circles.{IsLook, LooksInto, state_missed}
 use Rattle.csp_deck.specs.Runs.{Steps}
 use Rattle.csp_hub.specs.Applied.{hub_steps}
 use Rattle.csp_hub.specs.Asking.{doing_of, op_of, without}
-use Rattle.csp_hub.specs.Circling.{circle, circle_by, sources}
+use Rattle.csp_hub.specs.Circling.{circle, between_turns, sources}
 use Rattle.csp_hub.specs.PlainHub.{PlainEnd, PlainHub, end_at, next_end, no_end, uses}
 use Rattle.csp_hub.specs.Planning.{first_rule, has_room, is_idle}
 use Rattle.csp_hub.specs.Room.{IsHub}
@@ -109,7 +109,7 @@ module _ (now : ℕ) (es : List PlainEnd) (idle : list_all (is_idle now) es ≡ 
       (subst (λ j. LooksInto hub_steps now (resting 0) (sources 0 k) (resting j)) same (up_to k 0 (omega (arith, within))))
 
 looks_by : (now k : ℕ) (es : List PlainEnd) (d : Doing) (b : Bool) → list_all (is_idle now) es ≡ b → k < length es
-    → LooksInto hub_steps now (record { ends = es; serving = k; doing = d }) (circle_by d b (length es) k) (record { ends = es; serving = k; doing = d })
+    → LooksInto hub_steps now (record { ends = es; serving = k; doing = d }) (between_turns d b (length es) k) (record { ends = es; serving = k; doing = d })
 looks_by now k es doing.Rest true idle within = once_round now es idle k within
 looks_by now k es doing.Rest false idle within = refl
 looks_by now k es (doing.Push _ _) b idle within = refl
@@ -128,7 +128,7 @@ used_from h first many within =
     let is = get_or-range_with_len first many i d (omega (arith, long, inside)) in
     subst (λ r. IsSome r) (sym (lane_there (length h.ends) (get_or (range_with_len first many) i d) (omega (arith, is, long, inside, within)))) refl)
 
-used_by : (h : PlainHub) (d : Doing) (b : Bool) → h.serving < length h.ends → All (λ q. IsSome (uses h q)) (circle_by d b (length h.ends) h.serving)
+used_by : (h : PlainHub) (d : Doing) (b : Bool) → h.serving < length h.ends → All (λ q. IsSome (uses h q)) (between_turns d b (length h.ends) h.serving)
 used_by h doing.Rest true within =
     All-append (λ q. IsSome (uses h q)) (sources h.serving (length h.ends - h.serving)) (sources 0 h.serving)
     (used_from h h.serving (length h.ends - h.serving) (omega (arith, within))) (used_from h 0 h.serving (omega (arith, within)))

@@ -46,14 +46,14 @@ abbrev pub next_made : List Fault → (from : ℕ) → (before : List Entry) →
 next_made plan from before frame = copies_of (fate_of from (length (frames_popped from before) + 1) plan) frame
 
 -- what a turn after these entries makes for an end: of a frame that it popped from another, what the plan makes of that
-abbrev pub made_by : List Fault → (end : ℕ) → (before : List Entry) → OpShown → AnswerShown → List Frame
-made_by plan k before (op.Pop (queue.Tx from)) (answer.Popped (item.Frame frame)) = (if from == k then [] else next_made plan from before frame)
-made_by plan k before _ _ = []
+abbrev pub made_of : List Fault → (end : ℕ) → (before : List Entry) → OpShown → AnswerShown → List Frame
+made_of plan k before (op.Pop (queue.Tx from)) (answer.Popped (item.Frame frame)) = (if from == k then [] else next_made plan from before frame)
+made_of plan k before _ _ = []
 
 -- what it makes for an end of all frames that entries popped from the others, after these entries before
 abbrev pub made_after : List Fault → (end : ℕ) → (before : List Entry) → List Entry → List Frame
 made_after plan k before [] = []
-made_after plan k before (e ∷ es) = made_by plan k before e.op e.answer ++ made_after plan k (before ++ e ∷ []) es
+made_after plan k before (e ∷ es) = made_of plan k before e.op e.answer ++ made_after plan k (before ++ e ∷ []) es
 
 -- what each end was pushed, with what is still held for it, is just what the plan makes of what was popped from the others, in some order
 abbrev pub AppliesPlan : List Fault → List Entry → PlainHub → Type 0

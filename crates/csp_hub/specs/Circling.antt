@@ -13,10 +13,10 @@ abbrev pub sources : (from many : ℕ) → List QueueId
 sources from many = map queue.Tx (range_with_len from many)
 
 -- between two turns, with room at every end and nothing that is due: those of all ends once round the circle, from the one that is served on
-abbrev pub circle_by : Doing → (idle : Bool) → (ends from : ℕ) → List QueueId
-circle_by doing.Rest true ends from = sources from (ends - from) ++ sources 0 from
-circle_by _ _ _ _ = []
+abbrev pub between_turns : Doing → (idle : Bool) → (ends from : ℕ) → List QueueId
+between_turns doing.Rest true ends from = sources from (ends - from) ++ sources 0 from
+between_turns _ _ _ _ = []
 
 -- the queues that a hub looks into until it is as it was
 abbrev pub circle : PlainHub → ℕ → List QueueId
-circle h now = circle_by h.doing (list_all (is_idle now) h.ends) (length h.ends) h.serving
+circle h now = between_turns h.doing (list_all (is_idle now) h.ends) (length h.ends) h.serving

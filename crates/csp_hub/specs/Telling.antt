@@ -43,14 +43,14 @@ taken now (Some frame) h = record h { ends = held_for_others h.serving (held_cop
 taken now None h = h
 
 -- what each answer makes of the hub
-abbrev pub told_by : ℕ → Doing → AnswerShown → PlainHub → PlainHub
-told_by now (doing.Push place due) answer.Pushed h = h
-told_by now (doing.Push place due) (answer.Full i) h = with_served h (kept place due (frame_in i) (served h))
-told_by now doing.Pop (answer.Popped i) h = taken now (frame_in i) h
-told_by now doing.Pop answer.Empty h = h
-told_by now doing.Wait answer.Nothing h = h
+abbrev pub after_answer : ℕ → Doing → AnswerShown → PlainHub → PlainHub
+after_answer now (doing.Push place due) answer.Pushed h = h
+after_answer now (doing.Push place due) (answer.Full i) h = with_served h (kept place due (frame_in i) (served h))
+after_answer now doing.Pop (answer.Popped i) h = taken now (frame_in i) h
+after_answer now doing.Pop answer.Empty h = h
+after_answer now doing.Wait answer.Nothing h = h
 -- no other answer comes
-told_by now _ _ h = h
+after_answer now _ _ h = h
 
 -- the next turn serves the next end
 abbrev pub turned : PlainHub → PlainHub
@@ -58,7 +58,7 @@ turned h = record h { serving = next_end (length h.ends) h.serving; doing = doin
 
 -- the hub after an answer, with the next end's turn next
 abbrev pub tells : PlainHub → ℕ → AnswerShown → PlainHub
-tells h now a = turned (told_by now h.doing a h)
+tells h now a = turned (after_answer now h.doing a h)
 
 -- a hub reports nothing
 abbrev pub events : PlainHub → ℕ → AnswerShown → List Event

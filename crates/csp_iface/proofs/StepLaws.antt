@@ -11,7 +11,7 @@ use Rattle.csp_iface.proofs.Counting.{among, holds_times}
 use Rattle.csp_iface.specs.Asking.{given, delivered, transmitted, handed, op_of, kind_of_plan, awaits}
 use Rattle.csp_iface.specs.PlainIface.{PlainIface, uses, holds}
 use Rattle.csp_iface.specs.Room.{CanHear, plain_iface}
-use Rattle.csp_iface.specs.Telling.{told_by, packet_in, filled, pushed, kept, begun, is_too_big, taken_up, fetched, caught, resting, answered, tells}
+use Rattle.csp_iface.specs.Telling.{after_answer, packet_in, filled, pushed, kept, begun, is_too_big, taken_up, fetched, caught, resting, answered, tells}
 use Rattle.csp_iface.specs.declared.iface.Iface.TheInside.{Inside}
 use Rattle.csp_iface.specs.declared.packet.WholePacket.{WholePacket}
 use Rattle.csp_iface.specs.declared.plan.IfacePlan.{IfacePlan}
@@ -71,7 +71,7 @@ kept_stays : (s : PlainIface) (i : ItemShown) → Stays s (kept i s)
 kept_stays s (item.Frame _) = record { number = refl; kind = refl; doing = refl }
 kept_stays s _ = record { number = refl; kind = refl; doing = refl }
 
-pub told_stays : (s : PlainIface) (now : ℕ) (p : IfacePlan) (a : AnswerShown) → Stays s (told_by s now p a).iface
+pub told_stays : (s : PlainIface) (now : ℕ) (p : IfacePlan) (a : AnswerShown) → Stays s (after_answer s now p a).iface
 told_stays s now plan.Transmit answer.Pushed = pushed_stays s s.frames
 told_stays s now plan.Transmit (answer.Full i) = kept_stays s i
 told_stays s now plan.Fetch (answer.Popped i) = fetched_stays s i
@@ -188,7 +188,7 @@ resting_free s plan.Receive e = e
 
 -- it holds besides what it was given
 told_law : (s : PlainIface) (now : ℕ) (p : IfacePlan) (a : AnswerShown) → IsAnswerOf (uses s) (kind_of_plan s.number p) a → IsFree s p
-    → (k : ℕ) → times k (holds (told_by s now p a).iface) ≡ times k (holds s) + times k (answer_numbers a)
+    → (k : ℕ) → times k (holds (after_answer s now p a).iface) ≡ times k (holds s) + times k (answer_numbers a)
 told_law s now plan.Rest answer.Nothing h e k = omega arith
 told_law s now plan.Return answer.Given h e k = omega arith
 told_law s now plan.Return (answer.PoolFull b) h e k = omega (arith, holds_times k s, holds_times k (record s { back = Some b }), none_among k s.back e)

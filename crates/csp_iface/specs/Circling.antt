@@ -27,13 +27,13 @@ is_spent [] read = read
 is_spent (_ ∷ _) read = false
 
 -- nothing is to be given back, delivered or taken, and no frame is left: each side can but look
-abbrev pub idle_by : (back accepted : Option Content) → Option WholePacket → (spent : Bool) → Bool
-idle_by None None None spent = spent
-idle_by _ _ _ _ = false
+abbrev pub has_nothing : (back accepted : Option Content) → Option WholePacket → (spent : Bool) → Bool
+has_nothing None None None spent = spent
+has_nothing _ _ _ _ = false
 
 -- an interface has nothing in hand, neither to send nor to read
 abbrev pub is_idle : PlainIface → Bool
-is_idle s = idle_by s.back s.accepted s.whole (is_spent s.frames (is_read s.receiver))
+is_idle s = has_nothing s.back s.accepted s.whole (is_spent s.frames (is_read s.receiver))
 
 -- the queues of the two sides, that whose turn comes next first
 abbrev pub sides : ℕ → Side → List QueueId
@@ -41,10 +41,10 @@ sides number side.Sending = queue.Out number ∷ queue.Rx number ∷ []
 sides number side.Receiving = queue.Rx number ∷ queue.Out number ∷ []
 
 -- where it is idle it looks into those of its two sides
-abbrev pub circle_by : (idle : Bool) → ℕ → Side → List QueueId
-circle_by true number next = sides number next
-circle_by false number next = []
+abbrev pub where_idle : (idle : Bool) → ℕ → Side → List QueueId
+where_idle true number next = sides number next
+where_idle false number next = []
 
 -- the queues that an interface looks into until it is as it was
 abbrev pub circle : PlainIface → List QueueId
-circle s = circle_by (is_idle s) s.number s.side
+circle s = where_idle (is_idle s) s.number s.side

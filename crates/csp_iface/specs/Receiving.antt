@@ -57,13 +57,13 @@ abbrev pub reassembled : Listening → Arrival → Heard
 reassembled l a = record { receiver = by.Can (listened l a); whole = packet_of (answered l a).event; refused = refused_by (answered l a).event }
 
 -- a frame that was popped, by the kind of the link
-abbrev pub heard_by : ℕ → Receiver → Frame → Heard
-heard_by now (by.Kiss s) f = in_hand s f
-heard_by now (by.Can l) f = reassembled l (arrival (identifier_of (unwrap_or f.can 0)) f.bytes.items (arrived f.trace) now)
+abbrev pub frame_read : ℕ → Receiver → Frame → Heard
+frame_read now (by.Kiss s) f = in_hand s f
+frame_read now (by.Can l) f = reassembled l (arrival (identifier_of (unwrap_or f.can 0)) f.bytes.items (arrived f.trace) now)
 
 -- a frame at the last hop number is used up at once, as one that is refused
 abbrev pub frame_heard : ℕ → Receiver → Frame → Heard
-frame_heard now r f = if f.trace.hops == MAX_HOPS then record { receiver = r; whole = None; refused = 1 } else heard_by now r f
+frame_heard now r f = if f.trace.hops == MAX_HOPS then record { receiver = r; whole = None; refused = 1 } else frame_read now r f
 
 -- a packet of a stream, with its trace
 abbrev pub traced : Trace → KissPacket → WholePacket

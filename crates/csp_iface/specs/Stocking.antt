@@ -27,13 +27,13 @@ abbrev pub in_hand_stock : List ℕ → PlainSpares → PlainSpares
 in_hand_stock bytes s = if all_read bytes then with_box s else s
 
 -- a frame that was popped, by the kind of the link: of a CAN bus it is used up
-abbrev pub heard_stock_by : Receiver → Frame → PlainSpares → PlainSpares
-heard_stock_by (by.Kiss _) f s = in_hand_stock f.bytes.items s
-heard_stock_by (by.Can _) f s = with_box s
+abbrev pub frame_stock : Receiver → Frame → PlainSpares → PlainSpares
+frame_stock (by.Kiss _) f s = in_hand_stock f.bytes.items s
+frame_stock (by.Can _) f s = with_box s
 
 -- at the last hop number it is used up at once
 abbrev pub heard_stock : Receiver → Frame → PlainSpares → PlainSpares
-heard_stock r f s = if f.trace.hops == MAX_HOPS then with_box s else heard_stock_by r f s
+heard_stock r f s = if f.trace.hops == MAX_HOPS then with_box s else frame_stock r f s
 
 -- the frame in hand, where there is one, is read on up to these bytes
 abbrev pub read_stock : (before after : List ℕ) → PlainSpares → PlainSpares

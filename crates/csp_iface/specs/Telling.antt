@@ -91,27 +91,27 @@ caught now (item.Packet _ _) s = quiet s
 caught now (item.Note _) s = quiet s
 
 -- what each answer makes of it
-abbrev pub told_by : PlainIface → ℕ → IfacePlan → AnswerShown → Outcome
+abbrev pub after_answer : PlainIface → ℕ → IfacePlan → AnswerShown → Outcome
 -- 1. a buffer is given back; from a full pool it comes back, and is still to be given
-told_by s now plan.Return answer.Given = quiet s
-told_by s now plan.Return (answer.PoolFull b) = quiet (record s { back = Some b })
+after_answer s now plan.Return answer.Given = quiet s
+after_answer s now plan.Return (answer.PoolFull b) = quiet (record s { back = Some b })
 -- 2. an accepted packet is pushed; at a full inbox its buffer is to be given back
-told_by s now plan.Deliver answer.Pushed = quiet s
-told_by s now plan.Deliver (answer.Full i) = reports event.InboxFull (record s { back = packet_in i })
+after_answer s now plan.Deliver answer.Pushed = quiet s
+after_answer s now plan.Deliver (answer.Full i) = reports event.InboxFull (record s { back = packet_in i })
 -- 3. a whole packet takes a buffer; without one it is dropped
-told_by s now plan.Take (answer.Taken b) = quiet (record s { accepted = Some (filled s.whole b); whole = None })
-told_by s now plan.Take answer.NoBuffer = reports event.Starved (record s { whole = None })
+after_answer s now plan.Take (answer.Taken b) = quiet (record s { accepted = Some (filled s.whole b); whole = None })
+after_answer s now plan.Take answer.NoBuffer = reports event.Starved (record s { whole = None })
 -- 4. a frame is pushed, or kept
-told_by s now plan.Transmit answer.Pushed = quiet (pushed s.frames s)
-told_by s now plan.Transmit (answer.Full i) = quiet (kept i s)
+after_answer s now plan.Transmit answer.Pushed = quiet (pushed s.frames s)
+after_answer s now plan.Transmit (answer.Full i) = quiet (kept i s)
 -- 4. the next packet is fetched
-told_by s now plan.Fetch (answer.Popped i) = fetched i s
-told_by s now plan.Fetch answer.Empty = quiet s
+after_answer s now plan.Fetch (answer.Popped i) = fetched i s
+after_answer s now plan.Fetch answer.Empty = quiet s
 -- 4. a frame is popped
-told_by s now plan.Receive (answer.Popped i) = caught now i s
-told_by s now plan.Receive answer.Empty = quiet s
+after_answer s now plan.Receive (answer.Popped i) = caught now i s
+after_answer s now plan.Receive answer.Empty = quiet s
 -- no other answer comes
-told_by s now _ _ = quiet s
+after_answer s now _ _ = quiet s
 
 -- a packet is in hand, until its push, its Full or its NoBuffer
 abbrev pub has_packet : PlainIface → Bool
@@ -136,7 +136,7 @@ resting s = record s { doing = plan.Rest }
 
 -- what an answer comes to, before any reading
 abbrev pub answered : PlainIface → ℕ → AnswerShown → Outcome
-answered s now a = told_by (resting s) now s.doing a
+answered s now a = after_answer (resting s) now s.doing a
 
 -- what it comes to with the reading after it
 abbrev pub concluded : PlainIface → ℕ → AnswerShown → Outcome

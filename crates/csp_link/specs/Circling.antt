@@ -9,10 +9,10 @@ use Rattle.csp_link.specs.declared.way.Way.{Way}
 use Rattle.csp_log.specs.declared.places.QueueId.{QueueId}
 
 -- between two turns those of its two directions, that whose turn it is first, where both look for a frame
-abbrev pub circle_by : Doing → (forth back : Bool) → Way → List QueueId
-circle_by doing.Rest true true way = from_queue way ∷ from_queue (other way) ∷ []
-circle_by _ _ _ _ = []
+abbrev pub between_turns : Doing → (forth back : Bool) → Way → List QueueId
+between_turns doing.Rest true true way = from_queue way ∷ from_queue (other way) ∷ []
+between_turns _ _ _ _ = []
 
 -- the queues that a link looks into until it is as it was
 abbrev pub circle : PlainLink → ℕ → List QueueId
-circle s now = circle_by s.doing (looks (plan_in s.forth now)) (looks (plan_in s.back now)) s.way
+circle s now = between_turns s.doing (looks (plan_in s.forth now)) (looks (plan_in s.back now)) s.way

@@ -15,7 +15,7 @@ use Rattle.csp_log.specs.declared.who.Who.{Who}
 use Rattle.csp_log.specs.declared.who.Who.TheVariants as who
 use Rattle.csp_scene.specs.Links.{links_at}
 use Rattle.csp_scene.specs.Scene.{PlainApp, PlainLink, PlainNode}
-use Rattle.csp_topology.specs.Parties.{PlainOpening, app_at, apps_from, bridge_at, heeded, leader_by, iface_on, ifaces_from, link_at, links_from, parties_from}
+use Rattle.csp_topology.specs.Parties.{PlainOpening, app_at, apps_from, bridge_at, heeded, leader_opening, iface_on, ifaces_from, link_at, links_from, parties_from}
 
 -- whether a party is the router or the bridge of a node
 abbrev pub hub_at : ℕ → Who → Bool
@@ -49,8 +49,8 @@ hubs_ifaces : (m place : ℕ) (addr : Option ℕ) (number : ℕ) (links : List P
 hubs_ifaces m place addr number [] rest = refl
 hubs_ifaces m place addr number (l ∷ links) rest = let s = step m (iface_on place number l.kind l.mtu (heeded addr l)) (ifaces_from place addr (number + 1) links ++ rest) in let r = hubs_ifaces m place addr (number + 1) links rest in omega (arith, s, r)
 
-hubs_hub : (m : ℕ) (addr : Option ℕ) (place : ℕ) (n : PlainNode) (links : List PlainLink) (rest : List PlainOpening) → hubs m (leader_by addr place n links ∷ rest) ≡ cond (place == m) 1 0 + hubs m rest
-hubs_hub m (Some a) place n links rest = step m (leader_by (Some a) place n links) rest
+hubs_hub : (m : ℕ) (addr : Option ℕ) (place : ℕ) (n : PlainNode) (links : List PlainLink) (rest : List PlainOpening) → hubs m (leader_opening addr place n links ∷ rest) ≡ cond (place == m) 1 0 + hubs m rest
+hubs_hub m (Some a) place n links rest = step m (leader_opening (Some a) place n links) rest
 hubs_hub m None place n links rest = step m (bridge_at place) rest
 
 -- the parties of one node, before others
@@ -59,7 +59,7 @@ hubs_node : (m place : ℕ) (n : PlainNode) (nodes : List PlainNode) (links : Li
 hubs_node m place n nodes links rest =
     let here = links_at place links in
     let more = parties_from (place + 1) nodes links ++ rest in
-    ap (hubs m) (three (leader_by n.addr place n here) (ifaces_from place n.addr 0 here) (apps_from place 0 n.apps) (parties_from (place + 1) nodes links) rest)
+    ap (hubs m) (three (leader_opening n.addr place n here) (ifaces_from place n.addr 0 here) (apps_from place 0 n.apps) (parties_from (place + 1) nodes links) rest)
     ∙ hubs_hub m n.addr place n here (ifaces_from place n.addr 0 here ++ (apps_from place 0 n.apps ++ more))
     ∙ ap (λ k. cond (place == m) 1 0 + k) (hubs_ifaces m place n.addr 0 here (apps_from place 0 n.apps ++ more) ∙ hubs_apps m place 0 n.apps more) where
       three : (x : PlainOpening) (a b c d : List PlainOpening) → ((x ∷ (a ++ b)) ++ c) ++ d ≡ x ∷ (a ++ (b ++ (c ++ d)))

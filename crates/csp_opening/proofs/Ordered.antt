@@ -15,7 +15,7 @@ use Rattle.csp_log.specs.declared.who.Who.{Who}
 use Rattle.csp_log.specs.declared.who.Who.TheVariants as who
 use Rattle.csp_scene.specs.Links.{links_at}
 use Rattle.csp_scene.specs.Scene.{PlainApp, PlainLink, PlainNode}
-use Rattle.csp_topology.specs.Parties.{PlainOpening, apps_from, leader_by, ifaces_from, links_from, parties_from}
+use Rattle.csp_topology.specs.Parties.{PlainOpening, apps_from, leader_opening, ifaces_from, links_from, parties_from}
 
 -- the next router or bridge is that of this node, and so on
 abbrev pub InOrder : ℕ → List Who → Type 0
@@ -42,7 +42,7 @@ order_ifaces : (n place : ℕ) (addr : Option ℕ) (number : ℕ) (links : List 
 order_ifaces n place addr number [] rest h = h
 order_ifaces n place addr number (l ∷ links) rest h = order_ifaces n place addr (number + 1) links rest h
 
-order_hub : (addr : Option ℕ) (place : ℕ) (n : PlainNode) (links : List PlainLink) (rest : List PlainOpening) → InOrder (place + 1) (names rest) → InOrder place (names (leader_by addr place n links ∷ rest))
+order_hub : (addr : Option ℕ) (place : ℕ) (n : PlainNode) (links : List PlainLink) (rest : List PlainOpening) → InOrder (place + 1) (names rest) → InOrder place (names (leader_opening addr place n links ∷ rest))
 order_hub (Some a) place n links rest h = (refl, h)
 order_hub None place n links rest h = (refl, h)
 
@@ -51,7 +51,7 @@ order_nodes place [] links rest h = h place
 order_nodes place (n ∷ nodes) links rest h =
     let here = links_at place links in
     let more = parties_from (place + 1) nodes links ++ rest in
-    subst (λ os. InOrder place (names os)) (sym (three (leader_by n.addr place n here) (ifaces_from place n.addr 0 here) (apps_from place 0 n.apps) (parties_from (place + 1) nodes links) rest))
+    subst (λ os. InOrder place (names os)) (sym (three (leader_opening n.addr place n here) (ifaces_from place n.addr 0 here) (apps_from place 0 n.apps) (parties_from (place + 1) nodes links) rest))
     (order_hub n.addr place n here (ifaces_from place n.addr 0 here ++ (apps_from place 0 n.apps ++ more))
     (order_ifaces (place + 1) place n.addr 0 here (apps_from place 0 n.apps ++ more) (order_apps (place + 1) place 0 n.apps more (order_nodes (place + 1) nodes links rest h)))) where
       three : (x : PlainOpening) (a b c d : List PlainOpening) → ((x ∷ (a ++ b)) ++ c) ++ d ≡ x ∷ (a ++ (b ++ (c ++ d)))

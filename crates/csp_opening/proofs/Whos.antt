@@ -13,7 +13,7 @@ use Rattle.csp_scene.proofs.Public.{AllByRecursion-append}
 use Rattle.csp_scene.specs.Links.{links_at, touches}
 use Rattle.csp_scene.specs.Ranges.{IsScene}
 use Rattle.csp_scene.specs.Scene.{PlainApp, PlainLink, PlainNode, PlainScene}
-use Rattle.csp_topology.specs.Parties.{PlainOpening, apps_from, leader_by, ifaces_from, links_from, parties_at, parties_from, parties_of}
+use Rattle.csp_topology.specs.Parties.{PlainOpening, apps_from, leader_opening, ifaces_from, links_from, parties_at, parties_from, parties_of}
 
 -- a party of a node is of one of so many, and an interface is on one of its links
 abbrev pub IsThere : ℕ → List PlainLink → Who → Type 0
@@ -34,7 +34,7 @@ apps_there : (nodes : ℕ) (all : List PlainLink) (m number : ℕ) (apps : List 
 apps_there nodes all m number [] low = tt
 apps_there nodes all m number (a ∷ apps) low = (low, apps_there nodes all m (number + 1) apps low)
 
-hub_there : (nodes : ℕ) (all : List PlainLink) (addr : Option ℕ) (m : ℕ) (n : PlainNode) (links : List PlainLink) → m < nodes → IsThere nodes all (leader_by addr m n links).who
+hub_there : (nodes : ℕ) (all : List PlainLink) (addr : Option ℕ) (m : ℕ) (n : PlainNode) (links : List PlainLink) → m < nodes → IsThere nodes all (leader_opening addr m n links).who
 hub_there nodes all (Some a) m n links low = low
 hub_there nodes all None m n links low = low
 

@@ -17,7 +17,7 @@ use Rattle.csp_can.specs.declared.identifiers.Key.{Key}
 use Rattle.csp_can.specs.declared.identifiers.Kind.TheVariants.{Begin, More}
 use Rattle.csp_can.specs.declared.partials.Partial.{Partial}
 use Rattle.csp_header.specs.Word.{header_at}
-use Rattle.csp_iface.specs.Receiving.{arrived, frame_heard, heard_by, read_further, reassembled}
+use Rattle.csp_iface.specs.Receiving.{arrived, frame_heard, frame_read, read_further, reassembled}
 use Rattle.csp_iface.specs.declared.receiver.Receiver.{Receiver}
 use Rattle.csp_iface.specs.declared.receiver.Receiver.TheVariants as by
 use Rattle.csp_iface.specs.declared.receiver.TheConstants.{MAX_HOPS}
@@ -207,6 +207,6 @@ module _ (r : PlainRecord) (l : PlainLink) (at : ℕ) (apart : AreOthersApart r 
   bus_hears now (by.Can c) f all g =
       chosen (f.trace.hops == MAX_HOPS)
     where
-      chosen : (b : Bool) → IsHeardSo (IsAsSent r) IsBusSo (read_from (if b then record { receiver = by.Can c; whole = None; refused = 1 } else heard_by now (by.Can c) f))
+      chosen : (b : Bool) → IsHeardSo (IsAsSent r) IsBusSo (read_from (if b then record { receiver = by.Can c; whole = None; refused = 1 } else frame_read now (by.Can c) f))
       chosen true = (all, tt)
       chosen false = bus_frame c (arrival (identifier_of (unwrap_or f.can 0)) f.bytes.items (arrived f.trace) now) all (g now)

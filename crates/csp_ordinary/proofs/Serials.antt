@@ -8,7 +8,7 @@ use Rattle.csp_deck.specs.Runs.{IsRun}
 use Rattle.csp_iface.specs.Asking.{asked}
 use Rattle.csp_iface.specs.PlainIface.{PlainIface}
 use Rattle.csp_iface.specs.Planning.{plan_of}
-use Rattle.csp_iface.specs.Telling.{bad, caught, concluded, fetched as told_fetched, is_too_big, kept, pushed, taken_up, tells, told_by}
+use Rattle.csp_iface.specs.Telling.{bad, caught, concluded, fetched as told_fetched, is_too_big, kept, pushed, taken_up, tells, after_answer}
 use Rattle.csp_iface.specs.declared.plan.IfacePlan.{IfacePlan}
 use Rattle.csp_iface.specs.declared.plan.IfacePlan.TheVariants as plan
 use Rattle.csp_log.specs.PlainLog.{all_events}
@@ -49,7 +49,7 @@ fetched_counts (item.Packet mark b) s =
 fetched_counts (item.Frame f) s = at_most s.serial s.serial (count []) refl
 fetched_counts (item.Note n) s = at_most s.serial s.serial (count []) refl
 
-told_counts : (s : PlainIface) (now : ℕ) (p : IfacePlan) (a : AnswerShown) → (told s now p a).serial ≤ s.serial + count (told_by (waiting s p) now p a).events
+told_counts : (s : PlainIface) (now : ℕ) (p : IfacePlan) (a : AnswerShown) → (told s now p a).serial ≤ s.serial + count (after_answer (waiting s p) now p a).events
 told_counts s now plan.Return answer.Given = at_most s.serial s.serial (count []) refl
 told_counts s now plan.Return (answer.PoolFull b) = at_most s.serial s.serial (count []) refl
 told_counts s now plan.Deliver answer.Pushed = at_most s.serial s.serial (count []) refl
@@ -72,7 +72,7 @@ shown_below (e ∷ es) time s run n b is =
     let p : IfacePlan = plan_of s in
     let k : ℕ = (concluded (asked s e.time) e.time e.answer).refused in
     let t : PlainIface = tells (asked s e.time) e.time e.answer in
-    let own : List Event = (told_by (waiting s p) e.time p e.answer).events in
+    let own : List Event = (after_answer (waiting s p) e.time p e.answer).events in
     let rises : (told s e.time p e.answer).serial ≤ s.serial + count own = told_counts s e.time p e.answer in
     let told_all : count e.events.items ≡ count own + count (bad k) = ap count run.1.events ∙ count_append own (bad k) in
     let all : transmissions (e ∷ es) ≡ count e.events.items + transmissions es = count_append e.events.items (all_events es) in

@@ -4,7 +4,7 @@ use Rattle.std.proofs.lemmas.Bool.{cases_lt}
 use Rattle.std.specs.Prelude.{if◌then◌else◌}
 use Rattle.csp_base.specs.declared.traces.Trace.{Trace}
 use Rattle.csp_iface.specs.Keeping.{PlainStream}
-use Rattle.csp_iface.specs.Receiving.{arrived, followed, frame_heard, heard_by, read_further, traced}
+use Rattle.csp_iface.specs.Receiving.{arrived, followed, frame_heard, frame_read, read_further, traced}
 use Rattle.csp_iface.specs.declared.receiver.Receiver.{Receiver}
 use Rattle.csp_iface.specs.declared.receiver.Receiver.TheVariants as by
 use Rattle.csp_iface.specs.declared.receiver.TheConstants.{MAX_HOPS}
@@ -95,7 +95,7 @@ module _ (As : ℕ → List ℕ → Trace → Type 0) (cover : Bool) (mtu : ℕ)
   stream_hears now (by.Kiss s) f k g =
       chosen (f.trace.hops == MAX_HOPS)
     where
-      chosen : (b : Bool) → IsHeardSo As (IsStreamSo cover mtu) (read_from (if b then record { receiver = by.Kiss s; whole = None; refused = 1 } else heard_by now (by.Kiss s) f))
+      chosen : (b : Bool) → IsHeardSo As (IsStreamSo cover mtu) (read_from (if b then record { receiver = by.Kiss s; whole = None; refused = 1 } else frame_read now (by.Kiss s) f))
       chosen true = stream_rests (by.Kiss s) k
       chosen false = after_frame s f k g
   stream_hears now (by.Can l) f k g = absurd k

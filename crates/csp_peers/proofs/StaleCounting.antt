@@ -83,7 +83,7 @@ caught_clear now (item.Frame f) s = tt
 caught_clear now (item.Packet _ _) s = tt
 caught_clear now (item.Note _) s = tt
 
-iface_told : (s : PlainIface) (now : ℕ) (p : iface_plans.IfacePlan) (a : AnswerShown) → AreClear (iface_telling.told_by s now p a).events
+iface_told : (s : PlainIface) (now : ℕ) (p : iface_plans.IfacePlan) (a : AnswerShown) → AreClear (iface_telling.after_answer s now p a).events
 iface_told s now iface_plan.Return answer.Given = tt
 iface_told s now iface_plan.Return (answer.PoolFull b) = tt
 iface_told s now iface_plan.Deliver answer.Pushed = tt

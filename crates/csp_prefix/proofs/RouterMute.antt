@@ -14,7 +14,7 @@ use Rattle.csp_record.specs.Connections.{opened_by}
 use Rattle.csp_record.proofs.Public.{Ends}
 use Rattle.csp_route.specs.Routes.{key_of, with_row}
 use Rattle.csp_route.specs.declared.row.Row.{Row}
-use Rattle.csp_service.specs.Answers.{Outcome, answered, has_no_room, iface_of, refused, replied, requested, routed, row_asked, served_by, told_stats, overwritten, with_routes, with_services}
+use Rattle.csp_service.specs.Answers.{Outcome, answered, has_no_room, iface_of, refused, replied, requested, routed, row_asked, at_service, told_stats, overwritten, with_routes, with_services}
 use Rattle.csp_service.specs.Facts.{PlainFacts}
 use Rattle.csp_service.specs.Services.{service_at}
 use Rattle.csp_service.specs.declared.answers.ServiceError.{ServiceError}
@@ -70,7 +70,7 @@ rebooted_mute true other = tt
 rebooted_mute false true = tt
 rebooted_mute false false = tt
 
-served_mute : (o : Option Service) (request : List ℕ) (facts : PlainFacts) (now : ℕ) → IsMute (served_by o request facts now).served
+served_mute : (o : Option Service) (request : List ℕ) (facts : PlainFacts) (now : ℕ) → IsMute (at_service o request facts now).served
 served_mute None request facts now = tt
 served_mute (Some service.Cmp) request facts now = requested_mute (decoded request) facts now
 served_mute (Some service.Ping) request facts now = tt

@@ -4,7 +4,7 @@ use Rattle.std.specs.List.{cons_option}
 use Rattle.csp_log.specs.declared.event.Event.{Event}
 use Rattle.csp_log.specs.declared.event.Event.TheVariants as event
 use Rattle.csp_sfp.specs.declared.errors.SfpError.{SfpError}
-use Rattle.csp_report.specs.Blobs.{is_of_blobs, blob_by, refusal_by, refusals_on, blob_lines, badblob_line, collected_lines}
+use Rattle.csp_report.specs.Blobs.{is_of_blobs, blob_told, refusal_told, refusals_on, blob_lines, badblob_line, collected_lines}
 use Rattle.csp_report.specs.declared.blobs.Blob.{Blob}
 
 -- what gives nothing where a test fails gives of those that pass what it gives of all
@@ -18,7 +18,7 @@ given_by_those {X} {Y} p f none (x ∷ xs) = by (p x) refl (given_by_those p f n
 
 -- an event that doesn't tell of blobs tells neither of one nor of a refusal
 abbrev TellsNothing : ℕ → ℕ → Event → Type 0
-TellsNothing slot ordinal e = (blob_by slot ordinal e ≡ None) × (refusal_by slot ordinal e ≡ None)
+TellsNothing slot ordinal e = (blob_told slot ordinal e ≡ None) × (refusal_told slot ordinal e ≡ None)
 
 no_blobs : (slot ordinal : ℕ) (e : Event) → is_of_blobs e ≡ false → TellsNothing slot ordinal e
 no_blobs slot ordinal (event.BlobTook s o len crc) h = cc
@@ -44,6 +44,6 @@ pub collected_kept : (node app : List ℕ) (slot ordinal : ℕ) (events : List E
 collected_kept node app slot ordinal events =
     let kept : List Event = filter is_of_blobs events in
     ap (λ (blobs : List Blob). blob_lines node app slot ordinal blobs ++ map (badblob_line node app slot ordinal) (refusals_on slot ordinal kept))
-    (given_by_those is_of_blobs (blob_by slot ordinal) (λ e h. (no_blobs slot ordinal e h).0) events)
-    ∙ ap (λ (reasons : List SfpError). blob_lines node app slot ordinal (filter_map (blob_by slot ordinal) events) ++ map (badblob_line node app slot ordinal) reasons)
-    (given_by_those is_of_blobs (refusal_by slot ordinal) (λ e h. (no_blobs slot ordinal e h).1) events)
+    (given_by_those is_of_blobs (blob_told slot ordinal) (λ e h. (no_blobs slot ordinal e h).0) events)
+    ∙ ap (λ (reasons : List SfpError). blob_lines node app slot ordinal (filter_map (blob_told slot ordinal) events) ++ map (badblob_line node app slot ordinal) reasons)
+    (given_by_those is_of_blobs (refusal_told slot ordinal) (λ e h. (no_blobs slot ordinal e h).1) events)

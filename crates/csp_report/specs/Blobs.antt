@@ -31,22 +31,22 @@ is_of_blobs (event.BlobRefused s o why) = true
 is_of_blobs _ = false
 
 -- the blob that an event tells to be whole on the connection of this slot and this ordinal
-abbrev pub blob_by : ℕ → ℕ → Event → Option Blob
-blob_by slot ordinal (event.BlobTook s o len crc) = if s == slot && o == ordinal then Some (record { len = len; crc = crc }) else None
-blob_by slot ordinal _ = None
+abbrev pub blob_told : ℕ → ℕ → Event → Option Blob
+blob_told slot ordinal (event.BlobTook s o len crc) = if s == slot && o == ordinal then Some (record { len = len; crc = crc }) else None
+blob_told slot ordinal _ = None
 
 -- why the piece was refused that an event tells of, on that connection
-abbrev pub refusal_by : ℕ → ℕ → Event → Option SfpError
-refusal_by slot ordinal (event.BlobRefused s o why) = if s == slot && o == ordinal then Some why else None
-refusal_by slot ordinal _ = None
+abbrev pub refusal_told : ℕ → ℕ → Event → Option SfpError
+refusal_told slot ordinal (event.BlobRefused s o why) = if s == slot && o == ordinal then Some why else None
+refusal_told slot ordinal _ = None
 
 -- the blobs that these events tell of on a connection
 abbrev pub blobs_on : ℕ → ℕ → List Event → List Blob
-blobs_on slot ordinal events = filter_map (blob_by slot ordinal) events
+blobs_on slot ordinal events = filter_map (blob_told slot ordinal) events
 
 -- why pieces were refused that these events tell of, on a connection
 abbrev pub refusals_on : ℕ → ℕ → List Event → List SfpError
-refusals_on slot ordinal events = filter_map (refusal_by slot ordinal) events
+refusals_on slot ordinal events = filter_map (refusal_told slot ordinal) events
 
 -- `blob NODE APP SLOT ORD I LEN CRC`
 abbrev pub blob_line : List ℕ → List ℕ → ℕ → ℕ → ℕ → Blob → Line

@@ -2,7 +2,7 @@
 
 ghost use Rattle.std.specs.Prelude.{◌≡◌, ◌++◌, ◌∷◌, [], if◌then◌else◌, map, filter, OnOk, IfOk};
 ghost use Rattle.std.specs.String.{string_bytes};
-ghost use Rattle.csp_report.specs.Blobs.{word_of_bad_piece, crc_word, is_of_blobs, blob_by, refusal_by, blobs_on, refusals_on, blob_line, blob_lines, badblob_line, collected_lines};
+ghost use Rattle.csp_report.specs.Blobs.{word_of_bad_piece, crc_word, is_of_blobs, blob_told, refusal_told, blobs_on, refusals_on, blob_line, blob_lines, badblob_line, collected_lines};
 ghost use Rattle.csp_report.specs.Lines.{ended_line, text_of};
 
 use crate::lines::{end_line, push_count, push_word};
@@ -62,8 +62,8 @@ pub(crate) fn of_blobs(alloc: Global, events: &[Event]) -> Result<Vec<Event>, Al
 }
 
 /// The blob that an event tells to be whole on the connection of this slot and this ordinal.
-fn blob_by(slot: u8, ordinal: u64, event: Event) -> Option<Blob>
-    ensures { result ≡ blob_by slot ordinal event }
+fn blob_told(slot: u8, ordinal: u64, event: Event) -> Option<Blob>
+    ensures { result ≡ blob_told slot ordinal event }
 {
     match event {
         Event::BlobTook {
@@ -77,8 +77,8 @@ fn blob_by(slot: u8, ordinal: u64, event: Event) -> Option<Blob>
 }
 
 /// Why the piece was refused that an event tells of, on the connection of this slot and this ordinal.
-fn refusal_by(slot: u8, ordinal: u64, event: Event) -> Option<SfpError>
-    ensures { result ≡ refusal_by slot ordinal event }
+fn refusal_told(slot: u8, ordinal: u64, event: Event) -> Option<SfpError>
+    ensures { result ≡ refusal_told slot ordinal event }
 {
     match event {
         Event::BlobRefused {
@@ -126,7 +126,7 @@ fn push_blobs(
 {
     let mut number = 0;
     for event in events {
-        if let Some(blob) = blob_by(named.slot, named.ordinal, *event) {
+        if let Some(blob) = blob_told(named.slot, named.ordinal, *event) {
             number += 1;
             push_blob(alloc, out, named, number, blob)?;
         }
@@ -148,7 +148,7 @@ fn push_refusals(out: &mut String, named: &Named, events: &[Event]) -> Result<()
     ensures { OnOk result (string_bytes out.new ≡ string_bytes out.old ++ text_of (map (badblob_line named.now.node.now named.now.app.now named.now.slot named.now.ordinal) (refusals_on named.now.slot named.now.ordinal events.now))) }
 {
     for event in events {
-        if let Some(why) = refusal_by(named.slot, named.ordinal, *event) {
+        if let Some(why) = refusal_told(named.slot, named.ordinal, *event) {
             push_refusal(out, named, why)?;
         }
     }

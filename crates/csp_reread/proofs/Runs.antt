@@ -12,7 +12,7 @@ use Rattle.csp_exports.specs.declared.ends.Form.TheVariants as form
 use Rattle.csp_iface.specs.Asking.{asked, op_of}
 use Rattle.csp_iface.specs.PlainIface.{PlainIface}
 use Rattle.csp_iface.specs.Planning.{plan_of}
-use Rattle.csp_iface.specs.Telling.{told_by, tells, bad, concluded}
+use Rattle.csp_iface.specs.Telling.{after_answer, tells, bad, concluded}
 use Rattle.csp_kiss.specs.declared.progress.KissPacket.{KissPacket}
 use Rattle.csp_log.specs.Moving.{moved_by}
 use Rattle.csp_log.specs.declared.entry.Entry.{Entry}
@@ -39,7 +39,7 @@ module _ (name : List ℕ) (s : PlainIface) (e : Entry) (step : IsStep party_ste
       same None = refl
       same (Some f) = refl
 
-  made : read_of (begun_by e) ≡ made_by ((told_by (waiting s (plan_of s)) e.time (plan_of s) e.answer).events ++ bad refused) (op_of s (plan_of s)) e.answer
+  made : read_of (begun_by e) ≡ made_by ((after_answer (waiting s (plan_of s)) e.time (plan_of s) e.answer).events ++ bad refused) (op_of s (plan_of s)) e.answer
   made = λ i. read_of (if list_any is_transmission (step.events i) then fetched (moved_by (step.op i) e.answer) else None)
 
 -- a run: what was waiting and what it began is what it showed and what is waiting then
@@ -76,15 +76,15 @@ run : (cover : Bool) (kind : LinkKind) (mtu : ℕ) (name : List ℕ) (es : List 
 run cover kind mtu name [] time s rest covered runs on h = record { shown = []; left = rest; whole = append-nil rest; bytes = refl; few = at_most_one cover s.frames rest h; fits = tt }
 run cover kind mtu name (e ∷ es) time s rest covered runs on h =
     let k : ℕ = (concluded (asked s e.time) e.time e.answer).refused in
-    let one : Turned cover rest (made_by ((told_by (waiting s (plan_of s)) e.time (plan_of s) e.answer).events ++ bad k) (op_of s (plan_of s)) e.answer) (put_by (op_of s (plan_of s)) e.answer) (told s e.time (plan_of s) e.answer).frames =
+    let one : Turned cover rest (made_by ((after_answer (waiting s (plan_of s)) e.time (plan_of s) e.answer).events ++ bad k) (op_of s (plan_of s)) e.answer) (put_by (op_of s (plan_of s)) e.answer) (told s e.time (plan_of s) e.answer).frames =
     turn cover s e.time k rest e.answer (ap covers on.0 ∙ covered) runs.1.fits h in
     let after : Ran cover mtu one.left (sent_in es) (flat_map (written_for form.Kiss name) es) =
     run cover kind mtu name es e.time (tells (asked s e.time) e.time e.answer) one.left covered runs.2 (step_on kind mtu s e.time e.answer on) one.pending in
-    let fits : AllByRecursion (Fit mtu) (made_by ((told_by (waiting s (plan_of s)) e.time (plan_of s) e.answer).events ++ bad k) (op_of s (plan_of s)) e.answer) =
-    subst (λ m. AllByRecursion (Fit m) (made_by ((told_by (waiting s (plan_of s)) e.time (plan_of s) e.answer).events ++ bad k) (op_of s (plan_of s)) e.answer)) on.1 (turn_fits s e.time k e.answer) in
+    let fits : AllByRecursion (Fit mtu) (made_by ((after_answer (waiting s (plan_of s)) e.time (plan_of s) e.answer).events ++ bad k) (op_of s (plan_of s)) e.answer) =
+    subst (λ m. AllByRecursion (Fit m) (made_by ((after_answer (waiting s (plan_of s)) e.time (plan_of s) e.answer).events ++ bad k) (op_of s (plan_of s)) e.answer)) on.1 (turn_fits s e.time k e.answer) in
     let all : Ran cover mtu rest (read_of (begun_by e) ++ sent_in es) (written_for form.Kiss name e ++ flat_map (written_for form.Kiss name) es) =
     subst (λ ps. Ran cover mtu rest (ps ++ sent_in es) (written_for form.Kiss name e ++ flat_map (written_for form.Kiss name) es)) (sym (made name s e runs.1))
-    (subst (λ bs. Ran cover mtu rest (made_by ((told_by (waiting s (plan_of s)) e.time (plan_of s) e.answer).events ++ bad k) (op_of s (plan_of s)) e.answer ++ sent_in es) (bs ++ flat_map (written_for form.Kiss name) es)) (sym (wrote name s e runs.1))
+    (subst (λ bs. Ran cover mtu rest (made_by ((after_answer (waiting s (plan_of s)) e.time (plan_of s) e.answer).events ++ bad k) (op_of s (plan_of s)) e.answer ++ sent_in es) (bs ++ flat_map (written_for form.Kiss name) es)) (sym (wrote name s e runs.1))
     (joined cover mtu rest _ (sent_in es) _ _ _ one fits after)) in
     subst (λ ps. Ran cover mtu rest ps (flat_map (written_for form.Kiss name) (e ∷ es))) (sym (flat_map-cons (λ (x : Entry). read_of (begun_by x)) e es))
     (subst (λ bs. Ran cover mtu rest (read_of (begun_by e) ++ sent_in es) bs) (sym (flat_map-cons (written_for form.Kiss name) e es)) all)

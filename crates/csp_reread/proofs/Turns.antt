@@ -14,7 +14,7 @@ use Rattle.csp_iface.specs.Asking.{op_of, given, delivered, transmitted}
 use Rattle.csp_iface.specs.PlainIface.{PlainIface}
 use Rattle.csp_iface.specs.Planning.{plan_of, first_rule, side_plan}
 use Rattle.csp_iface.specs.Sending.{sent_trace, next_node, frames_of}
-use Rattle.csp_iface.specs.Telling.{told_by, caught, pushed, bad, is_too_big, taken_up}
+use Rattle.csp_iface.specs.Telling.{after_answer, caught, pushed, bad, is_too_big, taken_up}
 use Rattle.csp_iface.specs.declared.packet.WholePacket.{WholePacket}
 use Rattle.csp_iface.specs.declared.plan.IfacePlan.{IfacePlan}
 use Rattle.csp_iface.specs.declared.plan.IfacePlan.TheVariants as plan
@@ -70,7 +70,7 @@ quiet_turn cover rest made put frames no_put no_made h = record { shown = []; le
 
 -- what a turn reports
 abbrev reports : PlainIface → (now k : ℕ) → IfacePlan → AnswerShown → List Event
-reports s now k p a = (told_by (waiting s p) now p a).events ++ bad k
+reports s now k p a = (after_answer (waiting s p) now p a).events ++ bad k
 
 -- a turn whose operation fetched nothing makes nothing
 none_made : (es : List Event) (o : Option Content) → o ≡ None → read_of (if list_any is_transmission es then o else None) ≡ []
@@ -226,7 +226,7 @@ with_made cover rest made put frames after no_made same t = record {
 -- a packet that is fetched: its one frame is left then, or it is too big
 module _ (cover : Bool) (s : PlainIface) (now k : ℕ) (covered : covers s.kind ≡ Some cover) (spent : s.frames ≡ []) where
   abbrev after_fetch : AnswerShown → Type 0
-  after_fetch a = Turned cover [] (made_by ((told_by (waiting s plan.Fetch) now plan.Fetch a).events ++ bad k) (op_of s plan.Fetch) a) (put_by (op_of s plan.Fetch) a) (told s now plan.Fetch a).frames
+  after_fetch a = Turned cover [] (made_by ((after_answer (waiting s plan.Fetch) now plan.Fetch a).events ++ bad k) (op_of s plan.Fetch) a) (put_by (op_of s plan.Fetch) a) (told s now plan.Fetch a).frames
 
   fetched_turn : (mark : ℕ) (b : Content) (big : Bool) → Turned cover [] (read_of (if list_any is_transmission ((taken_up big mark b (waiting s plan.Fetch)).events ++ bad k) then Some b else None)) [] (taken_up big mark b (waiting s plan.Fetch)).iface.frames
   fetched_turn mark b true = quiet_turn cover [] _ [] s.frames refl (none_told (event.TooBig ∷ bad k) (Some b) (none_bad k)) (subst (λ (fs : List Frame). AreOf cover fs []) (sym spent) tt)
@@ -238,7 +238,7 @@ module _ (cover : Bool) (s : PlainIface) (now k : ℕ) (covered : covers s.kind 
     pending = one_frame cover s.kind s.serial (next_node mark b.header) b (sent_trace s.node s.number s.serial b.trace) covered;
   }
 
-  idle : (a : AnswerShown) → read_of (if list_any is_transmission ((told_by (waiting s plan.Fetch) now plan.Fetch a).events ++ bad k) then fetched (moved_by (op_of s plan.Fetch) a) else None) ≡ [] → (told s now plan.Fetch a).frames ≡ s.frames → after_fetch a
+  idle : (a : AnswerShown) → read_of (if list_any is_transmission ((after_answer (waiting s plan.Fetch) now plan.Fetch a).events ++ bad k) then fetched (moved_by (op_of s plan.Fetch) a) else None) ≡ [] → (told s now plan.Fetch a).frames ≡ s.frames → after_fetch a
   idle a none same = quiet_turn cover [] _ _ _ (popped_put (queue.Out s.number) a) none (subst (λ (fs : List Frame). AreOf cover fs []) (sym (same ∙ spent)) tt)
 
   pub fetch_turn : (a : AnswerShown) → after_fetch a
@@ -269,7 +269,7 @@ none_left cover fs (p ∷ ps) e h = absurd (subst (λ (gs : List Frame). AreOf c
 
 -- a turn by its plan
 turn_by : (cover : Bool) (s : PlainIface) (now k : ℕ) (rest : List KissPacket) (p : IfacePlan) (a : AnswerShown) → covers s.kind ≡ Some cover → (p ≡ plan.Fetch → s.frames ≡ []) → Fits (op_of s p) a → AreOf cover s.frames rest
-    → Turned cover rest (made_by ((told_by (waiting s p) now p a).events ++ bad k) (op_of s p) a) (put_by (op_of s p) a) (told s now p a).frames
+    → Turned cover rest (made_by ((after_answer (waiting s p) now p a).events ++ bad k) (op_of s p) a) (put_by (op_of s p) a) (told s now p a).frames
 turn_by cover s now k rest plan.Rest a covered spent fits h = quiet_turn cover rest _ _ _ refl (none_made (reports s now k plan.Rest a) None refl) h
 turn_by cover s now k rest plan.Return a covered spent fits h =
     quiet_turn cover rest _ _ _ (given_put s.back a) (none_made (reports s now k plan.Return a) _ (given_fetched s.back a)) (subst (λ (fs : List Frame). AreOf cover fs rest) (sym (return_frames s now a)) h)
@@ -280,14 +280,14 @@ turn_by cover s now k rest plan.Take a covered spent fits h =
 turn_by cover s now k rest plan.Transmit a covered spent fits h =
     with_made cover rest _ _ _ _ (none_made (reports s now k plan.Transmit a) _ (transmitted_fetched s.number (slice_get s.frames 0) a)) (transmit_frames s now a) (sent_turn cover s.number s.frames rest a fits h)
 turn_by cover s now k rest plan.Fetch a covered spent fits h =
-    subst (λ (ps : List KissPacket). Turned cover ps (made_by ((told_by (waiting s plan.Fetch) now plan.Fetch a).events ++ bad k) (op_of s plan.Fetch) a) (put_by (op_of s plan.Fetch) a) (told s now plan.Fetch a).frames)
+    subst (λ (ps : List KissPacket). Turned cover ps (made_by ((after_answer (waiting s plan.Fetch) now plan.Fetch a).events ++ bad k) (op_of s plan.Fetch) a) (put_by (op_of s plan.Fetch) a) (told s now plan.Fetch a).frames)
     (sym (none_left cover s.frames rest (spent refl) h)) (fetch_turn cover s now k covered (spent refl) a)
 turn_by cover s now k rest plan.Receive a covered spent fits h =
     quiet_turn cover rest _ _ _ (popped_put (queue.Rx s.number) a) (none_made (reports s now k plan.Receive a) _ (popped_fetched s.number a)) (subst (λ (fs : List Frame). AreOf cover fs rest) (sym (receive_frames s now a)) h)
 
 -- any turn
 pub turn : (cover : Bool) (s : PlainIface) (now k : ℕ) (rest : List KissPacket) (a : AnswerShown) → covers s.kind ≡ Some cover → Fits (op_of s (plan_of s)) a → AreOf cover s.frames rest
-    → Turned cover rest (made_by ((told_by (waiting s (plan_of s)) now (plan_of s) a).events ++ bad k) (op_of s (plan_of s)) a) (put_by (op_of s (plan_of s)) a) (told s now (plan_of s) a).frames
+    → Turned cover rest (made_by ((after_answer (waiting s (plan_of s)) now (plan_of s) a).events ++ bad k) (op_of s (plan_of s)) a) (put_by (op_of s (plan_of s)) a) (told s now (plan_of s) a).frames
 turn cover s now k rest a covered fits h = turn_by cover s now k rest (plan_of s) a covered (spent_by s.back s.accepted s.whole s.side s.frames) fits h
 
 -- what a turn makes has no longer a payload than its link takes
@@ -307,7 +307,7 @@ shown_fit mtu es b h = by (list_any is_transmission es)
 
 module _ (s : PlainIface) (now k : ℕ) where
   abbrev MadeFits : IfacePlan → AnswerShown → Type 0
-  MadeFits p a = AllByRecursion (Fit s.mtu) (made_by ((told_by (waiting s p) now p a).events ++ bad k) (op_of s p) a)
+  MadeFits p a = AllByRecursion (Fit s.mtu) (made_by ((after_answer (waiting s p) now p a).events ++ bad k) (op_of s p) a)
 
   fetched_fits : (mark : ℕ) (b : Content) (big : Bool) → is_too_big s b ≡ big → AllByRecursion (Fit s.mtu) (read_of (if list_any is_transmission ((taken_up big mark b (waiting s plan.Fetch)).events ++ bad k) then Some b else None))
   fetched_fits mark b true e = none_fit s.mtu _ (none_told (event.TooBig ∷ bad k) (Some b) (none_bad k))
@@ -333,5 +333,5 @@ module _ (s : PlainIface) (now k : ℕ) where
   fits_by plan.Receive a = none_fit s.mtu _ (none_made (reports s now k plan.Receive a) _ (popped_fetched s.number a))
 
 -- any turn's
-pub turn_fits : (s : PlainIface) (now k : ℕ) (a : AnswerShown) → AllByRecursion (Fit s.mtu) (made_by ((told_by (waiting s (plan_of s)) now (plan_of s) a).events ++ bad k) (op_of s (plan_of s)) a)
+pub turn_fits : (s : PlainIface) (now k : ℕ) (a : AnswerShown) → AllByRecursion (Fit s.mtu) (made_by ((after_answer (waiting s (plan_of s)) now (plan_of s) a).events ++ bad k) (op_of s (plan_of s)) a)
 turn_fits s now k a = fits_by s now k (plan_of s) a

@@ -28,7 +28,7 @@ use Rattle.csp_service.specs.declared.service.Service.TheVariants as service
 use Rattle.csp_service.specs.Services.{service_at}
 use Rattle.csp_service.specs.Counting.{no_stats}
 use Rattle.csp_service.specs.Facts.{PlainFacts, PlainServices}
-use Rattle.csp_service.specs.Clock.{nanos_of, seconds_of, set_by, shown}
+use Rattle.csp_service.specs.Clock.{nanos_of, seconds_of, clock_set, shown}
 
 -- what comes of a request: what is answered, the bytes of the reply (none without one), and the facts afterwards
 pub record Outcome : Type 0 where
@@ -130,7 +130,7 @@ requested (Ok (RouteSet dest via field)) facts now = routed (same_bytes (RouteSe
 requested (Ok (Stats field)) facts now = told_stats field (iface_of field facts.ifaces) facts
 requested (Ok (Peek addr len)) facts now = peeked addr len facts
 requested (Ok (Poke addr bytes)) facts now = poked addr bytes facts
-requested (Ok (Clock sec nsec)) facts now = told_clock (set_by sec nsec facts.services.clock now) facts now
+requested (Ok (Clock sec nsec)) facts now = told_clock (clock_set sec nsec facts.services.clock now) facts now
 
 -- a request to start again or to stop: just the four bytes of its number
 abbrev pub rebooted : List ℕ → Served
@@ -140,14 +140,14 @@ rebooted request =
     else Refused BadMagic
 
 -- a request to a service
-abbrev pub served_by : Option Service → List ℕ → PlainFacts → ℕ → Outcome
-served_by None request facts now = outcome NoService [] facts
-served_by (Some service.Cmp) request facts now = requested (decoded request) facts now
-served_by (Some service.Ping) request facts now = replied request facts
-served_by (Some service.FreeMemory) request facts now = replied (to_be_bytes w32 MEMORY) facts
-served_by (Some service.Reboot) request facts now = outcome (rebooted request) [] facts
-served_by (Some service.Uptime) request facts now = replied (to_be_bytes w32 (seconds_of now)) facts
+abbrev pub at_service : Option Service → List ℕ → PlainFacts → ℕ → Outcome
+at_service None request facts now = outcome NoService [] facts
+at_service (Some service.Cmp) request facts now = requested (decoded request) facts now
+at_service (Some service.Ping) request facts now = replied request facts
+at_service (Some service.FreeMemory) request facts now = replied (to_be_bytes w32 MEMORY) facts
+at_service (Some service.Reboot) request facts now = outcome (rebooted request) [] facts
+at_service (Some service.Uptime) request facts now = replied (to_be_bytes w32 (seconds_of now)) facts
 
 -- a request to a port of a node, at a time in milliseconds
 abbrev pub answered : ℕ → List ℕ → PlainFacts → ℕ → Outcome
-answered port request facts now = served_by (service_at port) request facts now
+answered port request facts now = at_service (service_at port) request facts now

@@ -15,8 +15,8 @@ abbrev pub millis_of : ℕ → ℕ → ℕ
 millis_of sec nsec = sec * 1000 + nsec / 1000000
 
 -- how far a clock is ahead of the time once a request was heard: it is set where that has seconds other than 0
-abbrev pub set_by : ℕ → ℕ → ℤ → ℕ → ℤ
-set_by sec nsec clock now = if sec == 0 then clock else pos (millis_of sec nsec) -ℤ pos now
+abbrev pub clock_set : ℕ → ℕ → ℤ → ℕ → ℤ
+clock_set sec nsec clock now = if sec == 0 then clock else pos (millis_of sec nsec) -ℤ pos now
 
 -- the seconds of so many milliseconds, as a number of 32 bits
 abbrev pub seconds_of : ℕ → ℕ

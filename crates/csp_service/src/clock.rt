@@ -2,7 +2,7 @@
 
 ghost use Rattle.std.specs.Prelude.{◌≡◌, ◌<◌, ◌^◌, [], pos};
 ghost use Rattle.csp_cmp.specs.Replies.{clock_bytes};
-ghost use Rattle.csp_service.specs.Clock.{IsClock, millis_of, nanos_of, seconds_of, set_by, shown};
+ghost use Rattle.csp_service.specs.Clock.{IsClock, millis_of, nanos_of, seconds_of, clock_set, shown};
 
 use crate::Served;
 use crate::facts::Services;
@@ -19,10 +19,10 @@ pub(crate) fn tell_clock(
     requires empty { out.old.items ≡ [] }
     requires now { now < 2 ^ 62 }
     ensures replied { result ≡ Served.Reply }
-    ensures reply { out.new.items ≡ clock_bytes (seconds_of (shown (set_by sec nsec services.old.clock now) now)) (nanos_of (shown (set_by sec nsec services.old.clock now) now)) }
-    ensures services { services.new ≡ record services.old { clock = set_by sec nsec services.old.clock now } }
+    ensures reply { out.new.items ≡ clock_bytes (seconds_of (shown (clock_set sec nsec services.old.clock now) now)) (nanos_of (shown (clock_set sec nsec services.old.clock now) now)) }
+    ensures services { services.new ≡ record services.old { clock = clock_set sec nsec services.old.clock now } }
 {
-    let clock = set_by(sec, nsec, services.clock, now);
+    let clock = clock_set(sec, nsec, services.clock, now);
     let millis = shown(clock, now);
     services.clock = clock;
     clock_reply(seconds(millis), nanos(millis), out);
@@ -30,10 +30,10 @@ pub(crate) fn tell_clock(
 }
 
 /// How far the clock is ahead of the time once a request was heard.
-fn set_by(sec: u32, nsec: u32, clock: i64, now: u64) -> i64
+fn clock_set(sec: u32, nsec: u32, clock: i64, now: u64) -> i64
     requires clock { IsClock clock }
     requires now { now < 2 ^ 62 }
-    ensures value { result ≡ set_by sec nsec clock now }
+    ensures value { result ≡ clock_set sec nsec clock now }
     ensures clock { IsClock result }
 {
     if sec == 0 {

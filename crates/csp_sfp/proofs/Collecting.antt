@@ -5,7 +5,7 @@ use Rattle.std.specs.List.{filter_map}
 use Rattle.std.specs.Result.{result_err}
 use Rattle.std.proofs.lemmas.List.{append-nil, append_assoc}
 use Rattle.std.proofs.lemmas.List.Elements.{All-head, All-tail, filter_map-append}
-use Rattle.csp_sfp.specs.Collecting.{CanAllBeCut, CollectsBeginning, Cut, all_pieces, blobs_of, collected, refusals, whole_by}
+use Rattle.csp_sfp.specs.Collecting.{CanAllBeCut, CollectsBeginning, Cut, all_pieces, blobs_of, collected, refusals, blob_in}
 use Rattle.csp_sfp.specs.Gathering.{Gathering, after, answer, answers, fed}
 use Rattle.csp_sfp.specs.Pieces.{CanBeCut, piece_count, pieces_of}
 use Rattle.csp_sfp.specs.declared.collector.SfpAnswer.{SfpAnswer}
@@ -22,8 +22,8 @@ until_whole parts = replicate parts (Ok Part) ++ Ok Whole ∷ []
 collected-append : (g : Gathering) (xs ys : List (List ℕ)) → collected g (xs ++ ys) ≡ collected g xs ++ collected (fed g xs) ys
 collected-append g [] ys = refl
 collected-append g (x ∷ xs) ys =
-    ap (λ more. whole_by (answer g x) (after g x) ++ more) (collected-append (after g x) xs ys)
-    ∙ sym (append_assoc (whole_by (answer g x) (after g x)) (collected (after g x) xs) (collected (fed (after g x) xs) ys))
+    ap (λ more. blob_in (answer g x) (after g x) ++ more) (collected-append (after g x) xs ys)
+    ∙ sym (append_assoc (blob_in (answer g x) (after g x)) (collected (after g x) xs) (collected (fed (after g x) xs) ys))
 
 answers-append : (g : Gathering) (xs ys : List (List ℕ)) → answers g (xs ++ ys) ≡ answers g xs ++ answers (fed g xs) ys
 answers-append g [] ys = refl
@@ -37,13 +37,13 @@ refusals-append g xs ys = ap (filter_map result_err) (answers-append g xs ys) �
 -- where only the last makes a blob whole, that blob is collected
 one_is_collected : (parts : ℕ) (g : Gathering) (payloads : List (List ℕ)) → answers g payloads ≡ until_whole parts → collected g payloads ≡ (fed g payloads).bytes ∷ []
 one_is_collected zero g [] e = absurd cc
-one_is_collected zero g (x ∷ []) e = let one : answer g x ≡ Ok Whole = cc in ap (λ a. whole_by a (after g x) ++ []) one
+one_is_collected zero g (x ∷ []) e = let one : answer g x ≡ Ok Whole = cc in ap (λ a. blob_in a (after g x) ++ []) one
 one_is_collected zero g (x ∷ y ∷ payloads) e = absurd cc
 one_is_collected (suc parts) g [] e = absurd cc
 one_is_collected (suc parts) g (x ∷ payloads) e =
     let one : answer g x ≡ Ok Part = cc in
     let others : answers (after g x) payloads ≡ until_whole parts = cc in
-    ap (λ a. whole_by a (after g x) ++ collected (after g x) payloads) one ∙ one_is_collected parts (after g x) payloads others
+    ap (λ a. blob_in a (after g x) ++ collected (after g x) payloads) one ∙ one_is_collected parts (after g x) payloads others
 
 -- and of those before it nothing
 none_is_collected : (parts : ℕ) (g : Gathering) (payloads : List (List ℕ)) (next : List ℕ) (rest : List (List ℕ))
@@ -54,7 +54,7 @@ none_is_collected zero g (x ∷ y ∷ payloads) next rest e = absurd cc
 none_is_collected (suc parts) g (x ∷ payloads) next rest e =
     let one : answer g x ≡ Ok Part = cc in
     let others : answers (after g x) (payloads ++ next ∷ rest) ≡ until_whole parts = cc in
-    ap (λ a. whole_by a (after g x) ++ collected (after g x) payloads) one ∙ none_is_collected parts (after g x) payloads next rest others
+    ap (λ a. blob_in a (after g x) ++ collected (after g x) payloads) one ∙ none_is_collected parts (after g x) payloads next rest others
 
 -- none of them is refused
 none_refused : (parts : ℕ) → filter_map result_err (until_whole parts) ≡ []

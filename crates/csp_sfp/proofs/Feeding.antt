@@ -5,7 +5,7 @@ use Rattle.std.proofs.Math.Seq.{take-length}
 use Rattle.std.proofs.Math.Nat.{suc-mul, zero-add, zero-mul}
 use Rattle.std.proofs.lemmas.Bool.{eq-eqb, ne_eqb, le-leb, lt-ltb}
 use Rattle.std.proofs.lemmas.List.{drop-take, length-take, length-take-le, length-drop, take-append-drop, take-take}
-use Rattle.csp_sfp.specs.Gathering.{Gathering, begun, after, after_by, answer, answer_by, answers, fed, gathered, grown, judged, of_one_blob, whole_or_part, with_bytes}
+use Rattle.csp_sfp.specs.Gathering.{Gathering, begun, after, taken_up, answer, judged_answer, answers, fed, gathered, grown, judged, of_one_blob, whole_or_part, with_bytes}
 use Rattle.csp_sfp.specs.Pieces.{CanBeCut, piece_at, piece_count, pieces_from, pieces_of}
 use Rattle.csp_sfp.specs.Trailer.{data_of, offset_of, total_of}
 use Rattle.csp_sfp.specs.declared.collector.SfpAnswer.{SfpAnswer}
@@ -78,14 +78,14 @@ total_is blob size offset cut = total_back (data_at blob size offset) offset (le
 after_next : (blob : List ℕ) (size offset : ℕ) (g : Gathering) → CanBeCut blob size → offset < length blob → Has blob offset g
     → after g (piece_at blob size offset) ≡ grown (length blob) (take (offset + size) blob)
 after_next blob size offset g cut inside has =
-    ap (λ r. after_by r g (total_of (piece_at blob size offset))) (next_judged blob size offset g cut inside has)
+    ap (λ r. taken_up r g (total_of (piece_at blob size offset))) (next_judged blob size offset g cut inside has)
     ∙ ap (λ total. grown total (gathered g ++ data_at blob size offset)) (total_is blob size offset cut)
     ∙ ap (grown (length blob)) (with_next blob size offset g has)
 
 answer_next : (blob : List ℕ) (size offset : ℕ) (g : Gathering) → CanBeCut blob size → offset < length blob → Has blob offset g
     → answer g (piece_at blob size offset) ≡ Ok (whole_or_part (length (take (offset + size) blob) == length blob))
 answer_next blob size offset g cut inside has =
-    ap (λ r. answer_by r g (total_of (piece_at blob size offset))) (next_judged blob size offset g cut inside has)
+    ap (λ r. judged_answer r g (total_of (piece_at blob size offset))) (next_judged blob size offset g cut inside has)
     ∙ ap (λ total. answer_of (gathered g ++ data_at blob size offset) total) (total_is blob size offset cut)
     ∙ ap (λ bytes. answer_of bytes (length blob)) (with_next blob size offset g has)
   where

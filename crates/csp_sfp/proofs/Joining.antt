@@ -3,7 +3,7 @@ use Rattle.std.proofs.Common.{◌≡◌, ℕ, zero, suc, ◌+◌, ◌==◌, Bool
 use Rattle.std.specs.Prelude.{nat_le, nat_lt, ◌&&◌}
 use Rattle.std.specs.List.{flat_map}
 use Rattle.std.proofs.lemmas.List.{append-nil, append_assoc}
-use Rattle.csp_sfp.specs.Gathering.{Gathering, ◌>>=◌, after, after_by, answer, answer_by, answers, begun, demand, fed, gathered, judged, of_one_blob, whole_or_part, with_bytes}
+use Rattle.csp_sfp.specs.Gathering.{Gathering, ◌>>=◌, after, taken_up, answer, judged_answer, answers, begun, demand, fed, gathered, judged, of_one_blob, whole_or_part, with_bytes}
 use Rattle.csp_sfp.specs.Trailer.{data_of, offset_of, total_of}
 use Rattle.csp_sfp.specs.declared.collector.SfpAnswer.{SfpAnswer}
 use Rattle.csp_sfp.specs.declared.collector.SfpAnswer.TheVariants.{Part, Whole}
@@ -49,15 +49,15 @@ has_bytes true total bytes = refl
 has_bytes false total bytes = refl
 
 -- what a piece that is answered Part comes to
-with_part : (r : Result (List ℕ) SfpError) (g : Gathering) (total : ℕ) (own : List ℕ) → ((part : List ℕ) → r ≡ Ok part → part ≡ own) → answer_by r g total ≡ Ok Part
-    → gathered (after_by r g total) ≡ gathered g ++ own
+with_part : (r : Result (List ℕ) SfpError) (g : Gathering) (total : ℕ) (own : List ℕ) → ((part : List ℕ) → r ≡ Ok part → part ≡ own) → judged_answer r g total ≡ Ok Part
+    → gathered (taken_up r g total) ≡ gathered g ++ own
 with_part (Err x) g total own is h = absurd cc
 with_part (Ok part) g total own is h =
     under_way (length (gathered g ++ part) == total) total (gathered g ++ part) h ∙ ap (λ bytes. gathered g ++ bytes) (is part refl)
 
 -- and one that is answered Whole
-with_last : (r : Result (List ℕ) SfpError) (g : Gathering) (total : ℕ) (own : List ℕ) → ((part : List ℕ) → r ≡ Ok part → part ≡ own) → answer_by r g total ≡ Ok Whole
-    → (after_by r g total).bytes ≡ gathered g ++ own
+with_last : (r : Result (List ℕ) SfpError) (g : Gathering) (total : ℕ) (own : List ℕ) → ((part : List ℕ) → r ≡ Ok part → part ≡ own) → judged_answer r g total ≡ Ok Whole
+    → (taken_up r g total).bytes ≡ gathered g ++ own
 with_last (Err x) g total own is h = absurd cc
 with_last (Ok part) g total own is h =
     has_bytes (length (gathered g ++ part) == total) total (gathered g ++ part) ∙ ap (λ bytes. gathered g ++ bytes) (is part refl)

@@ -26,15 +26,15 @@ abbrev pub all_pieces : List Cut → List (List ℕ)
 all_pieces cuts = flat_map (λ cut. pieces_of cut.blob cut.size) cuts
 
 -- the blob that is whole by this answer, if one is
-abbrev pub whole_by : Result SfpAnswer SfpError → Gathering → List (List ℕ)
-whole_by (Ok Whole) g = g.bytes ∷ []
-whole_by (Ok Part) g = []
-whole_by (Err error) g = []
+abbrev pub blob_in : Result SfpAnswer SfpError → Gathering → List (List ℕ)
+blob_in (Ok Whole) g = g.bytes ∷ []
+blob_in (Ok Part) g = []
+blob_in (Err error) g = []
 
 -- the blobs collected of these payloads, fed one after the other: each as it becomes whole
 abbrev pub collected : Gathering → List (List ℕ) → List (List ℕ)
 collected g [] = []
-collected g (payload ∷ payloads) = whole_by (answer g payload) (after g payload) ++ collected (after g payload) payloads
+collected g (payload ∷ payloads) = blob_in (answer g payload) (after g payload) ++ collected (after g payload) payloads
 
 -- why payloads are refused, in order
 abbrev pub refusals : Gathering → List (List ℕ) → List SfpError

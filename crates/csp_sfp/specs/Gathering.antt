@@ -62,13 +62,13 @@ abbrev pub grown : ℕ → List ℕ → Gathering
 grown total bytes = with_bytes (length bytes == total) total bytes
 
 -- what a judged payload comes to: its data is gathered; a refusal drops the blob under way
-abbrev pub after_by : Result (List ℕ) SfpError → Gathering → ℕ → Gathering
-after_by (Ok part) g total = grown total (gathered g ++ part)
-after_by (Err error) g total = nothing
+abbrev pub taken_up : Result (List ℕ) SfpError → Gathering → ℕ → Gathering
+taken_up (Ok part) g total = grown total (gathered g ++ part)
+taken_up (Err error) g total = nothing
 
 -- a collector after a payload
 abbrev pub after : Gathering → List ℕ → Gathering
-after g payload = after_by (judged g payload) g (total_of payload)
+after g payload = taken_up (judged g payload) g (total_of payload)
 
 -- a blob is whole, or a part of it
 abbrev pub whole_or_part : (is_whole : Bool) → SfpAnswer
@@ -76,13 +76,13 @@ whole_or_part true = Whole
 whole_or_part false = Part
 
 -- what a judged payload is answered
-abbrev pub answer_by : Result (List ℕ) SfpError → Gathering → ℕ → Result SfpAnswer SfpError
-answer_by (Ok part) g total = Ok (whole_or_part (length (gathered g ++ part) == total))
-answer_by (Err error) g total = Err error
+abbrev pub judged_answer : Result (List ℕ) SfpError → Gathering → ℕ → Result SfpAnswer SfpError
+judged_answer (Ok part) g total = Ok (whole_or_part (length (gathered g ++ part) == total))
+judged_answer (Err error) g total = Err error
 
 -- what a collector answers to a payload
 abbrev pub answer : Gathering → List ℕ → Result SfpAnswer SfpError
-answer g payload = answer_by (judged g payload) g (total_of payload)
+answer g payload = judged_answer (judged g payload) g (total_of payload)
 
 -- a collector after these payloads, one after the other
 abbrev pub fed : Gathering → List (List ℕ) → Gathering

@@ -14,7 +14,7 @@ use Rattle.csp_sizes.specs.Worlds.{IsLightWorld}
 use Rattle.csp_topology.specs.Parties.{PlainOpening, parties_of}
 use Rattle.csp_world.specs.Opening.{new_member, opening}
 use Rattle.csp_world.specs.Record.{record_of, sim_record}
-use Rattle.csp_world.specs.Schedule.{checked, turns, round_places, round, rounds, run, run_rounds, run_by}
+use Rattle.csp_world.specs.Schedule.{checked, turns, round_places, round, rounds, run, run_rounds, run_as}
 use Rattle.csp_world.specs.World.{PlainMember, PlainWorld, tick, turn, finished, weight}
 use Rattle.csp_world.specs.declared.limits.TheConstants.{TURNS_PER_ROUND, MAX_ENTRIES}
 
@@ -75,7 +75,7 @@ gone_on : (t : Bool) (w : PlainWorld) (later : Option PlainWorld) → cond t (So
 gone_on true w later e = cc
 gone_on false w later e = e
 
-run_end : (most : ℕ) (w : PlainWorld) → length w.members ≡ 11 → IsLightWorld w → weight w + 88 * most < MAX_ENTRIES → run_by in_rounds most w ≡ None → ⊥
+run_end : (most : ℕ) (w : PlainWorld) → length w.members ≡ 11 → IsLightWorld w → weight w + 88 * most < MAX_ENTRIES → run_as in_rounds most w ≡ None → ⊥
 unfolding run_rounds rounds round
 run_end most w count light few none = rounds_past rounds round _ most w (gone_on (finished w) w _ none) (λ v. refl) (λ n v. refl) round_light count light few
 

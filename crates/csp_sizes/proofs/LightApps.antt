@@ -9,7 +9,7 @@ use Rattle.csp_app.specs.Making.{batch_at, packet_in, note_in}
 use Rattle.csp_app.specs.PlainApp.{PlainApp, opening}
 use Rattle.csp_app.specs.PlainStep.{PlainStep}
 use Rattle.csp_app.specs.Slots.{slot_at}
-use Rattle.csp_app.specs.Steps.{answered, answered_by, batch, gives_up, has_passed, is_enough, plan_of, pushed_one, received, recv_end, satisfied, turn_of, wait_end}
+use Rattle.csp_app.specs.Steps.{answered, note_awaited, batch, gives_up, has_passed, is_enough, plan_of, pushed_one, received, recv_end, satisfied, turn_of, wait_end}
 use Rattle.csp_app.specs.Telling.{at_rest, tells}
 use Rattle.csp_app.specs.ToldApp.{ToldApp, over, still}
 use Rattle.csp_app.specs.Turn.{rests, giving_op, op_of, popped, pushing_op, told_of, until_told}
@@ -109,7 +109,7 @@ packet_light (item.Note x) n h = tt
 popped_light : (i : ItemShown) (s : PlainApp) → item_bytes i ≤ 531 → IsLightApp s → IsLightApp (popped i s)
 popped_light i s light h = record { steps = h.steps; taken = packet_light i 531 light; made = h.made; held = h.held }
 
-answered_by_light : (s : PlainApp) (n : Note) → IsLightApp s → IsLightApp (answered_by s n).state
+answered_by_light : (s : PlainApp) (n : Note) → IsLightApp s → IsLightApp (note_awaited s n).state
 answered_by_light s note.Bound h = h
 answered_by_light s (note.Connected k) h = h
 answered_by_light s (note.Closed k) h = h

@@ -15,7 +15,7 @@ use Rattle.csp_iface.specs.Heeding.{is_for}
 use Rattle.csp_iface.specs.Links.{receiver_for}
 use Rattle.csp_iface.specs.PlainIface.{PlainIface, opening}
 use Rattle.csp_iface.specs.Planning.{plan_of}
-use Rattle.csp_iface.specs.Receiving.{Heard, arrived, followed, frame_heard, heard_by, read_further, reassembled, traced}
+use Rattle.csp_iface.specs.Receiving.{Heard, arrived, followed, frame_heard, frame_read, read_further, reassembled, traced}
 use Rattle.csp_iface.specs.Sending.{frames_of, kiss_frame, next_node, sent_trace}
 use Rattle.csp_iface.specs.Telling as telling
 use Rattle.csp_iface.specs.Telling.{tells}
@@ -122,14 +122,14 @@ further_light (by.Can l) h = record { receiver = h; whole = tt }
 reassembled_light : (l : Listening) (a : Arrival) → IsLightReceiver (by.Can l) → IsLightHeard (reassembled l a)
 reassembled_light l a h = record { receiver = (h.0, listened_short l a h.0 h.1); whole = answered_short l a h.0 h.1 }
 
-heard_by_light : (now : ℕ) (r : Receiver) (f : Frame) → IsLightReceiver r → IsLightHeard (heard_by now r f)
+heard_by_light : (now : ℕ) (r : Receiver) (f : Frame) → IsLightReceiver r → IsLightHeard (frame_read now r f)
 heard_by_light now (by.Kiss s) f h = record { receiver = h; whole = tt }
 heard_by_light now (by.Can l) f h = reassembled_light l (arrival (identifier_of (unwrap_or f.can 0)) f.bytes.items (arrived f.trace) now) h
 
 heard_light : (now : ℕ) (r : Receiver) (f : Frame) → IsLightReceiver r → IsLightHeard (frame_heard now r f)
 heard_light now r f h = go (f.trace.hops == MAX_HOPS)
   where
-    go : (b : Bool) → IsLightHeard (if b then record { receiver = r; whole = None; refused = 1 } else heard_by now r f)
+    go : (b : Bool) → IsLightHeard (if b then record { receiver = r; whole = None; refused = 1 } else frame_read now r f)
     go true = record { receiver = h; whole = tt }
     go false = heard_by_light now r f h
 
@@ -165,7 +165,7 @@ kept_iface (item.Frame f) s light h = record { mtu = h.mtu; back = h.back; sendi
 kept_iface (item.Packet mark b) s light h = h
 kept_iface (item.Note n) s light h = h
 
-told_by_light : (s : PlainIface) (now : ℕ) (p : IfacePlan) (a : AnswerShown) → IfSome (item_in a) (λ i. item_bytes i ≤ 531) → IfSome (buffer_in a) IsLight → IsLightIface s → IsLightIface (telling.told_by s now p a).iface
+told_by_light : (s : PlainIface) (now : ℕ) (p : IfacePlan) (a : AnswerShown) → IfSome (item_in a) (λ i. item_bytes i ≤ 531) → IfSome (buffer_in a) IsLight → IsLightIface s → IsLightIface (telling.after_answer s now p a).iface
 told_by_light s now plan.Return answer.Given items buffers h = h
 told_by_light s now plan.Return (answer.PoolFull b) items buffers h = record { mtu = h.mtu; back = buffers; sending = h.sending; frames = h.frames; receiver = h.receiver; whole = h.whole; accepted = h.accepted }
 told_by_light s now plan.Deliver answer.Pushed items buffers h = h

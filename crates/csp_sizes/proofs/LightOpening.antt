@@ -26,7 +26,7 @@ use Rattle.csp_sizes.specs.Light.{IsFew, IsLight, IsLightDeck, IsLightParty, IsS
 use Rattle.csp_sizes.specs.Worlds.{IsLightWorld}
 use Rattle.csp_stack.specs.Config.{opening_state}
 use Rattle.csp_stack.specs.Router.{Facts}
-use Rattle.csp_topology.specs.Parties.{PlainOpening, parties_of, config_of, leader_by}
+use Rattle.csp_topology.specs.Parties.{PlainOpening, parties_of, config_of, leader_opening}
 use Rattle.csp_topology.specs.Plan.{PlainNodePlan, plans_from}
 use Rattle.csp_world.specs.Opening.{deck_of, new_member, opening}
 use Rattle.csp_world.specs.World.{PlainMember}
@@ -71,7 +71,7 @@ relay = node (codes "relay") 2 0 (merged no_rows relay_table) []
 abbrev payload : ℕ → PlainNode
 payload packets = node (codes "payload") 3 0 (merged no_rows (all_to 0)) (cam (binding ∷ step.Recv 0 packets None ∷ []))
 
-hub_opened : (place addr : ℕ) (n : PlainNode) (links : List PlainLink) → n.options.window ≤ 20 → length n.name ≤ 20 → IsOpening (leader_by (Some addr) place n links)
+hub_opened : (place addr : ℕ) (n : PlainNode) (links : List PlainLink) → n.options.window ≤ 20 → length n.name ≤ 20 → IsOpening (leader_opening (Some addr) place n links)
 hub_opened place addr n links window name = router_opened (config_of place addr n links).facts (config_of place addr n links).routes window name
 
 parties_opened : (packets : ℕ) (plan : List Fault) → AllByRecursion IsOpening (parties_of (gen_scene packets plan))

@@ -20,7 +20,7 @@ use Rattle.csp_cmp.specs.declared.request.CmpRequest.{CmpRequest}
 use Rattle.csp_ports.proofs.Public.{all_or}
 use Rattle.csp_route.specs.Routes.{key_of, with_row}
 use Rattle.csp_route.specs.declared.row.Row.{Row}
-use Rattle.csp_service.specs.Answers.{outcome, overwritten, refused, replied, with_routes, with_services, Outcome, answered, has_no_room, iface_of, peeked, poked, requested, rebooted, routed, row_asked, served_by, told_stats}
+use Rattle.csp_service.specs.Answers.{outcome, overwritten, refused, replied, with_routes, with_services, Outcome, answered, has_no_room, iface_of, peeked, poked, requested, rebooted, routed, row_asked, at_service, told_stats}
 use Rattle.csp_service.specs.Clock.{seconds_of}
 use Rattle.csp_service.specs.Counting.{no_stats}
 use Rattle.csp_service.specs.Facts.{PlainFacts}
@@ -185,7 +185,7 @@ module _ (n : ℕ) (low : 400 ≤ n) (facts : PlainFacts) (name : length facts.n
   requested_short (Ok (Poke addr bytes)) now h = poked_short addr bytes h
   requested_short (Ok (Clock sec nsec)) now h = record { short = omega (arith, low); stats = few }
 
-  served_short : (s : Option Service) (request : List ℕ) (now : ℕ) → length request ≤ n → IsAnswered n (served_by s request facts now)
+  served_short : (s : Option Service) (request : List ℕ) (now : ℕ) → length request ≤ n → IsAnswered n (at_service s request facts now)
   served_short None request now h = refused_short NoService
   served_short (Some service.Cmp) request now h = requested_short (decoded request) now (decoded_small request)
   served_short (Some service.Ping) request now h = record { short = h; stats = few }

@@ -22,7 +22,7 @@ use Rattle.csp_sizes.proofs.LightLinks as links
 use Rattle.csp_sizes.proofs.LightRouters as routers
 use Rattle.csp_sizes.specs.Light.{IsLightAnswer, IsLightOp, IsLightParty}
 use Rattle.csp_sizes.specs.Worlds.{IsLightWorld}
-use Rattle.csp_world.specs.World.{PlainMember, PlainWorld, answered, told, turn, turn_at, turned, turned_by, weight}
+use Rattle.csp_world.specs.World.{PlainMember, PlainWorld, answered, told, turn, turn_at, turned, turned_with, weight}
 
 -- ---- a party
 
@@ -82,7 +82,7 @@ after_none : (n : ℕ) (w : PlainWorld) → IsLightWorld w → IsLightAfter n w 
 after_none n w h = record { members = refl; light = h; weighs = omega arith }
 
 by_light : (w : PlainWorld) (place : ℕ) (m : PlainMember) (x : AnswerShown × List PlainDeck) → slice_get w.members place ≡ Some m → IsLightWorld w → IsLightParty m.party → AreServed (asks m.party w.time) x
-    → IsLightAfter 1 w (turned_by w place m x)
+    → IsLightAfter 1 w (turned_with w place m x)
 by_light w place m x e h own lists =
     let time = w.time in
     let entry = entry_of time (asks m.party time) x.0 (events (asked m.party time) time x.0) in

@@ -9,7 +9,7 @@ use Rattle.csp_scene.specs.Scene.{PlainApp, PlainLink, PlainNode, PlainScene}
 use Rattle.csp_topology.proofs.PartyLemmas.{ifaces_count}
 use Rattle.csp_topology.proofs.Places.{Among, among, get-first, get-second, of_first, of_second}
 use Rattle.csp_topology.specs.Lanes.{leader_of}
-use Rattle.csp_topology.specs.Parties.{PlainOpening, app_at, apps_from, heeded, leader_by, iface_on, ifaces_from, link_at, links_from, parties_at, parties_from, parties_of}
+use Rattle.csp_topology.specs.Parties.{PlainOpening, app_at, apps_from, heeded, leader_opening, iface_on, ifaces_from, link_at, links_from, parties_at, parties_from, parties_of}
 use Rattle.csp_topology.specs.Wired.{is_leader, IsLed, Stands}
 
 -- ---- within a node
@@ -139,13 +139,13 @@ ends scene = length (parties_from 0 scene.nodes scene.links)
 
 -- a party of a scene: a node's router or bridge, its interface on one of its links, its application, or a link
 pub data IsParty (scene : PlainScene) (i : ℕ) (o : PlainOpening) : Type 0 where
-  hub : (node : ℕ) (n : PlainNode) → slice_get scene.nodes node ≡ Some n → i ≡ begins scene node → o ≡ leader_by n.addr node n (links_at node scene.links) → IsParty scene i o
+  hub : (node : ℕ) (n : PlainNode) → slice_get scene.nodes node ≡ Some n → i ≡ begins scene node → o ≡ leader_opening n.addr node n (links_at node scene.links) → IsParty scene i o
   iface : (node k : ℕ) (n : PlainNode) (l : PlainLink) → slice_get scene.nodes node ≡ Some n → slice_get (links_at node scene.links) k ≡ Some l → i ≡ begins scene node + suc k → o ≡ iface_on node k l.kind l.mtu (heeded n.addr l) → IsParty scene i o
   app : (node k : ℕ) (n : PlainNode) (a : PlainApp) → slice_get scene.nodes node ≡ Some n → slice_get n.apps k ≡ Some a → i ≡ begins scene node + suc (length (links_at node scene.links) + k) → o ≡ app_at node k a → IsParty scene i o
   link : (k : ℕ) (l : PlainLink) → slice_get scene.links k ≡ Some l → i ≡ ends scene + k → o ≡ link_at k l → IsParty scene i o
 
 of_place : (scene : PlainScene) (node d i : ℕ) (n : PlainNode) (o : PlainOpening) → slice_get scene.nodes node ≡ Some n → i ≡ begins scene node + d → slice_get (parties_at node n (links_at node scene.links)) d ≡ Some o → IsParty scene i o
-of_place scene node zero i n o there stands e = hub node n there (omega (arith, stands)) (sym (same_Some (leader_by n.addr node n (links_at node scene.links)) o e))
+of_place scene node zero i n o there stands e = hub node n there (omega (arith, stands)) (sym (same_Some (leader_opening n.addr node n (links_at node scene.links)) o e))
 of_place scene node (suc d) i n o there stands e = by (among (ifaces_from node n.addr 0 (links_at node scene.links)) (apps_from node 0 n.apps) d o e) where
   by : Among (ifaces_from node n.addr 0 (links_at node scene.links)) (apps_from node 0 n.apps) d o → IsParty scene i o
   by (of_first f) =
@@ -178,10 +178,10 @@ there_at : (scene : PlainScene) (node d : ℕ) (n : PlainNode) (o : PlainOpening
 unfolding parties_of
 there_at scene node d n o there at = get-first (parties_from 0 scene.nodes scene.links) (links_from 0 scene.links) (begins scene node + d) o (in_node 0 scene.nodes scene.links node d n o there (moved scene.links node (0 + node) d n o (omega arith) at))
 
-pub hub_there : (scene : PlainScene) (node : ℕ) (n : PlainNode) → slice_get scene.nodes node ≡ Some n → IsThere scene (begins scene node) (leader_by n.addr node n (links_at node scene.links))
+pub hub_there : (scene : PlainScene) (node : ℕ) (n : PlainNode) → slice_get scene.nodes node ≡ Some n → IsThere scene (begins scene node) (leader_opening n.addr node n (links_at node scene.links))
 hub_there scene node n there =
     let far : begins scene node ≡ begins scene node + 0 = omega arith in
-    ap (slice_get (parties_of scene)) far ∙ there_at scene node 0 n (leader_by n.addr node n (links_at node scene.links)) there refl
+    ap (slice_get (parties_of scene)) far ∙ there_at scene node 0 n (leader_opening n.addr node n (links_at node scene.links)) there refl
 
 pub iface_there : (scene : PlainScene) (node k : ℕ) (n : PlainNode) (l : PlainLink) → slice_get scene.nodes node ≡ Some n → slice_get (links_at node scene.links) k ≡ Some l → IsThere scene (begins scene node + suc k) (iface_on node k l.kind l.mtu (heeded n.addr l))
 iface_there scene node k n l there on =
@@ -209,7 +209,7 @@ place_of scene (who.Iface node k) = begins scene node + suc k
 place_of scene (who.App node k) = begins scene node + suc (length (links_at node scene.links) + k)
 place_of scene (who.Link k) = ends scene + k
 
-pub hub_named : (addr : Option ℕ) (node : ℕ) (n : PlainNode) (links : List PlainLink) → (leader_by addr node n links).who ≡ leader_of node addr
+pub hub_named : (addr : Option ℕ) (node : ℕ) (n : PlainNode) (links : List PlainLink) → (leader_opening addr node n links).who ≡ leader_of node addr
 hub_named (Some addr) node n links = refl
 hub_named None node n links = refl
 
@@ -222,7 +222,7 @@ named_place scene i o p same at = at ∙ ap (λ (q : PlainOpening). place_of sce
 
 pub stands_so : (scene : PlainScene) (i : ℕ) (o : PlainOpening) → IsParty scene i o → i ≡ place_of scene o.who
 stands_so scene i o (hub node n there at is) =
-    named_place scene i o (leader_by n.addr node n (links_at node scene.links)) is (at ∙ sym (hub_place scene n.addr node) ∙ ap (place_of scene) (sym (hub_named n.addr node n (links_at node scene.links))))
+    named_place scene i o (leader_opening n.addr node n (links_at node scene.links)) is (at ∙ sym (hub_place scene n.addr node) ∙ ap (place_of scene) (sym (hub_named n.addr node n (links_at node scene.links))))
 stands_so scene i o (iface node k n l there on at is) = named_place scene i o (iface_on node k l.kind l.mtu (heeded n.addr l)) is at
 stands_so scene i o (app node k n a there of_it at is) = named_place scene i o (app_at node k a) is at
 stands_so scene i o (link k l there at is) = named_place scene i o (link_at k l) is at
@@ -236,7 +236,7 @@ parties_apart scene i j o p at other same = stands_so scene i o (party_at scene 
 abbrev pub hub_stands : (scene : PlainScene) (node : ℕ) (n : PlainNode) → slice_get scene.nodes node ≡ Some n → Stands scene (leader_of node n.addr)
 hub_stands scene node n there = record {
   place = begins scene node;
-  party = leader_by n.addr node n (links_at node scene.links);
+  party = leader_opening n.addr node n (links_at node scene.links);
   at = hub_there scene node n there;
   named = hub_named n.addr node n (links_at node scene.links);
 }

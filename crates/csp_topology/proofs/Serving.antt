@@ -29,7 +29,7 @@ use Rattle.csp_topology.proofs.PartyLemmas.{opened_ends}
 use Rattle.csp_topology.proofs.Places.{all_at, get-within}
 use Rattle.csp_topology.proofs.WirePlaces.{down_there, ifaces_of, out_there, rx_there, tx_there, up_there}
 use Rattle.csp_topology.specs.Lanes.{PlainEnd, PlainLane, leader_of, out_lane}
-use Rattle.csp_topology.specs.Parties.{PlainOpening, app_at, heeded, leader_by, hub_with, iface_on, link_party, link_with, parties_of}
+use Rattle.csp_topology.specs.Parties.{PlainOpening, app_at, heeded, leader_opening, hub_with, iface_on, link_party, link_with, parties_of}
 use Rattle.csp_topology.specs.Wired.{IsServed, Side, end_on, getting, inbox_rule, putting}
 use Rattle.csp_topology.specs.Wires.{PlainJoint, down_lane, joint_of, rx_lane, tx_lane, up_lane, wire_at}
 
@@ -72,7 +72,7 @@ module _ (scene : PlainScene) (are : ArePlaced scene) (node : ℕ) (n : PlainNod
   hub_out : (k : ℕ) (r : Rule) → k < length (links_at node scene.links) → r ≡ rule.Lane lane.Out → IsServed scene (leader_of node n.addr) (queue.Out k) r
   hub_out k r low is = by_lane scene node _ (out_lane node (leader_of node n.addr) k) putting r (out_there scene node n there k low) is
 
-  router_served : (addr : ℕ) (q : QueueId) (r : Rule) → uses (leader_by (Some addr) node n (links_at node scene.links)).party q ≡ Some r → IsServed scene (leader_of node n.addr) q r
+  router_served : (addr : ℕ) (q : QueueId) (r : Rule) → uses (leader_opening (Some addr) node n (links_at node scene.links)).party q ≡ Some r → IsServed scene (leader_of node n.addr) q r
   router_served addr queue.Inbox r e = an_inbox scene (leader_of node n.addr) r (hub_inbox n.addr node) e
   router_served addr (queue.Up k) r e = let (low, is) = within r (rule.Lane lane.Up) k (length n.apps) _ refl e in hub_up k r low is
   router_served addr (queue.Down k) r e = let (low, is) = within r (rule.Lane lane.Down) k (length n.apps) _ refl e in hub_down k r low is
@@ -83,7 +83,7 @@ module _ (scene : PlainScene) (are : ArePlaced scene) (node : ℕ) (n : PlainNod
   router_served addr (queue.Tx k) r e = absurd cc
   router_served addr (queue.Rx k) r e = absurd cc
 
-  bridge_served : length (links_at node scene.links) ≡ BRIDGE_LINKS → (q : QueueId) (r : Rule) → uses (leader_by None node n (links_at node scene.links)).party q ≡ Some r → IsServed scene (leader_of node n.addr) q r
+  bridge_served : length (links_at node scene.links) ≡ BRIDGE_LINKS → (q : QueueId) (r : Rule) → uses (leader_opening None node n (links_at node scene.links)).party q ≡ Some r → IsServed scene (leader_of node n.addr) q r
   bridge_served two queue.Inbox r e = an_inbox scene (leader_of node n.addr) r (hub_inbox n.addr node) e
   bridge_served two (queue.Out k) r e =
       let (low, is) = if_within r (rule.Lane lane.Out) k 2 _ refl e in
@@ -93,7 +93,7 @@ module _ (scene : PlainScene) (are : ArePlaced scene) (node : ℕ) (n : PlainNod
   bridge_served two (queue.Tx k) r e = absurd cc
   bridge_served two (queue.Rx k) r e = absurd cc
 
-  hub_served : (addr : Option ℕ) → (addr ≡ None → length (links_at node scene.links) ≡ BRIDGE_LINKS) → (q : QueueId) (r : Rule) → uses (leader_by addr node n (links_at node scene.links)).party q ≡ Some r → IsServed scene (leader_of node n.addr) q r
+  hub_served : (addr : Option ℕ) → (addr ≡ None → length (links_at node scene.links) ≡ BRIDGE_LINKS) → (q : QueueId) (r : Rule) → uses (leader_opening addr node n (links_at node scene.links)).party q ≡ Some r → IsServed scene (leader_of node n.addr) q r
   hub_served (Some addr) two q r e = router_served addr q r e
   hub_served None two q r e = bridge_served (two refl) q r e
 
@@ -255,7 +255,7 @@ all_served scene is are i o at = served scene is are i o (party_at scene i o at)
 abbrev UsesInbox : PlainOpening → Type 0
 UsesInbox o = uses o.party queue.Inbox ≡ inbox_rule o.who
 
-hub_uses : (addr : Option ℕ) (node : ℕ) (n : PlainNode) (links : List PlainLink) → UsesInbox (leader_by addr node n links)
+hub_uses : (addr : Option ℕ) (node : ℕ) (n : PlainNode) (links : List PlainLink) → UsesInbox (leader_opening addr node n links)
 hub_uses (Some addr) node n links = refl
 hub_uses None node n links = refl
 

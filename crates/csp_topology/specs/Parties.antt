@@ -46,9 +46,9 @@ abbrev pub bridge_at : ℕ → PlainOpening
 bridge_at place = opens (who.Bridge place) (a_bridge bridge.opening)
 
 -- the router of a node, or the bridge that stands in its place: a bridge has no address
-abbrev pub leader_by : Option ℕ → ℕ → PlainNode → List PlainLink → PlainOpening
-leader_by (Some addr) place n links = opens (who.Router place) (router_for (config_of place addr n links))
-leader_by None place n links = bridge_at place
+abbrev pub leader_opening : Option ℕ → ℕ → PlainNode → List PlainLink → PlainOpening
+leader_opening (Some addr) place n links = opens (who.Router place) (router_for (config_of place addr n links))
+leader_opening None place n links = bridge_at place
 
 -- an interface of this number of a node at its opening, on a link of this kind whose packets have payloads of at most so many bytes; on a hub it
 -- heeds its node's address
@@ -83,7 +83,7 @@ apps_from place number (a ∷ apps) = app_at place number a ∷ apps_from place 
 
 -- the parties of a node on these links: its router or bridge, its interfaces in the order of the links, its applications
 abbrev pub parties_at : ℕ → PlainNode → List PlainLink → List PlainOpening
-parties_at place n links = leader_by n.addr place n links ∷ (ifaces_from place n.addr 0 links ++ apps_from place 0 n.apps)
+parties_at place n links = leader_opening n.addr place n links ∷ (ifaces_from place n.addr 0 links ++ apps_from place 0 n.apps)
 
 -- the parties of these nodes, from this place on
 abbrev pub parties_from : ℕ → List PlainNode → List PlainLink → List PlainOpening

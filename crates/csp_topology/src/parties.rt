@@ -6,7 +6,7 @@ ghost use Rattle.csp_scene.specs.Links.{links_at};
 ghost use Rattle.csp_scene.specs.Ranges.{HasEnds, IsApp, IsJoined, IsLink, IsNode, IsPlanned};
 ghost use Rattle.csp_scene.specs.Scene.{PlainNode};
 ghost use Rattle.csp_topology.specs.Opening.{CanOpen, FitsBuffers, opening_of};
-ghost use Rattle.csp_topology.specs.Parties.{app_at, apps_from, config_of, heeded, leader_by, ifaces_from, link_at, links_from, parties_at, parties_from};
+ghost use Rattle.csp_topology.specs.Parties.{app_at, apps_from, config_of, heeded, leader_opening, ifaces_from, link_at, links_from, parties_at, parties_from};
 
 use crate::links::names_at;
 use crate::opening::Opening;
@@ -67,7 +67,7 @@ fn leader_of(place: u8, node: &SceneNode, links: &[SceneLink]) -> Opening
     requires node { IsNode node.now }
     requires joined { IsJoined links.now place node.now }
     requires few_links { length links.now ≤ MAX_LINKS }
-    ensures party { opening_of result ≡ leader_by node.now.addr place node.now (links_at place links.now) }
+    ensures party { opening_of result ≡ leader_opening node.now.addr place node.now (links_at place links.now) }
     ensures ready { CanOpen result }
 {
     match node.addr {

@@ -30,7 +30,7 @@ use Rattle.csp_world.specs.Inside.{IsFit}
 use Rattle.csp_world.specs.Looking.{AreEmpty, look_entry, look_entries, MakesOf}
 use Rattle.csp_world.specs.Schedule.{turns}
 use Rattle.csp_world.specs.declared.member.Member.{Member}
-use Rattle.csp_world.specs.World.{PlainMember, PlainWorld, answered, turned, turned_by, turn}
+use Rattle.csp_world.specs.World.{PlainMember, PlainWorld, answered, turned, turned_with, turn}
 use Rattle.csp_world.proofs.HolderLemmas.{Moves}
 use Rattle.csp_world.proofs.ScheduleLemmas.{first_turn, none_left, turns_both, turns_done}
 use Rattle.csp_nodes.proofs.Public.{set_here, set_same, set_twice}
@@ -69,7 +69,7 @@ look_turn w place who p es q at goes pops none empty =
     let answers : answered w.decks w.links w.time m ≡ (answer.Empty, w.decks) = ap (answer_in w.decks w.links who) pops ∙ empty in
     turn_known w place m at
     ∙ ap (λ (b : Bool). if b then w else turned w place m) goes
-    ∙ ap (turned_by w place m) answers
+    ∙ ap (turned_with w place m) answers
     ∙ ap (λ (o : OpShown). with_member w place (record { who = who; party = s; entries = es ++ entry_of w.time o answer.Empty (events (asked (plain p) w.time) w.time answer.Empty) ∷ [] })) pops
     ∙ ap (λ (told : List Event). with_member w place (record { who = who; party = s; entries = es ++ entry_of w.time (op.Pop q) answer.Empty told ∷ [] })) none
     ∙ ap (λ (t : PlainParty). with_member w place (record { who = who; party = t; entries = es ++ look_entry w.time q ∷ [] })) (sym (plain_told p w.time answer.Empty))

@@ -28,7 +28,7 @@ use Rattle.csp_scene.specs.Links.{links_at}
 use Rattle.csp_scene.specs.Ranges.{IsScene}
 use Rattle.csp_scene.specs.Scene.{PlainApp, PlainNode, PlainLink, PlainScene}
 use Rattle.csp_scene.specs.declared.limits.TheConstants.{BRIDGE_LINKS}
-use Rattle.csp_topology.specs.Parties.{PlainOpening, app_with, apps_from, bridge_at, config_of, heeded, leader_by, iface_on, iface_opening, ifaces_from, link_at, links_from, opens, parties_at, parties_from, parties_of, router_for}
+use Rattle.csp_topology.specs.Parties.{PlainOpening, app_with, apps_from, bridge_at, config_of, heeded, leader_opening, iface_on, iface_opening, ifaces_from, link_at, links_from, opens, parties_at, parties_from, parties_of, router_for}
 use Rattle.csp_topology.specs.Plan.{plans_from}
 use Rattle.csp_world.proofs.OpeningRules.{Stands, up_rule, down_rule, out_rule, tx_rule, rx_rule}
 use Rattle.csp_world.proofs.OpeningScene.{all_join, deck_there}
@@ -125,7 +125,7 @@ bridge_new stands w place n links at two = record {
   home = λ node e. within_at w.decks place (opened_deck n links) at node e;
 }
 
-hub_new : Stands → (w : PlainWorld) (addr : Option ℕ) (place : ℕ) (n : PlainNode) (links : List PlainLink) → slice_get w.decks place ≡ Some (opened_deck n links) → (addr ≡ None → length links ≡ BRIDGE_LINKS) → IsNew w.decks w.links (leader_by addr place n links)
+hub_new : Stands → (w : PlainWorld) (addr : Option ℕ) (place : ℕ) (n : PlainNode) (links : List PlainLink) → slice_get w.decks place ≡ Some (opened_deck n links) → (addr ≡ None → length links ≡ BRIDGE_LINKS) → IsNew w.decks w.links (leader_opening addr place n links)
 hub_new stands w (Some addr) place n links at two = router_new stands w place addr n links at
 hub_new stands w None place n links at two = bridge_new stands w place n links at (two refl)
 

@@ -7,7 +7,7 @@ use Rattle.csp_scene.specs.declared.scenario.Move.{Move}
 use Rattle.csp_scene.specs.declared.scenario.Move.TheVariants as move
 use Rattle.csp_world.specs.Opening.{opening}
 use Rattle.csp_world.specs.Reached.{IsReached, a_tick, a_turn}
-use Rattle.csp_world.specs.Schedule.{checked, moved, moves, next_order, places_in, round, rounds, run, run_by, run_moves, run_rounds, turns}
+use Rattle.csp_world.specs.Schedule.{checked, moved, moves, next_order, places_in, round, rounds, run, run_as, run_moves, run_rounds, turns}
 use Rattle.csp_world.specs.World.{PlainWorld, finished, tick, turn, weight}
 use Rattle.csp_world.specs.declared.limits.TheConstants.{MAX_ENTRIES}
 use Rattle.csp_world.specs.declared.rounds.Order.{Order}
@@ -69,7 +69,7 @@ reached_run_moves : (scene : PlainScene) (w v : PlainWorld) → IsReached scene 
 unfolding run_moves
 reached_run_moves scene w v r e = reached_checked scene w v (Some w) r (λ g. subst (IsReached scene) (same_Some w v g) r) e
 
-reached_by : (scene : PlainScene) (s : PlainSchedule) (most : ℕ) (w v : PlainWorld) → IsReached scene w → run_by s most w ≡ Some v → IsReached scene v
+reached_by : (scene : PlainScene) (s : PlainSchedule) (most : ℕ) (w v : PlainWorld) → IsReached scene w → run_as s most w ≡ Some v → IsReached scene v
 reached_by scene in_rounds most w v r e = reached_run_rounds scene most order.ByParty w v r e
 reached_by scene (shuffled seed) most w v r e = reached_run_rounds scene most (order.ByDraw seed) w v r e
 reached_by scene (stepwise ms) most w v r e = reached_run_moves scene (moves w ms) v (reached_moves scene ms w r) e

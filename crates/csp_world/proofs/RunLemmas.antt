@@ -14,7 +14,7 @@ use Rattle.csp_world.specs.declared.limits.TheConstants.{MAX_ENTRIES}
 use Rattle.csp_world.specs.declared.rounds.Order.{Order}
 use Rattle.csp_record.specs.Record.{PlainRecord}
 use Rattle.csp_world.specs.Record.{record_of, sim_record}
-use Rattle.csp_world.specs.Schedule.{next_order, round, rounds, run, run_by, run_rounds, run_moves}
+use Rattle.csp_world.specs.Schedule.{next_order, round, rounds, run, run_as, run_rounds, run_moves}
 use Rattle.csp_world.specs.World.{PlainMember, PlainWorld, finished, entries, weight}
 use Rattle.csp_world.specs.Opening.{opening}
 
@@ -115,9 +115,9 @@ moves_over w f few =
     rw (f, at) refl
 
 -- a scene's run is that of its schedule from its opening
-pub run_from : (scene : PlainScene) (w : PlainWorld) → w ≡ opening scene → run scene ≡ run_by scene.schedule scene.until w
+pub run_from : (scene : PlainScene) (w : PlainWorld) → w ≡ opening scene → run scene ≡ run_as scene.schedule scene.until w
 unfolding run
-run_from scene w e = ap (run_by scene.schedule scene.until) (sym e)
+run_from scene w e = ap (run_as scene.schedule scene.until) (sym e)
 
 -- the record of a run's last world
 pub recorded : (scene : PlainScene) (w : PlainWorld) (r : PlainRecord) → run scene ≡ Some w → r ≡ record_of w → sim_record scene ≡ Some r

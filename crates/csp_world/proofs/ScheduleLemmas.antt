@@ -12,7 +12,7 @@ use Rattle.csp_party.specs.Any.{has_ended}
 use Rattle.csp_world.specs.declared.limits.TheConstants.{TURNS_PER_ROUND}
 use Rattle.csp_world.specs.declared.rounds.Order.{Order}
 use Rattle.csp_world.specs.Seen.{log_len}
-use Rattle.csp_world.specs.World.{PlainMember, PlainWorld, answered, told, turned, turned_by, turn_at, turn, tick, entries}
+use Rattle.csp_world.specs.World.{PlainMember, PlainWorld, answered, told, turned, turned_with, turn_at, turn, tick, entries}
 use Rattle.csp_draw.specs.Draws.{next_draw, drawn}
 use Rattle.csp_world.specs.Schedule.{names, turns, round, drawn_places, draws, places_in}
 
@@ -26,7 +26,7 @@ pub record Steady (w v : PlainWorld) : Type 0 where
 steady_same : (w : PlainWorld) → Steady w w
 steady_same w = record { members = refl; names = refl; time = refl; entries = omega arith }
 
-steady_by : (w : PlainWorld) (place : ℕ) (m : PlainMember) (a : AnswerShown × List PlainDeck) → slice_get w.members place ≡ Some m → Steady w (turned_by w place m a)
+steady_by : (w : PlainWorld) (place : ℕ) (m : PlainMember) (a : AnswerShown × List PlainDeck) → slice_get w.members place ≡ Some m → Steady w (turned_with w place m a)
 steady_by w place m a e =
     let within = slice_get_within w.members place m e in
     let here = get_or_from_slice_get w.members place m m e in

@@ -14,7 +14,7 @@ use Rattle.csp_scene.specs.Ranges.{IsMove, IsParty, IsSchedule, IsScene}
 use Rattle.csp_scene.specs.Scene.{PlainApp, PlainLink, PlainNode, PlainSchedule, PlainScene, in_rounds, shuffled, stepwise, moves_in}
 use Rattle.csp_scene.specs.declared.scenario.Move.{Move}
 use Rattle.csp_scene.specs.declared.scenario.Move.TheVariants as move
-use Rattle.csp_topology.specs.Parties.{PlainOpening, leader_by, ifaces_from, apps_from, links_from, parties_at, parties_from, parties_of}
+use Rattle.csp_topology.specs.Parties.{PlainOpening, leader_opening, ifaces_from, apps_from, links_from, parties_at, parties_from, parties_of}
 use Rattle.csp_world.specs.Opening.{new_member, opening}
 use Rattle.csp_world.specs.Schedule.{IsThere, names, place_named}
 
@@ -64,11 +64,11 @@ app_among : (place : ℕ) (apps : List PlainApp) (number k : ℕ) → number ≤
 app_among place [] number k low high = absurd (omega arith)
 app_among place (a ∷ apps) number k low high = and_found place number k _ (λ ne. app_among place apps (number + 1) k (omega arith) (omega arith))
 
-router_named : (addr : Option ℕ) (place : ℕ) (n : PlainNode) (links : List PlainLink) → addr ≢ None → is_who (who.Router place) (leader_by addr place n links).who ≡ true
+router_named : (addr : Option ℕ) (place : ℕ) (n : PlainNode) (links : List PlainLink) → addr ≢ None → is_who (who.Router place) (leader_opening addr place n links).who ≡ true
 router_named None place n links h = absurd (h refl)
 router_named (Some addr) place n links h = itself place
 
-bridge_named : (addr : Option ℕ) (place : ℕ) (n : PlainNode) (links : List PlainLink) → addr ≡ None → is_who (who.Bridge place) (leader_by addr place n links).who ≡ true
+bridge_named : (addr : Option ℕ) (place : ℕ) (n : PlainNode) (links : List PlainLink) → addr ≡ None → is_who (who.Bridge place) (leader_opening addr place n links).who ≡ true
 bridge_named None place n links h = itself place
 bridge_named (Some addr) place n links h = absurd cc
 

@@ -12,7 +12,7 @@ use Rattle.csp_log.specs.Pictures.{turn_of}
 use Rattle.csp_nodes.specs.DecksAt.{DecksAt}
 use Rattle.csp_party.specs.Any.{has_ended, plain}
 use Rattle.csp_world.specs.Inside.{world_of}
-use Rattle.csp_world.specs.Seen.{plain_member, answer_for, answer_at_place, turn_by}
+use Rattle.csp_world.specs.Seen.{plain_member, answer_for, answer_at_place, turn_told}
 use Rattle.csp_world.specs.SeenWorld.{SeenWorld}
 use Rattle.csp_world.specs.World.{PlainMember, PlainWorld, answered, told, turned, turn_at, turn}
 use Rattle.csp_world.specs.declared.member.Member.{Member}
@@ -89,16 +89,16 @@ went d e items time place old new result w =
     ∙ sym (turn_known (world_of d items time) place (plain_member old) (plain_got items place old w.within w.old_is))
 
 result_by : (d e : DecksAt) (items : List Member) (time place : ℕ) (old new : Member) (result : Turn) (b : Bool) → has_ended (plain old.party) ≡ b → Went d e items time place old new result
-    → result ≡ turn_by (if b then None else Some (answered d.decks d.links time (plain_member old)).0)
+    → result ≡ turn_told (if b then None else Some (answered d.decks d.links time (plain_member old)).0)
 result_by d e items time place old new result true h w = (w.ended h).0
 result_by d e items time place old new result false h w = w.turned h
 
 -- and so is what it came to
 pub came_to : (d e : DecksAt) (items : List Member) (time place : ℕ) (old new : Member) (result : Turn) → Went d e items time place old new result
-    → result ≡ turn_by (answer_at_place (world_of d items time) place)
+    → result ≡ turn_told (answer_at_place (world_of d items time) place)
 came_to d e items time place old new result w =
     result_by d e items time place old new result (has_ended (plain old.party)) refl w
-    ∙ ap turn_by (sym (result_known (world_of d items time) place (plain_member old) (plain_got items place old w.within w.old_is)))
+    ∙ ap turn_told (sym (result_known (world_of d items time) place (plain_member old) (plain_got items place old w.within w.old_is)))
 
 -- the room that a log was given is the room of the party's place
 pub room_made : {E : Type 0} (r : Result (Unit {0}) E) (items : List Member) (spares : List ℕ) (place turns : ℕ) (old new : Member) → place < length items → map spare_of items ≡ spares → old ≡ get_or items place old → OnOk r (new.log.spare ≡ max old.log.spare turns)

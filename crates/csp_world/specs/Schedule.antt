@@ -89,11 +89,11 @@ run_moves after = checked after (Some after)
 
 -- the world at the end of a schedule, and none where its logs reach the entry limit; `steps` does not look at the number
 -- of rounds
-abbrev pub run_by : PlainSchedule → ℕ → PlainWorld → Option PlainWorld
-run_by in_rounds most w = run_rounds most order.ByParty w
-run_by (shuffled seed) most w = run_rounds most (order.ByDraw seed) w
-run_by (stepwise ms) most w = run_moves (moves w ms)
+abbrev pub run_as : PlainSchedule → ℕ → PlainWorld → Option PlainWorld
+run_as in_rounds most w = run_rounds most order.ByParty w
+run_as (shuffled seed) most w = run_rounds most (order.ByDraw seed) w
+run_as (stepwise ms) most w = run_moves (moves w ms)
 
 -- the world at the end of a scene's run
 unfoldable pub run : PlainScene → Option PlainWorld
-run scene = run_by scene.schedule scene.until (opening scene)
+run scene = run_as scene.schedule scene.until (opening scene)

@@ -28,9 +28,9 @@ unfoldable pub answer_at_place : PlainWorld → ℕ → Option AnswerShown
 answer_at_place w place = answer_for w (slice_get w.members place)
 
 -- what a turn comes to, by its answer
-abbrev pub turn_by : Option AnswerShown → Turn
-turn_by None = turn.Ended
-turn_by (Some a) = turn_of a
+abbrev pub turn_told : Option AnswerShown → Turn
+turn_told None = turn.Ended
+turn_told (Some a) = turn_of a
 
 -- how many entries the party's log has
 abbrev pub log_len : Option PlainMember → ℕ

@@ -43,12 +43,12 @@ abbrev pub told : PlainMember → ℕ → AnswerShown → PlainMember
 told m time a = told_for m time (asks m.party time) a
 
 -- the turn of this party
-abbrev pub turned_by : PlainWorld → ℕ → PlainMember → AnswerShown × List PlainDeck → PlainWorld
-turned_by w place m answer = record w { decks = answer.1; members = slice_set w.members place (told m w.time answer.0) }
+abbrev pub turned_with : PlainWorld → ℕ → PlainMember → AnswerShown × List PlainDeck → PlainWorld
+turned_with w place m answer = record w { decks = answer.1; members = slice_set w.members place (told m w.time answer.0) }
 
 -- the world after the turn of a party that has not ended
 abbrev pub turned : PlainWorld → ℕ → PlainMember → PlainWorld
-turned w place m = turned_by w place m (answered w.decks w.links w.time m)
+turned w place m = turned_with w place m (answered w.decks w.links w.time m)
 
 -- the world after the turn of the party at a place, if there is one
 abbrev pub turn_at : PlainWorld → ℕ → Option PlainMember → PlainWorld

@@ -8,7 +8,7 @@ ghost use Rattle.csp_scene.specs.Ranges.{IsScene};
 ghost use Rattle.csp_scene.specs.Scene.{moves_in};
 ghost use Rattle.csp_world.specs.Holders.{counts};
 ghost use Rattle.csp_world.specs.Record.{sim_record};
-ghost use Rattle.csp_world.specs.Schedule.{IsThere, names, run_by, run_moves, run_rounds};
+ghost use Rattle.csp_world.specs.Schedule.{IsThere, names, run_as, run_moves, run_rounds};
 ghost use Rattle.csp_world.specs.Schedule as schedule;
 ghost use Rattle.csp_world.specs.World.{entries};
 
@@ -69,8 +69,8 @@ fn run(world: &mut World, scene: &Scene) -> Result<(), SimError>
     requires few { length (moves_in scene.now.schedule) < 2 ^ 32 - 2 }
     requires start { world.old.plain.time ≡ 0 }
     requires empty { entries world.old.plain ≡ 0 }
-    ensures run { OnOk result (run_by scene.now.schedule scene.now.until world.old.plain ≡ Some world.new.plain) }
-    ensures entries { IsErrOf result SimError.Entries → run_by scene.now.schedule scene.now.until world.old.plain ≡ None }
+    ensures run { OnOk result (run_as scene.now.schedule scene.now.until world.old.plain ≡ Some world.new.plain) }
+    ensures entries { IsErrOf result SimError.Entries → run_as scene.now.schedule scene.now.until world.old.plain ≡ None }
     ensures counts { OnOk result (counts world.new.plain ≡ counts world.old.plain) }
 {
     match &scene.schedule {

@@ -13,7 +13,7 @@ ghost use Rattle.csp_world.specs.Holders.{holders, deck_holders, counts, HasOneH
 ghost use Rattle.csp_world.specs.Reached.{IsReached};
 ghost use Rattle.csp_world.specs.Record.{HasConsistentRecord};
 ghost use Rattle.csp_world.specs.Schedule.{names, place_named, turns};
-ghost use Rattle.csp_world.specs.Seen.{has_number, answer_at_place, turn_by, log_len};
+ghost use Rattle.csp_world.specs.Seen.{has_number, answer_at_place, turn_told, log_len};
 ghost use Rattle.csp_world.specs.World.{turn, tick, finished, weight};
 
 mod closing;
@@ -119,7 +119,7 @@ impl World {
         ensures plain { self.new.plain ≡ turn self.old.plain party }
         ensures reached { (scene : PlainScene) → IsReached scene self.old.plain → IsReached scene self.new.plain }
         ensures consistent { HasConsistentRecord self.new.plain }
-        ensures turn { result ≡ turn_by (answer_at_place self.old.plain party) }
+        ensures turn { result ≡ turn_told (answer_at_place self.old.plain party) }
         ensures spares { slice_index self.old.spares party ≤ slice_index self.new.spares party + 1 }
         ensures others { (k : ℕ) → k ≢ party → slice_index self.new.spares k ≡ slice_index self.old.spares k }
         ensures counts { counts self.new.plain ≡ counts self.old.plain }

@@ -7,7 +7,7 @@ use Rattle.csp_party.specs.Any.{has_ended, plain}
 use Rattle.csp_world.specs.Holders.{IsConserved, counts}
 use Rattle.csp_world.specs.Inside.{world_of}
 use Rattle.csp_world.specs.Reached.{IsReached}
-use Rattle.csp_world.specs.Seen.{plain_member, answer_at_place, turn_by}
+use Rattle.csp_world.specs.Seen.{plain_member, answer_at_place, turn_told}
 use Rattle.csp_world.specs.SeenWorld.{SeenWorld}
 use Rattle.csp_world.specs.World.{PlainMember, turn}
 use Rattle.csp_world.proofs.FitLemmas.{all_grown, all_set, as_many, room_kept}
@@ -81,7 +81,7 @@ pub returns-clause-consistent : goal.returns-clause-consistent
 returns-clause-consistent c = λ scene is after reached. c.is_consistent.ensures scene _ is after reached
 
 pub returns-clause-turn : goal.returns-clause-turn
-returns-clause-turn c = came_to _ _ _ _ _ _ _ _ (did c) ∙ ap (λ (v : SeenWorld). turn_by (answer_at_place v.plain c.args.party)) c.self.view_is
+returns-clause-turn c = came_to _ _ _ _ _ _ _ _ (did c) ∙ ap (λ (v : SeenWorld). turn_told (answer_at_place v.plain c.args.party)) c.self.view_is
 
 pub returns-clause-spares : goal.returns-clause-spares
 returns-clause-spares c =
