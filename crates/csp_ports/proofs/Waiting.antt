@@ -4,6 +4,7 @@ use Rattle.std.specs.Option.{option_map}
 use Rattle.std.specs.Vec.{with_item}
 use Rattle.std.proofs.Common.{◌≡◌, ℕ, zero, suc, ◌<◌, List, [], ◌∷◌, ap, refl, sym, ◌∙◌}
 use Rattle.std.proofs.lemmas.List.{set-get_or}
+use Rattle.csp_base.specs.declared.seat.Seat.{Seat}
 use Rattle.csp_buffer.specs.PlainBuffer.{PlainBuffer}
 use Rattle.csp_conn.specs.PlainConns.{place_of}
 use Rattle.csp_deck.specs.Regions.{nowhere}
@@ -19,23 +20,23 @@ use Rattle.csp_rdp.specs.Machine.{PlainRdp}
 use Rattle.csp_rdp.specs.Placed.{placed}
 
 -- a machine that admits a packet, or does not, in the place of a slot
-admits_by : (p : Inside) (at : PortsAt) (app slot place : ℕ) (s : SlotState) (r new : PlainRdp) (b : PlainBuffer) (time : ℕ) (room : Bool) (answer : Result Unit PlainBuffer) → ports_at p ≡ at → place ≡ place_of app slot → place < 16 → ArePorts p → s ≡ get_or p.slots.items place s → Some r ≡ s.machine
-    → Admits room answer (placed nowhere r) (placed nowhere new) b time → AdmitsIn room answer at (ports_at (record p { slots = with_item p.slots place (record s { machine = Some new }) })) app slot b time
-admits_by p at app slot place s r new b time true answer view e there a value some h =
-    (h.0, machine_stepped p at app slot place s r new (admitting (anywhere b.picture) time) view e there a value some h.1)
-admits_by p at app slot place s r new b time false answer view e there a value some h =
-    let seen = machine_in_place p at app slot place s view e there a value in
-    let own : Some (machine_at at.ports app slot) ≡ (state_at at.ports app slot).machine = ap Some (sym (machine_seen p at app slot place s r view e there a value some)) ∙ (ap (option_map (placed nowhere)) some ∙ seen) in (
+admits_by : (p : Inside) (at : PortsAt) (seat place : ℕ) (s : SlotState) (r new : PlainRdp) (b : PlainBuffer) (time : ℕ) (room : Bool) (answer : Result Unit PlainBuffer) → ports_at p ≡ at → place ≡ place_of seat → place < 16 → ArePorts p → s ≡ get_or p.slots.items place s → Some r ≡ s.machine
+    → Admits room answer (placed nowhere r) (placed nowhere new) b time → AdmitsIn room answer at (ports_at (record p { slots = with_item p.slots place (record s { machine = Some new }) })) seat b time
+admits_by p at seat place s r new b time true answer view e there a value some h =
+    (h.0, machine_stepped p at seat place s r new (admitting (anywhere b.picture) time) view e there a value some h.1)
+admits_by p at seat place s r new b time false answer view e there a value some h =
+    let seen = machine_in_place p at seat place s view e there a value in
+    let own : Some (machine_at at.ports seat) ≡ (state_at at.ports seat).machine = ap Some (sym (machine_seen p at seat place s r view e there a value some)) ∙ (ap (option_map (placed nowhere)) some ∙ seen) in (
       h.0,
-      machine_stepped p at app slot place s r new (λ q. q) view e there a value some h.1
+      machine_stepped p at seat place s r new (λ q. q) view e there a value some h.1
           ∙ ap (λ (ss : List SlotState). with_ports_at at (record at.ports { slots = ss }))
-          (ap (λ (o : Option PlainRdp). slice_set at.ports.slots (place_of app slot) (record (state_at at.ports app slot) { machine = o })) own ∙ set-get_or at.ports.slots (place_of app slot) untouched),
+          (ap (λ (o : Option PlainRdp). slice_set at.ports.slots (place_of seat) (record (state_at at.ports seat) { machine = o })) own ∙ set-get_or at.ports.slots (place_of seat) untouched),
     )
 
-pub admits_in : (p : Inside) (at : PortsAt) (app slot place : ℕ) (s : SlotState) (r new : PlainRdp) (b : PlainBuffer) (time : ℕ) (answer : Result Unit PlainBuffer) → ports_at p ≡ at → place ≡ place_of app slot → place < 16 → ArePorts p → s ≡ get_or p.slots.items place s → Some r ≡ s.machine
-    → Admits (has_room (placed nowhere r)) answer (placed nowhere r) (placed nowhere new) b time → AdmitsIn (has_room (machine_at at.ports app slot)) answer at (ports_at (record p { slots = with_item p.slots place (record s { machine = Some new }) })) app slot b time
-admits_in p at app slot place s r new b time answer view e there a value some h =
-    rw (sym (machine_seen p at app slot place s r view e there a value some)) (admits_by p at app slot place s r new b time (has_room (placed nowhere r)) answer view e there a value some h)
+pub admits_in : (p : Inside) (at : PortsAt) (seat place : ℕ) (s : SlotState) (r new : PlainRdp) (b : PlainBuffer) (time : ℕ) (answer : Result Unit PlainBuffer) → ports_at p ≡ at → place ≡ place_of seat → place < 16 → ArePorts p → s ≡ get_or p.slots.items place s → Some r ≡ s.machine
+    → Admits (has_room (placed nowhere r)) answer (placed nowhere r) (placed nowhere new) b time → AdmitsIn (has_room (machine_at at.ports seat)) answer at (ports_at (record p { slots = with_item p.slots place (record s { machine = Some new }) })) seat b time
+admits_in p at seat place s r new b time answer view e there a value some h =
+    rw (sym (machine_seen p at seat place s r view e there a value some)) (admits_by p at seat place s r new b time (has_room (placed nowhere r)) answer view e there a value some h)
 
 set_set : {X : Type 0} → (xs : List X) (i : ℕ) (a b : X) → slice_set (slice_set xs i a) i b ≡ slice_set xs i b
 set_set [] i a b = refl
@@ -48,9 +49,9 @@ none_set (x ∷ xs) zero = refl
 none_set (x ∷ xs) (suc i) = none_set xs i
 
 -- where it is not admitted none waits
-pub none_left : (old mid new : PortsAt) (app slot : ℕ) (b back : PlainBuffer) (time : ℕ) (room : Bool) → mid ≡ with_ports_at old (with_stalled old.ports app None) → AdmitsIn room (Err back) mid new app slot b time → stalled_at new.ports app ≡ None
-none_left old mid new app slot b back time true e h = absurd cc
-none_left old mid new app slot b back time false e h = ap (λ (x : PortsAt). stalled_at x.ports app) (h.1 ∙ e) ∙ none_set old.ports.stalled app
+pub none_left : (old mid new : PortsAt) (seat : Seat) (b back : PlainBuffer) (time : ℕ) (room : Bool) → mid ≡ with_ports_at old (with_stalled old.ports app None) → AdmitsIn room (Err back) mid new seat b time → stalled_at new.ports app ≡ None
+none_left old mid new seat b back time true e h = absurd cc
+none_left old mid new seat b back time false e h = ap (λ (x : PortsAt). stalled_at x.ports app) (h.1 ∙ e) ∙ none_set old.ports.stalled app
 
 -- and it waits again as it did
 settled_err_by : (old mid out new : PortsAt) (app : ℕ) (s : PlainStalled) (b back : PlainBuffer) (time : ℕ) (room : Bool) → mid ≡ with_ports_at old (with_stalled old.ports app None) → Some s ≡ stalled_at old.ports app → s.buffer ≡ anywhere b.picture → AdmitsIn room (Err back) mid out app s.slot b time

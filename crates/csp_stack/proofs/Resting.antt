@@ -98,13 +98,13 @@ ports_then p q r gone a b = record {
 }
 
 -- a packet of a slot is handed over, once the ports have turned to the slot
-pub delivery_asks : (f : Facts) (inside seen : StateAt) (q p : PlainPorts) (cursor app slot time : ℕ) (b : Content) → inside ≡ seen → IsTimed f seen.state → IsClear seen.state → IsThere seen.state.ports.conns app slot
+pub delivery_asks : (f : Facts) (inside seen : StateAt) (q p : PlainPorts) (cursor seat time : ℕ) (b : Content) → inside ≡ seen → IsTimed f seen.state → IsClear seen.state → IsThere seen.state.ports.conns seat
     → PortsKeep 0 inside.state.ports q [] [] [] → q.conns.apps ≡ inside.state.ports.conns.apps → PortsKeep 0 q p [] (b ∷ []) [] → p.conns.apps ≡ q.conns.apps
-    → IsDelivering (record inside.state { ports = p }) app slot → Asks f seen.state (record inside.state { ports = p; cursor = cursor; doing = plan.Deliver app slot }) time (op.Push (queue.Down app) (item.Packet slot b))
-delivery_asks f inside seen q p cursor app slot time b e timed clear there turned same gone alike delivers =
-    subst (λ (x : StateAt). IsTimed f x.state → IsClear x.state → IsThere x.state.ports.conns app slot → Asks f x.state (record inside.state { ports = p; cursor = cursor; doing = plan.Deliver app slot }) time (op.Push (queue.Down app) (item.Packet slot b))) e
+    → IsDelivering (record inside.state { ports = p }) seat → Asks f seen.state (record inside.state { ports = p; cursor = cursor; doing = plan.Deliver seat }) time (op.Push (queue.Down app) (item.Packet slot b))
+delivery_asks f inside seen q p cursor seat time b e timed clear there turned same gone alike delivers =
+    subst (λ (x : StateAt). IsTimed f x.state → IsClear x.state → IsThere x.state.ports.conns seat → Asks f x.state (record inside.state { ports = p; cursor = cursor; doing = plan.Deliver seat }) time (op.Push (queue.Down app) (item.Packet slot b))) e
     (λ timed clear there.
-    ports_ask f inside.state p cursor (plan.Deliver app slot) time (op.Push (queue.Down app) (item.Packet slot b)) (b ∷ []) timed (ports_then inside.state.ports q p (b ∷ []) turned gone) (alike ∙ same) refl (
+    ports_ask f inside.state p cursor (plan.Deliver seat) time (op.Push (queue.Down app) (item.Packet slot b)) (b ∷ []) timed (ports_then inside.state.ports q p (b ∷ []) turned gone) (alike ∙ same) refl (
       record { trash = clear.trash; out = clear.out; early = clear.early },
       record { of_node = subst (λ (n : ℕ). app < n) (sym (alike ∙ same)) there.of_node; of_app = there.of_app },
       record { is_open = delivers.is_open; is_taken = delivers.is_taken },

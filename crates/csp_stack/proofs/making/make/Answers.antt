@@ -1,4 +1,5 @@
 use Rattle.std.proofs.Common.{rules, ◌≡◌, ℕ, ◌⊎◌, inl, inr, length, refl, sym, ap, ◌∙◌}
+use Rattle.csp_base.specs.declared.seat.Seat.{Seat}
 use Rattle.csp_buffer.specs.Content.{Content}
 use Rattle.csp_conn.specs.PlainConns.{slot_at}
 use Rattle.csp_conn.specs.declared.slot.Slot.{Slot}
@@ -10,15 +11,15 @@ use Rattle.csp_stack.specs.Told.{absorbed, unchanged}
 use Rattle.csp_stack.proofs.making.make.Goals as goal
 
 -- where a slot has no connection the buffer joins the trash
-made_on_none : (x : Slot) → (x ≡ slot.Free) ⊎ (x ≡ slot.Held) → (j : Job) (f : Facts) (s : State) (app number time : ℕ) (b : Content) → made_on x j f s app number time b ≡ absorbed b (unchanged s)
-made_on_none x (inl e) j f s app number time b = rw e refl
-made_on_none x (inr e) j f s app number time b = rw e refl
+made_on_none : (x : Slot) → (x ≡ slot.Free) ⊎ (x ≡ slot.Held) → (j : Job) (f : Facts) (s : State) (seat : Seat) (time : ℕ) (b : Content) → made_on x j f s seat time b ≡ absorbed b (unchanged s)
+made_on_none x (inl e) j f s seat time b = rw e refl
+made_on_none x (inr e) j f s seat time b = rw e refl
 
 pub returns-in-Free-clause-told : goal.returns-in-Free-clause-told
 returns-in-Free-clause-told c =
-    let has = ap (λ (s : StateAt). slot_at s.state.ports.conns c.args.app c.args.slot) (sym c.state.view_is) ∙ sym c.slot.ensures in
+    let has = ap (λ (s : StateAt). slot_at s.state.ports.conns c.args.seat) (sym c.state.view_is) ∙ sym c.slot.ensures in
     let told = c.absorb.ensures.told in
-    rw (has, made_on_none c.slot.result c.in-Free.is c.args.job c.args.facts.now c.args.state.now.state c.args.app c.args.slot c.args.now c.args.buffer.picture)
+    rw (has, made_on_none c.slot.result c.in-Free.is c.args.job c.args.facts.now c.args.state.now.state c.args.seat c.args.now c.args.buffer.picture)
     (record { state = told.state; region = told.region; events = search rules })
 
 pub returns-in-Free-clause-sendable : goal.returns-in-Free-clause-sendable
@@ -29,7 +30,7 @@ returns-in-Free-clause-keeps c = c.absorb.ensures.keeps (length c.args.facts.now
 
 pub returns-in-Open-clause-told : goal.returns-in-Open-clause-told
 returns-in-Open-clause-told c =
-    let has = ap (λ (s : StateAt). slot_at s.state.ports.conns c.args.app c.args.slot) (sym c.state.view_is) ∙ sym c.slot.ensures ∙ c.in-Open.is in
+    let has = ap (λ (s : StateAt). slot_at s.state.ports.conns c.args.seat) (sym c.state.view_is) ∙ sym c.slot.ensures ∙ c.in-Open.is in
     rw has c.fill.ensures.told
 
 pub returns-in-Open-clause-sendable : goal.returns-in-Open-clause-sendable
