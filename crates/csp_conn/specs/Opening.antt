@@ -41,7 +41,7 @@ opened c s connection from = gone_on (with_slot c s (Open connection)) connectio
 abbrev pub first_free : PlainConns → (app : ℕ) → Option ℕ
 first_free c app = position is_free (slots_of c app)
 
--- its seat
+-- the seat of that slot
 abbrev pub free_seat : PlainConns → (app : ℕ) → Option Seat
 free_seat c app = option_map (seat app) (first_free c app)
 

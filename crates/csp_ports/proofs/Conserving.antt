@@ -4,10 +4,11 @@ use Rattle.std.specs.List.{range_with_len}
 use Rattle.std.proofs.Common.{◌≡◌, ℕ, zero, suc, ◌+◌, ◌*◌, ◌/◌, ◌%◌, ◌<◌, ◌≤◌, List, [], ◌∷◌, ◌++◌, refl, arith, ap, subst, sym, ◌∙◌}
 use Rattle.std.proofs.lemmas.List.{length-set}
 use Rattle.std.proofs.lemmas.List.Elements.{All-set}
+use Rattle.csp_base.specs.Seat.{seat}
 use Rattle.csp_base.specs.declared.seat.Seat.{Seat}
 use Rattle.csp_buffer.specs.Content.{Content}
 use Rattle.csp_buffer.specs.PlainBuffer.{PlainBuffer}
-use Rattle.csp_conn.specs.PlainConns.{place_of, with_slot}
+use Rattle.csp_conn.specs.PlainConns.{place_of, seat_of, with_slot}
 use Rattle.csp_base.specs.declared.limits.TheConstants.{SLOTS}
 use Rattle.csp_conn.specs.declared.slot.Slot.TheVariants.{Free}
 use Rattle.csp_ports.proofs.Counting.{all_or, far_at, far_changed, far_closed, far_connected, far_idle, far_terms}
@@ -159,11 +160,11 @@ flows_admitted p time seat b there h =
 settled_there : (p : PlainPorts) (app : ℕ) (s : PlainStalled) → stalled_at p app ≡ Some s → AreWhole p → s.slot < SLOTS
 settled_there p app s e h = subst (λ (w : Option PlainStalled). IfSome w (λ t. t.slot < SLOTS)) e (all_or (λ (w : Option PlainStalled). IfSome w (λ t. t.slot < SLOTS)) p.stalled app None h.waits tt)
 
-flows_unstalled_admitted : (time app : ℕ) (s : PlainStalled) (p : PlainPorts) → stalled_at p app ≡ Some s → app < 4 → AreWhole p → Flows 1 p (admitted time app s.slot s.buffer (with_stalled p app None)) [] []
+flows_unstalled_admitted : (time app : ℕ) (s : PlainStalled) (p : PlainPorts) → stalled_at p app ≡ Some s → app < 4 → AreWhole p → Flows 1 p (admitted time (seat app s.slot) s.buffer (with_stalled p app None)) [] []
 flows_unstalled_admitted time app s p e there h =
     let first = flows_unstalled p app s e there h in
     let q = with_stalled p app None in
-    let last = flows_admitted q time app s.slot s.buffer (omega (arith, there, settled_there p app s e h)) first.whole in
+    let last = flows_admitted q time (seat app s.slot) s.buffer (omega (arith, there, settled_there p app s e h)) first.whole in
     record {
       counts = λ o. omega (arith, first.counts o, last.counts o, tally_none o);
       far = λ n k. last.far n (far_later (n + 0) n q (omega arith) (first.far n k));

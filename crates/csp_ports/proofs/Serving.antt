@@ -1,10 +1,11 @@
 -- what comes of packets, tasks, and what applications ask: that it neither loses a buffer nor counts further than it may
-use Rattle.std.specs.Prelude.{Bool, true, false, MatchOption, None, Option, Some}
+use Rattle.std.specs.Prelude.{Bool, true, false, cond, MatchOption, None, Option, Some, unwrap_or}
 use Rattle.std.specs.List.{All, flat_map}
 use Rattle.std.specs.Option.{IsSome, option_map, option_to_list}
 use Rattle.std.proofs.Common.{◌≡◌, ℕ, ◌+◌, ◌<◌, ◌≤◌, List, [], ◌∷◌, ◌++◌, length, map, refl, arith, ap, subst, sym, ◌∙◌}
 use Rattle.std.proofs.lemmas.List.{append_assoc}
 use Rattle.std.proofs.lemmas.List.Elements.{All-cons, All-head, All-tail}
+use Rattle.csp_base.specs.Seat.{seat}
 use Rattle.csp_base.specs.declared.seat.Seat.{Seat}
 use Rattle.csp_base.specs.declared.priority.Prio.{Prio}
 use Rattle.csp_buffer.specs.Content.{Content}
@@ -13,10 +14,10 @@ use Rattle.csp_conn.specs.Opening.{gone_on, is_refused, own_port_of}
 use Rattle.csp_conn.specs.PlainConns.{PlainConns, place_of, slot_at, with_slot}
 use Rattle.csp_conn.specs.Slots.{between, is_free}
 use Rattle.csp_conn.specs.declared.slot.Connection.{Connection}
-use Rattle.csp_conn.specs.declared.slot.Slot.{Slot}
-use Rattle.csp_conn.specs.declared.slot.Slot.TheVariants.{Free, Held, Open as Opened}
+use Rattle.csp_conn.specs.declared.slot.Slot.TheVariants.{Open as Opened}
 use Rattle.csp_log.specs.declared.note.Note.{Note}
 use Rattle.csp_log.specs.declared.note.Note.TheVariants as note
+use Rattle.csp_log.specs.declared.note.Why.{Why}
 use Rattle.csp_log.specs.declared.note.Why.TheVariants as why
 use Rattle.csp_ports.proofs.Conserving.{flows_admitted, flows_dropped, flows_freed_next, flows_none, flows_replaced, flows_settled, flows_stalled, flows_went, no_further}
 use Rattle.csp_ports.proofs.Counting.{far_at, far_terms}
@@ -25,7 +26,7 @@ use Rattle.csp_ports.proofs.Holding.{terms-without}
 use Rattle.csp_ports.proofs.Slots.{held_terms, machine_none, machine_now, machines_of_terms, taken_machine}
 use Rattle.csp_ports.proofs.Weighing.{tally, tally_append, tally_none, tally_same, weigh, weigh_append, weight}
 use Rattle.csp_ports.proofs.Wholes.{closed_whole, sent_whole}
-use Rattle.csp_ports.specs.Asking.{answered, answered_by, close_by, connect, connect_by, ending_in, freed_by, held_by, is_reliable, joined, linked}
+use Rattle.csp_ports.specs.Asking.{answered, answered_by, asking, close_by, connect, ending_in, freed_by, held_by, is_reliable, joined, linked, plain, unjoined}
 use Rattle.csp_ports.specs.Came.{Came, come, pictures, reporting, then}
 use Rattle.csp_ports.specs.Counts.{AreFar}
 use Rattle.csp_ports.specs.Held.{emptied, emptied_by, first_out, held, slot_buffers, stalled_buffers, without_held}
@@ -127,7 +128,7 @@ keeps_accepted p seat c prio flags =
     keeps_same 0 p q (held_terms taken seat t) (no_further p q (λ n k. far_terms n taken seat t (far_at n p seat k) (record { machines = k.machines; made = k.made; ends = k.ends })))
 
 -- a packet is delivered
-pub flows_delivered : (p : PlainPorts) (time : ℕ) (seat : Seat) → app < 4 → place_of seat < 16 → AreWhole p → (machine_at p seat).state ≡ Open → is_kept (machine_at p seat).recv ((machine_at p seat).recv.cur + 1) ≡ false
+pub flows_delivered : (p : PlainPorts) (time : ℕ) (seat : Seat) → seat.app < 4 → place_of seat < 16 → AreWhole p → (machine_at p seat).state ≡ Open → is_kept (machine_at p seat).recv ((machine_at p seat).recv.cur + 1) ≡ false
     → Flows 1 p (delivered time seat p).ports (delivered time seat p).loose []
 flows_delivered p time seat few there h opened none =
     let r = machine_at p seat in
@@ -136,7 +137,7 @@ flows_delivered p time seat few there h opened none =
     flows_went 1 p seat r.state machine_why.Reset (delivering time r) [] [] there h (whole-delivered time r opened none (whole_at p seat h)) (λ n far. far-delivered n time r far)
     (λ o. omega (arith, tally_none o, ap (tally o) (numbers-delivered r.reset_at time (record r { recv = confirmed r.recv; owed = one_more_delivered time r.owed }))))
     in
-    flows_then 1 0 1 p one.ports (dropped app one.ports).ports one.loose (dropped app one.ports).loose [] (omega arith) first (flows_dropped app one.ports few first.whole)
+    flows_then 1 0 1 p one.ports (dropped seat.app one.ports).ports one.loose (dropped seat.app one.ports).loose [] (omega arith) first (flows_dropped seat.app one.ports few first.whole)
 
 -- ---- packets
 
@@ -155,19 +156,19 @@ handing_by has p seat head b time =
     reporting (handing_event r b.trace.tag)
     (then (back_by (back_of (row_of r head b.payload) (anywhere b)) (is_stray (row_of r head b.payload)) p) (λ p.
     then (where_machine has (went r.state machine_why.Reset seat (after_packet head b.trace.tag (anywhere b) time r)) p) (λ p.
-    then (dropped app p) (λ p.
-    come (settled time app p)))))
+    then (dropped seat.app p) (λ p.
+    come (settled time seat.app p)))))
 
-handed_by : (has : Bool) (p : PlainPorts) (seat : Seat) (head : RdpHead) (b : Content) (time : ℕ) → has_machine p seat ≡ has → app < 4 → place_of seat < 16 → AreWhole p → Flows 1 p (handing_by has p seat head b time).ports (handing_by has p seat head b time).loose (b.number ∷ [])
+handed_by : (has : Bool) (p : PlainPorts) (seat : Seat) (head : RdpHead) (b : Content) (time : ℕ) → has_machine p seat ≡ has → seat.app < 4 → place_of seat < 16 → AreWhole p → Flows 1 p (handing_by has p seat head b time).ports (handing_by has p seat head b time).loose (b.number ∷ [])
 -- a slot without a machine has no use for it
 handed_by false p seat head b time none few there h =
     let r = machine_at p seat in
     let back = pictures (option_to_list (back_of (row_of r head b.payload) (anywhere b))) in
     let is : back ≡ b ∷ [] = ap (λ (q : PlainRdp). pictures (option_to_list (back_of (row_of q head b.payload) (anywhere b)))) (machine_none p seat none) in
-    let two = dropped app p in
-    let last = settled time app two.ports in
-    let second = flows_then 0 0 0 p p two.ports (b ∷ []) two.loose (b.number ∷ []) (omega arith) (flows_lost 0 p b h) (flows_dropped app p few h) in
-    let third = flows_then 0 1 1 p two.ports last ((b ∷ []) ++ two.loose) [] (b.number ∷ []) (omega arith) second (flows_settled time app two.ports few second.whole) in
+    let two = dropped seat.app p in
+    let last = settled time seat.app two.ports in
+    let second = flows_then 0 0 0 p p two.ports (b ∷ []) two.loose (b.number ∷ []) (omega arith) (flows_lost 0 p b h) (flows_dropped seat.app p few h) in
+    let third = flows_then 0 1 1 p two.ports last ((b ∷ []) ++ two.loose) [] (b.number ∷ []) (omega arith) second (flows_settled time seat.app two.ports few second.whole) in
     subst (λ (cs : List Content). Flows 1 p last (cs ++ (two.loose ++ [])) (b.number ∷ [])) (sym is)
     (subst (λ (cs : List Content). Flows 1 p last cs (b.number ∷ [])) (append_assoc (b ∷ []) two.loose []) third)
 handed_by true p seat head b time some few there h =
@@ -179,8 +180,8 @@ handed_by true p seat head b time some few there h =
     let one = went r.state machine_why.Reset seat new p in
     let q = with_machine p seat (rested new) in
     let also = (changed (change_between r.state new.state machine_why.Reset) seat q).loose in
-    let two = dropped app one.ports in
-    let last = settled time app two.ports in
+    let two = dropped seat.app one.ports in
+    let last = settled time seat.app two.ports in
     let first =
     flows_went 0 p seat r.state machine_why.Reset new back (b.number ∷ []) there h (whole-handed row head b.trace.tag (anywhere b) time r refl whole) (λ n far. machine_later n (n + 0) new (omega arith) (far-after n row head b.trace.tag (anywhere b) time r far))
     (λ o. omega (
@@ -191,8 +192,8 @@ handed_by true p seat head b time some few there h =
       back_tally o (back_of row (anywhere b)),
     ))
     in
-    let second = flows_then 0 0 0 p one.ports two.ports ((back ++ pictures (unneeded new)) ++ also) two.loose (b.number ∷ []) (omega arith) first (flows_dropped app one.ports few first.whole) in
-    let third = flows_then 0 1 1 p two.ports last (((back ++ pictures (unneeded new)) ++ also) ++ two.loose) [] (b.number ∷ []) (omega arith) second (flows_settled time app two.ports few second.whole) in
+    let second = flows_then 0 0 0 p one.ports two.ports ((back ++ pictures (unneeded new)) ++ also) two.loose (b.number ∷ []) (omega arith) first (flows_dropped seat.app one.ports few first.whole) in
+    let third = flows_then 0 1 1 p two.ports last (((back ++ pictures (unneeded new)) ++ also) ++ two.loose) [] (b.number ∷ []) (omega arith) second (flows_settled time seat.app two.ports few second.whole) in
     let same : (((back ++ pictures (unneeded new)) ++ also) ++ two.loose) ++ [] ≡ back ++ ((pictures (unneeded new) ++ also) ++ (two.loose ++ [])) =
     append_assoc ((back ++ pictures (unneeded new)) ++ also) two.loose []
     ∙ (ap (λ (cs : List Content). cs ++ (two.loose ++ [])) (append_assoc back (pictures (unneeded new)) also)
@@ -201,18 +202,18 @@ handed_by true p seat head b time some few there h =
     subst (λ (cs : List Content). Flows 1 p last cs (b.number ∷ [])) same third
 
 -- one is handed to a machine
-pub flows_handed : (p : PlainPorts) (seat : Seat) (head : RdpHead) (b : Content) (time : ℕ) → app < 4 → place_of seat < 16 → AreWhole p → Flows 1 p (handing p seat head b time).ports (handing p seat head b time).loose (b.number ∷ [])
+pub flows_handed : (p : PlainPorts) (seat : Seat) (head : RdpHead) (b : Content) (time : ℕ) → seat.app < 4 → place_of seat < 16 → AreWhole p → Flows 1 p (handing p seat head b time).ports (handing p seat head b time).loose (b.number ∷ [])
 flows_handed p seat head b time few there h = handed_by (has_machine p seat) p seat head b time refl few there h
 
 -- one that an application sends
-flows_admitting : (room : Bool) (p : PlainPorts) (time : ℕ) (seat : Seat) (b : Content) → app < 4 → slot < 4 → AreWhole p → stalled_at p app ≡ None → Flows 1 p (admitting_by room p seat b time) [] (b.number ∷ [])
+flows_admitting : (room : Bool) (p : PlainPorts) (time : ℕ) (seat : Seat) (b : Content) → seat.app < 4 → seat.slot < 4 → AreWhole p → stalled_at p seat.app ≡ None → Flows 1 p (admitting_by room p seat b time) [] (b.number ∷ [])
 flows_admitting true p time seat b few there h none = flows_admitted p time seat (anywhere b) (omega (arith, few, there)) h
 flows_admitting false p time seat b few there h none =
-    let v : Option PlainStalled = Some (record { slot = slot; buffer = anywhere b }) in
-    let one = flows_stalled p app v [] (b.number ∷ []) few h there (λ o. omega (arith, tally_none o, ap (λ (w : Option PlainStalled). weight o (stalled_buffers w)) none)) in
-    record { counts = one.counts; far = λ n k. far_later (n + 0) (n + 1) (with_stalled p app v) (omega arith) (one.far n k); whole = one.whole }
+    let v : Option PlainStalled = Some (record { slot = seat.slot; buffer = anywhere b }) in
+    let one = flows_stalled p seat.app v [] (b.number ∷ []) few h there (λ o. omega (arith, tally_none o, ap (λ (w : Option PlainStalled). weight o (stalled_buffers w)) none)) in
+    record { counts = one.counts; far = λ n k. far_later (n + 0) (n + 1) (with_stalled p seat.app v) (omega arith) (one.far n k); whole = one.whole }
 
-pub flows_submitted : (st : State) (p : PlainPorts) (seat : Seat) (b : Content) (time : ℕ) → app < 4 → slot < 4 → AreWhole p → stalled_at p app ≡ None → Flows 1 p (submitting_in st p seat b time).ports (submitting_in st p seat b time).loose (b.number ∷ [])
+pub flows_submitted : (st : State) (p : PlainPorts) (seat : Seat) (b : Content) (time : ℕ) → seat.app < 4 → seat.slot < 4 → AreWhole p → stalled_at p seat.app ≡ None → Flows 1 p (submitting_in st p seat b time).ports (submitting_in st p seat b time).loose (b.number ∷ [])
 flows_submitted Open p seat b time few there h none = flows_admitting (has_room (machine_at p seat)) p time seat b few there h none
 flows_submitted SynSent p seat b time few there h none = flows_lost 1 p b h
 flows_submitted SynRcvd p seat b time few there h none = flows_lost 1 p b h
@@ -240,34 +241,37 @@ opened_apps own None c = refl
 opened_apps own (Some port) c = refl
 
 -- one that an application asks for
-flows_joined : (reliable : Bool) (o : OwnFlows) (p : PlainPorts) (app : ℕ) (r : Request) (own time : ℕ) → AreWhole p → Flows 1 p (joined reliable o p app r own time).ports (joined reliable o p app r own time).loose []
-flows_joined false o p app r own time h =
-    let q = (joined false o p app r own time).ports in
-    let t : Terms = record (terms_at p app r.slot) { prio = r.prio; flags = r.flags; wish = wish.Nothing; is_down = false } in
-    flows_still 1 p q (opened_apps own r.from (with_slot p.conns app r.slot (Opened (between r.dest r.port own)))) (machines_of_terms p app r.slot t) refl (λ n k. linked_far n 1 p q app r.slot t (machines_of_terms p app r.slot t) refl refl (omega arith) k) h
-flows_joined true o p app r own time h =
-    let q : PlainPorts = record (linked wish.Connection p app r own) { made = p.made + 1 } in
+flows_joined : (o : OwnFlows) (p : PlainPorts) (r : Request) (own time : ℕ) (reliable : Bool) → AreWhole p
+    → let c = cond reliable (asking o r.seat time (linked wish.Connection p r own)) (plain p r own) in Flows 1 p c.ports c.loose []
+flows_joined o p r own time false h =
+    let q = (plain p r own).ports in
+    let t : Terms = record (terms_at p r.seat) { prio = r.prio; flags = r.flags; wish = wish.Nothing; is_down = false } in
+    flows_still 1 p q (opened_apps own r.from (with_slot p.conns r.seat (Opened (between r.dest r.port own)))) (machines_of_terms p r.seat t) refl (λ n k. linked_far n 1 p q r.seat t (machines_of_terms p r.seat t) refl refl (omega arith) k) h
+flows_joined o p r own time true h =
+    let q : PlainPorts = record (linked wish.Connection p r own) { made = p.made + 1 } in
     let machine = connecting (start_of o.seed p.made) o.options o.node p.made time in
-    let t : Terms = record (terms_at p app r.slot) { prio = r.prio; flags = r.flags; wish = wish.Connection; is_down = false } in
-    let first = flows_still 1 p q (opened_apps own r.from (with_slot p.conns app r.slot (Opened (between r.dest r.port own)))) (machines_of_terms p app r.slot t) refl (λ n k. linked_far n 1 p q app r.slot t (machines_of_terms p app r.slot t) refl refl (omega arith) k) h in
-    flows_then 1 0 1 p q (with_machine q app r.slot machine) [] (pictures (rdp_buffers (machine_at q app r.slot))) [] (omega arith) first
-    (flows_replaced q app r.slot (Some machine) (connecting_whole (start_of o.seed p.made) o.node p.made time o) (record { admitted = omega arith; delivered = omega arith }) refl first.whole)
+    let t : Terms = record (terms_at p r.seat) { prio = r.prio; flags = r.flags; wish = wish.Connection; is_down = false } in
+    let first = flows_still 1 p q (opened_apps own r.from (with_slot p.conns r.seat (Opened (between r.dest r.port own)))) (machines_of_terms p r.seat t) refl (λ n k. linked_far n 1 p q r.seat t (machines_of_terms p r.seat t) refl refl (omega arith) k) h in
+    flows_then 1 0 1 p q (with_machine q r.seat machine) [] (pictures (rdp_buffers (machine_at q r.seat))) [] (omega arith) first
+    (flows_replaced q r.seat (Some machine) (connecting_whole (start_of o.seed p.made) o.node p.made time o) (record { admitted = omega arith; delivered = omega arith }) refl first.whole)
 
-flows_unasked : (p : PlainPorts) (app : ℕ) (what : Note) → AreWhole p → Flows 1 p (owing p app what) [] []
-flows_unasked p app what h = flows_still 1 p (owing p app what) refl refl refl (λ n k. let l = far_later n (n + 1) p (omega arith) k in record { machines = l.machines; made = l.made; ends = l.ends }) h
+flows_unasked : (p : PlainPorts) (r : Request) (reason : Why) → AreWhole p → Flows 1 p (unjoined p r reason).ports [] []
+flows_unasked p r reason h = flows_still 1 p (unjoined p r reason).ports refl refl refl (λ n k. let l = far_later n (n + 1) p (omega arith) k in record { machines = l.machines; made = l.made; ends = l.ends }) h
 
-flows_connect_by : (s : Slot) (refused : Bool) (own : Option ℕ) (o : OwnFlows) (p : PlainPorts) (app : ℕ) (r : Request) (time : ℕ) → AreWhole p → Flows 1 p (connect_by s refused own o p app r time).ports (connect_by s refused own o p app r time).loose []
-flows_connect_by Free true own o p app r time h = flows_unasked p app (note.Refused why.PortBusy) h
-flows_connect_by Free false (Some own) o p app r time h = flows_joined (is_reliable r.flags) o p app r own time h
-flows_connect_by Free false None o p app r time h = flows_none 1 p h
-flows_connect_by Held refused own o p app r time h = flows_unasked p app (note.Refused why.Busy) h
-flows_connect_by (Opened _) refused own o p app r time h = flows_unasked p app (note.Refused why.Busy) h
+-- by whether the slot is free, and the port that is asked for taken, and which own port it has
+flows_connect_by : (o : OwnFlows) (p : PlainPorts) (r : Request) (time : ℕ) (free refused : Bool) (own : Option ℕ) → AreWhole p
+    → let c = cond free (cond refused (unjoined p r why.PortBusy) (unwrap_or (option_map (λ own. joined o p r own time) own) (come p))) (unjoined p r why.Busy) in Flows 1 p c.ports c.loose []
+flows_connect_by o p r time true true own h = flows_unasked p r why.PortBusy h
+flows_connect_by o p r time true false (Some own) h = flows_joined o p r own time (is_reliable r.flags) h
+flows_connect_by o p r time true false None h = flows_none 1 p h
+flows_connect_by o p r time false refused own h = flows_unasked p r why.Busy h
 
-pub flows_connected : (o : OwnFlows) (p : PlainPorts) (app : ℕ) (r : Request) (time : ℕ) → AreWhole p → Flows 1 p (connect o p app r time).ports (connect o p app r time).loose []
-flows_connected o p app r time h = flows_connect_by (slot_at p.conns app r.slot) (is_refused p.conns r.dest r.from) (own_port_of p.conns r.dest r.from) o p app r time h
+pub flows_connected : (o : OwnFlows) (p : PlainPorts) (r : Request) (time : ℕ) → AreWhole p → Flows 1 p (connect o p r time).ports (connect o p r time).loose []
+flows_connected o p r time h = flows_connect_by o p r time (is_free (slot_at p.conns r.seat)) (is_refused p.conns r.dest r.from) (own_port_of p.conns r.dest r.from) h
 
 -- one that a packet asks for
-pub flows_invited : (o : OwnFlows) (p : PlainPorts) (seat : Seat) (c : Connection) (prio : Prio) (flags : ℕ) (i : Invitation) (time : ℕ) → AreWhole p → Flows 1 p (invited o p seat c prio flags i time).ports (invited o p seat c prio flags i time).loose []
+pub flows_invited : (o : OwnFlows) (p : PlainPorts) (seat : Seat) (c : Connection) (prio : Prio) (flags : ℕ) (i : Invitation) (time : ℕ) → AreWhole p
+    → Flows 1 p (invited o i seat time (accepted p seat c prio flags)).ports (invited o i seat time (accepted p seat c prio flags)).loose []
 flows_invited o p seat c prio flags i time h =
     let q : PlainPorts = record (accepted p seat c prio flags) { made = p.made + 1 } in
     let machine = accepting (start_of o.seed p.made) i.options i.head.seq.0 i.tag o.node p.made time in
@@ -319,7 +323,7 @@ flows_ended false p seat time there h =
 
 -- by the answer to its close
 flows_freed_by : (what : Note) (app : ℕ) (p : PlainPorts) → AreWhole p → Flows 1 p (freed_by what app p).ports (freed_by what app p).loose []
-flows_freed_by (note.Closed slot) app p h = flows_freed_next seat p h
+flows_freed_by (note.Closed slot) app p h = flows_freed_next (seat app slot) p h
 flows_freed_by note.Bound app p h = flows_none 1 p h
 flows_freed_by (note.Connected slot) app p h = flows_none 1 p h
 flows_freed_by (note.Refused reason) app p h = flows_none 1 p h

@@ -44,28 +44,28 @@ seen_count : (p : Inside) → ArePorts p → length (plain_ports p).slots ≡ 16
 seen_count p a = length-map p.slots.items (placed_state nowhere) ∙ a.slots
 
 -- the machine of a place holds as many as contracts see
-old_count : (p : Inside) (seat place : ℕ) (s : SlotState) → place ≡ place_of seat → place < 16 → ArePorts p → s ≡ get_or p.slots.items place s → length (rdp_numbers (machine_in s)) ≡ length (rdp_numbers (machine_at (plain_ports p) seat))
+old_count : (p : Inside) (seat : Seat) (place : ℕ) (s : SlotState) → place ≡ place_of seat → place < 16 → ArePorts p → s ≡ get_or p.slots.items place s → length (rdp_numbers (machine_in s)) ≡ length (rdp_numbers (machine_at (plain_ports p) seat))
 old_count p seat place s e there a value =
     sym (placed_some s.machine) ∙ ap (λ (o : Option PlainRdp). length (rdp_numbers (unwrap_or o idle))) (machine_in_place p (ports_at p) seat place s refl e there a value)
 
 -- what a machine holds is among what is held
-pub part_in : (p : Inside) (seat place : ℕ) (s : SlotState) → place ≡ place_of seat → place < 16 → ArePorts p → s ≡ get_or p.slots.items place s → length (rdp_numbers (machine_in s)) ≤ length (held (plain_ports p))
+pub part_in : (p : Inside) (seat : Seat) (place : ℕ) (s : SlotState) → place ≡ place_of seat → place < 16 → ArePorts p → s ≡ get_or p.slots.items place s → length (rdp_numbers (machine_in s)) ≤ length (held (plain_ports p))
 part_in p seat place s e there a value =
     omega (arith, machine_part (plain_ports p) seat (omega (arith, seen_count p a, e, there)), old_count p seat place s e there a value)
 
-pub part_of : (p : Inside) (seat place : ℕ) (s : SlotState) (r : PlainRdp) → place ≡ place_of seat → place < 16 → ArePorts p → s ≡ get_or p.slots.items place s → Some r ≡ s.machine → length (rdp_numbers r) ≤ length (held (plain_ports p))
+pub part_of : (p : Inside) (seat : Seat) (place : ℕ) (s : SlotState) (r : PlainRdp) → place ≡ place_of seat → place < 16 → ArePorts p → s ≡ get_or p.slots.items place s → Some r ≡ s.machine → length (rdp_numbers r) ≤ length (held (plain_ports p))
 part_of p seat place s r e there a value some =
     omega (arith, part_in p seat place s e there a value, ap (λ (o : Option PlainRdp). length (rdp_numbers (unwrap_or o idle))) some)
 
 -- another machine in its place, or none
-pub size_in : (p : Inside) (seat place : ℕ) (s : SlotState) (o : Option PlainRdp) → place ≡ place_of seat → place < 16 → ArePorts p → s ≡ get_or p.slots.items place s
+pub size_in : (p : Inside) (seat : Seat) (place : ℕ) (s : SlotState) (o : Option PlainRdp) → place ≡ place_of seat → place < 16 → ArePorts p → s ≡ get_or p.slots.items place s
     → length (held (plain_ports (record p { slots = with_item p.slots place (record s { machine = o }) }))) + length (rdp_numbers (machine_in s)) ≡ length (held (plain_ports p)) + length (rdp_numbers (unwrap_or o idle))
 size_in p seat place s o e there a value =
     let set = ap (λ (x : PortsAt). length (held x.ports)) (machine_set p seat place s o e there a value) in
     omega (arith, set, old_count p seat place s e there a value, machine_size (plain_ports p) seat (option_map (placed nowhere) o) (omega (arith, seen_count p a, e, there)), placed_some o)
 
 -- and the trash has room for all that is held then
-pub roomy_in : (m n : ℕ) (p : Inside) (seat place : ℕ) (s : SlotState) (o : Option PlainRdp) (before after : PlainPile) → place ≡ place_of seat → place < 16 → ArePorts p → s ≡ get_or p.slots.items place s → IsRoomy m (ports_at p) before → after.region ≡ before.region → after.room ≡ before.room
+pub roomy_in : (m n : ℕ) (p : Inside) (seat : Seat) (place : ℕ) (s : SlotState) (o : Option PlainRdp) (before after : PlainPile) → place ≡ place_of seat → place < 16 → ArePorts p → s ≡ get_or p.slots.items place s → IsRoomy m (ports_at p) before → after.region ≡ before.region → after.room ≡ before.room
     → length after.contents + length (rdp_numbers (unwrap_or o idle)) + n ≤ length before.contents + length (rdp_numbers (machine_in s)) + m → IsRoomy n (ports_at (record p { slots = with_item p.slots place (record s { machine = o }) })) after
 roomy_in m n p seat place s o before after e there a value h region room more = record {
   region = region ∙ h.region;

@@ -6,9 +6,10 @@ use Rattle.std.proofs.Common.{◌≡◌, ℕ, zero, suc, ◌+◌, ◌-◌, ◌*�
 use Rattle.std.proofs.lemmas.Bool.{or_parts}
 use Rattle.std.proofs.lemmas.List.{set-get_or}
 use Rattle.std.proofs.lemmas.List.Elements.{All-head, All-map, All-tail, All-weaker}
+use Rattle.csp_base.specs.Seat.{seat}
 use Rattle.csp_base.specs.declared.seat.Seat.{Seat}
 use Rattle.csp_buffer.specs.PlainBuffer.{PlainBuffer}
-use Rattle.csp_conn.specs.PlainConns.{place_of}
+use Rattle.csp_conn.specs.PlainConns.{place_of, seat_of}
 use Rattle.csp_base.specs.declared.limits.TheConstants.{SLOTS}
 use Rattle.csp_deck.specs.Regions.{nowhere}
 use Rattle.csp_ports.proofs.Following.{range_next}
@@ -93,8 +94,8 @@ timed_in_still time (k ∷ ks) p rest late =
 
 -- ---- the packets that wait
 
-stranded_shut : (p : PlainPorts) (app : ℕ) (s : PlainStalled) → stalled_at p app ≡ Some s → is_open (machine_at p app s.slot).state ≡ false → is_stranded p app ≡ true
-stranded_shut p app s e shut = ap (λ (o : Option PlainStalled). unwrap_or (option_map (λ s. not (is_open (machine_at p app s.slot).state)) o) false) e ∙ ap not shut
+stranded_shut : (p : PlainPorts) (app : ℕ) (s : PlainStalled) → stalled_at p app ≡ Some s → is_open (machine_at p (seat app s.slot)).state ≡ false → is_stranded p app ≡ true
+stranded_shut p app s e shut = ap (λ (o : Option PlainStalled). unwrap_or (option_map (λ s. not (is_open (machine_at p (seat app s.slot)).state)) o) false) e ∙ ap not shut
 
 dropped_still : (app : ℕ) (p : PlainPorts) → is_stranded p app ≡ false → dropped app p ≡ come p
 dropped_still app p h = by_dropped (λ c. c ≡ come p) app p (λ opens. refl) (λ s e shut. absurd (true_false (sym (stranded_shut p app s e shut) ∙ h)))

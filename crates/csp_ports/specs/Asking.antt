@@ -90,7 +90,7 @@ abbrev pub close_by : (is_closing : Bool) → PlainPorts → Seat → (time : �
 close_by true p seat time = come p
 close_by false p seat time =
     let r = closing time (machine_at p seat) in
-    then (where_machine (has_machine p seat) (stepped seat r) (held_by (is_free (slot_at p.conns seat)) p seat)) (λ p. come (ending_in r.state seat p))
+    (then) (where_machine (has_machine p seat) (stepped seat r) (held_by (is_free (slot_at p.conns seat)) p seat)) (λ p. come (ending_in r.state seat p))
 
 -- an application asks for the end of a slot's connection
 abbrev pub close : PlainPorts → Seat → (time : ℕ) → Came

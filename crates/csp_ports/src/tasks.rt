@@ -202,7 +202,7 @@ impl Ports {
         };
         let change = deliver(machine, now, trash);
         self.change(change, seat, trash, report);
-        self.drop_stalled(app, trash, report);
+        self.drop_stalled(seat.app, trash, report);
     }
 
     /// The packet that was taken out could not be delivered: it is kept again.

@@ -29,8 +29,8 @@ slot_if true slot b e h = h
 slot_if false slot b e h = absurd cc
 
 -- what goes to a slot of an application can go
-pub to_slot_sendable : (f : Facts) (seat : Seat) (b : Content) → app < f.apps → slot < SLOTS → IsSendable f (Some (to_slot seat b))
-to_slot_sendable f seat b there h = slot_if (nat_lt app f.apps) slot b (lt-ltb _ _ there) h
+pub to_slot_sendable : (f : Facts) (seat : Seat) (b : Content) → seat.app < f.apps → seat.slot < SLOTS → IsSendable f (Some (to_slot seat b))
+to_slot_sendable f seat b there h = slot_if (nat_lt seat.app f.apps) seat.slot b (lt-ltb _ _ there) h
 
 reply_if : (there : Bool) (n : Note) → there ≡ true → IsReply n → IsCarriedIn (cond there (Some (rule.Lane lane.Down)) None) (item.Note n)
 reply_if true n e h = h

@@ -1,4 +1,4 @@
-use Rattle.std.proofs.Common.{◌==◌, ◌+◌, [], ◌++◌, refl, sym, ap, ◌∙◌, drop, get_or, arith}
+use Rattle.std.proofs.Common.{ℕ, ◌==◌, ◌+◌, [], ◌++◌, refl, sym, ap, ◌∙◌, drop, get_or, arith}
 use Rattle.std.specs.Prelude.{if◌then◌else◌}
 use Rattle.std.specs.List.{slice_get}
 use Rattle.std.specs.Option.{option_map_or}
@@ -15,7 +15,7 @@ pub loop-index-init : goal.loop-index-init
 loop-index-init c =
     let entries = c.args.log.now.entries in
     let first = c.next_deed-index in
-    let after = λ slot ordinal. payloads_after c.args.way (seat c.args.app slot) ordinal in (
+    let after = λ (slot ordinal : ℕ). payloads_after c.args.way (seat c.args.app slot) ordinal in (
       λ slot ordinal.
           ap (λ before. before ++ after slot ordinal (λ s. get_or c.none-ends.result s 0) (drop first.result entries)) (ap (λ table. payloads_on table slot ordinal) c.new-table.ensures.empty)
           ∙ (λ i. after slot ordinal (λ s. c.none-ends.ensures s i) (drop first.result entries))

@@ -5,21 +5,21 @@ use Rattle.csp_conn.specs.PlainConns.{slot_at}
 use Rattle.csp_conn.specs.declared.slot.Slot.{Slot}
 use Rattle.csp_conn.specs.declared.slot.Slot.TheVariants as slot
 use Rattle.csp_rdp.specs.declared.jobs.Job.{Job}
-use Rattle.csp_stack.specs.Router.{Facts, State, StateAt}
+use Rattle.csp_stack.specs.Router.{Router, StateAt, router}
 use Rattle.csp_stack.specs.Rules.{made_on}
 use Rattle.csp_stack.specs.Told.{absorbed, unchanged}
 use Rattle.csp_stack.proofs.making.make.Goals as goal
 
 -- where a slot has no connection the buffer joins the trash
-made_on_none : (x : Slot) → (x ≡ slot.Free) ⊎ (x ≡ slot.Held) → (j : Job) (f : Facts) (s : State) (seat : Seat) (time : ℕ) (b : Content) → made_on x j f s seat time b ≡ absorbed b (unchanged s)
-made_on_none x (inl e) j f s seat time b = rw e refl
-made_on_none x (inr e) j f s seat time b = rw e refl
+made_on_none : (x : Slot) → (x ≡ slot.Free) ⊎ (x ≡ slot.Held) → (owed : Seat × Job) (r : Router) (time : ℕ) (b : Content) → made_on x owed r time b ≡ absorbed b (unchanged r.state)
+made_on_none x (inl e) owed r time b = rw e refl
+made_on_none x (inr e) owed r time b = rw e refl
 
 pub returns-in-Free-clause-told : goal.returns-in-Free-clause-told
 returns-in-Free-clause-told c =
     let has = ap (λ (s : StateAt). slot_at s.state.ports.conns c.args.seat) (sym c.state.view_is) ∙ sym c.slot.ensures in
     let told = c.absorb.ensures.told in
-    rw (has, made_on_none c.slot.result c.in-Free.is c.args.job c.args.facts.now c.args.state.now.state c.args.seat c.args.now c.args.buffer.picture)
+    rw (has, made_on_none c.slot.result c.in-Free.is (c.args.seat, c.args.job) (router c.args.facts.now c.args.state.now.state) c.args.now c.args.buffer.picture)
     (record { state = told.state; region = told.region; events = search rules })
 
 pub returns-in-Free-clause-sendable : goal.returns-in-Free-clause-sendable

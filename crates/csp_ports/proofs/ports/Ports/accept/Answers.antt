@@ -9,4 +9,4 @@ returns-in-Ok-clause-ports c = search rules
 
 pub returns-in-Ok-clause-keeps : goal.returns-in-Ok-clause-keeps
 returns-in-Ok-clause-keeps c =
-    subst (λ (x : PortsAt). Keeps 0 (at_hand c.args.self.now.ports []) (at_hand x.ports []) []) (sym (returns-in-Ok-clause-ports c)) (keeps_accepted c.args.self.now.ports c.args.app c.in-Ok.slot c.args.connection c.args.prio c.args.flags)
+    subst (λ (x : PortsAt). Keeps 0 (at_hand c.args.self.now.ports []) (at_hand x.ports []) []) (sym (returns-in-Ok-clause-ports c)) (keeps_accepted c.args.self.now.ports c.in-Ok.seat c.args.connection c.args.prio c.args.flags)

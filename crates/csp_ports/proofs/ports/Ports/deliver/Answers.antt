@@ -63,15 +63,14 @@ pub returns-clause-comes : goal.returns-clause-comes
 returns-clause-comes c =
     let p = c.self.inside in
     let at = c.args.self.now in
-    let app = c.args.app in
-    let slot = c.args.slot in
+    let seat = c.args.seat in
     let events = c.args.report.now.items in
     let r = machine_at at.ports seat in
     let seen = machine_seen p at seat c.place.result c.index_mut.result.now c.in-Some.machine c.self.view_is c.place.ensures.value c.place.ensures.inside c.self.invariant c.index_mut.ensures.value (sym c.in-Some.is) in
     let mid = ports_at (record p { slots = with_item p.slots c.place.result (record c.index_mut.result.now { machine = Some c.deliver-change.new.machine }) }) in
     let change = c.deliver-change.ensures.change ∙ ap (λ (q : PlainRdp). change_between q.state (delivering c.args.now q).state machine_why.Reset) seen in
     then_comes at c.change.new.self c.drop_stalled.new.self c.args.trash.now c.change.new.trash c.drop_stalled.new.trash events c.change.new.report.items c.drop_stalled.new.report.items
-    (went r.state machine_why.Reset seat (delivering c.args.now r) at.ports) (dropped app)
+    (went r.state machine_why.Reset seat (delivering c.args.now r) at.ports) (dropped seat.app)
     (then_comes at mid c.change.new.self c.args.trash.now c.deliver-change.new.trash c.change.new.trash events events c.change.new.report.items
     (stepped seat (delivering c.args.now r) at.ports) (changed (change_between r.state (delivering c.args.now r).state machine_why.Reset) seat)
     (record {

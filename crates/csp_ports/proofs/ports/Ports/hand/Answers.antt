@@ -24,15 +24,15 @@ use Rattle.csp_ports.proofs.ports.Ports.hand.Goals as goal
 pub settle-requires-clause-countable : goal.settle-requires-clause-countable
 settle-requires-clause-countable c =
     let n = 2 ^ 32 - 2 in
-    let app = c.args.app in
-    let one = subst (λ (x : PortsAt). IsCountable x.ports) (sym c.change.ensures.comes.ports) (far_changed n c.hand_machine-change.result c.hand_machine-change.new.self.ports app c.args.slot c.hand_machine-change.ensures.countable) in
+    let app = c.args.seat.app in
+    let one = subst (λ (x : PortsAt). IsCountable x.ports) (sym c.change.ensures.comes.ports) (far_changed n c.hand_machine-change.result c.hand_machine-change.new.self.ports c.args.seat c.hand_machine-change.ensures.countable) in
     subst (λ (x : PortsAt). IsCountable x.ports) (sym c.drop_stalled.ensures.comes.ports) (far_dropped n app c.change.new.self.ports one)
 
 pub returns-clause-comes : goal.returns-clause-comes
 returns-clause-comes c =
     let at = c.args.self.now in
-    let app = c.args.app in
-    let slot = c.args.slot in
+    let seat = c.args.seat in
+    let app = seat.app in
     let now = c.args.now in
     let head = c.args.head in
     let packet = anywhere c.args.packet.picture in
@@ -64,7 +64,7 @@ returns-clause-comes c =
 pub returns-clause-apps : goal.returns-clause-apps
 returns-clause-apps c =
     ap (λ (x : PortsAt). x.ports.conns.apps) c.settle.ensures.ports
-    ∙ (settled_apps c.args.now c.args.app c.drop_stalled.new.self.ports
+    ∙ (settled_apps c.args.now c.args.seat.app c.drop_stalled.new.self.ports
     ∙ (c.drop_stalled.ensures.apps ∙ (c.change.ensures.apps ∙ (ap (λ (x : PortsAt). x.ports.conns.apps) c.hand_machine-change.ensures.comes.ports ∙ where_apps (has_machine c.args.self.now.ports c.args.seat) c.args.seat (after_packet c.args.head c.args.packet.picture.trace.tag (anywhere c.args.packet.picture) c.args.now (machine_at c.args.self.now.ports c.args.seat)) c.args.self.now.ports))))
 
 pub returns-clause-keeps : goal.returns-clause-keeps

@@ -29,7 +29,7 @@ stall-requires-clause-short c =
 pub stall-requires-clause-none : goal.stall-requires-clause-none
 stall-requires-clause-none c =
     let back = admit_back (has_room (machine_at c.args.self.now.ports c.args.seat)) c.admit.result c.in-Err.buffer c.args.self.now c.admit.new.self c.args.seat c.args.packet c.args.now c.in-Err.is c.admit.ensures in
-    ap (λ (x : PortsAt). stalled_at x.ports c.args.app) back.1 ∙ c.requires.first
+    ap (λ (x : PortsAt). stalled_at x.ports c.args.seat.app) back.1 ∙ c.requires.first
 
 pub returns-in-Err-clause-ports : goal.returns-in-Err-clause-ports
 returns-in-Err-clause-ports c =

@@ -15,7 +15,7 @@ use Rattle.csp_ports.proofs.ports.Ports.set_terms.Goals as goal
 pub invariant_of-self : goal.invariant_of-self
 invariant_of-self c =
     terms_kept c.self.inside c.args.seat c.place.result c.index_mut.result.now c.args.terms c.place.ensures.value c.requires.there.of_app c.place.ensures.inside c.self.invariant c.index_mut.ensures.value
-    (subst (λ (x : PortsAt). (waiting c.args.app x.ports.owed + wishes c.args.app (terms_of x.ports)) + wished c.args.terms.wish ≤ ANSWERS + wished (terms_at x.ports c.args.seat).wish) (sym c.self.view_is) c.requires.due)
+    (subst (λ (x : PortsAt). (waiting c.args.seat.app x.ports.owed + wishes c.args.seat.app (terms_of x.ports)) + wished c.args.terms.wish ≤ ANSWERS + wished (terms_at x.ports c.args.seat).wish) (sym c.self.view_is) c.requires.due)
 
 pub returns-clause-ports : goal.returns-clause-ports
 returns-clause-ports c =
@@ -24,8 +24,8 @@ returns-clause-ports c =
 
 pub returns-clause-wishes : goal.returns-clause-wishes
 returns-clause-wishes c =
-    let app = c.args.app in
-    let slot = c.args.slot in
+    let seat = c.args.seat in
+    let app = seat.app in
     let p = plain_ports c.self.inside in
     let there : place_of seat < length (terms_of p) = omega (arith, c.place.ensures.inside, c.place.ensures.value, c.self.invariant.slots, seen_terms c.self.inside) in
     let old = subst (λ (t : Terms). wishes app (terms_of (with_terms p seat c.args.terms)) + wished t.wish ≡ wishes app (terms_of p) + wished c.args.terms.wish) (sym (terms_listed p seat))
