@@ -1,7 +1,7 @@
 -- what comes of each step of ports, and that it neither loses a buffer nor counts further than it may
 use Rattle.std.specs.Prelude.{Bool, true, false, IfSome, None, Option, Some, unwrap_or}
 use Rattle.std.specs.List.{range_with_len}
-use Rattle.std.proofs.Common.{◌≡◌, ℕ, zero, suc, ◌+◌, ◌*◌, ◌/◌, ◌%◌, ◌<◌, ◌≤◌, List, [], ◌∷◌, ◌++◌, refl, arith, ap, subst, sym, ◌∙◌}
+use Rattle.std.proofs.Common.{◌≡◌, ℕ, zero, suc, ◌+◌, ◌*◌, ◌<◌, ◌≤◌, List, [], ◌∷◌, ◌++◌, refl, arith, ap, subst, sym, ◌∙◌}
 use Rattle.std.proofs.lemmas.List.{length-set}
 use Rattle.std.proofs.lemmas.List.Elements.{All-set}
 use Rattle.csp_base.specs.Seat.{seat}
@@ -35,7 +35,6 @@ use Rattle.csp_rdp.specs.Machine.{PlainRdp, idle}
 use Rattle.csp_rdp.specs.declared.answers.Change.{Change}
 use Rattle.csp_rdp.specs.declared.answers.Change.TheVariants as change
 use Rattle.csp_rdp.specs.declared.answers.State.{State}
-use Rattle.csp_rdp.specs.declared.answers.State.TheVariants.{Closed, SynSent, SynRcvd, Open, CloseWait}
 use Rattle.csp_rdp.specs.declared.answers.Cause.{Cause}
 use Rattle.csp_rdp.specs.declared.answers.Cause.TheVariants as machine_why
 use Rattle.csp_rdp.proofs.Public.{admitted-balanced, numbers-ticked, far-ticked}
@@ -63,7 +62,7 @@ flows_replaced p seat m whole far empty h = record {
 conns_far : (n : ℕ) (p : PlainPorts) (seat : Seat) → AreFar n p → AreFar n (record p { conns = with_slot p.conns seat Free })
 conns_far n p seat h = record { machines = h.machines; made = h.made; ends = h.ends }
 
-flows_freed : (m ordinal seat : ℕ) (p : PlainPorts) → ((n : ℕ) → AreFar n p → ordinal ≤ n + m) → AreWhole p → Flows m p (freed ordinal seat p).ports (freed ordinal seat p).loose []
+flows_freed : (m ordinal : ℕ) (seat : Seat) (p : PlainPorts) → ((n : ℕ) → AreFar n p → ordinal ≤ n + m) → AreWhole p → Flows m p (freed ordinal seat p).ports (freed ordinal seat p).loose []
 flows_freed m ordinal seat p one h =
     let free : PlainPorts = record p { conns = with_slot p.conns seat Free } in
     let t : Terms = record (terms_at p seat) { wish = wish.Nothing; is_down = false; ordinal = ordinal } in
@@ -193,9 +192,9 @@ place_again k h = omega (arith, h)
 flows_timed_in : (time a n : ℕ) (p : PlainPorts) → a + n ≤ 16 → AreWhole p → Flows 0 p (timed_in time (range_with_len a n) p).ports (timed_in time (range_with_len a n) p).loose []
 flows_timed_in time a zero p few h = flows_none 0 p h
 flows_timed_in time a (suc n) p few h =
-    let one = timed_at time (a / SLOTS) (a % SLOTS) p in
+    let one = timed_at time (seat_of a) p in
     let rest = timed_in time (range_with_len (a + 1) n) one.ports in
-    let first = flows_timed_at time (a / SLOTS) (a % SLOTS) p (place_again a (omega (arith, few))) h in
+    let first = flows_timed_at time (seat_of a) p (place_again a (omega (arith, few))) h in
     flows_then 0 0 0 p one.ports rest.ports one.loose rest.loose [] (omega arith) first (flows_timed_in time (a + 1) n one.ports (omega (arith, few)) first.whole)
 
 flows_dropped_of : (a n : ℕ) (p : PlainPorts) → a + n ≤ 4 → AreWhole p → Flows 0 p (dropped_of (range_with_len a n) p).ports (dropped_of (range_with_len a n) p).loose []

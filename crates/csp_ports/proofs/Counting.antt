@@ -9,7 +9,7 @@ use Rattle.csp_conn.specs.declared.slot.Slot.TheVariants.{Free}
 use Rattle.csp_ports.proofs.Settling.{by_dropped}
 use Rattle.csp_ports.proofs.Slots.{machine_listed, machines_of_machine, machines_of_terms, terms_listed, terms_of_machine, terms_of_terms}
 use Rattle.csp_ports.specs.Counts.{AreFar}
-use Rattle.csp_ports.specs.PlainPorts.{PlainPorts, PlainStalled, fresh, machine_at, machines_of, terms_at, terms_of, with_machine, with_machine_or, with_terms}
+use Rattle.csp_ports.specs.PlainPorts.{PlainPorts, fresh, machine_at, machines_of, terms_at, terms_of, with_machine, with_machine_or, with_terms}
 use Rattle.csp_ports.specs.Steps.{changed, closed_by, connected_by, dropped, freed, refused_by}
 use Rattle.csp_ports.specs.declared.terms.Terms.{Terms}
 use Rattle.csp_ports.specs.declared.terms.Wish.{Wish}
@@ -18,8 +18,6 @@ use Rattle.csp_rdp.specs.Counts.{IsFar}
 use Rattle.csp_rdp.specs.Machine.{PlainRdp, idle}
 use Rattle.csp_rdp.specs.declared.answers.Change.{Change}
 use Rattle.csp_rdp.specs.declared.answers.Change.TheVariants as change
-use Rattle.csp_rdp.specs.declared.answers.State.{State}
-use Rattle.csp_rdp.specs.declared.answers.State.TheVariants.{Closed, SynSent, SynRcvd, Open, CloseWait}
 use Rattle.csp_rdp.specs.declared.answers.Cause.{Cause}
 
 -- what holds of all, and of what stands for one that is not there, holds at each place

@@ -1,12 +1,12 @@
 -- the timers open no connection, and so report nothing but the packets that are discarded
 use Rattle.std.specs.Prelude.{Bool, true, false, if◌then◌else◌, ◌==◌}
-use Rattle.std.proofs.Common.{◌≡◌, ℕ, List, [], ◌∷◌, ◌++◌, Option, None, refl, ap, ap₂, sym, ◌∙◌}
+use Rattle.std.proofs.Common.{◌≡◌, ℕ, List, [], ◌∷◌, ◌++◌, refl, ap, ap₂, sym, ◌∙◌}
 use Rattle.csp_deck.specs.Keeping.{PlainPile}
 use Rattle.csp_log.specs.declared.event.Event.{Event}
 use Rattle.csp_ports.proofs.Holding.{nil-left, nil-right}
 use Rattle.csp_ports.proofs.Settling.{by_dropped}
 use Rattle.csp_ports.specs.Came.{Comes, at_work}
-use Rattle.csp_ports.specs.PlainPorts.{PlainPorts, PlainStalled, PortsAt, machine_at, stalled_at, terms_at}
+use Rattle.csp_ports.specs.PlainPorts.{PlainPorts, PortsAt, machine_at, terms_at}
 use Rattle.csp_ports.specs.Steps.{changed, closed_by, dropped, dropped_of, refused_by}
 use Rattle.csp_ports.specs.declared.terms.Wish.{Wish}
 use Rattle.csp_ports.specs.declared.terms.Wish.TheVariants as wish

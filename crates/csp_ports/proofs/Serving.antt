@@ -32,7 +32,7 @@ use Rattle.csp_ports.specs.Counts.{AreFar}
 use Rattle.csp_ports.specs.Held.{emptied, emptied_by, first_out, held, slot_buffers, stalled_buffers, without_held}
 use Rattle.csp_ports.specs.Keeps.{AreWhole, Keeps, at_hand}
 use Rattle.csp_ports.specs.Packets.{accepted, admitting_by, back_by, handing, handing_event, invited, submitting_in}
-use Rattle.csp_ports.specs.PlainPorts.{PlainPorts, PlainStalled, PortsAt, anywhere, has_machine, machine_at, machine_in, machines_of, owing, stalled_at, start_of, terms_at, terms_of, with_machine, with_ports_at, with_stalled, with_terms, wishing}
+use Rattle.csp_ports.specs.PlainPorts.{PlainPorts, PlainStalled, PortsAt, anywhere, has_machine, machine_at, machine_in, machines_of, stalled_at, start_of, terms_at, terms_of, with_machine, with_ports_at, with_stalled, with_terms, wishing}
 use Rattle.csp_ports.specs.declared.terms.SlotState.{SlotState}
 use Rattle.csp_ports.specs.Steps.{changed, dropped, ended, has_room, settled, stepped, went, where_machine}
 use Rattle.csp_ports.specs.Tasks.{delivered, kept_again, making, told_down, without_packet}

@@ -41,5 +41,5 @@ by_dropped P app p stays goes =
     by_option P (λ s. cond (is_open (machine_at p (seat app s.slot)).state) (come p) (discarding why.NoConn s.buffer.picture (with_stalled p app None))) (stalled_at p app) (come p)
     (λ e. stays (λ t f. absurd (none_some t (sym e ∙ f))))
     (λ s e. by_cond P (is_open (machine_at p (seat app s.slot)).state) (come p) (discarding why.NoConn s.buffer.picture (with_stalled p app None))
-    (λ opens. stays (λ t f. subst (λ (u : PlainStalled). is_open (machine_at p app u.slot).state ≡ true) (some_same s t (sym e ∙ f)) opens))
+    (λ opens. stays (λ t f. subst (λ (u : PlainStalled). is_open (machine_at p (seat app u.slot)).state ≡ true) (some_same s t (sym e ∙ f)) opens))
     (goes s e))

@@ -49,17 +49,17 @@ terms_of_machine p seat o = same_map (λ (s : SlotState). s.terms) p.slots (plac
 pub machines_of_machine : (p : PlainPorts) (seat : Seat) (o : Option PlainRdp) → machines_of (with_machine_or p seat o) ≡ slice_set (machines_of p) (place_of seat) (unwrap_or o idle)
 machines_of_machine p seat o = map-set machine_in p.slots (place_of seat) (record (state_at p seat) { machine = o })
 
-pub terms_beside : (p : PlainPorts) (seat : Seat) (o : Option PlainRdp) (a s : ℕ) → terms_at (with_machine_or p seat o) a s ≡ terms_at p a s
-terms_beside p seat o a s =
-    terms_listed (with_machine_or p seat o) a s
-    ∙ (ap (λ (ts : List Terms). get_or ts (place_of a s) fresh) (terms_of_machine p seat o)
-    ∙ sym (terms_listed p a s))
+pub terms_beside : (p : PlainPorts) (seat : Seat) (o : Option PlainRdp) (other : Seat) → terms_at (with_machine_or p seat o) other ≡ terms_at p other
+terms_beside p seat o other =
+    terms_listed (with_machine_or p seat o) other
+    ∙ (ap (λ (ts : List Terms). get_or ts (place_of other) fresh) (terms_of_machine p seat o)
+    ∙ sym (terms_listed p other))
 
-pub machine_beside : (p : PlainPorts) (seat : Seat) (t : Terms) (a s : ℕ) → machine_at (with_terms p seat t) a s ≡ machine_at p a s
-machine_beside p seat t a s =
-    machine_listed (with_terms p seat t) a s
-    ∙ (ap (λ (rs : List PlainRdp). get_or rs (place_of a s) idle) (machines_of_terms p seat t)
-    ∙ sym (machine_listed p a s))
+pub machine_beside : (p : PlainPorts) (seat : Seat) (t : Terms) (other : Seat) → machine_at (with_terms p seat t) other ≡ machine_at p other
+machine_beside p seat t other =
+    machine_listed (with_terms p seat t) other
+    ∙ (ap (λ (rs : List PlainRdp). get_or rs (place_of other) idle) (machines_of_terms p seat t)
+    ∙ sym (machine_listed p other))
 
 -- and they are what was put there
 pub terms_now : (p : PlainPorts) (seat : Seat) (t : Terms) → place_of seat < length p.slots → terms_at (with_terms p seat t) seat ≡ t

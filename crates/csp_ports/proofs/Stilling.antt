@@ -1,5 +1,5 @@
 -- where no timer has anything to do, trying the timers changes nothing
-use Rattle.std.specs.Prelude.{◌/◌, ◌%◌, ◌||◌, Bool, false, true, not, is_some, unwrap_or, slice_set, Option, None, Some, get_or}
+use Rattle.std.specs.Prelude.{◌||◌, Bool, false, true, not, is_some, unwrap_or, slice_set, Option, None, Some, get_or}
 use Rattle.std.specs.List.{All, list_any, range_with_len}
 use Rattle.std.specs.Option.{option_map}
 use Rattle.std.proofs.Common.{◌≡◌, ℕ, zero, suc, ◌+◌, ◌-◌, ◌*◌, ◌<◌, List, [], ◌∷◌, ◌++◌, map, refl, ap, ap₂, subst, sym, ◌∙◌}

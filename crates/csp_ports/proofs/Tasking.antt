@@ -18,7 +18,7 @@ use Rattle.csp_ports.proofs.Waiting.{AdmitsIn}
 use Rattle.csp_ports.specs.Came.{Comes, come, pictures, at_work}
 use Rattle.csp_ports.specs.Kept.{IsHoused, wished, wishes}
 use Rattle.csp_ports.specs.Packets.{admitting_by, stray_events, submitting, submitting_in}
-use Rattle.csp_ports.specs.PlainPorts.{PlainPorts, PlainStalled, PortsAt, anywhere, machine_at, terms_at, with_ports_at, with_stalled}
+use Rattle.csp_ports.specs.PlainPorts.{PlainPorts, PortsAt, anywhere, machine_at, terms_at, with_ports_at, with_stalled}
 use Rattle.csp_ports.specs.Steps.{has_room, settled}
 use Rattle.csp_ports.specs.declared.terms.Terms.{Terms}
 use Rattle.csp_ports.specs.declared.terms.Wish.{Wish}

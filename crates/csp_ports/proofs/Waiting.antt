@@ -2,7 +2,7 @@
 use Rattle.std.specs.Prelude.{Bool, Err, None, Option, Result, Some, false, get_or, slice_set, true}
 use Rattle.std.specs.Option.{option_map}
 use Rattle.std.specs.Vec.{with_item}
-use Rattle.std.proofs.Common.{◌≡◌, ℕ, zero, suc, ◌<◌, List, [], ◌∷◌, ap, refl, sym, ◌∙◌}
+use Rattle.std.proofs.Common.{◌≡◌, ℕ, zero, suc, ◌<◌, List, [], ◌∷◌, ap, refl, subst, sym, ◌∙◌}
 use Rattle.std.proofs.lemmas.List.{set-get_or}
 use Rattle.csp_base.specs.Seat.{seat}
 use Rattle.csp_base.specs.declared.seat.Seat.{Seat}
@@ -41,7 +41,8 @@ admits_by p at seat place s r new b time false answer view e there a value some 
 pub admits_in : (p : Inside) (at : PortsAt) (seat : Seat) (place : ℕ) (s : SlotState) (r new : PlainRdp) (b : PlainBuffer) (time : ℕ) (answer : Result Unit PlainBuffer) → ports_at p ≡ at → place ≡ place_of seat → place < 16 → ArePorts p → s ≡ get_or p.slots.items place s → Some r ≡ s.machine
     → Admits (has_room (placed nowhere r)) answer b (placed nowhere new ≡ admitting (anywhere b.picture) time (placed nowhere r)) (placed nowhere new ≡ placed nowhere r) → AdmitsIn (has_room (machine_at at.ports seat)) answer at (ports_at (record p { slots = with_item p.slots place (record s { machine = Some new }) })) seat b time
 admits_in p at seat place s r new b time answer view e there a value some h =
-    rw (sym (machine_seen p at seat place s r view e there a value some)) (admits_by p at seat place s r new b time (has_room (placed nowhere r)) answer view e there a value some h)
+    subst (λ (room : Bool). AdmitsIn room answer at (ports_at (record p { slots = with_item p.slots place (record s { machine = Some new }) })) seat b time) (ap has_room (machine_seen p at seat place s r view e there a value some))
+    (admits_by p at seat place s r new b time (has_room (placed nowhere r)) answer view e there a value some h)
 
 set_set : {X : Type 0} → (xs : List X) (i : ℕ) (a b : X) → slice_set (slice_set xs i a) i b ≡ slice_set xs i b
 set_set [] i a b = refl

@@ -28,24 +28,24 @@ abbrev weight : Terms → ℕ
 weight t = wished t.wish
 
 -- other terms at a slot of the application
-pub wishes_at : (seat : Seat) (terms : List Terms) (t d : Terms) → seat.slot < 4 → place_of seat < length terms → wishes seat.app (slice_set terms (place_of seat) t) + weight (get_or terms (place_of seat) d) ≡ wishes seat.app terms + weight t
-wishes_at seat terms t d h there = inside weight (place_of (seat seat.app 0)) 4 seat.slot (place_of seat) terms t d (omega arith) h there
+pub wishes_at : (at : Seat) (terms : List Terms) (t d : Terms) → at.slot < 4 → place_of at < length terms → wishes at.app (slice_set terms (place_of at) t) + weight (get_or terms (place_of at) d) ≡ wishes at.app terms + weight t
+wishes_at at terms t d h there = inside weight (place_of (seat at.app 0)) 4 at.slot (place_of at) terms t d (omega arith) h there
 
 -- and at one of another
-pub wishes_later : (seat : Seat) (other : ℕ) (terms : List Terms) (t : Terms) → seat.slot < 4 → other < seat.app → wishes other (slice_set terms (place_of seat) t) ≡ wishes other terms
-wishes_later seat other terms t h far = behind weight (place_of (seat other 0)) 4 (place_of seat - place_of (seat other 0)) (place_of seat) terms t (omega (arith, h, far)) (omega (arith, h, far))
+pub wishes_later : (at : Seat) (other : ℕ) (terms : List Terms) (t : Terms) → at.slot < 4 → other < at.app → wishes other (slice_set terms (place_of at) t) ≡ wishes other terms
+wishes_later at other terms t h far = behind weight (place_of (seat other 0)) 4 (place_of at - place_of (seat other 0)) (place_of at) terms t (omega (arith, h, far)) (omega (arith, h, far))
 
-pub wishes_earlier : (seat : Seat) (other : ℕ) (terms : List Terms) (t : Terms) → seat.slot < 4 → seat.app < other → wishes other (slice_set terms (place_of seat) t) ≡ wishes other terms
-wishes_earlier seat other terms t h far = before weight (place_of (seat other 0)) 4 (place_of seat) terms t (omega (arith, h, far))
+pub wishes_earlier : (at : Seat) (other : ℕ) (terms : List Terms) (t : Terms) → at.slot < 4 → at.app < other → wishes other (slice_set terms (place_of at) t) ≡ wishes other terms
+wishes_earlier at other terms t h far = before weight (place_of (seat other 0)) 4 (place_of at) terms t (omega (arith, h, far))
 
 -- other terms at a slot, with no more answers still to come than may be
-pub due_after : (most : ℕ) (seat : Seat) (terms : List Terms) (owed : ℕ → ℕ) (t d : Terms) → seat.slot < 4 → place_of seat < length terms → ((a : ℕ) → owed a + wishes a terms ≤ most)
-    → (owed seat.app + wishes seat.app terms) + weight t ≤ most + weight (get_or terms (place_of seat) d) → (a : ℕ) → owed a + wishes a (slice_set terms (place_of seat) t) ≤ most
-due_after most seat terms owed t d h there due more a = by_app _ refl _ refl
+pub due_after : (most : ℕ) (at : Seat) (terms : List Terms) (owed : ℕ → ℕ) (t d : Terms) → at.slot < 4 → place_of at < length terms → ((a : ℕ) → owed a + wishes a terms ≤ most)
+    → (owed at.app + wishes at.app terms) + weight t ≤ most + weight (get_or terms (place_of at) d) → (a : ℕ) → owed a + wishes a (slice_set terms (place_of at) t) ≤ most
+due_after most at terms owed t d h there due more a = by_app _ refl _ refl
   where
-    by_app : (e : Bool) → nat_lt a seat.app ≡ e → (f : Bool) → nat_lt seat.app a ≡ f → owed a + wishes a (slice_set terms (place_of seat) t) ≤ most
-    by_app true e f g = rw (wishes_later seat a terms t h (ltb-true a seat.app e)) (due a)
-    by_app false e true g = rw (wishes_earlier seat a terms t h (ltb-true seat.app a g)) (due a)
+    by_app : (e : Bool) → nat_lt a at.app ≡ e → (f : Bool) → nat_lt at.app a ≡ f → owed a + wishes a (slice_set terms (place_of at) t) ≤ most
+    by_app true e f g = rw (wishes_later at a terms t h (ltb-true a at.app e)) (due a)
+    by_app false e true g = rw (wishes_earlier at a terms t h (ltb-true at.app a g)) (due a)
     by_app false e false g =
-        let same : a ≡ seat.app = omega (arith, ltb-false a seat.app e, ltb-false seat.app a g) in
-        rw same (omega (arith, wishes_at seat terms t d h there, more))
+        let same : a ≡ at.app = omega (arith, ltb-false a at.app e, ltb-false at.app a g) in
+        rw same (omega (arith, wishes_at at terms t d h there, more))

@@ -102,21 +102,17 @@ impl Ports {
         ensures apps { self.new.ports.conns.apps ≡ self.old.ports.conns.apps }
         ensures keeps { Keeps 1 (at_hand self.old.ports trash.old.contents) (at_hand self.new.ports trash.new.contents) [] }
     {
-        let Request {
-            seat,
-            dest,
-            port,
-            prio,
-            flags,
-            from,
-        } = request;
-        match self.conns.open(seat, dest, port, from) {
-            Ok(_) if is_reliable(flags) => {
-                self.begin(seat, prio, flags, Wish::Connection);
+        let seat = request.seat;
+        match self
+            .conns
+            .open(seat, request.dest, request.port, request.from)
+        {
+            Ok(_) if is_reliable(request.flags) => {
+                self.begin(seat, request.prio, request.flags, Wish::Connection);
                 self.ask(flows, seat, now, trash);
             }
             Ok(_) => {
-                self.begin(seat, prio, flags, Wish::Nothing);
+                self.begin(seat, request.prio, request.flags, Wish::Nothing);
                 let Seat { app, slot } = seat;
                 self.owe(app, Note::Connected { slot });
                 report.push(Event::Opened {

@@ -142,8 +142,9 @@ impl Ports {
         ensures apps { self.new.ports.conns.apps ≡ self.old.ports.conns.apps }
         ensures keeps { Keeps 0 (at_hand self.old.ports []) (at_hand self.new.ports []) [] }
     {
+        let count = self.slot_count();
         let next = place(seat) + 1;
-        self.next = if next == self.slot_count() { 0 } else { next };
+        self.next = if next == count { 0 } else { next };
     }
 
     /// The Down note of a slot is pushed.

@@ -464,8 +464,7 @@ fn refuse(state: &mut State, item: Item, report: &mut Events)
 {
     match item {
         Item::Packet { mark: _, buffer } => state.discard(Discard::Full, buffer, report),
-        Item::Note(_) => {}
-        Item::Frame(_) => {}
+        Item::Note(_) | Item::Frame(_) => {}
     }
 }
 
@@ -504,8 +503,7 @@ fn hear_item(facts: &Facts, state: &mut State, now: u64, item: Item, report: &mu
             count_in(state, mark, &buffer);
             hear(facts, state, now, Packet::of(mark, buffer), report);
         }
-        Item::Note(_) => {}
-        Item::Frame(_) => {}
+        Item::Note(_) | Item::Frame(_) => {}
     }
 }
 
@@ -613,9 +611,7 @@ fn keep_delivery(state: &mut State, seat: Seat, answer: Answer)
 {
     match state.item_of(answer) {
         Some(Item::Packet { mark: _, buffer }) => state.ports.keep_packet(seat, buffer),
-        Some(Item::Note(_)) => {}
-        Some(Item::Frame(_)) => {}
-        None => {}
+        Some(Item::Note(_) | Item::Frame(_)) | None => {}
     }
 }
 

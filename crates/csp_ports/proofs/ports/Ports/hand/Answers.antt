@@ -10,7 +10,7 @@ use Rattle.csp_ports.proofs.Tasking.{come_comes, settled_apps}
 use Rattle.csp_ports.specs.Came.{Comes, come, pictures, reporting, then, at_work}
 use Rattle.csp_ports.specs.Counts.{IsCountable}
 use Rattle.csp_ports.specs.Packets.{back_by, handing_event, stray_events, handing}
-use Rattle.csp_ports.specs.PlainPorts.{PortsAt, anywhere, has_machine, machine_at, stalled_at}
+use Rattle.csp_ports.specs.PlainPorts.{PortsAt, anywhere, has_machine, machine_at}
 use Rattle.csp_ports.specs.Steps.{changed, dropped, settled, went, where_machine}
 use Rattle.csp_rdp.specs.Changes.{change_between}
 use Rattle.csp_rdp.specs.Table.{back_of, after_packet, is_stray, row_of}
